@@ -1,0 +1,12 @@
+//! The plain types of the host server, the traits of what lies outside it with their fakes in
+#![tactic(auto)]
+
+mod kinds;
+mod sink;
+mod source;
+mod text;
+
+pub use kinds::{Cause, Kind, Selector};
+pub use sink::{Sink, Wrote};
+pub use source::{Got, Source};
+pub use text::Text;
