@@ -1,3 +1,4 @@
 pub mod Outside
 pub mod Source
 pub mod Sink
+pub mod Identity

@@ -1,11 +1,13 @@
 //! The plain types of the host server, the traits of what lies outside it with their fakes in
 #![tactic(auto)]
 
+mod identity;
 mod kinds;
 mod sink;
 mod source;
 mod text;
 
+pub use identity::{Identity, State, state_of, state_text};
 pub use kinds::{Cause, Kind, Selector};
 pub use sink::{Sink, Wrote};
 pub use source::{Got, Source};
