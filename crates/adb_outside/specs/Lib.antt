@@ -2,3 +2,4 @@ pub mod Outside
 pub mod Source
 pub mod Sink
 pub mod Identity
+pub mod Framing

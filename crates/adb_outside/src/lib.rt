@@ -1,12 +1,14 @@
 //! The plain types of the host server, the traits of what lies outside it with their fakes in
 #![tactic(auto)]
 
+mod framer;
 mod identity;
 mod kinds;
 mod sink;
 mod source;
 mod text;
 
+pub use framer::{FeedError, Format, Framer, Front};
 pub use identity::{Identity, State, state_of, state_text};
 pub use kinds::{Cause, Kind, Selector};
 pub use sink::{Sink, Wrote};

@@ -1,0 +1,64 @@
+-- Cutting bytes into frames: what a front of the bytes is, and what follows from it alone.
+use Rattle.std.specs.Prelude.{ℕ, ◌+◌, ◌≡◌, ◌≤◌, ◌<◌, List, [], ◌∷◌, ◌++◌, length, take, drop, Option, Some, None, zero, suc}
+use Rattle.adb_outside.specs.declared.framer.Front.{Front}
+use Rattle.adb_outside.specs.declared.framer.Front.TheVariants.{More, Bad, Whole}
+
+-- The frames of some bytes: what each holds, how the bytes past them are read, those bytes, and the fault there.
+pub record Cut (S V F : Type 0) : Type 0 where
+  pub given : List V
+  pub reading : S
+  pub rest : List ℕ
+  pub fault : Option F
+
+-- nothing is cut
+abbrev pub uncut : {S V F : Type 0} → S → List ℕ → Option F → Cut S V F
+uncut s bytes fault = record { given = []; reading = s; rest = bytes; fault = fault }
+
+-- frames before those of a cut
+abbrev pub joined : {S V F : Type 0} → List V → Cut S V F → Cut S V F
+joined vs c = record { given = vs ++ c.given; reading = c.reading; rest = c.rest; fault = c.fault }
+
+-- the fault at a front
+abbrev pub fault_of : {F : Type 0} → Front F → Option F
+fault_of More = None
+fault_of (Bad fault) = Some fault
+fault_of (Whole n) = None
+
+-- A format: what a front of the bytes is, what a whole frame holds, and how the bytes after it are read.
+module _ {S V F : Type 0} (find : S → List ℕ → Front F) (item : S → List ℕ → V) (after : S → List ℕ → S) where
+  abbrev pub cut_by : S → List ℕ → Front F → (S → List ℕ → Cut S V F) → Cut S V F
+  cut_by s bytes More others = uncut s bytes None
+  cut_by s bytes (Bad fault) others = uncut s bytes (Some fault)
+  cut_by s bytes (Whole n) others = joined (item s (take n bytes) ∷ []) (others (after s (take n bytes)) (drop n bytes))
+
+  -- at most k frames
+  abbrev pub cut_at : ℕ → S → List ℕ → Cut S V F
+  cut_at zero s bytes = uncut s bytes None
+  cut_at (suc k) s bytes = cut_by s bytes (find s bytes) (cut_at k)
+
+  -- all the frames: none is empty, so there are no more of them than bytes
+  abbrev pub cut : S → List ℕ → Cut S V F
+  cut s bytes = cut_at (length bytes) s bytes
+
+  -- Whether a front of the bytes is a whole frame or a fault stays so, whatever follows; a frame is not empty, lies within the bytes, and is a frame without those behind it too.
+  pub record IsFraming : Type 0 where
+    pub empty : (s : S) → find s [] ≡ More
+    pub bad : (s : S) (x y : List ℕ) (fault : F) → find s x ≡ Bad fault → find s (x ++ y) ≡ Bad fault
+    pub whole : (s : S) (x y : List ℕ) (n : ℕ) → find s x ≡ Whole n → find s (x ++ y) ≡ Whole n
+    pub fits : (s : S) (x : List ℕ) (n : ℕ) → find s x ≡ Whole n → (0 < n) × (n ≤ length x)
+    pub alone : (s : S) (x : List ℕ) (n : ℕ) → find s x ≡ Whole n → find s (take n x) ≡ Whole n
+
+  -- A piece was taken: what is held is cut from what was held and the piece.
+  pub record Feeds (old : Cut S V F) (piece : List ℕ) (new : Cut S V F) : Type 0 where
+    pub sound : old.fault ≡ None
+    pub is : new ≡ joined old.given (cut old.reading (old.rest ++ piece))
+
+  -- A fault was answered: it is the first of all the bytes, or it was answered before and nothing was taken.
+  pub record Faults (old : Cut S V F) (piece : List ℕ) (new : Cut S V F) (fault : F) : Type 0 where
+    pub is : new.fault ≡ Some fault
+    pub first : old.fault ≡ None → new ≡ joined old.given (cut old.reading (old.rest ++ piece))
+    pub stays : (f : F) → old.fault ≡ Some f → new ≡ old
+
+  -- What is held of a stream of these bytes, of whose frames these were taken: the frames that are still to be taken, and what was left over.
+  pub record Stands (start : S) (fed : List ℕ) (taken : List V) (now : Cut S V F) : Type 0 where
+    pub is : cut start fed ≡ joined taken now

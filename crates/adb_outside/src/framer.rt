@@ -1,0 +1,177 @@
+//! Cutting a stream of bytes into frames, in whatever pieces it comes.
+
+ghost use Rattle.std.specs.Prelude.{◌≡◌, ◌++◌, ◌∷◌, [], List, ℕ, IfOk, IfSome, IfNone, OnErr, OnOk, take, drop, length, Option, Some, None, ◌≤◌};
+ghost use Rattle.adb_outside.specs.Framing.{cut, joined, fault_of, Feeds, Faults};
+
+use std::alloc::{AllocError, Global};
+use std::collections::VecDeque;
+use std::marker::Model;
+
+/// What a front of the bytes is, by a format.
+#[derive(Clone, Copy, Debug, PartialEq, Eq, Drop)]
+pub enum Front<F> {
+    /// No whole frame yet, and no fault.
+    More,
+    /// No frame of the format begins so.
+    Bad(F),
+    /// A frame of that many bytes.
+    Whole(usize),
+}
+
+impl<F: Copy> Front<F> {
+    /// The fault, where it is one.
+    fn fault(self) -> Option<F>
+        ensures { result ≡ fault_of self }
+    {
+        match self {
+            Front::More => None,
+            Front::Bad(fault) => Some(fault),
+            Front::Whole(_) => None,
+        }
+    }
+}
+
+/// How a stream is cut into frames, each of which holds a `V`, with faults `F`. The value itself
+/// says how the bytes at its place are read.
+pub trait Format<V, F>: Copy {
+    ghost use Rattle.std.specs.Prelude.{◌≡◌, List, ℕ, IfOk, length};
+    ghost use Rattle.adb_outside.specs.declared.framer.Front.{Front};
+    ghost use Rattle.adb_outside.specs.Framing.{IsFraming};
+
+    /// What a front of the bytes is.
+    ghost find: { Self → List ℕ → Front F };
+
+    /// What a whole frame holds.
+    ghost item: { Self → List ℕ → V };
+
+    /// How the bytes after a whole frame are read.
+    ghost after: { Self → List ℕ → Self };
+
+    /// What the bytes begin with.
+    fn front(&self, bytes: &[u8]) -> Front<F>
+        ensures { result ≡ find self.now bytes.now };
+
+    /// What a whole frame holds.
+    fn read(&self, alloc: Global, frame: &[u8]) -> Result<V, AllocError>
+        requires { find self.now frame.now ≡ Front.Whole (length frame.now) }
+        ensures { IfOk result (λ v. v ≡ item self.now frame.now) };
+
+    /// How the bytes after a whole frame are read.
+    fn past(&self, frame: &[u8]) -> Self
+        requires { find self.now frame.now ≡ Front.Whole (length frame.now) }
+        ensures { result ≡ after self.now frame.now };
+
+    /// Whether a front is a whole frame or a fault stays so, whatever follows.
+    ghost framing: { IsFraming find item after };
+}
+
+/// Why bytes were not taken.
+#[derive(Clone, Copy, Debug, PartialEq, Eq, Drop)]
+pub enum FeedError<F> {
+    /// Memory ran out. Nothing changed.
+    OutOfMemory,
+    /// The first fault of all the bytes that were fed. It stays.
+    Fault(F),
+}
+
+/// The frames of a stream that comes in pieces. It holds the bytes past the last whole frame and the
+/// frames that were not yet taken, never the stream.
+#[derive(Drop)]
+pub struct Framer<S: Drop, V: Drop, F: Drop> {
+    alloc: Global,
+    format: S,
+    held: Vec<u8>,
+    ready: VecDeque<V>,
+    fault: Option<F>,
+}
+
+impl<S: Drop, V: Drop, F: Drop> Model for Framer<S, V, F> {
+    ghost use Rattle.adb_outside.specs.Framing.{Cut};
+
+    ghost Value = { Cut S V F };
+
+    ghost view = { λ f. record { given = f.ready.items; reading = f.format; rest = f.held.items; fault = f.fault } };
+}
+
+impl<V: Drop, F: Copy, S: Format<V, F>> Framer<S, V, F> {
+    /// Nothing was fed yet. It takes no memory.
+    pub fn new(alloc: Global, format: S) -> Framer<S, V, F>
+        ensures { result ≡ record { given = []; reading = format; rest = []; fault = None } }
+    {
+        Framer {
+            alloc,
+            format,
+            held: Vec::new(alloc),
+            ready: VecDeque::new(alloc),
+            fault: None,
+        }
+    }
+
+    /// The next frame that was not yet taken; `None` where no further whole one was fed. It takes no
+    /// memory.
+    pub fn next(&mut self) -> Option<V>
+        ensures some { IfSome result (λ v. self.old ≡ record self.new { given = v ∷ self.new.given }) }
+        ensures none { IfNone result ((self.old.given ≡ []) × (self.new ≡ self.old)) }
+    {
+        self.ready.pop_front()
+    }
+
+    /// Takes the next piece of the stream. A fault is that of all the bytes fed so far; the frames
+    /// before it are still given, and from then on every call answers it and takes nothing.
+    pub fn feed(&mut self, piece: &[u8]) -> Result<(), FeedError<F>>
+        ensures ok { OnOk result (Feeds S.find S.item S.after self.old piece.now self.new × (self.new.fault ≡ None)) }
+        ensures fault { (f : F) → result ≡ Err (FeedError.Fault f) → Faults S.find S.item S.after self.old piece.now self.new f }
+        ensures memory { result ≡ Err FeedError.OutOfMemory → self.new ≡ self.old }
+    {
+        if let Some(fault) = self.fault {
+            return Err(FeedError::Fault(fault));
+        }
+        let (held, ready) = (self.held.len(), self.ready.len());
+        if self.held.extend_from_slice(piece).is_err() {
+            return Err(FeedError::OutOfMemory);
+        }
+        if self.cut_held().is_err() {
+            self.held.truncate(held);
+            self.ready.truncate(ready);
+            return Err(FeedError::OutOfMemory);
+        }
+        match self.fault {
+            None => Ok(()),
+            Some(fault) => Err(FeedError::Fault(fault)),
+        }
+    }
+
+    /// Cuts what is held into frames.
+    fn cut_held(&mut self) -> Result<(), AllocError>
+        ensures ok { self.old.fault ≡ None → OnOk result (self.new ≡ joined self.old.given (cut S.find S.item S.after self.old.reading self.old.rest)) }
+        ensures err { OnErr result ((take (length self.old.given) self.new.given ≡ self.old.given) × (self.new ≡ record self.old { given = self.new.given })) }
+    {
+        let mut format = self.format;
+        let mut at = 0;
+        let mut front = format.front(self.held.as_slice());
+        while let Front::Whole(n) = front {
+            let frame = &self.held[at..at + n];
+            let item = format.read(self.alloc, frame)?;
+            self.ready.push_back(item)?;
+            format = format.past(frame);
+            at += n;
+            front = format.front(&self.held[at..]);
+        }
+        self.keep_from(at)?;
+        self.format = format;
+        self.fault = front.fault();
+        Ok(())
+    }
+
+    /// Drops the first bytes that are held. The others move once.
+    fn keep_from(&mut self, at: usize) -> Result<(), AllocError>
+        requires { at ≤ length self.old.rest }
+        ensures ok { OnOk result (self.new ≡ record self.old { rest = drop at self.old.rest }) }
+        ensures err { OnErr result (self.new ≡ self.old) }
+    {
+        if at > 0 {
+            self.held = Vec::from_slice(self.alloc, &self.held[at..])?;
+        }
+        Ok(())
+    }
+}
