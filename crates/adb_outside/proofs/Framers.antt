@@ -43,16 +43,16 @@ module _ {S V F : Type 0} (find : S → List ℕ → Front F) (item : S → List
         let same : (place + n) - place ≡ n = omega arith in
         let old : now.rest ≡ start.rest = ap (λ (k : Cut S V F). k.rest) h.kept in
         let frame : take ((place + n) - place) (drop place bytes) ≡ take n (drop place start.rest) =
-            ap (λ k. take k (drop place bytes)) same ∙ ap (λ b. take n (drop place b)) (here ∙ old) in
+        ap (λ k. take k (drop place bytes)) same ∙ ap (λ b. take n (drop place b)) (here ∙ old) in
         let tail : drop n (drop place start.rest) ≡ drop (place + n) start.rest = drop-drop n place start.rest in
         let value : item reading (take n (drop place start.rest)) ≡ v = sym (holds ∙ ap (item reading) frame) in
         let state : after reading (take n (drop place start.rest)) ≡ then = sym (past ∙ ap (after reading) frame) in
         let turn : cut find item after reading (drop place start.rest) ≡ joined (v ∷ []) (cut find item after then (drop (place + n) start.rest)) =
-            cut_first find item after laws reading (drop place start.rest)
-            ∙ (ap (λ f. cut_by find item after reading (drop place start.rest) f (cut find item after)) at
-            ∙ (ap (λ w. joined (w ∷ []) (cut find item after (after reading (take n (drop place start.rest))) (drop n (drop place start.rest)))) value
-            ∙ (ap (λ s. joined (v ∷ []) (cut find item after s (drop n (drop place start.rest)))) state
-            ∙ ap (λ b. joined (v ∷ []) (cut find item after then b)) tail))) in
+        cut_first find item after laws reading (drop place start.rest)
+        ∙ (ap (λ f. cut_by find item after reading (drop place start.rest) f (cut find item after)) at
+        ∙ (ap (λ w. joined (w ∷ []) (cut find item after (after reading (take n (drop place start.rest))) (drop n (drop place start.rest)))) value
+        ∙ (ap (λ s. joined (v ∷ []) (cut find item after s (drop n (drop place start.rest)))) state
+        ∙ ap (λ b. joined (v ∷ []) (cut find item after then b)) tail))) in
         record {
           within = omega (arith, fits, h.within, length-drop place start.rest);
           found = found ∙ ap (find then) (from_place (place + n) rest ∙ ap (drop (place + n)) (still ∙ old));
@@ -71,8 +71,8 @@ module _ {S V F : Type 0} (find : S → List ℕ → Front F) (item : S → List
     is_over start now reading place front h none sound =
         let old : now.rest ≡ start.rest = ap (λ (k : Cut S V F). k.rest) h.kept in
         let turn : cut find item after reading (drop place start.rest) ≡ uncut reading (drop place start.rest) (fault_of front) =
-            cut_first find item after laws reading (drop place start.rest)
-            ∙ (ap (λ f. cut_by find item after reading (drop place start.rest) f (cut find item after)) (sym h.found) ∙ stops front none) in
+        cut_first find item after laws reading (drop place start.rest)
+        ∙ (ap (λ f. cut_by find item after reading (drop place start.rest) f (cut find item after)) (sym h.found) ∙ stops front none) in
         let all : joined start.given (cut find item after start.reading start.rest) ≡ joined now.given (uncut reading (drop place start.rest) (fault_of front)) = h.frames ∙ ap (joined now.given) turn in
         ap (λ vs. record { given = vs; reading = reading; rest = drop place now.rest; fault = fault_of front }) (sym (append-nil now.given))
         ∙ (ap (λ b. record { given = now.given ++ []; reading = reading; rest = drop place b; fault = fault_of front }) old ∙ sym all)

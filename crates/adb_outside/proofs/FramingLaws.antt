@@ -1,9 +1,9 @@
 -- Bytes may be cut piece by piece.
-use Rattle.std.proofs.Common.{ℕ, ◌+◌, ◌-◌, ◌≡◌, ◌≤◌, ◌<◌, List, [], ◌∷◌, ◌++◌, length, take, drop, Option, Some, None, refl, sym, ◌∙◌, ap, subst, append_assoc, arith, zero, suc}
-use Rattle.std.proofs.lemmas.List.{length-append, length-drop, take-append-le, drop-append-le}
+use Rattle.std.proofs.Common.{ℕ, ◌+◌, ◌-◌, ◌≡◌, ◌≤◌, ◌<◌, List, [], ◌∷◌, ◌++◌, length, take, drop, Option, Some, None, refl, sym, ◌∙◌, ap, subst, arith, zero, suc}
+use Rattle.std.proofs.lemmas.List.{length-append, length-drop, take-append-le, drop-append-le, append_assoc}
 use Rattle.adb_outside.specs.declared.framer.Front.{Front}
 use Rattle.adb_outside.specs.declared.framer.Front.TheVariants.{More, Bad, Whole}
-use Rattle.adb_outside.specs.Framing.{Cut, uncut, joined, cut_by, cut_at, cut, IsFraming}
+use Rattle.adb_outside.specs.Framing.{Cut, uncut, joined, cut_by, cut_at, cut, IsFraming, Stands}
 
 module _ {S V F : Type 0} (find : S → List ℕ → Front F) (item : S → List ℕ → V) (after : S → List ℕ → S) (laws : IsFraming find item after) where
   abbrev at : ℕ → S → List ℕ → Cut S V F
@@ -47,7 +47,7 @@ module _ {S V F : Type 0} (find : S → List ℕ → Front F) (item : S → List
   cut_piece zero s (b ∷ x) y h ok = absurd (omega (arith, h))
   cut_piece (suc k) s (b ∷ x) y h ok =
       subst (λ (c : Cut S V F). c.fault ≡ None → cut find item after s ((b ∷ x) ++ y) ≡ joined c.given (cut find item after c.reading (c.rest ++ y))) (sym (cut_first s (b ∷ x)))
-        (go (find s (b ∷ x)) refl (λ t c. cut_piece k t c y)) ok
+      (go (find s (b ∷ x)) refl (λ t c. cut_piece k t c y)) ok
     where
       go : (f : Front F) → find s (b ∷ x) ≡ f
           → ((t : S) (c : List ℕ) → length c ≤ k → (cut find item after t c).fault ≡ None → cut find item after t (c ++ y) ≡ joined (cut find item after t c).given (cut find item after (cut find item after t c).reading ((cut find item after t c).rest ++ y)))
@@ -65,3 +65,62 @@ module _ {S V F : Type 0} (find : S → List ℕ → Front F) (item : S → List
           ∙ (ap (λ z. joined (item s z ∷ []) (cut find item after (after s z) (drop n ((b ∷ x) ++ y)))) t
           ∙ (ap (λ z. joined (item s (take n (b ∷ x)) ∷ []) (cut find item after (after s (take n (b ∷ x))) z)) d
           ∙ ap (joined (item s (take n (b ∷ x)) ∷ [])) (others (after s (take n (b ∷ x))) (drop n (b ∷ x)) (omega (arith, fits, length-drop n (b ∷ x))) none))))
+
+  -- Where a fault came, what follows changes nothing.
+  pub fault_stays : (k : ℕ) (s : S) (x y : List ℕ) (fault : F) → length x ≤ k → (cut find item after s x).fault ≡ Some fault
+      → ((cut find item after s (x ++ y)).given ≡ (cut find item after s x).given) × ((cut find item after s (x ++ y)).fault ≡ Some fault)
+  fault_stays k s [] y fault h e = cc
+  fault_stays zero s (b ∷ x) y fault h e = absurd (omega (arith, h))
+  fault_stays (suc k) s (b ∷ x) y fault h e =
+      subst (λ (c : Cut S V F). c.fault ≡ Some fault → ((cut find item after s ((b ∷ x) ++ y)).given ≡ c.given) × ((cut find item after s ((b ∷ x) ++ y)).fault ≡ Some fault)) (sym (cut_first s (b ∷ x)))
+      (go (find s (b ∷ x)) refl (λ t c. fault_stays k t c y fault)) e
+    where
+      go : (f : Front F) → find s (b ∷ x) ≡ f
+          → ((t : S) (c : List ℕ) → length c ≤ k → (cut find item after t c).fault ≡ Some fault → ((cut find item after t (c ++ y)).given ≡ (cut find item after t c).given) × ((cut find item after t (c ++ y)).fault ≡ Some fault))
+          → (cut_by find item after s (b ∷ x) f (cut find item after)).fault ≡ Some fault
+          → ((cut find item after s ((b ∷ x) ++ y)).given ≡ (cut_by find item after s (b ∷ x) f (cut find item after)).given) × ((cut find item after s ((b ∷ x) ++ y)).fault ≡ Some fault)
+      go More is others e = cc
+      go (Bad other) is others e =
+          let w : find s ((b ∷ x) ++ y) ≡ Bad other = laws.bad s (b ∷ x) y other is in
+          let c : cut find item after s ((b ∷ x) ++ y) ≡ uncut s ((b ∷ x) ++ y) (Some other) = cut_first s ((b ∷ x) ++ y) ∙ ap (λ f. cut_by find item after s ((b ∷ x) ++ y) f (cut find item after)) w in
+          (ap (λ (k : Cut S V F). k.given) c, ap (λ (k : Cut S V F). k.fault) c ∙ e)
+      go (Whole n) is others e =
+          let fits = laws.fits s (b ∷ x) n is in
+          let w : find s ((b ∷ x) ++ y) ≡ Whole n = laws.whole s (b ∷ x) y n is in
+          let t : take n ((b ∷ x) ++ y) ≡ take n (b ∷ x) = take-append-le n (b ∷ x) y fits.1 in
+          let d : drop n ((b ∷ x) ++ y) ≡ drop n (b ∷ x) ++ y = drop-append-le n (b ∷ x) y fits.1 in
+          let more = others (after s (take n (b ∷ x))) (drop n (b ∷ x)) (omega (arith, fits, length-drop n (b ∷ x))) e in
+          let c : cut find item after s ((b ∷ x) ++ y) ≡ joined (item s (take n (b ∷ x)) ∷ []) (cut find item after (after s (take n (b ∷ x))) (drop n (b ∷ x) ++ y)) =
+          cut_first s ((b ∷ x) ++ y)
+          ∙ (ap (λ f. cut_by find item after s ((b ∷ x) ++ y) f (cut find item after)) w
+          ∙ (ap (λ z. joined (item s z ∷ []) (cut find item after (after s z) (drop n ((b ∷ x) ++ y)))) t
+          ∙ ap (λ z. joined (item s (take n (b ∷ x)) ∷ []) (cut find item after (after s (take n (b ∷ x))) z)) d)) in
+          (ap (λ (k : Cut S V F). k.given) c ∙ ap (λ vs. item s (take n (b ∷ x)) ∷ vs) more.0, ap (λ (k : Cut S V F). k.fault) c ∙ more.1)
+
+  -- What stands for some bytes stands, with a piece taken, for these and the piece.
+  pub stands_feeds : (start : S) (fed : List ℕ) (taken : List V) (old : Cut S V F) (piece : List ℕ) (new : Cut S V F)
+      → Stands find item after start fed taken old → old.fault ≡ None → new ≡ joined old.given (cut find item after old.reading (old.rest ++ piece))
+      → Stands find item after start (fed ++ piece) taken new
+  stands_feeds start fed taken old piece new h sound is =
+      let at_rest = h.open_rest sound in
+      let c : cut find item after start (fed ++ piece) ≡ joined (taken ++ old.given) (cut find item after old.reading (old.rest ++ piece)) =
+      cut_piece (length fed) start fed piece (omega arith) (h.fault ∙ sound)
+      ∙ (ap (λ vs. joined vs (cut find item after (cut find item after start fed).reading ((cut find item after start fed).rest ++ piece))) h.frames
+      ∙ (ap (λ s. joined (taken ++ old.given) (cut find item after s ((cut find item after start fed).rest ++ piece))) at_rest.1
+      ∙ ap (λ b. joined (taken ++ old.given) (cut find item after old.reading (b ++ piece))) at_rest.0)) in
+      record {
+        frames = ap (λ (k : Cut S V F). k.given) c ∙ (append_assoc taken old.given (cut find item after old.reading (old.rest ++ piece)).given ∙ ap (λ (k : Cut S V F). taken ++ k.given) (sym is));
+        fault = ap (λ (k : Cut S V F). k.fault) c ∙ ap (λ (k : Cut S V F). k.fault) (sym is);
+        open_rest = λ _. (ap (λ (k : Cut S V F). k.rest) c ∙ ap (λ (k : Cut S V F). k.rest) (sym is), ap (λ (k : Cut S V F). k.reading) c ∙ ap (λ (k : Cut S V F). k.reading) (sym is));
+      }
+
+  -- What has a fault stands for all that follows too.
+  pub stands_faulted : (start : S) (fed : List ℕ) (taken : List V) (old : Cut S V F) (piece : List ℕ) (fault : F)
+      → Stands find item after start fed taken old → old.fault ≡ Some fault → Stands find item after start (fed ++ piece) taken old
+  stands_faulted start fed taken old piece fault h is =
+      let more = fault_stays (length fed) start fed piece fault (omega arith) (h.fault ∙ is) in
+      record {
+        frames = more.0 ∙ h.frames;
+        fault = more.1 ∙ sym is;
+        open_rest = λ none. let clash : Some fault ≡ None = sym is ∙ none in cc;
+      }

@@ -59,6 +59,9 @@ module _ {S V F : Type 0} (find : S → List ℕ → Front F) (item : S → List
     pub first : old.fault ≡ None → new ≡ joined old.given (cut old.reading (old.rest ++ piece))
     pub stays : (f : F) → old.fault ≡ Some f → new ≡ old
 
-  -- What is held of a stream of these bytes, of whose frames these were taken: the frames that are still to be taken, and what was left over.
+  -- What is held of a stream: of all the bytes that were fed and the frames that were taken it still has the other frames, the
+  -- fault, and where there is none the bytes past the last frame.
   pub record Stands (start : S) (fed : List ℕ) (taken : List V) (now : Cut S V F) : Type 0 where
-    pub is : cut start fed ≡ joined taken now
+    pub frames : (cut start fed).given ≡ taken ++ now.given
+    pub fault : (cut start fed).fault ≡ now.fault
+    pub open_rest : now.fault ≡ None → ((cut start fed).rest ≡ now.rest) × ((cut start fed).reading ≡ now.reading)

@@ -1,7 +1,7 @@
 //! Cutting a stream of bytes into frames, in whatever pieces it comes.
 
-ghost use Rattle.std.specs.Prelude.{◌≡◌, ◌++◌, ◌∷◌, [], List, ℕ, IfOk, IfSome, IfNone, OnErr, OnOk, take, drop, length, Option, Some, None, ◌≤◌};
-ghost use Rattle.adb_outside.specs.Framing.{cut, joined, fault_of, Feeds, Faults};
+ghost use Rattle.std.specs.Prelude.{◌≡◌, ◌++◌, ◌∷◌, [], List, ℕ, IfOk, IfSome, IfNone, OnErr, OnOk, take, drop, length, Option, Some, None, ◌≤◌, ◌≢◌, option_to_list};
+ghost use Rattle.adb_outside.specs.Framing.{cut, joined, fault_of, Feeds, Faults, Stands};
 
 use std::alloc::{AllocError, Global};
 use std::collections::VecDeque;
@@ -96,7 +96,8 @@ impl<S: Drop, V: Drop, F: Drop> Model for Framer<S, V, F> {
 impl<V: Drop, F: Copy, S: Format<V, F>> Framer<S, V, F> {
     /// Nothing was fed yet. It takes no memory.
     pub fn new(alloc: Global, format: S) -> Framer<S, V, F>
-        ensures { result ≡ record { given = []; reading = format; rest = []; fault = None } }
+        ensures value { result ≡ record { given = []; reading = format; rest = []; fault = None } }
+        ensures stands { Stands S.find S.item S.after format [] [] result }
     {
         Framer {
             alloc,
@@ -112,6 +113,7 @@ impl<V: Drop, F: Copy, S: Format<V, F>> Framer<S, V, F> {
     pub fn next(&mut self) -> Option<V>
         ensures some { IfSome result (λ v. self.old ≡ record self.new { given = v ∷ self.new.given }) }
         ensures none { IfNone result ((self.old.given ≡ []) × (self.new ≡ self.old)) }
+        ensures stands { (start : S) (fed : List ℕ) (taken : List V) → Stands S.find S.item S.after start fed taken self.old → Stands S.find S.item S.after start fed (taken ++ option_to_list result) self.new }
     {
         self.ready.pop_front()
     }
@@ -122,6 +124,7 @@ impl<V: Drop, F: Copy, S: Format<V, F>> Framer<S, V, F> {
         ensures ok { OnOk result (Feeds S.find S.item S.after self.old piece.now self.new × (self.new.fault ≡ None)) }
         ensures fault { (f : F) → result ≡ Err (FeedError.Fault f) → Faults S.find S.item S.after self.old piece.now self.new f }
         ensures memory { result ≡ Err FeedError.OutOfMemory → self.new ≡ self.old }
+        ensures stands { result ≢ Err FeedError.OutOfMemory → (start : S) (fed : List ℕ) (taken : List V) → Stands S.find S.item S.after start fed taken self.old → Stands S.find S.item S.after start (fed ++ piece.now) taken self.new }
     {
         if let Some(fault) = self.fault {
             return Err(FeedError::Fault(fault));
