@@ -3,3 +3,4 @@ pub mod Source
 pub mod Sink
 pub mod Identity
 pub mod Framing
+pub mod Memory

@@ -4,13 +4,18 @@
 mod framer;
 mod identity;
 mod kinds;
+mod memory;
+mod never;
 mod sink;
 mod source;
+mod supply;
 mod text;
 
 pub use framer::{FeedError, Format, Framer, Front};
 pub use identity::{Identity, State, state_of, state_text};
 pub use kinds::{Cause, Kind, Selector};
+pub use memory::{MemorySink, MemorySource};
+pub use never::{NeverSink, NeverSource};
 pub use sink::{Sink, Wrote};
 pub use source::{Got, Source};
 pub use text::Text;
