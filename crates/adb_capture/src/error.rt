@@ -1,0 +1,28 @@
+//! What is wrong with a capture.
+
+/// What is wrong with a record.
+#[derive(Clone, Copy, Debug, PartialEq, Eq, Drop)]
+pub enum Why {
+    /// No record's kind is that byte.
+    UnknownKind,
+    /// The data are not of its kind's form.
+    BadForm,
+    /// Its data are longer than 2,097,152 bytes.
+    TooLarge,
+}
+
+/// Why no record is read. An offset is that of the record's first byte in the capture.
+#[derive(Clone, Copy, Debug, PartialEq, Eq, Drop)]
+pub enum CaptureError {
+    /// The capture does not begin with the magic.
+    BadMagic,
+    BadRecord { offset: u64, why: Why },
+    /// The capture ends within the record.
+    Truncated { offset: u64 },
+    /// The record ends past byte 1,073,741,824 of the capture.
+    TooLong { offset: u64 },
+    /// The source failed.
+    ReadFault,
+    /// Memory ran out. The next call gives the same record.
+    OutOfMemory,
+}

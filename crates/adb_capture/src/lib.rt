@@ -1,0 +1,9 @@
+//! Captures of histories: the entries of a history as records of bytes, read from a source and
+//! written to a sink.
+#![tactic(auto)]
+
+mod entry;
+mod error;
+
+pub use entry::Entry;
+pub use error::{CaptureError, Why};

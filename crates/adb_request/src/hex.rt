@@ -1,0 +1,1 @@
+//! Lengths of four hexadecimal digits.
