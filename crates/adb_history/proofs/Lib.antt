@@ -1,0 +1,6 @@
+pub mod Requests
+pub mod Bytes
+pub mod Tables
+pub mod Orderly
+pub mod Draining
+pub mod Accepting

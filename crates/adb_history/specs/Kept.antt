@@ -1,0 +1,70 @@
+-- What a server holds of a state: plain tables in rising number.
+use Rattle.std.specs.Prelude.{ℕ, ◌≡◌, ◌<◌, List, [], ◌∷◌, Option, Some, None, zero, suc}
+use Rattle.std.specs.List.Sorted.{IsStrictlySortedBy}
+use Rattle.std.specs.Ordering.{nat_cmp}
+use Rattle.std.specs.Map.{lookup, keys_of}
+use Rattle.std.specs.BTreeMap.{is_at}
+use Rattle.adb_request.specs.Requests.{request_at}
+use Rattle.adb_request.specs.declared.cut.Found.TheVariants.{More}
+use Rattle.adb_history.specs.Machine.{Client, State, absent, History, state, IsLegal}
+use Rattle.adb_history.specs.declared.phase.Phase.{Phase}
+use Rattle.adb_history.specs.declared.phase.Phase.TheVariants.{Asking, Closing, Gone}
+
+-- what is held of a client that lives
+pub record KeptClient : Type 0 where
+  pub phase : Phase
+  pub unread : List ℕ
+  pub due : List ℕ
+
+abbrev pub kept_of : Client → KeptClient
+kept_of c = record { phase = c.phase; unread = c.unread; due = c.due }
+
+abbrev pub kept_row : Phase → Client → Option KeptClient
+kept_row Asking c = Some (kept_of c)
+kept_row Closing c = Some (kept_of c)
+kept_row Gone c = None
+
+-- of a client that is gone nothing is held
+abbrev pub kept_if_live : Client → Option KeptClient
+kept_if_live c = kept_row c.phase c
+
+-- the k numbers from the first on, with what they have
+abbrev pub listed_at : {X : Type 0} → ℕ → Option X → List (ℕ × X) → List (ℕ × X)
+listed_at n None others = others
+listed_at n (Some x) others = (n, x) ∷ others
+
+abbrev pub listed : {X : Type 0} → (ℕ → Option X) → ℕ → ℕ → List (ℕ × X)
+listed rows first zero = []
+listed rows first (suc k) = listed_at first (rows first) (listed rows (suc first) k)
+
+-- what a table has at a number
+abbrev pub at : {X : Type 0} → ℕ → List (ℕ × X) → Option X
+at n table = lookup (is_at (nat_cmp n)) table
+
+abbrev pub IsRising : {X : Type 0} → List (ℕ × X) → Type 0
+IsRising table = IsStrictlySortedBy nat_cmp (keys_of table)
+
+-- the numbers drawn, and the clients that live
+pub record Kept : Type 0 where
+  pub joined : ℕ
+  pub clients : List (ℕ × KeptClient)
+
+abbrev pub kept : State → Kept
+kept s = record { joined = s.joined; clients = listed (λ n. kept_if_live (s.clients n)) 1 s.joined }
+
+-- a client keeps no whole request unread
+abbrev pub IsResting : Phase → List ℕ → Type 0
+IsResting Asking unread = request_at unread ≡ More
+IsResting Closing unread = unread ≡ []
+IsResting Gone unread = unread ≡ []
+
+-- no client keeps a whole request unread, and there is none above the numbers drawn, nor at 0
+pub record IsOrderly (s : State) : Type 0 where
+  pub rests : (n : ℕ) → IsResting (s.clients n).phase (s.clients n).unread
+  pub none_above : (n : ℕ) → s.joined < n → s.clients n ≡ absent
+  pub none_at_zero : s.clients 0 ≡ absent
+
+-- A server holds what a legal history leaves.
+pub record IsLawful (holds : Kept) (h : History) : Type 0 where
+  pub legal : IsLegal h
+  pub seen : holds ≡ kept (state h)

@@ -1,0 +1,5 @@
+pub mod Rows
+pub mod Machine
+pub mod Kept
+pub mod Drained
+pub mod Accepted
