@@ -3,3 +3,4 @@ pub mod Machine
 pub mod Kept
 pub mod Drained
 pub mod Accepted
+pub mod Answered
