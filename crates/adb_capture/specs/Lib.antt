@@ -1,2 +1,4 @@
 pub mod Records
 pub mod Reading
+pub mod Forms
+pub mod Counting

@@ -4,6 +4,10 @@
 
 mod entry;
 mod error;
+mod form;
+mod held;
+mod laws;
 
 pub use entry::Entry;
 pub use error::{CaptureError, Why};
+pub use laws::records_are_framed;

@@ -1,8 +1,8 @@
 -- Requests (OVERVIEW.TXT, "Protocol details"): four hexadecimal digits of length, and that many bytes of text.
-use Rattle.std.specs.Prelude.{ℕ, ◌+◌, ◌-◌, ◌*◌, ◌/◌, ◌%◌, Bool, true, false, if◌then◌else◌, ◌&&◌, ◌||◌, nat_lt, nat_le, nat_eq, List, [], ◌∷◌, length, Option, Some, None, codes, bytes_eq, zero, suc}
+use Rattle.std.specs.Prelude.{ℕ, ◌+◌, ◌-◌, ◌*◌, ◌/◌, ◌%◌, Bool, if◌then◌else◌, ◌&&◌, ◌||◌, nat_lt, nat_le, nat_eq, List, [], ◌∷◌, length, Option, Some, None, codes, bytes_eq, zero, suc}
 use Rattle.std.specs.List.{starts_with}
-use Rattle.adb_request.specs.declared.cut.Found.{Found}
-use Rattle.adb_request.specs.declared.cut.Found.TheVariants.{More, Malformed, Whole}
+use Rattle.adb_request.specs.declared.cutting.Found.{Found}
+use Rattle.adb_request.specs.declared.cutting.Found.TheVariants.{More, Malformed, Whole}
 use Rattle.adb_request.specs.declared.request.Request.{Request}
 use Rattle.adb_request.specs.declared.request.Request.TheVariants.{Version, Service, UnknownHost}
 

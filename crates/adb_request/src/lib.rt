@@ -2,9 +2,14 @@
 //! SERVICES.TXT).
 #![tactic(auto)]
 
-mod cut;
+mod cutting;
 mod hex;
+mod laws;
 mod request;
+#[cfg(test)]
+mod tests;
 
-pub use cut::Found;
-pub use request::Request;
+pub use cutting::{Found, cut};
+pub use hex::{hex4, read_hex4};
+pub use laws::spelled_is_read;
+pub use request::{Request, read};
