@@ -4,8 +4,8 @@ use Rattle.std.specs.Prelude.{◌||◌, is_none}
 use Rattle.std.proofs.Math.Seq.{drop-append_seam, take-append_seam}
 use Rattle.std.proofs.lemmas.List.{drop-append-le, length-drop, append-nil}
 use Rattle.adb_request.specs.Requests.{request_at, meaning}
-use Rattle.adb_request.specs.declared.cut.Found.{Found}
-use Rattle.adb_request.specs.declared.cut.Found.TheVariants.{More, Malformed, Whole}
+use Rattle.adb_request.specs.declared.cutting.Found.{Found}
+use Rattle.adb_request.specs.declared.cutting.Found.TheVariants.{More, Malformed, Whole}
 use Rattle.adb_history.specs.Machine.{answer, Client, closing, answered, asks, byte_in, bytes_in, is_unbuilt, byte_asks_unbuilt, asks_unbuilt}
 use Rattle.adb_history.specs.declared.phase.Phase.{Phase}
 use Rattle.adb_history.specs.declared.phase.Phase.TheVariants.{Asking, Closing, Gone}

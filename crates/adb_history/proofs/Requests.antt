@@ -3,7 +3,7 @@ use Rattle.std.proofs.Common.{ℕ, ◌+◌, ◌≡◌, ◌≢◌, ◌≤◌, Boo
 use Rattle.std.proofs.lemmas.List.{length-append}
 use Rattle.std.proofs.lemmas.Bool.Decides.{nat_tests}
 use Rattle.adb_request.specs.Requests.{request_at, found_behind, hex_value}
-use Rattle.adb_request.specs.declared.cut.Found.TheVariants.{More, Malformed, Whole}
+use Rattle.adb_request.specs.declared.cutting.Found.TheVariants.{More, Malformed, Whole}
 
 more_test : (m n k : ℕ) → m ≤ n → cond (ltb n (suc k)) More (Whole (suc k)) ≡ More → cond (ltb m (suc k)) More (Whole (suc k)) ≡ More
 more_test m n k le e = grind (arith, nat_tests)

@@ -55,7 +55,7 @@ above_all {X} rows n first (suc k) h = go (rows first) (above_all rows n (suc fi
     go None a = a
     go (Some x) a = (less n first h, a)
 
-listed_rises : {X : Type 0} (rows : ℕ → Option X) (first k : ℕ) → IsStrictlySortedBy nat_cmp (keys_of (listed rows first k))
+pub listed_rises : {X : Type 0} (rows : ℕ → Option X) (first k : ℕ) → IsStrictlySortedBy nat_cmp (keys_of (listed rows first k))
 unfolding IsStrictlySortedBy
 listed_rises rows first zero = tt
 listed_rises {X} rows first (suc k) = go (rows first) (listed_rises rows (suc first) k)

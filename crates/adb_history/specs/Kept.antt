@@ -5,7 +5,7 @@ use Rattle.std.specs.Ordering.{nat_cmp}
 use Rattle.std.specs.Map.{lookup, keys_of}
 use Rattle.std.specs.BTreeMap.{is_at}
 use Rattle.adb_request.specs.Requests.{request_at}
-use Rattle.adb_request.specs.declared.cut.Found.TheVariants.{More}
+use Rattle.adb_request.specs.declared.cutting.Found.TheVariants.{More}
 use Rattle.adb_history.specs.Machine.{Client, State, absent, History, state, IsLegal}
 use Rattle.adb_history.specs.declared.phase.Phase.{Phase}
 use Rattle.adb_history.specs.declared.phase.Phase.TheVariants.{Asking, Closing, Gone}
@@ -58,9 +58,10 @@ IsResting Asking unread = request_at unread ≡ More
 IsResting Closing unread = unread ≡ []
 IsResting Gone unread = unread ≡ []
 
--- no client keeps a whole request unread, and there is none above the numbers drawn, nor at 0
+-- no client keeps a whole request unread, nothing is due to one that is gone, and there is none above the numbers drawn, nor at 0
 pub record IsOrderly (s : State) : Type 0 where
   pub rests : (n : ℕ) → IsResting (s.clients n).phase (s.clients n).unread
+  pub gone_has_none : (n : ℕ) → (s.clients n).phase ≡ Gone → (s.clients n).due ≡ []
   pub none_above : (n : ℕ) → s.joined < n → s.clients n ≡ absent
   pub none_at_zero : s.clients 0 ≡ absent
 

@@ -3,8 +3,8 @@ use Rattle.std.specs.Prelude.{ℕ, ◌+◌, ◌^◌, ◌≡◌, ◌≢◌, ◌�
 use Rattle.adb_outside.specs.declared.kinds.Cause.{Cause}
 use Rattle.adb_outside.specs.declared.kinds.Cause.TheVariants.{Eof, Fault, Starved, NoThread}
 use Rattle.adb_request.specs.Requests.{request_at, meaning}
-use Rattle.adb_request.specs.declared.cut.Found.{Found}
-use Rattle.adb_request.specs.declared.cut.Found.TheVariants.{More, Malformed, Whole}
+use Rattle.adb_request.specs.declared.cutting.Found.{Found}
+use Rattle.adb_request.specs.declared.cutting.Found.TheVariants.{More, Malformed, Whole}
 use Rattle.adb_request.specs.declared.request.Request.{Request}
 use Rattle.adb_request.specs.declared.request.Request.TheVariants.{Version, Service, UnknownHost}
 use Rattle.adb_capture.specs.Records.{owner_of, data_of, HasPort}
@@ -15,7 +15,7 @@ use Rattle.adb_history.specs.declared.phase.Phase.{Phase}
 use Rattle.adb_history.specs.declared.phase.Phase.TheVariants.{Asking, Closing, Gone}
 
 -- What a request is answered with before its client is closed (SERVICES.TXT); none where the request is not built yet.
-unfoldable pub answer : Request → Option (List ℕ)
+abbrev pub answer : Request → Option (List ℕ)
 answer Version = Some (codes "OKAY00040029")
 answer (Service text) = None
 answer UnknownHost = None

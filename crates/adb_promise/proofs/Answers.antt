@@ -7,8 +7,8 @@ use Rattle.std.specs.Prelude.{nat_eq, ◌&&◌, ◌||◌, not, is_none}
 use Rattle.adb_outside.specs.declared.kinds.Cause.{Cause}
 use Rattle.adb_outside.specs.declared.kinds.Cause.TheVariants.{Eof, Fault, Starved, NoThread}
 use Rattle.adb_request.specs.Requests.{request_at, meaning}
-use Rattle.adb_request.specs.declared.cut.Found.{Found}
-use Rattle.adb_request.specs.declared.cut.Found.TheVariants.{More, Malformed, Whole}
+use Rattle.adb_request.specs.declared.cutting.Found.{Found}
+use Rattle.adb_request.specs.declared.cutting.Found.TheVariants.{More, Malformed, Whole}
 use Rattle.adb_capture.specs.declared.entry.Entry.{Entry}
 use Rattle.adb_capture.specs.declared.entry.Entry.TheVariants.{Join, Enter, Read, End, Bound, Attach, Recv, Detach, Put, Send}
 use Rattle.adb_history.specs.Rows.{IsPrefixOf}

@@ -1,0 +1,3 @@
+pub mod Client
+pub mod Refused
+pub mod Machine

@@ -1,0 +1,54 @@
+-- What the calls of a machine make of the rows and the states that it stands for.
+use Rattle.std.specs.Prelude.{ℕ, ◌≡◌, ◌≢◌, ◌<◌, Bool, true, false, if◌then◌else◌, All, List, [], ◌∷◌, length, take, Option, Some, None, Result, Ok, Err}
+use Rattle.adb_outside.specs.declared.kinds.Cause.{Cause}
+use Rattle.adb_capture.specs.declared.entry.Entry.{Entry}
+use Rattle.adb_capture.specs.declared.entry.Entry.TheVariants.{Put}
+use Rattle.adb_history.specs.Machine.{Client, State, History, state, step, settled, bytes_in, asks_unbuilt, ended, handed}
+use Rattle.adb_history.specs.Kept.{Kept, KeptClient, kept, kept_of, at, IsRising, IsLawful}
+use Rattle.adb_history.specs.Accepted.{refusal_of, is_input}
+use Rattle.adb_history.specs.declared.refusal.Refusal.TheVariants.{NotDrawn, BadSerial, NotBuilt}
+use Rattle.adb_top.specs.Client.{is_gone_phase}
+use Rattle.adb_top.specs.declared.machine.Refused.{Refused}
+use Rattle.adb_top.specs.declared.machine.Refused.TheVariants as refused
+use Rattle.adb_top.specs.declared.machine.HandOut.{HandOut}
+
+-- A table changes at most at one number.
+pub record ChangesOne (old : Kept) (n : ℕ) (new : Kept) : Type 0 where
+  pub others : (q : ℕ) → q ≢ n → at q new.clients ≡ at q old.clients
+  pub rises : IsRising old.clients → IsRising new.clients
+  pub joined : new.joined ≡ old.joined
+
+-- a row became another, and it is told whether nothing of it is to be kept
+pub record Becomes (row : Client) (gone : Bool) (now : Option KeptClient) : Type 0 where
+  pub is : now ≡ Some (kept_of row)
+  pub told : gone ≡ is_gone_phase row.phase
+
+-- bytes came to a row
+abbrev pub ReadsRow : Client → List ℕ → Result Bool Refused → Option KeptClient → Type 0
+ReadsRow row bytes (Ok gone) now = (asks_unbuilt row bytes ≡ false) × Becomes (settled (bytes_in row bytes)) gone now
+ReadsRow row bytes (Err refused.NotDrawn) now = ⊥
+ReadsRow row bytes (Err refused.BadSerial) now = ⊥
+ReadsRow row bytes (Err refused.NotBuilt) now = asks_unbuilt row bytes ≡ true
+ReadsRow row bytes (Err refused.OutOfMemory) now = Unit {0}
+
+-- bytes of a row were handed out, or it has none due
+abbrev pub HandsRow : Client → ℕ → Option HandOut → Option KeptClient → Type 0
+HandsRow row max None now = (row.due ≡ []) × (now ≡ Some (kept_of row))
+HandsRow row max (Some out) now = (row.due ≢ []) × (out.bytes ≡ take max row.due) × Becomes (settled (handed (length out.bytes) row)) out.gone now
+
+-- what an entry makes of a state; a hand-out that was recorded is passed over
+abbrev pub applied : State → Entry → State
+applied s e = if is_input e then step s e else s
+
+-- An entry is made of a state, or refused as the state refuses it.
+abbrev pub Applies : State → Entry → Result (Unit {0}) Refused → Kept → Type 0
+Applies s e (Ok done) new = ((offset : ℕ) → refusal_of s offset e ≡ None) × (new ≡ kept (applied s e))
+Applies s e (Err refused.NotDrawn) new = (offset : ℕ) → refusal_of s offset e ≡ Some (NotDrawn offset)
+Applies s e (Err refused.BadSerial) new = (offset : ℕ) → refusal_of s offset e ≡ Some (BadSerial offset)
+Applies s e (Err refused.NotBuilt) new = (offset : ℕ) → refusal_of s offset e ≡ Some (NotBuilt offset)
+Applies s e (Err refused.OutOfMemory) new = Unit {0}
+
+-- The first bytes that are due to a client are put to it, or it has none due.
+abbrev pub Puts : State → ℕ → ℕ → Option (List ℕ) → Kept → Type 0
+Puts s n max None new = ((s.clients n).due ≡ []) × (new ≡ kept s)
+Puts s n max (Some bytes) new = ((s.clients n).due ≢ []) × (bytes ≡ take max (s.clients n).due) × (new ≡ kept (step s (Put n bytes)))

@@ -1,0 +1,213 @@
+//! One client of the machine.
+
+ghost use Rattle.std.specs.Prelude.{◌≡◌, ◌<◌, ◌≤◌, ◌++◌, List, ℕ, [], length, take, drop, All, IfOk, nat_lt};
+ghost use Rattle.std.specs.Option.{option_copied};
+ghost use Rattle.adb_history.specs.Machine.{Client as Row, fresh, settled, ended, handed, answer, end_phase, phase_after};
+ghost use Rattle.adb_history.specs.Kept.{kept_of, IsResting};
+ghost use Rattle.adb_request.specs.Requests.{request_at};
+ghost use Rattle.adb_top.specs.Client.{ReadsPiece, AnswersFront, is_gone_phase};
+
+use adb_history::Phase;
+use adb_outside::{Cause, Text};
+use adb_request::{Found, Request, cut, read};
+use std::alloc::{AllocError, Global};
+use std::marker::Model;
+
+/// Why the bytes of a client were not read.
+#[derive(Clone, Copy, Debug, PartialEq, Eq, Drop)]
+pub enum Unread {
+    /// They make a request whole that is not built yet.
+    NotBuilt,
+    OutOfMemory,
+}
+
+impl From<AllocError> for Unread {
+    ghost use Rattle.std.specs.Prelude.{◌≡◌};
+    ghost use Rattle.adb_top.specs.declared.client.Unread.TheVariants.{OutOfMemory};
+
+    ghost from_gives = { λ _ e. e ≡ OutOfMemory };
+
+    fn from(_error: AllocError) -> Unread {
+        Unread::OutOfMemory
+    }
+}
+
+/// The reply to a request, where it is built: `OKAY` and the version as a string of four digits.
+fn reply_to(request: &Request) -> Option<&'static [u8]>
+    ensures { option_copied result ≡ answer request.now }
+{
+    match request {
+        Request::Version => Some(b"OKAY00040029"),
+        Request::Service(_) => None,
+        Request::UnknownHost => None,
+    }
+}
+
+/// The first `max` of some bytes, or all where there are fewer.
+fn first(bytes: &[u8], max: usize) -> &[u8]
+    ensures value { result.now ≡ take max bytes.now }
+    ensures in_range { All (λ b. b < 256) result.now }
+{
+    &bytes[..max.min(bytes.len())]
+}
+
+/// A client: what was read from it and is no whole request yet, and what is still to be handed out.
+#[derive(Drop)]
+pub struct Client {
+    phase: Phase,
+    unread: Vec<u8>,
+    due: Vec<u8>,
+    handed: usize,
+}
+
+impl Model for Client {
+    ghost use Rattle.std.specs.Prelude.{◌≤◌, drop, length};
+    ghost use Rattle.adb_history.specs.Kept.{KeptClient};
+
+    ghost Value = { KeptClient };
+
+    ghost view = { λ c. record { phase = c.phase; unread = c.unread.items; due = drop c.handed c.due.items } };
+
+    ghost invariant = { λ c. c.handed ≤ length c.due.items };
+}
+
+impl Client {
+    /// A client that came just now. It takes no memory.
+    pub fn new(alloc: Global) -> Client
+        ensures { result ≡ kept_of fresh }
+    {
+        Client {
+            phase: Phase::Asking,
+            unread: Vec::new(alloc),
+            due: Vec::new(alloc),
+            handed: 0,
+        }
+    }
+
+    /// Whether nothing of it is to be kept.
+    pub fn is_gone(&self) -> bool
+        ensures { result ≡ is_gone_phase self.now.phase }
+    {
+        matches!(self.phase, Phase::Gone)
+    }
+
+    /// Whether bytes are due to it.
+    pub fn is_owed(&self) -> bool
+        ensures { result ≡ nat_lt 0 (length self.now.due) }
+    {
+        self.handed < self.due.len()
+    }
+
+    /// Bytes come from the client.
+    pub fn read(&mut self, alloc: Global, piece: &[u8]) -> Result<(), Unread>
+        ensures { (row : Row) → self.old ≡ kept_of row → IsResting row.phase row.unread → ReadsPiece row piece.now result self.new }
+    {
+        if self.phase == Phase::Asking {
+            return self.ask(alloc, piece);
+        }
+        self.settle();
+        Ok(())
+    }
+
+    /// The bytes of a client that asks join what is unread, and its request is answered.
+    fn ask(&mut self, alloc: Global, piece: &[u8]) -> Result<(), Unread>
+        requires { self.old.phase ≡ Phase.Asking }
+        ensures { (row : Row) → self.old ≡ kept_of row → IsResting row.phase row.unread → ReadsPiece row piece.now result self.new }
+    {
+        self.unread.extend_from_slice(piece)?;
+        let answered = self.answer(alloc);
+        self.settle();
+        answered
+    }
+
+    /// Answers the request that is unread, where it is whole.
+    fn answer(&mut self, alloc: Global) -> Result<(), Unread>
+        ensures { AnswersFront (request_at self.old.unread) self.old result self.new }
+    {
+        match cut(self.unread.as_slice()) {
+            Found::More => {}
+            Found::Malformed => self.close(),
+            Found::Whole { len } => {
+                let request = read(alloc, &self.unread[4..4 + len])?;
+                let reply = reply_to(&request).ok_or(Unread::NotBuilt)?;
+                self.due.extend_from_slice(reply)?;
+                self.close();
+            }
+        }
+        Ok(())
+    }
+
+    /// The client's input ended.
+    pub fn end(&mut self, cause: Cause)
+        ensures { (row : Row) → self.old ≡ kept_of row → self.new ≡ kept_of (settled (ended cause row)) }
+    {
+        match cause {
+            Cause::Eof => self.finish(),
+            Cause::Fault => self.give_up(),
+            Cause::Starved => self.give_up(),
+            Cause::NoThread => self.give_up(),
+        }
+        self.settle();
+    }
+
+    /// Hands out the first `max` of the bytes that are due, or all where there are fewer.
+    pub fn hand(&mut self, alloc: Global, max: usize) -> Result<Text, AllocError>
+        ensures bytes { IfOk result (λ text. text ≡ take max self.old.due) }
+        ensures row { IfOk result (λ text. (row : Row) → self.old ≡ kept_of row → self.new ≡ kept_of (settled (handed (length text) row))) }
+        ensures in_range { IfOk result (All (λ b. b < 256)) }
+    {
+        let text = Text::from_slice(alloc, first(&self.due[self.handed..], max))?;
+        self.took(text.len());
+        self.settle();
+        Ok(text)
+    }
+
+    /// So many of the bytes that are due were handed out. Where these were all, the room is used anew.
+    fn took(&mut self, count: usize)
+        requires { count ≤ length self.old.due }
+        ensures { self.new ≡ record self.old { due = drop count self.old.due } }
+    {
+        self.handed += count;
+        if self.handed == self.due.len() {
+            self.due.clear();
+            self.handed = 0;
+        }
+    }
+
+    /// It is read no more.
+    fn close(&mut self)
+        ensures { self.new ≡ record self.old { phase = Phase.Closing; unread = [] } }
+    {
+        self.unread.clear();
+        self.phase = Phase::Closing;
+    }
+
+    /// It is read no more, and is handed what is due.
+    fn finish(&mut self)
+        ensures { self.new ≡ record self.old { phase = end_phase self.old.phase; unread = [] } }
+    {
+        self.unread.clear();
+        if self.phase == Phase::Asking {
+            self.phase = Phase::Closing;
+        }
+    }
+
+    /// Nothing of it is kept.
+    fn give_up(&mut self)
+        ensures { self.new ≡ record { phase = Phase.Gone; unread = []; due = [] } }
+    {
+        self.unread.clear();
+        self.due.clear();
+        self.handed = 0;
+        self.phase = Phase::Gone;
+    }
+
+    /// A client that is closing and has nothing due is gone.
+    fn settle(&mut self)
+        ensures { self.new ≡ record self.old { phase = phase_after self.old.phase self.old.due } }
+    {
+        if self.phase == Phase::Closing && !self.is_owed() {
+            self.phase = Phase::Gone;
+        }
+    }
+}
