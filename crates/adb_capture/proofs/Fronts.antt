@@ -187,8 +187,8 @@ tested_more false true false false false offset size (Some e) h g = cc
 pub more_is_short : (offset : ℕ) (x : List ℕ) → record_at offset x ≡ More → length x < 2097161
 more_is_short offset x h =
     elim (cases_lt (length x) 9) [
-      inl l ↦ omega (arith, l)
-    | inr l ↦
-        let t = tested_more (nat_lt (length x) 9) (is_kind (kind_in x)) (nat_lt 2097152 (size_in x)) (nat_lt 1073741824 (offset + 9 + size_in x)) (nat_lt (length x) (9 + size_in x)) offset (size_in x) (entry_of x) (sym (as_tested offset x) ∙ h) (le-ltb (length x) 9 l) in
-        omega (arith, ltb-false 2097152 (size_in x) t.0, ltb-true (length x) (9 + size_in x) t.1)
+      | inl l ↦ omega (arith, l)
+      | inr l ↦
+          let t = tested_more (nat_lt (length x) 9) (is_kind (kind_in x)) (nat_lt 2097152 (size_in x)) (nat_lt 1073741824 (offset + 9 + size_in x)) (nat_lt (length x) (9 + size_in x)) offset (size_in x) (entry_of x) (sym (as_tested offset x) ∙ h) (le-ltb (length x) 9 l) in
+          omega (arith, ltb-false 2097152 (size_in x) t.0, ltb-true (length x) (9 + size_in x) t.1)
     ]

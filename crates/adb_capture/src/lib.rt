@@ -7,7 +7,8 @@ mod error;
 mod form;
 mod held;
 mod laws;
+mod record;
 
 pub use entry::Entry;
 pub use error::{CaptureError, Why};
-pub use laws::records_are_framed;
+pub use laws::{read_is_spelled, records_are_framed, spelled_is_read};
