@@ -1,3 +1,4 @@
 pub mod Fronts
 pub mod Keeping
 pub mod Spellings
+pub mod Awaited

@@ -299,3 +299,21 @@ front_spelled offset n bytes all w =
     let t = whole_tells offset bytes n w in
     let len : n ≡ length (take n bytes) = sym (length-take-le n bytes (omega (arith, t.size, t.fits))) in
     read_spelled offset (take n bytes) (All-take IsByte n bytes all) (whole_alone offset bytes n w ∙ ap Whole len)
+
+-- a whole record, alone: its data are all that follows the header
+pub whole_header : (offset : ℕ) (x : List ℕ) → record_at offset x ≡ Whole (length x) → 9 ≤ length x
+whole_header offset x w = let t = whole_tells offset x (length x) w in omega (arith, t.size)
+
+whole_data : (offset : ℕ) (x : List ℕ) → record_at offset x ≡ Whole (length x) → data_in x ≡ take (length x - 9) (drop 9 x)
+whole_data offset x w = let t = whole_tells offset x (length x) w in let e : size_in x ≡ length x - 9 = omega (arith, t.size) in ap (λ n. take n (drop 9 x)) e
+
+-- it has an entry
+pub whole_read : (offset : ℕ) (x : List ℕ) → record_at offset x ≡ Whole (length x) → None ≡ entry_at (kind_in x) (owner_in x) (take (length x - 9) (drop 9 x)) → ⊥
+whole_read offset x w none =
+    let t = whole_tells offset x (length x) w in
+    let e : None ≡ Some t.entry = none ∙ (ap (λ b. entry_at (kind_in x) (owner_in x) b) (sym (whole_data offset x w)) ∙ t.formed) in
+    cc
+
+-- and this one
+pub entry_read : (offset : ℕ) (x : List ℕ) (e : Entry) → record_at offset x ≡ Whole (length x) → Some e ≡ entry_at (kind_in x) (owner_in x) (take (length x - 9) (drop 9 x)) → (offset, e) ≡ entry_in offset x
+entry_read offset x e w is = ap (λ o. (offset, or_join o)) (is ∙ ap (λ b. entry_at (kind_in x) (owner_in x) b) (sym (whole_data offset x w)))

@@ -49,14 +49,14 @@ pub(crate) fn front(offset: u64, bytes: &[u8]) -> Front<CaptureError>
 }
 
 /// The entry of a whole record, with the offset of its first byte.
-pub(crate) fn read(alloc: Global, offset: u64, record: &[u8]) -> Result<(u64, Entry), AllocError>
-    requires { record_at offset record.now ≡ Front.Whole (length record.now) }
-    ensures entry { IfOk result (λ g. g ≡ entry_in offset record.now) }
+pub(crate) fn read(alloc: Global, offset: u64, bytes: &[u8]) -> Result<(u64, Entry), AllocError>
+    requires { record_at offset bytes.now ≡ Front.Whole (length bytes.now) }
+    ensures entry { IfOk result (λ g. g ≡ entry_in offset bytes.now) }
     ensures form { IfOk result (λ g. HasRecord g.1) }
 {
-    let content = &record[HEADER_LEN..];
-    match Form::of(record[0], content) {
-        Some(form) => Ok((offset, form.entry(alloc, owner(record), content)?)),
+    let content = &bytes[HEADER_LEN..];
+    match Form::of(bytes[0], content) {
+        Some(form) => Ok((offset, form.entry(alloc, owner(bytes), content)?)),
         None => unreachable!(),
     }
 }
@@ -78,16 +78,16 @@ fn has_kind(letter: u8) -> bool
 }
 
 /// The number of the client or link.
-fn owner(record: &[u8]) -> u32
-    requires { 9 ≤ length record.now }
-    ensures { result ≡ owner_in record.now }
+fn owner(bytes: &[u8]) -> u32
+    requires { 9 ≤ length bytes.now }
+    ensures { result ≡ owner_in bytes.now }
 {
-    LittleEndian::read_u32(&record[1..])
+    LittleEndian::read_u32(&bytes[1..])
 }
 
-fn data_len(record: &[u8]) -> u32
-    requires { 9 ≤ length record.now }
-    ensures { result ≡ size_in record.now }
+fn data_len(bytes: &[u8]) -> u32
+    requires { 9 ≤ length bytes.now }
+    ensures { result ≡ size_in bytes.now }
 {
-    LittleEndian::read_u32(&record[5..])
+    LittleEndian::read_u32(&bytes[5..])
 }

@@ -1,0 +1,107 @@
+//! Reading captures.
+
+ghost use Rattle.std.specs.Prelude.{◌≡◌, ◌≢◌, ◌<◌, ◌≤◌, ◌++◌, ◌^◌, ℕ, List, [], length, take, drop, Option, Some, None, Ok, Err, IfOk, IfSome, OnOk, OnErr, IsTrue, true, false, option_and_then};
+ghost use Rattle.adb_outside.specs.Outside.{Rises};
+ghost use Rattle.adb_capture.specs.Counting.{Counted, KeepsBytes, is_fault};
+ghost use Rattle.adb_capture.specs.Records.{record_at, entry_in, HasRecord};
+ghost use Rattle.adb_capture.specs.Awaiting.{AwaitsMagic, AwaitsRecord};
+ghost use Rattle.adb_capture.specs.Reading.{ahead, GivesNext, IsMagicRefused};
+
+use crate::entry::Entry;
+use crate::error::CaptureError;
+use crate::held::Held;
+use crate::record::{front, read};
+use adb_outside::{Front, Got, Source};
+use std::alloc::{AllocError, Global};
+use std::marker::Model;
+
+/// The eight bytes that a capture begins with.
+pub(crate) const MAGIC: [u8; 8] = *b"ADBHUB1\n";
+
+/// A reader of the entries of a capture. It holds the bytes of one record, and what was read past
+/// it with one read, never the capture.
+#[derive(Drop)]
+pub struct CaptureReader {
+    alloc: Global,
+    opened: bool,
+    offset: u64,
+    held: Held,
+    failed: Option<CaptureError>,
+}
+
+impl Model for CaptureReader {
+    ghost use Rattle.std.specs.Prelude.{◌≤◌, ◌≢◌, Some};
+    ghost use Rattle.adb_capture.specs.declared.error.CaptureError.TheVariants.{OutOfMemory};
+    ghost use Rattle.adb_capture.specs.Reading.{Reading};
+
+    ghost Value = { Reading };
+
+    ghost view = { λ r. record { opened = r.opened; offset = r.offset; held = r.held; failed = r.failed } };
+
+    ghost invariant = { λ r. (r.offset ≤ 1073741824) × (r.failed ≢ Some OutOfMemory) };
+}
+
+impl CaptureReader {
+    /// A reader that has read nothing. It makes its buffers.
+    pub fn new(alloc: Global) -> Result<CaptureReader, AllocError>
+        ensures { IfOk result (λ r. r ≡ record { opened = false; offset = 8; held = []; failed = None }) }
+    {
+        Ok(CaptureReader {
+            alloc,
+            opened: false,
+            offset: 8,
+            held: Held::new(alloc)?,
+            failed: None,
+        })
+    }
+}
+
+/// Reads on until the bytes begin with the magic, and takes it.
+fn take_magic<S: Source>(held: &mut Held, source: &mut S) -> Result<(), CaptureError>
+    ensures is { AwaitsMagic held.old (S.left source.old) held.new (S.left source.new) result }
+    ensures counts { Counted (S.steady source.old) (S.steady source.new) (S.faults source.old) (S.faults source.new) (is_fault result) }
+{
+    while held.as_slice().len() < MAGIC.len() {
+        match held.fill(source) {
+            Ok(Got::Bytes(_)) => {}
+            Ok(Got::End) => return Err(CaptureError::BadMagic),
+            Ok(Got::Failed) => return Err(CaptureError::ReadFault),
+            Err(AllocError) => return Err(CaptureError::OutOfMemory),
+        }
+    }
+    if !held.as_slice().starts_with(&MAGIC) {
+        return Err(CaptureError::BadMagic);
+    }
+    held.skip(MAGIC.len());
+    Ok(())
+}
+
+/// Reads on until the bytes at an offset begin with a record, which stays there, or a refusal;
+/// `None` where no byte came.
+fn await_record<S: Source>(
+    held: &mut Held,
+    offset: u64,
+    source: &mut S,
+) -> Result<Option<usize>, CaptureError>
+    requires { offset ≤ 1073741824 }
+    ensures bytes { KeepsBytes held.old (S.left source.old) held.new (S.left source.new) }
+    ensures is { AwaitsRecord offset held.old (S.left source.old) held.new result }
+    ensures counts { Counted (S.steady source.old) (S.steady source.new) (S.faults source.old) (S.faults source.new) (is_fault result) }
+{
+    let mut found = front(offset, held.as_slice());
+    while let Front::More = found {
+        match held.fill(source) {
+            Ok(Got::Bytes(_)) => {}
+            Ok(Got::End) if held.as_slice().is_empty() => return Ok(None),
+            Ok(Got::End) => return Err(CaptureError::Truncated { offset }),
+            Ok(Got::Failed) => return Err(CaptureError::ReadFault),
+            Err(AllocError) => return Err(CaptureError::OutOfMemory),
+        }
+        found = front(offset, held.as_slice());
+    }
+    match found {
+        Front::Bad(error) => Err(error),
+        Front::Whole(size) => Ok(Some(size)),
+        Front::More => unreachable!(),
+    }
+}
