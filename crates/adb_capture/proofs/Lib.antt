@@ -2,3 +2,4 @@ pub mod Fronts
 pub mod Keeping
 pub mod Spellings
 pub mod Awaited
+pub mod Giving

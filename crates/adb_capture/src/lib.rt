@@ -2,6 +2,7 @@
 //! written to a sink.
 #![tactic(auto)]
 
+mod awaiting;
 mod entry;
 mod error;
 mod form;

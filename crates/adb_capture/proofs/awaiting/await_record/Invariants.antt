@@ -1,7 +1,7 @@
 use Rattle.std.proofs.Common.{◌≡◌, ◌-◌, length, false}
 use Rattle.adb_capture.specs.Counting.{Counted, KeepsBytes}
 use Rattle.adb_capture.specs.Records.{record_at}
-use Rattle.adb_capture.proofs.reader.await_record.Given as goal
+use Rattle.adb_capture.proofs.awaiting.await_record.Given as goal
 
 abbrev pub invariant-loop-found : goal.invariant-loop-found
 invariant-loop-found g l = record {

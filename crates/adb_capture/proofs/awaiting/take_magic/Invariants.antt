@@ -1,6 +1,6 @@
 use Rattle.std.proofs.Common.{◌-◌, length, false}
 use Rattle.adb_capture.specs.Counting.{Counted, KeepsBytes}
-use Rattle.adb_capture.proofs.reader.take_magic.Given as goal
+use Rattle.adb_capture.proofs.awaiting.take_magic.Given as goal
 
 abbrev pub invariant-loop-held : goal.invariant-loop-held
 invariant-loop-held g l = record {

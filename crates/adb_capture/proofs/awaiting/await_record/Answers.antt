@@ -2,7 +2,7 @@ use Rattle.std.proofs.Common.{ℕ, Option, Ok, ap, false, sym, ◌∙◌, arith}
 use Rattle.adb_capture.proofs.Fronts.{more_is_short}
 use Rattle.adb_capture.proofs.Keeping.{counted_as}
 use Rattle.adb_capture.proofs.Awaited.{bad_awaited, bad_no_fault}
-use Rattle.adb_capture.proofs.reader.await_record.Goals as goal
+use Rattle.adb_capture.proofs.awaiting.await_record.Goals as goal
 
 pub loop-found-smaller : goal.loop-found-smaller
 loop-found-smaller g c =
