@@ -187,8 +187,30 @@ tested_more false true false false false offset size (Some e) h g = cc
 pub more_is_short : (offset : ℕ) (x : List ℕ) → record_at offset x ≡ More → length x < 2097161
 more_is_short offset x h =
     elim (cases_lt (length x) 9) [
-      inl l ↦ omega (arith, l)
-    | inr l ↦
-        let t = tested_more (nat_lt (length x) 9) (is_kind (kind_in x)) (nat_lt 2097152 (size_in x)) (nat_lt 1073741824 (offset + 9 + size_in x)) (nat_lt (length x) (9 + size_in x)) offset (size_in x) (entry_of x) (sym (as_tested offset x) ∙ h) (le-ltb (length x) 9 l) in
-        omega (arith, ltb-false 2097152 (size_in x) t.0, ltb-true (length x) (9 + size_in x) t.1)
+      | inl l ↦ omega (arith, l)
+      | inr l ↦
+          let t = tested_more (nat_lt (length x) 9) (is_kind (kind_in x)) (nat_lt 2097152 (size_in x)) (nat_lt 1073741824 (offset + 9 + size_in x)) (nat_lt (length x) (9 + size_in x)) offset (size_in x) (entry_of x) (sym (as_tested offset x) ∙ h) (le-ltb (length x) 9 l) in
+          omega (arith, ltb-false 2097152 (size_in x) t.0, ltb-true (length x) (9 + size_in x) t.1)
     ]
+
+-- what a front is refused for
+abbrev pub IsFormError : CaptureError → Type 0
+IsFormError BadMagic = ⊥
+IsFormError (BadRecord at why) = Unit {0}
+IsFormError (Truncated at) = ⊥
+IsFormError (TooLong at) = Unit {0}
+IsFormError ReadFault = ⊥
+IsFormError OutOfMemory = ⊥
+
+tested_error : (short known large far part : Bool) (offset size : ℕ) (e : Option Entry) (error : CaptureError) → tested short known large far part offset size e ≡ Bad error → IsFormError error
+tested_error true known large far part offset size e error h = let clash : More ≡ Bad error = h in cc
+tested_error false false large far part offset size e error h = let is : BadRecord offset UnknownKind ≡ error = cc in subst IsFormError is tt
+tested_error false true true far part offset size e error h = let is : BadRecord offset TooLarge ≡ error = cc in subst IsFormError is tt
+tested_error false true false true part offset size e error h = let is : TooLong offset ≡ error = cc in subst IsFormError is tt
+tested_error false true false false true offset size e error h = let clash : More ≡ Bad error = h in cc
+tested_error false true false false false offset size None error h = let is : BadRecord offset BadForm ≡ error = cc in subst IsFormError is tt
+tested_error false true false false false offset size (Some e) error h = let clash : Whole (9 + size) ≡ Bad error = h in cc
+
+pub bad_is_form : (offset : ℕ) (x : List ℕ) (error : CaptureError) → record_at offset x ≡ Bad error → IsFormError error
+bad_is_form offset x error h =
+    tested_error (nat_lt (length x) 9) (is_kind (kind_in x)) (nat_lt 2097152 (size_in x)) (nat_lt 1073741824 (offset + 9 + size_in x)) (nat_lt (length x) (9 + size_in x)) offset (size_in x) (entry_of x) error (sym (as_tested offset x) ∙ h)

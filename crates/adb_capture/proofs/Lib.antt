@@ -1,2 +1,5 @@
 pub mod Fronts
 pub mod Keeping
+pub mod Spellings
+pub mod Awaited
+pub mod Giving

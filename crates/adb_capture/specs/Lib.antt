@@ -2,3 +2,4 @@ pub mod Records
 pub mod Reading
 pub mod Forms
 pub mod Counting
+pub mod Awaiting

@@ -48,3 +48,13 @@ abbrev pub GivesNext : ℕ → List ℕ → Result (Option (ℕ × Entry)) Captu
 GivesNext offset before (Ok (Some given)) next_offset after = GivesRecord offset before given next_offset after
 GivesNext offset before (Ok None) next_offset after = (before ≡ []) × (after ≡ Some []) × (next_offset ≡ offset)
 GivesNext offset before (Err e) next_offset after = IsRefused offset before e
+
+-- What a call answers where the bytes ahead do not begin with the magic.
+abbrev pub IsMagicRefused : Result (Option (ℕ × Entry)) CaptureError → Type 0
+IsMagicRefused (Ok given) = ⊥
+IsMagicRefused (Err BadMagic) = Unit {0}
+IsMagicRefused (Err (BadRecord at why)) = ⊥
+IsMagicRefused (Err (Truncated at)) = ⊥
+IsMagicRefused (Err (TooLong at)) = ⊥
+IsMagicRefused (Err ReadFault) = Unit {0}
+IsMagicRefused (Err OutOfMemory) = Unit {0}

@@ -49,12 +49,20 @@ impl Form {
     }
 
     /// The entry, with its number and its texts copied from the data.
-    pub(crate) fn entry(self, alloc: Global, owner: u32, content: &[u8]) -> Result<Entry, AllocError>
+    pub(crate) fn entry(
+        self,
+        alloc: Global,
+        owner: u32,
+        content: &[u8],
+    ) -> Result<Entry, AllocError>
         ensures { IfOk result (λ e. e ≡ entry_by self owner content.now) }
     {
         Ok(match self {
             Form::Join => Entry::Join { client: owner },
-            Form::Enter(port) => Entry::Enter { client: owner, port },
+            Form::Enter(port) => Entry::Enter {
+                client: owner,
+                port,
+            },
             Form::Read => Entry::Read {
                 client: owner,
                 bytes: Text::from_slice(alloc, content)?,
@@ -63,7 +71,10 @@ impl Form {
                 client: owner,
                 cause,
             },
-            Form::Bound(port) => Entry::Bound { client: owner, port },
+            Form::Bound(port) => Entry::Bound {
+                client: owner,
+                port,
+            },
             Form::Attach(kind) => Entry::Attach {
                 link: owner,
                 kind,

@@ -2,12 +2,16 @@
 //! written to a sink.
 #![tactic(auto)]
 
+mod awaiting;
 mod entry;
 mod error;
 mod form;
 mod held;
 mod laws;
+mod reader;
+mod record;
 
 pub use entry::Entry;
 pub use error::{CaptureError, Why};
-pub use laws::records_are_framed;
+pub use laws::{read_is_spelled, records_are_framed, spelled_is_read};
+pub use reader::CaptureReader;

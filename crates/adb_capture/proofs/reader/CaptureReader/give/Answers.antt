@@ -1,0 +1,32 @@
+use Rattle.std.proofs.Common.{ℕ, ◌+◌, ◌≡◌, length, sym, ◌∙◌, ap, arith}
+use Rattle.std.proofs.lemmas.List.{length-take-le}
+use Rattle.adb_capture.specs.Records.{record_at}
+use Rattle.adb_capture.proofs.Giving.{whole_fits, whole_given}
+use Rattle.adb_capture.proofs.reader.CaptureReader.give.Goals as goal
+
+pub slice_bounds-bytes-end : goal.slice_bounds-bytes-end
+slice_bounds-bytes-end c =
+    let w = ap (λ r. record_at r.offset r.held) c.self.view_is ∙ c.requires in
+    let f = whole_fits _ c.self.inside.held c.args.size w in
+    sym (length-take-le c.args.size c.as_slice.result.now (omega (arith, f.0, ap length c.as_slice.ensures)))
+
+pub read-requires : goal.read-requires
+read-requires c =
+    let w = ap (λ r. record_at r.offset r.held) c.self.view_is ∙ c.requires in
+    whole_given c.self.inside.offset c.self.inside.held _ c.args.size w c.as_slice.ensures
+
+pub skip-requires : goal.skip-requires
+skip-requires c =
+    let w = ap (λ r. record_at r.offset r.held) c.self.view_is ∙ c.requires in
+    (whole_fits _ c.self.inside.held c.args.size w).0
+
+pub overflow_add-self : goal.overflow_add-self
+overflow_add-self c =
+    let w = ap (λ r. record_at r.offset r.held) c.self.view_is ∙ c.requires in
+    let f = whole_fits c.self.inside.offset c.self.inside.held c.args.size w in
+    omega (arith, f.1)
+
+pub invariant_of-self : goal.invariant_of-self
+invariant_of-self c =
+    let w = ap (λ r. record_at r.offset r.held) c.self.view_is ∙ c.requires in
+    ((whole_fits c.self.inside.offset c.self.inside.held c.args.size w).1, c.self.invariant.1)

@@ -1,0 +1,64 @@
+//! Reading on until what is wanted is held.
+
+ghost use Rattle.std.specs.Prelude.{◌≡◌, ◌≤◌, Ok, Err};
+ghost use Rattle.adb_capture.specs.Counting.{Counted, KeepsBytes, is_fault};
+ghost use Rattle.adb_capture.specs.Awaiting.{AwaitsMagic, AwaitsRecord};
+
+use crate::error::CaptureError;
+use crate::held::Held;
+use crate::record::front;
+use adb_outside::{Front, Got, Source};
+use std::alloc::AllocError;
+
+/// The eight bytes that a capture begins with.
+pub(crate) const MAGIC: [u8; 8] = *b"ADBHUB1\n";
+
+/// Reads on until the bytes begin with the magic, and takes it.
+pub(crate) fn take_magic<S: Source>(held: &mut Held, source: &mut S) -> Result<(), CaptureError>
+    ensures is { AwaitsMagic held.old (S.left source.old) held.new (S.left source.new) result }
+    ensures counts { Counted (S.steady source.old) (S.steady source.new) (S.faults source.old) (S.faults source.new) (is_fault result) }
+{
+    while held.as_slice().len() < MAGIC.len() {
+        match held.fill(source) {
+            Ok(Got::Bytes(_)) => {}
+            Ok(Got::End) => return Err(CaptureError::BadMagic),
+            Ok(Got::Failed) => return Err(CaptureError::ReadFault),
+            Err(AllocError) => return Err(CaptureError::OutOfMemory),
+        }
+    }
+    if !held.as_slice().starts_with(&MAGIC) {
+        return Err(CaptureError::BadMagic);
+    }
+    held.skip(MAGIC.len());
+    Ok(())
+}
+
+/// Reads on until the bytes at an offset begin with a record, which stays there, or a refusal;
+/// `None` where no byte came.
+pub(crate) fn await_record<S: Source>(
+    held: &mut Held,
+    offset: u64,
+    source: &mut S,
+) -> Result<Option<usize>, CaptureError>
+    requires { offset ≤ 1073741824 }
+    ensures bytes { KeepsBytes held.old (S.left source.old) held.new (S.left source.new) }
+    ensures is { AwaitsRecord offset held.old (S.left source.old) held.new result }
+    ensures counts { Counted (S.steady source.old) (S.steady source.new) (S.faults source.old) (S.faults source.new) (is_fault result) }
+{
+    let mut found = front(offset, held.as_slice());
+    while let Front::More = found {
+        match held.fill(source) {
+            Ok(Got::Bytes(_)) => {}
+            Ok(Got::End) if held.as_slice().is_empty() => return Ok(None),
+            Ok(Got::End) => return Err(CaptureError::Truncated { offset }),
+            Ok(Got::Failed) => return Err(CaptureError::ReadFault),
+            Err(AllocError) => return Err(CaptureError::OutOfMemory),
+        }
+        found = front(offset, held.as_slice());
+    }
+    match found {
+        Front::Bad(error) => Err(error),
+        Front::Whole(size) => Ok(Some(size)),
+        Front::More => unreachable!(),
+    }
+}

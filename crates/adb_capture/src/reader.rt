@@ -1,0 +1,157 @@
+//! Reading captures.
+
+ghost use Rattle.std.specs.Prelude.{◌≡◌, ◌≢◌, ◌<◌, ◌≤◌, ◌++◌, ◌+◌, ℕ, List, [], length, take, drop, Option, Some, None, Ok, Err, IfOk, IfSome, OnOk, OnErr, IsTrue, true, false, option_and_then, option_map};
+ghost use Rattle.adb_outside.specs.Outside.{Rises};
+ghost use Rattle.adb_outside.specs.declared.framer.Front.TheVariants.{Whole};
+ghost use Rattle.adb_capture.specs.Counting.{Counted, KeepsBytes, is_fault};
+ghost use Rattle.adb_capture.specs.Records.{record_at, entry_in, HasRecord};
+ghost use Rattle.adb_capture.specs.Awaiting.{Opens, StaysAhead};
+ghost use Rattle.adb_capture.specs.Reading.{ahead, GivesNext, IsMagicRefused};
+
+use crate::awaiting::{await_record, take_magic};
+use crate::entry::Entry;
+use crate::error::CaptureError;
+use crate::held::Held;
+use crate::record::read;
+use adb_outside::Source;
+use std::alloc::{AllocError, Global};
+use std::marker::Model;
+
+/// A reader of the entries of a capture. It holds the bytes of one record, and what was read past
+/// it with one read, never the capture.
+#[derive(Drop)]
+pub struct CaptureReader {
+    alloc: Global,
+    opened: bool,
+    offset: u64,
+    held: Held,
+    failed: Option<CaptureError>,
+}
+
+impl Model for CaptureReader {
+    ghost use Rattle.std.specs.Prelude.{◌≤◌, ◌≢◌, Some};
+    ghost use Rattle.adb_capture.specs.declared.error.CaptureError.TheVariants.{OutOfMemory};
+    ghost use Rattle.adb_capture.specs.Reading.{Reading};
+
+    ghost Value = { Reading };
+
+    ghost view = { λ r. record { opened = r.opened; offset = r.offset; held = r.held; failed = r.failed } };
+
+    ghost invariant = { λ r. (r.offset ≤ 1073741824) × (r.failed ≢ Some OutOfMemory) };
+}
+
+impl CaptureReader {
+    /// A reader that has read nothing. It makes its buffers.
+    pub fn new(alloc: Global) -> Result<CaptureReader, AllocError>
+        ensures { IfOk result (λ r. r ≡ record { opened = false; offset = 8; held = []; failed = None }) }
+    {
+        Ok(CaptureReader {
+            alloc,
+            opened: false,
+            offset: 8,
+            held: Held::new(alloc)?,
+            failed: None,
+        })
+    }
+
+    /// The next entry with the offset of its record's first byte, or `None` where the source ends
+    /// between two records; a later call asks the source again. The first call reads the magic.
+    ///
+    /// Every error but `OutOfMemory` stays: each later call answers it, and reads nothing. After
+    /// `OutOfMemory` the next call gives the same record.
+    pub fn next<S: Source>(&mut self, source: &mut S) -> Result<Option<(u64, Entry)>, CaptureError>
+        ensures records { (coming before : List ℕ) → S.left source.old ≡ Some coming → self.old.failed ≡ None → ahead self.old coming ≡ Some before
+            → GivesNext self.old.offset before result self.new.offset (option_and_then (ahead self.new) (S.left source.new)) }
+        ensures magic { (coming : List ℕ) → S.left source.old ≡ Some coming → self.old.failed ≡ None → ahead self.old coming ≡ None → IsMagicRefused result }
+        ensures memory { result ≡ Err CaptureError.OutOfMemory → (self.new.failed ≡ None) × (self.old.failed ≡ None) × (self.new.offset ≡ self.old.offset) × ((coming : List ℕ) → S.left source.old ≡ Some coming → option_and_then (ahead self.new) (S.left source.new) ≡ ahead self.old coming) }
+        ensures stays { (e : CaptureError) → self.old.failed ≡ Some e → (result ≡ Err e) × (self.new ≡ self.old) × (source.new ≡ source.old) }
+        ensures keeps { (e : CaptureError) → e ≢ CaptureError.OutOfMemory → result ≡ Err e → self.new.failed ≡ Some e }
+        ensures ok { OnOk result ((self.old.failed ≡ None) × (self.new.failed ≡ None) × IsTrue self.new.opened) }
+        ensures form { IfOk result (λ given. IfSome given (λ g. HasRecord g.1)) }
+        ensures fault { result ≡ Err CaptureError.ReadFault → self.old.failed ≡ None → Rises (S.faults source.old) (S.faults source.new) }
+        ensures count { S.faults source.old ≤ S.faults source.new }
+        ensures keeps_steady { S.steady source.old → S.steady source.new }
+        ensures steady { S.steady source.old → self.old.failed ≡ None → (result ≢ Err CaptureError.ReadFault) × (S.faults source.new ≡ S.faults source.old) }
+    {
+        if let Some(error) = self.failed {
+            return Err(error);
+        }
+        let given = self.advance(source);
+        if let Err(error) = &given {
+            self.remember(*error);
+        }
+        given
+    }
+
+    /// Reads the next record, with the magic before it where it was not read yet.
+    fn advance<S: Source>(&mut self, source: &mut S) -> Result<Option<(u64, Entry)>, CaptureError>
+        ensures records { (coming before : List ℕ) → S.left source.old ≡ Some coming → ahead self.old coming ≡ Some before
+            → GivesNext self.old.offset before result self.new.offset (option_and_then (ahead self.new) (S.left source.new)) }
+        ensures magic { (coming : List ℕ) → S.left source.old ≡ Some coming → ahead self.old coming ≡ None → IsMagicRefused result }
+        ensures memory { result ≡ Err CaptureError.OutOfMemory → (self.new.offset ≡ self.old.offset) × StaysAhead self.old (S.left source.old) self.new (S.left source.new) }
+        ensures failed { self.new.failed ≡ self.old.failed }
+        ensures ok { OnOk result (self.new.opened ≡ true) }
+        ensures form { IfOk result (λ given. IfSome given (λ g. HasRecord g.1)) }
+        ensures counts { Counted (S.steady source.old) (S.steady source.new) (S.faults source.old) (S.faults source.new) (is_fault result) }
+    {
+        self.open(source)?;
+        self.give_next(source)
+    }
+
+    /// Takes the magic, where it was not taken yet.
+    fn open<S: Source>(&mut self, source: &mut S) -> Result<(), CaptureError>
+        ensures ahead { Opens self.old (S.left source.old) self.new (S.left source.new) result }
+        ensures same { (self.new.offset ≡ self.old.offset) × (self.new.failed ≡ self.old.failed) }
+        ensures ok { OnOk result (self.new.opened ≡ true) }
+        ensures counts { Counted (S.steady source.old) (S.steady source.new) (S.faults source.old) (S.faults source.new) (is_fault result) }
+    {
+        if !self.opened {
+            take_magic(&mut self.held, source)?;
+            self.opened = true;
+        }
+        Ok(())
+    }
+
+    /// Gives the next record.
+    fn give_next<S: Source>(&mut self, source: &mut S) -> Result<Option<(u64, Entry)>, CaptureError>
+        ensures records { (coming : List ℕ) → S.left source.old ≡ Some coming → GivesNext self.old.offset (self.old.held ++ coming) result self.new.offset (option_map (λ rest. self.new.held ++ rest) (S.left source.new)) }
+        ensures memory { result ≡ Err CaptureError.OutOfMemory → (self.new.offset ≡ self.old.offset) × KeepsBytes self.old.held (S.left source.old) self.new.held (S.left source.new) }
+        ensures same { (self.new.opened ≡ self.old.opened) × (self.new.failed ≡ self.old.failed) }
+
+        ensures form { IfOk result (λ given. IfSome given (λ g. HasRecord g.1)) }
+        ensures counts { Counted (S.steady source.old) (S.steady source.new) (S.faults source.old) (S.faults source.new) (is_fault result) }
+    {
+        match await_record(&mut self.held, self.offset, source)? {
+            None => Ok(None),
+            Some(size) => match self.give(size) {
+                Ok(given) => Ok(Some(given)),
+                Err(AllocError) => Err(CaptureError::OutOfMemory),
+            },
+        }
+    }
+
+    /// Gives the record of that many bytes at the front.
+    fn give(&mut self, size: usize) -> Result<(u64, Entry), AllocError>
+        requires { record_at self.old.offset self.old.held ≡ Whole size }
+        ensures given { IfOk result (λ g. (g ≡ entry_in self.old.offset (take size self.old.held)) × HasRecord g.1) }
+        ensures ok { OnOk result (self.new ≡ record self.old { offset = self.old.offset + size; held = drop size self.old.held }) }
+        ensures err { OnErr result (self.new ≡ self.old) }
+    {
+        let bytes = &self.held.as_slice()[..size];
+        let given = read(self.alloc, self.offset, bytes)?;
+        self.held.skip(size);
+        self.offset += size as u64;
+        Ok(given)
+    }
+
+    /// Keeps an error that stays.
+    fn remember(&mut self, error: CaptureError)
+        requires { self.old.failed ≡ None }
+        ensures memory { error ≡ CaptureError.OutOfMemory → self.new ≡ self.old }
+        ensures other { error ≢ CaptureError.OutOfMemory → self.new ≡ record self.old { failed = Some error } }
+    {
+        if error != CaptureError::OutOfMemory {
+            self.failed = Some(error);
+        }
+    }
+}
