@@ -54,6 +54,26 @@ impl CaptureReader {
         })
     }
 
+    /// Reads the magic, where it was not read yet; `next` does so too. Its errors stay as those of
+    /// `next` do.
+    pub fn open<S: Source>(&mut self, source: &mut S) -> Result<(), CaptureError>
+        ensures ahead { self.old.failed ≡ None → Opens self.old (S.left source.old) self.new (S.left source.new) result }
+        ensures offset { self.new.offset ≡ self.old.offset }
+        ensures stays { (e : CaptureError) → self.old.failed ≡ Some e → (result ≡ Err e) × (self.new ≡ self.old) × (source.new ≡ source.old) }
+        ensures keeps { (e : CaptureError) → e ≢ CaptureError.OutOfMemory → result ≡ Err e → self.new.failed ≡ Some e }
+        ensures ok { OnOk result ((self.old.failed ≡ None) × (self.new.failed ≡ None) × (self.new.opened ≡ true)) }
+        ensures counts { self.old.failed ≡ None → Counted (S.steady source.old) (S.steady source.new) (S.faults source.old) (S.faults source.new) (is_fault result) }
+    {
+        if let Some(error) = self.failed {
+            return Err(error);
+        }
+        let opened = self.open_now(source);
+        if let Err(error) = &opened {
+            self.remember(*error);
+        }
+        opened
+    }
+
     /// The next entry with the offset of its record's first byte, or `None` where the source ends
     /// between two records; a later call asks the source again. The first call reads the magic.
     ///
@@ -68,6 +88,7 @@ impl CaptureReader {
         ensures keeps { (e : CaptureError) → e ≢ CaptureError.OutOfMemory → result ≡ Err e → self.new.failed ≡ Some e }
         ensures ok { OnOk result ((self.old.failed ≡ None) × (self.new.failed ≡ None) × IsTrue self.new.opened) }
         ensures form { IfOk result (λ given. IfSome given (λ g. HasRecord g.1)) }
+        ensures moves { IfOk result (λ given. IfSome given (λ g. (self.old.offset < self.new.offset) × (self.new.offset ≤ 1073741824))) }
         ensures fault { result ≡ Err CaptureError.ReadFault → self.old.failed ≡ None → Rises (S.faults source.old) (S.faults source.new) }
         ensures count { S.faults source.old ≤ S.faults source.new }
         ensures keeps_steady { S.steady source.old → S.steady source.new }
@@ -92,14 +113,15 @@ impl CaptureReader {
         ensures failed { self.new.failed ≡ self.old.failed }
         ensures ok { OnOk result (self.new.opened ≡ true) }
         ensures form { IfOk result (λ given. IfSome given (λ g. HasRecord g.1)) }
+        ensures moves { IfOk result (λ given. IfSome given (λ g. (self.old.offset < self.new.offset) × (self.new.offset ≤ 1073741824))) }
         ensures counts { Counted (S.steady source.old) (S.steady source.new) (S.faults source.old) (S.faults source.new) (is_fault result) }
     {
-        self.open(source)?;
+        self.open_now(source)?;
         self.give_next(source)
     }
 
     /// Takes the magic, where it was not taken yet.
-    fn open<S: Source>(&mut self, source: &mut S) -> Result<(), CaptureError>
+    fn open_now<S: Source>(&mut self, source: &mut S) -> Result<(), CaptureError>
         ensures ahead { Opens self.old (S.left source.old) self.new (S.left source.new) result }
         ensures same { (self.new.offset ≡ self.old.offset) × (self.new.failed ≡ self.old.failed) }
         ensures ok { OnOk result (self.new.opened ≡ true) }
@@ -119,6 +141,7 @@ impl CaptureReader {
         ensures same { (self.new.opened ≡ self.old.opened) × (self.new.failed ≡ self.old.failed) }
 
         ensures form { IfOk result (λ given. IfSome given (λ g. HasRecord g.1)) }
+        ensures moves { IfOk result (λ given. IfSome given (λ g. (self.old.offset < self.new.offset) × (self.new.offset ≤ 1073741824))) }
         ensures counts { Counted (S.steady source.old) (S.steady source.new) (S.faults source.old) (S.faults source.new) (is_fault result) }
     {
         match await_record(&mut self.held, self.offset, source)? {
@@ -135,6 +158,7 @@ impl CaptureReader {
         requires { record_at self.old.offset self.old.held ≡ Whole size }
         ensures given { IfOk result (λ g. (g ≡ entry_in self.old.offset (take size self.old.held)) × HasRecord g.1) }
         ensures ok { OnOk result (self.new ≡ record self.old { offset = self.old.offset + size; held = drop size self.old.held }) }
+        ensures moves { OnOk result ((self.old.offset < self.new.offset) × (self.new.offset ≤ 1073741824)) }
         ensures err { OnErr result (self.new ≡ self.old) }
     {
         let bytes = &self.held.as_slice()[..size];

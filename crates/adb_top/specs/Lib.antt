@@ -1,3 +1,5 @@
 pub mod Client
 pub mod Refused
 pub mod Machine
+pub mod Stop
+pub mod Replay

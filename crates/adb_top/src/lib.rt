@@ -3,6 +3,8 @@
 
 mod client;
 mod machine;
+mod stop;
 
 pub use client::Client;
 pub use machine::Machine;
+pub use stop::Stop;

@@ -1,6 +1,6 @@
 use Rattle.std.proofs.Common.{rules, sym, ◌∙◌, ap, arith}
 use Rattle.adb_capture.proofs.Giving.{magic_taken}
-use Rattle.adb_capture.proofs.reader.CaptureReader.open.Goals as goal
+use Rattle.adb_capture.proofs.reader.CaptureReader.open_now.Goals as goal
 
 pub returns-in_ok-take_magic-clause-ahead : goal.returns-in_ok-take_magic-clause-ahead
 returns-in_ok-take_magic-clause-ahead g c = λ coming told.
