@@ -10,6 +10,8 @@ mod held;
 mod laws;
 mod reader;
 mod record;
+#[cfg(test)]
+mod tests;
 mod writer;
 
 pub use entry::Entry;
