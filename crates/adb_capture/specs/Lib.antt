@@ -3,3 +3,4 @@ pub mod Reading
 pub mod Forms
 pub mod Counting
 pub mod Awaiting
+pub mod Pieces

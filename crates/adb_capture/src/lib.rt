@@ -10,8 +10,12 @@ mod held;
 mod laws;
 mod reader;
 mod record;
+#[cfg(test)]
+mod tests;
+mod writer;
 
 pub use entry::Entry;
 pub use error::{CaptureError, Why};
 pub use laws::{read_is_spelled, records_are_framed, spelled_is_read};
 pub use reader::CaptureReader;
+pub use writer::{write_entry, write_magic};

@@ -1,0 +1,199 @@
+//! Writing captures.
+
+ghost use Rattle.std.specs.Prelude.{◌≡◌, ◌<◌, ◌≤◌, ◌+◌, ◌++◌, ◌^◌, ℕ, length, take};
+ghost use Rattle.adb_outside.specs.Outside.{Rises};
+ghost use Rattle.adb_outside.specs.Sink.{FitsPiece, TellsWrite, IsSteadyWrite};
+ghost use Rattle.adb_capture.specs.Records.{magic, kind_of, owner_of, data_of, record_of, cause_byte, plug_letter, HasRecord};
+ghost use Rattle.adb_capture.specs.Pieces.{text_of, word_of};
+
+use crate::awaiting::MAGIC;
+use crate::entry::Entry;
+use adb_outside::{Cause, Kind, Sink, Wrote};
+use byteorder::{ByteOrder, LittleEndian};
+
+/// Writes the eight bytes that a capture begins with. It takes no memory.
+pub fn write_magic<K: Sink>(sink: &mut K) -> Wrote
+    ensures fits { FitsPiece magic result }
+    ensures told { TellsWrite (K.written sink.old) (K.written sink.new) magic result }
+    ensures fault { (n : ℕ) → result ≡ Wrote.Failed n → Rises (K.faults sink.old) (K.faults sink.new) }
+    ensures count { K.faults sink.old ≤ K.faults sink.new }
+    ensures keeps_steady { K.steady sink.old → K.steady sink.new }
+    ensures steady_write { K.steady sink.old → IsSteadyWrite (K.faults sink.old) (K.faults sink.new) result }
+{
+    sink.write(&MAGIC)
+}
+
+/// Writes the record of an entry, which has at most 2,097,152 bytes of data. `Failed` says how many
+/// bytes of the record went out. It takes no memory.
+pub fn write_entry<K: Sink>(sink: &mut K, entry: &Entry) -> Wrote
+    requires { HasRecord entry.now }
+    ensures fits { FitsPiece (record_of entry.now) result }
+    ensures told { TellsWrite (K.written sink.old) (K.written sink.new) (record_of entry.now) result }
+    ensures fault { (n : ℕ) → result ≡ Wrote.Failed n → Rises (K.faults sink.old) (K.faults sink.new) }
+    ensures count { K.faults sink.old ≤ K.faults sink.new }
+    ensures keeps_steady { K.steady sink.old → K.steady sink.new }
+    ensures steady_write { K.steady sink.old → IsSteadyWrite (K.faults sink.old) (K.faults sink.new) result }
+{
+    let head = Head::of(entry);
+    write_both(sink, head.as_slice(), text(entry))
+}
+
+/// Writes a piece, and where it went out another behind it, which may be empty.
+fn write_both<K: Sink>(sink: &mut K, first: &[u8], last: &[u8]) -> Wrote
+    requires some { 0 < length first.now }
+    requires small { length first.now + length last.now < 2 ^ 63 }
+    ensures fits { FitsPiece (first.now ++ last.now) result }
+    ensures told { TellsWrite (K.written sink.old) (K.written sink.new) (first.now ++ last.now) result }
+    ensures fault { (n : ℕ) → result ≡ Wrote.Failed n → Rises (K.faults sink.old) (K.faults sink.new) }
+    ensures count { K.faults sink.old ≤ K.faults sink.new }
+    ensures keeps_steady { K.steady sink.old → K.steady sink.new }
+    ensures steady_write { K.steady sink.old → IsSteadyWrite (K.faults sink.old) (K.faults sink.new) result }
+{
+    match sink.write(first) {
+        Wrote::Failed { taken } => Wrote::Failed { taken },
+        Wrote::All if last.is_empty() => Wrote::All,
+        Wrote::All => match sink.write(last) {
+            Wrote::All => Wrote::All,
+            Wrote::Failed { taken } => Wrote::Failed {
+                taken: first.len() + taken,
+            },
+        },
+    }
+}
+
+/// The bytes of a record before its text: the kind, the number, the length of the data, and the
+/// data that are no text.
+#[derive(Drop)]
+struct Head {
+    bytes: [u8; 11],
+    len: usize,
+}
+
+impl Head {
+    fn of(entry: &Entry) -> Head
+        requires { HasRecord entry.now }
+        ensures is { take result.len result.bytes ++ text_of entry.now ≡ record_of entry.now }
+        ensures len { (9 ≤ result.len) × (result.len ≤ 11) }
+    {
+        let word = Word::of(entry);
+        let size = word.len + text(entry).len();
+        let mut bytes = [0; 11];
+        bytes[0] = letter(entry);
+        LittleEndian::write_u32(&mut bytes[1..5], owner(entry));
+        LittleEndian::write_u32(&mut bytes[5..9], size as u32);
+        bytes[9] = word.bytes[0];
+        bytes[10] = word.bytes[1];
+        Head {
+            bytes,
+            len: 9 + word.len,
+        }
+    }
+
+    fn as_slice(&self) -> &[u8]
+        requires { self.now.len ≤ 11 }
+        ensures { result.now ≡ take self.now.len self.now.bytes }
+    {
+        &self.bytes[..self.len]
+    }
+}
+
+/// The data of a record that are no text.
+#[derive(Drop)]
+struct Word {
+    bytes: [u8; 2],
+    len: usize,
+}
+
+impl Word {
+    fn of(entry: &Entry) -> Word
+        ensures is { take result.len result.bytes ≡ word_of entry.now }
+        ensures len { (result.len ≤ 2) × (result.len ≡ length (word_of entry.now)) }
+    {
+        match entry {
+            Entry::Enter { port, .. } | Entry::Bound { port, .. } => Word {
+                bytes: port.to_le_bytes(),
+                len: 2,
+            },
+            Entry::End { cause, .. } | Entry::Detach { cause, .. } => Word {
+                bytes: [cause_code(*cause), 0],
+                len: 1,
+            },
+            Entry::Attach { kind, .. } => Word {
+                bytes: [plug_code(*kind), 0],
+                len: 1,
+            },
+            _ => Word {
+                bytes: [0, 0],
+                len: 0,
+            },
+        }
+    }
+}
+
+fn text(entry: &Entry) -> &[u8]
+    ensures { result.now ≡ text_of entry.now }
+{
+    match entry {
+        Entry::Read { bytes, .. }
+        | Entry::Recv { bytes, .. }
+        | Entry::Put { bytes, .. }
+        | Entry::Send { bytes, .. } => bytes.as_slice(),
+        Entry::Attach { serial, .. } => serial.as_slice(),
+        _ => &[],
+    }
+}
+
+fn letter(entry: &Entry) -> u8
+    ensures { result ≡ kind_of entry.now }
+{
+    match entry {
+        Entry::Join { .. } => b'J',
+        Entry::Enter { .. } => b'N',
+        Entry::Read { .. } => b'R',
+        Entry::End { .. } => b'E',
+        Entry::Bound { .. } => b'B',
+        Entry::Attach { .. } => b'A',
+        Entry::Recv { .. } => b'V',
+        Entry::Detach { .. } => b'D',
+        Entry::Put { .. } => b'P',
+        Entry::Send { .. } => b'S',
+    }
+}
+
+/// The number of the client or link.
+fn owner(entry: &Entry) -> u32
+    ensures { result ≡ owner_of entry.now }
+{
+    match entry {
+        Entry::Join { client }
+        | Entry::Enter { client, .. }
+        | Entry::Read { client, .. }
+        | Entry::End { client, .. }
+        | Entry::Bound { client, .. }
+        | Entry::Put { client, .. } => *client,
+        Entry::Attach { link, .. }
+        | Entry::Recv { link, .. }
+        | Entry::Detach { link, .. }
+        | Entry::Send { link, .. } => *link,
+    }
+}
+
+fn cause_code(cause: Cause) -> u8
+    ensures { result ≡ cause_byte cause }
+{
+    match cause {
+        Cause::Eof => 0,
+        Cause::Fault => 1,
+        Cause::Starved => 2,
+        Cause::NoThread => 3,
+    }
+}
+
+fn plug_code(kind: Kind) -> u8
+    ensures { result ≡ plug_letter kind }
+{
+    match kind {
+        Kind::Usb => b'u',
+        Kind::Local => b'l',
+    }
+}
