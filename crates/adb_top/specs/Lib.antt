@@ -3,3 +3,4 @@ pub mod Refused
 pub mod Machine
 pub mod Stop
 pub mod Replay
+pub mod Keeping

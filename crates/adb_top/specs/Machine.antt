@@ -48,6 +48,14 @@ Applies s e (Err refused.BadSerial) new = (offset : ℕ) → refusal_of s offset
 Applies s e (Err refused.NotBuilt) new = (offset : ℕ) → refusal_of s offset e ≡ Some (NotBuilt offset)
 Applies s e (Err refused.OutOfMemory) new = Unit {0}
 
+-- how many bytes a machine has due to a client
+abbrev pub due_in : Option KeptClient → ℕ
+due_in None = 0
+due_in (Some row) = length row.due
+
+abbrev pub due_at : ℕ → Kept → ℕ
+due_at n machine = due_in (at n machine.clients)
+
 -- The first bytes that are due to a client are put to it, or it has none due.
 abbrev pub Puts : State → ℕ → ℕ → Option (List ℕ) → Kept → Type 0
 Puts s n max None new = ((s.clients n).due ≡ []) × (new ≡ kept s)

@@ -3,7 +3,7 @@ use Rattle.std.specs.Prelude.{ℕ, ◌≡◌, ◌≢◌, ◌⊎◌, true, if◌t
 use Rattle.adb_capture.specs.Records.{record_of, records_of, owner_of}
 use Rattle.adb_capture.specs.declared.entry.Entry.{Entry}
 use Rattle.adb_history.specs.Rows.{IsPrefixOf}
-use Rattle.adb_history.specs.Machine.{State, History, state, IsLegal}
+use Rattle.adb_history.specs.Machine.{State, History, state, IsDrawn, IsLegal}
 use Rattle.adb_history.specs.Kept.{Kept, IsLawful}
 use Rattle.adb_history.specs.Drained.{next_out, drained_after, drained_from}
 use Rattle.adb_history.specs.Accepted.{Accepted, refusal_of, is_input}
@@ -29,9 +29,10 @@ pub record StopsWithin (whole : History) (out : List ℕ) : Type 0 where
   pub bytes : out ≡ written_of done ++ part
   pub next : IsPartOfNext part done later
 
--- nothing is due to another client
-abbrev pub OnlyDue : State → ℕ → Type 0
-OnlyDue s n = (m : ℕ) → m ≢ n → (s.clients m).due ≡ []
+-- a client that was drawn, and nothing is due to another
+pub record OnlyDue (s : State) (n : ℕ) : Type 0 where
+  pub drawn : IsDrawn s n
+  pub others : (m : ℕ) → m ≢ n → (s.clients m).due ≡ []
 
 -- a history that a server holds, and that is drained
 pub record IsDrained (holds : Kept) (h : History) : Type 0 where
@@ -55,6 +56,12 @@ history_after e h = if is_input e then drained_after h e else h
 -- how far a history came where a record was not replayed to its end
 abbrev pub IsReached : ℕ → Entry → History → History → Type 0
 IsReached offset e h whole = (whole ≡ h) ⊎ ((refusal_of (state h) offset e ≡ None) × (is_input e ≡ true) × (whole ≡ drained_after h e))
+
+-- The replay of a record stopped: before its entry was made, or while it was kept and what was due then was handed out.
+pub record StopsEntry (front : List ℕ) (offset : ℕ) (e : Entry) (h : History) (written : Option (List ℕ)) : Type 0 where
+  pub whole : History
+  pub reached : IsReached offset e h whole
+  pub stopped : HasStopped front whole written
 
 -- the refusal that a stop tells
 abbrev pub refusal_in : Stop → Option Refusal

@@ -1,6 +1,6 @@
 //! One client of the machine.
 
-ghost use Rattle.std.specs.Prelude.{◌≡◌, ◌<◌, ◌≤◌, ◌++◌, List, ℕ, [], length, take, drop, All, IfOk, nat_lt};
+ghost use Rattle.std.specs.Prelude.{◌≡◌, ◌<◌, ◌≤◌, ◌+◌, ◌++◌, List, ℕ, [], length, take, drop, All, IfOk, nat_lt};
 ghost use Rattle.std.specs.Option.{option_copied};
 ghost use Rattle.adb_history.specs.Machine.{Client as Row, fresh, settled, ended, handed, answer, end_phase, phase_after};
 ghost use Rattle.adb_history.specs.Kept.{kept_of, IsResting};
@@ -155,6 +155,8 @@ impl Client {
         ensures bytes { IfOk result (λ text. text ≡ take max self.old.due) }
         ensures row { IfOk result (λ text. (row : Row) → self.old ≡ kept_of row → self.new ≡ kept_of (settled (handed (length text) row))) }
         ensures in_range { IfOk result (All (λ b. b < 256)) }
+        ensures short { IfOk result (λ text. length text ≤ max) }
+        ensures fewer { IfOk result (λ text. length self.new.due + length text ≡ length self.old.due) }
     {
         let text = Text::from_slice(alloc, first(&self.due[self.handed..], max))?;
         self.took(text.len());

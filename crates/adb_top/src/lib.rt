@@ -3,6 +3,7 @@
 
 mod client;
 mod machine;
+mod replay;
 mod stop;
 
 pub use client::Client;

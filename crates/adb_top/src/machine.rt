@@ -1,21 +1,24 @@
 //! The machine: the clients that live, and what each entry makes of them.
 
-ghost use Rattle.std.specs.Prelude.{◌≡◌, ◌≢◌, ◌<◌, ◌≤◌, ◌+◌, ◌∷◌, ℕ, List, Ok, Some, None, nat_eq, nat_lt, nat_le, ◌&&◌, if◌then◌else◌, false, All, IfOk, OnOk, IfSome};
+ghost use Rattle.std.specs.Prelude.{◌≡◌, ◌≢◌, ◌<◌, ◌≤◌, ◌+◌, ◌∷◌, ℕ, List, Ok, Some, None, nat_eq, nat_lt, nat_le, ◌&&◌, if◌then◌else◌, false, length, All, IfOk, OnOk, IfSome};
 ghost use Rattle.std.specs.List.{list_all};
 ghost use Rattle.adb_outside.specs.declared.kinds.Kind.{Kind};
 ghost use Rattle.adb_capture.specs.declared.entry.Entry.{Entry};
 ghost use Rattle.adb_history.specs.Machine.{State, Client as Row, fresh, start, step, settled, ended};
 ghost use Rattle.adb_history.specs.Kept.{Kept, kept, kept_of, at, IsResting, IsOrderly};
 ghost use Rattle.adb_history.specs.Accepted.{is_drawn as is_drawn_number, is_serial};
-ghost use Rattle.adb_top.specs.Machine.{ChangesOne, Becomes, ReadsRow, HandsRow, Applies, Puts};
+ghost use Rattle.adb_top.specs.Stop.{stop_at};
+ghost use Rattle.adb_top.specs.Machine.{ChangesOne, Becomes, ReadsRow, HandsRow, Applies, Puts, due_at};
 
 use adb_capture::Entry;
+use adb_history::Refusal;
 use adb_outside::{Cause, Text};
 use std::alloc::{AllocError, Global};
 use std::collections::BTreeMap;
 use std::marker::Model;
 
 use crate::client::{Client, Unread};
+use crate::stop::Stop;
 
 /// Why an entry is not made.
 #[derive(Clone, Copy, Debug, PartialEq, Eq, Drop)]
@@ -27,6 +30,20 @@ pub enum Refused {
     /// It asks for what is not built yet.
     NotBuilt,
     OutOfMemory,
+}
+
+impl Refused {
+    /// Why a replay stops at the record of that offset.
+    pub fn at(self, offset: u64) -> Stop
+        ensures { result ≡ stop_at offset self }
+    {
+        match self {
+            Refused::NotDrawn => Stop::Refused(Refusal::NotDrawn { offset }),
+            Refused::BadSerial => Stop::Refused(Refusal::BadSerial { offset }),
+            Refused::NotBuilt => Stop::Refused(Refusal::NotBuilt { offset }),
+            Refused::OutOfMemory => Stop::OutOfMemory,
+        }
+    }
 }
 
 impl From<AllocError> for Refused {
@@ -112,8 +129,11 @@ impl Machine {
     /// Puts the first `max` of the bytes that are due to a client, or all where there are fewer;
     /// `None` where none are due.
     pub fn put(&mut self, client: u32, max: usize) -> Result<Option<Text>, AllocError>
+        requires { 0 < max }
         ensures puts { IfOk result (λ out. (s : State) → IsOrderly s → self.old ≡ kept s → Puts s client max out self.new) }
         ensures in_range { IfOk result (λ out. IfSome out (All (λ b. b < 256))) }
+        ensures short { IfOk result (λ out. IfSome out (λ bytes. length bytes ≤ max)) }
+        ensures fewer { IfOk result (λ out. IfSome out (λ bytes. due_at client self.new < due_at client self.old)) }
     {
         match self.row_hands(client, max)? {
             None => Ok(None),
@@ -215,10 +235,13 @@ impl Machine {
 
     /// The first bytes that are due to a client's row are handed out.
     fn row_hands(&mut self, client: u32, max: usize) -> Result<Option<HandOut>, AllocError>
+        requires { 0 < max }
         ensures row { IfOk result (λ out. (row : Row) → at client self.old.clients ≡ Some (kept_of row) → HandsRow row max out (at client self.new.clients)) }
         ensures absent { IfOk result (λ out. at client self.old.clients ≡ None → (out ≡ None) × (at client self.new.clients ≡ None)) }
         ensures others { OnOk result (ChangesOne self.old client self.new) }
         ensures in_range { IfOk result (λ out. IfSome out (λ h. All (λ b. b < 256) h.bytes)) }
+        ensures short { IfOk result (λ out. IfSome out (λ h. length h.bytes ≤ max)) }
+        ensures fewer { IfOk result (λ out. IfSome out (λ h. due_at client self.new < due_at client self.old)) }
     {
         match self.clients.get_mut(&client) {
             Some(row) if row.is_owed() => {

@@ -1,0 +1,94 @@
+//! Replaying a capture: its entries are made in order, and all that is due is handed out after each.
+
+ghost use Rattle.std.specs.Prelude.{◌≡◌, ◌≢◌, ◌≤◌, ◌⊎◌, ◌++◌, List, ℕ, [], Option, Some, None, Ok, Err, OnOk, IfErr, not, option_and_then};
+ghost use Rattle.adb_outside.specs.Outside.{Rises};
+ghost use Rattle.adb_capture.specs.Records.{HasRecord, record_of};
+ghost use Rattle.adb_capture.specs.Reading.{ahead};
+ghost use Rattle.adb_capture.specs.declared.entry.Entry.{Entry};
+ghost use Rattle.adb_history.specs.Machine.{History, state};
+ghost use Rattle.adb_history.specs.Kept.{IsLawful};
+ghost use Rattle.adb_history.specs.Drained.{drain_all, next_out};
+ghost use Rattle.adb_history.specs.Accepted.{refusal_of, accept_records, is_input};
+ghost use Rattle.adb_history.specs.declared.refusal.Refusal.{Refusal};
+ghost use Rattle.adb_top.specs.Replay.{OnlyDue, IsDrained, HasWritten, HasStopped, StopsEntry, history_after};
+ghost use Rattle.adb_top.specs.Keeping.{KeepsRecord, Counts, IsLoss, is_write_fault};
+
+use adb_capture::{Entry, write_entry};
+use adb_outside::{Sink, Text, Wrote};
+
+use crate::machine::Machine;
+use crate::stop::Stop;
+
+/// The most bytes of one hand-out.
+const HAND_OUT: usize = 65_536;
+
+/// Writes the record of an entry.
+fn keep<K: Sink>(sink: &mut K, entry: &Entry) -> Result<(), Stop>
+    requires { HasRecord entry.now }
+    ensures told { KeepsRecord (K.written sink.old) (K.written sink.new) (record_of entry.now) result }
+    ensures loss { IsLoss result }
+    ensures counts { Counts (K.steady sink.old) (K.steady sink.new) (K.faults sink.old) (K.faults sink.new) (is_write_fault result) }
+{
+    match write_entry(sink, entry) {
+        Wrote::All => Ok(()),
+        Wrote::Failed { taken: _ } => Err(Stop::WriteFault),
+    }
+}
+
+/// Writes the record of a hand-out.
+fn keep_put<K: Sink>(sink: &mut K, client: u32, bytes: Text) -> Result<(), Stop>
+    requires { HasRecord (Entry.Put client bytes) }
+    ensures told { KeepsRecord (K.written sink.old) (K.written sink.new) (record_of (Entry.Put client bytes)) result }
+    ensures loss { IsLoss result }
+    ensures counts { Counts (K.steady sink.old) (K.steady sink.new) (K.faults sink.old) (K.faults sink.new) (is_write_fault result) }
+{
+    keep(sink, &Entry::Put { client, bytes })
+}
+
+/// Hands out all that is due to a client, the only one to which something is, and keeps each
+/// hand-out.
+fn hand_out<K: Sink>(machine: &mut Machine, sink: &mut K, client: u32) -> Result<(), Stop>
+    ensures drained { OnOk result ((h : History) → IsLawful machine.old h → OnlyDue (state h) client → IsDrained machine.new (drain_all h)) }
+    ensures told { OnOk result ((h : History) (front : List ℕ) → IsLawful machine.old h → OnlyDue (state h) client → HasWritten front h (K.written sink.old) → HasWritten front (drain_all h) (K.written sink.new)) }
+    ensures stopped { IfErr result (λ why. (h : History) (front : List ℕ) → IsLawful machine.old h → OnlyDue (state h) client → HasWritten front h (K.written sink.old) → HasStopped front (drain_all h) (K.written sink.new)) }
+    ensures loss { IsLoss result }
+    ensures counts { Counts (K.steady sink.old) (K.steady sink.new) (K.faults sink.old) (K.faults sink.new) (is_write_fault result) }
+{
+    while let Some(bytes) = machine.put(client, HAND_OUT)? {
+        keep_put(sink, client, bytes)?;
+    }
+    Ok(())
+}
+
+/// Replays one record: its entry is made and kept, and all that is due then is handed out. A
+/// hand-out that was recorded is passed over.
+fn replay_entry<K: Sink>(
+    machine: &mut Machine,
+    sink: &mut K,
+    offset: u64,
+    entry: &Entry,
+) -> Result<(), Stop>
+    requires { HasRecord entry.now }
+    ensures drained { OnOk result ((h : History) → IsDrained machine.old h → (refusal_of (state h) offset entry.now ≡ None) × IsDrained machine.new (history_after entry.now h)) }
+    ensures told { OnOk result ((h : History) (front : List ℕ) → IsDrained machine.old h → HasWritten front h (K.written sink.old) → HasWritten front (history_after entry.now h) (K.written sink.new)) }
+    ensures refused { (why : Refusal) → result ≡ Err (Stop.Refused why) → (K.written sink.new ≡ K.written sink.old) × ((h : History) → IsDrained machine.old h → refusal_of (state h) offset entry.now ≡ Some why) }
+    ensures stopped { IfErr result (λ why. (h : History) (front : List ℕ) → IsDrained machine.old h → HasWritten front h (K.written sink.old) → StopsEntry front offset entry.now h (K.written sink.new)) }
+    ensures reads { result ≢ Err Stop.ReadFault }
+    ensures counts { Counts (K.steady sink.old) (K.steady sink.new) (K.faults sink.old) (K.faults sink.new) (is_write_fault result) }
+{
+    if is_hand_out(entry) {
+        return Ok(());
+    }
+    if let Err(why) = machine.apply(entry) {
+        return Err(why.at(offset));
+    }
+    keep(sink, entry)?;
+    hand_out(machine, sink, entry.owner())
+}
+
+/// Whether an entry is a hand-out.
+fn is_hand_out(entry: &Entry) -> bool
+    ensures { result ≡ not (is_input entry.now) }
+{
+    matches!(entry, Entry::Put { .. } | Entry::Send { .. })
+}
