@@ -2,139 +2,191 @@ ghost use Rattle.std.specs.Prelude.{◌≤◌};
 
 use super::*;
 use crate::record::front;
-use adb_outside::{Cause, Front, Kind, MemorySink, MemorySource, Text, Wrote};
+use adb_outside::{Front, Kind, MemorySink, MemorySource, Text, Wrote};
 use std::alloc::{AllocError, Global};
+use std::process::Abort;
 use std::test::Fail;
 
 /// The 42 bytes of a client that asks for the version.
 const VERSION_ASKED: &[u8] = b"ADBHUB1\nJ\x01\0\0\0\0\0\0\0R\x01\0\0\0\x10\0\0\0000Chost:version";
 
-/// What an entry says: its kind with its cause or plug, its number, its port, and its text.
-fn said(entry: &Entry) -> (&'static [u8], u32, u16, &[u8]) {
+/// What an entry says: its kind, its number, what else is no text, and its text.
+fn said(entry: &Entry) -> (&'static str, u32, u16, &[u8]) {
     match entry {
-        Entry::Join { client } => (b"join", *client, 0, b""),
-        Entry::Enter { client, port } => (b"enter", *client, *port, b""),
-        Entry::Read { client, bytes } => (b"read", *client, 0, bytes.as_slice()),
-        Entry::End { client, cause } => (caused(*cause), *client, 0, b"end"),
-        Entry::Bound { client, port } => (b"bound", *client, *port, b""),
-        Entry::Attach { link, kind, serial } => (plugged(*kind), *link, 0, serial.as_slice()),
-        Entry::Recv { link, bytes } => (b"recv", *link, 0, bytes.as_slice()),
-        Entry::Detach { link, cause } => (caused(*cause), *link, 0, b"detach"),
-        Entry::Put { client, bytes } => (b"put", *client, 0, bytes.as_slice()),
-        Entry::Send { link, bytes } => (b"send", *link, 0, bytes.as_slice()),
-    }
-}
-
-fn caused(cause: Cause) -> &'static [u8] {
-    match cause {
-        Cause::Eof => b"eof",
-        Cause::Fault => b"fault",
-        Cause::Starved => b"starved",
-        Cause::NoThread => b"no thread",
-    }
-}
-
-fn plugged(kind: Kind) -> &'static [u8] {
-    match kind {
-        Kind::Usb => b"usb",
-        Kind::Local => b"local",
+        Entry::Join { client } => ("join", *client, 0, b""),
+        Entry::Enter { client, port } => ("enter", *client, *port, b""),
+        Entry::Read { client, bytes } => ("read", *client, 0, bytes.as_slice()),
+        Entry::End { client, cause } => ("end", *client, *cause as u16, b""),
+        Entry::Bound { client, port } => ("bound", *client, *port, b""),
+        Entry::Attach { link, kind, serial } => ("attach", *link, *kind as u16, serial.as_slice()),
+        Entry::Recv { link, bytes } => ("recv", *link, 0, bytes.as_slice()),
+        Entry::Detach { link, cause } => ("detach", *link, *cause as u16, b""),
+        Entry::Put { client, bytes } => ("put", *client, 0, bytes.as_slice()),
+        Entry::Send { link, bytes } => ("send", *link, 0, bytes.as_slice()),
     }
 }
 
 fn source_of(alloc: Global, bytes: &[u8], piece: usize) -> Result<MemorySource, AllocError>
     requires { 1 ≤ piece }
 {
-    Ok(MemorySource::new(Text::from_slice(alloc, bytes)?, piece, Vec::new(alloc)))
+    let bytes = Text::from_slice(alloc, bytes)?;
+    Ok(MemorySource::new(bytes, piece, Vec::new(alloc)))
 }
 
-fn with_magic(alloc: Global, records: &[u8]) -> Result<Text, AllocError> {
-    let mut bytes = Text::from_slice(alloc, b"ADBHUB1\n")?;
-    bytes.push_slice(records)?;
-    Ok(bytes)
+/// The next entry says this.
+fn gives(
+    rt: &impl Abort,
+    reader: &mut CaptureReader,
+    source: &mut MemorySource,
+    at: u64,
+    want: (&str, u32, u16, &[u8]),
+) {
+    match reader.next(source) {
+        Ok(Some((offset, entry))) => {
+            let (kind, number, word, text) = said(&entry);
+            assert_eq!(rt; offset, at);
+            assert_eq!(rt; kind, want.0);
+            assert_eq!(rt; number, want.1);
+            assert_eq!(rt; word, want.2);
+            assert_eq!(rt; text, want.3);
+        }
+        _ => assert!(rt; false, "no {}", want.0),
+    }
+}
+
+/// No entry follows, now and later.
+fn ends(rt: &impl Abort, reader: &mut CaptureReader, source: &mut MemorySource) {
+    for _ in 0..2 {
+        assert!(rt; matches!(reader.next(source), Ok(None)));
+    }
+}
+
+/// The next call answers the error, and each later one.
+fn fails(
+    rt: &impl Abort,
+    reader: &mut CaptureReader,
+    source: &mut MemorySource,
+    error: CaptureError,
+) {
+    for _ in 0..2 {
+        let given = reader.next(source).err();
+        assert_eq!(rt; given, Some(error));
+    }
+}
+
+/// A record is read so, and written as it was.
+fn is_spelled(
+    rt: &impl Abort,
+    alloc: Global,
+    record: &[u8],
+    want: (&str, u32, u16, &[u8]),
+) -> Result<(), Fail> {
+    let mut capture = Text::from_slice(alloc, b"ADBHUB1\n")?;
+    capture.push_slice(record)?;
+    let mut source = source_of(alloc, capture.as_slice(), 100)?;
+    let mut reader = CaptureReader::new(alloc)?;
+    let (_, entry) = reader.next(&mut source)?.ok_or("no record")?;
+    let mut sink = MemorySink::new(alloc, Vec::new(alloc));
+    assert_eq!(rt; write_magic(&mut sink), Wrote::All);
+    assert_eq!(rt; write_entry(&mut sink, &entry), Wrote::All);
+    assert_eq!(rt; sink.bytes(), capture.as_slice());
+
+    let mut source = source_of(alloc, sink.bytes(), 1)?;
+    let mut reader = CaptureReader::new(alloc)?;
+    gives(rt, &mut reader, &mut source, 8, want);
+    ends(rt, &mut reader, &mut source);
+    Ok(())
 }
 
 #[test]
-fn each_kind_is_read_and_written(rt: HostRuntime) -> Result<(), Fail> {
+fn inputs_are_read_and_written(rt: HostRuntime) -> Result<(), Fail> {
     let alloc = rt.alloc();
-    let cases: [(&[u8], (&[u8], u32, u16, &[u8])); 15] = [
-        (b"J\x01\0\0\0\0\0\0\0", (b"join", 1, 0, b"")),
-        (b"J\x01\x02\x03\x04\0\0\0\0", (b"join", 67305985, 0, b"")),
-        (b"N\x02\0\0\0\x02\0\0\0\x39\x30", (b"enter", 2, 12345, b"")),
-        (b"R\x03\0\0\0\x02\0\0\0hi", (b"read", 3, 0, b"hi")),
-        (b"R\x03\0\0\0\0\0\0\0", (b"read", 3, 0, b"")),
-        (b"E\x04\0\0\0\x01\0\0\0\0", (b"eof", 4, 0, b"end")),
-        (b"E\x04\0\0\0\x01\0\0\0\x03", (b"no thread", 4, 0, b"end")),
-        (b"B\x05\0\0\0\x02\0\0\0\0\0", (b"bound", 5, 0, b"")),
-        (b"A\x06\0\0\0\x04\0\0\0uabc", (b"usb", 6, 0, b"abc")),
-        (b"A\x06\0\0\0\x01\0\0\0l", (b"local", 6, 0, b"")),
-        (
-            b"V\x07\0\0\0\x03\0\0\0\0\xff\n",
-            (b"recv", 7, 0, b"\0\xff\n"),
-        ),
-        (b"D\x08\0\0\0\x01\0\0\0\x01", (b"fault", 8, 0, b"detach")),
-        (b"D\x08\0\0\0\x01\0\0\0\x02", (b"starved", 8, 0, b"detach")),
-        (b"P\x09\0\0\0\x01\0\0\0p", (b"put", 9, 0, b"p")),
-        (b"S\x0a\0\0\0\x01\0\0\0s", (b"send", 10, 0, b"s")),
-    ];
-    for (bytes, (kind, number, port, text)) in cases {
-        let capture = with_magic(alloc, bytes)?;
-        let mut source = source_of(alloc, capture.as_slice(), 100)?;
-        let mut reader = CaptureReader::new(alloc)?;
-        let (offset, entry) = reader.next(&mut source)?.ok_or("no record")?;
-        let got = said(&entry);
-        assert_eq!(rt; offset, 8);
-        assert_eq!(rt; got.0, kind, "in {bytes:?}");
-        assert_eq!(rt; got.1, number, "in {bytes:?}");
-        assert_eq!(rt; got.2, port, "in {bytes:?}");
-        assert_eq!(rt; got.3, text, "in {bytes:?}");
-        assert!(rt; reader.next(&mut source)?.is_none());
+    let join = b"J\x01\x02\x03\x04\0\0\0\0";
+    is_spelled(&rt, alloc, join, ("join", 67305985, 0, b""))?;
+    let enter = b"N\x02\0\0\0\x02\0\0\0\x39\x30";
+    is_spelled(&rt, alloc, enter, ("enter", 2, 12345, b""))?;
+    let read = b"R\x03\0\0\0\x02\0\0\0hi";
+    is_spelled(&rt, alloc, read, ("read", 3, 0, b"hi"))?;
+    let end = b"E\x04\0\0\0\x01\0\0\0\x03";
+    is_spelled(&rt, alloc, end, ("end", 4, 3, b""))?;
+    let bound = b"B\x05\0\0\0\x02\0\0\0\0\0";
+    is_spelled(&rt, alloc, bound, ("bound", 5, 0, b""))
+}
 
-        let mut sink = MemorySink::new(alloc, Vec::new(alloc));
-        assert_eq!(rt; write_magic(&mut sink), Wrote::All);
-        assert_eq!(rt; write_entry(&mut sink, &entry), Wrote::All);
-        assert_eq!(rt; sink.bytes(), capture.as_slice(), "of {bytes:?}");
+#[test]
+fn devices_and_outputs_are_read_and_written(rt: HostRuntime) -> Result<(), Fail> {
+    let alloc = rt.alloc();
+    let usb = b"A\x06\0\0\0\x04\0\0\0uabc";
+    is_spelled(&rt, alloc, usb, ("attach", 6, 0, b"abc"))?;
+    let local = b"A\x06\0\0\0\x01\0\0\0l";
+    is_spelled(&rt, alloc, local, ("attach", 6, 1, b""))?;
+    let recv = b"V\x07\0\0\0\x03\0\0\0\0\xff\n";
+    is_spelled(&rt, alloc, recv, ("recv", 7, 0, b"\0\xff\n"))?;
+    let detach = b"D\x08\0\0\0\x01\0\0\0\x02";
+    is_spelled(&rt, alloc, detach, ("detach", 8, 2, b""))?;
+    let put = b"P\x09\0\0\0\0\0\0\0";
+    is_spelled(&rt, alloc, put, ("put", 9, 0, b""))?;
+    let send = b"S\x0a\0\0\0\x01\0\0\0s";
+    is_spelled(&rt, alloc, send, ("send", 10, 0, b"s"))
+}
+
+/// A capture is refused so, in pieces of one byte and in one piece.
+fn is_refused(
+    rt: &impl Abort,
+    alloc: Global,
+    capture: &[u8],
+    error: CaptureError,
+) -> Result<(), Fail> {
+    for piece in [1, 1000] {
+        let mut source = source_of(alloc, capture, piece)?;
+        let mut reader = CaptureReader::new(alloc)?;
+        fails(rt, &mut reader, &mut source, error);
     }
     Ok(())
 }
 
 #[test]
-fn bad_captures_named(rt: HostRuntime) -> Result<(), Fail> {
-    let alloc = rt.alloc();
-    let bad = |why| CaptureError::BadRecord { offset: 8, why };
-    let truncated = CaptureError::Truncated { offset: 8 };
-    let cases: [(&[u8], CaptureError); 22] = [
-        (b"", CaptureError::BadMagic),
-        (b"ADBHUB1", CaptureError::BadMagic),
-        (b"ADBHUB2\n", CaptureError::BadMagic),
-        (b"ADBHUB1\r\nJ\x01\0\0\0\0\0\0\0", CaptureError::BadMagic),
-        (b"ADBHUB1\nJ", truncated),
-        (b"ADBHUB1\nX\0\0\0\0\0\0\0", truncated),
-        (b"ADBHUB1\nX\0\0\0\0\0\0\0\0", bad(Why::UnknownKind)),
-        (b"ADBHUB1\nX\0\0\0\0\x01\0\x20\0", bad(Why::UnknownKind)),
-        (b"ADBHUB1\nR\0\0\0\0\x01\0\x20\0", bad(Why::TooLarge)),
-        (b"ADBHUB1\nJ\0\0\0\0\xff\xff\xff\xff", bad(Why::TooLarge)),
-        (b"ADBHUB1\nR\0\0\0\0\0\0\x20\0", truncated),
-        (b"ADBHUB1\nJ\0\0\0\0\x02\0\0\0x", truncated),
-        (b"ADBHUB1\nJ\0\0\0\0\x01\0\0\0x", bad(Why::BadForm)),
-        (b"ADBHUB1\nN\0\0\0\0\x02\0\0\0\0\0", bad(Why::BadForm)),
-        (b"ADBHUB1\nN\0\0\0\0\x01\0\0\0\x01", bad(Why::BadForm)),
-        (b"ADBHUB1\nE\0\0\0\0\x01\0\0\0\x04", bad(Why::BadForm)),
-        (b"ADBHUB1\nE\0\0\0\0\0\0\0\0", bad(Why::BadForm)),
-        (b"ADBHUB1\nB\0\0\0\0\x03\0\0\0\0\0\0", bad(Why::BadForm)),
-        (b"ADBHUB1\nA\0\0\0\0\0\0\0\0", bad(Why::BadForm)),
-        (b"ADBHUB1\nA\0\0\0\0\x02\0\0\0xa", bad(Why::BadForm)),
-        (b"ADBHUB1\nD\0\0\0\0\x01\0\0\0\xff", bad(Why::BadForm)),
-        (b"ADBHUB1\nD\0\0\0\0\x02\0\0\0\0\0", bad(Why::BadForm)),
+fn bad_magic_and_ends_named(rt: HostRuntime) -> Result<(), Fail> {
+    let magics: [&[u8]; 4] = [b"", b"ADBHUB1", b"ADBHUB2\n", b"ADBHUB1\r\n"];
+    for capture in magics {
+        is_refused(&rt, rt.alloc(), capture, CaptureError::BadMagic)?;
+    }
+    let ends: [&[u8]; 4] = [
+        b"ADBHUB1\nJ",
+        b"ADBHUB1\nX\0\0\0\0\0\0\0",
+        b"ADBHUB1\nR\0\0\0\0\0\0\x20\0",
+        b"ADBHUB1\nJ\0\0\0\0\x02\0\0\0x",
     ];
-    for (bytes, error) in cases {
-        for piece in [1, 7, 1000] {
-            let mut source = source_of(alloc, bytes, piece)?;
-            let mut reader = CaptureReader::new(alloc)?;
-            for _ in 0..2 {
-                let given = reader.next(&mut source).err();
-                assert_eq!(rt; given, Some(error), "of {bytes:?}");
-            }
-        }
+    for capture in ends {
+        is_refused(
+            &rt,
+            rt.alloc(),
+            capture,
+            CaptureError::Truncated { offset: 8 },
+        )?;
+    }
+    Ok(())
+}
+
+#[test]
+fn bad_records_named(rt: HostRuntime) -> Result<(), Fail> {
+    let cases: [(&[u8], Why); 12] = [
+        (b"ADBHUB1\nX\0\0\0\0\0\0\0\0", Why::UnknownKind),
+        (b"ADBHUB1\nX\0\0\0\0\x01\0\x20\0", Why::UnknownKind),
+        (b"ADBHUB1\nR\0\0\0\0\x01\0\x20\0", Why::TooLarge),
+        (b"ADBHUB1\nJ\0\0\0\0\xff\xff\xff\xff", Why::TooLarge),
+        (b"ADBHUB1\nJ\0\0\0\0\x01\0\0\0x", Why::BadForm),
+        (b"ADBHUB1\nN\0\0\0\0\x02\0\0\0\0\0", Why::BadForm),
+        (b"ADBHUB1\nN\0\0\0\0\x01\0\0\0\x01", Why::BadForm),
+        (b"ADBHUB1\nE\0\0\0\0\x01\0\0\0\x04", Why::BadForm),
+        (b"ADBHUB1\nB\0\0\0\0\x03\0\0\0\0\0\0", Why::BadForm),
+        (b"ADBHUB1\nA\0\0\0\0\0\0\0\0", Why::BadForm),
+        (b"ADBHUB1\nA\0\0\0\0\x02\0\0\0xa", Why::BadForm),
+        (b"ADBHUB1\nD\0\0\0\0\0\0\0\0", Why::BadForm),
+    ];
+    for (capture, why) in cases {
+        let error = CaptureError::BadRecord { offset: 8, why };
+        is_refused(&rt, rt.alloc(), capture, error)?;
     }
     Ok(())
 }
@@ -142,17 +194,10 @@ fn bad_captures_named(rt: HostRuntime) -> Result<(), Fail> {
 #[test]
 fn a_capture_has_a_last_byte(rt: HostRuntime) {
     let join = b"J\x01\0\0\0\0\0\0\0";
-    let read = b"R\x01\0\0\0\x02\0\0\0hi";
-    assert_eq!(rt; front(1_073_741_815, join), Front::Whole(9));
-    let too_long = CaptureError::TooLong {
-        offset: 1_073_741_816,
-    };
-    assert_eq!(rt; front(1_073_741_816, join), Front::Bad(too_long));
-    assert_eq!(rt; front(1_073_741_813, read), Front::Whole(11));
-    let too_long = CaptureError::TooLong {
-        offset: 1_073_741_814,
-    };
-    assert_eq!(rt; front(1_073_741_814, read), Front::Bad(too_long));
+    let offset = 1_073_741_816;
+    assert_eq!(rt; front(offset - 1, join), Front::Whole(9));
+    let too_long = CaptureError::TooLong { offset };
+    assert_eq!(rt; front(offset, join), Front::Bad(too_long));
     records_are_framed();
     spelled_is_read();
     read_is_spelled();
@@ -160,83 +205,72 @@ fn a_capture_has_a_last_byte(rt: HostRuntime) {
 
 #[test]
 fn version_byte_by_byte(rt: HostRuntime) -> Result<(), Fail> {
-    let alloc = rt.alloc();
-    assert_eq!(rt; VERSION_ASKED.len(), 42);
     for piece in 1..43 {
-        let mut source = source_of(alloc, VERSION_ASKED, piece)?;
-        let mut reader = CaptureReader::new(alloc)?;
-        let (offset, entry) = reader.next(&mut source)?.ok_or("no join")?;
-        let join = said(&entry);
-        assert_eq!(rt; (offset, join.1), (8, 1), "by {piece}");
-        assert_eq!(rt; join.0, b"join".as_slice(), "by {piece}");
-        let (offset, entry) = reader.next(&mut source)?.ok_or("no read")?;
-        let read = said(&entry);
-        assert_eq!(rt; (offset, read.1), (17, 1), "by {piece}");
-        assert_eq!(rt; read.0, b"read".as_slice(), "by {piece}");
-        assert_eq!(rt; read.3, b"000Chost:version".as_slice(), "by {piece}");
-        assert!(rt; reader.next(&mut source)?.is_none(), "by {piece}");
-        assert!(rt; reader.next(&mut source)?.is_none(), "by {piece}");
+        let mut source = source_of(rt.alloc(), VERSION_ASKED, piece)?;
+        let mut reader = CaptureReader::new(rt.alloc())?;
+        gives(&rt, &mut reader, &mut source, 8, ("join", 1, 0, b""));
+        let asked = ("read", 1, 0, b"000Chost:version".as_slice());
+        gives(&rt, &mut reader, &mut source, 17, asked);
+        ends(&rt, &mut reader, &mut source);
     }
     Ok(())
 }
 
 #[test]
 fn truncated_capture(rt: HostRuntime) -> Result<(), Fail> {
-    let alloc = rt.alloc();
-    let mut source = source_of(alloc, b"ADBHUB1\nJ\x01\0\0\0\0\0\0\0R\x01\0\0\0", 3)?;
-    let mut reader = CaptureReader::new(alloc)?;
-    assert!(rt; reader.next(&mut source)?.is_some());
-    let given = reader.next(&mut source).err();
-    assert_eq!(rt; given, Some(CaptureError::Truncated { offset: 17 }));
+    let bytes = b"ADBHUB1\nJ\x01\0\0\0\0\0\0\0R\x01\0\0\0";
+    let mut source = source_of(rt.alloc(), bytes, 3)?;
+    let mut reader = CaptureReader::new(rt.alloc())?;
+    gives(&rt, &mut reader, &mut source, 8, ("join", 1, 0, b""));
+    let truncated = CaptureError::Truncated { offset: 17 };
+    fails(&rt, &mut reader, &mut source, truncated);
     Ok(())
 }
 
 #[test]
 fn a_record_longer_than_a_read(rt: HostRuntime) -> Result<(), Fail> {
     let alloc = rt.alloc();
-    let mut bytes = with_magic(alloc, b"J\x01\0\0\0\0\0\0\0V\x07\0\0\0\0\x40\x02\0")?;
-    for _ in 0..147_456 / 64 {
+    let mut bytes = Text::from_slice(alloc, b"ADBHUB1\nV\x07\0\0\0\0\x40\x02\0")?;
+    for _ in 0..2304 {
         bytes.push_slice(&[b'v'; 64])?;
     }
     bytes.push_slice(b"J\x02\0\0\0\0\0\0\0")?;
-    let mut source = MemorySource::new(bytes, 50_000, Vec::new(alloc));
+    let mut source = source_of(alloc, bytes.as_slice(), 50_000)?;
     let mut reader = CaptureReader::new(alloc)?;
-    assert!(rt; reader.next(&mut source)?.is_some());
-    let (offset, entry) = reader.next(&mut source)?.ok_or("no bytes")?;
-    let bytes = said(&entry).3;
-    assert_eq!(rt; (offset, bytes.len()), (17, 147_456));
-    assert!(rt; bytes.iter().all(|b| *b == b'v'));
-    let (offset, entry) = reader.next(&mut source)?.ok_or("no join")?;
-    assert_eq!(rt; (offset, said(&entry).1), (147_482, 2));
+    let (_, entry) = reader.next(&mut source)?.ok_or("no bytes")?;
+    let text = said(&entry).3;
+    assert_eq!(rt; text.len(), 147_456);
+    assert!(rt; text.iter().all(|b| *b == b'v'));
+    gives(&rt, &mut reader, &mut source, 147_473, ("join", 2, 0, b""));
     Ok(())
 }
 
 #[test]
-fn failing_source_and_sink(rt: HostRuntime) -> Result<(), Fail> {
+fn failing_source(rt: HostRuntime) -> Result<(), Fail> {
     let alloc = rt.alloc();
-    let failing = Vec::from_slice(alloc, &[3])?;
-    let mut source = MemorySource::new(Text::from_slice(alloc, VERSION_ASKED)?, 17, failing);
+    let bytes = Text::from_slice(alloc, VERSION_ASKED)?;
+    let mut source = MemorySource::new(bytes, 17, Vec::from_slice(alloc, &[3])?);
     let mut reader = CaptureReader::new(alloc)?;
-    let (_, entry) = reader.next(&mut source)?.ok_or("no join")?;
-    for _ in 0..2 {
-        let given = reader.next(&mut source).err();
-        assert_eq!(rt; given, Some(CaptureError::ReadFault));
-    }
+    gives(&rt, &mut reader, &mut source, 8, ("join", 1, 0, b""));
+    fails(&rt, &mut reader, &mut source, CaptureError::ReadFault);
+    Ok(())
+}
 
-    let mut sink = MemorySink::new(alloc, Vec::from_slice(alloc, &[1, 4])?);
-    assert_eq!(rt; write_magic(&mut sink), Wrote::Failed { taken: 0 });
-    assert_eq!(rt; write_entry(&mut sink, &entry), Wrote::All);
-    let serial = Text::from_slice(alloc, b"abc")?;
+#[test]
+fn failing_sink(rt: HostRuntime) -> Result<(), Fail> {
+    let alloc = rt.alloc();
     let attach = Entry::Attach {
         link: 1,
         kind: Kind::Usb,
-        serial,
+        serial: Text::from_slice(alloc, b"abc")?,
     };
+    let mut sink = MemorySink::new(alloc, Vec::from_slice(alloc, &[1, 3])?);
+    assert_eq!(rt; write_magic(&mut sink), Wrote::Failed { taken: 0 });
     assert_eq!(rt;
         write_entry(&mut sink, &attach),
         Wrote::Failed { taken: 10 }
     );
-    let out = b"J\x01\0\0\0\0\0\0\0A\x01\0\0\0\x04\0\0\0u".as_slice();
+    let out = b"A\x01\0\0\0\x04\0\0\0u".as_slice();
     assert_eq!(rt; sink.bytes(), out);
     Ok(())
 }
