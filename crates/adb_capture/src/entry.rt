@@ -26,3 +26,26 @@ pub enum Entry {
     /// Bytes were handed out to a device.
     Send { link: u32, bytes: Text },
 }
+
+impl Entry {
+    ghost use Rattle.std.specs.Prelude.{◌≡◌};
+    ghost use Rattle.adb_capture.specs.Records.{owner_of};
+
+    /// The number of the client or link that the entry names.
+    pub fn owner(&self) -> u32
+        ensures { result ≡ owner_of self.now }
+    {
+        match self {
+            Entry::Join { client }
+            | Entry::Enter { client, .. }
+            | Entry::Read { client, .. }
+            | Entry::End { client, .. }
+            | Entry::Bound { client, .. }
+            | Entry::Put { client, .. } => *client,
+            Entry::Attach { link, .. }
+            | Entry::Recv { link, .. }
+            | Entry::Detach { link, .. }
+            | Entry::Send { link, .. } => *link,
+        }
+    }
+}

@@ -3,7 +3,7 @@
 ghost use Rattle.std.specs.Prelude.{◌≡◌, ◌<◌, ◌≤◌, ◌+◌, ◌++◌, ◌^◌, ℕ, length, take};
 ghost use Rattle.adb_outside.specs.Outside.{Rises};
 ghost use Rattle.adb_outside.specs.Sink.{FitsPiece, TellsWrite, IsSteadyWrite};
-ghost use Rattle.adb_capture.specs.Records.{magic, kind_of, owner_of, data_of, record_of, cause_byte, plug_letter, HasRecord};
+ghost use Rattle.adb_capture.specs.Records.{magic, kind_of, data_of, record_of, cause_byte, plug_letter, HasRecord};
 ghost use Rattle.adb_capture.specs.Pieces.{text_of, word_of};
 
 use crate::awaiting::MAGIC;
@@ -79,7 +79,7 @@ impl Head {
         let size = word.len + text(entry).len();
         let mut bytes = [0; 11];
         bytes[0] = letter(entry);
-        LittleEndian::write_u32(&mut bytes[1..5], owner(entry));
+        LittleEndian::write_u32(&mut bytes[1..5], entry.owner());
         LittleEndian::write_u32(&mut bytes[5..9], size as u32);
         bytes[9] = word.bytes[0];
         bytes[10] = word.bytes[1];
@@ -157,24 +157,6 @@ fn letter(entry: &Entry) -> u8
         Entry::Detach { .. } => b'D',
         Entry::Put { .. } => b'P',
         Entry::Send { .. } => b'S',
-    }
-}
-
-/// The number of the client or link.
-fn owner(entry: &Entry) -> u32
-    ensures { result ≡ owner_of entry.now }
-{
-    match entry {
-        Entry::Join { client }
-        | Entry::Enter { client, .. }
-        | Entry::Read { client, .. }
-        | Entry::End { client, .. }
-        | Entry::Bound { client, .. }
-        | Entry::Put { client, .. } => *client,
-        Entry::Attach { link, .. }
-        | Entry::Recv { link, .. }
-        | Entry::Detach { link, .. }
-        | Entry::Send { link, .. } => *link,
     }
 }
 

@@ -1,3 +1,5 @@
 pub mod Clients
 pub mod Machines
 pub mod Drains
+pub mod Entries
+pub mod Outcomes

@@ -79,11 +79,13 @@ fn replay_entry<K: Sink>(
     if is_hand_out(entry) {
         return Ok(());
     }
-    if let Err(why) = machine.apply(entry) {
-        return Err(why.at(offset));
+    match machine.apply(entry) {
+        Err(why) => Err(why.at(offset)),
+        Ok(()) => {
+            keep(sink, entry)?;
+            hand_out(machine, sink, entry.owner())
+        }
     }
-    keep(sink, entry)?;
-    hand_out(machine, sink, entry.owner())
 }
 
 /// Whether an entry is a hand-out.
