@@ -3,9 +3,10 @@ use Rattle.std.proofs.Common.{ℕ, ◌+◌, ◌≡◌, Bool, true, false, List, 
 use Rattle.std.proofs.lemmas.List.{append_assoc, append-nil, reverse-append}
 use Rattle.adb_outside.specs.declared.framer.Front.{Front}
 use Rattle.adb_outside.specs.declared.framer.Front.TheVariants.{More, Bad, Whole}
-use Rattle.adb_outside.specs.Framing.{Cut, uncut, joined, cut, cut_by, IsFraming}
+use Rattle.adb_outside.specs.Framing.{Cut, uncut, joined, cut, cut_by}
 use Rattle.adb_outside.proofs.FramingLaws.{cut_first}
 use Rattle.adb_capture.specs.Records.{record_at, entry_in, offset_after}
+use Rattle.adb_capture.proofs.Fronts.{framing}
 use Rattle.adb_capture.specs.declared.entry.Entry.{Entry}
 use Rattle.adb_capture.specs.declared.error.CaptureError.{CaptureError}
 use Rattle.adb_capture.specs.declared.error.CaptureError.TheVariants.{Truncated}
@@ -23,9 +24,9 @@ accept_front offset bytes (Whole n) h =
     accept_by (refusal_of (state h) (entry_in offset (take n bytes)).0 (entry_in offset (take n bytes)).1) (is_input (entry_in offset (take n bytes)).1) h (entry_in offset (take n bytes)).1
         (accept_records (offset_after offset (take n bytes)) (drop n bytes))
 
-pub accept_first : IsFraming record_at entry_in offset_after → (offset : ℕ) (bytes : List ℕ) (h : History) → accept_records offset bytes h ≡ accept_front offset bytes (record_at offset bytes) h
-accept_first laws offset bytes h =
-    ap (λ (c : Cut ℕ (ℕ × Entry) CaptureError). accept_cut c h) (cut_first record_at entry_in offset_after laws offset bytes) ∙ go (record_at offset bytes)
+pub accept_first : (offset : ℕ) (bytes : List ℕ) (h : History) → accept_records offset bytes h ≡ accept_front offset bytes (record_at offset bytes) h
+accept_first offset bytes h =
+    ap (λ (c : Cut ℕ (ℕ × Entry) CaptureError). accept_cut c h) (cut_first record_at entry_in offset_after framing offset bytes) ∙ go (record_at offset bytes)
   where
     go : (f : Front CaptureError) → accept_cut (cut_by record_at entry_in offset_after offset bytes f (cut record_at entry_in offset_after)) h ≡ accept_front offset bytes f h
     go More = refl

@@ -16,12 +16,13 @@ use Rattle.adb_history.proofs.Orderly.{orderly}
 use Rattle.adb_history.proofs.Draining.{next_is, drain_all_step, drain_all_over, drain_all_rests}
 use Rattle.adb_history.proofs.Accepting.{drain_adds}
 use Rattle.adb_top.specs.Machine.{Puts}
-use Rattle.adb_top.specs.Keeping.{Counts, HasPart, KeepsRecord}
+use Rattle.adb_capture.specs.Counting.{Counted}
+use Rattle.adb_top.specs.Keeping.{HasPart, KeepsRecord}
 use Rattle.adb_top.specs.Replay.{written_of, StopsWithin, OnlyDue, IsDrained, HasWritten, HasStopped}
 use Rattle.adb_top.specs.declared.stop.Stop.{Stop}
 
 -- counts of two parts
-pub counts_on : (a b c : Type 0) (x y z : ℕ) (failed : Bool) → Counts a b x y false → Counts b c y z failed → Counts a c x z failed
+pub counts_on : (a b c : Type 0) (x y z : ℕ) (failed : Bool) → Counted a b x y false → Counted b c y z failed → Counted a c x z failed
 counts_on a b c x y z failed first second = record {
     count = omega (arith, first.count, second.count);
     fault = λ e. rises (second.fault e);

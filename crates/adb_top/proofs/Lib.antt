@@ -3,3 +3,4 @@ pub mod Machines
 pub mod Drains
 pub mod Entries
 pub mod Outcomes
+pub mod Records

@@ -1,16 +1,8 @@
 -- What keeping an entry does to a sink.
-use Rattle.std.specs.Prelude.{ℕ, ◌≡◌, ◌≤◌, Bool, true, false, List, ◌++◌, Option, Some, Result, Ok, Err}
-use Rattle.adb_outside.specs.Outside.{Rises}
+use Rattle.std.specs.Prelude.{ℕ, ◌≡◌, Bool, true, false, List, ◌++◌, Option, Some, Result, Ok, Err}
 use Rattle.adb_history.specs.Rows.{IsPrefixOf}
 use Rattle.adb_top.specs.declared.stop.Stop.{Stop}
 use Rattle.adb_top.specs.declared.stop.Stop.TheVariants.{ReadFault, WriteFault, OutOfMemory, Refused}
-
--- The count of faults never falls, it rises where a write failed, and what never fails stays so.
-pub record Counts (steady_before steady_after : Type 0) (before after : ℕ) (failed : Bool) : Type 0 where
-  pub count : before ≤ after
-  pub fault : failed ≡ true → Rises before after
-  pub keeps : steady_before → steady_after
-  pub steady : steady_before → (failed ≡ false) × (after ≡ before)
 
 -- whether the sink failed
 abbrev pub is_write_fault : Result (Unit {0}) Stop → Bool
@@ -19,6 +11,14 @@ is_write_fault (Err ReadFault) = false
 is_write_fault (Err WriteFault) = true
 is_write_fault (Err OutOfMemory) = false
 is_write_fault (Err (Refused why)) = false
+
+-- whether the source failed
+abbrev pub is_read_fault : Result (Unit {0}) Stop → Bool
+is_read_fault (Ok done) = false
+is_read_fault (Err ReadFault) = true
+is_read_fault (Err WriteFault) = false
+is_read_fault (Err OutOfMemory) = false
+is_read_fault (Err (Refused why)) = false
 
 -- A hand-out is lost to the sink or to want of memory alone.
 abbrev pub IsLoss : Result (Unit {0}) Stop → Type 0

@@ -1,12 +1,13 @@
 -- How much of a history was replayed: what went out of it, and what of a capture came to it.
-use Rattle.std.specs.Prelude.{ℕ, ◌≡◌, ◌≢◌, ◌⊎◌, true, if◌then◌else◌, List, [], ◌∷◌, ◌++◌, length, reverse, Option, Some, None, Result, Ok, Err}
+use Rattle.std.specs.Prelude.{ℕ, ◌≡◌, ◌≢◌, ◌⊎◌, true, if◌then◌else◌, List, [], ◌∷◌, ◌++◌, length, reverse, option_and_then, Option, Some, None, Result, Ok, Err}
 use Rattle.adb_capture.specs.Records.{record_of, records_of, owner_of}
 use Rattle.adb_capture.specs.declared.entry.Entry.{Entry}
+use Rattle.adb_capture.specs.Reading.{Reading, ahead}
 use Rattle.adb_history.specs.Rows.{IsPrefixOf}
 use Rattle.adb_history.specs.Machine.{State, History, state, IsDrawn, IsLegal}
 use Rattle.adb_history.specs.Kept.{Kept, IsLawful}
 use Rattle.adb_history.specs.Drained.{next_out, drained_after, drained_from}
-use Rattle.adb_history.specs.Accepted.{Accepted, refusal_of, is_input}
+use Rattle.adb_history.specs.Accepted.{Accepted, refusal_of, is_input, accept_records}
 use Rattle.adb_history.specs.declared.refusal.Refusal.{Refusal}
 use Rattle.adb_top.specs.declared.stop.Stop.{Stop}
 use Rattle.adb_top.specs.declared.stop.Stop.TheVariants.{ReadFault, WriteFault, OutOfMemory, Refused}
@@ -63,29 +64,48 @@ pub record StopsEntry (front : List ℕ) (offset : ℕ) (e : Entry) (h : History
   pub reached : IsReached offset e h whole
   pub stopped : HasStopped front whole written
 
--- the refusal that a stop tells
-abbrev pub refusal_in : Stop → Option Refusal
-refusal_in ReadFault = None
-refusal_in WriteFault = None
-refusal_in OutOfMemory = None
-refusal_in (Refused why) = Some why
-
 -- What went out of the history that was reached, by how its replay ended: all of it, or a part.
 abbrev pub Wrote : Result (Unit {0}) Stop → History → List ℕ → Type 0
-Wrote (Ok done) whole out = out ≡ written_of whole
-Wrote (Err (Refused why)) whole out = out ≡ written_of whole
+Wrote (Ok done) whole out = (out ≡ written_of whole) × IsLegal whole
+Wrote (Err (Refused why)) whole out = (out ≡ written_of whole) × IsLegal whole
 Wrote (Err ReadFault) whole out = StopsWithin whole out
 Wrote (Err WriteFault) whole out = StopsWithin whole out
 Wrote (Err OutOfMemory) whole out = StopsWithin whole out
 
--- What the history that was reached is of all that a capture gives.
+-- a history is the first part of the drained history of what a capture gives
 pub record IsFrontOf (whole : History) (a : Accepted) : Type 0 where
   pub more : History
   pub is : drained_from [] a.inputs ≡ more ++ whole
 
-abbrev pub Came : Result (Unit {0}) Stop → History → Accepted → Option (List ℕ) → Type 0
-Came (Ok done) whole a left = (drained_from [] a.inputs ≡ whole) × (a.refused ≡ None) × (left ≡ Some [])
-Came (Err (Refused why)) whole a left = (drained_from [] a.inputs ≡ whole) × (a.refused ≡ Some why)
-Came (Err ReadFault) whole a left = IsFrontOf whole a
-Came (Err WriteFault) whole a left = IsFrontOf whole a
-Came (Err OutOfMemory) whole a left = IsFrontOf whole a
+-- What the history that was reached is of all that a capture gives, by how its replay ended: the whole drained history, or its first part.
+abbrev pub Reaches : Result (Unit {0}) Stop → History → Accepted → Type 0
+Reaches (Ok done) whole a = drained_from [] a.inputs ≡ whole
+Reaches (Err (Refused why)) whole a = drained_from [] a.inputs ≡ whole
+Reaches (Err ReadFault) whole a = IsFrontOf whole a
+Reaches (Err WriteFault) whole a = IsFrontOf whole a
+Reaches (Err OutOfMemory) whole a = IsFrontOf whole a
+
+-- How a capture's replay ended, and how the capture ends.
+abbrev pub EndsAs : Result (Unit {0}) Stop → Accepted → Option (List ℕ) → Type 0
+EndsAs (Ok done) a left = (a.refused ≡ None) × (left ≡ Some [])
+EndsAs (Err (Refused why)) a left = a.refused ≡ Some why
+EndsAs (Err ReadFault) a left = Unit {0}
+EndsAs (Err WriteFault) a left = Unit {0}
+EndsAs (Err OutOfMemory) a left = Unit {0}
+
+-- what a reader, before a source, was to give, where both tell it
+abbrev pub WasAhead : Reading → Option (List ℕ) → List ℕ → Type 0
+WasAhead reader left before = option_and_then (ahead reader) left ≡ Some before
+
+-- Behind a front the records of a history went out, and what the history is of what was to be given.
+pub record WroteOf (reader : Reading) (left : Option (List ℕ)) (front : List ℕ) (result : Result (Unit {0}) Stop) (written : Option (List ℕ)) : Type 0 where
+  pub whole : History
+  pub out : List ℕ
+  pub is : written ≡ Some (front ++ out)
+  pub wrote : Wrote result whole out
+  pub reaches : (before : List ℕ) → WasAhead reader left before → Reaches result whole (accept_records reader.offset before [])
+
+-- The records of a reader were replayed.
+pub record Replays (reader : Reading) (left_before left_after written_before written_after : Option (List ℕ)) (result : Result (Unit {0}) Stop) : Type 0 where
+  pub wrote : (front : List ℕ) → written_before ≡ Some front → WroteOf reader left_before front result written_after
+  pub ends : (before : List ℕ) → WasAhead reader left_before before → EndsAs result (accept_records reader.offset before []) left_after

@@ -1,20 +1,20 @@
 //! Replaying a capture: its entries are made in order, and all that is due is handed out after each.
 
-ghost use Rattle.std.specs.Prelude.{◌≡◌, ◌≢◌, ◌≤◌, ◌⊎◌, ◌++◌, List, ℕ, [], Option, Some, None, Ok, Err, OnOk, IfErr, not, option_and_then};
+ghost use Rattle.std.specs.Prelude.{◌≡◌, ◌≢◌, ◌≤◌, ◌⊎◌, ◌++◌, List, ℕ, [], Option, Some, None, Ok, Err, OnOk, IfErr, not, true};
 ghost use Rattle.adb_outside.specs.Outside.{Rises};
+ghost use Rattle.adb_capture.specs.Counting.{Counted};
 ghost use Rattle.adb_capture.specs.Records.{HasRecord, record_of};
-ghost use Rattle.adb_capture.specs.Reading.{ahead};
 ghost use Rattle.adb_capture.specs.declared.entry.Entry.{Entry};
-ghost use Rattle.adb_history.specs.Machine.{History, state};
-ghost use Rattle.adb_history.specs.Kept.{IsLawful};
+ghost use Rattle.adb_history.specs.Machine.{History, start, state};
+ghost use Rattle.adb_history.specs.Kept.{kept, IsLawful};
 ghost use Rattle.adb_history.specs.Drained.{drain_all, next_out};
-ghost use Rattle.adb_history.specs.Accepted.{refusal_of, accept_records, is_input};
+ghost use Rattle.adb_history.specs.Accepted.{refusal_of, is_input};
 ghost use Rattle.adb_history.specs.declared.refusal.Refusal.{Refusal};
-ghost use Rattle.adb_top.specs.Replay.{OnlyDue, IsDrained, HasWritten, HasStopped, StopsEntry, history_after};
-ghost use Rattle.adb_top.specs.Keeping.{KeepsRecord, Counts, IsLoss, is_write_fault};
+ghost use Rattle.adb_top.specs.Replay.{OnlyDue, IsDrained, HasWritten, HasStopped, StopsEntry, Replays, history_after};
+ghost use Rattle.adb_top.specs.Keeping.{KeepsRecord, IsLoss, is_write_fault, is_read_fault};
 
-use adb_capture::{Entry, write_entry};
-use adb_outside::{Sink, Text, Wrote};
+use adb_capture::{CaptureReader, Entry, write_entry};
+use adb_outside::{Sink, Source, Text, Wrote};
 
 use crate::machine::Machine;
 use crate::stop::Stop;
@@ -27,7 +27,7 @@ fn keep<K: Sink>(sink: &mut K, entry: &Entry) -> Result<(), Stop>
     requires { HasRecord entry.now }
     ensures told { KeepsRecord (K.written sink.old) (K.written sink.new) (record_of entry.now) result }
     ensures loss { IsLoss result }
-    ensures counts { Counts (K.steady sink.old) (K.steady sink.new) (K.faults sink.old) (K.faults sink.new) (is_write_fault result) }
+    ensures counts { Counted (K.steady sink.old) (K.steady sink.new) (K.faults sink.old) (K.faults sink.new) (is_write_fault result) }
 {
     match write_entry(sink, entry) {
         Wrote::All => Ok(()),
@@ -40,7 +40,7 @@ fn keep_put<K: Sink>(sink: &mut K, client: u32, bytes: Text) -> Result<(), Stop>
     requires { HasRecord (Entry.Put client bytes) }
     ensures told { KeepsRecord (K.written sink.old) (K.written sink.new) (record_of (Entry.Put client bytes)) result }
     ensures loss { IsLoss result }
-    ensures counts { Counts (K.steady sink.old) (K.steady sink.new) (K.faults sink.old) (K.faults sink.new) (is_write_fault result) }
+    ensures counts { Counted (K.steady sink.old) (K.steady sink.new) (K.faults sink.old) (K.faults sink.new) (is_write_fault result) }
 {
     keep(sink, &Entry::Put { client, bytes })
 }
@@ -52,7 +52,7 @@ fn hand_out<K: Sink>(machine: &mut Machine, sink: &mut K, client: u32) -> Result
     ensures told { OnOk result ((h : History) (front : List ℕ) → IsLawful machine.old h → OnlyDue (state h) client → HasWritten front h (K.written sink.old) → HasWritten front (drain_all h) (K.written sink.new)) }
     ensures stopped { IfErr result (λ why. (h : History) (front : List ℕ) → IsLawful machine.old h → OnlyDue (state h) client → HasWritten front h (K.written sink.old) → HasStopped front (drain_all h) (K.written sink.new)) }
     ensures loss { IsLoss result }
-    ensures counts { Counts (K.steady sink.old) (K.steady sink.new) (K.faults sink.old) (K.faults sink.new) (is_write_fault result) }
+    ensures counts { Counted (K.steady sink.old) (K.steady sink.new) (K.faults sink.old) (K.faults sink.new) (is_write_fault result) }
 {
     while let Some(bytes) = machine.put(client, HAND_OUT)? {
         keep_put(sink, client, bytes)?;
@@ -60,9 +60,46 @@ fn hand_out<K: Sink>(machine: &mut Machine, sink: &mut K, client: u32) -> Result
     Ok(())
 }
 
+/// Replays the records of a capture, whose magic was read, on a machine to which no client came yet.
+fn replay_records<S: Source, K: Sink>(
+    machine: &mut Machine,
+    reader: &mut CaptureReader,
+    source: &mut S,
+    sink: &mut K,
+) -> Result<(), Stop>
+    requires fresh { machine.old ≡ kept start }
+    requires open_reader { (reader.old.failed ≡ None) × (reader.old.opened ≡ true) }
+    ensures replays { Replays reader.old (S.left source.old) (S.left source.new) (K.written sink.old) (K.written sink.new) result }
+    ensures reads { Counted (S.steady source.old) (S.steady source.new) (S.faults source.old) (S.faults source.new) (is_read_fault result) }
+    ensures writes { Counted (K.steady sink.old) (K.steady sink.new) (K.faults sink.old) (K.faults sink.new) (is_write_fault result) }
+{
+    while let Some((offset, entry)) = reader.next(source)? {
+        replay_entry(machine, sink, offset, entry)?;
+    }
+    Ok(())
+}
+
+/// Replays one record, whose entry is dropped then.
+fn replay_entry<K: Sink>(
+    machine: &mut Machine,
+    sink: &mut K,
+    offset: u64,
+    entry: Entry,
+) -> Result<(), Stop>
+    requires { HasRecord entry }
+    ensures drained { OnOk result ((h : History) → IsDrained machine.old h → (refusal_of (state h) offset entry ≡ None) × IsDrained machine.new (history_after entry h)) }
+    ensures told { OnOk result ((h : History) (front : List ℕ) → IsDrained machine.old h → HasWritten front h (K.written sink.old) → HasWritten front (history_after entry h) (K.written sink.new)) }
+    ensures refused { (why : Refusal) → result ≡ Err (Stop.Refused why) → (K.written sink.new ≡ K.written sink.old) × ((h : History) → IsDrained machine.old h → refusal_of (state h) offset entry ≡ Some why) }
+    ensures stopped { IfErr result (λ why. (h : History) (front : List ℕ) → IsDrained machine.old h → HasWritten front h (K.written sink.old) → StopsEntry front offset entry h (K.written sink.new)) }
+    ensures reads { result ≢ Err Stop.ReadFault }
+    ensures counts { Counted (K.steady sink.old) (K.steady sink.new) (K.faults sink.old) (K.faults sink.new) (is_write_fault result) }
+{
+    replay_record(machine, sink, offset, &entry)
+}
+
 /// Replays one record: its entry is made and kept, and all that is due then is handed out. A
 /// hand-out that was recorded is passed over.
-fn replay_entry<K: Sink>(
+fn replay_record<K: Sink>(
     machine: &mut Machine,
     sink: &mut K,
     offset: u64,
@@ -74,7 +111,7 @@ fn replay_entry<K: Sink>(
     ensures refused { (why : Refusal) → result ≡ Err (Stop.Refused why) → (K.written sink.new ≡ K.written sink.old) × ((h : History) → IsDrained machine.old h → refusal_of (state h) offset entry.now ≡ Some why) }
     ensures stopped { IfErr result (λ why. (h : History) (front : List ℕ) → IsDrained machine.old h → HasWritten front h (K.written sink.old) → StopsEntry front offset entry.now h (K.written sink.new)) }
     ensures reads { result ≢ Err Stop.ReadFault }
-    ensures counts { Counts (K.steady sink.old) (K.steady sink.new) (K.faults sink.old) (K.faults sink.new) (is_write_fault result) }
+    ensures counts { Counted (K.steady sink.old) (K.steady sink.new) (K.faults sink.old) (K.faults sink.new) (is_write_fault result) }
 {
     if is_hand_out(entry) {
         return Ok(());

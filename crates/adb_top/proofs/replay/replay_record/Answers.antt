@@ -11,7 +11,7 @@ use Rattle.adb_top.specs.declared.stop.Stop.TheVariants.{Refused}
 use Rattle.adb_top.proofs.Drains.{has_written_more}
 use Rattle.adb_top.proofs.Entries.{made, refused_entry, lost_entry, unmade_entry, handing_stopped, input_of}
 use Rattle.adb_top.proofs.Outcomes.{on_ok, if_err}
-use Rattle.adb_top.proofs.replay.replay_entry.Goals as goal
+use Rattle.adb_top.proofs.replay.replay_record.Goals as goal
 
 pub returns-in_err-keep-in-Ok-clause-stopped : goal.returns-in_err-keep-in-Ok-clause-stopped
 returns-in_err-keep-in-Ok-clause-stopped g c =
