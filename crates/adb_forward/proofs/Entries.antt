@@ -1,5 +1,5 @@
 -- What holds of each entry of a table, through a change of the table.
-use Rattle.std.proofs.Common.{ℕ, ◌≡◌, ◌≢◌, ◌≤◌, ◌<◌, ◌^◌, ◌+◌, Bool, true, false, cond, is_some, List, [], ◌∷◌, length, All, Option, refl, subst, rules, arith, Ordering}
+use Rattle.std.proofs.Common.{ℕ, ◌≡◌, Bool, true, false, cond, List, [], ◌∷◌, All, refl, subst, Ordering}
 use Rattle.std.proofs.lemmas.List.Elements.{All-nil, All-cons, All-head, All-tail}
 use Rattle.std.proofs.lemmas.Map.Lookups.{exact_unsigned}
 use Rattle.std.specs.Ordering.{nat_cmp, match_ordering}

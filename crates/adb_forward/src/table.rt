@@ -2,7 +2,7 @@
 
 ghost use Rattle.adb_forward.specs.Forwards.{row_at, IsSpecification, IsForwardTable, ChangesAt, forward_line, forward_list};
 ghost use Rattle.std.specs.Option.{option_copied};
-ghost use Rattle.std.specs.Prelude.{◌≡◌, ◌≤◌, ◌<◌, ◌++◌, ◌↔◌, ◌==◌, [], length, filter, not, is_some, IsTrue, IsSome, IsNone, IfOk, OnOk, OnErr};
+ghost use Rattle.std.specs.Prelude.{◌≡◌, ◌≤◌, ◌++◌, ◌↔◌, ◌==◌, [], length, filter, not, is_some, IsTrue, IsSome, IfOk, OnOk, OnErr};
 
 use crate::row::{ForwardError, ForwardRow};
 use adb_outside::Text;
@@ -62,13 +62,23 @@ impl Forwards {
         norebind: bool,
     ) -> Result<(), ForwardError>
         requires { length serial.now ≤ 64 }
-        ensures ok { OnOk result (ChangesAt local (Some (record { local = local; transport = transport; serial = serial.now; remote = remote.now })) self.old self.new) }
+        ensures ok { OnOk result (ChangesAt local (Some (record {
+          local = local;
+          transport = transport;
+          serial = serial.now;
+          remote = remote.now;
+        })) self.old self.new) }
         ensures err { OnErr result (self.new ≡ self.old) }
         ensures table { IsForwardTable self.new }
 
-        ensures bad_spec { (result ≡ Err ForwardError.BadSpec) ↔ (¬ (IsSpecification local remote.now)) }
-        ensures exists { (result ≡ Err ForwardError.Exists) ↔ (IsSpecification local remote.now × IsTrue norebind × IsSome (row_at local self.old)) }
-        ensures full { (result ≡ Err ForwardError.Full) ↔ (IsSpecification local remote.now × (row_at local self.old ≡ None) × (length self.old ≡ 64)) }
+        // In this order.
+        ensures bad_spec { (result ≡ Err ForwardError.BadSpec)
+            ↔ (¬ (IsSpecification local remote.now)) }
+        ensures exists { (result ≡ Err ForwardError.Exists)
+            ↔ (IsSpecification local remote.now × IsTrue norebind × IsSome (row_at local self.old)) }
+        ensures full { (result ≡ Err ForwardError.Full)
+            ↔ (IsSpecification local remote.now × (row_at local self.old ≡ None)
+            × (length self.old ≡ 64)) }
     {
         let is_there = self.rows.contains_key(&local);
         if !is_specification(local, remote) {

@@ -1,6 +1,5 @@
 use Rattle.std.proofs.Common.{◌≡◌, ◌++◌}
 use Rattle.std.specs.List.{flat_map}
-use Rattle.std.specs.Map.{values_of}
 use Rattle.adb_forward.specs.Forwards.{forward_line, forward_list}
 use Rattle.adb_forward.proofs.table.Forwards.list.Given as goal
 

@@ -1,5 +1,5 @@
-use Rattle.std.proofs.Common.{rules, refl, arith, ◌≡◌, ◌≤◌, ◌<◌}
-use Rattle.adb_forward.specs.Forwards.{IsRow, IsForwardTable, IsSpecification}
+use Rattle.std.proofs.Common.{rules, refl, arith, ◌<◌}
+use Rattle.adb_forward.specs.Forwards.{IsRow}
 use Rattle.std.proofs.lemmas.List.Elements.{All-from_get_or}
 use Rattle.std.proofs.lemmas.Grind.{common_steps}
 use Rattle.adb_forward.proofs.Entries.{All-insert_entry}

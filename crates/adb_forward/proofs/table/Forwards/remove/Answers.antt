@@ -1,5 +1,5 @@
-use Rattle.std.proofs.Common.{arith, rules}
-use Rattle.adb_forward.specs.Forwards.{IsRow, IsForwardTable}
+use Rattle.std.proofs.Common.{arith}
+use Rattle.adb_forward.specs.Forwards.{IsRow}
 use Rattle.adb_forward.proofs.Entries.{All-remove_entry}
 use Rattle.adb_forward.proofs.table.Forwards.remove.Goals as goal
 

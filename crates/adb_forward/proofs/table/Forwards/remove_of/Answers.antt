@@ -1,5 +1,5 @@
 use Rattle.std.proofs.Common.{◌==◌, ◌≡◌, not, filter, arith, rules}
-use Rattle.adb_forward.specs.Forwards.{IsRow, IsForwardTable}
+use Rattle.adb_forward.specs.Forwards.{IsRow}
 use Rattle.std.proofs.lemmas.List.Elements.{All-filter}
 use Rattle.std.proofs.lemmas.Map.Made.{filter_same_pairs}
 use Rattle.adb_forward.proofs.table.Forwards.remove_of.Goals as goal
