@@ -3,18 +3,23 @@ use Rattle.std.specs.Prelude.{ℕ, Bool, ◌==◌, ◌&&◌, ◌-◌, nat_le, if
 use Rattle.std.specs.List.{suffix_len, before_first, after_first, slice_split, filter_map, last_or, list_any}
 use Rattle.adb_outside.specs.declared.identity.Identity.{Identity}
 
+-- the byte that ends a text in C, and may stand after an identity
 abbrev pub is_nul : ℕ → Bool
 is_nul byte = byte == 0
 
+-- `,`, between features
 abbrev pub is_comma : ℕ → Bool
 is_comma byte = byte == 44
 
+-- `:`, after the system and after the serial
 abbrev pub is_colon : ℕ → Bool
 is_colon byte = byte == 58
 
+-- `;`, between the parts of a banner
 abbrev pub is_semicolon : ℕ → Bool
 is_semicolon byte = byte == 59
 
+-- `=`, between a key and its value
 abbrev pub is_equals : ℕ → Bool
 is_equals byte = byte == 61
 

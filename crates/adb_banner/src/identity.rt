@@ -29,10 +29,11 @@ impl From<AllocError> for IdentityError {
     }
 }
 
-/// Reads the payload of a CNXN, `<system>:<serial>:<banner>`, where NULs may stand at the end. The
-/// banner has parts `<key>=<value>` between `;`. The keys `ro.product.name`, `ro.product.model`,
-/// `ro.product.device` and `features` are known, and of a repeated one the last counts; others, and
-/// parts without `=`, are passed over. `NotIdentity` comes exactly where fewer than two colons
+/// Reads the payload of a CNXN, `<system>:<serial>:<banner>`, where NULs may stand at the end. It is
+/// cut at its first two colons, so a banner may have more. The banner has parts `<key>=<value>`
+/// between `;`, each cut at its first `=`. The keys `ro.product.name`, `ro.product.model`,
+/// `ro.product.device` and `features` are known, and of a repeated one the last counts; other keys,
+/// and parts without `=`, are passed over. `NotIdentity` comes exactly where fewer than two colons
 /// stand, or more than 32,768 bytes without the NULs.
 #[tactic(auto, unfolding(crate::specs::Banner::identity_of))]
 pub fn read(alloc: Global, bytes: &[u8]) -> Result<Identity, IdentityError>
@@ -52,7 +53,8 @@ pub fn read(alloc: Global, bytes: &[u8]) -> Result<Identity, IdentityError>
     })
 }
 
-/// Whether the name is one of the comma-separated features (protocol.txt, `features`).
+/// Whether the name is one of the comma-separated parts of the features. Features that are empty have
+/// one part, which is empty.
 pub fn has_feature(identity: &Identity, name: &[u8]) -> bool
     ensures { result ≡ is_feature identity.now.features name.now }
 {

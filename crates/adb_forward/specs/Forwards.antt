@@ -52,6 +52,6 @@ pub record ChangesAt (port : ℕ) (row : Option ForwardRow) (old new : List (ℕ
 abbrev pub forward_line : ForwardRow → List ℕ
 forward_line row = row.serial ++ codes " tcp:" ++ decimal row.local ++ codes " " ++ row.remote ++ codes "\n"
 
--- the lines of all rows, in rising port
+-- the lines of a table's rows, which stand in rising port
 abbrev pub forward_list : List (ℕ × ForwardRow) → List ℕ
 forward_list table = flat_map forward_line (values_of table)

@@ -10,10 +10,13 @@ use std::alloc::{AllocError, AllocFailed};
 /// transport.
 #[derive(Drop)]
 pub struct ForwardRow {
+    /// The local TCP port, which is not 0.
     pub local: u16,
+    /// The id of the device's transport.
     pub transport: u32,
-    /// The serial of the device, as lists print it.
+    /// The serial of the device, at most 64 bytes.
     pub serial: Text,
+    /// The service that the device is asked for, 1 to 512 bytes of 0x21 to 0x7e.
     pub remote: Text,
 }
 
