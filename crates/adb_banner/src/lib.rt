@@ -1,0 +1,9 @@
+//! Who a device says that it is, read from the payload of its CNXN (protocol.txt, "The CONNECT
+//! message").
+#![tactic(auto)]
+
+mod identity;
+#[cfg(test)]
+mod tests;
+
+pub use identity::{IdentityError, has_feature, read};

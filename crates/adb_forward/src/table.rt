@@ -1,0 +1,176 @@
+//! The table of forwards.
+
+ghost use Rattle.adb_forward.specs.Forwards.{row_at, IsSpecification, IsForwardTable, ChangesAt, forward_line, forward_list};
+ghost use Rattle.std.specs.Option.{option_copied};
+ghost use Rattle.std.specs.Prelude.{◌≡◌, ◌≤◌, ◌++◌, ◌↔◌, ◌==◌, [], length, filter, not, is_some, IsTrue, IsSome, IfOk, OnOk, OnErr};
+
+use crate::row::{ForwardError, ForwardRow};
+use adb_outside::Text;
+use itoa::Buffer;
+use std::alloc::{AllocError, Global};
+use std::collections::BTreeMap;
+use std::marker::Model;
+
+/// How many forwards there may be.
+const MAX_FORWARDS: usize = 64;
+
+/// How many bytes a remote end may have.
+const MAX_REMOTE: usize = 512;
+
+/// The forwards, at most 64. Contracts see them as the list of the entries, each a local port and
+/// its row, in rising port.
+#[derive(Drop)]
+pub struct Forwards {
+    rows: BTreeMap<u16, ForwardRow>,
+}
+
+impl Model for Forwards {
+    ghost use Rattle.adb_forward.specs.declared.row.ForwardRow.{ForwardRow};
+    ghost use Rattle.std.specs.Prelude.{List, ℕ};
+
+    ghost Value = { List (ℕ × ForwardRow) };
+
+    ghost use Rattle.adb_forward.specs.Forwards.{IsForwardTable};
+
+    ghost view = { λ forwards. forwards.rows.entries };
+
+    ghost invariant = { λ forwards. IsForwardTable forwards.rows.entries };
+}
+
+impl Forwards {
+    /// The table without a row. It takes no memory.
+    pub fn new(alloc: Global) -> Forwards
+        ensures { result ≡ [] }
+    {
+        Forwards {
+            rows: BTreeMap::new(alloc),
+        }
+    }
+
+    /// Puts a row at the local port, in the place of the one that is there. The refusals are looked
+    /// for in the order of `ForwardError`: `BadSpec` comes exactly where the port is 0 or the remote
+    /// end is not 1 to 512 bytes of 0x21 to 0x7e, `Exists` exactly where the port has a row and
+    /// `norebind` asks to keep it, `Full` exactly where it has none and 64 rows are held. After an
+    /// error the table is as before.
+    pub fn put(
+        &mut self,
+        alloc: Global,
+        local: u16,
+        transport: u32,
+        serial: &[u8],
+        remote: &[u8],
+        norebind: bool,
+    ) -> Result<(), ForwardError>
+        requires { length serial.now ≤ 64 }
+        ensures ok { OnOk result (ChangesAt local (Some (record {
+          local = local;
+          transport = transport;
+          serial = serial.now;
+          remote = remote.now;
+        })) self.old self.new) }
+        ensures err { OnErr result (self.new ≡ self.old) }
+        ensures table { IsForwardTable self.new }
+
+        // In this order.
+        ensures bad_spec { (result ≡ Err ForwardError.BadSpec)
+            ↔ (¬ (IsSpecification local remote.now)) }
+        ensures exists { (result ≡ Err ForwardError.Exists)
+            ↔ (IsSpecification local remote.now × IsTrue norebind × IsSome (row_at local self.old)) }
+        ensures full { (result ≡ Err ForwardError.Full)
+            ↔ (IsSpecification local remote.now × (row_at local self.old ≡ None)
+            × (length self.old ≡ 64)) }
+    {
+        let is_there = self.rows.contains_key(&local);
+        if !is_specification(local, remote) {
+            return Err(ForwardError::BadSpec);
+        }
+        if is_there && norebind {
+            return Err(ForwardError::Exists);
+        }
+        if !is_there && self.is_full() {
+            return Err(ForwardError::Full);
+        }
+        let row = ForwardRow {
+            local,
+            transport,
+            serial: Text::from_slice(alloc, serial)?,
+            remote: Text::from_slice(alloc, remote)?,
+        };
+        self.rows.insert(local, row)?;
+        Ok(())
+    }
+
+    /// Removes the row of the local port, and says whether there was one.
+    pub fn remove(&mut self, local: u16) -> bool
+        ensures found { result ≡ is_some (row_at local self.old) }
+        ensures after { ChangesAt local None self.old self.new }
+        ensures table { IsForwardTable self.new }
+    {
+        self.rows.remove(&local).is_some()
+    }
+
+    /// Removes every row.
+    pub fn remove_all(&mut self)
+        ensures { self.new ≡ [] }
+    {
+        self.rows.clear();
+    }
+
+    /// Removes every row of that transport, and no other.
+    pub fn remove_of(&mut self, transport: u32)
+        ensures after { self.new ≡ filter (λ entry. not (entry.1.transport == transport)) self.old }
+        ensures table { IsForwardTable self.new }
+    {
+        self.rows.retain(|_, row| row.transport != transport);
+    }
+
+    /// Whether a port without a row can get none.
+    pub fn is_full(&self) -> bool
+        ensures full { IsTrue result ↔ (length self.now ≡ 64) }
+        ensures table { IsForwardTable self.now }
+    {
+        self.rows.len() == MAX_FORWARDS
+    }
+
+    /// The row of the local port, or `None` where there is none.
+    pub fn find(&self, local: u16) -> Option<&ForwardRow>
+        ensures row { option_copied result ≡ row_at local self.now }
+        ensures table { IsForwardTable self.now }
+    {
+        self.rows.get(&local)
+    }
+
+    /// A line `<serial> tcp:<local> <remote>` for each row, each with its newline, in rising port.
+    pub fn list(&self, alloc: Global) -> Result<Text, AllocError>
+        ensures text { IfOk result (λ text. text ≡ forward_list self.now) }
+        ensures table { IsForwardTable self.now }
+    {
+        let mut text = Text::new(alloc);
+        for row in self.rows.values() {
+            push_line(&mut text, row)?;
+        }
+        Ok(text)
+    }
+}
+
+/// Whether a local port and a remote end can be a forward.
+fn is_specification(local: u16, remote: &[u8]) -> bool
+    ensures { IsTrue result ↔ IsSpecification local remote.now }
+{
+    local != 0
+        && !remote.is_empty()
+        && remote.len() <= MAX_REMOTE
+        && remote.iter().all(|byte| byte.is_ascii_graphic())
+}
+
+/// Adds the line of a row at the end of a text.
+fn push_line(text: &mut Text, row: &ForwardRow) -> Result<(), AllocError>
+    ensures { OnOk result (text.new ≡ text.old ++ forward_line row.now) }
+{
+    text.push_slice(row.serial.as_slice())?;
+    text.push_slice(b" tcp:")?;
+    text.push_slice(Buffer::new().format(row.local).as_bytes())?;
+    text.push_slice(b" ")?;
+    text.push_slice(row.remote.as_slice())?;
+    text.push_slice(b"\n")
+}
