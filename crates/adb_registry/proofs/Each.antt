@@ -8,6 +8,7 @@ use Rattle.std.specs.declared.cmp.Ordering.TheVariants.{Less}
 use Rattle.std.specs.Map.{keys_of, values_of}
 use Rattle.adb_registry.specs.Table.{at, IsRising}
 
+-- a number is at itself, and at none below
 at_same : (q : ℕ) → is_eq (nat_cmp q q) ≡ true
 at_same q = grind (arith, nat_tests)
 

@@ -28,6 +28,7 @@ serial_le serial is = go (nat_lt 0 (length serial)) (nat_le (length serial) 64) 
     go true false e h = let clash : false ≡ true = h in cc
     go false short e h = let clash : false ≡ true = h in cc
 
+-- no part of a line is long
 length-padded : (text : List ℕ) → length text ≤ 64 → length (padded text) ≤ 64
 length-padded text short = omega (arith, length-append text (replicate (22 - length text) space), length-replicate (22 - length text) space)
 
@@ -67,10 +68,12 @@ length-long_line : (row : Row) → length row.serial ≤ 64 → row.id < 2 ^ 32 
 length-long_line row short id =
     simp length-append (omega (arith, length-replicate (22 - length row.serial) space, length-state row.state, length-make row.identity, length-decimal-le 10 row.id (omega arith) (omega arith) (omega arith)))
 
+-- a list is at most so many lines
 length-lines : (line : Row → List ℕ) (rows : List Row) → AllByRecursion (λ row. length (line row) ≤ 318) rows → length (flat_map line rows) ≤ 318 * length rows
 length-lines line [] all = omega arith
 length-lines line (row ∷ rows) all = omega (arith, length-append (line row) (flat_map line rows), length-lines line rows all.1, all.0)
 
+-- a list of lines that are short enough
 lines_fit : (line : Row → List ℕ) (devices : DeviceTable) → IsSound devices → ((row : Row) → length row.serial ≤ 64 → row.id < 2 ^ 32 → length (line row) ≤ 318)
     → length (flat_map line (values_of devices.rows)) < 2 ^ 16
 lines_fit line devices sound short =
@@ -85,6 +88,7 @@ lines_fit line devices sound short =
     fits : (e : ℕ × Row) → at e.0 devices.rows ≡ Some e.1 → length (line e.1) ≤ 318
     fits e is = let here = sound.each e.0 e.1 is in short e.1 (serial_le e.1.serial here.serial) (omega (arith, here.own, here.to, sound.drawn))
 
+-- both lists
 pub short_list_fits : (devices : DeviceTable) → IsSound devices → length (short_list (values_of devices.rows)) < 2 ^ 16
 short_list_fits devices sound = lines_fit short_line devices sound (λ row short id. length-short_line row short)
 

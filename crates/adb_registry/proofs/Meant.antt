@@ -25,6 +25,7 @@ each_kept {X} P p (x ∷ xs) all = go (p x) refl (each_kept P p xs all.1)
     go true is rest = ((all.0, is), rest)
     go false is rest = rest
 
+-- what holds of an id holds where the row is ready
 ready_is_meant : (P : ℕ → Type 0) (state : State) (id : ℕ) → P id → IfOk (ready_id state id) P
 ready_is_meant P Offline id h = tt
 ready_is_meant P Unauthorized id h = tt
@@ -35,12 +36,14 @@ ready_is_meant P Sideload id h = h
 ready_is_meant P Rescue id h = h
 ready_is_meant P Host id h = h
 
+-- what holds of each row's id holds of the only one's
 only_is_meant : (P : ℕ → Type 0) (by : Selector) (ready : Bool) (rows : List Row) → AllByRecursion (λ row. P row.id) rows → IfOk (only by ready rows) P
 only_is_meant P by ready [] all = tt
 only_is_meant P by true (row ∷ []) all = ready_is_meant P row.state row.id all.0
 only_is_meant P by false (row ∷ []) all = all.0
 only_is_meant P by ready (row ∷ other ∷ more) all = tt
 
+-- a weaker fact of each element
 weaken : {X : Type 0} (P Q : X → Type 0) → ((x : X) → P x → Q x) → (xs : List X) → AllByRecursion P xs → AllByRecursion Q xs
 weaken P Q step [] all = tt
 weaken P Q step (x ∷ xs) all = (step x all.0, weaken P Q step xs all.1)

@@ -1,5 +1,5 @@
 -- What every registry keeps, when a row is put, changed or removed.
-use Rattle.std.proofs.Common.{ℕ, ◌≡◌, ◌≢◌, ◌≤◌, ◌<◌, ◌+◌, ◌^◌, List, true, cond, refl, length, Option, Some, None, sym, ◌∙◌, ap, subst, arith, ◌⊎◌, inl, inr}
+use Rattle.std.proofs.Common.{ℕ, ◌≡◌, ◌≤◌, ◌<◌, ◌+◌, ◌^◌, List, true, cond, refl, length, Option, Some, None, sym, ◌∙◌, ap, subst, arith, ◌⊎◌, inl, inr}
 use Rattle.std.specs.Prelude.{option_map, is_some}
 use Rattle.std.proofs.lemmas.Bool.{cases_eq}
 use Rattle.adb_registry.specs.Table.{at, IsRising, Puts}
@@ -37,9 +37,9 @@ sound_changes n f old new sound drawn rises len puts good =
         subst (λ (d : ℕ). IsRowAt d n r) (sym drawn) (subst (λ (k : Row). IsRowAt old.drawn n k) same (good old_row (sound.each n old_row was)))
 
 -- A row more: fewer than 128 were there.
-pub one_more : (before : Option Row) (old new : ℕ) → new ≡ old + cond (is_some before) 0 1 → old ≤ 128 → old ≢ 128 → new ≤ 128
-one_more None old new grows few room = omega arith
-one_more (Some row) old new grows few room = omega arith
+pub one_more : (before : Option Row) (old new : ℕ) → new ≡ old + cond (is_some before) 0 1 → old < 128 → new ≤ 128
+one_more None old new grows room = omega arith
+one_more (Some row) old new grows room = omega arith
 
 -- A device that was just plugged in stands under its id.
 pub new_row_at : (id : ℕ) (kind : Kind) (serial : List ℕ) (row : Row) → 0 < id → is_serial serial ≡ true → Some (new_row id kind serial) ≡ Some row → IsRowAt id id row

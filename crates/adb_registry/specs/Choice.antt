@@ -10,10 +10,12 @@ use Rattle.adb_registry.specs.declared.row.Row.{Row}
 use Rattle.adb_registry.specs.declared.choice.Refusal.{Refusal}
 use Rattle.adb_registry.specs.declared.choice.Refusal.TheVariants.{NoAny, ManyAny, NoUsb, ManyUsb, NoLocal, ManyLocal, NoSerial, ManySerial, NoId, Offline, Unauthorized}
 
+-- plugged in by USB
 abbrev pub is_usb : Kind → Bool
 is_usb kind.Usb = true
 is_usb kind.Local = false
 
+-- plugged in over a local port
 abbrev pub is_local : Kind → Bool
 is_local kind.Usb = false
 is_local kind.Local = true
@@ -48,7 +50,7 @@ ready_id state.Offline id = Err Offline
 ready_id state.Unauthorized id = Err Unauthorized
 ready_id _ id = Ok id
 
--- among the rows that a selector means: the only one, and it is looked at whether it is ready only then
+-- the only one of the rows that a selector means, which alone may be asked to be ready
 abbrev pub only : Selector → Bool → List Row → Result ℕ Refusal
 only by ready [] = Err (none_meant by)
 only by ready (row ∷ []) = if ready then ready_id row.state row.id else Ok row.id

@@ -6,6 +6,7 @@ use Rattle.adb_outside.specs.Identity.{text_of_state}
 use Rattle.adb_outside.specs.declared.identity.Identity.{Identity}
 use Rattle.adb_registry.specs.declared.row.Row.{Row}
 
+-- the bytes that lines are made with
 abbrev pub tab : ℕ
 tab = 9
 
@@ -45,13 +46,16 @@ make_of (Some identity) =
     field (codes " product:") name_byte identity.product ++ field (codes " model:") model_byte identity.model
     ++ field (codes " device:") name_byte identity.device
 
+-- the serial, the state, the make and the id
 abbrev pub long_line : Row → List ℕ
 long_line row =
     padded row.serial ++ (space ∷ []) ++ text_of_state row.state ++ make_of row.identity
     ++ codes " transport_id:" ++ decimal row.id ++ (newline ∷ [])
 
+-- a line for each row
 abbrev pub short_list : List Row → List ℕ
 short_list rows = flat_map short_line rows
 
+-- a long line for each row
 abbrev pub long_list : List Row → List ℕ
 long_list rows = flat_map long_line rows

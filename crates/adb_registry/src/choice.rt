@@ -12,6 +12,7 @@ use std::collections::BTreeMap;
 /// ready.
 #[derive(Clone, Copy, Debug, PartialEq, Eq, Drop)]
 pub enum Refusal {
+    /// No device at all is plugged in.
     NoAny,
     ManyAny,
     NoUsb,
@@ -20,8 +21,11 @@ pub enum Refusal {
     ManyLocal,
     NoSerial,
     ManySerial,
+    /// No device has this transport id; several never do.
     NoId,
+    /// The one device has not said who it is.
     Offline,
+    /// The one device asked for what this server does not answer.
     Unauthorized,
 }
 

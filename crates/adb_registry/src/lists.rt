@@ -95,7 +95,8 @@ fn push_name(list: &mut Vec<u8>, label: &[u8], name: &[u8]) -> Result<(), AllocE
 
 /// Adds the name of a model behind its label, where it is not empty.
 fn push_model(list: &mut Vec<u8>, model: &[u8]) -> Result<(), AllocError>
-    ensures { OnOk result (list.new.items ≡ list.old.items ++ field (codes " model:") model_byte model.now) }
+    ensures { OnOk result (list.new.items
+        ≡ list.old.items ++ field (codes " model:") model_byte model.now) }
 {
     if model.is_empty() {
         return Ok(());
@@ -138,7 +139,8 @@ fn model_byte(byte: u8) -> u8
 
 /// Adds the transport id, which ends a line.
 fn push_id(list: &mut Vec<u8>, id: u32) -> Result<(), AllocError>
-    ensures { OnOk result (list.new.items ≡ list.old.items ++ codes " transport_id:" ++ decimal id ++ newline ∷ []) }
+    ensures { OnOk result (list.new.items
+        ≡ list.old.items ++ codes " transport_id:" ++ decimal id ++ newline ∷ []) }
 {
     list.extend_from_slice(b" transport_id:")?;
     list.extend_from_slice(Buffer::new().format(id).as_bytes())?;

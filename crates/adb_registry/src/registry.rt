@@ -132,7 +132,8 @@ impl Registry {
     pub fn unauthorized(&mut self, id: u32)
         requires { IsSome (at id self.old.rows) }
         ensures drawn { self.new.drawn ≡ self.old.drawn }
-        ensures row { Puts id (option_map unauthorized_row (at id self.old.rows)) self.old.rows self.new.rows }
+        ensures row { Puts id (option_map unauthorized_row (at id self.old.rows))
+            self.old.rows self.new.rows }
         ensures sound { IsSound self.new }
     {
         let row = self.rows.get_mut(&id).unwrap();
