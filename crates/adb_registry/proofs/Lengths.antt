@@ -1,32 +1,20 @@
 -- The lists of at most 128 devices are shorter than 65,536 bytes.
-use Rattle.std.proofs.Common.{ℕ, ◌≡◌, ◌≤◌, ◌<◌, ◌+◌, ◌*◌, ◌-◌, ◌^◌, List, [], ◌∷◌, ◌++◌, length, Option, Some, None, Bool, true, false, cond, eqb, arith, refl, take, map, codes, length-append, replicate, nat_lt, nat_le, ◌&&◌, subst, sym}
+use Rattle.std.proofs.Common.{ℕ, ◌≡◌, ◌≤◌, ◌<◌, ◌+◌, ◌*◌, ◌-◌, ◌^◌, List, [], ◌∷◌, ◌++◌, length, Option, Some, None, Bool, true, false, cond, eqb, arith, take, map, codes, length-append, replicate, subst, sym}
 use Rattle.std.specs.Prelude.{Result, Ok, Err, IfOk}
-use Rattle.std.proofs.lemmas.Bool.Decides.{nat_tests}
 use Rattle.std.proofs.lemmas.List.{length-map, length-take, length-replicate}
 use Rattle.std.proofs.lemmas.Fmt.{length-decimal-le}
 use Rattle.std.proofs.lemmas.Map.Entries.{length-values_of}
-use Rattle.std.specs.List.{AllByRecursion, flat_map, list_all}
-use Rattle.std.specs.Char.{is_ascii_graphic}
+use Rattle.std.specs.List.{AllByRecursion, flat_map}
 use Rattle.std.specs.Map.{values_of}
 use Rattle.adb_outside.specs.Identity.{text_of_state}
 use Rattle.adb_outside.specs.declared.identity.Identity.{Identity}
 use Rattle.adb_outside.specs.declared.identity.State.{State}
 use Rattle.adb_outside.specs.declared.identity.State.TheVariants.{Offline, Unauthorized, Device, Bootloader, Recovery, Sideload, Rescue, Host}
 use Rattle.adb_registry.specs.Table.{at}
-use Rattle.adb_registry.specs.Row.{is_serial}
 use Rattle.adb_registry.specs.Registry.{DeviceTable, IsSound}
 use Rattle.adb_registry.specs.Lists.{padded, field, name_byte, model_byte, make_of, short_line, long_line, short_list, long_list, space}
 use Rattle.adb_registry.specs.declared.row.Row.{Row}
 use Rattle.adb_registry.proofs.Each.{at_each, each_value}
-
--- a serial holds at most 64 bytes
-pub serial_le : (serial : List ℕ) → is_serial serial ≡ true → length serial ≤ 64
-serial_le serial is = go (nat_lt 0 (length serial)) (nat_le (length serial) 64) refl is
-  where
-    go : (some short : Bool) → nat_le (length serial) 64 ≡ short → (some && short && list_all is_ascii_graphic serial) ≡ true → length serial ≤ 64
-    go true true e h = grind (arith, nat_tests)
-    go true false e h = let clash : false ≡ true = h in cc
-    go false short e h = let clash : false ≡ true = h in cc
 
 -- no part of a line is long
 length-padded : (text : List ℕ) → length text ≤ 64 → length (padded text) ≤ 64
@@ -86,7 +74,7 @@ lines_fit line devices sound short =
     )
   where
     fits : (e : ℕ × Row) → at e.0 devices.rows ≡ Some e.1 → length (line e.1) ≤ 318
-    fits e is = let here = sound.each e.0 e.1 is in short e.1 (serial_le e.1.serial here.serial) (omega (arith, here.own, here.to, sound.drawn))
+    fits e is = let here = sound.each e.0 e.1 is in short e.1 here.short (omega (arith, here.own, here.to, sound.drawn))
 
 -- both lists
 pub short_list_fits : (devices : DeviceTable) → IsSound devices → length (short_list (values_of devices.rows)) < 2 ^ 16

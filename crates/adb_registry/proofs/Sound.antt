@@ -1,12 +1,24 @@
 -- What every registry keeps, when a row is put, changed or removed.
-use Rattle.std.proofs.Common.{ℕ, ◌≡◌, ◌≤◌, ◌<◌, ◌+◌, ◌^◌, List, true, cond, refl, length, Option, Some, None, sym, ◌∙◌, ap, subst, arith, ◌⊎◌, inl, inr}
+use Rattle.std.proofs.Common.{ℕ, ◌≡◌, ◌≤◌, ◌<◌, ◌+◌, ◌^◌, List, true, cond, refl, length, Option, Some, None, sym, ◌∙◌, ap, subst, arith, ◌⊎◌, inl, inr, ◌&&◌, Bool, false, nat_lt, nat_le}
 use Rattle.std.specs.Prelude.{option_map, is_some}
 use Rattle.std.proofs.lemmas.Bool.{cases_eq}
+use Rattle.std.proofs.lemmas.Bool.Decides.{nat_tests}
+use Rattle.std.specs.Char.{is_ascii_graphic}
+use Rattle.std.specs.List.{list_all}
 use Rattle.adb_registry.specs.Table.{at, IsRising, Puts}
 use Rattle.adb_outside.specs.declared.kinds.Kind.{Kind}
 use Rattle.adb_registry.specs.Row.{is_serial, new_row}
 use Rattle.adb_registry.specs.Registry.{DeviceTable, IsRowAt, IsSound}
 use Rattle.adb_registry.specs.declared.row.Row.{Row}
+
+-- a serial holds at most 64 bytes
+serial_le : (serial : List ℕ) → is_serial serial ≡ true → length serial ≤ 64
+serial_le serial is = go (nat_lt 0 (length serial)) (nat_le (length serial) 64) refl is
+  where
+    go : (some short : Bool) → nat_le (length serial) 64 ≡ short → (some && short && list_all is_ascii_graphic serial) ≡ true → length serial ≤ 64
+    go true true e h = grind (arith, nat_tests)
+    go true false e h = let clash : false ≡ true = h in cc
+    go false short e h = let clash : false ≡ true = h in cc
 
 -- one row is put or removed
 pub sound_puts : (n : ℕ) (row : Option Row) (old new : DeviceTable) → IsSound old → old.drawn ≤ new.drawn → new.drawn < 2 ^ 32 → IsRising new.rows → length new.rows ≤ 128
@@ -19,7 +31,7 @@ sound_puts n row old new sound drawn fits rises few puts good =
         subst (λ (k : ℕ). IsRowAt new.drawn k r) (sym same) (good r (sym puts.here ∙ (ap (λ (k : ℕ). at k new.rows) (sym same) ∙ is)))
     go q r is (inr apart) =
         let was = sound.each q r (sym (puts.others q apart) ∙ is) in
-        record { own = was.own; from = was.from; to = omega arith; serial = was.serial; features = was.features; version = was.version; maxdata = was.maxdata }
+        record { own = was.own; from = was.from; to = omega arith; serial = was.serial; short = was.short; features = was.features; version = was.version; maxdata = was.maxdata }
 
 -- one row is changed
 pub sound_changes : (n : ℕ) (f : Row → Row) (old new : DeviceTable) → IsSound old → new.drawn ≡ old.drawn → IsRising new.rows → length new.rows ≡ length old.rows
@@ -46,4 +58,4 @@ pub new_row_at : (id : ℕ) (kind : Kind) (serial : List ℕ) (row : Row) → 0 
 new_row_at id kind serial row from printed is =
     let same : new_row id kind serial ≡ row = cc in
     subst (λ (r : Row). IsRowAt id id r) same
-    (record { own = refl; from = from; to = omega arith; serial = printed; features = omega arith; version = omega arith; maxdata = omega arith })
+    (record { own = refl; from = from; to = omega arith; serial = printed; short = serial_le serial printed; features = omega arith; version = omega arith; maxdata = omega arith })

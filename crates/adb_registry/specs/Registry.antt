@@ -17,6 +17,7 @@ pub record IsRowAt (drawn id : ℕ) (row : Row) : Type 0 where
   pub from : 0 < id
   pub to : id ≤ drawn
   pub serial : is_serial row.serial ≡ true
+  pub short : length row.serial ≤ 64
   pub features : feature_bytes row.identity ≤ 32768
   pub version : row.version < 2 ^ 32
   pub maxdata : row.maxdata < 2 ^ 32

@@ -1,13 +1,13 @@
 //! The registry: the devices that are plugged in, by their transport ids.
 
-ghost use Rattle.std.specs.Prelude.{◌≡◌, ◌≤◌, ◌<◌, ◌+◌, ◌^◌, [], true, length, is_some, option_map, option_copied, IsSome, IsSomeAnd, MatchOption, IfOk, OnErr, IsOkUnless};
+ghost use Rattle.std.specs.Prelude.{◌≡◌, ◌≤◌, ◌<◌, ◌+◌, ◌^◌, [], true, length, is_some, option_map, option_copied, IsSome, IsSomeAnd, MatchOption, IfOk, IfSome, OnErr, IsOkUnless};
 ghost use Rattle.std.specs.Bool.{OnFalse};
 ghost use Rattle.std.specs.Char.{is_ascii_graphic};
 ghost use Rattle.std.specs.List.{list_all};
 ghost use Rattle.std.specs.Map.{values_of};
 ghost use Rattle.adb_registry.specs.Table.{at, Puts};
 ghost use Rattle.adb_registry.specs.Row.{is_serial, new_row, online_row, unauthorized_row};
-ghost use Rattle.adb_registry.specs.Registry.{IsSound, attach_refusal};
+ghost use Rattle.adb_registry.specs.Registry.{IsRowAt, IsSound, attach_refusal};
 ghost use Rattle.adb_registry.specs.Choice.{is_meant, choice};
 ghost use Rattle.adb_registry.specs.Lists.{short_list, long_list};
 ghost use Rattle.adb_registry.specs.declared.registry.AttachError.TheVariants.{OutOfMemory};
@@ -151,9 +151,11 @@ impl Registry {
         self.rows.remove(&id).is_some()
     }
 
-    /// The device of this id, where there is one.
+    /// The device of this id, where there is one: its serial holds at most 64 bytes, its features at
+    /// most 32,768.
     pub fn row(&self, id: u32) -> Option<&Row>
         ensures row { option_copied result ≡ at id self.now.rows }
+        ensures kept { IfSome result (λ row. IsRowAt self.now.drawn id row.now) }
         ensures sound { IsSound self.now }
     {
         self.rows.get(&id)
