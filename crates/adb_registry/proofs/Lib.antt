@@ -1,0 +1,4 @@
+pub mod Sound
+pub mod Each
+pub mod Meant
+pub mod Lengths

@@ -1,0 +1,5 @@
+pub mod Table
+pub mod Row
+pub mod Registry
+pub mod Choice
+pub mod Lists

@@ -1,0 +1,13 @@
+//! The devices that are plugged in: who they are, which one a selector means, and their lists.
+#![tactic(auto)]
+
+mod choice;
+mod lists;
+mod registry;
+mod row;
+#[cfg(test)]
+mod tests;
+
+pub use choice::Refusal;
+pub use registry::{AttachError, Registry};
+pub use row::Row;
