@@ -1,12 +1,12 @@
 -- What a reader waited for.
-use Rattle.std.proofs.Common.{ℕ, ◌+◌, ◌-◌, ◌≡◌, ◌≤◌, ◌<◌, ◌≢◌, List, [], ◌∷◌, ◌++◌, length, take, drop, Option, Some, None, Ok, Err, Bool, true, false, refl, sym, ◌∙◌, ap, subst, arith}
-use Rattle.adb_outside.specs.declared.framer.Front.TheVariants.{More, Bad, Whole}
+use Rattle.std.proofs.Common.{ℕ, ◌≡◌, List, Option, Err, false, refl}
+use Rattle.adb_outside.specs.declared.framer.Front.TheVariants.{Bad}
 use Rattle.adb_capture.specs.declared.error.CaptureError.{CaptureError}
 use Rattle.adb_capture.specs.declared.error.CaptureError.TheVariants.{BadMagic, BadRecord, Truncated, TooLong, ReadFault, OutOfMemory}
 use Rattle.adb_capture.specs.Records.{record_at}
 use Rattle.adb_capture.specs.Counting.{is_fault}
 use Rattle.adb_capture.specs.Awaiting.{AwaitsRecord}
-use Rattle.adb_capture.proofs.Fronts.{IsFormError, bad_is_form}
+use Rattle.adb_capture.proofs.Fronts.{bad_is_form}
 
 -- a refusal at the front is what was waited for
 pub bad_awaited : (offset : ℕ) (first : List ℕ) (before : Option (List ℕ)) (held : List ℕ) (error : CaptureError) → record_at offset held ≡ Bad error → AwaitsRecord offset first before held (Err error)

@@ -1,12 +1,12 @@
 -- What a reader gives of the bytes that it holds and those that are still to come.
-use Rattle.std.proofs.Common.{ℕ, ◌+◌, ◌-◌, ◌≡◌, ◌≤◌, ◌<◌, ◌≢◌, List, [], ◌∷◌, ◌++◌, length, take, drop, Option, Some, None, Result, Ok, Err, Bool, true, false, refl, sym, ◌∙◌, ap, subst, arith}
-use Rattle.std.specs.Prelude.{option_map, option_and_then}
+use Rattle.std.proofs.Common.{ℕ, ◌+◌, ◌≡◌, ◌≤◌, List, [], ◌++◌, length, take, drop, Option, Some, None, Result, Ok, Err, false, refl, sym, ◌∙◌, ap, subst, arith}
+use Rattle.std.specs.Prelude.{option_map}
 use Rattle.std.proofs.lemmas.List.{length-take-le, take-append-le, drop-append-le}
-use Rattle.adb_outside.specs.declared.framer.Front.TheVariants.{More, Bad, Whole}
+use Rattle.adb_outside.specs.declared.framer.Front.TheVariants.{Whole}
 use Rattle.adb_capture.specs.declared.entry.Entry.{Entry}
 use Rattle.adb_capture.specs.declared.error.CaptureError.{CaptureError}
 use Rattle.adb_capture.specs.declared.error.CaptureError.TheVariants.{BadMagic, BadRecord, Truncated, TooLong, ReadFault, OutOfMemory}
-use Rattle.adb_capture.specs.Records.{magic, record_at, entry_in, offset_after}
+use Rattle.adb_capture.specs.Records.{magic, record_at, entry_in}
 use Rattle.adb_capture.specs.Reading.{Reading, past_magic, to_give, ahead, GivesRecord, GivesNext, IsRefused}
 use Rattle.adb_capture.specs.Awaiting.{HoldsAll, AwaitsRecord}
 use Rattle.adb_capture.proofs.Fronts.{whole_tells, whole_stays, whole_alone, bad_stays}

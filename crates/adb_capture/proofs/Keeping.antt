@@ -1,11 +1,9 @@
 -- Bytes that are held and bytes that are still to come.
-use Rattle.std.proofs.Common.{ℕ, ◌+◌, ◌-◌, ◌≡◌, ◌≤◌, ◌<◌, List, [], ◌∷◌, ◌++◌, length, take, drop, Option, Some, None, Bool, true, false, suc, refl, sym, ◌∙◌, ap, subst, arith}
+use Rattle.std.proofs.Common.{ℕ, ◌+◌, ◌≡◌, ◌≤◌, List, [], ◌∷◌, ◌++◌, length, take, drop, Option, Some, Bool, suc, sym, ◌∙◌, ap, subst, arith}
 use Rattle.std.specs.Prelude.{option_map}
-use Rattle.std.proofs.lemmas.List.{append_assoc, append-nil, take-append-drop, length-append, length-take, drop-append-le}
+use Rattle.std.proofs.lemmas.List.{append_assoc, take-append-drop, drop-append-le}
 use Rattle.adb_outside.specs.Source.{Takes}
-use Rattle.adb_outside.specs.Outside.{Rises}
-use Rattle.adb_capture.specs.Counting.{KeepsBytes, Counted}
-use Rattle.adb_capture.specs.Awaiting.{HoldsAll}
+use Rattle.adb_capture.specs.Counting.{Counted}
 
 -- the first bytes that were to come are held now
 pub keeps_more : (old held chunk coming : List ℕ) (after : Option (List ℕ)) (n : ℕ) → held ≡ old ++ take n chunk → Takes coming after chunk n → option_map (λ rest. held ++ rest) after ≡ Some (old ++ coming)

@@ -1,12 +1,12 @@
 -- What is spelled is read back, and what is read is spelled so.
-use Rattle.std.proofs.Common.{ℕ, ◌+◌, ◌-◌, ◌*◌, ◌/◌, ◌%◌, ◌^◌, ◌≡◌, ◌≤◌, ◌<◌, Bool, true, false, not, if◌then◌else◌, List, [], ◌∷◌, ◌++◌, length, take, drop, Option, Some, None, refl, sym, ◌∙◌, ap, subst, arith, zero, suc, inl, inr}
-use Rattle.std.specs.Prelude.{nat_lt, nat_eq, slice_index, All, codes}
+use Rattle.std.proofs.Common.{ℕ, ◌+◌, ◌-◌, ◌/◌, ◌%◌, ◌^◌, ◌≡◌, ◌≤◌, ◌<◌, Bool, true, false, if◌then◌else◌, List, [], ◌∷◌, ◌++◌, length, take, drop, Option, Some, None, refl, sym, ◌∙◌, ap, subst, arith, suc}
+use Rattle.std.specs.Prelude.{nat_eq, All}
 use Rattle.std.proofs.lemmas.Bool.{eqb-true, eqb-false, ne_eqb}
-use Rattle.std.proofs.lemmas.List.{length-append, length-drop, length-take-le, take_at, take_all, append-nil, take-append-drop}
-use Rattle.std.proofs.lemmas.List.Elements.{All-drop, All-take, All-tail, All-head}
+use Rattle.std.proofs.lemmas.List.{length-append, length-take-le, take_at, take_all, append-nil}
+use Rattle.std.proofs.lemmas.List.Elements.{All-take}
 use Rattle.byteorder.specs.Endian.{little_number, little_bytes}
 use Rattle.byteorder.specs.Numbers.{little_number-reads_back}
-use Rattle.adb_outside.specs.declared.framer.Front.TheVariants.{More, Bad, Whole}
+use Rattle.adb_outside.specs.declared.framer.Front.TheVariants.{Whole}
 use Rattle.adb_outside.specs.declared.kinds.Kind.{Kind}
 use Rattle.adb_outside.specs.declared.kinds.Kind.TheVariants.{Usb, Local}
 use Rattle.adb_outside.specs.declared.kinds.Cause.{Cause}
@@ -14,7 +14,7 @@ use Rattle.adb_outside.specs.declared.kinds.Cause.TheVariants.{Eof, Fault, Starv
 use Rattle.adb_capture.specs.declared.entry.Entry.{Entry}
 use Rattle.adb_capture.specs.declared.entry.Entry.TheVariants.{Join, Enter, Read, End, Bound, Attach, Recv, Detach, Put, Send}
 use Rattle.adb_capture.specs.Records.{record_at, is_kind, kind_in, owner_in, size_in, data_in, entry_at, entry_in, or_join, kind_of, owner_of, data_of, record_of, cause_byte, plug_letter, HasRecord, HasPort, cause_at, port_at, plug_at, join_at, enter_at, bound_at, end_at, detach_at, attach_by, attach_at}
-use Rattle.adb_capture.proofs.Fronts.{entry_of, IsWhole, whole_tells, whole_told, whole_alone}
+use Rattle.adb_capture.proofs.Fronts.{entry_of, whole_tells, whole_told, whole_alone}
 
 kind_known : (e : Entry) → is_kind (kind_of e) ≡ true
 kind_known (Join client) = refl

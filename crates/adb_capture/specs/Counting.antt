@@ -1,5 +1,5 @@
--- What several calls of a source or a sink together do.
-use Rattle.std.specs.Prelude.{ℕ, ◌≡◌, ◌≤◌, ◌++◌, Bool, true, false, List, Option, Some, None, option_map, Result, Ok, Err}
+-- What several calls of a source together do.
+use Rattle.std.specs.Prelude.{ℕ, ◌≡◌, ◌≤◌, ◌++◌, Bool, true, false, List, Option, Some, option_map, Result, Ok, Err}
 use Rattle.adb_outside.specs.Outside.{Rises}
 use Rattle.adb_outside.specs.declared.source.Got.{Got}
 use Rattle.adb_outside.specs.declared.source.Got.TheVariants.{Bytes, End, Failed}

@@ -1,5 +1,5 @@
 -- What a record says beside its number and the bytes of its text.
-use Rattle.std.specs.Prelude.{ℕ, List, drop, Option, Some, None}
+use Rattle.std.specs.Prelude.{ℕ, List, drop}
 use Rattle.adb_capture.specs.declared.entry.Entry.{Entry}
 use Rattle.adb_capture.specs.declared.entry.Entry.TheVariants.{Join, Enter, Read, End, Bound, Attach, Recv, Detach, Put, Send}
 use Rattle.adb_capture.specs.declared.form.Form.{Form}

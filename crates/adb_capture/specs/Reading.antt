@@ -1,7 +1,6 @@
 -- What a reader of captures has before it, and what it gives of it.
-use Rattle.std.specs.Prelude.{ℕ, ◌+◌, ◌≡◌, ◌≢◌, Bool, true, false, if◌then◌else◌, List, [], ◌++◌, take, drop, Option, Some, None, Result, Ok, Err, bytes_eq}
+use Rattle.std.specs.Prelude.{ℕ, ◌≡◌, ◌≢◌, Bool, true, false, if◌then◌else◌, List, [], ◌++◌, take, drop, Option, Some, None, Result, Ok, Err, bytes_eq}
 use Rattle.adb_outside.specs.declared.framer.Front.TheVariants.{More, Bad, Whole}
-use Rattle.adb_outside.specs.Framing.{Cut, cut}
 use Rattle.adb_capture.specs.declared.entry.Entry.{Entry}
 use Rattle.adb_capture.specs.declared.error.CaptureError.{CaptureError}
 use Rattle.adb_capture.specs.declared.error.CaptureError.TheVariants.{BadMagic, BadRecord, Truncated, TooLong, ReadFault, OutOfMemory}

@@ -1,5 +1,5 @@
 -- The records of captures: one spelling for each entry.
-use Rattle.std.specs.Prelude.{ℕ, ◌+◌, ◌^◌, ◌≡◌, ◌≢◌, ◌≤◌, ◌<◌, Bool, true, false, if◌then◌else◌, ◌||◌, not, nat_lt, nat_le, nat_eq, is_some, List, [], ◌∷◌, ◌++◌, length, take, drop, All, flat_map, slice_index, Option, Some, None, bytes_eq, codes}
+use Rattle.std.specs.Prelude.{ℕ, ◌+◌, ◌^◌, ◌≤◌, ◌<◌, Bool, if◌then◌else◌, ◌||◌, not, nat_lt, nat_eq, List, [], ◌∷◌, ◌++◌, length, take, drop, All, flat_map, slice_index, Option, Some, None, codes}
 use Rattle.byteorder.specs.Endian.{little_bytes, little_number}
 use Rattle.adb_outside.specs.declared.framer.Front.{Front}
 use Rattle.adb_outside.specs.declared.framer.Front.TheVariants.{More, Bad, Whole}
@@ -9,10 +9,9 @@ use Rattle.adb_outside.specs.declared.kinds.Cause.{Cause}
 use Rattle.adb_outside.specs.declared.kinds.Cause.TheVariants.{Eof, Fault, Starved, NoThread}
 use Rattle.adb_capture.specs.declared.entry.Entry.{Entry}
 use Rattle.adb_capture.specs.declared.entry.Entry.TheVariants.{Join, Enter, Read, End, Bound, Attach, Recv, Detach, Put, Send}
-use Rattle.adb_capture.specs.declared.error.Why.{Why}
 use Rattle.adb_capture.specs.declared.error.Why.TheVariants.{UnknownKind, BadForm, TooLarge}
 use Rattle.adb_capture.specs.declared.error.CaptureError.{CaptureError}
-use Rattle.adb_capture.specs.declared.error.CaptureError.TheVariants.{BadMagic, BadRecord, Truncated, TooLong, ReadFault, OutOfMemory}
+use Rattle.adb_capture.specs.declared.error.CaptureError.TheVariants.{BadRecord, TooLong}
 
 -- the eight bytes that a capture begins with: ADBHUB1 and a newline
 abbrev pub magic : List ℕ

@@ -1,7 +1,7 @@
-use Rattle.std.proofs.Common.{rules, ◌≡◌, ◌≤◌, List, ℕ, ◌-◌, ◌<◌, length, take, drop, Some, sym, ◌∙◌, ap, subst, refl, arith}
+use Rattle.std.proofs.Common.{rules, ◌-◌, ◌<◌, length, take, drop, Some, sym, ◌∙◌, ap, subst, arith}
 use Rattle.std.proofs.lemmas.List.Elements.{All-from_get_or}
 use Rattle.adb_capture.specs.Forms.{entry_by}
-use Rattle.adb_capture.specs.Records.{entry_at, kind_in, owner_in, HasRecord}
+use Rattle.adb_capture.specs.Records.{owner_in, HasRecord}
 use Rattle.adb_capture.proofs.Spellings.{whole_header, whole_read, entry_read, read_spelled}
 use Rattle.adb_capture.proofs.record.read.Goals as goal
 

@@ -1,4 +1,4 @@
-use Rattle.std.proofs.Common.{rules, ◌≡◌, ◌++◌, take, length, List, ℕ, sym, ◌∙◌, ap, refl, arith}
+use Rattle.std.proofs.Common.{rules, ◌≡◌, ◌++◌, take, ◌∙◌, ap}
 use Rattle.std.proofs.lemmas.List.{take_at}
 use Rattle.adb_capture.proofs.Keeping.{keeps_more, grows}
 use Rattle.adb_capture.proofs.held.Held.fill.Goals as goal

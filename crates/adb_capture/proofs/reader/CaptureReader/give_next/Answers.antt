@@ -1,4 +1,4 @@
-use Rattle.std.proofs.Common.{rules, ◌≡◌, ◌++◌, ℕ, List, Some, Err, sym, ◌∙◌, ap, subst, arith}
+use Rattle.std.proofs.Common.{◌++◌, Some, Err, ◌∙◌, ap, subst}
 use Rattle.std.proofs.lemmas.Result.{err_from_is_err_and}
 use Rattle.adb_capture.specs.Reading.{IsRefused}
 use Rattle.adb_capture.proofs.Giving.{gives_record, gives_end, gives_refusal, refusal_given, awaited_end, awaited_record, record_given}

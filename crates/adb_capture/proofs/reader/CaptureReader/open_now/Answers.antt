@@ -1,4 +1,4 @@
-use Rattle.std.proofs.Common.{rules, sym, ◌∙◌, ap, arith}
+use Rattle.std.proofs.Common.{rules}
 use Rattle.adb_capture.proofs.Giving.{magic_taken}
 use Rattle.adb_capture.proofs.reader.CaptureReader.open_now.Goals as goal
 
