@@ -4,3 +4,5 @@ pub mod Drains
 pub mod Entries
 pub mod Outcomes
 pub mod Records
+pub mod Captures
+pub mod Runs

@@ -4,3 +4,8 @@ pub mod Machine
 pub mod Stop
 pub mod Replay
 pub mod Keeping
+pub mod Status
+pub mod Words
+pub mod Notes
+pub mod Replayed
+pub mod Run

@@ -2,10 +2,14 @@
 #![tactic(auto)]
 
 mod client;
+mod command;
 mod machine;
+mod note;
 mod replay;
-mod stop;
 
-pub use client::Client;
-pub use machine::Machine;
-pub use stop::Stop;
+mod status;
+mod stop;
+mod words;
+
+pub use command::run;
+pub use status::Status;

@@ -1,0 +1,47 @@
+-- From how a replay stopped to the status of the run.
+use Rattle.std.proofs.Common.{ℕ, ◌≡◌, List, [], ◌++◌, Option, Some, None, Result, Ok, Err, refl, sym, ◌∙◌, ap, subst}
+use Rattle.std.proofs.lemmas.List.{append-nil}
+use Rattle.adb_history.specs.Accepted.{Accepted}
+use Rattle.adb_history.specs.declared.refusal.Refusal.{Refusal}
+use Rattle.adb_top.specs.Notes.{EndsIn, NotesLine}
+use Rattle.adb_top.specs.Replay.{EndsAs}
+use Rattle.adb_top.specs.Replayed.{HasFront, WritesText}
+use Rattle.adb_top.specs.Run.{WritesBy, NotesBy, NamesRefusal}
+use Rattle.adb_top.specs.declared.stop.Stop.{Stop}
+use Rattle.adb_top.specs.declared.stop.Stop.TheVariants as stop
+use Rattle.adb_top.specs.declared.status.Status.{Status}
+use Rattle.adb_top.specs.declared.status.Status.TheVariants.{Done, Usage, ReadFault, WriteFault, BadCapture, OutOfMemory}
+
+-- all of a text is a front of it
+all_out : (text had : List ℕ) (written : Option (List ℕ)) → written ≡ Some (had ++ text) → HasFront had text written
+all_out text had written is = record { growth = text; is = is; front = ([], append-nil text) }
+
+front_out : (why : Stop) (text had : List ℕ) (written : Option (List ℕ)) → WritesText (Err why) text had written → HasFront had text written
+front_out stop.ReadFault text had written w = w
+front_out stop.WriteFault text had written w = w
+front_out stop.OutOfMemory text had written w = w
+front_out (stop.Refused refusal) text had written w = all_out text had written w
+
+pub writes_by : (why : Stop) (status : Status) (text had : List ℕ) (written : Option (List ℕ)) → EndsIn why status → WritesText (Err why) text had written → WritesBy status text had written
+writes_by why Done text had written e w = absurd e
+writes_by why Usage text had written e w = absurd e
+writes_by why ReadFault text had written e w = front_out why text had written w
+writes_by why WriteFault text had written e w = front_out why text had written w
+writes_by why BadCapture text had written e w = subst (λ (k : Stop). WritesText (Err k) text had written) e.1 w
+writes_by why OutOfMemory text had written e w = front_out why text had written w
+
+pub notes_by : (why : Stop) (status : Status) (had : List ℕ) (note : Option (List ℕ)) → EndsIn why status → NotesLine why status had note → NotesBy status had note
+notes_by why Done had note e n = absurd e
+notes_by why Usage had note e n = absurd e
+notes_by why ReadFault had note e n = n
+notes_by why WriteFault had note e n = tt
+notes_by why BadCapture had note e n = (e.0, n e.0 e.1)
+notes_by why OutOfMemory had note e n = n
+
+pub names_refusal : (why : Stop) (status : Status) (a : Accepted) (left : Option (List ℕ)) (had : List ℕ) (note : Option (List ℕ)) → EndsIn why status → EndsAs (Err why) a left → NotesLine why status had note → NamesRefusal status a had note
+names_refusal why Done a left had note e ends n = tt
+names_refusal why Usage a left had note e ends n = tt
+names_refusal why ReadFault a left had note e ends n = tt
+names_refusal why WriteFault a left had note e ends n = tt
+names_refusal why BadCapture a left had note e ends n = record { why = e.0; refused = subst (λ (k : Stop). EndsAs (Err k) a left) e.1 ends; line = n e.0 e.1 }
+names_refusal why OutOfMemory a left had note e ends n = tt

@@ -1,0 +1,58 @@
+-- What a replay makes of a whole capture.
+use Rattle.std.specs.Prelude.{ℕ, ◌≡◌, ◌≢◌, ◌⊎◌, List, [], ◌∷◌, ◌++◌, Option, Some, None, Result, Ok, Err}
+use Rattle.adb_capture.specs.Records.{magic, record_of}
+use Rattle.adb_capture.specs.declared.entry.Entry.{Entry}
+use Rattle.adb_history.specs.Rows.{IsPrefixOf}
+use Rattle.adb_history.specs.Machine.{History, IsLegal}
+use Rattle.adb_history.specs.Answered.{IsAnswered}
+use Rattle.adb_history.specs.Accepted.{accepted, replayed}
+use Rattle.adb_top.specs.Replay.{written_of, EndsAs}
+use Rattle.adb_top.specs.declared.stop.Stop.{Stop}
+use Rattle.adb_top.specs.declared.stop.Stop.TheVariants.{ReadFault, WriteFault, OutOfMemory, Refused}
+
+-- a front of some bytes went out
+pub record HasFront (had whole : List ℕ) (written : Option (List ℕ)) : Type 0 where
+  pub growth : List ℕ
+  pub is : written ≡ Some (had ++ growth)
+  pub front : IsPrefixOf growth whole
+
+-- What went out of a text, by how its writing ended: all of it, or a front.
+abbrev pub WritesText : Result (Unit {0}) Stop → List ℕ → List ℕ → Option (List ℕ) → Type 0
+WritesText (Ok done) text had written = written ≡ Some (had ++ text)
+WritesText (Err (Refused why)) text had written = written ≡ Some (had ++ text)
+WritesText (Err ReadFault) text had written = HasFront had text written
+WritesText (Err WriteFault) text had written = HasFront had text written
+WritesText (Err OutOfMemory) text had written = HasFront had text written
+
+-- less than a record: nothing, or a front of the record of an entry that may come next
+pub record IsPartOfRecord (h : History) (part : List ℕ) : Type 0 where
+  pub entry : Entry
+  pub legal : IsLegal (entry ∷ h)
+  pub rest : List ℕ
+  pub more : rest ≢ []
+  pub is : part ++ rest ≡ record_of entry
+
+-- The bytes of a capture spell a history: it is legal, so its clients are answered.
+pub record SpellsHistory (bytes : List ℕ) : Type 0 where
+  pub history : History
+  pub legal : IsLegal history
+  pub answered : IsAnswered history
+  pub part : List ℕ
+  pub is : bytes ≡ magic ++ (written_of history ++ part)
+  pub rest : (part ≡ []) ⊎ IsPartOfRecord history part
+
+-- What went out is a front of the magic, or the whole records in it spell a legal history.
+abbrev pub IsSpelled : List ℕ → Type 0
+IsSpelled bytes = IsPrefixOf bytes magic ⊎ SpellsHistory bytes
+
+-- what went out is spelled so
+pub record GrowsSpelled (had : List ℕ) (written : Option (List ℕ)) : Type 0 where
+  pub growth : List ℕ
+  pub is : written ≡ Some (had ++ growth)
+  pub spelled : IsSpelled growth
+
+-- A capture was replayed.
+pub record ReplaysCapture (left_before left_after written_before written_after : Option (List ℕ)) (result : Result (Unit {0}) Stop) : Type 0 where
+  pub writes : (bytes had : List ℕ) → left_before ≡ Some bytes → written_before ≡ Some had → WritesText result (replayed bytes) had written_after
+  pub ends : (bytes : List ℕ) → left_before ≡ Some bytes → EndsAs result (accepted bytes) left_after
+  pub spells : (had : List ℕ) → written_before ≡ Some had → GrowsSpelled had written_after

@@ -1,0 +1,12 @@
+-- The exit codes of statuses.
+use Rattle.std.specs.Prelude.{ℕ}
+use Rattle.adb_top.specs.declared.status.Status.{Status}
+use Rattle.adb_top.specs.declared.status.Status.TheVariants.{Done, Usage, ReadFault, WriteFault, BadCapture, OutOfMemory}
+
+abbrev pub code_of : Status → ℕ
+code_of Done = 0
+code_of Usage = 2
+code_of ReadFault = 3
+code_of WriteFault = 4
+code_of BadCapture = 5
+code_of OutOfMemory = 6

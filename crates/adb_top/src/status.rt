@@ -1,0 +1,37 @@
+//! How a command ends.
+
+ghost use Rattle.std.specs.Prelude.{◌≡◌};
+ghost use Rattle.adb_top.specs.Status.{code_of};
+
+/// How a command ends.
+#[derive(Clone, Copy, Debug, PartialEq, Eq, Drop)]
+pub enum Status {
+    /// All was done, and the source was read to its end.
+    Done,
+    /// The words are no command. Nothing was read.
+    Usage,
+    /// The source failed.
+    ReadFault,
+    /// The sink or the note failed.
+    WriteFault,
+    /// The capture is refused.
+    BadCapture,
+    /// Memory ran out.
+    OutOfMemory,
+}
+
+impl Status {
+    /// The exit code of a program that ends so.
+    pub fn code(&self) -> u8
+        ensures { result ≡ code_of self.now }
+    {
+        match self {
+            Status::Done => 0,
+            Status::Usage => 2,
+            Status::ReadFault => 3,
+            Status::WriteFault => 4,
+            Status::BadCapture => 5,
+            Status::OutOfMemory => 6,
+        }
+    }
+}
