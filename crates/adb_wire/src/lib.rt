@@ -8,6 +8,8 @@ mod format;
 mod headers;
 pub mod laws;
 mod packets;
+#[cfg(test)]
+mod tests;
 
 pub use command::Command;
 pub use deframer::{Deframer, WireError};
