@@ -49,10 +49,13 @@ impl Deframer {
         }
     }
 
-    /// Takes the next piece of the stream.
+    /// Takes the next piece of the stream, of any length.
     ///
-    /// `Broken` and `BadSum` come exactly where all the bytes fed so far have that fault first. The
-    /// packets before it are still given, and from then on every call answers it and takes nothing.
+    /// `Broken` and `BadSum` come exactly where all the bytes fed so far have that fault first: that of
+    /// a header once its 24 bytes are there, that of a check word once the payload is whole. A check
+    /// word is looked at in a CNXN, which carries 0 or its sum, and in other packets while the last
+    /// CNXN had a version below 0x01000001. The packets before a fault are still given, and from then
+    /// on every call answers it and takes nothing.
     pub fn feed(&mut self, piece: &[u8]) -> Result<(), WireError>
         ensures answer { result ≢ Err WireError.OutOfMemory → result ≡ answer_of self.new.fault }
         ensures stands { result ≢ Err WireError.OutOfMemory → (fed : List ℕ) (given : List Packet) → StandsFor fed given self.old → StandsFor (fed ++ piece.now) given self.new }

@@ -22,8 +22,9 @@ pub struct Packet {
     pub payload: Text,
 }
 
-/// Adds a packet at the end of `out`. Its check word is the sum of the payload's bytes where `sums`,
-/// and else 0. After want of memory `out` is as before.
+/// Adds a packet at the end of `out`; its payload holds at most 1,048,576 bytes. Its check word is the
+/// sum of the payload's bytes where `sums`, and else 0: a CNXN goes out with its sum, and another
+/// packet does on a link of version 0x01000000. After want of memory `out` is as before.
 pub fn frame(alloc: Global, packet: &Packet, sums: bool, out: &mut Text) -> Result<(), AllocError>
     requires { length packet.now.payload ≤ 1048576 }
     ensures ok { OnOk result (out.new ≡ out.old ++ spelling packet.now (check_of sums packet.now)) }
