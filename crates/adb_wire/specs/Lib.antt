@@ -1,0 +1,7 @@
+pub mod Command
+pub mod Header
+pub mod Packet
+pub mod Format
+pub mod FormatLaws
+pub mod Cutting
+pub mod Deframing

@@ -1,0 +1,108 @@
+//! The header of a packet, and the sum of its payload.
+
+ghost use Rattle.std.specs.Prelude.{◌≡◌, ◌≤◌, ◌+◌, ◌*◌, Ok, length, IfOk};
+ghost use Rattle.adb_wire.specs.Header.{IsHead, byte_sum_of, header_bytes, head_at, word_at};
+
+use crate::command::Command;
+use byteorder::{ByteOrder, LittleEndian};
+
+/// How many bytes a header has: six words of four bytes.
+pub(crate) const HEADER_LEN: usize = 24;
+
+/// The most bytes that a payload has.
+pub(crate) const MAX_PAYLOAD: u32 = 1_048_576;
+
+/// The words of a header (protocol.txt, "MESSAGES"), but for its magic, which is the command's word
+/// with all bits turned.
+#[derive(Clone, Copy, Debug, PartialEq, Eq, Drop)]
+pub struct Head {
+    pub command: Command,
+    pub arg0: u32,
+    pub arg1: u32,
+    /// How many bytes of payload follow.
+    pub length: u32,
+    /// The check word: the sum of the payload's bytes, or 0 on links that do without.
+    pub check: u32,
+}
+
+/// What is wrong with a header. They are looked for in this order.
+#[derive(Clone, Copy, Debug, PartialEq, Eq, Drop)]
+pub enum HeadFault {
+    /// The magic is not the command's word with all bits turned.
+    BadMagic { command: u32, magic: u32 },
+    /// The command's word is none of the seven.
+    UnknownCommand(u32),
+    /// The length is above 1,048,576.
+    TooLong(u32),
+}
+
+/// The sum of the bytes, modulo 2^32. It takes no memory.
+pub fn byte_sum(payload: &[u8]) -> u32
+    ensures { result ≡ byte_sum_of payload.now }
+{
+    let mut sum = 0u32;
+    for byte in payload {
+        sum = sum.wrapping_add(u32::from(*byte));
+    }
+    sum
+}
+
+/// Writes a header: its five words and the magic, in little-endian order. It takes no memory.
+pub fn header(head: &Head, out: &mut [u8; 24])
+    ensures { out.new ≡ header_bytes head.now }
+{
+    let command = head.command.word();
+    let words = [
+        command,
+        head.arg0,
+        head.arg1,
+        head.length,
+        head.check,
+        command ^ u32::MAX,
+    ];
+    LittleEndian::write_u32_into(&words, out);
+}
+
+/// Reads a header. The fault is the first in the order of `HeadFault`; `TooLong` comes exactly where
+/// the length is above 1,048,576. It takes no memory.
+pub fn read_header(bytes: &[u8; 24]) -> Result<Head, HeadFault>
+    ensures exact { result ≡ head_at bytes.now }
+    ensures spelled { IfOk result (λ head. bytes.now ≡ header_bytes head) }
+    ensures read_back { (head : Head) → IsHead head → bytes.now ≡ header_bytes head → result ≡ Ok head }
+{
+    read_head(bytes)
+}
+
+/// The header that the first 24 bytes are.
+pub(crate) fn read_head(bytes: &[u8]) -> Result<Head, HeadFault>
+    requires { 24 ≤ length bytes.now }
+    ensures { result ≡ head_at bytes.now }
+{
+    let (command, magic) = (word(bytes, 0), word(bytes, 5));
+    if magic != command ^ u32::MAX {
+        return Err(HeadFault::BadMagic { command, magic });
+    }
+    let Some(known) = Command::from_word(command) else {
+        return Err(HeadFault::UnknownCommand(command));
+    };
+    let length = word(bytes, 3);
+    if length > MAX_PAYLOAD {
+        return Err(HeadFault::TooLong(length));
+    }
+    Ok(Head {
+        command: known,
+        arg0: word(bytes, 1),
+        arg1: word(bytes, 2),
+        length,
+        check: word(bytes, 4),
+    })
+}
+
+/// The word at a place of a header, of the six counted from 0.
+#[tactic(auto, unfolding(crate::specs::Header::word_at))]
+fn word(bytes: &[u8], place: usize) -> u32
+    requires { 4 * place + 4 ≤ length bytes.now }
+    ensures { result ≡ word_at place bytes.now }
+{
+    LittleEndian::read_u32(&bytes[4 * place..])
+}

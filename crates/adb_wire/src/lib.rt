@@ -1,0 +1,18 @@
+//! The packets of the Android Debug Bridge (protocol.txt): their spelling, and the cutting of a
+//! stream that comes in any pieces.
+#![tactic(auto)]
+
+mod command;
+mod deframer;
+mod format;
+mod headers;
+pub mod laws;
+mod packets;
+#[cfg(test)]
+mod tests;
+
+pub use command::Command;
+pub use deframer::{Deframer, WireError};
+pub use format::{PacketFault, PacketFormat};
+pub use headers::{Head, HeadFault, byte_sum, header, read_header};
+pub use packets::{Packet, frame};
