@@ -1,8 +1,8 @@
 -- No fault of a stream is want of memory.
-use Rattle.std.proofs.Common.{ℕ, ◌+◌, ◌-◌, ◌≡◌, nat_lt, nat_eq, cond, Bool, true, false, zero, suc, List, ◌++◌, length, take, drop, Option, Some, None, Result, Ok, Err, is_some, refl, sym, ◌∙◌, ap, arith}
+use Rattle.std.proofs.Common.{ℕ, ◌+◌, ◌-◌, ◌≡◌, nat_lt, nat_eq, cond, Bool, true, false, zero, suc, List, ◌++◌, length, take, drop, Option, Some, None, Result, Ok, Err, is_some, refl, sym, ◌∙◌, ap}
 use Rattle.adb_outside.specs.declared.framer.Front.{Front}
 use Rattle.adb_outside.specs.declared.framer.Front.TheVariants.{More, Bad, Whole}
-use Rattle.adb_outside.specs.Framing.{Cut, joined, cut, cut_by, cut_at, Faults}
+use Rattle.adb_outside.specs.Framing.{Cut, cut, cut_by, cut_at, Faults}
 use Rattle.adb_sync.specs.declared.error.SyncError.{SyncError}
 use Rattle.adb_sync.specs.declared.error.SyncError.TheVariants.{OutOfMemory, UnknownId, PathTooLong, BadSend, ChunkTooLong, BadPlace}
 use Rattle.adb_sync.specs.declared.ask_id.AskId.{AskId}

@@ -1,6 +1,6 @@
 -- What bytes begin with stays so, whatever follows: messages are a format.
-use Rattle.std.specs.Prelude.{ℕ, ◌+◌, ◌-◌, ◌≡◌, ◌≤◌, ◌<◌, nat_lt, cond, Bool, true, false, List, [], ◌++◌, length, take, drop, Option, Some, None, Result, Ok, Err, refl}
-use Rattle.std.proofs.Common.{◌∙◌, ap, sym, subst, arith}
+use Rattle.std.specs.Prelude.{ℕ, ◌+◌, ◌-◌, ◌≡◌, ◌≤◌, nat_lt, cond, Bool, true, false, List, ◌++◌, length, take, drop, Option, Some, None, Result, Ok, Err, refl}
+use Rattle.std.proofs.Common.{◌∙◌, ap, sym, arith}
 use Rattle.std.proofs.lemmas.List.{length-append, length-drop, length-take, take-append-le, drop-append-le, take-append-drop, take-take, drop-take}
 use Rattle.std.proofs.lemmas.Bool.Decides.{nat_tests}
 use Rattle.byteorder.specs.Endian.{little_number}
@@ -17,7 +17,7 @@ use Rattle.adb_sync.specs.declared.answer_id.AnswerId.TheVariants as ids
 use Rattle.adb_sync.specs.Answers.{answer_front, answer_of_bytes, past_answer, answer_kind, answer_head, answer_number_fault, answer_body, answer_body_fault}
 
 -- enough is there
-there : (len need : ℕ) (told : Front SyncError) → need ≤ len → cond (nat_lt len need) More told ≡ told
+pub there : (len need : ℕ) (told : Front SyncError) → need ≤ len → cond (nat_lt len need) More told ≡ told
 there len need told h = grind (arith, nat_tests)
 
 -- where something is told, enough is there
@@ -25,7 +25,7 @@ pub told_there : (len need : ℕ) (told f : Front SyncError) → (f ≡ More →
 told_there len need told f apart e = grind (arith, nat_tests)
 
 -- a number in some bytes is there whatever follows them
-number_there : (i : ℕ) (x y : List ℕ) → i + 4 ≤ length x → number_at i (x ++ y) ≡ number_at i x
+pub number_there : (i : ℕ) (x y : List ℕ) → i + 4 ≤ length x → number_at i (x ++ y) ≡ number_at i x
 number_there i x y h =
     ap (little_number 4) (drop-append-le i x y (omega (arith, h)))
     ∙ little_from-append 4 (drop i x) y (omega (arith, h, length-drop i x))
@@ -162,7 +162,7 @@ done_head : (list : Bool) → 4 ≤ cond list 16 4
 done_head true = omega arith
 done_head false = omega arith
 
-answer_heads : (s : AnswerFormat) (id : AnswerId) → 4 ≤ answer_head s id
+pub answer_heads : (s : AnswerFormat) (id : AnswerId) → 4 ≤ answer_head s id
 answer_heads s ids.Stat = omega arith
 answer_heads s ids.Dent = omega arith
 answer_heads s ids.Data = omega arith

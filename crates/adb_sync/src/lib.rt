@@ -13,6 +13,7 @@ mod ask_id;
 mod ask_reader;
 mod comma;
 mod error;
+mod laws;
 #[cfg(test)]
 mod tests;
 mod writers;
@@ -22,4 +23,7 @@ pub use answer_reader::AnswerReader;
 pub use ask::SyncAsk;
 pub use ask_reader::AskReader;
 pub use error::SyncError;
+pub use laws::{
+    answer_faults_stay, ask_faults_stay, written_answers_are_read, written_asks_are_read,
+};
 pub use writers::{write_answer, write_ask};
