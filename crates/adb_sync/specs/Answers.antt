@@ -12,15 +12,6 @@ use Rattle.adb_sync.specs.declared.error.SyncError.{SyncError}
 use Rattle.adb_sync.specs.declared.error.SyncError.TheVariants.{UnknownId, ChunkTooLong}
 use Rattle.adb_sync.specs.Messages.{message, number_at, front}
 
--- the four bytes of an id
-abbrev pub answer_id_bytes : AnswerId → List ℕ
-answer_id_bytes ids.Stat = codes "STAT"
-answer_id_bytes ids.Dent = codes "DENT"
-answer_id_bytes ids.Data = codes "DATA"
-answer_id_bytes ids.Done = codes "DONE"
-answer_id_bytes ids.Okay = codes "OKAY"
-answer_id_bytes ids.Fail = codes "FAIL"
-
 -- the id that four bytes are, where they are one
 abbrev pub answer_id_of : List ℕ → Option AnswerId
 answer_id_of bytes =
@@ -80,7 +71,7 @@ abbrev pub end_of : Bool → SyncAnswer
 end_of true = answers.ListEnd
 end_of false = answers.ChunkEnd
 
--- the answer of an id and the bytes behind it
+-- The answer of an id and the bytes behind it. Whole bytes always have an id.
 abbrev pub answer_by : Bool → Option AnswerId → List ℕ → SyncAnswer
 answer_by list (Some ids.Stat) rest = answers.Stat (number_at 0 rest) (number_at 4 rest) (number_at 8 rest)
 answer_by list (Some ids.Dent) rest = answers.Dent (number_at 0 rest) (number_at 4 rest) (number_at 8 rest) (drop 16 rest)

@@ -1,9 +1,7 @@
 -- What the asking side writes (SYNC.TXT): STAT, LIST and RECV with a path; SEND with a path and a mode, then any number of DATA, then DONE; QUIT.
-use Rattle.std.specs.Prelude.{ℕ, suc, ◌+◌, ◌-◌, ◌^◌, ◌<◌, ◌≤◌, ◌≡◌, ◌≢◌, ◌==◌, min, nat_lt, if◌then◌else◌, Bool, true, false, not, is_some, List as Items, [], ◌∷◌, ◌++◌, length, take, drop, Option, Some, None, Result, Ok, Err, All, codes, bytes_eq}
-use Rattle.std.specs.List.{flat_map}
+use Rattle.std.specs.Prelude.{ℕ, suc, ◌+◌, ◌-◌, ◌^◌, ◌<◌, ◌≤◌, ◌≡◌, ◌==◌, min, nat_lt, if◌then◌else◌, Bool, true, false, not, is_some, List as Items, [], ◌∷◌, ◌++◌, length, take, drop, Option, Some, None, Result, Ok, Err, codes, bytes_eq}
 use Rattle.adb_outside.specs.declared.framer.Front.{Front}
-use Rattle.adb_outside.specs.declared.framer.Front.TheVariants.{Whole}
-use Rattle.adb_outside.specs.Framing.{Cut, joined, cut, fault_of, Stands}
+use Rattle.adb_outside.specs.Framing.{Cut, joined, cut, Stands}
 use Rattle.adb_sync.specs.declared.ask.SyncAsk.{SyncAsk}
 use Rattle.adb_sync.specs.declared.ask.SyncAsk.TheVariants as asks
 use Rattle.adb_sync.specs.declared.ask_id.AskId.{AskId}
@@ -12,16 +10,6 @@ use Rattle.adb_sync.specs.declared.ask_format.AskFormat.{AskFormat}
 use Rattle.adb_sync.specs.declared.error.SyncError.{SyncError}
 use Rattle.adb_sync.specs.declared.error.SyncError.TheVariants.{UnknownId, PathTooLong, BadSend, ChunkTooLong, BadPlace}
 use Rattle.adb_sync.specs.Messages.{message, number_at, front}
-
--- the four bytes of an id
-abbrev pub ask_id_bytes : AskId → Items ℕ
-ask_id_bytes ids.Stat = codes "STAT"
-ask_id_bytes ids.List = codes "LIST"
-ask_id_bytes ids.Recv = codes "RECV"
-ask_id_bytes ids.Send = codes "SEND"
-ask_id_bytes ids.Data = codes "DATA"
-ask_id_bytes ids.Done = codes "DONE"
-ask_id_bytes ids.Quit = codes "QUIT"
 
 -- the id that four bytes are, where they are one
 abbrev pub ask_id_of : Items ℕ → Option AskId
@@ -110,7 +98,7 @@ abbrev pub send_cut : Items ℕ → Option ℕ → SyncAsk
 send_cut text (Some comma) = asks.Send (take comma text) (drop (comma + 1) text)
 send_cut text None = asks.Send text []
 
--- the request of an id, a number and a body
+-- The request of an id, a number and a body. Whole bytes always have an id.
 abbrev pub ask_by : Option AskId → ℕ → Items ℕ → SyncAsk
 ask_by (Some ids.Stat) number body = asks.Stat body
 ask_by (Some ids.List) number body = asks.List body
@@ -204,11 +192,3 @@ ask_bytes (asks.Send path mode) = message (codes "SEND") (length (path ++ 44 ∷
 ask_bytes (asks.Chunk bytes) = message (codes "DATA") (length bytes) bytes
 ask_bytes (asks.Finish mtime) = message (codes "DONE") mtime []
 ask_bytes asks.Quit = message (codes "QUIT") 0 []
-
--- A cut is right: the bytes are the bytes of its requests, each in its place, and then its rest, which begins at the place that it reads from, begins with no whole request, and where it has a fault, that is the fault.
-pub record IsAskCut (from : AskFormat) (bytes : Items ℕ) (c : Cut AskFormat SyncAsk SyncError) : Type 0 where
-  pub whole : bytes ≡ flat_map ask_bytes c.given ++ c.rest
-  pub each : All IsAsk c.given
-  pub place : c.reading.offset ≡ min (from.offset + (length bytes - length c.rest)) (2 ^ 64 - 1)
-  pub fault : c.fault ≡ fault_of (ask_front c.reading c.rest)
-  pub none_left : (n : ℕ) → ask_front c.reading c.rest ≢ Whole n
