@@ -1,5 +1,5 @@
 -- A request that was written is read, whatever follows it.
-use Rattle.std.proofs.Common.{ℕ, suc, ◌+◌, ◌≡◌, ◌≤◌, nat_lt, cond, true, List as Items, [], ◌∷◌, ◌++◌, length, drop, Option, Some, None, Ok, Err, is_some, refl, ◌∙◌, ap, arith, add-one, length-append}
+use Rattle.std.proofs.Common.{ℕ, suc, ◌+◌, ◌≡◌, ◌≤◌, nat_lt, cond, true, List, [], ◌∷◌, ◌++◌, length, drop, Option, Some, None, Ok, Err, is_some, refl, ◌∙◌, ap, arith, add-one, length-append}
 use Rattle.std.specs.Prelude.{codes}
 use Rattle.std.proofs.lemmas.List.{take_at}
 use Rattle.std.proofs.lemmas.Bool.Decides.{nat_tests}
@@ -17,10 +17,10 @@ use Rattle.adb_sync.specs.Messages.{message}
 use Rattle.adb_sync.specs.Asks.{ask_kind, ask_head, ask_number_fault, ask_body, ask_body_fault, ask_of, past_ask, asks_from, ask_bytes, id_of_ask, is_in_place, IsAsk, HasAskWords, last_comma, comma_behind, send_cut}
 use Rattle.adb_sync.proofs.Spelled.{IsMessage, read_again}
 
-abbrev IsRequest : AskFormat → AskId → Items ℕ → ℕ → Items ℕ → Type 0
+abbrev IsRequest : AskFormat → AskId → List ℕ → ℕ → List ℕ → Type 0
 IsRequest from id letters n b = IsMessage ask_kind ask_head ask_number_fault ask_body ask_body_fault from id letters (little_bytes 4 n) b n
 
-again : (from : AskFormat) (id : AskId) (letters : Items ℕ) (n : ℕ) (b more : Items ℕ) (ask : SyncAsk) → IsRequest from id letters n b → ask_of from (message letters n b) ≡ ask
+again : (from : AskFormat) (id : AskId) (letters : List ℕ) (n : ℕ) (b more : List ℕ) (ask : SyncAsk) → IsRequest from id letters n b → ask_of from (message letters n b) ≡ ask
     → asks_from from (message letters n b ++ more) ≡ joined (ask ∷ []) (asks_from (past_ask from (message letters n b)) more)
 again from id letters n b more ask m is =
     read_again ask_kind ask_head ask_number_fault ask_body ask_body_fault (λ s kind. omega arith) ask_of past_ask from id letters (little_bytes 4 n) b more n ask m is
@@ -29,15 +29,15 @@ no_fault : (most n : ℕ) (fault : SyncError) → n ≤ most → cond (nat_lt mo
 no_fault most n fault h = grind (arith, nat_tests)
 
 -- the last comma of a SEND's text is the one behind its path
-comma_at : (path mode : Items ℕ) → last_comma mode ≡ None → last_comma (path ++ 44 ∷ mode) ≡ Some (length path)
+comma_at : (path mode : List ℕ) → last_comma mode ≡ None → last_comma (path ++ 44 ∷ mode) ≡ Some (length path)
 comma_at [] mode none = ap (comma_behind 44) none
 comma_at (p ∷ path) mode none = ap (comma_behind p) (comma_at path mode none)
 
-drop_path : (path mode : Items ℕ) → drop (suc (length path)) (path ++ 44 ∷ mode) ≡ mode
+drop_path : (path mode : List ℕ) → drop (suc (length path)) (path ++ 44 ∷ mode) ≡ mode
 drop_path [] mode = refl
 drop_path (p ∷ path) mode = drop_path path mode
 
-cut_again : (path mode : Items ℕ) → last_comma mode ≡ None → send_cut (path ++ 44 ∷ mode) (last_comma (path ++ 44 ∷ mode)) ≡ asks.Send path mode
+cut_again : (path mode : List ℕ) → last_comma mode ≡ None → send_cut (path ++ 44 ∷ mode) (last_comma (path ++ 44 ∷ mode)) ≡ asks.Send path mode
 cut_again path mode none =
     let text = path ++ 44 ∷ mode in
     ap (send_cut text) (comma_at path mode none)
@@ -47,7 +47,7 @@ cut_again path mode none =
 has_comma : (offset : ℕ) (o : Option ℕ) (k : ℕ) → o ≡ Some k → cond (is_some o) None (Some (BadSend offset)) ≡ None
 has_comma offset o k e = ap (λ u. cond (is_some u) None (Some (BadSend offset))) e
 
-pub ask_again : (from : AskFormat) (ask : SyncAsk) (more : Items ℕ) → IsAsk ask → HasAskWords ask → is_in_place from.sending (id_of_ask ask) ≡ true
+pub ask_again : (from : AskFormat) (ask : SyncAsk) (more : List ℕ) → IsAsk ask → HasAskWords ask → is_in_place from.sending (id_of_ask ask) ≡ true
     → asks_from from (ask_bytes ask ++ more) ≡ joined (ask ∷ []) (asks_from (past_ask from (ask_bytes ask)) more)
 ask_again from (asks.Stat path) more short words place = again from ids.Stat (codes "STAT") (length path) path more (asks.Stat path) (record {
   id_len = refl;

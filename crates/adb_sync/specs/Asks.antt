@@ -1,5 +1,5 @@
 -- What the asking side writes (SYNC.TXT): STAT, LIST and RECV with a path; SEND with a path and a mode, then any number of DATA, then DONE; QUIT.
-use Rattle.std.specs.Prelude.{ℕ, suc, ◌+◌, ◌-◌, ◌^◌, ◌<◌, ◌≤◌, ◌≡◌, ◌==◌, min, nat_lt, if◌then◌else◌, Bool, true, false, not, is_some, List as Items, [], ◌∷◌, ◌++◌, length, take, drop, Option, Some, None, Result, Ok, Err, codes, bytes_eq}
+use Rattle.std.specs.Prelude.{ℕ, suc, ◌+◌, ◌-◌, ◌^◌, ◌<◌, ◌≤◌, ◌≡◌, ◌==◌, min, nat_lt, if◌then◌else◌, Bool, true, false, not, is_some, List, [], ◌∷◌, ◌++◌, length, take, drop, Option, Some, None, Result, Ok, Err, codes, bytes_eq}
 use Rattle.adb_outside.specs.declared.framer.Front.{Front}
 use Rattle.adb_outside.specs.Framing.{Cut, joined, cut, Stands}
 use Rattle.adb_sync.specs.declared.ask.SyncAsk.{SyncAsk}
@@ -12,7 +12,7 @@ use Rattle.adb_sync.specs.declared.error.SyncError.TheVariants.{UnknownId, PathT
 use Rattle.adb_sync.specs.Messages.{message, number_at, front}
 
 -- the id that four bytes are, where they are one
-abbrev pub ask_id_of : Items ℕ → Option AskId
+abbrev pub ask_id_of : List ℕ → Option AskId
 ask_id_of bytes =
     if bytes_eq bytes (codes "STAT") then Some ids.Stat
     else (if bytes_eq bytes (codes "LIST") then Some ids.List
@@ -38,7 +38,7 @@ abbrev pub ask_id_in_place : AskFormat → Option AskId → Result AskId SyncErr
 ask_id_in_place format None = Err (if format.sending then BadPlace format.offset else UnknownId format.offset)
 ask_id_in_place format (Some id) = if is_in_place format.sending id then Ok id else Err (BadPlace format.offset)
 
-abbrev pub ask_kind : AskFormat → Items ℕ → Result AskId SyncError
+abbrev pub ask_kind : AskFormat → List ℕ → Result AskId SyncError
 ask_kind format bytes = ask_id_in_place format (ask_id_of bytes)
 
 -- a request's head is its number alone
@@ -75,12 +75,12 @@ comma_behind byte (Some i) = Some (suc i)
 comma_behind byte None = if byte == 44 then Some 0 else None
 
 -- the place of the last comma
-abbrev pub last_comma : Items ℕ → Option ℕ
+abbrev pub last_comma : List ℕ → Option ℕ
 last_comma [] = None
 last_comma (byte ∷ bytes) = comma_behind byte (last_comma bytes)
 
 -- a SEND has a comma
-abbrev pub ask_body_fault : AskFormat → AskId → Items ℕ → Option SyncError
+abbrev pub ask_body_fault : AskFormat → AskId → List ℕ → Option SyncError
 ask_body_fault format ids.Send body = if is_some (last_comma body) then None else Some (BadSend format.offset)
 ask_body_fault format ids.Stat body = None
 ask_body_fault format ids.List body = None
@@ -90,16 +90,16 @@ ask_body_fault format ids.Done body = None
 ask_body_fault format ids.Quit body = None
 
 -- what bytes begin with
-abbrev pub ask_front : AskFormat → Items ℕ → Front SyncError
+abbrev pub ask_front : AskFormat → List ℕ → Front SyncError
 ask_front = front ask_kind ask_head ask_number_fault ask_body ask_body_fault
 
 -- a SEND's text is its path, a comma, and its mode, which has none
-abbrev pub send_cut : Items ℕ → Option ℕ → SyncAsk
+abbrev pub send_cut : List ℕ → Option ℕ → SyncAsk
 send_cut text (Some comma) = asks.Send (take comma text) (drop (comma + 1) text)
 send_cut text None = asks.Send text []
 
 -- The request of an id, a number and a body. Whole bytes always have an id.
-abbrev pub ask_by : Option AskId → ℕ → Items ℕ → SyncAsk
+abbrev pub ask_by : Option AskId → ℕ → List ℕ → SyncAsk
 ask_by (Some ids.Stat) number body = asks.Stat body
 ask_by (Some ids.List) number body = asks.List body
 ask_by (Some ids.Recv) number body = asks.Recv body
@@ -110,7 +110,7 @@ ask_by (Some ids.Quit) number body = asks.Quit
 ask_by None number body = asks.Quit
 
 -- the request of its whole bytes
-abbrev pub ask_of : AskFormat → Items ℕ → SyncAsk
+abbrev pub ask_of : AskFormat → List ℕ → SyncAsk
 ask_of format bytes = ask_by (ask_id_of (take 4 bytes)) (number_at 4 bytes) (drop 8 bytes)
 
 -- whether what follows a request is inside a SEND
@@ -125,11 +125,11 @@ is_sending_after (Some ids.Quit) = false
 is_sending_after None = false
 
 -- The next request begins where the one before it ended. The offset stays at the last number of 64 bits.
-abbrev pub past_ask : AskFormat → Items ℕ → AskFormat
+abbrev pub past_ask : AskFormat → List ℕ → AskFormat
 past_ask format bytes = record { offset = min (format.offset + length bytes) (2 ^ 64 - 1); sending = is_sending_after (ask_id_of (take 4 bytes)) }
 
 -- the requests of bytes that begin at an offset, the bytes past the last one, and the fault there
-abbrev pub asks_from : AskFormat → Items ℕ → Cut AskFormat SyncAsk SyncError
+abbrev pub asks_from : AskFormat → List ℕ → Cut AskFormat SyncAsk SyncError
 asks_from = cut ask_front ask_of past_ask
 
 -- where a stream begins
@@ -137,19 +137,19 @@ abbrev pub asks_start : AskFormat
 asks_start = record { offset = 0; sending = false }
 
 -- all the requests that bytes hold before their first fault, each DATA and DONE as one of its own
-abbrev pub asks_in : Items ℕ → Items SyncAsk
+abbrev pub asks_in : List ℕ → List SyncAsk
 asks_in bytes = (asks_from asks_start bytes).given
 
 -- the first fault of bytes
-abbrev pub ask_fault_in : Items ℕ → Option SyncError
+abbrev pub ask_fault_in : List ℕ → Option SyncError
 ask_fault_in bytes = (asks_from asks_start bytes).fault
 
 -- Of all the bytes that a reader was fed and the requests that it gave, it holds the requests that are left, the fault, and where there is none the bytes past the last request.
-abbrev pub StandsForAsks : Items ℕ → Items SyncAsk → Cut AskFormat SyncAsk SyncError → Type 0
+abbrev pub StandsForAsks : List ℕ → List SyncAsk → Cut AskFormat SyncAsk SyncError → Type 0
 StandsForAsks = Stands ask_front ask_of past_ask asks_start
 
 -- what a reader holds after a further piece: where it has a fault, all stays
-abbrev pub asks_after : Cut AskFormat SyncAsk SyncError → Items ℕ → Option SyncError → Cut AskFormat SyncAsk SyncError
+abbrev pub asks_after : Cut AskFormat SyncAsk SyncError → List ℕ → Option SyncError → Cut AskFormat SyncAsk SyncError
 asks_after held piece None = joined held.given (asks_from held.reading (held.rest ++ piece))
 asks_after held piece (Some fault) = held
 
@@ -184,7 +184,7 @@ HasAskWords (asks.Chunk bytes) = Unit {0}
 HasAskWords asks.Quit = Unit {0}
 
 -- the bytes of a request
-abbrev pub ask_bytes : SyncAsk → Items ℕ
+abbrev pub ask_bytes : SyncAsk → List ℕ
 ask_bytes (asks.Stat path) = message (codes "STAT") (length path) path
 ask_bytes (asks.List path) = message (codes "LIST") (length path) path
 ask_bytes (asks.Recv path) = message (codes "RECV") (length path) path
