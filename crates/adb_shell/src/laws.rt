@@ -1,0 +1,27 @@
+//! What holds of all bytes and packets, whoever reads or writes them.
+
+ghost use Rattle.std.specs.Prelude.{◌≡◌, ◌<◌, ◌^◌, ◌++◌, ◌∷◌, [], List, ℕ, Some};
+ghost use Rattle.adb_outside.specs.Framing.{joined};
+ghost use Rattle.adb_shell.specs.declared.packet.ShellPacket.{ShellPacket};
+ghost use Rattle.adb_shell.specs.declared.packet.ShellError.{ShellError};
+ghost use Rattle.adb_shell.specs.declared.format.ShellFormat.{ShellFormat};
+ghost use Rattle.adb_shell.specs.Packets.{IsPacket, spelling, AreBytes, IsCut, cut_from, past, packets_in, fault_in};
+
+/// A packet that was written is the packet that is read, whatever follows it.
+pub fn written_is_read()
+    ensures { (from : ShellFormat) (packet : ShellPacket) (more : List ℕ) → IsPacket packet
+        → cut_from from (spelling packet ++ more) ≡ joined (packet ∷ []) (cut_from (past from (spelling packet)) more) }
+{}
+
+/// The packets that are read from bytes are spelled there, one after the other, up to the first
+/// place where no whole packet stands; where a bad header stands there, it is the fault.
+pub fn cut_is_right()
+    ensures { (from : ShellFormat) (bytes : List ℕ) → from.offset < 2 ^ 64 → AreBytes bytes
+        → IsCut from bytes (cut_from from bytes) }
+{}
+
+/// What follows the first fault changes neither the fault nor the packets before it.
+pub fn faults_stay()
+    ensures { (bytes more : List ℕ) (fault : ShellError) → fault_in bytes ≡ Some fault
+        → (fault_in (bytes ++ more) ≡ Some fault) × (packets_in (bytes ++ more) ≡ packets_in bytes) }
+{}

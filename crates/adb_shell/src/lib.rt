@@ -1,0 +1,16 @@
+//! The packets of the shell protocol, version 2, that a device's `shell,v2:` service and its client
+//! send each other.
+#![tactic(auto)]
+
+mod format;
+mod laws;
+mod packet;
+mod reader;
+#[cfg(test)]
+mod tests;
+mod writer;
+
+pub use laws::{cut_is_right, faults_stay, written_is_read};
+pub use packet::{ShellError, ShellPacket};
+pub use reader::ShellReader;
+pub use writer::write_packet;

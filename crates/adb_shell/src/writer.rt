@@ -1,0 +1,31 @@
+//! Spelling packets.
+
+ghost use Rattle.std.specs.Prelude.{◌≡◌, ◌≤◌, ◌++◌, ◌∷◌, length, OnOk, OnErr, IfOk};
+ghost use Rattle.byteorder.specs.Endian.{little_bytes};
+ghost use Rattle.adb_shell.specs.Packets.{spelling};
+
+use crate::format::HEADER_BYTES;
+use adb_outside::Text;
+use byteorder::{ByteOrder, LittleEndian};
+use std::alloc::{AllocError, Global};
+
+/// Adds the bytes of a packet at the end. After want of memory `out` is as before.
+pub fn write_packet(alloc: Global, id: u8, bytes: &[u8], out: &mut Text) -> Result<(), AllocError>
+    requires known { id ≤ 5 }
+    requires short { length bytes.now ≤ 1048576 }
+    ensures ok { OnOk result (out.new ≡ out.old ++ spelling (record { id = id; bytes = bytes.now })) }
+    ensures err { OnErr result (out.new ≡ out.old) }
+{
+    let mut packet = Text::from_slice(alloc, &header(id, bytes.len() as u32))?;
+    packet.push_slice(bytes)?;
+    out.push_slice(packet.as_slice())
+}
+
+/// The id and the length of a packet.
+fn header(id: u8, length: u32) -> [u8; HEADER_BYTES]
+    ensures { result ≡ id ∷ little_bytes 4 length }
+{
+    let mut header = [id; HEADER_BYTES];
+    LittleEndian::write_u32(&mut header[1..], length);
+    header
+}

@@ -1,0 +1,5 @@
+pub mod Commas
+pub mod Faults
+pub mod Spelled
+pub mod AskSpelled
+pub mod AnswerSpelled

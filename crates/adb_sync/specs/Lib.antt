@@ -1,0 +1,4 @@
+pub mod Messages
+pub mod Asks
+pub mod Answers
+pub mod Framed

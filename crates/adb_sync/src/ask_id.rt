@@ -1,0 +1,61 @@
+//! The ids of requests.
+
+ghost use Rattle.std.specs.Prelude.{◌≡◌, length};
+ghost use Rattle.adb_sync.specs.Asks.{ask_id_of, ask_body, is_in_place, is_sending_after};
+
+/// The four letters that a request begins with.
+#[derive(Clone, Copy, Debug, PartialEq, Eq)]
+pub enum AskId {
+    Stat,
+    List,
+    Recv,
+    Send,
+    Data,
+    Done,
+    Quit,
+}
+
+impl AskId {
+    /// The id that four bytes are, where they are one.
+    pub fn of(bytes: &[u8]) -> Option<AskId>
+        ensures { result ≡ ask_id_of bytes.now }
+    {
+        if bytes == b"STAT".as_slice() {
+            Some(AskId::Stat)
+        } else if bytes == b"LIST".as_slice() {
+            Some(AskId::List)
+        } else if bytes == b"RECV".as_slice() {
+            Some(AskId::Recv)
+        } else if bytes == b"SEND".as_slice() {
+            Some(AskId::Send)
+        } else if bytes == b"DATA".as_slice() {
+            Some(AskId::Data)
+        } else if bytes == b"DONE".as_slice() {
+            Some(AskId::Done)
+        } else if bytes == b"QUIT".as_slice() {
+            Some(AskId::Quit)
+        } else {
+            None
+        }
+    }
+
+    /// Whether it may stand inside a SEND, or outside one.
+    pub fn is_in_place(self, sending: bool) -> bool
+        ensures { result ≡ is_in_place sending self }
+    {
+        match self {
+            AskId::Data | AskId::Done => sending,
+            AskId::Stat | AskId::List | AskId::Recv | AskId::Send | AskId::Quit => !sending,
+        }
+    }
+
+    /// How many bytes follow its number.
+    pub fn body_bytes(self, number: u32) -> usize
+        ensures { result ≡ ask_body self number }
+    {
+        match self {
+            AskId::Done | AskId::Quit => 0,
+            AskId::Stat | AskId::List | AskId::Recv | AskId::Send | AskId::Data => number as usize,
+        }
+    }
+}

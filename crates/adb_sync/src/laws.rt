@@ -1,0 +1,35 @@
+//! What holds of all bytes, requests and answers, whoever reads or writes them.
+
+ghost use Rattle.std.specs.Prelude.{◌≡◌, ◌++◌, ◌∷◌, [], List, ℕ, Bool, true, Some};
+ghost use Rattle.adb_outside.specs.Framing.{joined};
+ghost use Rattle.adb_sync.specs.declared.ask.SyncAsk.{SyncAsk};
+ghost use Rattle.adb_sync.specs.declared.answer.SyncAnswer.{SyncAnswer};
+ghost use Rattle.adb_sync.specs.declared.error.SyncError.{SyncError};
+ghost use Rattle.adb_sync.specs.declared.ask_format.AskFormat.{AskFormat};
+ghost use Rattle.adb_sync.specs.declared.answer_format.AnswerFormat.{AnswerFormat};
+ghost use Rattle.adb_sync.specs.Asks.{IsAsk, HasAskWords, id_of_ask, is_in_place, ask_bytes, asks_from, past_ask, asks_in, ask_fault_in};
+ghost use Rattle.adb_sync.specs.Answers.{IsAnswer, HasAnswerWords, EndsKind, answer_bytes, answers_from, past_answer, answers_in, answer_fault_in};
+
+/// A request that was written where it may stand is the request that is read, whatever follows it.
+pub fn written_asks_are_read()
+    ensures { (from : AskFormat) (ask : SyncAsk) (more : List ℕ) → IsAsk ask → HasAskWords ask → is_in_place from.sending (id_of_ask ask) ≡ true
+        → asks_from from (ask_bytes ask ++ more) ≡ joined (ask ∷ []) (asks_from (past_ask from (ask_bytes ask)) more) }
+{}
+
+/// An answer that was written is the answer that is read, whatever follows it.
+pub fn written_answers_are_read()
+    ensures { (from : AnswerFormat) (answer : SyncAnswer) (more : List ℕ) → IsAnswer answer → HasAnswerWords answer → EndsKind from.list answer
+        → answers_from from (answer_bytes answer ++ more) ≡ joined (answer ∷ []) (answers_from (past_answer from (answer_bytes answer)) more) }
+{}
+
+/// What follows the first fault of requests changes neither the fault nor the requests before it.
+pub fn ask_faults_stay()
+    ensures { (bytes more : List ℕ) (fault : SyncError) → ask_fault_in bytes ≡ Some fault
+        → (ask_fault_in (bytes ++ more) ≡ Some fault) × (asks_in (bytes ++ more) ≡ asks_in bytes) }
+{}
+
+/// What follows the first fault of answers changes neither the fault nor the answers before it.
+pub fn answer_faults_stay()
+    ensures { (list : Bool) (bytes more : List ℕ) (fault : SyncError) → answer_fault_in list bytes ≡ Some fault
+        → (answer_fault_in list (bytes ++ more) ≡ Some fault) × (answers_in list (bytes ++ more) ≡ answers_in list bytes) }
+{}

@@ -1,0 +1,29 @@
+//! The requests and answers of a device's file sync service, as SYNC.TXT has them: readers of a
+//! stream that comes in pieces, and writers.
+#![tactic(auto)]
+
+mod answer;
+mod answer_bodies;
+mod answer_format;
+mod answer_id;
+mod answer_reader;
+mod ask;
+mod ask_format;
+mod ask_id;
+mod ask_reader;
+mod comma;
+mod error;
+mod laws;
+#[cfg(test)]
+mod tests;
+mod writers;
+
+pub use answer::{Dirent, SyncAnswer};
+pub use answer_reader::AnswerReader;
+pub use ask::SyncAsk;
+pub use ask_reader::AskReader;
+pub use error::SyncError;
+pub use laws::{
+    answer_faults_stay, ask_faults_stay, written_answers_are_read, written_asks_are_read,
+};
+pub use writers::{write_answer, write_ask};
