@@ -1,12 +1,13 @@
 -- From how a replay stopped to the status of the run.
-use Rattle.std.proofs.Common.{ℕ, ◌≡◌, List, [], ◌++◌, Option, Some, None, Result, Ok, Err, refl, sym, ◌∙◌, ap, subst}
+use Rattle.std.proofs.Common.{ℕ, ◌≡◌, List, [], ◌++◌, Option, Some, None, Result, Ok, Err, refl, sym, ◌∙◌, ap, subst, true, ◌⊎◌, inl, inr}
 use Rattle.std.proofs.lemmas.List.{append-nil}
 use Rattle.adb_history.specs.Accepted.{Accepted}
 use Rattle.adb_history.specs.declared.refusal.Refusal.{Refusal}
 use Rattle.adb_top.specs.Notes.{EndsIn, NotesLine}
+use Rattle.adb_top.specs.Keeping.{is_read_fault, is_write_fault}
 use Rattle.adb_top.specs.Replay.{EndsAs}
 use Rattle.adb_top.specs.Replayed.{HasFront, WritesText}
-use Rattle.adb_top.specs.Run.{WritesBy, NotesBy, NamesRefusal}
+use Rattle.adb_top.specs.Run.{WritesBy, NotesBy, NamesRefusal, Completes}
 use Rattle.adb_top.specs.declared.stop.Stop.{Stop}
 use Rattle.adb_top.specs.declared.stop.Stop.TheVariants as stop
 use Rattle.adb_top.specs.declared.status.Status.{Status}
@@ -45,3 +46,29 @@ names_refusal why ReadFault a left had note e ends n = tt
 names_refusal why WriteFault a left had note e ends n = tt
 names_refusal why BadCapture a left had note e ends n = record { why = e.0; refused = subst (λ (k : Stop). EndsAs (Err k) a left) e.1 ends; line = n e.0 e.1 }
 names_refusal why OutOfMemory a left had note e ends n = tt
+
+pub completes_done : (refused : Option Refusal) → refused ≡ None → Completes Done refused
+completes_done None e = inl refl
+completes_done (Some why) e = cc
+
+-- a stop that no fault made
+pub completes_stopped : (why : Stop) (status : Status) (refused : Option Refusal) → EndsIn why status → (why ≡ stop.ReadFault → ⊥) → (status ≡ WriteFault → ⊥) → ((refusal : Refusal) → why ≡ stop.Refused refusal → refused ≡ Some refusal) → Completes status refused
+completes_stopped why Done refused e reads writes names = absurd e
+completes_stopped why Usage refused e reads writes names = absurd e
+completes_stopped why ReadFault refused e reads writes names = absurd (reads e)
+completes_stopped why WriteFault refused e reads writes names = absurd (writes refl)
+completes_stopped why BadCapture refused e reads writes names = subst (λ (r : Option Refusal). Completes BadCapture r) (sym (names e.0 e.1)) (inl refl)
+completes_stopped why OutOfMemory refused e reads writes names = memory refused
+  where
+    memory : (r : Option Refusal) → Completes OutOfMemory r
+    memory None = inr refl
+    memory (Some w) = inr refl
+
+pub refused_as : (why : Stop) (a : Accepted) (left : Option (List ℕ)) → EndsAs (Err why) a left → (refusal : Refusal) → why ≡ stop.Refused refusal → a.refused ≡ Some refusal
+refused_as why a left ends refusal is = subst (λ (k : Stop). EndsAs (Err k) a left) is ends
+
+pub read_fault_is : (why : Stop) → why ≡ stop.ReadFault → is_read_fault (Err why) ≡ true
+read_fault_is why e = ap (λ k. is_read_fault (Err k)) e
+
+pub write_fault_is : (why : Stop) → why ≡ stop.WriteFault → is_write_fault (Err why) ≡ true
+write_fault_is why e = ap (λ k. is_write_fault (Err k)) e

@@ -1,5 +1,5 @@
 -- What a run leaves, by its status.
-use Rattle.std.specs.Prelude.{ℕ, ◌≡◌, List, [], ◌++◌, Option, Some, None}
+use Rattle.std.specs.Prelude.{ℕ, ◌≡◌, ◌⊎◌, List, [], ◌++◌, Option, Some, None}
 use Rattle.adb_history.specs.Accepted.{Accepted}
 use Rattle.adb_history.specs.declared.refusal.Refusal.{Refusal}
 use Rattle.adb_top.specs.Notes.{usage_line, read_fault_line, out_of_memory_line, bad_capture_line}
@@ -51,3 +51,8 @@ NamesRefusal Usage a had note = Unit {0}
 NamesRefusal ReadFault a had note = Unit {0}
 NamesRefusal WriteFault a had note = Unit {0}
 NamesRefusal OutOfMemory a had note = Unit {0}
+
+-- The status where no fault came: by how the capture ends, unless memory ran out.
+abbrev pub Completes : Status → Option Refusal → Type 0
+Completes status None = (status ≡ Done) ⊎ (status ≡ OutOfMemory)
+Completes status (Some why) = (status ≡ BadCapture) ⊎ (status ≡ OutOfMemory)

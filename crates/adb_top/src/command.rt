@@ -5,7 +5,7 @@ ghost use Rattle.adb_outside.specs.Outside.{Rises};
 ghost use Rattle.adb_history.specs.Accepted.{accepted, replayed};
 ghost use Rattle.adb_top.specs.Words.{is_replay as is_replay_line};
 ghost use Rattle.adb_top.specs.Replayed.{GrowsSpelled};
-ghost use Rattle.adb_top.specs.Run.{WritesBy, EndsBy, NotesBy, NamesRefusal};
+ghost use Rattle.adb_top.specs.Run.{WritesBy, EndsBy, NotesBy, NamesRefusal, Completes};
 
 use adb_outside::{Sink, Source};
 use std::alloc::Global;
@@ -48,6 +48,9 @@ pub fn run<S: Source, K: Sink, N: Sink>(
     // Faults come only where the count of that very object rose in this run.
     ensures read_fault { result ≡ Status.ReadFault → Rises (S.faults source.old) (S.faults source.new) }
     ensures write_fault { result ≡ Status.WriteFault → Rises (K.faults sink.old) (K.faults sink.new) ⊎ Rises (N.faults note.old) (N.faults note.new) }
+
+    // Where no count rose, a capture that is whole is replayed and one that is refused is named, unless memory ran out.
+    ensures complete { (bytes : List ℕ) → is_replay_line words.now ≡ true → S.left source.old ≡ Some bytes → ¬ Rises (S.faults source.old) (S.faults source.new) → ¬ Rises (K.faults sink.old) (K.faults sink.new) → ¬ Rises (N.faults note.old) (N.faults note.new) → Completes result (accepted bytes).refused }
 {
     if !is_replay(words) {
         return say_usage(note);

@@ -9,6 +9,8 @@ mod replay;
 
 mod status;
 mod stop;
+#[cfg(test)]
+mod tests;
 mod words;
 
 pub use command::run;
