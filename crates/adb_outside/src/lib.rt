@@ -10,6 +10,8 @@ mod never;
 mod sink;
 mod source;
 mod supply;
+#[cfg(test)]
+mod tests;
 mod text;
 
 pub use framer::{FeedError, Format, Framer, Front};
