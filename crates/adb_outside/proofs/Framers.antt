@@ -1,10 +1,10 @@
 -- The loop of a framer: how far it has come.
-use Rattle.std.proofs.Common.{ℕ, ◌+◌, ◌-◌, ◌≡◌, ◌≤◌, ◌<◌, List, [], ◌∷◌, ◌++◌, length, take, drop, Option, Some, None, refl, sym, ◌∙◌, ap, subst, arith, zero, suc}
-use Rattle.std.proofs.lemmas.List.{length-append, length-drop, length-take, take-append-le, drop-append-le, drop-drop, append_assoc, append-nil}
+use Rattle.std.proofs.Common.{ℕ, ◌+◌, ◌-◌, ◌≡◌, ◌≤◌, List, [], ◌∷◌, ◌++◌, length, take, drop, Option, None, refl, sym, ◌∙◌, ap, subst, arith}
+use Rattle.std.proofs.lemmas.List.{length-drop, length-take, take-append-le, drop-drop, append_assoc, append-nil}
 use Rattle.std.proofs.Math.Seq.{take-length}
 use Rattle.adb_outside.specs.declared.framer.Front.{Front}
 use Rattle.adb_outside.specs.declared.framer.Front.TheVariants.{More, Bad, Whole}
-use Rattle.adb_outside.specs.Framing.{Cut, uncut, joined, cut_by, cut_at, cut, IsFraming, fault_of}
+use Rattle.adb_outside.specs.Framing.{Cut, uncut, joined, cut_by, cut, IsFraming, fault_of}
 use Rattle.adb_outside.proofs.FramingLaws.{cut_first}
 
 -- the bytes of a slice from a place on
@@ -28,6 +28,14 @@ module _ {S V F : Type 0} (find : S → List ℕ → Front F) (item : S → List
         let fits = laws.fits reading (drop place bytes) n e in
         let len : length (take n (drop place bytes)) ≡ n = omega (arith, fits, length-take n (drop place bytes)) in
         subst (λ (k : ℕ). find reading (take k (drop place bytes)) ≡ Whole (length (take k (drop place bytes)))) (sym same) (laws.alone reading (drop place bytes) n e ∙ ap Whole (sym len))
+
+    -- the frame at the place is what the format may read
+    pub may_read : (start now : Cut S V F) (reading : S) (place : ℕ) (front : Front F) → Cutting start now reading place front
+        → (n : ℕ) → front ≡ Whole n → (bytes : List ℕ) → bytes ≡ now.rest
+        → find reading (take ((place + n) - place) (drop place bytes)) ≡ Whole (length (take ((place + n) - place) (drop place bytes)))
+    may_read start now reading place front h n is bytes here =
+        let old : bytes ≡ start.rest = here ∙ ap (λ (k : Cut S V F). k.rest) h.kept in
+        frame_alone reading bytes place n (ap (λ b. find reading (drop place b)) old ∙ (sym h.found ∙ is))
 
     -- the frame at the place is cut
     pub goes_on : (start now : Cut S V F) (reading : S) (place : ℕ) (front : Front F) → Cutting start now reading place front
@@ -64,18 +72,22 @@ module _ {S V F : Type 0} (find : S → List ℕ → Front F) (item : S → List
               ap (take (length start.given)) more ∙ (take-append-le (length start.given) now.given (v ∷ []) room ∙ h.front_of);
         }
 
-    -- no frame is at the place: all are cut
+    -- no frame is at the place: all are cut, and the bytes up to it are dropped
     pub is_over : (start now : Cut S V F) (reading : S) (place : ℕ) (front : Front F) → Cutting start now reading place front
         → ((n : ℕ) → front ≡ Whole n → ⊥) → start.fault ≡ None
-        → record { given = now.given; reading = reading; rest = drop place now.rest; fault = fault_of front } ≡ joined start.given (cut find item after start.reading start.rest)
-    is_over start now reading place front h none sound =
+        → (kept : Cut S V F) → kept ≡ record { given = now.given; reading = now.reading; rest = drop place now.rest; fault = now.fault }
+        → (fault : Option F) → fault ≡ fault_of front
+        → record { given = kept.given; reading = reading; rest = kept.rest; fault = fault } ≡ joined start.given (cut find item after start.reading start.rest)
+    is_over start now reading place front h none sound kept is fault told =
         let old : now.rest ≡ start.rest = ap (λ (k : Cut S V F). k.rest) h.kept in
         let turn : cut find item after reading (drop place start.rest) ≡ uncut reading (drop place start.rest) (fault_of front) =
         cut_first find item after laws reading (drop place start.rest)
         ∙ (ap (λ f. cut_by find item after reading (drop place start.rest) f (cut find item after)) (sym h.found) ∙ stops front none) in
         let all : joined start.given (cut find item after start.reading start.rest) ≡ joined now.given (uncut reading (drop place start.rest) (fault_of front)) = h.frames ∙ ap (joined now.given) turn in
-        ap (λ vs. record { given = vs; reading = reading; rest = drop place now.rest; fault = fault_of front }) (sym (append-nil now.given))
-        ∙ (ap (λ b. record { given = now.given ++ []; reading = reading; rest = drop place b; fault = fault_of front }) old ∙ sym all)
+        ap (λ (k : Cut S V F). record { given = k.given; reading = reading; rest = k.rest; fault = fault }) is
+        ∙ (ap (λ f. record { given = now.given; reading = reading; rest = drop place now.rest; fault = f }) told
+        ∙ (ap (λ vs. record { given = vs; reading = reading; rest = drop place now.rest; fault = fault_of front }) (sym (append-nil now.given))
+        ∙ (ap (λ b. record { given = now.given ++ []; reading = reading; rest = drop place b; fault = fault_of front }) old ∙ sym all)))
       where
         stops : (f : Front F) → ((n : ℕ) → f ≡ Whole n → ⊥) → cut_by find item after reading (drop place start.rest) f (cut find item after) ≡ uncut reading (drop place start.rest) (fault_of f)
         stops More apart = refl

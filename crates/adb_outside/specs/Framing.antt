@@ -1,5 +1,5 @@
 -- Cutting bytes into frames: what a front of the bytes is, and what follows from it alone.
-use Rattle.std.specs.Prelude.{ℕ, ◌+◌, ◌≡◌, ◌≤◌, ◌<◌, List, [], ◌∷◌, ◌++◌, length, take, drop, Option, Some, None, zero, suc}
+use Rattle.std.specs.Prelude.{ℕ, ◌≡◌, ◌≤◌, ◌<◌, List, [], ◌∷◌, ◌++◌, length, take, drop, Option, Some, None, zero, suc}
 use Rattle.adb_outside.specs.declared.framer.Front.{Front}
 use Rattle.adb_outside.specs.declared.framer.Front.TheVariants.{More, Bad, Whole}
 

@@ -4,3 +4,4 @@ pub mod Sink
 pub mod Identity
 pub mod Framing
 pub mod Memory
+pub mod Counted

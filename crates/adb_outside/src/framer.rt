@@ -123,6 +123,7 @@ impl<V: Drop, F: Copy, S: Format<V, F>> Framer<S, V, F> {
     pub fn feed(&mut self, piece: &[u8]) -> Result<(), FeedError<F>>
         ensures ok { OnOk result (Feeds S.find S.item S.after self.old piece.now self.new × (self.new.fault ≡ None)) }
         ensures fault { (f : F) → result ≡ Err (FeedError.Fault f) → Faults S.find S.item S.after self.old piece.now self.new f }
+        ensures stays { (f : F) → self.old.fault ≡ Some f → result ≡ Err (FeedError.Fault f) }
         ensures memory { result ≡ Err FeedError.OutOfMemory → self.new ≡ self.old }
         ensures stands { result ≢ Err FeedError.OutOfMemory → (start : S) (fed : List ℕ) (taken : List V) → Stands S.find S.item S.after start fed taken self.old → Stands S.find S.item S.after start (fed ++ piece.now) taken self.new }
     {

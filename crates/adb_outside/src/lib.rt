@@ -1,4 +1,5 @@
 //! The plain types of the host server, the traits of what lies outside it with their fakes in
+//! memory, and how a stream is cut into frames.
 #![tactic(auto)]
 
 mod framer;
@@ -9,6 +10,8 @@ mod never;
 mod sink;
 mod source;
 mod supply;
+#[cfg(test)]
+mod tests;
 mod text;
 
 pub use framer::{FeedError, Format, Framer, Front};

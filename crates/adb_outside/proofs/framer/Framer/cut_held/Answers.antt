@@ -1,17 +1,14 @@
-use Rattle.std.proofs.Common.{rules, ◌≡◌, ◌++◌, ◌∷◌, [], List, ℕ, take, drop, length, ◌≤◌, ◌+◌, ◌-◌, sym, ◌∙◌, ap, subst, refl, arith}
-use Rattle.adb_outside.specs.Framing.{cut, joined}
-use Rattle.adb_outside.proofs.Framers.{frame_alone, goes_on, is_over}
+use Rattle.std.proofs.Common.{◌∙◌}
+use Rattle.adb_outside.proofs.Framers.{may_read, goes_on, is_over}
 use Rattle.adb_outside.proofs.framer.Framer.cut_held.Goals as goal
 
 pub read-requires : goal.read-requires
 read-requires g c =
-    let h = c.loop-front.invariant in
-    rw (c.deref.ensures.value, ap (λ k. k.rest) h.kept) (frame_alone g.S.Format.find g.S.Format.item g.S.Format.after g.met.S.Format.framing _ _ _ _ (sym h.found ∙ c.in-Whole.is))
+    may_read g.S.Format.find g.S.Format.item g.S.Format.after g.met.S.Format.framing _ _ _ _ _ c.loop-front.invariant c.in-Whole.n c.in-Whole.is c.deref.result.now c.deref.ensures.value
 
 pub past-format-requires : goal.past-format-requires
 past-format-requires g c =
-    let h = c.loop-front.invariant in
-    rw (c.deref.ensures.value, ap (λ k. k.rest) h.kept) (frame_alone g.S.Format.find g.S.Format.item g.S.Format.after g.met.S.Format.framing _ _ _ _ (sym h.found ∙ c.in-Whole.is))
+    may_read g.S.Format.find g.S.Format.item g.S.Format.after g.met.S.Format.framing _ _ _ _ _ c.loop-front.invariant c.in-Whole.n c.in-Whole.is c.deref.result.now c.deref.ensures.value
 
 pub loop-front-preserved : goal.loop-front-preserved
 loop-front-preserved g c =
@@ -22,10 +19,7 @@ loop-front-preserved g c =
 
 pub returns : goal.returns
 returns g c = record {
-  ok = λ sound.
-      let kept = c.self-2.view_is ∙ c.in_ok-keep_from.ensures.ok in
-      let over = is_over g.S.Format.find g.S.Format.item g.S.Format.after g.met.S.Format.framing _ _ _ _ _ c.loop-front.invariant (λ n. c.in_default.not-Whole n) sound in
-      ap (λ k. record { given = k.given; reading = c.loop-front.format; rest = k.rest; fault = c.fault-self-inside.result }) kept
-      ∙ (ap (λ f. record { given = c.loop-front.self-inside.ready.items; reading = c.loop-front.format; rest = drop c.loop-front.at c.loop-front.self-inside.held.items; fault = f }) c.fault-self-inside.ensures ∙ over);
+  ok = λ sound. is_over g.S.Format.find g.S.Format.item g.S.Format.after g.met.S.Format.framing _ _ _ _ _ c.loop-front.invariant (λ n. c.in_default.not-Whole n) sound
+      _ (c.self-2.view_is ∙ c.in_ok-keep_from.ensures.ok) c.fault-self-inside.result c.fault-self-inside.ensures;
   err = tt;
 }

@@ -1,5 +1,4 @@
-use Rattle.std.proofs.Common.{◌≡◌, take, drop, length, ◌≤◌, ◌-◌}
-use Rattle.adb_outside.specs.Framing.{joined, cut}
+use Rattle.std.proofs.Common.{length, ◌-◌}
 use Rattle.adb_outside.proofs.Framers.{Cutting}
 use Rattle.adb_outside.proofs.framer.Framer.cut_held.Given as goal
 

@@ -1,6 +1,4 @@
-use Rattle.std.proofs.Common.{rules, ◌≡◌, ◌++◌, ◌∷◌, [], List, ℕ, OnOk, Option, Some, None, sym, ◌∙◌, ap, subst, refl, arith}
-use Rattle.std.proofs.lemmas.Grind.{common_steps}
-use Rattle.adb_outside.specs.Framing.{cut, joined, Stands}
+use Rattle.std.proofs.Common.{rules, ◌≡◌, None, sym, ◌∙◌, ap}
 use Rattle.adb_outside.proofs.FramingLaws.{stands_feeds, stands_faulted}
 use Rattle.adb_outside.proofs.framer.Framer.feed.Goals as goal
 
