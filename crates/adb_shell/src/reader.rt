@@ -41,12 +41,13 @@ impl ShellReader {
     /// Takes the next piece of the stream, of any length. A fault is the first of all the bytes fed
     /// so far: a bad id, or else a bad length, of the first packet that has one, once its header is
     /// there. The packets before it are still given by `next`, and from then on every call takes
-    /// nothing and answers that fault, or that memory ran out.
+    /// nothing and answers that fault.
     pub fn feed(&mut self, piece: &[u8]) -> Result<(), ShellError>
         ensures memory { result ≡ Err ShellError.OutOfMemory → self.new ≡ self.old }
         ensures answer { result ≢ Err ShellError.OutOfMemory → result ≡ answer_of self.new.fault }
         ensures first_fault { result ≢ Err ShellError.OutOfMemory → (fed : List ℕ) (taken : List ShellPacket)
             → StandsFor fed taken self.old → result ≡ answer_of (fault_in (fed ++ piece.now)) }
+        ensures stays { (fault : ShellError) → self.old.fault ≡ Some fault → result ≡ Err fault }
         ensures held { result ≢ Err ShellError.OutOfMemory → self.new ≡ held_after self.old piece.now self.old.fault }
         ensures stands { result ≢ Err ShellError.OutOfMemory → (fed : List ℕ) (taken : List ShellPacket)
             → StandsFor fed taken self.old → StandsFor (fed ++ piece.now) taken self.new }

@@ -44,12 +44,13 @@ impl AnswerReader {
     /// Takes the next piece of the stream, of any length. A fault is the first of all the bytes fed
     /// so far: an id that no answer has, once its four bytes are there, or a DATA that is too long,
     /// once its length is there. The answers before it are still given by `next`, and from then on
-    /// every call takes nothing and answers that fault, or that memory ran out.
+    /// every call takes nothing and answers that fault.
     pub fn feed(&mut self, piece: &[u8]) -> Result<(), SyncError>
         ensures memory { result ≡ Err SyncError.OutOfMemory → self.new ≡ self.old }
         ensures answer { result ≢ Err SyncError.OutOfMemory → result ≡ answer_of self.new.fault }
         ensures first_fault { result ≢ Err SyncError.OutOfMemory → (list : Bool) (fed : List ℕ) (taken : List SyncAnswer)
             → StandsForAnswers list fed taken self.old → result ≡ answer_of (answer_fault_in list (fed ++ piece.now)) }
+        ensures stays { (fault : SyncError) → self.old.fault ≡ Some fault → result ≡ Err fault }
         ensures held { result ≢ Err SyncError.OutOfMemory → self.new ≡ answers_after self.old piece.now self.old.fault }
         ensures stands { result ≢ Err SyncError.OutOfMemory → (list : Bool) (fed : List ℕ) (taken : List SyncAnswer)
             → StandsForAnswers list fed taken self.old → StandsForAnswers list (fed ++ piece.now) taken self.new }

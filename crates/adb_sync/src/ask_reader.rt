@@ -50,12 +50,13 @@ impl AskReader {
     /// so far; at one request it is that of the id, once its four bytes are there, or else that of
     /// the length, once its word is there, or else a missing comma, once the text is there. The
     /// requests before it are still given by `next`, and from then on every call takes nothing and
-    /// answers that fault, or that memory ran out.
+    /// answers that fault.
     pub fn feed(&mut self, piece: &[u8]) -> Result<(), SyncError>
         ensures memory { result ≡ Err SyncError.OutOfMemory → self.new ≡ self.old }
         ensures answer { result ≢ Err SyncError.OutOfMemory → result ≡ answer_of self.new.fault }
         ensures first_fault { result ≢ Err SyncError.OutOfMemory → (fed : List ℕ) (taken : List SyncAsk)
             → StandsForAsks fed taken self.old → result ≡ answer_of (ask_fault_in (fed ++ piece.now)) }
+        ensures stays { (fault : SyncError) → self.old.fault ≡ Some fault → result ≡ Err fault }
         ensures held { result ≢ Err SyncError.OutOfMemory → self.new ≡ asks_after self.old piece.now self.old.fault }
         ensures stands { result ≢ Err SyncError.OutOfMemory → (fed : List ℕ) (taken : List SyncAsk)
             → StandsForAsks fed taken self.old → StandsForAsks (fed ++ piece.now) taken self.new }

@@ -62,7 +62,7 @@ impl Deframer {
         ensures cut { result ≢ Err WireError.OutOfMemory → (fed : List ℕ) (given : List Packet) → StandsFor fed given self.old →
             (packets : List Packet) (rest : List ℕ) (fault : Option PacketFault) → Cuts (fed ++ piece.now) packets rest fault → result ≡ answer_of fault }
         ensures fed { result ≢ Err WireError.OutOfMemory → self.old.fault ≡ None → Fed self.old piece.now self.new }
-        ensures stays { (fault : PacketFault) → self.old.fault ≡ Some fault → self.new ≡ self.old }
+        ensures stays { (fault : PacketFault) → self.old.fault ≡ Some fault → (result ≡ answer_of (Some fault)) × (self.new ≡ self.old) }
         ensures memory { result ≡ Err WireError.OutOfMemory → self.new ≡ self.old }
     {
         match self.framer.feed(piece) {
