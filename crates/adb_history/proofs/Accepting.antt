@@ -1,19 +1,17 @@
 -- What a capture gives, record by record.
-use Rattle.std.proofs.Common.{ℕ, ◌+◌, ◌≡◌, Bool, true, false, List, [], ◌∷◌, ◌++◌, length, take, drop, reverse, Option, Some, None, refl, sym, ◌∙◌, ap, subst, zero, suc}
-use Rattle.std.proofs.lemmas.List.{append_assoc, append-nil, reverse-append}
+use Rattle.std.proofs.Common.{ℕ, ◌≡◌, List, [], ◌∷◌, ◌++◌, take, drop, Option, Some, None, refl, sym, ◌∙◌, ap, zero, suc}
+use Rattle.std.proofs.lemmas.List.{append_assoc}
 use Rattle.adb_outside.specs.declared.framer.Front.{Front}
 use Rattle.adb_outside.specs.declared.framer.Front.TheVariants.{More, Bad, Whole}
-use Rattle.adb_outside.specs.Framing.{Cut, uncut, joined, cut, cut_by}
+use Rattle.adb_outside.specs.Framing.{Cut, cut, cut_by}
 use Rattle.adb_outside.proofs.FramingLaws.{cut_first}
 use Rattle.adb_capture.specs.Records.{record_at, entry_in, offset_after}
 use Rattle.adb_capture.proofs.Fronts.{framing}
 use Rattle.adb_capture.specs.declared.entry.Entry.{Entry}
 use Rattle.adb_capture.specs.declared.error.CaptureError.{CaptureError}
-use Rattle.adb_capture.specs.declared.error.CaptureError.TheVariants.{Truncated}
 use Rattle.adb_history.specs.Machine.{History, state}
-use Rattle.adb_history.specs.Drained.{or_stay, drain, drain_all, drained_after, drained_from, next_out, owed}
+use Rattle.adb_history.specs.Drained.{or_stay, drain, drained_after, drained_from, next_out, owed}
 use Rattle.adb_history.specs.Accepted.{Accepted, refusal_of, is_input, accept_by, accept_from, accept_cut, accept_records, end_of}
-use Rattle.adb_history.specs.declared.refusal.Refusal.{Refusal}
 use Rattle.adb_history.specs.declared.refusal.Refusal.TheVariants.{Form}
 
 -- a front of the records ahead decides what is accepted of them
@@ -22,7 +20,7 @@ accept_front offset bytes More h = accept_from [] (end_of None bytes offset) h
 accept_front offset bytes (Bad why) h = accept_from [] (Some (Form why)) h
 accept_front offset bytes (Whole n) h =
     accept_by (refusal_of (state h) (entry_in offset (take n bytes)).0 (entry_in offset (take n bytes)).1) (is_input (entry_in offset (take n bytes)).1) h (entry_in offset (take n bytes)).1
-        (accept_records (offset_after offset (take n bytes)) (drop n bytes))
+    (accept_records (offset_after offset (take n bytes)) (drop n bytes))
 
 pub accept_first : (offset : ℕ) (bytes : List ℕ) (h : History) → accept_records offset bytes h ≡ accept_front offset bytes (record_at offset bytes) h
 accept_first offset bytes h =
@@ -46,6 +44,7 @@ pub drained_adds : (h : History) (inputs : List Entry) → (more : History) × (
 drained_adds h [] = ([], refl)
 drained_adds h (e ∷ inputs) =
     let first = drain_adds (owed (state (e ∷ h))) (e ∷ h) in
-    let others = drained_adds (drained_after h e) inputs in
-    (others.0 ++ (first.0 ++ e ∷ []),
-     others.1 ∙ (ap (λ g. others.0 ++ g) (first.1 ∙ sym (append_assoc first.0 (e ∷ []) h)) ∙ sym (append_assoc others.0 (first.0 ++ e ∷ []) h)))
+    let others = drained_adds (drained_after h e) inputs in (
+      others.0 ++ (first.0 ++ e ∷ []),
+      others.1 ∙ (ap (λ g. others.0 ++ g) (first.1 ∙ sym (append_assoc first.0 (e ∷ []) h)) ∙ sym (append_assoc others.0 (first.0 ++ e ∷ []) h)),
+    )

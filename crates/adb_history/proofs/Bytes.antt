@@ -1,13 +1,12 @@
 -- Byte by byte, or a whole piece at once: the same.
-use Rattle.std.proofs.Common.{ℕ, ◌+◌, ◌-◌, ◌≡◌, ◌≤◌, Bool, true, false, List, [], ◌∷◌, ◌++◌, length, drop, take, Option, Some, None, refl, sym, ◌∙◌, ap, subst, append_assoc, arith}
+use Rattle.std.proofs.Common.{ℕ, ◌+◌, ◌≡◌, ◌≤◌, true, false, List, [], ◌∷◌, ◌++◌, length, drop, take, Some, None, refl, sym, ◌∙◌, ap, subst, append_assoc, arith}
 use Rattle.std.specs.Prelude.{◌||◌, is_none}
-use Rattle.std.proofs.Math.Seq.{drop-append_seam, take-append_seam}
+use Rattle.std.proofs.Math.Seq.{take-append_seam}
 use Rattle.std.proofs.lemmas.List.{drop-append-le, length-drop, append-nil}
 use Rattle.adb_request.specs.Requests.{request_at, meaning}
 use Rattle.adb_request.specs.declared.cutting.Found.{Found}
 use Rattle.adb_request.specs.declared.cutting.Found.TheVariants.{More, Malformed, Whole}
 use Rattle.adb_history.specs.Machine.{answer, Client, closing, answered, asks, byte_in, bytes_in, is_unbuilt, byte_asks_unbuilt, asks_unbuilt}
-use Rattle.adb_history.specs.declared.phase.Phase.{Phase}
 use Rattle.adb_history.specs.declared.phase.Phase.TheVariants.{Asking, Closing, Gone}
 use Rattle.adb_history.proofs.Requests.{more_front, whole_front, malformed_front, whole_exact}
 
@@ -20,9 +19,10 @@ reads_more c u [] e = (ap (λ w. asking_with w c) (sym (append-nil u)), refl)
 reads_more c u (b ∷ v) e =
     let f : request_at ((u ++ b ∷ []) ++ v) ≡ More = subst (λ (w : List ℕ). request_at w ≡ More) (sym (append_assoc u (b ∷ []) v)) e in
     let g : request_at (u ++ b ∷ []) ≡ More = more_front (u ++ b ∷ []) v f in
-    let more = reads_more c (u ++ b ∷ []) v f in
-    (ap (λ k. bytes_in (asks (asking_with u c) (u ++ b ∷ []) k) v) g ∙ (more.0 ∙ ap (λ w. asking_with w c) (append_assoc u (b ∷ []) v)),
-     ap (λ k. is_unbuilt (u ++ b ∷ []) k || asks_unbuilt (asks (asking_with u c) (u ++ b ∷ []) k) v) g ∙ more.1)
+    let more = reads_more c (u ++ b ∷ []) v f in (
+      ap (λ k. bytes_in (asks (asking_with u c) (u ++ b ∷ []) k) v) g ∙ (more.0 ∙ ap (λ w. asking_with w c) (append_assoc u (b ∷ []) v)),
+      ap (λ k. is_unbuilt (u ++ b ∷ []) k || asks_unbuilt (asks (asking_with u c) (u ++ b ∷ []) k) v) g ∙ more.1,
+    )
 
 -- a client that is closing is read no more
 pub idle_closing : (c : Client) (v : List ℕ) → c.phase ≡ Closing → (bytes_in c v ≡ c) × (asks_unbuilt c v ≡ false)
@@ -81,9 +81,10 @@ reads_whole c u (b ∷ v) len reply e f built =
         let same : m ≡ len = cc in
         let exact : length (u ++ b ∷ []) ≡ 4 + len = whole_exact u b m e is ∙ ap (λ k. 4 + k) same in
         let at : answer (meaning (drop 4 (u ++ b ∷ []))) ≡ Some reply = ap (λ t. answer (meaning t)) (sym (text_is (u ++ b ∷ []) v len exact)) ∙ built in
-        let idle = idle_closing (answered (Some reply) c) v refl in
-        (ap (λ a. bytes_in (answered a (asking_with u c)) v) at ∙ idle.0,
-         ap (λ a. is_none a || asks_unbuilt (answered a (asking_with u c)) v) at ∙ idle.1)
+        let idle = idle_closing (answered (Some reply) c) v refl in (
+          ap (λ a. bytes_in (answered a (asking_with u c)) v) at ∙ idle.0,
+          ap (λ a. is_none a || asks_unbuilt (answered a (asking_with u c)) v) at ∙ idle.1,
+        )
 
 -- They begin with a request that is not built.
 pub reads_unbuilt : (c : Client) (u v : List ℕ) (len : ℕ) → request_at u ≡ More → request_at (u ++ v) ≡ Whole len → answer (meaning (first_text (u ++ v) len)) ≡ None

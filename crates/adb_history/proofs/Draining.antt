@@ -1,11 +1,11 @@
 -- Draining ends with nothing due, and a hand-out is one turn of it.
-use Rattle.std.proofs.Common.{ℕ, ◌+◌, ◌≡◌, ◌≢◌, ◌≤◌, ◌<◌, Bool, true, false, cond, List, [], ◌∷◌, length, take, drop, Option, Some, None, refl, sym, ◌∙◌, ap, subst, arith, zero, suc, eqb, ◌⊎◌, inl, inr}
-use Rattle.std.proofs.lemmas.Bool.{eqb-true, eqb-false, ne_eqb, eq-eqb, cases_eq}
+use Rattle.std.proofs.Common.{ℕ, ◌+◌, ◌≡◌, ◌≢◌, ◌≤◌, ◌<◌, Bool, true, false, cond, List, [], ◌∷◌, length, take, Option, Some, None, refl, sym, ◌∙◌, ap, subst, arith, zero, suc, eqb, ◌⊎◌, inl, inr}
+use Rattle.std.proofs.lemmas.Bool.{ne_eqb, eq-eqb, cases_eq}
 use Rattle.std.proofs.lemmas.List.{length-drop, length-take}
 use Rattle.adb_capture.specs.declared.entry.Entry.{Entry}
 use Rattle.adb_capture.specs.declared.entry.Entry.TheVariants.{Put}
 use Rattle.adb_history.specs.Rows.{Rows, change_row}
-use Rattle.adb_history.specs.Machine.{Client, State, History, state, step, settled, handed, absent}
+use Rattle.adb_history.specs.Machine.{Client, State, History, state, step, settled, handed}
 use Rattle.adb_history.specs.Kept.{IsOrderly}
 use Rattle.adb_history.specs.Drained.{out_or, first_out, next_out, owed_from, owed, drain, drain_all, or_stay}
 
@@ -96,7 +96,7 @@ drained_enough (suc k) (suc m) h le le2 = go (next_out (state h)) refl (λ x. dr
         let j = joined_stays (state h) x (put_first (state h).clients 1 (state h).joined x e) in
         let l = less_owed (state h) 1 (state h).joined x e in
         more x (subst (λ (n : ℕ). owed_from (state (x ∷ h)).clients 1 n ≤ k) (sym j) (omega (arith, l)))
-            (subst (λ (n : ℕ). owed_from (state (x ∷ h)).clients 1 n ≤ m) (sym j) (omega (arith, l)))
+        (subst (λ (n : ℕ). owed_from (state (x ∷ h)).clients 1 n ≤ m) (sym j) (omega (arith, l)))
 
 -- a hand-out is one turn
 pub drain_step : (h : History) (e : Entry) → next_out (state h) ≡ Some e → drain (owed (state h)) h ≡ drain (owed (state (e ∷ h))) (e ∷ h)
@@ -104,6 +104,7 @@ drain_step h e is = go (owed (state h)) refl
   where
     smaller : owed (state (e ∷ h)) < owed (state h)
     smaller = subst (λ (n : ℕ). owed_from (state (e ∷ h)).clients 1 n < owed (state h)) (sym (joined_stays (state h) e (put_first (state h).clients 1 (state h).joined e is))) (less_owed (state h) 1 (state h).joined e is)
+
     go : (k : ℕ) → owed (state h) ≡ k → drain k h ≡ drain (owed (state (e ∷ h))) (e ∷ h)
     go zero same = absurd (omega (arith, smaller))
     go (suc k) same = ap (λ o. or_stay o h (λ x. drain k (x ∷ h))) is ∙ drained_enough k (owed (state (e ∷ h))) (e ∷ h) (omega (arith, smaller)) (omega arith)
@@ -115,7 +116,6 @@ drain_over h is = go (owed (state h))
     go : (k : ℕ) → drain k h ≡ h
     go zero = refl
     go (suc k) = ap (λ o. or_stay o h (λ x. drain k (x ∷ h))) is
-
 
 -- one hand-out, then the others
 pub drain_all_step : (h : History) (e : Entry) → next_out (state h) ≡ Some e → drain_all h ≡ drain_all (e ∷ h)
@@ -162,6 +162,7 @@ nothing_due s ok none (suc m) = go (cases s.joined m)
   where
     cases : (j k : ℕ) → (j < suc k) ⊎ (suc k ≤ j)
     cases j k = grind arith
+
     go : (s.joined < suc m) ⊎ (suc m ≤ s.joined) → (s.clients (suc m)).due ≡ []
     go (inl above) = ap (λ (c : Client). c.due) (ok.none_above (suc m) above)
     go (inr within) = due_is_none s.clients 1 s.joined none (suc m) (omega arith) (omega (arith, within))

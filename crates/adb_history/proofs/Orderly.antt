@@ -1,5 +1,5 @@
 -- Every state that a legal history leaves is orderly.
-use Rattle.std.proofs.Common.{ℕ, ◌+◌, ◌≡◌, ◌≤◌, ◌<◌, Bool, true, false, cond, List, [], ◌∷◌, ◌++◌, length, reverse, Option, Some, None, refl, ap, arith, eqb, ◌∙◌, drop}
+use Rattle.std.proofs.Common.{ℕ, ◌+◌, ◌≡◌, Bool, true, false, cond, List, [], ◌∷◌, ◌++◌, length, reverse, Option, Some, None, refl, ap, arith, eqb, ◌∙◌, drop}
 use Rattle.std.proofs.Math.Seq.{drop-nil}
 use Rattle.std.proofs.lemmas.Bool.{ne_eqb}
 use Rattle.std.proofs.lemmas.List.{reverse-append}
@@ -10,7 +10,7 @@ use Rattle.adb_outside.specs.declared.kinds.Cause.{Cause}
 use Rattle.adb_outside.specs.declared.kinds.Cause.TheVariants.{Eof, Fault, Starved, NoThread}
 use Rattle.adb_capture.specs.declared.entry.Entry.{Entry}
 use Rattle.adb_capture.specs.declared.entry.Entry.TheVariants.{Join, Enter, Read, End, Bound, Attach, Recv, Detach, Put, Send}
-use Rattle.adb_history.specs.Machine.{Client, State, History, state, step, start, May, IsLegal, IsDrawn, absent, fresh, settled, answer, answered, asks, byte_in, bytes_in, phase_after, end_phase, ended, handed, to_client}
+use Rattle.adb_history.specs.Machine.{Client, State, History, state, step, May, IsLegal, IsDrawn, fresh, settled, answer, answered, asks, byte_in, bytes_in, phase_after, end_phase, ended, handed, to_client}
 use Rattle.adb_history.specs.Kept.{IsResting, IsOrderly}
 use Rattle.adb_history.specs.declared.phase.Phase.{Phase}
 use Rattle.adb_history.specs.declared.phase.Phase.TheVariants.{Asking, Closing, Gone}
@@ -64,11 +64,11 @@ handed_rests n c r = (r.0, λ e. ap (drop n) (r.1 e) ∙ drop-nil n)
 -- a change of one drawn client keeps the state orderly
 orderly_change : (s : State) (n : ℕ) (f : Client → Client) → IsDrawn s n → ((c : Client) → Rests c → Rests (f c)) → IsOrderly s → IsOrderly (to_client s n f)
 orderly_change s n f drawn keeps ok = record {
-    rests = λ k. (go (eqb n k) (s.clients k) (ok.rests k, ok.gone_has_none k)).0;
-    gone_has_none = λ k. (go (eqb n k) (s.clients k) (ok.rests k, ok.gone_has_none k)).1;
-    none_above = λ k above. ap (λ b. cond b (settled (f (s.clients k))) (s.clients k)) (ne_eqb n k (λ e. omega (arith, above, drawn, e))) ∙ ok.none_above k above;
-    none_at_zero = ap (λ b. cond b (settled (f (s.clients 0))) (s.clients 0)) (ne_eqb n 0 (λ e. omega (arith, drawn, e))) ∙ ok.none_at_zero;
-  }
+  rests = λ k. (go (eqb n k) (s.clients k) (ok.rests k, ok.gone_has_none k)).0;
+  gone_has_none = λ k. (go (eqb n k) (s.clients k) (ok.rests k, ok.gone_has_none k)).1;
+  none_above = λ k above. ap (λ b. cond b (settled (f (s.clients k))) (s.clients k)) (ne_eqb n k (λ e. omega (arith, above, drawn, e))) ∙ ok.none_above k above;
+  none_at_zero = ap (λ b. cond b (settled (f (s.clients 0))) (s.clients 0)) (ne_eqb n 0 (λ e. omega (arith, drawn, e))) ∙ ok.none_at_zero;
+}
   where
     go : (b : Bool) (c : Client) → Rests c → Rests (cond b (settled (f c)) c)
     go true c r = settled_rests (f c).phase (f c).due (f c).unread (keeps c r).0 (keeps c r).1
@@ -76,11 +76,11 @@ orderly_change s n f drawn keeps ok = record {
 
 join_orderly : (s : State) (n : ℕ) → n ≡ s.joined + 1 → IsOrderly s → IsOrderly (step s (Join n))
 join_orderly s n is ok = record {
-    rests = λ k. (go (eqb n k) (s.clients k) (ok.rests k, ok.gone_has_none k)).0;
-    gone_has_none = λ k. (go (eqb n k) (s.clients k) (ok.rests k, ok.gone_has_none k)).1;
-    none_above = λ k above. ap (λ b. cond b fresh (s.clients k)) (ne_eqb n k (λ e. omega (arith, above, is, e))) ∙ ok.none_above k (omega (arith, above));
-    none_at_zero = ap (λ b. cond b fresh (s.clients 0)) (ne_eqb n 0 (λ e. omega (arith, is, e))) ∙ ok.none_at_zero;
-  }
+  rests = λ k. (go (eqb n k) (s.clients k) (ok.rests k, ok.gone_has_none k)).0;
+  gone_has_none = λ k. (go (eqb n k) (s.clients k) (ok.rests k, ok.gone_has_none k)).1;
+  none_above = λ k above. ap (λ b. cond b fresh (s.clients k)) (ne_eqb n k (λ e. omega (arith, above, is, e))) ∙ ok.none_above k (omega (arith, above));
+  none_at_zero = ap (λ b. cond b fresh (s.clients 0)) (ne_eqb n 0 (λ e. omega (arith, is, e))) ∙ ok.none_at_zero;
+}
   where
     go : (b : Bool) (c : Client) → Rests c → Rests (cond b fresh c)
     go true c r = (refl, λ e. cc)

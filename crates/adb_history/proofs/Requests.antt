@@ -1,5 +1,5 @@
 -- What a front of the bytes says of the first request in them.
-use Rattle.std.proofs.Common.{ℕ, ◌+◌, ◌≡◌, ◌≢◌, ◌≤◌, Bool, cond, List, [], ◌∷◌, ◌++◌, length, Option, Some, None, refl, subst, arith, zero, suc, ltb}
+use Rattle.std.proofs.Common.{ℕ, ◌+◌, ◌≡◌, ◌≢◌, ◌≤◌, cond, List, [], ◌∷◌, ◌++◌, length, Option, Some, None, refl, subst, arith, zero, suc, ltb}
 use Rattle.std.proofs.lemmas.List.{length-append}
 use Rattle.std.proofs.lemmas.Bool.Decides.{nat_tests}
 use Rattle.adb_request.specs.Requests.{request_at, found_behind, hex_value}
@@ -76,6 +76,6 @@ whole_exact [] b len e f = cc
 whole_exact (a ∷ []) b len e f = cc
 whole_exact (a ∷ a2 ∷ []) b len e f = cc
 whole_exact (a ∷ a2 ∷ a3 ∷ []) b len e f = absurd (none_at_zero (hex_value a a2 a3 b) len f)
-whole_exact (a ∷ a2 ∷ a3 ∷ d ∷ r) b len e f = 
+whole_exact (a ∷ a2 ∷ a3 ∷ d ∷ r) b len e f =
     let e : suc (length r) ≡ len = after_exact (hex_value a a2 a3 d) (length r) len e (subst (λ (n : ℕ). found_behind (hex_value a a2 a3 d) n ≡ Whole len) (one_more r b) f) in
     omega (arith, one_more r b, e)

@@ -1,18 +1,15 @@
 -- A table in rising number, and the rows that it shows.
-use Rattle.std.proofs.Common.{ℕ, ◌+◌, ◌≡◌, ◌≢◌, ◌≤◌, ◌<◌, Bool, true, false, cond, List, [], ◌∷◌, Option, Some, None, refl, sym, ◌∙◌, ap, subst, arith, zero, suc, ◌⊎◌, inl, inr, Ordering, eqb}
+use Rattle.std.proofs.Common.{ℕ, ◌+◌, ◌≡◌, ◌≢◌, ◌≤◌, ◌<◌, Bool, true, false, cond, List, [], ◌∷◌, Option, Some, None, refl, sym, ◌∙◌, ap, subst, arith, zero, suc, ◌⊎◌, inl, inr, eqb}
 use Rattle.std.proofs.lemmas.Bool.{cases_eq, eqb-true, eqb-false, ne_eqb}
 use Rattle.std.proofs.lemmas.Bool.Decides.{nat_tests}
-use Rattle.std.proofs.lemmas.Cmp.{nat_cmp_total}
-use Rattle.std.proofs.lemmas.Map.Lookups.{btree_map_from_get, exact_unsigned}
 use Rattle.std.specs.List.{AllByRecursion}
 use Rattle.std.specs.List.Sorted.{IsStrictlySortedBy}
 use Rattle.std.specs.Ordering.{nat_cmp, is_eq}
-use Rattle.std.specs.declared.cmp.Ordering.TheVariants.{Less, Equal}
+use Rattle.std.specs.declared.cmp.Ordering.TheVariants.{Less}
 use Rattle.std.specs.Map.{lookup, keys_of}
-use Rattle.std.specs.BTreeMap as tree
-use Rattle.std.specs.BTreeMap.{BTreeMap, is_at}
+use Rattle.std.specs.BTreeMap.{is_at}
 use Rattle.adb_history.specs.Kept.{listed, listed_at, at, IsRising, Kept, KeptClient, kept, kept_row, kept_if_live, IsOrderly}
-use Rattle.adb_history.specs.Machine.{Client, State, absent}
+use Rattle.adb_history.specs.Machine.{Client, State}
 use Rattle.adb_history.specs.declared.phase.Phase.{Phase}
 use Rattle.adb_history.specs.declared.phase.Phase.TheVariants.{Asking, Closing, Gone}
 
@@ -101,12 +98,14 @@ module _ {X : Type 0} where
     where
       order : (a b : ℕ) → (a < b) ⊎ ((b < a) ⊎ (a ≡ b))
       order a b = grind arith
+
       tails : e.0 ≡ f.0 → (q : ℕ) → at q es ≡ at q fs
       tails same q = split (cases_eq q e.0)
         where
           split : (q ≡ e.0) ⊎ (q ≡ e.0 → ⊥) → at q es ≡ at q fs
           split (inl is) = ap (λ n. at n es) is ∙ (not_below e.0 es r.0 ∙ sym (ap (λ n. at n fs) (is ∙ same) ∙ not_below f.0 fs s.0))
           split (inr apart) = sym (at_tail q e es apart) ∙ (h q ∙ at_tail q f fs (λ is. apart (is ∙ sym same)))
+
       go : (e.0 < f.0) ⊎ ((f.0 < e.0) ⊎ (e.0 ≡ f.0)) → (((q : ℕ) → at q es ≡ at q fs) → es ≡ fs) → (e ∷ es) ≡ (f ∷ fs)
       go (inl below) rest = absurd (unequal_heads e (f ∷ fs) (less e.0 f.0 below, below_tail e.0 f fs below s.0) (at e.0 (e ∷ es)) (at_head e es) (h e.0))
       go (inr (inl below)) rest = absurd (unequal_heads f (e ∷ es) (less f.0 e.0 below, below_tail f.0 e es below r.0) (at f.0 (f ∷ fs)) (at_head f fs) (sym (h f.0)))

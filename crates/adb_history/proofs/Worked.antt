@@ -1,5 +1,5 @@
 -- Captures worked by hand, so that a mistake in a definition shows: what is replayed, and why a capture is refused, are computed from the definitions.
-use Rattle.std.specs.Prelude.{ℕ, ◌≡◌, List, [], ◌∷◌, ◌++◌, Option, Some, None, codes, flat_map}
+use Rattle.std.specs.Prelude.{ℕ, ◌≡◌, List, [], ◌∷◌, ◌++◌, Some, None, codes, flat_map}
 use Rattle.std.proofs.Common.{refl}
 use Rattle.adb_request.specs.Requests.{meaning}
 use Rattle.adb_capture.specs.Records.{record_at}

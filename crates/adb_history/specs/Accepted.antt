@@ -1,5 +1,5 @@
 -- Which entries a capture gives a server, and why it ends before its end.
-use Rattle.std.specs.Prelude.{ℕ, ◌+◌, ◌≤◌, Bool, true, false, if◌then◌else◌, ◌&&◌, not, nat_eq, nat_lt, nat_le, List, [], ◌∷◌, ◌++◌, length, take, drop, Option, Some, None, bytes_eq}
+use Rattle.std.specs.Prelude.{ℕ, ◌+◌, Bool, true, false, if◌then◌else◌, ◌&&◌, nat_eq, nat_lt, nat_le, List, [], ◌∷◌, ◌++◌, length, take, drop, Option, Some, None, bytes_eq}
 use Rattle.std.specs.List.{list_all}
 use Rattle.adb_outside.specs.Framing.{Cut, cut}
 use Rattle.adb_capture.specs.Records.{magic, record_at, entry_in, offset_after, records_of}

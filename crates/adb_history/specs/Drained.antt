@@ -1,5 +1,5 @@
 -- Handing out all that is due, after each entry that came.
-use Rattle.std.specs.Prelude.{ℕ, ◌+◌, ◌≡◌, List, [], ◌∷◌, length, take, Option, Some, None, zero, suc, reverse}
+use Rattle.std.specs.Prelude.{ℕ, ◌+◌, List, [], ◌∷◌, length, take, Option, Some, None, zero, suc, reverse}
 use Rattle.adb_capture.specs.declared.entry.Entry.{Entry}
 use Rattle.adb_capture.specs.declared.entry.Entry.TheVariants.{Put}
 use Rattle.adb_history.specs.Rows.{Rows}

@@ -1,5 +1,5 @@
 -- The machine: what the entries of a history leave of the clients, and which histories are legal.
-use Rattle.std.specs.Prelude.{ℕ, ◌+◌, ◌^◌, ◌≡◌, ◌≢◌, ◌≤◌, ◌<◌, Bool, true, false, ◌||◌, is_none, List, [], ◌∷◌, ◌++◌, length, drop, All, Option, Some, None, codes}
+use Rattle.std.specs.Prelude.{ℕ, ◌+◌, ◌^◌, ◌≡◌, ◌≢◌, ◌≤◌, ◌<◌, Bool, false, ◌||◌, is_none, List, [], ◌∷◌, ◌++◌, length, drop, All, Option, Some, None, codes}
 use Rattle.adb_outside.specs.declared.kinds.Cause.{Cause}
 use Rattle.adb_outside.specs.declared.kinds.Cause.TheVariants.{Eof, Fault, Starved, NoThread}
 use Rattle.adb_request.specs.Requests.{request_at, meaning}

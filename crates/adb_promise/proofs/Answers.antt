@@ -3,17 +3,16 @@ use Rattle.std.proofs.Common.{ℕ, ◌+◌, ◌≡◌, ◌≢◌, ◌≤◌, ◌
 use Rattle.std.proofs.Math.Seq.{drop-append_seam}
 use Rattle.std.proofs.lemmas.List.{drop-append-le, length-append, append-nil}
 use Rattle.std.proofs.lemmas.Bool.{ne_eqb, eqb-true, eqb-false}
-use Rattle.std.specs.Prelude.{nat_eq, ◌&&◌, ◌||◌, not, is_none}
+use Rattle.std.specs.Prelude.{◌&&◌, ◌||◌, not, is_none}
 use Rattle.adb_outside.specs.declared.kinds.Cause.{Cause}
 use Rattle.adb_outside.specs.declared.kinds.Cause.TheVariants.{Eof, Fault, Starved, NoThread}
 use Rattle.adb_request.specs.Requests.{request_at, meaning}
 use Rattle.adb_request.specs.declared.cutting.Found.{Found}
 use Rattle.adb_request.specs.declared.cutting.Found.TheVariants.{More, Malformed, Whole}
-use Rattle.adb_capture.specs.declared.entry.Entry.{Entry}
 use Rattle.adb_capture.specs.declared.entry.Entry.TheVariants.{Join, Enter, Read, End, Bound, Attach, Recv, Detach, Put, Send}
 use Rattle.adb_history.specs.Rows.{IsPrefixOf}
-use Rattle.adb_history.specs.Machine.{answer, Client, State, fresh, absent, closing, owe, phase_after, settled, answered, asks, byte_in, bytes_in, is_unbuilt, byte_asks_unbuilt, asks_unbuilt, handed, dropped, end_phase, ended, History, state, step, IsDrawn, May, MayPut, IsLegal}
-use Rattle.adb_history.specs.Answered.{has_joined, has_ended, bytes_read, bytes_put, Asked, nothing_asked, after_answer, after_found, after_byte, after_bytes, asked, output_of, IsAnsweredAt, IsAnswered, DueIsPastHanded, UnreadIsPastUsed}
+use Rattle.adb_history.specs.Machine.{answer, Client, fresh, phase_after, settled, answered, asks, byte_in, bytes_in, is_unbuilt, byte_asks_unbuilt, asks_unbuilt, handed, end_phase, ended, History, state, IsDrawn, May, MayPut, IsLegal}
+use Rattle.adb_history.specs.Answered.{has_joined, has_ended, bytes_read, bytes_put, Asked, nothing_asked, after_answer, after_found, after_byte, after_bytes, asked, IsAnswered, DueIsPastHanded, UnreadIsPastUsed}
 use Rattle.adb_history.specs.declared.phase.Phase.{Phase}
 use Rattle.adb_history.specs.declared.phase.Phase.TheVariants.{Asking, Closing, Gone}
 
@@ -89,8 +88,8 @@ byte_tie Asking b input out c q is built t =
     let u : TiesAsking input out false c q = subst (λ (p : Phase). PhaseTie p input out false c q) is t.phase in
     subst (λ (a : Bool). Tie (input ++ b ∷ []) out false (byte_in Asking c b) (after_byte a q b)) (sym u.asks_on)
     (subst (λ (r : List ℕ). Tie (input ++ b ∷ []) out false (asks c (r ++ b ∷ []) (request_at (r ++ b ∷ []))) (after_found q (q.rest ++ b ∷ []) (request_at (q.rest ++ b ∷ [])))) u.unread
-        (asks_tie (request_at (q.rest ++ b ∷ [])) b input out c q is
-            (subst (λ (r : List ℕ). is_unbuilt (r ++ b ∷ []) (request_at (r ++ b ∷ [])) ≡ false) (sym u.unread) built) t.output u))
+    (asks_tie (request_at (q.rest ++ b ∷ [])) b input out c q is
+    (subst (λ (r : List ℕ). is_unbuilt (r ++ b ∷ []) (request_at (r ++ b ∷ [])) ≡ false) (sym u.unread) built) t.output u))
 byte_tie Closing b input out c q is built t =
     let u : PhaseTie Closing input out false c q = subst (λ (p : Phase). PhaseTie p input out false c q) is t.phase in
     shut_tie b input out c q u.1 (λ x. record { output = t.output; phase = subst (λ (p : Phase). PhaseTie p x out false c q) (sym is) u })
@@ -107,7 +106,7 @@ bytes_tie [] input out c q built t = rw append-nil t
 bytes_tie (b ∷ bytes) input out c q built t =
     let e = either_false (byte_asks_unbuilt c.phase c b) (asks_unbuilt (byte_in c.phase c b) bytes) built in
     subst (λ (x : List ℕ). Tie x out false (bytes_in (byte_in c.phase c b) bytes) (after_bytes (after_byte q.asking q b) bytes)) (append_assoc input (b ∷ []) bytes)
-        (bytes_tie bytes (input ++ b ∷ []) out (byte_in c.phase c b) (after_byte q.asking q b) e.1 (byte_tie c.phase b input out c q refl e.0 t))
+    (bytes_tie bytes (input ++ b ∷ []) out (byte_in c.phase c b) (after_byte q.asking q b) e.1 (byte_tie c.phase b input out c q refl e.0 t))
 
 -- after the end of its input a client reads nothing
 ended_byte : (p : Phase) (b : ℕ) (input out : List ℕ) (c : Client) (q : Asked) → c.phase ≡ p → Tie input out true c q → Tie input out true (byte_in p c b) q
@@ -177,12 +176,13 @@ abbrev AllTied : History → Type 0
 AllTied h = (c : ℕ) → (c ≤ (state h).joined → 0 < c → TieOf h c) × ((state h).joined < c → IsAbsent h c)
 
 tied_join : (n : ℕ) (older : History) → May (state older) (Join n) → AllTied older → AllTied (Join n ∷ older)
-tied_join n older may known c =
-    (λ below pos. go (eqb n c) refl below pos,
-     λ above.
-        let a = (known c).1 (omega (arith, may)) in
-        let apart : eqb n c ≡ false = ne_eqb n c (λ e. omega (arith, may)) in
-        record { input = a.input; out = a.out; over = a.over; asks = a.asks; joins = rw apart a.joins })
+tied_join n older may known c = (
+  λ below pos. go (eqb n c) refl below pos,
+  λ above.
+      let a = (known c).1 (omega (arith, may)) in
+      let apart : eqb n c ≡ false = ne_eqb n c (λ e. omega (arith, may)) in
+      record { input = a.input; out = a.out; over = a.over; asks = a.asks; joins = rw apart a.joins },
+)
   where
     go : (here : Bool) → eqb n c ≡ here → c ≤ (state older).joined + 1 → 0 < c → Tie (bytes_read c older) (bytes_put c older) (has_ended c older) (cond here fresh ((state older).clients c)) (asked c older)
     go true e below pos =
@@ -194,30 +194,33 @@ tied_join n older may known c =
         (known c).0 (omega (arith, may)) pos
 
 tied_read : (n : ℕ) (bytes : List ℕ) (older : History) → May (state older) (Read n bytes) → AllTied older → AllTied (Read n bytes ∷ older)
-tied_read n bytes older may known c =
-    (λ below pos. read_tie (eqb n c) (has_ended c older) bytes (bytes_read c older) (bytes_put c older) ((state older).clients c) (asked c older)
-        (λ same. subst (λ (k : ℕ). asks_unbuilt ((state older).clients k) bytes ≡ false) (eqb-true n c same) may.1) ((known c).0 below pos),
-     λ above.
-        let a = (known c).1 above in
-        let apart : eqb n c ≡ false = ne_eqb n c (λ e. omega (arith, may.0)) in
-        record { input = rw apart a.input; out = a.out; over = a.over; asks = rw apart a.asks; joins = a.joins })
+tied_read n bytes older may known c = (
+  λ below pos. read_tie (eqb n c) (has_ended c older) bytes (bytes_read c older) (bytes_put c older) ((state older).clients c) (asked c older)
+      (λ same. subst (λ (k : ℕ). asks_unbuilt ((state older).clients k) bytes ≡ false) (eqb-true n c same) may.1) ((known c).0 below pos),
+  λ above.
+      let a = (known c).1 above in
+      let apart : eqb n c ≡ false = ne_eqb n c (λ e. omega (arith, may.0)) in
+      record { input = rw apart a.input; out = a.out; over = a.over; asks = rw apart a.asks; joins = a.joins },
+)
 
 tied_end : (n : ℕ) (cause : Cause) (older : History) → May (state older) (End n cause) → AllTied older → AllTied (End n cause ∷ older)
-tied_end n cause older may known c =
-    (λ below pos. end_tie (eqb n c) (has_ended c older) cause (bytes_read c older) (bytes_put c older) ((state older).clients c) (asked c older) ((known c).0 below pos),
-     λ above.
-        let a = (known c).1 above in
-        let apart : eqb n c ≡ false = ne_eqb n c (λ e. omega (arith, may)) in
-        record { input = a.input; out = a.out; over = rw apart a.over; asks = a.asks; joins = a.joins })
+tied_end n cause older may known c = (
+  λ below pos. end_tie (eqb n c) (has_ended c older) cause (bytes_read c older) (bytes_put c older) ((state older).clients c) (asked c older) ((known c).0 below pos),
+  λ above.
+      let a = (known c).1 above in
+      let apart : eqb n c ≡ false = ne_eqb n c (λ e. omega (arith, may)) in
+      record { input = a.input; out = a.out; over = rw apart a.over; asks = a.asks; joins = a.joins },
+)
 
 tied_put : (n : ℕ) (bytes : List ℕ) (older : History) → May (state older) (Put n bytes) → AllTied older → AllTied (Put n bytes ∷ older)
-tied_put n bytes older may known c =
-    (λ below pos. put_tie (eqb n c) (has_ended c older) bytes (bytes_read c older) (bytes_put c older) ((state older).clients c) (asked c older)
-        (λ same. subst (λ (k : ℕ). MayPut ((state older).clients k) bytes) (eqb-true n c same) may.1) ((known c).0 below pos),
-     λ above.
-        let a = (known c).1 above in
-        let apart : eqb n c ≡ false = ne_eqb n c (λ e. omega (arith, may.0)) in
-        record { input = a.input; out = rw apart a.out; over = a.over; asks = a.asks; joins = a.joins })
+tied_put n bytes older may known c = (
+  λ below pos. put_tie (eqb n c) (has_ended c older) bytes (bytes_read c older) (bytes_put c older) ((state older).clients c) (asked c older)
+      (λ same. subst (λ (k : ℕ). MayPut ((state older).clients k) bytes) (eqb-true n c same) may.1) ((known c).0 below pos),
+  λ above.
+      let a = (known c).1 above in
+      let apart : eqb n c ≡ false = ne_eqb n c (λ e. omega (arith, may.0)) in
+      record { input = a.input; out = rw apart a.out; over = a.over; asks = a.asks; joins = a.joins },
+)
 
 all_tied : (h : History) → IsLegal h → AllTied h
 all_tied [] l = λ c. (λ below pos. absurd (omega arith), λ above. record { input = refl; out = refl; over = refl; asks = refl; joins = refl })

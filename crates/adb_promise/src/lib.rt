@@ -4,6 +4,4 @@
 
 mod answered;
 
-pub use answered::{
-    due_is_past_handed, every_legal_history_is_answered, unread_is_past_used,
-};
+pub use answered::{due_is_past_handed, every_legal_history_is_answered, unread_is_past_used};

@@ -48,7 +48,7 @@ within_front whole out s = rw (s.is, s.bytes) (go s.next)
     go (inr (e, after, is, legal, front)) =
         let on : s.later ++ s.done ≡ after ++ e ∷ s.done = ap (λ l. l ++ s.done) is ∙ append_assoc after (e ∷ []) s.done in
         rw on (prefix_on (written_of s.done ++ s.part) (written_of (e ∷ s.done)) (written_of (after ++ e ∷ s.done))
-            (rw (written_more e s.done) (prefix_behind (written_of s.done) s.part (record_of e) front)) (front_of_whole after (e ∷ s.done)))
+        (rw (written_more e s.done) (prefix_behind (written_of s.done) s.part (record_of e) front)) (front_of_whole after (e ∷ s.done)))
 
 -- less than a record, or a whole one
 empty_or : (rest : List ℕ) → (rest ≡ []) ⊎ (rest ≢ [])
@@ -61,13 +61,19 @@ within_spelled whole out s = go s.next
   where
     plain : s.part ≡ [] → SpellsHistory (magic ++ out)
     plain none = record { history = s.done; legal = s.legal; answered = all_answered s.done s.legal; part = []; is = ap (λ x. magic ++ x) (s.bytes ∙ ap (λ x. written_of s.done ++ x) none); rest = inl refl }
+
     whole_record : (e : Entry) → IsLegal (e ∷ s.done) → (rest : List ℕ) → s.part ++ rest ≡ record_of e → rest ≡ [] → SpellsHistory (magic ++ out)
     whole_record e legal rest is none =
         let all : s.part ≡ record_of e = sym (append-nil s.part) ∙ (ap (λ x. s.part ++ x) (sym none) ∙ is) in
         record {
-          history = e ∷ s.done; legal = legal; answered = all_answered (e ∷ s.done) legal; part = [];
+          history = e ∷ s.done;
+          legal = legal;
+          answered = all_answered (e ∷ s.done) legal;
+          part = [];
           is = ap (λ x. magic ++ x) (s.bytes ∙ (ap (λ x. written_of s.done ++ x) all ∙ (sym (written_more e s.done) ∙ sym (append-nil (written_of (e ∷ s.done))))));
-          rest = inl refl }
+          rest = inl refl;
+        }
+
     go : IsPartOfNext s.part s.done s.later → SpellsHistory (magic ++ out)
     go (inl none) = plain none
     go (inr (e, after, later, legal, front)) = split (empty_or front.0)
@@ -75,8 +81,13 @@ within_spelled whole out s = go s.next
         split : (front.0 ≡ []) ⊎ (front.0 ≢ []) → SpellsHistory (magic ++ out)
         split (inl none) = whole_record e legal front.0 front.1 none
         split (inr more) = record {
-          history = s.done; legal = s.legal; answered = all_answered s.done s.legal; part = s.part; is = ap (λ x. magic ++ x) s.bytes;
-          rest = inr (record { entry = e; legal = legal; rest = front.0; more = more; is = front.1 }) }
+          history = s.done;
+          legal = s.legal;
+          answered = all_answered s.done s.legal;
+          part = s.part;
+          is = ap (λ x. magic ++ x) s.bytes;
+          rest = inr (record { entry = e; legal = legal; rest = front.0; more = more; is = front.1 });
+        }
 
 whole_spelled : (whole : History) (out : List ℕ) → out ≡ written_of whole → IsLegal whole → SpellsHistory (magic ++ out)
 whole_spelled whole out is legal = record { history = whole; legal = legal; answered = all_answered whole legal; part = []; is = ap (λ x. magic ++ x) (is ∙ sym (append-nil (written_of whole))); rest = inl refl }
@@ -98,8 +109,8 @@ text_is a whole is = ap (λ h. magic ++ records_of (reverse h)) (sym is)
 front_text : (a : Accepted) (whole : History) (out : List ℕ) → StopsWithin whole out → IsFrontOf whole a → IsPrefixOf (magic ++ out) (magic ++ records_of (drained a.inputs))
 front_text a whole out s f =
     prefix_behind magic out (records_of (drained a.inputs))
-        (prefix_on out (written_of whole) (records_of (drained a.inputs)) (within_front whole out s)
-            (subst (λ (h : History). IsPrefixOf (written_of whole) (written_of h)) (sym f.is) (front_of_whole f.more whole)))
+    (prefix_on out (written_of whole) (records_of (drained a.inputs)) (within_front whole out s)
+    (subst (λ (h : History). IsPrefixOf (written_of whole) (written_of h)) (sym f.is) (front_of_whole f.more whole)))
 
 -- what went out behind the magic, of all that a capture gives
 text_wrote : (result : Result (Unit {0}) Stop) (whole : History) (out had : List ℕ) (a : Accepted) (written : Option (List ℕ)) → written ≡ Some (had ++ (magic ++ out)) → Wrote result whole out → Reaches result whole a
@@ -138,22 +149,23 @@ pub capture_replayed : (opened : Reading) (left_first left_opened left_after wri
     → (written_mid : Option (List ℕ)) → ((had : List ℕ) → written_before ≡ Some had → written_mid ≡ Some (had ++ magic))
     → Replays opened left_opened left_after written_mid written_after result → ReplaysCapture left_first left_after written_before written_after result
 capture_replayed opened left_first left_opened left_after written_before written_after result eight is_open opens written_mid magic_out r = record {
-    writes = λ bytes had told has.
+  writes = λ bytes had told has.
       let w = r.wrote (had ++ magic) (magic_out had has) in
       let m = at bytes told in
       rw (replayed_with bytes m.1.0)
-        (text_wrote result w.whole w.out had (accept_records 8 (drop 8 bytes) []) written_after (w.is ∙ ap Some (append_assoc had magic w.out)) w.wrote
-            (subst (λ (a : Accepted). Reaches result w.whole a) (same bytes m.0 m.1.1) (w.reaches m.0 m.2)));
-    ends = λ bytes told.
+      (text_wrote result w.whole w.out had (accept_records 8 (drop 8 bytes) []) written_after (w.is ∙ ap Some (append_assoc had magic w.out)) w.wrote
+      (subst (λ (a : Accepted). Reaches result w.whole a) (same bytes m.0 m.1.1) (w.reaches m.0 m.2)));
+  ends = λ bytes told.
       let m = at bytes told in
       subst (λ (a : Accepted). EndsAs result a left_after) (same bytes m.0 m.1.1 ∙ sym (accepted_with bytes m.1.0)) (r.ends m.0 m.2);
-    spells = λ had has.
+  spells = λ had has.
       let w = r.wrote (had ++ magic) (magic_out had has) in
       record { growth = magic ++ w.out; is = w.is ∙ ap Some (append_assoc had magic w.out); spelled = inr (wrote_spelled result w.whole w.out w.wrote) };
-  }
+}
   where
     same : (bytes before : List ℕ) → before ≡ drop 8 bytes → accept_records opened.offset before [] ≡ accept_records 8 (drop 8 bytes) []
     same bytes before e = ap (λ n. accept_records n before []) eight ∙ ap (λ b. accept_records 8 b []) e
+
     at : (bytes : List ℕ) → left_first ≡ Some bytes → (before : List ℕ) × ((has_magic bytes ≡ true) × (before ≡ drop 8 bytes)) × WasAhead opened left_opened before
     at bytes told =
         let o = opens bytes told in
@@ -201,9 +213,9 @@ pub capture_unwritten : (opened : Reading) (left_first left_opened written_befor
     → ((had : List ℕ) → written_before ≡ Some had → HasPart had magic written_after) → ReplaysCapture left_first left_opened written_before written_after (Err WriteFault)
 capture_unwritten opened left_first left_opened written_before written_after opens part = record {
   writes = λ bytes had told has.
-    let p = part had has in
-    let m = magic_there bytes _ (opens bytes told).2 in
-    record { growth = p.part; is = p.is; front = rw (replayed_with bytes m.0) (p.front.0 ++ records_of (drained (accept_records 8 (drop 8 bytes) []).inputs), sym (append_assoc p.part p.front.0 _) ∙ ap (λ x. x ++ records_of (drained (accept_records 8 (drop 8 bytes) []).inputs)) p.front.1) };
+      let p = part had has in
+      let m = magic_there bytes _ (opens bytes told).2 in
+      record { growth = p.part; is = p.is; front = rw (replayed_with bytes m.0) (p.front.0 ++ records_of (drained (accept_records 8 (drop 8 bytes) []).inputs), sym (append_assoc p.part p.front.0 _) ∙ ap (λ x. x ++ records_of (drained (accept_records 8 (drop 8 bytes) []).inputs)) p.front.1) };
   ends = λ bytes told. tt;
   spells = λ had has. let p = part had has in record { growth = p.part; is = p.is; spelled = inl p.front };
 }

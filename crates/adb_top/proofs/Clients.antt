@@ -32,7 +32,7 @@ pub asks_piece : (row : Client) (piece : List ℕ) (old : KeptClient) (result : 
 asks_piece row piece old result mid same asking rests front =
     let e : row.phase ≡ Asking = ap (λ (k : KeptClient). k.phase) (sym same) ∙ asking in
     go (request_at (row.unread ++ piece)) refl result e (subst (λ (p : Phase). IsResting p row.unread) e rests)
-        (subst (λ (k : KeptClient). AnswersFront (request_at (k.unread ++ piece)) (record k { unread = k.unread ++ piece }) result mid) same front)
+    (subst (λ (k : KeptClient). AnswersFront (request_at (k.unread ++ piece)) (record k { unread = k.unread ++ piece }) result mid) same front)
   where
     go : (f : Found) → request_at (row.unread ++ piece) ≡ f → (r : Result (Unit {0}) Unread) → row.phase ≡ Asking → request_at row.unread ≡ More
         → AnswersFront f (record (kept_of row) { unread = row.unread ++ piece }) r mid → ReadsPiece row piece r (settled_row mid)

@@ -24,11 +24,11 @@ use Rattle.adb_top.specs.declared.stop.Stop.{Stop}
 -- counts of two parts
 pub counts_on : (a b c : Type 0) (x y z : ℕ) (failed : Bool) → Counted a b x y false → Counted b c y z failed → Counted a c x z failed
 counts_on a b c x y z failed first second = record {
-    count = omega (arith, first.count, second.count);
-    fault = λ e. rises (second.fault e);
-    keeps = λ s. second.keeps (first.keeps s);
-    steady = λ s. let t = second.steady (first.keeps s) in (t.0, t.1 ∙ (first.steady s).1);
-  }
+  count = omega (arith, first.count, second.count);
+  fault = λ e. rises (second.fault e);
+  keeps = λ s. second.keeps (first.keeps s);
+  steady = λ s. let t = second.steady (first.keeps s) in (t.0, t.1 ∙ (first.steady s).1);
+}
   where
     rises : Rises y z → Rises x z
     rises (inl less) = inl (omega (arith, less, first.count))
@@ -66,8 +66,14 @@ stopped_in front whole more now e before after is legal has part =
       out = written_of now ++ p.part;
       is = p.is ∙ ap Some (append_assoc front (written_of now) p.part);
       within = record {
-        done = now; later = more ++ e ∷ []; is = is ∙ sym (append_assoc more (e ∷ []) now); legal = legal.0; part = p.part; bytes = refl;
-        next = inr (e, more, refl, legal, p.front) };
+        done = now;
+        later = more ++ e ∷ [];
+        is = is ∙ sym (append_assoc more (e ∷ []) now);
+        legal = legal.0;
+        part = p.part;
+        bytes = refl;
+        next = inr (e, more, refl, legal, p.front);
+      };
     }
 
 -- ---- one hand-out
@@ -81,12 +87,18 @@ due_out n (b ∷ due) bytes some is = ap (λ bs. Some (Put n bs)) (sym is)
 
 -- the hand-out that comes next is legal
 pub put_legal : (h : History) (n : ℕ) (bytes : List ℕ) → IsLegal h → IsDrawn (state h) n → n < 2 ^ 32 → All (λ b. b < 256) bytes → ((state h).clients n).due ≢ [] → bytes ≡ take 65536 ((state h).clients n).due → IsLegal (Put n bytes ∷ h)
-put_legal h n bytes legal drawn small range some is =
-    (legal, record { owner = small; port = tt; bytes = range },
-     (drawn, record {
-        some = short_due ((state h).clients n).due bytes some is;
-        lives = λ gone. some ((orderly h legal).gone_has_none n gone);
-        front = (drop 65536 ((state h).clients n).due, ap (λ bs. bs ++ drop 65536 ((state h).clients n).due) is ∙ take-append-drop 65536 ((state h).clients n).due) }))
+put_legal h n bytes legal drawn small range some is = (
+  legal,
+  record { owner = small; port = tt; bytes = range },
+  (
+    drawn,
+    record {
+      some = short_due ((state h).clients n).due bytes some is;
+      lives = λ gone. some ((orderly h legal).gone_has_none n gone);
+      front = (drop 65536 ((state h).clients n).due, ap (λ bs. bs ++ drop 65536 ((state h).clients n).due) is ∙ take-append-drop 65536 ((state h).clients n).due);
+    },
+  ),
+)
 
 pub put_next : (h : History) (n : ℕ) (bytes : List ℕ) → OnlyDue (state h) n → ((state h).clients n).due ≢ [] → bytes ≡ take 65536 ((state h).clients n).due → next_out (state h) ≡ Some (Put n bytes)
 put_next h n bytes only some is = next_is (state h) n only.drawn only.others ∙ due_out n ((state h).clients n).due bytes some is
@@ -129,11 +141,13 @@ pub drains_over : (holds new : Kept) (before after : Option (List ℕ)) (h : His
 drains_over holds new before after h n puts d =
     let p = puts (state d.now) (orderly d.now d.lawful.legal) d.lawful.seen in
     let none : next_out (state d.now) ≡ None = next_is (state d.now) n d.only.drawn d.only.others ∙ ap (λ due. out_or n due None) p.0 in
-    let same : drain_all h ≡ d.now = d.ends ∙ drain_all_over d.now none in
-    (record {
-       lawful = subst (λ (g : History). IsLawful new g) (sym same) (record { legal = d.lawful.legal; seen = p.1 });
-       rests = ap (λ g. next_out (state g)) same ∙ none },
-     λ front has. subst (λ (g : History). HasWritten front g after) (sym same) (d.told front has))
+    let same : drain_all h ≡ d.now = d.ends ∙ drain_all_over d.now none in (
+      record {
+        lawful = subst (λ (g : History). IsLawful new g) (sym same) (record { legal = d.lawful.legal; seen = p.1 });
+        rests = ap (λ g. next_out (state g)) same ∙ none;
+      },
+      λ front has. subst (λ (g : History). HasWritten front g after) (sym same) (d.told front has),
+    )
 
 -- memory ran out before the next hand-out
 pub drains_stop : (holds : Kept) (before after : Option (List ℕ)) (h : History) (n : ℕ) (front : List ℕ) → Drains holds before after h n → HasWritten front h before → HasStopped front (drain_all h) after

@@ -148,4 +148,3 @@ unmade_entry offset e h old front written drained has = record { whole = h; reac
 
 pub handing_stopped : (offset : ℕ) (e : Entry) (h : History) (now : Kept) (front : List ℕ) (after : Option (List ℕ)) → Made offset e h now → is_input e ≡ true → HasStopped front (drain_all (e ∷ h)) after → StopsEntry front offset e h after
 handing_stopped offset e h now front after m input stopped = record { whole = drained_after h e; reached = inr (m.none, input, refl); stopped = stopped }
-

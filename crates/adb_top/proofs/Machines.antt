@@ -38,8 +38,8 @@ one_client : (s : State) (n : ℕ) (f : Client → Client) → IsOrderly s → I
     → at n new.clients ≡ kept_if_live (settled (f (s.clients n))) → new ≡ kept (to_client s n f)
 one_client s n f ok drawn old new same c here =
     row_put s (to_client s n f) n (settled (f (s.clients n))) new ok drawn (omega arith)
-        (λ q. puts q (eqb n q) refl)
-        (c.rises (rw same (kept_rises s))) (c.joined ∙ ap (λ (k : Kept). k.joined) same) here (λ q apart. c.others q apart ∙ ap (λ (k : Kept). at q k.clients) same)
+    (λ q. puts q (eqb n q) refl)
+    (c.rises (rw same (kept_rises s))) (c.joined ∙ ap (λ (k : Kept). k.joined) same) here (λ q apart. c.others q apart ∙ ap (λ (k : Kept). at q k.clients) same)
   where
     puts : (q : ℕ) (b : Bool) → eqb n q ≡ b → cond (eqb n q) (settled (f (s.clients q))) (s.clients q) ≡ cond (eqb n q) (settled (f (s.clients n))) (s.clients q)
     puts q true e = let is : n ≡ q = eqb-true n q e in ap (λ k. cond (eqb n q) (settled (f (s.clients k))) (s.clients q)) (sym is)
@@ -55,9 +55,11 @@ live_is_drawn s n ok old same e = (go n (holds s n old ok same) e, above (cases 
   where
     cases : (a b : ℕ) → (a ≤ b) ⊎ (b < a)
     cases a b = grind arith
+
     go : (m : ℕ) → at m old.clients ≡ kept_if_live (s.clients m) → at m old.clients ≡ Some (kept_of (s.clients m)) → 0 < m
     go zero has is = let clash = sym is ∙ (has ∙ ap kept_if_live ok.none_at_zero) in cc
     go (suc m) has is = omega arith
+
     above : (n ≤ s.joined) ⊎ (s.joined < n) → n ≤ s.joined
     above (inl le) = le
     above (inr lt) = let clash = sym e ∙ (holds s n old ok same ∙ ap kept_if_live (ok.none_above n lt)) in cc
@@ -94,8 +96,10 @@ row_changes s n f ok drawn old mid new gone same stays live dead first here seco
   where
     has : at n old.clients ≡ kept_if_live (s.clients n)
     has = holds s n old ok same
+
     lives : (p : Phase) → (s.clients n).phase ≡ p → p ≢ Gone → at n new.clients ≡ kept_if_live (settled (f (s.clients n)))
     lives p e apart = row_kept (settled (f (s.clients n))) gone (at n mid.clients) (at n new.clients) (live (has ∙ live_row (s.clients n) p e apart)) here
+
     go : (p : Phase) → (s.clients n).phase ≡ p → at n new.clients ≡ kept_if_live (settled (f (s.clients n)))
     go Asking e = lives Asking e (λ w. cc)
     go Closing e = lives Closing e (λ w. cc)
@@ -111,6 +115,7 @@ row_asks s n bytes ok old same b live dead = go (s.clients n).phase refl
   where
     has : at n old.clients ≡ kept_if_live (s.clients n)
     has = holds s n old ok same
+
     go : (p : Phase) → (s.clients n).phase ≡ p → asks_unbuilt (s.clients n) bytes ≡ b
     go Asking e = live (has ∙ live_row (s.clients n) Asking e (λ w. cc))
     go Closing e = live (has ∙ live_row (s.clients n) Closing e (λ w. cc))
@@ -129,10 +134,11 @@ pub joins : (s : State) (n : ℕ) → IsOrderly s → (old mid : Kept) → old �
     → ((offset : ℕ) → refusal_of s offset (Join n) ≡ None) × (record { joined = n; clients = mid.clients } ≡ kept (step s (Join n)))
 joins s n ok old mid same next here c =
     let test : nat_eq n (s.joined + 1) ≡ true = ap (λ (k : Kept). nat_eq n (k.joined + 1)) (sym same) ∙ next in
-    let is : n ≡ s.joined + 1 = eqb-true n (s.joined + 1) test in
-    ((λ offset. rw test refl),
-     row_put s (step s (Join n)) n fresh (record { joined = n; clients = mid.clients }) ok (omega (arith, is), omega (arith, is)) (omega arith) (λ q. refl)
-        (c.rises (rw same (kept_rises s))) is here (λ q apart. c.others q apart ∙ ap (λ (k : Kept). at q k.clients) same))
+    let is : n ≡ s.joined + 1 = eqb-true n (s.joined + 1) test in (
+      (λ offset. rw test refl),
+      row_put s (step s (Join n)) n fresh (record { joined = n; clients = mid.clients }) ok (omega (arith, is), omega (arith, is)) (omega arith) (λ q. refl)
+          (c.rises (rw same (kept_rises s))) is here (λ q apart. c.others q apart ∙ ap (λ (k : Kept). at q k.clients) same),
+    )
 
 -- a number that the test of a machine finds drawn
 pub is_drawn_of : (s : State) (n : ℕ) (old : Kept) → old ≡ kept s → (nat_lt 0 n && nat_le n old.joined) ≡ true → (is_drawn s n ≡ true) × IsDrawn s n
@@ -155,11 +161,13 @@ read_fails s n bytes ok old why new same drawn live dead = go (s.clients n).phas
   where
     has : at n old.clients ≡ kept_if_live (s.clients n)
     has = holds s n old ok same
+
     refused_so : (w : Refused) → ReadsRow (s.clients n) bytes (Err w) (at n new.clients) → Applies s (Read n bytes) (Err w) new
     refused_so refused.NotDrawn r = absurd r
     refused_so refused.BadSerial r = absurd r
     refused_so refused.NotBuilt r = λ offset. rw (drawn, r) refl
     refused_so refused.OutOfMemory r = tt
+
     go : (p : Phase) → (s.clients n).phase ≡ p → Applies s (Read n bytes) (Err why) new
     go Asking e = refused_so why (live (has ∙ live_row (s.clients n) Asking e (λ w. cc)))
     go Closing e = refused_so why (live (has ∙ live_row (s.clients n) Closing e (λ w. cc)))
@@ -184,8 +192,10 @@ puts_none s n max ok old new same live dead c = go (s.clients n).phase refl
   where
     has : at n old.clients ≡ kept_if_live (s.clients n)
     has = holds s n old ok same
+
     lives : at n old.clients ≡ Some (kept_of (s.clients n)) → Puts s n max None new
     lives e = let r = live e in (r.0, same_kept s n ok old new same c (r.1 ∙ sym e))
+
     go : (p : Phase) → (s.clients n).phase ≡ p → Puts s n max None new
     go Asking e = lives (has ∙ live_row (s.clients n) Asking e (λ w. cc))
     go Closing e = lives (has ∙ live_row (s.clients n) Closing e (λ w. cc))
@@ -201,11 +211,16 @@ puts_some s n max ok old mid new out same live dead first here second = go (s.cl
   where
     has : at n old.clients ≡ kept_if_live (s.clients n)
     has = holds s n old ok same
+
     lives : at n old.clients ≡ Some (kept_of (s.clients n)) → Puts s n max (Some out.bytes) new
     lives e =
-        let r = live e in
-        (r.0, r.1, one_client s n (handed (length out.bytes)) ok (live_is_drawn s n ok old same e) old new same (changes_on old mid new n first second)
-            (row_kept (settled (handed (length out.bytes) (s.clients n))) out.gone (at n mid.clients) (at n new.clients) r.2 here))
+        let r = live e in (
+          r.0,
+          r.1,
+          one_client s n (handed (length out.bytes)) ok (live_is_drawn s n ok old same e) old new same (changes_on old mid new n first second)
+              (row_kept (settled (handed (length out.bytes) (s.clients n))) out.gone (at n mid.clients) (at n new.clients) r.2 here),
+        )
+
     go : (p : Phase) → (s.clients n).phase ≡ p → Puts s n max (Some out.bytes) new
     go Asking e = lives (has ∙ live_row (s.clients n) Asking e (λ w. cc))
     go Closing e = lives (has ∙ live_row (s.clients n) Closing e (λ w. cc))

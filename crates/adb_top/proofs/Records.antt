@@ -83,15 +83,15 @@ pub replaying_on : (first now new : Reading) (left_first left left_new written_f
     → ((h : History) (front : List ℕ) → IsDrained holds h → HasWritten front h written → HasWritten front (history_after e h) written_new)
     → Replaying first now left_first left written_first written holds → Replaying first new left_first left_new written_first written_new holds_new
 replaying_on first now new left_first left left_new written_first written written_new holds holds_new offset e gives opened drains tells r = record {
-    done = history_after e r.done;
-    drained = (drains r.done r.drained).1;
-    open_reader = opened;
-    told = λ front is. tells r.done front r.drained (r.told front is);
-    came = λ before was.
+  done = history_after e r.done;
+  drained = (drains r.done r.drained).1;
+  open_reader = opened;
+  told = λ front is. tells r.done front r.drained (r.told front is);
+  came = λ before was.
       let c = r.came before was in
       let g : GivesRecord now.offset c.before (offset, e) new.offset (option_and_then (ahead new) left_new) = given_next now new left left_new (Ok (Some (offset, e))) c.before gives r.open_reader.0 c.is in
       let a = accept_given now.offset c.before (offset, e) new.offset (option_and_then (ahead new) left_new) r.done g
-              ∙ ap (λ why. accept_by why (is_input e) r.done e (accept_records new.offset (drop g.size c.before))) (drains r.done r.drained).0 in
+      ∙ ap (λ why. accept_by why (is_input e) r.done e (accept_records new.offset (drop g.size c.before))) (drains r.done r.drained).0 in
       let on = accept_on (is_input e) r.done e (accept_records new.offset (drop g.size c.before)) in
       record {
         before = drop g.size c.before;
@@ -99,7 +99,7 @@ replaying_on first now new left_first left left_new written_first written writte
         inputs = c.inputs ∙ (ap (λ (k : Accepted). drained_from r.done k.inputs) a ∙ on.0);
         refused = c.refused ∙ (ap (λ (k : Accepted). k.refused) a ∙ on.1);
       };
-  }
+}
 
 -- the records end
 ahead_empty : (held coming : List ℕ) → held ++ coming ≡ [] → coming ≡ []
@@ -116,17 +116,21 @@ left_empty new left opened e =
 pub replaying_over : (first now new : Reading) (left_first left left_new written_first written : Option (List ℕ)) (holds : Kept) → Gives now left (Ok None) new left_new → new.opened ≡ true
     → Replaying first now left_first left written_first written holds → Replays first left_first left_new written_first written (Ok tt)
 replaying_over first now new left_first left left_new written_first written holds gives opened r = record {
-    wrote = λ front is. record {
-      whole = r.done; out = written_of r.done; is = r.told front is; wrote = (refl, r.drained.lawful.legal);
-      reaches = λ before was.
+  wrote = λ front is. record {
+    whole = r.done;
+    out = written_of r.done;
+    is = r.told front is;
+    wrote = (refl, r.drained.lawful.legal);
+    reaches = λ before was.
         let c = r.came before was in
         let g : (c.before ≡ []) × (option_and_then (ahead new) left_new ≡ Some []) × (new.offset ≡ now.offset) = given_next now new left left_new (Ok None) c.before gives r.open_reader.0 c.is in
-        c.inputs ∙ ap (λ b. drained_from r.done (accept_records now.offset b r.done).inputs) g.0 };
-    ends = λ before was.
+        c.inputs ∙ ap (λ b. drained_from r.done (accept_records now.offset b r.done).inputs) g.0;
+  };
+  ends = λ before was.
       let c = r.came before was in
       let g : (c.before ≡ []) × (option_and_then (ahead new) left_new ≡ Some []) × (new.offset ≡ now.offset) = given_next now new left left_new (Ok None) c.before gives r.open_reader.0 c.is in
       (c.refused ∙ ap (λ b. (accept_records now.offset b r.done).refused) g.0, left_empty new left_new opened g.1);
-  }
+}
 
 -- what went out so far, where nothing more did
 so_far : (whole : History) → IsLegal whole → StopsWithin whole (written_of whole)
@@ -166,17 +170,27 @@ replaying_stopped first now new left_first left left_new written_first written h
     fault : (why : Stop) → ((out : List ℕ) → StopsWithin r.done out → Wrote (Err why) r.done out) → ((a : Accepted) → IsFrontOf r.done a → Reaches (Err why) r.done a) → ((a : Accepted) → EndsAs (Err why) a left_new) → Replays first left_first left_new written_first written (Err why)
     fault why wrote reaches ends = record {
       wrote = λ front is. record {
-        whole = r.done; out = written_of r.done; is = r.told front is; wrote = wrote (written_of r.done) (so_far r.done r.drained.lawful.legal);
-        reaches = λ before was. reaches (accept_records first.offset before []) (front_so_far first now left_first left written_first written holds r before was) };
+        whole = r.done;
+        out = written_of r.done;
+        is = r.told front is;
+        wrote = wrote (written_of r.done) (so_far r.done r.drained.lawful.legal);
+        reaches = λ before was. reaches (accept_records first.offset before []) (front_so_far first now left_first left written_first written holds r before was);
+      };
       ends = λ before was. ends (accept_records first.offset before []);
     }
+
     refusal : (why : CaptureError) → ((before : List ℕ) (h : History) → WasAhead now left before → accept_records now.offset before h ≡ record { inputs = []; refused = Some (Form why) }) → Replays first left_first left_new written_first written (Err (Refused (Form why)))
     refusal why there = record {
       wrote = λ front is. record {
-        whole = r.done; out = written_of r.done; is = r.told front is; wrote = (refl, r.drained.lawful.legal);
-        reaches = λ before was. let c = r.came before was in c.inputs ∙ ap (λ (k : Accepted). drained_from r.done k.inputs) (there c.before r.done c.is) };
+        whole = r.done;
+        out = written_of r.done;
+        is = r.told front is;
+        wrote = (refl, r.drained.lawful.legal);
+        reaches = λ before was. let c = r.came before was in c.inputs ∙ ap (λ (k : Accepted). drained_from r.done k.inputs) (there c.before r.done c.is);
+      };
       ends = λ before was. let c = r.came before was in c.refused ∙ ap (λ (k : Accepted). k.refused) (there c.before r.done c.is);
     }
+
     go : (e : CaptureError) → ((before : List ℕ) (h : History) → WasAhead now left before → stop_of e ≡ Refused (Form e) → accept_records now.offset before h ≡ record { inputs = []; refused = Some (Form e) }) → Replays first left_first left_new written_first written (Err (stop_of e))
     go capture.BadMagic there = refusal capture.BadMagic (λ before h was. there before h was refl)
     go (capture.BadRecord at why) there = refusal (capture.BadRecord at why) (λ before h was. there before h was refl)
@@ -195,7 +209,7 @@ reached_front first now new left_first left left_new written_first written holds
     let g : GivesRecord now.offset c.before (offset, e) new.offset (option_and_then (ahead new) left_new) = given_next now new left left_new (Ok (Some (offset, e))) c.before gives r.open_reader.0 c.is in
     let others = accept_records new.offset (drop g.size c.before) in
     let a = accept_given now.offset c.before (offset, e) new.offset (option_and_then (ahead new) left_new) r.done g
-            ∙ (ap (λ why. accept_by why (is_input e) r.done e others) on.0 ∙ ap (λ b. accept_by None b r.done e others) on.1) in
+    ∙ (ap (λ why. accept_by why (is_input e) r.done e others) on.0 ∙ ap (λ b. accept_by None b r.done e others) on.1) in
     let more = drained_adds (drained_after r.done e) (others (drained_after r.done e)).inputs in
     record { more = more.0; is = c.inputs ∙ (ap (λ (k : Accepted). drained_from r.done k.inputs) a ∙ (more.1 ∙ ap (λ h. more.0 ++ h) (sym on.2))) }
 
@@ -211,25 +225,35 @@ replaying_lost first now new left_first left left_new written_first written writ
     lost : (why : Stop) → ((whole : History) (out : List ℕ) → StopsWithin whole out → Wrote (Err why) whole out) → ((whole : History) (a : Accepted) → IsFrontOf whole a → Reaches (Err why) whole a) → ((a : Accepted) → EndsAs (Err why) a left_new) → Replays first left_first left_new written_first written_new (Err why)
     lost why wrote reaches ends = record {
       wrote = λ front is.
-        let s = stops r.done front r.drained (r.told front is) in
-        record {
-          whole = s.whole; out = s.stopped.out; is = s.stopped.is; wrote = wrote s.whole s.stopped.out s.stopped.within;
-          reaches = λ before was. reaches s.whole (accept_records first.offset before []) (reached_front first now new left_first left left_new written_first written holds offset e gives r s.whole s.reached before was) };
+          let s = stops r.done front r.drained (r.told front is) in
+          record {
+            whole = s.whole;
+            out = s.stopped.out;
+            is = s.stopped.is;
+            wrote = wrote s.whole s.stopped.out s.stopped.within;
+            reaches = λ before was. reaches s.whole (accept_records first.offset before []) (reached_front first now new left_first left left_new written_first written holds offset e gives r s.whole s.reached before was);
+          };
       ends = λ before was. ends (accept_records first.offset before []);
     }
+
     refusal : (w : Refusal) → (written_new ≡ written) × ((h : History) → IsDrained holds h → refusal_of (state h) offset e ≡ Some w) → Replays first left_first left_new written_first written_new (Err (Refused w))
     refusal w says = record {
-        wrote = λ front is. record {
-          whole = r.done; out = written_of r.done; is = says.0 ∙ r.told front is; wrote = (refl, r.drained.lawful.legal);
-          reaches = λ before was. let c = r.came before was in c.inputs ∙ ap (λ (k : Accepted). drained_from r.done k.inputs) (there c) };
-        ends = λ before was. let c = r.came before was in c.refused ∙ ap (λ (k : Accepted). k.refused) (there c);
-      }
+      wrote = λ front is. record {
+        whole = r.done;
+        out = written_of r.done;
+        is = says.0 ∙ r.told front is;
+        wrote = (refl, r.drained.lawful.legal);
+        reaches = λ before was. let c = r.came before was in c.inputs ∙ ap (λ (k : Accepted). drained_from r.done k.inputs) (there c);
+      };
+      ends = λ before was. let c = r.came before was in c.refused ∙ ap (λ (k : Accepted). k.refused) (there c);
+    }
       where
         there : {all : Accepted} → (c : ComesOn now left r.done all) → accept_records now.offset c.before r.done ≡ record { inputs = []; refused = Some w }
         there c =
             let g : GivesRecord now.offset c.before (offset, e) new.offset (option_and_then (ahead new) left_new) = given_next now new left left_new (Ok (Some (offset, e))) c.before gives r.open_reader.0 c.is in
             accept_given now.offset c.before (offset, e) new.offset (option_and_then (ahead new) left_new) r.done g
             ∙ ap (λ why. accept_by why (is_input e) r.done e (accept_records new.offset (drop g.size c.before))) (says.1 r.done r.drained)
+
     go : (why : Stop) → ◌≢◌ {A = Result (Unit {0}) Stop} (Err why) (Err ReadFault) → ((r : Refusal) → ◌≡◌ {A = Result (Unit {0}) Stop} (Err why) (Err (Refused r)) → (written_new ≡ written) × ((h : History) → IsDrained holds h → refusal_of (state h) offset e ≡ Some r))
         → Replays first left_first left_new written_first written_new (Err why)
     go ReadFault reads refuses = absurd (reads refl)
@@ -246,11 +270,11 @@ pub record GoingOn (first now : Reading) (left_first left_now written_first writ
 -- what a call of the reader did to its source
 pub next_counted : (a b : Type 0) (x y : ℕ) (result : Result (Option (ℕ × Entry)) CaptureError) → x ≤ y → (result ≡ Err capture.ReadFault → Rises x y) → (a → b) → (a → (result ≢ Err capture.ReadFault) × (y ≡ x)) → Counted a b x y (is_fault result)
 next_counted a b x y result count fault keeps steady = record {
-    count = count;
-    fault = λ e. fault (is_read result e);
-    keeps = keeps;
-    steady = λ s. (not_read result (steady s).0, (steady s).1);
-  }
+  count = count;
+  fault = λ e. fault (is_read result e);
+  keeps = keeps;
+  steady = λ s. (not_read result (steady s).0, (steady s).1);
+}
   where
     is_read : (r : Result (Option (ℕ × Entry)) CaptureError) → is_fault r ≡ true → r ≡ Err capture.ReadFault
     is_read (Ok x) e = cc
@@ -260,6 +284,7 @@ next_counted a b x y result count fault keeps steady = record {
     is_read (Err (capture.TooLong at)) e = cc
     is_read (Err capture.ReadFault) e = refl
     is_read (Err capture.OutOfMemory) e = cc
+
     not_read : (r : Result (Option (ℕ × Entry)) CaptureError) → r ≢ Err capture.ReadFault → is_fault r ≡ false
     not_read (Ok x) e = refl
     not_read (Err capture.BadMagic) e = refl

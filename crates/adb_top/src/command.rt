@@ -7,13 +7,12 @@ ghost use Rattle.adb_top.specs.Words.{is_replay as is_replay_line};
 ghost use Rattle.adb_top.specs.Replayed.{GrowsSpelled};
 ghost use Rattle.adb_top.specs.Run.{WritesBy, EndsBy, NotesBy, NamesRefusal, Completes};
 
-use adb_outside::{Sink, Source};
-use std::alloc::Global;
-
 use crate::note::{say_stop, say_usage};
 use crate::replay::replay;
 use crate::status::Status;
 use crate::words::is_replay;
+use adb_outside::{Sink, Source};
+use std::alloc::Global;
 
 /// Does what the words behind the program's name say. The one command is `replay`: it reads a
 /// capture from the source, makes its entries in order, hands out all that is due after each, and

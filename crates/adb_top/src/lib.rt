@@ -6,7 +6,6 @@ mod command;
 mod machine;
 mod note;
 mod replay;
-
 mod status;
 mod stop;
 #[cfg(test)]

@@ -10,15 +10,14 @@ ghost use Rattle.adb_history.specs.Accepted.{is_drawn as is_drawn_number, is_ser
 ghost use Rattle.adb_top.specs.Stop.{stop_at};
 ghost use Rattle.adb_top.specs.Machine.{ChangesOne, Becomes, ReadsRow, HandsRow, Applies, Puts, due_at};
 
+use crate::client::{Client, Unread};
+use crate::stop::Stop;
 use adb_capture::Entry;
 use adb_history::Refusal;
 use adb_outside::{Cause, Text};
 use std::alloc::{AllocError, Global};
 use std::collections::BTreeMap;
 use std::marker::Model;
-
-use crate::client::{Client, Unread};
-use crate::stop::Stop;
 
 /// Why an entry is not made.
 #[derive(Clone, Copy, Debug, PartialEq, Eq, Drop)]
@@ -118,7 +117,11 @@ impl Machine {
             Entry::Enter { .. } => Err(Refused::NotDrawn),
             Entry::Bound { client, port: _ } if self.is_drawn(*client) => Err(Refused::NotBuilt),
             Entry::Bound { .. } => Err(Refused::NotDrawn),
-            Entry::Attach { link, kind: _, serial } => attach(*link, serial),
+            Entry::Attach {
+                link,
+                kind: _,
+                serial,
+            } => attach(*link, serial),
             Entry::Recv { .. } => Err(Refused::NotDrawn),
             Entry::Detach { .. } => Err(Refused::NotDrawn),
             Entry::Put { .. } => Ok(()),

@@ -4,14 +4,13 @@ ghost use Rattle.std.specs.Prelude.{◌≡◌, ◌≢◌, ◌<◌, ◌≤◌, �
 ghost use Rattle.adb_outside.specs.Outside.{Rises};
 ghost use Rattle.adb_top.specs.Notes.{usage_line, reason_of, reason_of_form, offset_of, bad_capture_line, EndsIn, NotesLine};
 
+use crate::status::Status;
+use crate::stop::Stop;
 use adb_capture::{CaptureError, Why};
 use adb_history::Refusal;
 use adb_outside::{Sink, Text, Wrote};
 use itoa::Buffer;
 use std::alloc::{AllocError, Global};
-
-use crate::status::Status;
-use crate::stop::Stop;
 
 /// Tells the note that the words are no command.
 pub fn say_usage<N: Sink>(note: &mut N) -> Status
@@ -21,7 +20,11 @@ pub fn say_usage<N: Sink>(note: &mut N) -> Status
     ensures count { N.faults note.old ≤ N.faults note.new }
     ensures steady { N.steady note.old → (result ≡ Status.Usage) × N.steady note.new × (N.faults note.new ≡ N.faults note.old) }
 {
-    say(note, Status::Usage, b"usage: adbhub replay | gen <seed> <streams> | local <seed> | serve [--port <n>] [--device <serial>] [--connect <port>] [--record]\n")
+    say(
+        note,
+        Status::Usage,
+        b"usage: adbhub replay | gen <seed> <streams> | local <seed> | serve [--port <n>] [--device <serial>] [--connect <port>] [--record]\n",
+    )
 }
 
 /// Tells the note why a replay stopped.

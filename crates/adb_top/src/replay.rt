@@ -14,23 +14,18 @@ ghost use Rattle.adb_top.specs.Replay.{OnlyDue, IsDrained, HasWritten, HasStoppe
 ghost use Rattle.adb_top.specs.Replayed.{ReplaysCapture};
 ghost use Rattle.adb_top.specs.Keeping.{KeepsRecord, IsLoss, is_write_fault, is_read_fault};
 
+use crate::machine::Machine;
+use crate::stop::Stop;
 use adb_capture::{CaptureReader, Entry, write_entry, write_magic};
 use adb_outside::{Sink, Source, Text, Wrote};
 use std::alloc::Global;
-
-use crate::machine::Machine;
-use crate::stop::Stop;
 
 /// The most bytes of one hand-out.
 const HAND_OUT: usize = 65_536;
 
 /// Replays the capture of a source, and writes the whole history to the sink as a capture. Nothing
 /// is written where the magic is bad.
-pub fn replay<S: Source, K: Sink>(
-    alloc: Global,
-    source: &mut S,
-    sink: &mut K,
-) -> Result<(), Stop>
+pub fn replay<S: Source, K: Sink>(alloc: Global, source: &mut S, sink: &mut K) -> Result<(), Stop>
     ensures replays { ReplaysCapture (S.left source.old) (S.left source.new) (K.written sink.old) (K.written sink.new) result }
     ensures reads { Counted (S.steady source.old) (S.steady source.new) (S.faults source.old) (S.faults source.new) (is_read_fault result) }
     ensures writes { Counted (K.steady sink.old) (K.steady sink.new) (K.faults sink.old) (K.faults sink.new) (is_write_fault result) }

@@ -5,9 +5,8 @@ mod streams;
 
 use adb_top::{Status, run};
 use std::alloc::Global;
-use std::env;
-use std::io;
 use std::process::ExitCode;
+use std::{env, io};
 use streams::{ReadSource, WriteSink};
 
 /// Runs the words of the command line over the standard streams, and ends with the status's code.
@@ -16,7 +15,13 @@ fn main(rt: HostRuntime) -> ExitCode {
     let mut sink = WriteSink::new(rt.stdout());
     let mut note = WriteSink::new(rt.stderr());
     let status = match words(&rt) {
-        Ok(words) => run(rt.alloc(), words.as_slice(), &mut source, &mut sink, &mut note),
+        Ok(words) => run(
+            rt.alloc(),
+            words.as_slice(),
+            &mut source,
+            &mut sink,
+            &mut note,
+        ),
         Err(error) if error.kind() == io::ErrorKind::OutOfMemory => Status::OutOfMemory,
         Err(_) => run(rt.alloc(), &[], &mut source, &mut sink, &mut note),
     };

@@ -15,6 +15,6 @@ returns-in-Err-clause-refusal_named g c = λ bytes had right told has.
 pub returns-in-Err-clause-complete : goal.returns-in-Err-clause-complete
 returns-in-Err-clause-complete g c = λ bytes right told no_read no_write no_note.
     completes_stopped c.in-Err.stop c.say_stop.result _ c.say_stop.ensures.status
-        (λ e. no_read (c.in-Err.ensures.reads.fault (read_fault_is c.in-Err.stop e)))
-        (λ e. elim (c.say_stop.ensures.fault e) [ inl w ↦ no_write (c.in-Err.ensures.writes.fault (write_fault_is c.in-Err.stop w)) | inr n ↦ no_note n ])
-        (refused_as c.in-Err.stop _ _ (c.in-Err.ensures.replays.ends bytes told))
+    (λ e. no_read (c.in-Err.ensures.reads.fault (read_fault_is c.in-Err.stop e)))
+    (λ e. elim (c.say_stop.ensures.fault e) [ inl w ↦ no_write (c.in-Err.ensures.writes.fault (write_fault_is c.in-Err.stop w)) | inr n ↦ no_note n ])
+    (refused_as c.in-Err.stop _ _ (c.in-Err.ensures.replays.ends bytes told))
