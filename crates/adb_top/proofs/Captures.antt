@@ -1,10 +1,10 @@
 -- From the records of a reader to a whole capture.
-use Rattle.std.proofs.Common.{ℕ, ◌≡◌, ◌≢◌, Bool, true, false, cond, List, [], ◌∷◌, ◌++◌, length, take, drop, reverse, Option, Some, None, Result, Ok, Err, refl, sym, ◌∙◌, ap, subst, ◌⊎◌, inl, inr, eqb, arith}
+use Rattle.std.proofs.Common.{ℕ, ◌≡◌, ◌≢◌, Bool, true, false, cond, List, [], ◌∷◌, ◌++◌, take, drop, reverse, Option, Some, None, Result, Ok, Err, refl, sym, ◌∙◌, ap, subst, ◌⊎◌, inl, inr}
 use Rattle.std.specs.Prelude.{option_and_then, bytes_eq}
 use Rattle.std.proofs.lemmas.List.{append_assoc, append-nil, reverse-append}
 use Rattle.adb_capture.specs.Records.{magic, record_of, records_of}
 use Rattle.adb_capture.specs.Reading.{Reading, ahead, to_give, past_magic}
-use Rattle.adb_capture.specs.Awaiting.{Opens, StaysAhead}
+use Rattle.adb_capture.specs.Awaiting.{Opens}
 use Rattle.adb_capture.specs.declared.entry.Entry.{Entry}
 use Rattle.adb_capture.specs.declared.error.CaptureError.{CaptureError}
 use Rattle.adb_capture.specs.declared.error.CaptureError.TheVariants as capture
@@ -16,8 +16,8 @@ use Rattle.adb_history.specs.declared.refusal.Refusal.TheVariants.{Form}
 use Rattle.adb_promise.proofs.Answers.{all_answered}
 use Rattle.adb_top.specs.Stop.{stop_of}
 use Rattle.adb_top.specs.Keeping.{HasPart}
-use Rattle.adb_top.specs.Replay.{written_of, StopsWithin, IsPartOfNext, Wrote, Reaches, IsFrontOf, EndsAs, WasAhead, WroteOf, Replays}
-use Rattle.adb_top.specs.Replayed.{HasFront, WritesText, IsPartOfRecord, SpellsHistory, IsSpelled, GrowsSpelled, ReplaysCapture}
+use Rattle.adb_top.specs.Replay.{written_of, StopsWithin, IsPartOfNext, Wrote, Reaches, IsFrontOf, EndsAs, WasAhead, Replays}
+use Rattle.adb_top.specs.Replayed.{HasFront, WritesText, SpellsHistory, GrowsSpelled, ReplaysCapture}
 use Rattle.adb_top.specs.declared.stop.Stop.{Stop}
 use Rattle.adb_top.specs.declared.stop.Stop.TheVariants.{ReadFault, WriteFault, OutOfMemory, Refused}
 use Rattle.adb_top.proofs.Drains.{written_more}

@@ -1,5 +1,5 @@
 -- What a client's calls make of its row is what the definitions make of it.
-use Rattle.std.proofs.Common.{ℕ, ◌≢◌, ◌<◌, take, drop, get_or, ◌≡◌, Bool, true, false, List, [], ◌++◌, Result, Ok, Err, Option, Some, None, refl, sym, ◌∙◌, ap, subst}
+use Rattle.std.proofs.Common.{ℕ, ◌≢◌, ◌≡◌, Bool, false, List, ◌++◌, Result, Ok, Err, Some, refl, sym, ◌∙◌, ap, subst}
 use Rattle.adb_request.specs.Requests.{request_at}
 use Rattle.adb_request.specs.declared.cutting.Found.{Found}
 use Rattle.adb_request.specs.declared.cutting.Found.TheVariants.{More, Malformed, Whole}
@@ -8,7 +8,7 @@ use Rattle.adb_history.specs.Kept.{KeptClient, kept_of, IsResting}
 use Rattle.adb_history.specs.declared.phase.Phase.{Phase}
 use Rattle.adb_history.specs.declared.phase.Phase.TheVariants.{Asking, Closing, Gone}
 use Rattle.adb_history.proofs.Bytes.{asking_with, reads_more, reads_malformed, reads_whole, reads_unbuilt, idle_closing, idle_gone}
-use Rattle.adb_top.specs.Client.{ReadsPiece, AnswersFront, ClosesWith, first_reply}
+use Rattle.adb_top.specs.Client.{ReadsPiece, AnswersFront}
 use Rattle.adb_top.specs.declared.client.Unread.{Unread}
 use Rattle.adb_top.specs.declared.client.Unread.TheVariants.{NotBuilt, OutOfMemory}
 

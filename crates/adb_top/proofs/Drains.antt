@@ -1,25 +1,22 @@
 -- Handing out all that is due to the one client to which something is.
-use Rattle.std.proofs.Common.{ℕ, ◌+◌, ◌^◌, ◌≡◌, ◌≢◌, ◌<◌, ◌≤◌, Bool, true, false, cond, List, [], ◌∷◌, ◌++◌, length, take, drop, reverse, Option, Some, None, Result, Ok, Err, refl, sym, ◌∙◌, ap, subst, arith, eqb, ◌⊎◌, inl, inr}
-use Rattle.std.specs.Prelude.{All, flat_map}
+use Rattle.std.proofs.Common.{ℕ, ◌^◌, ◌≡◌, ◌≢◌, ◌<◌, ◌≤◌, Bool, false, cond, List, [], ◌∷◌, ◌++◌, length, take, drop, reverse, Option, Some, None, refl, sym, ◌∙◌, ap, subst, arith, inl, inr}
+use Rattle.std.specs.Prelude.{All}
 use Rattle.std.proofs.lemmas.Bool.{ne_eqb}
 use Rattle.std.proofs.lemmas.List.{append_assoc, append-nil, reverse-append, take-append-drop}
 use Rattle.adb_outside.specs.Outside.{Rises}
-use Rattle.adb_capture.specs.Records.{record_of, records_of, owner_of, HasRecord}
+use Rattle.adb_capture.specs.Records.{record_of, records_of, HasRecord}
 use Rattle.adb_capture.specs.declared.entry.Entry.{Entry}
 use Rattle.adb_capture.specs.declared.entry.Entry.TheVariants.{Put}
-use Rattle.adb_history.specs.Rows.{IsPrefixOf}
-use Rattle.adb_history.specs.Machine.{Client, State, History, state, step, IsDrawn, IsInRange, MayPut, May, IsLegal, settled, handed}
+use Rattle.adb_history.specs.Machine.{State, History, state, step, IsDrawn, IsLegal, settled, handed}
 use Rattle.adb_history.specs.Kept.{Kept, kept, IsLawful, IsOrderly}
-use Rattle.adb_history.specs.Drained.{next_out, out_or, owed, drain_all, drained_after}
-use Rattle.adb_history.specs.declared.phase.Phase.TheVariants.{Gone}
+use Rattle.adb_history.specs.Drained.{next_out, out_or, owed, drain_all}
 use Rattle.adb_history.proofs.Orderly.{orderly}
-use Rattle.adb_history.proofs.Draining.{next_is, drain_all_step, drain_all_over, drain_all_rests}
+use Rattle.adb_history.proofs.Draining.{next_is, drain_all_step, drain_all_over}
 use Rattle.adb_history.proofs.Accepting.{drain_adds}
 use Rattle.adb_top.specs.Machine.{Puts}
 use Rattle.adb_capture.specs.Counting.{Counted}
-use Rattle.adb_top.specs.Keeping.{HasPart, KeepsRecord}
-use Rattle.adb_top.specs.Replay.{written_of, StopsWithin, OnlyDue, IsDrained, HasWritten, HasStopped}
-use Rattle.adb_top.specs.declared.stop.Stop.{Stop}
+use Rattle.adb_top.specs.Keeping.{HasPart}
+use Rattle.adb_top.specs.Replay.{written_of, OnlyDue, IsDrained, HasWritten, HasStopped}
 
 -- counts of two parts
 pub counts_on : (a b c : Type 0) (x y z : ℕ) (failed : Bool) → Counted a b x y false → Counted b c y z failed → Counted a c x z failed

@@ -1,14 +1,13 @@
 -- An entry that a state does not refuse may come, and only its owner has bytes due after it.
-use Rattle.std.proofs.Common.{ℕ, ◌+◌, ◌≡◌, ◌≢◌, ◌<◌, ◌≤◌, Bool, true, false, cond, List, [], ◌∷◌, ◌++◌, length, Option, Some, None, Result, Ok, Err, refl, sym, ◌∙◌, ap, subst, arith, eqb, ◌⊎◌, inl, inr}
+use Rattle.std.proofs.Common.{ℕ, ◌+◌, ◌≡◌, Bool, true, false, cond, List, [], ◌∷◌, Option, Some, None, Ok, Err, refl, sym, ◌∙◌, ap, arith, inl, inr}
 use Rattle.std.specs.Prelude.{nat_eq, not}
 use Rattle.std.proofs.lemmas.Bool.{ne_eqb, eqb-true}
-use Rattle.adb_outside.specs.declared.kinds.Cause.{Cause}
 use Rattle.adb_capture.specs.Records.{record_of, owner_of, HasRecord}
 use Rattle.adb_capture.specs.declared.entry.Entry.{Entry}
 use Rattle.adb_capture.specs.declared.entry.Entry.TheVariants.{Join, Enter, Read, End, Bound, Attach, Recv, Detach, Put, Send}
 use Rattle.adb_history.specs.Machine.{Client, State, History, state, step, fresh, settled, bytes_in, asks_unbuilt, ended, IsDrawn, IsInRange, May, IsLegal, to_client}
 use Rattle.adb_history.specs.Kept.{Kept, kept, IsLawful}
-use Rattle.adb_history.specs.Drained.{next_out, owed, drain_all, drained_after}
+use Rattle.adb_history.specs.Drained.{owed, drain_all, drained_after}
 use Rattle.adb_history.specs.Accepted.{refusal_of, read_refusal, is_drawn, is_serial, is_input}
 use Rattle.adb_history.specs.declared.refusal.Refusal.{Refusal}
 use Rattle.adb_history.specs.declared.refusal.Refusal.TheVariants.{NotDrawn, BadSerial, NotBuilt}
@@ -18,11 +17,10 @@ use Rattle.adb_history.proofs.Accepting.{drain_adds}
 use Rattle.adb_top.specs.Machine.{Applies}
 use Rattle.adb_top.specs.Stop.{stop_at}
 use Rattle.adb_top.specs.Keeping.{HasPart}
-use Rattle.adb_top.specs.Replay.{OnlyDue, IsDrained, HasWritten, HasStopped, IsReached, StopsEntry, history_after}
+use Rattle.adb_top.specs.Replay.{OnlyDue, IsDrained, HasWritten, HasStopped, StopsEntry, history_after}
 use Rattle.adb_top.specs.declared.machine.Refused as machine
 use Rattle.adb_top.specs.declared.machine.Refused.TheVariants as refused
-use Rattle.adb_top.specs.declared.stop.Stop.{Stop}
-use Rattle.adb_top.specs.declared.stop.Stop.TheVariants.{ReadFault, WriteFault, OutOfMemory, Refused}
+use Rattle.adb_top.specs.declared.stop.Stop.TheVariants.{Refused}
 use Rattle.adb_top.proofs.Machines.{drawn_is}
 use Rattle.adb_top.proofs.Drains.{stopped_at, stopped_in}
 

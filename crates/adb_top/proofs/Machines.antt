@@ -1,14 +1,14 @@
 -- A change of one row of a machine is the change of one client of the state that it stands for.
-use Rattle.std.proofs.Common.{ℕ, ◌+◌, ◌≡◌, ◌≢◌, ◌<◌, ◌≤◌, Bool, true, false, cond, List, [], ◌∷◌, length, take, drop, Option, Some, None, Result, Ok, Err, refl, sym, ◌∙◌, ap, subst, arith, eqb, ◌⊎◌, inl, inr, zero, suc}
+use Rattle.std.proofs.Common.{ℕ, ◌+◌, ◌≡◌, ◌≢◌, ◌<◌, ◌≤◌, Bool, true, false, cond, List, length, Option, Some, None, Result, Ok, Err, refl, sym, ◌∙◌, ap, arith, eqb, ◌⊎◌, inl, inr, zero, suc}
 use Rattle.std.specs.Prelude.{nat_lt, nat_le, nat_eq, ◌&&◌}
 use Rattle.std.proofs.lemmas.Bool.{eqb-true, eqb-false}
 use Rattle.std.proofs.lemmas.Bool.Decides.{nat_tests}
 use Rattle.adb_outside.specs.declared.kinds.Cause.{Cause}
 use Rattle.adb_outside.specs.declared.kinds.Cause.TheVariants.{Eof, Fault, Starved, NoThread}
-use Rattle.adb_capture.specs.declared.entry.Entry.TheVariants.{Join, Read, End, Put}
-use Rattle.adb_history.specs.Machine.{Client, State, IsDrawn, to_client, step, fresh, absent, settled, phase_after, bytes_in, asks_unbuilt, ended, handed}
-use Rattle.adb_history.specs.Kept.{Kept, KeptClient, kept, kept_of, kept_row, kept_if_live, at, IsRising, IsResting, IsOrderly}
-use Rattle.adb_history.specs.Accepted.{refusal_of, read_refusal, is_drawn}
+use Rattle.adb_capture.specs.declared.entry.Entry.TheVariants.{Join, Read}
+use Rattle.adb_history.specs.Machine.{Client, State, IsDrawn, to_client, step, fresh, settled, phase_after, bytes_in, asks_unbuilt, ended, handed}
+use Rattle.adb_history.specs.Kept.{Kept, KeptClient, kept, kept_of, kept_row, kept_if_live, at, IsRising, IsOrderly}
+use Rattle.adb_history.specs.Accepted.{refusal_of, is_drawn}
 use Rattle.adb_history.specs.declared.phase.Phase.{Phase}
 use Rattle.adb_history.specs.declared.phase.Phase.TheVariants.{Asking, Closing, Gone}
 use Rattle.adb_history.proofs.Tables.{at_kept, row_put, listed_rises, same_list}

@@ -1,9 +1,9 @@
 -- Replaying the records of a reader: what has come so far, and what is still ahead.
-use Rattle.std.proofs.Common.{ℕ, ◌+◌, ◌≡◌, ◌≢◌, ◌<◌, ◌≤◌, Bool, true, false, cond, List, [], ◌∷◌, ◌++◌, length, take, drop, Option, Some, None, Result, Ok, Err, refl, sym, ◌∙◌, ap, subst, arith, ◌⊎◌, inl, inr}
+use Rattle.std.proofs.Common.{ℕ, ◌≡◌, ◌≢◌, ◌≤◌, Bool, true, false, cond, List, [], ◌∷◌, ◌++◌, take, drop, Option, Some, None, Result, Ok, Err, refl, sym, ◌∙◌, ap, subst, inl, inr}
 use Rattle.std.specs.Prelude.{option_and_then}
 use Rattle.adb_outside.specs.declared.framer.Front.{Front}
-use Rattle.adb_outside.specs.declared.framer.Front.TheVariants.{More, Bad, Whole}
-use Rattle.adb_capture.specs.Records.{record_at, entry_in, offset_after}
+use Rattle.adb_outside.specs.declared.framer.Front.TheVariants.{More, Bad}
+use Rattle.adb_capture.specs.Records.{record_at, offset_after}
 use Rattle.adb_capture.specs.Reading.{Reading, ahead, to_give, GivesNext, GivesRecord, IsRefused}
 use Rattle.adb_capture.specs.declared.entry.Entry.{Entry}
 use Rattle.adb_capture.specs.declared.error.CaptureError.{CaptureError}
@@ -11,7 +11,7 @@ use Rattle.adb_capture.specs.declared.error.CaptureError.TheVariants as capture
 use Rattle.adb_history.specs.Machine.{History, state, IsLegal}
 use Rattle.adb_history.specs.Kept.{Kept}
 use Rattle.adb_history.specs.Drained.{drained_after, drained_from}
-use Rattle.adb_history.specs.Accepted.{Accepted, refusal_of, is_input, accept_by, accept_from, accept_records, end_of}
+use Rattle.adb_history.specs.Accepted.{Accepted, refusal_of, is_input, accept_by, accept_records}
 use Rattle.adb_history.specs.declared.refusal.Refusal.{Refusal}
 use Rattle.adb_history.specs.declared.refusal.Refusal.TheVariants.{Form}
 use Rattle.adb_history.proofs.Accepting.{accept_front, accept_first, drained_adds}
@@ -20,10 +20,9 @@ use Rattle.adb_outside.specs.Outside.{Rises}
 use Rattle.adb_top.specs.Keeping.{is_read_fault, is_write_fault}
 use Rattle.adb_top.specs.Stop.{stop_of}
 use Rattle.adb_capture.specs.Counting.{Counted, is_fault}
-use Rattle.adb_top.specs.Replay.{written_of, StopsWithin, IsDrained, HasWritten, HasStopped, StopsEntry, IsReached, history_after, Wrote, IsFrontOf, Reaches, EndsAs, WasAhead, WroteOf, Replays}
+use Rattle.adb_top.specs.Replay.{written_of, StopsWithin, IsDrained, HasWritten, StopsEntry, IsReached, history_after, Wrote, IsFrontOf, Reaches, EndsAs, WasAhead, Replays}
 use Rattle.adb_top.specs.declared.stop.Stop.{Stop}
 use Rattle.adb_top.specs.declared.stop.Stop.TheVariants.{ReadFault, WriteFault, OutOfMemory, Refused}
-use Rattle.adb_top.proofs.Drains.{stopped_at, counts_on}
 
 -- what is still to come, of all that a capture gives
 pub record ComesOn (reader : Reading) (left : Option (List ℕ)) (now : History) (all : Accepted) : Type 0 where

@@ -1,10 +1,9 @@
 -- What the calls of a machine make of the rows and the states that it stands for.
-use Rattle.std.specs.Prelude.{ℕ, ◌≡◌, ◌≢◌, ◌<◌, Bool, true, false, if◌then◌else◌, All, List, [], ◌∷◌, length, take, Option, Some, None, Result, Ok, Err}
-use Rattle.adb_outside.specs.declared.kinds.Cause.{Cause}
+use Rattle.std.specs.Prelude.{ℕ, ◌≡◌, ◌≢◌, Bool, true, false, if◌then◌else◌, List, [], length, take, Option, Some, None, Result, Ok, Err}
 use Rattle.adb_capture.specs.declared.entry.Entry.{Entry}
 use Rattle.adb_capture.specs.declared.entry.Entry.TheVariants.{Put}
-use Rattle.adb_history.specs.Machine.{Client, State, History, state, step, settled, bytes_in, asks_unbuilt, ended, handed}
-use Rattle.adb_history.specs.Kept.{Kept, KeptClient, kept, kept_of, at, IsRising, IsLawful}
+use Rattle.adb_history.specs.Machine.{Client, State, step, settled, bytes_in, asks_unbuilt, handed}
+use Rattle.adb_history.specs.Kept.{Kept, KeptClient, kept, kept_of, at, IsRising}
 use Rattle.adb_history.specs.Accepted.{refusal_of, is_input}
 use Rattle.adb_history.specs.declared.refusal.Refusal.TheVariants.{NotDrawn, BadSerial, NotBuilt}
 use Rattle.adb_top.specs.Client.{is_gone_phase}

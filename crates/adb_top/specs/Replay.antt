@@ -1,6 +1,6 @@
 -- How much of a history was replayed: what went out of it, and what of a capture came to it.
-use Rattle.std.specs.Prelude.{ℕ, ◌≡◌, ◌≢◌, ◌⊎◌, true, if◌then◌else◌, List, [], ◌∷◌, ◌++◌, length, reverse, option_and_then, Option, Some, None, Result, Ok, Err}
-use Rattle.adb_capture.specs.Records.{record_of, records_of, owner_of}
+use Rattle.std.specs.Prelude.{ℕ, ◌≡◌, ◌≢◌, ◌⊎◌, true, if◌then◌else◌, List, [], ◌∷◌, ◌++◌, reverse, option_and_then, Option, Some, None, Result, Ok, Err}
+use Rattle.adb_capture.specs.Records.{record_of, records_of}
 use Rattle.adb_capture.specs.declared.entry.Entry.{Entry}
 use Rattle.adb_capture.specs.Reading.{Reading, ahead}
 use Rattle.adb_history.specs.Rows.{IsPrefixOf}
@@ -8,7 +8,6 @@ use Rattle.adb_history.specs.Machine.{State, History, state, IsDrawn, IsLegal}
 use Rattle.adb_history.specs.Kept.{Kept, IsLawful}
 use Rattle.adb_history.specs.Drained.{next_out, drained_after, drained_from}
 use Rattle.adb_history.specs.Accepted.{Accepted, refusal_of, is_input, accept_records}
-use Rattle.adb_history.specs.declared.refusal.Refusal.{Refusal}
 use Rattle.adb_top.specs.declared.stop.Stop.{Stop}
 use Rattle.adb_top.specs.declared.stop.Stop.TheVariants.{ReadFault, WriteFault, OutOfMemory, Refused}
 

@@ -2,12 +2,11 @@
 use Rattle.std.specs.Prelude.{ℕ}
 use Rattle.adb_capture.specs.declared.error.CaptureError.{CaptureError}
 use Rattle.adb_capture.specs.declared.error.CaptureError.TheVariants as capture
-use Rattle.adb_history.specs.declared.refusal.Refusal.{Refusal}
 use Rattle.adb_history.specs.declared.refusal.Refusal.TheVariants.{Form, NotDrawn, BadSerial, NotBuilt}
 use Rattle.adb_top.specs.declared.machine.Refused.TheVariants as refused
 use Rattle.adb_top.specs.declared.machine.Refused as machine
 use Rattle.adb_top.specs.declared.stop.Stop.{Stop}
-use Rattle.adb_top.specs.declared.stop.Stop.TheVariants.{ReadFault, WriteFault, OutOfMemory, Refused}
+use Rattle.adb_top.specs.declared.stop.Stop.TheVariants.{ReadFault, OutOfMemory, Refused}
 
 -- why a replay stops where a reader of captures answers an error
 abbrev pub stop_of : CaptureError → Stop

@@ -1,5 +1,5 @@
-use Rattle.std.proofs.Common.{◌≡◌, inl, inr}
-use Rattle.adb_top.proofs.Runs.{writes_by, notes_by, names_refusal, completes_stopped, completes_done, refused_as, read_fault_is, write_fault_is}
+use Rattle.std.proofs.Common.{inl, inr}
+use Rattle.adb_top.proofs.Runs.{writes_by, notes_by, names_refusal, completes_stopped, refused_as, read_fault_is, write_fault_is}
 use Rattle.adb_top.proofs.command.run.Goals as goal
 
 pub returns-in-Err-clause-writes : goal.returns-in-Err-clause-writes

@@ -1,8 +1,6 @@
-use Rattle.std.proofs.Common.{ℕ, List, ◌≡◌, ◌<◌, ◌^◌, Option, Some, arith, subst}
+use Rattle.std.proofs.Common.{ℕ, List, ◌<◌, ◌^◌, Option, arith, subst}
 use Rattle.std.specs.Prelude.{All, IfSome}
 use Rattle.std.proofs.lemmas.Result.{err_from_is_err_and}
-use Rattle.adb_history.specs.Machine.{State}
-use Rattle.adb_history.specs.Kept.{kept, IsOrderly}
 use Rattle.adb_top.specs.Machine.{Puts}
 use Rattle.adb_top.proofs.Drains.{drains_on, drains_over, drains_stop, drains_lose, counts_on}
 use Rattle.adb_top.proofs.replay.hand_out.Goals as goal

@@ -1,4 +1,3 @@
-use Rattle.std.proofs.Common.{◌≡◌}
 use Rattle.adb_top.proofs.Drains.{part_written}
 use Rattle.adb_top.proofs.replay.keep.Goals as goal
 

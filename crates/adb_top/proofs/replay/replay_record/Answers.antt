@@ -1,12 +1,8 @@
-use Rattle.std.proofs.Common.{ℕ, List, ◌≡◌, ◌∷◌, Ok, Err, sym, ◌∙◌, ap, subst, refl, false, Result}
+use Rattle.std.proofs.Common.{ℕ, ◌≡◌, ◌∷◌, sym, ◌∙◌, subst, refl}
 use Rattle.std.proofs.lemmas.Result.{err_from_is_err_and}
-use Rattle.adb_capture.specs.Records.{owner_of}
-use Rattle.adb_history.specs.Machine.{History, state, IsLegal}
-use Rattle.adb_history.specs.Kept.{IsLawful}
-use Rattle.adb_history.specs.Drained.{drain_all}
+use Rattle.adb_history.specs.Machine.{History, state}
 use Rattle.adb_history.proofs.Orderly.{orderly}
-use Rattle.adb_top.specs.Replay.{IsDrained, OnlyDue, HasWritten, HasStopped}
-use Rattle.adb_top.specs.declared.stop.Stop.{Stop}
+use Rattle.adb_top.specs.Replay.{IsDrained, OnlyDue, HasWritten}
 use Rattle.adb_top.specs.declared.stop.Stop.TheVariants.{Refused}
 use Rattle.adb_top.proofs.Drains.{has_written_more}
 use Rattle.adb_top.proofs.Entries.{made, refused_entry, lost_entry, unmade_entry, handing_stopped, input_of}

@@ -1,9 +1,5 @@
-use Rattle.std.proofs.Common.{ℕ, List, ◌≡◌, Ok, Err, Option, Some, None, sym, ◌∙◌, ap, subst, refl, Result, true, false}
+use Rattle.std.proofs.Common.{Ok, Some, None}
 use Rattle.std.proofs.lemmas.Result.{err_from_is_err_and}
-use Rattle.adb_capture.specs.Reading.{GivesNext, ahead}
-use Rattle.adb_capture.specs.Counting.{Counted}
-use Rattle.adb_capture.specs.declared.entry.Entry.{Entry}
-use Rattle.std.specs.Prelude.{option_and_then}
 use Rattle.adb_top.proofs.Drains.{counts_on}
 use Rattle.adb_top.proofs.Records.{replaying_stopped, replaying_on, replaying_lost, replaying_over, next_counted, given_as}
 use Rattle.adb_top.proofs.replay.replay_records.Goals as goal

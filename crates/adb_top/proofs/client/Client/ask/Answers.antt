@@ -1,7 +1,7 @@
-use Rattle.std.proofs.Common.{◌≡◌, List, ℕ, subst, sym, ◌∙◌, ap, ◌++◌}
+use Rattle.std.proofs.Common.{subst, ◌++◌}
 use Rattle.adb_history.specs.Kept.{KeptClient}
 use Rattle.adb_request.specs.Requests.{request_at}
-use Rattle.adb_top.specs.Client.{ReadsPiece, AnswersFront}
+use Rattle.adb_top.specs.Client.{AnswersFront}
 use Rattle.adb_top.proofs.Clients.{asks_piece}
 use Rattle.adb_top.proofs.client.Client.ask.Goals as goal
 

@@ -1,7 +1,6 @@
-use Rattle.std.proofs.Common.{◌≡◌, sym, ◌∙◌, ap, refl}
+use Rattle.std.proofs.Common.{sym, ◌∙◌, refl}
 use Rattle.adb_history.specs.Machine.{ended}
-use Rattle.adb_history.specs.Kept.{Kept}
-use Rattle.adb_top.proofs.Machines.{row_changes, ended_gone, drawn_is, is_drawn_of}
+use Rattle.adb_top.proofs.Machines.{row_changes, ended_gone, is_drawn_of}
 use Rattle.adb_top.proofs.machine.Machine.end.Goals as goal
 
 pub returns : goal.returns

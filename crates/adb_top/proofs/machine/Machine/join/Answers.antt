@@ -1,4 +1,4 @@
-use Rattle.std.proofs.Common.{◌≡◌, sym, ◌∙◌, ap}
+use Rattle.std.proofs.Common.{sym, ◌∙◌, ap}
 use Rattle.adb_top.proofs.Machines.{joins}
 use Rattle.adb_top.proofs.machine.Machine.join.Goals as goal
 

@@ -1,4 +1,4 @@
-use Rattle.std.proofs.Common.{◌≡◌, ◌≢◌, sym, ◌∙◌, ap, refl, subst, Option, None, Some}
+use Rattle.std.proofs.Common.{sym, ◌∙◌, subst, Option}
 use Rattle.adb_history.specs.Kept.{at}
 use Rattle.adb_top.specs.Machine.{HandsRow}
 use Rattle.adb_top.specs.declared.machine.HandOut.{HandOut}

@@ -1,7 +1,7 @@
-use Rattle.std.proofs.Common.{◌≡◌, sym, ◌∙◌, ap, refl, false, Ok, Bool, Result}
+use Rattle.std.proofs.Common.{sym, ◌∙◌, refl, false}
 use Rattle.std.proofs.lemmas.Result.{err_from_is_err_and}
 use Rattle.adb_history.specs.Machine.{bytes_in}
-use Rattle.adb_top.proofs.Machines.{row_changes, row_asks, drawn_is, is_drawn_of, bytes_gone, ok_is, read_fails}
+use Rattle.adb_top.proofs.Machines.{row_changes, row_asks, is_drawn_of, bytes_gone, ok_is, read_fails}
 use Rattle.adb_top.proofs.machine.Machine.read.Goals as goal
 
 pub returns-in_err-gone : goal.returns-in_err-gone
