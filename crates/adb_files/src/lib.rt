@@ -1,0 +1,10 @@
+//! The files of a model device, and the service that answers sync requests over them (SYNC.TXT).
+#![tactic(auto)]
+
+mod file;
+mod files;
+mod path;
+mod place;
+
+pub use file::{Entry, File, FileError};
+pub use files::Files;
