@@ -3,3 +3,5 @@ pub mod Places
 pub mod Rising
 pub mod Lookups
 pub mod Below
+pub mod Siblings
+pub mod Shown

@@ -1,17 +1,20 @@
 //! The files of a device.
 
 ghost use Rattle.std.specs.Option.{option_copied};
-ghost use Rattle.std.specs.Prelude.{◌≡◌, ◌+◌, ◌^◌, ◌<◌, ◌≤◌, [], length, map, Option, OnOk, OnErr, MatchResult};
+ghost use Rattle.std.specs.Prelude.{◌≡◌, ◌+◌, ◌^◌, ◌<◌, ◌≤◌, [], length, map, Option, OnOk, OnErr, IfOk, MatchResult};
 ghost use Rattle.std.specs.List.{list_any};
 ghost use Rattle.adb_files.specs.declared.file.FileError.{FileError};
 ghost use Rattle.adb_files.specs.Paths.{is_below};
 ghost use Rattle.adb_files.specs.Files.{IsFileMap, ChangesAt, file_at, with_file, without, next_path, total, is_directory, is_under_file, put_refusal, read_refusal};
+ghost use Rattle.adb_files.specs.Listing.{listing};
 ghost use Rattle.adb_files.specs.Places.{StandsAt, FitsAt};
 
 use crate::file::{Entry, File, FileError};
+use crate::listing::{dirent_of, shown_in};
 use crate::path::{ROOT, is_below, is_path, slash_behind};
 use crate::place::{first_from, place_at, store};
-use std::alloc::Global;
+use adb_sync::Dirent;
+use std::alloc::{AllocError, Global};
 use std::marker::Model;
 
 /// The most bytes that all files may have.
@@ -123,6 +126,22 @@ impl Files {
             return None;
         }
         Some(entries[next].path.as_slice())
+    }
+
+    /// The entries of a directory, the directories in it among them, in the order of the bytes of
+    /// their names. A directory has the mode 16,877, no bytes and the time 0. Of a bad path, a file or
+    /// nothing there are none.
+    pub fn list(&self, alloc: Global, path: &[u8]) -> Result<Vec<Dirent>, AllocError>
+        ensures { IfOk result (λ entries. entries.items ≡ listing path.now self.now) }
+    {
+        let mut entries = Vec::new(alloc);
+        if !is_path(path) {
+            return Ok(entries);
+        }
+        for (name, stat) in shown_in(alloc, self.entries.as_slice(), path)? {
+            entries.push(dirent_of(name, stat))?;
+        }
+        Ok(entries)
     }
 
     /// Whether the path is that of a directory.

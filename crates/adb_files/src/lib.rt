@@ -3,8 +3,12 @@
 
 mod file;
 mod files;
+mod listing;
 mod path;
 mod place;
+mod stat;
+#[cfg(test)]
+mod tests;
 
 pub use file::{Entry, File, FileError};
 pub use files::Files;
