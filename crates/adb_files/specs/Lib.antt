@@ -1,0 +1,4 @@
+pub mod Paths
+pub mod Files
+pub mod Places
+pub mod Listing

@@ -1,0 +1,57 @@
+//! One file, and why one may be refused.
+
+ghost use Rattle.adb_files.specs.declared.file.FileError.TheVariants.{OutOfMemory};
+ghost use Rattle.std.specs.Prelude.{◌≡◌};
+
+use adb_outside::Text;
+use std::alloc::{AllocError, AllocFailed};
+
+/// A file of the device.
+#[derive(Drop)]
+pub struct File {
+    /// The mode, as `stat(2)` has it.
+    pub mode: u32,
+    /// When it was changed, in seconds since 1970.
+    pub mtime: u32,
+    pub bytes: Text,
+}
+
+/// A file and its path.
+#[derive(Drop)]
+pub struct Entry {
+    pub path: Text,
+    pub file: File,
+}
+
+/// Why a file was not put or removed. The files are then as before.
+#[derive(Clone, Copy, Debug, PartialEq, Eq, Drop)]
+pub enum FileError {
+    /// The path is neither `/` nor one or more parts of a slash and a name. A name is not empty, not
+    /// `.` and not `..`, and has no NUL.
+    BadPath,
+    /// The path is `/`, or a file lies below it.
+    IsDirectory,
+    /// The path lies below a file.
+    NotDirectory,
+    /// All files, with the new one in place, have more than 268,435,456 bytes.
+    NoSpace,
+    /// No file has the path.
+    NoFile,
+    OutOfMemory,
+}
+
+impl From<AllocError> for FileError {
+    ghost from_gives = { λ _ error. error ≡ OutOfMemory };
+
+    fn from(_error: AllocError) -> FileError {
+        FileError::OutOfMemory
+    }
+}
+
+impl<T: Drop> From<AllocFailed<T>> for FileError {
+    ghost from_gives = { λ _ error. error ≡ OutOfMemory };
+
+    fn from(_error: AllocFailed<T>) -> FileError {
+        FileError::OutOfMemory
+    }
+}

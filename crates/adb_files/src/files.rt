@@ -1,0 +1,211 @@
+//! The files of a device.
+
+ghost use Rattle.std.specs.Option.{option_copied};
+ghost use Rattle.std.specs.Prelude.{◌≡◌, ◌+◌, ◌^◌, ◌<◌, ◌≤◌, [], length, map, Option, OnOk, OnErr, IfOk, MatchResult};
+ghost use Rattle.std.specs.List.{list_any};
+ghost use Rattle.adb_files.specs.declared.file.FileError.{FileError};
+ghost use Rattle.adb_files.specs.Paths.{is_below};
+ghost use Rattle.adb_files.specs.Files.{IsFileMap, ChangesAt, file_at, with_file, without, next_path, total, is_directory, is_under_file, put_refusal, read_refusal};
+ghost use Rattle.adb_files.specs.Listing.{listing};
+ghost use Rattle.adb_files.specs.Places.{StandsAt, FitsAt};
+
+use crate::file::{Entry, File, FileError};
+use crate::listing::{dirent_of, shown_in};
+use crate::path::{ROOT, is_below, is_path, slash_behind};
+use crate::place::{first_from, place_at, store};
+use adb_sync::Dirent;
+use std::alloc::{AllocError, Global};
+use std::marker::Model;
+
+/// The most bytes that all files may have.
+pub const MOST_BYTES: usize = 268_435_456;
+
+/// The files of a device, a map from path to file. Contracts see it as the list of its entries in
+/// rising order of the bytes of their paths. A directory is `/`, or a proper leading path of a file.
+#[derive(Drop)]
+pub struct Files {
+    entries: Vec<Entry>,
+    used: usize,
+}
+
+impl Model for Files {
+    ghost use Rattle.std.specs.Prelude.{◌≡◌, List};
+    ghost use Rattle.adb_files.specs.declared.file.Entry.{Entry};
+    ghost use Rattle.adb_files.specs.Files.{IsFileMap, total};
+
+    ghost Value = { List Entry };
+
+    ghost view = { λ files. files.entries.items };
+
+    ghost invariant = { λ files. IsFileMap files.entries.items × (files.used ≡ total files.entries.items) };
+}
+
+impl Files {
+    /// No files. It takes no memory.
+    pub fn new(alloc: Global) -> Files
+        ensures { result ≡ [] }
+    {
+        Files {
+            entries: Vec::new(alloc),
+            used: 0,
+        }
+    }
+
+    /// The file of the path; `None` exactly where no file has it.
+    pub fn get(&self, path: &[u8]) -> Option<&File>
+        ensures file { option_copied result ≡ file_at path.now self.now }
+        ensures files { IsFileMap self.now }
+    {
+        match self.place(path) {
+            Ok(i) => Some(&self.entries[i].file),
+            Err(_) => None,
+        }
+    }
+
+    /// Puts a file at the path, in the place of the one that is there. The refusals are looked for in
+    /// this order: `BadPath`, `IsDirectory`, `NotDirectory`, `NoSpace`. After an error the files are as
+    /// before, and the new one is dropped.
+    pub fn put(&mut self, alloc: Global, path: &[u8], file: File) -> Result<(), FileError>
+        requires { length path.now < 2 ^ 32 }
+        ensures ok { OnOk result (ChangesAt path.now (Some file) self.old self.new) }
+        ensures list { OnOk result (self.new ≡ with_file path.now file self.old) }
+        ensures err { OnErr result (self.new ≡ self.old) }
+        ensures files { IsFileMap self.new }
+        ensures refused { (error : FileError)
+            → put_refusal self.old path.now (length file.bytes) ≡ Some error → result ≡ Err error }
+        ensures granted { put_refusal self.old path.now (length file.bytes) ≡ None
+            → OnErr result (result ≡ Err FileError.OutOfMemory) }
+    {
+        let size = file.bytes.len();
+        if let Some(refusal) = self.put_refusal(path, size) {
+            return Err(refusal);
+        }
+        let used = self.used_without(path) + size;
+        store(alloc, &mut self.entries, path, file)?;
+        self.used = used;
+        Ok(())
+    }
+
+    /// Removes the file of the path. The refusals are looked for in this order: `BadPath`,
+    /// `IsDirectory`, `NoFile`. After an error the files are as before. It takes no memory.
+    pub fn remove(&mut self, path: &[u8]) -> Result<(), FileError>
+        ensures ok { OnOk result (ChangesAt path.now None self.old self.new) }
+        ensures list { OnOk result (self.new ≡ without path.now self.old) }
+        ensures err { OnErr result (self.new ≡ self.old) }
+        ensures files { IsFileMap self.new }
+        ensures refused { (error : FileError)
+            → read_refusal self.old path.now ≡ Some error → result ≡ Err error }
+        ensures granted { read_refusal self.old path.now ≡ None → result ≡ Ok tt }
+    {
+        let used = self.used_without(path);
+        if !is_path(path) {
+            return Err(FileError::BadPath);
+        }
+        if self.is_directory(path) {
+            return Err(FileError::IsDirectory);
+        }
+        let Ok(i) = self.place(path) else {
+            return Err(FileError::NoFile);
+        };
+        self.entries.remove(i);
+        self.used = used;
+        Ok(())
+    }
+
+    /// The least path of a file that is greater than `after` in the order of bytes; `None` exactly
+    /// where no file has a greater one.
+    pub fn next_path(&self, after: &[u8]) -> Option<&[u8]>
+        ensures path { option_copied result ≡ next_path after.now self.now }
+    {
+        let entries = self.entries.as_slice();
+        let next = match self.place(after) {
+            Ok(i) => i + 1,
+            Err(i) => i,
+        };
+        if next == entries.len() {
+            return None;
+        }
+        Some(entries[next].path.as_slice())
+    }
+
+    /// The entries of a directory, the directories in it among them, in the order of the bytes of
+    /// their names. A directory has the mode 16,877, no bytes and the time 0. Of a bad path, a file or
+    /// nothing there are none.
+    pub fn list(&self, alloc: Global, path: &[u8]) -> Result<Vec<Dirent>, AllocError>
+        ensures { IfOk result (λ entries. entries.items ≡ listing path.now self.now) }
+    {
+        let mut entries = Vec::new(alloc);
+        if !is_path(path) {
+            return Ok(entries);
+        }
+        for (name, stat) in shown_in(alloc, self.entries.as_slice(), path)? {
+            entries.push(dirent_of(name, stat))?;
+        }
+        Ok(entries)
+    }
+
+    /// Whether the path is that of a directory.
+    pub fn is_directory(&self, path: &[u8]) -> bool
+        ensures { result ≡ is_directory self.now path.now }
+    {
+        is_path(path) && (path == ROOT || self.has_below(path))
+    }
+
+    /// Why a file of so many bytes is not put at the path.
+    pub fn put_refusal(&self, path: &[u8], size: usize) -> Option<FileError>
+        ensures { result ≡ put_refusal self.now path.now size }
+    {
+        if !is_path(path) {
+            return Some(FileError::BadPath);
+        }
+        if self.is_directory(path) {
+            return Some(FileError::IsDirectory);
+        }
+        if self.is_under_file(path) {
+            return Some(FileError::NotDirectory);
+        }
+        (size > MOST_BYTES - self.used_without(path)).then_some(FileError::NoSpace)
+    }
+
+    /// Where the path stands among the entries.
+    fn place(&self, path: &[u8]) -> Result<usize, usize>
+        ensures { MatchResult result
+            (λ i. StandsAt path.now self.now i)
+            (λ i. FitsAt path.now self.now i) }
+    {
+        place_at(self.entries.as_slice(), path)
+    }
+
+    /// Whether a file lies below a directory of the path.
+    fn has_below(&self, path: &[u8]) -> bool
+        ensures { result ≡ list_any (λ entry. is_below path.now entry.path) self.now }
+    {
+        let entries = self.entries.as_slice();
+        let first = first_from(entries, path, slash_behind(path));
+        first < entries.len() && is_below(path, entries[first].path.as_slice())
+    }
+
+    /// Whether the path goes on below a file.
+    fn is_under_file(&self, path: &[u8]) -> bool
+        ensures { result ≡ is_under_file self.now path.now }
+    {
+        for (i, byte) in path.iter().enumerate() {
+            if *byte == b'/' && self.get(&path[..i]).is_some() {
+                return true;
+            }
+        }
+        false
+    }
+
+    /// How many bytes the files at other paths have.
+    fn used_without(&self, path: &[u8]) -> usize
+        ensures used { result ≡ total (without path.now self.now) }
+        ensures files { IsFileMap self.now }
+        ensures within { result ≤ total self.now }
+    {
+        match self.place(path) {
+            Ok(i) => self.used - self.entries[i].file.bytes.len(),
+            Err(_) => self.used,
+        }
+    }
+}

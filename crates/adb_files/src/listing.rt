@@ -1,0 +1,85 @@
+//! What a directory holds.
+
+ghost use Rattle.std.specs.Prelude.{◌≡◌, ◌<◌, ℕ, true, length, slice_index_or, IfOk};
+ghost use Rattle.adb_files.specs.declared.file.Entry.{Entry};
+ghost use Rattle.adb_files.specs.Paths.{is_below};
+ghost use Rattle.adb_files.specs.Files.{IsFileMap};
+ghost use Rattle.adb_files.specs.Listing.{slash_in, shown_in, dirent_of, named, Advances};
+
+use crate::file::Entry;
+use crate::path::{is_below, slash_behind};
+use crate::place::first_from;
+use crate::stat::Stat;
+use adb_outside::Text;
+use adb_sync::Dirent;
+use std::alloc::{AllocError, Global};
+use std::collections::BTreeMap;
+
+/// What the names of a directory show.
+type Shown = BTreeMap<Vec<u8>, Stat>;
+
+/// The first byte behind a slash in the order of bytes.
+const BEHIND_SLASH: &[u8] = b"0";
+
+/// What the files below a directory show there, by the names in it. Of the files below a further
+/// directory only the first is looked at.
+pub fn shown_in(alloc: Global, entries: &[Entry], directory: &[u8]) -> Result<Shown, AllocError>
+    requires { IsFileMap entries.now }
+    ensures { IfOk result (λ found. named found.entries ≡ shown_in directory.now entries.now) }
+{
+    let mut found = BTreeMap::new(alloc);
+    let mut at = first_from(entries, directory, slash_behind(directory));
+    while at < entries.len() && is_below(directory, entries[at].path.as_slice()) {
+        at = show(alloc, entries, at, directory, &mut found)?;
+    }
+    Ok(found)
+}
+
+/// Adds what the file at a place shows of the directory that it lies below, and gives the place of
+/// the next file that may show another name.
+fn show(
+    alloc: Global,
+    entries: &[Entry],
+    at: usize,
+    directory: &[u8],
+    found: &mut Shown,
+) -> Result<usize, AllocError>
+    requires files { IsFileMap entries.now }
+    requires within { at < length entries.now }
+    requires below { (other : Entry) → is_below directory.now (slice_index_or entries.now at other).path ≡ true }
+    ensures { IfOk result (λ next. Advances directory.now entries.now at next (named found.old.entries) (named found.new.entries)) }
+{
+    let entry = &entries[at];
+    let path = entry.path.as_slice();
+    let start = directory.len() + slash_behind(directory).len();
+    let rest = &path[start..];
+    match slash_in(rest) {
+        None => {
+            found.insert(Vec::from_slice(alloc, rest)?, Stat::of(&entry.file))?;
+            Ok(at + 1)
+        }
+        Some(length) => {
+            found.insert(Vec::from_slice(alloc, &rest[..length])?, Stat::directory())?;
+            Ok(first_from(entries, &path[..start + length], BEHIND_SLASH))
+        }
+    }
+}
+
+/// The place of the first slash.
+fn slash_in(rest: &[u8]) -> Option<usize>
+    ensures { result ≡ slash_in rest.now }
+{
+    rest.iter().position(|byte| *byte == b'/')
+}
+
+/// An entry of a directory, of a name and what it shows.
+pub fn dirent_of(name: Vec<u8>, stat: Stat) -> Dirent
+    ensures { result ≡ dirent_of (name.items, stat) }
+{
+    Dirent {
+        name: Text::from_vec(name),
+        mode: stat.mode,
+        size: stat.size,
+        mtime: stat.mtime,
+    }
+}

@@ -1,0 +1,42 @@
+//! What a listing says of a name.
+
+ghost use Rattle.std.specs.Prelude.{◌≡◌, ◌^◌, ◌<◌, length};
+ghost use Rattle.adb_files.specs.Listing.{stat_of, directory_stat};
+
+use crate::file::File;
+
+/// The mode of a directory.
+const DIRECTORY_MODE: u32 = 16_877;
+
+/// A mode, a number of bytes and a time, as STAT and LIST tell them.
+#[derive(Clone, Copy, Drop)]
+pub struct Stat {
+    pub mode: u32,
+    pub size: u32,
+    pub mtime: u32,
+}
+
+impl Stat {
+    /// What a file shows.
+    pub fn of(file: &File) -> Stat
+        requires { length file.now.bytes < 2 ^ 32 }
+        ensures { result ≡ stat_of file.now }
+    {
+        Stat {
+            mode: file.mode,
+            size: file.bytes.len() as u32,
+            mtime: file.mtime,
+        }
+    }
+
+    /// What a directory shows.
+    pub fn directory() -> Stat
+        ensures { result ≡ directory_stat }
+    {
+        Stat {
+            mode: DIRECTORY_MODE,
+            size: 0,
+            mtime: 0,
+        }
+    }
+}
