@@ -31,21 +31,21 @@ writes_by why WriteFault text had written e w = front_out why text had written w
 writes_by why BadCapture text had written e w = subst (λ (k : Stop). WritesText (Err k) text had written) e.1 w
 writes_by why OutOfMemory text had written e w = front_out why text had written w
 
-pub notes_by : (why : Stop) (status : Status) (had : List ℕ) (note : Option (List ℕ)) → EndsIn why status → NotesLine why status had note → NotesBy status had note
-notes_by why Done had note e n = absurd e
-notes_by why Usage had note e n = absurd e
-notes_by why ReadFault had note e n = n
-notes_by why WriteFault had note e n = tt
-notes_by why BadCapture had note e n = (e.0, n e.0 e.1)
-notes_by why OutOfMemory had note e n = n
+pub notes_by : (why : Stop) (status : Status) (had : List ℕ) (after : Option (List ℕ)) → EndsIn why status → NotesLine why status had after → NotesBy status had after
+notes_by why Done had after e n = absurd e
+notes_by why Usage had after e n = absurd e
+notes_by why ReadFault had after e n = n
+notes_by why WriteFault had after e n = tt
+notes_by why BadCapture had after e n = (e.0, n e.0 e.1)
+notes_by why OutOfMemory had after e n = n
 
-pub names_refusal : (why : Stop) (status : Status) (a : Accepted) (left : Option (List ℕ)) (had : List ℕ) (note : Option (List ℕ)) → EndsIn why status → EndsAs (Err why) a left → NotesLine why status had note → NamesRefusal status a had note
-names_refusal why Done a left had note e ends n = tt
-names_refusal why Usage a left had note e ends n = tt
-names_refusal why ReadFault a left had note e ends n = tt
-names_refusal why WriteFault a left had note e ends n = tt
-names_refusal why BadCapture a left had note e ends n = record { why = e.0; refused = subst (λ (k : Stop). EndsAs (Err k) a left) e.1 ends; line = n e.0 e.1 }
-names_refusal why OutOfMemory a left had note e ends n = tt
+pub names_refusal : (why : Stop) (status : Status) (a : Accepted) (left : Option (List ℕ)) (had : List ℕ) (after : Option (List ℕ)) → EndsIn why status → EndsAs (Err why) a left → NotesLine why status had after → NamesRefusal status a had after
+names_refusal why Done a left had after e ends n = tt
+names_refusal why Usage a left had after e ends n = tt
+names_refusal why ReadFault a left had after e ends n = tt
+names_refusal why WriteFault a left had after e ends n = tt
+names_refusal why BadCapture a left had after e ends n = record { why = e.0; refused = subst (λ (k : Stop). EndsAs (Err k) a left) e.1 ends; line = n e.0 e.1 }
+names_refusal why OutOfMemory a left had after e ends n = tt
 
 pub completes_done : (refused : Option Refusal) → refused ≡ None → Completes Done refused
 completes_done None e = inl refl

@@ -74,9 +74,9 @@ EndsIn (stop.Refused refusal) OutOfMemory = Unit {0}
 
 -- The line of a status stands behind what the note had.
 abbrev pub NotesLine : Stop → Status → List ℕ → Option (List ℕ) → Type 0
-NotesLine why Done had note = Unit {0}
-NotesLine why Usage had note = Unit {0}
-NotesLine why ReadFault had note = note ≡ Some (had ++ read_fault_line)
-NotesLine why WriteFault had note = Unit {0}
-NotesLine why BadCapture had note = (refusal : Refusal) → why ≡ stop.Refused refusal → note ≡ Some (had ++ bad_capture_line refusal)
-NotesLine why OutOfMemory had note = note ≡ Some (had ++ out_of_memory_line)
+NotesLine why Done had after = Unit {0}
+NotesLine why Usage had after = Unit {0}
+NotesLine why ReadFault had after = after ≡ Some (had ++ read_fault_line)
+NotesLine why WriteFault had after = Unit {0}
+NotesLine why BadCapture had after = (refusal : Refusal) → why ≡ stop.Refused refusal → after ≡ Some (had ++ bad_capture_line refusal)
+NotesLine why OutOfMemory had after = after ≡ Some (had ++ out_of_memory_line)

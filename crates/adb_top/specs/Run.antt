@@ -31,26 +31,26 @@ EndsBy OutOfMemory a left = Unit {0}
 
 -- The line of a status stands behind what the note had.
 abbrev pub NotesBy : Status → List ℕ → Option (List ℕ) → Type 0
-NotesBy Done had note = note ≡ Some had
-NotesBy Usage had note = note ≡ Some (had ++ usage_line)
-NotesBy ReadFault had note = note ≡ Some (had ++ read_fault_line)
-NotesBy WriteFault had note = Unit {0}
-NotesBy BadCapture had note = (why : Refusal) × (note ≡ Some (had ++ bad_capture_line why))
-NotesBy OutOfMemory had note = note ≡ Some (had ++ out_of_memory_line)
+NotesBy Done had after = after ≡ Some had
+NotesBy Usage had after = after ≡ Some (had ++ usage_line)
+NotesBy ReadFault had after = after ≡ Some (had ++ read_fault_line)
+NotesBy WriteFault had after = Unit {0}
+NotesBy BadCapture had after = (why : Refusal) × (after ≡ Some (had ++ bad_capture_line why))
+NotesBy OutOfMemory had after = after ≡ Some (had ++ out_of_memory_line)
 
 -- At BadCapture the line names why the capture is refused.
-pub record IsNamed (a : Accepted) (had : List ℕ) (note : Option (List ℕ)) : Type 0 where
+pub record IsNamed (a : Accepted) (had : List ℕ) (after : Option (List ℕ)) : Type 0 where
   pub why : Refusal
   pub refused : a.refused ≡ Some why
-  pub line : note ≡ Some (had ++ bad_capture_line why)
+  pub line : after ≡ Some (had ++ bad_capture_line why)
 
 abbrev pub NamesRefusal : Status → Accepted → List ℕ → Option (List ℕ) → Type 0
-NamesRefusal BadCapture a had note = IsNamed a had note
-NamesRefusal Done a had note = Unit {0}
-NamesRefusal Usage a had note = Unit {0}
-NamesRefusal ReadFault a had note = Unit {0}
-NamesRefusal WriteFault a had note = Unit {0}
-NamesRefusal OutOfMemory a had note = Unit {0}
+NamesRefusal BadCapture a had after = IsNamed a had after
+NamesRefusal Done a had after = Unit {0}
+NamesRefusal Usage a had after = Unit {0}
+NamesRefusal ReadFault a had after = Unit {0}
+NamesRefusal WriteFault a had after = Unit {0}
+NamesRefusal OutOfMemory a had after = Unit {0}
 
 -- The status where no fault came: by how the capture ends, unless memory ran out.
 abbrev pub Completes : Status → Option Refusal → Type 0
