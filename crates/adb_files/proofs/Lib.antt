@@ -5,3 +5,4 @@ pub mod Lookups
 pub mod Below
 pub mod Siblings
 pub mod Shown
+pub mod Chunks

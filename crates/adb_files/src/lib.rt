@@ -1,11 +1,15 @@
 //! The files of a model device, and the service that answers sync requests over them (SYNC.TXT).
 #![tactic(auto)]
 
+mod answers;
 mod file;
 mod files;
 mod listing;
+mod mode;
+mod outbox;
 mod path;
 mod place;
+mod session;
 mod stat;
 #[cfg(test)]
 mod tests;
