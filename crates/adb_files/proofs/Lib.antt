@@ -6,3 +6,4 @@ pub mod Below
 pub mod Siblings
 pub mod Shown
 pub mod Chunks
+pub mod Serving

@@ -1,13 +1,14 @@
 -- What a sync service holds, and what it does with a piece of its stream.
-use Rattle.std.specs.Prelude.{ℕ, ◌+◌, ◌≡◌, ◌≤◌, min, Bool, List, ◌++◌, length, Option, Some, None}
+use Rattle.std.specs.Prelude.{ℕ, ◌+◌, ◌≡◌, ◌≤◌, min, Bool, true, false, List, [], ◌∷◌, ◌++◌, length, Option, Some, None}
 use Rattle.adb_outside.specs.Framing.{Cut}
 use Rattle.adb_sync.specs.declared.ask.SyncAsk.{SyncAsk}
+use Rattle.adb_sync.specs.declared.ask.SyncAsk.TheVariants as asks
 use Rattle.adb_sync.specs.declared.ask_format.AskFormat.{AskFormat}
 use Rattle.adb_sync.specs.declared.error.SyncError.{SyncError}
 use Rattle.adb_files.specs.declared.file.Entry.{Entry}
 use Rattle.adb_files.specs.declared.session.Sending.{Sending}
 use Rattle.adb_files.specs.Files.{most_bytes}
-use Rattle.adb_files.specs.Requests.{OpenSend, Request}
+use Rattle.adb_files.specs.Requests.{OpenSend, Request, requests_of, open_after, requests_in}
 use Rattle.adb_files.specs.Served.{serve_all}
 
 -- the reader of requests, the SEND that is open, the answers that were not taken yet, whether the service has ended, and whether it is spent by want of memory
@@ -37,3 +38,38 @@ pub record Serves (requests : List Request) (old new : List Entry) (out out' : L
   pub files : new ≡ (serve_all old requests).files
   pub answer : out' ≡ out ++ (serve_all old requests).answer
   pub ends : ended ≡ (serve_all old requests).ended
+
+-- the path of a SEND has at most 1,024 bytes
+abbrev pub HasShortPath : SyncAsk → Type 0
+HasShortPath (asks.Stat path) = Unit {0}
+HasShortPath (asks.List path) = Unit {0}
+HasShortPath (asks.Recv path) = Unit {0}
+HasShortPath (asks.Send path mode) = length path ≤ 1024
+HasShortPath (asks.Chunk bytes) = Unit {0}
+HasShortPath (asks.Finish mtime) = Unit {0}
+HasShortPath asks.Quit = Unit {0}
+
+abbrev pub HasShortSend : Option Sending → Type 0
+HasShortSend None = Unit {0}
+HasShortSend (Some sending) = length sending.path ≤ 1024
+
+-- A front of the requests was served, and the files are those that it leaves.
+pub record ServesFront (requests : List Request) (old new : List Entry) : Type 0 where
+  pub front : List Request
+  pub back : List Request
+  pub is : requests ≡ front ++ back
+  pub files : new ≡ (serve_all old front).files
+
+-- The requests that a reader gives were served. Where the service goes on the reader has none left, and what is kept is that of the SEND that they leave open.
+pub record ServesGiven (send : Option OpenSend) (reader reader' : Cut AskFormat SyncAsk SyncError) (old new : List Entry) (out out' : List ℕ) (ended : Bool) (kept : Option Sending) : Type 0 where
+  pub serves : Serves (requests_of send reader.given) old new out out' ended
+  pub empty : ended ≡ false → reader' ≡ record reader { given = [] }
+  pub keeps : ended ≡ false → KeepsSend (open_after send reader.given) kept
+
+-- Of the messages that a reader gave so far these are done, and their requests were served.
+pub record Done (send : Option OpenSend) (reader reader' : Cut AskFormat SyncAsk SyncError) (old new : List Entry) (out out' : List ℕ) (ended : Bool) (kept : Option Sending) : Type 0 where
+  pub done : List SyncAsk
+  pub is : reader.given ≡ done ++ reader'.given
+  pub same : reader' ≡ record reader { given = reader'.given }
+  pub serves : Serves (requests_of send done) old new out out' ended
+  pub keeps : KeepsSend (open_after send done) kept

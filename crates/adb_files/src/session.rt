@@ -1,12 +1,13 @@
 //! Serving whole requests, in order.
 
 ghost use Rattle.std.specs.Prelude.{◌≡◌, ◌≤◌, ◌++◌, ◌⊎◌, [], length, true, false, Option, Some, None, OnOk, OnErr, IfOk};
+ghost use Rattle.std.specs.List.{AllByRecursion};
 ghost use Rattle.adb_sync.specs.declared.error.SyncError.{SyncError};
 ghost use Rattle.adb_files.specs.declared.session.Sending.{Sending};
 ghost use Rattle.adb_files.specs.Files.{most_bytes};
-ghost use Rattle.adb_files.specs.Requests.{OpenSend, Sends, Fails, completed, continued, open_past, finished};
-ghost use Rattle.adb_files.specs.Served.{serve_one};
-ghost use Rattle.adb_files.specs.Service.{IsKept, KeepsSend, Serves};
+ghost use Rattle.adb_files.specs.Requests.{OpenSend, Sends, Fails, completed, continued, open_past, requests_of};
+ghost use Rattle.adb_files.specs.Served.{serve_one, serve_all, fail_bytes, fault_text};
+ghost use Rattle.adb_files.specs.Service.{IsKept, KeepsSend, Serves, ServesGiven, ServesFront, HasShortPath, HasShortSend};
 
 use crate::answers::{answer_list, answer_recv, answer_stat, fail, fault_text, refusal_text};
 use crate::file::{File, FileError};
@@ -15,7 +16,7 @@ use crate::mode::stored_mode;
 use crate::outbox::Outbox;
 use crate::path::is_path;
 use adb_outside::Text;
-use adb_sync::{SyncAnswer, SyncAsk, SyncError};
+use adb_sync::{AskReader, SyncAnswer, SyncAsk, SyncError};
 use std::alloc::{AllocError, Global};
 
 /// A SEND whose DONE has not come yet.
@@ -32,7 +33,8 @@ pub struct Sending {
 impl Sending {
     /// A SEND of which no bytes have come.
     fn new(alloc: Global, path: Text, mode: Text) -> Sending
-        ensures { IsKept (record { path = path; mode = mode; bytes = [] }) result }
+        ensures kept { IsKept (record { path = path; mode = mode; bytes = [] }) result }
+        ensures path { result.path ≡ path }
     {
         Sending {
             path,
@@ -44,7 +46,9 @@ impl Sending {
 
     /// Takes the next bytes. Past what all files may have no more is kept.
     fn push(&mut self, chunk: &[u8]) -> Result<(), AllocError>
-        ensures { OnOk result ((send : OpenSend) → IsKept send self.old → IsKept (record send { bytes = send.bytes ++ chunk.now }) self.new) }
+        ensures kept { OnOk result ((send : OpenSend) → IsKept send self.old
+            → IsKept (record send { bytes = send.bytes ++ chunk.now }) self.new) }
+        ensures path { self.new.path ≡ self.old.path }
     {
         if chunk.len() > MOST_BYTES.saturating_sub(self.size) {
             self.size = MOST_BYTES + 1;
@@ -89,4 +93,99 @@ fn serve_send(
         return Err(AllocError);
     }
     out.push(&SyncAnswer::Okay)
+}
+
+/// The SEND that is open, the answers, and whether the service has ended.
+#[derive(Drop)]
+pub struct Session {
+    alloc: Global,
+    pub sending: Option<Sending>,
+    pub out: Outbox,
+    pub ended: bool,
+}
+
+impl Session {
+    /// Nothing was asked yet. It takes no memory.
+    pub fn new(alloc: Global) -> Session
+        ensures sending { result.sending ≡ None }
+        ensures out { result.out ≡ [] }
+        ensures ended { result.ended ≡ false }
+    {
+        Session {
+            alloc,
+            sending: None,
+            out: Outbox::new(alloc),
+            ended: false,
+        }
+    }
+
+    /// Serves the request that a message makes whole, where it makes one.
+    pub fn take(&mut self, files: &mut Files, ask: SyncAsk) -> Result<(), AllocError>
+        requires short { HasShortPath ask }
+        requires kept { HasShortSend self.old.sending }
+        requires goes_on { self.old.ended ≡ false }
+        ensures ok { OnOk result ((send : Option OpenSend) → KeepsSend send self.old.sending
+            → Serves (completed send ask) files.old files.new self.old.out self.new.out self.new.ended
+            × KeepsSend (open_past send ask) self.new.sending) }
+        ensures err { OnErr result ((send : Option OpenSend) → KeepsSend send self.old.sending
+            → (files.new ≡ files.old) ⊎ (files.new ≡ (serve_all files.old (completed send ask)).files)) }
+        ensures short { HasShortSend self.new.sending }
+    {
+        let alloc = self.alloc;
+        match ask {
+            SyncAsk::Stat(path) => answer_stat(files, path.as_slice(), &mut self.out),
+            SyncAsk::List(path) => answer_list(alloc, files, path.as_slice(), &mut self.out),
+            SyncAsk::Recv(path) => answer_recv(alloc, files, path.as_slice(), &mut self.out),
+            SyncAsk::Send { path, mode } => {
+                self.sending = Some(Sending::new(alloc, path, mode));
+                Ok(())
+            }
+            SyncAsk::Chunk(bytes) => match &mut self.sending {
+                Some(sending) => sending.push(bytes.as_slice()),
+                None => Ok(()),
+            },
+            SyncAsk::Finish { mtime } => match self.sending.take() {
+                Some(sending) => serve_send(alloc, files, sending, mtime, &mut self.out),
+                None => Ok(()),
+            },
+            SyncAsk::Quit => {
+                self.ended = true;
+                Ok(())
+            }
+        }
+    }
+
+    /// Serves a fault: a FAIL with its text, and the end.
+    pub fn take_fault(&mut self, fault: SyncError) -> Result<(), AllocError>
+        ensures ok { OnOk result ((self.new.out ≡ self.old.out ++ fail_bytes (fault_text fault)) × (self.new.ended ≡ true)) }
+    {
+        fail(self.alloc, fault_text(fault), &mut self.out)?;
+        self.ended = true;
+        Ok(())
+    }
+}
+
+/// Serves the requests that a reader gives, in order, until one ends the service.
+pub fn serve_given(
+    reader: &mut AskReader,
+    session: &mut Session,
+    files: &mut Files,
+) -> Result<(), AllocError>
+    requires short { AllByRecursion HasShortPath reader.old.given }
+    requires kept { HasShortSend session.old.sending }
+    requires goes_on { session.old.ended ≡ false }
+    ensures ok { OnOk result ((send : Option OpenSend) → KeepsSend send session.old.sending
+        → ServesGiven send reader.old reader.new files.old files.new session.old.out session.new.out session.new.ended session.new.sending) }
+    ensures err { OnErr result ((send : Option OpenSend) → KeepsSend send session.old.sending
+        → ServesFront (requests_of send reader.old.given) files.old files.new) }
+    ensures short { AllByRecursion HasShortPath reader.new.given }
+    ensures kept { HasShortSend session.new.sending }
+{
+    while !session.ended {
+        let Some(ask) = reader.next() else {
+            return Ok(());
+        };
+        session.take(files, ask)?;
+    }
+    Ok(())
 }
