@@ -7,3 +7,5 @@ pub mod Siblings
 pub mod Shown
 pub mod Chunks
 pub mod Serving
+pub mod SendPaths
+pub mod Feeding

@@ -1,6 +1,6 @@
 -- Requests served one after another.
-use Rattle.std.specs.Prelude.{ℕ, ◌≡◌, cond, Bool, true, false, List, [], ◌∷◌, ◌++◌, Option, Some, None, refl}
-use Rattle.std.proofs.Common.{◌⊎◌, inl, inr, ⊎_elim, ◌∙◌, ap, sym, subst}
+use Rattle.std.specs.Prelude.{ℕ, ◌≡◌, cond, Bool, true, false, List, [], ◌∷◌, ◌++◌, Option, refl}
+use Rattle.std.proofs.Common.{◌⊎◌, inl, inr, ◌∙◌, ap, sym, subst}
 use Rattle.std.proofs.lemmas.List.{append-nil, append_assoc}
 use Rattle.std.specs.List.{AllByRecursion}
 use Rattle.std.proofs.lemmas.Bool.{true≢false}
@@ -12,26 +12,28 @@ use Rattle.adb_sync.specs.declared.ask.SyncAsk.TheVariants as asks
 use Rattle.adb_files.specs.declared.file.Entry.{Entry}
 use Rattle.adb_files.specs.declared.session.Sending.{Sending}
 use Rattle.adb_files.specs.Requests.{OpenSend, Request, completed, open_past, requests_of, open_after}
-use Rattle.adb_files.specs.Served.{Served, serve_one, serve_all, answered, then_served, stat_bytes_of, stat_in}
+use Rattle.adb_files.specs.Served.{Served, serve_one, serve_all, then_served, stat_bytes_of, stat_in}
 use Rattle.adb_files.specs.Service.{KeepsSend, Serves, ServesFront, ServesGiven, Done, HasShortPath}
 
 pub stat_served : (send : Option OpenSend) (kept : Option Sending) (ask : SyncAsk) (path p : List ℕ) (files : List Entry) (out out' : List ℕ) (ended : Bool) → ask ≡ asks.Stat path → p ≡ path → ended ≡ false → out' ≡ out ++ stat_bytes_of (stat_in files p) → KeepsSend send kept → Serves (completed send ask) files files out out' ended × KeepsSend (open_past send ask) kept
 stat_served send kept ask path p files out out' ended is same on h keeps =
-    subst (λ (a : SyncAsk). Serves (completed send a) files files out out' ended × KeepsSend (open_past send a) kept) (sym is)
-    (record {
-      files = refl;
-      answer = h ∙ (ap (λ (q : List ℕ). out ++ stat_bytes_of (stat_in files q)) same ∙ ap (λ (a : List ℕ). out ++ a) (sym (append-nil (stat_bytes_of (stat_in files path)))));
-      ends = on;
-    }, keeps)
+    subst (λ (a : SyncAsk). Serves (completed send a) files files out out' ended × KeepsSend (open_past send a) kept) (sym is) (
+      record {
+        files = refl;
+        answer = h ∙ (ap (λ (q : List ℕ). out ++ stat_bytes_of (stat_in files q)) same ∙ ap (λ (a : List ℕ). out ++ a) (sym (append-nil (stat_bytes_of (stat_in files path)))));
+        ends = on;
+      },
+      keeps,
+    )
 
 -- messages behind messages
-requests_of-append : (send : Option OpenSend) (xs ys : List SyncAsk) → requests_of send (xs ++ ys) ≡ requests_of send xs ++ requests_of (open_after send xs) ys
+pub requests_of-append : (send : Option OpenSend) (xs ys : List SyncAsk) → requests_of send (xs ++ ys) ≡ requests_of send xs ++ requests_of (open_after send xs) ys
 requests_of-append send [] ys = refl
 requests_of-append send (x ∷ xs) ys =
     ap (λ (rs : List Request). completed send x ++ rs) (requests_of-append (open_past send x) xs ys)
     ∙ sym (append_assoc (completed send x) (requests_of (open_past send x) xs) (requests_of (open_after (open_past send x) xs) ys))
 
-open_after-append : (send : Option OpenSend) (xs ys : List SyncAsk) → open_after send (xs ++ ys) ≡ open_after (open_after send xs) ys
+pub open_after-append : (send : Option OpenSend) (xs ys : List SyncAsk) → open_after send (xs ++ ys) ≡ open_after (open_after send xs) ys
 open_after-append send [] ys = refl
 open_after-append send (x ∷ xs) ys = open_after-append (open_past send x) xs ys
 

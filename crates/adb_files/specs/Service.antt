@@ -1,6 +1,7 @@
 -- What a sync service holds, and what it does with a piece of its stream.
-use Rattle.std.specs.Prelude.{ℕ, ◌+◌, ◌≡◌, ◌≤◌, min, Bool, true, false, List, [], ◌∷◌, ◌++◌, length, Option, Some, None}
+use Rattle.std.specs.Prelude.{ℕ, ◌+◌, ◌≡◌, ◌≤◌, min, Bool, false, List, [], ◌++◌, length, Option, Some, None}
 use Rattle.adb_outside.specs.Framing.{Cut}
+use Rattle.adb_sync.specs.Asks.{asks_in, StandsForAsks}
 use Rattle.adb_sync.specs.declared.ask.SyncAsk.{SyncAsk}
 use Rattle.adb_sync.specs.declared.ask.SyncAsk.TheVariants as asks
 use Rattle.adb_sync.specs.declared.ask_format.AskFormat.{AskFormat}
@@ -73,3 +74,22 @@ pub record Done (send : Option OpenSend) (reader reader' : Cut AskFormat SyncAsk
   pub same : reader' ≡ record reader { given = reader'.given }
   pub serves : Serves (requests_of send done) old new out out' ended
   pub keeps : KeepsSend (open_after send done) kept
+
+-- What a service that goes on holds of all the bytes that it was fed: their requests were served, no fault is among them, and what is kept is that of the SEND that they leave open.
+pub record StandsFor (fed : List ℕ) (service : Service) : Type 0 where
+  pub reads : service.ended ≡ false → StandsForAsks fed (asks_in fed) service.reading
+  pub sound : service.ended ≡ false → service.reading.fault ≡ None
+  pub keeps : service.ended ≡ false → KeepsSend (open_after None (asks_in fed)) service.sending
+
+-- A piece was taken: the requests that it completes are those of all bytes behind those of the bytes before it, and they were served over the files that were lent.
+pub record Feeds (fed piece : List ℕ) (old new : Service) (files files' : List Entry) : Type 0 where
+  pub requests : List Request
+  pub is : requests_in (fed ++ piece) ≡ requests_in fed ++ requests
+  pub serves : Serves requests files files' old.out new.out new.ended
+  pub stands : StandsFor (fed ++ piece) new
+
+-- Memory ran out at a piece: a front of the requests that it completes was served.
+pub record FeedsFront (fed piece : List ℕ) (files files' : List Entry) : Type 0 where
+  pub requests : List Request
+  pub is : requests_in (fed ++ piece) ≡ requests_in fed ++ requests
+  pub front : ServesFront requests files files'

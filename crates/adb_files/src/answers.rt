@@ -68,7 +68,12 @@ pub fn answer_stat(files: &Files, path: &[u8], out: &mut Outbox) -> Result<(), A
 }
 
 /// Adds the answer of a LIST.
-pub fn answer_list(alloc: Global, files: &Files, path: &[u8], out: &mut Outbox) -> Result<(), AllocError>
+pub fn answer_list(
+    alloc: Global,
+    files: &Files,
+    path: &[u8],
+    out: &mut Outbox,
+) -> Result<(), AllocError>
     ensures { OnOk result (out.new ≡ out.old ++ list_bytes (listing path.now files.now)) }
 {
     for entry in files.list(alloc, path)? {
@@ -83,7 +88,12 @@ pub fn answer_list(alloc: Global, files: &Files, path: &[u8], out: &mut Outbox) 
 }
 
 /// Adds the answer of a RECV.
-pub fn answer_recv(alloc: Global, files: &Files, path: &[u8], out: &mut Outbox) -> Result<(), AllocError>
+pub fn answer_recv(
+    alloc: Global,
+    files: &Files,
+    path: &[u8],
+    out: &mut Outbox,
+) -> Result<(), AllocError>
     ensures { OnOk result (out.new ≡ out.old ++ recv_bytes files.now path.now) }
 {
     if !is_path(path) {

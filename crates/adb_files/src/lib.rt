@@ -9,6 +9,7 @@ mod mode;
 mod outbox;
 mod path;
 mod place;
+mod service;
 mod session;
 mod stat;
 #[cfg(test)]
@@ -16,3 +17,4 @@ mod tests;
 
 pub use file::{Entry, File, FileError};
 pub use files::Files;
+pub use service::SyncService;

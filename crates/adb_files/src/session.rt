@@ -158,6 +158,7 @@ impl Session {
     /// Serves a fault: a FAIL with its text, and the end.
     pub fn take_fault(&mut self, fault: SyncError) -> Result<(), AllocError>
         ensures ok { OnOk result ((self.new.out ≡ self.old.out ++ fail_bytes (fault_text fault)) × (self.new.ended ≡ true)) }
+        ensures kept { self.new.sending ≡ self.old.sending }
     {
         fail(self.alloc, fault_text(fault), &mut self.out)?;
         self.ended = true;

@@ -1,7 +1,5 @@
-use Rattle.std.proofs.Common.{◌∙◌, ap, sym}
 use Rattle.std.proofs.lemmas.Result.{err_from_is_err_and}
-use Rattle.std.proofs.lemmas.Bool.{not-true, not-false}
-use Rattle.adb_files.proofs.Serving.{done_more, given_all, given_ended, given_front, short_left}
+use Rattle.adb_files.proofs.Serving.{done_more, given_ended, given_front, short_left}
 use Rattle.adb_files.proofs.session.serve_given.Goals as goal
 
 pub loop-session-preserved : goal.loop-session-preserved

@@ -1,4 +1,4 @@
-use Rattle.std.proofs.Common.{◌-◌, length, Option}
+use Rattle.std.proofs.Common.{length, Option}
 use Rattle.std.specs.List.{AllByRecursion}
 use Rattle.adb_files.specs.Requests.{OpenSend}
 use Rattle.adb_files.specs.Service.{KeepsSend, Done, HasShortPath, HasShortSend}
