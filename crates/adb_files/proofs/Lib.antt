@@ -5,3 +5,7 @@ pub mod Lookups
 pub mod Below
 pub mod Siblings
 pub mod Shown
+pub mod Chunks
+pub mod Serving
+pub mod SendPaths
+pub mod Feeding

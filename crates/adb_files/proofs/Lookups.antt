@@ -15,6 +15,8 @@ use Rattle.adb_files.specs.declared.file.FileError.TheVariants.{BadPath, IsDirec
 use Rattle.adb_files.specs.Paths.{path_cmp, is_path}
 use Rattle.adb_files.specs.Files.{before, behind, file_at, with_file, without, ChangesAt, is_directory, is_under_file, read_refusal, put_refusal, none_there, total, most_bytes}
 use Rattle.adb_files.specs.Places.{StandsAt, FitsAt}
+use Rattle.adb_files.specs.Listing.{directory_stat}
+use Rattle.adb_files.specs.Served.{file_stat, stat_in}
 use Rattle.adb_files.proofs.Order.{greater_back}
 use Rattle.adb_files.proofs.Rising.{entry_of, less_from_test}
 
@@ -201,3 +203,8 @@ granted files path size none = go (is_path path) refl (is_directory files path) 
     go true f false true large l e = absurd cc
     go true f false false true l e = absurd cc
     go true f false false false l e = (f, ltb-false most_bytes (total (without path files) + size) l)
+
+-- what a path that is no directory shows
+pub stat_plain : (files : List Entry) (path : List ℕ) (file : Option File) → is_directory files path ≡ false → file_at path files ≡ file → stat_in files path ≡ file_stat file
+stat_plain files path file plain is =
+    ap (λ t. cond t directory_stat (file_stat (file_at path files))) plain ∙ ap file_stat is

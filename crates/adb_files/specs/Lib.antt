@@ -2,3 +2,6 @@ pub mod Paths
 pub mod Files
 pub mod Places
 pub mod Listing
+pub mod Requests
+pub mod Served
+pub mod Service

@@ -1,18 +1,20 @@
 //! The files of a device.
 
 ghost use Rattle.std.specs.Option.{option_copied};
-ghost use Rattle.std.specs.Prelude.{◌≡◌, ◌+◌, ◌^◌, ◌<◌, ◌≤◌, [], length, map, Option, OnOk, OnErr, IfOk, MatchResult};
+ghost use Rattle.std.specs.Prelude.{◌≡◌, ◌+◌, ◌^◌, ◌<◌, ◌≤◌, [], length, map, All, Option, OnOk, OnErr, IfOk, MatchResult};
 ghost use Rattle.std.specs.List.{list_any};
 ghost use Rattle.adb_files.specs.declared.file.FileError.{FileError};
 ghost use Rattle.adb_files.specs.Paths.{is_below};
 ghost use Rattle.adb_files.specs.Files.{IsFileMap, ChangesAt, file_at, with_file, without, next_path, total, is_directory, is_under_file, put_refusal, read_refusal};
 ghost use Rattle.adb_files.specs.Listing.{listing};
+ghost use Rattle.adb_files.specs.Served.{stat_in};
 ghost use Rattle.adb_files.specs.Places.{StandsAt, FitsAt};
 
 use crate::file::{Entry, File, FileError};
 use crate::listing::{dirent_of, shown_in};
 use crate::path::{ROOT, is_below, is_path, slash_behind};
 use crate::place::{first_from, place_at, store};
+use crate::stat::Stat;
 use adb_sync::Dirent;
 use std::alloc::{AllocError, Global};
 use std::marker::Model;
@@ -132,7 +134,8 @@ impl Files {
     /// their names. A directory has the mode 16,877, no bytes and the time 0. Of a bad path, a file or
     /// nothing there are none.
     pub fn list(&self, alloc: Global, path: &[u8]) -> Result<Vec<Dirent>, AllocError>
-        ensures { IfOk result (λ entries. entries.items ≡ listing path.now self.now) }
+        ensures list { IfOk result (λ entries. entries.items ≡ listing path.now self.now) }
+        ensures names { All (λ entry. length entry.name < 2 ^ 32) (listing path.now self.now) }
     {
         let mut entries = Vec::new(alloc);
         if !is_path(path) {
@@ -142,6 +145,19 @@ impl Files {
             entries.push(dirent_of(name, stat))?;
         }
         Ok(entries)
+    }
+
+    /// What the path shows: a directory, a file, or nothing, which is all zeros.
+    pub fn stat(&self, path: &[u8]) -> Stat
+        ensures { result ≡ stat_in self.now path.now }
+    {
+        if self.is_directory(path) {
+            return Stat::directory();
+        }
+        match self.place(path) {
+            Ok(i) => Stat::of(&self.entries[i].file),
+            Err(_) => Stat::nothing(),
+        }
     }
 
     /// Whether the path is that of a directory.

@@ -1,14 +1,20 @@
 //! The files of a model device, and the service that answers sync requests over them (SYNC.TXT).
 #![tactic(auto)]
 
+mod answers;
 mod file;
 mod files;
 mod listing;
+mod mode;
+mod outbox;
 mod path;
 mod place;
+mod service;
+mod session;
 mod stat;
 #[cfg(test)]
 mod tests;
 
 pub use file::{Entry, File, FileError};
 pub use files::Files;
+pub use service::SyncService;

@@ -2,6 +2,7 @@
 
 ghost use Rattle.std.specs.Prelude.{◌≡◌, ◌^◌, ◌<◌, length};
 ghost use Rattle.adb_files.specs.Listing.{stat_of, directory_stat};
+ghost use Rattle.adb_files.specs.Served.{nothing_stat};
 
 use crate::file::File;
 
@@ -35,6 +36,17 @@ impl Stat {
     {
         Stat {
             mode: DIRECTORY_MODE,
+            size: 0,
+            mtime: 0,
+        }
+    }
+
+    /// What a path without a file shows.
+    pub fn nothing() -> Stat
+        ensures { result ≡ nothing_stat }
+    {
+        Stat {
+            mode: 0,
             size: 0,
             mtime: 0,
         }

@@ -1,0 +1,104 @@
+-- Bytes in chunks, and names of a listing.
+use Rattle.std.specs.Prelude.{Option, Some, None, ℕ, ◌^◌, ◌≡◌, ◌≢◌, ◌<◌, ◌≤◌, ◌==◌, min, cond, Bool, true, false, List, [], ◌∷◌, ◌++◌, length, take, drop, fold, filter, map, All, refl, zero, suc}
+use Rattle.std.proofs.Common.{◌∙◌, ap, sym, arith, Ordering}
+use Rattle.std.specs.Ordering.{match_ordering}
+use Rattle.std.specs.declared.cmp.Ordering.TheVariants.{Less, Equal, Greater}
+use Rattle.std.specs.BTreeMap.{insert_entry}
+use Rattle.std.specs.List.{AllByRecursion, flat_map}
+use Rattle.std.proofs.lemmas.Bool.{eq-eqb, ne_eqb}
+use Rattle.std.proofs.lemmas.List.{length-take, length-drop, append_assoc, take_min, drop_min, nil_from_length}
+use Rattle.std.proofs.lemmas.List.Elements.{All-from_recursion, recursion_from_All, All-nil}
+use Rattle.adb_sync.specs.declared.answer.SyncAnswer.TheVariants as answers
+use Rattle.adb_sync.specs.declared.answer.Dirent.{Dirent}
+use Rattle.adb_sync.specs.Answers.{answer_bytes}
+use Rattle.adb_files.specs.declared.file.Entry.{Entry}
+use Rattle.adb_files.specs.declared.stat.Stat.{Stat}
+use Rattle.adb_files.specs.Paths.{path_cmp, is_path, inside, is_below}
+use Rattle.adb_files.specs.Files.{IsFileMap}
+use Rattle.adb_files.specs.Listing.{slash_in, part_at, rest_below, name_below, stat_below, with_shown, shown_in, dirent_of, listing}
+use Rattle.adb_files.specs.Served.{chunks_at, chunk_bytes, dent_bytes}
+
+-- no more chunks than bytes are needed
+enough : (k m : ℕ) (bytes : List ℕ) → length bytes ≤ k → length bytes ≤ m → chunks_at k bytes ≡ chunks_at m bytes
+enough zero zero bytes h g = refl
+enough zero (suc m) bytes h g =
+    sym (ap (λ t. cond t [] (answer_bytes (answers.Chunk (take 65536 bytes)) ++ chunks_at m (drop 65536 bytes))) (eq-eqb (length bytes) 0 (omega arith)))
+enough (suc k) zero bytes h g =
+    ap (λ t. cond t [] (answer_bytes (answers.Chunk (take 65536 bytes)) ++ chunks_at k (drop 65536 bytes))) (eq-eqb (length bytes) 0 (omega arith))
+enough (suc k) (suc m) bytes h g = go (length bytes == 0) (enough k m (drop 65536 bytes) (omega (arith, h, length-drop 65536 bytes)) (omega (arith, g, length-drop 65536 bytes)))
+  where
+    go : (t : Bool) → chunks_at k (drop 65536 bytes) ≡ chunks_at m (drop 65536 bytes) → cond t [] (answer_bytes (answers.Chunk (take 65536 bytes)) ++ chunks_at k (drop 65536 bytes)) ≡ cond t [] (answer_bytes (answers.Chunk (take 65536 bytes)) ++ chunks_at m (drop 65536 bytes))
+    go true e = refl
+    go false e = ap (λ (rest : List ℕ). answer_bytes (answers.Chunk (take 65536 bytes)) ++ rest) e
+
+-- a chunk comes off
+pub chunk_more : (bytes : List ℕ) → length bytes ≢ 0 → chunk_bytes bytes ≡ answer_bytes (answers.Chunk (take (min 65536 (length bytes)) bytes)) ++ chunk_bytes (drop (min 65536 (length bytes)) bytes)
+chunk_more bytes some =
+    enough (length bytes) (suc (length bytes)) bytes (omega arith) (omega arith)
+    ∙ (ap (λ t. cond t [] (answer_bytes (answers.Chunk (take 65536 bytes)) ++ chunks_at (length bytes) (drop 65536 bytes))) (ne_eqb (length bytes) 0 some)
+    ∙ (ap (λ (rest : List ℕ). answer_bytes (answers.Chunk (take 65536 bytes)) ++ rest) (enough (length bytes) (length (drop 65536 bytes)) (drop 65536 bytes) (omega (arith, length-drop 65536 bytes)) (omega arith))
+    ∙ (ap (λ (front : List ℕ). answer_bytes (answers.Chunk front) ++ chunk_bytes (drop 65536 bytes)) (sym (take_min 65536 bytes))
+    ∙ ap (λ (rest : List ℕ). answer_bytes (answers.Chunk (take (min 65536 (length bytes)) bytes)) ++ chunk_bytes rest) (sym (drop_min 65536 bytes)))))
+
+pub chunk_none : (bytes : List ℕ) → length bytes ≡ 0 → chunk_bytes bytes ≡ []
+chunk_none bytes none = ap chunk_bytes (nil_from_length bytes none)
+
+-- no name is longer than a path
+part_short : (rest : List ℕ) → length (part_at (slash_in rest) rest) ≤ length rest
+part_short rest = go (slash_in rest)
+  where
+    go : (o : Option ℕ) → length (part_at o rest) ≤ length rest
+    go None = omega arith
+    go (Some i) = omega (arith, length-take i rest)
+
+abbrev HasShortNames : List (List ℕ × Stat) → Type 0
+HasShortNames es = AllByRecursion (λ e. length e.0 < 2 ^ 32) es
+
+short-insert : (es : List (List ℕ × Stat)) (k : List ℕ) (v : Stat) → HasShortNames es → length k < 2 ^ 32 → HasShortNames (insert_entry path_cmp es k v)
+short-insert [] k v all h = (h, tt)
+short-insert (e ∷ es) k v all h = go (path_cmp k e.0) (short-insert es k v all.1 h)
+  where
+    go : (o : Ordering) → HasShortNames (insert_entry path_cmp es k v) → HasShortNames (match_ordering o ((k, v) ∷ e ∷ es) ((e.0, v) ∷ es) (e ∷ insert_entry path_cmp es k v))
+    go Less rest = (h, all)
+    go Equal rest = (all.0, all.1)
+    go Greater rest = (all.0, rest)
+
+short-shown : (directory : List ℕ) (files : List Entry) (found : List (List ℕ × Stat)) → AllByRecursion (λ (e : Entry). length e.path < 2 ^ 32) files → HasShortNames found → HasShortNames (fold (with_shown directory) found (filter (λ (e : Entry). is_below directory e.path) files))
+short-shown directory [] found short all = all
+short-shown directory (e ∷ files) found short all = go (is_below directory e.path) (λ es h. short-shown directory files es short.1 h)
+  where
+    name : length (name_below directory e.path) < 2 ^ 32
+    name = omega (arith, part_short (rest_below directory e.path), length-drop (length (inside directory)) e.path, short.0)
+
+    go : (t : Bool) → ((es : List (List ℕ × Stat)) → HasShortNames es → HasShortNames (fold (with_shown directory) es (filter (λ (x : Entry). is_below directory x.path) files))) → HasShortNames (fold (with_shown directory) found (cond t (e ∷ filter (λ (x : Entry). is_below directory x.path) files) (filter (λ (x : Entry). is_below directory x.path) files)))
+    go true rest = rest (with_shown directory found e) (short-insert found (name_below directory e.path) (stat_below directory e) all name)
+    go false rest = rest found all
+
+dirents_short : (es : List (List ℕ × Stat)) → HasShortNames es → AllByRecursion (λ (d : Dirent). length d.name < 2 ^ 32) (map dirent_of es)
+dirents_short [] all = tt
+dirents_short (e ∷ es) all = (all.0, dirents_short es all.1)
+
+pub names_short : (directory : List ℕ) (files : List Entry) → IsFileMap files → All (λ (d : Dirent). length d.name < 2 ^ 32) (listing directory files)
+names_short directory files ok = go (is_path directory)
+  where
+    go : (t : Bool) → All (λ (d : Dirent). length d.name < 2 ^ 32) (cond t (map dirent_of (shown_in directory files)) [])
+    go true = All-from_recursion (λ (d : Dirent). length d.name < 2 ^ 32) (map dirent_of (shown_in directory files)) (dirents_short (shown_in directory files) (short-shown directory files [] (recursion_from_All (λ (e : Entry). length e.path < 2 ^ 32) files ok.short) tt))
+    go false = All-nil (λ (d : Dirent). length d.name < 2 ^ 32)
+
+-- a step of a loop over chunks, and of one over entries
+pub chunk_step : (out out' rest text left : List ℕ) (n : ℕ) → n ≡ min 65536 (length rest) → text ≡ take n rest → left ≡ drop n rest → length rest ≢ 0 → out' ≡ out ++ answer_bytes (answers.Chunk text) → out' ++ chunk_bytes left ≡ out ++ chunk_bytes rest
+chunk_step out out' rest text left n size front back some is =
+    ap (λ (o : List ℕ). o ++ chunk_bytes left) is
+    ∙ (append_assoc out (answer_bytes (answers.Chunk text)) (chunk_bytes left)
+    ∙ ap (λ (o : List ℕ). out ++ o) (parts ∙ sym (chunk_more rest some)))
+  where
+    parts : answer_bytes (answers.Chunk text) ++ chunk_bytes left ≡ answer_bytes (answers.Chunk (take (min 65536 (length rest)) rest)) ++ chunk_bytes (drop (min 65536 (length rest)) rest)
+    parts =
+        ap (λ (t : List ℕ). answer_bytes (answers.Chunk t) ++ chunk_bytes left) (front ∙ ap (λ m. take m rest) size)
+        ∙ ap (λ (l : List ℕ). answer_bytes (answers.Chunk (take (min 65536 (length rest)) rest)) ++ chunk_bytes l) (back ∙ ap (λ m. drop m rest) size)
+
+pub dent_step : (out out' : List ℕ) (entry : Dirent) (rest left : List Dirent) → rest ≡ entry ∷ left → out' ≡ out ++ dent_bytes entry → out' ++ flat_map dent_bytes left ≡ out ++ flat_map dent_bytes rest
+dent_step out out' entry rest left all is =
+    ap (λ (o : List ℕ). o ++ flat_map dent_bytes left) is
+    ∙ (append_assoc out (dent_bytes entry) (flat_map dent_bytes left)
+    ∙ ap (λ (ds : List Dirent). out ++ flat_map dent_bytes ds) (sym all))

@@ -1,0 +1,125 @@
+//! What a whole request is answered.
+
+ghost use Rattle.std.specs.Prelude.{◌≡◌, ◌≤◌, ◌<◌, ◌^◌, ◌++◌, length, map, All, Option, OnOk, IfOk};
+ghost use Rattle.adb_sync.specs.declared.answer.Dirent.{Dirent};
+ghost use Rattle.adb_files.specs.Files.{is_directory};
+ghost use Rattle.adb_files.specs.Served.{refusal_text, fault_text, fail_bytes, stat_in, stat_bytes_of, list_bytes, chunk_bytes, recv_bytes};
+ghost use Rattle.adb_files.specs.Listing.{listing};
+
+use crate::file::FileError;
+use crate::files::Files;
+use crate::outbox::Outbox;
+use crate::path::is_path;
+use adb_outside::Text;
+use adb_sync::{SyncAnswer, SyncError};
+use std::alloc::{AllocError, Global};
+
+/// The most bytes of a chunk.
+const MOST_CHUNK: usize = 65_536;
+
+/// The text of a refusal.
+pub fn refusal_text(refusal: FileError) -> &'static [u8]
+    ensures text { result.now ≡ refusal_text refusal }
+    ensures short { length result.now ≤ 20 }
+{
+    match refusal {
+        FileError::BadPath => b"bad path",
+        FileError::IsDirectory => b"is a directory",
+        FileError::NotDirectory => b"not a directory",
+        FileError::NoSpace => b"no space",
+        FileError::NoFile => b"no such file",
+        FileError::OutOfMemory => b"out of memory",
+    }
+}
+
+/// The text of a fault.
+pub fn fault_text(fault: SyncError) -> &'static [u8]
+    ensures text { result.now ≡ fault_text fault }
+    ensures short { length result.now ≤ 20 }
+{
+    match fault {
+        SyncError::UnknownId { .. } => b"unknown sync request",
+        SyncError::PathTooLong { .. } => b"path too long",
+        SyncError::BadSend { .. } => b"bad send path",
+        SyncError::ChunkTooLong { .. } => b"bad data length",
+        SyncError::BadPlace { .. } => b"bad data id",
+        SyncError::OutOfMemory => b"out of memory",
+    }
+}
+
+/// Adds a FAIL.
+pub fn fail(alloc: Global, text: &[u8], out: &mut Outbox) -> Result<(), AllocError>
+    requires { length text.now ≤ 20 }
+    ensures { OnOk result (out.new ≡ out.old ++ fail_bytes text.now) }
+{
+    out.push(&SyncAnswer::Fail(Text::from_slice(alloc, text)?))
+}
+
+/// Adds the answer of a STAT.
+pub fn answer_stat(files: &Files, path: &[u8], out: &mut Outbox) -> Result<(), AllocError>
+    ensures { OnOk result (out.new ≡ out.old ++ stat_bytes_of (stat_in files.now path.now)) }
+{
+    let stat = files.stat(path);
+    out.push(&SyncAnswer::Stat {
+        mode: stat.mode,
+        size: stat.size,
+        mtime: stat.mtime,
+    })
+}
+
+/// Adds the answer of a LIST.
+pub fn answer_list(
+    alloc: Global,
+    files: &Files,
+    path: &[u8],
+    out: &mut Outbox,
+) -> Result<(), AllocError>
+    ensures { OnOk result (out.new ≡ out.old ++ list_bytes (listing path.now files.now)) }
+{
+    for entry in files.list(alloc, path)? {
+        out.push(&SyncAnswer::Dent {
+            mode: entry.mode,
+            size: entry.size,
+            mtime: entry.mtime,
+            name: entry.name,
+        })?;
+    }
+    out.push(&SyncAnswer::ListEnd)
+}
+
+/// Adds the answer of a RECV.
+pub fn answer_recv(
+    alloc: Global,
+    files: &Files,
+    path: &[u8],
+    out: &mut Outbox,
+) -> Result<(), AllocError>
+    ensures { OnOk result (out.new ≡ out.old ++ recv_bytes files.now path.now) }
+{
+    if !is_path(path) {
+        return fail(alloc, refusal_text(FileError::BadPath), out);
+    }
+    if files.is_directory(path) {
+        return fail(alloc, refusal_text(FileError::IsDirectory), out);
+    }
+    match files.get(path) {
+        Some(file) => {
+            answer_chunks(alloc, file.bytes.as_slice(), out)?;
+            out.push(&SyncAnswer::ChunkEnd)
+        }
+        None => fail(alloc, refusal_text(FileError::NoFile), out),
+    }
+}
+
+/// Adds bytes in chunks.
+fn answer_chunks(alloc: Global, bytes: &[u8], out: &mut Outbox) -> Result<(), AllocError>
+    ensures { OnOk result (out.new ≡ out.old ++ chunk_bytes bytes.now) }
+{
+    let mut rest = bytes;
+    while !rest.is_empty() {
+        let (chunk, left) = rest.split_at(MOST_CHUNK.min(rest.len()));
+        out.push(&SyncAnswer::Chunk(Text::from_slice(alloc, chunk)?))?;
+        rest = left;
+    }
+    Ok(())
+}

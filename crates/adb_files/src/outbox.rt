@@ -1,0 +1,82 @@
+//! The answers that were not taken yet.
+
+ghost use Rattle.std.specs.Prelude.{◌≡◌, ◌≤◌, ◌++◌, [], length, drop, OnOk, OnErr};
+ghost use Rattle.adb_sync.specs.Answers.{IsAnswer, answer_bytes};
+
+use adb_outside::Text;
+use adb_sync::{SyncAnswer, write_answer};
+use std::alloc::{AllocError, Global};
+use std::marker::Model;
+
+/// The bytes of answers that were not taken yet. The bytes that were taken are given back once they
+/// are the larger part.
+#[derive(Drop)]
+pub struct Outbox {
+    alloc: Global,
+    bytes: Text,
+    from: usize,
+}
+
+impl Model for Outbox {
+    ghost use Rattle.std.specs.Prelude.{List, ℕ, ◌≤◌, drop, length};
+
+    ghost Value = { List ℕ };
+
+    ghost view = { λ outbox. drop outbox.from outbox.bytes };
+
+    ghost invariant = { λ outbox. outbox.from ≤ length outbox.bytes };
+}
+
+impl Outbox {
+    /// No bytes. It takes no memory.
+    pub fn new(alloc: Global) -> Outbox
+        ensures { result ≡ [] }
+    {
+        Outbox {
+            alloc,
+            bytes: Text::new(alloc),
+            from: 0,
+        }
+    }
+
+    /// The bytes that were not taken yet.
+    pub fn as_slice(&self) -> &[u8]
+        ensures { result.now ≡ self.now }
+    {
+        &self.bytes.as_slice()[self.from..]
+    }
+
+    /// The first `n` bytes were taken. It takes no memory.
+    pub fn taken(&mut self, n: usize)
+        requires { n ≤ length self.old }
+        ensures { self.new ≡ drop n self.old }
+    {
+        let length = self.bytes.len();
+        self.from += n;
+        if self.from == length {
+            self.bytes = Text::new(self.alloc);
+            self.from = 0;
+        }
+    }
+
+    /// Adds an answer at the end. After want of memory the bytes are as before.
+    pub fn push(&mut self, answer: &SyncAnswer) -> Result<(), AllocError>
+        requires { IsAnswer answer.now }
+        ensures ok { OnOk result (self.new ≡ self.old ++ answer_bytes answer.now) }
+        ensures err { OnErr result (self.new ≡ self.old) }
+    {
+        self.give_back()?;
+        write_answer(self.alloc, answer, &mut self.bytes)
+    }
+
+    /// Gives the memory of bytes that were taken back, where they are the larger part.
+    fn give_back(&mut self) -> Result<(), AllocError>
+        ensures { self.new ≡ self.old }
+    {
+        if self.from > self.bytes.len() / 2 {
+            self.bytes = Text::from_slice(self.alloc, &self.bytes.as_slice()[self.from..])?;
+            self.from = 0;
+        }
+        Ok(())
+    }
+}

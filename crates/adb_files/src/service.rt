@@ -1,0 +1,145 @@
+//! The service that answers sync requests.
+
+ghost use Rattle.std.specs.Prelude.{◌≡◌, ◌≤◌, ◌++◌, ◌⊎◌, [], List, ℕ, length, drop, true, false, Ok, Err, None, ◌≢◌, IfOk, OnOk, OnErr, IsErr};
+ghost use Rattle.adb_sync.specs.Messages.{answer_of};
+ghost use Rattle.std.specs.List.{AllByRecursion};
+ghost use Rattle.adb_files.specs.Service.{StandsFor, Feeds, FeedsFront, HasShortPath, HasShortSend};
+
+use crate::files::Files;
+use crate::session::{Session, serve_given};
+use adb_sync::{AskReader, SyncError};
+use std::alloc::{AllocError, Global};
+use std::marker::Model;
+
+/// The file sync service of a device (SYNC.TXT). Contracts see what its reader of requests holds, the
+/// SEND that is open, the answers that were not taken yet, whether it has ended, and whether it is
+/// spent by want of memory.
+#[derive(Drop)]
+pub struct SyncService {
+    reader: AskReader,
+    session: Session,
+    spent: bool,
+}
+
+impl Model for SyncService {
+    ghost use Rattle.std.specs.List.{AllByRecursion};
+    ghost use Rattle.adb_files.specs.Service.{Service, HasShortPath, HasShortSend};
+
+    ghost Value = { Service };
+
+    ghost view = { λ s. record { reading = s.reader; sending = s.session.sending; out = s.session.out; ended = s.session.ended; spent = s.spent } };
+
+    ghost invariant = { λ s. AllByRecursion HasShortPath s.reader.given × HasShortSend s.session.sending };
+}
+
+impl SyncService {
+    /// A service that was asked nothing yet. It takes no memory.
+    pub fn new(alloc: Global) -> SyncService
+        ensures stands { StandsFor [] result }
+        ensures out { result.out ≡ [] }
+        ensures ended { result.ended ≡ false }
+        ensures spent { result.spent ≡ false }
+    {
+        SyncService {
+            reader: AskReader::new(alloc),
+            session: Session::new(alloc),
+            spent: false,
+        }
+    }
+
+    /// Takes the next piece of the stream, of any length. The whole requests that it completes are
+    /// served in order over these files, a SEND with its DONE as one: the file changes at its DONE
+    /// alone, as a whole. A fault is answered by one FAIL, and ends the service as a QUIT does; what
+    /// follows is dropped. After want of memory a front of these requests was served, and the service
+    /// is spent: every call answers want of memory and changes nothing.
+    pub fn feed(&mut self, files: &mut Files, piece: &[u8]) -> Result<(), AllocError>
+        ensures ok { OnOk result ((self.old.spent ≡ false) × (self.new.spent ≡ false)) }
+        ensures served { OnOk result (self.old.ended ≡ false → (fed : List ℕ)
+            → StandsFor fed self.old → Feeds fed piece.now self.old self.new files.old files.new) }
+        ensures dropped { OnOk result (self.old.ended ≡ true
+            → (self.new ≡ self.old) × (files.new ≡ files.old)) }
+        ensures err { OnErr result (self.new.spent ≡ true) }
+        ensures front { OnErr result (self.old.ended ≡ false → (fed : List ℕ)
+            → StandsFor fed self.old
+            → (files.new ≡ files.old) ⊎ FeedsFront fed piece.now files.old files.new) }
+        ensures stays { self.old.spent ≡ true
+            → (IsErr result) × (files.new ≡ files.old) × (self.new ≡ self.old) }
+    {
+        if self.spent {
+            return Err(AllocError);
+        }
+        if self.session.ended {
+            return Ok(());
+        }
+        let result = feed_open(&mut self.reader, &mut self.session, files, piece);
+        if result.is_err() {
+            self.spent = true;
+        }
+        result
+    }
+
+    /// The answers that were not taken yet.
+    pub fn out(&self) -> &[u8]
+        ensures { result.now ≡ self.now.out }
+    {
+        self.session.out.as_slice()
+    }
+
+    /// The first `n` bytes of the answers were taken. It takes no memory.
+    pub fn taken(&mut self, n: usize)
+        requires { n ≤ length self.old.out }
+        ensures { self.new ≡ record self.old { out = drop n self.old.out } }
+    {
+        self.session.out.taken(n);
+    }
+
+    /// Whether a QUIT or a fault ended the service.
+    pub fn ended(&self) -> bool
+        ensures { result ≡ self.now.ended }
+    {
+        self.session.ended
+    }
+}
+
+/// Takes a piece of the stream, and serves the requests that it completes.
+fn feed_open(
+    reader: &mut AskReader,
+    session: &mut Session,
+    files: &mut Files,
+    piece: &[u8],
+) -> Result<(), AllocError>
+    requires short { AllByRecursion HasShortPath reader.old.given }
+    requires kept { HasShortSend session.old.sending }
+    requires goes_on { session.old.ended ≡ false }
+    ensures ok { OnOk result ((fed : List ℕ)
+        → StandsFor fed (record { reading = reader.old; sending = session.old.sending; out = session.old.out; ended = session.old.ended; spent = false })
+        → Feeds fed piece.now (record { reading = reader.old; sending = session.old.sending; out = session.old.out; ended = session.old.ended; spent = false })
+        (record { reading = reader.new; sending = session.new.sending; out = session.new.out; ended = session.new.ended; spent = false }) files.old files.new) }
+    ensures err { OnErr result ((fed : List ℕ)
+        → StandsFor fed (record { reading = reader.old; sending = session.old.sending; out = session.old.out; ended = session.old.ended; spent = false })
+        → (files.new ≡ files.old) ⊎ FeedsFront fed piece.now files.old files.new) }
+    ensures short { AllByRecursion HasShortPath reader.new.given }
+    ensures kept { HasShortSend session.new.sending }
+{
+    let fault = told_fault(reader.feed(piece))?;
+    serve_given(reader, session, files)?;
+    if session.ended {
+        return Ok(());
+    }
+    match fault {
+        None => Ok(()),
+        Some(fault) => session.take_fault(fault),
+    }
+}
+
+/// The fault that a reader told; want of memory is none.
+fn told_fault(answer: Result<(), SyncError>) -> Result<Option<SyncError>, AllocError>
+    ensures ok { IfOk result (λ fault. (answer ≢ Err SyncError.OutOfMemory) × (answer ≡ answer_of fault)) }
+    ensures err { OnErr result (answer ≡ Err SyncError.OutOfMemory) }
+{
+    match answer {
+        Ok(()) => Ok(None),
+        Err(SyncError::OutOfMemory) => Err(AllocError),
+        Err(fault) => Ok(Some(fault)),
+    }
+}

@@ -1,0 +1,192 @@
+//! Serving whole requests, in order.
+
+ghost use Rattle.std.specs.Prelude.{◌≡◌, ◌≤◌, ◌++◌, ◌⊎◌, [], length, true, false, Option, Some, None, OnOk, OnErr, IfOk};
+ghost use Rattle.std.specs.List.{AllByRecursion};
+ghost use Rattle.adb_sync.specs.declared.error.SyncError.{SyncError};
+ghost use Rattle.adb_files.specs.declared.session.Sending.{Sending};
+ghost use Rattle.adb_files.specs.Files.{most_bytes};
+ghost use Rattle.adb_files.specs.Requests.{OpenSend, Sends, Fails, completed, continued, open_past, requests_of};
+ghost use Rattle.adb_files.specs.Served.{serve_one, serve_all, fail_bytes, fault_text};
+ghost use Rattle.adb_files.specs.Service.{IsKept, KeepsSend, Serves, ServesGiven, ServesFront, HasShortPath, HasShortSend};
+
+use crate::answers::{answer_list, answer_recv, answer_stat, fail, fault_text, refusal_text};
+use crate::file::{File, FileError};
+use crate::files::{Files, MOST_BYTES};
+use crate::mode::stored_mode;
+use crate::outbox::Outbox;
+use crate::path::is_path;
+use adb_outside::Text;
+use adb_sync::{AskReader, SyncAnswer, SyncAsk, SyncError};
+use std::alloc::{AllocError, Global};
+
+/// A SEND whose DONE has not come yet.
+#[derive(Drop)]
+pub struct Sending {
+    pub path: Text,
+    pub mode: Text,
+    /// Its bytes, as long as they are no more than all files may have.
+    pub bytes: Text,
+    /// How many bytes came; it stops at the first number that is more than all files may have.
+    pub size: usize,
+}
+
+impl Sending {
+    /// A SEND of which no bytes have come.
+    fn new(alloc: Global, path: Text, mode: Text) -> Sending
+        ensures kept { IsKept (record { path = path; mode = mode; bytes = [] }) result }
+        ensures path { result.path ≡ path }
+    {
+        Sending {
+            path,
+            mode,
+            bytes: Text::new(alloc),
+            size: 0,
+        }
+    }
+
+    /// Takes the next bytes. Past what all files may have no more is kept.
+    fn push(&mut self, chunk: &[u8]) -> Result<(), AllocError>
+        ensures kept { OnOk result ((send : OpenSend) → IsKept send self.old
+            → IsKept (record send { bytes = send.bytes ++ chunk.now }) self.new) }
+        ensures path { self.new.path ≡ self.old.path }
+    {
+        if chunk.len() > MOST_BYTES.saturating_sub(self.size) {
+            self.size = MOST_BYTES + 1;
+            return Ok(());
+        }
+        self.bytes.push_slice(chunk)?;
+        self.size += chunk.len();
+        Ok(())
+    }
+}
+
+/// Serves a whole SEND.
+fn serve_send(
+    alloc: Global,
+    files: &mut Files,
+    sending: Sending,
+    mtime: u32,
+    out: &mut Outbox,
+) -> Result<(), AllocError>
+    requires { length sending.path ≤ 1024 }
+    ensures ok { OnOk result ((send : OpenSend) → IsKept send sending
+        → let served = serve_one files.old (Sends send.path send.mode send.bytes mtime)
+        in (files.new ≡ served.files) × (out.new ≡ out.old ++ served.answer)) }
+    ensures err { OnErr result ((send : OpenSend) → IsKept send sending
+        → (files.new ≡ files.old) ⊎ (files.new ≡ (serve_one files.old (Sends send.path send.mode send.bytes mtime)).files)) }
+{
+    if !is_path(sending.path.as_slice()) {
+        return fail(alloc, refusal_text(FileError::BadPath), out);
+    }
+    let Some(mode) = stored_mode(sending.mode.as_slice()) else {
+        return fail(alloc, b"bad mode", out);
+    };
+    if let Some(refusal) = files.put_refusal(sending.path.as_slice(), sending.size) {
+        return fail(alloc, refusal_text(refusal), out);
+    }
+    let file = File {
+        mode,
+        mtime,
+        bytes: sending.bytes,
+    };
+    if files.put(alloc, sending.path.as_slice(), file).is_err() {
+        return Err(AllocError);
+    }
+    out.push(&SyncAnswer::Okay)
+}
+
+/// The SEND that is open, the answers, and whether the service has ended.
+#[derive(Drop)]
+pub struct Session {
+    alloc: Global,
+    pub sending: Option<Sending>,
+    pub out: Outbox,
+    pub ended: bool,
+}
+
+impl Session {
+    /// Nothing was asked yet. It takes no memory.
+    pub fn new(alloc: Global) -> Session
+        ensures sending { result.sending ≡ None }
+        ensures out { result.out ≡ [] }
+        ensures ended { result.ended ≡ false }
+    {
+        Session {
+            alloc,
+            sending: None,
+            out: Outbox::new(alloc),
+            ended: false,
+        }
+    }
+
+    /// Serves the request that a message makes whole, where it makes one.
+    pub fn take(&mut self, files: &mut Files, ask: SyncAsk) -> Result<(), AllocError>
+        requires short { HasShortPath ask }
+        requires kept { HasShortSend self.old.sending }
+        requires goes_on { self.old.ended ≡ false }
+        ensures ok { OnOk result ((send : Option OpenSend) → KeepsSend send self.old.sending
+            → Serves (completed send ask) files.old files.new self.old.out self.new.out self.new.ended
+            × KeepsSend (open_past send ask) self.new.sending) }
+        ensures err { OnErr result ((send : Option OpenSend) → KeepsSend send self.old.sending
+            → (files.new ≡ files.old) ⊎ (files.new ≡ (serve_all files.old (completed send ask)).files)) }
+        ensures short { HasShortSend self.new.sending }
+    {
+        let alloc = self.alloc;
+        match ask {
+            SyncAsk::Stat(path) => answer_stat(files, path.as_slice(), &mut self.out),
+            SyncAsk::List(path) => answer_list(alloc, files, path.as_slice(), &mut self.out),
+            SyncAsk::Recv(path) => answer_recv(alloc, files, path.as_slice(), &mut self.out),
+            SyncAsk::Send { path, mode } => {
+                self.sending = Some(Sending::new(alloc, path, mode));
+                Ok(())
+            }
+            SyncAsk::Chunk(bytes) => match &mut self.sending {
+                Some(sending) => sending.push(bytes.as_slice()),
+                None => Ok(()),
+            },
+            SyncAsk::Finish { mtime } => match self.sending.take() {
+                Some(sending) => serve_send(alloc, files, sending, mtime, &mut self.out),
+                None => Ok(()),
+            },
+            SyncAsk::Quit => {
+                self.ended = true;
+                Ok(())
+            }
+        }
+    }
+
+    /// Serves a fault: a FAIL with its text, and the end.
+    pub fn take_fault(&mut self, fault: SyncError) -> Result<(), AllocError>
+        ensures ok { OnOk result ((self.new.out ≡ self.old.out ++ fail_bytes (fault_text fault)) × (self.new.ended ≡ true)) }
+        ensures kept { self.new.sending ≡ self.old.sending }
+    {
+        fail(self.alloc, fault_text(fault), &mut self.out)?;
+        self.ended = true;
+        Ok(())
+    }
+}
+
+/// Serves the requests that a reader gives, in order, until one ends the service.
+pub fn serve_given(
+    reader: &mut AskReader,
+    session: &mut Session,
+    files: &mut Files,
+) -> Result<(), AllocError>
+    requires short { AllByRecursion HasShortPath reader.old.given }
+    requires kept { HasShortSend session.old.sending }
+    requires goes_on { session.old.ended ≡ false }
+    ensures ok { OnOk result ((send : Option OpenSend) → KeepsSend send session.old.sending
+        → ServesGiven send reader.old reader.new files.old files.new session.old.out session.new.out session.new.ended session.new.sending) }
+    ensures err { OnErr result ((send : Option OpenSend) → KeepsSend send session.old.sending
+        → ServesFront (requests_of send reader.old.given) files.old files.new) }
+    ensures short { AllByRecursion HasShortPath reader.new.given }
+    ensures kept { HasShortSend session.new.sending }
+{
+    while !session.ended {
+        let Some(ask) = reader.next() else {
+            return Ok(());
+        };
+        session.take(files, ask)?;
+    }
+    Ok(())
+}
