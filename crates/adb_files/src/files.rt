@@ -148,7 +148,7 @@ impl Files {
     }
 
     /// What the path shows: a directory, a file, or nothing, which is all zeros.
-    pub fn stat(&self, path: &[u8]) -> Stat
+    pub(crate) fn stat(&self, path: &[u8]) -> Stat
         ensures { result ≡ stat_in self.now path.now }
     {
         if self.is_directory(path) {
@@ -168,7 +168,7 @@ impl Files {
     }
 
     /// Why a file of so many bytes is not put at the path.
-    pub fn put_refusal(&self, path: &[u8], size: usize) -> Option<FileError>
+    pub(crate) fn put_refusal(&self, path: &[u8], size: usize) -> Option<FileError>
         ensures { result ≡ put_refusal self.now path.now size }
     {
         if !is_path(path) {

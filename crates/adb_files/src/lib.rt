@@ -10,6 +10,8 @@ mod outbox;
 mod path;
 mod place;
 mod service;
+#[cfg(test)]
+mod service_tests;
 mod session;
 mod stat;
 #[cfg(test)]

@@ -1,0 +1,151 @@
+//! A sync service: worked requests and answers byte for byte, and pushes and pulls in pieces.
+
+use crate::{File, Files, SyncService};
+use adb_outside::Text;
+use adb_sync::{SyncAsk, write_ask};
+use std::alloc::{AllocError, Global};
+use std::test::Fail;
+
+/// What a service answers to a stream that comes in pieces of `size`.
+fn answer_of(
+    alloc: Global,
+    files: &mut Files,
+    asked: &[u8],
+    size: usize,
+) -> Result<(Text, bool), AllocError> {
+    let mut service = SyncService::new(alloc);
+    let mut answer = Text::new(alloc);
+    for piece in asked.chunks(size.max(1)) {
+        service.feed(files, piece)?;
+        answer.push_slice(service.out())?;
+        service.taken(service.out().len());
+    }
+    Ok((answer, service.ended()))
+}
+
+/// The files `/a`, which is empty, and `/d/f` with two bytes, both of the time 1.
+fn two_files(alloc: Global) -> Result<Files, Fail> {
+    let mut files = Files::new(alloc);
+    files.put(
+        alloc,
+        b"/a",
+        File {
+            mode: 33_188,
+            mtime: 1,
+            bytes: Text::new(alloc),
+        },
+    )?;
+    let bytes = Text::from_slice(alloc, b"hi")?;
+    files.put(
+        alloc,
+        b"/d/f",
+        File {
+            mode: 33_188,
+            mtime: 1,
+            bytes,
+        },
+    )?;
+    Ok(files)
+}
+
+#[test]
+fn answers_byte_for_byte(rt: HostRuntime) -> Result<(), Fail> {
+    let alloc = rt.alloc();
+    let mut files = two_files(alloc)?;
+    let cases: [(&[u8], &[u8], bool); 18] = [
+        (
+            b"STAT\x02\0\0\0/a",
+            b"STAT\xa4\x81\0\0\0\0\0\0\x01\0\0\0",
+            false,
+        ),
+        (
+            b"STAT\x02\0\0\0/d",
+            b"STAT\xed\x41\0\0\0\0\0\0\0\0\0\0",
+            false,
+        ),
+        (b"STAT\x01\0\0\0x", b"STAT\0\0\0\0\0\0\0\0\0\0\0\0", false),
+        (
+            b"STA2\x02\0\0\0/a",
+            b"FAIL\x14\0\0\0unknown sync request",
+            true,
+        ),
+        (b"STAT\x01\x04\0\0", b"FAIL\x0d\0\0\0path too long", true),
+        (b"SEND\x02\0\0\0/a", b"FAIL\x0d\0\0\0bad send path", true),
+        (
+            b"SEND\x06\0\0\0/a,420DATA\x01\0\x01\0",
+            b"FAIL\x0f\0\0\0bad data length",
+            true,
+        ),
+        (b"DONE\0\0\0\0", b"FAIL\x0b\0\0\0bad data id", true),
+        (b"QUIT\0\0\0\0STAT\x02\0\0\0/a", b"", true),
+        (
+            b"LIST\x02\0\0\0/d",
+            b"DENT\xa4\x81\0\0\x02\0\0\0\x01\0\0\0\x01\0\0\0fDONE\0\0\0\0\0\0\0\0\0\0\0\0\0\0\0\0",
+            false,
+        ),
+        (
+            b"RECV\x04\0\0\0/d/f",
+            b"DATA\x02\0\0\0hiDONE\0\0\0\0",
+            false,
+        ),
+        (b"RECV\x02\0\0\0/d", b"FAIL\x0e\0\0\0is a directory", false),
+        (b"RECV\x02\0\0\0/x", b"FAIL\x0c\0\0\0no such file", false),
+        (b"RECV\x01\0\0\0x", b"FAIL\x08\0\0\0bad path", false),
+        (
+            b"SEND\x04\0\0\0/x,xDONE\0\0\0\0",
+            b"FAIL\x08\0\0\0bad mode",
+            false,
+        ),
+        (
+            b"SEND\x06\0\0\0/a/b,0DONE\0\0\0\0",
+            b"FAIL\x0f\0\0\0not a directory",
+            false,
+        ),
+        (b"SEND\x06\0\0\0/n,420DATA\x01\0\0\0x", b"", false),
+        (
+            b"SEND\x06\0\0\0/n,420DATA\x01\0\0\0xDONE\x05\0\0\0STAT\x02\0\0\0/n",
+            b"OKAY\0\0\0\0STAT\xa4\x81\0\0\x01\0\0\0\x05\0\0\0",
+            false,
+        ),
+    ];
+    for (asked, answer, ended) in cases {
+        for size in [1, 4096] {
+            let (told, over) = answer_of(alloc, &mut files, asked, size)?;
+            assert!(rt;
+                told.as_slice() == answer,
+                "{:?} to {asked:?}",
+                told.as_slice()
+            );
+            assert_eq!(rt; over, ended, "after {asked:?}");
+        }
+    }
+    Ok(())
+}
+
+#[test]
+fn pushes_are_pulled(rt: HostRuntime) -> Result<(), Fail> {
+    let alloc = rt.alloc();
+    for (length, chunks) in [(0usize, 0usize), (65_536, 1), (65_537, 2)] {
+        for size in [1, 4096] {
+            let mut files = Files::new(alloc);
+            let bytes: Vec<u8> = vec![in alloc; 7; length]?;
+            let mut asked = Text::new(alloc);
+            asked.push_slice(b"SEND\x06\0\0\0/n,420")?;
+            for chunk in bytes.as_slice().chunks(65_536) {
+                if chunk.len() <= 65_536 {
+                    write_ask(
+                        alloc,
+                        &SyncAsk::Chunk(Text::from_slice(alloc, chunk)?),
+                        &mut asked,
+                    )?;
+                }
+            }
+            asked.push_slice(b"DONE\x05\0\0\0RECV\x02\0\0\0/n")?;
+            let (told, _) = answer_of(alloc, &mut files, asked.as_slice(), size)?;
+            assert_eq!(rt; told.len(), 8 + 8 * chunks + length + 8, "of {length}");
+            let stored = files.get(b"/n").ok_or("no file")?;
+            assert!(rt; stored.bytes.as_slice() == bytes.as_slice(), "of {length}");
+        }
+    }
+    Ok(())
+}
