@@ -26,4 +26,4 @@ pub use error::SyncError;
 pub use laws::{
     answer_faults_stay, ask_faults_stay, written_answers_are_read, written_asks_are_read,
 };
-pub use writers::{write_answer, write_ask};
+pub use writers::{CHUNK_HEADER_BYTES, chunk_header, write_answer, write_ask};

@@ -1,6 +1,6 @@
 //! Spelling requests and answers.
 
-ghost use Rattle.std.specs.Prelude.{◌≡◌, ◌<◌, ◌^◌, ◌++◌, length, OnOk, OnErr, IfOk};
+ghost use Rattle.std.specs.Prelude.{◌≡◌, ◌<◌, ◌^◌, ◌++◌, List, ℕ, length, OnOk, OnErr, IfOk};
 ghost use Rattle.byteorder.specs.Endian.{little_bytes};
 ghost use Rattle.adb_sync.specs.Messages.{message};
 ghost use Rattle.adb_sync.specs.Asks.{IsAsk, ask_bytes};
@@ -62,6 +62,20 @@ pub fn write_answer(alloc: Global, answer: &SyncAnswer, out: &mut Text) -> Resul
         SyncAnswer::Fail(text) => counted(alloc, b"FAIL", text.as_slice())?,
     };
     out.push_slice(answer.as_slice())
+}
+
+/// How many bytes stand before those of a chunk.
+pub const CHUNK_HEADER_BYTES: usize = 8;
+
+/// What stands before the bytes of a chunk of so many bytes, for who hands a chunk out of a buffer of his
+/// own: with them behind it, it is what `write_answer` writes of the chunk. It takes no memory.
+pub fn chunk_header(size: u32) -> [u8; CHUNK_HEADER_BYTES]
+    ensures { (bytes : List ℕ) → length bytes ≡ size
+        → result ++ bytes ≡ answer_bytes (SyncAnswer.Chunk bytes) }
+{
+    let mut header = *b"DATA\0\0\0\0";
+    LittleEndian::write_u32(&mut header[4..], size);
+    header
 }
 
 /// An id, how many bytes follow, and these.
