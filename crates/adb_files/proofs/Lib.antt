@@ -9,3 +9,4 @@ pub mod Chunks
 pub mod Serving
 pub mod SendPaths
 pub mod Feeding
+pub mod Whole

@@ -38,7 +38,7 @@ open_after-append send [] ys = refl
 open_after-append send (x ∷ xs) ys = open_after-append (open_past send x) xs ys
 
 -- past the end nothing is served
-serve_all-ended : (more rest : List Request) (files : List Entry) → (serve_all files more).ended ≡ true → serve_all files (more ++ rest) ≡ serve_all files more
+pub serve_all-ended : (more rest : List Request) (files : List Entry) → (serve_all files more).ended ≡ true → serve_all files (more ++ rest) ≡ serve_all files more
 serve_all-ended [] rest files e = absurd cc
 serve_all-ended (q ∷ more) rest files e = go (serve_one files q) (serve_all-ended more rest) e
   where
@@ -50,7 +50,7 @@ serve_all-ended (q ∷ more) rest files e = go (serve_one files q) (serve_all-en
         by false h = ap (λ (r : Served). let joined : Served = record { files = r.files; answer = s.answer ++ r.answer; ended = r.ended } in joined) (later s.files h)
 
 -- where the service goes on, further requests are served over the files that are left
-serve_all-more : (more rest : List Request) (files : List Entry) → (serve_all files more).ended ≡ false → ((serve_all files (more ++ rest)).files ≡ (serve_all (serve_all files more).files rest).files) × ((serve_all files (more ++ rest)).answer ≡ (serve_all files more).answer ++ (serve_all (serve_all files more).files rest).answer) × ((serve_all files (more ++ rest)).ended ≡ (serve_all (serve_all files more).files rest).ended)
+pub serve_all-more : (more rest : List Request) (files : List Entry) → (serve_all files more).ended ≡ false → ((serve_all files (more ++ rest)).files ≡ (serve_all (serve_all files more).files rest).files) × ((serve_all files (more ++ rest)).answer ≡ (serve_all files more).answer ++ (serve_all (serve_all files more).files rest).answer) × ((serve_all files (more ++ rest)).ended ≡ (serve_all (serve_all files more).files rest).ended)
 serve_all-more [] rest files e = (refl, refl, refl)
 serve_all-more (q ∷ more) rest files e = go (serve_one files q) (serve_all-more more rest) e
   where

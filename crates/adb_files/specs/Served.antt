@@ -14,7 +14,7 @@ use Rattle.adb_files.specs.declared.stat.Stat.{Stat}
 use Rattle.adb_files.specs.Paths.{is_path}
 use Rattle.adb_files.specs.Files.{file_at, is_directory, put_refusal, read_refusal, with_file}
 use Rattle.adb_files.specs.Listing.{stat_of, directory_stat, listing}
-use Rattle.adb_files.specs.Requests.{Request, Stats, Lists, Receives, Sends, Quits, Fails}
+use Rattle.adb_files.specs.Requests.{Request, Stats, Lists, Receives, Sends, Quits, Fails, requests_in}
 
 -- the text of a refusal
 abbrev pub refusal_text : FileError → List ℕ
@@ -142,3 +142,7 @@ then_served served more =
 abbrev pub serve_all : List Entry → List Request → Served
 serve_all files [] = answered files []
 serve_all files (request ∷ more) = then_served (serve_one files request) (λ left. serve_all left more)
+
+-- what a service makes of bytes: their whole requests, served in order
+abbrev pub served : List Entry → List ℕ → Served
+served files bytes = serve_all files (requests_in bytes)

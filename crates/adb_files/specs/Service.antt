@@ -10,7 +10,7 @@ use Rattle.adb_files.specs.declared.file.Entry.{Entry}
 use Rattle.adb_files.specs.declared.session.Sending.{Sending}
 use Rattle.adb_files.specs.Files.{most_bytes}
 use Rattle.adb_files.specs.Requests.{OpenSend, Request, requests_of, open_after, requests_in}
-use Rattle.adb_files.specs.Served.{serve_all}
+use Rattle.adb_files.specs.Served.{serve_all, served}
 
 -- the reader of requests, the SEND that is open, the answers that were not taken yet, whether the service has ended, and whether it is spent by want of memory
 pub record Service : Type 0 where
@@ -93,3 +93,10 @@ pub record FeedsFront (fed piece : List ℕ) (files files' : List Entry) : Type 
   pub requests : List Request
   pub is : requests_in (fed ++ piece) ≡ requests_in fed ++ requests
   pub front : ServesFront requests files files'
+
+-- A service that began over some files, that was fed these bytes and of whose answers these were taken, where nobody else changed the files between its feeds: the files, its answers, the taken ones and those that are left, and whether it has ended are as all the bytes are served.
+pub record HasServed (first : List Entry) (fed taken : List ℕ) (service : Service) (files : List Entry) : Type 0 where
+  pub stands : StandsFor fed service
+  pub left : files ≡ (served first fed).files
+  pub given_out : taken ++ service.out ≡ (served first fed).answer
+  pub ends : service.ended ≡ (served first fed).ended

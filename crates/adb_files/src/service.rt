@@ -1,9 +1,11 @@
 //! The service that answers sync requests.
 
-ghost use Rattle.std.specs.Prelude.{◌≡◌, ◌≤◌, ◌++◌, ◌⊎◌, [], List, ℕ, length, drop, true, false, Ok, Err, None, ◌≢◌, IfOk, OnOk, OnErr, IsErr};
+ghost use Rattle.std.specs.Prelude.{◌≡◌, ◌≤◌, ◌++◌, ◌⊎◌, [], List, ℕ, length, take, drop, true, false, Ok, Err, None, ◌≢◌, IfOk, OnOk, OnErr, IsErr};
 ghost use Rattle.adb_sync.specs.Messages.{answer_of};
 ghost use Rattle.std.specs.List.{AllByRecursion};
-ghost use Rattle.adb_files.specs.Service.{StandsFor, Feeds, FeedsFront, HasShortPath, HasShortSend};
+ghost use Rattle.adb_files.specs.declared.file.Entry.{Entry};
+ghost use Rattle.adb_files.specs.Requests.{requests_in};
+ghost use Rattle.adb_files.specs.Service.{StandsFor, Feeds, FeedsFront, ServesFront, HasServed, HasShortPath, HasShortSend};
 
 use crate::files::Files;
 use crate::session::{Session, serve_given};
@@ -39,6 +41,7 @@ impl SyncService {
         ensures out { result.out ≡ [] }
         ensures ended { result.ended ≡ false }
         ensures spent { result.spent ≡ false }
+        ensures whole { (files : List Entry) → HasServed files [] [] result files }
     {
         SyncService {
             reader: AskReader::new(alloc),
@@ -51,7 +54,8 @@ impl SyncService {
     /// served in order over these files, a SEND with its DONE as one: the file changes at its DONE
     /// alone, as a whole. A fault is answered by one FAIL, and ends the service as a QUIT does; what
     /// follows is dropped. After want of memory a front of these requests was served, and the service
-    /// is spent: every call answers want of memory and changes nothing.
+    /// is spent: every call answers want of memory and changes nothing. Where nobody else changes the
+    /// files between the calls, all that the service did is what `served` says of all the bytes fed.
     pub fn feed(&mut self, files: &mut Files, piece: &[u8]) -> Result<(), AllocError>
         ensures ok { OnOk result ((self.old.spent ≡ false) × (self.new.spent ≡ false)) }
         ensures served { OnOk result (self.old.ended ≡ false → (fed : List ℕ)
@@ -62,6 +66,12 @@ impl SyncService {
         ensures front { OnErr result (self.old.ended ≡ false → (fed : List ℕ)
             → StandsFor fed self.old
             → (files.new ≡ files.old) ⊎ FeedsFront fed piece.now files.old files.new) }
+        ensures whole { OnOk result ((first : List Entry) (fed taken : List ℕ)
+            → HasServed first fed taken self.old files.old
+            → HasServed first (fed ++ piece.now) taken self.new files.new) }
+        ensures whole_front { OnErr result ((first : List Entry) (fed taken : List ℕ)
+            → HasServed first fed taken self.old files.old
+            → ServesFront (requests_in (fed ++ piece.now)) first files.new) }
         ensures stays { self.old.spent ≡ true
             → (IsErr result) × (files.new ≡ files.old) × (self.new ≡ self.old) }
     {
@@ -88,7 +98,10 @@ impl SyncService {
     /// The first `n` bytes of the answers were taken. It takes no memory.
     pub fn taken(&mut self, n: usize)
         requires { n ≤ length self.old.out }
-        ensures { self.new ≡ record self.old { out = drop n self.old.out } }
+        ensures left { self.new ≡ record self.old { out = drop n self.old.out } }
+        ensures whole { (first : List Entry) (fed gone : List ℕ) (files : List Entry)
+            → HasServed first fed gone self.old files
+            → HasServed first fed (gone ++ take n self.old.out) self.new files }
     {
         self.session.out.taken(n);
     }
