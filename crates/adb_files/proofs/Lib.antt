@@ -3,6 +3,8 @@ pub mod Places
 pub mod Rising
 pub mod Lookups
 pub mod Below
+pub mod Directories
+pub mod Maps
 pub mod Siblings
 pub mod Shown
 pub mod Chunks

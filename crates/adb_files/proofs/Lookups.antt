@@ -193,16 +193,23 @@ present files path file form plain some = reads form plain ∙ ap none_there som
     reads : is_path path ≡ true → is_directory files path ≡ false → read_refusal files path ≡ none_there (file_at path files)
     reads f p = ap (λ t. cond (not t) (Some BadPath) (cond (is_directory files path) (Some IsDirectory) (none_there (file_at path files)))) f ∙ ap (λ t. cond t (Some IsDirectory) (none_there (file_at path files))) p
 
--- what holds where a file may be put
-pub granted : (files : List Entry) (path : List ℕ) (size : ℕ) → put_refusal files path size ≡ None → (is_path path ≡ true) × (total (without path files) + size ≤ most_bytes)
-granted files path size none = go (is_path path) refl (is_directory files path) (is_under_file files path) (ltb most_bytes (total (without path files) + size)) refl none
+-- where a file of so many bytes may be put
+pub record Granted (files : List Entry) (path : List ℕ) (size : ℕ) : Type 0 where
+  pub form : is_path path ≡ true
+  pub plain : is_directory files path ≡ false
+  pub above : is_under_file files path ≡ false
+  pub room : total (without path files) + size ≤ most_bytes
+
+pub granted : (files : List Entry) (path : List ℕ) (size : ℕ) → put_refusal files path size ≡ None → Granted files path size
+granted files path size none =
+    go (is_path path) refl (is_directory files path) refl (is_under_file files path) refl (ltb most_bytes (total (without path files) + size)) refl none
   where
-    go : (form : Bool) → is_path path ≡ form → (directory under large : Bool) → ltb most_bytes (total (without path files) + size) ≡ large → cond (not form) (Some BadPath) (cond directory (Some IsDirectory) (cond under (Some NotDirectory) (cond large (Some NoSpace) None))) ≡ None → (is_path path ≡ true) × (total (without path files) + size ≤ most_bytes)
-    go false f directory under large l e = absurd cc
-    go true f true under large l e = absurd cc
-    go true f false true large l e = absurd cc
-    go true f false false true l e = absurd cc
-    go true f false false false l e = (f, ltb-false most_bytes (total (without path files) + size) l)
+    go : (form : Bool) → is_path path ≡ form → (directory : Bool) → is_directory files path ≡ directory → (under : Bool) → is_under_file files path ≡ under → (large : Bool) → ltb most_bytes (total (without path files) + size) ≡ large → cond (not form) (Some BadPath) (cond directory (Some IsDirectory) (cond under (Some NotDirectory) (cond large (Some NoSpace) None))) ≡ None → Granted files path size
+    go false f directory d under u large l e = absurd cc
+    go true f true d under u large l e = absurd cc
+    go true f false d true u large l e = absurd cc
+    go true f false d false u true l e = absurd cc
+    go true f false d false u false l e = record { form = f; plain = d; above = u; room = ltb-false most_bytes (total (without path files) + size) l }
 
 -- what a path that is no directory shows
 pub stat_plain : (files : List Entry) (path : List ℕ) (file : Option File) → is_directory files path ≡ false → file_at path files ≡ file → stat_in files path ≡ file_stat file

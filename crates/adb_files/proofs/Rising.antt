@@ -1,4 +1,4 @@
--- A file map stays one when a file is put or removed.
+-- Files keep their order, their number of bytes and what holds of each when one is put or removed.
 use Rattle.std.specs.Prelude.{ℕ, ◌+◌, ◌^◌, ◌≡◌, ◌<◌, ◌≤◌, cond, Bool, true, false, List, [], ◌∷◌, ◌++◌, length, map, filter, All, refl}
 use Rattle.std.proofs.Common.{arith, Ordering}
 use Rattle.std.specs.Ordering.{is_lt}
@@ -11,7 +11,7 @@ use Rattle.std.proofs.lemmas.List.Sums.{sum_by-append, sum_by-cons}
 use Rattle.adb_files.specs.declared.file.File.{File}
 use Rattle.adb_files.specs.declared.file.Entry.{Entry}
 use Rattle.adb_files.specs.Paths.{path_cmp, is_path}
-use Rattle.adb_files.specs.Files.{before, behind, with_file, without, total, most_bytes, IsRising, IsFileMap}
+use Rattle.adb_files.specs.Files.{before, behind, with_file, without, total, IsRising}
 
 -- a file as an entry of the map
 abbrev pub entry_of : List ℕ → File → Entry
@@ -104,36 +104,11 @@ total-with path file files =
     omega (arith, sum_by-append size (before path files) (entry_of path file ∷ behind path files), sum_by-cons size (entry_of path file) (behind path files), sum_by-append size (before path files) (behind path files))
 
 -- what holds of each file, of those with a new one, and of those without one
-all-with : (P : Entry → Type 0) (path : List ℕ) (file : File) (files : List Entry) → All P files → P (entry_of path file) → All P (with_file path file files)
+pub all-with : (P : Entry → Type 0) (path : List ℕ) (file : File) (files : List Entry) → All P files → P (entry_of path file) → All P (with_file path file files)
 all-with P path file files all here =
     All-append P (before path files) (entry_of path file ∷ behind path files) (All-filter (λ e. is_lt (path_cmp e.path path)) P files all)
     (All-cons P (entry_of path file) (behind path files) here (All-filter (λ e. is_lt (path_cmp path e.path)) P files all))
 
-all-without : (P : Entry → Type 0) (path : List ℕ) (files : List Entry) → All P files → All P (without path files)
+pub all-without : (P : Entry → Type 0) (path : List ℕ) (files : List Entry) → All P files → All P (without path files)
 all-without P path files all =
     All-append P (before path files) (behind path files) (All-filter (λ e. is_lt (path_cmp e.path path)) P files all) (All-filter (λ e. is_lt (path_cmp path e.path)) P files all)
-
-pub map-with : (path : List ℕ) (file : File) (files : List Entry) → IsFileMap files → is_path path ≡ true → length path < 2 ^ 32 → total (without path files) + length file.bytes ≤ most_bytes → IsFileMap (with_file path file files)
-map-with path file files ok form short room = record {
-  rising = rising-with path file files ok.rising;
-  paths = all-with (λ (e : Entry). is_path e.path ≡ true) path file files ok.paths form;
-  short = all-with (λ (e : Entry). length e.path < 2 ^ 32) path file files ok.short short;
-  room = omega (arith, total-with path file files, room);
-}
-
-pub map-without : (path : List ℕ) (files : List Entry) → IsFileMap files → total (without path files) ≤ total files → IsFileMap (without path files)
-map-without path files ok less = record {
-  rising = rising-without path files ok.rising;
-  paths = all-without (λ (e : Entry). is_path e.path ≡ true) path files ok.paths;
-  short = all-without (λ (e : Entry). length e.path < 2 ^ 32) path files ok.short;
-  room = omega (arith, less, ok.room);
-}
-
-pub map-empty : IsFileMap []
-unfolding IsStrictlySortedBy
-map-empty = record {
-  rising = tt;
-  paths = All-nil (λ (e : Entry). is_path e.path ≡ true);
-  short = All-nil (λ (e : Entry). length e.path < 2 ^ 32);
-  room = omega arith;
-}

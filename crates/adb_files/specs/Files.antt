@@ -1,5 +1,5 @@
 -- The files of a device as a finite map, from paths in rising order of their bytes.
-use Rattle.std.specs.Prelude.{ℕ, ◌+◌, ◌^◌, ◌≡◌, ◌≢◌, ◌<◌, ◌≤◌, ◌&&◌, ◌||◌, nat_lt, if◌then◌else◌, Bool, true, not, nat_eq, List, ◌∷◌, ◌++◌, length, All, map, filter, sum_by, slice_get, Option, Some, None, option_map, codes, bytes_eq}
+use Rattle.std.specs.Prelude.{ℕ, ◌+◌, ◌^◌, ◌≡◌, ◌≢◌, ◌<◌, ◌≤◌, ◌&&◌, ◌||◌, nat_lt, if◌then◌else◌, Bool, true, false, not, nat_eq, List, ◌∷◌, ◌++◌, length, All, map, filter, sum_by, slice_get, Option, Some, None, option_map, codes, bytes_eq}
 use Rattle.std.specs.List.{list_any, find, starts_with}
 use Rattle.std.specs.List.Sorted.{IsStrictlySortedBy}
 use Rattle.std.specs.Ordering.{is_lt}
@@ -78,9 +78,10 @@ read_refusal files path =
 abbrev pub IsRising : List Entry → Type 0
 IsRising files = IsStrictlySortedBy path_cmp (map (λ (entry : Entry). entry.path) files)
 
--- a map of files: the paths rise, and all files together keep the limit
+-- a map of files: the paths rise, none of them is that of a directory, and all files together keep the limit
 pub record IsFileMap (files : List Entry) : Type 0 where
   pub rising : IsRising files
   pub paths : All (λ (entry : Entry). is_path entry.path ≡ true) files
+  pub plain : All (λ (entry : Entry). is_directory files entry.path ≡ false) files
   pub short : All (λ (entry : Entry). length entry.path < 2 ^ 32) files
   pub room : total files ≤ most_bytes

@@ -1,7 +1,8 @@
 use Rattle.std.proofs.Common.{arith, sym, ◌∙◌, ◌≡◌, ap, subst, length, None}
 use Rattle.adb_files.specs.Files.{IsFileMap, with_file, total, put_refusal}
-use Rattle.adb_files.proofs.Rising.{map-with, total-with}
-use Rattle.adb_files.proofs.Lookups.{granted}
+use Rattle.adb_files.proofs.Rising.{total-with}
+use Rattle.adb_files.proofs.Maps.{map-with}
+use Rattle.adb_files.proofs.Lookups.{Granted, granted}
 use Rattle.adb_files.proofs.files.Files.put.Goals as goal
 
 stored : (c : goal.After-self-1) → c.store.new.entries.items ≡ with_file c.args.path.now c.args.file c.args.self.now
@@ -12,7 +13,7 @@ kept c =
     let size : c.len-size.result ≡ length c.args.file.bytes = c.len-size.ensures in
     let none : put_refusal c.args.self.now c.args.path.now c.len-size.result ≡ None = sym c.put_refusal.ensures ∙ c.in_default.is in
     let may = granted c.args.self.now c.args.path.now c.len-size.result none in
-    subst IsFileMap (sym (stored c)) (map-with c.args.path.now c.args.file c.args.self.now c.used_without.ensures.files may.0 c.requires (omega (arith, may.1, size)))
+    subst IsFileMap (sym (stored c)) (map-with c.args.path.now c.args.file c.args.self.now c.used_without.ensures.files (subst (Granted c.args.self.now c.args.path.now) size may) c.requires)
 
 pub invariant_of-self-2 : goal.invariant_of-self-2
 invariant_of-self-2 c =
