@@ -8,7 +8,7 @@ use Rattle.std.proofs.lemmas.Bool.{and_parts, and_from, cases_order, eqb-true, e
 use Rattle.std.proofs.lemmas.Cmp.{nat_cmp_total, tied_itself}
 use Rattle.std.proofs.lemmas.List.{get_or_read}
 use Rattle.std.proofs.lemmas.Map.Lookups.{exact_unsigned}
-use Rattle.adb_files.specs.declared.file.Entry.{Entry}
+use Rattle.adb_files.specs.Entries.{Entry}
 use Rattle.adb_files.specs.Paths.{path_cmp, slash_behind, inside, is_below}
 use Rattle.adb_files.specs.Files.{IsRising, file_at, is_under_file}
 use Rattle.adb_files.specs.Places.{BeginsAt}

@@ -11,7 +11,7 @@ use Rattle.std.proofs.lemmas.List.Elements.{All-from_recursion, recursion_from_A
 use Rattle.adb_sync.specs.declared.answer.SyncAnswer.TheVariants as answers
 use Rattle.adb_sync.specs.declared.answer.Dirent.{Dirent}
 use Rattle.adb_sync.specs.Answers.{answer_bytes}
-use Rattle.adb_files.specs.declared.file.Entry.{Entry}
+use Rattle.adb_files.specs.Entries.{Entry}
 use Rattle.adb_files.specs.declared.stat.Stat.{Stat}
 use Rattle.adb_files.specs.Paths.{path_cmp, is_path, inside, is_below}
 use Rattle.adb_files.specs.Files.{IsFileMap}

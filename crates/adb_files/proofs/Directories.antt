@@ -6,7 +6,7 @@ use Rattle.std.specs.List.{AllByRecursion, list_any, starts_with}
 use Rattle.std.proofs.lemmas.List.Elements.{All-from_recursion, recursion_from_All, All-append, All-cons, All-filter}
 use Rattle.std.proofs.lemmas.List.Folds.{list_any-append}
 use Rattle.adb_files.specs.declared.file.File.{File}
-use Rattle.adb_files.specs.declared.file.Entry.{Entry}
+use Rattle.adb_files.specs.Entries.{Entry}
 use Rattle.adb_files.specs.Paths.{path_cmp, is_path, slash_behind, inside, is_below}
 use Rattle.adb_files.specs.Files.{before, behind, with_file, without, is_directory, is_under_file, IsFileMap}
 use Rattle.adb_files.proofs.Below.{slash_there}

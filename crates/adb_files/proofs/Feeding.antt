@@ -9,7 +9,7 @@ use Rattle.adb_sync.specs.declared.ask_format.AskFormat.{AskFormat}
 use Rattle.adb_sync.specs.declared.error.SyncError.{SyncError}
 use Rattle.adb_sync.specs.Messages.{answer_of}
 use Rattle.adb_sync.specs.Asks.{asks_in, ask_fault_in, StandsForAsks}
-use Rattle.adb_files.specs.declared.file.Entry.{Entry}
+use Rattle.adb_files.specs.Entries.{Entry}
 use Rattle.adb_files.specs.declared.session.Sending.{Sending}
 use Rattle.adb_files.specs.Requests.{OpenSend, Request, Fails, requests_of, open_after, fault_request, requests_in}
 use Rattle.adb_files.specs.Served.{fail_bytes, fault_text}

@@ -10,7 +10,7 @@ use Rattle.std.proofs.lemmas.List.{take-append-drop, drop_more}
 use Rattle.std.proofs.lemmas.Map.Text.{is_eq-slice_cmp}
 use Rattle.std.proofs.lemmas.Slice.Eq.{bytes_eq-Decides}
 use Rattle.adb_files.specs.declared.file.File.{File}
-use Rattle.adb_files.specs.declared.file.Entry.{Entry}
+use Rattle.adb_files.specs.Entries.{Entry}
 use Rattle.adb_files.specs.declared.file.FileError.TheVariants.{BadPath, IsDirectory, NotDirectory, NoSpace, NoFile}
 use Rattle.adb_files.specs.Paths.{path_cmp, is_path}
 use Rattle.adb_files.specs.Files.{before, behind, file_at, with_file, without, ChangesAt, is_directory, is_under_file, read_refusal, put_refusal, none_there, total, most_bytes}

@@ -4,7 +4,7 @@ use Rattle.std.proofs.Common.{arith}
 use Rattle.std.specs.List.Sorted.{IsStrictlySortedBy}
 use Rattle.std.proofs.lemmas.List.Elements.{All-nil}
 use Rattle.adb_files.specs.declared.file.File.{File}
-use Rattle.adb_files.specs.declared.file.Entry.{Entry}
+use Rattle.adb_files.specs.Entries.{Entry}
 use Rattle.adb_files.specs.Paths.{is_path}
 use Rattle.adb_files.specs.Files.{with_file, without, total, most_bytes, is_directory, is_under_file, IsFileMap}
 use Rattle.adb_files.proofs.Rising.{rising-with, rising-without, all-with, all-without, total-with}

@@ -11,7 +11,7 @@ use Rattle.std.proofs.lemmas.List.{get_or_read, get_or-drop, get_or-take, append
 use Rattle.std.proofs.lemmas.List.Elements.{filter_more, filter-append}
 use Rattle.std.proofs.lemmas.List.Sums.{fold-append}
 use Rattle.std.proofs.lemmas.List.Quantifiers.{position-Some}
-use Rattle.adb_files.specs.declared.file.Entry.{Entry}
+use Rattle.adb_files.specs.Entries.{Entry}
 use Rattle.adb_files.specs.declared.stat.Stat.{Stat}
 use Rattle.adb_files.specs.Paths.{path_cmp, slash_behind, inside, is_below}
 use Rattle.adb_files.specs.Files.{IsRising}

@@ -10,7 +10,7 @@ use Rattle.adb_sync.specs.declared.ask_format.AskFormat.{AskFormat}
 use Rattle.adb_sync.specs.declared.error.SyncError.{SyncError}
 use Rattle.adb_sync.specs.Asks.{ask_front, ask_of, past_ask, asks_start, asks_from, asks_in, ask_fault_in}
 use Rattle.adb_sync.specs.Framed.{asks_are_framed}
-use Rattle.adb_files.specs.declared.file.Entry.{Entry}
+use Rattle.adb_files.specs.Entries.{Entry}
 use Rattle.adb_files.specs.Requests.{OpenSend, Request, requests_of, open_after, fault_request, requests_in}
 use Rattle.adb_files.specs.Served.{Served, serve_all, served}
 use Rattle.adb_files.specs.Service.{Service, StandsFor, Serves, ServesFront, Feeds, FeedsFront, HasServed}

@@ -4,7 +4,7 @@ use Rattle.std.specs.List.{list_any, find, starts_with}
 use Rattle.std.specs.List.Sorted.{IsStrictlySortedBy}
 use Rattle.std.specs.Ordering.{is_lt}
 use Rattle.adb_files.specs.declared.file.File.{File}
-use Rattle.adb_files.specs.declared.file.Entry.{Entry}
+use Rattle.adb_files.specs.Entries.{Entry}
 use Rattle.adb_files.specs.declared.file.FileError.{FileError}
 use Rattle.adb_files.specs.declared.file.FileError.TheVariants.{BadPath, IsDirectory, NotDirectory, NoSpace, NoFile}
 use Rattle.adb_files.specs.Paths.{path_cmp, is_path, is_below}

@@ -1,3 +1,4 @@
+pub mod Entries
 pub mod Paths
 pub mod Files
 pub mod Places

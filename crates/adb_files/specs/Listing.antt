@@ -4,7 +4,7 @@ use Rattle.std.specs.List.{position}
 use Rattle.std.specs.BTreeMap.{insert_entry}
 use Rattle.adb_sync.specs.declared.answer.Dirent.{Dirent}
 use Rattle.adb_files.specs.declared.file.File.{File}
-use Rattle.adb_files.specs.declared.file.Entry.{Entry}
+use Rattle.adb_files.specs.Entries.{Entry}
 use Rattle.adb_files.specs.declared.stat.Stat.{Stat}
 use Rattle.adb_files.specs.Paths.{path_cmp, is_path, inside, is_below}
 

@@ -7,7 +7,7 @@ use Rattle.adb_sync.specs.declared.error.SyncError.{SyncError}
 use Rattle.adb_sync.specs.declared.error.SyncError.TheVariants as faults
 use Rattle.adb_sync.specs.Answers.{answer_bytes}
 use Rattle.adb_files.specs.declared.file.File.{File}
-use Rattle.adb_files.specs.declared.file.Entry.{Entry}
+use Rattle.adb_files.specs.Entries.{Entry}
 use Rattle.adb_files.specs.declared.file.FileError.{FileError}
 use Rattle.adb_files.specs.declared.file.FileError.TheVariants as refusals
 use Rattle.adb_files.specs.declared.stat.Stat.{Stat}

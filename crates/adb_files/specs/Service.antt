@@ -6,7 +6,7 @@ use Rattle.adb_sync.specs.declared.ask.SyncAsk.{SyncAsk}
 use Rattle.adb_sync.specs.declared.ask.SyncAsk.TheVariants as asks
 use Rattle.adb_sync.specs.declared.ask_format.AskFormat.{AskFormat}
 use Rattle.adb_sync.specs.declared.error.SyncError.{SyncError}
-use Rattle.adb_files.specs.declared.file.Entry.{Entry}
+use Rattle.adb_files.specs.Entries.{Entry}
 use Rattle.adb_files.specs.declared.session.Sending.{Sending}
 use Rattle.adb_files.specs.Files.{most_bytes}
 use Rattle.adb_files.specs.Requests.{OpenSend, Request, requests_of, open_after, requests_in}

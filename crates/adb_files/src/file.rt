@@ -16,13 +16,6 @@ pub struct File {
     pub bytes: Text,
 }
 
-/// A file and its path.
-#[derive(Drop)]
-pub struct Entry {
-    pub path: Text,
-    pub file: File,
-}
-
 /// Why a file was not put or removed. The files are then as before.
 #[derive(Clone, Copy, Debug, PartialEq, Eq, Drop)]
 pub enum FileError {

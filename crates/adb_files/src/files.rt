@@ -1,7 +1,8 @@
 //! The files of a device.
 
+ghost use Rattle.std.specs.Arc.{arc_value};
 ghost use Rattle.std.specs.Option.{option_copied};
-ghost use Rattle.std.specs.Prelude.{◌≡◌, ◌+◌, ◌^◌, ◌<◌, ◌≤◌, [], length, map, All, Option, OnOk, OnErr, IfOk, MatchResult};
+ghost use Rattle.std.specs.Prelude.{◌≡◌, ◌+◌, ◌^◌, ◌<◌, ◌≤◌, [], length, map, All, Option, option_map, OnOk, OnErr, IfOk, MatchResult};
 ghost use Rattle.std.specs.List.{list_any};
 ghost use Rattle.adb_files.specs.declared.file.FileError.{FileError};
 ghost use Rattle.adb_files.specs.Paths.{is_below};
@@ -10,14 +11,16 @@ ghost use Rattle.adb_files.specs.Listing.{listing};
 ghost use Rattle.adb_files.specs.Served.{stat_in};
 ghost use Rattle.adb_files.specs.Places.{StandsAt, FitsAt};
 
-use crate::file::{Entry, File, FileError};
+use crate::file::{File, FileError};
 use crate::listing::{dirent_of, shown_in};
 use crate::path::{ROOT, is_below, is_path, slash_behind};
 use crate::place::{first_from, place_at, store};
+use crate::slot::Slot;
 use crate::stat::Stat;
 use adb_sync::Dirent;
 use std::alloc::{AllocError, Global};
 use std::marker::Model;
+use std::sync::Arc;
 
 /// The most bytes that all files may have.
 pub const MOST_BYTES: usize = 268_435_456;
@@ -26,20 +29,20 @@ pub const MOST_BYTES: usize = 268_435_456;
 /// rising order of the bytes of their paths. A directory is `/`, or a proper leading path of a file.
 #[derive(Drop)]
 pub struct Files {
-    entries: Vec<Entry>,
+    slots: Vec<Slot>,
     used: usize,
 }
 
 impl Model for Files {
     ghost use Rattle.std.specs.Prelude.{◌≡◌, List};
-    ghost use Rattle.adb_files.specs.declared.file.Entry.{Entry};
+    ghost use Rattle.adb_files.specs.Entries.{Entry};
     ghost use Rattle.adb_files.specs.Files.{IsFileMap, total};
 
     ghost Value = { List Entry };
 
-    ghost view = { λ files. files.entries.items };
+    ghost view = { λ files. files.slots.items };
 
-    ghost invariant = { λ files. IsFileMap files.entries.items × (files.used ≡ total files.entries.items) };
+    ghost invariant = { λ files. IsFileMap files.slots.items × (files.used ≡ total files.slots.items) };
 }
 
 impl Files {
@@ -48,7 +51,7 @@ impl Files {
         ensures { result ≡ [] }
     {
         Files {
-            entries: Vec::new(alloc),
+            slots: Vec::new(alloc),
             used: 0,
         }
     }
@@ -59,7 +62,7 @@ impl Files {
         ensures files { IsFileMap self.now }
     {
         match self.place(path) {
-            Ok(i) => Some(&self.entries[i].file),
+            Ok(i) => Some(self.slots[i].file()),
             Err(_) => None,
         }
     }
@@ -83,7 +86,7 @@ impl Files {
             return Err(refusal);
         }
         let used = self.used_without(path) + size;
-        store(alloc, &mut self.entries, path, file)?;
+        store(alloc, &mut self.slots, path, file)?;
         self.used = used;
         Ok(())
     }
@@ -109,7 +112,7 @@ impl Files {
         let Ok(i) = self.place(path) else {
             return Err(FileError::NoFile);
         };
-        self.entries.remove(i);
+        self.slots.remove(i);
         self.used = used;
         Ok(())
     }
@@ -119,15 +122,15 @@ impl Files {
     pub fn next_path(&self, after: &[u8]) -> Option<&[u8]>
         ensures path { option_copied result ≡ next_path after.now self.now }
     {
-        let entries = self.entries.as_slice();
+        let slots = self.slots.as_slice();
         let next = match self.place(after) {
             Ok(i) => i + 1,
             Err(i) => i,
         };
-        if next == entries.len() {
+        if next == slots.len() {
             return None;
         }
-        Some(entries[next].path.as_slice())
+        Some(slots[next].path())
     }
 
     /// The entries of a directory, the directories in it among them, in the order of the bytes of
@@ -141,7 +144,7 @@ impl Files {
         if !is_path(path) {
             return Ok(entries);
         }
-        for (name, stat) in shown_in(alloc, self.entries.as_slice(), path)? {
+        for (name, stat) in shown_in(alloc, self.slots.as_slice(), path)? {
             entries.push(dirent_of(name, stat))?;
         }
         Ok(entries)
@@ -155,7 +158,7 @@ impl Files {
             return Stat::directory();
         }
         match self.place(path) {
-            Ok(i) => Stat::of(&self.entries[i].file),
+            Ok(i) => Stat::of(self.slots[i].file()),
             Err(_) => Stat::nothing(),
         }
     }
@@ -165,6 +168,17 @@ impl Files {
         ensures { result ≡ is_directory self.now path.now }
     {
         is_path(path) && (path == ROOT || self.has_below(path))
+    }
+
+    /// The file of the path, for who keeps it past the next change of the map; `None` exactly where no
+    /// file has it. It takes no memory, and fails where the count of the file's owners is full.
+    pub(crate) fn share(&self, path: &[u8]) -> Result<Option<Arc<File, Global>>, AllocError>
+        ensures { IfOk result (λ shared. option_map arc_value shared ≡ file_at path.now self.now) }
+    {
+        match self.place(path) {
+            Ok(i) => Ok(Some(self.slots[i].share()?)),
+            Err(_) => Ok(None),
+        }
     }
 
     /// Why a file of so many bytes is not put at the path.
@@ -189,16 +203,16 @@ impl Files {
             (λ i. StandsAt path.now self.now i)
             (λ i. FitsAt path.now self.now i) }
     {
-        place_at(self.entries.as_slice(), path)
+        place_at(self.slots.as_slice(), path)
     }
 
     /// Whether a file lies below a directory of the path.
     fn has_below(&self, path: &[u8]) -> bool
         ensures { result ≡ list_any (λ entry. is_below path.now entry.path) self.now }
     {
-        let entries = self.entries.as_slice();
-        let first = first_from(entries, path, slash_behind(path));
-        first < entries.len() && is_below(path, entries[first].path.as_slice())
+        let slots = self.slots.as_slice();
+        let first = first_from(slots, path, slash_behind(path));
+        first < slots.len() && is_below(path, slots[first].path())
     }
 
     /// Whether the path goes on below a file.
@@ -220,7 +234,7 @@ impl Files {
         ensures within { result ≤ total self.now }
     {
         match self.place(path) {
-            Ok(i) => self.used - self.entries[i].file.bytes.len(),
+            Ok(i) => self.used - self.slots[i].file().bytes.len(),
             Err(_) => self.used,
         }
     }

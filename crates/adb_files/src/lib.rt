@@ -13,10 +13,11 @@ mod service;
 #[cfg(test)]
 mod service_tests;
 mod session;
+mod slot;
 mod stat;
 #[cfg(test)]
 mod tests;
 
-pub use file::{Entry, File, FileError};
+pub use file::{File, FileError};
 pub use files::Files;
 pub use service::SyncService;

@@ -1,14 +1,14 @@
 //! What a directory holds.
 
 ghost use Rattle.std.specs.Prelude.{◌≡◌, ◌<◌, ℕ, true, length, slice_index_or, IfOk};
-ghost use Rattle.adb_files.specs.declared.file.Entry.{Entry};
+ghost use Rattle.adb_files.specs.Entries.{Entry};
 ghost use Rattle.adb_files.specs.Paths.{is_below};
 ghost use Rattle.adb_files.specs.Files.{IsFileMap};
 ghost use Rattle.adb_files.specs.Listing.{slash_in, shown_in, dirent_of, named, Advances};
 
-use crate::file::Entry;
 use crate::path::{is_below, slash_behind};
 use crate::place::first_from;
+use crate::slot::Slot;
 use crate::stat::Stat;
 use adb_outside::Text;
 use adb_sync::Dirent;
@@ -23,14 +23,14 @@ const BEHIND_SLASH: &[u8] = b"0";
 
 /// What the files below a directory show there, by the names in it. Of the files below a further
 /// directory only the first is looked at.
-pub fn shown_in(alloc: Global, entries: &[Entry], directory: &[u8]) -> Result<Shown, AllocError>
-    requires { IsFileMap entries.now }
-    ensures { IfOk result (λ found. named found.entries ≡ shown_in directory.now entries.now) }
+pub fn shown_in(alloc: Global, slots: &[Slot], directory: &[u8]) -> Result<Shown, AllocError>
+    requires { IsFileMap slots.now }
+    ensures { IfOk result (λ found. named found.entries ≡ shown_in directory.now slots.now) }
 {
     let mut found = BTreeMap::new(alloc);
-    let mut at = first_from(entries, directory, slash_behind(directory));
-    while at < entries.len() && is_below(directory, entries[at].path.as_slice()) {
-        at = show(alloc, entries, at, directory, &mut found)?;
+    let mut at = first_from(slots, directory, slash_behind(directory));
+    while at < slots.len() && is_below(directory, slots[at].path()) {
+        at = show(alloc, slots, at, directory, &mut found)?;
     }
     Ok(found)
 }
@@ -39,28 +39,28 @@ pub fn shown_in(alloc: Global, entries: &[Entry], directory: &[u8]) -> Result<Sh
 /// the next file that may show another name.
 fn show(
     alloc: Global,
-    entries: &[Entry],
+    slots: &[Slot],
     at: usize,
     directory: &[u8],
     found: &mut Shown,
 ) -> Result<usize, AllocError>
-    requires files { IsFileMap entries.now }
-    requires within { at < length entries.now }
-    requires below { (other : Entry) → is_below directory.now (slice_index_or entries.now at other).path ≡ true }
-    ensures { IfOk result (λ next. Advances directory.now entries.now at next (named found.old.entries) (named found.new.entries)) }
+    requires files { IsFileMap slots.now }
+    requires within { at < length slots.now }
+    requires below { (other : Entry) → is_below directory.now (slice_index_or slots.now at other).path ≡ true }
+    ensures { IfOk result (λ next. Advances directory.now slots.now at next (named found.old.entries) (named found.new.entries)) }
 {
-    let entry = &entries[at];
-    let path = entry.path.as_slice();
+    let slot = &slots[at];
+    let path = slot.path();
     let start = directory.len() + slash_behind(directory).len();
     let rest = &path[start..];
     match slash_in(rest) {
         None => {
-            found.insert(Vec::from_slice(alloc, rest)?, Stat::of(&entry.file))?;
+            found.insert(Vec::from_slice(alloc, rest)?, Stat::of(slot.file()))?;
             Ok(at + 1)
         }
         Some(length) => {
             found.insert(Vec::from_slice(alloc, &rest[..length])?, Stat::directory())?;
-            Ok(first_from(entries, &path[..start + length], BEHIND_SLASH))
+            Ok(first_from(slots, &path[..start + length], BEHIND_SLASH))
         }
     }
 }

@@ -3,7 +3,7 @@
 ghost use Rattle.std.specs.Prelude.{◌≡◌, ◌≤◌, ◌++◌, ◌⊎◌, [], List, ℕ, length, take, drop, true, false, Ok, Err, None, ◌≢◌, IfOk, OnOk, OnErr, IsErr};
 ghost use Rattle.adb_sync.specs.Messages.{answer_of};
 ghost use Rattle.std.specs.List.{AllByRecursion};
-ghost use Rattle.adb_files.specs.declared.file.Entry.{Entry};
+ghost use Rattle.adb_files.specs.Entries.{Entry};
 ghost use Rattle.adb_files.specs.Requests.{requests_in};
 ghost use Rattle.adb_files.specs.Service.{StandsFor, Feeds, FeedsFront, ServesFront, HasServed, HasShortPath, HasShortSend};
 

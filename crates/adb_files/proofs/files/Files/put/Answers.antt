@@ -5,10 +5,10 @@ use Rattle.adb_files.proofs.Maps.{map-with}
 use Rattle.adb_files.proofs.Lookups.{Granted, granted}
 use Rattle.adb_files.proofs.files.Files.put.Goals as goal
 
-stored : (c : goal.After-self-1) → c.store.new.entries.items ≡ with_file c.args.path.now c.args.file c.args.self.now
+stored : (c : goal.After-self-1) → c.store.new.slots.items ≡ with_file c.args.path.now c.args.file c.args.self.now
 stored c = c.in_ok-store.ensures.list ∙ ap (with_file c.args.path.now c.args.file) c.self.view_is
 
-kept : (c : goal.After-self-1) → IsFileMap c.store.new.entries.items
+kept : (c : goal.After-self-1) → IsFileMap c.store.new.slots.items
 kept c =
     let size : c.len-size.result ≡ length c.args.file.bytes = c.len-size.ensures in
     let none : put_refusal c.args.self.now c.args.path.now c.len-size.result ≡ None = sym c.put_refusal.ensures ∙ c.in_default.is in
