@@ -12,3 +12,4 @@ pub mod Serving
 pub mod SendPaths
 pub mod Feeding
 pub mod Whole
+pub mod Worked

@@ -14,9 +14,6 @@ use adb_outside::Text;
 use adb_sync::{SyncAnswer, SyncError};
 use std::alloc::{AllocError, Global};
 
-/// The most bytes of a chunk.
-const MOST_CHUNK: usize = 65_536;
-
 /// The text of a refusal.
 pub fn refusal_text(refusal: FileError) -> &'static [u8]
     ensures text { result.now ≡ refusal_text refusal }
@@ -102,24 +99,8 @@ pub fn answer_recv(
     if files.is_directory(path) {
         return fail(alloc, refusal_text(FileError::IsDirectory), out);
     }
-    match files.get(path) {
-        Some(file) => {
-            answer_chunks(alloc, file.bytes.as_slice(), out)?;
-            out.push(&SyncAnswer::ChunkEnd)
-        }
+    match files.share(path)? {
+        Some(file) => out.push_file(file),
         None => fail(alloc, refusal_text(FileError::NoFile), out),
     }
-}
-
-/// Adds bytes in chunks.
-fn answer_chunks(alloc: Global, bytes: &[u8], out: &mut Outbox) -> Result<(), AllocError>
-    ensures { OnOk result (out.new ≡ out.old ++ chunk_bytes bytes.now) }
-{
-    let mut rest = bytes;
-    while !rest.is_empty() {
-        let (chunk, left) = rest.split_at(MOST_CHUNK.min(rest.len()));
-        out.push(&SyncAnswer::Chunk(Text::from_slice(alloc, chunk)?))?;
-        rest = left;
-    }
-    Ok(())
 }

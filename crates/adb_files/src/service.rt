@@ -3,6 +3,7 @@
 ghost use Rattle.std.specs.Prelude.{◌≡◌, ◌≤◌, ◌++◌, ◌⊎◌, [], List, ℕ, length, take, drop, true, false, Ok, Err, None, ◌≢◌, IfOk, OnOk, OnErr, IsErr};
 ghost use Rattle.adb_sync.specs.Messages.{answer_of};
 ghost use Rattle.std.specs.List.{AllByRecursion};
+ghost use Rattle.std.specs.Io.{StartsWith};
 ghost use Rattle.adb_files.specs.Entries.{Entry};
 ghost use Rattle.adb_files.specs.Requests.{requests_in};
 ghost use Rattle.adb_files.specs.Service.{StandsFor, Feeds, FeedsFront, ServesFront, HasServed, HasShortPath, HasShortSend};
@@ -88,14 +89,17 @@ impl SyncService {
         result
     }
 
-    /// The answers that were not taken yet.
+    /// The first of the answers that were not taken yet, at least one byte where one is left. The bytes
+    /// of a file that is pulled are not copied: its chunks, and the header of each, come one by one as
+    /// those before are taken.
     pub fn out(&self) -> &[u8]
-        ensures { result.now ≡ self.now.out }
+        ensures front { StartsWith self.now.out result.now }
+        ensures some { self.now.out ≢ [] → result.now ≢ [] }
     {
-        self.session.out.as_slice()
+        self.session.out.front()
     }
 
-    /// The first `n` bytes of the answers were taken. It takes no memory.
+    /// The first `n` bytes of the answers that are left were taken. It takes no memory.
     pub fn taken(&mut self, n: usize)
         requires { n ≤ length self.old.out }
         ensures left { self.new ≡ record self.old { out = drop n self.old.out } }

@@ -2,9 +2,11 @@
 
 use crate::{File, Files, SyncService};
 use adb_outside::Text;
-use adb_sync::{SyncAsk, write_ask};
 use std::alloc::{AllocError, Global};
 use std::test::Fail;
+
+/// The most bytes that all files may have.
+const MOST_BYTES: usize = 268_435_456;
 
 /// What a service answers to a stream that comes in pieces of `size`.
 fn answer_of(
@@ -17,34 +19,52 @@ fn answer_of(
     let mut answer = Text::new(alloc);
     for piece in asked.chunks(size.max(1)) {
         service.feed(files, piece)?;
-        answer.push_slice(service.out())?;
-        service.taken(service.out().len());
+        take_all(&mut service, &mut answer)?;
     }
     Ok((answer, service.ended()))
+}
+
+/// Takes all the answers that are left.
+fn take_all(service: &mut SyncService, answer: &mut Text) -> Result<(), AllocError> {
+    while !service.out().is_empty() {
+        let size = service.out().len();
+        answer.push_slice(service.out())?;
+        service.taken(size);
+    }
+    Ok(())
+}
+
+/// The request that pushes `/n`, and what a service answers to it and to a pull of it.
+fn push_and_pull(alloc: Global, bytes: &[u8]) -> Result<(Text, Text), AllocError> {
+    let mut asked = Text::from_slice(alloc, b"SEND\x06\0\0\0/n,420")?;
+    let mut answer = Text::from_slice(alloc, b"OKAY\0\0\0\0")?;
+    for chunk in bytes.chunks(65_536) {
+        let size = (chunk.len() as u32).to_le_bytes();
+        for text in [&mut asked, &mut answer] {
+            text.push_slice(b"DATA")?;
+            text.push_slice(&size)?;
+            text.push_slice(chunk)?;
+        }
+    }
+    asked.push_slice(b"DONE\x05\0\0\0RECV\x02\0\0\0/n")?;
+    answer.push_slice(b"DONE\0\0\0\0")?;
+    Ok((asked, answer))
+}
+
+/// A file of the time 1.
+fn file_of(bytes: Text) -> File {
+    File {
+        mode: 33_188,
+        mtime: 1,
+        bytes,
+    }
 }
 
 /// The files `/a`, which is empty, and `/d/f` with two bytes, both of the time 1.
 fn two_files(alloc: Global) -> Result<Files, Fail> {
     let mut files = Files::new(alloc);
-    files.put(
-        alloc,
-        b"/a",
-        File {
-            mode: 33_188,
-            mtime: 1,
-            bytes: Text::new(alloc),
-        },
-    )?;
-    let bytes = Text::from_slice(alloc, b"hi")?;
-    files.put(
-        alloc,
-        b"/d/f",
-        File {
-            mode: 33_188,
-            mtime: 1,
-            bytes,
-        },
-    )?;
+    files.put(alloc, b"/a", file_of(Text::new(alloc)))?;
+    files.put(alloc, b"/d/f", file_of(Text::from_slice(alloc, b"hi")?))?;
     Ok(files)
 }
 
@@ -125,27 +145,50 @@ fn answers_byte_for_byte(rt: HostRuntime) -> Result<(), Fail> {
 #[test]
 fn pushes_are_pulled(rt: HostRuntime) -> Result<(), Fail> {
     let alloc = rt.alloc();
-    for (length, chunks) in [(0usize, 0usize), (65_536, 1), (65_537, 2)] {
+    for length in [0, 65_536, 65_537] {
+        let bytes: Vec<u8> = (0..length).map(|i| (i % 251) as u8).collect(alloc)?;
+        let (asked, answer) = push_and_pull(alloc, bytes.as_slice())?;
         for size in [1, 4096] {
             let mut files = Files::new(alloc);
-            let bytes: Vec<u8> = vec![in alloc; 7; length]?;
-            let mut asked = Text::new(alloc);
-            asked.push_slice(b"SEND\x06\0\0\0/n,420")?;
-            for chunk in bytes.as_slice().chunks(65_536) {
-                if chunk.len() <= 65_536 {
-                    write_ask(
-                        alloc,
-                        &SyncAsk::Chunk(Text::from_slice(alloc, chunk)?),
-                        &mut asked,
-                    )?;
-                }
-            }
-            asked.push_slice(b"DONE\x05\0\0\0RECV\x02\0\0\0/n")?;
-            let (told, _) = answer_of(alloc, &mut files, asked.as_slice(), size)?;
-            assert_eq!(rt; told.len(), 8 + 8 * chunks + length + 8, "of {length}");
+            let (told, ended) = answer_of(alloc, &mut files, asked.as_slice(), size)?;
+            assert!(rt; told.as_slice() == answer.as_slice(), "of {length} bytes");
+            assert!(rt; !ended);
             let stored = files.get(b"/n").ok_or("no file")?;
-            assert!(rt; stored.bytes.as_slice() == bytes.as_slice(), "of {length}");
+            assert!(rt; stored.bytes.as_slice() == bytes.as_slice(), "of {length} bytes");
         }
+    }
+    Ok(())
+}
+
+#[test]
+fn pulls_what_was_there_when_it_was_asked(rt: HostRuntime) -> Result<(), Fail> {
+    let alloc = rt.alloc();
+    let mut files = two_files(alloc)?;
+    let mut service = SyncService::new(alloc);
+    service.feed(&mut files, b"RECV\x04\0\0\0/d/f")?;
+    files.put(alloc, b"/d/f", file_of(Text::from_slice(alloc, b"other")?))?;
+    let mut answer = Text::new(alloc);
+    take_all(&mut service, &mut answer)?;
+    assert!(rt; answer.as_slice() == b"DATA\x02\0\0\0hiDONE\0\0\0\0".as_slice());
+    Ok(())
+}
+
+#[test]
+fn a_push_past_the_limit_has_no_space(rt: HostRuntime) -> Result<(), Fail> {
+    let alloc = rt.alloc();
+    let mut files = Files::new(alloc);
+    let most = Text::from_vec(vec![in alloc; 0; MOST_BYTES - 1]?);
+    files.put(alloc, b"/most", file_of(most))?;
+    let cases: [(&[u8], &[u8]); 4] = [
+        (b"SEND\x06\0\0\0/n,420DATA\x02\0\0\0xyDONE\0\0\0\0", b"FAIL\x08\0\0\0no space"),
+        (b"SEND\x06\0\0\0/n,420DATA\x01\0\0\0xDONE\0\0\0\0", b"OKAY\0\0\0\0"),
+        (b"SEND\x06\0\0\0/n,420DATA\x02\0\0\0xyDONE\0\0\0\0", b"FAIL\x08\0\0\0no space"),
+        (b"STAT\x02\0\0\0/n", b"STAT\xa4\x81\0\0\x01\0\0\0\0\0\0\0"),
+    ];
+    for (asked, answer) in cases {
+        let (told, ended) = answer_of(alloc, &mut files, asked, 4096)?;
+        assert!(rt; told.as_slice() == answer, "{:?} to {asked:?}", told.as_slice());
+        assert!(rt; !ended);
     }
     Ok(())
 }
