@@ -6,6 +6,7 @@ pub mod Below
 pub mod Siblings
 pub mod Shown
 pub mod Chunks
+pub mod Handing
 pub mod Serving
 pub mod SendPaths
 pub mod Feeding

@@ -5,3 +5,4 @@ pub mod Listing
 pub mod Requests
 pub mod Served
 pub mod Service
+pub mod Chunk

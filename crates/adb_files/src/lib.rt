@@ -2,6 +2,7 @@
 #![tactic(auto)]
 
 mod answers;
+mod chunk;
 mod file;
 mod files;
 mod listing;
@@ -9,6 +10,7 @@ mod mode;
 mod outbox;
 mod path;
 mod place;
+mod pull;
 mod service;
 #[cfg(test)]
 mod service_tests;
