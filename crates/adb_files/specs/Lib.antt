@@ -6,3 +6,4 @@ pub mod Requests
 pub mod Served
 pub mod Service
 pub mod Chunk
+pub mod Part

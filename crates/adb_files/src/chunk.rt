@@ -2,7 +2,7 @@
 
 ghost use Rattle.std.specs.Prelude.{◌≡◌, ◌≢◌, ◌<◌, ◌≤◌, [], List, ℕ, length, drop};
 ghost use Rattle.std.specs.Io.{StartsWith};
-ghost use Rattle.adb_files.specs.Chunk.{IsWithin, HasFront, left_from};
+ghost use Rattle.adb_files.specs.Chunk.{IsWithin, HasFront, TakesHere, left_from};
 ghost use Rattle.adb_files.specs.Served.{chunk_bytes};
 
 use adb_sync::{CHUNK_HEADER_BYTES, chunk_header};
@@ -10,12 +10,12 @@ use adb_sync::{CHUNK_HEADER_BYTES, chunk_header};
 /// The most bytes of a chunk.
 const MOST_CHUNK: usize = 65_536;
 
-/// Where a chunk of a file stands of which the first bytes were handed out: its header and how many bytes of
-/// that were taken, and where those of its own bytes that were not taken begin and end in the file.
+/// A chunk of a file that is handed out: its header, how many bytes of that were taken, and where the
+/// bytes of the chunk that were not taken begin and end in the file.
 #[derive(Drop)]
 pub struct Chunk {
     pub header: [u8; CHUNK_HEADER_BYTES],
-    pub header_from: usize,
+    pub header_taken: usize,
     pub from: usize,
     pub to: usize,
 }
@@ -32,14 +32,14 @@ impl Chunk {
         if size == 0 {
             return Chunk {
                 header: [0; CHUNK_HEADER_BYTES],
-                header_from: CHUNK_HEADER_BYTES,
+                header_taken: CHUNK_HEADER_BYTES,
                 from,
                 to: from,
             };
         }
         Chunk {
             header: chunk_header(size as u32),
-            header_from: 0,
+            header_taken: 0,
             from,
             to: from + size,
         }
@@ -52,43 +52,43 @@ impl Chunk {
         ensures front { StartsWith (left_from self.now bytes.now) result.now }
         ensures some { left_from self.now bytes.now ≢ [] → result.now ≢ [] }
     {
-        if self.header_from < CHUNK_HEADER_BYTES {
-            &self.header[self.header_from..]
+        if self.header_taken < CHUNK_HEADER_BYTES {
+            &self.header[self.header_taken..]
         } else {
             &bytes[self.from..self.to]
         }
     }
 
-    /// Takes at most `n` of the bytes that are left, and gives how many. Where all of a chunk was taken the
-    /// next one begins.
+    /// Takes at most `n` of the bytes that are left, and gives how many. Where all of a chunk was taken
+    /// the next one begins.
     pub fn take_front(&mut self, bytes: &[u8], n: usize) -> usize
         requires within { IsWithin self.old bytes.now }
         requires front { HasFront self.old bytes.now }
         ensures most { result ≤ n }
+        ensures here { result ≤ length (left_from self.old bytes.now) }
         ensures some { 0 < n → left_from self.old bytes.now ≢ [] → 0 < result }
         ensures left { left_from self.new bytes.now ≡ drop result (left_from self.old bytes.now) }
         ensures within { IsWithin self.new bytes.now }
         ensures front { HasFront self.new bytes.now }
     {
-        let taken = self.take_here(bytes, n);
-        if self.header_from == CHUNK_HEADER_BYTES && self.from == self.to {
+        let taken = self.take_here(n);
+        if self.header_taken == CHUNK_HEADER_BYTES && self.from == self.to {
             *self = Chunk::begin(bytes, self.to);
         }
         taken
     }
 
-    /// Takes at most `n` bytes of what is left of the header, or of the chunk.
-    fn take_here(&mut self, bytes: &[u8], n: usize) -> usize
-        requires within { IsWithin self.old bytes.now }
-        requires front { HasFront self.old bytes.now }
+    /// Takes at most `n` bytes of what is left of the header, or where that was taken, of the chunk.
+    fn take_here(&mut self, n: usize) -> usize
+        requires header { self.old.header_taken ≤ 8 }
+        requires from { self.old.from ≤ self.old.to }
         ensures most { result ≤ n }
-        ensures some { 0 < n → left_from self.old bytes.now ≢ [] → 0 < result }
-        ensures left { left_from self.new bytes.now ≡ drop result (left_from self.old bytes.now) }
-        ensures within { IsWithin self.new bytes.now }
+        ensures takes { (bytes : List ℕ) → IsWithin self.old bytes → HasFront self.old bytes
+            → TakesHere n result self.old self.new bytes }
     {
-        if self.header_from < CHUNK_HEADER_BYTES {
-            let taken = n.min(CHUNK_HEADER_BYTES - self.header_from);
-            self.header_from += taken;
+        if self.header_taken < CHUNK_HEADER_BYTES {
+            let taken = n.min(CHUNK_HEADER_BYTES - self.header_taken);
+            self.header_taken += taken;
             return taken;
         }
         let taken = n.min(self.to - self.from);

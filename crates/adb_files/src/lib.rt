@@ -8,6 +8,9 @@ mod files;
 mod listing;
 mod mode;
 mod outbox;
+#[cfg(test)]
+mod outbox_tests;
+mod part;
 mod path;
 mod place;
 mod pull;
@@ -15,6 +18,7 @@ mod service;
 #[cfg(test)]
 mod service_tests;
 mod session;
+mod spelled;
 mod stat;
 #[cfg(test)]
 mod tests;

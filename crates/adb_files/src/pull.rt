@@ -51,6 +51,7 @@ impl Pull {
     /// no memory.
     pub fn take_front(&mut self, n: usize) -> usize
         ensures most { result ≤ n }
+        ensures here { result ≤ length self.old }
         ensures some { 0 < n → self.old ≢ [] → 0 < result }
         ensures left { self.new ≡ drop result self.old }
     {
