@@ -1,6 +1,7 @@
 //! The service that answers sync requests.
 
 ghost use Rattle.std.specs.Prelude.{◌≡◌, ◌≤◌, ◌++◌, ◌⊎◌, [], List, ℕ, length, drop, true, false, Ok, Err, None, ◌≢◌, IfOk, OnOk, OnErr, IsErr};
+ghost use Rattle.std.specs.Io.{StartsWith};
 ghost use Rattle.adb_sync.specs.Messages.{answer_of};
 ghost use Rattle.std.specs.List.{AllByRecursion};
 ghost use Rattle.adb_files.specs.Service.{StandsFor, Feeds, FeedsFront, HasShortPath, HasShortSend};
@@ -78,11 +79,12 @@ impl SyncService {
         result
     }
 
-    /// The answers that were not taken yet.
+    /// The first bytes of the answers that were not taken yet: at least one where one is left.
     pub fn out(&self) -> &[u8]
-        ensures { result.now ≡ self.now.out }
+        ensures front { StartsWith self.now.out result.now }
+        ensures some { self.now.out ≢ [] → result.now ≢ [] }
     {
-        self.session.out.as_slice()
+        self.session.out.front()
     }
 
     /// The first `n` bytes of the answers were taken. It takes no memory.

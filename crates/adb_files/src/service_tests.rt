@@ -17,10 +17,22 @@ fn answer_of(
     let mut answer = Text::new(alloc);
     for piece in asked.chunks(size.max(1)) {
         service.feed(files, piece)?;
-        answer.push_slice(service.out())?;
-        service.taken(service.out().len());
+        drain(&mut service, &mut answer)?;
     }
     Ok((answer, service.ended()))
+}
+
+/// Takes all that a service answered.
+fn drain(service: &mut SyncService, answer: &mut Text) -> Result<(), AllocError> {
+    loop {
+        let front = service.out();
+        let size = front.len();
+        if size == 0 {
+            return Ok(());
+        }
+        answer.push_slice(front)?;
+        service.taken(size);
+    }
 }
 
 /// The files `/a`, which is empty, and `/d/f` with two bytes, both of the time 1.
