@@ -85,18 +85,7 @@ names_short directory files ok = go (is_path directory)
     go true = All-from_recursion (λ (d : Dirent). length d.name < 2 ^ 32) (map dirent_of (shown_in directory files)) (dirents_short (shown_in directory files) (short-shown directory files [] (recursion_from_All (λ (e : Entry). length e.path < 2 ^ 32) files ok.short) tt))
     go false = All-nil (λ (d : Dirent). length d.name < 2 ^ 32)
 
--- a step of a loop over chunks, and of one over entries
-pub chunk_step : (out out' rest text left : List ℕ) (n : ℕ) → n ≡ min 65536 (length rest) → text ≡ take n rest → left ≡ drop n rest → length rest ≢ 0 → out' ≡ out ++ answer_bytes (answers.Chunk text) → out' ++ chunk_bytes left ≡ out ++ chunk_bytes rest
-chunk_step out out' rest text left n size front back some is =
-    ap (λ (o : List ℕ). o ++ chunk_bytes left) is
-    ∙ (append_assoc out (answer_bytes (answers.Chunk text)) (chunk_bytes left)
-    ∙ ap (λ (o : List ℕ). out ++ o) (parts ∙ sym (chunk_more rest some)))
-  where
-    parts : answer_bytes (answers.Chunk text) ++ chunk_bytes left ≡ answer_bytes (answers.Chunk (take (min 65536 (length rest)) rest)) ++ chunk_bytes (drop (min 65536 (length rest)) rest)
-    parts =
-        ap (λ (t : List ℕ). answer_bytes (answers.Chunk t) ++ chunk_bytes left) (front ∙ ap (λ m. take m rest) size)
-        ∙ ap (λ (l : List ℕ). answer_bytes (answers.Chunk (take (min 65536 (length rest)) rest)) ++ chunk_bytes l) (back ∙ ap (λ m. drop m rest) size)
-
+-- a step of a loop over entries
 pub dent_step : (out out' : List ℕ) (entry : Dirent) (rest left : List Dirent) → rest ≡ entry ∷ left → out' ≡ out ++ dent_bytes entry → out' ++ flat_map dent_bytes left ≡ out ++ flat_map dent_bytes rest
 dent_step out out' entry rest left all is =
     ap (λ (o : List ℕ). o ++ flat_map dent_bytes left) is

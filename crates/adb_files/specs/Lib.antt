@@ -6,3 +6,5 @@ pub mod Listing
 pub mod Requests
 pub mod Served
 pub mod Service
+pub mod Chunk
+pub mod Part

@@ -2,18 +2,24 @@
 #![tactic(auto)]
 
 mod answers;
+mod chunk;
 mod file;
 mod files;
 mod listing;
 mod mode;
 mod outbox;
+#[cfg(test)]
+mod outbox_tests;
+mod part;
 mod path;
 mod place;
+mod pull;
 mod service;
 #[cfg(test)]
 mod service_tests;
 mod session;
 mod slot;
+mod spelled;
 mod stat;
 #[cfg(test)]
 mod tests;

@@ -1,30 +1,43 @@
 //! The answers that were not taken yet.
 
-ghost use Rattle.std.specs.Prelude.{◌≡◌, ◌≤◌, ◌++◌, [], length, drop, OnOk, OnErr};
+ghost use Rattle.std.specs.Prelude.{◌≡◌, ◌≢◌, ◌<◌, ◌≤◌, ◌+◌, ◌++◌, [], List, ℕ, length, drop, Some, OnOk, OnErr};
+ghost use Rattle.std.specs.Arc.{arc_value};
+ghost use Rattle.std.specs.Io.{StartsWith};
+ghost use Rattle.std.specs.VecDeque.{deque_capacity, deque_len};
 ghost use Rattle.adb_sync.specs.Answers.{IsAnswer, answer_bytes};
+ghost use Rattle.adb_files.specs.Part.{NoneIsEmpty, part_bytes, queued};
+ghost use Rattle.adb_files.specs.Served.{file_bytes};
 
-use adb_outside::Text;
-use adb_sync::{SyncAnswer, write_answer};
+use crate::file::File;
+use crate::part::Part;
+use crate::pull::Pull;
+use crate::spelled::Spelled;
+use adb_sync::SyncAnswer;
 use std::alloc::{AllocError, Global};
+use std::collections::VecDeque;
 use std::marker::Model;
+use std::mem;
+use std::sync::Arc;
 
-/// The bytes of answers that were not taken yet. The bytes that were taken are given back once they
-/// are the larger part.
+/// The bytes of answers that were not taken yet. A file among them is shared, and its chunks are made
+/// as they are taken.
 #[derive(Drop)]
 pub struct Outbox {
     alloc: Global,
-    bytes: Text,
-    from: usize,
+    parts: VecDeque<Part>,
+    last: Spelled,
 }
 
 impl Model for Outbox {
-    ghost use Rattle.std.specs.Prelude.{List, ℕ, ◌≤◌, drop, length};
+    ghost use Rattle.std.specs.Prelude.{List, ℕ};
 
     ghost Value = { List ℕ };
 
-    ghost view = { λ outbox. drop outbox.from outbox.bytes };
+    ghost use Rattle.adb_files.specs.Part.{queued, NoneIsEmpty};
 
-    ghost invariant = { λ outbox. outbox.from ≤ length outbox.bytes };
+    ghost view = { λ outbox. queued outbox.parts.items outbox.last };
+
+    ghost invariant = { λ outbox. NoneIsEmpty outbox.parts.items };
 }
 
 impl Outbox {
@@ -34,16 +47,20 @@ impl Outbox {
     {
         Outbox {
             alloc,
-            bytes: Text::new(alloc),
-            from: 0,
+            parts: VecDeque::new(alloc),
+            last: Spelled::new(alloc),
         }
     }
 
-    /// The bytes that were not taken yet.
-    pub fn as_slice(&self) -> &[u8]
-        ensures { result.now ≡ self.now }
+    /// The first bytes that were not taken yet: at least one where one is left.
+    pub fn front(&self) -> &[u8]
+        ensures front { StartsWith self.now result.now }
+        ensures some { self.now ≢ [] → result.now ≢ [] }
     {
-        &self.bytes.as_slice()[self.from..]
+        match self.parts.front() {
+            Some(part) => part.front(),
+            None => self.last.as_slice(),
+        }
     }
 
     /// The first `n` bytes were taken. It takes no memory.
@@ -51,12 +68,30 @@ impl Outbox {
         requires { n ≤ length self.old }
         ensures { self.new ≡ drop n self.old }
     {
-        let length = self.bytes.len();
-        self.from += n;
-        if self.from == length {
-            self.bytes = Text::new(self.alloc);
-            self.from = 0;
+        let mut left = n;
+        while left > 0 {
+            left -= self.take_front(left);
         }
+    }
+
+    /// Takes at most the first `n` bytes, of the first part alone, and gives how many: at least one
+    /// where one is left.
+    fn take_front(&mut self, n: usize) -> usize
+        ensures most { result ≤ n }
+        ensures here { result ≤ length self.old }
+        ensures some { 0 < n → self.old ≢ [] → 0 < result }
+        ensures left { self.new ≡ drop result self.old }
+    {
+        let Some(part) = self.parts.front_mut() else {
+            let taken = n.min(self.last.len());
+            self.last.taken(taken);
+            return taken;
+        };
+        let taken = part.take_front(n);
+        if part.is_empty() {
+            drop_first(&mut self.parts);
+        }
+        taken
     }
 
     /// Adds an answer at the end. After want of memory the bytes are as before.
@@ -65,18 +100,46 @@ impl Outbox {
         ensures ok { OnOk result (self.new ≡ self.old ++ answer_bytes answer.now) }
         ensures err { OnErr result (self.new ≡ self.old) }
     {
-        self.give_back()?;
-        write_answer(self.alloc, answer, &mut self.bytes)
+        self.last.push(answer)
     }
 
-    /// Gives the memory of bytes that were taken back, where they are the larger part.
-    fn give_back(&mut self) -> Result<(), AllocError>
-        ensures { self.new ≡ self.old }
+    /// Adds the chunks of a file and their end at the end. The file is shared until all its bytes were
+    /// taken. After want of memory the bytes are as before.
+    pub fn push_file(&mut self, file: Arc<File>) -> Result<(), AllocError>
+        ensures ok { OnOk result (self.new ≡ self.old ++ file_bytes (Some (arc_value file))) }
+        ensures err { OnErr result (self.new ≡ self.old) }
     {
-        if self.from > self.bytes.len() / 2 {
-            self.bytes = Text::from_slice(self.alloc, &self.bytes.as_slice()[self.from..])?;
-            self.from = 0;
+        let pull = Pull::new(file);
+        if pull.is_empty() {
+            return self.push(&SyncAnswer::ChunkEnd);
         }
+        let mut end = Spelled::new(self.alloc);
+        end.push(&SyncAnswer::ChunkEnd)?;
+        self.parts.reserve(2)?;
+        let before = mem::replace(&mut self.last, end);
+        add(&mut self.parts, Part::Spelled(before));
+        add(&mut self.parts, Part::Pull(pull));
         Ok(())
     }
+}
+
+/// Adds a part at the end, where something is left of it. There is room for it.
+fn add(parts: &mut VecDeque<Part>, part: Part)
+    requires { deque_len parts.old < deque_capacity parts.old }
+    ensures bytes { (last : List ℕ)
+        → queued parts.new.items last ≡ queued parts.old.items (part_bytes part ++ last) }
+    ensures none_empty { NoneIsEmpty parts.old.items → NoneIsEmpty parts.new.items }
+    ensures len { deque_len parts.new ≤ deque_len parts.old + 1 }
+    ensures capacity { deque_capacity parts.new ≡ deque_capacity parts.old }
+{
+    if !part.is_empty() {
+        parts.push_back_reserved(part);
+    }
+}
+
+/// Drops the first part, where there is one.
+fn drop_first(parts: &mut VecDeque<Part>)
+    ensures { parts.new.items ≡ drop 1 parts.old.items }
+{
+    parts.pop_front();
 }

@@ -19,19 +19,22 @@ fn answer_of(
     let mut answer = Text::new(alloc);
     for piece in asked.chunks(size.max(1)) {
         service.feed(files, piece)?;
-        take_all(&mut service, &mut answer)?;
+        drain(&mut service, &mut answer)?;
     }
     Ok((answer, service.ended()))
 }
 
-/// Takes all the answers that are left.
-fn take_all(service: &mut SyncService, answer: &mut Text) -> Result<(), AllocError> {
-    while !service.out().is_empty() {
-        let size = service.out().len();
-        answer.push_slice(service.out())?;
+/// Takes all that a service answered.
+fn drain(service: &mut SyncService, answer: &mut Text) -> Result<(), AllocError> {
+    loop {
+        let front = service.out();
+        let size = front.len();
+        if size == 0 {
+            return Ok(());
+        }
+        answer.push_slice(front)?;
         service.taken(size);
     }
-    Ok(())
 }
 
 /// The request that pushes `/n`, and what a service answers to it and to a pull of it.
@@ -154,7 +157,10 @@ fn pushes_are_pulled(rt: HostRuntime) -> Result<(), Fail> {
             assert!(rt; told.as_slice() == answer.as_slice(), "of {length} bytes");
             assert!(rt; !ended);
             let stored = files.get(b"/n").ok_or("no file")?;
-            assert!(rt; stored.bytes.as_slice() == bytes.as_slice(), "of {length} bytes");
+            assert!(rt;
+                stored.bytes.as_slice() == bytes.as_slice(),
+                "of {length} bytes"
+            );
         }
     }
     Ok(())
@@ -168,7 +174,7 @@ fn pulls_what_was_there_when_it_was_asked(rt: HostRuntime) -> Result<(), Fail> {
     service.feed(&mut files, b"RECV\x04\0\0\0/d/f")?;
     files.put(alloc, b"/d/f", file_of(Text::from_slice(alloc, b"other")?))?;
     let mut answer = Text::new(alloc);
-    take_all(&mut service, &mut answer)?;
+    drain(&mut service, &mut answer)?;
     assert!(rt; answer.as_slice() == b"DATA\x02\0\0\0hiDONE\0\0\0\0".as_slice());
     Ok(())
 }
@@ -180,14 +186,27 @@ fn a_push_past_the_limit_has_no_space(rt: HostRuntime) -> Result<(), Fail> {
     let most = Text::from_vec(vec![in alloc; 0; MOST_BYTES - 1]?);
     files.put(alloc, b"/most", file_of(most))?;
     let cases: [(&[u8], &[u8]); 4] = [
-        (b"SEND\x06\0\0\0/n,420DATA\x02\0\0\0xyDONE\0\0\0\0", b"FAIL\x08\0\0\0no space"),
-        (b"SEND\x06\0\0\0/n,420DATA\x01\0\0\0xDONE\0\0\0\0", b"OKAY\0\0\0\0"),
-        (b"SEND\x06\0\0\0/n,420DATA\x02\0\0\0xyDONE\0\0\0\0", b"FAIL\x08\0\0\0no space"),
+        (
+            b"SEND\x06\0\0\0/n,420DATA\x02\0\0\0xyDONE\0\0\0\0",
+            b"FAIL\x08\0\0\0no space",
+        ),
+        (
+            b"SEND\x06\0\0\0/n,420DATA\x01\0\0\0xDONE\0\0\0\0",
+            b"OKAY\0\0\0\0",
+        ),
+        (
+            b"SEND\x06\0\0\0/n,420DATA\x02\0\0\0xyDONE\0\0\0\0",
+            b"FAIL\x08\0\0\0no space",
+        ),
         (b"STAT\x02\0\0\0/n", b"STAT\xa4\x81\0\0\x01\0\0\0\0\0\0\0"),
     ];
     for (asked, answer) in cases {
         let (told, ended) = answer_of(alloc, &mut files, asked, 4096)?;
-        assert!(rt; told.as_slice() == answer, "{:?} to {asked:?}", told.as_slice());
+        assert!(rt;
+            told.as_slice() == answer,
+            "{:?} to {asked:?}",
+            told.as_slice()
+        );
         assert!(rt; !ended);
     }
     Ok(())

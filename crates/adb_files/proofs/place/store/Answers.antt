@@ -34,9 +34,9 @@ returns-in-Ok-clause-changes c =
 put : (c : goal.In_ok-insert-in-Err) → c.insert.new.self.items ≡ with_file c.args.path.now c.args.file c.args.slots.now.items
 put c =
     let new : c.new-in-Err.result ≡ entry_of c.args.path.now c.args.file =
-        c.new-in-Err.ensures
-        ∙ (ap (entry_of c.in_ok-path-in-Err.path) c.in_ok-file.ensures.ok
-        ∙ ap (λ (p : List ℕ). entry_of p c.args.file) c.in_ok-path-in-Err.ensures)
+    c.new-in-Err.ensures
+    ∙ (ap (entry_of c.in_ok-path-in-Err.path) c.in_ok-file.ensures.ok
+    ∙ ap (λ (p : List ℕ). entry_of p c.args.file) c.in_ok-path-in-Err.ensures)
     in
     c.in_ok-insert-in-Err.ensures.items
     ∙ (ap (λ (e : Entry). take c.in-Err.i c.args.slots.now.items ++ e ∷ drop c.in-Err.i c.args.slots.now.items) new

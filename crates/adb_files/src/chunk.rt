@@ -1,0 +1,98 @@
+//! The chunk of a file that is handed out.
+
+ghost use Rattle.std.specs.Prelude.{◌≡◌, ◌≢◌, ◌<◌, ◌≤◌, [], List, ℕ, length, drop};
+ghost use Rattle.std.specs.Io.{StartsWith};
+ghost use Rattle.adb_files.specs.Chunk.{IsWithin, HasFront, TakesHere, left_from};
+ghost use Rattle.adb_files.specs.Served.{chunk_bytes};
+
+use adb_sync::{CHUNK_HEADER_BYTES, chunk_header};
+
+/// The most bytes of a chunk.
+const MOST_CHUNK: usize = 65_536;
+
+/// A chunk of a file that is handed out: its header, how many bytes of that were taken, and where the
+/// bytes of the chunk that were not taken begin and end in the file.
+#[derive(Drop)]
+pub struct Chunk {
+    pub header: [u8; CHUNK_HEADER_BYTES],
+    pub header_taken: usize,
+    pub from: usize,
+    pub to: usize,
+}
+
+impl Chunk {
+    /// The chunk that begins there. At the end of the bytes nothing is left of it.
+    pub fn begin(bytes: &[u8], from: usize) -> Chunk
+        requires { from ≤ length bytes.now }
+        ensures left { left_from result bytes.now ≡ chunk_bytes (drop from bytes.now) }
+        ensures within { IsWithin result bytes.now }
+        ensures front { HasFront result bytes.now }
+    {
+        let size = MOST_CHUNK.min(bytes.len() - from);
+        if size == 0 {
+            return Chunk {
+                header: [0; CHUNK_HEADER_BYTES],
+                header_taken: CHUNK_HEADER_BYTES,
+                from,
+                to: from,
+            };
+        }
+        Chunk {
+            header: chunk_header(size as u32),
+            header_taken: 0,
+            from,
+            to: from + size,
+        }
+    }
+
+    /// What is left of the header, and where that was taken, what is left of the chunk.
+    pub fn front<'a>(&'a self, bytes: &'a [u8]) -> &'a [u8]
+        requires within { IsWithin self.now bytes.now }
+        requires front { HasFront self.now bytes.now }
+        ensures front { StartsWith (left_from self.now bytes.now) result.now }
+        ensures some { left_from self.now bytes.now ≢ [] → result.now ≢ [] }
+    {
+        if self.header_taken < CHUNK_HEADER_BYTES {
+            &self.header[self.header_taken..]
+        } else {
+            &bytes[self.from..self.to]
+        }
+    }
+
+    /// Takes at most `n` of the bytes that are left, and gives how many. Where all of a chunk was taken
+    /// the next one begins.
+    pub fn take_front(&mut self, bytes: &[u8], n: usize) -> usize
+        requires within { IsWithin self.old bytes.now }
+        requires front { HasFront self.old bytes.now }
+        ensures most { result ≤ n }
+        ensures here { result ≤ length (left_from self.old bytes.now) }
+        ensures some { 0 < n → left_from self.old bytes.now ≢ [] → 0 < result }
+        ensures left { left_from self.new bytes.now ≡ drop result (left_from self.old bytes.now) }
+        ensures within { IsWithin self.new bytes.now }
+        ensures front { HasFront self.new bytes.now }
+    {
+        let taken = self.take_here(n);
+        if self.header_taken == CHUNK_HEADER_BYTES && self.from == self.to {
+            *self = Chunk::begin(bytes, self.to);
+        }
+        taken
+    }
+
+    /// Takes at most `n` bytes of what is left of the header, or where that was taken, of the chunk.
+    fn take_here(&mut self, n: usize) -> usize
+        requires header { self.old.header_taken ≤ 8 }
+        requires from { self.old.from ≤ self.old.to }
+        ensures most { result ≤ n }
+        ensures takes { (bytes : List ℕ) → IsWithin self.old bytes → HasFront self.old bytes
+            → TakesHere n result self.old self.new bytes }
+    {
+        if self.header_taken < CHUNK_HEADER_BYTES {
+            let taken = n.min(CHUNK_HEADER_BYTES - self.header_taken);
+            self.header_taken += taken;
+            return taken;
+        }
+        let taken = n.min(self.to - self.from);
+        self.from += taken;
+        taken
+    }
+}

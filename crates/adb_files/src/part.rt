@@ -1,0 +1,56 @@
+//! A part of the answers.
+
+ghost use Rattle.std.specs.Prelude.{◌≡◌, ◌≢◌, ◌<◌, ◌≤◌, ◌==◌, [], length, drop};
+ghost use Rattle.std.specs.Io.{StartsWith};
+ghost use Rattle.adb_files.specs.Part.{part_bytes};
+
+use crate::pull::Pull;
+use crate::spelled::Spelled;
+
+/// Answers that are handed out in one way.
+#[derive(Drop)]
+pub enum Part {
+    Spelled(Spelled),
+    Pull(Pull),
+}
+
+impl Part {
+    /// The first bytes that were not taken yet: at least one where one is left.
+    pub fn front(&self) -> &[u8]
+        ensures front { StartsWith (part_bytes self.now) result.now }
+        ensures some { part_bytes self.now ≢ [] → result.now ≢ [] }
+    {
+        match self {
+            Part::Spelled(spelled) => spelled.as_slice(),
+            Part::Pull(pull) => pull.front(),
+        }
+    }
+
+    /// Takes at most the first `n` bytes, and gives how many: at least one where one is left. It takes
+    /// no memory.
+    pub fn take_front(&mut self, n: usize) -> usize
+        ensures most { result ≤ n }
+        ensures here { result ≤ length (part_bytes self.old) }
+        ensures some { 0 < n → part_bytes self.old ≢ [] → 0 < result }
+        ensures left { part_bytes self.new ≡ drop result (part_bytes self.old) }
+    {
+        match self {
+            Part::Spelled(spelled) => {
+                let taken = n.min(spelled.len());
+                spelled.taken(taken);
+                taken
+            }
+            Part::Pull(pull) => pull.take_front(n),
+        }
+    }
+
+    /// Whether no byte is left.
+    pub fn is_empty(&self) -> bool
+        ensures { result ≡ (length (part_bytes self.now) == 0) }
+    {
+        match self {
+            Part::Spelled(spelled) => spelled.is_empty(),
+            Part::Pull(pull) => pull.is_empty(),
+        }
+    }
+}
