@@ -1,12 +1,10 @@
 -- A cut into requests is right.
-use Rattle.std.proofs.Common.{ℕ, ◌+◌, ◌^◌, ◌≡◌, ◌≢◌, ◌≤◌, ◌<◌, nat_lt, nat_eq, cond, Bool, true, false, suc, List, [], ◌∷◌, ◌++◌, length, take, drop, Option, Some, None, Result, Ok, Err, is_some, refl, sym, ◌∙◌, ap, subst, arith, add-one, append_assoc, eqb-true}
+use Rattle.std.proofs.Common.{ℕ, ◌+◌, ◌^◌, ◌≡◌, ◌≢◌, ◌≤◌, ◌<◌, nat_eq, cond, Bool, true, false, suc, List, [], ◌∷◌, ◌++◌, length, take, drop, Option, Some, None, Result, Ok, Err, is_some, refl, sym, ◌∙◌, ap, subst, arith, add-one, append_assoc, eqb-true}
 use Rattle.std.specs.Prelude.{codes}
-use Rattle.std.specs.Str.{bytes_eq}
 use Rattle.std.specs.List.{flat_map}
 use Rattle.std.proofs.lemmas.List.{length-append, length-drop, length-take, take-append-drop, drop_all}
 use Rattle.std.proofs.lemmas.List.Elements.{All-nil, All-cons}
 use Rattle.std.proofs.lemmas.Bool.Decides.{nat_tests}
-use Rattle.std.proofs.lemmas.Slice.Eq.{bytes_eq-Decides}
 use Rattle.byteorder.specs.Endian.{little_number, little_bytes}
 use Rattle.adb_outside.specs.declared.framer.Front.{Front}
 use Rattle.adb_outside.specs.declared.framer.Front.TheVariants.{Whole}
@@ -20,7 +18,7 @@ use Rattle.adb_sync.specs.declared.error.SyncError.TheVariants.{UnknownId, PathT
 use Rattle.adb_sync.specs.Messages.{AreBytes, number_at}
 use Rattle.adb_sync.specs.Asks.{ask_id_of, ask_id_in_place, is_in_place, ask_kind, ask_head, ask_number_fault, ask_body, ask_body_fault, ask_front, ask_of, past_ask, asks_from, ask_bytes, id_of_ask, is_sending_after, IsAsk, HasAskWords, StandInPlace, IsAskCut, last_comma, comma_behind, send_cut}
 use Rattle.adb_sync.specs.Framed.{asks_are_framed}
-use Rattle.adb_sync.proofs.Cuts.{right, IsBehind, whole_parts, bytes_before, bytes_after, place_past, number_again, number_fits, counted_again}
+use Rattle.adb_sync.proofs.Cuts.{right, IsBehind, whole_parts, bytes_before, bytes_after, place_past, number_again, number_fits, counted_again, is_one, no_fault_below}
 
 -- the four letters of an id
 abbrev letters : AskId → List ℕ
@@ -32,20 +30,16 @@ letters ids.Data = codes "DATA"
 letters ids.Done = codes "DONE"
 letters ids.Quit = codes "QUIT"
 
--- an id that is found is the one or one of the others
-is_one : (bytes : List ℕ) (k j : AskId) (o : Option AskId) → (o ≡ Some j → bytes ≡ letters j) → cond (bytes_eq bytes (letters k)) (Some k) o ≡ Some j → bytes ≡ letters j
-is_one bytes k j o others e = grind (arith, bytes_eq-Decides)
-
 -- an id is its letters
 id_again : (bytes : List ℕ) (id : AskId) → ask_id_of bytes ≡ Some id → bytes ≡ letters id
 id_again bytes id =
-    is_one bytes ids.Stat id _
-    (is_one bytes ids.List id _
-    (is_one bytes ids.Recv id _
-    (is_one bytes ids.Send id _
-    (is_one bytes ids.Data id _
-    (is_one bytes ids.Done id _
-    (is_one bytes ids.Quit id None (λ e. let clash : ◌≡◌ {A = Option AskId} None (Some id) = e in absurd cc)))))))
+    is_one letters bytes ids.Stat id _
+    (is_one letters bytes ids.List id _
+    (is_one letters bytes ids.Recv id _
+    (is_one letters bytes ids.Send id _
+    (is_one letters bytes ids.Data id _
+    (is_one letters bytes ids.Done id _
+    (is_one letters bytes ids.Quit id None (λ e. let clash : ◌≡◌ {A = Option AskId} None (Some id) = e in absurd cc)))))))
 
 -- an id that is known here stands where it may
 known_here : (from : AskFormat) (o : Option AskId) (id : AskId) → ask_id_in_place from o ≡ Ok id → (o ≡ Some id) × (is_in_place from.sending id ≡ true)
@@ -55,10 +49,6 @@ known_here from (Some other) id e = go (is_in_place from.sending other) refl e
     go : (t : Bool) → is_in_place from.sending other ≡ t → cond t (Ok other) (Err (BadPlace from.offset)) ≡ Ok id → (◌≡◌ {A = Option AskId} (Some other) (Some id)) × (is_in_place from.sending id ≡ true)
     go true is found = let same : other ≡ id = (cc) in (ap Some same, ap (is_in_place from.sending) (sym same) ∙ is)
     go false is found = let clash : ◌≡◌ {A = Result AskId SyncError} (Err (BadPlace from.offset)) (Ok id) = found in absurd cc
-
--- a number without a fault is at most as large as may be
-no_fault_below : (most n : ℕ) (fault : SyncError) → cond (nat_lt most n) (Some fault) None ≡ None → n ≤ most
-no_fault_below most n fault e = grind (arith, nat_tests)
 
 zero_there : (n : ℕ) (fault : SyncError) → cond (nat_eq n 0) None (Some fault) ≡ None → n ≡ 0
 zero_there n fault e = grind (arith, nat_tests)

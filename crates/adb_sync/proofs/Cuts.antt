@@ -1,6 +1,9 @@
 -- What a cut is, frame by frame, and what a whole message is made of.
 use Rattle.std.proofs.Common.{ℕ, ◌+◌, ◌-◌, ◌/◌, ◌%◌, ◌^◌, ◌≡◌, ◌≢◌, ◌≤◌, ◌<◌, nat_lt, cond, min, zero, suc, List, [], ◌∷◌, ◌++◌, length, take, drop, Option, Some, None, Result, Ok, Err, refl, sym, ◌∙◌, ap, subst, arith}
 use Rattle.std.proofs.lemmas.List.{length-drop, take_all, get_or-drop}
+use Rattle.std.specs.Str.{bytes_eq}
+use Rattle.std.proofs.lemmas.Bool.Decides.{nat_tests}
+use Rattle.std.proofs.lemmas.Slice.Eq.{bytes_eq-Decides}
 use Rattle.byteorder.specs.Endian.{little_number, little_bytes}
 use Rattle.byteorder.specs.Numbers.{little_from-lt}
 use Rattle.adb_outside.specs.declared.framer.Front.{Front}
@@ -76,6 +79,14 @@ pub counted_again : (bytes : List ℕ) → AreBytes bytes → length bytes ≡ 4
 counted_again bytes are len =
     let same : length (drop 4 bytes) ≡ little_number 4 bytes = omega (arith, len, length-drop 4 bytes) in
     ap (λ k. little_bytes 4 k ++ drop 4 bytes) same ∙ number_again bytes are (omega (arith, len))
+
+-- an id that is found is the one or one of the others
+pub is_one : {K : Type 0} (letters : K → List ℕ) (bytes : List ℕ) (k j : K) (o : Option K) → (o ≡ Some j → bytes ≡ letters j) → cond (bytes_eq bytes (letters k)) (Some k) o ≡ Some j → bytes ≡ letters j
+is_one letters bytes k j o others e = grind (arith, bytes_eq-Decides)
+
+-- a number without a fault is at most as large as may be
+pub no_fault_below : (most n : ℕ) (fault : SyncError) → cond (nat_lt most n) (Some fault) None ≡ None → n ≤ most
+no_fault_below most n fault e = grind (arith, nat_tests)
 
 module _ {S K : Type 0} (kind_of : S → List ℕ → Result K SyncError) (head : S → K → ℕ) (number_fault : S → K → ℕ → Option SyncError) (body : K → ℕ → ℕ) (body_fault : S → K → List ℕ → Option SyncError) where
   -- the bytes behind an id are the head and the body of a message with no fault

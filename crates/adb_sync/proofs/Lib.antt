@@ -5,3 +5,4 @@ pub mod AskSpelled
 pub mod AnswerSpelled
 pub mod Cuts
 pub mod AskCuts
+pub mod AnswerCuts
