@@ -37,6 +37,7 @@ id_again bytes id =
     (is_one letters bytes ids.Okay id _
     (is_one letters bytes ids.Fail id None (λ e. let clash : ◌≡◌ {A = Option AnswerId} None (Some id) = e in absurd cc))))))
 
+-- only an id is known
 known_here : (from : AnswerFormat) (o : Option AnswerId) (id : AnswerId) → known_answer from o ≡ Ok id → o ≡ Some id
 known_here from None id e = let clash : ◌≡◌ {A = Result AnswerId SyncError} (Err (UnknownId from.offset)) (Ok id) = e in absurd cc
 known_here from (Some other) id e = (cc)

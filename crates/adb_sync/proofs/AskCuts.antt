@@ -50,9 +50,11 @@ known_here from (Some other) id e = go (is_in_place from.sending other) refl e
     go true is found = let same : other ≡ id = (cc) in (ap Some same, ap (is_in_place from.sending) (sym same) ∙ is)
     go false is found = let clash : ◌≡◌ {A = Result AskId SyncError} (Err (BadPlace from.offset)) (Ok id) = found in absurd cc
 
+-- only zero is without a fault
 zero_there : (n : ℕ) (fault : SyncError) → cond (nat_eq n 0) None (Some fault) ≡ None → n ≡ 0
 zero_there n fault e = grind (arith, nat_tests)
 
+-- what is without a fault is there
 some_there : (o : Option ℕ) (fault : SyncError) → cond (is_some o) None (Some fault) ≡ None → (k : ℕ) × (o ≡ Some k)
 some_there (Some k) fault e = (k, refl)
 some_there None fault e = let clash : ◌≡◌ {A = Option SyncError} (Some fault) None = e in absurd cc

@@ -100,7 +100,6 @@ module _ {S K : Type 0} (kind_of : S → List ℕ → Result K SyncError) (head 
   pub record IsWholeMessage (s : S) (bytes : List ℕ) : Type 0 where
     pub kind : K
     pub known : kind_of s (take 4 bytes) ≡ Ok kind
-    pub id_there : 4 ≤ length bytes
     pub behind : IsBehind s kind (drop 4 bytes)
 
   no_fault_there : (o : Option SyncError) (w m : ℕ) → or_bad o (Whole w) ≡ Whole m → (o ≡ None) × (w ≡ m)
@@ -129,17 +128,20 @@ module _ {S K : Type 0} (kind_of : S → List ℕ → Result K SyncError) (head 
       let hd = head s kind in
       let n = number_at (hd - 4) rest in
       let h = told_there (length rest) hd (front_past_head kind_of head number_fault body body_fault s kind n (drop hd rest)) (Whole (4 + length rest)) (λ c. cc) e in
-      let parts = past_head_parts s kind n (drop hd rest) (4 + length rest) h.1 (omega (arith, h.0, length-drop hd rest)) in
-      (kind, refl, record {
-        head_there = h.0;
-        good_number = parts.0;
-        len = omega (arith, h.0, parts.1, length-drop hd rest);
-        good_body = parts.2;
-      })
+      let parts = past_head_parts s kind n (drop hd rest) (4 + length rest) h.1 (omega (arith, h.0, length-drop hd rest)) in (
+        kind,
+        refl,
+        record {
+          head_there = h.0;
+          good_number = parts.0;
+          len = omega (arith, h.0, parts.1, length-drop hd rest);
+          good_body = parts.2;
+        },
+      )
 
   pub whole_parts : (s : S) (bytes : List ℕ) → front kind_of head number_fault body body_fault s bytes ≡ Whole (length bytes) → IsWholeMessage s bytes
   whole_parts s bytes e =
       let h = told_there (length bytes) 4 (front_past_id kind_of head number_fault body body_fault s (kind_of s (take 4 bytes)) (drop 4 bytes)) (Whole (length bytes)) (λ c. cc) e in
       let len : length bytes ≡ 4 + length (drop 4 bytes) = omega (arith, h.0, length-drop 4 bytes) in
       let parts = past_id_parts s (kind_of s (take 4 bytes)) (drop 4 bytes) (h.1 ∙ ap Whole len) in
-      record { kind = parts.0; known = parts.1; id_there = h.0; behind = parts.2 }
+      record { kind = parts.0; known = parts.1; behind = parts.2 }
