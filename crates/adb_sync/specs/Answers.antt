@@ -1,8 +1,9 @@
 -- What the answering side writes (SYNC.TXT): STAT with three numbers; DENT with four and a name; DATA with a chunk; DONE, after a list with sixteen bytes; OKAY; FAIL with a text.
-use Rattle.std.specs.Prelude.{ℕ, ◌+◌, ◌-◌, ◌^◌, ◌<◌, ◌≤◌, ◌≡◌, min, nat_lt, if◌then◌else◌, Bool, true, false, List, [], ◌++◌, length, take, drop, replicate, Option, Some, None, Result, Ok, Err, codes, bytes_eq}
+use Rattle.std.specs.Prelude.{ℕ, ◌+◌, ◌-◌, ◌^◌, ◌<◌, ◌≤◌, ◌≡◌, ◌≢◌, min, nat_lt, if◌then◌else◌, Bool, true, false, List, [], ◌∷◌, ◌++◌, length, take, drop, replicate, Option, Some, None, Result, Ok, Err, codes, bytes_eq, All}
 use Rattle.byteorder.specs.Endian.{little_bytes}
 use Rattle.adb_outside.specs.declared.framer.Front.{Front}
-use Rattle.adb_outside.specs.Framing.{Cut, joined, cut, Stands}
+use Rattle.adb_outside.specs.declared.framer.Front.TheVariants.{Whole}
+use Rattle.adb_outside.specs.Framing.{Cut, joined, cut, fault_of, Stands}
 use Rattle.adb_sync.specs.declared.answer.SyncAnswer.{SyncAnswer}
 use Rattle.adb_sync.specs.declared.answer.SyncAnswer.TheVariants as answers
 use Rattle.adb_sync.specs.declared.answer_id.AnswerId.{AnswerId}
@@ -157,3 +158,33 @@ answer_bytes (answers.Chunk bytes) = message (codes "DATA") (length bytes) bytes
 answer_bytes answers.ChunkEnd = message (codes "DONE") 0 []
 answer_bytes answers.Okay = message (codes "OKAY") 0 []
 answer_bytes (answers.Fail text) = message (codes "FAIL") (length text) text
+
+-- an id and so many bytes of any value
+abbrev pub IsIdAnd : List ℕ → ℕ → List ℕ → Type 0
+IsIdAnd id n bytes = (take 4 bytes ≡ id) × (length bytes ≡ 4 + n)
+
+-- bytes that are read as an answer: what stands behind the id of an OKAY or a DONE may be anything
+abbrev pub IsSpelling : SyncAnswer → List ℕ → Type 0
+IsSpelling answers.Okay bytes = IsIdAnd (codes "OKAY") 4 bytes
+IsSpelling answers.ChunkEnd bytes = IsIdAnd (codes "DONE") 4 bytes
+IsSpelling answers.ListEnd bytes = IsIdAnd (codes "DONE") 16 bytes
+IsSpelling (answers.Stat mode size mtime) bytes = bytes ≡ answer_bytes (answers.Stat mode size mtime)
+IsSpelling (answers.Dent mode size mtime name) bytes = bytes ≡ answer_bytes (answers.Dent mode size mtime name)
+IsSpelling (answers.Chunk chunk) bytes = bytes ≡ answer_bytes (answers.Chunk chunk)
+IsSpelling (answers.Fail text) bytes = bytes ≡ answer_bytes (answers.Fail text)
+
+-- bytes are those of answers, one after the other, and then a rest
+abbrev pub AreSpelled : List SyncAnswer → List ℕ → List ℕ → Type 0
+AreSpelled [] rest bytes = bytes ≡ rest
+AreSpelled (answer ∷ others) rest bytes = (n : ℕ) × IsSpelling answer (take n bytes) × AreSpelled others rest (drop n bytes)
+
+-- A cut is right: the bytes are those of its answers, which may be written and read here, and then its rest, which begins at the place that it reads from, begins with no whole answer, and where it begins with a fault, that is the fault.
+pub record IsAnswerCut (from : AnswerFormat) (bytes : List ℕ) (c : Cut AnswerFormat SyncAnswer SyncError) : Type 0 where
+  pub whole : AreSpelled c.given c.rest bytes
+  pub each : All IsAnswer c.given
+  pub words : All HasAnswerWords c.given
+  pub kinds : All (EndsKind from.list) c.given
+  pub list : c.reading.list ≡ from.list
+  pub place : c.reading.offset ≡ min (from.offset + (length bytes - length c.rest)) (2 ^ 64 - 1)
+  pub fault : c.fault ≡ fault_of (answer_front c.reading c.rest)
+  pub none_left : (n : ℕ) → answer_front c.reading c.rest ≢ Whole n

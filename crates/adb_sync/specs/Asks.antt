@@ -1,7 +1,9 @@
 -- What the asking side writes (SYNC.TXT): STAT, LIST and RECV with a path; SEND with a path and a mode, then any number of DATA, then DONE; QUIT.
-use Rattle.std.specs.Prelude.{ℕ, suc, ◌+◌, ◌-◌, ◌^◌, ◌<◌, ◌≤◌, ◌≡◌, ◌==◌, min, nat_lt, if◌then◌else◌, Bool, true, false, not, is_some, List, [], ◌∷◌, ◌++◌, length, take, drop, Option, Some, None, Result, Ok, Err, codes, bytes_eq}
+use Rattle.std.specs.Prelude.{ℕ, suc, ◌+◌, ◌-◌, ◌^◌, ◌<◌, ◌≤◌, ◌≡◌, ◌≢◌, ◌==◌, min, nat_lt, if◌then◌else◌, Bool, true, false, not, is_some, List, [], ◌∷◌, ◌++◌, length, take, drop, Option, Some, None, Result, Ok, Err, codes, bytes_eq, All}
+use Rattle.std.specs.List.{flat_map}
 use Rattle.adb_outside.specs.declared.framer.Front.{Front}
-use Rattle.adb_outside.specs.Framing.{Cut, joined, cut, Stands}
+use Rattle.adb_outside.specs.declared.framer.Front.TheVariants.{Whole}
+use Rattle.adb_outside.specs.Framing.{Cut, joined, cut, fault_of, Stands}
 use Rattle.adb_sync.specs.declared.ask.SyncAsk.{SyncAsk}
 use Rattle.adb_sync.specs.declared.ask.SyncAsk.TheVariants as asks
 use Rattle.adb_sync.specs.declared.ask_id.AskId.{AskId}
@@ -192,3 +194,18 @@ ask_bytes (asks.Send path mode) = message (codes "SEND") (length (path ++ 44 ∷
 ask_bytes (asks.Chunk bytes) = message (codes "DATA") (length bytes) bytes
 ask_bytes (asks.Finish mtime) = message (codes "DONE") mtime []
 ask_bytes asks.Quit = message (codes "QUIT") 0 []
+
+-- each request stands where it may, inside a SEND or outside one, given those before it; and whether what follows the last one is inside a SEND
+abbrev pub StandInPlace : Bool → List SyncAsk → Bool → Type 0
+StandInPlace sending [] behind = behind ≡ sending
+StandInPlace sending (ask ∷ others) behind = (is_in_place sending (id_of_ask ask) ≡ true) × StandInPlace (is_sending_after (Some (id_of_ask ask))) others behind
+
+-- A cut is right: the bytes are those of its requests, which may be written and stand where they may, and then its rest, which begins at the place that it reads from, begins with no whole request, and where it begins with a fault, that is the fault.
+pub record IsAskCut (from : AskFormat) (bytes : List ℕ) (c : Cut AskFormat SyncAsk SyncError) : Type 0 where
+  pub whole : bytes ≡ flat_map ask_bytes c.given ++ c.rest
+  pub each : All IsAsk c.given
+  pub words : All HasAskWords c.given
+  pub in_place : StandInPlace from.sending c.given c.reading.sending
+  pub place : c.reading.offset ≡ min (from.offset + (length bytes - length c.rest)) (2 ^ 64 - 1)
+  pub fault : c.fault ≡ fault_of (ask_front c.reading c.rest)
+  pub none_left : (n : ℕ) → ask_front c.reading c.rest ≢ Whole n

@@ -1,5 +1,5 @@
 -- Sync messages, requests and answers (SYNC.TXT): four bytes of id, a head whose last four bytes are a number, the lowest byte first, and a body as long as the id and the number say.
-use Rattle.std.specs.Prelude.{ℕ, ◌+◌, ◌-◌, nat_lt, if◌then◌else◌, List, ◌++◌, length, take, drop, Option, Some, None, Result, Ok, Err}
+use Rattle.std.specs.Prelude.{ℕ, ◌+◌, ◌-◌, ◌<◌, nat_lt, if◌then◌else◌, List, ◌++◌, length, take, drop, slice_index, Option, Some, None, Result, Ok, Err}
 use Rattle.byteorder.specs.Endian.{little_number, little_bytes}
 use Rattle.adb_outside.specs.declared.framer.Front.{Front}
 use Rattle.adb_outside.specs.declared.framer.Front.TheVariants.{More, Bad, Whole}
@@ -42,3 +42,7 @@ module _ {S K : Type 0} (kind_of : S → List ℕ → Result K SyncError) (head 
 abbrev pub answer_of : Option SyncError → Result (Unit {0}) SyncError
 answer_of None = Ok tt
 answer_of (Some fault) = Err fault
+
+-- each is a byte
+abbrev pub AreBytes : List ℕ → Type 0
+AreBytes bytes = (i : ℕ) → slice_index bytes i < 256

@@ -1,14 +1,15 @@
 //! What holds of all bytes, requests and answers, whoever reads or writes them.
 
-ghost use Rattle.std.specs.Prelude.{◌≡◌, ◌++◌, ◌∷◌, [], List, ℕ, Bool, true, Some};
+ghost use Rattle.std.specs.Prelude.{◌≡◌, ◌<◌, ◌^◌, ◌++◌, ◌∷◌, [], List, ℕ, Bool, true, Some};
 ghost use Rattle.adb_outside.specs.Framing.{joined};
 ghost use Rattle.adb_sync.specs.declared.ask.SyncAsk.{SyncAsk};
 ghost use Rattle.adb_sync.specs.declared.answer.SyncAnswer.{SyncAnswer};
 ghost use Rattle.adb_sync.specs.declared.error.SyncError.{SyncError};
 ghost use Rattle.adb_sync.specs.declared.ask_format.AskFormat.{AskFormat};
 ghost use Rattle.adb_sync.specs.declared.answer_format.AnswerFormat.{AnswerFormat};
-ghost use Rattle.adb_sync.specs.Asks.{IsAsk, HasAskWords, id_of_ask, is_in_place, ask_bytes, asks_from, past_ask, asks_in, ask_fault_in};
-ghost use Rattle.adb_sync.specs.Answers.{IsAnswer, HasAnswerWords, EndsKind, answer_bytes, answers_from, past_answer, answers_in, answer_fault_in};
+ghost use Rattle.adb_sync.specs.Messages.{AreBytes};
+ghost use Rattle.adb_sync.specs.Asks.{IsAsk, HasAskWords, id_of_ask, is_in_place, ask_bytes, asks_from, past_ask, asks_in, ask_fault_in, IsAskCut};
+ghost use Rattle.adb_sync.specs.Answers.{IsAnswer, HasAnswerWords, EndsKind, answer_bytes, answers_from, past_answer, answers_in, answer_fault_in, IsAnswerCut};
 
 /// A request that was written where it may stand is the request that is read, whatever follows it.
 pub fn written_asks_are_read()
@@ -20,6 +21,21 @@ pub fn written_asks_are_read()
 pub fn written_answers_are_read()
     ensures { (from : AnswerFormat) (answer : SyncAnswer) (more : List ℕ) → IsAnswer answer → HasAnswerWords answer → EndsKind from.list answer
         → answers_from from (answer_bytes answer ++ more) ≡ joined (answer ∷ []) (answers_from (past_answer from (answer_bytes answer)) more) }
+{}
+
+/// The requests that are read from bytes are spelled there, one after the other, each where it may stand,
+/// up to the first place where no whole request stands; where a fault stands there, it is the fault.
+pub fn ask_cut_is_right()
+    ensures { (from : AskFormat) (bytes : List ℕ) → from.offset < 2 ^ 64 → AreBytes bytes
+        → IsAskCut from bytes (asks_from from bytes) }
+{}
+
+/// The answers that are read from bytes are spelled there, one after the other, but for the numbers of
+/// OKAY and DONE, which may be any, up to the first place where no whole answer stands; where a fault
+/// stands there, it is the fault.
+pub fn answer_cut_is_right()
+    ensures { (from : AnswerFormat) (bytes : List ℕ) → from.offset < 2 ^ 64 → AreBytes bytes
+        → IsAnswerCut from bytes (answers_from from bytes) }
 {}
 
 /// What follows the first fault of requests changes neither the fault nor the requests before it.

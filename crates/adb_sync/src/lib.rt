@@ -24,6 +24,7 @@ pub use ask::SyncAsk;
 pub use ask_reader::AskReader;
 pub use error::SyncError;
 pub use laws::{
-    answer_faults_stay, ask_faults_stay, written_answers_are_read, written_asks_are_read,
+    answer_cut_is_right, answer_faults_stay, ask_cut_is_right, ask_faults_stay,
+    written_answers_are_read, written_asks_are_read,
 };
 pub use writers::{CHUNK_HEADER_BYTES, chunk_header, write_answer, write_ask};

@@ -2,7 +2,10 @@
 
 ghost use Rattle.std.specs.Prelude.{◌≡◌, IfOk};
 
-use crate::{AnswerReader, AskReader, SyncAnswer, SyncAsk, SyncError, write_answer, write_ask};
+use crate::{
+    AnswerReader, AskReader, CHUNK_HEADER_BYTES, SyncAnswer, SyncAsk, SyncError, chunk_header,
+    write_answer, write_ask,
+};
 use adb_outside::Text;
 use std::alloc::{AllocError, Global};
 use std::test::Fail;
@@ -184,6 +187,31 @@ fn answers_are_written(rt: HostRuntime) -> Result<(), Fail> {
     write_answer(alloc, &entry, &mut listing)?;
     write_answer(alloc, &SyncAnswer::ListEnd, &mut listing)?;
     assert_eq!(rt; listing.as_slice(), LISTING);
+    Ok(())
+}
+
+#[test]
+fn chunk_headers_are_those_written(rt: HostRuntime) -> Result<(), Fail> {
+    let alloc = rt.alloc();
+    let cases: [(u32, [u8; CHUNK_HEADER_BYTES]); 3] = [
+        (0, *b"DATA\0\0\0\0"),
+        (1, *b"DATA\x01\0\0\0"),
+        (65_536, *b"DATA\0\0\x01\0"),
+    ];
+    for (size, header) in cases {
+        assert!(rt; size <= 65_536);
+        let bytes: Vec<u8> = vec![in alloc; 7; size as usize]?;
+        let mut written = Text::new(alloc);
+        write_answer(
+            alloc,
+            &SyncAnswer::Chunk(text(alloc, &bytes)?),
+            &mut written,
+        )?;
+        let mut chunk = Text::from_slice(alloc, &chunk_header(size))?;
+        chunk.push_slice(&bytes)?;
+        assert_eq!(rt; chunk.as_slice(), written.as_slice(), "of {size} bytes");
+        assert_eq!(rt; chunk_header(size), header, "of {size} bytes");
+    }
     Ok(())
 }
 
