@@ -1,14 +1,14 @@
 -- No file is a directory, also once a file is put or removed.
-use Rattle.std.specs.Prelude.{ℕ, ◌+◌, ◌≡◌, ◌<◌, ◌≤◌, ◌&&◌, ◌||◌, cond, Bool, true, false, List, [], ◌∷◌, ◌++◌, length, filter, All, codes, bytes_eq, nat_eq, refl}
-use Rattle.std.proofs.Common.{◌∙◌, ap, sym, arith}
+use Rattle.std.specs.Prelude.{ℕ, ◌≡◌, ◌&&◌, ◌||◌, cond, Bool, true, false, List, [], ◌∷◌, ◌++◌, filter, All, codes, bytes_eq, nat_eq, refl}
+use Rattle.std.proofs.Common.{◌∙◌, ap, arith}
 use Rattle.std.specs.Ordering.{is_lt}
 use Rattle.std.specs.List.{AllByRecursion, list_any, starts_with}
 use Rattle.std.proofs.lemmas.List.Elements.{All-from_recursion, recursion_from_All, All-append, All-cons, All-filter}
 use Rattle.std.proofs.lemmas.List.Folds.{list_any-append}
 use Rattle.adb_files.specs.declared.file.File.{File}
 use Rattle.adb_files.specs.Entries.{Entry}
-use Rattle.adb_files.specs.Paths.{path_cmp, is_path, slash_behind, inside, is_below}
-use Rattle.adb_files.specs.Files.{before, behind, with_file, without, is_directory, is_under_file, IsFileMap}
+use Rattle.adb_files.specs.Paths.{path_cmp, is_path, is_below}
+use Rattle.adb_files.specs.Files.{before, behind, with_file, without, is_directory, is_under_file}
 use Rattle.adb_files.proofs.Below.{slash_there}
 use Rattle.adb_files.proofs.Rising.{entry_of}
 

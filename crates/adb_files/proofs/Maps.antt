@@ -1,12 +1,12 @@
 -- A file map stays one when a file is put or removed.
-use Rattle.std.specs.Prelude.{ℕ, ◌+◌, ◌^◌, ◌≡◌, ◌<◌, ◌≤◌, true, false, List, [], length}
+use Rattle.std.specs.Prelude.{ℕ, ◌^◌, ◌≡◌, ◌<◌, ◌≤◌, true, false, List, [], length}
 use Rattle.std.proofs.Common.{arith}
 use Rattle.std.specs.List.Sorted.{IsStrictlySortedBy}
 use Rattle.std.proofs.lemmas.List.Elements.{All-nil}
 use Rattle.adb_files.specs.declared.file.File.{File}
 use Rattle.adb_files.specs.Entries.{Entry}
 use Rattle.adb_files.specs.Paths.{is_path}
-use Rattle.adb_files.specs.Files.{with_file, without, total, most_bytes, is_directory, is_under_file, IsFileMap}
+use Rattle.adb_files.specs.Files.{with_file, without, total, is_directory, IsFileMap}
 use Rattle.adb_files.proofs.Rising.{rising-with, rising-without, all-with, all-without, total-with}
 use Rattle.adb_files.proofs.Directories.{plain-with, plain-without}
 use Rattle.adb_files.proofs.Lookups.{Granted}

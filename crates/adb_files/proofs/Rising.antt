@@ -1,16 +1,16 @@
 -- Files keep their order, their number of bytes and what holds of each when one is put or removed.
-use Rattle.std.specs.Prelude.{ℕ, ◌+◌, ◌^◌, ◌≡◌, ◌<◌, ◌≤◌, cond, Bool, true, false, List, [], ◌∷◌, ◌++◌, length, map, filter, All, refl}
+use Rattle.std.specs.Prelude.{ℕ, ◌+◌, ◌≡◌, cond, Bool, true, false, List, [], ◌∷◌, ◌++◌, length, map, filter, All, refl}
 use Rattle.std.proofs.Common.{arith, Ordering}
 use Rattle.std.specs.Ordering.{is_lt}
 use Rattle.std.specs.declared.cmp.Ordering.TheVariants.{Less, Equal, Greater}
 use Rattle.std.specs.List.{AllByRecursion}
 use Rattle.std.specs.List.Sorted.{IsStrictlySortedBy}
 use Rattle.std.proofs.lemmas.Cmp.{nat_list_cmp_total}
-use Rattle.std.proofs.lemmas.List.Elements.{All-nil, All-append, All-cons, All-filter}
+use Rattle.std.proofs.lemmas.List.Elements.{All-append, All-cons, All-filter}
 use Rattle.std.proofs.lemmas.List.Sums.{sum_by-append, sum_by-cons}
 use Rattle.adb_files.specs.declared.file.File.{File}
 use Rattle.adb_files.specs.Entries.{Entry}
-use Rattle.adb_files.specs.Paths.{path_cmp, is_path}
+use Rattle.adb_files.specs.Paths.{path_cmp}
 use Rattle.adb_files.specs.Files.{before, behind, with_file, without, total, IsRising}
 
 -- a file as an entry of the map

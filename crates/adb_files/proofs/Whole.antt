@@ -1,5 +1,5 @@
 -- All the bytes that a service was fed, where nobody else changes the files between its feeds.
-use Rattle.std.specs.Prelude.{ℕ, ◌≡◌, ◌≤◌, Bool, true, false, List, [], ◌∷◌, ◌++◌, length, take, drop, Option, Some, None, Result, Ok, Err, OnErr, refl}
+use Rattle.std.specs.Prelude.{ℕ, ◌≡◌, Bool, true, false, List, [], ◌++◌, length, take, drop, Option, Some, None, Result, Ok, Err, OnErr, refl}
 use Rattle.std.proofs.Common.{◌∙◌, ◌⊎◌, inl, inr, ap, sym, subst, arith}
 use Rattle.std.proofs.lemmas.Bool.{true≢false}
 use Rattle.std.proofs.lemmas.List.{append-nil, append_assoc, take-append-drop}
@@ -11,10 +11,10 @@ use Rattle.adb_sync.specs.declared.error.SyncError.{SyncError}
 use Rattle.adb_sync.specs.Asks.{ask_front, ask_of, past_ask, asks_start, asks_from, asks_in, ask_fault_in}
 use Rattle.adb_sync.specs.Framed.{asks_are_framed}
 use Rattle.adb_files.specs.Entries.{Entry}
-use Rattle.adb_files.specs.Requests.{OpenSend, Request, requests_of, open_after, fault_request, requests_in}
-use Rattle.adb_files.specs.Served.{Served, serve_all, served}
+use Rattle.adb_files.specs.Requests.{Request, requests_of, open_after, fault_request, requests_in}
+use Rattle.adb_files.specs.Served.{serve_all}
 use Rattle.adb_files.specs.Service.{Service, StandsFor, Serves, ServesFront, Feeds, FeedsFront, HasServed}
-use Rattle.adb_files.proofs.Serving.{requests_of-append, serve_all-more, serve_all-ended, serves_more, serves_ended, front_more}
+use Rattle.adb_files.proofs.Serving.{requests_of-append, serves_more, serves_ended, front_more}
 
 -- more bytes have the requests of those before, and further ones
 pub record Grows (fed piece : List ℕ) : Type 0 where

@@ -1,7 +1,7 @@
 -- Worked exchanges with a sync service, computed from the definitions.
 use Rattle.std.specs.Prelude.{ℕ, ◌≡◌, true, false, List, [], ◌∷◌, ◌++◌, codes, refl}
 use Rattle.adb_files.specs.Entries.{Entry}
-use Rattle.adb_files.specs.Served.{Served, served}
+use Rattle.adb_files.specs.Served.{served}
 
 abbrev number : ℕ → List ℕ
 number n = n ∷ 0 ∷ 0 ∷ 0 ∷ []

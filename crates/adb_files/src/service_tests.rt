@@ -37,17 +37,20 @@ fn drain(service: &mut SyncService, answer: &mut Text) -> Result<(), AllocError>
     }
 }
 
+/// Adds a chunk, as either side spells it.
+fn spell_chunk(chunk: &[u8], text: &mut Text) -> Result<(), AllocError> {
+    text.push_slice(b"DATA")?;
+    text.push_slice(&chunk.len().to_le_bytes()[..4])?;
+    text.push_slice(chunk)
+}
+
 /// The request that pushes `/n`, and what a service answers to it and to a pull of it.
 fn push_and_pull(alloc: Global, bytes: &[u8]) -> Result<(Text, Text), AllocError> {
     let mut asked = Text::from_slice(alloc, b"SEND\x06\0\0\0/n,420")?;
     let mut answer = Text::from_slice(alloc, b"OKAY\0\0\0\0")?;
     for chunk in bytes.chunks(65_536) {
-        let size = (chunk.len() as u32).to_le_bytes();
-        for text in [&mut asked, &mut answer] {
-            text.push_slice(b"DATA")?;
-            text.push_slice(&size)?;
-            text.push_slice(chunk)?;
-        }
+        spell_chunk(chunk, &mut asked)?;
+        spell_chunk(chunk, &mut answer)?;
     }
     asked.push_slice(b"DONE\x05\0\0\0RECV\x02\0\0\0/n")?;
     answer.push_slice(b"DONE\0\0\0\0")?;
