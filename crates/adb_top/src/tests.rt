@@ -313,43 +313,53 @@ fn wrong_words(rt: HostRuntime) -> Result<(), Fail> {
 fn failing_source_and_sink(rt: HostRuntime) -> Result<(), Fail> {
     let alloc = rt.alloc();
     let words = [String::from_str(alloc, "replay")?];
-    let read = Faults {
-        reads: &[2],
-        writes: &[],
-        notes: &[],
+    let reads = |calls| Faults {
+        reads: calls,
+        ..NONE
     };
-    runs(
-        &rt,
-        alloc,
-        &words,
-        VERSION_ASKED,
-        &read,
-        (Status::ReadFault, b"", b"adbhub: read fault\n"),
-    )?;
-    let write = Faults {
-        reads: &[],
-        writes: &[1],
-        notes: &[],
+    let writes = |calls| Faults {
+        writes: calls,
+        ..NONE
     };
-    runs(
-        &rt,
-        alloc,
-        &words,
-        VERSION_ASKED,
-        &write,
-        (Status::WriteFault, b"", b"adbhub: write fault\n"),
-    )?;
-    let note = Faults {
+    let cases: [(Faults, Status, &[u8]); 5] = [
+        (reads(&[2]), Status::ReadFault, b""),
+        (reads(&[5]), Status::ReadFault, &VERSION_ASKED[..17]),
+        (writes(&[1]), Status::WriteFault, b""),
+        (writes(&[3]), Status::WriteFault, &VERSION_ASKED[..17]),
+        (writes(&[4]), Status::WriteFault, &VERSION_ASKED[..26]),
+    ];
+    for (faults, status, history) in cases {
+        let line: &[u8] = match status {
+            Status::ReadFault => b"adbhub: read fault\n",
+            _ => b"adbhub: write fault\n",
+        };
+        runs(
+            &rt,
+            alloc,
+            &words,
+            VERSION_ASKED,
+            &faults,
+            (status, history, line),
+        )?;
+    }
+    Ok(())
+}
+
+#[test]
+fn failing_note(rt: HostRuntime) -> Result<(), Fail> {
+    let alloc = rt.alloc();
+    let words = [String::from_str(alloc, "replay")?];
+    let faults = Faults {
         reads: &[2],
-        writes: &[],
         notes: &[1],
+        ..NONE
     };
     runs(
         &rt,
         alloc,
         &words,
         VERSION_ASKED,
-        &note,
+        &faults,
         (Status::WriteFault, b"", b"adbhub: write fault\n"),
     )
 }
