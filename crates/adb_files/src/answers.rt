@@ -65,15 +65,10 @@ pub fn answer_stat(files: &Files, path: &[u8], out: &mut Outbox) -> Result<(), A
 }
 
 /// Adds the answer of a LIST.
-pub fn answer_list(
-    alloc: Global,
-    files: &Files,
-    path: &[u8],
-    out: &mut Outbox,
-) -> Result<(), AllocError>
+pub fn answer_list(files: &Files, path: &[u8], out: &mut Outbox) -> Result<(), AllocError>
     ensures { OnOk result (out.new ≡ out.old ++ list_bytes (listing path.now files.now)) }
 {
-    for entry in files.list(alloc, path)? {
+    for entry in files.list(path)? {
         out.push(&SyncAnswer::Dent {
             mode: entry.mode,
             size: entry.size,

@@ -29,6 +29,7 @@ pub const MOST_BYTES: usize = 268_435_456;
 /// rising order of the bytes of their paths. A directory is `/`, or a proper leading path of a file.
 #[derive(Drop)]
 pub struct Files {
+    alloc: Global,
     slots: Vec<Slot>,
     used: usize,
 }
@@ -51,6 +52,7 @@ impl Files {
         ensures { result ≡ [] }
     {
         Files {
+            alloc,
             slots: Vec::new(alloc),
             used: 0,
         }
@@ -70,7 +72,7 @@ impl Files {
     /// Puts a file at the path, in the place of the one that is there. The refusals are looked for in
     /// this order: `BadPath`, `IsDirectory`, `NotDirectory`, `NoSpace`. After an error the files are as
     /// before, and the new one is dropped.
-    pub fn put(&mut self, alloc: Global, path: &[u8], file: File) -> Result<(), FileError>
+    pub fn put(&mut self, path: &[u8], file: File) -> Result<(), FileError>
         requires { length path.now < 2 ^ 32 }
         ensures ok { OnOk result (ChangesAt path.now (Some file) self.old self.new) }
         ensures list { OnOk result (self.new ≡ with_file path.now file self.old) }
@@ -86,7 +88,7 @@ impl Files {
             return Err(refusal);
         }
         let used = self.used_without(path) + size;
-        store(alloc, &mut self.slots, path, file)?;
+        store(self.alloc, &mut self.slots, path, file)?;
         self.used = used;
         Ok(())
     }
@@ -136,15 +138,15 @@ impl Files {
     /// The entries of a directory, the directories in it among them, in the order of the bytes of
     /// their names. A directory has the mode 16,877, no bytes and the time 0. Of a bad path, a file or
     /// nothing there are none.
-    pub fn list(&self, alloc: Global, path: &[u8]) -> Result<Vec<Dirent>, AllocError>
+    pub fn list(&self, path: &[u8]) -> Result<Vec<Dirent>, AllocError>
         ensures list { IfOk result (λ entries. entries.items ≡ listing path.now self.now) }
         ensures names { All (λ entry. length entry.name < 2 ^ 32) (listing path.now self.now) }
     {
-        let mut entries = Vec::new(alloc);
+        let mut entries = Vec::new(self.alloc);
         if !is_path(path) {
             return Ok(entries);
         }
-        for (name, stat) in shown_in(alloc, self.slots.as_slice(), path)? {
+        for (name, stat) in shown_in(self.alloc, self.slots.as_slice(), path)? {
             entries.push(dirent_of(name, stat))?;
         }
         Ok(entries)

@@ -69,8 +69,8 @@ fn file_of(bytes: Text) -> File {
 /// The files `/a`, which is empty, and `/d/f` with two bytes, both of the time 1.
 fn two_files(alloc: Global) -> Result<Files, Fail> {
     let mut files = Files::new(alloc);
-    files.put(alloc, b"/a", file_of(Text::new(alloc)))?;
-    files.put(alloc, b"/d/f", file_of(Text::from_slice(alloc, b"hi")?))?;
+    files.put(b"/a", file_of(Text::new(alloc)))?;
+    files.put(b"/d/f", file_of(Text::from_slice(alloc, b"hi")?))?;
     Ok(files)
 }
 
@@ -175,7 +175,7 @@ fn pulls_what_was_there_when_it_was_asked(rt: HostRuntime) -> Result<(), Fail> {
     let mut files = two_files(alloc)?;
     let mut service = SyncService::new(alloc);
     service.feed(&mut files, b"RECV\x04\0\0\0/d/f")?;
-    files.put(alloc, b"/d/f", file_of(Text::from_slice(alloc, b"other")?))?;
+    files.put(b"/d/f", file_of(Text::from_slice(alloc, b"other")?))?;
     let mut answer = Text::new(alloc);
     drain(&mut service, &mut answer)?;
     assert!(rt; answer.as_slice() == b"DATA\x02\0\0\0hiDONE\0\0\0\0".as_slice());
@@ -187,7 +187,7 @@ fn a_push_past_the_limit_has_no_space(rt: HostRuntime) -> Result<(), Fail> {
     let alloc = rt.alloc();
     let mut files = Files::new(alloc);
     let most = Text::from_vec(vec![in alloc; 0; MOST_BYTES - 1]?);
-    files.put(alloc, b"/most", file_of(most))?;
+    files.put(b"/most", file_of(most))?;
     let cases: [(&[u8], &[u8]); 4] = [
         (
             b"SEND\x06\0\0\0/n,420DATA\x02\0\0\0xyDONE\0\0\0\0",

@@ -89,7 +89,7 @@ fn serve_send(
         mtime,
         bytes: sending.bytes,
     };
-    if files.put(alloc, sending.path.as_slice(), file).is_err() {
+    if files.put(sending.path.as_slice(), file).is_err() {
         return Err(AllocError);
     }
     out.push(&SyncAnswer::Okay)
@@ -134,7 +134,7 @@ impl Session {
         let alloc = self.alloc;
         match ask {
             SyncAsk::Stat(path) => answer_stat(files, path.as_slice(), &mut self.out),
-            SyncAsk::List(path) => answer_list(alloc, files, path.as_slice(), &mut self.out),
+            SyncAsk::List(path) => answer_list(files, path.as_slice(), &mut self.out),
             SyncAsk::Recv(path) => answer_recv(alloc, files, path.as_slice(), &mut self.out),
             SyncAsk::Send { path, mode } => {
                 self.sending = Some(Sending::new(alloc, path, mode));

@@ -23,7 +23,7 @@ fn files_at(alloc: Global, paths: &[&[u8]]) -> Result<Files, FileError> {
     let mut files = Files::new(alloc);
     for path in paths {
         if path.len() <= 100 {
-            files.put(alloc, path, file_of(alloc, b"x")?)?;
+            files.put(path, file_of(alloc, b"x")?)?;
         }
     }
     Ok(files)
@@ -54,7 +54,7 @@ fn puts_are_refused(rt: HostRuntime) -> Result<(), Fail> {
     for (path, answer) in cases {
         if path.len() <= 100 {
             assert_eq!(rt;
-                files.put(alloc, path, file_of(alloc, b"new")?),
+                files.put(path, file_of(alloc, b"new")?),
                 answer,
                 "at {path:?}"
             );
@@ -65,7 +65,7 @@ fn puts_are_refused(rt: HostRuntime) -> Result<(), Fail> {
         mtime: 1,
         bytes: Text::from_vec(vec![in alloc; 0; TOO_MANY_BYTES]?),
     };
-    assert_eq!(rt; files.put(alloc, b"/a", large), Err(FileError::NoSpace));
+    assert_eq!(rt; files.put(b"/a", large), Err(FileError::NoSpace));
     Ok(())
 }
 
@@ -123,7 +123,7 @@ fn lists_go_by_names(rt: HostRuntime) -> Result<(), Fail> {
         (b"a-b", 33_188, 1, 1),
         (b"b", 33_188, 1, 1),
     ];
-    let listed = files.list(alloc, b"/")?;
+    let listed = files.list(b"/")?;
     assert_eq!(rt; listed.len(), 3);
     for (entry, (name, mode, size, mtime)) in listed.iter().zip(&root) {
         assert!(rt;
@@ -139,7 +139,7 @@ fn lists_go_by_names(rt: HostRuntime) -> Result<(), Fail> {
         (b"/a/".as_slice(), 0),
         (b"".as_slice(), 0),
     ] {
-        assert_eq!(rt; files.list(alloc, path)?.len(), count, "of {path:?}");
+        assert_eq!(rt; files.list(path)?.len(), count, "of {path:?}");
     }
     Ok(())
 }

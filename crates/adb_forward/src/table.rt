@@ -21,6 +21,7 @@ const MAX_REMOTE: usize = 512;
 /// its row, in rising port.
 #[derive(Drop)]
 pub struct Forwards {
+    alloc: Global,
     rows: BTreeMap<u16, ForwardRow>,
 }
 
@@ -43,6 +44,7 @@ impl Forwards {
         ensures { result ≡ [] }
     {
         Forwards {
+            alloc,
             rows: BTreeMap::new(alloc),
         }
     }
@@ -54,7 +56,6 @@ impl Forwards {
     /// error the table is as before.
     pub fn put(
         &mut self,
-        alloc: Global,
         local: u16,
         transport: u32,
         serial: &[u8],
@@ -93,8 +94,8 @@ impl Forwards {
         let row = ForwardRow {
             local,
             transport,
-            serial: Text::from_slice(alloc, serial)?,
-            remote: Text::from_slice(alloc, remote)?,
+            serial: Text::from_slice(self.alloc, serial)?,
+            remote: Text::from_slice(self.alloc, remote)?,
         };
         self.rows.insert(local, row)?;
         Ok(())
@@ -141,11 +142,11 @@ impl Forwards {
     }
 
     /// A line `<serial> tcp:<local> <remote>` for each row, each with its newline, in rising port.
-    pub fn list(&self, alloc: Global) -> Result<Text, AllocError>
+    pub fn list(&self) -> Result<Text, AllocError>
         ensures text { IfOk result (λ text. text ≡ forward_list self.now) }
         ensures table { IsForwardTable self.now }
     {
-        let mut text = Text::new(alloc);
+        let mut text = Text::new(self.alloc);
         for row in self.rows.values() {
             push_line(&mut text, row)?;
         }

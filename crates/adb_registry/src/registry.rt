@@ -42,6 +42,7 @@ pub enum AttachError {
 /// never used again. Contracts see how many were drawn, and the rows in rising id.
 #[derive(Drop)]
 pub struct Registry {
+    alloc: Global,
     drawn: u32,
     rows: BTreeMap<u32, Row>,
 }
@@ -79,6 +80,7 @@ impl Registry {
         ensures rows { result.rows ≡ [] }
     {
         Registry {
+            alloc,
             drawn: 0,
             rows: BTreeMap::new(alloc),
         }
@@ -88,7 +90,7 @@ impl Registry {
     /// devices may have the same serial. `Numbers` comes exactly where 2^32 - 1 ids were drawn, else
     /// `Full` exactly where 128 devices are plugged in, else `BadSerial` exactly where the serial is
     /// not 1 to 64 bytes of 0x21 to 0x7e. After an error the registry is as before.
-    pub fn attach(&mut self, alloc: Global, kind: Kind, serial: &[u8]) -> Result<u32, AttachError>
+    pub fn attach(&mut self, kind: Kind, serial: &[u8]) -> Result<u32, AttachError>
         ensures refused { MatchOption (attach_refusal self.old serial.now)
             (IsOkUnless result AttachError.OutOfMemory) (λ refusal. result ≡ Err refusal) }
         ensures id { IfOk result (λ id. (id ≡ self.old.drawn + 1) × (self.new.drawn ≡ id)) }
@@ -107,7 +109,7 @@ impl Registry {
             return Err(AttachError::BadSerial);
         }
         let id = self.drawn + 1;
-        let row = Row::new(alloc, id, kind, serial)?;
+        let row = Row::new(self.alloc, id, kind, serial)?;
         self.rows.insert(id, row)?;
         self.drawn = id;
         Ok(id)
@@ -173,19 +175,19 @@ impl Registry {
     }
 
     /// The list that `host:devices` gives (SERVICES.TXT): a line for each device, in rising id.
-    pub fn short_list(&self, alloc: Global) -> Result<Text, AllocError>
+    pub fn short_list(&self) -> Result<Text, AllocError>
         ensures lines { IfOk result (λ list. list ≡ short_list (values_of self.now.rows)) }
         ensures fits { IfOk result (λ list. length list < 2 ^ 16) }
     {
-        lists::short(alloc, &self.rows)
+        lists::short(self.alloc, &self.rows)
     }
 
     /// The list that `host:devices-l` gives (SERVICES.TXT): a line for each device, in rising id.
-    pub fn long_list(&self, alloc: Global) -> Result<Text, AllocError>
+    pub fn long_list(&self) -> Result<Text, AllocError>
         ensures lines { IfOk result (λ list. list ≡ long_list (values_of self.now.rows)) }
         ensures fits { IfOk result (λ list. length list < 2 ^ 16) }
     {
-        lists::long(alloc, &self.rows)
+        lists::long(self.alloc, &self.rows)
     }
 }
 
@@ -194,6 +196,7 @@ impl Registry {
     /// A registry that has drawn all ids.
     pub(crate) fn exhausted(alloc: Global) -> Registry {
         Registry {
+            alloc,
             drawn: u32::MAX,
             rows: BTreeMap::new(alloc),
         }

@@ -30,15 +30,10 @@ fn identity(
 }
 
 /// Attaches a device that says who it is.
-fn plug(
-    registry: &mut Registry,
-    alloc: Global,
-    serial: &[u8],
-    identity: Identity,
-) -> Result<u32, AttachError>
+fn plug(registry: &mut Registry, serial: &[u8], identity: Identity) -> Result<u32, AttachError>
     requires { length identity.features ≤ 32768 }
 {
-    let id = registry.attach(alloc, Kind::Usb, serial)?;
+    let id = registry.attach(Kind::Usb, serial)?;
     registry.online(id, identity, 0x0100_0001, 4096);
     Ok(id)
 }
@@ -47,15 +42,10 @@ fn plug(
 fn one_device_listed(rt: HostRuntime) -> Result<(), Fail> {
     let alloc = rt.alloc();
     let mut registry = Registry::new(alloc);
-    plug(
-        &mut registry,
-        alloc,
-        b"emu1",
-        identity(alloc, b"", b"Pix 3", b"")?,
-    )?;
-    let short = registry.short_list(alloc)?;
+    plug(&mut registry, b"emu1", identity(alloc, b"", b"Pix 3", b"")?)?;
+    let short = registry.short_list()?;
     assert_eq!(rt; short.as_slice(), b"emu1\tdevice\n".as_slice());
-    let long = registry.long_list(alloc)?;
+    let long = registry.long_list()?;
     let line = b"emu1                   device model:Pix_3 transport_id:1\n";
     assert_eq!(rt; long.as_slice(), line.as_slice());
     Ok(())
@@ -65,16 +55,15 @@ fn one_device_listed(rt: HostRuntime) -> Result<(), Fail> {
 fn long_list_line(rt: HostRuntime) -> Result<(), Fail> {
     let alloc = rt.alloc();
     let mut registry = Registry::new(alloc);
-    registry.attach(alloc, Kind::Local, b"serial-of-22-bytes-abc")?;
-    registry.attach(alloc, Kind::Local, b"serial-of-23-bytes-abcd")?;
+    registry.attach(Kind::Local, b"serial-of-22-bytes-abc")?;
+    registry.attach(Kind::Local, b"serial-of-23-bytes-abcd")?;
     let value = [b'p'; 65];
     plug(
         &mut registry,
-        alloc,
         b"emu1",
         identity(alloc, b"a b~\x7f", &value, b"c:d\xff")?,
     )?;
-    let long = registry.long_list(alloc)?;
+    let long = registry.long_list()?;
     let lines = b"serial-of-22-bytes-abc offline transport_id:1\n\
         serial-of-23-bytes-abcd offline transport_id:2\n\
         emu1                   device product:a_b~_ \
@@ -88,10 +77,10 @@ fn long_list_line(rt: HostRuntime) -> Result<(), Fail> {
 fn equal_serials_stand_beside_each_other(rt: HostRuntime) -> Result<(), Fail> {
     let alloc = rt.alloc();
     let mut registry = Registry::new(alloc);
-    assert_eq!(rt; registry.attach(alloc, Kind::Usb, b"emu1"), Ok(1));
-    assert_eq!(rt; registry.attach(alloc, Kind::Local, b"emu1"), Ok(2));
+    assert_eq!(rt; registry.attach(Kind::Usb, b"emu1"), Ok(1));
+    assert_eq!(rt; registry.attach(Kind::Local, b"emu1"), Ok(2));
     registry.unauthorized(2);
-    let short = registry.short_list(alloc)?;
+    let short = registry.short_list()?;
     assert_eq!(rt;
         short.as_slice(),
         b"emu1\toffline\nemu1\tunauthorized\n".as_slice()
@@ -111,24 +100,18 @@ fn attach_refuses(rt: HostRuntime) -> Result<(), Fail> {
     let long = [b'!'; 65];
     for serial in [b"".as_slice(), b"a b", b"a\x7f", b"\x20", &long] {
         assert_eq!(rt;
-            registry.attach(alloc, Kind::Usb, serial),
+            registry.attach(Kind::Usb, serial),
             Err(AttachError::BadSerial)
         );
     }
     for id in 1..129 {
-        assert_eq!(rt; registry.attach(alloc, Kind::Usb, &long[..64]), Ok(id));
+        assert_eq!(rt; registry.attach(Kind::Usb, &long[..64]), Ok(id));
     }
-    assert_eq!(rt;
-        registry.attach(alloc, Kind::Usb, b"a b"),
-        Err(AttachError::Full)
-    );
+    assert_eq!(rt; registry.attach(Kind::Usb, b"a b"), Err(AttachError::Full));
     assert!(rt; registry.detach(5));
-    assert_eq!(rt; registry.attach(alloc, Kind::Usb, b"~"), Ok(129));
+    assert_eq!(rt; registry.attach(Kind::Usb, b"~"), Ok(129));
     let mut exhausted = Registry::exhausted(alloc);
-    assert_eq!(rt;
-        exhausted.attach(alloc, Kind::Usb, b""),
-        Err(AttachError::Numbers)
-    );
+    assert_eq!(rt; exhausted.attach(Kind::Usb, b""), Err(AttachError::Numbers));
     Ok(())
 }
 
@@ -146,14 +129,9 @@ fn choice_among_none_and_several(rt: HostRuntime) -> Result<(), Fail> {
     for (by, refusal) in &none {
         assert_eq!(rt; registry.choose(by, true), Err(*refusal));
     }
-    plug(
-        &mut registry,
-        alloc,
-        b"emu1",
-        identity(alloc, b"", b"", b"")?,
-    )?;
+    plug(&mut registry, b"emu1", identity(alloc, b"", b"", b"")?)?;
     for kind in [Kind::Usb, Kind::Local, Kind::Local] {
-        registry.attach(alloc, kind, b"emu1")?;
+        registry.attach(kind, b"emu1")?;
     }
     let several = [
         (Selector::Any, Refusal::ManyAny),
@@ -175,7 +153,7 @@ fn choice_among_none_and_several(rt: HostRuntime) -> Result<(), Fail> {
 fn unauthorized_device(rt: HostRuntime) -> Result<(), Fail> {
     let alloc = rt.alloc();
     let mut registry = Registry::new(alloc);
-    let id = registry.attach(alloc, Kind::Usb, b"emu1")?;
+    let id = registry.attach(Kind::Usb, b"emu1")?;
     registry.unauthorized(id);
     let by = Selector::Serial(text(alloc, b"emu1")?);
     for by in [&Selector::Any, &Selector::Usb, &by, &Selector::Id(1)] {
