@@ -61,8 +61,8 @@ impl SyncService {
         ensures ok { OnOk result ((self.old.spent ≡ false) × (self.new.spent ≡ false)) }
         ensures served { OnOk result (self.old.ended ≡ false → (fed : List ℕ)
             → StandsFor fed self.old → Feeds fed piece.now self.old self.new files.old files.new) }
-        ensures dropped { OnOk result (self.old.ended ≡ true
-            → (self.new ≡ self.old) × (files.new ≡ files.old)) }
+        ensures dropped { self.old.spent ≡ false → self.old.ended ≡ true
+            → (result ≡ Ok tt) × (self.new ≡ self.old) × (files.new ≡ files.old) }
         ensures err { OnErr result (self.new.spent ≡ true) }
         ensures front { OnErr result (self.old.ended ≡ false → (fed : List ℕ)
             → StandsFor fed self.old
