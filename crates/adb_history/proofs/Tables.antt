@@ -23,48 +23,48 @@ at_other : (q n : ℕ) → q ≢ n → is_eq (nat_cmp q n) ≡ false
 at_other q n h = grind (arith, nat_tests)
 
 -- a number below the first is not listed
-listed_below : {X : Type 0} (rows : ℕ → Option X) (first k q : ℕ) → q < first → lookup (is_at (nat_cmp q)) (listed rows first k) ≡ None
-listed_below rows first zero q h = refl
-listed_below {X} rows first (suc k) q h = go (rows first) (listed_below rows (suc first) k q (omega arith))
+listed_below : {X : Type 0} (row_of : ℕ → Option X) (first k q : ℕ) → q < first → lookup (is_at (nat_cmp q)) (listed row_of first k) ≡ None
+listed_below row_of first zero q h = refl
+listed_below {X} row_of first (suc k) q h = go (row_of first) (listed_below row_of (suc first) k q (omega arith))
   where
-    go : (o : Option X) → lookup (is_at (nat_cmp q)) (listed rows (suc first) k) ≡ None → lookup (is_at (nat_cmp q)) (listed_at first o (listed rows (suc first) k)) ≡ None
+    go : (o : Option X) → lookup (is_at (nat_cmp q)) (listed row_of (suc first) k) ≡ None → lookup (is_at (nat_cmp q)) (listed_at first o (listed row_of (suc first) k)) ≡ None
     go None e = e
     go (Some x) e = rw (at_other q first (λ same. omega arith)) e
 
 -- each other number has its row
-listed_at_or_above : {X : Type 0} (rows : ℕ → Option X) (first k q : ℕ) → ((m : ℕ) → first + k ≤ m → rows m ≡ None) → first ≤ q → lookup (is_at (nat_cmp q)) (listed rows first k) ≡ rows q
-listed_at_or_above rows first zero q none h = sym (none q (omega arith))
-listed_at_or_above {X} rows first (suc k) q none h =
-    go (cases_eq q first) (rows first) refl (λ above. listed_at_or_above rows (suc first) k q (λ m le. none m (omega arith)) above)
+listed_at_or_above : {X : Type 0} (row_of : ℕ → Option X) (first k q : ℕ) → ((m : ℕ) → first + k ≤ m → row_of m ≡ None) → first ≤ q → lookup (is_at (nat_cmp q)) (listed row_of first k) ≡ row_of q
+listed_at_or_above row_of first zero q none h = sym (none q (omega arith))
+listed_at_or_above {X} row_of first (suc k) q none h =
+    go (cases_eq q first) (row_of first) refl (λ above. listed_at_or_above row_of (suc first) k q (λ m le. none m (omega arith)) above)
   where
-    go : (q ≡ first) ⊎ (q ≡ first → ⊥) → (o : Option X) → rows first ≡ o → (suc first ≤ q → lookup (is_at (nat_cmp q)) (listed rows (suc first) k) ≡ rows q) → lookup (is_at (nat_cmp q)) (listed_at first o (listed rows (suc first) k)) ≡ rows q
-    go (inl same) None is up = listed_below rows (suc first) k q (omega arith) ∙ (sym is ∙ ap rows (sym same))
-    go (inl same) (Some x) is up = subst (λ (n : ℕ). cond (is_eq (nat_cmp q n)) (Some x) (lookup (is_at (nat_cmp q)) (listed rows (suc first) k)) ≡ rows q) same (rw (at_same q) (sym is ∙ ap rows (sym same)))
+    go : (q ≡ first) ⊎ (q ≡ first → ⊥) → (o : Option X) → row_of first ≡ o → (suc first ≤ q → lookup (is_at (nat_cmp q)) (listed row_of (suc first) k) ≡ row_of q) → lookup (is_at (nat_cmp q)) (listed_at first o (listed row_of (suc first) k)) ≡ row_of q
+    go (inl same) None is up = listed_below row_of (suc first) k q (omega arith) ∙ (sym is ∙ ap row_of (sym same))
+    go (inl same) (Some x) is up = subst (λ (n : ℕ). cond (is_eq (nat_cmp q n)) (Some x) (lookup (is_at (nat_cmp q)) (listed row_of (suc first) k)) ≡ row_of q) same (rw (at_same q) (sym is ∙ ap row_of (sym same)))
     go (inr apart) None is up = up (omega arith)
     go (inr apart) (Some x) is up = rw (at_other q first apart) (up (omega arith))
 
 -- the numbers rise
-above_all : {X : Type 0} (rows : ℕ → Option X) (n first k : ℕ) → n < first → AllByRecursion (λ y. nat_cmp n y ≡ Less) (keys_of (listed rows first k))
-above_all rows n first zero h = tt
-above_all {X} rows n first (suc k) h = go (rows first) (above_all rows n (suc first) k (omega arith))
+above_all : {X : Type 0} (row_of : ℕ → Option X) (n first k : ℕ) → n < first → AllByRecursion (λ y. nat_cmp n y ≡ Less) (keys_of (listed row_of first k))
+above_all row_of n first zero h = tt
+above_all {X} row_of n first (suc k) h = go (row_of first) (above_all row_of n (suc first) k (omega arith))
   where
-    go : (o : Option X) → AllByRecursion (λ y. nat_cmp n y ≡ Less) (keys_of (listed rows (suc first) k)) → AllByRecursion (λ y. nat_cmp n y ≡ Less) (keys_of (listed_at first o (listed rows (suc first) k)))
+    go : (o : Option X) → AllByRecursion (λ y. nat_cmp n y ≡ Less) (keys_of (listed row_of (suc first) k)) → AllByRecursion (λ y. nat_cmp n y ≡ Less) (keys_of (listed_at first o (listed row_of (suc first) k)))
     go None a = a
     go (Some x) a = (less n first h, a)
 
-pub listed_rises : {X : Type 0} (rows : ℕ → Option X) (first k : ℕ) → IsStrictlySortedBy nat_cmp (keys_of (listed rows first k))
+pub listed_rises : {X : Type 0} (row_of : ℕ → Option X) (first k : ℕ) → IsStrictlySortedBy nat_cmp (keys_of (listed row_of first k))
 unfolding IsStrictlySortedBy
-listed_rises rows first zero = tt
-listed_rises {X} rows first (suc k) = go (rows first) (listed_rises rows (suc first) k)
+listed_rises row_of first zero = tt
+listed_rises {X} row_of first (suc k) = go (row_of first) (listed_rises row_of (suc first) k)
   where
-    go : (o : Option X) → IsStrictlySortedBy nat_cmp (keys_of (listed rows (suc first) k)) → IsStrictlySortedBy nat_cmp (keys_of (listed_at first o (listed rows (suc first) k)))
+    go : (o : Option X) → IsStrictlySortedBy nat_cmp (keys_of (listed row_of (suc first) k)) → IsStrictlySortedBy nat_cmp (keys_of (listed_at first o (listed row_of (suc first) k)))
     go None s = s
-    go (Some x) s = (above_all rows first (suc first) k (omega arith), s)
+    go (Some x) s = (above_all row_of first (suc first) k (omega arith), s)
 
 -- the table's look-ups are the rows
-pub shows : {X : Type 0} (rows : ℕ → Option X) (k : ℕ) → rows 0 ≡ None → ((n : ℕ) → k < n → rows n ≡ None) → (q : ℕ) → lookup (is_at (nat_cmp q)) (listed rows 1 k) ≡ rows q
-shows rows k zeroth none zero = listed_below rows 1 k 0 (omega arith) ∙ sym zeroth
-shows rows k zeroth none (suc q) = listed_at_or_above rows 1 k (suc q) (λ m le. none m (omega arith)) (omega arith)
+pub shows : {X : Type 0} (row_of : ℕ → Option X) (k : ℕ) → row_of 0 ≡ None → ((n : ℕ) → k < n → row_of n ≡ None) → (q : ℕ) → lookup (is_at (nat_cmp q)) (listed row_of 1 k) ≡ row_of q
+shows row_of k zeroth none zero = listed_below row_of 1 k 0 (omega arith) ∙ sym zeroth
+shows row_of k zeroth none (suc q) = listed_at_or_above row_of 1 k (suc q) (λ m le. none m (omega arith)) (omega arith)
 
 -- what is below all numbers is not found
 not_below : {X : Type 0} (n : ℕ) (es : List (ℕ × X)) → AllByRecursion (λ y. nat_cmp n y ≡ Less) (keys_of es) → at n es ≡ None
@@ -116,8 +116,8 @@ module _ {X : Type 0} where
           let tail : es ≡ fs = rest (tails same) in λ i. head i ∷ tail i
 
 -- A table in rising number whose look-ups are the rows is the table of the rows.
-pub same_table : {X : Type 0} (es : List (ℕ × X)) (rows : ℕ → Option X) (k : ℕ) → IsRising es → rows 0 ≡ None → ((n : ℕ) → k < n → rows n ≡ None) → ((q : ℕ) → at q es ≡ rows q) → es ≡ listed rows 1 k
-same_table es rows k rises zeroth none gets = same_list es (listed rows 1 k) rises (listed_rises rows 1 k) (λ q. gets q ∙ sym (shows rows k zeroth none q))
+pub same_table : {X : Type 0} (es : List (ℕ × X)) (row_of : ℕ → Option X) (k : ℕ) → IsRising es → row_of 0 ≡ None → ((n : ℕ) → k < n → row_of n ≡ None) → ((q : ℕ) → at q es ≡ row_of q) → es ≡ listed row_of 1 k
+same_table es row_of k rises zeroth none gets = same_list es (listed row_of 1 k) rises (listed_rises row_of 1 k) (λ q. gets q ∙ sym (shows row_of k zeroth none q))
 
 -- what the table of a state has at a number
 pub at_kept : (s : State) → IsOrderly s → (q : ℕ) → at q (kept s).clients ≡ kept_if_live (s.clients q)
@@ -133,10 +133,10 @@ pub row_put : (s t : State) (n : ℕ) (row : Client) (new : Kept) → IsOrderly 
     → ((q : ℕ) → t.clients q ≡ cond (eqb n q) row (s.clients q)) → IsRising new.clients → new.joined ≡ t.joined
     → at n new.clients ≡ kept_if_live row → ((q : ℕ) → q ≢ n → at q new.clients ≡ at q (kept s).clients) → new ≡ kept t
 row_put s t n row new ok drawn more puts rises joined here others =
-    let rows : ℕ → Option KeptClient = λ q. kept_if_live (t.clients q) in
-    let zeroth : rows 0 ≡ None = ap kept_if_live (puts 0) ∙ (ap (λ b. kept_if_live (cond b row (s.clients 0))) (ne_eqb n 0 (λ e. omega (arith, drawn, e))) ∙ ap kept_if_live ok.none_at_zero) in
-    let above : (q : ℕ) → t.joined < q → rows q ≡ None = λ q h. ap kept_if_live (puts q) ∙ (ap (λ b. kept_if_live (cond b row (s.clients q))) (ne_eqb n q (λ e. omega (arith, drawn, e, h))) ∙ ap kept_if_live (ok.none_above q (omega (arith, h)))) in
-    let clients : new.clients ≡ listed rows 1 t.joined = same_table new.clients rows t.joined rises zeroth above (λ q. go q (eqb n q) refl ∙ sym (ap kept_if_live (puts q))) in
+    let row_of : ℕ → Option KeptClient = λ q. kept_if_live (t.clients q) in
+    let zeroth : row_of 0 ≡ None = ap kept_if_live (puts 0) ∙ (ap (λ b. kept_if_live (cond b row (s.clients 0))) (ne_eqb n 0 (λ e. omega (arith, drawn, e))) ∙ ap kept_if_live ok.none_at_zero) in
+    let above : (q : ℕ) → t.joined < q → row_of q ≡ None = λ q h. ap kept_if_live (puts q) ∙ (ap (λ b. kept_if_live (cond b row (s.clients q))) (ne_eqb n q (λ e. omega (arith, drawn, e, h))) ∙ ap kept_if_live (ok.none_above q (omega (arith, h)))) in
+    let clients : new.clients ≡ listed row_of 1 t.joined = same_table new.clients row_of t.joined rises zeroth above (λ q. go q (eqb n q) refl ∙ sym (ap kept_if_live (puts q))) in
     λ i. record { joined = joined i; clients = clients i }
   where
     go : (q : ℕ) (b : Bool) → eqb n q ≡ b → at q new.clients ≡ kept_if_live (cond (eqb n q) row (s.clients q))
