@@ -1,2 +1,3 @@
 pub mod FramingLaws
 pub mod Framers
+pub mod TableLaws
