@@ -6,3 +6,5 @@ pub mod Framing
 pub mod Memory
 pub mod Counted
 pub mod Tables
+pub mod Bytes
+pub mod Serial
