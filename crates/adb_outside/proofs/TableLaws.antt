@@ -1,6 +1,7 @@
 -- Tables in rising number: what they have, what a change leaves, and the table of some rows.
 use Rattle.std.proofs.Common.{ℕ, ◌+◌, ◌≡◌, ◌≢◌, ◌≤◌, ◌<◌, zero, suc, Bool, true, false, cond, List, [], ◌∷◌, All, get_or, Option, Some, None, Ordering}
 use Rattle.std.proofs.Common.{refl, sym, ◌∙◌, ap, subst, arith, ◌⊎◌, inl, inr}
+use Rattle.std.specs.Prelude.{IsSome, option_map}
 use Rattle.std.proofs.lemmas.Bool.{cases_eq}
 use Rattle.std.proofs.lemmas.Bool.Decides.{nat_tests}
 use Rattle.std.proofs.lemmas.Cmp.{nat_cmp_total}
@@ -17,7 +18,7 @@ use Rattle.std.specs.Ordering.{nat_cmp, is_eq, match_ordering}
 use Rattle.std.specs.declared.cmp.Ordering.TheVariants.{Less, Equal, Greater}
 use Rattle.std.specs.Map.{keys_of, values_of}
 use Rattle.std.specs.BTreeMap.{is_at}
-use Rattle.adb_outside.specs.Tables.{at, IsRising, put_at, without, set_at, Puts, Rows, listed, listed_at}
+use Rattle.adb_outside.specs.Tables.{at, IsRising, put_at, without, set_at, change_at, Puts, Rows, listed, listed_at}
 
 less : (a b : ℕ) → a < b → nat_cmp a b ≡ Less
 less a b h = grind (arith, nat_tests)
@@ -207,6 +208,14 @@ module _ {X : Type 0} (n : ℕ) where
   pub set_at_rises : (row : Option X) (table : List (ℕ × X)) → IsRising table → IsRising (set_at n row table)
   set_at_rises None table rises = without_rises table rises
   set_at_rises (Some row) table rises = put_at_rises n row table rises
+
+  -- A row that is there changes alone.
+  pub puts_change_at : (f : X → X) (table : List (ℕ × X)) → IsSome (at n table) → Puts n (option_map f (at n table)) table (change_at n f table)
+  puts_change_at f table there = go (at n table) there
+    where
+      go : (o : Option X) → IsSome o → Puts n (option_map f o) table (set_at n (option_map f o) table)
+      go None some = cc
+      go (Some row) some = puts_put_at n (f row) table
 
   -- What is changed at one number alone is the table with that there.
   pub puts_is : (row : Option X) (old new : List (ℕ × X)) → IsRising old → IsRising new → Puts n row old new → new ≡ set_at n row old
