@@ -2,6 +2,7 @@
 //! memory, and how a stream is cut into frames.
 #![tactic(auto)]
 
+mod byte_queue;
 mod framer;
 mod identity;
 mod kinds;
@@ -15,6 +16,7 @@ mod supply;
 mod tests;
 mod text;
 
+pub use byte_queue::ByteQueue;
 pub use framer::{FeedError, Format, Framer, Front};
 pub use identity::{Identity, State, state_of, state_text};
 pub use kinds::{Cause, Kind, Selector};

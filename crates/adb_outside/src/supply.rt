@@ -3,6 +3,7 @@
 ghost use Rattle.std.specs.Prelude.{◌≡◌, ◌≢◌, ◌≤◌, ◌<◌, ℕ, length, Some};
 ghost use Rattle.adb_outside.specs.Source.{FitsBuffer, TellsRead};
 
+use crate::byte_queue::ByteQueue;
 use crate::source::Got;
 use crate::text::Text;
 use std::marker::Model;
@@ -10,19 +11,18 @@ use std::marker::Model;
 /// The bytes of a text that were not given yet, of which each call gives at most so many.
 #[derive(Drop)]
 pub struct Supply {
-    bytes: Text,
-    from: usize,
+    bytes: ByteQueue,
     piece: usize,
 }
 
 impl Model for Supply {
-    ghost use Rattle.std.specs.Prelude.{◌≤◌, ◌<◌, List, ℕ, drop, length};
+    ghost use Rattle.std.specs.Prelude.{◌<◌, List, ℕ};
 
     ghost Value = { List ℕ };
 
-    ghost view = { λ s. drop s.from s.bytes };
+    ghost view = { λ s. s.bytes.bytes };
 
-    ghost invariant = { λ s. (s.from ≤ length s.bytes) × (0 < s.piece) };
+    ghost invariant = { λ s. 0 < s.piece };
 }
 
 impl Supply {
@@ -31,8 +31,7 @@ impl Supply {
         ensures { result ≡ bytes }
     {
         Supply {
-            bytes,
-            from: 0,
+            bytes: ByteQueue::from_text(bytes),
             piece,
         }
     }
@@ -44,13 +43,13 @@ impl Supply {
         ensures told { TellsRead (Some self.old) (Some self.new) into.new result }
         ensures gives { result ≢ Got.Failed }
     {
-        let rest = &self.bytes.as_slice()[self.from..];
+        let rest = self.bytes.as_slice();
         let n = rest.len().min(self.piece).min(into.len());
         if n == 0 {
             return Got::End;
         }
         into[..n].copy_from_slice(&rest[..n]);
-        self.from += n;
+        self.bytes.take(n);
         Got::Bytes(n)
     }
 }

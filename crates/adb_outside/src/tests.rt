@@ -14,9 +14,38 @@ fn texts(rt: HostRuntime) -> Result<(), Fail> {
     assert_eq!(rt; text.as_slice(), b"host:version".as_slice());
     assert_eq!(rt; text.len(), 12);
     assert!(rt; !text.is_empty());
-    let same = text.copy(alloc)?;
-    assert_eq!(rt; same.as_slice(), b"host:version".as_slice());
+    let mut same = text.copy()?;
+    same.reserve(1)?;
+    same.truncate(4);
+    assert_eq!(rt; same.as_slice(), b"host".as_slice());
     let moved = Text::from_vec(Text::from_slice(alloc, b"\x00\xff")?.into_vec());
+    assert_eq!(rt; moved.as_slice(), b"\x00\xff".as_slice());
+    Ok(())
+}
+
+#[test]
+fn a_queue_of_bytes(rt: HostRuntime) -> Result<(), Fail> {
+    let mut queue = ByteQueue::new(rt.alloc());
+    assert!(rt; queue.is_empty());
+    assert_eq!(rt; queue.spare(), 0);
+    queue.push(b"host:version")?;
+    queue.take(5);
+    queue.reserve(100)?;
+    let spare = queue.spare();
+    assert!(rt; spare >= 100);
+    if spare >= 4 {
+        queue.push_spare(b"host");
+    }
+    assert_eq!(rt; queue.as_slice(), b"versionhost".as_slice());
+    assert_eq!(rt; queue.spare(), spare.saturating_sub(4));
+    queue.give_back();
+    queue.truncate(7);
+    assert_eq!(rt; queue.as_slice(), b"version".as_slice());
+    assert_eq!(rt; queue.len(), 7);
+    queue.clear();
+    queue.give_back();
+    assert_eq!(rt; queue.spare(), 0);
+    let moved = ByteQueue::from_text(Text::from_slice(rt.alloc(), b"\x00\xff")?);
     assert_eq!(rt; moved.as_slice(), b"\x00\xff".as_slice());
     Ok(())
 }
