@@ -4,4 +4,3 @@ pub mod Sink
 pub mod Identity
 pub mod Framing
 pub mod Memory
-pub mod Counted
