@@ -3,4 +3,5 @@ pub mod Source
 pub mod Sink
 pub mod Identity
 pub mod Framing
+pub mod Queued
 pub mod Memory

@@ -2,6 +2,7 @@
 //! memory, and how a stream is cut into frames.
 #![tactic(auto)]
 
+mod byte_queue;
 mod failing;
 mod framer;
 mod identity;
@@ -15,6 +16,7 @@ mod supply;
 mod tests;
 mod text;
 
+pub use byte_queue::ByteQueue;
 pub use failing::Failing;
 pub use framer::{FeedError, Format, Framer, Front};
 pub use identity::{Identity, State, state_of, state_text};

@@ -1,24 +1,43 @@
-//! Texts, sources and sinks in memory, and states.
+//! Texts, queues, sources and sinks in memory, and states.
 
 use super::*;
 use std::alloc::{AllocError, Global};
 use std::process::Abort;
 use std::test::Fail;
 
+/// The bytes are these.
+fn is(rt: &impl Abort, bytes: &[u8], want: &[u8]) {
+    assert_eq!(rt; bytes, want);
+}
+
 #[test]
 fn texts(rt: HostRuntime) -> Result<(), Fail> {
-    let alloc = rt.alloc();
-    let mut text = Text::new(alloc);
-    assert!(rt; text.is_empty());
-    text.push_slice(b"host:")?;
-    text.push_slice(b"version")?;
-    assert_eq!(rt; text.as_slice(), b"host:version".as_slice());
-    assert_eq!(rt; text.len(), 12);
-    assert!(rt; !text.is_empty());
-    let same = text.copy(alloc)?;
-    assert_eq!(rt; same.as_slice(), b"host:version".as_slice());
-    let moved = Text::from_vec(Text::from_slice(alloc, b"\x00\xff")?.into_vec());
-    assert_eq!(rt; moved.as_slice(), b"\x00\xff".as_slice());
+    let mut text = Text::new(rt.alloc());
+    text.reserve(12)?;
+    text.push_slice(b"host:version")?;
+    let mut host = text.copy()?;
+    host.truncate(4);
+    is(&rt, host.as_slice(), b"host");
+    let moved = Text::from_vec(text.into_vec());
+    is(&rt, moved.as_slice(), b"host:version");
+    assert!(rt; moved.len() == 12 && !moved.is_empty());
+    Ok(())
+}
+
+#[test]
+fn queues(rt: HostRuntime) -> Result<(), Fail> {
+    let mut queue = ByteQueue::from_text(Text::from_slice(rt.alloc(), b"host:")?);
+    queue.take(5);
+    queue.push(b"version")?;
+    queue.reserve(4)?;
+    queue.push_spare(b"host");
+    is(&rt, queue.as_slice(), b"versionhost");
+    queue.truncate(7);
+    queue.give_back();
+    assert!(rt; queue.len() == 7 && !queue.is_empty());
+    queue.clear();
+    queue.give_back();
+    assert!(rt; queue.spare() == ByteQueue::new(rt.alloc()).spare());
     Ok(())
 }
 
@@ -27,13 +46,13 @@ fn gives(rt: &impl Abort, source: &mut impl Source, calls: &[(usize, Got, &[u8])
     for (room, got, bytes) in calls {
         let mut into = *b"........";
         let room = (*room).clamp(1, into.len());
-        assert_eq!(rt; source.read(&mut into[..room]), *got);
-        assert_eq!(rt; into.as_slice(), *bytes);
+        assert!(rt; source.read(&mut into[..room]) == *got);
+        is(rt, &into, bytes);
     }
 }
 
 #[test]
-fn sources_give_pieces(rt: HostRuntime) -> Result<(), Fail> {
+fn a_source_fails_and_gives_pieces(rt: HostRuntime) -> Result<(), Fail> {
     let text = Text::from_slice(rt.alloc(), b"shell:")?;
     let mut source = MemorySource::new(text, 3, Vec::from_slice(rt.alloc(), &[2])?);
     let calls: [(usize, Got, &[u8]); 6] = [
@@ -45,13 +64,18 @@ fn sources_give_pieces(rt: HostRuntime) -> Result<(), Fail> {
         (4, Got::End, b"........"),
     ];
     gives(&rt, &mut source, &calls);
-    let mut steady = NeverSource::new(Text::from_slice(rt.alloc(), b"sync:")?, 4);
+    Ok(())
+}
+
+#[test]
+fn a_source_never_fails(rt: HostRuntime) -> Result<(), Fail> {
+    let mut source = NeverSource::new(Text::from_slice(rt.alloc(), b"sync:")?, 4);
     let calls: [(usize, Got, &[u8]); 3] = [
         (8, Got::Bytes(4), b"sync...."),
         (8, Got::Bytes(1), b":......."),
         (8, Got::End, b"........"),
     ];
-    gives(&rt, &mut steady, &calls);
+    gives(&rt, &mut source, &calls);
     Ok(())
 }
 
@@ -59,10 +83,10 @@ fn sources_give_pieces(rt: HostRuntime) -> Result<(), Fail> {
 fn sinks_take(rt: HostRuntime) -> Result<(), Fail> {
     let mut sink = MemorySink::new(rt.alloc(), Vec::from_slice(rt.alloc(), &[2])?);
     for wrote in [Wrote::All, Wrote::Failed { taken: 0 }, Wrote::All] {
-        assert_eq!(rt; sink.write(b"OK"), wrote);
+        assert!(rt; sink.write(b"OK") == wrote);
     }
-    assert_eq!(rt; sink.bytes(), b"OKOK".as_slice());
-    assert_eq!(rt; NeverSink::new().write(b"OKAY"), Wrote::All);
+    is(&rt, sink.bytes(), b"OKOK");
+    assert!(rt; NeverSink::new().write(b"OKAY") == Wrote::All);
     Ok(())
 }
 
@@ -79,7 +103,7 @@ fn system(alloc: Global, system: &[u8]) -> Result<Identity, AllocError> {
 }
 
 #[test]
-fn states(rt: HostRuntime) -> Result<(), Fail> {
+fn systems_mean_states(rt: HostRuntime) -> Result<(), Fail> {
     let cases: [(&[u8], State); 9] = [
         (b"device", State::Device),
         (b"bootloader", State::Bootloader),
@@ -93,8 +117,13 @@ fn states(rt: HostRuntime) -> Result<(), Fail> {
     ];
     for (name, state) in cases {
         let identity = system(rt.alloc(), name)?;
-        assert_eq!(rt; state_of(&identity), state, "of {name:?}");
+        assert!(rt; state_of(&identity) == state);
     }
+    Ok(())
+}
+
+#[test]
+fn states_have_texts(rt: HostRuntime) {
     let texts: [(State, &[u8]); 8] = [
         (State::Offline, b"offline"),
         (State::Unauthorized, b"unauthorized"),
@@ -106,7 +135,6 @@ fn states(rt: HostRuntime) -> Result<(), Fail> {
         (State::Host, b"host"),
     ];
     for (state, text) in texts {
-        assert_eq!(rt; state_text(state), text, "of {state:?}");
+        is(&rt, state_text(state), text);
     }
-    Ok(())
 }
