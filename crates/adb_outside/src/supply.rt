@@ -2,6 +2,7 @@
 
 ghost use Rattle.std.specs.Prelude.{◌≡◌, ◌≢◌, ◌≤◌, ◌<◌, ℕ, length, Some};
 ghost use Rattle.adb_outside.specs.Source.{FitsBuffer, TellsRead};
+ghost use Rattle.adb_outside.specs.Memory.{GivesPiece};
 
 use crate::byte_queue::ByteQueue;
 use crate::source::Got;
@@ -16,11 +17,12 @@ pub struct Supply {
 }
 
 impl Model for Supply {
-    ghost use Rattle.std.specs.Prelude.{◌<◌, List, ℕ};
+    ghost use Rattle.std.specs.Prelude.{◌<◌};
+    ghost use Rattle.adb_outside.specs.Memory.{Supplied};
 
-    ghost Value = { List ℕ };
+    ghost Value = { Supplied };
 
-    ghost view = { λ s. s.bytes.bytes };
+    ghost view = { λ s. record { coming = s.bytes.bytes; piece = s.piece } };
 
     ghost invariant = { λ s. 0 < s.piece };
 }
@@ -28,7 +30,7 @@ impl Model for Supply {
 impl Supply {
     pub fn new(bytes: Text, piece: usize) -> Supply
         requires { 1 ≤ piece }
-        ensures { result ≡ bytes }
+        ensures { result ≡ record { coming = bytes; piece = piece } }
     {
         Supply {
             bytes: ByteQueue::from_text(bytes),
@@ -40,8 +42,10 @@ impl Supply {
     pub fn give(&mut self, into: &mut [u8]) -> Got
         requires { 0 < length into.old }
         ensures fits { FitsBuffer into.old result }
-        ensures told { TellsRead (Some self.old) (Some self.new) into.new result }
-        ensures gives { result ≢ Got.Failed }
+        ensures told { TellsRead (Some self.old.coming) (Some self.new.coming) into.new result }
+        ensures sound { result ≢ Got.Failed }
+        ensures gives { GivesPiece self.old.piece self.old.coming into.old result }
+        ensures same { self.new.piece ≡ self.old.piece }
     {
         let rest = self.bytes.as_slice();
         let n = rest.len().min(self.piece).min(into.len());
