@@ -10,7 +10,8 @@ use Rattle.adb_history.specs.Kept.{Kept, kept, IsLawful}
 use Rattle.adb_history.specs.Drained.{owed, drain_all, drained_after}
 use Rattle.adb_history.specs.Accepted.{refusal_of, read_refusal, is_drawn, is_serial, is_input}
 use Rattle.adb_history.specs.declared.refusal.Refusal.{Refusal}
-use Rattle.adb_history.specs.declared.refusal.Refusal.TheVariants.{NotDrawn, BadSerial, NotBuilt}
+use Rattle.adb_history.specs.Refusal.{refused_at}
+use Rattle.adb_history.specs.declared.refusal.Reason.TheVariants.{NotDrawn, BadSerial, NotBuilt}
 use Rattle.adb_history.proofs.Orderly.{orderly}
 use Rattle.adb_history.proofs.Draining.{nothing_due}
 use Rattle.adb_history.proofs.Accepting.{drain_adds}
@@ -32,22 +33,22 @@ never : {A : Type 0} (b : Bool) (one other : A) → cond b (Some one) (Some othe
 never true one other e = cc
 never false one other e = cc
 
-read_passes : (drawn unbuilt : Bool) (offset : ℕ) → cond drawn (read_refusal unbuilt offset) (Some (NotDrawn offset)) ≡ None → (drawn ≡ true) × (unbuilt ≡ false)
+read_passes : (drawn unbuilt : Bool) (offset : ℕ) → cond drawn (read_refusal unbuilt offset) (refused_at offset NotDrawn) ≡ None → (drawn ≡ true) × (unbuilt ≡ false)
 read_passes true true offset e = cc
 read_passes true false offset e = (refl, refl)
 read_passes false unbuilt offset e = cc
 
-attach_never : (next serial : Bool) (offset : ℕ) → cond next (cond serial (Some (NotBuilt offset)) (Some (BadSerial offset))) (Some (NotDrawn offset)) ≡ None → ⊥
-attach_never true serial offset e = never serial (NotBuilt offset) (BadSerial offset) e
+attach_never : (next serial : Bool) (offset : ℕ) → cond next (cond serial (refused_at offset NotBuilt) (refused_at offset BadSerial)) (refused_at offset NotDrawn) ≡ None → ⊥
+attach_never true serial offset e = never serial _ _ e
 attach_never false serial offset e = cc
 
 -- An input that a state does not refuse may come.
 pub accepted_may : (s : State) (offset : ℕ) (e : Entry) → refusal_of s offset e ≡ None → is_input e ≡ true → May s e
-accepted_may s offset (Join n) none input = eqb-true n (s.joined + 1) (passes (nat_eq n (s.joined + 1)) (NotDrawn offset) none)
+accepted_may s offset (Join n) none input = eqb-true n (s.joined + 1) (passes (nat_eq n (s.joined + 1)) _ none)
 accepted_may s offset (Read n bytes) none input = let p = read_passes (is_drawn s n) (asks_unbuilt (s.clients n) bytes) offset none in (drawn_is n s.joined p.0, p.1)
-accepted_may s offset (End n cause) none input = drawn_is n s.joined (passes (is_drawn s n) (NotDrawn offset) none)
-accepted_may s offset (Enter n port) none input = absurd (never (nat_eq n (s.joined + 1)) (NotBuilt offset) (NotDrawn offset) none)
-accepted_may s offset (Bound n port) none input = absurd (never (is_drawn s n) (NotBuilt offset) (NotDrawn offset) none)
+accepted_may s offset (End n cause) none input = drawn_is n s.joined (passes (is_drawn s n) _ none)
+accepted_may s offset (Enter n port) none input = absurd (never (nat_eq n (s.joined + 1)) _ _ none)
+accepted_may s offset (Bound n port) none input = absurd (never (is_drawn s n) _ _ none)
 accepted_may s offset (Attach n kind serial) none input = absurd (attach_never (nat_eq n 1) (is_serial serial) offset none)
 accepted_may s offset (Recv n bytes) none input = cc
 accepted_may s offset (Detach n cause) none input = cc
@@ -124,9 +125,7 @@ passed_over old offset (Detach n cause) h hand drained = cc
 
 -- an entry was refused
 pub refused_entry : (s : State) (offset : ℕ) (e : Entry) (why : machine.Refused) (r : Refusal) (new : Kept) → Applies s e (Err why) new → stop_at offset why ≡ Refused r → refusal_of s offset e ≡ Some r
-refused_entry s offset e refused.NotDrawn r new a is = a offset ∙ (let same : NotDrawn offset ≡ r = cc in ap Some same)
-refused_entry s offset e refused.BadSerial r new a is = a offset ∙ (let same : BadSerial offset ≡ r = cc in ap Some same)
-refused_entry s offset e refused.NotBuilt r new a is = a offset ∙ (let same : NotBuilt offset ≡ r = cc in ap Some same)
+refused_entry s offset e (refused.Because reason) r new a is = a offset ∙ (let same : record { offset = offset; reason = reason } ≡ r = cc in ap Some same)
 refused_entry s offset e refused.OutOfMemory r new a is = cc
 
 -- the record of the entry was lost

@@ -163,9 +163,7 @@ read_fails s n bytes ok old why new same drawn live dead = go (s.clients n).phas
     has = holds s n old ok same
 
     refused_so : (w : Refused) → ReadsRow (s.clients n) bytes (Err w) (at n new.clients) → Applies s (Read n bytes) (Err w) new
-    refused_so refused.NotDrawn r = absurd r
-    refused_so refused.BadSerial r = absurd r
-    refused_so refused.NotBuilt r = λ offset. rw (drawn, r) refl
+    refused_so (refused.Because reason) r = λ offset. rw (drawn, r.1, r.0) refl
     refused_so refused.OutOfMemory r = tt
 
     go : (p : Phase) → (s.clients n).phase ≡ p → Applies s (Read n bytes) (Err why) new
