@@ -10,7 +10,8 @@ use Rattle.adb_request.specs.declared.request.Request.TheVariants.{Version, Serv
 use Rattle.adb_capture.specs.Records.{number_of, data_of, HasPort}
 use Rattle.adb_capture.specs.declared.entry.Entry.{Entry}
 use Rattle.adb_capture.specs.declared.entry.Entry.TheVariants.{Join, Enter, Read, End, Bound, Attach, Recv, Detach, Put, Send}
-use Rattle.adb_history.specs.Rows.{Rows, put_row, change_row, IsPrefixOf}
+use Rattle.adb_outside.specs.Bytes.{IsPrefixOf}
+use Rattle.adb_outside.specs.Tables.{Rows, put_row, change_row}
 use Rattle.adb_history.specs.declared.phase.Phase.{Phase}
 use Rattle.adb_history.specs.declared.phase.Phase.TheVariants.{Asking, Closing, Gone}
 

@@ -2,13 +2,14 @@
 use Rattle.std.proofs.Common.{ℕ, ◌+◌, ◌≡◌, Bool, true, false, cond, List, [], ◌∷◌, Option, Some, None, Ok, Err, refl, sym, ◌∙◌, ap, arith, inl, inr}
 use Rattle.std.specs.Prelude.{nat_eq, not}
 use Rattle.std.proofs.lemmas.Bool.{ne_eqb, eqb-true}
+use Rattle.adb_outside.specs.Serial.{is_serial}
 use Rattle.adb_capture.specs.Records.{record_of, number_of, HasRecord}
 use Rattle.adb_capture.specs.declared.entry.Entry.{Entry}
 use Rattle.adb_capture.specs.declared.entry.Entry.TheVariants.{Join, Enter, Read, End, Bound, Attach, Recv, Detach, Put, Send}
 use Rattle.adb_history.specs.Machine.{Client, State, History, state, step, fresh, settled, bytes_in, asks_unbuilt, ended, IsDrawn, IsInRange, May, IsLegal, to_client}
 use Rattle.adb_history.specs.Kept.{Kept, kept, IsLawful}
 use Rattle.adb_history.specs.Drained.{owed, drain_all, drained_after}
-use Rattle.adb_history.specs.Accepted.{refusal_of, read_refusal, is_drawn, is_serial, is_input}
+use Rattle.adb_history.specs.Accepted.{refusal_of, read_refusal, is_drawn, is_input}
 use Rattle.adb_history.specs.declared.refusal.Refusal.{Refusal}
 use Rattle.adb_history.specs.Refusal.{refused_at}
 use Rattle.adb_history.specs.declared.refusal.Reason.TheVariants.{NotDrawn, BadSerial, NotBuilt}
