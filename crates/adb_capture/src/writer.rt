@@ -1,8 +1,8 @@
 //! Writing captures.
 
 ghost use Rattle.std.specs.Prelude.{◌≡◌, ◌<◌, ◌≤◌, ◌+◌, ◌++◌, ◌^◌, ℕ, OnOk, OnErr, length, take};
-ghost use Rattle.adb_outside.specs.Outside.{Rises};
-ghost use Rattle.adb_outside.specs.Sink.{FitsPiece, TellsWrite, IsSteadyWrite};
+ghost use Rattle.adb_outside.specs.Outside.{Counts};
+ghost use Rattle.adb_outside.specs.Sink.{FitsPiece, TellsWrite, is_failed_write};
 ghost use Rattle.adb_capture.specs.Records.{magic, kind_of, data_of, record_of, cause_byte, plug_letter, HasRecord};
 ghost use Rattle.adb_capture.specs.Pieces.{text_of, word_of};
 
@@ -16,10 +16,7 @@ use std::alloc::AllocError;
 pub fn write_magic<K: Sink>(sink: &mut K) -> Wrote
     ensures fits { FitsPiece magic result }
     ensures told { TellsWrite (K.written sink.old) (K.written sink.new) magic result }
-    ensures fault { (n : ℕ) → result ≡ Wrote.Failed n → Rises (K.faults sink.old) (K.faults sink.new) }
-    ensures count { K.faults sink.old ≤ K.faults sink.new }
-    ensures keeps_steady { K.steady sink.old → K.steady sink.new }
-    ensures steady_write { K.steady sink.old → IsSteadyWrite (K.faults sink.old) (K.faults sink.new) result }
+    ensures counts { Counts K.steady K.faults sink.old sink.new (is_failed_write result) }
 {
     sink.write(&MAGIC)
 }
@@ -30,10 +27,7 @@ pub fn write_entry<K: Sink>(sink: &mut K, entry: &Entry) -> Wrote
     requires { HasRecord entry.now }
     ensures fits { FitsPiece (record_of entry.now) result }
     ensures told { TellsWrite (K.written sink.old) (K.written sink.new) (record_of entry.now) result }
-    ensures fault { (n : ℕ) → result ≡ Wrote.Failed n → Rises (K.faults sink.old) (K.faults sink.new) }
-    ensures count { K.faults sink.old ≤ K.faults sink.new }
-    ensures keeps_steady { K.steady sink.old → K.steady sink.new }
-    ensures steady_write { K.steady sink.old → IsSteadyWrite (K.faults sink.old) (K.faults sink.new) result }
+    ensures counts { Counts K.steady K.faults sink.old sink.new (is_failed_write result) }
 {
     let head = Head::of(entry);
     write_both(sink, head.as_slice(), text(entry))
@@ -68,10 +62,7 @@ fn write_both<K: Sink>(sink: &mut K, first: &[u8], last: &[u8]) -> Wrote
     requires small { length first.now + length last.now < 2 ^ 63 }
     ensures fits { FitsPiece (first.now ++ last.now) result }
     ensures told { TellsWrite (K.written sink.old) (K.written sink.new) (first.now ++ last.now) result }
-    ensures fault { (n : ℕ) → result ≡ Wrote.Failed n → Rises (K.faults sink.old) (K.faults sink.new) }
-    ensures count { K.faults sink.old ≤ K.faults sink.new }
-    ensures keeps_steady { K.steady sink.old → K.steady sink.new }
-    ensures steady_write { K.steady sink.old → IsSteadyWrite (K.faults sink.old) (K.faults sink.new) result }
+    ensures counts { Counts K.steady K.faults sink.old sink.new (is_failed_write result) }
 {
     match sink.write(first) {
         Wrote::Failed { taken } => Wrote::Failed { taken },

@@ -3,6 +3,7 @@
 #![tactic(auto)]
 
 mod byte_queue;
+mod failing;
 mod framer;
 mod identity;
 mod kinds;
@@ -17,6 +18,7 @@ mod tests;
 mod text;
 
 pub use byte_queue::ByteQueue;
+pub use failing::Failing;
 pub use framer::{FeedError, Format, Framer, Front};
 pub use identity::{Identity, State, state_of, state_text};
 pub use kinds::{Cause, Kind, Selector};

@@ -2,6 +2,7 @@
 
 ghost use Rattle.std.specs.Prelude.{◌≡◌, ◌≢◌, ◌≤◌, ◌<◌, ℕ, length, Some};
 ghost use Rattle.adb_outside.specs.Source.{FitsBuffer, TellsRead};
+ghost use Rattle.adb_outside.specs.Memory.{GivesPiece};
 
 use crate::source::Got;
 use crate::text::Text;
@@ -16,11 +17,12 @@ pub struct Supply {
 }
 
 impl Model for Supply {
-    ghost use Rattle.std.specs.Prelude.{◌≤◌, ◌<◌, List, ℕ, drop, length};
+    ghost use Rattle.std.specs.Prelude.{◌≤◌, ◌<◌, drop, length};
+    ghost use Rattle.adb_outside.specs.Memory.{Supplied};
 
-    ghost Value = { List ℕ };
+    ghost Value = { Supplied };
 
-    ghost view = { λ s. drop s.from s.bytes };
+    ghost view = { λ s. record { coming = drop s.from s.bytes; piece = s.piece } };
 
     ghost invariant = { λ s. (s.from ≤ length s.bytes) × (0 < s.piece) };
 }
@@ -28,7 +30,7 @@ impl Model for Supply {
 impl Supply {
     pub fn new(bytes: Text, piece: usize) -> Supply
         requires { 1 ≤ piece }
-        ensures { result ≡ bytes }
+        ensures { result ≡ record { coming = bytes; piece = piece } }
     {
         Supply {
             bytes,
@@ -41,8 +43,10 @@ impl Supply {
     pub fn give(&mut self, into: &mut [u8]) -> Got
         requires { 0 < length into.old }
         ensures fits { FitsBuffer into.old result }
-        ensures told { TellsRead (Some self.old) (Some self.new) into.new result }
-        ensures gives { result ≢ Got.Failed }
+        ensures told { TellsRead (Some self.old.coming) (Some self.new.coming) into.new result }
+        ensures sound { result ≢ Got.Failed }
+        ensures gives { GivesPiece self.old.piece self.old.coming into.old result }
+        ensures same { self.new.piece ≡ self.old.piece }
     {
         let rest = &self.bytes.as_slice()[self.from..];
         let n = rest.len().min(self.piece).min(into.len());
