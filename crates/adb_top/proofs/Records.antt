@@ -13,7 +13,7 @@ use Rattle.adb_history.specs.Kept.{Kept}
 use Rattle.adb_history.specs.Drained.{drained_after, drained_from}
 use Rattle.adb_history.specs.Accepted.{Accepted, refusal_of, is_input, accept_by, accept_records}
 use Rattle.adb_history.specs.declared.refusal.Refusal.{Refusal}
-use Rattle.adb_history.specs.declared.refusal.Refusal.TheVariants.{Form}
+use Rattle.adb_history.specs.Refusal.{refusal_by}
 use Rattle.adb_history.proofs.Accepting.{accept_front, accept_first, drained_adds}
 use Rattle.std.proofs.lemmas.List.{append-nil}
 use Rattle.adb_top.specs.Keeping.{is_read_fault, is_write_fault}
@@ -141,24 +141,28 @@ front_so_far first now left_first left written_first written holds r before was 
     record { more = more.0; is = c.inputs ∙ more.1 }
 
 -- the records are refused
-refused_ahead : (offset : ℕ) (before : List ℕ) (h : History) (f : Front CaptureError) (why : CaptureError) → record_at offset before ≡ f → accept_front offset before f h ≡ record { inputs = []; refused = Some (Form why) } → accept_records offset before h ≡ record { inputs = []; refused = Some (Form why) }
+-- nothing is accepted, as an error of the reader says
+abbrev refused_as : CaptureError → Accepted
+refused_as why = record { inputs = []; refused = refusal_by why }
+
+refused_ahead : (offset : ℕ) (before : List ℕ) (h : History) (f : Front CaptureError) (why : CaptureError) → record_at offset before ≡ f → accept_front offset before f h ≡ refused_as why → accept_records offset before h ≡ refused_as why
 refused_ahead offset before h f why is front = accept_first offset before h ∙ (ap (λ k. accept_front offset before k h) is ∙ front)
 
-truncated_ahead : (offset at : ℕ) (before : List ℕ) (h : History) → before ≢ [] → at ≡ offset → accept_front offset before More h ≡ record { inputs = []; refused = Some (Form (capture.Truncated at)) }
+truncated_ahead : (offset at : ℕ) (before : List ℕ) (h : History) → before ≢ [] → at ≡ offset → accept_front offset before More h ≡ refused_as (capture.Truncated at)
 truncated_ahead offset at [] h some is = absurd (some refl)
-truncated_ahead offset at (b ∷ before) h some is = ap (λ n. record { inputs = []; refused = Some (Form (capture.Truncated n)) }) (sym is)
+truncated_ahead offset at (b ∷ before) h some is = ap (λ n. refused_as (capture.Truncated n)) (sym is)
 
-refusal_ahead : (now new : Reading) (left left_new : Option (List ℕ)) (e : CaptureError) (before : List ℕ) (h : History) → Gives now left (Err e) new left_new → now.failed ≡ None → WasAhead now left before → stop_of e ≡ Refused (Form e)
-    → accept_records now.offset before h ≡ record { inputs = []; refused = Some (Form e) }
+refusal_ahead : (now new : Reading) (left left_new : Option (List ℕ)) (e : CaptureError) (before : List ℕ) (h : History) → Gives now left (Err e) new left_new → now.failed ≡ None → WasAhead now left before → refusal_by e ≢ None
+    → accept_records now.offset before h ≡ refused_as e
 refusal_ahead now new left left_new e before h gives sound was stops = go e stops (given_next now new left left_new (Err e) before gives sound was)
   where
-    go : (e : CaptureError) → stop_of e ≡ Refused (Form e) → IsRefused now.offset before e → accept_records now.offset before h ≡ record { inputs = []; refused = Some (Form e) }
+    go : (e : CaptureError) → refusal_by e ≢ None → IsRefused now.offset before e → accept_records now.offset before h ≡ refused_as e
     go capture.BadMagic s r = absurd r
     go (capture.BadRecord at why) s r = refused_ahead now.offset before h (Bad (capture.BadRecord at why)) (capture.BadRecord at why) r refl
     go (capture.Truncated at) s r = refused_ahead now.offset before h More (capture.Truncated at) r.1 (truncated_ahead now.offset at before h r.0 r.2)
     go (capture.TooLong at) s r = refused_ahead now.offset before h (Bad (capture.TooLong at)) (capture.TooLong at) r refl
-    go capture.ReadFault s r = cc
-    go capture.OutOfMemory s r = cc
+    go capture.ReadFault s r = absurd (s refl)
+    go capture.OutOfMemory s r = absurd (s refl)
 
 -- The reader stopped.
 pub replaying_stopped : (first now new : Reading) (left_first left left_new written_first written : Option (List ℕ)) (holds : Kept) (e : CaptureError) → Gives now left (Err e) new left_new
@@ -177,8 +181,8 @@ replaying_stopped first now new left_first left left_new written_first written h
       ends = λ before was. ends (accept_records first.offset before []);
     }
 
-    refusal : (why : CaptureError) → ((before : List ℕ) (h : History) → WasAhead now left before → accept_records now.offset before h ≡ record { inputs = []; refused = Some (Form why) }) → Replays first left_first left_new written_first written (Err (Refused (Form why)))
-    refusal why there = record {
+    refusal : (why : CaptureError) (named : Refusal) → refusal_by why ≡ Some named → ((before : List ℕ) (h : History) → WasAhead now left before → accept_records now.offset before h ≡ refused_as why) → Replays first left_first left_new written_first written (Err (Refused named))
+    refusal why named same there = record {
       wrote = λ front is. record {
         whole = r.done;
         out = written_of r.done;
@@ -186,14 +190,14 @@ replaying_stopped first now new left_first left left_new written_first written h
         wrote = (refl, r.drained.lawful.legal);
         reaches = λ before was. let c = r.came before was in c.inputs ∙ ap (λ (k : Accepted). drained_from r.done k.inputs) (there c.before r.done c.is);
       };
-      ends = λ before was. let c = r.came before was in c.refused ∙ ap (λ (k : Accepted). k.refused) (there c.before r.done c.is);
+      ends = λ before was. let c = r.came before was in c.refused ∙ (ap (λ (k : Accepted). k.refused) (there c.before r.done c.is) ∙ same);
     }
 
-    go : (e : CaptureError) → ((before : List ℕ) (h : History) → WasAhead now left before → stop_of e ≡ Refused (Form e) → accept_records now.offset before h ≡ record { inputs = []; refused = Some (Form e) }) → Replays first left_first left_new written_first written (Err (stop_of e))
-    go capture.BadMagic there = refusal capture.BadMagic (λ before h was. there before h was refl)
-    go (capture.BadRecord at why) there = refusal (capture.BadRecord at why) (λ before h was. there before h was refl)
-    go (capture.Truncated at) there = refusal (capture.Truncated at) (λ before h was. there before h was refl)
-    go (capture.TooLong at) there = refusal (capture.TooLong at) (λ before h was. there before h was refl)
+    go : (e : CaptureError) → ((before : List ℕ) (h : History) → WasAhead now left before → refusal_by e ≢ None → accept_records now.offset before h ≡ refused_as e) → Replays first left_first left_new written_first written (Err (stop_of e))
+    go capture.BadMagic there = refusal capture.BadMagic _ refl (λ before h was. there before h was (λ e. cc))
+    go (capture.BadRecord at why) there = refusal (capture.BadRecord at why) _ refl (λ before h was. there before h was (λ e. cc))
+    go (capture.Truncated at) there = refusal (capture.Truncated at) _ refl (λ before h was. there before h was (λ e. cc))
+    go (capture.TooLong at) there = refusal (capture.TooLong at) _ refl (λ before h was. there before h was (λ e. cc))
     go capture.ReadFault there = fault ReadFault (λ out s. s) (λ a f. f) (λ a. tt)
     go capture.OutOfMemory there = fault OutOfMemory (λ out s. s) (λ a f. f) (λ a. tt)
 

@@ -138,7 +138,7 @@ fn replay_record<K: Sink>(
         Err(why) => Err(why.at(offset)),
         Ok(()) => {
             keep(sink, entry)?;
-            hand_out(machine, sink, entry.owner())
+            hand_out(machine, sink, entry.owner().number())
         }
     }
 }
