@@ -1,7 +1,7 @@
 -- Which entries a capture gives a server, and why it ends before its end.
-use Rattle.std.specs.Prelude.{ℕ, ◌+◌, Bool, true, false, if◌then◌else◌, ◌&&◌, nat_eq, nat_lt, nat_le, List, [], ◌∷◌, ◌++◌, length, take, drop, Option, Some, None, bytes_eq}
-use Rattle.std.specs.List.{list_all}
+use Rattle.std.specs.Prelude.{ℕ, ◌+◌, Bool, true, false, if◌then◌else◌, ◌&&◌, nat_eq, nat_lt, nat_le, List, [], ◌∷◌, ◌++◌, take, drop, Option, Some, None, bytes_eq}
 use Rattle.adb_outside.specs.Framing.{Cut, cut}
+use Rattle.adb_outside.specs.Serial.{is_serial}
 use Rattle.adb_capture.specs.Records.{magic, record_at, entry_in, offset_after, records_of}
 use Rattle.adb_capture.specs.declared.entry.Entry.{Entry}
 use Rattle.adb_capture.specs.declared.entry.Entry.TheVariants.{Join, Enter, Read, End, Bound, Attach, Recv, Detach, Put, Send}
@@ -16,10 +16,6 @@ use Rattle.adb_history.specs.declared.refusal.Reason.TheVariants.{NotDrawn, BadS
 -- whether a client number was drawn
 abbrev pub is_drawn : State → ℕ → Bool
 is_drawn s n = nat_lt 0 n && nat_le n s.joined
-
--- whether a serial is 1 to 64 bytes of 0x21 to 0x7e
-abbrev pub is_serial : List ℕ → Bool
-is_serial serial = nat_lt 0 (length serial) && nat_le (length serial) 64 && list_all (λ b. nat_le 33 b && nat_le b 126) serial
 
 -- the last refusal of a Read: it makes a request whole that is not built yet
 abbrev pub read_refusal : Bool → ℕ → Option Refusal

@@ -1,4 +1,3 @@
-pub mod Rows
 pub mod Machine
 pub mod Kept
 pub mod Drained

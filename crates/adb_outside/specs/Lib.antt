@@ -3,5 +3,9 @@ pub mod Source
 pub mod Sink
 pub mod Identity
 pub mod Framing
+pub mod Queued
 pub mod Memory
 pub mod Counted
+pub mod Tables
+pub mod Bytes
+pub mod Serial

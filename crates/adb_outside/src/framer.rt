@@ -3,6 +3,7 @@
 ghost use Rattle.std.specs.Prelude.{◌≡◌, ◌++◌, ◌∷◌, [], List, ℕ, IfOk, IfSome, IfNone, OnErr, OnOk, take, drop, length, Option, Some, None, ◌≤◌, ◌≢◌, option_to_list};
 ghost use Rattle.adb_outside.specs.Framing.{cut, joined, fault_of, Feeds, Faults, Stands};
 
+use crate::byte_queue::ByteQueue;
 use std::alloc::{AllocError, Global};
 use std::collections::VecDeque;
 use std::marker::Model;
@@ -80,7 +81,7 @@ pub enum FeedError<F> {
 pub struct Framer<S: Drop, V: Drop, F: Drop> {
     alloc: Global,
     format: S,
-    held: Vec<u8>,
+    held: ByteQueue,
     ready: VecDeque<V>,
     fault: Option<F>,
 }
@@ -90,7 +91,7 @@ impl<S: Drop, V: Drop, F: Drop> Model for Framer<S, V, F> {
 
     ghost Value = { Cut S V F };
 
-    ghost view = { λ f. record { given = f.ready.items; reading = f.format; rest = f.held.items; fault = f.fault } };
+    ghost view = { λ f. record { given = f.ready.items; reading = f.format; rest = f.held.bytes; fault = f.fault } };
 }
 
 impl<V: Drop, F: Copy, S: Format<V, F>> Framer<S, V, F> {
@@ -102,7 +103,7 @@ impl<V: Drop, F: Copy, S: Format<V, F>> Framer<S, V, F> {
         Framer {
             alloc,
             format,
-            held: Vec::new(alloc),
+            held: ByteQueue::new(alloc),
             ready: VecDeque::new(alloc),
             fault: None,
         }
@@ -131,7 +132,7 @@ impl<V: Drop, F: Copy, S: Format<V, F>> Framer<S, V, F> {
             return Err(FeedError::Fault(fault));
         }
         let (held, ready) = (self.held.len(), self.ready.len());
-        if self.held.extend_from_slice(piece).is_err() {
+        if self.held.push(piece).is_err() {
             return Err(FeedError::OutOfMemory);
         }
         if self.cut_held().is_err() {
@@ -154,28 +155,17 @@ impl<V: Drop, F: Copy, S: Format<V, F>> Framer<S, V, F> {
         let mut at = 0;
         let mut front = format.front(self.held.as_slice());
         while let Front::Whole(n) = front {
-            let frame = &self.held[at..at + n];
+            let frame = &self.held.as_slice()[at..at + n];
             let item = format.read(self.alloc, frame)?;
             self.ready.push_back(item)?;
             format = format.past(frame);
             at += n;
-            front = format.front(&self.held[at..]);
+            front = format.front(&self.held.as_slice()[at..]);
         }
-        self.keep_from(at)?;
+        self.held.take(at);
+        self.held.give_back();
         self.format = format;
         self.fault = front.fault();
-        Ok(())
-    }
-
-    /// Drops the first bytes that are held. The others move once.
-    fn keep_from(&mut self, at: usize) -> Result<(), AllocError>
-        requires { at ≤ length self.old.rest }
-        ensures ok { OnOk result (self.new ≡ record self.old { rest = drop at self.old.rest }) }
-        ensures err { OnErr result (self.new ≡ self.old) }
-    {
-        if at > 0 {
-            self.held = Vec::from_slice(self.alloc, &self.held[at..])?;
-        }
         Ok(())
     }
 }

@@ -2,11 +2,14 @@
 //! memory, and how a stream is cut into frames.
 #![tactic(auto)]
 
+mod byte_queue;
+mod failing;
 mod framer;
 mod identity;
 mod kinds;
 mod memory;
 mod never;
+mod serial;
 mod sink;
 mod source;
 mod supply;
@@ -14,11 +17,14 @@ mod supply;
 mod tests;
 mod text;
 
+pub use byte_queue::ByteQueue;
+pub use failing::Failing;
 pub use framer::{FeedError, Format, Framer, Front};
 pub use identity::{Identity, State, state_of, state_text};
 pub use kinds::{Cause, Kind, Selector};
 pub use memory::{MemorySink, MemorySource};
 pub use never::{NeverSink, NeverSource};
+pub use serial::{MAX_SERIAL, is_graphic, is_serial};
 pub use sink::{Sink, Wrote};
 pub use source::{Got, Source};
 pub use text::Text;

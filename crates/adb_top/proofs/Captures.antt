@@ -8,7 +8,7 @@ use Rattle.adb_capture.specs.Awaiting.{Opens}
 use Rattle.adb_capture.specs.declared.entry.Entry.{Entry}
 use Rattle.adb_capture.specs.declared.error.CaptureError.{CaptureError}
 use Rattle.adb_capture.specs.declared.error.CaptureError.TheVariants as capture
-use Rattle.adb_history.specs.Rows.{IsPrefixOf}
+use Rattle.adb_outside.specs.Bytes.{IsPrefixOf}
 use Rattle.adb_history.specs.Machine.{History, IsLegal}
 use Rattle.adb_history.specs.Drained.{drained, drained_from}
 use Rattle.adb_history.specs.Accepted.{Accepted, accepted, accept_records, has_magic, replayed}

@@ -2,13 +2,14 @@
 use Rattle.std.proofs.Common.{ℕ, ◌+◌, ◌≡◌, Bool, true, false, cond, List, [], ◌∷◌, Option, Some, None, Ok, Err, refl, sym, ◌∙◌, ap, arith, inl, inr}
 use Rattle.std.specs.Prelude.{nat_eq, not}
 use Rattle.std.proofs.lemmas.Bool.{ne_eqb, eqb-true}
-use Rattle.adb_capture.specs.Records.{record_of, owner_of, HasRecord}
+use Rattle.adb_outside.specs.Serial.{is_serial}
+use Rattle.adb_capture.specs.Records.{record_of, number_of, HasRecord}
 use Rattle.adb_capture.specs.declared.entry.Entry.{Entry}
 use Rattle.adb_capture.specs.declared.entry.Entry.TheVariants.{Join, Enter, Read, End, Bound, Attach, Recv, Detach, Put, Send}
 use Rattle.adb_history.specs.Machine.{Client, State, History, state, step, fresh, settled, bytes_in, asks_unbuilt, ended, IsDrawn, IsInRange, May, IsLegal, to_client}
 use Rattle.adb_history.specs.Kept.{Kept, kept, IsLawful}
 use Rattle.adb_history.specs.Drained.{owed, drain_all, drained_after}
-use Rattle.adb_history.specs.Accepted.{refusal_of, read_refusal, is_drawn, is_serial, is_input}
+use Rattle.adb_history.specs.Accepted.{refusal_of, read_refusal, is_drawn, is_input}
 use Rattle.adb_history.specs.declared.refusal.Refusal.{Refusal}
 use Rattle.adb_history.specs.Refusal.{refused_at}
 use Rattle.adb_history.specs.declared.refusal.Reason.TheVariants.{NotDrawn, BadSerial, NotBuilt}
@@ -68,7 +69,7 @@ join_only s n is rests = record {
 }
 
 -- where nothing was due, only the owner of an input has bytes due after it
-pub entry_only : (s : State) (e : Entry) → May s e → is_input e ≡ true → ((m : ℕ) → (s.clients m).due ≡ []) → OnlyDue (step s e) (owner_of e)
+pub entry_only : (s : State) (e : Entry) → May s e → is_input e ≡ true → ((m : ℕ) → (s.clients m).due ≡ []) → OnlyDue (step s e) (number_of e)
 entry_only s (Join n) may input rests = join_only s n may rests
 entry_only s (Read n bytes) may input rests = client_only s n (λ c. bytes_in c bytes) may.0 rests
 entry_only s (End n cause) may input rests = client_only s n (ended cause) may rests
@@ -95,7 +96,7 @@ input_of e hand = flip (is_input e) hand
 pub record Made (offset : ℕ) (e : Entry) (h : History) (now : Kept) : Type 0 where
   pub none : refusal_of (state h) offset e ≡ None
   pub lawful : IsLawful now (e ∷ h)
-  pub only : OnlyDue (state (e ∷ h)) (owner_of e)
+  pub only : OnlyDue (state (e ∷ h)) (number_of e)
   pub after : history_after e h ≡ drain_all (e ∷ h)
 
 pub made : (old now : Kept) (offset : ℕ) (e : Entry) (h : History) → HasRecord e → not (is_input e) ≡ false → IsDrained old h → Applies (state h) e (Ok tt) now → Made offset e h now

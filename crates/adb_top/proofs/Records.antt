@@ -1,5 +1,5 @@
 -- Replaying the records of a reader: what has come so far, and what is still ahead.
-use Rattle.std.proofs.Common.{ℕ, ◌≡◌, ◌≢◌, ◌≤◌, Bool, true, false, cond, List, [], ◌∷◌, ◌++◌, take, drop, Option, Some, None, Result, Ok, Err, refl, sym, ◌∙◌, ap, subst, inl, inr}
+use Rattle.std.proofs.Common.{ℕ, ◌≡◌, ◌≢◌, Bool, true, false, cond, List, [], ◌∷◌, ◌++◌, take, drop, Option, Some, None, Result, Ok, Err, refl, sym, ◌∙◌, ap, subst, inl, inr}
 use Rattle.std.specs.Prelude.{option_and_then}
 use Rattle.adb_outside.specs.declared.framer.Front.{Front}
 use Rattle.adb_outside.specs.declared.framer.Front.TheVariants.{More, Bad}
@@ -16,10 +16,9 @@ use Rattle.adb_history.specs.declared.refusal.Refusal.{Refusal}
 use Rattle.adb_history.specs.Refusal.{refusal_by}
 use Rattle.adb_history.proofs.Accepting.{accept_front, accept_first, drained_adds}
 use Rattle.std.proofs.lemmas.List.{append-nil}
-use Rattle.adb_outside.specs.Outside.{Rises}
 use Rattle.adb_top.specs.Keeping.{is_read_fault, is_write_fault}
 use Rattle.adb_top.specs.Stop.{stop_of}
-use Rattle.adb_capture.specs.Counting.{Counted, is_fault}
+use Rattle.adb_capture.specs.Counting.{is_fault}
 use Rattle.adb_top.specs.Replay.{written_of, StopsWithin, IsDrained, HasWritten, StopsEntry, IsReached, history_after, Wrote, IsFrontOf, Reaches, EndsAs, WasAhead, Replays}
 use Rattle.adb_top.specs.declared.stop.Stop.{Stop}
 use Rattle.adb_top.specs.declared.stop.Stop.TheVariants.{ReadFault, WriteFault, OutOfMemory, Refused}
@@ -269,33 +268,6 @@ pub record GoingOn (first now : Reading) (left_first left_now written_first writ
   pub replaying : Replaying first now left_first left_now written_first written_now holds
   pub reads_counted : reads
   pub writes_counted : writes
-
--- what a call of the reader did to its source
-pub next_counted : (a b : Type 0) (x y : ℕ) (result : Result (Option (ℕ × Entry)) CaptureError) → x ≤ y → (result ≡ Err capture.ReadFault → Rises x y) → (a → b) → (a → (result ≢ Err capture.ReadFault) × (y ≡ x)) → Counted a b x y (is_fault result)
-next_counted a b x y result count fault keeps steady = record {
-  count = count;
-  fault = λ e. fault (is_read result e);
-  keeps = keeps;
-  steady = λ s. (not_read result (steady s).0, (steady s).1);
-}
-  where
-    is_read : (r : Result (Option (ℕ × Entry)) CaptureError) → is_fault r ≡ true → r ≡ Err capture.ReadFault
-    is_read (Ok x) e = cc
-    is_read (Err capture.BadMagic) e = cc
-    is_read (Err (capture.BadRecord at why)) e = cc
-    is_read (Err (capture.Truncated at)) e = cc
-    is_read (Err (capture.TooLong at)) e = cc
-    is_read (Err capture.ReadFault) e = refl
-    is_read (Err capture.OutOfMemory) e = cc
-
-    not_read : (r : Result (Option (ℕ × Entry)) CaptureError) → r ≢ Err capture.ReadFault → is_fault r ≡ false
-    not_read (Ok x) e = refl
-    not_read (Err capture.BadMagic) e = refl
-    not_read (Err (capture.BadRecord at why)) e = refl
-    not_read (Err (capture.Truncated at)) e = refl
-    not_read (Err (capture.TooLong at)) e = refl
-    not_read (Err capture.ReadFault) e = absurd (e refl)
-    not_read (Err capture.OutOfMemory) e = refl
 
 pub read_fault_of : (e : CaptureError) → is_fault {T = Unit {0}} (Err e) ≡ is_read_fault (Err (stop_of e))
 read_fault_of capture.BadMagic = refl

@@ -2,8 +2,9 @@
 use Rattle.std.specs.Prelude.{ℕ, ◌≡◌, ◌≢◌, Bool, true, false, if◌then◌else◌, List, [], length, take, Option, Some, None, Result, Ok, Err}
 use Rattle.adb_capture.specs.declared.entry.Entry.{Entry}
 use Rattle.adb_capture.specs.declared.entry.Entry.TheVariants.{Put}
+use Rattle.adb_outside.specs.Tables.{at, IsRising}
 use Rattle.adb_history.specs.Machine.{Client, State, step, settled, bytes_in, asks_unbuilt, handed}
-use Rattle.adb_history.specs.Kept.{Kept, KeptClient, kept, kept_of, at, IsRising}
+use Rattle.adb_history.specs.Kept.{Kept, KeptClient, kept, kept_of}
 use Rattle.adb_history.specs.Accepted.{refusal_of, is_input}
 use Rattle.adb_history.specs.Refusal.{refused_at}
 use Rattle.adb_history.specs.declared.refusal.Reason.TheVariants.{NotBuilt}

@@ -1,12 +1,11 @@
 //! The machine: the clients that live, and what each entry makes of them.
 
 ghost use Rattle.std.specs.Prelude.{◌≡◌, ◌≢◌, ◌<◌, ◌≤◌, ◌+◌, ◌∷◌, ℕ, List, Ok, Some, None, nat_eq, nat_lt, nat_le, ◌&&◌, if◌then◌else◌, false, length, All, IfOk, OnOk, IfSome};
-ghost use Rattle.std.specs.List.{list_all};
 ghost use Rattle.adb_outside.specs.declared.kinds.Kind.{Kind};
+ghost use Rattle.adb_outside.specs.Tables.{at};
 ghost use Rattle.adb_capture.specs.declared.entry.Entry.{Entry};
 ghost use Rattle.adb_history.specs.Machine.{State, Client as Row, fresh, start, step, settled, ended};
-ghost use Rattle.adb_history.specs.Kept.{Kept, kept, kept_of, at, IsResting, IsOrderly};
-ghost use Rattle.adb_history.specs.Accepted.{is_drawn as is_drawn_number, is_serial};
+ghost use Rattle.adb_history.specs.Kept.{Kept, kept, kept_of, IsResting, IsOrderly};
 ghost use Rattle.adb_top.specs.Stop.{stop_at};
 ghost use Rattle.adb_top.specs.Machine.{ChangesOne, Becomes, ReadsRow, HandsRow, Applies, Puts, due_at};
 
@@ -14,7 +13,7 @@ use crate::client::{Client, Unread};
 use crate::stop::Stop;
 use adb_capture::Entry;
 use adb_history::{Reason, Refusal};
-use adb_outside::{Cause, Text};
+use adb_outside::{Cause, Text, is_serial};
 use std::alloc::{AllocError, Global};
 use std::collections::BTreeMap;
 use std::marker::Model;
@@ -271,22 +270,9 @@ fn attach(link: u32, serial: &Text) -> Result<(), Refused>
 {
     if link != 1 {
         Err(Refused::Because(Reason::NotDrawn))
-    } else if is_a_serial(serial.as_slice()) {
+    } else if is_serial(serial.as_slice()) {
         Err(Refused::Because(Reason::NotBuilt))
     } else {
         Err(Refused::Because(Reason::BadSerial))
     }
-}
-
-/// Whether a serial is 1 to 64 bytes of 0x21 to 0x7e.
-fn is_a_serial(serial: &[u8]) -> bool
-    ensures { result ≡ is_serial serial.now }
-{
-    !serial.is_empty() && serial.len() <= 64 && is_printable(serial)
-}
-
-fn is_printable(text: &[u8]) -> bool
-    ensures { result ≡ list_all (λ b. nat_le 33 b && nat_le b 126) text.now }
-{
-    text.iter().all(|b| 0x21 <= *b && *b <= 0x7e)
 }
