@@ -1,6 +1,7 @@
 -- A packet and its bytes.
-use Rattle.std.proofs.Common.{ℕ, ◌+◌, ◌≡◌, ◌≤◌, List, [], ◌∷◌, ◌++◌, length, drop, suc, sym, ◌∙◌, ap, arith}
+use Rattle.std.proofs.Common.{ℕ, ◌+◌, ◌≡◌, ◌≤◌, ◌<◌, List, [], ◌∷◌, ◌++◌, length, drop, sym, ◌∙◌, ap, arith}
 use Rattle.std.proofs.lemmas.List.{length-drop}
+use Rattle.std.proofs.lemmas.List.Elements.{All-tail}
 use Rattle.std.proofs.lemmas.Bool.Decides.{nat_tests}
 use Rattle.byteorder.specs.Endian.{little_number, little_bytes}
 use Rattle.byteorder.specs.Numbers.{little_number-reads_back}
@@ -43,7 +44,8 @@ spelled_by : (from : ShellFormat) (bytes : List ℕ) → AreBytes bytes → HEAD
 spelled_by from [] are h e = absurd (omega (arith, h))
 spelled_by from (id ∷ bytes) are h e =
     let said : length (drop 4 bytes) ≡ little_number 4 bytes = omega (arith, e, length-drop 4 bytes) in
-    ap (λ k. id ∷ little_bytes 4 k ++ drop 4 bytes) said ∙ ap (λ tail. id ∷ tail) (number_again bytes (λ i. are (suc i)) (omega (arith, h)))
+    let tail_are = All-tail (λ byte. byte < 256) id bytes are in
+    ap (λ k. id ∷ little_bytes 4 k ++ drop 4 bytes) said ∙ ap (λ tail. id ∷ tail) (number_again bytes tail_are (omega (arith, h)))
 
 -- a whole packet is spelled by its bytes
 pub spelled_again : (from : ShellFormat) (bytes : List ℕ) → AreBytes bytes → front from bytes ≡ Whole (length bytes)
