@@ -4,7 +4,6 @@ ghost use Rattle.std.specs.Prelude.{◌≡◌, ◌≤◌, ◌++◌, ◌⊎◌, [
 ghost use Rattle.std.specs.List.{AllByRecursion};
 ghost use Rattle.adb_sync.specs.declared.error.SyncError.{SyncError};
 ghost use Rattle.adb_files.specs.declared.session.Sending.{Sending};
-ghost use Rattle.adb_files.specs.Files.{most_bytes};
 ghost use Rattle.adb_files.specs.Requests.{OpenSend, Sends, Fails, completed, continued, open_past, requests_of};
 ghost use Rattle.adb_files.specs.Served.{serve_one, serve_all, fail_bytes, fault_text};
 ghost use Rattle.adb_files.specs.Service.{IsKept, KeepsSend, moment, run, Serves, ServesGiven, ServesFront, HasShortPath, HasShortSend};
