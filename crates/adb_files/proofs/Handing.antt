@@ -4,13 +4,14 @@ use Rattle.std.proofs.Common.{◌∙◌, ap, sym, arith}
 use Rattle.std.proofs.lemmas.List.{length-append, length-take, length-drop, append_assoc, drop-drop, drop-append-le, drop-take, drop_all, nil_from_length}
 use Rattle.adb_sync.specs.declared.answer.SyncAnswer.TheVariants as answers
 use Rattle.adb_sync.specs.Answers.{answer_bytes}
+use Rattle.adb_files.specs.declared.chunk.TheConstants.{MOST_CHUNK}
 use Rattle.adb_files.specs.declared.chunk.Chunk.{Chunk}
 use Rattle.adb_files.specs.Chunk.{IsWithin, HasFront, TakesHere, left_from}
 use Rattle.adb_files.specs.Served.{chunk_bytes}
 use Rattle.adb_files.proofs.Chunks.{chunk_more, chunk_none}
 
 -- a chunk begins
-pub begins : (bytes header : List ℕ) (from size to : ℕ) → size ≡ min 65536 (length bytes - from) → to ≡ from + size → size ≢ 0
+pub begins : (bytes header : List ℕ) (from size to : ℕ) → size ≡ min MOST_CHUNK (length bytes - from) → to ≡ from + size → size ≢ 0
     → ((chunk : List ℕ) → length chunk ≡ size → header ++ chunk ≡ answer_bytes (answers.Chunk chunk))
     → header ++ (take (to - from) (drop from bytes) ++ chunk_bytes (drop to bytes)) ≡ chunk_bytes (drop from bytes)
 begins bytes header from size to least end some spells =
@@ -26,8 +27,8 @@ begins bytes header from size to least end some spells =
     rest : List ℕ
     rest = drop from bytes
 
-    is : size ≡ min 65536 (length rest)
-    is = least ∙ ap (λ n. min 65536 n) (sym (length-drop from bytes))
+    is : size ≡ min MOST_CHUNK (length rest)
+    is = least ∙ ap (λ n. min MOST_CHUNK n) (sym (length-drop from bytes))
 
 -- bytes of a chunk whose header was taken are taken
 pub moves : (header bytes more : List ℕ) (from to k : ℕ) → length header ≡ 0 → k ≤ to - from → to ≤ length bytes
