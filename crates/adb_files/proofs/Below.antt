@@ -39,7 +39,9 @@ begins_between (b ∷ p) x [] low less begins = absurd cc
 begins_between (b ∷ p) [] (c ∷ y) low less begins = absurd (low refl)
 begins_between (b ∷ p) (a ∷ x) (c ∷ y) low less begins = go (nat_cmp a b) refl (nat_eq b c) refl (begins_between p x y)
   where
-    go : (o : Ordering) → nat_cmp a b ≡ o → (t : Bool) → nat_eq b c ≡ t → (path_cmp x p ≢ Less → path_cmp x y ≡ Less → starts_with nat_eq y p ≡ true → starts_with nat_eq x p ≡ true) → (nat_eq b a && starts_with nat_eq x p) ≡ true
+    go : (o : Ordering) → nat_cmp a b ≡ o → (t : Bool) → nat_eq b c ≡ t
+        → (path_cmp x p ≢ Less → path_cmp x y ≡ Less → starts_with nat_eq y p ≡ true → starts_with nat_eq x p ≡ true)
+        → (nat_eq b a && starts_with nat_eq x p) ≡ true
     go o is false same rest = let e = ap (λ t. t && starts_with nat_eq y p) same in absurd cc
     go Less is true same rest = absurd (low (ap (λ o. ordering_then o (path_cmp x p)) is))
     go Equal is true same rest =
@@ -73,7 +75,9 @@ module _ {X : Type 0} (test : X → Bool) where
       go false rest = rest
 
 -- where files below a directory are, the first from its slash on is one
-pub none_below : (directory : List ℕ) (files : List Entry) (i : ℕ) → IsRising files → BeginsAt (inside directory) files i → ((d : Entry) → i < length files → is_below directory (slice_index_or files i d).path ≡ false) → list_any (λ (e : Entry). is_below directory e.path) files ≡ false
+pub none_below : (directory : List ℕ) (files : List Entry) (i : ℕ) → IsRising files → BeginsAt (inside directory) files i
+    → ((d : Entry) → i < length files → is_below directory (slice_index_or files i d).path ≡ false)
+    → list_any (λ (e : Entry). is_below directory e.path) files ≡ false
 none_below directory files i rising at first = any_none (λ (e : Entry). is_below directory e.path) files each
   where
     each : AllWithin (λ (e : Entry). is_below directory e.path ≡ false) files 0 (length files)
@@ -82,9 +86,12 @@ none_below directory files i rising at first = any_none (λ (e : Entry). is_belo
         go : (k ≡ i) ⊎ ((k < i) ⊎ (i < k)) → is_below directory (slice_index_or files k d).path ≡ false
         go (inl e) = subst (λ (n : ℕ). is_below directory (slice_index_or files n d).path ≡ false) (sym e) (first d (omega (arith, e, h)))
         go (inr (inl m)) = not_less (slice_index_or files k d).path (inside directory) (at.less k d l m)
-        go (inr (inr m)) = false_from_ne_true _ (λ t. let is = begins_between (inside directory) (slice_index_or files i d).path (slice_index_or files k d).path (at.others i d (omega arith) (omega (arith, m, h))) (earlier_less files rising i k d m h) t in let not = first d (omega (arith, m, h)) in cc)
+        go (inr (inr m)) = false_from_ne_true _ (λ t. let is = begins_between (inside directory) (slice_index_or files i d).path (slice_index_or files k d).path
+            (at.others i d (omega arith) (omega (arith, m, h))) (earlier_less files rising i k d m h) t in let not = first d (omega (arith, m, h)) in cc)
 
-pub below_tells : (directory tail : List ℕ) (files : List Entry) (i : ℕ) (e : Entry) → tail ≡ slash_behind directory → IsRising files → BeginsAt (directory ++ tail) files i → i < length files → e ≡ slice_index_or files i e → is_below directory e.path ≡ list_any (λ (x : Entry). is_below directory x.path) files
+pub below_tells : (directory tail : List ℕ) (files : List Entry) (i : ℕ) (e : Entry) → tail ≡ slash_behind directory → IsRising files
+    → BeginsAt (directory ++ tail) files i → i < length files → e ≡ slice_index_or files i e
+    → is_below directory e.path ≡ list_any (λ (x : Entry). is_below directory x.path) files
 below_tells directory tail files i e slash rising at h here = go (is_below directory e.path) refl
   where
     at_i : (d : Entry) → e ≡ slice_index_or files i d
@@ -97,12 +104,14 @@ below_tells directory tail files i e slash rising at h here = go (is_below direc
     go true is = is ∙ sym (any_at (λ (x : Entry). is_below directory x.path) files i e h (ap (λ (x : Entry). is_below directory x.path) (sym (at_i e)) ∙ is))
     go false is = is ∙ sym (none_below directory files i rising begins (λ d l. ap (λ (x : Entry). is_below directory x.path) (sym (at_i d)) ∙ is))
 
-pub none_left_below : (directory tail : List ℕ) (files : List Entry) (i : ℕ) → tail ≡ slash_behind directory → IsRising files → BeginsAt (directory ++ tail) files i → length files ≤ i → list_any (λ (x : Entry). is_below directory x.path) files ≡ false
+pub none_left_below : (directory tail : List ℕ) (files : List Entry) (i : ℕ) → tail ≡ slash_behind directory → IsRising files
+    → BeginsAt (directory ++ tail) files i → length files ≤ i → list_any (λ (x : Entry). is_below directory x.path) files ≡ false
 none_left_below directory tail files i slash rising at h =
     none_below directory files i rising (subst (λ (t : List ℕ). BeginsAt (directory ++ t) files i) slash at) (λ d l. absurd (omega arith))
 
 -- what lies below a file goes on with a slash behind the file's path
-pub slash_there : (path p : List ℕ) → starts_with nat_eq path (p ++ codes "/") ≡ true → (length p < length path) × (slice_index_or path (length p) 0 ≡ 47) × (take (length p) path ≡ p)
+pub slash_there : (path p : List ℕ) → starts_with nat_eq path (p ++ codes "/") ≡ true
+    → (length p < length path) × (slice_index_or path (length p) 0 ≡ 47) × (take (length p) path ≡ p)
 slash_there [] [] h = absurd cc
 slash_there (y ∷ ys) [] h = (omega arith, sym (eqb-true 47 y ((and_parts (nat_eq 47 y) true h).0)), refl)
 slash_there [] (x ∷ p) h = absurd cc
@@ -120,12 +129,15 @@ below_slash (y ∷ ys) zero h is = and_from (nat_eq 47 y) true (eq-eqb 47 y (sym
 below_slash (y ∷ ys) (suc k) h is =
     and_from (nat_eq y y) (starts_with nat_eq ys (take k ys ++ codes "/")) (eq-eqb y y refl) (below_slash ys k (omega arith) is)
 
-pub under_file : (path : List ℕ) (files : List Entry) (k : ℕ) → k < length path → slice_index_or path k 0 ≡ 47 → is_some (file_at (take k path) files) ≡ true → is_under_file files path ≡ true
+pub under_file : (path : List ℕ) (files : List Entry) (k : ℕ) → k < length path → slice_index_or path k 0 ≡ 47 → is_some (file_at (take k path) files) ≡ true
+    → is_under_file files path ≡ true
 under_file path files k h slash found =
     any_from_file (λ (e : Entry). starts_with nat_eq path (e.path ++ codes "/")) (take k path) files
     (λ e same. ap (λ p. starts_with nat_eq path (p ++ codes "/")) same ∙ below_slash path k h slash) found
 
-pub under_no_file : (path : List ℕ) (files : List Entry) → ((k : ℕ) → k < length path → slice_index_or path k 0 ≡ 47 → file_at (take k path) files ≡ None) → is_under_file files path ≡ false
+pub under_no_file : (path : List ℕ) (files : List Entry) → ((k : ℕ) → k < length path → slice_index_or path k 0 ≡ 47 → file_at (take k path) files ≡ None)
+    → is_under_file files path ≡ false
 under_no_file path files none =
     any_none (λ (e : Entry). starts_with nat_eq path (e.path ++ codes "/")) files
-    (λ k d l h. false_from_ne_true _ (λ t. let at = slash_there path (slice_index_or files k d).path t in no_file_has (take (length (slice_index_or files k d).path) path) files (none (length (slice_index_or files k d).path) at.0 at.1) k d h (sym at.2)))
+    (λ k d l h. false_from_ne_true _ (λ t. let at = slash_there path (slice_index_or files k d).path t in no_file_has
+    (take (length (slice_index_or files k d).path) path) files (none (length (slice_index_or files k d).path) at.0 at.1) k d h (sym at.2)))

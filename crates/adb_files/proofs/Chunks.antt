@@ -11,6 +11,7 @@ use Rattle.std.proofs.lemmas.List.Elements.{All-from_recursion, recursion_from_A
 use Rattle.adb_sync.specs.declared.answer.SyncAnswer.TheVariants as answers
 use Rattle.adb_sync.specs.declared.answer.Dirent.{Dirent}
 use Rattle.adb_sync.specs.Answers.{answer_bytes}
+use Rattle.adb_files.specs.declared.chunk.TheConstants.{MOST_CHUNK}
 use Rattle.adb_files.specs.Entries.{Entry}
 use Rattle.adb_files.specs.declared.stat.Stat.{Stat}
 use Rattle.adb_files.specs.Paths.{path_cmp, is_path, inside, is_below}
@@ -23,23 +24,28 @@ use Rattle.adb_files.specs.Service.{TellsUpTo, TellsFront}
 enough : (k m : ℕ) (bytes : List ℕ) → length bytes ≤ k → length bytes ≤ m → chunks_at k bytes ≡ chunks_at m bytes
 enough zero zero bytes h g = refl
 enough zero (suc m) bytes h g =
-    sym (ap (λ t. cond t [] (answer_bytes (answers.Chunk (take 65536 bytes)) ++ chunks_at m (drop 65536 bytes))) (eq-eqb (length bytes) 0 (omega arith)))
+    sym (ap (λ t. cond t [] (answer_bytes (answers.Chunk (take MOST_CHUNK bytes)) ++ chunks_at m (drop MOST_CHUNK bytes))) (eq-eqb (length bytes) 0 (omega arith)))
 enough (suc k) zero bytes h g =
-    ap (λ t. cond t [] (answer_bytes (answers.Chunk (take 65536 bytes)) ++ chunks_at k (drop 65536 bytes))) (eq-eqb (length bytes) 0 (omega arith))
-enough (suc k) (suc m) bytes h g = go (length bytes == 0) (enough k m (drop 65536 bytes) (omega (arith, h, length-drop 65536 bytes)) (omega (arith, g, length-drop 65536 bytes)))
+    ap (λ t. cond t [] (answer_bytes (answers.Chunk (take MOST_CHUNK bytes)) ++ chunks_at k (drop MOST_CHUNK bytes))) (eq-eqb (length bytes) 0 (omega arith))
+enough (suc k) (suc m) bytes h g = go (length bytes == 0)
+    (enough k m (drop MOST_CHUNK bytes) (omega (arith, h, length-drop MOST_CHUNK bytes)) (omega (arith, g, length-drop MOST_CHUNK bytes)))
   where
-    go : (t : Bool) → chunks_at k (drop 65536 bytes) ≡ chunks_at m (drop 65536 bytes) → cond t [] (answer_bytes (answers.Chunk (take 65536 bytes)) ++ chunks_at k (drop 65536 bytes)) ≡ cond t [] (answer_bytes (answers.Chunk (take 65536 bytes)) ++ chunks_at m (drop 65536 bytes))
+    go : (t : Bool) → chunks_at k (drop MOST_CHUNK bytes) ≡ chunks_at m (drop MOST_CHUNK bytes)
+        → cond t [] (answer_bytes (answers.Chunk (take MOST_CHUNK bytes)) ++ chunks_at k (drop MOST_CHUNK bytes)) ≡ cond t []
+        (answer_bytes (answers.Chunk (take MOST_CHUNK bytes)) ++ chunks_at m (drop MOST_CHUNK bytes))
     go true e = refl
-    go false e = ap (λ (rest : List ℕ). answer_bytes (answers.Chunk (take 65536 bytes)) ++ rest) e
+    go false e = ap (λ (rest : List ℕ). answer_bytes (answers.Chunk (take MOST_CHUNK bytes)) ++ rest) e
 
 -- a chunk comes off
-pub chunk_more : (bytes : List ℕ) → length bytes ≢ 0 → chunk_bytes bytes ≡ answer_bytes (answers.Chunk (take (min 65536 (length bytes)) bytes)) ++ chunk_bytes (drop (min 65536 (length bytes)) bytes)
+pub chunk_more : (bytes : List ℕ) → length bytes ≢ 0
+    → chunk_bytes bytes ≡ answer_bytes (answers.Chunk (take (min MOST_CHUNK (length bytes)) bytes)) ++ chunk_bytes (drop (min MOST_CHUNK (length bytes)) bytes)
 chunk_more bytes some =
     enough (length bytes) (suc (length bytes)) bytes (omega arith) (omega arith)
-    ∙ (ap (λ t. cond t [] (answer_bytes (answers.Chunk (take 65536 bytes)) ++ chunks_at (length bytes) (drop 65536 bytes))) (ne_eqb (length bytes) 0 some)
-    ∙ (ap (λ (rest : List ℕ). answer_bytes (answers.Chunk (take 65536 bytes)) ++ rest) (enough (length bytes) (length (drop 65536 bytes)) (drop 65536 bytes) (omega (arith, length-drop 65536 bytes)) (omega arith))
-    ∙ (ap (λ (front : List ℕ). answer_bytes (answers.Chunk front) ++ chunk_bytes (drop 65536 bytes)) (sym (take_min 65536 bytes))
-    ∙ ap (λ (rest : List ℕ). answer_bytes (answers.Chunk (take (min 65536 (length bytes)) bytes)) ++ chunk_bytes rest) (sym (drop_min 65536 bytes)))))
+    ∙ (ap (λ t. cond t [] (answer_bytes (answers.Chunk (take MOST_CHUNK bytes)) ++ chunks_at (length bytes) (drop MOST_CHUNK bytes))) (ne_eqb (length bytes) 0 some)
+    ∙ (ap (λ (rest : List ℕ). answer_bytes (answers.Chunk (take MOST_CHUNK bytes)) ++ rest)
+    (enough (length bytes) (length (drop MOST_CHUNK bytes)) (drop MOST_CHUNK bytes) (omega (arith, length-drop MOST_CHUNK bytes)) (omega arith))
+    ∙ (ap (λ (front : List ℕ). answer_bytes (answers.Chunk front) ++ chunk_bytes (drop MOST_CHUNK bytes)) (sym (take_min MOST_CHUNK bytes))
+    ∙ ap (λ (rest : List ℕ). answer_bytes (answers.Chunk (take (min MOST_CHUNK (length bytes)) bytes)) ++ chunk_bytes rest) (sym (drop_min MOST_CHUNK bytes)))))
 
 pub chunk_none : (bytes : List ℕ) → length bytes ≡ 0 → chunk_bytes bytes ≡ []
 chunk_none bytes none = ap chunk_bytes (nil_from_length bytes none)
@@ -59,19 +65,24 @@ short-insert : (es : List (List ℕ × Stat)) (k : List ℕ) (v : Stat) → HasS
 short-insert [] k v all h = (h, tt)
 short-insert (e ∷ es) k v all h = go (path_cmp k e.0) (short-insert es k v all.1 h)
   where
-    go : (o : Ordering) → HasShortNames (insert_entry path_cmp es k v) → HasShortNames (match_ordering o ((k, v) ∷ e ∷ es) ((e.0, v) ∷ es) (e ∷ insert_entry path_cmp es k v))
+    go : (o : Ordering) → HasShortNames (insert_entry path_cmp es k v)
+        → HasShortNames (match_ordering o ((k, v) ∷ e ∷ es) ((e.0, v) ∷ es) (e ∷ insert_entry path_cmp es k v))
     go Less rest = (h, all)
     go Equal rest = (all.0, all.1)
     go Greater rest = (all.0, rest)
 
-short-shown : (directory : List ℕ) (files : List Entry) (found : List (List ℕ × Stat)) → AllByRecursion (λ (e : Entry). length e.path < 2 ^ 32) files → HasShortNames found → HasShortNames (fold (with_shown directory) found (filter (λ (e : Entry). is_below directory e.path) files))
+short-shown : (directory : List ℕ) (files : List Entry) (found : List (List ℕ × Stat)) → AllByRecursion (λ (e : Entry). length e.path < 2 ^ 32) files
+    → HasShortNames found → HasShortNames (fold (with_shown directory) found (filter (λ (e : Entry). is_below directory e.path) files))
 short-shown directory [] found short all = all
 short-shown directory (e ∷ files) found short all = go (is_below directory e.path) (λ es h. short-shown directory files es short.1 h)
   where
     name : length (name_below directory e.path) < 2 ^ 32
     name = omega (arith, part_short (rest_below directory e.path), length-drop (length (inside directory)) e.path, short.0)
 
-    go : (t : Bool) → ((es : List (List ℕ × Stat)) → HasShortNames es → HasShortNames (fold (with_shown directory) es (filter (λ (x : Entry). is_below directory x.path) files))) → HasShortNames (fold (with_shown directory) found (cond t (e ∷ filter (λ (x : Entry). is_below directory x.path) files) (filter (λ (x : Entry). is_below directory x.path) files)))
+    go : (t : Bool) → ((es : List (List ℕ × Stat)) → HasShortNames es
+        → HasShortNames (fold (with_shown directory) es (filter (λ (x : Entry). is_below directory x.path) files)))
+        → HasShortNames (fold (with_shown directory) found (cond t (e ∷ filter (λ (x : Entry). is_below directory x.path) files)
+        (filter (λ (x : Entry). is_below directory x.path) files)))
     go true rest = rest (with_shown directory found e) (short-insert found (name_below directory e.path) (stat_below directory e) all name)
     go false rest = rest found all
 
@@ -83,7 +94,9 @@ pub names_short : (directory : List ℕ) (files : List Entry) → IsFileMap file
 names_short directory files ok = go (is_path directory)
   where
     go : (t : Bool) → All (λ (d : Dirent). length d.name < 2 ^ 32) (cond t (map dirent_of (shown_in directory files)) [])
-    go true = All-from_recursion (λ (d : Dirent). length d.name < 2 ^ 32) (map dirent_of (shown_in directory files)) (dirents_short (shown_in directory files) (short-shown directory files [] (recursion_from_All (λ (e : Entry). length e.path < 2 ^ 32) files ok.short) tt))
+    go true = All-from_recursion (λ (d : Dirent). length d.name < 2 ^ 32) (map dirent_of (shown_in directory files))
+        (dirents_short (shown_in directory files) (short-shown directory files []
+        (recursion_from_All (λ (e : Entry). length e.path < 2 ^ 32) files ok.short) tt))
     go false = All-nil (λ (d : Dirent). length d.name < 2 ^ 32)
 
 -- A loop tells a list entry by entry: nothing yet, and one more.

@@ -23,7 +23,8 @@ fed_more : (fed piece : List ℕ) (r1 : Reading) → StandsForAsks (fed ++ piece
     → requests_in (fed ++ piece) ≡ requests_in fed ++ (requests_of (open_after None (asks_in fed)) r1.given ++ fault_request r1.fault)
 fed_more fed piece r1 stands sound =
     let send = open_after None (asks_in fed) in
-    let before : requests_in fed ≡ requests_of None (asks_in fed) = ap (λ (f : Option SyncError). requests_of None (asks_in fed) ++ fault_request f) sound ∙ append-nil (requests_of None (asks_in fed)) in
+    let before : requests_in fed ≡ requests_of None (asks_in fed) = ap (λ (f : Option SyncError). requests_of None (asks_in fed) ++ fault_request f) sound
+    ∙ append-nil (requests_of None (asks_in fed)) in
     ap (λ (f : Option SyncError). requests_of None (asks_in (fed ++ piece)) ++ fault_request f) stands.fault
     ∙ (ap (λ (xs : List SyncAsk). requests_of None xs ++ fault_request r1.fault) stands.frames
     ∙ (ap (λ (rs : List Request). rs ++ fault_request r1.fault) (requests_of-append None (asks_in fed) r1.given)
@@ -31,7 +32,8 @@ fed_more fed piece r1 stands sound =
     ∙ ap (λ (rs : List Request). rs ++ (requests_of send r1.given ++ fault_request r1.fault)) (sym before))))
 
 module _ (fed piece : List ℕ) (old : Run) (read : Reading) (new : Run) (goes_on : old.session.ended ≡ false)
-    (stood : StandsFor fed (held old.reader old.session)) (stands : (taken : List SyncAsk) → StandsForAsks fed taken old.reader → StandsForAsks (fed ++ piece) taken read) where
+    (stood : StandsFor fed (held old.reader old.session))
+    (stands : (taken : List SyncAsk) → StandsForAsks fed taken old.reader → StandsForAsks (fed ++ piece) taken read) where
   abbrev send : Option OpenSend
   send = open_after None (asks_in fed)
 
@@ -58,7 +60,8 @@ module _ (fed piece : List ℕ) (old : Run) (read : Reading) (new : Run) (goes_o
   feeds_ended given stop = record {
     requests = requests_of send read.given ++ fault_request read.fault;
     is = fed_more fed piece read now plain;
-    serves = serves_ended (requests_of send read.given) (fault_request read.fault) (moment_of old) (moment_of new) stop (given send (stood.keeps goes_on)).serves;
+    serves = serves_ended (requests_of send read.given) (fault_request read.fault) (moment_of old) (moment_of new) stop
+        (given send (stood.keeps goes_on)).serves;
     stands = nothing new.session stop;
   }
 
@@ -70,7 +73,8 @@ module _ (fed piece : List ℕ) (old : Run) (read : Reading) (new : Run) (goes_o
     requests = requests_of send read.given ++ fault_request read.fault;
     is = fed_more fed piece read now plain;
     serves = subst (λ (f : Option SyncError). Serves (requests_of send read.given ++ fault_request f) (moment_of old) (moment new.files last)) (sym is)
-        (serves_more (requests_of send read.given) (Fails fault ∷ []) (moment_of old) (moment_of new) (moment new.files last) on (given send (stood.keeps goes_on)).serves
+        (serves_more (requests_of send read.given) (Fails fault ∷ []) (moment_of old) (moment_of new) (moment new.files last) on
+        (given send (stood.keeps goes_on)).serves
         (record { files = refl; answer = out; ends = stop }));
     stands = nothing last stop;
   }
@@ -111,7 +115,8 @@ module _ (fed piece : List ℕ) (old : Run) (read : Reading) (new : Run) (goes_o
   feeds_unsaid last given on same = record {
     requests = requests_of send read.given ++ fault_request read.fault;
     is = fed_more fed piece read now plain;
-    front = front_more (requests_of send read.given) (fault_request read.fault) (moment_of old) (moment_of new) (moment new.files last) on (given send (stood.keeps goes_on)).serves
+    front = front_more (requests_of send read.given) (fault_request read.fault) (moment_of old) (moment_of new) (moment new.files last) on
+        (given send (stood.keeps goes_on)).serves
         (front_none (fault_request read.fault) (moment_of new) (moment new.files last) refl same);
   }
 

@@ -4,18 +4,22 @@ use Rattle.std.proofs.Common.{◌∙◌, ap, sym, arith}
 use Rattle.std.proofs.lemmas.List.{length-append, length-take, length-drop, append_assoc, drop-drop, drop-append-le, drop-take, drop_all, nil_from_length}
 use Rattle.adb_sync.specs.declared.answer.SyncAnswer.TheVariants as answers
 use Rattle.adb_sync.specs.Answers.{answer_bytes}
+use Rattle.adb_files.specs.declared.chunk.TheConstants.{MOST_CHUNK}
 use Rattle.adb_files.specs.declared.chunk.Chunk.{Chunk}
 use Rattle.adb_files.specs.Chunk.{IsWithin, HasFront, TakesHere, left_from}
 use Rattle.adb_files.specs.Served.{chunk_bytes}
 use Rattle.adb_files.proofs.Chunks.{chunk_more, chunk_none}
 
 -- a chunk begins
-pub begins : (bytes header : List ℕ) (from size to : ℕ) → size ≡ min 65536 (length bytes - from) → to ≡ from + size → size ≢ 0 → ((chunk : List ℕ) → length chunk ≡ size → header ++ chunk ≡ answer_bytes (answers.Chunk chunk)) → header ++ (take (to - from) (drop from bytes) ++ chunk_bytes (drop to bytes)) ≡ chunk_bytes (drop from bytes)
+pub begins : (bytes header : List ℕ) (from size to : ℕ) → size ≡ min MOST_CHUNK (length bytes - from) → to ≡ from + size → size ≢ 0
+    → ((chunk : List ℕ) → length chunk ≡ size → header ++ chunk ≡ answer_bytes (answers.Chunk chunk))
+    → header ++ (take (to - from) (drop from bytes) ++ chunk_bytes (drop to bytes)) ≡ chunk_bytes (drop from bytes)
 begins bytes header from size to least end some spells =
     ap (λ n. header ++ (take n rest ++ chunk_bytes (drop to bytes))) (omega arith)
     ∙ (ap (λ n. header ++ (take size rest ++ chunk_bytes (drop n bytes))) end
     ∙ (sym (append_assoc header (take size rest) (chunk_bytes (drop (from + size) bytes)))
-    ∙ (ap (λ (front : List ℕ). front ++ chunk_bytes (drop (from + size) bytes)) (spells (take size rest) (omega (arith, length-take size rest, length-drop from bytes)))
+    ∙ (ap (λ (front : List ℕ). front ++ chunk_bytes (drop (from + size) bytes))
+    (spells (take size rest) (omega (arith, length-take size rest, length-drop from bytes)))
     ∙ (ap (λ (back : List ℕ). answer_bytes (answers.Chunk (take size rest)) ++ chunk_bytes back) (sym (drop-drop size from bytes))
     ∙ (ap (λ n. answer_bytes (answers.Chunk (take n rest)) ++ chunk_bytes (drop n rest)) is
     ∙ sym (chunk_more rest (omega (arith, length-drop from bytes))))))))
@@ -23,11 +27,12 @@ begins bytes header from size to least end some spells =
     rest : List ℕ
     rest = drop from bytes
 
-    is : size ≡ min 65536 (length rest)
-    is = least ∙ ap (λ n. min 65536 n) (sym (length-drop from bytes))
+    is : size ≡ min MOST_CHUNK (length rest)
+    is = least ∙ ap (λ n. min MOST_CHUNK n) (sym (length-drop from bytes))
 
 -- bytes of a chunk whose header was taken are taken
-pub moves : (header bytes more : List ℕ) (from to k : ℕ) → length header ≡ 0 → k ≤ to - from → to ≤ length bytes → header ++ (take (to - (from + k)) (drop (from + k) bytes) ++ more) ≡ drop k (header ++ (take (to - from) (drop from bytes) ++ more))
+pub moves : (header bytes more : List ℕ) (from to k : ℕ) → length header ≡ 0 → k ≤ to - from → to ≤ length bytes
+    → header ++ (take (to - (from + k)) (drop (from + k) bytes) ++ more) ≡ drop k (header ++ (take (to - from) (drop from bytes) ++ more))
 moves header bytes more from to k none least end =
     ap (λ (front : List ℕ). front ++ (take (to - (from + k)) (drop (from + k) bytes) ++ more)) empty
     ∙ (ap (λ (here : List ℕ). here ++ more) taken
@@ -47,20 +52,33 @@ moves header bytes more from to k none least end =
         ∙ ap (λ n. drop k (take n (drop from bytes))) (omega arith))
 
 -- where nothing is left of a chunk, what is behind it is left
-pub spent : (chunk : Chunk) (bytes : List ℕ) → length chunk.header ≡ 8 → chunk.header_taken ≡ 8 → chunk.from ≡ chunk.to → left_from chunk bytes ≡ chunk_bytes (drop chunk.to bytes)
+pub spent : (chunk : Chunk) (bytes : List ℕ) → length chunk.header ≡ 8 → chunk.header_taken ≡ 8 → chunk.from ≡ chunk.to
+    → left_from chunk bytes ≡ chunk_bytes (drop chunk.to bytes)
 spent chunk bytes whole header here =
-    ap (λ (front : List ℕ). front ++ (take (chunk.to - chunk.from) (drop chunk.from bytes) ++ chunk_bytes (drop chunk.to bytes))) (drop_all chunk.header_taken chunk.header (omega arith))
+    ap (λ (front : List ℕ). front ++ (take (chunk.to - chunk.from) (drop chunk.from bytes) ++ chunk_bytes (drop chunk.to bytes)))
+    (drop_all chunk.header_taken chunk.header (omega arith))
     ∙ ap (λ n. take n (drop chunk.from bytes) ++ chunk_bytes (drop chunk.to bytes)) none
   where
     none : chunk.to - chunk.from ≡ 0
     none = omega arith
 
 -- where the header was taken, bytes of a chunk are taken
-pub takes_bytes : (chunk : Chunk) (bytes : List ℕ) (n taken : ℕ) → 8 ≤ chunk.header_taken → taken ≡ min n (chunk.to - chunk.from) → IsWithin chunk bytes → HasFront chunk bytes → TakesHere n taken chunk (record chunk { from = chunk.from + taken }) bytes
+pub takes_bytes : (chunk : Chunk) (bytes : List ℕ) (n taken : ℕ) → 8 ≤ chunk.header_taken → taken ≡ min n (chunk.to - chunk.from) → IsWithin chunk bytes
+    → HasFront chunk bytes → TakesHere n taken chunk (record chunk { from = chunk.from + taken }) bytes
 takes_bytes chunk bytes n taken header is within front = record {
-  here = omega (arith, length-append behind_header (here ++ more), length-append here more, length-take (chunk.to - chunk.from) (drop chunk.from bytes), length-drop chunk.from bytes, within.to, within.from);
+  here = omega (
+    arith,
+    length-append behind_header (here ++ more),
+    length-append here more,
+    length-take (chunk.to - chunk.from)
+        (drop chunk.from bytes),
+    length-drop chunk.from bytes,
+    within.to,
+    within.from,
+  );
   some = λ wanted left. positive wanted left taken refl;
-  left = moves behind_header bytes more chunk.from chunk.to taken (omega (arith, length-drop chunk.header_taken chunk.header, within.header)) (omega arith) within.to;
+  left = moves behind_header bytes more chunk.from chunk.to taken (omega (arith, length-drop chunk.header_taken chunk.header, within.header))
+      (omega arith) within.to;
   within = record { header = within.header; header_taken = within.header_taken; from = omega (arith, within.from); to = within.to };
 }
   where

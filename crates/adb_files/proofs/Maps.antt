@@ -11,7 +11,8 @@ use Rattle.adb_files.proofs.Rising.{rising-with, rising-without, all-with, all-w
 use Rattle.adb_files.proofs.Directories.{plain-with, plain-without}
 use Rattle.adb_files.proofs.Lookups.{Granted}
 
-pub map-with : (path : List ℕ) (file : File) (files : List Entry) → IsFileMap files → Granted files path (length file.bytes) → length path < 2 ^ 32 → IsFileMap (with_file path file files)
+pub map-with : (path : List ℕ) (file : File) (files : List Entry) → IsFileMap files → Granted files path (length file.bytes) → length path < 2 ^ 32
+    → IsFileMap (with_file path file files)
 map-with path file files ok may short = record {
   rising = rising-with path file files ok.rising;
   paths = all-with (λ (e : Entry). is_path e.path ≡ true) path file files ok.paths may.form;

@@ -17,7 +17,8 @@ cmp_parts [] (y ∷ ys) b (suc n) e = absurd (omega (arith, e))
 cmp_parts (x ∷ xs) (y ∷ ys) b zero e = absurd (omega (arith, e))
 cmp_parts (x ∷ xs) (y ∷ ys) b (suc n) e = go (nat_cmp x y) (cmp_parts xs ys b n (omega (arith, e)))
   where
-    go : (o : Ordering) → ordering_then (path_cmp (take n xs) ys) (path_cmp (drop n xs) b) ≡ path_cmp xs (ys ++ b) → ordering_then (ordering_then o (path_cmp (take n xs) ys)) (path_cmp (drop n xs) b) ≡ ordering_then o (path_cmp xs (ys ++ b))
+    go : (o : Ordering) → ordering_then (path_cmp (take n xs) ys) (path_cmp (drop n xs) b) ≡ path_cmp xs (ys ++ b)
+        → ordering_then (ordering_then o (path_cmp (take n xs) ys)) (path_cmp (drop n xs) b) ≡ ordering_then o (path_cmp xs (ys ++ b))
     go Less h = refl
     go Equal h = h
     go Greater h = refl
@@ -28,7 +29,8 @@ starts_with-append p [] s = refl
 starts_with-append [] (x ∷ d) s = refl
 starts_with-append (y ∷ p) (x ∷ d) s = go (nat_eq x y) (starts_with-append p d s)
   where
-    go : (t : Bool) → starts_with nat_eq p (d ++ s) ≡ (starts_with nat_eq p d && starts_with nat_eq (drop (length d) p) s) → (t && starts_with nat_eq p (d ++ s)) ≡ ((t && starts_with nat_eq p d) && starts_with nat_eq (drop (length d) p) s)
+    go : (t : Bool) → starts_with nat_eq p (d ++ s) ≡ (starts_with nat_eq p d && starts_with nat_eq (drop (length d) p) s)
+        → (t && starts_with nat_eq p (d ++ s)) ≡ ((t && starts_with nat_eq p d) && starts_with nat_eq (drop (length d) p) s)
     go true h = h
     go false h = refl
 

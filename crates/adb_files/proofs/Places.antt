@@ -40,7 +40,8 @@ module _ {X : Type 0} (p : X → Bool) where
       ∙ sym (ap (λ t. cond t (x ∷ filter p xs) (filter p xs)) (fail 0 x (omega arith) (omega arith)))
 
 -- an earlier path is before a later one
-pub earlier_less : (files : List Entry) → IsRising files → (i j : ℕ) (d : Entry) → i < j → j < length files → path_cmp (slice_index_or files i d).path (slice_index_or files j d).path ≡ Less
+pub earlier_less : (files : List Entry) → IsRising files → (i j : ℕ) (d : Entry) → i < j → j < length files
+    → path_cmp (slice_index_or files i d).path (slice_index_or files j d).path ≡ Less
 earlier_less files rising i j d l h =
     let f = λ (e : Entry). e.path in
     let less = Less-from_sorted path_cmp (map f files) i j (f d) rising l (omega (arith, length-map files f, h)) in
@@ -52,16 +53,19 @@ earlier_less files rising i j d l h =
 pub searchable : (files : List Entry) (path : List ℕ) → IsRising files → IsNonDecreasingBy (λ (e : Entry). ordering_index (path_cmp e.path path)) files
 searchable files path rising =
     searchable_from_sorted nat_list_cmp_total (λ (e : Entry). e.path) files path
-    (λ k d l h. ap is_lt (greater_back (slice_index_or files k d).path (slice_index_or files (k + 1) d).path (earlier_less files rising k (k + 1) d (omega arith) h)))
+    (λ k d l h. ap is_lt (greater_back (slice_index_or files k d).path (slice_index_or files (k + 1) d).path
+    (earlier_less files rising k (k + 1) d (omega arith) h)))
 
 -- where a path stands, from the order of each path to it
-pub fits_at : (files : List Entry) (path : List ℕ) (i : ℕ) → i ≤ length files → AllWithin (λ e. path_cmp e.path path ≡ Less) files 0 i → AllWithin (λ e. path_cmp e.path path ≡ Greater) files i (length files) → FitsAt path files i
+pub fits_at : (files : List Entry) (path : List ℕ) (i : ℕ) → i ≤ length files → AllWithin (λ e. path_cmp e.path path ≡ Less) files 0 i
+    → AllWithin (λ e. path_cmp e.path path ≡ Greater) files i (length files) → FitsAt path files i
 fits_at files path i h less greater = record {
   within = h;
   less = less;
   greater = greater;
   front = filter_front (λ (e : Entry). is_lt (path_cmp e.path path)) files i (λ k d l m. ap is_lt (less k d l m)) (λ k d l m. ap is_lt (greater k d l m));
-  back = filter_back (λ (e : Entry). is_lt (path_cmp path e.path)) files i (λ k d l m. ap is_lt (greater_back _ path (less k d l m))) (λ k d l m. ap is_lt (less_back _ path (greater k d l m)));
+  back = filter_back (λ (e : Entry). is_lt (path_cmp path e.path)) files i (λ k d l m. ap is_lt (greater_back _ path (less k d l m)))
+      (λ k d l m. ap is_lt (less_back _ path (greater k d l m)));
 }
 
 -- the place itself, or another
@@ -71,7 +75,8 @@ from_cases i k h = grind (arith, cases_order i k)
 below_cases : (i k : ℕ) → k < i + 1 → (i ≡ k) ⊎ (k < i)
 below_cases i k h = grind (arith, cases_order i k)
 
-pub stands_at : (files : List Entry) (path : List ℕ) (i : ℕ) → IsRising files → i < length files → HoldsAt (λ e. path_cmp e.path path ≡ Equal) files i → StandsAt path files i
+pub stands_at : (files : List Entry) (path : List ℕ) (i : ℕ) → IsRising files → i < length files → HoldsAt (λ e. path_cmp e.path path ≡ Equal) files i
+    → StandsAt path files i
 stands_at files path i rising h equal = record {
   within = h;
   here = is;
@@ -94,13 +99,16 @@ stands_at files path i rising h equal = record {
     itself d = ap (path_cmp path) (is d) ∙ path_cmp-same path
 
     not_before : AllWithin (λ e. is_lt (path_cmp e.path path) ≡ false) files i (length files)
-    not_before k d l m = ⊎_elim (λ (e : i ≡ k). subst (λ (n : ℕ). is_lt (path_cmp (slice_index_or files n d).path path) ≡ false) e (ap is_lt (equal d))) (λ (n : i < k). ap is_lt (greater_back path _ (more k d n m))) (from_cases i k l)
+    not_before k d l m = ⊎_elim (λ (e : i ≡ k). subst (λ (n : ℕ). is_lt (path_cmp (slice_index_or files n d).path path) ≡ false) e (ap is_lt (equal d)))
+        (λ (n : i < k). ap is_lt (greater_back path _ (more k d n m))) (from_cases i k l)
 
     not_behind : AllWithin (λ e. is_lt (path_cmp path e.path) ≡ false) files 0 (i + 1)
-    not_behind k d l m = ⊎_elim (λ (e : i ≡ k). subst (λ (n : ℕ). is_lt (path_cmp path (slice_index_or files n d).path) ≡ false) e (ap is_lt (itself d))) (λ (n : k < i). ap is_lt (greater_back _ path (less k d n))) (below_cases i k m)
+    not_behind k d l m = ⊎_elim (λ (e : i ≡ k). subst (λ (n : ℕ). is_lt (path_cmp path (slice_index_or files n d).path) ≡ false) e (ap is_lt (itself d)))
+        (λ (n : k < i). ap is_lt (greater_back _ path (less k d n))) (below_cases i k m)
 
 -- what a search for a path finds
-pub place_from_search : (files : List Entry) (path : List ℕ) (r : Result ℕ ℕ) → IsRising files → IsSearchInRange r (length files) → IsBinarySearchResult (λ e. path_cmp e.path path) files r → MatchResult r (λ i. StandsAt path files i) (λ i. FitsAt path files i)
+pub place_from_search : (files : List Entry) (path : List ℕ) (r : Result ℕ ℕ) → IsRising files → IsSearchInRange r (length files)
+    → IsBinarySearchResult (λ e. path_cmp e.path path) files r → MatchResult r (λ i. StandsAt path files i) (λ i. FitsAt path files i)
 place_from_search files path (Ok i) rising within found = stands_at files path i rising within found
 place_from_search files path (Err i) rising within found =
     let parts = found (searchable files path rising) in fits_at files path i within parts.0 parts.1
@@ -110,7 +118,8 @@ pub begins_where_stands : {path : List ℕ} {files : List Entry} {i : ℕ} → S
 begins_where_stands {path} {files} {i} s = record {
   within = omega (arith, s.within);
   less = s.less;
-  others = λ k d l m e. ⊎_elim (λ (is : i ≡ k). let same = at k d is in let itself = path_cmp-same path in cc) (λ (n : i < k). let more = s.greater k d (omega arith) m in cc) (from_cases i k l);
+  others = λ k d l m e. ⊎_elim (λ (is : i ≡ k). let same = at k d is in let itself = path_cmp-same path in cc)
+      (λ (n : i < k). let more = s.greater k d (omega arith) m in cc) (from_cases i k l);
 }
   where
     at : (k : ℕ) (d : Entry) → i ≡ k → (slice_index_or files k d).path ≡ path

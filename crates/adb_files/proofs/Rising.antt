@@ -24,28 +24,34 @@ less_from_test Equal h = absurd cc
 less_from_test Greater h = absurd cc
 
 -- what holds of each key, through a filter
-keys_filter : (p : Entry → Bool) (P : List ℕ → Type 0) (files : List Entry) → AllByRecursion P (map (λ (e : Entry). e.path) files) → AllByRecursion P (map (λ (e : Entry). e.path) (filter p files))
+keys_filter : (p : Entry → Bool) (P : List ℕ → Type 0) (files : List Entry) → AllByRecursion P (map (λ (e : Entry). e.path) files)
+    → AllByRecursion P (map (λ (e : Entry). e.path) (filter p files))
 keys_filter p P [] all = all
 keys_filter p P (e ∷ files) all = go (p e) (keys_filter p P files all.1)
   where
-    go : (b : Bool) → AllByRecursion P (map (λ (x : Entry). x.path) (filter p files)) → AllByRecursion P (map (λ (x : Entry). x.path) (cond b (e ∷ filter p files) (filter p files)))
+    go : (b : Bool) → AllByRecursion P (map (λ (x : Entry). x.path) (filter p files))
+        → AllByRecursion P (map (λ (x : Entry). x.path) (cond b (e ∷ filter p files) (filter p files)))
     go true rest = (all.0, rest)
     go false rest = rest
 
 -- and of each key that passes a test of it
-keys_pass : (p : Entry → Bool) (P : List ℕ → Type 0) → ((e : Entry) → p e ≡ true → P e.path) → (files : List Entry) → AllByRecursion P (map (λ (e : Entry). e.path) (filter p files))
+keys_pass : (p : Entry → Bool) (P : List ℕ → Type 0) → ((e : Entry) → p e ≡ true → P e.path) → (files : List Entry)
+    → AllByRecursion P (map (λ (e : Entry). e.path) (filter p files))
 keys_pass p P says [] = tt
 keys_pass p P says (e ∷ files) = go (p e) refl (keys_pass p P says files)
   where
-    go : (b : Bool) → p e ≡ b → AllByRecursion P (map (λ (x : Entry). x.path) (filter p files)) → AllByRecursion P (map (λ (x : Entry). x.path) (cond b (e ∷ filter p files) (filter p files)))
+    go : (b : Bool) → p e ≡ b → AllByRecursion P (map (λ (x : Entry). x.path) (filter p files))
+        → AllByRecursion P (map (λ (x : Entry). x.path) (cond b (e ∷ filter p files) (filter p files)))
     go true is rest = (says e is, rest)
     go false is rest = rest
 
-keys_append : (P : List ℕ → Type 0) (xs ys : List Entry) → AllByRecursion P (map (λ (e : Entry). e.path) xs) → AllByRecursion P (map (λ (e : Entry). e.path) ys) → AllByRecursion P (map (λ (e : Entry). e.path) (xs ++ ys))
+keys_append : (P : List ℕ → Type 0) (xs ys : List Entry) → AllByRecursion P (map (λ (e : Entry). e.path) xs) → AllByRecursion P (map (λ (e : Entry). e.path) ys)
+    → AllByRecursion P (map (λ (e : Entry). e.path) (xs ++ ys))
 keys_append P [] ys left right = right
 keys_append P (x ∷ xs) ys left right = (left.0, keys_append P xs ys left.1 right)
 
-keys_weaker : (P Q : List ℕ → Type 0) → ((k : List ℕ) → P k → Q k) → (files : List Entry) → AllByRecursion P (map (λ (e : Entry). e.path) files) → AllByRecursion Q (map (λ (e : Entry). e.path) files)
+keys_weaker : (P Q : List ℕ → Type 0) → ((k : List ℕ) → P k → Q k) → (files : List Entry) → AllByRecursion P (map (λ (e : Entry). e.path) files)
+    → AllByRecursion Q (map (λ (e : Entry). e.path) files)
 keys_weaker P Q says [] all = tt
 keys_weaker P Q says (e ∷ files) all = (says e.path all.0, keys_weaker P Q says files all.1)
 
@@ -59,12 +65,14 @@ rising-filter p (e ∷ files) up = go (p e) (rising-filter p files up.1)
     go true rest = (keys_filter p (λ k. path_cmp e.path k ≡ Less) files up.0, rest)
     go false rest = rest
 
-rising-cons : (e : Entry) (files : List Entry) → AllByRecursion (λ k. path_cmp e.path k ≡ Less) (map (λ (x : Entry). x.path) files) → IsRising files → IsRising (e ∷ files)
+rising-cons : (e : Entry) (files : List Entry) → AllByRecursion (λ k. path_cmp e.path k ≡ Less) (map (λ (x : Entry). x.path) files) → IsRising files
+    → IsRising (e ∷ files)
 unfolding IsStrictlySortedBy
 rising-cons e files less up = (less, up)
 
 -- rising files behind rising files
-rising-append : (xs ys : List Entry) → IsRising xs → IsRising ys → AllByRecursion (λ k. AllByRecursion (λ q. path_cmp k q ≡ Less) (map (λ (e : Entry). e.path) ys)) (map (λ (e : Entry). e.path) xs) → IsRising (xs ++ ys)
+rising-append : (xs ys : List Entry) → IsRising xs → IsRising ys
+    → AllByRecursion (λ k. AllByRecursion (λ q. path_cmp k q ≡ Less) (map (λ (e : Entry). e.path) ys)) (map (λ (e : Entry). e.path) xs) → IsRising (xs ++ ys)
 unfolding IsStrictlySortedBy
 rising-append [] ys up_x up_y less = up_y
 rising-append (x ∷ xs) ys up_x up_y less =
@@ -78,10 +86,12 @@ more_keys : (path : List ℕ) (files : List Entry) → AllByRecursion (λ k. pat
 more_keys path files =
     keys_pass (λ (e : Entry). is_lt (path_cmp path e.path)) (λ k. path_cmp path k ≡ Less) (λ e h. less_from_test (path_cmp path e.path) h) files
 
-across : (path : List ℕ) (files : List Entry) → AllByRecursion (λ k. AllByRecursion (λ q. path_cmp k q ≡ Less) (map (λ (e : Entry). e.path) (behind path files))) (map (λ (e : Entry). e.path) (before path files))
+across : (path : List ℕ) (files : List Entry) → AllByRecursion
+    (λ k. AllByRecursion (λ q. path_cmp k q ≡ Less) (map (λ (e : Entry). e.path) (behind path files))) (map (λ (e : Entry). e.path) (before path files))
 across path files =
     keys_weaker (λ k. path_cmp k path ≡ Less) (λ k. AllByRecursion (λ q. path_cmp k q ≡ Less) (map (λ (e : Entry). e.path) (behind path files)))
-    (λ k l. keys_weaker (λ q. path_cmp path q ≡ Less) (λ q. path_cmp k q ≡ Less) (λ q m. nat_list_cmp_total.trans k path q l m) (behind path files) (more_keys path files))
+    (λ k l. keys_weaker (λ q. path_cmp path q ≡ Less) (λ q. path_cmp k q ≡ Less) (λ q m. nat_list_cmp_total.trans k path q l m) (behind path files)
+    (more_keys path files))
     (before path files) (less_keys path files)
 
 pub rising-without : (path : List ℕ) (files : List Entry) → IsRising files → IsRising (without path files)
@@ -94,21 +104,32 @@ rising-with path file files up =
     (rising-cons (entry_of path file) (behind path files) (more_keys path files) (rising-filter _ files up))
     (both (before path files) (less_keys path files) (across path files))
   where
-    both : (xs : List Entry) → AllByRecursion (λ k. path_cmp k path ≡ Less) (map (λ (e : Entry). e.path) xs) → AllByRecursion (λ k. AllByRecursion (λ q. path_cmp k q ≡ Less) (map (λ (e : Entry). e.path) (behind path files))) (map (λ (e : Entry). e.path) xs) → AllByRecursion (λ k. AllByRecursion (λ q. path_cmp k q ≡ Less) (path ∷ map (λ (e : Entry). e.path) (behind path files))) (map (λ (e : Entry). e.path) xs)
+    both : (xs : List Entry) → AllByRecursion (λ k. path_cmp k path ≡ Less) (map (λ (e : Entry). e.path) xs)
+        → AllByRecursion (λ k. AllByRecursion (λ q. path_cmp k q ≡ Less) (map (λ (e : Entry). e.path) (behind path files))) (map (λ (e : Entry). e.path) xs)
+        → AllByRecursion (λ k. AllByRecursion (λ q. path_cmp k q ≡ Less) (path ∷ map (λ (e : Entry). e.path) (behind path files)))
+        (map (λ (e : Entry). e.path) xs)
     both [] less far = tt
     both (x ∷ xs) less far = ((less.0, far.0), both xs less.1 far.1)
 
 pub total-with : (path : List ℕ) (file : File) (files : List Entry) → total (with_file path file files) ≡ total (without path files) + length file.bytes
 total-with path file files =
     let size = λ (e : Entry). length e.file.bytes in
-    omega (arith, sum_by-append size (before path files) (entry_of path file ∷ behind path files), sum_by-cons size (entry_of path file) (behind path files), sum_by-append size (before path files) (behind path files))
+    omega (
+      arith,
+      sum_by-append size (before path files) (entry_of path file ∷ behind path files),
+      sum_by-cons size (entry_of path file)
+          (behind path files),
+      sum_by-append size (before path files) (behind path files),
+    )
 
 -- what holds of each file, of those with a new one, and of those without one
-pub all-with : (P : Entry → Type 0) (path : List ℕ) (file : File) (files : List Entry) → All P files → P (entry_of path file) → All P (with_file path file files)
+pub all-with : (P : Entry → Type 0) (path : List ℕ) (file : File) (files : List Entry) → All P files → P (entry_of path file)
+    → All P (with_file path file files)
 all-with P path file files all here =
     All-append P (before path files) (entry_of path file ∷ behind path files) (All-filter (λ e. is_lt (path_cmp e.path path)) P files all)
     (All-cons P (entry_of path file) (behind path files) here (All-filter (λ e. is_lt (path_cmp path e.path)) P files all))
 
 pub all-without : (P : Entry → Type 0) (path : List ℕ) (files : List Entry) → All P files → All P (without path files)
 all-without P path files all =
-    All-append P (before path files) (behind path files) (All-filter (λ e. is_lt (path_cmp e.path path)) P files all) (All-filter (λ e. is_lt (path_cmp path e.path)) P files all)
+    All-append P (before path files) (behind path files) (All-filter (λ e. is_lt (path_cmp e.path path)) P files all)
+    (All-filter (λ e. is_lt (path_cmp path e.path)) P files all)

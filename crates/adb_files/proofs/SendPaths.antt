@@ -35,9 +35,12 @@ number_short s n told m e = go (nat_lt 1024 n) refl e
     go false is h = ltb-false 1024 n is
 
 whole_short : (s : AskFormat) (x : List ℕ) (n : ℕ) → ask_front s x ≡ Whole n → n ≡ length x → HasShortPath (ask_of s x)
-whole_short s x n whole long = go (ask_id_of (take 4 x)) (told_there (length x) 4 (front_past_id ask_kind ask_head ask_number_fault ask_body ask_body_fault s (ask_kind s (take 4 x)) (drop 4 x)) (Whole n) (λ c. cc) whole).1
+whole_short s x n whole long = go (ask_id_of (take 4 x))
+    (told_there (length x) 4 (front_past_id ask_kind ask_head ask_number_fault ask_body ask_body_fault s (ask_kind s (take 4 x)) (drop 4 x)) (Whole n)
+    (λ c. cc) whole).1
   where
-    go : (id : Option AskId) → front_past_id ask_kind ask_head ask_number_fault ask_body ask_body_fault s (ask_id_in_place s id) (drop 4 x) ≡ Whole n → HasShortPath (ask_by id (number_at 4 x) (drop 8 x))
+    go : (id : Option AskId) → front_past_id ask_kind ask_head ask_number_fault ask_body ask_body_fault s (ask_id_in_place s id) (drop 4 x) ≡ Whole n
+        → HasShortPath (ask_by id (number_at 4 x) (drop 8 x))
     go None e = tt
     go (Some ids.Stat) e = tt
     go (Some ids.List) e = tt
@@ -47,11 +50,15 @@ whole_short s x n whole long = go (ask_id_of (take 4 x)) (told_there (length x) 
     go (Some ids.Quit) e = tt
     go (Some ids.Send) e = by s.sending e
       where
-        by : (sending : Bool) → front_past_id ask_kind ask_head ask_number_fault ask_body ask_body_fault s (cond (is_in_place sending ids.Send) (Ok ids.Send) (Err (BadPlace s.offset))) (drop 4 x) ≡ Whole n → HasShortPath (send_cut (drop 8 x) (last_comma (drop 8 x)))
+        by : (sending : Bool) → front_past_id ask_kind ask_head ask_number_fault ask_body ask_body_fault s
+            (cond (is_in_place sending ids.Send) (Ok ids.Send) (Err (BadPlace s.offset))) (drop 4 x) ≡ Whole n
+            → HasShortPath (send_cut (drop 8 x) (last_comma (drop 8 x)))
         by true h = let clash : Bad (BadPlace s.offset) ≡ Whole n = h in absurd cc
         by false h =
-            let past = told_there (length (drop 4 x)) 4 (front_past_head ask_kind ask_head ask_number_fault ask_body ask_body_fault s ids.Send (number_at 0 (drop 4 x)) (drop 4 (drop 4 x))) (Whole n) (λ c. cc) h in
-            let all = past_head_whole ask_kind ask_head ask_number_fault ask_body ask_body_fault (λ s kind. omega arith) s ids.Send (number_at 0 (drop 4 x)) (drop 4 (drop 4 x)) n past.1 in
+            let past = told_there (length (drop 4 x)) 4 (front_past_head ask_kind ask_head ask_number_fault ask_body ask_body_fault s ids.Send
+            (number_at 0 (drop 4 x)) (drop 4 (drop 4 x))) (Whole n) (λ c. cc) h in
+            let all = past_head_whole ask_kind ask_head ask_number_fault ask_body ask_body_fault (λ s kind. omega arith) s ids.Send (number_at 0 (drop 4 x))
+            (drop 4 (drop 4 x)) n past.1 in
             let small = number_short s (number_at 0 (drop 4 x)) _ n past.1 in
             cut_short (drop 8 x) (omega (arith, all.len, small, long, length-drop 8 x))
 
@@ -59,7 +66,9 @@ pub asks_short : (k : ℕ) (s : AskFormat) (bytes : List ℕ) → AllByRecursion
 asks_short zero s bytes = tt
 asks_short (suc k) s bytes = go (ask_front s bytes) refl (asks_short k)
   where
-    go : (f : Front SyncError) → ask_front s bytes ≡ f → ((t : AskFormat) (more : List ℕ) → AllByRecursion HasShortPath (cut_at ask_front ask_of past_ask k t more).given) → AllByRecursion HasShortPath (cut_by ask_front ask_of past_ask s bytes f (cut_at ask_front ask_of past_ask k)).given
+    go : (f : Front SyncError) → ask_front s bytes ≡ f →
+        ((t : AskFormat) (more : List ℕ) → AllByRecursion HasShortPath (cut_at ask_front ask_of past_ask k t more).given)
+        → AllByRecursion HasShortPath (cut_by ask_front ask_of past_ask s bytes f (cut_at ask_front ask_of past_ask k)).given
     go More is later = tt
     go (Bad fault) is later = tt
     go (Whole n) is later =
@@ -71,6 +80,7 @@ short_append : (xs ys : List SyncAsk) → AllByRecursion HasShortPath xs → All
 short_append [] ys left right = right
 short_append (x ∷ xs) ys left right = (left.0, short_append xs ys left.1 right)
 
-pub short_after : (held : Cut AskFormat SyncAsk SyncError) (piece : List ℕ) (fault : Option SyncError) → AllByRecursion HasShortPath held.given → AllByRecursion HasShortPath (asks_after held piece fault).given
+pub short_after : (held : Cut AskFormat SyncAsk SyncError) (piece : List ℕ) (fault : Option SyncError) → AllByRecursion HasShortPath held.given
+    → AllByRecursion HasShortPath (asks_after held piece fault).given
 short_after held piece None all = short_append held.given _ all (asks_short (length (held.rest ++ piece)) held.reading (held.rest ++ piece))
 short_after held piece (Some fault) all = all

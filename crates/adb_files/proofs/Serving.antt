@@ -20,7 +20,8 @@ abbrev Reading : Type 0
 Reading = Cut AskFormat SyncAsk SyncError
 
 -- messages behind messages
-pub requests_of-append : (send : Option OpenSend) (xs ys : List SyncAsk) → requests_of send (xs ++ ys) ≡ requests_of send xs ++ requests_of (open_after send xs) ys
+pub requests_of-append : (send : Option OpenSend) (xs ys : List SyncAsk)
+    → requests_of send (xs ++ ys) ≡ requests_of send xs ++ requests_of (open_after send xs) ys
 requests_of-append send [] ys = refl
 requests_of-append send (x ∷ xs) ys =
     ap (λ (rs : List Request). completed send x ++ rs) (requests_of-append (open_past send x) xs ys)
@@ -35,7 +36,8 @@ abbrev with_later : Bool → Served → Served → Served
 with_later stop first later = cond stop first (record { files = later.files; answer = first.answer ++ later.answer; ended = later.ended })
 
 -- past the end nothing is served
-pub serve_all-ended : (more rest : List Request) (files : List Entry) → (serve_all files more).ended ≡ true → serve_all files (more ++ rest) ≡ serve_all files more
+pub serve_all-ended : (more rest : List Request) (files : List Entry) → (serve_all files more).ended ≡ true
+    → serve_all files (more ++ rest) ≡ serve_all files more
 serve_all-ended [] rest files e = absurd cc
 serve_all-ended (q ∷ more) rest files e = by (serve_one files q).ended (serve_all-ended more rest (serve_one files q).files) e
   where
@@ -61,20 +63,24 @@ serve_all-more (q ∷ more) rest files e = by (serve_one files q).ended refl (se
     s : Served
     s = serve_one files q
 
-    by : (t : Bool) → s.ended ≡ t → ((serve_all s.files more).ended ≡ false → Joins (serve_all s.files more) (serve_all (serve_all s.files more).files rest) (serve_all s.files (more ++ rest)))
+    by : (t : Bool) → s.ended ≡ t → ((serve_all s.files more).ended ≡ false
+        → Joins (serve_all s.files more) (serve_all (serve_all s.files more).files rest) (serve_all s.files (more ++ rest)))
         → (with_later t s (serve_all s.files more)).ended ≡ false
-        → Joins (with_later t s (serve_all s.files more)) (serve_all (with_later t s (serve_all s.files more)).files rest) (with_later t s (serve_all s.files (more ++ rest)))
+        → Joins (with_later t s (serve_all s.files more)) (serve_all (with_later t s (serve_all s.files more)).files rest)
+        (with_later t s (serve_all s.files (more ++ rest)))
     by true is later h = absurd cc
     by false is later h =
         let l = later h in
         record {
           files = l.files;
-          answer = ap (λ (b : List ℕ). s.answer ++ b) l.answer ∙ sym (append_assoc s.answer (serve_all s.files more).answer (serve_all (serve_all s.files more).files rest).answer);
+          answer = ap (λ (b : List ℕ). s.answer ++ b) l.answer
+              ∙ sym (append_assoc s.answer (serve_all s.files more).answer (serve_all (serve_all s.files more).files rest).answer);
           ended = l.ended;
         }
 
 -- one request alone
-pub serve_all-one : (files : List Entry) (q : Request) → ((serve_all files (q ∷ [])).files ≡ (serve_one files q).files) × ((serve_all files (q ∷ [])).answer ≡ (serve_one files q).answer)
+pub serve_all-one : (files : List Entry) (q : Request)
+    → ((serve_all files (q ∷ [])).files ≡ (serve_one files q).files) × ((serve_all files (q ∷ [])).answer ≡ (serve_one files q).answer)
 serve_all-one files q = by (serve_one files q).ended
   where
     s : Served
@@ -92,7 +98,8 @@ serves_more qs rs a b c on first second =
       answer = second.answer
           ∙ (ap (λ (o : List ℕ). o ++ (serve_all b.files rs).answer) first.answer
           ∙ (append_assoc a.out (serve_all a.files qs).answer (serve_all b.files rs).answer
-          ∙ (ap (λ (f : List Entry). a.out ++ ((serve_all a.files qs).answer ++ (serve_all f rs).answer)) first.files ∙ ap (λ (o : List ℕ). a.out ++ o) (sym all.answer))));
+          ∙ (ap (λ (f : List Entry). a.out ++ ((serve_all a.files qs).answer ++ (serve_all f rs).answer)) first.files
+          ∙ ap (λ (o : List ℕ). a.out ++ o) (sym all.answer))));
       ends = second.ends ∙ (ap (λ (f : List Entry). (serve_all f rs).ended) first.files ∙ sym all.ended);
     }
 
@@ -107,7 +114,8 @@ serves_ended qs rs a b stop first =
 
 -- a STAT was served
 pub stat_served : (send : Option OpenSend) (ask : SyncAsk) (path : List ℕ) (kept : Option Sending) (a b : Moment) → ask ≡ asks.Stat path → b.files ≡ a.files
-    → b.out ≡ a.out ++ stat_bytes_of (stat_in a.files path) → b.ended ≡ false → KeepsSend send kept → Serves (completed send ask) a b × KeepsSend (open_past send ask) kept
+    → b.out ≡ a.out ++ stat_bytes_of (stat_in a.files path) → b.ended ≡ false → KeepsSend send kept
+    → Serves (completed send ask) a b × KeepsSend (open_past send ask) kept
 stat_served send ask path kept a b is same out on keeps =
     let answer = stat_bytes_of (stat_in a.files path) in
     subst (λ (q : SyncAsk). Serves (completed send q) a b × KeepsSend (open_past send q) kept) (sym is)
@@ -129,7 +137,8 @@ front_none qs a b files out = record {
 }
 
 -- memory ran out in the first request
-pub front_one : (q : Request) (qs : List Request) (a b : Moment) → b.files ≡ (serve_one a.files q).files → TellsFront (serve_one a.files q).answer a.out b.out → ServesFront (q ∷ qs) a b
+pub front_one : (q : Request) (qs : List Request) (a b : Moment) → b.files ≡ (serve_one a.files q).files → TellsFront (serve_one a.files q).answer a.out b.out
+    → ServesFront (q ∷ qs) a b
 front_one q qs a b files tells = record {
   whole = [];
   last = q ∷ [];
@@ -159,7 +168,8 @@ send_front send mtime a b (inr done) out =
     front_one q [] a b done ((serve_one a.files q).answer, record { said = []; behind = out ∙ sym (append-nil a.out); within = refl })
 
 -- memory ran out at a DONE
-pub finish_front : (send : Option OpenSend) (ask : SyncAsk) (mtime : ℕ) (sending : Sending) (a b : Moment) → ask ≡ asks.Finish mtime → KeepsSend send (Some sending)
+pub finish_front : (send : Option OpenSend) (ask : SyncAsk) (mtime : ℕ) (sending : Sending) (a b : Moment) → ask ≡ asks.Finish mtime
+    → KeepsSend send (Some sending)
     → ((s : OpenSend) → IsKept s sending → (b.files ≡ a.files) ⊎ (b.files ≡ (serve_one a.files (Sends s.path s.mode s.bytes mtime)).files)) → b.out ≡ a.out
     → ServesFront (completed send ask) a b
 finish_front None ask mtime sending a b is keeps files out = absurd keeps
@@ -202,7 +212,8 @@ front_more qs rs a b c on first front = record {
       ∙ ((moved (front.whole ++ front.last)).1
       ∙ (ap (λ (o : List ℕ). before ++ o) front.within
       ∙ (sym (append_assoc before (told ++ front.said) front.unsaid)
-      ∙ ap (λ (o : List ℕ). o ++ front.unsaid) (sym (append_assoc before told front.said) ∙ ap (λ (o : List ℕ). o ++ front.said) (sym (moved front.whole).1)))));
+      ∙ ap (λ (o : List ℕ). o ++ front.unsaid) (sym (append_assoc before told front.said)
+      ∙ ap (λ (o : List ℕ). o ++ front.said) (sym (moved front.whole).1)))));
 }
   where
     before : List ℕ
@@ -214,7 +225,8 @@ front_more qs rs a b c on first front = record {
     together : (qs ++ front.whole) ++ front.last ≡ qs ++ (front.whole ++ front.last)
     together = append_assoc qs front.whole front.last
 
-    moved : (xs : List Request) → ((serve_all a.files (qs ++ xs)).files ≡ (serve_all b.files xs).files) × ((serve_all a.files (qs ++ xs)).answer ≡ (serve_all a.files qs).answer ++ (serve_all b.files xs).answer)
+    moved : (xs : List Request) → ((serve_all a.files (qs ++ xs)).files ≡ (serve_all b.files xs).files) ×
+        ((serve_all a.files (qs ++ xs)).answer ≡ (serve_all a.files qs).answer ++ (serve_all b.files xs).answer)
     moved xs =
         let all = serve_all-more qs xs a.files (sym first.ends ∙ on) in (
           all.files ∙ ap (λ (f : List Entry). (serve_all f xs).files) (sym first.files),
@@ -246,8 +258,10 @@ done_none send r on keeps = record {
   keeps = keeps;
 }
 
-pub done_more : (send : Option OpenSend) (r0 r1 r2 : Run) (ask : SyncAsk) → r1.session.ended ≡ false → Done send r0 r1 → r1.reader ≡ record r2.reader { given = ask ∷ r2.reader.given }
-    → ((s : Option OpenSend) → KeepsSend s r1.session.sending → Serves (completed s ask) (moment_of r1) (moment_of r2) × KeepsSend (open_past s ask) r2.session.sending)
+pub done_more : (send : Option OpenSend) (r0 r1 r2 : Run) (ask : SyncAsk) → r1.session.ended ≡ false → Done send r0 r1
+    → r1.reader ≡ record r2.reader { given = ask ∷ r2.reader.given }
+    → ((s : Option OpenSend) → KeepsSend s r1.session.sending
+    → Serves (completed s ask) (moment_of r1) (moment_of r2) × KeepsSend (open_past s ask) r2.session.sending)
     → Done send r0 r2
 done_more send r0 r1 r2 ask on d next take =
     let t = take (open_after send d.done) d.keeps in
@@ -283,14 +297,16 @@ given_all send r0 r1 r2 d none same =
 
 pub given_ended : (send : Option OpenSend) (r0 r1 : Run) → r1.session.ended ≡ true → Done send r0 r1 → ServesGiven send r0 r1
 given_ended send r0 r1 stop d = record {
-  serves = subst (λ (rs : List Request). Serves rs (moment_of r0) (moment_of r1)) (sym (ap (requests_of send) d.is ∙ requests_of-append send d.done r1.reader.given))
+  serves = subst (λ (rs : List Request). Serves rs (moment_of r0) (moment_of r1))
+      (sym (ap (requests_of send) d.is ∙ requests_of-append send d.done r1.reader.given))
       (serves_ended (requests_of send d.done) (requests_of (open_after send d.done) r1.reader.given) (moment_of r0) (moment_of r1) stop d.serves);
   empty = λ on. absurd (true≢false (sym stop ∙ on));
   keeps = λ on. absurd (true≢false (sym stop ∙ on));
 }
 
 -- a message that wants memory
-pub given_front : (send : Option OpenSend) (r0 r1 r2 : Run) (ask : SyncAsk) → r1.session.ended ≡ false → Done send r0 r1 → r1.reader ≡ record r2.reader { given = ask ∷ r2.reader.given }
+pub given_front : (send : Option OpenSend) (r0 r1 r2 : Run) (ask : SyncAsk) → r1.session.ended ≡ false → Done send r0 r1
+    → r1.reader ≡ record r2.reader { given = ask ∷ r2.reader.given }
     → ((s : Option OpenSend) → KeepsSend s r1.session.sending → ServesFront (completed s ask) (moment_of r1) (moment_of r2))
     → ServesFront (requests_of send r0.reader.given) (moment_of r0) (moment_of r2)
 given_front send r0 r1 r2 ask on d next take =
@@ -311,5 +327,6 @@ on_err_both (Ok x) f p q = tt
 on_err_both (Err e) f p q = f p q
 
 -- the messages that are left after one
-pub short_left : (r1 r2 : Reading) (ask : SyncAsk) → r1 ≡ record r2 { given = ask ∷ r2.given } → AllByRecursion HasShortPath r1.given → HasShortPath ask × AllByRecursion HasShortPath r2.given
+pub short_left : (r1 r2 : Reading) (ask : SyncAsk) → r1 ≡ record r2 { given = ask ∷ r2.given } → AllByRecursion HasShortPath r1.given
+    → HasShortPath ask × AllByRecursion HasShortPath r2.given
 short_left r1 r2 ask next all = subst (λ (r : Reading). AllByRecursion HasShortPath r.given) next all

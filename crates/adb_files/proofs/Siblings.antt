@@ -46,7 +46,8 @@ lt_from_less x y xs h = go (nat_cmp x y) (ranked x y (nat_cmp x y) refl) xs h
     go Greater m xs e = absurd cc
 
 -- and whatever stands between them goes on with a slash too
-pub front_between : (q x e : List ℕ) → starts_with nat_eq x (q ++ codes "/") ≡ true → path_cmp x e ≡ Less → path_cmp e (q ++ codes "0") ≡ Less → starts_with nat_eq e (q ++ codes "/") ≡ true
+pub front_between : (q x e : List ℕ) → starts_with nat_eq x (q ++ codes "/") ≡ true → path_cmp x e ≡ Less → path_cmp e (q ++ codes "0") ≡ Less
+    → starts_with nat_eq e (q ++ codes "/") ≡ true
 front_between [] [] e begins low high = absurd cc
 front_between [] (a ∷ x) [] begins low high = absurd cc
 front_between [] (a ∷ x) (c ∷ e) begins low high =
@@ -84,7 +85,8 @@ alike_fronts q x y hx hy =
     }
 
 -- the first slash, where it is
-pub slash_here : (r : List ℕ) (i : ℕ) → i < length r → ((k : ℕ) → k < i → (slice_index_or r k 0 == 47) ≡ false) → (slice_index_or r i 0 == 47) ≡ true → slash_in r ≡ Some i
+pub slash_here : (r : List ℕ) (i : ℕ) → i < length r → ((k : ℕ) → k < i → (slice_index_or r k 0 == 47) ≡ false) → (slice_index_or r i 0 == 47) ≡ true
+    → slash_in r ≡ Some i
 slash_here r i h before at =
     let is : position_or_len (λ byte. byte == 47) r ≡ i = position_or_len_is (λ byte. byte == 47) r i 0 (omega arith) before (λ l. at) in
     ap (λ n. cond (ltb n (length r)) (Some n) None) is ∙ ap (λ t. cond t (Some i) None) (lt-ltb i (length r) h)
@@ -93,7 +95,8 @@ slash_here r i h before at =
 pub slash_alike : (r s : List ℕ) (i : ℕ) → slash_in s ≡ Some i → Alike (i + 1) r s → slash_in r ≡ Some i
 slash_alike r s i found alike =
     let at = position-Some (λ byte. byte == 47) s i 0 found in
-    let same : (k : ℕ) → k < i + 1 → slice_index_or r k 0 ≡ slice_index_or s k 0 = λ k l. sym (get_or-take (i + 1) r k 0 l) ∙ (ap (λ (xs : List ℕ). slice_index_or xs k 0) alike.agree ∙ get_or-take (i + 1) s k 0 l) in
+    let same : (k : ℕ) → k < i + 1 → slice_index_or r k 0 ≡ slice_index_or s k 0 = λ k l. sym (get_or-take (i + 1) r k 0 l)
+    ∙ (ap (λ (xs : List ℕ). slice_index_or xs k 0) alike.agree ∙ get_or-take (i + 1) s k 0 l) in
     slash_here r i (omega (arith, alike.long))
     (λ k l. ap (λ n. n == 47) (same k (omega arith)) ∙ at.2 k l)
     (ap (λ n. n == 47) (same i (omega arith)) ∙ at.1)

@@ -41,7 +41,8 @@ requests_grow fed piece = go (ask_fault_in fed) refl
           is = ap (λ (d : Cut AskFormat SyncAsk SyncError). requests_of None d.given ++ fault_request d.fault) more
               ∙ (ap (λ (rs : List Request). rs ++ fault_request next.fault) (requests_of-append None (asks_in fed) next.given)
               ∙ (append_assoc (requests_of None (asks_in fed)) (requests_of (open_after None (asks_in fed)) next.given) (fault_request next.fault)
-              ∙ ap (λ (rs : List Request). rs ++ (requests_of (open_after None (asks_in fed)) next.given ++ fault_request next.fault)) (sym (ap (λ (f : Option SyncError). requests_of None (asks_in fed) ++ fault_request f) is ∙ append-nil (requests_of None (asks_in fed))))));
+              ∙ ap (λ (rs : List Request). rs ++ (requests_of (open_after None (asks_in fed)) next.given ++ fault_request next.fault))
+              (sym (ap (λ (f : Option SyncError). requests_of None (asks_in fed) ++ fault_request f) is ∙ append-nil (requests_of None (asks_in fed))))));
         }
 
 -- all that was served so far
@@ -75,7 +76,8 @@ front_behind taken requests a b front = record {
 }
 
 -- nothing was asked yet
-pub served_none : (files : List Entry) (service : Service) → StandsFor [] service → service.out ≡ [] → service.ended ≡ false → HasServed files [] [] service files
+pub served_none : (files : List Entry) (service : Service) → StandsFor [] service → service.out ≡ [] → service.ended ≡ false
+    → HasServed files [] [] service files
 served_none files service stands out on = record { stands = stands; left = refl; given_out = out; ends = on }
 
 -- whether a service is spent says nothing of what it holds
@@ -95,16 +97,19 @@ feeds_none fed piece old new files same =
 -- A service that began over some files was fed these bytes, and these of its answers were taken. The next piece:
 module _ (first : List Entry) (fed taken piece : List ℕ) where
   -- it was taken
-  pub served_more : (old new : Service) (files files' : List Entry) → old.ended ≡ false → HasServed first fed taken old files → Feeds fed piece old new files files'
+  pub served_more : (old new : Service) (files files' : List Entry) → old.ended ≡ false → HasServed first fed taken old files
+      → Feeds fed piece old new files files'
       → HasServed first (fed ++ piece) taken new files'
   served_more old new files files' on has feeds =
       let all = subst (λ (rs : List Request). Serves rs (moment_first first) (moment_behind taken files' new)) (sym feeds.is)
-      (serves_more (requests_in fed) feeds.requests (moment_first first) (moment_behind taken files old) (moment_behind taken files' new) on (so_far first files fed taken old has)
+      (serves_more (requests_in fed) feeds.requests (moment_first first) (moment_behind taken files old) (moment_behind taken files' new) on
+      (so_far first files fed taken old has)
       (serves_behind taken feeds.requests (moment_behind [] files old) (moment_behind [] files' new) feeds.serves)) in
       record { stands = feeds.stands; left = all.files; given_out = all.answer; ends = all.ends }
 
   -- an ended service dropped it
-  pub served_dropped : (old : Service) (files : List Entry) → old.ended ≡ true → HasServed first fed taken old files → HasServed first (fed ++ piece) taken old files
+  pub served_dropped : (old : Service) (files : List Entry) → old.ended ≡ true → HasServed first fed taken old files
+      → HasServed first (fed ++ piece) taken old files
   served_dropped old files stop has =
       let grows = requests_grow fed piece in
       let all = subst (λ (rs : List Request). Serves rs (moment_first first) (moment_behind taken files old)) (sym grows.is)
@@ -130,11 +135,13 @@ module _ (first : List Entry) (fed taken piece : List ℕ) where
       (front_whole (requests_in fed) (moment_first first) (moment_behind taken files old) (so_far first files fed taken old has)))
 
   -- memory ran out at it
-  pub front_fed : (old new : Service) (files files' : List Entry) → old.ended ≡ false → HasServed first fed taken old files → FeedsFront fed piece old new files files'
+  pub front_fed : (old new : Service) (files files' : List Entry) → old.ended ≡ false → HasServed first fed taken old files
+      → FeedsFront fed piece old new files files'
       → ServesFront (requests_in (fed ++ piece)) (moment_first first) (moment_behind taken files' new)
   front_fed old new files files' on has feeds =
       subst (λ (rs : List Request). ServesFront rs (moment_first first) (moment_behind taken files' new)) (sym feeds.is)
-      (front_more (requests_in fed) feeds.requests (moment_first first) (moment_behind taken files old) (moment_behind taken files' new) on (so_far first files fed taken old has)
+      (front_more (requests_in fed) feeds.requests (moment_first first) (moment_behind taken files old) (moment_behind taken files' new) on
+      (so_far first files fed taken old has)
       (front_behind taken feeds.requests (moment_behind [] files old) (moment_behind [] files' new) feeds.front))
 
 -- answers that were taken
@@ -155,8 +162,10 @@ module _ (old view new : Service) (files files' : List Entry) (piece : List ℕ)
       let seen = subst (λ (s : Service). HasServed first fed taken s files) (sym same) has in
       record { stands = stands_unspent fed view false seen.stands; left = seen.left; given_out = seen.given_out; ends = seen.ends }
 
-  pub call_served : ((fed : List ℕ) → StandsFor fed (record view { spent = false }) → Feeds fed piece (record view { spent = false }) new files files') → (spent : Bool)
-      → (first : List Entry) (fed taken : List ℕ) → HasServed first fed taken old files → HasServed first (fed ++ piece) taken (record new { spent = spent }) files'
+  pub call_served : ((fed : List ℕ) → StandsFor fed (record view { spent = false }) → Feeds fed piece (record view { spent = false }) new files files')
+      → (spent : Bool)
+      → (first : List Entry) (fed taken : List ℕ) → HasServed first fed taken old files
+      → HasServed first (fed ++ piece) taken (record new { spent = spent }) files'
   call_served call spent first fed taken has =
       let fresh = before first fed taken has in
       let after = served_more first fed taken piece (record view { spent = false }) new files files' on fresh (call fed fresh.stands) in

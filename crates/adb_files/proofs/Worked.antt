@@ -18,11 +18,13 @@ abbrev push : List ℕ
 push = codes "SEND" ++ number 6 ++ codes "/n,420" ++ codes "DATA" ++ number 1 ++ codes "x"
 
 -- a STAT
-stat : served one_file (codes "STAT" ++ number 2 ++ codes "/a") ≡ record { files = one_file; answer = codes "STAT" ++ 164 ∷ 129 ∷ 0 ∷ 0 ∷ number 0 ++ number 1; ended = false }
+stat : served one_file (codes "STAT" ++ number 2 ++ codes "/a") ≡ record
+    { files = one_file; answer = codes "STAT" ++ 164 ∷ 129 ∷ 0 ∷ 0 ∷ number 0 ++ number 1; ended = false }
 stat = refl
 
 -- an unknown request ends the service
-unknown : served one_file (codes "STA2" ++ number 2 ++ codes "/a") ≡ record { files = one_file; answer = codes "FAIL" ++ number 20 ++ codes "unknown sync request"; ended = true }
+unknown : served one_file (codes "STA2" ++ number 2 ++ codes "/a") ≡ record
+    { files = one_file; answer = codes "FAIL" ++ number 20 ++ codes "unknown sync request"; ended = true }
 unknown = refl
 
 -- what follows a QUIT is dropped
@@ -37,9 +39,11 @@ whole_push : served one_file (push ++ codes "DONE" ++ number 5) ≡ record { fil
 whole_push = refl
 
 -- a push below a file
-refused_push : served one_file (codes "SEND" ++ number 8 ++ codes "/a/b,420" ++ codes "DONE" ++ number 5) ≡ record { files = one_file; answer = codes "FAIL" ++ number 15 ++ codes "not a directory"; ended = false }
+refused_push : served one_file (codes "SEND" ++ number 8 ++ codes "/a/b,420" ++ codes "DONE" ++ number 5) ≡ record
+    { files = one_file; answer = codes "FAIL" ++ number 15 ++ codes "not a directory"; ended = false }
 refused_push = refl
 
 -- a pull
-pull : served pushed (codes "RECV" ++ number 2 ++ codes "/n") ≡ record { files = pushed; answer = codes "DATA" ++ number 1 ++ codes "x" ++ codes "DONE" ++ number 0; ended = false }
+pull : served pushed (codes "RECV" ++ number 2 ++ codes "/n") ≡ record
+    { files = pushed; answer = codes "DATA" ++ number 1 ++ codes "x" ++ codes "DONE" ++ number 0; ended = false }
 pull = refl

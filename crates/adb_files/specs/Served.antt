@@ -6,6 +6,7 @@ use Rattle.adb_sync.specs.declared.answer.Dirent.{Dirent}
 use Rattle.adb_sync.specs.declared.error.SyncError.{SyncError}
 use Rattle.adb_sync.specs.declared.error.SyncError.TheVariants as faults
 use Rattle.adb_sync.specs.Answers.{answer_bytes}
+use Rattle.adb_files.specs.declared.chunk.TheConstants.{MOST_CHUNK}
 use Rattle.adb_files.specs.declared.file.File.{File}
 use Rattle.adb_files.specs.Entries.{Entry}
 use Rattle.adb_files.specs.declared.file.FileError.{FileError}
@@ -50,11 +51,11 @@ dent_bytes entry = answer_bytes (answers.Dent entry.mode entry.size entry.mtime 
 abbrev pub list_bytes : List Dirent → List ℕ
 list_bytes entries = flat_map dent_bytes entries ++ answer_bytes answers.ListEnd
 
--- bytes in chunks of 65,536 and a last shorter one where a rest is left: at most so many of them
+-- bytes in chunks of the most bytes and a last shorter one where a rest is left: at most so many of them
 abbrev pub chunks_at : ℕ → List ℕ → List ℕ
 chunks_at zero bytes = []
 chunks_at (suc k) bytes =
-    if length bytes == 0 then [] else answer_bytes (answers.Chunk (take 65536 bytes)) ++ chunks_at k (drop 65536 bytes)
+    if length bytes == 0 then [] else answer_bytes (answers.Chunk (take MOST_CHUNK bytes)) ++ chunks_at k (drop MOST_CHUNK bytes)
 
 abbrev pub chunk_bytes : List ℕ → List ℕ
 chunk_bytes bytes = chunks_at (length bytes) bytes

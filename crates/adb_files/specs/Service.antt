@@ -9,7 +9,7 @@ use Rattle.adb_sync.specs.declared.error.SyncError.{SyncError}
 use Rattle.adb_files.specs.Entries.{Entry}
 use Rattle.adb_files.specs.declared.session.Sending.{Sending}
 use Rattle.adb_files.specs.declared.session.Session.{Session}
-use Rattle.adb_files.specs.Files.{most_bytes}
+use Rattle.adb_files.specs.declared.files.TheConstants.{MOST_BYTES}
 use Rattle.adb_files.specs.Requests.{OpenSend, Request, requests_of, open_after, requests_in}
 use Rattle.adb_files.specs.Served.{serve_all, served}
 
@@ -25,9 +25,9 @@ pub record Service : Type 0 where
 pub record IsKept (send : OpenSend) (kept : Sending) : Type 0 where
   pub path : kept.path ≡ send.path
   pub mode : kept.mode ≡ send.mode
-  pub size : kept.size ≡ min (length send.bytes) (most_bytes + 1)
-  pub bytes : length send.bytes ≤ most_bytes → kept.bytes ≡ send.bytes
-  pub bound : length kept.bytes ≤ most_bytes
+  pub size : kept.size ≡ min (length send.bytes) (MOST_BYTES + 1)
+  pub bytes : length send.bytes ≤ MOST_BYTES → kept.bytes ≡ send.bytes
+  pub bound : length kept.bytes ≤ MOST_BYTES
 
 abbrev pub KeepsSend : Option OpenSend → Option Sending → Type 0
 KeepsSend None None = Unit {0}
@@ -68,7 +68,8 @@ pub record TellsUpTo (answer unsaid out out' : List ℕ) : Type 0 where
 abbrev pub TellsFront : List ℕ → List ℕ → List ℕ → Type 0
 TellsFront answer out out' = (unsaid : List ℕ) × TellsUpTo answer unsaid out out'
 
--- Memory ran out while requests were served. The first of them were served and wholly answered. Of at most one more the files are what it leaves, and a front of its answer is told. No other was served.
+-- Memory ran out while requests were served. The first of them were served and wholly answered. Of at most one more the files are what it leaves, and a front
+-- of its answer is told. No other was served.
 pub record ServesFront (requests : List Request) (old new : Moment) : Type 0 where
   pub whole : List Request
   pub last : List Request
@@ -125,13 +126,15 @@ pub record Done (send : Option OpenSend) (old new : Run) : Type 0 where
   pub serves : Serves (requests_of send done) (moment_of old) (moment_of new)
   pub keeps : KeepsSend (open_after send done) new.session.sending
 
--- What a service that goes on holds of all the bytes that it was fed: their requests were served, no fault is among them, and what is kept is that of the SEND that they leave open.
+-- What a service that goes on holds of all the bytes that it was fed: their requests were served, no fault is among them, and what is kept is that of the SEND
+-- that they leave open.
 pub record StandsFor (fed : List ℕ) (service : Service) : Type 0 where
   pub reads : service.ended ≡ false → StandsForAsks fed (asks_in fed) service.reading
   pub sound : service.ended ≡ false → service.reading.fault ≡ None
   pub keeps : service.ended ≡ false → KeepsSend (open_after None (asks_in fed)) service.sending
 
--- A piece was taken: the requests that it completes are those of all bytes behind those of the bytes before it, and they were served over the files that were lent.
+-- A piece was taken: the requests that it completes are those of all bytes behind those of the bytes before it, and they were served over the files that were
+-- lent.
 pub record Feeds (fed piece : List ℕ) (old new : Service) (files files' : List Entry) : Type 0 where
   pub requests : List Request
   pub is : requests_in (fed ++ piece) ≡ requests_in fed ++ requests
@@ -144,7 +147,8 @@ pub record FeedsFront (fed piece : List ℕ) (old new : Service) (files files' :
   pub is : requests_in (fed ++ piece) ≡ requests_in fed ++ requests
   pub front : ServesFront requests (moment_behind [] files old) (moment_behind [] files' new)
 
--- A service that began over some files, that was fed these bytes and of whose answers these were taken, where nobody else changed the files between its feeds: the files, its answers, the taken ones and those that are left, and whether it has ended are as all the bytes are served.
+-- A service that began over some files, that was fed these bytes and of whose answers these were taken, where nobody else changed the files between its feeds:
+-- the files, its answers, the taken ones and those that are left, and whether it has ended are as all the bytes are served.
 pub record HasServed (first : List Entry) (fed taken : List ℕ) (service : Service) (files : List Entry) : Type 0 where
   pub stands : StandsFor fed service
   pub left : files ≡ (served first fed).files

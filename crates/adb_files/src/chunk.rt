@@ -8,7 +8,7 @@ ghost use Rattle.adb_files.specs.Served.{chunk_bytes};
 use adb_sync::{CHUNK_HEADER_BYTES, chunk_header};
 
 /// The most bytes of a chunk.
-const MOST_CHUNK: usize = 65_536;
+pub const MOST_CHUNK: usize = 65_536;
 
 /// A chunk of a file that is handed out: its header, how many bytes of that were taken, and where the
 /// bytes of the chunk that were not taken begin and end in the file.

@@ -43,7 +43,8 @@ impl Model for Files {
 
     ghost view = { λ files. files.slots.items };
 
-    ghost invariant = { λ files. IsFileMap files.slots.items × (files.used ≡ total files.slots.items) };
+    ghost invariant = { λ files. IsFileMap files.slots.items
+        × (files.used ≡ total files.slots.items) };
 }
 
 impl Files {

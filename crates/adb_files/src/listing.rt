@@ -46,8 +46,10 @@ fn show(
 ) -> Result<usize, AllocError>
     requires files { IsFileMap slots.now }
     requires within { at < length slots.now }
-    requires below { (other : Entry) → is_below directory.now (slice_index_or slots.now at other).path ≡ true }
-    ensures { IfOk result (λ next. Advances directory.now slots.now at next (named found.old.entries) (named found.new.entries)) }
+    requires below { (other : Entry)
+        → is_below directory.now (slice_index_or slots.now at other).path ≡ true }
+    ensures { IfOk result (λ next. Advances directory.now slots.now at next
+        (named found.old.entries) (named found.new.entries)) }
 {
     let slot = &slots[at];
     let path = slot.path();

@@ -27,7 +27,8 @@ impl Model for Pull {
 
     ghost view = { λ pull. left_from pull.chunk (arc_value pull.file).bytes };
 
-    ghost invariant = { λ pull. IsWithin pull.chunk (arc_value pull.file).bytes × HasFront pull.chunk (arc_value pull.file).bytes };
+    ghost invariant = { λ pull. IsWithin pull.chunk (arc_value pull.file).bytes
+        × HasFront pull.chunk (arc_value pull.file).bytes };
 }
 
 impl Pull {

@@ -26,13 +26,14 @@ pub struct SyncService {
 
 impl Model for SyncService {
     ghost use Rattle.std.specs.List.{AllByRecursion};
-    ghost use Rattle.adb_files.specs.Service.{Service, HasShortPath, HasShortSend};
+    ghost use Rattle.adb_files.specs.Service.{Service, held, HasShortPath, HasShortSend};
 
     ghost Value = { Service };
 
-    ghost view = { λ s. record { reading = s.reader; sending = s.session.sending; out = s.session.out; ended = s.session.ended; spent = s.spent } };
+    ghost view = { λ s. record (held s.reader s.session) { spent = s.spent } };
 
-    ghost invariant = { λ s. AllByRecursion HasShortPath s.reader.given × HasShortSend s.session.sending };
+    ghost invariant = { λ s. AllByRecursion HasShortPath s.reader.given
+        × HasShortSend s.session.sending };
 }
 
 impl SyncService {

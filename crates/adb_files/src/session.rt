@@ -4,7 +4,6 @@ ghost use Rattle.std.specs.Prelude.{◌≡◌, ◌≤◌, ◌++◌, ◌⊎◌, [
 ghost use Rattle.std.specs.List.{AllByRecursion};
 ghost use Rattle.adb_sync.specs.declared.error.SyncError.{SyncError};
 ghost use Rattle.adb_files.specs.declared.session.Sending.{Sending};
-ghost use Rattle.adb_files.specs.Files.{most_bytes};
 ghost use Rattle.adb_files.specs.Requests.{OpenSend, Sends, Fails, completed, continued, open_past, requests_of};
 ghost use Rattle.adb_files.specs.Served.{serve_one, serve_all, fail_bytes, fault_text};
 ghost use Rattle.adb_files.specs.Service.{IsKept, KeepsSend, moment, run, Serves, ServesGiven, ServesFront, HasShortPath, HasShortSend};
@@ -130,7 +129,8 @@ impl Session {
             → Serves (completed send ask) (moment files.old self.old) (moment files.new self.new)
             × KeepsSend (open_past send ask) self.new.sending) }
         ensures err { OnErr result ((send : Option OpenSend) → KeepsSend send self.old.sending
-            → ServesFront (completed send ask) (moment files.old self.old) (moment files.new self.new)) }
+            → ServesFront (completed send ask)
+            (moment files.old self.old) (moment files.new self.new)) }
         ensures short { HasShortSend self.new.sending }
     {
         let alloc = self.alloc;
@@ -180,7 +180,8 @@ pub fn serve_given(
     requires kept { HasShortSend session.old.sending }
     requires goes_on { session.old.ended ≡ false }
     ensures ok { OnOk result ((send : Option OpenSend) → KeepsSend send session.old.sending
-        → ServesGiven send (run reader.old session.old files.old) (run reader.new session.new files.new)) }
+        → ServesGiven send
+        (run reader.old session.old files.old) (run reader.new session.new files.new)) }
     ensures err { OnErr result ((send : Option OpenSend) → KeepsSend send session.old.sending
         → ServesFront (requests_of send reader.old.given)
         (moment files.old session.old) (moment files.new session.new)) }

@@ -12,8 +12,10 @@ pub loop-entry-preserved-in_ok-push : goal.loop-entry-preserved-in_ok-push
 loop-entry-preserved-in_ok-push c = record {
   ready = tt;
   finite = tt;
-  names = All-rest (λ (d : Dirent). length d.name < 2 ^ 32) c.in-Some.entry (into_iter_items c.next.new.self) (into_iter_items c.loop-entry.entry-iterator) c.in-Some.ensures.steps.0 c.loop-entry.invariant.names;
-  told = list_step c.in-Some.entry (into_iter_items c.loop-entry.entry-iterator) (into_iter_items c.next.new.self) c.loop-entry.invariant.told c.in-Some.ensures.steps.0 c.in_ok-push.ensures.ok;
+  names = All-rest (λ (d : Dirent). length d.name < 2 ^ 32) c.in-Some.entry (into_iter_items c.next.new.self)
+      (into_iter_items c.loop-entry.entry-iterator) c.in-Some.ensures.steps.0 c.loop-entry.invariant.names;
+  told = list_step c.in-Some.entry (into_iter_items c.loop-entry.entry-iterator)
+      (into_iter_items c.next.new.self) c.loop-entry.invariant.told c.in-Some.ensures.steps.0 c.in_ok-push.ensures.ok;
 }
 
 pub returns-in_err-entry-items-clause-err : goal.returns-in_err-entry-items-clause-err

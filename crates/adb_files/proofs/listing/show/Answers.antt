@@ -38,9 +38,12 @@ returns-in_ok-insert-in-Some c =
     let found : slash_in (rest_below directory entry.path) ≡ Some i = ap slash_in (sym rest) ∙ (sym c.slash_in.ensures ∙ c.in-Some.is) in
     let below : is_below directory entry.path ≡ true = ap (λ (e : Entry). is_below directory e.path) c.index-slots-at.is ∙ c.requires.below entry in
     let front = front_is directory c.slash_behind.result.now entry.path c.path-path.result.now i c.slash_behind.ensures c.path-path.ensures in
-    let begins : BeginsAt (take (length (inside directory) + i) entry.path ++ codes "0") c.args.slots.now c.first_from.result = subst (λ (q : List ℕ). BeginsAt (q ++ codes "0") c.args.slots.now c.first_from.result) front c.first_from.ensures in
-    let shown = shown_directory directory c.args.slots.now c.args.at c.first_from.result i entry (rest_below directory entry.path) c.requires.files.rising begins c.requires.within c.index-slots-at.is below refl found in
-    let key : c.in_ok-from_slice-in-Some.field-0.items ≡ take i (rest_below directory entry.path) = c.in_ok-from_slice-in-Some.ensures.items ∙ ap (take i) rest in
+    let begins : BeginsAt (take (length (inside directory) + i) entry.path ++ codes "0") c.args.slots.now c.first_from.result = subst
+    (λ (q : List ℕ). BeginsAt (q ++ codes "0") c.args.slots.now c.first_from.result) front c.first_from.ensures in
+    let shown = shown_directory directory c.args.slots.now c.args.at c.first_from.result i entry
+    (rest_below directory entry.path) c.requires.files.rising begins c.requires.within c.index-slots-at.is below refl found in
+    let key : c.in_ok-from_slice-in-Some.field-0.items ≡ take i (rest_below directory entry.path) = c.in_ok-from_slice-in-Some.ensures.items
+    ∙ ap (take i) rest in
     let old = named c.args.found.now.entries in
     record {
       onward = shown.0;

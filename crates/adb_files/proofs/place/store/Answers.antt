@@ -28,7 +28,8 @@ returns-in-Ok-clause-list c = written c
 
 pub returns-in-Ok-clause-changes : goal.returns-in-Ok-clause-changes
 returns-in-Ok-clause-changes c =
-    subst (ChangesAt c.args.path.now (Some c.args.file) c.args.slots.now.items) (sym (written c)) (changes-with c.args.path.now c.args.file c.args.slots.now.items _ (parts_where_stands (stands c)))
+    subst (ChangesAt c.args.path.now (Some c.args.file) c.args.slots.now.items) (sym (written c))
+    (changes-with c.args.path.now c.args.file c.args.slots.now.items _ (parts_where_stands (stands c)))
 
 -- a new slot
 put : (c : goal.In_ok-insert-in-Err) → c.insert.new.self.items ≡ with_file c.args.path.now c.args.file c.args.slots.now.items
@@ -47,4 +48,5 @@ returns-in_ok-insert-in-Err-clause-list c = put c
 
 pub returns-in_ok-insert-in-Err-clause-changes : goal.returns-in_ok-insert-in-Err-clause-changes
 returns-in_ok-insert-in-Err-clause-changes c =
-    subst (ChangesAt c.args.path.now (Some c.args.file) c.args.slots.now.items) (sym (put c)) (changes-with c.args.path.now c.args.file c.args.slots.now.items _ (parts_where_fits (fits c)))
+    subst (ChangesAt c.args.path.now (Some c.args.file) c.args.slots.now.items) (sym (put c))
+    (changes-with c.args.path.now c.args.file c.args.slots.now.items _ (parts_where_fits (fits c)))

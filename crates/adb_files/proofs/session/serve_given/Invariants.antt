@@ -8,7 +8,8 @@ abbrev pub invariant-loop-session : goal.invariant-loop-session
 invariant-loop-session l = record {
   short : AllByRecursion HasShortPath l.reader.given;
   kept : HasShortSend l.session.sending;
-  served : (send : Option OpenSend) → KeepsSend send l.initial.session.sending → Done send (run l.initial.reader l.initial.session l.initial.files) (run l.reader l.session l.files);
+  served : (send : Option OpenSend) → KeepsSend send l.initial.session.sending
+      → Done send (run l.initial.reader l.initial.session l.initial.files) (run l.reader l.session l.files);
 }
 
 abbrev pub decreases-loop-session : goal.decreases-loop-session

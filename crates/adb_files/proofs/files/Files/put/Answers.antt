@@ -13,7 +13,8 @@ kept c =
     let size : c.len-size.result ≡ length c.args.file.bytes = c.len-size.ensures in
     let none : put_refusal c.args.self.now c.args.path.now c.len-size.result ≡ None = sym c.put_refusal.ensures ∙ c.in_default.is in
     let may = granted c.args.self.now c.args.path.now c.len-size.result none in
-    subst IsFileMap (sym (stored c)) (map-with c.args.path.now c.args.file c.args.self.now c.used_without.ensures.files (subst (Granted c.args.self.now c.args.path.now) size may) c.requires)
+    subst IsFileMap (sym (stored c)) (map-with c.args.path.now c.args.file c.args.self.now c.used_without.ensures.files
+    (subst (Granted c.args.self.now c.args.path.now) size may) c.requires)
 
 pub invariant_of-self-2 : goal.invariant_of-self-2
 invariant_of-self-2 c =

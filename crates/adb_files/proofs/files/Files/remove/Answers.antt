@@ -13,14 +13,16 @@ left c =
 
 kept : (c : goal.After-self-1) → IsFileMap c.remove.new.self.items
 kept c =
-    subst IsFileMap (sym (left c)) (map-without c.args.path.now c.args.self.now c.used_without-used.ensures.files (omega (arith, c.used_without-used.ensures.used, c.used_without-used.ensures.within)))
+    subst IsFileMap (sym (left c)) (map-without c.args.path.now c.args.self.now c.used_without-used.ensures.files
+    (omega (arith, c.used_without-used.ensures.used, c.used_without-used.ensures.within)))
 
 pub invariant_of-self : goal.invariant_of-self
 invariant_of-self c = (kept c, c.used_without-used.ensures.used ∙ ap total (sym (left c)))
 
 pub returns-clause-ok : goal.returns-clause-ok
 returns-clause-ok c =
-    subst (ChangesAt c.args.path.now None c.args.self.now) (sym (left c)) (changes-without c.args.path.now c.args.self.now _ (parts_where_stands c.in_ok-i.ensures.0))
+    subst (ChangesAt c.args.path.now None c.args.self.now) (sym (left c))
+    (changes-without c.args.path.now c.args.self.now _ (parts_where_stands c.in_ok-i.ensures.0))
 
 pub returns-clause-files : goal.returns-clause-files
 returns-clause-files c = kept c

@@ -18,7 +18,8 @@ returns-in-Stat-clause-err c =
 
 pub returns-in-List-clause-err : goal.returns-in-List-clause-err
 returns-in-List-clause-err c =
-    on_err_weaker c.answer_list.result (λ h send keeps. list_front send c.args.ask c.as_slice-in-List.result.now _ _ (c.in-List.is ∙ ap asks.List (sym c.as_slice-in-List.ensures)) refl h) c.answer_list.ensures.err
+    on_err_weaker c.answer_list.result (λ h send keeps. list_front send c.args.ask c.as_slice-in-List.result.now _ _
+    (c.in-List.is ∙ ap asks.List (sym c.as_slice-in-List.ensures)) refl h) c.answer_list.ensures.err
 
 pub returns-in-Recv-clause-err : goal.returns-in-Recv-clause-err
 returns-in-Recv-clause-err c =
