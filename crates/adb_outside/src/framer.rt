@@ -1,7 +1,7 @@
 //! Cutting a stream of bytes into frames, in whatever pieces it comes.
 
-ghost use Rattle.std.specs.Prelude.{◌≡◌, ◌++◌, ◌∷◌, [], List, ℕ, IfOk, IfSome, IfNone, OnErr, OnOk, take, drop, length, Option, Some, None, ◌≤◌, ◌≢◌, option_to_list};
-ghost use Rattle.adb_outside.specs.Framing.{cut, joined, fault_of, Feeds, Faults, Stands};
+ghost use Rattle.std.specs.Prelude.{◌≡◌, ◌++◌, [], List, ℕ, IfOk, OnErr, OnOk, take, drop, length, Option, Some, None, ◌≤◌, ◌≢◌};
+ghost use Rattle.adb_outside.specs.Framing.{cut, joined, fault_of, answer_of, Takes, Gives, Stands};
 
 use crate::byte_queue::ByteQueue;
 use std::alloc::{AllocError, Global};
@@ -112,9 +112,7 @@ impl<V: Drop, F: Copy, S: Format<V, F>> Framer<S, V, F> {
     /// The next frame that was not yet taken; `None` where no further whole one was fed. It takes no
     /// memory.
     pub fn next(&mut self) -> Option<V>
-        ensures some { IfSome result (λ v. self.old ≡ record self.new { given = v ∷ self.new.given }) }
-        ensures none { IfNone result ((self.old.given ≡ []) × (self.new ≡ self.old)) }
-        ensures stands { (start : S) (fed : List ℕ) (taken : List V) → Stands S.find S.item S.after start fed taken self.old → Stands S.find S.item S.after start fed (taken ++ option_to_list result) self.new }
+        ensures { Gives S.find S.item S.after self.old self.new result }
     {
         self.ready.pop_front()
     }
@@ -122,11 +120,13 @@ impl<V: Drop, F: Copy, S: Format<V, F>> Framer<S, V, F> {
     /// Takes the next piece of the stream. A fault is that of all the bytes fed so far; the frames
     /// before it are still given, and from then on every call answers it and takes nothing.
     pub fn feed(&mut self, piece: &[u8]) -> Result<(), FeedError<F>>
-        ensures ok { OnOk result (Feeds S.find S.item S.after self.old piece.now self.new × (self.new.fault ≡ None)) }
-        ensures fault { (f : F) → result ≡ Err (FeedError.Fault f) → Faults S.find S.item S.after self.old piece.now self.new f }
-        ensures stays { (f : F) → self.old.fault ≡ Some f → result ≡ Err (FeedError.Fault f) }
         ensures memory { result ≡ Err FeedError.OutOfMemory → self.new ≡ self.old }
-        ensures stands { result ≢ Err FeedError.OutOfMemory → (start : S) (fed : List ℕ) (taken : List V) → Stands S.find S.item S.after start fed taken self.old → Stands S.find S.item S.after start (fed ++ piece.now) taken self.new }
+        ensures taken { result ≢ Err FeedError.OutOfMemory
+            → Takes S.find S.item S.after self.old piece.now self.new }
+        ensures answer { result ≢ Err FeedError.OutOfMemory
+            → result ≡ answer_of FeedError.Fault self.new.fault }
+        ensures stays { (fault : F) → self.old.fault ≡ Some fault
+            → result ≡ Err (FeedError.Fault fault) }
     {
         if let Some(fault) = self.fault {
             return Err(FeedError::Fault(fault));
