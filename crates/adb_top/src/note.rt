@@ -54,7 +54,8 @@ pub fn say_stop<N: Sink>(alloc: Global, note: &mut N, stop: Stop) -> Status
     }
 }
 
-fn say_out_of_memory<N: Sink>(note: &mut N) -> Status
+/// Tells the note that memory ran out.
+pub fn say_out_of_memory<N: Sink>(note: &mut N) -> Status
     ensures status { (result ≡ Status.OutOfMemory) ⊎ (result ≡ Status.WriteFault) }
     ensures told { WritesNote result N.faults N.written note.old note.new }
     ensures counts { Counts N.steady N.faults note.old note.new (tells_write_fault result) }
