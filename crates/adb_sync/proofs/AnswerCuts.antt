@@ -1,22 +1,27 @@
--- A cut into answers is right.
-use Rattle.std.proofs.Common.{ℕ, ◌+◌, ◌^◌, ◌≡◌, ◌≢◌, ◌≤◌, ◌<◌, cond, Bool, true, false, List, [], ◌∷◌, ◌++◌, length, take, drop, Option, Some, None, Result, Ok, Err, refl, sym, ◌∙◌, ap, subst, arith}
+-- A cut into answers is right, and what is right is the cut.
+use Rattle.std.proofs.Common.{ℕ, ◌+◌, ◌-◌, ◌*◌, ◌^◌, ◌≡◌, ◌≤◌, ◌<◌, cond, Bool, true, false, List, [], ◌∷◌, ◌++◌, length, take, drop, Option, Some, None, Ok, refl, sym, ◌∙◌, ap, subst, arith}
 use Rattle.std.specs.Prelude.{codes}
-use Rattle.std.proofs.lemmas.List.{length-drop, length-take, take-append-drop, drop_all, drop-drop}
-use Rattle.std.proofs.lemmas.List.Elements.{All-nil, All-cons}
+use Rattle.std.proofs.lemmas.List.{length-append, length-drop, take-append-drop, drop_all, drop-drop}
+use Rattle.std.proofs.lemmas.List.Elements.{All-nil, All-cons, All-head, All-tail}
 use Rattle.byteorder.specs.Endian.{little_bytes}
-use Rattle.adb_outside.specs.declared.framer.Front.{Front}
+use Rattle.byteorder.specs.Numbers.{little_number-reads_back}
 use Rattle.adb_outside.specs.declared.framer.Front.TheVariants.{Whole}
-use Rattle.adb_outside.specs.Framing.{Cut, joined, uncut, fault_of}
+use Rattle.adb_outside.specs.Bytes.{AreBytes}
+use Rattle.adb_outside.specs.Framing.{joined, offset_past}
+use Rattle.adb_outside.proofs.CutLaws.{bytes_before, bytes_behind, bytes_after, place_here, place_past, frame_first, right, determined, Begins}
+use Rattle.adb_outside.proofs.Numbers.{number_again}
 use Rattle.adb_sync.specs.declared.answer.SyncAnswer.{SyncAnswer}
+use Rattle.adb_sync.specs.declared.answer.SyncAnswer.TheVariants as answers
 use Rattle.adb_sync.specs.declared.answer_id.AnswerId.{AnswerId}
 use Rattle.adb_sync.specs.declared.answer_id.AnswerId.TheVariants as ids
 use Rattle.adb_sync.specs.declared.answer_format.AnswerFormat.{AnswerFormat}
-use Rattle.adb_sync.specs.declared.error.SyncError.{SyncError}
-use Rattle.adb_sync.specs.declared.error.SyncError.TheVariants.{UnknownId, ChunkTooLong}
-use Rattle.adb_sync.specs.Messages.{AreBytes, number_at}
-use Rattle.adb_sync.specs.Answers.{answer_id_of, known_answer, answer_kind, answer_head, answer_number_fault, answer_body, answer_body_fault, answer_front, answer_of_bytes, end_of, past_answer, answers_from, stat_bytes, IsAnswer, HasAnswerWords, EndsKind, IsSpelling, AreSpelled, IsAnswerCut}
-use Rattle.adb_sync.specs.Framed.{answers_are_framed}
-use Rattle.adb_sync.proofs.Cuts.{right, IsBehind, whole_parts, bytes_before, bytes_after, place_past, number_again, number_fits, counted_again, is_one, no_fault_below}
+use Rattle.adb_sync.specs.declared.error.SyncRule.TheVariants as rules
+use Rattle.adb_sync.specs.declared.layout.Layout.{Layout}
+use Rattle.adb_sync.specs.declared.layout.TheConstants.{MOST_CHUNK}
+use Rattle.adb_sync.specs.Messages.{number_at, chunk_limit}
+use Rattle.adb_sync.specs.Answers.{AnswerReading, answer_id_of, answer_layout, known_answer, answered_at, answer_front, answer_by, answer_of_bytes, end_of, past_answer, answers_from, stat_bytes, answer_bytes, IsAnswer, HasAnswerWords, EndsKind, IsIdAnd, IsSpelling, AreSpelled, IsAnswerCut}
+use Rattle.adb_sync.specs.Framed.{IsBehind, message_told, framed_message, answer_head, answer_heads, answers_are_framed}
+use Rattle.adb_sync.proofs.Messages.{number_fits, counted_again, is_one, within, is_within, numbers_behind, text_behind}
 
 -- the four letters of an id
 abbrev letters : AnswerId → List ℕ
@@ -27,6 +32,90 @@ letters ids.Done = codes "DONE"
 letters ids.Okay = codes "OKAY"
 letters ids.Fail = codes "FAIL"
 
+letters_id : (id : AnswerId) → answer_id_of (letters id) ≡ Some id
+letters_id ids.Stat = refl
+letters_id ids.Dent = refl
+letters_id ids.Data = refl
+letters_id ids.Done = refl
+letters_id ids.Okay = refl
+letters_id ids.Fail = refl
+
+-- ---- an answer that is spelled
+-- bytes that are read as an answer: a whole frame of it
+abbrev IsReadAs : AnswerFormat → List ℕ → SyncAnswer → Type 0
+IsReadAs from bytes answer = (answer_front from bytes ≡ Whole (length bytes)) × (answer_of_bytes from bytes ≡ answer)
+
+read_as : (from : AnswerFormat) (id : AnswerId) (bytes : List ℕ) (answer : SyncAnswer) → take 4 bytes ≡ letters id → IsBehind (answer_layout from.list id) (drop 4 bytes)
+    → answer_by from.list (Some id) (drop 4 bytes) ≡ answer → IsReadAs from bytes answer
+read_as from id bytes answer begins behind is =
+    let found : answer_id_of (take 4 bytes) ≡ Some id = ap answer_id_of begins ∙ letters_id id in (
+      message_told (λ format. format.offset) answered_at from bytes (record {
+        layout = answer_layout from.list id;
+        id = omega (arith, behind.head, answer_head from.list id, length-drop 4 bytes);
+        known = ap (known_answer from.list) found;
+        behind = behind;
+      }),
+      ap (λ o. answer_by from.list o (drop 4 bytes)) found ∙ is,
+    )
+
+-- three numbers are read again
+numbers_again : (make : ℕ → ℕ → ℕ → SyncAnswer) (mode size mtime : ℕ) (rest : List ℕ) → (mode < 2 ^ 32) × (size < 2 ^ 32) × (mtime < 2 ^ 32)
+    → make (number_at 0 (stat_bytes mode size mtime ++ rest)) (number_at 4 (stat_bytes mode size mtime ++ rest)) (number_at 8 (stat_bytes mode size mtime ++ rest))
+    ≡ make mode size mtime
+numbers_again make mode size mtime rest fits =
+    let bytes = stat_bytes mode size mtime ++ rest in
+    ap (λ k. make k (number_at 4 bytes) (number_at 8 bytes)) (little_number-reads_back 4 mode (little_bytes 4 size ++ little_bytes 4 mtime ++ rest) (omega (arith, fits.0)))
+    ∙ (ap (λ k. make mode k (number_at 8 bytes)) (little_number-reads_back 4 size (little_bytes 4 mtime ++ rest) (omega (arith, fits.1)))
+    ∙ ap (make mode size) (little_number-reads_back 4 mtime rest (omega (arith, fits.2))))
+
+-- a name behind its numbers
+dent_behind : (list : Bool) (mode size mtime : ℕ) (name : List ℕ) → length name < 2 ^ 32
+    → IsBehind (answer_layout list ids.Dent) (stat_bytes mode size mtime ++ little_bytes 4 (length name) ++ name)
+dent_behind list mode size mtime name short =
+    let count : number_at 12 (stat_bytes mode size mtime ++ little_bytes 4 (length name) ++ name) ≡ length name = little_number-reads_back 4 (length name) name (omega (arith, short)) in
+    record { head = omega arith; number = refl; size = omega (arith, count); body = refl }
+
+-- a DONE of either kind
+end_read : (from : AnswerFormat) (list : Bool) (bytes : List ℕ) → from.list ≡ list → IsIdAnd (codes "DONE") (4 * cond list 4 1) bytes → IsReadAs from bytes (end_of list)
+end_read from list bytes kind is = read_as from ids.Done bytes (end_of list) is.0
+    (numbers_behind (cond from.list 4 1) (drop 4 bytes) (omega (arith, is.1, ap (λ (l : Bool). 4 * cond l 4 1) kind, length-drop 4 bytes))) (ap end_of kind)
+
+spelled_read : (from : AnswerFormat) (answer : SyncAnswer) (bytes : List ℕ) → IsSpelling answer bytes → IsAnswer answer → HasAnswerWords answer → EndsKind from.list answer
+    → IsReadAs from bytes answer
+spelled_read from (answers.Stat mode size mtime) bytes is good words kind = subst (λ b. IsReadAs from b (answers.Stat mode size mtime)) (sym is)
+    (read_as from ids.Stat (answer_bytes (answers.Stat mode size mtime)) (answers.Stat mode size mtime) refl
+    (numbers_behind 3 (stat_bytes mode size mtime) refl) (numbers_again answers.Stat mode size mtime [] words))
+spelled_read from (answers.Dent mode size mtime name) bytes is good words kind = subst (λ b. IsReadAs from b (answers.Dent mode size mtime name)) (sym is)
+    (read_as from ids.Dent (answer_bytes (answers.Dent mode size mtime name)) (answers.Dent mode size mtime name) refl (dent_behind from.list mode size mtime name good)
+    (numbers_again (λ a b c. answers.Dent a b c name) mode size mtime (little_bytes 4 (length name) ++ name) words))
+spelled_read from (answers.Chunk chunk) bytes is good words kind = subst (λ b. IsReadAs from b (answers.Chunk chunk)) (sym is)
+    (read_as from ids.Data (answer_bytes (answers.Chunk chunk)) (answers.Chunk chunk) refl
+    (text_behind chunk_limit false chunk (omega (arith, good)) (within MOST_CHUNK (length chunk) rules.ChunkTooLong good) refl) refl)
+spelled_read from (answers.Fail text) bytes is good words kind = subst (λ b. IsReadAs from b (answers.Fail text)) (sym is)
+    (read_as from ids.Fail (answer_bytes (answers.Fail text)) (answers.Fail text) refl (text_behind None false text good refl refl) refl)
+spelled_read from answers.Okay bytes is good words kind =
+    read_as from ids.Okay bytes answers.Okay is.0 (numbers_behind 1 (drop 4 bytes) (omega (arith, is.1, length-drop 4 bytes))) refl
+spelled_read from answers.ListEnd bytes is good words kind = end_read from true bytes kind is
+spelled_read from answers.ChunkEnd bytes is good words kind = end_read from false bytes kind is
+
+-- what is written of an answer spells it
+spells_itself : (answer : SyncAnswer) → IsSpelling answer (answer_bytes answer)
+spells_itself (answers.Stat mode size mtime) = refl
+spells_itself (answers.Dent mode size mtime name) = refl
+spells_itself answers.ListEnd = (refl, refl)
+spells_itself (answers.Chunk bytes) = refl
+spells_itself answers.ChunkEnd = (refl, refl)
+spells_itself answers.Okay = (refl, refl)
+spells_itself (answers.Fail text) = refl
+
+pub answer_again : (from : AnswerFormat) (answer : SyncAnswer) (more : List ℕ) → IsAnswer answer → HasAnswerWords answer → EndsKind from.list answer
+    → answers_from from (answer_bytes answer ++ more) ≡ joined (answer ∷ []) (answers_from (past_answer from (answer_bytes answer)) more)
+answer_again from answer more good words kind =
+    let read = spelled_read from answer (answer_bytes answer) (spells_itself answer) good words kind in
+    frame_first answer_front answer_of_bytes past_answer answers_are_framed from (answer_bytes answer) more read.0
+    ∙ ap (λ a. joined (a ∷ []) (answers_from (past_answer from (answer_bytes answer)) more)) read.1
+
+-- ---- an answer that is read
 -- an id is its letters
 id_again : (bytes : List ℕ) (id : AnswerId) → answer_id_of bytes ≡ Some id → bytes ≡ letters id
 id_again bytes id =
@@ -38,9 +127,9 @@ id_again bytes id =
     (is_one letters bytes ids.Fail id None (λ e. let clash : ◌≡◌ {A = Option AnswerId} None (Some id) = e in absurd cc))))))
 
 -- only an id is known
-known_here : (from : AnswerFormat) (o : Option AnswerId) (id : AnswerId) → known_answer from o ≡ Ok id → o ≡ Some id
-known_here from None id e = let clash : ◌≡◌ {A = Result AnswerId SyncError} (Err (UnknownId from.offset)) (Ok id) = e in absurd cc
-known_here from (Some other) id e = (cc)
+known_here : (list : Bool) (found : Option AnswerId) (layout : Layout) → known_answer list found ≡ Ok layout → (id : AnswerId) × (found ≡ Some id) × (answer_layout list id ≡ layout)
+known_here list None layout e = absurd (cc)
+known_here list (Some id) layout e = (id, refl, (cc))
 
 -- the number at a place, and the bytes behind it
 next_word : (i : ℕ) (bytes : List ℕ) → AreBytes bytes → i + 4 ≤ length bytes → little_bytes 4 (number_at i bytes) ++ drop (i + 4) bytes ≡ drop i bytes
@@ -62,30 +151,29 @@ record IsSpelledAnswer (from : AnswerFormat) (bytes : List ℕ) (answer : SyncAn
   words : HasAnswerWords answer
   kind : EndsKind from.list answer
 
-abbrev IsBehindId : AnswerFormat → AnswerId → List ℕ → Type 0
-IsBehindId = IsBehind answer_kind answer_head answer_number_fault answer_body answer_body_fault
-
 -- a DONE of either kind
-end_spelled : (from : AnswerFormat) (list : Bool) (rest : List ℕ) → from.list ≡ list → length rest ≡ cond list 16 4 → IsSpelledAnswer from (codes "DONE" ++ rest) (end_of list)
+end_spelled : (from : AnswerFormat) (list : Bool) (rest : List ℕ) → from.list ≡ list → length rest ≡ 4 * cond list 4 1
+    → IsSpelledAnswer from (codes "DONE" ++ rest) (end_of list)
 end_spelled from true rest kind len = record { again = (refl, omega (arith, len)); good = tt; words = tt; kind = kind }
 end_spelled from false rest kind len = record { again = (refl, omega (arith, len)); good = tt; words = tt; kind = kind }
 
 -- what an id and the bytes behind it spell
-spelled_by : (from : AnswerFormat) (id : AnswerId) (rest : List ℕ) → AreBytes rest → IsBehindId from id rest → IsSpelledAnswer from (letters id ++ rest) (answer_of_bytes from (letters id ++ rest))
+spelled_by : (from : AnswerFormat) (id : AnswerId) (rest : List ℕ) → AreBytes rest → IsBehind (answer_layout from.list id) rest
+    → IsSpelledAnswer from (letters id ++ rest) (answer_of_bytes from (letters id ++ rest))
 spelled_by from ids.Stat rest are m =
     let spelled = stat_bytes (number_at 0 rest) (number_at 4 rest) (number_at 8 rest) in
     record {
       again =
-          ap (λ r. codes "STAT" ++ r) (sym (stat_again rest are (omega (arith, m.len))))
-          ∙ ap (λ r. codes "STAT" ++ spelled ++ r) (drop_all 12 rest (omega (arith, m.len)));
+          ap (λ r. codes "STAT" ++ r) (sym (stat_again rest are (omega (arith, m.size))))
+          ∙ ap (λ r. codes "STAT" ++ spelled ++ r) (drop_all 12 rest (omega (arith, m.size)));
       good = tt;
       words = (number_fits 0 rest are, number_fits 4 rest are, number_fits 8 rest are);
       kind = tt;
     }
 spelled_by from ids.Dent rest are m =
     let spelled = stat_bytes (number_at 0 rest) (number_at 4 rest) (number_at 8 rest) in
-    let long : 16 ≤ length rest = m.head_there in
-    let count : length (drop 16 rest) ≡ number_at 12 rest = omega (arith, m.len, length-drop 16 rest) in
+    let long : 16 ≤ length rest = m.head in
+    let count : length (drop 16 rest) ≡ number_at 12 rest = omega (arith, m.size, length-drop 16 rest) in
     record {
       again =
           ap (λ r. codes "DENT" ++ r) (sym (stat_again rest are (omega (arith, long))))
@@ -96,74 +184,117 @@ spelled_by from ids.Dent rest are m =
       kind = tt;
     }
 spelled_by from ids.Data rest are m = record {
-  again = ap (λ r. codes "DATA" ++ r) (sym (counted_again rest are m.len));
-  good = omega (arith, m.len, length-drop 4 rest, no_fault_below 65536 (number_at 0 rest) (ChunkTooLong from.offset) m.good_number);
+  again = ap (λ r. codes "DATA" ++ r) (sym (counted_again rest are m.size));
+  good = omega (arith, m.size, length-drop 4 rest, is_within MOST_CHUNK (number_at 0 rest) rules.ChunkTooLong m.number);
   words = tt;
   kind = tt;
 }
-spelled_by from ids.Done rest are m = end_spelled from from.list rest refl (omega (arith, m.len))
-spelled_by from ids.Okay rest are m = record { again = (refl, omega (arith, m.len)); good = tt; words = tt; kind = tt }
+spelled_by from ids.Done rest are m = end_spelled from from.list rest refl (omega (arith, m.size))
+spelled_by from ids.Okay rest are m = record { again = (refl, omega (arith, m.size)); good = tt; words = tt; kind = tt }
 spelled_by from ids.Fail rest are m = record {
-  again = ap (λ r. codes "FAIL" ++ r) (sym (counted_again rest are m.len));
-  good = omega (arith, m.len, length-drop 4 rest, number_fits 0 rest are);
+  again = ap (λ r. codes "FAIL" ++ r) (sym (counted_again rest are m.size));
+  good = omega (arith, m.size, length-drop 4 rest, number_fits 0 rest are);
   words = tt;
   kind = tt;
 }
 
--- a whole answer is spelled by its bytes
-spelled_again : (from : AnswerFormat) (bytes : List ℕ) → AreBytes bytes → answer_front from bytes ≡ Whole (length bytes) → IsSpelledAnswer from bytes (answer_of_bytes from bytes)
-spelled_again from bytes are e =
-    let m = whole_parts answer_kind answer_head answer_number_fault answer_body answer_body_fault from bytes e in
-    let known = known_here from (answer_id_of (take 4 bytes)) m.kind m.known in
+-- a frame is spelled by its bytes
+read_answer : (from : AnswerFormat) (bytes : List ℕ) → AreBytes bytes → answer_front from bytes ≡ Whole (length bytes) → IsSpelledAnswer from bytes (answer_of_bytes from bytes)
+read_answer from bytes are e =
+    let m = framed_message (λ format. format.offset) answered_at answer_heads from bytes e in
+    let known = known_here from.list (answer_id_of (take 4 bytes)) m.layout m.known in
+    let id = known.0 in
     let rest = drop 4 bytes in
-    let whole : letters m.kind ++ rest ≡ bytes = ap (λ id. id ++ rest) (sym (id_again (take 4 bytes) m.kind known)) ∙ take-append-drop 4 bytes in
-    subst (λ (b : List ℕ). IsSpelledAnswer from b (answer_of_bytes from b)) whole (spelled_by from m.kind rest (bytes_after 4 bytes are) m.behind)
+    let whole : letters id ++ rest ≡ bytes = ap (λ begin. begin ++ rest) (sym (id_again (take 4 bytes) id known.1)) ∙ take-append-drop 4 bytes in
+    let behind = subst (λ (l : Layout). IsBehind l rest) (sym known.2) m.behind in
+    subst (λ (b : List ℕ). IsSpelledAnswer from b (answer_of_bytes from b)) whole (spelled_by from id rest (bytes_after 4 bytes are) behind)
 
--- what is spelled is not longer than the bytes
-rest_within : (given : List SyncAnswer) (rest bytes : List ℕ) → AreSpelled given rest bytes → length rest ≤ length bytes
-rest_within [] rest bytes whole = omega (arith, ap (length {A = ℕ}) whole)
-rest_within (answer ∷ given) rest bytes whole = omega (arith, rest_within given rest (drop whole.0 bytes) whole.2, length-drop whole.0 bytes)
+-- ---- cuts
+abbrev IsPlace : AnswerFormat → List ℕ → Type 0
+IsPlace from bytes = from.offset < 2 ^ 64
 
 abbrev Reads : AnswerFormat → List ℕ → Type 0
 Reads from bytes = (from.offset < 2 ^ 64) × AreBytes bytes
 
+-- what is spelled is not longer than the bytes
+rest_within : (given : List SyncAnswer) (rest bytes : List ℕ) → AreSpelled given rest bytes → length rest ≤ length bytes
+rest_within [] rest bytes whole = omega (arith, ap (length {A = ℕ}) whole)
+rest_within (answer ∷ given) rest bytes whole =
+    omega (arith, rest_within given rest whole.1 whole.4, ap (length {A = ℕ}) whole.2, length-append whole.0 whole.1)
+
 -- an answer before a right cut
-answer_goes : (from : AnswerFormat) (bytes : List ℕ) (n : ℕ) (c : Cut AnswerFormat SyncAnswer SyncError) → Reads from bytes → answer_front from bytes ≡ Whole n
-    → IsAnswerCut (past_answer from (take n bytes)) (drop n bytes) c → IsAnswerCut from bytes (joined (answer_of_bytes from (take n bytes) ∷ []) c)
-answer_goes from bytes n c reads e others =
-    let fits = answers_are_framed.fits from bytes n e in
-    let frame = take n bytes in
+answer_goes : (from : AnswerFormat) (frame more : List ℕ) (c : AnswerReading) → answer_front from frame ≡ Whole (length frame) → Reads from (frame ++ more)
+    → IsAnswerCut (past_answer from frame) more c → IsAnswerCut from (frame ++ more) (joined (answer_of_bytes from frame ∷ []) c)
+answer_goes from frame more c found reads others =
     let answer = answer_of_bytes from frame in
-    let len : length frame ≡ n = omega (arith, length-take n bytes, fits) in
-    let spelled = spelled_again from frame (bytes_before n bytes reads.1) (answers_are_framed.alone from bytes n e ∙ ap Whole (sym len)) in
+    let spelled = read_answer from frame (bytes_before frame more reads.1) found in
     record {
-      whole = (n, spelled.again, others.whole);
+      whole = (frame, more, refl, spelled.again, others.whole);
       each = All-cons IsAnswer answer c.given spelled.good others.each;
       words = All-cons HasAnswerWords answer c.given spelled.words others.words;
       kinds = All-cons (EndsKind from.list) answer c.given spelled.kind others.kinds;
       list = others.list;
-      place = others.place ∙ place_past from.offset n (length bytes) (length (drop n bytes)) (length c.rest) (length frame) len (length-drop n bytes) fits.1 (rest_within c.given c.rest (drop n bytes) others.whole);
-      fault = others.fault;
-      none_left = others.none_left;
+      place = others.place ∙ place_past from.offset frame more c.rest (rest_within c.given c.rest more others.whole);
+      stops = others.stops;
     }
 
--- no whole answer is there
-answer_stops : (from : AnswerFormat) (bytes : List ℕ) (f : Front SyncError) → Reads from bytes → answer_front from bytes ≡ f → ((n : ℕ) → answer_front from bytes ≢ Whole n)
-    → IsAnswerCut from bytes (uncut from bytes (fault_of f))
-answer_stops from bytes f reads is none = record {
-  whole = refl;
-  each = All-nil IsAnswer;
-  words = All-nil HasAnswerWords;
-  kinds = All-nil (EndsKind from.list);
-  list = refl;
-  place = let room : from.offset < 2 ^ 64 = reads.0 in omega arith;
-  fault = ap fault_of (sym is);
-  none_left = none;
-}
-
-answer_stays : (from : AnswerFormat) (bytes : List ℕ) (n : ℕ) → Reads from bytes → answer_front from bytes ≡ Whole n → Reads (past_answer from (take n bytes)) (drop n bytes)
-answer_stays from bytes n reads e = (omega arith, bytes_after n bytes reads.1)
-
 pub answer_cut_right : (from : AnswerFormat) (bytes : List ℕ) → from.offset < 2 ^ 64 → AreBytes bytes → IsAnswerCut from bytes (answers_from from bytes)
-answer_cut_right from bytes room are =
-    right answer_front answer_of_bytes past_answer answers_are_framed Reads IsAnswerCut (record { stays = answer_stays; stops = answer_stops; goes = answer_goes }) from bytes (room, are)
+answer_cut_right from bytes room are = right answer_front answer_of_bytes past_answer answers_are_framed Reads IsAnswerCut (record {
+  stays = λ s frame more found reads. (omega arith, bytes_behind frame more reads.1);
+  stops = λ s rest fault reads stop. record {
+    whole = refl;
+    each = All-nil IsAnswer;
+    words = All-nil HasAnswerWords;
+    kinds = All-nil (EndsKind s.list);
+    list = refl;
+    place = place_here s.offset rest reads.0;
+    stops = stop;
+  };
+  goes = answer_goes;
+}) from bytes (room, are)
+
+-- a right cut without answers leaves all
+none_cut : (from : AnswerFormat) (bytes : List ℕ) (c : AnswerReading) → IsPlace from bytes → IsAnswerCut from bytes c → c.given ≡ []
+    → (c.reading ≡ from) × (c.rest ≡ bytes)
+none_cut from bytes c room is none =
+    let all : c.rest ≡ bytes = sym (subst (λ given. AreSpelled given c.rest bytes) none is.whole) in
+    let same : c.reading.offset ≡ from.offset =
+    is.place ∙ (ap (λ (b : List ℕ). offset_past from.offset (length bytes - length b)) all ∙ sym (place_here from.offset bytes room)) in
+    (ap (λ (k : ℕ). record { offset = k; list = c.reading.list }) same ∙ ap (λ (l : Bool). record { offset = from.offset; list = l }) is.list, all)
+
+-- an answer before the others of a right cut
+answer_begins : (from : AnswerFormat) (bytes : List ℕ) (answer : SyncAnswer) (c : AnswerReading) → IsPlace from bytes
+    → IsAnswerCut from bytes (joined (answer ∷ []) c)
+    → Begins answer_front answer_of_bytes past_answer answers_are_framed IsPlace IsAnswerCut from bytes answer c
+answer_begins from bytes answer c room is =
+    let frame = is.whole.0 in
+    let more = is.whole.1 in
+    let whole = is.whole.2 in
+    let read = spelled_read from answer frame is.whole.3
+    (All-head IsAnswer answer c.given is.each) (All-head HasAnswerWords answer c.given is.words) (All-head (EndsKind from.list) answer c.given is.kinds) in
+    record {
+      frame = frame;
+      more = more;
+      whole = whole;
+      found = read.0;
+      holds = read.1;
+      behind = record {
+        whole = is.whole.4;
+        each = All-tail IsAnswer answer c.given is.each;
+        words = All-tail HasAnswerWords answer c.given is.words;
+        kinds = All-tail (EndsKind from.list) answer c.given is.kinds;
+        list = is.list;
+        place = is.place
+            ∙ (ap (λ (b : List ℕ). offset_past from.offset (length b - length c.rest)) whole
+            ∙ sym (place_past from.offset frame more c.rest (rest_within c.given c.rest more is.whole.4)));
+        stops = is.stops;
+      };
+    }
+
+pub answer_cut_only : (from : AnswerFormat) (bytes : List ℕ) (c : AnswerReading) → from.offset < 2 ^ 64 → IsAnswerCut from bytes c → c ≡ answers_from from bytes
+answer_cut_only from bytes c room is = determined answer_front answer_of_bytes past_answer answers_are_framed IsPlace IsAnswerCut (record {
+  stays = λ s frame more found reads. omega arith;
+  stops = λ s rest d right. right.stops;
+  ends = none_cut;
+  begins = answer_begins;
+}) from bytes c room is

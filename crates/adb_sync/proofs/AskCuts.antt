@@ -1,25 +1,99 @@
--- A cut into requests is right.
-use Rattle.std.proofs.Common.{ℕ, ◌+◌, ◌^◌, ◌≡◌, ◌≢◌, ◌≤◌, ◌<◌, nat_eq, cond, Bool, true, false, suc, List, [], ◌∷◌, ◌++◌, length, take, drop, Option, Some, None, Result, Ok, Err, is_some, refl, sym, ◌∙◌, ap, subst, arith, add-one, append_assoc, eqb-true}
+-- A cut into requests is right, and what is right is the cut.
+use Rattle.std.proofs.Common.{ℕ, suc, ◌+◌, ◌-◌, ◌^◌, ◌≡◌, ◌≤◌, ◌<◌, nat_eq, cond, Bool, true, false, List, [], ◌∷◌, ◌++◌, length, take, drop, Option, Some, None, Result, Ok, Err, refl, sym, ◌∙◌, ap, subst, arith, add-one, append_assoc, eqb-true}
 use Rattle.std.specs.Prelude.{codes}
 use Rattle.std.specs.List.{flat_map}
-use Rattle.std.proofs.lemmas.List.{length-append, length-drop, length-take, take-append-drop, drop_all}
-use Rattle.std.proofs.lemmas.List.Elements.{All-nil, All-cons}
-use Rattle.std.proofs.lemmas.Bool.Decides.{nat_tests}
-use Rattle.byteorder.specs.Endian.{little_number, little_bytes}
-use Rattle.adb_outside.specs.declared.framer.Front.{Front}
+use Rattle.std.proofs.lemmas.List.{length-append, length-drop, take-append-drop, take_at, drop_all}
+use Rattle.std.proofs.lemmas.List.Elements.{All-nil, All-cons, All-head, All-tail}
+use Rattle.byteorder.specs.Endian.{little_bytes}
+use Rattle.byteorder.specs.Numbers.{little_number-reads_back}
 use Rattle.adb_outside.specs.declared.framer.Front.TheVariants.{Whole}
-use Rattle.adb_outside.specs.Framing.{Cut, joined, uncut, fault_of}
+use Rattle.adb_outside.specs.Bytes.{AreBytes}
+use Rattle.adb_outside.specs.Framing.{joined, offset_past}
+use Rattle.adb_outside.proofs.CutLaws.{bytes_before, bytes_behind, bytes_after, place_here, place_past, frame_first, right, determined, Begins}
+use Rattle.adb_outside.proofs.Numbers.{number_again}
 use Rattle.adb_sync.specs.declared.ask.SyncAsk.{SyncAsk}
+use Rattle.adb_sync.specs.declared.ask.SyncAsk.TheVariants as asks
 use Rattle.adb_sync.specs.declared.ask_id.AskId.{AskId}
 use Rattle.adb_sync.specs.declared.ask_id.AskId.TheVariants as ids
 use Rattle.adb_sync.specs.declared.ask_format.AskFormat.{AskFormat}
-use Rattle.adb_sync.specs.declared.error.SyncError.{SyncError}
-use Rattle.adb_sync.specs.declared.error.SyncError.TheVariants.{UnknownId, PathTooLong, BadSend, ChunkTooLong, BadPlace}
-use Rattle.adb_sync.specs.Messages.{AreBytes, number_at}
-use Rattle.adb_sync.specs.Asks.{ask_id_of, ask_id_in_place, is_in_place, ask_kind, ask_head, ask_number_fault, ask_body, ask_body_fault, ask_front, ask_of, past_ask, asks_from, ask_bytes, id_of_ask, is_sending_after, IsAsk, HasAskWords, StandInPlace, IsAskCut, last_comma, comma_behind, send_cut}
-use Rattle.adb_sync.specs.Framed.{asks_are_framed}
-use Rattle.adb_sync.proofs.Cuts.{right, IsBehind, whole_parts, bytes_before, bytes_after, place_past, number_again, number_fits, counted_again, is_one, no_fault_below}
+use Rattle.adb_sync.specs.declared.error.SyncRule.{SyncRule}
+use Rattle.adb_sync.specs.declared.error.SyncRule.TheVariants as rules
+use Rattle.adb_sync.specs.declared.layout.Layout.{Layout}
+use Rattle.adb_sync.specs.declared.layout.TheConstants.{MOST_PATH, MOST_CHUNK}
+use Rattle.adb_sync.specs.Messages.{number_at, path_limit, chunk_limit, comma_fault, last_comma, comma_behind}
+use Rattle.adb_sync.specs.Asks.{AskReading, ask_id_of, ask_layout, ask_in_place, asked_at, is_in_place, ask_front, ask_of, past_ask, asks_from, ask_bytes, id_of_ask, is_sending_after, IsAsk, HasAskWords, StandInPlace, IsAskCut, send_cut}
+use Rattle.adb_sync.specs.Framed.{IsBehind, message_told, framed_message, ask_head, ask_heads, asks_are_framed}
+use Rattle.adb_sync.proofs.Messages.{number_fits, counted_again, is_one, within, is_within, numbers_behind, text_behind}
 
+-- ---- a request that was written
+-- the last comma of a SEND's text is the one behind its path
+comma_at : (path mode : List ℕ) → last_comma mode ≡ None → last_comma (path ++ 44 ∷ mode) ≡ Some (length path)
+comma_at [] mode none = ap (comma_behind 44) none
+comma_at (p ∷ path) mode none = ap (comma_behind p) (comma_at path mode none)
+
+drop_path : (path mode : List ℕ) → drop (suc (length path)) (path ++ 44 ∷ mode) ≡ mode
+drop_path [] mode = refl
+drop_path (p ∷ path) mode = drop_path path mode
+
+cut_again : (path mode : List ℕ) → last_comma mode ≡ None → send_cut (path ++ 44 ∷ mode) (last_comma (path ++ 44 ∷ mode)) ≡ asks.Send path mode
+cut_again path mode none =
+    let text = path ++ 44 ∷ mode in
+    ap (send_cut text) (comma_at path mode none)
+    ∙ (ap (λ p. asks.Send p (drop (length path + 1) text)) (take_at path (44 ∷ mode) (length path) refl)
+    ∙ ap (asks.Send path) (ap (λ k. drop k text) (add-one (length path)) ∙ drop_path path mode))
+
+-- what stands behind its id
+said : (ask : SyncAsk) → IsAsk ask → HasAskWords ask → IsBehind (ask_layout (id_of_ask ask)) (drop 4 (ask_bytes ask))
+said (asks.Stat path) good words = text_behind path_limit false path (omega (arith, good)) (within MOST_PATH (length path) rules.PathTooLong good) refl
+said (asks.List path) good words = text_behind path_limit false path (omega (arith, good)) (within MOST_PATH (length path) rules.PathTooLong good) refl
+said (asks.Recv path) good words = text_behind path_limit false path (omega (arith, good)) (within MOST_PATH (length path) rules.PathTooLong good) refl
+said (asks.Send path mode) good words =
+    let text = path ++ 44 ∷ mode in
+    let few : length text ≤ MOST_PATH = omega (arith, length-append path (44 ∷ mode), good.0) in
+    text_behind path_limit true text (omega (arith, few)) (within MOST_PATH (length text) rules.PathTooLong few) (ap comma_fault (comma_at path mode good.1))
+said (asks.Chunk bytes) good words = text_behind chunk_limit false bytes (omega (arith, good)) (within MOST_CHUNK (length bytes) rules.ChunkTooLong good) refl
+said (asks.Finish mtime) good words = numbers_behind 1 (little_bytes 4 mtime) refl
+said asks.Quit good words = record { head = omega arith; number = refl; size = refl; body = refl }
+
+-- its id
+said_id : (ask : SyncAsk) → ask_id_of (take 4 (ask_bytes ask)) ≡ Some (id_of_ask ask)
+said_id (asks.Stat path) = refl
+said_id (asks.List path) = refl
+said_id (asks.Recv path) = refl
+said_id (asks.Send path mode) = refl
+said_id (asks.Chunk bytes) = refl
+said_id (asks.Finish mtime) = refl
+said_id asks.Quit = refl
+
+-- what is read of it
+said_again : (from : AskFormat) (ask : SyncAsk) → IsAsk ask → HasAskWords ask → ask_of from (ask_bytes ask) ≡ ask
+said_again from (asks.Stat path) good words = refl
+said_again from (asks.List path) good words = refl
+said_again from (asks.Recv path) good words = refl
+said_again from (asks.Send path mode) good words = cut_again path mode good.1
+said_again from (asks.Chunk bytes) good words = refl
+said_again from (asks.Finish mtime) good words = ap asks.Finish (little_number-reads_back 4 mtime [] (omega (arith, words)))
+said_again from asks.Quit good words = refl
+
+said_front : (from : AskFormat) (ask : SyncAsk) → IsAsk ask → HasAskWords ask → is_in_place from.sending (id_of_ask ask) ≡ true
+    → ask_front from (ask_bytes ask) ≡ Whole (length (ask_bytes ask))
+said_front from ask good words place =
+    let id = id_of_ask ask in
+    let behind = said ask good words in
+    message_told (λ format. format.offset) asked_at from (ask_bytes ask) (record {
+      layout = ask_layout id;
+      id = omega (arith, behind.head, ask_head id, length-drop 4 (ask_bytes ask));
+      known = ap (ask_in_place from.sending) (said_id ask) ∙ ap (λ (t : Bool). cond {A = Result Layout SyncRule} t (Ok (ask_layout id)) (Err rules.BadPlace)) place;
+      behind = behind;
+    })
+
+pub ask_again : (from : AskFormat) (ask : SyncAsk) (more : List ℕ) → IsAsk ask → HasAskWords ask → is_in_place from.sending (id_of_ask ask) ≡ true
+    → asks_from from (ask_bytes ask ++ more) ≡ joined (ask ∷ []) (asks_from (past_ask from (ask_bytes ask)) more)
+ask_again from ask more good words place =
+    frame_first ask_front ask_of past_ask asks_are_framed from (ask_bytes ask) more (said_front from ask good words place)
+    ∙ ap (λ a. joined (a ∷ []) (asks_from (past_ask from (ask_bytes ask)) more)) (said_again from ask good words)
+
+-- ---- a request that is read
 -- the four letters of an id
 abbrev letters : AskId → List ℕ
 letters ids.Stat = codes "STAT"
@@ -41,23 +115,20 @@ id_again bytes id =
     (is_one letters bytes ids.Done id _
     (is_one letters bytes ids.Quit id None (λ e. let clash : ◌≡◌ {A = Option AskId} None (Some id) = e in absurd cc)))))))
 
--- an id that is known here stands where it may
-known_here : (from : AskFormat) (o : Option AskId) (id : AskId) → ask_id_in_place from o ≡ Ok id → (o ≡ Some id) × (is_in_place from.sending id ≡ true)
-known_here from None id e = let clash : ◌≡◌ {A = Result AskId SyncError} (Err (cond from.sending (BadPlace from.offset) (UnknownId from.offset))) (Ok id) = e in absurd cc
-known_here from (Some other) id e = go (is_in_place from.sending other) refl e
+-- an id that is known here, and what stands behind it
+record IsKnown (from : AskFormat) (found : Option AskId) (layout : Layout) : Type 0 where
+  id : AskId
+  is : found ≡ Some id
+  place : is_in_place from.sending id ≡ true
+  behind : ask_layout id ≡ layout
+
+known_here : (from : AskFormat) (found : Option AskId) (layout : Layout) → ask_in_place from.sending found ≡ Ok layout → IsKnown from found layout
+known_here from None layout e = absurd (cc)
+known_here from (Some id) layout e = go (is_in_place from.sending id) refl e
   where
-    go : (t : Bool) → is_in_place from.sending other ≡ t → cond t (Ok other) (Err (BadPlace from.offset)) ≡ Ok id → (◌≡◌ {A = Option AskId} (Some other) (Some id)) × (is_in_place from.sending id ≡ true)
-    go true is found = let same : other ≡ id = (cc) in (ap Some same, ap (is_in_place from.sending) (sym same) ∙ is)
-    go false is found = let clash : ◌≡◌ {A = Result AskId SyncError} (Err (BadPlace from.offset)) (Ok id) = found in absurd cc
-
--- only zero is without a fault
-zero_there : (n : ℕ) (fault : SyncError) → cond (nat_eq n 0) None (Some fault) ≡ None → n ≡ 0
-zero_there n fault e = grind (arith, nat_tests)
-
--- what is without a fault is there
-some_there : (o : Option ℕ) (fault : SyncError) → cond (is_some o) None (Some fault) ≡ None → (k : ℕ) × (o ≡ Some k)
-some_there (Some k) fault e = (k, refl)
-some_there None fault e = let clash : ◌≡◌ {A = Option SyncError} (Some fault) None = e in absurd cc
+    go : (t : Bool) → is_in_place from.sending id ≡ t → cond {A = Result Layout SyncRule} t (Ok (ask_layout id)) (Err rules.BadPlace) ≡ Ok layout → IsKnown from (Some id) layout
+    go true is found = record { id = id; is = refl; place = is; behind = cc }
+    go false is found = absurd (cc)
 
 -- a text is cut at its last comma
 record CutAtComma (text : List ℕ) (k : ℕ) : Type 0 where
@@ -81,141 +152,193 @@ comma_cuts (byte ∷ text) k e = go (last_comma text) refl (comma_cuts text) e
         subst (λ (i : ℕ). CutAtComma (byte ∷ text) i) next (record { whole = ap (λ more. byte ∷ more) cuts.whole; none_behind = cuts.none_behind })
     go None is others found = here is (nat_eq byte 44) refl found
 
--- the request of some bytes is spelled by them, may be written and stands where it may
-record IsSpelledAsk (from : AskFormat) (bytes : List ℕ) (ask : SyncAsk) : Type 0 where
+comma_there : (comma : Option ℕ) → comma_fault comma ≡ None → (k : ℕ) × (comma ≡ Some k)
+comma_there (Some k) e = (k, refl)
+comma_there None e = let clash : ◌≡◌ {A = Option SyncRule} (Some rules.BadSend) None = e in absurd cc
+
+-- the request of some bytes is spelled by them, may be written and begins with that id
+record IsSpelledAsk (id : AskId) (bytes : List ℕ) (ask : SyncAsk) : Type 0 where
   again : ask_bytes ask ≡ bytes
   good : IsAsk ask
   words : HasAskWords ask
-  place : is_in_place from.sending (id_of_ask ask) ≡ true
-  sends : (past_ask from bytes).sending ≡ is_sending_after (Some (id_of_ask ask))
+  kind : id_of_ask ask ≡ id
 
-abbrev IsBehindId : AskFormat → AskId → List ℕ → Type 0
-IsBehindId = IsBehind ask_kind ask_head ask_number_fault ask_body ask_body_fault
+-- a path within its limit
+path_fits : (rest : List ℕ) → length rest ≡ 4 + number_at 0 rest → number_at 0 rest ≤ MOST_PATH → length (drop 4 rest) ≤ MOST_PATH
+path_fits rest len most = omega (arith, len, most, length-drop 4 rest)
 
 -- a SEND and its comma
-spelled_send : (from : AskFormat) (rest text : List ℕ) (k : ℕ) → text ≡ drop 4 rest → last_comma text ≡ Some k → is_in_place from.sending ids.Send ≡ true → AreBytes rest
-    → length rest ≡ 4 + little_number 4 rest → length text ≤ 1024 → IsSpelledAsk from (codes "SEND" ++ rest) (send_cut text (Some k))
-spelled_send from rest text k is found place are len short =
+send_spelled : (rest text : List ℕ) (k : ℕ) → text ≡ drop 4 rest → last_comma text ≡ Some k → length text ≤ MOST_PATH → little_bytes 4 (length (drop 4 rest)) ++ drop 4 rest ≡ rest
+    → IsSpelledAsk ids.Send (codes "SEND" ++ rest) (send_cut text (Some k))
+send_spelled rest text k is found short counted =
     let cuts = comma_cuts text k found in
     let behind : drop (k + 1) text ≡ drop (suc k) text = ap (λ (j : ℕ). drop j text) (add-one k) in
     let whole : take k text ++ 44 ∷ drop (k + 1) text ≡ text = ap (λ mode. take k text ++ 44 ∷ mode) behind ∙ cuts.whole in
     let count : length (take k text ++ 44 ∷ drop (k + 1) text) ≡ length text = ap (length {A = ℕ}) whole in
     record {
-      again = ap (λ t. codes "SEND" ++ little_bytes 4 (length t) ++ t) (whole ∙ is) ∙ ap (λ r. codes "SEND" ++ r) (counted_again rest are len);
+      again = ap (λ t. codes "SEND" ++ little_bytes 4 (length t) ++ t) (whole ∙ is) ∙ ap (λ r. codes "SEND" ++ r) counted;
       good = (omega (arith, count, length-append (take k text) (44 ∷ drop (k + 1) text), short), ap last_comma behind ∙ cuts.none_behind);
       words = tt;
-      place = place;
-      sends = refl;
+      kind = refl;
     }
 
 -- what an id and the bytes behind it spell
-spelled_by : (from : AskFormat) (id : AskId) (rest : List ℕ) → is_in_place from.sending id ≡ true → AreBytes rest → IsBehindId from id rest
-    → IsSpelledAsk from (letters id ++ rest) (ask_of from (letters id ++ rest))
-spelled_by from ids.Stat rest place are m = record {
-  again = ap (λ r. codes "STAT" ++ r) (counted_again rest are m.len);
-  good = omega (arith, m.len, length-drop 4 rest, no_fault_below 1024 (number_at 0 rest) (PathTooLong from.offset) m.good_number);
+spelled_by : (from : AskFormat) (id : AskId) (rest : List ℕ) → AreBytes rest → IsBehind (ask_layout id) rest → IsSpelledAsk id (letters id ++ rest) (ask_of from (letters id ++ rest))
+spelled_by from ids.Stat rest are m = record {
+  again = ap (λ r. codes "STAT" ++ r) (counted_again rest are m.size);
+  good = path_fits rest m.size (is_within MOST_PATH (number_at 0 rest) rules.PathTooLong m.number);
   words = tt;
-  place = place;
-  sends = refl;
+  kind = refl;
 }
-spelled_by from ids.List rest place are m = record {
-  again = ap (λ r. codes "LIST" ++ r) (counted_again rest are m.len);
-  good = omega (arith, m.len, length-drop 4 rest, no_fault_below 1024 (number_at 0 rest) (PathTooLong from.offset) m.good_number);
+spelled_by from ids.List rest are m = record {
+  again = ap (λ r. codes "LIST" ++ r) (counted_again rest are m.size);
+  good = path_fits rest m.size (is_within MOST_PATH (number_at 0 rest) rules.PathTooLong m.number);
   words = tt;
-  place = place;
-  sends = refl;
+  kind = refl;
 }
-spelled_by from ids.Recv rest place are m = record {
-  again = ap (λ r. codes "RECV" ++ r) (counted_again rest are m.len);
-  good = omega (arith, m.len, length-drop 4 rest, no_fault_below 1024 (number_at 0 rest) (PathTooLong from.offset) m.good_number);
+spelled_by from ids.Recv rest are m = record {
+  again = ap (λ r. codes "RECV" ++ r) (counted_again rest are m.size);
+  good = path_fits rest m.size (is_within MOST_PATH (number_at 0 rest) rules.PathTooLong m.number);
   words = tt;
-  place = place;
-  sends = refl;
+  kind = refl;
 }
-spelled_by from ids.Send rest place are m =
-    let comma = some_there (last_comma (drop 4 rest)) (BadSend from.offset) m.good_body in
-    subst (λ (o : Option ℕ). IsSpelledAsk from (codes "SEND" ++ rest) (send_cut (drop 4 rest) o)) (sym comma.1)
-    (spelled_send from rest (drop 4 rest) comma.0 refl comma.1 place are m.len
-    (omega (arith, m.len, length-drop 4 rest, no_fault_below 1024 (number_at 0 rest) (PathTooLong from.offset) m.good_number)))
-spelled_by from ids.Data rest place are m = record {
-  again = ap (λ r. codes "DATA" ++ r) (counted_again rest are m.len);
-  good = omega (arith, m.len, length-drop 4 rest, no_fault_below 65536 (number_at 0 rest) (ChunkTooLong from.offset) m.good_number);
+spelled_by from ids.Send rest are m =
+    let comma = comma_there (last_comma (drop 4 rest)) m.body in
+    let short = path_fits rest m.size (is_within MOST_PATH (number_at 0 rest) rules.PathTooLong m.number) in
+    subst (λ (o : Option ℕ). IsSpelledAsk ids.Send (codes "SEND" ++ rest) (send_cut (drop 4 rest) o)) (sym comma.1)
+    (send_spelled rest (drop 4 rest) comma.0 refl comma.1 short (counted_again rest are m.size))
+spelled_by from ids.Data rest are m = record {
+  again = ap (λ r. codes "DATA" ++ r) (counted_again rest are m.size);
+  good = omega (arith, m.size, length-drop 4 rest, is_within MOST_CHUNK (number_at 0 rest) rules.ChunkTooLong m.number);
   words = tt;
-  place = place;
-  sends = refl;
+  kind = refl;
 }
-spelled_by from ids.Done rest place are m = record {
+spelled_by from ids.Done rest are m = record {
   again =
-      ap (λ r. codes "DONE" ++ little_bytes 4 (number_at 0 rest) ++ r) (sym (drop_all 4 rest (omega (arith, m.len))))
-      ∙ ap (λ r. codes "DONE" ++ r) (number_again rest are (omega (arith, m.len)));
+      ap (λ r. codes "DONE" ++ little_bytes 4 (number_at 0 rest) ++ r) (sym (drop_all 4 rest (omega (arith, m.size))))
+      ∙ ap (λ r. codes "DONE" ++ r) (number_again rest are (omega (arith, m.size)));
   good = tt;
   words = number_fits 0 rest are;
-  place = place;
-  sends = refl;
+  kind = refl;
 }
-spelled_by from ids.Quit rest place are m =
-    let none : number_at 0 rest ≡ 0 = zero_there (number_at 0 rest) (UnknownId from.offset) m.good_number in
+spelled_by from ids.Quit rest are m =
+    let none : number_at 0 rest ≡ 0 = omega (arith, is_within 0 (number_at 0 rest) rules.UnknownId m.number) in
     record {
       again =
           ap (λ (n : ℕ). codes "QUIT" ++ little_bytes 4 n ++ []) (sym none)
-          ∙ (ap (λ r. codes "QUIT" ++ little_bytes 4 (number_at 0 rest) ++ r) (sym (drop_all 4 rest (omega (arith, m.len))))
-          ∙ ap (λ r. codes "QUIT" ++ r) (number_again rest are (omega (arith, m.len))));
+          ∙ (ap (λ r. codes "QUIT" ++ little_bytes 4 (number_at 0 rest) ++ r) (sym (drop_all 4 rest (omega (arith, m.size))))
+          ∙ ap (λ r. codes "QUIT" ++ r) (number_again rest are (omega (arith, m.size))));
       good = tt;
       words = tt;
-      place = place;
-      sends = refl;
+      kind = refl;
     }
 
--- a whole request is spelled by its bytes
-spelled_again : (from : AskFormat) (bytes : List ℕ) → AreBytes bytes → ask_front from bytes ≡ Whole (length bytes) → IsSpelledAsk from bytes (ask_of from bytes)
-spelled_again from bytes are e =
-    let m = whole_parts ask_kind ask_head ask_number_fault ask_body ask_body_fault from bytes e in
-    let known = known_here from (ask_id_of (take 4 bytes)) m.kind m.known in
+-- a request that is read, where its id stands
+record IsReadAsk (from : AskFormat) (bytes : List ℕ) : Type 0 where
+  id : AskId
+  known : ask_id_of (take 4 bytes) ≡ Some id
+  place : is_in_place from.sending id ≡ true
+  spelled : IsSpelledAsk id bytes (ask_of from bytes)
+
+read_ask : (from : AskFormat) (bytes : List ℕ) → AreBytes bytes → ask_front from bytes ≡ Whole (length bytes) → IsReadAsk from bytes
+read_ask from bytes are e =
+    let m = framed_message (λ format. format.offset) asked_at ask_heads from bytes e in
+    let known = known_here from (ask_id_of (take 4 bytes)) m.layout m.known in
     let rest = drop 4 bytes in
-    let whole : letters m.kind ++ rest ≡ bytes = ap (λ id. id ++ rest) (sym (id_again (take 4 bytes) m.kind known.0)) ∙ take-append-drop 4 bytes in
-    subst (λ (b : List ℕ). IsSpelledAsk from b (ask_of from b)) whole (spelled_by from m.kind rest known.1 (bytes_after 4 bytes are) m.behind)
+    let whole : letters known.id ++ rest ≡ bytes = ap (λ id. id ++ rest) (sym (id_again (take 4 bytes) known.id known.is)) ∙ take-append-drop 4 bytes in
+    let behind = subst (λ (l : Layout). IsBehind l rest) (sym known.behind) m.behind in
+    record {
+      id = known.id;
+      known = known.is;
+      place = known.place;
+      spelled = subst (λ (b : List ℕ). IsSpelledAsk known.id b (ask_of from b)) whole (spelled_by from known.id rest (bytes_after 4 bytes are) behind);
+    }
+
+-- ---- cuts
+abbrev IsPlace : AskFormat → List ℕ → Type 0
+IsPlace from bytes = from.offset < 2 ^ 64
 
 abbrev Reads : AskFormat → List ℕ → Type 0
 Reads from bytes = (from.offset < 2 ^ 64) × AreBytes bytes
 
+-- requests and a rest are as long as both
+rest_within : (given : List SyncAsk) (rest bytes : List ℕ) → bytes ≡ flat_map ask_bytes given ++ rest → length rest ≤ length bytes
+rest_within given rest bytes whole = omega (arith, ap (length {A = ℕ}) whole, length-append (flat_map ask_bytes given) rest)
+
 -- a request before a right cut
-ask_goes : (from : AskFormat) (bytes : List ℕ) (n : ℕ) (c : Cut AskFormat SyncAsk SyncError) → Reads from bytes → ask_front from bytes ≡ Whole n
-    → IsAskCut (past_ask from (take n bytes)) (drop n bytes) c → IsAskCut from bytes (joined (ask_of from (take n bytes) ∷ []) c)
-ask_goes from bytes n c reads e others =
-    let fits = asks_are_framed.fits from bytes n e in
-    let frame = take n bytes in
+ask_goes : (from : AskFormat) (frame more : List ℕ) (c : AskReading) → ask_front from frame ≡ Whole (length frame) → Reads from (frame ++ more)
+    → IsAskCut (past_ask from frame) more c → IsAskCut from (frame ++ more) (joined (ask_of from frame ∷ []) c)
+ask_goes from frame more c found reads others =
     let ask = ask_of from frame in
-    let len : length frame ≡ n = omega (arith, length-take n bytes, fits) in
-    let spelled = spelled_again from frame (bytes_before n bytes reads.1) (asks_are_framed.alone from bytes n e ∙ ap Whole (sym len)) in
-    let after : length (drop n bytes) ≡ length (flat_map ask_bytes c.given) + length c.rest = ap (length {A = ℕ}) others.whole ∙ length-append (flat_map ask_bytes c.given) c.rest in
+    let r = read_ask from frame (bytes_before frame more reads.1) found in
+    let kind = r.spelled.kind in
+    let sends : is_sending_after (ask_id_of (take 4 frame)) ≡ is_sending_after (Some (id_of_ask ask)) = ap is_sending_after (r.known ∙ ap Some (sym kind)) in
     record {
       whole =
-          sym (take-append-drop n bytes)
-          ∙ (ap (λ b. b ++ drop n bytes) (sym spelled.again)
-          ∙ (ap (λ b. ask_bytes ask ++ b) others.whole ∙ sym (append_assoc (ask_bytes ask) (flat_map ask_bytes c.given) c.rest)));
-      each = All-cons IsAsk ask c.given spelled.good others.each;
-      words = All-cons HasAskWords ask c.given spelled.words others.words;
-      in_place = (spelled.place, subst (λ (s : Bool). StandInPlace s c.given c.reading.sending) spelled.sends others.in_place);
-      place = others.place ∙ place_past from.offset n (length bytes) (length (drop n bytes)) (length c.rest) (length frame) len (length-drop n bytes) fits.1 (omega (arith, after));
-      fault = others.fault;
-      none_left = others.none_left;
+          ap (λ b. b ++ more) (sym r.spelled.again)
+          ∙ (ap (λ b. ask_bytes ask ++ b) others.whole ∙ sym (append_assoc (ask_bytes ask) (flat_map ask_bytes c.given) c.rest));
+      each = All-cons IsAsk ask c.given r.spelled.good others.each;
+      words = All-cons HasAskWords ask c.given r.spelled.words others.words;
+      in_place = (ap (is_in_place from.sending) kind ∙ r.place, subst (λ (s : Bool). StandInPlace s c.given c.reading.sending) sends others.in_place);
+      place = others.place ∙ place_past from.offset frame more c.rest (rest_within c.given c.rest more others.whole);
+      stops = others.stops;
     }
 
--- no whole request is there
-ask_stops : (from : AskFormat) (bytes : List ℕ) (f : Front SyncError) → Reads from bytes → ask_front from bytes ≡ f → ((n : ℕ) → ask_front from bytes ≢ Whole n) → IsAskCut from bytes (uncut from bytes (fault_of f))
-ask_stops from bytes f reads is none = record {
-  whole = refl;
-  each = All-nil IsAsk;
-  words = All-nil HasAskWords;
-  in_place = refl;
-  place = let room : from.offset < 2 ^ 64 = reads.0 in omega arith;
-  fault = ap fault_of (sym is);
-  none_left = none;
-}
-
-ask_stays : (from : AskFormat) (bytes : List ℕ) (n : ℕ) → Reads from bytes → ask_front from bytes ≡ Whole n → Reads (past_ask from (take n bytes)) (drop n bytes)
-ask_stays from bytes n reads e = (omega arith, bytes_after n bytes reads.1)
-
 pub ask_cut_right : (from : AskFormat) (bytes : List ℕ) → from.offset < 2 ^ 64 → AreBytes bytes → IsAskCut from bytes (asks_from from bytes)
-ask_cut_right from bytes room are =
-    right ask_front ask_of past_ask asks_are_framed Reads IsAskCut (record { stays = ask_stays; stops = ask_stops; goes = ask_goes }) from bytes (room, are)
+ask_cut_right from bytes room are = right ask_front ask_of past_ask asks_are_framed Reads IsAskCut (record {
+  stays = λ s frame more found reads. (omega arith, bytes_behind frame more reads.1);
+  stops = λ s rest fault reads stop. record {
+    whole = refl;
+    each = All-nil IsAsk;
+    words = All-nil HasAskWords;
+    in_place = refl;
+    place = place_here s.offset rest reads.0;
+    stops = stop;
+  };
+  goes = ask_goes;
+}) from bytes (room, are)
+
+-- a right cut without requests leaves all
+none_cut : (from : AskFormat) (bytes : List ℕ) (c : AskReading) → IsPlace from bytes → IsAskCut from bytes c → c.given ≡ []
+    → (c.reading ≡ from) × (c.rest ≡ bytes)
+none_cut from bytes c room is none =
+    let all : c.rest ≡ bytes = sym (is.whole ∙ ap (λ given. flat_map ask_bytes given ++ c.rest) none) in
+    let same : c.reading.offset ≡ from.offset =
+    is.place ∙ (ap (λ (b : List ℕ). offset_past from.offset (length bytes - length b)) all ∙ sym (place_here from.offset bytes room)) in
+    let sends : c.reading.sending ≡ from.sending = subst (λ given. StandInPlace from.sending given c.reading.sending) none is.in_place in
+    (ap (λ (k : ℕ). record { offset = k; sending = c.reading.sending }) same ∙ ap (λ (s : Bool). record { offset = from.offset; sending = s }) sends, all)
+
+-- a request before the others of a right cut
+ask_begins : (from : AskFormat) (bytes : List ℕ) (ask : SyncAsk) (c : AskReading) → IsPlace from bytes
+    → IsAskCut from bytes (joined (ask ∷ []) c) → Begins ask_front ask_of past_ask asks_are_framed IsPlace IsAskCut from bytes ask c
+ask_begins from bytes ask c room is =
+    let frame = ask_bytes ask in
+    let more = flat_map ask_bytes c.given ++ c.rest in
+    let whole : bytes ≡ frame ++ more = is.whole ∙ append_assoc frame (flat_map ask_bytes c.given) c.rest in
+    let good = All-head IsAsk ask c.given is.each in
+    let words = All-head HasAskWords ask c.given is.words in
+    record {
+      frame = frame;
+      more = more;
+      whole = whole;
+      found = said_front from ask good words is.in_place.0;
+      holds = said_again from ask good words;
+      behind = record {
+        whole = refl;
+        each = All-tail IsAsk ask c.given is.each;
+        words = All-tail HasAskWords ask c.given is.words;
+        in_place = subst (λ (o : Option AskId). StandInPlace (is_sending_after o) c.given c.reading.sending) (sym (said_id ask)) is.in_place.1;
+        place = is.place
+            ∙ (ap (λ (b : List ℕ). offset_past from.offset (length b - length c.rest)) whole
+            ∙ sym (place_past from.offset frame more c.rest (rest_within c.given c.rest more refl)));
+        stops = is.stops;
+      };
+    }
+
+pub ask_cut_only : (from : AskFormat) (bytes : List ℕ) (c : AskReading) → from.offset < 2 ^ 64 → IsAskCut from bytes c → c ≡ asks_from from bytes
+ask_cut_only from bytes c room is = determined ask_front ask_of past_ask asks_are_framed IsPlace IsAskCut (record {
+  stays = λ s frame more found reads. omega arith;
+  stops = λ s rest d right. right.stops;
+  ends = none_cut;
+  begins = ask_begins;
+}) from bytes c room is

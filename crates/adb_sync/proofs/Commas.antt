@@ -1,7 +1,7 @@
 -- The last comma is the last byte that is one.
 use Rattle.std.proofs.Common.{ℕ, ◌≡◌, ◌<◌, Bool, true, false, zero, suc, List, [], ◌∷◌, length, cond, nat_eq, slice_index, Option, Some, None, MatchOption, refl, sym, ◌∙◌, ap, arith, eqb-true, eq-eqb}
 use Rattle.bstr.specs.Find.{IsLastByte, is_byte}
-use Rattle.adb_sync.specs.Asks.{last_comma, comma_behind}
+use Rattle.adb_sync.specs.Messages.{last_comma, comma_behind}
 
 -- the byte at a place is a comma, and none behind it is
 pub record HasLast (xs : List ℕ) (k : ℕ) : Type 0 where

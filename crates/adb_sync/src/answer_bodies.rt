@@ -4,7 +4,7 @@ ghost use Rattle.std.specs.Prelude.{◌≡◌, ◌≤◌, ◌+◌, drop, length,
 ghost use Rattle.adb_sync.specs.Messages.{number_at};
 
 use crate::answer::SyncAnswer;
-use crate::ask_format::WORD_BYTES;
+use crate::layout::WORD_BYTES;
 use adb_outside::Text;
 use byteorder::{ByteOrder, LittleEndian};
 use std::alloc::{AllocError, Global};

@@ -3,10 +3,9 @@
 use crate::answer::SyncAnswer;
 use crate::answer_bodies::{dent_of, stat_of, text_of};
 use crate::answer_id::AnswerId;
-use crate::ask_format::{MOST_CHUNK, WORD_BYTES};
-use crate::error::SyncError;
+use crate::error::{SyncFault, SyncRule};
+use crate::layout::{Layout, WORD_BYTES, front_behind};
 use adb_outside::{Format, Front};
-use byteorder::{ByteOrder, LittleEndian};
 use std::alloc::{AllocError, Global};
 
 /// Answers, the first of which begins at an offset of the stream, to a LIST or to other requests.
@@ -17,60 +16,23 @@ pub struct AnswerFormat {
 }
 
 impl AnswerFormat {
-    ghost use Rattle.std.specs.Prelude.{◌≡◌, ◌≤◌, Ok};
-    ghost use Rattle.adb_sync.specs.Messages.{front_past_id};
-    ghost use Rattle.adb_sync.specs.Answers.{answer_kind, answer_head, answer_number_fault, answer_body, answer_body_fault};
+    ghost use Rattle.std.specs.Prelude.{◌≡◌, IfOk};
+    ghost use Rattle.adb_sync.specs.Messages.{HasHead};
+    ghost use Rattle.adb_sync.specs.Answers.{answered_at};
 
-    /// How many bytes are between an answer's id and its body. The last four are a number.
-    fn head_bytes(&self, id: AnswerId) -> usize
-        ensures value { result ≡ answer_head self.now id }
-        ensures number { 4 ≤ result }
-        ensures small { result ≤ 16 }
+    /// What stands behind an id, or what it breaks.
+    fn layout(&self, id: &[u8]) -> Result<Layout, SyncRule>
+        ensures value { result ≡ answered_at self.now id.now }
+        ensures head { IfOk result HasHead }
     {
-        match id {
-            AnswerId::Stat => 3 * WORD_BYTES,
-            AnswerId::Dent => 4 * WORD_BYTES,
-            AnswerId::Done if self.list => 4 * WORD_BYTES,
-            AnswerId::Data | AnswerId::Done | AnswerId::Okay | AnswerId::Fail => WORD_BYTES,
-        }
-    }
-
-    /// The fault of an answer's number.
-    fn number_fault(&self, id: AnswerId, number: u32) -> Option<SyncError>
-        ensures { result ≡ answer_number_fault self.now id number }
-    {
-        match id {
-            AnswerId::Data if number > MOST_CHUNK => Some(SyncError::ChunkTooLong {
-                offset: self.offset,
-            }),
-            _ => None,
-        }
-    }
-
-    /// What bytes past an id begin with.
-    fn front_past(&self, id: AnswerId, rest: &[u8]) -> Front<SyncError>
-        ensures { result ≡ front_past_id answer_kind answer_head answer_number_fault answer_body answer_body_fault self.now (Ok id) rest.now }
-    {
-        let head = self.head_bytes(id);
-        if rest.len() < head {
-            return Front::More;
-        }
-        let (_, last) = rest.split_at(head - WORD_BYTES);
-        let number = LittleEndian::read_u32(last);
-        if let Some(fault) = self.number_fault(id, number) {
-            return Front::Bad(fault);
-        }
-        let (_, rest) = rest.split_at(head);
-        let length = id.body_bytes(number);
-        if rest.len() < length {
-            Front::More
-        } else {
-            Front::Whole(WORD_BYTES + head + length)
+        match AnswerId::of(id) {
+            Some(id) => Ok(id.layout(self.list)),
+            None => Err(SyncRule::UnknownId),
         }
     }
 }
 
-impl Format<SyncAnswer, SyncError> for AnswerFormat {
+impl Format<SyncAnswer, SyncFault> for AnswerFormat {
     ghost use Rattle.std.specs.Prelude.{◌≡◌, List, ℕ, IfOk, length};
     ghost use Rattle.adb_outside.specs.Framing.{IsFraming};
     ghost use Rattle.adb_sync.specs.Answers.{answer_front, answer_of_bytes, past_answer};
@@ -84,17 +46,12 @@ impl Format<SyncAnswer, SyncError> for AnswerFormat {
 
     ghost framing = { answers_are_framed };
 
-    fn front(&self, bytes: &[u8]) -> Front<SyncError> {
+    fn front(&self, bytes: &[u8]) -> Front<SyncFault> {
         if bytes.len() < WORD_BYTES {
             return Front::More;
         }
         let (id, rest) = bytes.split_at(WORD_BYTES);
-        match AnswerId::of(id) {
-            Some(id) => self.front_past(id, rest),
-            None => Front::Bad(SyncError::UnknownId {
-                offset: self.offset,
-            }),
-        }
+        front_behind(self.offset, self.layout(id), rest)
     }
 
     fn read(&self, alloc: Global, frame: &[u8]) -> Result<SyncAnswer, AllocError> {

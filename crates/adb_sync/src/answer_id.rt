@@ -1,7 +1,10 @@
 //! The ids of answers.
 
-ghost use Rattle.std.specs.Prelude.{◌≡◌, length};
-ghost use Rattle.adb_sync.specs.Answers.{answer_id_of, answer_body};
+ghost use Rattle.std.specs.Prelude.{◌≡◌};
+ghost use Rattle.adb_sync.specs.Messages.{HasHead};
+ghost use Rattle.adb_sync.specs.Answers.{answer_id_of, answer_layout};
+
+use crate::layout::{Layout, Limit};
 
 /// The four letters that an answer begins with.
 #[derive(Clone, Copy, Debug, PartialEq, Eq)]
@@ -36,13 +39,18 @@ impl AnswerId {
         }
     }
 
-    /// How many bytes follow its head.
-    pub fn body_bytes(self, number: u32) -> usize
-        ensures { result ≡ answer_body self number }
+    /// What stands behind it, in an answer to a LIST or in another.
+    pub fn layout(self, list: bool) -> Layout
+        ensures value { result ≡ answer_layout list self }
+        ensures head { HasHead result }
     {
         match self {
-            AnswerId::Dent | AnswerId::Data | AnswerId::Fail => number as usize,
-            AnswerId::Stat | AnswerId::Done | AnswerId::Okay => 0,
+            AnswerId::Stat => Layout::numbers(3),
+            AnswerId::Dent => Layout::text(4, None),
+            AnswerId::Data => Layout::text(1, Some(Limit::of_chunk())),
+            AnswerId::Done if list => Layout::numbers(4),
+            AnswerId::Done | AnswerId::Okay => Layout::numbers(1),
+            AnswerId::Fail => Layout::text(1, None),
         }
     }
 }

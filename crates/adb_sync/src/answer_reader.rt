@@ -1,14 +1,15 @@
 //! Answers of a stream that comes in pieces.
 
-ghost use Rattle.std.specs.Prelude.{◌≡◌, ◌≢◌, ◌++◌, ◌∷◌, [], List, ℕ, Bool, IfSome, IfNone};
-ghost use Rattle.adb_sync.specs.declared.answer.SyncAnswer.{SyncAnswer};
-ghost use Rattle.adb_sync.specs.Messages.{answer_of};
-ghost use Rattle.adb_sync.specs.Answers.{answers_in, answer_fault_in, StandsForAnswers, answers_after};
+ghost use Rattle.std.specs.Prelude.{◌≡◌, ◌≢◌, []};
+ghost use Rattle.adb_outside.specs.Framing.{Takes, Gives, answer_of};
+ghost use Rattle.adb_sync.specs.declared.error.SyncFault.{SyncFault};
+ghost use Rattle.adb_sync.specs.Messages.{error_of};
+ghost use Rattle.adb_sync.specs.Answers.{answer_front, answer_of_bytes, past_answer, StandsForAnswers};
 
 use crate::answer::SyncAnswer;
 use crate::answer_format::AnswerFormat;
-use crate::error::SyncError;
-use adb_outside::{FeedError, Framer};
+use crate::error::{SyncError, SyncFault};
+use adb_outside::Framer;
 use std::alloc::Global;
 use std::marker::Model;
 
@@ -16,16 +17,13 @@ use std::marker::Model;
 /// bytes past the last whole answer and the answers that were not taken yet, never the stream.
 #[derive(Drop)]
 pub struct AnswerReader {
-    framer: Framer<AnswerFormat, SyncAnswer, SyncError>,
+    framer: Framer<AnswerFormat, SyncAnswer, SyncFault>,
 }
 
 impl Model for AnswerReader {
-    ghost use Rattle.adb_outside.specs.Framing.{Cut};
-    ghost use Rattle.adb_sync.specs.declared.answer.SyncAnswer.{SyncAnswer};
-    ghost use Rattle.adb_sync.specs.declared.error.SyncError.{SyncError};
-    ghost use Rattle.adb_sync.specs.declared.answer_format.AnswerFormat.{AnswerFormat};
+    ghost use Rattle.adb_sync.specs.Answers.{AnswerReading};
 
-    ghost Value = { Cut AnswerFormat SyncAnswer SyncError };
+    ghost Value = { AnswerReading };
 
     ghost view = { λ r. r.framer };
 }
@@ -47,30 +45,20 @@ impl AnswerReader {
     /// every call takes nothing and answers that fault.
     pub fn feed(&mut self, piece: &[u8]) -> Result<(), SyncError>
         ensures memory { result ≡ Err SyncError.OutOfMemory → self.new ≡ self.old }
-        ensures answer { result ≢ Err SyncError.OutOfMemory → result ≡ answer_of self.new.fault }
-        ensures first_fault { result ≢ Err SyncError.OutOfMemory → (list : Bool) (fed : List ℕ) (taken : List SyncAnswer)
-            → StandsForAnswers list fed taken self.old → result ≡ answer_of (answer_fault_in list (fed ++ piece.now)) }
-        ensures stays { (fault : SyncError) → self.old.fault ≡ Some fault → result ≡ Err fault }
-        ensures held { result ≢ Err SyncError.OutOfMemory → self.new ≡ answers_after self.old piece.now self.old.fault }
-        ensures stands { result ≢ Err SyncError.OutOfMemory → (list : Bool) (fed : List ℕ) (taken : List SyncAnswer)
-            → StandsForAnswers list fed taken self.old → StandsForAnswers list (fed ++ piece.now) taken self.new }
+        ensures taken { result ≢ Err SyncError.OutOfMemory
+            → Takes answer_front answer_of_bytes past_answer self.old piece.now self.new }
+        ensures answer { result ≢ Err SyncError.OutOfMemory
+            → result ≡ answer_of error_of self.new.fault }
+        ensures stays { (fault : SyncFault) → self.old.fault ≡ Some fault
+            → result ≡ Err (error_of fault) }
     {
-        match self.framer.feed(piece) {
-            Ok(()) => Ok(()),
-            Err(FeedError::OutOfMemory) => Err(SyncError::OutOfMemory),
-            Err(FeedError::Fault(fault)) => Err(fault),
-        }
+        Ok(self.framer.feed(piece)?)
     }
 
     /// The next answer that was not taken yet; `None` where no further whole answer was fed. It
     /// takes no memory.
     pub fn next(&mut self) -> Option<SyncAnswer>
-        ensures some { IfSome result (λ answer. self.old ≡ record self.new { given = answer ∷ self.new.given }) }
-        ensures none { IfNone result ((self.old.given ≡ []) × (self.new ≡ self.old)) }
-        ensures some_stands { IfSome result (λ answer. (list : Bool) (fed : List ℕ) (taken : List SyncAnswer)
-            → StandsForAnswers list fed taken self.old → StandsForAnswers list fed (taken ++ answer ∷ []) self.new) }
-        ensures none_left { IfNone result ((list : Bool) (fed : List ℕ) (taken : List SyncAnswer)
-            → StandsForAnswers list fed taken self.old → answers_in list fed ≡ taken) }
+        ensures { Gives answer_front answer_of_bytes past_answer self.old self.new result }
     {
         self.framer.next()
     }

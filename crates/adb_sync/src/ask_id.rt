@@ -1,7 +1,11 @@
 //! The ids of requests.
 
-ghost use Rattle.std.specs.Prelude.{◌≡◌, length};
-ghost use Rattle.adb_sync.specs.Asks.{ask_id_of, ask_body, is_in_place, is_sending_after};
+ghost use Rattle.std.specs.Prelude.{◌≡◌};
+ghost use Rattle.adb_sync.specs.Messages.{HasHead};
+ghost use Rattle.adb_sync.specs.Asks.{ask_id_of, ask_layout, is_in_place};
+
+use crate::error::SyncRule;
+use crate::layout::{Layout, Limit, WORD_BYTES};
 
 /// The four letters that a request begins with.
 #[derive(Clone, Copy, Debug, PartialEq, Eq)]
@@ -49,13 +53,30 @@ impl AskId {
         }
     }
 
-    /// How many bytes follow its number.
-    pub fn body_bytes(self, number: u32) -> usize
-        ensures { result ≡ ask_body self number }
+    /// What stands behind it.
+    pub fn layout(self) -> Layout
+        ensures value { result ≡ ask_layout self }
+        ensures head { HasHead result }
     {
         match self {
-            AskId::Done | AskId::Quit => 0,
-            AskId::Stat | AskId::List | AskId::Recv | AskId::Send | AskId::Data => number as usize,
+            AskId::Stat | AskId::List | AskId::Recv => Layout::text(1, Some(Limit::of_path())),
+            AskId::Send => Layout {
+                head: WORD_BYTES,
+                limit: Some(Limit::of_path()),
+                counted: true,
+                comma: true,
+            },
+            AskId::Data => Layout::text(1, Some(Limit::of_chunk())),
+            AskId::Done => Layout::numbers(1),
+            AskId::Quit => Layout {
+                head: WORD_BYTES,
+                limit: Some(Limit {
+                    most: 0,
+                    rule: SyncRule::UnknownId,
+                }),
+                counted: false,
+                comma: false,
+            },
         }
     }
 }

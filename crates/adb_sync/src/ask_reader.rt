@@ -1,14 +1,15 @@
 //! Requests of a stream that comes in pieces.
 
-ghost use Rattle.std.specs.Prelude.{◌≡◌, ◌≢◌, ◌++◌, ◌∷◌, [], List, ℕ, IfSome, IfNone};
-ghost use Rattle.adb_sync.specs.declared.ask.SyncAsk.{SyncAsk};
-ghost use Rattle.adb_sync.specs.Messages.{answer_of};
-ghost use Rattle.adb_sync.specs.Asks.{asks_in, ask_fault_in, StandsForAsks, asks_after};
+ghost use Rattle.std.specs.Prelude.{◌≡◌, ◌≢◌, []};
+ghost use Rattle.adb_outside.specs.Framing.{Takes, Gives, answer_of};
+ghost use Rattle.adb_sync.specs.declared.error.SyncFault.{SyncFault};
+ghost use Rattle.adb_sync.specs.Messages.{error_of};
+ghost use Rattle.adb_sync.specs.Asks.{ask_front, ask_of, past_ask, StandsForAsks};
 
 use crate::ask::SyncAsk;
 use crate::ask_format::AskFormat;
-use crate::error::SyncError;
-use adb_outside::{FeedError, Framer};
+use crate::error::{SyncError, SyncFault};
+use adb_outside::Framer;
 use std::alloc::Global;
 use std::marker::Model;
 
@@ -16,16 +17,13 @@ use std::marker::Model;
 /// past the last whole request and the requests that were not taken yet, never the stream.
 #[derive(Drop)]
 pub struct AskReader {
-    framer: Framer<AskFormat, SyncAsk, SyncError>,
+    framer: Framer<AskFormat, SyncAsk, SyncFault>,
 }
 
 impl Model for AskReader {
-    ghost use Rattle.adb_outside.specs.Framing.{Cut};
-    ghost use Rattle.adb_sync.specs.declared.ask.SyncAsk.{SyncAsk};
-    ghost use Rattle.adb_sync.specs.declared.error.SyncError.{SyncError};
-    ghost use Rattle.adb_sync.specs.declared.ask_format.AskFormat.{AskFormat};
+    ghost use Rattle.adb_sync.specs.Asks.{AskReading};
 
-    ghost Value = { Cut AskFormat SyncAsk SyncError };
+    ghost Value = { AskReading };
 
     ghost view = { λ r. r.framer };
 }
@@ -53,30 +51,20 @@ impl AskReader {
     /// answers that fault.
     pub fn feed(&mut self, piece: &[u8]) -> Result<(), SyncError>
         ensures memory { result ≡ Err SyncError.OutOfMemory → self.new ≡ self.old }
-        ensures answer { result ≢ Err SyncError.OutOfMemory → result ≡ answer_of self.new.fault }
-        ensures first_fault { result ≢ Err SyncError.OutOfMemory → (fed : List ℕ) (taken : List SyncAsk)
-            → StandsForAsks fed taken self.old → result ≡ answer_of (ask_fault_in (fed ++ piece.now)) }
-        ensures stays { (fault : SyncError) → self.old.fault ≡ Some fault → result ≡ Err fault }
-        ensures held { result ≢ Err SyncError.OutOfMemory → self.new ≡ asks_after self.old piece.now self.old.fault }
-        ensures stands { result ≢ Err SyncError.OutOfMemory → (fed : List ℕ) (taken : List SyncAsk)
-            → StandsForAsks fed taken self.old → StandsForAsks (fed ++ piece.now) taken self.new }
+        ensures taken { result ≢ Err SyncError.OutOfMemory
+            → Takes ask_front ask_of past_ask self.old piece.now self.new }
+        ensures answer { result ≢ Err SyncError.OutOfMemory
+            → result ≡ answer_of error_of self.new.fault }
+        ensures stays { (fault : SyncFault) → self.old.fault ≡ Some fault
+            → result ≡ Err (error_of fault) }
     {
-        match self.framer.feed(piece) {
-            Ok(()) => Ok(()),
-            Err(FeedError::OutOfMemory) => Err(SyncError::OutOfMemory),
-            Err(FeedError::Fault(fault)) => Err(fault),
-        }
+        Ok(self.framer.feed(piece)?)
     }
 
     /// The next request that was not taken yet; `None` where no further whole request was fed. It
     /// takes no memory.
     pub fn next(&mut self) -> Option<SyncAsk>
-        ensures some { IfSome result (λ ask. self.old ≡ record self.new { given = ask ∷ self.new.given }) }
-        ensures none { IfNone result ((self.old.given ≡ []) × (self.new ≡ self.old)) }
-        ensures some_stands { IfSome result (λ ask. (fed : List ℕ) (taken : List SyncAsk)
-            → StandsForAsks fed taken self.old → StandsForAsks fed (taken ++ ask ∷ []) self.new) }
-        ensures none_left { IfNone result ((fed : List ℕ) (taken : List SyncAsk)
-            → StandsForAsks fed taken self.old → asks_in fed ≡ taken) }
+        ensures { Gives ask_front ask_of past_ask self.old self.new result }
     {
         self.framer.next()
     }

@@ -1,7 +1,8 @@
 //! The text of a SEND.
 
 ghost use Rattle.std.specs.Prelude.{◌≡◌, ◌<◌, length, IfOk, IfSome};
-ghost use Rattle.adb_sync.specs.Asks.{last_comma, send_cut};
+ghost use Rattle.adb_sync.specs.Messages.{last_comma};
+ghost use Rattle.adb_sync.specs.Asks.{send_cut};
 
 use crate::ask::SyncAsk;
 use adb_outside::Text;

@@ -1,8 +1,36 @@
 //! Faults of a stream of requests or answers.
 
-/// Why bytes were not taken. An offset is that of the first byte of the request or answer, each
-/// DATA and DONE counted as one of its own, from the first byte that was fed; past 2^64 - 1 it stays
-/// there.
+ghost use Rattle.std.specs.Prelude.{◌≡◌};
+ghost use Rattle.adb_sync.specs.Messages.{error_of, failure_of, told_by};
+
+use adb_outside::FeedError;
+
+/// What requests and answers keep to.
+#[derive(Clone, Copy, Debug, PartialEq, Eq, Drop)]
+pub enum SyncRule {
+    /// No request, or no answer, has this id; or a QUIT says that bytes follow it.
+    UnknownId,
+    /// The path of a request has more than 1,024 bytes.
+    PathTooLong,
+    /// The text of a SEND has no comma.
+    BadSend,
+    /// A DATA has more than 65,536 bytes.
+    ChunkTooLong,
+    /// A DATA or a DONE outside a SEND, or anything else inside one.
+    BadPlace,
+}
+
+/// Why a stream is no stream of requests, or of answers, from some place on. The offset is that of
+/// the first byte of the request or answer, each DATA and DONE counted as one of its own, from the
+/// first byte of the stream; past 2^64 - 1 it stays there.
+#[derive(Clone, Copy, Debug, PartialEq, Eq, Drop)]
+pub struct SyncFault {
+    pub offset: u64,
+    /// What is broken there.
+    pub rule: SyncRule,
+}
+
+/// Why bytes were not taken. An offset is that of a [`SyncFault`].
 #[derive(Clone, Copy, Debug, PartialEq, Eq, Drop)]
 pub enum SyncError {
     /// Memory ran out. Nothing changed.
@@ -17,4 +45,51 @@ pub enum SyncError {
     ChunkTooLong { offset: u64 },
     /// A DATA or a DONE outside a SEND, or anything else inside one.
     BadPlace { offset: u64 },
+}
+
+impl SyncError {
+    /// The fault of the stream that it reports; `None` for want of memory.
+    pub fn fault(self) -> Option<SyncFault>
+        ensures { result ≡ told_by self }
+    {
+        let (offset, rule) = match self {
+            SyncError::OutOfMemory => return None,
+            SyncError::UnknownId { offset } => (offset, SyncRule::UnknownId),
+            SyncError::PathTooLong { offset } => (offset, SyncRule::PathTooLong),
+            SyncError::BadSend { offset } => (offset, SyncRule::BadSend),
+            SyncError::ChunkTooLong { offset } => (offset, SyncRule::ChunkTooLong),
+            SyncError::BadPlace { offset } => (offset, SyncRule::BadPlace),
+        };
+        Some(SyncFault { offset, rule })
+    }
+}
+
+impl From<SyncFault> for SyncError {
+    ghost use Rattle.std.specs.Prelude.{◌≡◌};
+
+    ghost from_gives = { λ fault error. error ≡ error_of fault };
+
+    fn from(fault: SyncFault) -> SyncError {
+        let offset = fault.offset;
+        match fault.rule {
+            SyncRule::UnknownId => SyncError::UnknownId { offset },
+            SyncRule::PathTooLong => SyncError::PathTooLong { offset },
+            SyncRule::BadSend => SyncError::BadSend { offset },
+            SyncRule::ChunkTooLong => SyncError::ChunkTooLong { offset },
+            SyncRule::BadPlace => SyncError::BadPlace { offset },
+        }
+    }
+}
+
+impl From<FeedError<SyncFault>> for SyncError {
+    ghost use Rattle.std.specs.Prelude.{◌≡◌};
+
+    ghost from_gives = { λ failure error. error ≡ failure_of failure };
+
+    fn from(failure: FeedError<SyncFault>) -> SyncError {
+        match failure {
+            FeedError::OutOfMemory => SyncError::OutOfMemory,
+            FeedError::Fault(fault) => fault.into(),
+        }
+    }
 }

@@ -4,23 +4,29 @@ ghost use Rattle.std.specs.Prelude.{◌≡◌, ◌<◌, ◌^◌, ◌++◌, ◌�
 ghost use Rattle.adb_outside.specs.Framing.{joined};
 ghost use Rattle.adb_sync.specs.declared.ask.SyncAsk.{SyncAsk};
 ghost use Rattle.adb_sync.specs.declared.answer.SyncAnswer.{SyncAnswer};
-ghost use Rattle.adb_sync.specs.declared.error.SyncError.{SyncError};
+ghost use Rattle.adb_sync.specs.declared.error.SyncFault.{SyncFault};
 ghost use Rattle.adb_sync.specs.declared.ask_format.AskFormat.{AskFormat};
 ghost use Rattle.adb_sync.specs.declared.answer_format.AnswerFormat.{AnswerFormat};
-ghost use Rattle.adb_sync.specs.Messages.{AreBytes};
-ghost use Rattle.adb_sync.specs.Asks.{IsAsk, HasAskWords, id_of_ask, is_in_place, ask_bytes, asks_from, past_ask, asks_in, ask_fault_in, IsAskCut};
-ghost use Rattle.adb_sync.specs.Answers.{IsAnswer, HasAnswerWords, EndsKind, answer_bytes, answers_from, past_answer, answers_in, answer_fault_in, IsAnswerCut};
+ghost use Rattle.adb_outside.specs.Bytes.{AreBytes};
+ghost use Rattle.adb_sync.specs.Asks.{IsAsk, HasAskWords, IsAskCut, AskReading, asks_from, past_ask};
+ghost use Rattle.adb_sync.specs.Asks.{id_of_ask, is_in_place, ask_bytes, asks_in, ask_fault_in};
+ghost use Rattle.adb_sync.specs.Answers.{IsAnswer, HasAnswerWords, EndsKind, IsAnswerCut, AnswerReading};
+ghost use Rattle.adb_sync.specs.Answers.{answer_bytes, answers_from, past_answer, answers_in, answer_fault_in};
 
 /// A request that was written where it may stand is the request that is read, whatever follows it.
 pub fn written_asks_are_read()
-    ensures { (from : AskFormat) (ask : SyncAsk) (more : List ℕ) → IsAsk ask → HasAskWords ask → is_in_place from.sending (id_of_ask ask) ≡ true
-        → asks_from from (ask_bytes ask ++ more) ≡ joined (ask ∷ []) (asks_from (past_ask from (ask_bytes ask)) more) }
+    ensures { (from : AskFormat) (ask : SyncAsk) (more : List ℕ) → IsAsk ask → HasAskWords ask
+        → is_in_place from.sending (id_of_ask ask) ≡ true
+        → asks_from from (ask_bytes ask ++ more)
+        ≡ joined (ask ∷ []) (asks_from (past_ask from (ask_bytes ask)) more) }
 {}
 
 /// An answer that was written is the answer that is read, whatever follows it.
 pub fn written_answers_are_read()
-    ensures { (from : AnswerFormat) (answer : SyncAnswer) (more : List ℕ) → IsAnswer answer → HasAnswerWords answer → EndsKind from.list answer
-        → answers_from from (answer_bytes answer ++ more) ≡ joined (answer ∷ []) (answers_from (past_answer from (answer_bytes answer)) more) }
+    ensures { (from : AnswerFormat) (answer : SyncAnswer) (more : List ℕ)
+        → IsAnswer answer → HasAnswerWords answer → EndsKind from.list answer
+        → answers_from from (answer_bytes answer ++ more)
+        ≡ joined (answer ∷ []) (answers_from (past_answer from (answer_bytes answer)) more) }
 {}
 
 /// The requests that are read from bytes are spelled there, one after the other, each where it may stand,
@@ -38,14 +44,30 @@ pub fn answer_cut_is_right()
         → IsAnswerCut from bytes (answers_from from bytes) }
 {}
 
+/// Bytes are cut into requests in one way: requests with a rest, and a fault where one stands there,
+/// that are right are those that are read.
+pub fn ask_cut_is_determined()
+    ensures { (from : AskFormat) (bytes : List ℕ) (cut : AskReading)
+        → from.offset < 2 ^ 64 → IsAskCut from bytes cut → cut ≡ asks_from from bytes }
+{}
+
+/// Bytes are cut into answers in one way too.
+pub fn answer_cut_is_determined()
+    ensures { (from : AnswerFormat) (bytes : List ℕ) (cut : AnswerReading)
+        → from.offset < 2 ^ 64 → IsAnswerCut from bytes cut → cut ≡ answers_from from bytes }
+{}
+
 /// What follows the first fault of requests changes neither the fault nor the requests before it.
 pub fn ask_faults_stay()
-    ensures { (bytes more : List ℕ) (fault : SyncError) → ask_fault_in bytes ≡ Some fault
-        → (ask_fault_in (bytes ++ more) ≡ Some fault) × (asks_in (bytes ++ more) ≡ asks_in bytes) }
+    ensures { (bytes more : List ℕ) (fault : SyncFault) → ask_fault_in bytes ≡ Some fault
+        → (ask_fault_in (bytes ++ more) ≡ Some fault)
+        × (asks_in (bytes ++ more) ≡ asks_in bytes) }
 {}
 
 /// What follows the first fault of answers changes neither the fault nor the answers before it.
 pub fn answer_faults_stay()
-    ensures { (list : Bool) (bytes more : List ℕ) (fault : SyncError) → answer_fault_in list bytes ≡ Some fault
-        → (answer_fault_in list (bytes ++ more) ≡ Some fault) × (answers_in list (bytes ++ more) ≡ answers_in list bytes) }
+    ensures { (list : Bool) (bytes more : List ℕ) (fault : SyncFault)
+        → answer_fault_in list bytes ≡ Some fault
+        → (answer_fault_in list (bytes ++ more) ≡ Some fault)
+        × (answers_in list (bytes ++ more) ≡ answers_in list bytes) }
 {}

@@ -14,6 +14,7 @@ mod ask_reader;
 mod comma;
 mod error;
 mod laws;
+mod layout;
 #[cfg(test)]
 mod tests;
 mod writers;
@@ -22,9 +23,9 @@ pub use answer::{Dirent, SyncAnswer};
 pub use answer_reader::AnswerReader;
 pub use ask::SyncAsk;
 pub use ask_reader::AskReader;
-pub use error::SyncError;
+pub use error::{SyncError, SyncFault, SyncRule};
 pub use laws::{
-    answer_cut_is_right, answer_faults_stay, ask_cut_is_right, ask_faults_stay,
-    written_answers_are_read, written_asks_are_read,
+    answer_cut_is_determined, answer_cut_is_right, answer_faults_stay, ask_cut_is_determined,
+    ask_cut_is_right, ask_faults_stay, written_answers_are_read, written_asks_are_read,
 };
 pub use writers::{CHUNK_HEADER_BYTES, chunk_header, write_answer, write_ask};

@@ -3,8 +3,7 @@
 ghost use Rattle.std.specs.Prelude.{◌≡◌, IfOk};
 
 use crate::{
-    AnswerReader, AskReader, CHUNK_HEADER_BYTES, SyncAnswer, SyncAsk, SyncError, chunk_header,
-    write_answer, write_ask,
+    AnswerReader, AskReader, SyncAnswer, SyncAsk, SyncError, chunk_header, write_answer, write_ask,
 };
 use adb_outside::Text;
 use std::alloc::{AllocError, Global};
@@ -74,30 +73,7 @@ fn answer_parts(answer: &SyncAnswer) -> (&'static str, &[u8], [u32; 3]) {
 }
 
 #[test]
-fn sync_stat_and_its_answer(rt: HostRuntime) -> Result<(), Fail> {
-    let mut ask = Text::new(rt.alloc());
-    let path = Text::from_slice(rt.alloc(), b"/a")?;
-    write_ask(rt.alloc(), &SyncAsk::Stat(path), &mut ask)?;
-    assert_eq!(rt;
-        ask.as_slice(),
-        b"\x53\x54\x41\x54\x02\x00\x00\x00\x2f\x61".as_slice()
-    );
-    let mut answer = Text::new(rt.alloc());
-    let stat = SyncAnswer::Stat {
-        mode: 33_188,
-        size: 0,
-        mtime: 1,
-    };
-    write_answer(rt.alloc(), &stat, &mut answer)?;
-    assert_eq!(rt;
-        answer.as_slice(),
-        b"\x53\x54\x41\x54\xa4\x81\x00\x00\x00\x00\x00\x00\x01\x00\x00\x00".as_slice()
-    );
-    Ok(())
-}
-
-#[test]
-fn asks_come_whole_however_cut(rt: HostRuntime) -> Result<(), Fail> {
+fn messages_come_whole_however_cut(rt: HostRuntime) -> Result<(), Fail> {
     for at in 0..=ASKS.len() {
         let mut reader = AskReader::new(rt.alloc());
         reader.feed(&ASKS[..at])?;
@@ -108,11 +84,6 @@ fn asks_come_whole_however_cut(rt: HostRuntime) -> Result<(), Fail> {
         }
         assert!(rt; reader.next().is_none());
     }
-    Ok(())
-}
-
-#[test]
-fn answers_come_whole_however_cut(rt: HostRuntime) -> Result<(), Fail> {
     for at in 0..=ANSWERS.len() {
         let mut reader = AnswerReader::new(rt.alloc(), false);
         reader.feed(&ANSWERS[..at])?;
@@ -143,7 +114,7 @@ fn text(alloc: Global, bytes: &[u8]) -> Result<Text, AllocError>
 }
 
 #[test]
-fn asks_are_written(rt: HostRuntime) -> Result<(), Fail> {
+fn messages_are_written(rt: HostRuntime) -> Result<(), Fail> {
     let alloc = rt.alloc();
     let mut out = Text::new(alloc);
     write_ask(alloc, &SyncAsk::Stat(text(alloc, b"/a")?), &mut out)?;
@@ -159,12 +130,6 @@ fn asks_are_written(rt: HostRuntime) -> Result<(), Fail> {
     write_ask(alloc, &SyncAsk::Finish { mtime: 0x0403_0201 }, &mut out)?;
     write_ask(alloc, &SyncAsk::Quit, &mut out)?;
     assert_eq!(rt; out.as_slice(), ASKS);
-    Ok(())
-}
-
-#[test]
-fn answers_are_written(rt: HostRuntime) -> Result<(), Fail> {
-    let alloc = rt.alloc();
     let mut out = Text::new(alloc);
     let stat = SyncAnswer::Stat {
         mode: 33_188,
@@ -187,36 +152,13 @@ fn answers_are_written(rt: HostRuntime) -> Result<(), Fail> {
     write_answer(alloc, &entry, &mut listing)?;
     write_answer(alloc, &SyncAnswer::ListEnd, &mut listing)?;
     assert_eq!(rt; listing.as_slice(), LISTING);
+    assert_eq!(rt; chunk_header(0), *b"DATA\0\0\0\0");
+    assert_eq!(rt; chunk_header(65_536), *b"DATA\0\0\x01\0");
     Ok(())
 }
 
 #[test]
-fn chunk_headers_are_those_written(rt: HostRuntime) -> Result<(), Fail> {
-    let alloc = rt.alloc();
-    let cases: [(u32, [u8; CHUNK_HEADER_BYTES]); 3] = [
-        (0, *b"DATA\0\0\0\0"),
-        (1, *b"DATA\x01\0\0\0"),
-        (65_536, *b"DATA\0\0\x01\0"),
-    ];
-    for (size, header) in cases {
-        assert!(rt; size <= 65_536);
-        let bytes: Vec<u8> = vec![in alloc; 7; size as usize]?;
-        let mut written = Text::new(alloc);
-        write_answer(
-            alloc,
-            &SyncAnswer::Chunk(text(alloc, &bytes)?),
-            &mut written,
-        )?;
-        let mut chunk = Text::from_slice(alloc, &chunk_header(size))?;
-        chunk.push_slice(&bytes)?;
-        assert_eq!(rt; chunk.as_slice(), written.as_slice(), "of {size} bytes");
-        assert_eq!(rt; chunk_header(size), header, "of {size} bytes");
-    }
-    Ok(())
-}
-
-#[test]
-fn bad_asks_are_refused(rt: HostRuntime) -> Result<(), Fail> {
+fn bad_messages_are_refused(rt: HostRuntime) -> Result<(), Fail> {
     let cases: [(&[u8], SyncError); 15] = [
         (b"STA2", SyncError::UnknownId { offset: 0 }),
         (b"LST2", SyncError::UnknownId { offset: 0 }),
@@ -250,11 +192,6 @@ fn bad_asks_are_refused(rt: HostRuntime) -> Result<(), Fail> {
         assert_eq!(rt; reader.feed(&bytes[bytes.len() - 1..]), Err(fault));
         assert_eq!(rt; reader.feed(b"QUIT\0\0\0\0"), Err(fault));
     }
-    Ok(())
-}
-
-#[test]
-fn bad_answers_are_refused(rt: HostRuntime) -> Result<(), Fail> {
     let cases: [(&[u8], SyncError); 3] = [
         (b"SEND", SyncError::UnknownId { offset: 0 }),
         (b"OKAY\xff\0\0\0STA2", SyncError::UnknownId { offset: 8 }),

@@ -1,4 +1,4 @@
-use Rattle.adb_sync.proofs.AnswerSpelled.{answer_again}
+use Rattle.adb_sync.proofs.AnswerCuts.{answer_again}
 use Rattle.adb_sync.proofs.laws.written_answers_are_read.Goals as goal
 
 pub returns : goal.returns
