@@ -7,6 +7,7 @@ use Rattle.std.proofs.lemmas.Slice.Eq.{bytes_eq-Decides}
 use Rattle.byteorder.specs.Endian.{little_bytes}
 use Rattle.byteorder.specs.Numbers.{little_from-lt, little_number-reads_back}
 use Rattle.adb_outside.specs.Bytes.{AreBytes}
+use Rattle.adb_outside.proofs.ByteLaws.{byte_at}
 use Rattle.adb_outside.proofs.CutLaws.{bytes_after}
 use Rattle.adb_outside.proofs.Numbers.{number_again}
 use Rattle.adb_sync.specs.declared.error.SyncRule.{SyncRule}
@@ -16,7 +17,7 @@ use Rattle.adb_sync.specs.Framed.{IsBehind}
 
 -- a number has 32 bits
 pub number_fits : (i : ℕ) (bytes : List ℕ) → AreBytes bytes → number_at i bytes < 2 ^ 32
-number_fits i bytes are = little_from-lt 0 4 (drop i bytes) (bytes_after i bytes are)
+number_fits i bytes are = little_from-lt 0 4 (drop i bytes) (byte_at (drop i bytes) (bytes_after i bytes are))
 
 -- a number that is the length of the bytes behind it
 pub counted_again : (bytes : List ℕ) → AreBytes bytes → length bytes ≡ 4 + number_at 0 bytes → little_bytes 4 (length (drop 4 bytes)) ++ drop 4 bytes ≡ bytes
