@@ -7,13 +7,14 @@ use Rattle.std.proofs.lemmas.Bool.Decides.{nat_tests}
 use Rattle.adb_outside.specs.Bytes.{is_graphic}
 use Rattle.adb_outside.specs.Tables.{at, IsRising, Puts, change_at}
 use Rattle.adb_outside.specs.Serial.{is_serial}
+use Rattle.adb_outside.specs.declared.identity.Identity.{Identity}
 use Rattle.adb_outside.specs.declared.kinds.Kind.{Kind}
 use Rattle.adb_outside.specs.declared.serial.TheConstants.{MAX_SERIAL}
 use Rattle.adb_outside.proofs.TableLaws.{puts_is}
-use Rattle.adb_registry.specs.Row.{new_row}
+use Rattle.adb_registry.specs.Row.{new_row, online_row, unauthorized_row}
 use Rattle.adb_registry.specs.Registry.{DeviceTable, IsRowAt, IsSound, changed}
 use Rattle.adb_registry.specs.declared.row.Row.{Row}
-use Rattle.adb_registry.specs.declared.registry.TheConstants.{MAX_DEVICES}
+use Rattle.adb_registry.specs.declared.registry.TheConstants.{MAX_DEVICES, MAX_FEATURES}
 
 -- a serial is short
 serial_le : (serial : List ℕ) → is_serial serial ≡ true → length serial ≤ MAX_SERIAL
@@ -79,6 +80,33 @@ sound_changes id f old new h as_many stands =
         let same : f row ≡ r = cc in
         let changed_row = subst (λ (k : Row). IsRowAt old.drawn id k) same (stands row (h.sound.each id row was)) in
         subst (λ (d : ℕ). IsRowAt d id r) (sym h.drawn) changed_row
+
+-- What a row becomes may stand where it stood.
+module _ {drawn id : ℕ} (row : Row) (is : IsRowAt drawn id row) where
+  pub online_stands : (identity : Identity) (version maxdata : ℕ) → (length identity.features ≤ MAX_FEATURES) × (version < 2 ^ 32) × (maxdata < 2 ^ 32)
+      → IsRowAt drawn id (online_row identity version maxdata row)
+  online_stands identity version maxdata fits = record {
+    own = is.own;
+    from = is.from;
+    to = is.to;
+    serial = is.serial;
+    short = is.short;
+    features = fits.0;
+    version = fits.1;
+    maxdata = fits.2;
+  }
+
+  pub unauthorized_stands : IsRowAt drawn id (unauthorized_row row)
+  unauthorized_stands = record {
+    own = is.own;
+    from = is.from;
+    to = is.to;
+    serial = is.serial;
+    short = is.short;
+    features = is.features;
+    version = is.version;
+    maxdata = is.maxdata;
+  }
 
 -- what is left is the devices with that row changed
 pub changes_is : (id : ℕ) (f : Row → Row) (old new : DeviceTable) → ChangesAlone id f old new → new ≡ changed id f old

@@ -2,7 +2,7 @@ use Rattle.std.proofs.Common.{rules, refl}
 use Rattle.adb_registry.specs.Registry.{DeviceTable}
 use Rattle.adb_registry.specs.Row.{online_row}
 use Rattle.adb_registry.specs.declared.row.Row.{Row}
-use Rattle.adb_registry.proofs.Sound.{sound_changes, changes_is}
+use Rattle.adb_registry.proofs.Sound.{online_stands, sound_changes, changes_is}
 use Rattle.adb_registry.proofs.registry.Registry.online.Goals as goal
 
 pub invariant_of-self : goal.invariant_of-self
@@ -14,16 +14,7 @@ invariant_of-self c =
       drawn = refl;
       rises = search rules;
       puts = record { here = search rules; others = search rules };
-    }) (search rules) (λ r is. record {
-      own = is.own;
-      from = is.from;
-      to = is.to;
-      serial = is.serial;
-      short = is.short;
-      features = c.requires.features;
-      version = c.ranges.version.fits;
-      maxdata = c.ranges.maxdata.fits;
-    })
+    }) (search rules) (λ row is. online_stands row is _ _ _ (c.requires.features, c.ranges.version.fits, c.ranges.maxdata.fits))
 
 pub returns-clause-devices : goal.returns-clause-devices
 returns-clause-devices c =

@@ -1,7 +1,7 @@
 use Rattle.std.proofs.Common.{rules, refl}
 use Rattle.adb_registry.specs.Registry.{DeviceTable}
 use Rattle.adb_registry.specs.Row.{unauthorized_row}
-use Rattle.adb_registry.proofs.Sound.{sound_changes, changes_is}
+use Rattle.adb_registry.proofs.Sound.{unauthorized_stands, sound_changes, changes_is}
 use Rattle.adb_registry.proofs.registry.Registry.unauthorized.Goals as goal
 
 pub invariant_of-self : goal.invariant_of-self
@@ -12,16 +12,7 @@ invariant_of-self c =
       drawn = refl;
       rises = search rules;
       puts = record { here = search rules; others = search rules };
-    }) (search rules) (λ r is. record {
-      own = is.own;
-      from = is.from;
-      to = is.to;
-      serial = is.serial;
-      short = is.short;
-      features = is.features;
-      version = is.version;
-      maxdata = is.maxdata;
-    })
+    }) (search rules) (λ row is. unauthorized_stands row is)
 
 pub returns-clause-devices : goal.returns-clause-devices
 returns-clause-devices c =
