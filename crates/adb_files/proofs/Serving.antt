@@ -249,15 +249,6 @@ front_less qs rs a b front = record {
 }
 
 -- a loop over the messages that a reader gives
-pub done_none : (send : Option OpenSend) (r : Run) → r.session.ended ≡ false → KeepsSend send r.session.sending → Done send r r
-done_none send r on keeps = record {
-  done = [];
-  is = refl;
-  same = refl;
-  serves = record { files = refl; answer = sym (append-nil r.session.out); ends = on };
-  keeps = keeps;
-}
-
 pub done_more : (send : Option OpenSend) (r0 r1 r2 : Run) (ask : SyncAsk) → r1.session.ended ≡ false → Done send r0 r1
     → r1.reader ≡ record r2.reader { given = ask ∷ r2.reader.given }
     → ((s : Option OpenSend) → KeepsSend s r1.session.sending
@@ -285,16 +276,7 @@ done_more send r0 r1 r2 ask on d next take =
         requests_of-append send d.done (ask ∷ [])
         ∙ ap (λ (rs : List Request). requests_of send d.done ++ rs) (append-nil (completed (open_after send d.done) ask))
 
--- the reader has no more messages
-pub given_all : (send : Option OpenSend) (r0 r1 r2 : Run) → Done send r0 r1 → r1.reader.given ≡ [] → r2 ≡ r1 → ServesGiven send r0 r2
-given_all send r0 r1 r2 d none same =
-    let all : d.done ≡ r0.reader.given = sym (append-nil d.done) ∙ (ap (λ (xs : List SyncAsk). d.done ++ xs) (sym none) ∙ sym d.is) in
-    subst (ServesGiven send r0) (sym same) (record {
-      serves = subst (λ (xs : List SyncAsk). Serves (requests_of send xs) (moment_of r0) (moment_of r1)) all d.serves;
-      empty = λ on. d.same ∙ ap (λ (xs : List SyncAsk). let c : Reading = record r0.reader { given = xs } in c) none;
-      keeps = λ on. subst (λ (xs : List SyncAsk). KeepsSend (open_after send xs) r1.session.sending) all d.keeps;
-    })
-
+-- a request ended the service
 pub given_ended : (send : Option OpenSend) (r0 r1 : Run) → r1.session.ended ≡ true → Done send r0 r1 → ServesGiven send r0 r1
 given_ended send r0 r1 stop d = record {
   serves = subst (λ (rs : List Request). Serves rs (moment_of r0) (moment_of r1))

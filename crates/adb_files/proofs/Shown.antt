@@ -108,15 +108,12 @@ alike_shows directory x e i below found alike =
     )
 
 -- all the files that lie in one further directory
-pub shown_directory : (directory : List ℕ) (files : List Entry) (at next i : ℕ) (e : Entry) (rest : List ℕ) → IsRising files
+pub shown_directory : (directory : List ℕ) (files : List Entry) (at next i : ℕ) (e : Entry) → IsRising files
     → BeginsAt (take (length (inside directory) + i) e.path ++ codes "0") files next → at < length files → e ≡ slice_index_or files at e
-    → is_below directory e.path ≡ true → rest ≡ rest_below directory e.path → slash_in rest ≡ Some i
-    → (at < next) × (shown_in directory (take next files) ≡ insert_entry path_cmp (shown_in directory (take at files)) (take i rest) directory_stat)
-shown_directory directory files at next i e rest rising begins h here below is found = (onward, all)
+    → is_below directory e.path ≡ true → slash_in (rest_below directory e.path) ≡ Some i → (at < next)
+    × (shown_in directory (take next files) ≡ insert_entry path_cmp (shown_in directory (take at files)) (take i (rest_below directory e.path)) directory_stat)
+shown_directory directory files at next i e rising begins h here below slash = (onward, all)
   where
-    slash : slash_in (rest_below directory e.path) ≡ Some i
-    slash = ap slash_in (sym is) ∙ found
-
     ends : (i < length (rest_below directory e.path)) × (slice_index_or (rest_below directory e.path) i 0 ≡ 47)
     ends = let p = position-Some (λ byte. byte == 47) (rest_below directory e.path) i 0 slash in
         (p.0, eqb-true (slice_index_or (rest_below directory e.path) i 0) 47 p.1)
@@ -164,12 +161,12 @@ shown_directory directory files at next i e rest rising begins h here below is f
     ends_at : at + (next - at - 1) + 1 ≡ next
     ends_at = omega (arith, onward)
 
-    all : shown_in directory (take next files) ≡ insert_entry path_cmp (shown_in directory (take at files)) (take i rest) directory_stat
+    all : shown_in directory (take next files)
+        ≡ insert_entry path_cmp (shown_in directory (take at files)) (take i (rest_below directory e.path)) directory_stat
     all =
         ap (λ j. shown_in directory (take j files)) (sym ends_at)
-        ∙ (many_more directory (take i (rest_below directory e.path)) files at (next - at - 1) (omega (arith, ends_at, begins.within))
+        ∙ many_more directory (take i (rest_below directory e.path)) files at (next - at - 1) (omega (arith, ends_at, begins.within))
         (λ k l m. alike_shows directory (slice_index_or files k no_entry) e i below slash (alike k l (omega (arith, m, ends_at))))
-        ∙ ap (λ (r : List ℕ). insert_entry path_cmp (shown_in directory (take at files)) (take i r) directory_stat) (sym is))
 
 -- past the last file below the directory nothing more is shown
 pub shown_all : (directory : List ℕ) (files : List Entry) (at : ℕ) → IsRising files → at ≤ length files

@@ -1,8 +1,8 @@
 -- All the bytes that a service was fed, where nobody else changes the files between its feeds.
-use Rattle.std.specs.Prelude.{ℕ, ◌≡◌, Bool, true, false, List, [], ◌++◌, length, take, drop, Option, Some, None, refl}
+use Rattle.std.specs.Prelude.{ℕ, ◌≡◌, Bool, true, false, List, [], ◌++◌, length, Option, Some, None, refl}
 use Rattle.std.proofs.Common.{◌∙◌, ap, sym, subst, arith}
 use Rattle.std.proofs.lemmas.Bool.{true≢false}
-use Rattle.std.proofs.lemmas.List.{append-nil, append_assoc, take-append-drop}
+use Rattle.std.proofs.lemmas.List.{append-nil, append_assoc}
 use Rattle.adb_outside.specs.Framing.{Cut}
 use Rattle.adb_outside.proofs.FramingLaws.{cut_piece, fault_stays}
 use Rattle.adb_sync.specs.declared.ask.SyncAsk.{SyncAsk}
@@ -75,11 +75,6 @@ front_behind taken requests a b front = record {
   within = front.within;
 }
 
--- nothing was asked yet
-pub served_none : (files : List Entry) (service : Service) → StandsFor [] service → service.out ≡ [] → service.ended ≡ false
-    → HasServed files [] [] service files
-served_none files service stands out on = record { stands = stands; left = refl; given_out = out; ends = on }
-
 -- whether a service is spent says nothing of what it holds
 stands_unspent : (fed : List ℕ) (service : Service) (spent : Bool) → StandsFor fed service → StandsFor fed (record service { spent = spent })
 stands_unspent fed service spent stands = record { reads = stands.reads; sound = stands.sound; keeps = stands.keeps }
@@ -143,17 +138,6 @@ module _ (first : List Entry) (fed taken piece : List ℕ) where
       (front_more (requests_in fed) feeds.requests (moment_first first) (moment_behind taken files old) (moment_behind taken files' new) on
       (so_far first files fed taken old has)
       (front_behind taken feeds.requests (moment_behind [] files old) (moment_behind [] files' new) feeds.front))
-
--- answers that were taken
-pub served_taken : (first : List Entry) (fed taken : List ℕ) (n : ℕ) (old new : Service) (files : List Entry) → new ≡ record old { out = drop n old.out }
-    → HasServed first fed taken old files → HasServed first fed (taken ++ take n old.out) new files
-served_taken first fed taken n old new files is has =
-    subst (λ (s : Service). HasServed first fed (taken ++ take n old.out) s files) (sym is) (record {
-      stands = record { reads = has.stands.reads; sound = has.stands.sound; keeps = has.stands.keeps };
-      left = has.left;
-      given_out = append_assoc taken (take n old.out) (drop n old.out) ∙ (ap (λ (o : List ℕ). taken ++ o) (take-append-drop n old.out) ∙ has.given_out);
-      ends = has.ends;
-    })
 
 -- A call on an open service, seen before as another view of the same.
 module _ (old view new : Service) (files files' : List Entry) (piece : List ℕ) (same : view ≡ old) (on : view.ended ≡ false) where

@@ -5,7 +5,7 @@ ghost use Rattle.std.specs.Prelude.{◌≡◌, ◌≤◌, length};
 ghost use Rattle.adb_files.specs.Files.{refusal_text};
 
 use adb_outside::Text;
-use std::alloc::{AllocError, AllocFailed};
+use std::alloc::AllocError;
 
 /// A file of the device.
 #[derive(Drop)]
@@ -55,14 +55,6 @@ impl From<AllocError> for FileError {
     ghost from_gives = { λ _ error. error ≡ OutOfMemory };
 
     fn from(_error: AllocError) -> FileError {
-        FileError::OutOfMemory
-    }
-}
-
-impl<T: Drop> From<AllocFailed<T>> for FileError {
-    ghost from_gives = { λ _ error. error ≡ OutOfMemory };
-
-    fn from(_error: AllocFailed<T>) -> FileError {
         FileError::OutOfMemory
     }
 }

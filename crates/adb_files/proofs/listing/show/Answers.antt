@@ -41,7 +41,7 @@ returns-in_ok-insert-in-Some c =
     let begins : BeginsAt (take (length (inside directory) + i) entry.path ++ codes "0") c.args.slots.now c.first_from.result = subst
     (λ (q : List ℕ). BeginsAt (q ++ codes "0") c.args.slots.now c.first_from.result) front c.first_from.ensures in
     let shown = shown_directory directory c.args.slots.now c.args.at c.first_from.result i entry
-    (rest_below directory entry.path) c.requires.files.rising begins c.requires.within c.index-slots-at.is below refl found in
+    c.requires.files.rising begins c.requires.within c.index-slots-at.is below found in
     let key : c.in_ok-from_slice-in-Some.field-0.items ≡ take i (rest_below directory entry.path) = c.in_ok-from_slice-in-Some.ensures.items
     ∙ ap (take i) rest in
     let old = named c.args.found.now.entries in
