@@ -97,9 +97,9 @@ front_fault (Some fault) = Bad fault
 abbrev sum_wrong : Head → List ℕ → PacketFault
 sum_wrong head payload = BadSum head.check (byte_sum_of payload)
 
-wrong_sum : (format : PacketFormat) (head : Head) (payload : List ℕ) (said is : ℕ) → (said ≡ head.check) × (is ≡ byte_sum_of payload)
-    → may_carry format.sums head.command said is ≡ false → sum_fault format head payload ≡ Some (BadSum said is)
-wrong_sum format head payload said is same wrong = rw (← same.0, ← same.1, wrong) refl
+wrong_sum : (format : PacketFormat) (head : Head) (payload : List ℕ) → may_carry format.sums head.command head.check (byte_sum_of payload) ≡ false
+    → sum_fault format head payload ≡ Some (sum_wrong head payload)
+wrong_sum format head payload wrong = rw wrong refl
 
 stop_front : (before : List Packet) (rest : List ℕ) (fault : Option PacketFault) → Stops before rest fault
     → front_of (behind before) rest ≡ front_fault fault
@@ -110,8 +110,12 @@ stop_front before rest None (inr h) = elim (cases_lt (length rest) HEADER_LEN) [
 ]
 stop_front before rest (Some (Broken fault)) h = front_headed (behind before) rest (Err fault) h.0 h.1
 stop_front before rest (Some (BadSum said is)) h =
+    let payload = payload_at h.0 rest in
+    let carries : ℕ → ℕ → Bool = λ said total. may_carry (wants_sums before) h.0.command said total in
+    let wrong : carries h.0.check (byte_sum_of payload) ≡ false = ap (λ n. carries n (byte_sum_of payload)) (sym h.3) ∙ (ap (carries said) (sym h.4) ∙ h.5) in
+    let same : sum_wrong h.0 payload ≡ BadSum said is = ap (λ n. BadSum n (byte_sum_of payload)) (sym h.3) ∙ ap (BadSum said) (sym h.4) in
     front_full (behind before) rest h.0 h.1 h.2
-    ∙ ap (whole_front (packet_len h.0)) (wrong_sum (behind before) h.0 (payload_at h.0 rest) said is (h.3, h.4) h.5)
+    ∙ (ap (whole_front (packet_len h.0)) (wrong_sum (behind before) h.0 payload wrong) ∙ ap Bad same)
 
 -- what is cut of bytes whose front is that
 abbrev cut_at_front : PacketFormat → List ℕ → Front PacketFault → Deframing
@@ -238,21 +242,24 @@ RightBehind before bytes = (p : Packet) (more : List ℕ) → Begins before p by
     → Sound (before ++ p ∷ []) more (cut_packets (behind (before ++ p ∷ [])) more)
 
 sound_packet : (before : List Packet) (bytes : List ℕ) (head : Head) → IsUnder bytes head → RightBehind before bytes
-    → (fault : Option PacketFault) → sum_fault (behind before) head (payload_at head bytes) ≡ fault
-    → Sound before bytes (cut_at_front (behind before) bytes (whole_front (packet_len head) fault))
-sound_packet before bytes head u others (Some fault) sums = sound_stop before bytes (Some fault) (bad_sum before bytes head fault u sums)
-sound_packet before bytes head u others None sums =
-    let n : ℕ = packet_len head in
-    let p : Packet = packet_of (take n bytes) in
-    let begins : Begins before p bytes (drop n bytes) = good before bytes head u sums in
-    let rest = others p (drop n bytes) begins in
-    let c : Deframing = cut_packets (behind (before ++ p ∷ [])) (drop n bytes) in
-    let regrouped : (before ++ p ∷ []) ++ c.given ≡ before ++ p ∷ c.given = append_assoc before (p ∷ []) c.given in
-    subst (λ s. Sound before bytes (joined (p ∷ []) (cut_packets s (drop n bytes)))) (sym (behind_push before p)) (record {
-      spelled = (drop n bytes, begins, rest.spelled);
-      stops = subst (λ ps. Stops ps c.rest c.fault) regrouped rest.stops;
-      reading = rest.reading ∙ ap behind regrouped;
-    })
+    → Sound before bytes (cut_at_front (behind before) bytes (front_under (behind before) bytes head))
+sound_packet before bytes head u others = by_sum (sum_fault (behind before) head (payload_at head bytes)) refl
+  where
+    by_sum : (fault : Option PacketFault) → sum_fault (behind before) head (payload_at head bytes) ≡ fault
+        → Sound before bytes (cut_at_front (behind before) bytes (whole_front (packet_len head) fault))
+    by_sum (Some fault) sums = sound_stop before bytes (Some fault) (bad_sum before bytes head fault u sums)
+    by_sum None sums =
+        let n : ℕ = packet_len head in
+        let p : Packet = packet_of (take n bytes) in
+        let begins : Begins before p bytes (drop n bytes) = good before bytes head u sums in
+        let rest = others p (drop n bytes) begins in
+        let c : Deframing = cut_packets (behind (before ++ p ∷ [])) (drop n bytes) in
+        let regrouped : (before ++ p ∷ []) ++ c.given ≡ before ++ p ∷ c.given = append_assoc before (p ∷ []) c.given in
+        subst (λ s. Sound before bytes (joined (p ∷ []) (cut_packets s (drop n bytes)))) (sym (behind_push before p)) (record {
+          spelled = (drop n bytes, begins, rest.spelled);
+          stops = subst (λ ps. Stops ps c.rest c.fault) regrouped rest.stops;
+          reading = rest.reading ∙ ap behind regrouped;
+        })
 
 sound_step : (before : List Packet) (bytes : List ℕ) → IsBytes bytes → RightBehind before bytes
     → (front : Front PacketFault) → Shows (behind before) bytes front → Sound before bytes (cut_at_front (behind before) bytes front)
@@ -261,7 +268,7 @@ sound_step before bytes fits others front shown = elim shown [
   | broken fault h e is ↦ at front (Bad (Broken fault)) is (sound_stop before bytes (Some (Broken fault)) (h, e))
   | partial head h e lt is ↦ at front More is (sound_stop before bytes None (inr (head, e, lt)))
   | full head e long is ↦ at front (front_under (behind before) bytes head) is
-      (sound_packet before bytes head (record { are = fits; read = e; long = long }) others (sum_fault (behind before) head (payload_at head bytes)) refl)
+      (sound_packet before bytes head (record { are = fits; read = e; long = long }) others)
 ]
   where
     at : (f g : Front PacketFault) → f ≡ g → Sound before bytes (cut_at_front (behind before) bytes g)
@@ -429,8 +436,12 @@ check_fits : (sums : Bool) (p : Packet) → check_of sums p < 2 ^ 32
 check_fits true p = mod-lt (sum p.payload) (omega arith)
 check_fits false p = omega arith
 
-pub framed_is_next : {E : Type 0} (result : Result (Unit {0}) E) (old new : List ℕ) (p : Packet) (sums : Bool)
-    → OnOk result (new ≡ old ++ spelling p (check_of sums p)) → IsPacket p → OnOk result (Adds old new p (check_of sums p))
-framed_is_next (Err e) old new p sums ok packet = tt
-framed_is_next (Ok _) old new p sums ok packet =
-    subst (λ bytes. Adds old bytes p (check_of sums p)) (sym ok) (spelled_is_next old p (check_of sums p) packet (check_fits sums p))
+pub framed_adds : (old new : List ℕ) (p : Packet) (sums : Bool) → IsPacket p → new ≡ old ++ spelling p (check_of sums p)
+    → Adds old new p (check_of sums p)
+framed_adds old new p sums packet is =
+    subst (λ bytes. Adds old bytes p (check_of sums p)) (sym is) (spelled_is_next old p (check_of sums p) packet (check_fits sums p))
+
+-- what follows from a fact of Ok holds at Ok
+pub on_ok : {E P Q : Type 0} (result : Result (Unit {0}) E) → (P → Q) → OnOk result P → OnOk result Q
+on_ok (Err e) follows ok = tt
+on_ok (Ok _) follows ok = follows ok

@@ -1,6 +1,6 @@
 use Rattle.std.proofs.Common.{rules, ◌≡◌, ◌++◌, OnOk}
 use Rattle.adb_wire.specs.Packet.{spelling, check_of}
-use Rattle.adb_wire.proofs.CuttingLaws.{framed_is_next}
+use Rattle.adb_wire.proofs.CuttingLaws.{framed_adds, on_ok}
 use Rattle.adb_wire.proofs.packets.frame.Goals as goal
 
 pub returns-clause-cut : goal.returns-clause-cut
@@ -10,4 +10,4 @@ returns-clause-cut c =
     let p = c.args.packet.now in
     let sums = c.args.sums in
     let ok : OnOk c.push_packet-framed.result (new ≡ old ++ spelling p (check_of sums p)) = search rules in
-    framed_is_next c.push_packet-framed.result old new p sums ok c.push_packet-framed.ensures.packet
+    on_ok c.push_packet-framed.result (framed_adds old new p sums c.push_packet-framed.ensures.packet) ok
