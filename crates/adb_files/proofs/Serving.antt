@@ -5,7 +5,7 @@ use Rattle.std.proofs.lemmas.List.{append-nil, append_assoc}
 use Rattle.std.specs.List.{AllByRecursion}
 use Rattle.std.proofs.lemmas.Bool.{true≢false}
 use Rattle.adb_outside.specs.Framing.{Cut}
-use Rattle.adb_sync.specs.declared.error.SyncError.{SyncError}
+use Rattle.adb_sync.specs.declared.error.SyncFault.{SyncFault}
 use Rattle.adb_sync.specs.declared.ask_format.AskFormat.{AskFormat}
 use Rattle.adb_sync.specs.declared.ask.SyncAsk.{SyncAsk}
 use Rattle.adb_sync.specs.declared.ask.SyncAsk.TheVariants as asks
@@ -102,15 +102,15 @@ front_less qs rs f0 f1 front = record {
 }
 
 -- a loop over the messages that a reader gives
-pub done_none : (send : Option OpenSend) (reader : Cut AskFormat SyncAsk SyncError) (files : List Entry) (out : List ℕ) (ended : Bool) (kept : Option Sending) → ended ≡ false → KeepsSend send kept → Done send reader reader files files out out ended kept
+pub done_none : (send : Option OpenSend) (reader : Cut AskFormat SyncAsk SyncFault) (files : List Entry) (out : List ℕ) (ended : Bool) (kept : Option Sending) → ended ≡ false → KeepsSend send kept → Done send reader reader files files out out ended kept
 done_none send reader files out ended kept on keeps = record { done = []; is = refl; same = refl; serves = serves_none files out ended on; keeps = keeps }
 
-pub done_more : (send : Option OpenSend) (r0 r1 r2 : Cut AskFormat SyncAsk SyncError) (f0 f1 f2 : List Entry) (o0 o1 o2 : List ℕ) (e1 e2 : Bool) (k1 k2 : Option Sending) (ask : SyncAsk) → e1 ≡ false → Done send r0 r1 f0 f1 o0 o1 e1 k1 → r1 ≡ record r2 { given = ask ∷ r2.given } → ((s : Option OpenSend) → KeepsSend s k1 → Serves (completed s ask) f1 f2 o1 o2 e2 × KeepsSend (open_past s ask) k2) → Done send r0 r2 f0 f2 o0 o2 e2 k2
+pub done_more : (send : Option OpenSend) (r0 r1 r2 : Cut AskFormat SyncAsk SyncFault) (f0 f1 f2 : List Entry) (o0 o1 o2 : List ℕ) (e1 e2 : Bool) (k1 k2 : Option Sending) (ask : SyncAsk) → e1 ≡ false → Done send r0 r1 f0 f1 o0 o1 e1 k1 → r1 ≡ record r2 { given = ask ∷ r2.given } → ((s : Option OpenSend) → KeepsSend s k1 → Serves (completed s ask) f1 f2 o1 o2 e2 × KeepsSend (open_past s ask) k2) → Done send r0 r2 f0 f2 o0 o2 e2 k2
 done_more send r0 r1 r2 f0 f1 f2 o0 o1 o2 e1 e2 k1 k2 ask on d next take =
     let t = take (open_after send d.done) d.keeps in
     record {
       done = d.done ++ ask ∷ [];
-      is = d.is ∙ (ap (λ (r : Cut AskFormat SyncAsk SyncError). d.done ++ r.given) next ∙ sym (append_assoc d.done (ask ∷ []) r2.given));
+      is = d.is ∙ (ap (λ (r : Cut AskFormat SyncAsk SyncFault). d.done ++ r.given) next ∙ sym (append_assoc d.done (ask ∷ []) r2.given));
       same = same;
       serves = subst (λ (rs : List Request). Serves rs f0 f2 o0 o2 e2) (sym requests) (serves_more (requests_of send d.done) (completed (open_after send d.done) ask) f0 f1 f2 o0 o1 o2 e1 e2 on d.serves t.0);
       keeps = subst (λ (s : Option OpenSend). KeepsSend s k2) (sym (open_after-append send d.done (ask ∷ []))) t.1;
@@ -118,24 +118,24 @@ done_more send r0 r1 r2 f0 f1 f2 o0 o1 o2 e1 e2 k1 k2 ask on d next take =
   where
     same : r2 ≡ record r0 { given = r2.given }
     same =
-        let whole = sym (ap (λ (r : Cut AskFormat SyncAsk SyncError). let c : Cut AskFormat SyncAsk SyncError = record r { given = r2.given } in c) next) in
-        whole ∙ ap (λ (r : Cut AskFormat SyncAsk SyncError). let c : Cut AskFormat SyncAsk SyncError = record r { given = r2.given } in c) d.same
+        let whole = sym (ap (λ (r : Cut AskFormat SyncAsk SyncFault). let c : Cut AskFormat SyncAsk SyncFault = record r { given = r2.given } in c) next) in
+        whole ∙ ap (λ (r : Cut AskFormat SyncAsk SyncFault). let c : Cut AskFormat SyncAsk SyncFault = record r { given = r2.given } in c) d.same
 
     requests : requests_of send (d.done ++ ask ∷ []) ≡ requests_of send d.done ++ completed (open_after send d.done) ask
     requests =
         requests_of-append send d.done (ask ∷ [])
         ∙ ap (λ (rs : List Request). requests_of send d.done ++ rs) (append-nil (completed (open_after send d.done) ask))
 
-pub given_all : (send : Option OpenSend) (r0 r1 r2 : Cut AskFormat SyncAsk SyncError) (f0 f1 : List Entry) (o0 o1 : List ℕ) (e : Bool) (k : Option Sending) → Done send r0 r1 f0 f1 o0 o1 e k → r1.given ≡ [] → r2 ≡ r1 → ServesGiven send r0 r2 f0 f1 o0 o1 e k
+pub given_all : (send : Option OpenSend) (r0 r1 r2 : Cut AskFormat SyncAsk SyncFault) (f0 f1 : List Entry) (o0 o1 : List ℕ) (e : Bool) (k : Option Sending) → Done send r0 r1 f0 f1 o0 o1 e k → r1.given ≡ [] → r2 ≡ r1 → ServesGiven send r0 r2 f0 f1 o0 o1 e k
 given_all send r0 r1 r2 f0 f1 o0 o1 e k d none same =
     let all : d.done ≡ r0.given = sym (append-nil d.done) ∙ (ap (λ (xs : List SyncAsk). d.done ++ xs) (sym none) ∙ sym d.is) in
     record {
       serves = subst (λ (xs : List SyncAsk). Serves (requests_of send xs) f0 f1 o0 o1 e) all d.serves;
-      empty = λ on. same ∙ (d.same ∙ ap (λ (xs : List SyncAsk). let c : Cut AskFormat SyncAsk SyncError = record r0 { given = xs } in c) none);
+      empty = λ on. same ∙ (d.same ∙ ap (λ (xs : List SyncAsk). let c : Cut AskFormat SyncAsk SyncFault = record r0 { given = xs } in c) none);
       keeps = λ on. subst (λ (xs : List SyncAsk). KeepsSend (open_after send xs) k) all d.keeps;
     }
 
-pub given_ended : (send : Option OpenSend) (r0 r1 : Cut AskFormat SyncAsk SyncError) (f0 f1 : List Entry) (o0 o1 : List ℕ) (e : Bool) (k : Option Sending) → e ≡ true → Done send r0 r1 f0 f1 o0 o1 e k → ServesGiven send r0 r1 f0 f1 o0 o1 e k
+pub given_ended : (send : Option OpenSend) (r0 r1 : Cut AskFormat SyncAsk SyncFault) (f0 f1 : List Entry) (o0 o1 : List ℕ) (e : Bool) (k : Option Sending) → e ≡ true → Done send r0 r1 f0 f1 o0 o1 e k → ServesGiven send r0 r1 f0 f1 o0 o1 e k
 given_ended send r0 r1 f0 f1 o0 o1 e k stop d = record {
   serves = subst (λ (rs : List Request). Serves rs f0 f1 o0 o1 e) (sym (ap (requests_of send) d.is ∙ requests_of-append send d.done r1.given)) (serves_ended (requests_of send d.done) (requests_of (open_after send d.done) r1.given) f0 f1 o0 o1 e stop d.serves);
   empty = λ on. absurd (true≢false (sym stop ∙ on));
@@ -143,16 +143,16 @@ given_ended send r0 r1 f0 f1 o0 o1 e k stop d = record {
 }
 
 -- a message that wants memory
-pub given_front : (send : Option OpenSend) (r0 r1 r2 : Cut AskFormat SyncAsk SyncError) (f0 f1 f2 : List Entry) (o0 o1 : List ℕ) (e1 : Bool) (k1 : Option Sending) (ask : SyncAsk) → e1 ≡ false → Done send r0 r1 f0 f1 o0 o1 e1 k1 → r1 ≡ record r2 { given = ask ∷ r2.given } → ((s : Option OpenSend) → KeepsSend s k1 → (f2 ≡ f1) ⊎ (f2 ≡ (serve_all f1 (completed s ask)).files)) → ServesFront (requests_of send r0.given) f0 f2
+pub given_front : (send : Option OpenSend) (r0 r1 r2 : Cut AskFormat SyncAsk SyncFault) (f0 f1 f2 : List Entry) (o0 o1 : List ℕ) (e1 : Bool) (k1 : Option Sending) (ask : SyncAsk) → e1 ≡ false → Done send r0 r1 f0 f1 o0 o1 e1 k1 → r1 ≡ record r2 { given = ask ∷ r2.given } → ((s : Option OpenSend) → KeepsSend s k1 → (f2 ≡ f1) ⊎ (f2 ≡ (serve_all f1 (completed s ask)).files)) → ServesFront (requests_of send r0.given) f0 f2
 given_front send r0 r1 r2 f0 f1 f2 o0 o1 e1 k1 ask on d next take = subst (λ (rs : List Request). ServesFront rs f0 f2) (sym requests) (front_more (requests_of send d.done) (completed (open_after send d.done) ask ++ requests_of (open_past (open_after send d.done) ask) r2.given) f0 f1 f2 o0 o1 e1 on d.serves (go (take (open_after send d.done) d.keeps)))
   where
     requests : requests_of send r0.given ≡ requests_of send d.done ++ (completed (open_after send d.done) ask ++ requests_of (open_past (open_after send d.done) ask) r2.given)
-    requests = ap (requests_of send) (d.is ∙ ap (λ (r : Cut AskFormat SyncAsk SyncError). d.done ++ r.given) next) ∙ requests_of-append send d.done (ask ∷ r2.given)
+    requests = ap (requests_of send) (d.is ∙ ap (λ (r : Cut AskFormat SyncAsk SyncFault). d.done ++ r.given) next) ∙ requests_of-append send d.done (ask ∷ r2.given)
 
     go : (f2 ≡ f1) ⊎ (f2 ≡ (serve_all f1 (completed (open_after send d.done) ask)).files) → ServesFront (completed (open_after send d.done) ask ++ requests_of (open_past (open_after send d.done) ask) r2.given) f1 f2
     go (inl same) = record { front = []; back = completed (open_after send d.done) ask ++ requests_of (open_past (open_after send d.done) ask) r2.given; is = refl; files = same }
     go (inr all) = record { front = completed (open_after send d.done) ask; back = requests_of (open_past (open_after send d.done) ask) r2.given; is = refl; files = all }
 
 -- the messages that are left after one
-pub short_left : (r1 r2 : Cut AskFormat SyncAsk SyncError) (ask : SyncAsk) → r1 ≡ record r2 { given = ask ∷ r2.given } → AllByRecursion HasShortPath r1.given → HasShortPath ask × AllByRecursion HasShortPath r2.given
-short_left r1 r2 ask next all = subst (λ (r : Cut AskFormat SyncAsk SyncError). AllByRecursion HasShortPath r.given) next all
+pub short_left : (r1 r2 : Cut AskFormat SyncAsk SyncFault) (ask : SyncAsk) → r1 ≡ record r2 { given = ask ∷ r2.given } → AllByRecursion HasShortPath r1.given → HasShortPath ask × AllByRecursion HasShortPath r2.given
+short_left r1 r2 ask next all = subst (λ (r : Cut AskFormat SyncAsk SyncFault). AllByRecursion HasShortPath r.given) next all

@@ -5,7 +5,7 @@ use Rattle.adb_sync.specs.Asks.{asks_in, StandsForAsks}
 use Rattle.adb_sync.specs.declared.ask.SyncAsk.{SyncAsk}
 use Rattle.adb_sync.specs.declared.ask.SyncAsk.TheVariants as asks
 use Rattle.adb_sync.specs.declared.ask_format.AskFormat.{AskFormat}
-use Rattle.adb_sync.specs.declared.error.SyncError.{SyncError}
+use Rattle.adb_sync.specs.declared.error.SyncFault.{SyncFault}
 use Rattle.adb_files.specs.Entries.{Entry}
 use Rattle.adb_files.specs.declared.session.Sending.{Sending}
 use Rattle.adb_files.specs.Files.{most_bytes}
@@ -14,7 +14,7 @@ use Rattle.adb_files.specs.Served.{serve_all, served}
 
 -- the reader of requests, the SEND that is open, the answers that were not taken yet, whether the service has ended, and whether it is spent by want of memory
 pub record Service : Type 0 where
-  pub reading : Cut AskFormat SyncAsk SyncError
+  pub reading : Cut AskFormat SyncAsk SyncFault
   pub sending : Option Sending
   pub out : List ℕ
   pub ended : Bool
@@ -62,13 +62,13 @@ pub record ServesFront (requests : List Request) (old new : List Entry) : Type 0
   pub files : new ≡ (serve_all old front).files
 
 -- The requests that a reader gives were served. Where the service goes on the reader has none left, and what is kept is that of the SEND that they leave open.
-pub record ServesGiven (send : Option OpenSend) (reader reader' : Cut AskFormat SyncAsk SyncError) (old new : List Entry) (out out' : List ℕ) (ended : Bool) (kept : Option Sending) : Type 0 where
+pub record ServesGiven (send : Option OpenSend) (reader reader' : Cut AskFormat SyncAsk SyncFault) (old new : List Entry) (out out' : List ℕ) (ended : Bool) (kept : Option Sending) : Type 0 where
   pub serves : Serves (requests_of send reader.given) old new out out' ended
   pub empty : ended ≡ false → reader' ≡ record reader { given = [] }
   pub keeps : ended ≡ false → KeepsSend (open_after send reader.given) kept
 
 -- Of the messages that a reader gave so far these are done, and their requests were served.
-pub record Done (send : Option OpenSend) (reader reader' : Cut AskFormat SyncAsk SyncError) (old new : List Entry) (out out' : List ℕ) (ended : Bool) (kept : Option Sending) : Type 0 where
+pub record Done (send : Option OpenSend) (reader reader' : Cut AskFormat SyncAsk SyncFault) (old new : List Entry) (out out' : List ℕ) (ended : Bool) (kept : Option Sending) : Type 0 where
   pub done : List SyncAsk
   pub is : reader.given ≡ done ++ reader'.given
   pub same : reader' ≡ record reader { given = reader'.given }

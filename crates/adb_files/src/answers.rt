@@ -11,7 +11,7 @@ use crate::files::Files;
 use crate::outbox::Outbox;
 use crate::path::is_path;
 use adb_outside::Text;
-use adb_sync::{SyncAnswer, SyncError};
+use adb_sync::{SyncAnswer, SyncFault, SyncRule};
 use std::alloc::{AllocError, Global};
 
 /// The text of a refusal.
@@ -30,17 +30,16 @@ pub fn refusal_text(refusal: FileError) -> &'static [u8]
 }
 
 /// The text of a fault.
-pub fn fault_text(fault: SyncError) -> &'static [u8]
+pub fn fault_text(fault: SyncFault) -> &'static [u8]
     ensures text { result.now ≡ fault_text fault }
     ensures short { length result.now ≤ 20 }
 {
-    match fault {
-        SyncError::UnknownId { .. } => b"unknown sync request",
-        SyncError::PathTooLong { .. } => b"path too long",
-        SyncError::BadSend { .. } => b"bad send path",
-        SyncError::ChunkTooLong { .. } => b"bad data length",
-        SyncError::BadPlace { .. } => b"bad data id",
-        SyncError::OutOfMemory => b"out of memory",
+    match fault.rule {
+        SyncRule::UnknownId => b"unknown sync request",
+        SyncRule::PathTooLong => b"path too long",
+        SyncRule::BadSend => b"bad send path",
+        SyncRule::ChunkTooLong => b"bad data length",
+        SyncRule::BadPlace => b"bad data id",
     }
 }
 
