@@ -5,7 +5,7 @@ use Rattle.std.proofs.lemmas.List.{append-nil, append_assoc}
 use Rattle.std.specs.List.{AllByRecursion}
 use Rattle.std.proofs.lemmas.Bool.{true≢false}
 use Rattle.adb_outside.specs.Framing.{Cut}
-use Rattle.adb_sync.specs.declared.error.SyncError.{SyncError}
+use Rattle.adb_sync.specs.declared.error.SyncFault.{SyncFault}
 use Rattle.adb_sync.specs.declared.ask_format.AskFormat.{AskFormat}
 use Rattle.adb_sync.specs.declared.ask.SyncAsk.{SyncAsk}
 use Rattle.adb_sync.specs.declared.ask.SyncAsk.TheVariants as asks
@@ -17,7 +17,7 @@ use Rattle.adb_files.specs.Listing.{listing}
 use Rattle.adb_files.specs.Service.{Moment, Run, moment_of, IsKept, KeepsSend, Serves, ServesFront, TellsFront, ServesGiven, Done, HasShortPath}
 
 abbrev Reading : Type 0
-Reading = Cut AskFormat SyncAsk SyncError
+Reading = Cut AskFormat SyncAsk SyncFault
 
 -- messages behind messages
 pub requests_of-append : (send : Option OpenSend) (xs ys : List SyncAsk)

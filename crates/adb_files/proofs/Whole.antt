@@ -7,7 +7,7 @@ use Rattle.adb_outside.specs.Framing.{Cut}
 use Rattle.adb_outside.proofs.FramingLaws.{cut_piece, fault_stays}
 use Rattle.adb_sync.specs.declared.ask.SyncAsk.{SyncAsk}
 use Rattle.adb_sync.specs.declared.ask_format.AskFormat.{AskFormat}
-use Rattle.adb_sync.specs.declared.error.SyncError.{SyncError}
+use Rattle.adb_sync.specs.declared.error.SyncFault.{SyncFault}
 use Rattle.adb_sync.specs.Asks.{ask_front, ask_of, past_ask, asks_start, asks_from, asks_in, ask_fault_in}
 use Rattle.adb_sync.specs.Framed.{asks_are_framed}
 use Rattle.adb_files.specs.Entries.{Entry}
@@ -24,12 +24,12 @@ pub record Grows (fed piece : List ℕ) : Type 0 where
 pub requests_grow : (fed piece : List ℕ) → Grows fed piece
 requests_grow fed piece = go (ask_fault_in fed) refl
   where
-    go : (f : Option SyncError) → ask_fault_in fed ≡ f → Grows fed piece
+    go : (f : Option SyncFault) → ask_fault_in fed ≡ f → Grows fed piece
     go (Some fault) is =
         let stays = fault_stays ask_front ask_of past_ask asks_are_framed (length fed) asks_start fed piece fault (omega arith) is in
         record {
           further = [];
-          is = ap (λ (c : Option SyncError). requests_of None (asks_in (fed ++ piece)) ++ fault_request c) (stays.1 ∙ sym is)
+          is = ap (λ (c : Option SyncFault). requests_of None (asks_in (fed ++ piece)) ++ fault_request c) (stays.1 ∙ sym is)
               ∙ (ap (λ (xs : List SyncAsk). requests_of None xs ++ fault_request (ask_fault_in fed)) stays.0 ∙ sym (append-nil (requests_in fed)));
         }
     go None is =
@@ -38,11 +38,11 @@ requests_grow fed piece = go (ask_fault_in fed) refl
         let next = asks_from c.reading (c.rest ++ piece) in
         record {
           further = requests_of (open_after None (asks_in fed)) next.given ++ fault_request next.fault;
-          is = ap (λ (d : Cut AskFormat SyncAsk SyncError). requests_of None d.given ++ fault_request d.fault) more
+          is = ap (λ (d : Cut AskFormat SyncAsk SyncFault). requests_of None d.given ++ fault_request d.fault) more
               ∙ (ap (λ (rs : List Request). rs ++ fault_request next.fault) (requests_of-append None (asks_in fed) next.given)
               ∙ (append_assoc (requests_of None (asks_in fed)) (requests_of (open_after None (asks_in fed)) next.given) (fault_request next.fault)
               ∙ ap (λ (rs : List Request). rs ++ (requests_of (open_after None (asks_in fed)) next.given ++ fault_request next.fault))
-              (sym (ap (λ (f : Option SyncError). requests_of None (asks_in fed) ++ fault_request f) is ∙ append-nil (requests_of None (asks_in fed))))));
+              (sym (ap (λ (f : Option SyncFault). requests_of None (asks_in fed) ++ fault_request f) is ∙ append-nil (requests_of None (asks_in fed))))));
         }
 
 -- all that was served so far

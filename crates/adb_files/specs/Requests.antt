@@ -2,7 +2,7 @@
 use Rattle.std.specs.Prelude.{ℕ, Bool, true, false, List, [], ◌∷◌, ◌++◌, Option, Some, None}
 use Rattle.adb_sync.specs.declared.ask.SyncAsk.{SyncAsk}
 use Rattle.adb_sync.specs.declared.ask.SyncAsk.TheVariants as asks
-use Rattle.adb_sync.specs.declared.error.SyncError.{SyncError}
+use Rattle.adb_sync.specs.declared.error.SyncFault.{SyncFault}
 use Rattle.adb_sync.specs.Asks.{asks_in, ask_fault_in}
 
 -- a whole request
@@ -12,7 +12,7 @@ pub data Request : Type 0 where
   Receives : (path : List ℕ) → Request
   Sends : (path mode bytes : List ℕ) (mtime : ℕ) → Request
   Quits : Request
-  Fails : (fault : SyncError) → Request
+  Fails : (fault : SyncFault) → Request
 
 -- a SEND whose DONE has not come yet: its path, its mode and the bytes of its DATA so far
 pub record OpenSend : Type 0 where
@@ -60,7 +60,7 @@ open_after sending [] = sending
 open_after sending (ask ∷ more) = open_after (open_past sending ask) more
 
 -- the request that a fault is
-abbrev pub fault_request : Option SyncError → List Request
+abbrev pub fault_request : Option SyncFault → List Request
 fault_request None = []
 fault_request (Some fault) = Fails fault ∷ []
 

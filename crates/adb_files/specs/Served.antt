@@ -3,8 +3,9 @@ use Rattle.std.specs.Prelude.{ℕ, ◌+◌, ◌-◌, ◌*◌, ◌==◌, ◌&&◌
 use Rattle.std.specs.List.{flat_map, list_all}
 use Rattle.adb_sync.specs.declared.answer.SyncAnswer.TheVariants as answers
 use Rattle.adb_sync.specs.declared.answer.Dirent.{Dirent}
-use Rattle.adb_sync.specs.declared.error.SyncError.{SyncError}
-use Rattle.adb_sync.specs.declared.error.SyncError.TheVariants as faults
+use Rattle.adb_sync.specs.declared.error.SyncFault.{SyncFault}
+use Rattle.adb_sync.specs.declared.error.SyncRule.{SyncRule}
+use Rattle.adb_sync.specs.declared.error.SyncRule.TheVariants as rules
 use Rattle.adb_sync.specs.Answers.{answer_bytes}
 use Rattle.adb_files.specs.declared.chunk.TheConstants.{MOST_CHUNK}
 use Rattle.adb_files.specs.declared.file.File.{File}
@@ -18,13 +19,15 @@ use Rattle.adb_files.specs.Listing.{stat_of, directory_stat, listing}
 use Rattle.adb_files.specs.Requests.{Request, Stats, Lists, Receives, Sends, Quits, Fails, requests_in}
 
 -- the text of a fault
-abbrev pub fault_text : SyncError → List ℕ
-fault_text (faults.UnknownId offset) = codes "unknown sync request"
-fault_text (faults.PathTooLong offset) = codes "path too long"
-fault_text (faults.BadSend offset) = codes "bad send path"
-fault_text (faults.ChunkTooLong offset) = codes "bad data length"
-fault_text (faults.BadPlace offset) = codes "bad data id"
-fault_text faults.OutOfMemory = codes "out of memory"
+abbrev pub rule_text : SyncRule → List ℕ
+rule_text rules.UnknownId = codes "unknown sync request"
+rule_text rules.PathTooLong = codes "path too long"
+rule_text rules.BadSend = codes "bad send path"
+rule_text rules.ChunkTooLong = codes "bad data length"
+rule_text rules.BadPlace = codes "bad data id"
+
+abbrev pub fault_text : SyncFault → List ℕ
+fault_text fault = rule_text fault.rule
 
 -- a FAIL with a text
 abbrev pub fail_bytes : List ℕ → List ℕ

@@ -5,7 +5,7 @@ use Rattle.adb_sync.specs.Asks.{asks_in, StandsForAsks}
 use Rattle.adb_sync.specs.declared.ask.SyncAsk.{SyncAsk}
 use Rattle.adb_sync.specs.declared.ask.SyncAsk.TheVariants as asks
 use Rattle.adb_sync.specs.declared.ask_format.AskFormat.{AskFormat}
-use Rattle.adb_sync.specs.declared.error.SyncError.{SyncError}
+use Rattle.adb_sync.specs.declared.error.SyncFault.{SyncFault}
 use Rattle.adb_files.specs.Entries.{Entry}
 use Rattle.adb_files.specs.declared.session.Sending.{Sending}
 use Rattle.adb_files.specs.declared.session.Session.{Session}
@@ -15,7 +15,7 @@ use Rattle.adb_files.specs.Served.{serve_all, served}
 
 -- the reader of requests, the SEND that is open, the answers that were not taken yet, whether the service has ended, and whether it is spent by want of memory
 pub record Service : Type 0 where
-  pub reading : Cut AskFormat SyncAsk SyncError
+  pub reading : Cut AskFormat SyncAsk SyncFault
   pub sending : Option Sending
   pub out : List ℕ
   pub ended : Bool
@@ -98,18 +98,18 @@ HasShortSend (Some sending) = length sending.path ≤ 1024
 
 -- the reader of requests, the session that serves them, and the files that are lent to it
 pub record Run : Type 0 where
-  pub reader : Cut AskFormat SyncAsk SyncError
+  pub reader : Cut AskFormat SyncAsk SyncFault
   pub session : Session
   pub files : List Entry
 
-abbrev pub run : Cut AskFormat SyncAsk SyncError → Session → List Entry → Run
+abbrev pub run : Cut AskFormat SyncAsk SyncFault → Session → List Entry → Run
 run reader session files = record { reader = reader; session = session; files = files }
 
 abbrev pub moment_of : Run → Moment
 moment_of r = moment r.files r.session
 
 -- a service that is not spent
-abbrev pub held : Cut AskFormat SyncAsk SyncError → Session → Service
+abbrev pub held : Cut AskFormat SyncAsk SyncFault → Session → Service
 held reader session = record { reading = reader; sending = session.sending; out = session.out; ended = session.ended; spent = false }
 
 -- The requests that a reader gives were served. Where the service goes on the reader has none left, and what is kept is that of the SEND that they leave open.

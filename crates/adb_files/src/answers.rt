@@ -10,21 +10,20 @@ ghost use Rattle.adb_files.specs.Service.{TellsFront};
 use crate::files::Files;
 use crate::outbox::Outbox;
 use adb_outside::Text;
-use adb_sync::{SyncAnswer, SyncError};
+use adb_sync::{SyncAnswer, SyncFault, SyncRule};
 use std::alloc::{AllocError, Global};
 
 /// The text of a fault.
-pub fn fault_text(fault: SyncError) -> &'static [u8]
+pub fn fault_text(fault: SyncFault) -> &'static [u8]
     ensures text { result.now ≡ fault_text fault }
     ensures short { length result.now ≤ 20 }
 {
-    match fault {
-        SyncError::UnknownId { .. } => b"unknown sync request",
-        SyncError::PathTooLong { .. } => b"path too long",
-        SyncError::BadSend { .. } => b"bad send path",
-        SyncError::ChunkTooLong { .. } => b"bad data length",
-        SyncError::BadPlace { .. } => b"bad data id",
-        SyncError::OutOfMemory => b"out of memory",
+    match fault.rule {
+        SyncRule::UnknownId => b"unknown sync request",
+        SyncRule::PathTooLong => b"path too long",
+        SyncRule::BadSend => b"bad send path",
+        SyncRule::ChunkTooLong => b"bad data length",
+        SyncRule::BadPlace => b"bad data id",
     }
 }
 

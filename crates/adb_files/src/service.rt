@@ -1,7 +1,8 @@
 //! The service that answers sync requests.
 
 ghost use Rattle.std.specs.Prelude.{◌≡◌, ◌≤◌, ◌++◌, ◌⊎◌, [], List, ℕ, length, take, drop, true, false, Ok, Err, None, ◌≢◌, IfOk, OnOk, OnErr, IsErr};
-ghost use Rattle.adb_sync.specs.Messages.{answer_of};
+ghost use Rattle.adb_outside.specs.Framing.{answer_of};
+ghost use Rattle.adb_sync.specs.Messages.{error_of};
 ghost use Rattle.std.specs.List.{AllByRecursion};
 ghost use Rattle.std.specs.Io.{StartsWith};
 ghost use Rattle.adb_files.specs.Entries.{Entry};
@@ -10,7 +11,7 @@ ghost use Rattle.adb_files.specs.Service.{StandsFor, Feeds, FeedsFront, ServesFr
 
 use crate::files::Files;
 use crate::session::{Session, serve_given};
-use adb_sync::{AskReader, SyncError};
+use adb_sync::{AskReader, SyncError, SyncFault};
 use std::alloc::{AllocError, Global};
 use std::marker::Model;
 
@@ -154,13 +155,16 @@ fn feed_open(
 }
 
 /// The fault that a reader told; want of memory is none.
-fn told_fault(answer: Result<(), SyncError>) -> Result<Option<SyncError>, AllocError>
-    ensures ok { IfOk result (λ fault. (answer ≢ Err SyncError.OutOfMemory) × (answer ≡ answer_of fault)) }
+fn told_fault(answer: Result<(), SyncError>) -> Result<Option<SyncFault>, AllocError>
+    ensures ok { IfOk result (λ fault. (answer ≢ Err SyncError.OutOfMemory)
+        × (answer ≡ answer_of error_of fault)) }
     ensures err { OnErr result (answer ≡ Err SyncError.OutOfMemory) }
 {
     match answer {
         Ok(()) => Ok(None),
-        Err(SyncError::OutOfMemory) => Err(AllocError),
-        Err(fault) => Ok(Some(fault)),
+        Err(error) => match error.fault() {
+            Some(fault) => Ok(Some(fault)),
+            None => Err(AllocError),
+        },
     }
 }

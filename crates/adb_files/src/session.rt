@@ -2,7 +2,7 @@
 
 ghost use Rattle.std.specs.Prelude.{◌≡◌, ◌≤◌, ◌++◌, ◌⊎◌, [], length, true, false, Option, Some, None, OnOk, OnErr, IfOk};
 ghost use Rattle.std.specs.List.{AllByRecursion};
-ghost use Rattle.adb_sync.specs.declared.error.SyncError.{SyncError};
+ghost use Rattle.adb_sync.specs.declared.error.SyncFault.{SyncFault};
 ghost use Rattle.adb_files.specs.declared.session.Sending.{Sending};
 ghost use Rattle.adb_files.specs.Requests.{OpenSend, Sends, Fails, completed, continued, open_past, requests_of};
 ghost use Rattle.adb_files.specs.Served.{serve_one, serve_all, fail_bytes, fault_text};
@@ -15,7 +15,7 @@ use crate::mode::stored_mode;
 use crate::outbox::Outbox;
 use crate::path::is_path;
 use adb_outside::Text;
-use adb_sync::{AskReader, SyncAnswer, SyncAsk, SyncError};
+use adb_sync::{AskReader, SyncAnswer, SyncAsk, SyncFault};
 use std::alloc::{AllocError, Global};
 
 /// A SEND whose DONE has not come yet.
@@ -158,7 +158,7 @@ impl Session {
     }
 
     /// Serves a fault: a FAIL with its text, and the end.
-    pub fn take_fault(&mut self, fault: SyncError) -> Result<(), AllocError>
+    pub fn take_fault(&mut self, fault: SyncFault) -> Result<(), AllocError>
         ensures ok { OnOk result ((self.new.out ≡ self.old.out ++ fail_bytes (fault_text fault))
             × (self.new.ended ≡ true)) }
         ensures err { OnErr result (self.new.out ≡ self.old.out) }
