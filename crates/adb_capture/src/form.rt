@@ -28,7 +28,8 @@ impl Form {
     /// What a record of that kind and those data says; none where no kind has that letter, or the
     /// data are not of its form.
     pub(crate) fn of(kind: u8, content: &[u8]) -> Option<Form>
-        ensures { (n : ℕ) → option_map (λ f. entry_by f n content.now) result ≡ entry_at kind n content.now }
+        ensures { (n : ℕ)
+            → option_map (λ f. entry_by f n content.now) result ≡ entry_at kind n content.now }
     {
         match kind {
             b'J' if content.is_empty() => Some(Form::Join),

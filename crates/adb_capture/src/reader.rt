@@ -52,7 +52,12 @@ impl Model for CaptureReader {
 impl CaptureReader {
     /// A reader that has read nothing. It makes its buffers.
     pub fn new(alloc: Global) -> Result<CaptureReader, AllocError>
-        ensures { IfOk result (λ r. r ≡ record { opened = false; offset = 8; held = []; failed = None }) }
+        ensures { IfOk result (λ r. r ≡ record {
+          opened = false;
+          offset = 8;
+          held = [];
+          failed = None;
+        }) }
     {
         Ok(CaptureReader {
             alloc,
@@ -125,7 +130,8 @@ impl CaptureReader {
 
     /// Reads the next record, with the magic before it where it was not read yet.
     fn advance<S: Source>(&mut self, source: &mut S) -> Result<Option<(u64, Entry)>, CaptureError>
-        ensures answers { AnswersNext self.old (S.left source.old) self.new (S.left source.new) result }
+        ensures answers { AnswersNext self.old (S.left source.old)
+            self.new (S.left source.new) result }
         ensures few { HoldsFew self.new.held }
         ensures failed { self.new.failed ≡ self.old.failed }
         ensures ok { OnOk result (self.new.opened ≡ true) }

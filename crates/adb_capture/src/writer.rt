@@ -26,7 +26,8 @@ pub fn write_magic<K: Sink>(sink: &mut K) -> Wrote
 pub fn write_entry<K: Sink>(sink: &mut K, entry: &Entry) -> Wrote
     requires { HasRecord entry.now }
     ensures fits { FitsPiece (record_of entry.now) result }
-    ensures told { TellsWrite (K.written sink.old) (K.written sink.new) (record_of entry.now) result }
+    ensures told { TellsWrite (K.written sink.old) (K.written sink.new)
+        (record_of entry.now) result }
     ensures counts { Counts K.steady K.faults sink.old sink.new (is_failed_write result) }
 {
     let head = Head::of(entry);
@@ -61,7 +62,8 @@ fn write_both<K: Sink>(sink: &mut K, first: &[u8], last: &[u8]) -> Wrote
     requires some { 0 < length first.now }
     requires small { length first.now + length last.now < 2 ^ 63 }
     ensures fits { FitsPiece (first.now ++ last.now) result }
-    ensures told { TellsWrite (K.written sink.old) (K.written sink.new) (first.now ++ last.now) result }
+    ensures told { TellsWrite (K.written sink.old) (K.written sink.new)
+        (first.now ++ last.now) result }
     ensures counts { Counts K.steady K.faults sink.old sink.new (is_failed_write result) }
 {
     match sink.write(first) {
