@@ -4,9 +4,9 @@ use Rattle.std.proofs.lemmas.List.{append-nil}
 use Rattle.adb_history.specs.Accepted.{Accepted}
 use Rattle.adb_history.specs.declared.refusal.Refusal.{Refusal}
 use Rattle.adb_top.specs.Notes.{EndsIn, NotesLine}
-use Rattle.adb_top.specs.Keeping.{is_read_fault, is_write_fault}
+use Rattle.adb_top.specs.Keeping.{HasFront, is_read_fault, is_write_fault}
 use Rattle.adb_top.specs.Replay.{EndsAs}
-use Rattle.adb_top.specs.Replayed.{HasFront, WritesText}
+use Rattle.adb_top.specs.Replayed.{WritesText}
 use Rattle.adb_top.specs.Run.{WritesBy, NotesBy, NamesRefusal, Completes}
 use Rattle.adb_top.specs.declared.stop.Stop.{Stop}
 use Rattle.adb_top.specs.declared.stop.Stop.TheVariants as stop
