@@ -190,13 +190,13 @@ some_front (b ∷ due) some is = let clash : b ∷ take 65535 due ≡ [] = is in
 -- The next hand-out may come.
 pub next_may : (h : History) (e : Entry) → IsLegal h → next_out (state h) ≡ Some e → May (state h) e
 next_may h e legal next = subst (λ (x : Entry). May (state h) x) (sym o.is) (
-    (omega (arith, o.low), omega (arith, o.high)),
-    record {
-      some = some_front due o.some;
-      lives = λ gone. o.some ((orderly h legal).gone_has_none o.client gone);
-      front = (drop 65536 due, take-append-drop 65536 due);
-    },
-  )
+  (omega (arith, o.low), omega (arith, o.high)),
+  record {
+    some = some_front due o.some;
+    lives = λ gone. o.some ((orderly h legal).gone_has_none o.client gone);
+    front = (drop 65536 due, take-append-drop 65536 due);
+  },
+)
   where
     o : IsOutOf (state h).clients 1 (state h).joined e
     o = whose_out (state h).clients 1 (state h).joined e next

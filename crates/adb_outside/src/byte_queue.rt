@@ -7,13 +7,18 @@ use bytes::BytesMut;
 use std::alloc::{AllocError, Global};
 use std::marker::Model;
 
+/// How many bytes may be taken before memory that still holds others is given back.
+const FEW: usize = 64 * 1024;
+
 /// Bytes that come at the end and go from the front. Contracts see them and its spare, which is how
-/// many more it takes without memory. The place of bytes that went is used anew: a queue has memory
-/// for a few times the most that it held at once. All pushes together move each byte a few times.
+/// many more it takes without memory. The place of bytes that went is used anew, and no byte moves
+/// but where room is made or memory given back, so that all calls together are linear in the bytes.
 #[derive(Drop)]
 pub struct ByteQueue {
     alloc: Global,
     bytes: BytesMut,
+    /// How many bytes were taken since the memory was new.
+    gone: usize,
 }
 
 impl Model for ByteQueue {
@@ -33,6 +38,7 @@ impl ByteQueue {
         ByteQueue {
             alloc,
             bytes: BytesMut::new(alloc),
+            gone: 0,
         }
     }
 
@@ -44,6 +50,7 @@ impl ByteQueue {
         ByteQueue {
             alloc: *bytes.allocator(),
             bytes: BytesMut::from_vec(bytes),
+            gone: 0,
         }
     }
 
@@ -113,6 +120,7 @@ impl ByteQueue {
         ensures spare { self.old.spare ≤ self.new.spare }
     {
         self.bytes.advance(n);
+        self.gone = self.gone.saturating_add(n);
         if self.bytes.is_empty() {
             self.bytes.clear();
         }
@@ -135,12 +143,26 @@ impl ByteQueue {
         self.bytes.clear();
     }
 
-    /// Where there are no bytes, the memory is given back.
+    /// Gives back memory that holds few bytes for its size: all where there are none, and else what a
+    /// copy leaves over, where several times as many went. It fails at nothing; the spare may fall.
     pub fn give_back(&mut self)
         ensures { self.new.bytes ≡ self.old.bytes }
     {
         if self.bytes.is_empty() {
-            self.bytes = BytesMut::new(self.alloc);
+            self.renew(BytesMut::new(self.alloc));
+        } else if self.gone > FEW && self.gone / 4 > self.bytes.len() {
+            if let Ok(bytes) = BytesMut::copy_from_slice(self.alloc, self.bytes.as_slice()) {
+                self.renew(bytes);
+            }
         }
+    }
+
+    /// Holds the same bytes in new memory.
+    fn renew(&mut self, bytes: BytesMut)
+        requires { bytes.items ≡ self.old.bytes }
+        ensures { self.new.bytes ≡ self.old.bytes }
+    {
+        self.bytes = bytes;
+        self.gone = 0;
     }
 }

@@ -225,7 +225,7 @@ hands_none s ok old same none = (sym (next_none s (λ n. none_due (s.clients n).
 pub hands_some : (s : State) (n : ℕ) (bytes : List ℕ) → IsOrderly s → (old new : Kept) → old ≡ kept s → 0 < due_at n old → ((m : ℕ) → m < n → due_at m old ≡ 0) → Puts s n bytes new → HandsNext s (Some (Put n bytes)) new
 hands_some s n bytes ok old new same some first p = (
   ap (λ b. Some (Put n b)) p.0
-  ∙ sym (next_is s n drawn (λ m below. none_due (s.clients m).due (due_at m old) (due_held s m ok old same) (first m below)) (some_due (s.clients n).due (due_at n old) (due_held s n ok old same) some)),
+      ∙ sym (next_is s n drawn (λ m below. none_due (s.clients m).due (due_at m old) (due_held s m ok old same) (first m below)) (some_due (s.clients n).due (due_at n old) (due_held s n ok old same) some)),
   p.1,
 )
   where

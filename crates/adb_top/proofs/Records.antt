@@ -4,7 +4,7 @@ use Rattle.std.specs.Prelude.{option_and_then}
 use Rattle.adb_outside.specs.declared.framer.Front.{Front}
 use Rattle.adb_outside.specs.declared.framer.Front.TheVariants.{More, Bad}
 use Rattle.adb_capture.specs.Records.{record_at, offset_after}
-use Rattle.adb_capture.specs.Reading.{Reading, ahead, to_give, GivesNext, GivesRecord, IsRefused}
+use Rattle.adb_capture.specs.Reading.{ahead, ahead_of, to_give, AnswersNext, GivesNext, GivesRecord, IsRefused}
 use Rattle.adb_capture.specs.Counting.{is_fault}
 use Rattle.adb_capture.specs.declared.entry.Entry.{Entry}
 use Rattle.adb_capture.specs.declared.error.CaptureError.{CaptureError}
@@ -58,11 +58,11 @@ starts holds is = record { lawful = record { legal = tt; seen = is }; rests = re
 
 -- what a call of the reader says of what is ahead
 abbrev pub Gives : Moment → Result (Option (ℕ × Entry)) CaptureError → Moment → Type 0
-Gives now result new = (coming before : List ℕ) → now.left ≡ Some coming → now.reader.failed ≡ None → ahead now.reader coming ≡ Some before → GivesNext now.reader.offset before result new.reader.offset (option_and_then (ahead new.reader) new.left)
+Gives now result new = now.reader.failed ≡ None → AnswersNext now.reader now.left new.reader new.left result
 
-given_next : (now new : Moment) (result : Result (Option (ℕ × Entry)) CaptureError) (before : List ℕ) → Gives now result new → now.reader.failed ≡ None → IsAhead now before → GivesNext now.reader.offset before result new.reader.offset (option_and_then (ahead new.reader) new.left)
-given_next now new result before gives sound was =
-    let s = split_ahead (ahead now.reader) now.left before was in gives s.0 before s.1 sound s.2
+given_next : (now new : Moment) (result : Result (Option (ℕ × Entry)) CaptureError) (before : List ℕ) → Gives now result new → now.reader.failed ≡ None → IsAhead now before
+    → GivesNext now.reader.offset before result new.reader.offset (ahead_of new.reader new.left)
+given_next now new result before gives sound was = (gives sound).records before was
 
 -- A record came: what of all that a capture gives is accepted from it on.
 pub record CameOn (now new : Moment) (offset : ℕ) (e : Entry) (done : History) (all : Accepted) : Type 0 where
@@ -74,7 +74,7 @@ pub record CameOn (now new : Moment) (offset : ℕ) (e : Entry) (done : History)
 came_on : (now new : Moment) (offset : ℕ) (e : Entry) (done : History) (all : Accepted) → Gives now (Ok (Some (offset, e))) new → now.reader.failed ≡ None → ComesOn now done all → CameOn now new offset e done all
 came_on now new offset e done all gives sound c = record { others = drop g.size c.before; is = g.rest; inputs = c.inputs ∙ ap (λ (a : Accepted). drained_from done a.inputs) given; refused = c.refused ∙ ap (λ (a : Accepted). a.refused) given }
   where
-    g : GivesRecord now.reader.offset c.before (offset, e) new.reader.offset (option_and_then (ahead new.reader) new.left)
+    g : GivesRecord now.reader.offset c.before (offset, e) new.reader.offset (ahead_of new.reader new.left)
     g = given_next now new (Ok (Some (offset, e))) c.before gives sound c.is
 
     from : ℕ × Entry → (History → Accepted) → Accepted
@@ -121,7 +121,7 @@ ahead_empty : (held coming : List ℕ) → held ++ coming ≡ [] → coming ≡ 
 ahead_empty [] coming e = e
 ahead_empty (b ∷ held) coming e = let clash : b ∷ (held ++ coming) ≡ [] = e in cc
 
-left_empty : (new : Moment) → new.reader.opened ≡ true → option_and_then (ahead new.reader) new.left ≡ Some [] → new.left ≡ Some []
+left_empty : (new : Moment) → new.reader.opened ≡ true → ahead_of new.reader new.left ≡ Some [] → new.left ≡ Some []
 left_empty new opened e =
     let s = split_ahead (ahead new.reader) new.left [] e in
     let f : Some (new.reader.held ++ s.0) ≡ Some [] = ap (λ b. to_give b (new.reader.held ++ s.0)) (sym opened) ∙ s.2 in
@@ -136,7 +136,7 @@ replaying_over first now new holds same gives opened r = record {
   ends = λ before was. let c = r.came before was in (c.refused ∙ ap (λ b. (accept_records now.reader.offset b r.done).refused) (over c).0, left_empty new opened (over c).1);
 }
   where
-    over : {all : Accepted} → (c : ComesOn now r.done all) → (c.before ≡ []) × (option_and_then (ahead new.reader) new.left ≡ Some []) × (new.reader.offset ≡ now.reader.offset)
+    over : {all : Accepted} → (c : ComesOn now r.done all) → (c.before ≡ []) × (ahead_of new.reader new.left ≡ Some []) × (new.reader.offset ≡ now.reader.offset)
     over c = given_next now new (Ok None) c.before gives r.sound c.is
 
 -- what has come so far is the first part of all that comes
@@ -203,8 +203,8 @@ reached_front first now new holds offset e gives r whole (inr on) before was =
     record {
       more = more.0 ++ on.2.more;
       is = c.inputs ∙ (ap (λ why. drained_from r.done (accept_by why (is_input e) r.done e others).inputs) on.0
-      ∙ (ap (λ b. drained_from r.done (accept_by None b r.done e others).inputs) on.1
-      ∙ (more.1 ∙ (ap (λ h. more.0 ++ h) on.2.is ∙ sym (append_assoc more.0 on.2.more whole)))));
+          ∙ (ap (λ b. drained_from r.done (accept_by None b r.done e others).inputs) on.1
+          ∙ (more.1 ∙ (ap (λ h. more.0 ++ h) on.2.is ∙ sym (append_assoc more.0 on.2.more whole)))));
     }
 
 -- A record was not replayed to its end.

@@ -1,8 +1,8 @@
 -- How much of a history was replayed: what is kept of it, and what of a capture came to it.
-use Rattle.std.specs.Prelude.{ℕ, ◌≡◌, ◌⊎◌, true, if◌then◌else◌, List, [], ◌++◌, reverse, option_and_then, Option, Some, None, Result, Ok, Err}
+use Rattle.std.specs.Prelude.{ℕ, ◌≡◌, ◌⊎◌, true, if◌then◌else◌, List, [], ◌++◌, reverse, Option, Some, None, Result, Ok, Err}
 use Rattle.adb_capture.specs.Records.{magic, records_of}
 use Rattle.adb_capture.specs.declared.entry.Entry.{Entry}
-use Rattle.adb_capture.specs.Reading.{Reading, ahead}
+use Rattle.adb_capture.specs.Reading.{Reading, ahead_of}
 use Rattle.adb_history.specs.Machine.{History, state, IsLegal}
 use Rattle.adb_history.specs.Kept.{Kept, IsLawful}
 use Rattle.adb_history.specs.Drained.{next_out, drain_all, drained_after, drained_from}
@@ -94,7 +94,7 @@ moment reader left out = record { reader = reader; left = left; out = out }
 
 -- the bytes of the records that are still to be given, where reader and source tell them
 abbrev pub IsAhead : Moment → List ℕ → Type 0
-IsAhead m before = option_and_then (ahead m.reader) m.left ≡ Some before
+IsAhead m before = ahead_of m.reader m.left ≡ Some before
 
 -- The records ahead were replayed, with no entry before them.
 pub record Replays (first last : Moment) (result : Result (Unit {0}) Stop) : Type 0 where

@@ -14,4 +14,5 @@ mod tests;
 mod words;
 
 pub use command::run;
+pub use note::say_out_of_memory;
 pub use status::Status;

@@ -1,30 +1,22 @@
 //! `adbhub`: the host server of the Android Debug Bridge.
 #![tactic(auto)]
 
+mod start;
 mod streams;
+#[cfg(test)]
+mod tests;
 
-use adb_top::{Status, run};
-use std::alloc::Global;
+use start::start;
 use std::process::ExitCode;
 use std::{env, io};
-use streams::{ReadSource, WriteSink};
+use streams::Stream;
 
 /// Runs the words of the command line over the standard streams, and ends with the status's code.
 fn main(rt: HostRuntime) -> ExitCode {
-    let mut source = ReadSource::new(rt.stdin());
-    let mut sink = WriteSink::new(rt.stdout());
-    let mut note = WriteSink::new(rt.stderr());
-    let status = match words(&rt) {
-        Ok(words) => run(
-            rt.alloc(),
-            words.as_slice(),
-            &mut source,
-            &mut sink,
-            &mut note,
-        ),
-        Err(error) if error.kind() == io::ErrorKind::OutOfMemory => Status::OutOfMemory,
-        Err(_) => run(rt.alloc(), &[], &mut source, &mut sink, &mut note),
-    };
+    let mut source = Stream::new(rt.stdin());
+    let mut sink = Stream::new(rt.stdout());
+    let mut note = Stream::new(rt.stderr());
+    let status = start(rt.alloc(), words(&rt), &mut source, &mut sink, &mut note);
     ExitCode::from(status.code())
 }
 

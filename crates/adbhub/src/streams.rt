@@ -1,25 +1,36 @@
-//! Sources and sinks over streams of the system. They tell nothing of what goes through.
+//! Streams of the system as sources and sinks.
 
 ghost use Rattle.std.specs.Prelude.{◌≡◌};
+ghost use Rattle.adb_outside.specs.Outside.{counted_on};
 
 use adb_outside::{Got, Sink, Source, Wrote};
 use std::io::{ErrorKind, Read, Write};
 
-/// A source over a stream that is read. Each failed read is counted.
+/// A stream of the system: a source where it can be read, a sink where it can be written. It tells
+/// nothing of what goes through, and each call that fails is counted. A call that is interrupted
+/// is made again.
 #[derive(Drop)]
-pub struct ReadSource<R> {
-    stream: R,
+pub struct Stream<T> {
+    inner: T,
     faults: u64,
 }
 
-impl<R: Read> ReadSource<R> {
-    /// No read failed yet.
-    pub fn new(stream: R) -> ReadSource<R> {
-        ReadSource { stream, faults: 0 }
+impl<T> Stream<T> {
+    /// No call failed yet.
+    pub fn new(inner: T) -> Stream<T>
+        ensures { result.faults ≡ 0 }
+    {
+        Stream { inner, faults: 0 }
+    }
+
+    fn count_fault(&mut self)
+        ensures { self.new.faults ≡ counted_on self.old.faults }
+    {
+        self.faults = self.faults.saturating_add(1);
     }
 }
 
-impl<R: Read> Source for ReadSource<R> {
+impl<R: Read> Source for Stream<R> {
     ghost use Rattle.std.specs.Prelude.{None};
 
     ghost faults = { λ s. s.faults };
@@ -30,33 +41,19 @@ impl<R: Read> Source for ReadSource<R> {
 
     fn read(&mut self, into: &mut [u8]) -> Got {
         for _ in 0..u64::MAX {
-            match self.stream.read(into) {
+            match self.inner.read(into) {
                 Ok(0) => return Got::End,
                 Ok(count) => return Got::Bytes(count),
                 Err(error) if error.kind() == ErrorKind::Interrupted => {}
                 Err(_) => break,
             }
         }
-        self.faults = self.faults.saturating_add(1);
+        self.count_fault();
         Got::Failed
     }
 }
 
-/// A sink over a stream that is written. Each failed write is counted.
-#[derive(Drop)]
-pub struct WriteSink<W> {
-    stream: W,
-    faults: u64,
-}
-
-impl<W: Write> WriteSink<W> {
-    /// No write failed yet.
-    pub fn new(stream: W) -> WriteSink<W> {
-        WriteSink { stream, faults: 0 }
-    }
-}
-
-impl<W: Write> Sink for WriteSink<W> {
+impl<W: Write> Sink for Stream<W> {
     ghost use Rattle.std.specs.Prelude.{None};
 
     ghost faults = { λ s. s.faults };
@@ -68,7 +65,7 @@ impl<W: Write> Sink for WriteSink<W> {
     fn write(&mut self, piece: &[u8]) -> Wrote {
         let mut taken = 0;
         for _ in 0..u64::MAX {
-            match self.stream.write(&piece[taken..]) {
+            match self.inner.write(&piece[taken..]) {
                 Ok(0) => break,
                 Ok(count) => taken += count,
                 Err(error) if error.kind() == ErrorKind::Interrupted => {}
@@ -78,7 +75,7 @@ impl<W: Write> Sink for WriteSink<W> {
                 return Wrote::All;
             }
         }
-        self.faults = self.faults.saturating_add(1);
+        self.count_fault();
         Wrote::Failed { taken }
     }
 }

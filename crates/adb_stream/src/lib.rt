@@ -1,0 +1,17 @@
+//! The streams between clients and devices: who is at their ends, and what each end may send.
+#![tactic(auto)]
+
+mod credit;
+mod flow;
+mod row;
+mod shelf;
+mod streams;
+#[cfg(test)]
+mod tests;
+mod window;
+
+pub use credit::{CREDIT_STEP, CREDIT_WINDOW, Credit};
+pub use flow::{Flow, Took};
+pub use row::{Part, Stream};
+pub use streams::{DrawError, Streams};
+pub use window::Window;
