@@ -1,12 +1,12 @@
 -- Draining ends with nothing due, and a hand-out is one turn of it.
-use Rattle.std.proofs.Common.{ℕ, ◌+◌, ◌≡◌, ◌≢◌, ◌≤◌, ◌<◌, Bool, true, false, cond, List, [], ◌∷◌, length, take, Option, Some, None, refl, sym, ◌∙◌, ap, subst, arith, zero, suc, eqb, ◌⊎◌, inl, inr}
+use Rattle.std.proofs.Common.{ℕ, ◌+◌, ◌≡◌, ◌≢◌, ◌≤◌, ◌<◌, Bool, true, false, cond, List, [], ◌∷◌, length, take, drop, Option, Some, None, refl, sym, ◌∙◌, ap, subst, arith, zero, suc, eqb, ◌⊎◌, inl, inr}
 use Rattle.std.proofs.lemmas.Bool.{ne_eqb, eq-eqb, cases_eq}
-use Rattle.std.proofs.lemmas.List.{length-drop, length-take}
+use Rattle.std.proofs.lemmas.List.{length-drop, length-take, take-append-drop}
 use Rattle.adb_capture.specs.declared.entry.Entry.{Entry}
 use Rattle.adb_capture.specs.declared.entry.Entry.TheVariants.{Put}
 use Rattle.adb_outside.specs.Tables.{Rows, change_row}
-use Rattle.adb_history.specs.Machine.{Client, State, History, state, step, settled, handed}
-use Rattle.adb_history.specs.Kept.{IsOrderly}
+use Rattle.adb_history.specs.Machine.{Client, State, History, state, step, settled, handed, IsDrawn, IsLegal, May}
+use Rattle.adb_history.proofs.Orderly.{orderly}
 use Rattle.adb_history.specs.Drained.{out_or, first_out, next_out, owed_from, owed, drain, drain_all, or_stay}
 
 -- a change at a lower number changes nothing
@@ -128,41 +128,78 @@ pub drain_all_rests : (h : History) → next_out (state (drain_all h)) ≡ None
 drain_all_rests h = drained_rests (owed (state h)) h (omega arith)
 
 -- where nothing is due to any of k numbers there is no hand-out
-none_out : (rows : Rows Client) (n k : ℕ) → ((m : ℕ) → n ≤ m → (rows m).due ≡ []) → first_out rows n k ≡ None
+none_out : (rows : Rows Client) (n k : ℕ) → ((m : ℕ) → (rows m).due ≡ []) → first_out rows n k ≡ None
 none_out rows n zero none = refl
-none_out rows n (suc k) none = ap (λ due. out_or n due (first_out rows (suc n) k)) (none n (omega arith)) ∙ none_out rows (suc n) k (λ m above. none m (omega (arith, above)))
+none_out rows n (suc k) none = ap (λ due. out_or n due (first_out rows (suc n) k)) (none n) ∙ none_out rows (suc n) k none
 
--- where only one number has bytes due, the next hand-out is its own
-only_out : (rows : Rows Client) (c n k : ℕ) → n ≤ c → c < n + k → ((m : ℕ) → m ≢ c → (rows m).due ≡ []) → first_out rows n k ≡ out_or c (rows c).due None
-only_out rows c n zero low high none = absurd (omega (arith, low, high))
-only_out rows c n (suc k) low high none = go (cases_eq n c) (only_out rows c (suc n) k)
+pub next_none : (s : State) → ((m : ℕ) → (s.clients m).due ≡ []) → next_out s ≡ None
+next_none s none = none_out s.clients 1 s.joined none
+
+some_out : (n : ℕ) (due : List ℕ) (later : Option Entry) → due ≢ [] → out_or n due later ≡ Some (Put n (take 65536 due))
+some_out n [] later some = absurd (some refl)
+some_out n (b ∷ due) later some = refl
+
+-- the first of k numbers that has bytes due is handed some of them
+least_out : (rows : Rows Client) (c n k : ℕ) → n ≤ c → c < n + k → ((m : ℕ) → m < c → (rows m).due ≡ []) → (rows c).due ≢ []
+    → first_out rows n k ≡ Some (Put c (take 65536 (rows c).due))
+least_out rows c n zero low high none some = absurd (omega (arith, low, high))
+least_out rows c n (suc k) low high none some = go (cases_eq n c) (least_out rows c (suc n) k)
   where
-    go : (n ≡ c) ⊎ (n ≡ c → ⊥) → (suc n ≤ c → c < suc n + k → ((m : ℕ) → m ≢ c → (rows m).due ≡ []) → first_out rows (suc n) k ≡ out_or c (rows c).due None) → out_or n (rows n).due (first_out rows (suc n) k) ≡ out_or c (rows c).due None
+    go : (n ≡ c) ⊎ (n ≡ c → ⊥)
+        → (suc n ≤ c → c < suc n + k → ((m : ℕ) → m < c → (rows m).due ≡ []) → (rows c).due ≢ [] → first_out rows (suc n) k ≡ Some (Put c (take 65536 (rows c).due)))
+        → out_or n (rows n).due (first_out rows (suc n) k) ≡ Some (Put c (take 65536 (rows c).due))
     go (inl same) more =
-        ap (out_or n (rows n).due) (none_out rows (suc n) k (λ m above. none m (λ is. omega (arith, above, same, is))))
-        ∙ ap (λ m. out_or m (rows m).due None) same
-    go (inr apart) more = ap (λ due. out_or n due (first_out rows (suc n) k)) (none n apart) ∙ more (omega (arith, low, apart)) (omega (arith, high)) none
+        ap (λ m. out_or m (rows m).due (first_out rows (suc n) k)) same ∙ some_out c (rows c).due (first_out rows (suc n) k) some
+    go (inr apart) more =
+        ap (λ due. out_or n due (first_out rows (suc n) k)) (none n (omega (arith, low, apart)))
+        ∙ more (omega (arith, low, apart)) (omega (arith, high)) none some
 
-pub next_is : (s : State) (c : ℕ) → (0 < c) × (c ≤ s.joined) → ((m : ℕ) → m ≢ c → (s.clients m).due ≡ []) → next_out s ≡ out_or c (s.clients c).due None
-next_is s c drawn none = only_out s.clients c 1 s.joined (omega (arith, drawn)) (omega (arith, drawn)) none
+pub next_is : (s : State) (c : ℕ) → IsDrawn s c → ((m : ℕ) → m < c → (s.clients m).due ≡ []) → (s.clients c).due ≢ []
+    → next_out s ≡ Some (Put c (take 65536 (s.clients c).due))
+next_is s c drawn none some = least_out s.clients c 1 s.joined (omega (arith, drawn)) (omega (arith, drawn)) none some
 
--- where there is no hand-out nothing is due
-due_is_none : (rows : Rows Client) (n k : ℕ) → first_out rows n k ≡ None → (m : ℕ) → n ≤ m → m < n + k → (rows m).due ≡ []
-due_is_none rows n zero is m low high = absurd (omega (arith, low, high))
-due_is_none rows n (suc k) is m low high = go (rows n).due refl is (cases_eq n m) (λ none apart. due_is_none rows (suc n) k none m (omega (arith, low, apart)) (omega (arith, high)))
+-- Whose bytes the next hand-out has.
+record IsOutOf (rows : Rows Client) (n k : ℕ) (e : Entry) : Type 0 where
+  pub client : ℕ
+  pub low : n ≤ client
+  pub high : client < n + k
+  pub some : (rows client).due ≢ []
+  pub is : e ≡ Put client (take 65536 (rows client).due)
+
+whose_out : (rows : Rows Client) (n k : ℕ) (e : Entry) → first_out rows n k ≡ Some e → IsOutOf rows n k e
+whose_out rows n zero e is = cc
+whose_out rows n (suc k) e is = go (rows n).due refl is (whose_out rows (suc n) k e)
   where
-    go : (due : List ℕ) → (rows n).due ≡ due → out_or n due (first_out rows (suc n) k) ≡ None → (n ≡ m) ⊎ (n ≡ m → ⊥) → (first_out rows (suc n) k ≡ None → (n ≡ m → ⊥) → (rows m).due ≡ []) → (rows m).due ≡ []
-    go [] here none (inl same) more = subst (λ (j : ℕ). (rows j).due ≡ []) same here
-    go [] here none (inr apart) more = more none apart
-    go (b ∷ due) here none at more = cc
+    go : (due : List ℕ) → (rows n).due ≡ due → out_or n due (first_out rows (suc n) k) ≡ Some e
+        → (first_out rows (suc n) k ≡ Some e → IsOutOf rows (suc n) k e) → IsOutOf rows n (suc k) e
+    go [] has i later = let o = later i in record { client = o.client; low = omega (arith, o.low); high = omega (arith, o.high); some = o.some; is = o.is }
+    go (b ∷ bs) has i later =
+        let same : e ≡ Put n (take 65536 (b ∷ bs)) = cc in
+        record {
+          client = n;
+          low = omega arith;
+          high = omega arith;
+          some = λ none. (let clash : b ∷ bs ≡ [] = sym has ∙ none in cc);
+          is = same ∙ ap (λ due. Put n (take 65536 due)) (sym has);
+        }
 
-pub nothing_due : (s : State) → IsOrderly s → next_out s ≡ None → (m : ℕ) → (s.clients m).due ≡ []
-nothing_due s ok none zero = ap (λ (c : Client). c.due) ok.none_at_zero
-nothing_due s ok none (suc m) = go (cases s.joined m)
+some_front : (due : List ℕ) → due ≢ [] → take 65536 due ≢ []
+some_front [] some is = some refl
+some_front (b ∷ due) some is = let clash : b ∷ take 65535 due ≡ [] = is in cc
+
+-- The next hand-out may come.
+pub next_may : (h : History) (e : Entry) → IsLegal h → next_out (state h) ≡ Some e → May (state h) e
+next_may h e legal next = subst (λ (x : Entry). May (state h) x) (sym o.is) (
+  (omega (arith, o.low), omega (arith, o.high)),
+  record {
+    some = some_front due o.some;
+    lives = λ gone. o.some ((orderly h legal).gone_has_none o.client gone);
+    front = (drop 65536 due, take-append-drop 65536 due);
+  },
+)
   where
-    cases : (j k : ℕ) → (j < suc k) ⊎ (suc k ≤ j)
-    cases j k = grind arith
+    o : IsOutOf (state h).clients 1 (state h).joined e
+    o = whose_out (state h).clients 1 (state h).joined e next
 
-    go : (s.joined < suc m) ⊎ (suc m ≤ s.joined) → (s.clients (suc m)).due ≡ []
-    go (inl above) = ap (λ (c : Client). c.due) (ok.none_above (suc m) above)
-    go (inr within) = due_is_none s.clients 1 s.joined none (suc m) (omega arith) (omega (arith, within))
+    due : List ℕ
+    due = ((state h).clients o.client).due

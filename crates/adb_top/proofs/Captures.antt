@@ -2,24 +2,25 @@
 use Rattle.std.proofs.Common.{ℕ, ◌≡◌, ◌≢◌, Bool, true, false, cond, List, [], ◌∷◌, ◌++◌, take, drop, reverse, Option, Some, None, Result, Ok, Err, refl, sym, ◌∙◌, ap, subst, ◌⊎◌, inl, inr}
 use Rattle.std.specs.Prelude.{option_and_then, bytes_eq}
 use Rattle.std.proofs.lemmas.List.{append_assoc, append-nil, reverse-append}
+use Rattle.adb_outside.specs.Bytes.{IsPrefixOf}
 use Rattle.adb_capture.specs.Records.{magic, record_of, records_of}
 use Rattle.adb_capture.specs.Reading.{Reading, ahead, to_give, past_magic, Opens}
 use Rattle.adb_capture.specs.declared.entry.Entry.{Entry}
 use Rattle.adb_capture.specs.declared.error.CaptureError.{CaptureError}
 use Rattle.adb_capture.specs.declared.error.CaptureError.TheVariants as capture
-use Rattle.adb_outside.specs.Bytes.{IsPrefixOf}
 use Rattle.adb_history.specs.Machine.{History, IsLegal}
 use Rattle.adb_history.specs.Drained.{drained, drained_from}
-use Rattle.adb_history.specs.Accepted.{Accepted, accepted, accept_records, has_magic, replayed}
 use Rattle.adb_history.specs.Refusal.{refusal_by}
+use Rattle.adb_history.specs.Accepted.{Accepted, accepted, accept_records, has_magic, replayed}
 use Rattle.adb_promise.proofs.Answers.{all_answered}
 use Rattle.adb_top.specs.Stop.{stop_of}
-use Rattle.adb_top.specs.Keeping.{HasPart}
-use Rattle.adb_top.specs.Replay.{written_of, StopsWithin, IsPartOfNext, Wrote, Reaches, IsFrontOf, EndsAs, WasAhead, Replays}
-use Rattle.adb_top.specs.Replayed.{HasFront, WritesText, SpellsHistory, GrowsSpelled, ReplaysCapture}
+use Rattle.adb_top.specs.Keeping.{Out, Keeps, HasFront, KeepsAs, LosesRest, WritesOut, IsWriteEnd}
+use Rattle.adb_top.specs.Replay.{written_of, capture_of, IsFrontOf, Reaches, EndsAs, Moment, moment, IsAhead, Replays}
+use Rattle.adb_top.specs.Replayed.{WritesText, IsSpelled, SpellsHistory, GrowsSpelled, ReplaysCapture}
 use Rattle.adb_top.specs.declared.stop.Stop.{Stop}
 use Rattle.adb_top.specs.declared.stop.Stop.TheVariants.{ReadFault, WriteFault, OutOfMemory, Refused}
-use Rattle.adb_top.proofs.Drains.{written_more}
+use Rattle.adb_top.proofs.Outputs.{all_out}
+use Rattle.adb_top.proofs.Drains.{capture_more}
 
 -- the records of a history that goes on begin with those that it had
 written_adds : (later done : History) → written_of (later ++ done) ≡ written_of done ++ records_of (reverse later)
@@ -29,96 +30,65 @@ written_adds later done = ap records_of (reverse-append later done) ∙ join (re
     join [] ys = refl
     join (x ∷ xs) ys = ap (λ bytes. record_of x ++ bytes) (join xs ys) ∙ sym (append_assoc (record_of x) (records_of xs) (records_of ys))
 
-front_of_whole : (later done : History) → IsPrefixOf (written_of done) (written_of (later ++ done))
-front_of_whole later done = (records_of (reverse later), sym (written_adds later done))
+capture_front : (whole all : History) → IsFrontOf whole all → IsPrefixOf (capture_of whole) (capture_of all)
+capture_front whole all f = (
+  records_of (reverse f.more),
+  append_assoc magic (written_of whole) (records_of (reverse f.more)) ∙ ap (λ bytes. magic ++ bytes) (sym (written_adds f.more whole) ∙ ap written_of (sym f.is)),
+)
 
 prefix_on : (a b c : List ℕ) → IsPrefixOf a b → IsPrefixOf b c → IsPrefixOf a c
 prefix_on a b c p q = (p.0 ++ q.0, sym (append_assoc a p.0 q.0) ∙ (ap (λ x. x ++ q.0) p.1 ∙ q.1))
 
-prefix_behind : (front a b : List ℕ) → IsPrefixOf a b → IsPrefixOf (front ++ a) (front ++ b)
-prefix_behind front a b p = (p.0, append_assoc front a p.0 ∙ ap (λ x. front ++ x) p.1)
+-- a front of two lists is a front of the first, or goes on into the second
+pub record IsPast (front first last : List ℕ) : Type 0 where
+  pub part : List ℕ
+  pub is : front ≡ first ++ part
+  pub front_of : IsPrefixOf part last
 
--- what stopped within a history is a front of its records
-within_front : (whole : History) (out : List ℕ) → StopsWithin whole out → IsPrefixOf out (written_of whole)
-within_front whole out s = rw (s.is, s.bytes) (go s.next)
+split_front : (front first last rest : List ℕ) → front ++ rest ≡ first ++ last → IsPrefixOf front first ⊎ IsPast front first last
+split_front [] first last rest e = inl (first, refl)
+split_front (a ∷ front) [] last rest e = inr (record { part = a ∷ front; is = refl; front_of = (rest, e) })
+split_front (a ∷ front) (b ∷ first) last rest e = go (split_front front first last rest tails)
   where
-    go : IsPartOfNext s.part s.done s.later → IsPrefixOf (written_of s.done ++ s.part) (written_of (s.later ++ s.done))
-    go (inl none) = rw (none, append-nil (written_of s.done)) (front_of_whole s.later s.done)
-    go (inr (e, after, is, legal, front)) =
-        let on : s.later ++ s.done ≡ after ++ e ∷ s.done = ap (λ l. l ++ s.done) is ∙ append_assoc after (e ∷ []) s.done in
-        rw on (prefix_on (written_of s.done ++ s.part) (written_of (e ∷ s.done)) (written_of (after ++ e ∷ s.done))
-        (rw (written_more e s.done) (prefix_behind (written_of s.done) s.part (record_of e) front)) (front_of_whole after (e ∷ s.done)))
+    head : a ≡ b
+    head = cc
+
+    tails : front ++ rest ≡ first ++ last
+    tails = cc
+
+    go : IsPrefixOf front first ⊎ IsPast front first last → IsPrefixOf (a ∷ front) (b ∷ first) ⊎ IsPast (a ∷ front) (b ∷ first) last
+    go (inl p) = inl (p.0, λ i. head i ∷ p.1 i)
+    go (inr p) = inr (record { part = p.part; is = λ i. head i ∷ p.is i; front_of = p.front_of })
 
 -- less than a record, or a whole one
 empty_or : (rest : List ℕ) → (rest ≡ []) ⊎ (rest ≢ [])
 empty_or [] = inl refl
 empty_or (b ∷ rest) = inr (λ e. cc)
 
--- what stopped within a history is spelled
-within_spelled : (whole : History) (out : List ℕ) → StopsWithin whole out → SpellsHistory (magic ++ out)
-within_spelled whole out s = go s.next
+history_spelled : (h : History) (bytes : List ℕ) → IsLegal h → bytes ≡ capture_of h → SpellsHistory bytes
+history_spelled h bytes legal is = record { history = h; legal = legal; answered = all_answered h legal; part = []; is = is ∙ ap (λ x. magic ++ x) (sym (append-nil (written_of h))); rest = inl refl }
+
+-- A front of the capture of a legal history spells one.
+front_spelled : (h : History) (front : List ℕ) → IsLegal h → IsPrefixOf front (capture_of h) → IsSpelled front
+front_spelled [] front legal p = inl (p.0, p.1 ∙ append-nil magic)
+front_spelled (e ∷ h) front legal p = go (split_front front (capture_of h) (record_of e) p.0 (p.1 ∙ sym (capture_more e h))) (λ q. front_spelled h front legal.0 q)
   where
-    plain : s.part ≡ [] → SpellsHistory (magic ++ out)
-    plain none = record { history = s.done; legal = s.legal; answered = all_answered s.done s.legal; part = []; is = ap (λ x. magic ++ x) (s.bytes ∙ ap (λ x. written_of s.done ++ x) none); rest = inl refl }
+    past : (q : IsPast front (capture_of h) (record_of e)) → (q.front_of.0 ≡ []) ⊎ (q.front_of.0 ≢ []) → SpellsHistory front
+    past q (inl none) =
+        let all : q.part ≡ record_of e = sym (append-nil q.part) ∙ (ap (λ x. q.part ++ x) (sym none) ∙ q.front_of.1) in
+        history_spelled (e ∷ h) front legal (q.is ∙ (ap (λ x. capture_of h ++ x) all ∙ capture_more e h))
+    past q (inr more) = record {
+      history = h;
+      legal = legal.0;
+      answered = all_answered h legal.0;
+      part = q.part;
+      is = q.is ∙ append_assoc magic (written_of h) q.part;
+      rest = inr (record { entry = e; legal = legal; rest = q.front_of.0; more = more; is = q.front_of.1 });
+    }
 
-    whole_record : (e : Entry) → IsLegal (e ∷ s.done) → (rest : List ℕ) → s.part ++ rest ≡ record_of e → rest ≡ [] → SpellsHistory (magic ++ out)
-    whole_record e legal rest is none =
-        let all : s.part ≡ record_of e = sym (append-nil s.part) ∙ (ap (λ x. s.part ++ x) (sym none) ∙ is) in
-        record {
-          history = e ∷ s.done;
-          legal = legal;
-          answered = all_answered (e ∷ s.done) legal;
-          part = [];
-          is = ap (λ x. magic ++ x) (s.bytes ∙ (ap (λ x. written_of s.done ++ x) all ∙ (sym (written_more e s.done) ∙ sym (append-nil (written_of (e ∷ s.done))))));
-          rest = inl refl;
-        }
-
-    go : IsPartOfNext s.part s.done s.later → SpellsHistory (magic ++ out)
-    go (inl none) = plain none
-    go (inr (e, after, later, legal, front)) = split (empty_or front.0)
-      where
-        split : (front.0 ≡ []) ⊎ (front.0 ≢ []) → SpellsHistory (magic ++ out)
-        split (inl none) = whole_record e legal front.0 front.1 none
-        split (inr more) = record {
-          history = s.done;
-          legal = s.legal;
-          answered = all_answered s.done s.legal;
-          part = s.part;
-          is = ap (λ x. magic ++ x) s.bytes;
-          rest = inr (record { entry = e; legal = legal; rest = front.0; more = more; is = front.1 });
-        }
-
-whole_spelled : (whole : History) (out : List ℕ) → out ≡ written_of whole → IsLegal whole → SpellsHistory (magic ++ out)
-whole_spelled whole out is legal = record { history = whole; legal = legal; answered = all_answered whole legal; part = []; is = ap (λ x. magic ++ x) (is ∙ sym (append-nil (written_of whole))); rest = inl refl }
-
-wrote_spelled : (result : Result (Unit {0}) Stop) (whole : History) (out : List ℕ) → Wrote result whole out → SpellsHistory (magic ++ out)
-wrote_spelled (Ok done) whole out w = whole_spelled whole out w.0 w.1
-wrote_spelled (Err ReadFault) whole out w = within_spelled whole out w
-wrote_spelled (Err WriteFault) whole out w = within_spelled whole out w
-wrote_spelled (Err OutOfMemory) whole out w = within_spelled whole out w
-wrote_spelled (Err (Refused why)) whole out w = whole_spelled whole out w.0 w.1
-
--- the text of all that a capture gives
-text_of : Accepted → List ℕ
-text_of a = magic ++ records_of (drained a.inputs)
-
-text_is : (a : Accepted) (whole : History) → drained_from [] a.inputs ≡ whole → magic ++ written_of whole ≡ magic ++ records_of (drained a.inputs)
-text_is a whole is = ap (λ h. magic ++ records_of (reverse h)) (sym is)
-
-front_text : (a : Accepted) (whole : History) (out : List ℕ) → StopsWithin whole out → IsFrontOf whole a → IsPrefixOf (magic ++ out) (magic ++ records_of (drained a.inputs))
-front_text a whole out s f =
-    prefix_behind magic out (records_of (drained a.inputs))
-    (prefix_on out (written_of whole) (records_of (drained a.inputs)) (within_front whole out s)
-    (subst (λ (h : History). IsPrefixOf (written_of whole) (written_of h)) (sym f.is) (front_of_whole f.more whole)))
-
--- what went out behind the magic, of all that a capture gives
-text_wrote : (result : Result (Unit {0}) Stop) (whole : History) (out had : List ℕ) (a : Accepted) (written : Option (List ℕ)) → written ≡ Some (had ++ (magic ++ out)) → Wrote result whole out → Reaches result whole a
-    → WritesText result (magic ++ records_of (drained a.inputs)) had written
-text_wrote (Ok done) whole out had a written is w r = is ∙ ap (λ x. Some (had ++ x)) (ap (λ x. magic ++ x) w.0 ∙ text_is a whole r)
-text_wrote (Err ReadFault) whole out had a written is w r = record { growth = magic ++ out; is = is; front = front_text a whole out w r }
-text_wrote (Err WriteFault) whole out had a written is w r = record { growth = magic ++ out; is = is; front = front_text a whole out w r }
-text_wrote (Err OutOfMemory) whole out had a written is w r = record { growth = magic ++ out; is = is; front = front_text a whole out w r }
-text_wrote (Err (Refused why)) whole out had a written is w r = is ∙ ap (λ x. Some (had ++ x)) (ap (λ x. magic ++ x) w.0 ∙ text_is a whole r)
+    go : IsPrefixOf front (capture_of h) ⊎ IsPast front (capture_of h) (record_of e) → (IsPrefixOf front (capture_of h) → IsSpelled front) → IsSpelled front
+    go (inl q) shorter = shorter q
+    go (inr q) shorter = inr (past q (empty_or q.front_of.0))
 
 -- the magic stands at the front of the bytes
 magic_there : (bytes before : List ℕ) → past_magic bytes ≡ Some before → (has_magic bytes ≡ true) × (before ≡ drop 8 bytes)
@@ -138,37 +108,121 @@ no_magic bytes e = go (bytes_eq (take 8 bytes) magic) refl e
 accepted_with : (bytes : List ℕ) → has_magic bytes ≡ true → accepted bytes ≡ accept_records 8 (drop 8 bytes) []
 accepted_with bytes e = ap (λ b. cond b (accept_records 8 (drop 8 bytes) []) (record { inputs = []; refused = refusal_by capture.BadMagic })) e
 
-replayed_with : (bytes : List ℕ) → has_magic bytes ≡ true → replayed bytes ≡ magic ++ records_of (drained (accept_records 8 (drop 8 bytes) []).inputs)
-replayed_with bytes e = ap (λ b. cond b (magic ++ records_of (drained (accepted bytes).inputs)) []) e ∙ ap (λ (a : Accepted). magic ++ records_of (drained a.inputs)) (accepted_with bytes e)
+all_front : (had text : List ℕ) (written : Option (List ℕ)) → written ≡ Some (had ++ text) → HasFront had text written
+all_front had text written is = record { growth = text; is = is; front = ([], append-nil text) }
 
--- The magic was read and written, and the records were replayed.
-pub capture_replayed : (opened : Reading) (left_first left_opened left_after written_before written_after : Option (List ℕ)) (result : Result (Unit {0}) Stop)
-    → opened.offset ≡ 8 → opened.opened ≡ true
-    → ((coming : List ℕ) → left_first ≡ Some coming → (rest : List ℕ) × (left_opened ≡ Some rest) × (past_magic coming ≡ Some (opened.held ++ rest)))
-    → (written_mid : Option (List ℕ)) → ((had : List ℕ) → written_before ≡ Some had → written_mid ≡ Some (had ++ magic))
-    → Replays opened left_opened left_after written_mid written_after result → ReplaysCapture left_first left_after written_before written_after result
-capture_replayed opened left_first left_opened left_after written_before written_after result eight is_open opens written_mid magic_out r = record {
+-- what went out of a text, of a longer one
+longer : (had text all : List ℕ) (written : Option (List ℕ)) → IsPrefixOf text all → HasFront had text written → HasFront had all written
+longer had text all written p f = record { growth = f.growth; is = f.is; front = prefix_on f.growth text all f.front p }
+
+-- a front of all that is there is a front at least
+pub text_front : (result : Result (Unit {0}) Stop) (text had : List ℕ) (written : Option (List ℕ)) → WritesText result text had written → HasFront had text written
+text_front (Ok done) text had written w = all_front had text written w
+text_front (Err ReadFault) text had written w = w
+text_front (Err WriteFault) text had written w = w
+text_front (Err OutOfMemory) text had written w = w
+text_front (Err (Refused why)) text had written w = all_front had text written w
+
+-- what is kept goes out at last
+pub finished : (ended : Result (Unit {0}) Stop) (had text : List ℕ) (out : Out) (written : Option (List ℕ)) → KeepsAs ended had text out
+    → ((had text : List ℕ) → Keeps had text out → written ≡ Some (had ++ text)) → (out.1 ≡ [] → written ≡ out.0) → WritesText ended text had written
+finished (Ok done) had text out written k goes idle = goes had text k
+finished (Err ReadFault) had text out written k goes idle = all_front had text written (goes had text k)
+finished (Err WriteFault) had text out written k goes idle = record { growth = k.0.growth; is = idle k.1 ∙ k.0.is; front = k.0.front }
+finished (Err OutOfMemory) had text out written k goes idle = all_front had text written (goes had text k)
+finished (Err (Refused why)) had text out written k goes idle = goes had text k
+
+-- the sink failed at last
+pub lost_at_last : (ended : Result (Unit {0}) Stop) (had text : List ℕ) (out : Out) (written : Option (List ℕ)) → KeepsAs ended had text out
+    → ((had text : List ℕ) → Keeps had text out → HasFront had text written) → (out.1 ≡ [] → written ≡ out.0) → HasFront had text written
+lost_at_last (Ok done) had text out written k goes idle = goes had text k
+lost_at_last (Err ReadFault) had text out written k goes idle = goes had text k
+lost_at_last (Err WriteFault) had text out written k goes idle = record { growth = k.0.growth; is = idle k.1 ∙ k.0.is; front = k.0.front }
+lost_at_last (Err OutOfMemory) had text out written k goes idle = goes had text k
+lost_at_last (Err (Refused why)) had text out written k goes idle = goes had text k
+
+-- what was reached of all that a capture gives, as a part of its text
+reached_text : (result : Result (Unit {0}) Stop) (whole : History) (had : List ℕ) (a : Accepted) (written : Option (List ℕ)) → Reaches result whole a → WritesText result (capture_of whole) had written → WritesText result (capture_of (drained_from [] a.inputs)) had written
+reached_text (Ok done) whole had a written r w = w ∙ ap (λ h. Some (had ++ capture_of h)) (sym r)
+reached_text (Err ReadFault) whole had a written r w = longer had _ _ written (capture_front whole _ r) w
+reached_text (Err WriteFault) whole had a written r w = longer had _ _ written (capture_front whole _ r) w
+reached_text (Err OutOfMemory) whole had a written r w = longer had _ _ written (capture_front whole _ r) w
+reached_text (Err (Refused why)) whole had a written r w = w ∙ ap (λ h. Some (had ++ capture_of h)) (sym r)
+
+-- whatever was reached, it is a first part
+reached_part : (result : Result (Unit {0}) Stop) (whole : History) (a : Accepted) → Reaches result whole a → IsFrontOf whole (drained_from [] a.inputs)
+reached_part (Ok done) whole a r = record { more = []; is = r }
+reached_part (Err ReadFault) whole a r = r
+reached_part (Err WriteFault) whole a r = r
+reached_part (Err OutOfMemory) whole a r = r
+reached_part (Err (Refused why)) whole a r = record { more = []; is = r }
+
+-- the magic was read and is gathered
+pub record Opened (left_first : Option (List ℕ)) (first : Moment) : Type 0 where
+  pub offset : first.reader.offset ≡ 8
+  pub opened : first.reader.opened ≡ true
+  pub past : (coming : List ℕ) → left_first ≡ Some coming → (rest : List ℕ) × (first.left ≡ Some rest) × (past_magic coming ≡ Some (first.reader.held ++ rest))
+  pub gathered : first.out.1 ≡ magic
+
+-- what is ahead then, of the bytes of the capture
+record FromMagic (bytes : List ℕ) (first : Moment) : Type 0 where
+  pub before : List ℕ
+  pub there : has_magic bytes ≡ true
+  pub is : IsAhead first before
+  pub same : accept_records first.reader.offset before [] ≡ accepted bytes
+
+from_magic : (left_first : Option (List ℕ)) (first : Moment) (bytes : List ℕ) → Opened left_first first → left_first ≡ Some bytes → FromMagic bytes first
+from_magic left_first first bytes o told =
+    let p = o.past bytes told in
+    let m = magic_there bytes (first.reader.held ++ p.0) p.2 in
+    record {
+      before = first.reader.held ++ p.0;
+      there = m.0;
+      is = ap (option_and_then (ahead first.reader)) p.1 ∙ ap (λ b. to_give b (first.reader.held ++ p.0)) o.opened;
+      same = ap (λ n. accept_records n (first.reader.held ++ p.0) []) o.offset ∙ (ap (λ b. accept_records 8 b []) m.1 ∙ sym (accepted_with bytes m.0));
+    }
+
+replayed_is : (bytes : List ℕ) → has_magic bytes ≡ true → capture_of (drained_from [] (accepted bytes).inputs) ≡ replayed bytes
+replayed_is bytes there = sym (ap (λ b. cond b (magic ++ records_of (drained (accepted bytes).inputs)) []) there)
+
+keeps_magic : (left_first : Option (List ℕ)) (first : Moment) (had : List ℕ) → Opened left_first first → first.out.0 ≡ Some had → Keeps had (capture_of []) first.out
+keeps_magic left_first first had o is = record { growth = []; is = is ∙ ap Some (sym (append-nil had)); whole = o.gathered ∙ sym (append-nil magic) }
+
+-- The records were replayed, and all that was kept went out.
+pub capture_replayed : (left_first written : Option (List ℕ)) (first last : Moment) (ended : Result (Unit {0}) Stop) → Opened left_first first → Replays first last ended
+    → ((had text : List ℕ) → Keeps had text last.out → written ≡ Some (had ++ text)) → (last.out.1 ≡ [] → written ≡ last.out.0) → ReplaysCapture left_first last.left first.out.0 written ended
+capture_replayed left_first written first last ended o r goes idle = record {
   writes = λ bytes had told has.
-      let w = r.wrote (had ++ magic) (magic_out had has) in
-      let m = at bytes told in
-      rw (replayed_with bytes m.1.0)
-      (text_wrote result w.whole w.out had (accept_records 8 (drop 8 bytes) []) written_after (w.is ∙ ap Some (append_assoc had magic w.out)) w.wrote
-      (subst (λ (a : Accepted). Reaches result w.whole a) (same bytes m.0 m.1.1) (w.reaches m.0 m.2)));
+      let f = from_magic left_first first bytes o told in
+      subst (λ (text : List ℕ). WritesText ended text had written) (replayed_is bytes f.there)
+      (reached_text ended r.whole had (accepted bytes) written (subst (λ (a : Accepted). Reaches ended r.whole a) f.same (r.reaches f.before f.is)) (text had has));
   ends = λ bytes told.
-      let m = at bytes told in
-      subst (λ (a : Accepted). EndsAs result a left_after) (same bytes m.0 m.1.1 ∙ sym (accepted_with bytes m.1.0)) (r.ends m.0 m.2);
+      let f = from_magic left_first first bytes o told in
+      subst (λ (a : Accepted). EndsAs ended a last.left) f.same (r.ends f.before f.is);
   spells = λ had has.
-      let w = r.wrote (had ++ magic) (magic_out had has) in
-      record { growth = magic ++ w.out; is = w.is ∙ ap Some (append_assoc had magic w.out); spelled = inr (wrote_spelled result w.whole w.out w.wrote) };
+      let f = text_front ended (capture_of r.whole) had written (text had has) in
+      record { growth = f.growth; is = f.is; spelled = front_spelled r.whole f.growth r.on.legal f.front };
 }
   where
-    same : (bytes before : List ℕ) → before ≡ drop 8 bytes → accept_records opened.offset before [] ≡ accept_records 8 (drop 8 bytes) []
-    same bytes before e = ap (λ n. accept_records n before []) eight ∙ ap (λ b. accept_records 8 b []) e
+    text : (had : List ℕ) → first.out.0 ≡ Some had → WritesText ended (capture_of r.whole) had written
+    text had has = finished ended had (capture_of r.whole) last.out written (r.on.kept had (keeps_magic left_first first had o has)) goes idle
 
-    at : (bytes : List ℕ) → left_first ≡ Some bytes → (before : List ℕ) × ((has_magic bytes ≡ true) × (before ≡ drop 8 bytes)) × WasAhead opened left_opened before
-    at bytes told =
-        let o = opens bytes told in
-        (opened.held ++ o.0, magic_there bytes (opened.held ++ o.0) o.2, ap (option_and_then (ahead opened)) o.1 ∙ ap (λ b. to_give b (opened.held ++ o.0)) is_open)
+-- The records were replayed, and what was kept did not go out.
+pub capture_lost : (left_first written : Option (List ℕ)) (first last : Moment) (ended : Result (Unit {0}) Stop) → Opened left_first first → Replays first last ended
+    → ((had text : List ℕ) → Keeps had text last.out → HasFront had text written) → (last.out.1 ≡ [] → written ≡ last.out.0) → ReplaysCapture left_first last.left first.out.0 written (Err WriteFault)
+capture_lost left_first written first last ended o r goes idle = record {
+  writes = λ bytes had told has.
+      let f = from_magic left_first first bytes o told in
+      subst (λ (all : List ℕ). HasFront had all written) (replayed_is bytes f.there)
+      (longer had _ _ written (capture_front r.whole _ (reached_part ended r.whole (accepted bytes) (subst (λ (a : Accepted). Reaches ended r.whole a) f.same (r.reaches f.before f.is)))) (front had has));
+  ends = λ bytes told. tt;
+  spells = λ had has.
+      let f = front had has in
+      record { growth = f.growth; is = f.is; spelled = front_spelled r.whole f.growth r.on.legal f.front };
+}
+  where
+    front : (had : List ℕ) → first.out.0 ≡ Some had → HasFront had (capture_of r.whole) written
+    front had has = lost_at_last ended had (capture_of r.whole) last.out written (r.on.kept had (keeps_magic left_first first had o has)) goes idle
 
 -- nothing went out
 nothing_spelled : (had : List ℕ) (written : Option (List ℕ)) → written ≡ Some had → GrowsSpelled had written
@@ -177,9 +231,9 @@ nothing_spelled had written is = record { growth = []; is = is ∙ ap Some (sym 
 nothing_front : (had text : List ℕ) (written : Option (List ℕ)) → written ≡ Some had → HasFront had text written
 nothing_front had text written is = record { growth = []; is = is ∙ ap Some (sym (append-nil had)); front = (text, refl) }
 
--- Memory ran out before anything was read.
-pub capture_unread : (left written : Option (List ℕ)) → ReplaysCapture left left written written (Err OutOfMemory)
-capture_unread left written = record {
+-- Memory ran out before anything was kept.
+pub capture_unread : (left left_after written : Option (List ℕ)) → ReplaysCapture left left_after written written (Err OutOfMemory)
+capture_unread left left_after written = record {
   writes = λ bytes had told has. nothing_front had (replayed bytes) written has;
   ends = λ bytes told. tt;
   spells = λ had has. nothing_spelled had written has;
@@ -200,21 +254,4 @@ capture_unopened opened left_first left_opened written capture.ReadFault o = rec
   ends = λ bytes told. tt;
   spells = λ had has. nothing_spelled had written has;
 }
-capture_unopened opened left_first left_opened written capture.OutOfMemory o = record {
-  writes = λ bytes had told has. nothing_front had (replayed bytes) written has;
-  ends = λ bytes told. tt;
-  spells = λ had has. nothing_spelled had written has;
-}
-
--- The magic was not written.
-pub capture_unwritten : (opened : Reading) (left_first left_opened written_before written_after : Option (List ℕ))
-    → ((coming : List ℕ) → left_first ≡ Some coming → (rest : List ℕ) × (left_opened ≡ Some rest) × (past_magic coming ≡ Some (opened.held ++ rest)))
-    → ((had : List ℕ) → written_before ≡ Some had → HasPart had magic written_after) → ReplaysCapture left_first left_opened written_before written_after (Err WriteFault)
-capture_unwritten opened left_first left_opened written_before written_after opens part = record {
-  writes = λ bytes had told has.
-      let p = part had has in
-      let m = magic_there bytes _ (opens bytes told).2 in
-      record { growth = p.part; is = p.is; front = rw (replayed_with bytes m.0) (p.front.0 ++ records_of (drained (accept_records 8 (drop 8 bytes) []).inputs), sym (append_assoc p.part p.front.0 _) ∙ ap (λ x. x ++ records_of (drained (accept_records 8 (drop 8 bytes) []).inputs)) p.front.1) };
-  ends = λ bytes told. tt;
-  spells = λ had has. let p = part had has in record { growth = p.part; is = p.is; spelled = inl p.front };
-}
+capture_unopened opened left_first left_opened written capture.OutOfMemory o = capture_unread left_first left_opened written

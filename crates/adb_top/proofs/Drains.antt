@@ -1,39 +1,61 @@
--- Handing out all that is due to the one client to which something is.
-use Rattle.std.proofs.Common.{ℕ, ◌^◌, ◌≡◌, ◌≢◌, ◌<◌, ◌≤◌, Bool, false, cond, List, [], ◌∷◌, ◌++◌, length, take, drop, reverse, Option, Some, None, refl, sym, ◌∙◌, ap, subst, arith, inl, inr}
-use Rattle.std.specs.Prelude.{All}
-use Rattle.std.proofs.lemmas.Bool.{ne_eqb}
-use Rattle.std.proofs.lemmas.List.{append_assoc, append-nil, reverse-append, take-append-drop}
+-- Handing out all that is due.
+use Rattle.std.proofs.Common.{ℕ, ◌≡◌, List, [], ◌∷◌, ◌++◌, reverse, Option, Some, None, Result, Ok, Err, refl, sym, ◌∙◌, ap, subst, arith, ◌⊎◌, inl, inr, Bool, true, false, ◌<◌, ◌≤◌}
+use Rattle.std.specs.Prelude.{◌||◌}
+use Rattle.std.proofs.lemmas.List.{append_assoc, append-nil, reverse-append}
 use Rattle.adb_outside.specs.Outside.{Rises, Counted}
-use Rattle.adb_capture.specs.Records.{record_of, records_of, HasRecord}
+use Rattle.adb_capture.specs.Records.{record_of, records_of, HasRecord, magic}
 use Rattle.adb_capture.specs.declared.entry.Entry.{Entry}
 use Rattle.adb_capture.specs.declared.entry.Entry.TheVariants.{Put}
-use Rattle.adb_history.specs.Machine.{State, History, state, step, IsDrawn, IsLegal, settled, handed}
+use Rattle.adb_history.specs.Machine.{State, History, state, IsInRange, IsLegal}
 use Rattle.adb_history.specs.Kept.{Kept, kept, IsLawful, IsOrderly}
-use Rattle.adb_history.specs.Drained.{next_out, out_or, owed, drain_all}
+use Rattle.adb_history.specs.Drained.{next_out, owed, drain_all}
 use Rattle.adb_history.proofs.Orderly.{orderly}
-use Rattle.adb_history.proofs.Draining.{next_is, drain_all_step, drain_all_over}
+use Rattle.adb_history.proofs.Draining.{drain_all_step, drain_all_over, next_may}
 use Rattle.adb_history.proofs.Accepting.{drain_adds}
-use Rattle.adb_top.specs.Machine.{Puts}
-use Rattle.adb_top.specs.Keeping.{HasPart}
-use Rattle.adb_top.specs.Replay.{written_of, OnlyDue, IsDrained, HasWritten, HasStopped}
+use Rattle.adb_top.specs.Machine.{HandsNext}
+use Rattle.adb_top.specs.Keeping.{Out, Keeps, KeepsEntry, LosesRest, IsLoss}
+use Rattle.adb_top.specs.Replay.{written_of, capture_of, IsDrained, IsFrontOf, GoesOn, Drains}
+use Rattle.adb_top.specs.declared.stop.Stop.{Stop}
+use Rattle.adb_top.specs.declared.stop.Stop.TheVariants.{ReadFault, WriteFault, OutOfMemory, Refused}
+
+-- a fault that comes behind others
+rises_on : (x y z : ℕ) → x ≤ y → y ≤ z → Rises x y → Rises x z
+rises_on x y z a b (inl less) = inl (omega (arith, less, b))
+rises_on x y z a b (inr last) = split (cases y z)
+  where
+    cases : (m n : ℕ) → (m < n) ⊎ (n ≤ m)
+    cases m n = grind arith
+
+    split : (y < z) ⊎ (z ≤ y) → Rises x z
+    split (inl more) = inl (omega (arith, more, a))
+    split (inr same) = inr (same_number ∙ last)
+      where
+        same_number : z ≡ y
+        same_number = omega (arith, same, b)
+
+-- no call was made
+pub counts_first : (a : Type 0) (x : ℕ) → Counted a a x x false
+counts_first a x = record { count = omega arith; fault = λ e. (let clash : false ≡ true = e in cc); stands = λ e. refl; keeps = λ s. s; steady = λ s. refl }
 
 -- counts of two parts
-pub counts_on : (a b c : Type 0) (x y z : ℕ) (failed : Bool) → Counted a b x y false → Counted b c y z failed → Counted a c x z failed
-counts_on a b c x y z failed first second = record {
+pub counts_then : (a b c : Type 0) (x y z : ℕ) (f g : Bool) → Counted a b x y f → Counted b c y z g → Counted a c x z (f || g)
+counts_then a b c x y z true g first second = record {
   count = omega (arith, first.count, second.count);
-  fault = λ e. rises (second.fault e);
+  fault = λ e. rises_on x y z first.count second.count (first.fault refl);
+  stands = λ e. cc;
+  keeps = λ s. second.keeps (first.keeps s);
+  steady = λ s. (let clash : true ≡ false = first.steady s in cc);
+}
+counts_then a b c x y z false g first second = record {
+  count = omega (arith, first.count, second.count);
+  fault = λ e. subst (λ (n : ℕ). Rises n z) (first.stands refl) (second.fault e);
   stands = λ e. second.stands e ∙ first.stands refl;
   keeps = λ s. second.keeps (first.keeps s);
   steady = λ s. second.steady (first.keeps s);
 }
-  where
-    rises : Rises y z → Rises x z
-    rises (inl less) = inl (omega (arith, less, first.count))
-    rises (inr last) = inr last
 
--- a write that failed left a front of the piece
-pub part_written : (out piece : List ℕ) (taken : ℕ) (after : Option (List ℕ)) → after ≡ Some (out ++ take taken piece) → HasPart out piece after
-part_written out piece taken after is = record { part = take taken piece; front = (drop taken piece, take-append-drop taken piece); is = is }
+pub record_in_range : (e : Entry) → HasRecord e → IsInRange e
+record_in_range e r = record { owner = r.owner; port = r.port; bytes = r.bytes }
 
 -- an entry more
 pub written_more : (e : Entry) (h : History) → written_of (e ∷ h) ≡ written_of h ++ record_of e
@@ -43,131 +65,110 @@ written_more e h = ap records_of (reverse-append (e ∷ []) h) ∙ two (reverse 
     two [] = append-nil (record_of e)
     two (f ∷ es) = ap (λ bytes. record_of f ++ bytes) (two es) ∙ sym (append_assoc (record_of f) (records_of es) (record_of e))
 
-pub has_written_more : (front : List ℕ) (e : Entry) (h : History) (after : Option (List ℕ)) → after ≡ Some ((front ++ written_of h) ++ record_of e) → HasWritten front (e ∷ h) after
-has_written_more front e h after is = is ∙ ap Some (append_assoc front (written_of h) (record_of e) ∙ ap (λ bytes. front ++ bytes) (sym (written_more e h)))
+pub capture_more : (e : Entry) (h : History) → capture_of h ++ record_of e ≡ capture_of (e ∷ h)
+capture_more e h = append_assoc magic (written_of h) (record_of e) ∙ ap (λ bytes. magic ++ bytes) (sym (written_more e h))
 
--- a history that is part of another, and nothing more went out
-pub stopped_at : (front : List ℕ) (whole more now : History) (written : Option (List ℕ)) → whole ≡ more ++ now → IsLegal now → HasWritten front now written → HasStopped front whole written
-stopped_at front whole more now written is legal has = record {
-  out = written_of now;
-  is = has;
-  within = record { done = now; later = more; is = is; legal = legal; part = []; bytes = sym (append-nil (written_of now)); next = inl refl };
+pub entry_kept : (e : Entry) (h : History) (had : List ℕ) (before after : Out) → KeepsEntry (Ok tt) e before after → Keeps had (capture_of h) before → Keeps had (capture_of (e ∷ h)) after
+entry_kept e h had before after keeps k = subst (λ (t : List ℕ). Keeps had t after) (capture_more e h) (keeps had (capture_of h) k)
+
+-- What an entry that was not kept leaves: the history without it, or with it, where a front of its record may have gone out.
+pub record Loses (why : Stop) (e : Entry) (h : History) (before after : Out) : Type 0 where
+  pub whole : History
+  pub at : (whole ≡ h) ⊎ (whole ≡ e ∷ h)
+  pub on : GoesOn (Err why) h whole before after
+
+pub loses : (why : Stop) (e : Entry) (h : History) (before after : Out) → IsLegal (e ∷ h) → IsLoss (Err why) → KeepsEntry (Err why) e before after → Loses why e h before after
+loses ReadFault e h before after legal loss keeps = absurd loss
+loses WriteFault e h before after legal loss keeps = record {
+  whole = e ∷ h;
+  at = inr refl;
+  on = record { legal = legal; kept = λ had k. subst (λ (t : List ℕ). LosesRest had t after) (capture_more e h) (keeps had (capture_of h) k) };
 }
+loses OutOfMemory e h before after legal loss keeps = record {
+  whole = h;
+  at = inl refl;
+  on = record { legal = legal.0; kept = λ had k. keeps had (capture_of h) k };
+}
+loses (Refused why) e h before after legal loss keeps = absurd loss
 
--- a part of the next record went out
-pub stopped_in : (front : List ℕ) (whole more now : History) (e : Entry) (before after : Option (List ℕ)) → whole ≡ more ++ e ∷ now → IsLegal (e ∷ now) → HasWritten front now before
-    → ((out : List ℕ) → before ≡ Some out → HasPart out (record_of e) after) → HasStopped front whole after
-stopped_in front whole more now e before after is legal has part =
-    let p = part (front ++ written_of now) has in
+-- what was kept up to a history, and on from there
+pub goes_on : (result : Result (Unit {0}) Stop) (h now whole : History) (before mid after : Out) → ((had : List ℕ) → Keeps had (capture_of h) before → Keeps had (capture_of now) mid)
+    → GoesOn result now whole mid after → GoesOn result h whole before after
+goes_on result h now whole before mid after first on = record { legal = on.legal; kept = λ had k. on.kept had (first had k) }
+
+-- what hand-outs add to a history
+pub drain_front : (h : History) → IsFrontOf h (drain_all h)
+drain_front h = let more = drain_adds (owed (state h)) h in record { more = more.0; is = more.1 }
+
+-- ---- How far handing out has come: the history now, which ends where all hand-outs end.
+pub record Draining (h : History) (before now : Out) (holds : Kept) : Type 0 where
+  pub done : History
+  pub lawful : IsLawful holds done
+  pub ends : drain_all h ≡ drain_all done
+  pub kept : (had : List ℕ) → Keeps had (capture_of h) before → Keeps had (capture_of done) now
+
+pub draining_first : (h : History) (out : Out) (holds : Kept) → IsLawful holds h → Draining h out out holds
+draining_first h out holds lawful = record { done = h; lawful = lawful; ends = refl; kept = λ had k. k }
+
+-- a machine made its next hand-out
+abbrev pub Hands : Kept → Option Entry → Kept → Type 0
+Hands holds out new = (s : State) → IsOrderly s → holds ≡ kept s → HandsNext s out new
+
+hands_now : (h : History) (holds new : Kept) (out : Option Entry) → IsLawful holds h → Hands holds out new → HandsNext (state h) out new
+hands_now h holds new out lawful hands = hands (state h) (orderly h lawful.legal) lawful.seen
+
+handed_legal : (h : History) (e : Entry) → IsLegal h → HasRecord e → Some e ≡ next_out (state h) → IsLegal (e ∷ h)
+handed_legal h e legal has next = (legal, record_in_range e has, next_may h e legal (sym next))
+
+-- it was kept
+pub draining_on : (h : History) (before mid after : Out) (holds new : Kept) (e : Entry) → HasRecord e → Hands holds (Some e) new → KeepsEntry (Ok tt) e mid after → Draining h before mid holds → Draining h before after new
+draining_on h before mid after holds new e has hands keeps d =
+    let n = hands_now d.done holds new (Some e) d.lawful hands in
     record {
-      out = written_of now ++ p.part;
-      is = p.is ∙ ap Some (append_assoc front (written_of now) p.part);
-      within = record {
-        done = now;
-        later = more ++ e ∷ [];
-        is = is ∙ sym (append_assoc more (e ∷ []) now);
-        legal = legal.0;
-        part = p.part;
-        bytes = refl;
-        next = inr (e, more, refl, legal, p.front);
-      };
+      done = e ∷ d.done;
+      lawful = record { legal = handed_legal d.done e d.lawful.legal has n.0; seen = n.1 };
+      ends = d.ends ∙ drain_all_step d.done e (sym n.0);
+      kept = λ had k. entry_kept e d.done had mid after keeps (d.kept had k);
     }
 
--- ---- one hand-out
-short_due : (due bytes : List ℕ) → due ≢ [] → bytes ≡ take 65536 due → bytes ≢ []
-short_due [] bytes some is e = some refl
-short_due (b ∷ due) bytes some is e = let clash : b ∷ take 65535 due ≡ [] = sym is ∙ e in cc
-
-due_out : (n : ℕ) (due bytes : List ℕ) → due ≢ [] → bytes ≡ take 65536 due → out_or n due None ≡ Some (Put n bytes)
-due_out n [] bytes some is = absurd (some refl)
-due_out n (b ∷ due) bytes some is = ap (λ bs. Some (Put n bs)) (sym is)
-
--- the hand-out that comes next is legal
-pub put_legal : (h : History) (n : ℕ) (bytes : List ℕ) → IsLegal h → IsDrawn (state h) n → n < 2 ^ 32 → All (λ b. b < 256) bytes → ((state h).clients n).due ≢ [] → bytes ≡ take 65536 ((state h).clients n).due → IsLegal (Put n bytes ∷ h)
-put_legal h n bytes legal drawn small range some is = (
-  legal,
-  record { owner = small; port = tt; bytes = range },
-  (
-    drawn,
+-- there is none
+pub draining_over : (h : History) (before now : Out) (holds new : Kept) → Hands holds None new → Draining h before now holds → Drains (Ok tt) h before now new
+draining_over h before now holds new hands d =
+    let n = hands_now d.done holds new None d.lawful hands in
+    let same : drain_all h ≡ d.done = d.ends ∙ drain_all_over d.done (sym n.0) in
     record {
-      some = short_due ((state h).clients n).due bytes some is;
-      lives = λ gone. some ((orderly h legal).gone_has_none n gone);
-      front = (drop 65536 ((state h).clients n).due, ap (λ bs. bs ++ drop 65536 ((state h).clients n).due) is ∙ take-append-drop 65536 ((state h).clients n).due);
-    },
-  ),
-)
-
-pub put_next : (h : History) (n : ℕ) (bytes : List ℕ) → OnlyDue (state h) n → ((state h).clients n).due ≢ [] → bytes ≡ take 65536 ((state h).clients n).due → next_out (state h) ≡ Some (Put n bytes)
-put_next h n bytes only some is = next_is (state h) n only.drawn only.others ∙ due_out n ((state h).clients n).due bytes some is
-
-put_only : (s : State) (n : ℕ) (bytes : List ℕ) → OnlyDue s n → OnlyDue (step s (Put n bytes)) n
-put_only s n bytes only = record {
-  drawn = only.drawn;
-  others = λ m apart. ap (λ b. (cond b (settled (handed (length bytes) (s.clients m))) (s.clients m)).due) (ne_eqb n m (λ e. apart (sym e))) ∙ only.others m apart;
-}
-
--- How far the hand-outs have come: the history now, and that it ends where all of them end.
-pub record Drains (holds : Kept) (before after : Option (List ℕ)) (h : History) (n : ℕ) : Type 0 where
-  pub now : History
-  pub lawful : IsLawful holds now
-  pub only : OnlyDue (state now) n
-  pub ends : drain_all h ≡ drain_all now
-  pub told : (front : List ℕ) → HasWritten front h before → HasWritten front now after
-
-pub drains_first : (holds : Kept) (before : Option (List ℕ)) (h : History) (n : ℕ) → IsLawful holds h → OnlyDue (state h) n → Drains holds before before h n
-drains_first holds before h n lawful only = record { now = h; lawful = lawful; only = only; ends = refl; told = λ front has. has }
-
--- a hand-out is kept
-pub drains_on : (holds new : Kept) (before mid after : Option (List ℕ)) (h : History) (n : ℕ) (bytes : List ℕ) → n < 2 ^ 32 → All (λ b. b < 256) bytes
-    → ((s : State) → IsOrderly s → holds ≡ kept s → Puts s n 65536 (Some bytes) new)
-    → ((out : List ℕ) → mid ≡ Some out → after ≡ Some (out ++ record_of (Put n bytes)))
-    → Drains holds before mid h n → Drains new before after h n
-drains_on holds new before mid after h n bytes small range puts keeps d =
-    let p = puts (state d.now) (orderly d.now d.lawful.legal) d.lawful.seen in
-    record {
-      now = Put n bytes ∷ d.now;
-      lawful = record { legal = put_legal d.now n bytes d.lawful.legal d.only.drawn small range p.0 p.1; seen = p.2 };
-      only = put_only (state d.now) n bytes d.only;
-      ends = d.ends ∙ drain_all_step d.now (Put n bytes) (put_next d.now n bytes d.only p.0 p.1);
-      told = λ front has. has_written_more front (Put n bytes) d.now after (keeps (front ++ written_of d.now) (d.told front has));
+      whole = d.done;
+      on = record { legal = d.lawful.legal; kept = d.kept };
+      to = (sym same, record { lawful = record { legal = d.lawful.legal; seen = n.1 }; rests = sym n.0 });
     }
 
--- nothing more is due
-pub drains_over : (holds new : Kept) (before after : Option (List ℕ)) (h : History) (n : ℕ) → ((s : State) → IsOrderly s → holds ≡ kept s → Puts s n 65536 None new) → Drains holds before after h n
-    → IsDrained new (drain_all h) × ((front : List ℕ) → HasWritten front h before → HasWritten front (drain_all h) after)
-drains_over holds new before after h n puts d =
-    let p = puts (state d.now) (orderly d.now d.lawful.legal) d.lawful.seen in
-    let none : next_out (state d.now) ≡ None = next_is (state d.now) n d.only.drawn d.only.others ∙ ap (λ due. out_or n due None) p.0 in
-    let same : drain_all h ≡ d.now = d.ends ∙ drain_all_over d.now none in (
-      record {
-        lawful = subst (λ (g : History). IsLawful new g) (sym same) (record { legal = d.lawful.legal; seen = p.1 });
-        rests = ap (λ g. next_out (state g)) same ∙ none;
-      },
-      λ front has. subst (λ (g : History). HasWritten front g after) (sym same) (d.told front has),
-    )
+-- no memory for it
+pub draining_stopped : (h : History) (before now : Out) (holds new : Kept) → Draining h before now holds → Drains (Err OutOfMemory) h before now new
+draining_stopped h before now holds new d = record {
+  whole = d.done;
+  on = record { legal = d.lawful.legal; kept = d.kept };
+  to = subst (λ (all : History). IsFrontOf d.done all) (sym d.ends) (drain_front d.done);
+}
 
--- memory ran out before the next hand-out
-pub drains_stop : (holds : Kept) (before after : Option (List ℕ)) (h : History) (n : ℕ) (front : List ℕ) → Drains holds before after h n → HasWritten front h before → HasStopped front (drain_all h) after
-drains_stop holds before after h n front d has =
-    let more = drain_adds (owed (state d.now)) d.now in
-    stopped_at front (drain_all h) more.0 d.now after (d.ends ∙ more.1) d.lawful.legal (d.told front has)
-
--- the sink failed at the next hand-out
-pub drains_lose : (holds new : Kept) (before mid after : Option (List ℕ)) (h : History) (n : ℕ) (bytes front : List ℕ) → n < 2 ^ 32 → All (λ b. b < 256) bytes
-    → ((s : State) → IsOrderly s → holds ≡ kept s → Puts s n 65536 (Some bytes) new)
-    → ((out : List ℕ) → mid ≡ Some out → HasPart out (record_of (Put n bytes)) after)
-    → Drains holds before mid h n → HasWritten front h before → HasStopped front (drain_all h) after
-drains_lose holds new before mid after h n bytes front small range puts keeps d has =
-    let p = puts (state d.now) (orderly d.now d.lawful.legal) d.lawful.seen in
-    let legal = put_legal d.now n bytes d.lawful.legal d.only.drawn small range p.0 p.1 in
-    let more = drain_adds (owed (state (Put n bytes ∷ d.now))) (Put n bytes ∷ d.now) in
-    stopped_in front (drain_all h) more.0 d.now (Put n bytes) mid after (d.ends ∙ (drain_all_step d.now (Put n bytes) (put_next d.now n bytes d.only p.0 p.1) ∙ more.1)) legal (d.told front has) keeps
-
--- a hand-out has a record
-pub put_record : (n : ℕ) (bytes : List ℕ) → n < 2 ^ 32 → All (λ b. b < 256) bytes → length bytes ≤ 65536 → HasRecord (Put n bytes)
-put_record n bytes small range short = record { owner = small; port = tt; bytes = range; size = omega (arith, short) }
+-- it was not kept
+pub draining_lost : (h : History) (before mid after : Out) (holds new last : Kept) (e : Entry) (why : Stop) → HasRecord e → Hands holds (Some e) new → IsLoss (Err why) → KeepsEntry (Err why) e mid after → Draining h before mid holds
+    → Drains (Err why) h before after last
+draining_lost h before mid after holds new last e why has hands loss keeps d =
+    let n = hands_now d.done holds new (Some e) d.lawful hands in
+    let l = loses why e d.done mid after (handed_legal d.done e d.lawful.legal has n.0) loss keeps in
+    record {
+      whole = l.whole;
+      on = goes_on (Err why) h d.done l.whole before mid after d.kept l.on;
+      to = subst (λ (all : History). IsFrontOf l.whole all) (sym d.ends) (part n.0 l.whole l.at);
+    }
+  where
+    part : Some e ≡ next_out (state d.done) → (whole : History) → (whole ≡ d.done) ⊎ (whole ≡ e ∷ d.done) → IsFrontOf whole (drain_all d.done)
+    part next whole (inl same) = subst (λ (w : History). IsFrontOf w (drain_all d.done)) (sym same) (drain_front d.done)
+    part next whole (inr same) =
+        subst (λ (w : History). IsFrontOf w (drain_all d.done)) (sym same)
+        (subst (λ (all : History). IsFrontOf (e ∷ d.done) all) (sym (drain_all_step d.done e (sym next))) (drain_front (e ∷ d.done)))
 
 -- what a loop of hand-outs keeps
-pub record HandingOut (start now : Kept) (before after : Option (List ℕ)) (n : ℕ) (counted : Type 0) : Type 0 where
-  pub drains : (h : History) → IsLawful start h → OnlyDue (state h) n → Drains now before after h n
+pub record HandingOut (start now : Kept) (before after : Out) (counted : Type 0) : Type 0 where
+  pub draining : (h : History) → IsLawful start h → Draining h before after now
   pub counts : counted

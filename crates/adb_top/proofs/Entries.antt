@@ -1,30 +1,29 @@
--- An entry that a state does not refuse may come, and only its owner has bytes due after it.
-use Rattle.std.proofs.Common.{ℕ, ◌+◌, ◌≡◌, Bool, true, false, cond, List, [], ◌∷◌, Option, Some, None, Ok, Err, refl, sym, ◌∙◌, ap, arith, inl, inr}
+-- An entry that a state does not refuse may come; what its replay leaves.
+use Rattle.std.proofs.Common.{ℕ, ◌+◌, ◌≡◌, Bool, true, false, cond, List, ◌∷◌, Option, Some, None, Result, Ok, Err, refl, sym, ◌∙◌, ap, subst, ◌⊎◌, inl, inr}
 use Rattle.std.specs.Prelude.{nat_eq, not}
-use Rattle.std.proofs.lemmas.Bool.{ne_eqb, eqb-true}
+use Rattle.std.proofs.lemmas.Bool.{eqb-true}
 use Rattle.adb_outside.specs.Serial.{is_serial}
-use Rattle.adb_capture.specs.Records.{record_of, number_of, HasRecord}
+use Rattle.adb_capture.specs.Records.{HasRecord}
 use Rattle.adb_capture.specs.declared.entry.Entry.{Entry}
 use Rattle.adb_capture.specs.declared.entry.Entry.TheVariants.{Join, Enter, Read, End, Bound, Attach, Recv, Detach, Put, Send}
-use Rattle.adb_history.specs.Machine.{Client, State, History, state, step, fresh, settled, bytes_in, asks_unbuilt, ended, IsDrawn, IsInRange, May, IsLegal, to_client}
-use Rattle.adb_history.specs.Kept.{Kept, kept, IsLawful}
-use Rattle.adb_history.specs.Drained.{owed, drain_all, drained_after}
-use Rattle.adb_history.specs.Accepted.{refusal_of, read_refusal, is_drawn, is_input}
-use Rattle.adb_history.specs.declared.refusal.Refusal.{Refusal}
+use Rattle.adb_history.specs.Machine.{State, History, state, step, asks_unbuilt, May, IsLegal}
+use Rattle.adb_history.specs.Kept.{Kept, kept, IsLawful, IsOrderly}
+use Rattle.adb_history.specs.Drained.{drain_all, drained_after}
 use Rattle.adb_history.specs.Refusal.{refused_at}
+use Rattle.adb_history.specs.Accepted.{refusal_of, read_refusal, is_drawn, is_input}
+use Rattle.adb_history.specs.declared.refusal.Reason.{Reason}
 use Rattle.adb_history.specs.declared.refusal.Reason.TheVariants.{NotDrawn, BadSerial, NotBuilt}
 use Rattle.adb_history.proofs.Orderly.{orderly}
-use Rattle.adb_history.proofs.Draining.{nothing_due}
-use Rattle.adb_history.proofs.Accepting.{drain_adds}
 use Rattle.adb_top.specs.Machine.{Applies}
 use Rattle.adb_top.specs.Stop.{stop_at}
-use Rattle.adb_top.specs.Keeping.{HasPart}
-use Rattle.adb_top.specs.Replay.{OnlyDue, IsDrained, HasWritten, HasStopped, StopsEntry, history_after}
+use Rattle.adb_top.specs.Keeping.{Out, KeepsEntry, IsLoss}
+use Rattle.adb_top.specs.Replay.{IsDrained, IsFrontOf, Drains, DrainsTo, ReplaysEntry, EntryGives, IsReached, history_after}
 use Rattle.adb_top.specs.declared.machine.Refused as machine
 use Rattle.adb_top.specs.declared.machine.Refused.TheVariants as refused
-use Rattle.adb_top.specs.declared.stop.Stop.TheVariants.{Refused}
+use Rattle.adb_top.specs.declared.stop.Stop.{Stop}
+use Rattle.adb_top.specs.declared.stop.Stop.TheVariants.{ReadFault, WriteFault, OutOfMemory, Refused}
 use Rattle.adb_top.proofs.Machines.{drawn_is}
-use Rattle.adb_top.proofs.Drains.{stopped_at, stopped_in}
+use Rattle.adb_top.proofs.Drains.{record_in_range, entry_kept, loses, goes_on, drain_front}
 
 passes : {A : Type 0} (b : Bool) (why : A) → cond b None (Some why) ≡ None → b ≡ true
 passes true why e = refl
@@ -56,34 +55,6 @@ accepted_may s offset (Detach n cause) none input = cc
 accepted_may s offset (Put n bytes) none input = cc
 accepted_may s offset (Send n bytes) none input = cc
 
-client_only : (s : State) (n : ℕ) (f : Client → Client) → IsDrawn s n → ((m : ℕ) → (s.clients m).due ≡ []) → OnlyDue (to_client s n f) n
-client_only s n f drawn rests = record {
-  drawn = drawn;
-  others = λ m apart. ap (λ b. (cond b (settled (f (s.clients m))) (s.clients m)).due) (ne_eqb n m (λ e. apart (sym e))) ∙ rests m;
-}
-
-join_only : (s : State) (n : ℕ) → n ≡ s.joined + 1 → ((m : ℕ) → (s.clients m).due ≡ []) → OnlyDue (step s (Join n)) n
-join_only s n is rests = record {
-  drawn = (omega (arith, is), omega (arith, is));
-  others = λ m apart. ap (λ b. (cond b fresh (s.clients m)).due) (ne_eqb n m (λ e. apart (sym e))) ∙ rests m;
-}
-
--- where nothing was due, only the owner of an input has bytes due after it
-pub entry_only : (s : State) (e : Entry) → May s e → is_input e ≡ true → ((m : ℕ) → (s.clients m).due ≡ []) → OnlyDue (step s e) (number_of e)
-entry_only s (Join n) may input rests = join_only s n may rests
-entry_only s (Read n bytes) may input rests = client_only s n (λ c. bytes_in c bytes) may.0 rests
-entry_only s (End n cause) may input rests = client_only s n (ended cause) may rests
-entry_only s (Enter n port) may input rests = absurd may
-entry_only s (Bound n port) may input rests = absurd may
-entry_only s (Attach n kind serial) may input rests = absurd may
-entry_only s (Recv n bytes) may input rests = absurd may
-entry_only s (Detach n cause) may input rests = absurd may
-entry_only s (Put n bytes) may input rests = cc
-entry_only s (Send n bytes) may input rests = cc
-
-pub record_in_range : (e : Entry) → HasRecord e → IsInRange e
-record_in_range e r = record { owner = r.owner; port = r.port; bytes = r.bytes }
-
 -- an entry that is no hand-out
 pub input_of : (e : Entry) → not (is_input e) ≡ false → is_input e ≡ true
 input_of e hand = flip (is_input e) hand
@@ -96,53 +67,88 @@ input_of e hand = flip (is_input e) hand
 pub record Made (offset : ℕ) (e : Entry) (h : History) (now : Kept) : Type 0 where
   pub none : refusal_of (state h) offset e ≡ None
   pub lawful : IsLawful now (e ∷ h)
-  pub only : OnlyDue (state (e ∷ h)) (number_of e)
+  pub input : is_input e ≡ true
   pub after : history_after e h ≡ drain_all (e ∷ h)
 
-pub made : (old now : Kept) (offset : ℕ) (e : Entry) (h : History) → HasRecord e → not (is_input e) ≡ false → IsDrained old h → Applies (state h) e (Ok tt) now → Made offset e h now
-made old now offset e h has hand drained a =
+-- a machine made an entry, or did not
+abbrev pub AppliesNow : Kept → Entry → Result (Unit {0}) machine.Refused → Kept → Type 0
+AppliesNow holds e result new = (s : State) → IsOrderly s → holds ≡ kept s → Applies s e result new
+
+applied_now : (holds new : Kept) (e : Entry) (h : History) (result : Result (Unit {0}) machine.Refused) → AppliesNow holds e result new → IsDrained holds h → Applies (state h) e result new
+applied_now holds new e h result a drained = a (state h) (orderly h drained.lawful.legal) drained.lawful.seen
+
+pub made : (old now : Kept) (offset : ℕ) (e : Entry) (h : History) → HasRecord e → not (is_input e) ≡ false → AppliesNow old e (Ok tt) now → IsDrained old h → Made offset e h now
+made old now offset e h has hand applies drained =
+    let a = applied_now old now e h (Ok tt) applies drained in
     let input = input_of e hand in
     let may = accepted_may (state h) offset e (a.0 offset) input in
     let legal : IsLegal (e ∷ h) = (drained.lawful.legal, record_in_range e has, may) in
     record {
       none = a.0 offset;
       lawful = record { legal = legal; seen = a.1 ∙ ap (λ b. kept (cond b (step (state h) e) (state h))) input };
-      only = entry_only (state h) e may input (nothing_due (state h) (orderly h drained.lawful.legal) drained.rests);
+      input = input;
       after = ap (λ b. cond b (drained_after h e) h) input;
     }
 
 -- a hand-out that was recorded is passed over
-pub passed_over : (old : Kept) (offset : ℕ) (e : Entry) (h : History) → not (is_input e) ≡ true → IsDrained old h → (refusal_of (state h) offset e ≡ None) × (history_after e h ≡ h)
-passed_over old offset (Put n bytes) h hand drained = (refl, refl)
-passed_over old offset (Send n bytes) h hand drained = (refl, refl)
-passed_over old offset (Join n) h hand drained = cc
-passed_over old offset (Read n bytes) h hand drained = cc
-passed_over old offset (End n cause) h hand drained = cc
-passed_over old offset (Enter n port) h hand drained = cc
-passed_over old offset (Bound n port) h hand drained = cc
-passed_over old offset (Attach n kind serial) h hand drained = cc
-passed_over old offset (Recv n bytes) h hand drained = cc
-passed_over old offset (Detach n cause) h hand drained = cc
+passed : (offset : ℕ) (e : Entry) (h : History) → not (is_input e) ≡ true → (refusal_of (state h) offset e ≡ None) × (history_after e h ≡ h)
+passed offset (Put n bytes) h hand = (refl, refl)
+passed offset (Send n bytes) h hand = (refl, refl)
+passed offset (Join n) h hand = cc
+passed offset (Read n bytes) h hand = cc
+passed offset (End n cause) h hand = cc
+passed offset (Enter n port) h hand = cc
+passed offset (Bound n port) h hand = cc
+passed offset (Attach n kind serial) h hand = cc
+passed offset (Recv n bytes) h hand = cc
+passed offset (Detach n cause) h hand = cc
 
--- an entry was refused
-pub refused_entry : (s : State) (offset : ℕ) (e : Entry) (why : machine.Refused) (r : Refusal) (new : Kept) → Applies s e (Err why) new → stop_at offset why ≡ Refused r → refusal_of s offset e ≡ Some r
-refused_entry s offset e (refused.Because reason) r new a is = a offset ∙ (let same : record { offset = offset; reason = reason } ≡ r = cc in ap Some same)
-refused_entry s offset e refused.OutOfMemory r new a is = cc
-
--- the record of the entry was lost
-pub lost_entry : (offset : ℕ) (e : Entry) (h : History) (now : Kept) (front : List ℕ) (before after : Option (List ℕ)) → Made offset e h now → is_input e ≡ true → HasWritten front h before
-    → ((out : List ℕ) → before ≡ Some out → HasPart out (record_of e) after) → StopsEntry front offset e h after
-lost_entry offset e h now front before after m input has part =
-    let more = drain_adds (owed (state (e ∷ h))) (e ∷ h) in
+pub passed_over : (offset : ℕ) (e : Entry) (h : History) (holds : Kept) (out : Out) → not (is_input e) ≡ true → IsDrained holds h → ReplaysEntry (Ok tt) offset e h out out holds
+passed_over offset e h holds out hand drained =
+    let p = passed offset e h hand in
     record {
-      whole = drained_after h e;
-      reached = inr (m.none, input, refl);
-      stopped = stopped_in front (drained_after h e) more.0 h e before after more.1 m.lawful.legal has part;
+      whole = h;
+      on = record { legal = drained.lawful.legal; kept = λ had k. k };
+      gives = (p.0, sym p.1, drained);
     }
 
--- nothing of the entry was kept
-pub unmade_entry : (offset : ℕ) (e : Entry) (h : History) (old : Kept) (front : List ℕ) (written : Option (List ℕ)) → IsDrained old h → HasWritten front h written → StopsEntry front offset e h written
-unmade_entry offset e h old front written drained has = record { whole = h; reached = inl refl; stopped = stopped_at front h [] h written refl drained.lawful.legal has }
+-- an entry was not made
+pub not_made : (offset : ℕ) (e : Entry) (h : History) (holds new : Kept) (out : Out) (why : machine.Refused) → AppliesNow holds e (Err why) new → IsDrained holds h → ReplaysEntry (Err (stop_at offset why)) offset e h out out new
+not_made offset e h holds new out why applies drained = go why (applied_now holds new e h (Err why) applies drained)
+  where
+    go : (why : machine.Refused) → Applies (state h) e (Err why) new → ReplaysEntry (Err (stop_at offset why)) offset e h out out new
+    go (refused.Because reason) a = record { whole = h; on = record { legal = drained.lawful.legal; kept = λ had k. k }; gives = (a offset, refl) }
+    go refused.OutOfMemory a = record { whole = h; on = record { legal = drained.lawful.legal; kept = λ had k. k }; gives = inl refl }
 
-pub handing_stopped : (offset : ℕ) (e : Entry) (h : History) (now : Kept) (front : List ℕ) (after : Option (List ℕ)) → Made offset e h now → is_input e ≡ true → HasStopped front (drain_all (e ∷ h)) after → StopsEntry front offset e h after
-handing_stopped offset e h now front after m input stopped = record { whole = drained_after h e; reached = inr (m.none, input, refl); stopped = stopped }
+-- how far an entry that was made came
+made_reached : (offset : ℕ) (e : Entry) (h : History) (now : Kept) → Made offset e h now → (whole : History) → IsFrontOf whole (drain_all (e ∷ h)) → IsReached offset e h whole
+made_reached offset e h now m whole front = inr (m.none, m.input, front)
+
+gives_part : (why : Stop) (offset : ℕ) (e : Entry) (h whole : History) (new : Kept) → IsLoss (Err why) → IsReached offset e h whole → EntryGives (Err why) offset e h whole new
+gives_part ReadFault offset e h whole new loss reached = absurd loss
+gives_part WriteFault offset e h whole new loss reached = reached
+gives_part OutOfMemory offset e h whole new loss reached = reached
+gives_part (Refused why) offset e h whole new loss reached = absurd loss
+
+-- it was made, and not kept
+pub not_kept : (offset : ℕ) (e : Entry) (h : History) (now new : Kept) (before after : Out) (why : Stop) → Made offset e h now → IsLoss (Err why) → KeepsEntry (Err why) e before after → ReplaysEntry (Err why) offset e h before after new
+not_kept offset e h now new before after why m loss keeps =
+    let l = loses why e h before after m.lawful.legal loss keeps in
+    record { whole = l.whole; on = l.on; gives = gives_part why offset e h l.whole new loss (reached l.whole l.at) }
+  where
+    reached : (whole : History) → (whole ≡ h) ⊎ (whole ≡ e ∷ h) → IsReached offset e h whole
+    reached whole (inl same) = inl same
+    reached whole (inr same) = made_reached offset e h now m whole (subst (λ (w : History). IsFrontOf w (drain_all (e ∷ h))) (sym same) (drain_front (e ∷ h)))
+
+-- it was kept, and what was due then was handed out, or a part of it
+pub kept_and_drained : (offset : ℕ) (e : Entry) (h : History) (now new : Kept) (before mid after : Out) (result : Result (Unit {0}) Stop) → Made offset e h now → KeepsEntry (Ok tt) e before mid
+    → IsLoss result → Drains result (e ∷ h) mid after new → ReplaysEntry result offset e h before after new
+kept_and_drained offset e h now new before mid after result m keeps loss d = record {
+  whole = d.whole;
+  on = goes_on result h (e ∷ h) d.whole before mid after (λ had k. entry_kept e h had before mid keeps k) d.on;
+  gives = go result loss d.to;
+}
+  where
+    go : (r : Result (Unit {0}) Stop) → IsLoss r → DrainsTo r (e ∷ h) d.whole new → EntryGives r offset e h d.whole new
+    go (Ok done) l to = (m.none, to.0 ∙ sym m.after, to.1)
+    go (Err why) l to = gives_part why offset e h d.whole new l (made_reached offset e h now m d.whole to)

@@ -1,4 +1,6 @@
+pub mod Outputs
 pub mod Clients
+pub mod Owed
 pub mod Machines
 pub mod Drains
 pub mod Entries

@@ -1,22 +1,25 @@
 -- A change of one row of a machine is the change of one client of the state that it stands for.
-use Rattle.std.proofs.Common.{ℕ, ◌+◌, ◌≡◌, ◌≢◌, ◌<◌, ◌≤◌, Bool, true, false, cond, List, length, Option, Some, None, Result, Ok, Err, refl, sym, ◌∙◌, ap, arith, eqb, ◌⊎◌, inl, inr, zero, suc}
-use Rattle.std.specs.Prelude.{nat_lt, nat_le, nat_eq, ◌&&◌}
+use Rattle.std.proofs.Common.{ℕ, ◌+◌, ◌^◌, ◌≡◌, ◌≢◌, ◌<◌, ◌≤◌, Bool, true, false, cond, List, [], ◌∷◌, length, Option, Some, None, Result, Ok, Err, refl, sym, ◌∙◌, ap, arith, eqb, ◌⊎◌, inl, inr, zero, suc}
+use Rattle.std.specs.Prelude.{nat_lt, nat_le, nat_eq, ◌&&◌, All}
 use Rattle.std.proofs.lemmas.Bool.{eqb-true, eqb-false}
 use Rattle.std.proofs.lemmas.Bool.Decides.{nat_tests}
 use Rattle.adb_outside.specs.declared.kinds.Cause.{Cause}
 use Rattle.adb_outside.specs.declared.kinds.Cause.TheVariants.{Eof, Fault, Starved, NoThread}
-use Rattle.adb_capture.specs.declared.entry.Entry.TheVariants.{Join, Read}
-use Rattle.adb_history.specs.Machine.{Client, State, IsDrawn, to_client, step, fresh, settled, phase_after, bytes_in, asks_unbuilt, ended, handed}
+use Rattle.adb_capture.specs.declared.entry.Entry.TheVariants.{Join, Read, Put}
+use Rattle.adb_capture.specs.Records.{HasRecord}
+use Rattle.adb_history.specs.Machine.{Client, State, absent, IsDrawn, to_client, step, fresh, settled, phase_after, bytes_in, asks_unbuilt, ended, handed}
 use Rattle.adb_history.specs.Kept.{Kept, KeptClient, kept, kept_of, kept_row, kept_if_live, IsOrderly}
 use Rattle.adb_history.specs.Accepted.{refusal_of, is_drawn}
 use Rattle.adb_history.specs.declared.phase.Phase.{Phase}
 use Rattle.adb_history.specs.declared.phase.Phase.TheVariants.{Asking, Closing, Gone}
 use Rattle.adb_outside.specs.Tables.{at, IsRising}
-use Rattle.adb_outside.proofs.TableLaws.{listed_rises, same_list}
+use Rattle.adb_outside.proofs.TableLaws.{listed_rises}
 use Rattle.adb_history.proofs.Tables.{at_kept, row_put}
 use Rattle.adb_history.proofs.Bytes.{idle_gone}
+use Rattle.adb_history.proofs.Draining.{next_none, next_is}
 use Rattle.adb_top.specs.Client.{is_gone_phase}
-use Rattle.adb_top.specs.Machine.{ChangesOne, Becomes, ReadsRow, HandsRow, Applies, Puts}
+use Rattle.adb_top.specs.Due.{due_in, due_at}
+use Rattle.adb_top.specs.Machine.{ChangesOne, Becomes, ReadsRow, ReadsNone, HandsRow, Applies, Puts, HandsNext}
 use Rattle.adb_top.specs.declared.machine.Refused.{Refused}
 use Rattle.adb_top.specs.declared.machine.Refused.TheVariants as refused
 use Rattle.adb_top.specs.declared.machine.HandOut.{HandOut}
@@ -152,13 +155,10 @@ is_drawn_of s n old same e =
 pub bytes_gone : (row : Client) (bytes : List ℕ) → row.phase ≡ Gone → (bytes_in row bytes).phase ≡ Gone
 bytes_gone row bytes e = ap (λ (r : Client). r.phase) (idle_gone row bytes e).0 ∙ e
 
-pub ok_is : (a b : Bool) → ◌≡◌ {A = Result Bool Refused} (Ok a) (Ok b) → a ≡ b
-ok_is a b e = cc
-
 -- bytes of a drawn client are not read
 pub read_fails : (s : State) (n : ℕ) (bytes : List ℕ) → IsOrderly s → (old : Kept) (why : Refused) (new : Kept) → old ≡ kept s → is_drawn s n ≡ true
     → (at n old.clients ≡ Some (kept_of (s.clients n)) → ReadsRow (s.clients n) bytes (Err why) (at n new.clients))
-    → (at n old.clients ≡ None → ◌≡◌ {A = Result Bool Refused} (Err why) (Ok false)) → Applies s (Read n bytes) (Err why) new
+    → (at n old.clients ≡ None → ReadsNone (Err why) (at n new.clients)) → Applies s (Read n bytes) (Err why) new
 read_fails s n bytes ok old why new same drawn live dead = go (s.clients n).phase refl
   where
     has : at n old.clients ≡ kept_if_live (s.clients n)
@@ -168,60 +168,86 @@ read_fails s n bytes ok old why new same drawn live dead = go (s.clients n).phas
     refused_so (refused.Because reason) r = λ offset. rw (drawn, r.1, r.0) refl
     refused_so refused.OutOfMemory r = tt
 
+    none_so : (w : Refused) → ReadsNone (Err w) (at n new.clients) → Applies s (Read n bytes) (Err w) new
+    none_so (refused.Because reason) r = absurd r
+    none_so refused.OutOfMemory r = tt
+
     go : (p : Phase) → (s.clients n).phase ≡ p → Applies s (Read n bytes) (Err why) new
     go Asking e = refused_so why (live (has ∙ live_row (s.clients n) Asking e (λ w. cc)))
     go Closing e = refused_so why (live (has ∙ live_row (s.clients n) Closing e (λ w. cc)))
-    go Gone e = let clash = dead (has ∙ gone_row (s.clients n) e) in cc
+    go Gone e = none_so why (dead (has ∙ gone_row (s.clients n) e))
 
--- the same table, read at one number
-same_kept : (s : State) (n : ℕ) → IsOrderly s → (old new : Kept) → old ≡ kept s → ChangesOne old n new → at n new.clients ≡ at n old.clients → new ≡ kept s
-same_kept s n ok old new same c here =
-    let clients : new.clients ≡ (kept s).clients = same_list new.clients (kept s).clients (c.rises (rw same (kept_rises s))) (kept_rises s) (λ q. go q (eqb q n) refl) in
-    let joined : new.joined ≡ s.joined = c.joined ∙ ap (λ (k : Kept). k.joined) same in
-    λ i. record { joined = joined i; clients = clients i }
+-- what is due to a client, by its row
+due_held : (s : State) (n : ℕ) → IsOrderly s → (old : Kept) → old ≡ kept s → due_at n old ≡ length (s.clients n).due
+due_held s n ok old same = ap due_in (holds s n old ok same) ∙ go (s.clients n).phase refl
   where
-    go : (q : ℕ) (b : Bool) → eqb q n ≡ b → at q new.clients ≡ at q (kept s).clients
-    go q true e = let is : q ≡ n = eqb-true q n e in ap (λ k. at k new.clients) is ∙ (here ∙ (ap (λ (k : Kept). at n k.clients) same ∙ ap (λ k. at k (kept s).clients) (sym is)))
-    go q false e = c.others q (eqb-false q n e) ∙ ap (λ (k : Kept). at q k.clients) same
-
--- nothing is due to a client
-pub puts_none : (s : State) (n max : ℕ) → IsOrderly s → (old new : Kept) → old ≡ kept s
-    → (at n old.clients ≡ Some (kept_of (s.clients n)) → HandsRow (s.clients n) max None (at n new.clients))
-    → (at n old.clients ≡ None → at n new.clients ≡ None) → ChangesOne old n new → Puts s n max None new
-puts_none s n max ok old new same live dead c = go (s.clients n).phase refl
-  where
-    has : at n old.clients ≡ kept_if_live (s.clients n)
-    has = holds s n old ok same
-
-    lives : at n old.clients ≡ Some (kept_of (s.clients n)) → Puts s n max None new
-    lives e = let r = live e in (r.0, same_kept s n ok old new same c (r.1 ∙ sym e))
-
-    go : (p : Phase) → (s.clients n).phase ≡ p → Puts s n max None new
-    go Asking e = lives (has ∙ live_row (s.clients n) Asking e (λ w. cc))
-    go Closing e = lives (has ∙ live_row (s.clients n) Closing e (λ w. cc))
-    go Gone e = let d = has ∙ gone_row (s.clients n) e in (ok.gone_has_none n e, same_kept s n ok old new same c (dead d ∙ sym d))
+    go : (p : Phase) → (s.clients n).phase ≡ p → due_in (kept_if_live (s.clients n)) ≡ length (s.clients n).due
+    go Asking e = ap due_in (live_row (s.clients n) Asking e (λ w. cc))
+    go Closing e = ap due_in (live_row (s.clients n) Closing e (λ w. cc))
+    go Gone e = ap due_in (gone_row (s.clients n) e) ∙ ap (length {A = ℕ}) (sym (ok.gone_has_none n e))
 
 -- bytes are put to a client
-pub puts_some : (s : State) (n max : ℕ) → IsOrderly s → (old mid new : Kept) (out : HandOut) → old ≡ kept s
-    → (at n old.clients ≡ Some (kept_of (s.clients n)) → HandsRow (s.clients n) max (Some out) (at n mid.clients))
-    → (at n old.clients ≡ None → ◌≡◌ {A = Option HandOut} (Some out) None)
+pub puts : (s : State) (n : ℕ) → IsOrderly s → (old mid new : Kept) (out : HandOut) → old ≡ kept s → 0 < due_at n old
+    → (at n old.clients ≡ Some (kept_of (s.clients n)) → HandsRow (s.clients n) out (at n mid.clients))
     → ChangesOne old n mid → at n new.clients ≡ cond out.gone None (at n mid.clients) → ChangesOne mid n new
-    → Puts s n max (Some out.bytes) new
-puts_some s n max ok old mid new out same live dead first here second = go (s.clients n).phase refl
+    → Puts s n out.bytes new
+puts s n ok old mid new out same some live first here second = go (s.clients n).phase refl
   where
     has : at n old.clients ≡ kept_if_live (s.clients n)
     has = holds s n old ok same
 
-    lives : at n old.clients ≡ Some (kept_of (s.clients n)) → Puts s n max (Some out.bytes) new
+    lives : at n old.clients ≡ Some (kept_of (s.clients n)) → Puts s n out.bytes new
     lives e =
         let r = live e in (
           r.0,
-          r.1,
           one_client s n (handed (length out.bytes)) ok (live_is_drawn s n ok old same e) old new same (changes_on old mid new n first second)
-              (row_kept (settled (handed (length out.bytes) (s.clients n))) out.gone (at n mid.clients) (at n new.clients) r.2 here),
+              (row_kept (settled (handed (length out.bytes) (s.clients n))) out.gone (at n mid.clients) (at n new.clients) r.1 here),
         )
 
-    go : (p : Phase) → (s.clients n).phase ≡ p → Puts s n max (Some out.bytes) new
+    go : (p : Phase) → (s.clients n).phase ≡ p → Puts s n out.bytes new
     go Asking e = lives (has ∙ live_row (s.clients n) Asking e (λ w. cc))
     go Closing e = lives (has ∙ live_row (s.clients n) Closing e (λ w. cc))
-    go Gone e = let clash = dead (has ∙ gone_row (s.clients n) e) in cc
+    go Gone e = let none : due_at n old ≡ 0 = ap due_in (has ∙ gone_row (s.clients n) e) in absurd (omega (arith, some, none))
+
+-- no bytes are due
+none_due : (due : List ℕ) (n : ℕ) → n ≡ length due → n ≡ 0 → due ≡ []
+none_due [] n is none = refl
+none_due (b ∷ due) n is none = absurd (omega (arith, is, none))
+
+some_due : (due : List ℕ) (n : ℕ) → n ≡ length due → 0 < n → due ≢ []
+some_due due n is some none = omega (arith, is, some, ap (length {A = ℕ}) none)
+
+-- there is no hand-out
+pub hands_none : (s : State) → IsOrderly s → (old : Kept) → old ≡ kept s → ((n : ℕ) → due_at n old ≡ 0) → HandsNext s None old
+hands_none s ok old same none = (sym (next_none s (λ n. none_due (s.clients n).due (due_at n old) (due_held s n ok old same) (none n))), same)
+
+-- the first client to which bytes are due is handed some
+pub hands_some : (s : State) (n : ℕ) (bytes : List ℕ) → IsOrderly s → (old new : Kept) → old ≡ kept s → 0 < due_at n old → ((m : ℕ) → m < n → due_at m old ≡ 0) → Puts s n bytes new → HandsNext s (Some (Put n bytes)) new
+hands_some s n bytes ok old new same some first p = (
+  ap (λ b. Some (Put n b)) p.0
+      ∙ sym (next_is s n drawn (λ m below. none_due (s.clients m).due (due_at m old) (due_held s m ok old same) (first m below)) (some_due (s.clients n).due (due_at n old) (due_held s n ok old same) some)),
+  p.1,
+)
+  where
+    cases : (a b : ℕ) → (a ≤ b) ⊎ (b < a)
+    cases a b = grind arith
+
+    none_absent : (m : ℕ) → s.clients m ≡ absent → m ≢ n
+    none_absent m gone is =
+        let due : due_at n old ≡ length (s.clients n).due = due_held s n ok old same in
+        let none : (s.clients n).due ≡ [] = ap (λ k. (s.clients k).due) (sym is) ∙ ap (λ (c : Client). c.due) gone in
+        omega (arith, due, some, ap (length {A = ℕ}) none)
+
+    above_zero : (m : ℕ) → (m ≡ 0 → ⊥) → 0 < m
+    above_zero m apart = grind (arith, apart)
+
+    within : (n ≤ s.joined) ⊎ (s.joined < n) → n ≤ s.joined
+    within (inl le) = le
+    within (inr above) = absurd (none_absent n (ok.none_above n above) refl)
+
+    drawn : IsDrawn s n
+    drawn = (above_zero n (λ zero_is. none_absent 0 ok.none_at_zero (sym zero_is)), within (cases n s.joined))
+
+-- a hand-out has a record
+pub put_record : (n : ℕ) (bytes : List ℕ) → n < 2 ^ 32 → All (λ b. b < 256) bytes → length bytes ≤ 65536 → HasRecord (Put n bytes)
+put_record n bytes small range short = record { owner = small; port = tt; bytes = range; size = omega (arith, short) }

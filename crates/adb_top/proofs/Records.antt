@@ -4,143 +4,148 @@ use Rattle.std.specs.Prelude.{option_and_then}
 use Rattle.adb_outside.specs.declared.framer.Front.{Front}
 use Rattle.adb_outside.specs.declared.framer.Front.TheVariants.{More, Bad}
 use Rattle.adb_capture.specs.Records.{record_at, offset_after}
-use Rattle.adb_capture.specs.Reading.{Reading, ahead, ahead_of, to_give, AnswersNext, GivesNext, GivesRecord, IsRefused}
+use Rattle.adb_capture.specs.Reading.{ahead, ahead_of, to_give, AnswersNext, GivesNext, GivesRecord, IsRefused}
+use Rattle.adb_capture.specs.Counting.{is_fault}
 use Rattle.adb_capture.specs.declared.entry.Entry.{Entry}
 use Rattle.adb_capture.specs.declared.error.CaptureError.{CaptureError}
 use Rattle.adb_capture.specs.declared.error.CaptureError.TheVariants as capture
-use Rattle.adb_history.specs.Machine.{History, state, IsLegal}
-use Rattle.adb_history.specs.Kept.{Kept}
+use Rattle.adb_history.specs.Machine.{History, start, state, IsLegal}
+use Rattle.adb_history.specs.Kept.{Kept, kept}
 use Rattle.adb_history.specs.Drained.{drained_after, drained_from}
+use Rattle.adb_history.specs.Refusal.{refusal_by}
 use Rattle.adb_history.specs.Accepted.{Accepted, refusal_of, is_input, accept_by, accept_records}
 use Rattle.adb_history.specs.declared.refusal.Refusal.{Refusal}
-use Rattle.adb_history.specs.Refusal.{refusal_by}
+use Rattle.std.proofs.lemmas.List.{append_assoc}
 use Rattle.adb_history.proofs.Accepting.{accept_front, accept_first, drained_adds}
-use Rattle.std.proofs.lemmas.List.{append-nil}
-use Rattle.adb_top.specs.Keeping.{is_read_fault, is_write_fault}
+use Rattle.adb_top.specs.Keeping.{Out, Keeps, KeepsAs, is_read_fault, is_write_fault}
 use Rattle.adb_top.specs.Stop.{stop_of}
-use Rattle.adb_capture.specs.Counting.{is_fault}
-use Rattle.adb_top.specs.Replay.{written_of, StopsWithin, IsDrained, HasWritten, StopsEntry, IsReached, history_after, Wrote, IsFrontOf, Reaches, EndsAs, WasAhead, Replays}
+use Rattle.adb_top.specs.Replay.{capture_of, IsDrained, IsFrontOf, GoesOn, ReplaysEntry, EntryGives, IsReached, history_after, Reaches, EndsAs, Moment, IsAhead, Replays}
 use Rattle.adb_top.specs.declared.stop.Stop.{Stop}
 use Rattle.adb_top.specs.declared.stop.Stop.TheVariants.{ReadFault, WriteFault, OutOfMemory, Refused}
+use Rattle.adb_top.proofs.Drains.{goes_on}
 
 -- what is still to come, of all that a capture gives
-pub record ComesOn (reader : Reading) (left : Option (List ℕ)) (now : History) (all : Accepted) : Type 0 where
+pub record ComesOn (now : Moment) (done : History) (all : Accepted) : Type 0 where
   pub before : List ℕ
-  pub is : WasAhead reader left before
-  pub inputs : drained_from [] all.inputs ≡ drained_from now (accept_records reader.offset before now).inputs
-  pub refused : all.refused ≡ (accept_records reader.offset before now).refused
+  pub is : IsAhead now before
+  pub inputs : drained_from [] all.inputs ≡ drained_from done (accept_records now.reader.offset before done).inputs
+  pub refused : all.refused ≡ (accept_records now.reader.offset before done).refused
 
 -- How far a replay has come: the history now.
-pub record Replaying (first now : Reading) (left_first left_now written_first written_now : Option (List ℕ)) (holds : Kept) : Type 0 where
+pub record Replaying (first now : Moment) (holds : Kept) : Type 0 where
   pub done : History
   pub drained : IsDrained holds done
-  pub open_reader : (now.failed ≡ None) × (now.opened ≡ true)
-  pub told : (front : List ℕ) → written_first ≡ Some front → HasWritten front done written_now
-  pub came : (before : List ℕ) → WasAhead first left_first before → ComesOn now left_now done (accept_records first.offset before [])
+  pub sound : now.reader.failed ≡ None
+  pub kept : (had : List ℕ) → Keeps had (capture_of []) first.out → Keeps had (capture_of done) now.out
+  pub came : (before : List ℕ) → IsAhead first before → ComesOn now done (accept_records first.reader.offset before [])
 
 -- a front of what is ahead was told
 split_ahead : (f : List ℕ → Option (List ℕ)) (o : Option (List ℕ)) (y : List ℕ) → option_and_then f o ≡ Some y → (x : List ℕ) × (o ≡ Some x) × (f x ≡ Some y)
 split_ahead f None y e = let clash : None ≡ Some y = e in cc
 split_ahead f (Some x) y e = (x, refl, e)
 
-pub replaying_first : (reader : Reading) (left written : Option (List ℕ)) (holds : Kept) → IsDrained holds [] → (reader.failed ≡ None) × (reader.opened ≡ true) → Replaying reader reader left left written written holds
-replaying_first reader left written holds drained opened = record {
+pub replaying_first : (first : Moment) (holds : Kept) → IsDrained holds [] → first.reader.failed ≡ None → Replaying first first holds
+replaying_first first holds drained sound = record {
   done = [];
   drained = drained;
-  open_reader = opened;
-  told = λ front is. is ∙ ap Some (sym (append-nil front));
+  sound = sound;
+  kept = λ had k. k;
   came = λ before was. record { before = before; is = was; inputs = refl; refused = refl };
 }
 
+pub starts : (holds : Kept) → holds ≡ kept start → IsDrained holds []
+starts holds is = record { lawful = record { legal = tt; seen = is }; rests = refl }
+
 -- what a call of the reader says of what is ahead
-abbrev pub Gives : Reading → Option (List ℕ) → Result (Option (ℕ × Entry)) CaptureError → Reading → Option (List ℕ) → Type 0
-Gives now left result new left_new = now.failed ≡ None → AnswersNext now left new left_new result
+abbrev pub Gives : Moment → Result (Option (ℕ × Entry)) CaptureError → Moment → Type 0
+Gives now result new = now.reader.failed ≡ None → AnswersNext now.reader now.left new.reader new.left result
 
-given_next : (now new : Reading) (left left_new : Option (List ℕ)) (result : Result (Option (ℕ × Entry)) CaptureError) (before : List ℕ) → Gives now left result new left_new → now.failed ≡ None → WasAhead now left before
-    → GivesNext now.offset before result new.offset (ahead_of new left_new)
-given_next now new left left_new result before gives sound was = (gives sound).records before was
+given_next : (now new : Moment) (result : Result (Option (ℕ × Entry)) CaptureError) (before : List ℕ) → Gives now result new → now.reader.failed ≡ None → IsAhead now before
+    → GivesNext now.reader.offset before result new.reader.offset (ahead_of new.reader new.left)
+given_next now new result before gives sound was = (gives sound).records before was
 
--- what is accepted from a record on
-accept_given : (offset : ℕ) (before : List ℕ) (given : ℕ × Entry) (next : ℕ) (after : Option (List ℕ)) (h : History) (g : GivesRecord offset before given next after)
-    → accept_records offset before h ≡ accept_by (refusal_of (state h) given.0 given.1) (is_input given.1) h given.1 (accept_records next (drop g.size before))
-accept_given offset before given next after h g =
-    accept_first offset before h
-    ∙ (ap (λ f. accept_front offset before f h) g.whole
-    ∙ (ap (λ (p : ℕ × Entry). accept_by (refusal_of (state h) p.0 p.1) (is_input p.1) h p.1 (accept_records (offset_after offset (take g.size before)) (drop g.size before))) (sym g.is)
-    ∙ ap (λ n. accept_by (refusal_of (state h) given.0 given.1) (is_input given.1) h given.1 (accept_records n (drop g.size before))) (sym g.next_offset_is)))
+-- A record came: what of all that a capture gives is accepted from it on.
+pub record CameOn (now new : Moment) (offset : ℕ) (e : Entry) (done : History) (all : Accepted) : Type 0 where
+  pub others : List ℕ
+  pub is : IsAhead new others
+  pub inputs : drained_from [] all.inputs ≡ drained_from done (accept_by (refusal_of (state done) offset e) (is_input e) done e (accept_records new.reader.offset others)).inputs
+  pub refused : all.refused ≡ (accept_by (refusal_of (state done) offset e) (is_input e) done e (accept_records new.reader.offset others)).refused
+
+came_on : (now new : Moment) (offset : ℕ) (e : Entry) (done : History) (all : Accepted) → Gives now (Ok (Some (offset, e))) new → now.reader.failed ≡ None → ComesOn now done all → CameOn now new offset e done all
+came_on now new offset e done all gives sound c = record { others = drop g.size c.before; is = g.rest; inputs = c.inputs ∙ ap (λ (a : Accepted). drained_from done a.inputs) given; refused = c.refused ∙ ap (λ (a : Accepted). a.refused) given }
+  where
+    g : GivesRecord now.reader.offset c.before (offset, e) new.reader.offset (ahead_of new.reader new.left)
+    g = given_next now new (Ok (Some (offset, e))) c.before gives sound c.is
+
+    from : ℕ × Entry → (History → Accepted) → Accepted
+    from p others = accept_by (refusal_of (state done) p.0 p.1) (is_input p.1) done p.1 others
+
+    given : accept_records now.reader.offset c.before done ≡ accept_by (refusal_of (state done) offset e) (is_input e) done e (accept_records new.reader.offset (drop g.size c.before))
+    given =
+        accept_first now.reader.offset c.before done
+        ∙ (ap (λ f. accept_front now.reader.offset c.before f done) g.whole
+        ∙ (ap (λ (p : ℕ × Entry). accept_by (refusal_of (state done) p.0 p.1) (is_input p.1) done p.1 (accept_records (offset_after now.reader.offset (take g.size c.before)) (drop g.size c.before))) (sym g.is)
+        ∙ ap (λ n. accept_by (refusal_of (state done) offset e) (is_input e) done e (accept_records n (drop g.size c.before))) (sym g.next_offset_is)))
 
 -- an input that is accepted, or a hand-out that is passed over
-accept_on : (b : Bool) (h : History) (e : Entry) (others : History → Accepted) → (drained_from h (accept_by None b h e others).inputs ≡ drained_from (cond b (drained_after h e) h) (others (cond b (drained_after h e) h)).inputs) × ((accept_by None b h e others).refused ≡ (others (cond b (drained_after h e) h)).refused)
+accept_on : (b : Bool) (h : History) (e : Entry) (others : History → Accepted)
+    → (drained_from h (accept_by None b h e others).inputs ≡ drained_from (cond b (drained_after h e) h) (others (cond b (drained_after h e) h)).inputs) × ((accept_by None b h e others).refused ≡ (others (cond b (drained_after h e) h)).refused)
 accept_on true h e others = (refl, refl)
 accept_on false h e others = (refl, refl)
 
 -- A record was replayed.
-pub replaying_on : (first now new : Reading) (left_first left left_new written_first written written_new : Option (List ℕ)) (holds holds_new : Kept) (offset : ℕ) (e : Entry)
-    → Gives now left (Ok (Some (offset, e))) new left_new → (new.failed ≡ None) × (new.opened ≡ true)
-    → ((h : History) → IsDrained holds h → (refusal_of (state h) offset e ≡ None) × IsDrained holds_new (history_after e h))
-    → ((h : History) (front : List ℕ) → IsDrained holds h → HasWritten front h written → HasWritten front (history_after e h) written_new)
-    → Replaying first now left_first left written_first written holds → Replaying first new left_first left_new written_first written_new holds_new
-replaying_on first now new left_first left left_new written_first written written_new holds holds_new offset e gives opened drains tells r = record {
-  done = history_after e r.done;
-  drained = (drains r.done r.drained).1;
-  open_reader = opened;
-  told = λ front is. tells r.done front r.drained (r.told front is);
+pub replaying_on : (first now new : Moment) (holds holds_new : Kept) (offset : ℕ) (e : Entry) → Gives now (Ok (Some (offset, e))) new → new.reader.failed ≡ None
+    → ((h : History) → IsDrained holds h → ReplaysEntry (Ok tt) offset e h now.out new.out holds_new) → Replaying first now holds → Replaying first new holds_new
+replaying_on first now new holds holds_new offset e gives sound entry r = record {
+  done = x.whole;
+  drained = x.gives.2;
+  sound = sound;
+  kept = λ had k. x.on.kept had (r.kept had k);
   came = λ before was.
-      let c = r.came before was in
-      let g : GivesRecord now.offset c.before (offset, e) new.offset (option_and_then (ahead new) left_new) = given_next now new left left_new (Ok (Some (offset, e))) c.before gives r.open_reader.0 c.is in
-      let a = accept_given now.offset c.before (offset, e) new.offset (option_and_then (ahead new) left_new) r.done g
-      ∙ ap (λ why. accept_by why (is_input e) r.done e (accept_records new.offset (drop g.size c.before))) (drains r.done r.drained).0 in
-      let on = accept_on (is_input e) r.done e (accept_records new.offset (drop g.size c.before)) in
+      let c = came_on now new offset e r.done _ gives r.sound (r.came before was) in
+      let others : History → Accepted = accept_records new.reader.offset c.others in
+      let on = accept_on (is_input e) r.done e others in
       record {
-        before = drop g.size c.before;
-        is = g.rest;
-        inputs = c.inputs ∙ (ap (λ (k : Accepted). drained_from r.done k.inputs) a ∙ on.0);
-        refused = c.refused ∙ (ap (λ (k : Accepted). k.refused) a ∙ on.1);
+        before = c.others;
+        is = c.is;
+        inputs = c.inputs ∙ (ap (λ why. drained_from r.done (accept_by why (is_input e) r.done e others).inputs) x.gives.0 ∙ (on.0 ∙ ap (λ h. drained_from h (others h).inputs) (sym x.gives.1)));
+        refused = c.refused ∙ (ap (λ why. (accept_by why (is_input e) r.done e others).refused) x.gives.0 ∙ (on.1 ∙ ap (λ h. (others h).refused) (sym x.gives.1)));
       };
 }
+  where
+    x : ReplaysEntry (Ok tt) offset e r.done now.out new.out holds_new
+    x = entry r.done r.drained
 
 -- the records end
 ahead_empty : (held coming : List ℕ) → held ++ coming ≡ [] → coming ≡ []
 ahead_empty [] coming e = e
 ahead_empty (b ∷ held) coming e = let clash : b ∷ (held ++ coming) ≡ [] = e in cc
 
-left_empty : (new : Reading) (left : Option (List ℕ)) → new.opened ≡ true → option_and_then (ahead new) left ≡ Some [] → left ≡ Some []
-left_empty new left opened e =
-    let s = split_ahead (ahead new) left [] e in
-    let f : Some (new.held ++ s.0) ≡ Some [] = ap (λ b. to_give b (new.held ++ s.0)) (sym opened) ∙ s.2 in
-    let none : new.held ++ s.0 ≡ [] = cc in
-    s.1 ∙ ap Some (ahead_empty new.held s.0 none)
+left_empty : (new : Moment) → new.reader.opened ≡ true → ahead_of new.reader new.left ≡ Some [] → new.left ≡ Some []
+left_empty new opened e =
+    let s = split_ahead (ahead new.reader) new.left [] e in
+    let f : Some (new.reader.held ++ s.0) ≡ Some [] = ap (λ b. to_give b (new.reader.held ++ s.0)) (sym opened) ∙ s.2 in
+    let none : new.reader.held ++ s.0 ≡ [] = cc in
+    s.1 ∙ ap Some (ahead_empty new.reader.held s.0 none)
 
-pub replaying_over : (first now new : Reading) (left_first left left_new written_first written : Option (List ℕ)) (holds : Kept) → Gives now left (Ok None) new left_new → new.opened ≡ true
-    → Replaying first now left_first left written_first written holds → Replays first left_first left_new written_first written (Ok tt)
-replaying_over first now new left_first left left_new written_first written holds gives opened r = record {
-  wrote = λ front is. record {
-    whole = r.done;
-    out = written_of r.done;
-    is = r.told front is;
-    wrote = (refl, r.drained.lawful.legal);
-    reaches = λ before was.
-        let c = r.came before was in
-        let g : (c.before ≡ []) × (option_and_then (ahead new) left_new ≡ Some []) × (new.offset ≡ now.offset) = given_next now new left left_new (Ok None) c.before gives r.open_reader.0 c.is in
-        c.inputs ∙ ap (λ b. drained_from r.done (accept_records now.offset b r.done).inputs) g.0;
-  };
-  ends = λ before was.
-      let c = r.came before was in
-      let g : (c.before ≡ []) × (option_and_then (ahead new) left_new ≡ Some []) × (new.offset ≡ now.offset) = given_next now new left left_new (Ok None) c.before gives r.open_reader.0 c.is in
-      (c.refused ∙ ap (λ b. (accept_records now.offset b r.done).refused) g.0, left_empty new left_new opened g.1);
+pub replaying_over : (first now new : Moment) (holds : Kept) → now.out ≡ new.out → Gives now (Ok None) new → new.reader.opened ≡ true → Replaying first now holds → Replays first new (Ok tt)
+replaying_over first now new holds same gives opened r = record {
+  whole = r.done;
+  on = record { legal = r.drained.lawful.legal; kept = λ had k. subst (λ (out : Out). Keeps had (capture_of r.done) out) same (r.kept had k) };
+  reaches = λ before was. let c = r.came before was in c.inputs ∙ ap (λ b. drained_from r.done (accept_records now.reader.offset b r.done).inputs) (over c).0;
+  ends = λ before was. let c = r.came before was in (c.refused ∙ ap (λ b. (accept_records now.reader.offset b r.done).refused) (over c).0, left_empty new opened (over c).1);
 }
+  where
+    over : {all : Accepted} → (c : ComesOn now r.done all) → (c.before ≡ []) × (ahead_of new.reader new.left ≡ Some []) × (new.reader.offset ≡ now.reader.offset)
+    over c = given_next now new (Ok None) c.before gives r.sound c.is
 
--- what went out so far, where nothing more did
-so_far : (whole : History) → IsLegal whole → StopsWithin whole (written_of whole)
-so_far whole legal = record { done = whole; later = []; is = refl; legal = legal; part = []; bytes = sym (append-nil (written_of whole)); next = inl refl }
-
-front_so_far : (first now : Reading) (left_first left written_first written : Option (List ℕ)) (holds : Kept) (r : Replaying first now left_first left written_first written holds) (before : List ℕ) → WasAhead first left_first before → IsFrontOf r.done (accept_records first.offset before [])
-front_so_far first now left_first left written_first written holds r before was =
+-- what has come so far is the first part of all that comes
+front_so_far : (first now : Moment) (holds : Kept) (r : Replaying first now holds) (before : List ℕ) → IsAhead first before → IsFrontOf r.done (drained_from [] (accept_records first.reader.offset before []).inputs)
+front_so_far first now holds r before was =
     let c = r.came before was in
-    let more = drained_adds r.done (accept_records now.offset c.before r.done).inputs in
+    let more = drained_adds r.done (accept_records now.reader.offset c.before r.done).inputs in
     record { more = more.0; is = c.inputs ∙ more.1 }
 
--- the records are refused
 -- nothing is accepted, as an error of the reader says
 abbrev refused_as : CaptureError → Accepted
 refused_as why = record { inputs = []; refused = refusal_by why }
@@ -152,123 +157,95 @@ truncated_ahead : (offset at : ℕ) (before : List ℕ) (h : History) → before
 truncated_ahead offset at [] h some is = absurd (some refl)
 truncated_ahead offset at (b ∷ before) h some is = ap (λ n. refused_as (capture.Truncated n)) (sym is)
 
-refusal_ahead : (now new : Reading) (left left_new : Option (List ℕ)) (e : CaptureError) (before : List ℕ) (h : History) → Gives now left (Err e) new left_new → now.failed ≡ None → WasAhead now left before → refusal_by e ≢ None
-    → accept_records now.offset before h ≡ refused_as e
-refusal_ahead now new left left_new e before h gives sound was stops = go e stops (given_next now new left left_new (Err e) before gives sound was)
-  where
-    go : (e : CaptureError) → refusal_by e ≢ None → IsRefused now.offset before e → accept_records now.offset before h ≡ refused_as e
-    go capture.BadMagic s r = absurd r
-    go (capture.BadRecord at why) s r = refused_ahead now.offset before h (Bad (capture.BadRecord at why)) (capture.BadRecord at why) r refl
-    go (capture.Truncated at) s r = refused_ahead now.offset before h More (capture.Truncated at) r.1 (truncated_ahead now.offset at before h r.0 r.2)
-    go (capture.TooLong at) s r = refused_ahead now.offset before h (Bad (capture.TooLong at)) (capture.TooLong at) r refl
-    go capture.ReadFault s r = absurd (s refl)
-    go capture.OutOfMemory s r = absurd (s refl)
+refusal_ahead : (offset : ℕ) (before : List ℕ) (h : History) (e : CaptureError) → refusal_by e ≢ None → IsRefused offset before e → accept_records offset before h ≡ refused_as e
+refusal_ahead offset before h capture.BadMagic s r = absurd r
+refusal_ahead offset before h (capture.BadRecord at why) s r = refused_ahead offset before h (Bad (capture.BadRecord at why)) (capture.BadRecord at why) r refl
+refusal_ahead offset before h (capture.Truncated at) s r = refused_ahead offset before h More (capture.Truncated at) r.1 (truncated_ahead offset at before h r.0 r.2)
+refusal_ahead offset before h (capture.TooLong at) s r = refused_ahead offset before h (Bad (capture.TooLong at)) (capture.TooLong at) r refl
+refusal_ahead offset before h capture.ReadFault s r = absurd (s refl)
+refusal_ahead offset before h capture.OutOfMemory s r = absurd (s refl)
 
 -- The reader stopped.
-pub replaying_stopped : (first now new : Reading) (left_first left left_new written_first written : Option (List ℕ)) (holds : Kept) (e : CaptureError) → Gives now left (Err e) new left_new
-    → Replaying first now left_first left written_first written holds → Replays first left_first left_new written_first written (Err (stop_of e))
-replaying_stopped first now new left_first left left_new written_first written holds e gives r = go e (λ before h was stops. refusal_ahead now new left left_new e before h gives r.open_reader.0 was stops)
+pub replaying_stopped : (first now new : Moment) (holds : Kept) (e : CaptureError) → now.out ≡ new.out → Gives now (Err e) new → Replaying first now holds → Replays first new (Err (stop_of e))
+replaying_stopped first now new holds e same gives r = go e (λ c sound. given_next now new (Err e) c gives r.sound sound)
   where
-    fault : (why : Stop) → ((out : List ℕ) → StopsWithin r.done out → Wrote (Err why) r.done out) → ((a : Accepted) → IsFrontOf r.done a → Reaches (Err why) r.done a) → ((a : Accepted) → EndsAs (Err why) a left_new) → Replays first left_first left_new written_first written (Err why)
-    fault why wrote reaches ends = record {
-      wrote = λ front is. record {
-        whole = r.done;
-        out = written_of r.done;
-        is = r.told front is;
-        wrote = wrote (written_of r.done) (so_far r.done r.drained.lawful.legal);
-        reaches = λ before was. reaches (accept_records first.offset before []) (front_so_far first now left_first left written_first written holds r before was);
-      };
-      ends = λ before was. ends (accept_records first.offset before []);
-    }
+    keeps : (had : List ℕ) → Keeps had (capture_of []) first.out → Keeps had (capture_of r.done) new.out
+    keeps had k = subst (λ (out : Out). Keeps had (capture_of r.done) out) same (r.kept had k)
 
-    refusal : (why : CaptureError) (named : Refusal) → refusal_by why ≡ Some named → ((before : List ℕ) (h : History) → WasAhead now left before → accept_records now.offset before h ≡ refused_as why) → Replays first left_first left_new written_first written (Err (Refused named))
-    refusal why named same there = record {
-      wrote = λ front is. record {
-        whole = r.done;
-        out = written_of r.done;
-        is = r.told front is;
-        wrote = (refl, r.drained.lawful.legal);
-        reaches = λ before was. let c = r.came before was in c.inputs ∙ ap (λ (k : Accepted). drained_from r.done k.inputs) (there c.before r.done c.is);
-      };
-      ends = λ before was. let c = r.came before was in c.refused ∙ (ap (λ (k : Accepted). k.refused) (there c.before r.done c.is) ∙ same);
-    }
-
-    go : (e : CaptureError) → ((before : List ℕ) (h : History) → WasAhead now left before → refusal_by e ≢ None → accept_records now.offset before h ≡ refused_as e) → Replays first left_first left_new written_first written (Err (stop_of e))
-    go capture.BadMagic there = refusal capture.BadMagic _ refl (λ before h was. there before h was (λ e. cc))
-    go (capture.BadRecord at why) there = refusal (capture.BadRecord at why) _ refl (λ before h was. there before h was (λ e. cc))
-    go (capture.Truncated at) there = refusal (capture.Truncated at) _ refl (λ before h was. there before h was (λ e. cc))
-    go (capture.TooLong at) there = refusal (capture.TooLong at) _ refl (λ before h was. there before h was (λ e. cc))
-    go capture.ReadFault there = fault ReadFault (λ out s. s) (λ a f. f) (λ a. tt)
-    go capture.OutOfMemory there = fault OutOfMemory (λ out s. s) (λ a f. f) (λ a. tt)
-
--- What is reached of all that a capture gives, where a record was not replayed to its end.
-reached_front : (first now new : Reading) (left_first left left_new written_first written : Option (List ℕ)) (holds : Kept) (offset : ℕ) (e : Entry) → Gives now left (Ok (Some (offset, e))) new left_new
-    → (r : Replaying first now left_first left written_first written holds) (whole : History) → IsReached offset e r.done whole → (before : List ℕ) → WasAhead first left_first before → IsFrontOf whole (accept_records first.offset before [])
-reached_front first now new left_first left left_new written_first written holds offset e gives r whole (inl same) before was =
-    subst (λ (h : History). IsFrontOf h (accept_records first.offset before [])) (sym same) (front_so_far first now left_first left written_first written holds r before was)
-reached_front first now new left_first left left_new written_first written holds offset e gives r whole (inr on) before was =
-    let c = r.came before was in
-    let g : GivesRecord now.offset c.before (offset, e) new.offset (option_and_then (ahead new) left_new) = given_next now new left left_new (Ok (Some (offset, e))) c.before gives r.open_reader.0 c.is in
-    let others = accept_records new.offset (drop g.size c.before) in
-    let a = accept_given now.offset c.before (offset, e) new.offset (option_and_then (ahead new) left_new) r.done g
-    ∙ (ap (λ why. accept_by why (is_input e) r.done e others) on.0 ∙ ap (λ b. accept_by None b r.done e others) on.1) in
-    let more = drained_adds (drained_after r.done e) (others (drained_after r.done e)).inputs in
-    record { more = more.0; is = c.inputs ∙ (ap (λ (k : Accepted). drained_from r.done k.inputs) a ∙ (more.1 ∙ ap (λ h. more.0 ++ h) (sym on.2))) }
-
--- A record was not replayed to its end.
-pub replaying_lost : (first now new : Reading) (left_first left left_new written_first written written_new : Option (List ℕ)) (holds : Kept) (offset : ℕ) (e : Entry) (why : Stop)
-    → Gives now left (Ok (Some (offset, e))) new left_new
-    → ((r : Refusal) → ◌≡◌ {A = Result (Unit {0}) Stop} (Err why) (Err (Refused r)) → (written_new ≡ written) × ((h : History) → IsDrained holds h → refusal_of (state h) offset e ≡ Some r))
-    → ((h : History) (front : List ℕ) → IsDrained holds h → HasWritten front h written → StopsEntry front offset e h written_new)
-    → ◌≢◌ {A = Result (Unit {0}) Stop} (Err why) (Err ReadFault)
-    → Replaying first now left_first left written_first written holds → Replays first left_first left_new written_first written_new (Err why)
-replaying_lost first now new left_first left left_new written_first written written_new holds offset e why gives refuses stops reads r = go why reads refuses
-  where
-    lost : (why : Stop) → ((whole : History) (out : List ℕ) → StopsWithin whole out → Wrote (Err why) whole out) → ((whole : History) (a : Accepted) → IsFrontOf whole a → Reaches (Err why) whole a) → ((a : Accepted) → EndsAs (Err why) a left_new) → Replays first left_first left_new written_first written_new (Err why)
-    lost why wrote reaches ends = record {
-      wrote = λ front is.
-          let s = stops r.done front r.drained (r.told front is) in
-          record {
-            whole = s.whole;
-            out = s.stopped.out;
-            is = s.stopped.is;
-            wrote = wrote s.whole s.stopped.out s.stopped.within;
-            reaches = λ before was. reaches s.whole (accept_records first.offset before []) (reached_front first now new left_first left left_new written_first written holds offset e gives r s.whole s.reached before was);
-          };
-      ends = λ before was. ends (accept_records first.offset before []);
-    }
-
-    refusal : (w : Refusal) → (written_new ≡ written) × ((h : History) → IsDrained holds h → refusal_of (state h) offset e ≡ Some w) → Replays first left_first left_new written_first written_new (Err (Refused w))
-    refusal w says = record {
-      wrote = λ front is. record {
-        whole = r.done;
-        out = written_of r.done;
-        is = says.0 ∙ r.told front is;
-        wrote = (refl, r.drained.lawful.legal);
-        reaches = λ before was. let c = r.came before was in c.inputs ∙ ap (λ (k : Accepted). drained_from r.done k.inputs) (there c);
-      };
-      ends = λ before was. let c = r.came before was in c.refused ∙ ap (λ (k : Accepted). k.refused) (there c);
+    refusal : (e : CaptureError) (named : Refusal) → refusal_by e ≡ Some named → refusal_by e ≢ None → ((before : List ℕ) → IsAhead now before → IsRefused now.reader.offset before e) → Replays first new (Err (Refused named))
+    refusal e named is stops refused = record {
+      whole = r.done;
+      on = record { legal = r.drained.lawful.legal; kept = keeps };
+      reaches = λ before was. let c = r.came before was in c.inputs ∙ ap (λ (a : Accepted). drained_from r.done a.inputs) (none c);
+      ends = λ before was. let c = r.came before was in c.refused ∙ (ap (λ (a : Accepted). a.refused) (none c) ∙ is);
     }
       where
-        there : {all : Accepted} → (c : ComesOn now left r.done all) → accept_records now.offset c.before r.done ≡ record { inputs = []; refused = Some w }
-        there c =
-            let g : GivesRecord now.offset c.before (offset, e) new.offset (option_and_then (ahead new) left_new) = given_next now new left left_new (Ok (Some (offset, e))) c.before gives r.open_reader.0 c.is in
-            accept_given now.offset c.before (offset, e) new.offset (option_and_then (ahead new) left_new) r.done g
-            ∙ ap (λ why. accept_by why (is_input e) r.done e (accept_records new.offset (drop g.size c.before))) (says.1 r.done r.drained)
+        none : {all : Accepted} → (c : ComesOn now r.done all) → accept_records now.reader.offset c.before r.done ≡ refused_as e
+        none c = refusal_ahead now.reader.offset c.before r.done e stops (refused c.before c.is)
 
-    go : (why : Stop) → ◌≢◌ {A = Result (Unit {0}) Stop} (Err why) (Err ReadFault) → ((r : Refusal) → ◌≡◌ {A = Result (Unit {0}) Stop} (Err why) (Err (Refused r)) → (written_new ≡ written) × ((h : History) → IsDrained holds h → refusal_of (state h) offset e ≡ Some r))
-        → Replays first left_first left_new written_first written_new (Err why)
-    go ReadFault reads refuses = absurd (reads refl)
-    go WriteFault reads refuses = lost WriteFault (λ whole out s. s) (λ whole a f. f) (λ a. tt)
-    go OutOfMemory reads refuses = lost OutOfMemory (λ whole out s. s) (λ whole a f. f) (λ a. tt)
-    go (Refused w) reads refuses = refusal w (refuses w refl)
+    go : (e : CaptureError) → ((before : List ℕ) → IsAhead now before → IsRefused now.reader.offset before e) → Replays first new (Err (stop_of e))
+    go capture.BadMagic refused = refusal capture.BadMagic _ refl (λ e. cc) refused
+    go (capture.BadRecord at why) refused = refusal (capture.BadRecord at why) _ refl (λ e. cc) refused
+    go (capture.Truncated at) refused = refusal (capture.Truncated at) _ refl (λ e. cc) refused
+    go (capture.TooLong at) refused = refusal (capture.TooLong at) _ refl (λ e. cc) refused
+    go capture.ReadFault refused = record { whole = r.done; on = record { legal = r.drained.lawful.legal; kept = keeps }; reaches = front_so_far first now holds r; ends = λ before was. tt }
+    go capture.OutOfMemory refused = record { whole = r.done; on = record { legal = r.drained.lawful.legal; kept = keeps }; reaches = front_so_far first now holds r; ends = λ before was. tt }
+
+-- What is reached of all that a capture gives, where a record was not replayed to its end.
+reached_front : (first now new : Moment) (holds : Kept) (offset : ℕ) (e : Entry) → Gives now (Ok (Some (offset, e))) new → (r : Replaying first now holds) (whole : History) → IsReached offset e r.done whole
+    → (before : List ℕ) → IsAhead first before → IsFrontOf whole (drained_from [] (accept_records first.reader.offset before []).inputs)
+reached_front first now new holds offset e gives r whole (inl same) before was =
+    subst (λ (h : History). IsFrontOf h (drained_from [] (accept_records first.reader.offset before []).inputs)) (sym same) (front_so_far first now holds r before was)
+reached_front first now new holds offset e gives r whole (inr on) before was =
+    let c = came_on now new offset e r.done _ gives r.sound (r.came before was) in
+    let others : History → Accepted = accept_records new.reader.offset c.others in
+    let more = drained_adds (drained_after r.done e) (others (drained_after r.done e)).inputs in
+    record {
+      more = more.0 ++ on.2.more;
+      is = c.inputs ∙ (ap (λ why. drained_from r.done (accept_by why (is_input e) r.done e others).inputs) on.0
+          ∙ (ap (λ b. drained_from r.done (accept_by None b r.done e others).inputs) on.1
+          ∙ (more.1 ∙ (ap (λ h. more.0 ++ h) on.2.is ∙ sym (append_assoc more.0 on.2.more whole)))));
+    }
+
+-- A record was not replayed to its end.
+pub replaying_lost : (first now new : Moment) (holds last : Kept) (offset : ℕ) (e : Entry) (why : Stop) → Gives now (Ok (Some (offset, e))) new
+    → ((h : History) → IsDrained holds h → ReplaysEntry (Err why) offset e h now.out new.out last) → Replaying first now holds → Replays first new (Err why)
+replaying_lost first now new holds last offset e why gives entry r = record {
+  whole = x.whole;
+  on = goes_on (Err why) [] r.done x.whole first.out now.out new.out r.kept x.on;
+  reaches = λ before was. reaches why x.gives before was;
+  ends = λ before was. ends why x.gives before was;
+}
+  where
+    x : ReplaysEntry (Err why) offset e r.done now.out new.out last
+    x = entry r.done r.drained
+
+    all : List ℕ → Accepted
+    all before = accept_records first.reader.offset before []
+
+    reaches : (w : Stop) → EntryGives (Err w) offset e r.done x.whole last → (before : List ℕ) → IsAhead first before → Reaches (Err w) x.whole (all before)
+    reaches ReadFault g before was = absurd g
+    reaches WriteFault g before was = reached_front first now new holds offset e gives r x.whole g before was
+    reaches OutOfMemory g before was = reached_front first now new holds offset e gives r x.whole g before was
+    reaches (Refused named) g before was =
+        let c = came_on now new offset e r.done (all before) gives r.sound (r.came before was) in
+        c.inputs ∙ (ap (λ w. drained_from r.done (accept_by w (is_input e) r.done e (accept_records new.reader.offset c.others)).inputs) g.0 ∙ sym g.1)
+
+    ends : (w : Stop) → EntryGives (Err w) offset e r.done x.whole last → (before : List ℕ) → IsAhead first before → EndsAs (Err w) (all before) new.left
+    ends ReadFault g before was = tt
+    ends WriteFault g before was = tt
+    ends OutOfMemory g before was = tt
+    ends (Refused named) g before was =
+        let c = came_on now new offset e r.done (all before) gives r.sound (r.came before was) in
+        c.refused ∙ ap (λ w. (accept_by w (is_input e) r.done e (accept_records new.reader.offset c.others)).refused) g.0
 
 -- what a loop over records keeps: how far it has come, and that nothing failed
-pub record GoingOn (first now : Reading) (left_first left_now written_first written_now : Option (List ℕ)) (holds : Kept) (reads writes : Type 0) : Type 0 where
-  pub replaying : Replaying first now left_first left_now written_first written_now holds
+pub record GoingOn (first now : Moment) (holds : Kept) (reads writes : Type 0) : Type 0 where
+  pub replaying : Replaying first now holds
   pub reads_counted : reads
   pub writes_counted : writes
 
+-- whether the source failed, by the reader's error
 pub read_fault_of : (e : CaptureError) → is_fault {T = Unit {0}} (Err e) ≡ is_read_fault (Err (stop_of e))
 read_fault_of capture.BadMagic = refl
 read_fault_of (capture.BadRecord at why) = refl
@@ -291,5 +268,5 @@ no_read_fault WriteFault e = refl
 no_read_fault OutOfMemory e = refl
 no_read_fault (Refused w) e = refl
 
-pub given_as : (now new : Reading) (left left_new : Option (List ℕ)) (a b : Option (ℕ × Entry)) → a ≡ b → Gives now left (Ok a) new left_new → Gives now left (Ok b) new left_new
-given_as now new left left_new a b same gives = subst (λ (o : Option (ℕ × Entry)). Gives now left (Ok o) new left_new) same gives
+pub given_as : (now new : Moment) (a b : Option (ℕ × Entry)) → a ≡ b → Gives now (Ok a) new → Gives now (Ok b) new
+given_as now new a b same gives = subst (λ (o : Option (ℕ × Entry)). Gives now (Ok o) new) same gives

@@ -4,11 +4,12 @@ use Rattle.std.proofs.lemmas.List.{append-nil}
 use Rattle.adb_capture.specs.Records.{magic}
 use Rattle.adb_history.specs.Accepted.{Accepted}
 use Rattle.adb_history.specs.declared.refusal.Refusal.{Refusal}
+use Rattle.adb_outside.specs.Outside.{Rises, Counted}
 use Rattle.adb_top.specs.Faults.{IsFaultless}
 use Rattle.adb_top.specs.Notes.{EndsIn, bad_capture_line}
-use Rattle.adb_top.specs.Keeping.{is_read_fault, is_write_fault}
+use Rattle.adb_top.specs.Keeping.{HasFront, CountsReads, is_read_fault, is_write_fault}
 use Rattle.adb_top.specs.Replay.{EndsAs}
-use Rattle.adb_top.specs.Replayed.{HasFront, GrowsSpelled, WritesText}
+use Rattle.adb_top.specs.Replayed.{GrowsSpelled, WritesText}
 use Rattle.adb_top.specs.Run.{WritesBy, EndsBy, NamesBy, CompletesBy}
 use Rattle.adb_top.specs.declared.stop.Stop.{Stop}
 use Rattle.adb_top.specs.declared.stop.Stop.TheVariants as stop
@@ -85,6 +86,29 @@ completes_stopped why OutOfMemory a left e ends reads writes = memory a.refused
     memory : (r : Option Refusal) → CompletesBy OutOfMemory r
     memory None = inr refl
     memory (Some w) = inr refl
+
+-- a source failed only where its count rose
+pub reads_rose : (why : Stop) (a b : Type 0) (x y : ℕ) → CountsReads (Err why) (Counted a b x y) → why ≡ stop.ReadFault → Rises x y
+reads_rose why a b x y reads e = (subst (λ (k : Stop). CountsReads (Err k) (Counted a b x y)) e reads).fault refl
+
+-- and its count stood where no status names a fault
+pub reads_stood : (why : Stop) (status : Status) (a b : Type 0) (x y : ℕ) → CountsReads (Err why) (Counted a b x y) → EndsIn why status → IsFaultless status → y ≡ x
+reads_stood why Done a b x y reads e f = absurd e
+reads_stood why Usage a b x y reads e f = absurd e
+reads_stood why ReadFault a b x y reads e f = absurd f
+reads_stood why WriteFault a b x y reads e f = absurd f
+reads_stood why BadCapture a b x y reads e f = (subst (λ (k : Stop). CountsReads (Err k) (Counted a b x y)) e.1 reads).stands refl
+reads_stood stop.ReadFault OutOfMemory a b x y reads e f = absurd e
+reads_stood stop.WriteFault OutOfMemory a b x y reads e f = absurd e
+reads_stood stop.OutOfMemory OutOfMemory a b x y reads e f = reads.stands refl
+reads_stood (stop.Refused refusal) OutOfMemory a b x y reads e f = reads.stands refl
+
+-- one that never fails did not
+pub reads_steady : (why : Stop) (a b : Type 0) (x y : ℕ) → CountsReads (Err why) (Counted a b x y) → a → is_read_fault (Err why) ≡ false
+reads_steady stop.ReadFault a b x y reads s = sym (sym (reads.steady s))
+reads_steady stop.WriteFault a b x y reads s = refl
+reads_steady stop.OutOfMemory a b x y reads s = refl
+reads_steady (stop.Refused refusal) a b x y reads s = refl
 
 pub read_fault_is : (why : Stop) → why ≡ stop.ReadFault → is_read_fault (Err why) ≡ true
 read_fault_is why e = ap (λ k. is_read_fault (Err k)) e

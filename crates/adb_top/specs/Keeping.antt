@@ -1,6 +1,8 @@
--- What keeping an entry does to a sink.
-use Rattle.std.specs.Prelude.{ℕ, ◌≡◌, Bool, true, false, List, ◌++◌, Option, Some, Result, Ok, Err}
+-- What a replay keeps for its sink: what went out, and what is gathered behind it.
+use Rattle.std.specs.Prelude.{ℕ, ◌≡◌, Bool, true, false, List, [], ◌++◌, Option, Some, Result, Ok, Err}
 use Rattle.adb_outside.specs.Bytes.{IsPrefixOf}
+use Rattle.adb_capture.specs.Records.{record_of}
+use Rattle.adb_capture.specs.declared.entry.Entry.{Entry}
 use Rattle.adb_top.specs.declared.stop.Stop.{Stop}
 use Rattle.adb_top.specs.declared.stop.Stop.TheVariants.{ReadFault, WriteFault, OutOfMemory, Refused}
 
@@ -20,7 +22,15 @@ is_read_fault (Err WriteFault) = false
 is_read_fault (Err OutOfMemory) = false
 is_read_fault (Err (Refused why)) = false
 
--- A hand-out is lost to the sink or to want of memory alone.
+-- What the count of the source's faults did: at WriteFault a read may have failed too, before what was gathered was lost.
+abbrev pub CountsReads : Result (Unit {0}) Stop → (Bool → Type 0) → Type 0
+CountsReads (Ok done) counts = counts false
+CountsReads (Err ReadFault) counts = counts true
+CountsReads (Err WriteFault) counts = (failed : Bool) × counts failed
+CountsReads (Err OutOfMemory) counts = counts false
+CountsReads (Err (Refused why)) counts = counts false
+
+-- An entry is lost to the sink or to want of memory alone.
 abbrev pub IsLoss : Result (Unit {0}) Stop → Type 0
 IsLoss (Ok done) = Unit {0}
 IsLoss (Err ReadFault) = ⊥
@@ -28,13 +38,55 @@ IsLoss (Err WriteFault) = Unit {0}
 IsLoss (Err OutOfMemory) = Unit {0}
 IsLoss (Err (Refused why)) = ⊥
 
--- a front of a piece went out
-pub record HasPart (out piece : List ℕ) (after : Option (List ℕ)) : Type 0 where
-  pub part : List ℕ
-  pub front : IsPrefixOf part piece
-  pub is : after ≡ Some (out ++ part)
+-- what went out, where the sink tells it, and what is gathered behind it
+abbrev pub Out : Type 0
+Out = Option (List ℕ) × List ℕ
 
--- A record went out whole, or a front of it.
-abbrev pub KeepsRecord : Option (List ℕ) → Option (List ℕ) → List ℕ → Result (Unit {0}) Stop → Type 0
-KeepsRecord before after piece (Ok done) = (out : List ℕ) → before ≡ Some out → after ≡ Some (out ++ piece)
-KeepsRecord before after piece (Err why) = (out : List ℕ) → before ≡ Some out → HasPart out piece after
+-- Behind what the sink had a text is kept: a front of it went out, and the rest is gathered.
+pub record Keeps (had text : List ℕ) (out : Out) : Type 0 where
+  pub growth : List ℕ
+  pub is : out.0 ≡ Some (had ++ growth)
+  pub whole : growth ++ out.1 ≡ text
+
+-- a front of a text went out
+pub record HasFront (had whole : List ℕ) (written : Option (List ℕ)) : Type 0 where
+  pub growth : List ℕ
+  pub is : written ≡ Some (had ++ growth)
+  pub front : IsPrefixOf growth whole
+
+-- a front of a text went out, and nothing is gathered
+abbrev pub LosesRest : List ℕ → List ℕ → Out → Type 0
+LosesRest had text out = HasFront had text out.0 × (out.1 ≡ [])
+
+-- What became of a text that was to be kept, by how that ended: where the sink failed, a front of it went out.
+abbrev pub KeepsAs : Result (Unit {0}) Stop → List ℕ → List ℕ → Out → Type 0
+KeepsAs (Ok done) had text out = Keeps had text out
+KeepsAs (Err ReadFault) had text out = Keeps had text out
+KeepsAs (Err WriteFault) had text out = LosesRest had text out
+KeepsAs (Err OutOfMemory) had text out = Keeps had text out
+KeepsAs (Err (Refused why)) had text out = Keeps had text out
+
+-- A piece more is kept of a text, but after want of memory.
+abbrev pub KeepsMore : Result (Unit {0}) Stop → List ℕ → List ℕ → List ℕ → Out → Type 0
+KeepsMore (Ok done) had text piece out = Keeps had (text ++ piece) out
+KeepsMore (Err ReadFault) had text piece out = ⊥
+KeepsMore (Err WriteFault) had text piece out = LosesRest had (text ++ piece) out
+KeepsMore (Err OutOfMemory) had text piece out = Keeps had text out
+KeepsMore (Err (Refused why)) had text piece out = ⊥
+
+-- The record of an entry was kept, or it was not.
+abbrev pub KeepsEntry : Result (Unit {0}) Stop → Entry → Out → Out → Type 0
+KeepsEntry result e before after = (had text : List ℕ) → Keeps had text before → KeepsMore result had text (record_of e) after
+
+-- A text that is kept went out: all of it, or where the sink failed a front.
+abbrev pub WritesOut : Result (Unit {0}) Stop → List ℕ → List ℕ → Option (List ℕ) → Type 0
+WritesOut (Ok done) had text written = written ≡ Some (had ++ text)
+WritesOut (Err why) had text written = HasFront had text written
+
+-- a write ends well, or the sink failed
+abbrev pub IsWriteEnd : Result (Unit {0}) Stop → Type 0
+IsWriteEnd (Ok done) = Unit {0}
+IsWriteEnd (Err ReadFault) = ⊥
+IsWriteEnd (Err WriteFault) = Unit {0}
+IsWriteEnd (Err OutOfMemory) = ⊥
+IsWriteEnd (Err (Refused why)) = ⊥

@@ -1,5 +1,6 @@
 pub mod Client
 pub mod Refused
+pub mod Due
 pub mod Machine
 pub mod Stop
 pub mod Replay

@@ -5,6 +5,7 @@ use Rattle.adb_capture.specs.declared.entry.Entry.TheVariants.{Put}
 use Rattle.adb_outside.specs.Tables.{at, IsRising}
 use Rattle.adb_history.specs.Machine.{Client, State, step, settled, bytes_in, asks_unbuilt, handed}
 use Rattle.adb_history.specs.Kept.{Kept, KeptClient, kept, kept_of}
+use Rattle.adb_history.specs.Drained.{next_out}
 use Rattle.adb_history.specs.Accepted.{refusal_of, is_input}
 use Rattle.adb_history.specs.Refusal.{refused_at}
 use Rattle.adb_history.specs.declared.refusal.Reason.TheVariants.{NotBuilt}
@@ -30,10 +31,15 @@ ReadsRow row bytes (Ok gone) now = (asks_unbuilt row bytes ≡ false) × Becomes
 ReadsRow row bytes (Err (refused.Because reason)) now = (reason ≡ NotBuilt) × (asks_unbuilt row bytes ≡ true)
 ReadsRow row bytes (Err refused.OutOfMemory) now = Unit {0}
 
--- bytes of a row were handed out, or it has none due
-abbrev pub HandsRow : Client → ℕ → Option HandOut → Option KeptClient → Type 0
-HandsRow row max None now = (row.due ≡ []) × (now ≡ Some (kept_of row))
-HandsRow row max (Some out) now = (row.due ≢ []) × (out.bytes ≡ take max row.due) × Becomes (settled (handed (length out.bytes) row)) out.gone now
+-- bytes came to a client of which nothing is kept
+abbrev pub ReadsNone : Result Bool Refused → Option KeptClient → Type 0
+ReadsNone (Ok gone) now = (gone ≡ false) × (now ≡ None)
+ReadsNone (Err (refused.Because reason)) now = ⊥
+ReadsNone (Err refused.OutOfMemory) now = Unit {0}
+
+-- the first bytes that are due to a row were handed out
+abbrev pub HandsRow : Client → HandOut → Option KeptClient → Type 0
+HandsRow row out now = (out.bytes ≡ take 65536 row.due) × Becomes (settled (handed (length out.bytes) row)) out.gone now
 
 -- what an entry makes of a state; a hand-out that was recorded is passed over
 abbrev pub applied : State → Entry → State
@@ -45,15 +51,14 @@ Applies s e (Ok done) new = ((offset : ℕ) → refusal_of s offset e ≡ None) 
 Applies s e (Err (refused.Because reason)) new = (offset : ℕ) → refusal_of s offset e ≡ refused_at offset reason
 Applies s e (Err refused.OutOfMemory) new = Unit {0}
 
--- how many bytes a machine has due to a client
-abbrev pub due_in : Option KeptClient → ℕ
-due_in None = 0
-due_in (Some row) = length row.due
+-- the first bytes that are due to a client were put to it
+abbrev pub Puts : State → ℕ → List ℕ → Kept → Type 0
+Puts s n bytes new = (bytes ≡ take 65536 (s.clients n).due) × (new ≡ kept (step s (Put n bytes)))
 
-abbrev pub due_at : ℕ → Kept → ℕ
-due_at n machine = due_in (at n machine.clients)
+abbrev pub after_out : Option Entry → State → State
+after_out None s = s
+after_out (Some e) s = step s e
 
--- The first bytes that are due to a client are put to it, or it has none due.
-abbrev pub Puts : State → ℕ → ℕ → Option (List ℕ) → Kept → Type 0
-Puts s n max None new = ((s.clients n).due ≡ []) × (new ≡ kept s)
-Puts s n max (Some bytes) new = ((s.clients n).due ≢ []) × (bytes ≡ take max (s.clients n).due) × (new ≡ kept (step s (Put n bytes)))
+-- The next hand-out of a state was made, where there is one.
+abbrev pub HandsNext : State → Option Entry → Kept → Type 0
+HandsNext s out new = (out ≡ next_out s) × (new ≡ kept (after_out out s))

@@ -6,15 +6,10 @@ use Rattle.adb_outside.specs.Bytes.{IsPrefixOf}
 use Rattle.adb_history.specs.Machine.{History, IsLegal}
 use Rattle.adb_history.specs.Answered.{IsAnswered}
 use Rattle.adb_history.specs.Accepted.{accepted, replayed}
+use Rattle.adb_top.specs.Keeping.{HasFront}
 use Rattle.adb_top.specs.Replay.{written_of, EndsAs}
 use Rattle.adb_top.specs.declared.stop.Stop.{Stop}
 use Rattle.adb_top.specs.declared.stop.Stop.TheVariants.{ReadFault, WriteFault, OutOfMemory, Refused}
-
--- a front of some bytes went out
-pub record HasFront (had whole : List ℕ) (written : Option (List ℕ)) : Type 0 where
-  pub growth : List ℕ
-  pub is : written ≡ Some (had ++ growth)
-  pub front : IsPrefixOf growth whole
 
 -- What went out of a text, by how its writing ended: all of it, or a front.
 abbrev pub WritesText : Result (Unit {0}) Stop → List ℕ → List ℕ → Option (List ℕ) → Type 0

@@ -4,7 +4,8 @@ use Rattle.adb_history.specs.Accepted.{Accepted, accepted, replayed}
 use Rattle.adb_history.specs.declared.refusal.Refusal.{Refusal}
 use Rattle.adb_top.specs.Words.{is_replay}
 use Rattle.adb_top.specs.Notes.{bad_capture_line}
-use Rattle.adb_top.specs.Replayed.{HasFront, GrowsSpelled}
+use Rattle.adb_top.specs.Keeping.{HasFront}
+use Rattle.adb_top.specs.Replayed.{GrowsSpelled}
 use Rattle.adb_top.specs.declared.status.Status.{Status}
 use Rattle.adb_top.specs.declared.status.Status.TheVariants.{Done, Usage, ReadFault, WriteFault, BadCapture, OutOfMemory}
 

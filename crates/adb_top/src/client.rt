@@ -1,6 +1,6 @@
 //! One client of the machine.
 
-ghost use Rattle.std.specs.Prelude.{◌≡◌, ◌<◌, ◌≤◌, ◌+◌, ◌++◌, List, ℕ, [], length, take, drop, All, IfOk, nat_lt};
+ghost use Rattle.std.specs.Prelude.{◌≡◌, ◌<◌, ◌≤◌, ◌+◌, ◌++◌, List, ℕ, [], length, take, All, IfOk, nat_lt};
 ghost use Rattle.std.specs.Option.{option_copied};
 ghost use Rattle.adb_history.specs.Machine.{Client as Row, fresh, settled, ended, handed, answer, end_phase, phase_after};
 ghost use Rattle.adb_history.specs.Kept.{kept_of, IsResting};
@@ -8,7 +8,7 @@ ghost use Rattle.adb_request.specs.Requests.{request_at};
 ghost use Rattle.adb_top.specs.Client.{ReadsPiece, AnswersFront, is_gone_phase};
 
 use adb_history::Phase;
-use adb_outside::{Cause, Text};
+use adb_outside::{ByteQueue, Cause, Text};
 use adb_request::{Found, Request, cut, read};
 use std::alloc::{AllocError, Global};
 use std::marker::Model;
@@ -56,19 +56,15 @@ fn first(bytes: &[u8], max: usize) -> &[u8]
 pub struct Client {
     phase: Phase,
     unread: Vec<u8>,
-    due: Vec<u8>,
-    handed: usize,
+    due: ByteQueue,
 }
 
 impl Model for Client {
-    ghost use Rattle.std.specs.Prelude.{◌≤◌, drop, length};
     ghost use Rattle.adb_history.specs.Kept.{KeptClient};
 
     ghost Value = { KeptClient };
 
-    ghost view = { λ c. record { phase = c.phase; unread = c.unread.items; due = drop c.handed c.due.items } };
-
-    ghost invariant = { λ c. c.handed ≤ length c.due.items };
+    ghost view = { λ c. record { phase = c.phase; unread = c.unread.items; due = c.due.bytes } };
 }
 
 impl Client {
@@ -79,8 +75,7 @@ impl Client {
         Client {
             phase: Phase::Asking,
             unread: Vec::new(alloc),
-            due: Vec::new(alloc),
-            handed: 0,
+            due: ByteQueue::new(alloc),
         }
     }
 
@@ -95,7 +90,7 @@ impl Client {
     pub fn is_owed(&self) -> bool
         ensures { result ≡ nat_lt 0 (length self.now.due) }
     {
-        self.handed < self.due.len()
+        !self.due.is_empty()
     }
 
     /// Bytes come from the client.
@@ -130,7 +125,7 @@ impl Client {
             Found::Whole { len } => {
                 let request = read(alloc, &self.unread[4..4 + len])?;
                 let reply = reply_to(&request).ok_or(Unread::NotBuilt)?;
-                self.due.extend_from_slice(reply)?;
+                self.due.push(reply)?;
                 self.close();
             }
         }
@@ -139,7 +134,9 @@ impl Client {
 
     /// The client's input ended.
     pub fn end(&mut self, cause: Cause)
-        ensures { (row : Row) → self.old ≡ kept_of row → self.new ≡ kept_of (settled (ended cause row)) }
+        ensures row { (row : Row) → self.old ≡ kept_of row
+            → self.new ≡ kept_of (settled (ended cause row)) }
+        ensures no_more { length self.new.due ≤ length self.old.due }
     {
         match cause {
             Cause::Eof => self.finish(),
@@ -153,27 +150,16 @@ impl Client {
     /// Hands out the first `max` of the bytes that are due, or all where there are fewer.
     pub fn hand(&mut self, alloc: Global, max: usize) -> Result<Text, AllocError>
         ensures bytes { IfOk result (λ text. text ≡ take max self.old.due) }
-        ensures row { IfOk result (λ text. (row : Row) → self.old ≡ kept_of row → self.new ≡ kept_of (settled (handed (length text) row))) }
+        ensures row { IfOk result (λ text. (row : Row) → self.old ≡ kept_of row
+            → self.new ≡ kept_of (settled (handed (length text) row))) }
         ensures in_range { IfOk result (All (λ b. b < 256)) }
         ensures short { IfOk result (λ text. length text ≤ max) }
         ensures fewer { IfOk result (λ text. length self.new.due + length text ≡ length self.old.due) }
     {
-        let text = Text::from_slice(alloc, first(&self.due[self.handed..], max))?;
-        self.took(text.len());
+        let text = Text::from_slice(alloc, first(self.due.as_slice(), max))?;
+        self.due.take(text.len());
         self.settle();
         Ok(text)
-    }
-
-    /// So many of the bytes that are due were handed out. Where these were all, the room is used anew.
-    fn took(&mut self, count: usize)
-        requires { count ≤ length self.old.due }
-        ensures { self.new ≡ record self.old { due = drop count self.old.due } }
-    {
-        self.handed += count;
-        if self.handed == self.due.len() {
-            self.due.clear();
-            self.handed = 0;
-        }
     }
 
     /// It is read no more.
@@ -200,7 +186,6 @@ impl Client {
     {
         self.unread.clear();
         self.due.clear();
-        self.handed = 0;
         self.phase = Phase::Gone;
     }
 

@@ -5,6 +5,7 @@ mod client;
 mod command;
 mod machine;
 mod note;
+mod output;
 mod replay;
 mod status;
 mod stop;

@@ -1,13 +1,15 @@
 //! The machine: the clients that live, and what each entry makes of them.
 
-ghost use Rattle.std.specs.Prelude.{◌≡◌, ◌≢◌, ◌<◌, ◌≤◌, ◌+◌, ◌∷◌, ℕ, List, Ok, Some, None, nat_eq, nat_lt, nat_le, ◌&&◌, if◌then◌else◌, false, length, All, IfOk, OnOk, IfSome};
+ghost use Rattle.std.specs.Prelude.{◌≡◌, ◌≢◌, ◌<◌, ◌≤◌, ◌+◌, ◌∷◌, ℕ, List, Ok, Some, None, nat_eq, nat_lt, nat_le, ◌&&◌, if◌then◌else◌, false, length, All, IfOk, OnOk, IfSome, IfNone};
 ghost use Rattle.adb_outside.specs.declared.kinds.Kind.{Kind};
 ghost use Rattle.adb_outside.specs.Tables.{at};
 ghost use Rattle.adb_capture.specs.declared.entry.Entry.{Entry};
 ghost use Rattle.adb_history.specs.Machine.{State, Client as Row, fresh, start, step, settled, ended};
 ghost use Rattle.adb_history.specs.Kept.{Kept, kept, kept_of, IsResting, IsOrderly};
 ghost use Rattle.adb_top.specs.Stop.{stop_at};
-ghost use Rattle.adb_top.specs.Machine.{ChangesOne, Becomes, ReadsRow, HandsRow, Applies, Puts, due_at};
+ghost use Rattle.adb_top.specs.Due.{due_at, owed_in};
+ghost use Rattle.adb_top.specs.Machine.{ChangesOne, Becomes, ReadsRow, ReadsNone, HandsRow, Applies, Puts, HandsNext};
+ghost use Rattle.adb_capture.specs.Records.{HasRecord};
 
 use crate::client::{Client, Unread};
 use crate::stop::Stop;
@@ -15,8 +17,11 @@ use adb_capture::Entry;
 use adb_history::{Reason, Refusal};
 use adb_outside::{Cause, Text, is_serial};
 use std::alloc::{AllocError, Global};
-use std::collections::BTreeMap;
+use std::collections::{BTreeMap, BTreeSet};
 use std::marker::Model;
+
+/// The most bytes of one hand-out.
+const HAND_OUT: usize = 65_536;
 
 /// Why an entry is not made.
 #[derive(Clone, Copy, Debug, PartialEq, Eq, Drop)]
@@ -76,14 +81,19 @@ pub struct Machine {
     alloc: Global,
     joined: u32,
     clients: BTreeMap<u32, Client>,
+    /// The clients that have bytes due, and some that have none.
+    due: BTreeSet<u32>,
 }
 
 impl Model for Machine {
     ghost use Rattle.adb_history.specs.Kept.{Kept};
+    ghost use Rattle.adb_top.specs.Due.{CoversDue};
 
     ghost Value = { Kept };
 
     ghost view = { λ m. record { joined = m.joined; clients = m.clients.entries } };
+
+    ghost invariant = { λ m. CoversDue m.due.keys m.clients.entries };
 }
 
 impl Machine {
@@ -95,6 +105,7 @@ impl Machine {
             alloc,
             joined: 0,
             clients: BTreeMap::new(alloc),
+            due: BTreeSet::new(alloc),
         }
     }
 
@@ -126,22 +137,53 @@ impl Machine {
         }
     }
 
-    /// Puts the first `max` of the bytes that are due to a client, or all where there are fewer;
-    /// `None` where none are due.
-    pub fn put(&mut self, client: u32, max: usize) -> Result<Option<Text>, AllocError>
-        requires { 0 < max }
-        ensures puts { IfOk result (λ out. (s : State) → IsOrderly s → self.old ≡ kept s → Puts s client max out self.new) }
-        ensures in_range { IfOk result (λ out. IfSome out (All (λ b. b < 256))) }
-        ensures short { IfOk result (λ out. IfSome out (λ bytes. length bytes ≤ max)) }
-        ensures fewer { IfOk result (λ out. IfSome out (λ bytes. due_at client self.new < due_at client self.old)) }
+    /// Makes the next hand-out: at most 65,536 bytes, to the first of the clients to which bytes are
+    /// due; `None` where there is none.
+    pub fn hand_next(&mut self) -> Result<Option<Entry>, AllocError>
+        ensures next { IfOk result (λ out. (s : State) → IsOrderly s → self.old ≡ kept s
+            → HandsNext s out self.new) }
+        ensures form { IfOk result (λ out. IfSome out HasRecord) }
+        ensures fewer { IfOk result (λ out. IfSome out (λ e. owed_in self.new < owed_in self.old)) }
     {
-        match self.row_hands(client, max)? {
+        match self.next_due() {
             None => Ok(None),
-            Some(out) => {
-                self.drop_if(client, out.gone);
-                Ok(Some(out.bytes))
+            Some(client) => {
+                let bytes = self.put(client)?;
+                Ok(Some(Entry::Put { client, bytes }))
             }
         }
+    }
+
+    /// The first of the clients to which bytes are due.
+    fn next_due(&mut self) -> Option<u32>
+        ensures same { self.new ≡ self.old }
+        ensures none { IfNone result ((n : ℕ) → due_at n self.old ≡ 0) }
+        ensures some { IfSome result (λ client. 0 < due_at client self.old) }
+        ensures first { IfSome result (λ client. (n : ℕ) → n < client → due_at n self.old ≡ 0) }
+    {
+        while let Some(client) = self.due.first().copied() {
+            match self.clients.get(&client) {
+                Some(row) if row.is_owed() => return Some(client),
+                _ => {
+                    self.due.remove(&client);
+                }
+            }
+        }
+        None
+    }
+
+    /// Puts the first of the bytes that are due to a client.
+    fn put(&mut self, client: u32) -> Result<Text, AllocError>
+        requires { 0 < due_at client self.old }
+        ensures puts { IfOk result (λ bytes. (s : State) → IsOrderly s → self.old ≡ kept s
+            → Puts s client bytes self.new) }
+        ensures in_range { IfOk result (All (λ b. b < 256)) }
+        ensures short { IfOk result (λ bytes. length bytes ≤ HAND_OUT) }
+        ensures fewer { OnOk result (owed_in self.new < owed_in self.old) }
+    {
+        let out = self.row_hands(client)?;
+        self.drop_if(client, out.gone);
+        Ok(out.bytes)
     }
 
     /// A client comes.
@@ -206,9 +248,12 @@ impl Machine {
     /// Bytes come to a client's row; answers whether nothing of it is to be kept.
     fn row_reads(&mut self, client: u32, bytes: &[u8]) -> Result<bool, Refused>
         ensures row { (row : Row) → IsResting row.phase row.unread → at client self.old.clients ≡ Some (kept_of row) → ReadsRow row bytes.now result (at client self.new.clients) }
-        ensures absent { at client self.old.clients ≡ None → (result ≡ Ok false) × (at client self.new.clients ≡ None) }
+        ensures absent { at client self.old.clients ≡ None → ReadsNone result (at client self.new.clients) }
         ensures others { OnOk result (ChangesOne self.old client self.new) }
     {
+        if self.due.insert(client).is_err() {
+            return Err(Refused::OutOfMemory);
+        }
         match self.clients.get_mut(&client) {
             None => Ok(false),
             Some(row) => {
@@ -234,29 +279,31 @@ impl Machine {
     }
 
     /// The first bytes that are due to a client's row are handed out.
-    fn row_hands(&mut self, client: u32, max: usize) -> Result<Option<HandOut>, AllocError>
-        requires { 0 < max }
-        ensures row { IfOk result (λ out. (row : Row) → at client self.old.clients ≡ Some (kept_of row) → HandsRow row max out (at client self.new.clients)) }
-        ensures absent { IfOk result (λ out. at client self.old.clients ≡ None → (out ≡ None) × (at client self.new.clients ≡ None)) }
+    fn row_hands(&mut self, client: u32) -> Result<HandOut, AllocError>
+        requires { 0 < due_at client self.old }
+        ensures row { IfOk result (λ out. (row : Row) → at client self.old.clients ≡ Some (kept_of row)
+            → HandsRow row out (at client self.new.clients)) }
         ensures others { OnOk result (ChangesOne self.old client self.new) }
-        ensures in_range { IfOk result (λ out. IfSome out (λ h. All (λ b. b < 256) h.bytes)) }
-        ensures short { IfOk result (λ out. IfSome out (λ h. length h.bytes ≤ max)) }
-        ensures fewer { IfOk result (λ out. IfSome out (λ h. due_at client self.new < due_at client self.old)) }
+        ensures in_range { IfOk result (λ out. All (λ b. b < 256) out.bytes) }
+        ensures short { IfOk result (λ out. length out.bytes ≤ HAND_OUT) }
+        ensures fewer { OnOk result (owed_in self.new < owed_in self.old) }
     {
         match self.clients.get_mut(&client) {
-            Some(row) if row.is_owed() => {
-                let bytes = row.hand(self.alloc, max)?;
+            None => unreachable!(),
+            Some(row) => {
+                let bytes = row.hand(self.alloc, HAND_OUT)?;
                 let gone = row.is_gone();
-                Ok(Some(HandOut { bytes, gone }))
+                Ok(HandOut { bytes, gone })
             }
-            _ => Ok(None),
         }
     }
 
     /// Drops a client's row where nothing of it is to be kept.
+    #[tactic(auto, using(crate::proofs::Owed::dropped_no_more))]
     fn drop_if(&mut self, client: u32, gone: bool)
         ensures here { at client self.new.clients ≡ (if gone then None else at client self.old.clients) }
         ensures others { ChangesOne self.old client self.new }
+        ensures no_more { owed_in self.new ≤ owed_in self.old }
     {
         if gone {
             self.clients.remove(&client);

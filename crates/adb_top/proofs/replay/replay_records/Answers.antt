@@ -1,35 +1,45 @@
-use Rattle.std.proofs.Common.{Some, None}
+use Rattle.std.proofs.Common.{refl, Some, None}
 use Rattle.std.proofs.lemmas.Result.{err_from_is_err_and}
-use Rattle.adb_top.proofs.Drains.{counts_on}
-use Rattle.adb_top.proofs.Records.{replaying_stopped, replaying_on, replaying_lost, replaying_over, given_as}
+use Rattle.adb_top.specs.Replay.{Moment, moment}
+use Rattle.adb_top.proofs.Drains.{counts_first, counts_then}
+use Rattle.adb_top.proofs.Records.{starts, replaying_first, replaying_stopped, replaying_on, replaying_lost, replaying_over, given_as}
 use Rattle.adb_top.proofs.replay.replay_records.Goals as goal
 
 pub returns-in_err-offset-clause-replays : goal.returns-in_err-offset-clause-replays
 returns-in_err-offset-clause-replays g c =
     let passed = err_from_is_err_and c.from_residual.result c.from_residual.ensures.1 in
-    rw (passed.1, passed.2) (replaying_stopped _ _ c.next.new.self _ _ _ _ _ _ c.in_err-offset.field-0.0 c.in_err-offset.ensures.answers c.loop-offset.invariant.replaying)
+    rw (passed.1, passed.2) (replaying_stopped _ _ (moment c.next.new.self (g.S.Source.left c.next.new.source) (g.K.Sink.written c.loop-machine.sink, c.loop-machine.output)) c.loop-machine.machine c.in_err-offset.field-0.0 refl
+    c.in_err-offset.ensures.answers c.loop-machine.invariant.replaying)
 
-pub loop-offset-preserved : goal.loop-offset-preserved
-loop-offset-preserved g c =
-    let gives = given_as c.loop-offset.reader c.next.new.self (g.S.Source.left c.loop-offset.source) (g.S.Source.left c.next.new.source) c.in_ok-offset.field-0 (Some (c.in-Some.offset, c.in-Some.entry)) c.in-Some.is c.in_ok-offset.ensures.answers in
+pub loop-machine-init : goal.loop-machine-init
+loop-machine-init g c = record {
+  replaying = replaying_first _ c.new-machine.result (starts c.new-machine.result c.new-machine.ensures) c.requires.sound;
+  reads_counted = counts_first _ _;
+  writes_counted = counts_first _ _;
+}
+
+pub loop-machine-preserved : goal.loop-machine-preserved
+loop-machine-preserved g c =
+    let now : Moment = moment c.loop-machine.reader (g.S.Source.left c.loop-machine.source) (g.K.Sink.written c.loop-machine.sink, c.loop-machine.output) in
+    let new : Moment = moment c.next.new.self (g.S.Source.left c.next.new.source) (g.K.Sink.written c.replay_entry.new.sink, c.replay_entry.new.output) in
+    let gives = given_as now new c.in_ok-offset.field-0 (Some (c.in-Some.offset, c.in-Some.entry)) c.in-Some.is c.in_ok-offset.ensures.answers in
     record {
-      replaying = replaying_on c.args.reader.now c.loop-offset.reader c.next.new.self (g.S.Source.left c.args.source.now) (g.S.Source.left c.loop-offset.source) (g.S.Source.left c.next.new.source)
-          (g.K.Sink.written c.args.sink.now) (g.K.Sink.written c.loop-offset.sink) (g.K.Sink.written c.replay_entry.new.sink) c.loop-offset.machine c.replay_entry.new.machine c.in-Some.offset c.in-Some.entry
-          gives (c.in_ok-offset.ensures.ok.1, c.in_ok-offset.ensures.ok.2) c.in_ok-replay_entry.ensures.drained c.in_ok-replay_entry.ensures.told c.loop-offset.invariant.replaying;
-      reads_counted = counts_on _ _ _ _ _ _ _ c.loop-offset.invariant.reads_counted (c.in_ok-offset.ensures.counts c.loop-offset.invariant.replaying.open_reader.0);
-      writes_counted = counts_on _ _ _ _ _ _ _ c.loop-offset.invariant.writes_counted c.in_ok-replay_entry.ensures.counts;
+      replaying = replaying_on _ now new c.loop-machine.machine c.replay_entry.new.machine c.in-Some.offset c.in-Some.entry gives c.in_ok-offset.ensures.ok.1 c.in_ok-replay_entry.ensures.replays c.loop-machine.invariant.replaying;
+      reads_counted = counts_then _ _ _ _ _ _ _ _ c.loop-machine.invariant.reads_counted (c.in_ok-offset.ensures.counts c.loop-machine.invariant.replaying.sound);
+      writes_counted = counts_then _ _ _ _ _ _ _ _ c.loop-machine.invariant.writes_counted c.in_ok-replay_entry.ensures.counts;
     }
 
 pub returns-in_err-replay_entry-clause-replays : goal.returns-in_err-replay_entry-clause-replays
 returns-in_err-replay_entry-clause-replays g c =
     let passed = err_from_is_err_and c.from_residual-in_err-replay_entry.result c.from_residual-in_err-replay_entry.ensures.1 in
-    let gives = given_as c.loop-offset.reader c.next.new.self (g.S.Source.left c.loop-offset.source) (g.S.Source.left c.next.new.source) c.in_ok-offset.field-0 (Some (c.in-Some.offset, c.in-Some.entry)) c.in-Some.is c.in_ok-offset.ensures.answers in
-    rw (passed.1, passed.2) (replaying_lost c.args.reader.now c.loop-offset.reader c.next.new.self (g.S.Source.left c.args.source.now) (g.S.Source.left c.loop-offset.source) (g.S.Source.left c.next.new.source)
-    (g.K.Sink.written c.args.sink.now) (g.K.Sink.written c.loop-offset.sink) (g.K.Sink.written c.replay_entry.new.sink) c.loop-offset.machine c.in-Some.offset c.in-Some.entry c.in_err-replay_entry.field-0.0
-    gives c.in_err-replay_entry.ensures.refused c.in_err-replay_entry.ensures.stopped c.in_err-replay_entry.ensures.reads c.loop-offset.invariant.replaying)
+    let now : Moment = moment c.loop-machine.reader (g.S.Source.left c.loop-machine.source) (g.K.Sink.written c.loop-machine.sink, c.loop-machine.output) in
+    let new : Moment = moment c.next.new.self (g.S.Source.left c.next.new.source) (g.K.Sink.written c.replay_entry.new.sink, c.replay_entry.new.output) in
+    let gives = given_as now new c.in_ok-offset.field-0 (Some (c.in-Some.offset, c.in-Some.entry)) c.in-Some.is c.in_ok-offset.ensures.answers in
+    rw (passed.1, passed.2) (replaying_lost _ now new c.loop-machine.machine c.replay_entry.new.machine c.in-Some.offset c.in-Some.entry c.in_err-replay_entry.field-0.0 gives c.in_err-replay_entry.ensures.replays
+    c.loop-machine.invariant.replaying)
 
 pub returns-clause-replays : goal.returns-clause-replays
 returns-clause-replays g c =
-    let gives = given_as c.loop-offset.reader c.next.new.self (g.S.Source.left c.loop-offset.source) (g.S.Source.left c.next.new.source) c.in_ok-offset.field-0 None c.in_default.is c.in_ok-offset.ensures.answers in
-    replaying_over c.args.reader.now c.loop-offset.reader c.next.new.self (g.S.Source.left c.args.source.now) (g.S.Source.left c.loop-offset.source) (g.S.Source.left c.next.new.source)
-    (g.K.Sink.written c.args.sink.now) (g.K.Sink.written c.loop-offset.sink) c.loop-offset.machine gives c.in_ok-offset.ensures.ok.2 c.loop-offset.invariant.replaying
+    let now : Moment = moment c.loop-machine.reader (g.S.Source.left c.loop-machine.source) (g.K.Sink.written c.loop-machine.sink, c.loop-machine.output) in
+    let new : Moment = moment c.next.new.self (g.S.Source.left c.next.new.source) (g.K.Sink.written c.loop-machine.sink, c.loop-machine.output) in
+    replaying_over _ now new c.loop-machine.machine refl (given_as now new c.in_ok-offset.field-0 None c.in_default.is c.in_ok-offset.ensures.answers) c.in_ok-offset.ensures.ok.2 c.loop-machine.invariant.replaying
