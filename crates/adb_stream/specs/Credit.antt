@@ -1,4 +1,4 @@
--- A credit in bytes.
+-- A credit in bytes, where both ends of a link name the feature `hub_credit`: a rule of this project's own.
 use Rattle.std.specs.Prelude.{ℕ, ◌≡◌, ◌+◌, ◌-◌, ◌<◌, ◌≤◌, ◌==◌, ◌||◌, nat_le, if◌then◌else◌}
 use Rattle.adb_stream.specs.declared.credit.TheConstants.{CREDIT_WINDOW, CREDIT_STEP}
 use Rattle.adb_stream.specs.declared.flow.Took.{Took}

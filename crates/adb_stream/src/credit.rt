@@ -12,10 +12,10 @@ pub const CREDIT_WINDOW: u32 = 262_144;
 /// How many bytes that were handed out are given back at once, where more are still to be.
 pub const CREDIT_STEP: u32 = 65_536;
 
-/// A credit in bytes, on a link whose two ends name the feature `hub_credit`: a WRTE holds no more
-/// bytes than there is credit for, and an OKAY gives credit for some more. Contracts see the credit
-/// to send, what the other end has left, how many bytes are still to be handed out, and how many
-/// were and are not given back yet. No call takes memory.
+/// A credit in bytes, on a link whose two ends name the feature `hub_credit`, which is this project's
+/// own: a WRTE holds no more bytes than there is credit for, and an OKAY gives credit for some more.
+/// Contracts see the credit to send, what the other end has left, how many bytes are still to be
+/// handed out, and how many were and are not given back yet. No call takes memory.
 #[derive(Clone, Copy, Drop)]
 pub struct Credit {
     to_send: u32,

@@ -19,7 +19,9 @@ pub enum Took {
 /// How the writes of a stream are held back: one write each way, or a credit in bytes.
 #[derive(Clone, Copy, Drop)]
 pub enum Flow {
+    /// One write each way, as protocol.txt has it.
     One(Window),
+    /// A credit in bytes, where both ends of the link name the feature `hub_credit`.
     Credit(Credit),
 }
 

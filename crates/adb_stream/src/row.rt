@@ -13,11 +13,14 @@ pub struct Part {
     pub flow: Flow,
 }
 
-/// A stream that lives (protocol.txt, OPEN): the server's id of it, and who is at its ends.
+/// A stream that lives (protocol.txt, OPEN).
 #[derive(Clone, Copy, Drop)]
 pub struct Stream {
+    /// The server's id of the stream, from 1.
     pub id: u32,
+    /// The number of its client.
     pub client: u32,
+    /// The transport id of the device on its link.
     pub link: u32,
     pub part: Part,
 }
