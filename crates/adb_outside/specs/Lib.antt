@@ -5,3 +5,4 @@ pub mod Identity
 pub mod Framing
 pub mod Memory
 pub mod Counted
+pub mod Decimal

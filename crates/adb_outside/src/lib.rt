@@ -2,6 +2,7 @@
 //! memory, and how a stream is cut into frames.
 #![tactic(auto)]
 
+mod decimal;
 mod framer;
 mod identity;
 mod kinds;
@@ -14,6 +15,7 @@ mod supply;
 mod tests;
 mod text;
 
+pub use decimal::read_number;
 pub use framer::{FeedError, Format, Framer, Front};
 pub use identity::{Identity, State, state_of, state_text};
 pub use kinds::{Cause, Kind, Selector};
