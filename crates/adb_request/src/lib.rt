@@ -3,8 +3,10 @@
 #![tactic(auto)]
 
 mod cutting;
+mod forms;
 mod hex;
 mod laws;
+mod meaning;
 mod request;
 #[cfg(test)]
 mod tests;
@@ -12,4 +14,5 @@ mod tests;
 pub use cutting::{Found, cut};
 pub use hex::{hex4, read_hex4};
 pub use laws::spelled_is_read;
-pub use request::{Request, read};
+pub use meaning::read;
+pub use request::{Request, Which};
