@@ -1,8 +1,8 @@
 -- The forms of requests that stand behind a prefix, which says of which device they ask (SERVICES.TXT, `<host-prefix>:<command>`).
 use Rattle.std.specs.Prelude.{ℕ, ◌+◌, Bool, true, false, ◌||◌, ◌&&◌, ◌==◌, nat_eq, nat_lt, nat_le, if◌then◌else◌, List, length, take, drop, Option, Some, None, codes, bytes_eq, option_and_then, option_map, position}
 use Rattle.std.specs.Option.{option_or}
-use Rattle.std.specs.List.{starts_with, list_all}
-use Rattle.std.specs.Char.{is_ascii_graphic}
+use Rattle.std.specs.List.{starts_with}
+use Rattle.adb_outside.specs.Bytes.{is_graphic}
 use Rattle.adb_outside.specs.Decimal.{number_in}
 use Rattle.adb_request.specs.declared.forms.TheConstants.{MAX_REMOTE}
 use Rattle.adb_request.specs.declared.request.Which.{Which}
@@ -23,10 +23,11 @@ local_in text = option_and_then (at_most 65535) (option_and_then (number_in 5) (
 
 -- whether a text can be the remote end of a forward: 1 to 512 bytes that are printed, and no space
 abbrev pub is_remote : List ℕ → Bool
-is_remote text = nat_lt 0 (length text) && nat_le (length text) MAX_REMOTE && list_all is_ascii_graphic text
+is_remote text = nat_lt 0 (length text) && nat_le (length text) MAX_REMOTE && is_graphic text
 
-abbrev pub is_semicolon : ℕ → Bool
-is_semicolon byte = byte == 59
+-- `;`
+abbrev pub semicolon : ℕ
+semicolon = 59
 
 abbrev pub forward_between : Which → Bool → Option ℕ → List ℕ → Request
 forward_between on norebind None remote = BadForward
@@ -38,7 +39,7 @@ forward_at on norebind spec (Some place) = forward_between on norebind (local_in
 
 -- the forward of a specification `<local>;<remote>`, which is cut at its first `;`
 abbrev pub forward_of : Which → Bool → List ℕ → Request
-forward_of on norebind spec = forward_at on norebind spec (position is_semicolon spec)
+forward_of on norebind spec = forward_at on norebind spec (position (λ byte. byte == semicolon) spec)
 
 -- the forward that goes, of its local end, whose port is not 0
 abbrev pub killed_at : Option ℕ → Request

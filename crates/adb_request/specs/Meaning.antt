@@ -44,8 +44,9 @@ host_request text =
     (option_or (option_map (λ id. Transport (Id id) false) (option_and_then id_in (behind (codes "transport-id:") text)))
     (form Own text))))
 
-abbrev pub is_colon : ℕ → Bool
-is_colon byte = byte == 58
+-- `:`
+abbrev pub colon : ℕ
+colon = 58
 
 -- what stands before and behind a colon
 pub record Split : Type 0 where
@@ -60,7 +61,7 @@ split_at text place = record { before = take place text; after = drop (place + 1
 abbrev pub splits_behind : List ℕ → List ℕ → List Split
 splits_behind front [] = []
 splits_behind front (b ∷ text) =
-    if is_colon b then record { before = front; after = text } ∷ splits_behind (front ++ b ∷ []) text
+    if b == colon then record { before = front; after = text } ∷ splits_behind (front ++ b ∷ []) text
     else splits_behind (front ++ b ∷ []) text
 
 -- what stands behind `host-serial:`, whose serial ends at the first colon behind which a form stands
@@ -71,7 +72,7 @@ serial_request text =
 -- what stands behind `host-transport-id:`, whose id ends at the first colon
 abbrev pub id_request : List ℕ → Option Request
 id_request text =
-    option_and_then (λ place. option_and_then (λ id. form (By (Id id)) (drop (place + 1) text)) (id_in (take place text))) (position is_colon text)
+    option_and_then (λ place. option_and_then (λ id. form (By (Id id)) (drop (place + 1) text)) (id_in (take place text))) (position (λ byte. byte == colon) text)
 
 -- a text that asks the host, and means nothing where no row fits it
 abbrev pub or_unknown : Option Request → Request

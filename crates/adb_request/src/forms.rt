@@ -1,12 +1,10 @@
 //! The forms of requests that stand behind a prefix.
 
-ghost use Rattle.std.specs.Prelude.{◌≡◌, ◌==◌, ◌≤◌, length, IfOk, IfSome, option_copied, position};
-ghost use Rattle.std.specs.List.{list_all};
-ghost use Rattle.std.specs.Char.{is_ascii_graphic};
-ghost use Rattle.adb_request.specs.Forms.{behind, at_most, local_in, is_remote, is_semicolon, forward_between, forward_of, killed_at, fixed_form, forward_form, form, is_fixed, is_form};
+ghost use Rattle.std.specs.Prelude.{◌≡◌, ◌==◌, ◌<◌, length, IfOk, IfSome, option_copied, position};
+ghost use Rattle.adb_request.specs.Forms.{behind, local_in, is_remote, forward_between, forward_of, killed_at, fixed_form, forward_form, form, is_fixed, is_form};
 
 use crate::request::{Request, Which};
-use adb_outside::{Text, read_number};
+use adb_outside::{Text, is_graphic, read_number};
 use std::alloc::{AllocError, Global};
 
 /// The most bytes of the remote end of a forward.
@@ -97,13 +95,21 @@ fn is_fixed(text: &[u8]) -> bool
 fn forward(alloc: Global, on: Which, norebind: bool, spec: &[u8]) -> Result<Request, AllocError>
     ensures { IfOk result (λ request. request ≡ forward_of on norebind spec.now) }
 {
-    match spec.iter().position(|byte| *byte == b';') {
+    match place_of(spec, b';') {
         None => Ok(Request::BadForward),
         Some(place) => {
             let local = read_local(&spec[..place]);
             forward_between(alloc, on, norebind, local, &spec[place + 1..])
         }
     }
+}
+
+/// The place of the first such byte, where there is one.
+pub(crate) fn place_of(text: &[u8], wanted: u8) -> Option<usize>
+    ensures place { result ≡ position (λ byte. byte == wanted) text.now }
+    ensures within { IfSome result (λ place. place < length text.now) }
+{
+    text.iter().position(|byte| *byte == wanted)
 }
 
 /// The forward between two ends.
@@ -153,7 +159,5 @@ fn read_local(text: &[u8]) -> Option<u16>
 fn is_remote(text: &[u8]) -> bool
     ensures { result ≡ is_remote text.now }
 {
-    !text.is_empty()
-        && text.len() <= MAX_REMOTE
-        && text.iter().all(|byte| byte.is_ascii_graphic())
+    !text.is_empty() && text.len() <= MAX_REMOTE && is_graphic(text)
 }

@@ -4,7 +4,7 @@ ghost use Rattle.std.specs.Prelude.{◌≡◌, ◌+◌, ◌<◌, [], length, IfO
 ghost use Rattle.adb_request.specs.Forms.{is_form};
 ghost use Rattle.adb_request.specs.Meaning.{id_in, fixed_request, fixed_transport, host_request, split_at, splits_behind, serial_request, id_request, host_meaning, meaning, or_unknown};
 
-use crate::forms::{behind, form, is_form};
+use crate::forms::{behind, form, is_form, place_of};
 use crate::request::{Request, Which};
 use adb_outside::{Selector, Text, read_number};
 use std::alloc::{AllocError, Global};
@@ -142,7 +142,7 @@ fn serial_end(text: &[u8]) -> Option<usize>
 fn id_request(alloc: Global, text: &[u8]) -> Result<Option<Request>, AllocError>
     ensures { IfOk result (λ request. request ≡ id_request text.now) }
 {
-    let Some(place) = text.iter().position(|byte| *byte == b':') else {
+    let Some(place) = place_of(text, b':') else {
         return Ok(None);
     };
     match read_id(&text[..place]) {
