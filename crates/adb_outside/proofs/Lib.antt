@@ -1,2 +1,4 @@
 pub mod FramingLaws
 pub mod Framers
+pub mod TableLaws
+pub mod ByteLaws

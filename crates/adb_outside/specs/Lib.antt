@@ -6,3 +6,6 @@ pub mod Framing
 pub mod Memory
 pub mod Counted
 pub mod Decimal
+pub mod Tables
+pub mod Bytes
+pub mod Serial
