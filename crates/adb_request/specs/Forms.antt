@@ -74,9 +74,9 @@ form on text = option_or (fixed_form on text) (forward_form on text)
 -- whether a text is one of the forms that say nothing else
 abbrev pub is_fixed : List ℕ → Bool
 is_fixed text =
-    bytes_eq text (codes "get-serialno") || bytes_eq text (codes "get-devpath") || bytes_eq text (codes "get-state")
-    || bytes_eq text (codes "features") || bytes_eq text (codes "killforward-all") || bytes_eq text (codes "list-forward")
+    bytes_eq text (codes "get-serialno") || (bytes_eq text (codes "get-devpath") || (bytes_eq text (codes "get-state")
+    || (bytes_eq text (codes "features") || (bytes_eq text (codes "killforward-all") || bytes_eq text (codes "list-forward")))))
 
 -- whether a text is one of the forms, whatever its prefix
 abbrev pub is_form : List ℕ → Bool
-is_form text = is_fixed text || starts_with nat_eq text (codes "forward:") || starts_with nat_eq text (codes "killforward:")
+is_form text = is_fixed text || (starts_with nat_eq text (codes "forward:") || starts_with nat_eq text (codes "killforward:"))
