@@ -1,0 +1,4 @@
+pub mod Strings
+pub mod Refusals
+pub mod Chosen
+pub mod Answer
