@@ -11,6 +11,7 @@ use Rattle.bstr.specs.Bytes.{is_in, not_in}
 use Rattle.bstr.specs.Text.{SplitsOnce}
 use Rattle.memchr.specs.Find.{IsLastByte, FindsNeedle, OccursAt, matches, first_of}
 use Rattle.memchr.proofs.lemmas.ValueLemmas.{FindsNeedle-value}
+use Rattle.adb_banner.specs.declared.identity.TheConstants.{MAX_IDENTITY}
 use Rattle.adb_banner.specs.Banner.{is_nul, is_colon, is_identity, without_nuls}
 
 -- a byte that is outside the set of NUL is no NUL
@@ -41,7 +42,8 @@ taken bytes n le nuls =
     let same : n ≡ length bytes - suffix_len is_nul bytes = omega arith in ap (λ m. take m bytes) same
 
 -- the bytes up to the last that is no NUL
-pub without_nuls_is : (bytes : List ℕ) (last : Option ℕ) → IsLastByte (not_in (0 ∷ [])) bytes last → MatchOption last ([] ≡ without_nuls bytes) (λ k. take (k + 1) bytes ≡ without_nuls bytes)
+pub without_nuls_is : (bytes : List ℕ) (last : Option ℕ) → IsLastByte (not_in (0 ∷ [])) bytes last
+    → MatchOption last ([] ≡ without_nuls bytes) (λ k. take (k + 1) bytes ≡ without_nuls bytes)
 without_nuls_is bytes None none =
     taken bytes 0 (omega arith) (suffix_len_is is_nul bytes 0 0 (omega arith) (λ k lo hi. nul_from_not _ (none k lo hi)) (λ no. absurd (omega arith)))
 without_nuls_is bytes (Some k) found =
@@ -125,9 +127,21 @@ module _ (c : ℕ) (bytes : List ℕ) where
           let end : length bytes ≤ first = grind (arith, nat_tests) in
           λ k lo hi occurs. not_before k (omega (arith, occurs.fits)) occurs
 
+  -- there is no such byte
+  pub record IsAbsent : Type 0 where
+    pub count : count_by is_it bytes ≡ 0
+    pub absent : list_any is_it bytes ≡ false
+
+  -- these are the bytes before and after the first such byte
+  pub record IsCut (front rest : List ℕ) : Type 0 where
+    pub count : count_by is_it bytes ≡ count_by is_it (after_first is_it bytes) + 1
+    pub some : list_any is_it bytes ≡ true
+    pub before : front ≡ before_first is_it bytes
+    pub after : rest ≡ after_first is_it bytes
+
   -- a cut at the first such byte, or none where there is no such byte
   pub cut_at_first : (cut : Option (Bor (List ℕ) × Bor (List ℕ))) → SplitsOnce bytes (c ∷ []) (first_of (matches bytes (c ∷ []) 0)) cut
-      → MatchOption cut ((count_by is_it bytes ≡ 0) × (list_any is_it bytes ≡ false)) (λ x. (count_by is_it bytes ≡ count_by is_it (after_first is_it bytes) + 1) × (list_any is_it bytes ≡ true) × (x.0.now ≡ before_first is_it bytes) × (x.1.now ≡ after_first is_it bytes))
+      → MatchOption cut IsAbsent (λ x. IsCut x.0.now x.1.now)
   cut_at_first cut splits = go cut (subst (λ r. SplitsOnce bytes (c ∷ []) r cut) (sym first_match) splits)
     where
       end : position is_it bytes ≡ None → first ≡ length bytes
@@ -146,22 +160,23 @@ module _ (c : ℕ) (bytes : List ℕ) where
           go false ge e = cc
 
       go : (cut : Option (Bor (List ℕ) × Bor (List ℕ))) → SplitsOnce bytes (c ∷ []) (position is_it bytes) cut
-          → MatchOption cut ((count_by is_it bytes ≡ 0) × (list_any is_it bytes ≡ false)) (λ x. (count_by is_it bytes ≡ count_by is_it (after_first is_it bytes) + 1) × (list_any is_it bytes ≡ true) × (x.0.now ≡ before_first is_it bytes) × (x.1.now ≡ after_first is_it bytes))
+          → MatchOption cut IsAbsent (λ x. IsCut x.0.now x.1.now)
       go None none =
-          (count_by-none is_it bytes (end none), list_any-none is_it bytes (none_passes is_it bytes (end none)))
+          record { count = count_by-none is_it bytes (end none); absent = list_any-none is_it bytes (none_passes is_it bytes (end none)) }
       go (Some x) some =
-          let at = place some.0 some.1 in (
-            count_by-some is_it bytes at.0,
-            any-some is_it bytes at.0,
-            some.2 ∙ ap (λ k. take k bytes) at.1,
-            some.3 ∙ ap (λ k. drop (k + 1) bytes) at.1,
-          )
+          let at = place some.0 some.1 in
+          record {
+            count = count_by-some is_it bytes at.0;
+            some = any-some is_it bytes at.0;
+            before = some.2 ∙ ap (λ k. take k bytes) at.1;
+            after = some.3 ∙ ap (λ k. drop (k + 1) bytes) at.1;
+          }
 
 -- the test of an identity, over its two numbers
-few : (n m : ℕ) → n < 2 → (nat_le 2 n && nat_le m 32768) ≡ false
+few : (n m : ℕ) → n < 2 → (nat_le 2 n && nat_le m MAX_IDENTITY) ≡ false
 few n m h = grind (arith, nat_tests)
 
-enough : (n m : ℕ) → 2 ≤ n → m ≤ 32768 → (nat_le 2 n && nat_le m 32768) ≡ true
+enough : (n m : ℕ) → 2 ≤ n → m ≤ MAX_IDENTITY → (nat_le 2 n && nat_le m MAX_IDENTITY) ≡ true
 enough n m h short = grind (arith, nat_tests)
 
 -- no colon, one, and two or more
@@ -174,6 +189,6 @@ module _ (text : List ℕ) where
     is_identity-one none =
         let same = ap (count_by is_colon) is in few (count_by is_colon text) (length text) (omega arith)
 
-    pub is_identity-two : (n : ℕ) → count_by is_colon rest ≡ n + 1 → length text ≤ 32768 → is_identity text ≡ true
+    pub is_identity-two : (n : ℕ) → count_by is_colon rest ≡ n + 1 → length text ≤ MAX_IDENTITY → is_identity text ≡ true
     is_identity-two n more short =
         let same = ap (count_by is_colon) is in enough (count_by is_colon text) (length text) (omega arith) short

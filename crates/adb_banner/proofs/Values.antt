@@ -12,11 +12,16 @@ last_or-append o [] ys = refl
 last_or-append o (x ∷ xs) ys = last_or-append (Some x) xs ys
 
 -- one more part
-pub last_value-push : (key : List ℕ) (parts : List (List ℕ)) (part : List ℕ) → last_value key (parts ++ part ∷ []) ≡ unwrap_or (part_value key part) (last_value key parts)
+pub last_value-push : (key : List ℕ) (parts : List (List ℕ)) (part : List ℕ)
+    → last_value key (parts ++ part ∷ []) ≡ unwrap_or (part_value key part) (last_value key parts)
 unfolding last_value
 last_value-push key parts part =
-    ap (λ vs. unwrap_or (last_or None vs) []) (filter_map-append (part_value key) parts (part ∷ [])) ∙ (ap (λ o. unwrap_or o []) (last_or-append None (filter_map (part_value key) parts) (filter_map (part_value key) (part ∷ []))) ∙ go (part_value key part) (last_or None (filter_map (part_value key) parts)))
+    ap (λ vs. unwrap_or (last_or None vs) []) (filter_map-append (part_value key) parts (part ∷ []))
+    ∙ (ap (λ o. unwrap_or o []) (last_or-append None (values parts) (values (part ∷ []))) ∙ go (part_value key part) (last_or None (values parts)))
   where
+    values : List (List ℕ) → List (List ℕ)
+    values = filter_map (part_value key)
+
     go : (value before : Option (List ℕ)) → unwrap_or (last_or before (cons_option value [])) [] ≡ unwrap_or value (unwrap_or before [])
     go None before = refl
     go (Some v) before = refl
@@ -56,28 +61,36 @@ All-slice_split p (x ∷ xs) = go (p x) (slice_split p xs) (All-slice_split p xs
     go true parts all = All-cons (IsUpTo (length (x ∷ xs))) [] parts (omega arith) (longer parts all)
     go false parts all = onto parts all
 
+-- The value found so far, among the parts left, is no longer than the longest part.
+length-found : (key : List ℕ) (n : ℕ) (found : Option (List ℕ)) (parts : List (List ℕ)) → IsUpTo n (unwrap_or found []) → All (IsUpTo n) parts
+    → IsUpTo n (unwrap_or (last_or found (filter_map (part_value key) parts)) [])
+length-found key n found [] short all = short
+length-found key n found (part ∷ parts) short all =
+    go (part_value key part) refl (λ next less. length-found key n next parts less (All-tail (IsUpTo n) part parts all))
+  where
+    go : (value : Option (List ℕ)) → part_value key part ≡ value
+        → ((next : Option (List ℕ)) → IsUpTo n (unwrap_or next []) → IsUpTo n (unwrap_or (last_or next (filter_map (part_value key) parts)) []))
+        → IsUpTo n (unwrap_or (last_or found (cons_option value (filter_map (part_value key) parts))) [])
+    go None is later = later found short
+    go (Some value) is later =
+        let fits = length-part_value key part value is in
+        let whole = All-head (IsUpTo n) part parts all in
+        later (Some value) (omega arith)
+
 -- no value is longer than the longest part
 pub length-last_value : (key : List ℕ) (n : ℕ) (parts : List (List ℕ)) → All (λ part. length part ≤ n) parts → length (last_value key parts) ≤ n
 unfolding last_value
-length-last_value key n parts short = go None parts (omega arith) short
-  where
-    step : (part : List ℕ) (parts : List (List ℕ)) (value before : Option (List ℕ)) → part_value key part ≡ value → length part ≤ n → length (unwrap_or before []) ≤ n → ((next : Option (List ℕ)) → length (unwrap_or next []) ≤ n → length (unwrap_or (last_or next (filter_map (part_value key) parts)) []) ≤ n) → length (unwrap_or (last_or before (cons_option value (filter_map (part_value key) parts))) []) ≤ n
-    step part parts None before is le h later = later before h
-    step part parts (Some value) before is le h later =
-        let fits = length-part_value key part value is in later (Some value) (omega arith)
-
-    go : (before : Option (List ℕ)) (parts : List (List ℕ)) → length (unwrap_or before []) ≤ n → All (λ part. length part ≤ n) parts → length (unwrap_or (last_or before (filter_map (part_value key) parts)) []) ≤ n
-    go before [] h all = h
-    go before (part ∷ parts) h all =
-        step part parts (part_value key part) before refl (All-head (λ q. length q ≤ n) part parts all) h (λ next less. go next parts less (All-tail (λ q. length q ≤ n) part parts all))
+length-last_value key n parts short = length-found key n None parts (omega arith) short
 
 -- what one part gives
 pub part_value-none : (key part : List ℕ) → list_any is_equals part ≡ false → part_value key part ≡ None
 part_value-none key part none = rw none refl
 
-pub part_value-some : (key part : List ℕ) → list_any is_equals part ≡ true → part_value key part ≡ cond (bytes_eq (before_first is_equals part) key) (Some (after_first is_equals part)) None
+pub part_value-some : (key part : List ℕ) → list_any is_equals part ≡ true
+    → part_value key part ≡ cond (bytes_eq (before_first is_equals part) key) (Some (after_first is_equals part)) None
 part_value-some key part some = rw some refl
 
-pub last_value-yielded : (key : List ℕ) (yielded : List (Bor (List ℕ))) (part : Bor (List ℕ)) → last_value key (map (λ p. p.now) (yielded ++ part ∷ [])) ≡ unwrap_or (part_value key part.now) (last_value key (map (λ p. p.now) yielded))
+pub last_value-yielded : (key : List ℕ) (yielded : List (Bor (List ℕ))) (part : Bor (List ℕ))
+    → last_value key (map (λ p. p.now) (yielded ++ part ∷ [])) ≡ unwrap_or (part_value key part.now) (last_value key (map (λ p. p.now) yielded))
 last_value-yielded key yielded part =
     ap (last_value key) (map-append (λ p. p.now) yielded (part ∷ [])) ∙ last_value-push key (map (λ p. p.now) yielded) part.now

@@ -2,6 +2,7 @@
 use Rattle.std.specs.Prelude.{ℕ, Bool, ◌==◌, ◌&&◌, ◌-◌, nat_le, if◌then◌else◌, List, [], length, take, count_by, Option, Some, None, unwrap_or, codes, bytes_eq}
 use Rattle.std.specs.List.{suffix_len, before_first, after_first, slice_split, filter_map, last_or, list_any}
 use Rattle.adb_outside.specs.declared.identity.Identity.{Identity}
+use Rattle.adb_banner.specs.declared.identity.TheConstants.{MAX_IDENTITY}
 
 -- the byte that ends a text in C, and may stand after an identity
 abbrev pub is_nul : ℕ → Bool
@@ -37,9 +38,9 @@ part_value key part =
 unfoldable pub last_value : List ℕ → List (List ℕ) → List ℕ
 last_value key parts = unwrap_or (last_or None (filter_map (part_value key) parts)) []
 
--- whether a text has two colons at least, and 32,768 bytes at most
+-- whether a text has two colons at least, and is not too long
 abbrev pub is_identity : List ℕ → Bool
-is_identity text = nat_le 2 (count_by is_colon text) && nat_le (length text) 32768
+is_identity text = nat_le 2 (count_by is_colon text) && nat_le (length text) MAX_IDENTITY
 
 -- what a text says that is cut at its first two colons
 abbrev pub identity_in : List ℕ → Identity

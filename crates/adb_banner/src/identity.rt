@@ -10,13 +10,13 @@ use adb_outside::{Identity, Text};
 use bstr::ByteSlice;
 use std::alloc::{AllocError, Global};
 
-/// How many bytes an identity may have.
-const MAX_IDENTITY: usize = 32768;
+/// How many bytes an identity may have, without the NULs at its end.
+pub const MAX_IDENTITY: usize = 32_768;
 
 /// Why no identity was read.
 #[derive(Clone, Copy, Debug, PartialEq, Eq, Drop)]
 pub enum IdentityError {
-    /// Without the NULs at their end, the bytes have fewer than two colons, or are more than 32,768.
+    /// Without the NULs at their end, the bytes have fewer than two colons, or are too many.
     NotIdentity,
     OutOfMemory,
 }
@@ -29,18 +29,18 @@ impl From<AllocError> for IdentityError {
     }
 }
 
-/// Reads the payload of a CNXN, `<system>:<serial>:<banner>`, where NULs may stand at the end. It is
-/// cut at its first two colons, so a banner may have more. The banner has parts `<key>=<value>`
+/// Reads the payload of a CNXN, `<system>:<serial>:<banner>`, where NULs may stand at the end. It
+/// is cut at its first two colons, so a banner may have more. The banner has parts `<key>=<value>`
 /// between `;`, each cut at its first `=`. The keys `ro.product.name`, `ro.product.model`,
 /// `ro.product.device` and `features` are known, and of a repeated one the last counts; other keys,
-/// and parts without `=`, are passed over. `NotIdentity` comes exactly where fewer than two colons
-/// stand, or more than 32,768 bytes without the NULs.
+/// and parts without `=`, are passed over. `NotIdentity` comes exactly where, without the NULs,
+/// fewer than two colons stand or there are more than `MAX_IDENTITY` bytes.
 #[tactic(auto, unfolding(crate::specs::Banner::identity_of))]
 pub fn read(alloc: Global, bytes: &[u8]) -> Result<Identity, IdentityError>
     ensures identity { IfOk result (λ identity. identity_of bytes.now ≡ Some identity) }
     ensures not_identity { (result ≡ Err IdentityError.NotIdentity)
         ↔ (identity_of bytes.now ≡ None) }
-    ensures features_short { IfOk result (λ identity. length identity.features ≤ 32768) }
+    ensures features_short { IfOk result (λ identity. length identity.features ≤ MAX_IDENTITY) }
 {
     let sections = cut(bytes).ok_or(IdentityError::NotIdentity)?;
     Ok(Identity {
@@ -53,8 +53,8 @@ pub fn read(alloc: Global, bytes: &[u8]) -> Result<Identity, IdentityError>
     })
 }
 
-/// Whether the name is one of the comma-separated parts of the features. Features that are empty have
-/// one part, which is empty.
+/// Whether the name is one of the comma-separated parts of the features. Features that are empty
+/// have one part, which is empty.
 pub fn has_feature(identity: &Identity, name: &[u8]) -> bool
     ensures { result ≡ is_feature identity.now.features name.now }
 {

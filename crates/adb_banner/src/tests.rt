@@ -16,14 +16,6 @@ fn has_texts(identity: &Identity, want: Texts) -> bool {
         && identity.features.as_slice() == want[5]
 }
 
-fn assert_read(rt: &impl Abort, alloc: Global, bytes: &[u8], want: Texts) {
-    let identity = read(alloc, bytes);
-    assert!(rt;
-        identity.is_ok_and(|identity| has_texts(&identity, want)),
-        "{bytes:?}"
-    );
-}
-
 /// Two colons, letters up to a length, and NULs up to another.
 fn padded(alloc: Global, letters: usize, whole: usize) -> Result<Vec<u8>, AllocError> {
     let mut bytes = Vec::from_slice(alloc, b"::")?;
@@ -32,11 +24,18 @@ fn padded(alloc: Global, letters: usize, whole: usize) -> Result<Vec<u8>, AllocE
     Ok(bytes)
 }
 
+/// What stands for the texts of bytes that are no identity.
+const REFUSED: Texts = [b"(refused)"; 6];
+
+/// The texts of an identity of which only the features are there.
+fn featuring(features: &'static [u8]) -> Texts {
+    [b"", b"", b"", b"", b"", features]
+}
+
 #[test]
 fn identities_read(rt: HostRuntime) {
-    let alloc = rt.alloc();
-    let cases: [(&[u8], Texts); 4] = [
-        (b"::", [b"", b"", b"", b"", b"", b""]),
+    let cases: [(&[u8], Texts); 18] = [
+        (b"::", featuring(b"")),
         (
             b"device::ro.product.model=Pix 3;features=shell_v2;",
             [b"device", b"", b"", b"Pix 3", b"", b"shell_v2"],
@@ -46,50 +45,41 @@ fn identities_read(rt: HostRuntime) {
             [b"host", b"s1", b"a", b"b", b"c", b"d,e"],
         ),
         (b"a:b:c:features=d:e", [b"a", b"b", b"", b"", b"", b""]),
-    ];
-    for (bytes, want) in cases {
-        assert_read(&rt, alloc, bytes, want);
-    }
-}
-
-#[test]
-fn corners_of_banners(rt: HostRuntime) {
-    let alloc = rt.alloc();
-    let cases: [(&[u8], &'static [u8]); 9] = [
-        (b"::features=a;features=b", b"b"),
-        (b"::features=a;features=", b""),
-        (b"::features=a;features", b"a"),
-        (b"::features=a=b=c;", b"a=b=c"),
-        (b"::features=a:b", b"a:b"),
+        (b"::features=a;features=b", featuring(b"b")),
+        (b"::features=a;features=", featuring(b"")),
+        (b"::features=a;features", featuring(b"a")),
+        (b"::features=a=b=c;", featuring(b"a=b=c")),
+        (b"::features=a:b", featuring(b"a:b")),
         (
             b"::;;=x;features =x; features=x;Features=x;feature=x;featuress=x",
-            b"",
+            featuring(b""),
         ),
-        (b"::features=a\0\0\0", b"a"),
-        (b"::features=a\0b;\0", b"a\0b"),
-        (b"::features=a;\0features=b", b"a"),
+        (b"::features=a\0\0\0", featuring(b"a")),
+        (b"::features=a\0b;\0", featuring(b"a\0b")),
+        (b"::features=a;\0features=b", featuring(b"a")),
+        (b"", REFUSED),
+        (b"\0\0", REFUSED),
+        (b"device", REFUSED),
+        (b"device:", REFUSED),
+        (b"device\0:", REFUSED),
     ];
-    for (bytes, features) in cases {
-        assert_read(&rt, alloc, bytes, [b"", b"", b"", b"", b"", features]);
+    for (bytes, want) in cases {
+        let is_right = match read(rt.alloc(), bytes) {
+            Ok(identity) => has_texts(&identity, want),
+            Err(error) => error == IdentityError::NotIdentity && want[0] == REFUSED[0],
+        };
+        assert!(rt; is_right, "{bytes:?}");
     }
 }
 
 #[test]
-fn no_identities(rt: HostRuntime) -> Result<(), Fail> {
-    let alloc = rt.alloc();
-    let cases: [&[u8]; 5] = [b"", b"\0\0", b"device", b"device:", b"device\0:"];
-    for bytes in cases {
-        let refused = read(alloc, bytes).err();
-        assert_eq!(rt; refused, Some(IdentityError::NotIdentity), "{bytes:?}");
-    }
+fn the_longest_identity(rt: HostRuntime) -> Result<(), Fail> {
     for (letters, whole, want) in [
-        (32768, 32768, None),
         (32768, 32770, None),
         (32769, 32769, Some(IdentityError::NotIdentity)),
-        (32769, 32770, Some(IdentityError::NotIdentity)),
     ] {
-        let bytes = padded(alloc, letters, whole)?;
-        assert_eq!(rt; read(alloc, &bytes).err(), want, "{letters} {whole}");
+        let bytes = padded(rt.alloc(), letters, whole)?;
+        assert_eq!(rt; read(rt.alloc(), &bytes).err(), want, "{letters} {whole}");
     }
     Ok(())
 }

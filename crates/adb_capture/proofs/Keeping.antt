@@ -3,7 +3,7 @@ use Rattle.std.proofs.Common.{ℕ, ◌+◌, ◌≡◌, ◌≤◌, List, [], ◌�
 use Rattle.std.specs.Prelude.{option_map}
 use Rattle.std.proofs.lemmas.List.{append_assoc, take-append-drop, drop-append-le}
 use Rattle.adb_outside.specs.Source.{Takes}
-use Rattle.adb_capture.specs.Counting.{Counted}
+use Rattle.adb_outside.specs.Outside.{Counted}
 
 -- the first bytes that were to come are held now
 pub keeps_more : (old held chunk coming : List ℕ) (after : Option (List ℕ)) (n : ℕ) → held ≡ old ++ take n chunk → Takes coming after chunk n → option_map (λ rest. held ++ rest) after ≡ Some (old ++ coming)

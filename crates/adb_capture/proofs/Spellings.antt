@@ -13,7 +13,7 @@ use Rattle.adb_outside.specs.declared.kinds.Cause.{Cause}
 use Rattle.adb_outside.specs.declared.kinds.Cause.TheVariants.{Eof, Fault, Starved, NoThread}
 use Rattle.adb_capture.specs.declared.entry.Entry.{Entry}
 use Rattle.adb_capture.specs.declared.entry.Entry.TheVariants.{Join, Enter, Read, End, Bound, Attach, Recv, Detach, Put, Send}
-use Rattle.adb_capture.specs.Records.{record_at, is_kind, kind_in, owner_in, size_in, data_in, entry_at, entry_in, or_join, kind_of, owner_of, data_of, record_of, cause_byte, plug_letter, HasRecord, HasPort, cause_at, port_at, plug_at, join_at, enter_at, bound_at, end_at, detach_at, attach_by, attach_at}
+use Rattle.adb_capture.specs.Records.{record_at, is_kind, kind_in, owner_in, size_in, data_in, entry_at, entry_in, or_join, kind_of, number_of, data_of, record_of, cause_byte, plug_letter, HasRecord, HasPort, cause_at, port_at, plug_at, join_at, enter_at, bound_at, end_at, detach_at, attach_by, attach_at}
 use Rattle.adb_capture.proofs.Fronts.{entry_of, whole_tells, whole_told, whole_alone}
 
 kind_known : (e : Entry) → is_kind (kind_of e) ≡ true
@@ -49,7 +49,7 @@ attach_again n Usb serial = refl
 attach_again n Local serial = refl
 
 -- an entry's kind, number and data are read as the entry
-pub entry_again : (e : Entry) → HasPort e → entry_at (kind_of e) (owner_of e) (data_of e) ≡ Some e
+pub entry_again : (e : Entry) → HasPort e → entry_at (kind_of e) (number_of e) (data_of e) ≡ Some e
 entry_again (Join client) h = refl
 entry_again (Enter client port) h = ap (enter_at client) (port_again port h.1) ∙ ap (λ (b : Bool). if b then None else Some (Enter client port)) (ne_eqb port 0 (λ e. omega (arith, h.0)))
 entry_again (Read client bytes) h = refl
@@ -64,8 +64,8 @@ entry_again (Send link bytes) h = refl
 size_again : (e : Entry) (rest : List ℕ) → HasRecord e → size_in (record_of e ++ rest) ≡ length (data_of e)
 size_again e rest h = little_number-reads_back 4 (length (data_of e)) (data_of e ++ rest) (omega (arith, h.size))
 
-owner_again : (e : Entry) (rest : List ℕ) → HasRecord e → owner_in (record_of e ++ rest) ≡ owner_of e
-owner_again e rest h = little_number-reads_back 4 (owner_of e) (little_bytes 4 (length (data_of e)) ++ data_of e ++ rest) h.owner
+owner_again : (e : Entry) (rest : List ℕ) → HasRecord e → owner_in (record_of e ++ rest) ≡ number_of e
+owner_again e rest h = little_number-reads_back 4 (number_of e) (little_bytes 4 (length (data_of e)) ++ data_of e ++ rest) h.owner
 
 data_again : (e : Entry) (rest : List ℕ) → HasRecord e → data_in (record_of e ++ rest) ≡ data_of e
 data_again e rest h = ap (λ n. take n (data_of e ++ rest)) (size_again e rest h) ∙ take_at (data_of e) rest (length (data_of e)) refl
@@ -73,7 +73,7 @@ data_again e rest h = ap (λ n. take n (data_of e ++ rest)) (size_again e rest h
 all_again : (e : Entry) (rest : List ℕ) → HasRecord e → entry_of (record_of e ++ rest) ≡ Some e
 all_again e rest h =
     ap (λ n. entry_at (kind_of e) n (data_in (record_of e ++ rest))) (owner_again e rest h)
-    ∙ (ap (λ bytes. entry_at (kind_of e) (owner_of e) bytes) (data_again e rest h) ∙ entry_again e h.port)
+    ∙ (ap (λ bytes. entry_at (kind_of e) (number_of e) bytes) (data_again e rest h) ∙ entry_again e h.port)
 
 pub length_record : (e : Entry) → length (record_of e) ≡ 9 + length (data_of e)
 length_record e = omega arith
@@ -112,7 +112,7 @@ two_bytes a b ha hb = two_cells (little_number 2 (a ∷ b ∷ [])) a b (omega ar
 -- an entry that was read has that kind, that number and those data
 pub record Spells (kind n : ℕ) (bytes : List ℕ) (e : Entry) : Type 0 where
   pub kind_is : kind ≡ kind_of e
-  pub owner_is : n ≡ owner_of e
+  pub owner_is : n ≡ number_of e
   pub data_is : bytes ≡ data_of e
   pub port : HasPort e
 
@@ -129,8 +129,8 @@ by_kind kind k n bytes o others h i = go (nat_eq kind k) refl
     go true t = λ e is. let s = h e is in record { kind_is = eqb-true kind k t ∙ s.kind_is; owner_is = s.owner_is; data_is = s.data_is; port = s.port }
     go false t = i
 
-this_entry : (e : Entry) → HasPort e → AreSpelled (kind_of e) (owner_of e) (data_of e) (Some e)
-this_entry e port other is = let same : e ≡ other = cc in subst (λ (x : Entry). Spells (kind_of e) (owner_of e) (data_of e) x) same (record { kind_is = refl; owner_is = refl; data_is = refl; port = port })
+this_entry : (e : Entry) → HasPort e → AreSpelled (kind_of e) (number_of e) (data_of e) (Some e)
+this_entry e port other is = let same : e ≡ other = cc in subst (λ (x : Entry). Spells (kind_of e) (number_of e) (data_of e) x) same (record { kind_is = refl; owner_is = refl; data_is = refl; port = port })
 
 no_entry : (kind n : ℕ) (bytes : List ℕ) → AreSpelled kind n bytes None
 no_entry kind n bytes e is = cc

@@ -1,27 +1,17 @@
 -- What several calls of a source together do.
-use Rattle.std.specs.Prelude.{ℕ, ◌≡◌, ◌≤◌, ◌++◌, Bool, true, false, List, Option, Some, option_map, Result, Ok, Err}
-use Rattle.adb_outside.specs.Outside.{Rises}
+use Rattle.std.specs.Prelude.{ℕ, ◌≡◌, ◌++◌, Bool, true, false, List, Option, Some, option_map, Result, Ok, Err}
 use Rattle.adb_outside.specs.declared.source.Got.{Got}
-use Rattle.adb_outside.specs.declared.source.Got.TheVariants.{Bytes, End, Failed}
+use Rattle.adb_outside.specs.Source.{is_failed_read}
 use Rattle.adb_capture.specs.declared.error.CaptureError.{CaptureError}
 use Rattle.adb_capture.specs.declared.error.CaptureError.TheVariants.{BadMagic, BadRecord, Truncated, TooLong, ReadFault, OutOfMemory}
-
--- The count of faults never falls, it rises where a call failed, and what never fails stays so.
-pub record Counted (steady_before steady_after : Type 0) (before after : ℕ) (failed : Bool) : Type 0 where
-  pub count : before ≤ after
-  pub fault : failed ≡ true → Rises before after
-  pub keeps : steady_before → steady_after
-  pub steady : steady_before → (failed ≡ false) × (after ≡ before)
 
 -- What is held and what is still to come are together the bytes that they were before.
 abbrev pub KeepsBytes : List ℕ → Option (List ℕ) → List ℕ → Option (List ℕ) → Type 0
 KeepsBytes held_before before held after = (coming : List ℕ) → before ≡ Some coming → option_map (λ rest. held ++ rest) after ≡ Some (held_before ++ coming)
 
--- whether a read failed
+-- whether a read failed; one that found no memory was not made
 abbrev pub is_failed : {E : Type 0} → Result Got E → Bool
-is_failed (Ok (Bytes n)) = false
-is_failed (Ok End) = false
-is_failed (Ok Failed) = true
+is_failed (Ok got) = is_failed_read got
 is_failed (Err e) = false
 
 -- whether an answer is that a read failed

@@ -9,6 +9,8 @@ use Rattle.adb_outside.specs.declared.kinds.Cause.{Cause}
 use Rattle.adb_outside.specs.declared.kinds.Cause.TheVariants.{Eof, Fault, Starved, NoThread}
 use Rattle.adb_capture.specs.declared.entry.Entry.{Entry}
 use Rattle.adb_capture.specs.declared.entry.Entry.TheVariants.{Join, Enter, Read, End, Bound, Attach, Recv, Detach, Put, Send}
+use Rattle.adb_capture.specs.declared.entry.Owner.{Owner}
+use Rattle.adb_capture.specs.declared.entry.Owner.TheVariants.{Client, Link}
 use Rattle.adb_capture.specs.declared.error.Why.TheVariants.{UnknownKind, BadForm, TooLarge}
 use Rattle.adb_capture.specs.declared.error.CaptureError.{CaptureError}
 use Rattle.adb_capture.specs.declared.error.CaptureError.TheVariants.{BadRecord, TooLong}
@@ -30,18 +32,26 @@ kind_of (Detach link cause) = 68
 kind_of (Put client bytes) = 80
 kind_of (Send link bytes) = 83
 
+-- whom an entry names
+abbrev pub owner_of : Entry → Owner
+owner_of (Join client) = Client client
+owner_of (Enter client port) = Client client
+owner_of (Read client bytes) = Client client
+owner_of (End client cause) = Client client
+owner_of (Bound client port) = Client client
+owner_of (Attach link kind serial) = Link link
+owner_of (Recv link bytes) = Link link
+owner_of (Detach link cause) = Link link
+owner_of (Put client bytes) = Client client
+owner_of (Send link bytes) = Link link
+
+abbrev pub number_in : Owner → ℕ
+number_in (Client client) = client
+number_in (Link link) = link
+
 -- the number of the client or link that an entry names
-abbrev pub owner_of : Entry → ℕ
-owner_of (Join client) = client
-owner_of (Enter client port) = client
-owner_of (Read client bytes) = client
-owner_of (End client cause) = client
-owner_of (Bound client port) = client
-owner_of (Attach link kind serial) = link
-owner_of (Recv link bytes) = link
-owner_of (Detach link cause) = link
-owner_of (Put client bytes) = client
-owner_of (Send link bytes) = link
+abbrev pub number_of : Entry → ℕ
+number_of e = number_in (owner_of e)
 
 abbrev pub cause_byte : Cause → ℕ
 cause_byte Eof = 0
@@ -69,7 +79,7 @@ data_of (Send link bytes) = bytes
 
 -- an entry's record: its kind, its number, the length of its data, and the data
 abbrev pub record_of : Entry → List ℕ
-record_of e = kind_of e ∷ little_bytes 4 (owner_of e) ++ little_bytes 4 (length (data_of e)) ++ data_of e
+record_of e = kind_of e ∷ little_bytes 4 (number_of e) ++ little_bytes 4 (length (data_of e)) ++ data_of e
 
 abbrev pub records_of : List Entry → List ℕ
 records_of entries = flat_map record_of entries
@@ -82,7 +92,7 @@ HasPort _ = Unit {0}
 
 -- An entry that has a record: its number and its bytes are in their ranges, and its data are not too long.
 pub record HasRecord (e : Entry) : Type 0 where
-  pub owner : owner_of e < 2 ^ 32
+  pub owner : number_of e < 2 ^ 32
   pub port : HasPort e
   pub bytes : All (λ b. b < 256) (data_of e)
   pub size : length (data_of e) ≤ 2097152

@@ -1,7 +1,8 @@
 //! Reading on until what is wanted is held.
 
 ghost use Rattle.std.specs.Prelude.{◌≡◌, ◌≤◌, Ok, Err};
-ghost use Rattle.adb_capture.specs.Counting.{Counted, KeepsBytes, is_fault};
+ghost use Rattle.adb_outside.specs.Outside.{Counts};
+ghost use Rattle.adb_capture.specs.Counting.{KeepsBytes, is_fault};
 ghost use Rattle.adb_capture.specs.Awaiting.{AwaitsMagic, AwaitsRecord};
 
 use crate::error::CaptureError;
@@ -16,7 +17,7 @@ pub(crate) const MAGIC: [u8; 8] = *b"ADBHUB1\n";
 /// Reads on until the bytes begin with the magic, and takes it.
 pub(crate) fn take_magic<S: Source>(held: &mut Held, source: &mut S) -> Result<(), CaptureError>
     ensures is { AwaitsMagic held.old (S.left source.old) held.new (S.left source.new) result }
-    ensures counts { Counted (S.steady source.old) (S.steady source.new) (S.faults source.old) (S.faults source.new) (is_fault result) }
+    ensures counts { Counts S.steady S.faults source.old source.new (is_fault result) }
 {
     while held.as_slice().len() < MAGIC.len() {
         match held.fill(source) {
@@ -43,7 +44,7 @@ pub(crate) fn await_record<S: Source>(
     requires { offset ≤ 1073741824 }
     ensures bytes { KeepsBytes held.old (S.left source.old) held.new (S.left source.new) }
     ensures is { AwaitsRecord offset held.old (S.left source.old) held.new result }
-    ensures counts { Counted (S.steady source.old) (S.steady source.new) (S.faults source.old) (S.faults source.new) (is_fault result) }
+    ensures counts { Counts S.steady S.faults source.old source.new (is_fault result) }
 {
     let mut found = front(offset, held.as_slice());
     while let Front::More = found {

@@ -27,12 +27,34 @@ pub enum Entry {
     Send { link: u32, bytes: Text },
 }
 
+/// Whom an entry names: a client or a link, by its number.
+#[derive(Clone, Copy, Debug, PartialEq, Eq, Drop)]
+pub enum Owner {
+    Client(u32),
+    Link(u32),
+}
+
+impl Owner {
+    ghost use Rattle.std.specs.Prelude.{◌≡◌};
+    ghost use Rattle.adb_capture.specs.Records.{number_in};
+
+    /// The number of the client or of the link.
+    pub fn number(self) -> u32
+        ensures { result ≡ number_in self }
+    {
+        match self {
+            Owner::Client(client) => client,
+            Owner::Link(link) => link,
+        }
+    }
+}
+
 impl Entry {
     ghost use Rattle.std.specs.Prelude.{◌≡◌};
     ghost use Rattle.adb_capture.specs.Records.{owner_of};
 
-    /// The number of the client or link that the entry names.
-    pub fn owner(&self) -> u32
+    /// The client or the link that the entry names.
+    pub fn owner(&self) -> Owner
         ensures { result ≡ owner_of self.now }
     {
         match self {
@@ -41,11 +63,11 @@ impl Entry {
             | Entry::Read { client, .. }
             | Entry::End { client, .. }
             | Entry::Bound { client, .. }
-            | Entry::Put { client, .. } => *client,
+            | Entry::Put { client, .. } => Owner::Client(*client),
             Entry::Attach { link, .. }
             | Entry::Recv { link, .. }
             | Entry::Detach { link, .. }
-            | Entry::Send { link, .. } => *link,
+            | Entry::Send { link, .. } => Owner::Link(*link),
         }
     }
 }

@@ -1,7 +1,8 @@
 //! The bytes that were read from a source and not yet taken.
 
 ghost use Rattle.std.specs.Prelude.{◌≡◌, ◌<◌, ◌≤◌, ◌+◌, ◌++◌, ℕ, List, [], length, take, drop, Some, IfOk, OnOk, OnErr};
-ghost use Rattle.adb_capture.specs.Counting.{Counted, KeepsBytes, is_failed};
+ghost use Rattle.adb_outside.specs.Outside.{Counts};
+ghost use Rattle.adb_capture.specs.Counting.{KeepsBytes, is_failed};
 
 use adb_outside::{Got, Source};
 use std::alloc::{AllocError, Global};
@@ -60,7 +61,7 @@ impl Held {
         ensures bytes { KeepsBytes self.old (S.left source.old) self.new (S.left source.new) }
         ensures more { (n : ℕ) → result ≡ Ok (Got.Bytes n) → (0 < n) × (length self.new ≡ length self.old + n) }
         ensures end { result ≡ Ok Got.End → (self.new ≡ self.old) × ((coming : List ℕ) → S.left source.old ≡ Some coming → coming ≡ []) }
-        ensures counts { Counted (S.steady source.old) (S.steady source.new) (S.faults source.old) (S.faults source.new) (is_failed result) }
+        ensures counts { Counts S.steady S.faults source.old source.new (is_failed result) }
     {
         self.drop_taken();
         self.bytes.reserve(CHUNK)?;

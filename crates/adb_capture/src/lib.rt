@@ -14,8 +14,8 @@ mod record;
 mod tests;
 mod writer;
 
-pub use entry::Entry;
+pub use entry::{Entry, Owner};
 pub use error::{CaptureError, Why};
 pub use laws::{read_is_spelled, records_are_framed, spelled_is_read};
 pub use reader::CaptureReader;
-pub use writer::{write_entry, write_magic};
+pub use writer::{append_entry, append_magic, write_entry, write_magic};

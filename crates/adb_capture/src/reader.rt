@@ -1,9 +1,9 @@
 //! Reading captures.
 
 ghost use Rattle.std.specs.Prelude.{◌≡◌, ◌≢◌, ◌<◌, ◌≤◌, ◌++◌, ◌+◌, ℕ, List, [], length, take, drop, Option, Some, None, Ok, Err, IfOk, IfSome, OnOk, OnErr, IsTrue, true, false, option_and_then, option_map};
-ghost use Rattle.adb_outside.specs.Outside.{Rises};
+ghost use Rattle.adb_outside.specs.Outside.{Counts};
 ghost use Rattle.adb_outside.specs.declared.framer.Front.TheVariants.{Whole};
-ghost use Rattle.adb_capture.specs.Counting.{Counted, KeepsBytes, is_fault};
+ghost use Rattle.adb_capture.specs.Counting.{KeepsBytes, is_fault};
 ghost use Rattle.adb_capture.specs.Records.{record_at, entry_in, HasRecord};
 ghost use Rattle.adb_capture.specs.Awaiting.{Opens, StaysAhead};
 ghost use Rattle.adb_capture.specs.Reading.{ahead, GivesNext, IsMagicRefused};
@@ -62,7 +62,7 @@ impl CaptureReader {
         ensures stays { (e : CaptureError) → self.old.failed ≡ Some e → (result ≡ Err e) × (self.new ≡ self.old) × (source.new ≡ source.old) }
         ensures keeps { (e : CaptureError) → e ≢ CaptureError.OutOfMemory → result ≡ Err e → self.new.failed ≡ Some e }
         ensures ok { OnOk result ((self.old.failed ≡ None) × (self.new.failed ≡ None) × (self.new.opened ≡ true)) }
-        ensures counts { self.old.failed ≡ None → Counted (S.steady source.old) (S.steady source.new) (S.faults source.old) (S.faults source.new) (is_fault result) }
+        ensures counts { self.old.failed ≡ None → Counts S.steady S.faults source.old source.new (is_fault result) }
     {
         if let Some(error) = self.failed {
             return Err(error);
@@ -89,10 +89,7 @@ impl CaptureReader {
         ensures ok { OnOk result ((self.old.failed ≡ None) × (self.new.failed ≡ None) × IsTrue self.new.opened) }
         ensures form { IfOk result (λ given. IfSome given (λ g. HasRecord g.1)) }
         ensures moves { IfOk result (λ given. IfSome given (λ g. (self.old.offset < self.new.offset) × (self.new.offset ≤ 1073741824))) }
-        ensures fault { result ≡ Err CaptureError.ReadFault → self.old.failed ≡ None → Rises (S.faults source.old) (S.faults source.new) }
-        ensures count { S.faults source.old ≤ S.faults source.new }
-        ensures keeps_steady { S.steady source.old → S.steady source.new }
-        ensures steady { S.steady source.old → self.old.failed ≡ None → (result ≢ Err CaptureError.ReadFault) × (S.faults source.new ≡ S.faults source.old) }
+        ensures counts { self.old.failed ≡ None → Counts S.steady S.faults source.old source.new (is_fault result) }
     {
         if let Some(error) = self.failed {
             return Err(error);
@@ -114,7 +111,7 @@ impl CaptureReader {
         ensures ok { OnOk result (self.new.opened ≡ true) }
         ensures form { IfOk result (λ given. IfSome given (λ g. HasRecord g.1)) }
         ensures moves { IfOk result (λ given. IfSome given (λ g. (self.old.offset < self.new.offset) × (self.new.offset ≤ 1073741824))) }
-        ensures counts { Counted (S.steady source.old) (S.steady source.new) (S.faults source.old) (S.faults source.new) (is_fault result) }
+        ensures counts { Counts S.steady S.faults source.old source.new (is_fault result) }
     {
         self.open_now(source)?;
         self.give_next(source)
@@ -125,7 +122,7 @@ impl CaptureReader {
         ensures ahead { Opens self.old (S.left source.old) self.new (S.left source.new) result }
         ensures same { (self.new.offset ≡ self.old.offset) × (self.new.failed ≡ self.old.failed) }
         ensures ok { OnOk result (self.new.opened ≡ true) }
-        ensures counts { Counted (S.steady source.old) (S.steady source.new) (S.faults source.old) (S.faults source.new) (is_fault result) }
+        ensures counts { Counts S.steady S.faults source.old source.new (is_fault result) }
     {
         if !self.opened {
             take_magic(&mut self.held, source)?;
@@ -142,7 +139,7 @@ impl CaptureReader {
 
         ensures form { IfOk result (λ given. IfSome given (λ g. HasRecord g.1)) }
         ensures moves { IfOk result (λ given. IfSome given (λ g. (self.old.offset < self.new.offset) × (self.new.offset ≤ 1073741824))) }
-        ensures counts { Counted (S.steady source.old) (S.steady source.new) (S.faults source.old) (S.faults source.new) (is_fault result) }
+        ensures counts { Counts S.steady S.faults source.old source.new (is_fault result) }
     {
         match await_record(&mut self.held, self.offset, source)? {
             None => Ok(None),

@@ -1,24 +1,22 @@
 //! Writing captures.
 
-ghost use Rattle.std.specs.Prelude.{◌≡◌, ◌<◌, ◌≤◌, ◌+◌, ◌++◌, ◌^◌, ℕ, length, take};
-ghost use Rattle.adb_outside.specs.Outside.{Rises};
-ghost use Rattle.adb_outside.specs.Sink.{FitsPiece, TellsWrite, IsSteadyWrite};
+ghost use Rattle.std.specs.Prelude.{◌≡◌, ◌<◌, ◌≤◌, ◌+◌, ◌++◌, ◌^◌, ℕ, OnOk, OnErr, length, take};
+ghost use Rattle.adb_outside.specs.Outside.{Counts};
+ghost use Rattle.adb_outside.specs.Sink.{FitsPiece, TellsWrite, is_failed_write};
 ghost use Rattle.adb_capture.specs.Records.{magic, kind_of, data_of, record_of, cause_byte, plug_letter, HasRecord};
 ghost use Rattle.adb_capture.specs.Pieces.{text_of, word_of};
 
 use crate::awaiting::MAGIC;
 use crate::entry::Entry;
-use adb_outside::{Cause, Kind, Sink, Wrote};
+use adb_outside::{ByteQueue, Cause, Kind, Sink, Wrote};
 use byteorder::{ByteOrder, LittleEndian};
+use std::alloc::AllocError;
 
 /// Writes the eight bytes that a capture begins with. It takes no memory.
 pub fn write_magic<K: Sink>(sink: &mut K) -> Wrote
     ensures fits { FitsPiece magic result }
     ensures told { TellsWrite (K.written sink.old) (K.written sink.new) magic result }
-    ensures fault { (n : ℕ) → result ≡ Wrote.Failed n → Rises (K.faults sink.old) (K.faults sink.new) }
-    ensures count { K.faults sink.old ≤ K.faults sink.new }
-    ensures keeps_steady { K.steady sink.old → K.steady sink.new }
-    ensures steady_write { K.steady sink.old → IsSteadyWrite (K.faults sink.old) (K.faults sink.new) result }
+    ensures counts { Counts K.steady K.faults sink.old sink.new (is_failed_write result) }
 {
     sink.write(&MAGIC)
 }
@@ -29,13 +27,33 @@ pub fn write_entry<K: Sink>(sink: &mut K, entry: &Entry) -> Wrote
     requires { HasRecord entry.now }
     ensures fits { FitsPiece (record_of entry.now) result }
     ensures told { TellsWrite (K.written sink.old) (K.written sink.new) (record_of entry.now) result }
-    ensures fault { (n : ℕ) → result ≡ Wrote.Failed n → Rises (K.faults sink.old) (K.faults sink.new) }
-    ensures count { K.faults sink.old ≤ K.faults sink.new }
-    ensures keeps_steady { K.steady sink.old → K.steady sink.new }
-    ensures steady_write { K.steady sink.old → IsSteadyWrite (K.faults sink.old) (K.faults sink.new) result }
+    ensures counts { Counts K.steady K.faults sink.old sink.new (is_failed_write result) }
 {
     let head = Head::of(entry);
     write_both(sink, head.as_slice(), text(entry))
+}
+
+/// Adds the bytes that a capture begins with. After want of memory the bytes are as before.
+pub fn append_magic(bytes: &mut ByteQueue) -> Result<(), AllocError>
+    ensures ok { OnOk result (bytes.new.bytes ≡ bytes.old.bytes ++ magic) }
+    ensures err { OnErr result (bytes.new.bytes ≡ bytes.old.bytes) }
+{
+    bytes.push(&MAGIC)
+}
+
+/// Adds the record of an entry, which has at most 2,097,152 bytes of data. After want of memory
+/// the bytes are as before.
+pub fn append_entry(bytes: &mut ByteQueue, entry: &Entry) -> Result<(), AllocError>
+    requires { HasRecord entry.now }
+    ensures ok { OnOk result (bytes.new.bytes ≡ bytes.old.bytes ++ record_of entry.now) }
+    ensures err { OnErr result (bytes.new.bytes ≡ bytes.old.bytes) }
+{
+    let head = Head::of(entry);
+    let text = text(entry);
+    bytes.reserve(head.len + text.len())?;
+    bytes.push_spare(head.as_slice());
+    bytes.push_spare(text);
+    Ok(())
 }
 
 /// Writes a piece, and where it went out another behind it, which may be empty.
@@ -44,10 +62,7 @@ fn write_both<K: Sink>(sink: &mut K, first: &[u8], last: &[u8]) -> Wrote
     requires small { length first.now + length last.now < 2 ^ 63 }
     ensures fits { FitsPiece (first.now ++ last.now) result }
     ensures told { TellsWrite (K.written sink.old) (K.written sink.new) (first.now ++ last.now) result }
-    ensures fault { (n : ℕ) → result ≡ Wrote.Failed n → Rises (K.faults sink.old) (K.faults sink.new) }
-    ensures count { K.faults sink.old ≤ K.faults sink.new }
-    ensures keeps_steady { K.steady sink.old → K.steady sink.new }
-    ensures steady_write { K.steady sink.old → IsSteadyWrite (K.faults sink.old) (K.faults sink.new) result }
+    ensures counts { Counts K.steady K.faults sink.old sink.new (is_failed_write result) }
 {
     match sink.write(first) {
         Wrote::Failed { taken } => Wrote::Failed { taken },
@@ -79,7 +94,7 @@ impl Head {
         let size = word.len + text(entry).len();
         let mut bytes = [0; 11];
         bytes[0] = letter(entry);
-        LittleEndian::write_u32(&mut bytes[1..5], entry.owner());
+        LittleEndian::write_u32(&mut bytes[1..5], entry.owner().number());
         LittleEndian::write_u32(&mut bytes[5..9], size as u32);
         bytes[9] = word.bytes[0];
         bytes[10] = word.bytes[1];

@@ -11,13 +11,13 @@ use Rattle.adb_capture.specs.declared.entry.Entry.{Entry}
 use Rattle.adb_capture.specs.declared.error.CaptureError.{CaptureError}
 use Rattle.adb_history.specs.Machine.{History, state}
 use Rattle.adb_history.specs.Drained.{or_stay, drain, drained_after, drained_from, next_out, owed}
+use Rattle.adb_history.specs.Refusal.{refusal_by}
 use Rattle.adb_history.specs.Accepted.{Accepted, refusal_of, is_input, accept_by, accept_from, accept_cut, accept_records, end_of}
-use Rattle.adb_history.specs.declared.refusal.Refusal.TheVariants.{Form}
 
 -- a front of the records ahead decides what is accepted of them
 abbrev pub accept_front : ℕ → List ℕ → Front CaptureError → History → Accepted
 accept_front offset bytes More h = accept_from [] (end_of None bytes offset) h
-accept_front offset bytes (Bad why) h = accept_from [] (Some (Form why)) h
+accept_front offset bytes (Bad why) h = accept_from [] (refusal_by why) h
 accept_front offset bytes (Whole n) h =
     accept_by (refusal_of (state h) (entry_in offset (take n bytes)).0 (entry_in offset (take n bytes)).1) (is_input (entry_in offset (take n bytes)).1) h (entry_in offset (take n bytes)).1
     (accept_records (offset_after offset (take n bytes)) (drop n bytes))

@@ -4,7 +4,7 @@ use Rattle.std.proofs.lemmas.Bool.{ne_eqb, eq-eqb, cases_eq}
 use Rattle.std.proofs.lemmas.List.{length-drop, length-take}
 use Rattle.adb_capture.specs.declared.entry.Entry.{Entry}
 use Rattle.adb_capture.specs.declared.entry.Entry.TheVariants.{Put}
-use Rattle.adb_history.specs.Rows.{Rows, change_row}
+use Rattle.adb_outside.specs.Tables.{Rows, change_row}
 use Rattle.adb_history.specs.Machine.{Client, State, History, state, step, settled, handed}
 use Rattle.adb_history.specs.Kept.{IsOrderly}
 use Rattle.adb_history.specs.Drained.{out_or, first_out, next_out, owed_from, owed, drain, drain_all, or_stay}

@@ -1,11 +1,11 @@
 -- Captures worked by hand, so that a mistake in a definition shows: what is replayed, and why a capture is refused, are computed from the definitions.
-use Rattle.std.specs.Prelude.{ℕ, ◌≡◌, List, [], ◌∷◌, ◌++◌, Some, None, codes, flat_map}
+use Rattle.std.specs.Prelude.{ℕ, ◌≡◌, List, [], ◌∷◌, ◌++◌, None, codes, flat_map}
 use Rattle.std.proofs.Common.{refl}
 use Rattle.adb_request.specs.Requests.{meaning}
 use Rattle.adb_capture.specs.Records.{record_at}
-use Rattle.adb_capture.specs.declared.error.CaptureError.TheVariants.{BadMagic, Truncated}
+use Rattle.adb_history.specs.Refusal.{refused_at}
 use Rattle.adb_history.specs.Accepted.{accepted, replayed}
-use Rattle.adb_history.specs.declared.refusal.Refusal.TheVariants.{Form, NotDrawn, NotBuilt}
+use Rattle.adb_history.specs.declared.refusal.Reason.TheVariants.{BadMagic, Truncated, NotDrawn, NotBuilt}
 
 -- the magic, ADBHUB1 and a newline
 abbrev begins : List ℕ
@@ -52,18 +52,18 @@ malformed_requests_close : replayed (joins ++ sends 4 (codes "zzzz") ++ sends 16
 unfolding record_at meaning
 malformed_requests_close = refl
 
-bad_magic : (accepted (codes "ADBHUB2")).refused ≡ Some (Form BadMagic)
+bad_magic : (accepted (codes "ADBHUB2")).refused ≡ refused_at 0 BadMagic
 bad_magic = refl
 
-truncated_capture : (accepted (joins ++ codes "abcde")).refused ≡ Some (Form (Truncated 17))
+truncated_capture : (accepted (joins ++ codes "abcde")).refused ≡ refused_at 17 Truncated
 unfolding record_at
 truncated_capture = refl
 
-number_not_drawn : (accepted (begins ++ sends 4 (codes "0000"))).refused ≡ Some (NotDrawn 8)
+number_not_drawn : (accepted (begins ++ sends 4 (codes "0000"))).refused ≡ refused_at 8 NotDrawn
 unfolding record_at
 number_not_drawn = refl
 
-not_built_yet : (accepted (joins ++ sends 16 (codes "000Chost:devices"))).refused ≡ Some (NotBuilt 17)
+not_built_yet : (accepted (joins ++ sends 16 (codes "000Chost:devices"))).refused ≡ refused_at 17 NotBuilt
 unfolding record_at meaning
 not_built_yet = refl
 

@@ -1,7 +1,7 @@
 -- Which entries a capture gives a server, and why it ends before its end.
-use Rattle.std.specs.Prelude.{ℕ, ◌+◌, Bool, true, false, if◌then◌else◌, ◌&&◌, nat_eq, nat_lt, nat_le, List, [], ◌∷◌, ◌++◌, length, take, drop, Option, Some, None, bytes_eq}
-use Rattle.std.specs.List.{list_all}
+use Rattle.std.specs.Prelude.{ℕ, ◌+◌, Bool, true, false, if◌then◌else◌, ◌&&◌, nat_eq, nat_lt, nat_le, List, [], ◌∷◌, ◌++◌, take, drop, Option, Some, None, bytes_eq}
 use Rattle.adb_outside.specs.Framing.{Cut, cut}
+use Rattle.adb_outside.specs.Serial.{is_serial}
 use Rattle.adb_capture.specs.Records.{magic, record_at, entry_in, offset_after, records_of}
 use Rattle.adb_capture.specs.declared.entry.Entry.{Entry}
 use Rattle.adb_capture.specs.declared.entry.Entry.TheVariants.{Join, Enter, Read, End, Bound, Attach, Recv, Detach, Put, Send}
@@ -9,32 +9,29 @@ use Rattle.adb_capture.specs.declared.error.CaptureError.{CaptureError}
 use Rattle.adb_capture.specs.declared.error.CaptureError.TheVariants.{BadMagic, Truncated}
 use Rattle.adb_history.specs.Machine.{State, History, state, asks_unbuilt}
 use Rattle.adb_history.specs.Drained.{drained_after, drained}
+use Rattle.adb_history.specs.Refusal.{refused_at, refusal_by}
 use Rattle.adb_history.specs.declared.refusal.Refusal.{Refusal}
-use Rattle.adb_history.specs.declared.refusal.Refusal.TheVariants.{Form, NotDrawn, BadSerial, NotBuilt}
+use Rattle.adb_history.specs.declared.refusal.Reason.TheVariants.{NotDrawn, BadSerial, NotBuilt}
 
 -- whether a client number was drawn
 abbrev pub is_drawn : State → ℕ → Bool
 is_drawn s n = nat_lt 0 n && nat_le n s.joined
 
--- whether a serial is 1 to 64 bytes of 0x21 to 0x7e
-abbrev pub is_serial : List ℕ → Bool
-is_serial serial = nat_lt 0 (length serial) && nat_le (length serial) 64 && list_all (λ b. nat_le 33 b && nat_le b 126) serial
-
 -- the last refusal of a Read: it makes a request whole that is not built yet
 abbrev pub read_refusal : Bool → ℕ → Option Refusal
-read_refusal true offset = Some (NotBuilt offset)
+read_refusal true offset = refused_at offset NotBuilt
 read_refusal false offset = None
 
 -- Why a state refuses the record at an offset. No link was drawn yet, so the next link is 1.
 abbrev pub refusal_of : State → ℕ → Entry → Option Refusal
-refusal_of s offset (Join n) = if nat_eq n (s.joined + 1) then None else Some (NotDrawn offset)
-refusal_of s offset (Read n bytes) = if is_drawn s n then read_refusal (asks_unbuilt (s.clients n) bytes) offset else Some (NotDrawn offset)
-refusal_of s offset (End n cause) = if is_drawn s n then None else Some (NotDrawn offset)
-refusal_of s offset (Enter n port) = if nat_eq n (s.joined + 1) then Some (NotBuilt offset) else Some (NotDrawn offset)
-refusal_of s offset (Bound n port) = if is_drawn s n then Some (NotBuilt offset) else Some (NotDrawn offset)
-refusal_of s offset (Attach n kind serial) = if nat_eq n 1 then (if is_serial serial then Some (NotBuilt offset) else Some (BadSerial offset)) else Some (NotDrawn offset)
-refusal_of s offset (Recv n bytes) = Some (NotDrawn offset)
-refusal_of s offset (Detach n cause) = Some (NotDrawn offset)
+refusal_of s offset (Join n) = if nat_eq n (s.joined + 1) then None else refused_at offset NotDrawn
+refusal_of s offset (Read n bytes) = if is_drawn s n then read_refusal (asks_unbuilt (s.clients n) bytes) offset else refused_at offset NotDrawn
+refusal_of s offset (End n cause) = if is_drawn s n then None else refused_at offset NotDrawn
+refusal_of s offset (Enter n port) = if nat_eq n (s.joined + 1) then refused_at offset NotBuilt else refused_at offset NotDrawn
+refusal_of s offset (Bound n port) = if is_drawn s n then refused_at offset NotBuilt else refused_at offset NotDrawn
+refusal_of s offset (Attach n kind serial) = if nat_eq n 1 then (if is_serial serial then refused_at offset NotBuilt else refused_at offset BadSerial) else refused_at offset NotDrawn
+refusal_of s offset (Recv n bytes) = refused_at offset NotDrawn
+refusal_of s offset (Detach n cause) = refused_at offset NotDrawn
 refusal_of s offset (Put n bytes) = None
 refusal_of s offset (Send n bytes) = None
 
@@ -66,9 +63,9 @@ accept_from (placed ∷ records) ending h =
 
 -- how the records end: by a fault, within a record, or between two
 abbrev pub end_of : Option CaptureError → List ℕ → ℕ → Option Refusal
-end_of (Some why) rest offset = Some (Form why)
+end_of (Some why) rest offset = refusal_by why
 end_of None [] offset = None
-end_of None (b ∷ rest) offset = Some (Form (Truncated offset))
+end_of None (b ∷ rest) offset = refusal_by (Truncated offset)
 
 abbrev pub accept_cut : Cut ℕ (ℕ × Entry) CaptureError → History → Accepted
 accept_cut c h = accept_from c.given (end_of c.fault c.rest c.reading) h
@@ -84,7 +81,7 @@ has_magic bytes = bytes_eq (take 8 bytes) magic
 abbrev pub accepted : List ℕ → Accepted
 accepted bytes =
     if has_magic bytes then accept_records 8 (drop 8 bytes) []
-    else record { inputs = []; refused = Some (Form BadMagic) }
+    else record { inputs = []; refused = refusal_by BadMagic }
 
 -- the capture of the drained history of what a capture gives; nothing where its magic is bad
 abbrev pub replayed : List ℕ → List ℕ

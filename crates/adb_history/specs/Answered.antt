@@ -4,7 +4,7 @@ use Rattle.adb_request.specs.Requests.{request_at, meaning}
 use Rattle.adb_request.specs.declared.cutting.Found.{Found}
 use Rattle.adb_request.specs.declared.cutting.Found.TheVariants.{More, Malformed, Whole}
 use Rattle.adb_capture.specs.declared.entry.Entry.TheVariants.{Join, Read, End, Put}
-use Rattle.adb_history.specs.Rows.{IsPrefixOf}
+use Rattle.adb_outside.specs.Bytes.{IsPrefixOf}
 use Rattle.adb_history.specs.Machine.{answer, History, state}
 use Rattle.adb_history.specs.declared.phase.Phase.TheVariants.{Asking, Gone}
 

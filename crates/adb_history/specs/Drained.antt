@@ -2,7 +2,7 @@
 use Rattle.std.specs.Prelude.{ℕ, ◌+◌, List, [], ◌∷◌, length, take, Option, Some, None, zero, suc, reverse}
 use Rattle.adb_capture.specs.declared.entry.Entry.{Entry}
 use Rattle.adb_capture.specs.declared.entry.Entry.TheVariants.{Put}
-use Rattle.adb_history.specs.Rows.{Rows}
+use Rattle.adb_outside.specs.Tables.{Rows}
 use Rattle.adb_history.specs.Machine.{Client, State, History, state}
 
 -- a number's hand-out of at most 65,536 bytes, or another's where it has nothing due

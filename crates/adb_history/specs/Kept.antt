@@ -1,9 +1,6 @@
 -- What a server holds of a state: plain tables in rising number.
-use Rattle.std.specs.Prelude.{ℕ, ◌≡◌, ◌<◌, List, [], ◌∷◌, Option, Some, None, zero, suc}
-use Rattle.std.specs.List.Sorted.{IsStrictlySortedBy}
-use Rattle.std.specs.Ordering.{nat_cmp}
-use Rattle.std.specs.Map.{lookup, keys_of}
-use Rattle.std.specs.BTreeMap.{is_at}
+use Rattle.std.specs.Prelude.{ℕ, ◌≡◌, ◌<◌, List, [], Option, Some, None}
+use Rattle.adb_outside.specs.Tables.{listed}
 use Rattle.adb_request.specs.Requests.{request_at}
 use Rattle.adb_request.specs.declared.cutting.Found.TheVariants.{More}
 use Rattle.adb_history.specs.Machine.{Client, State, absent, History, state, IsLegal}
@@ -27,22 +24,6 @@ kept_row Gone c = None
 -- of a client that is gone nothing is held
 abbrev pub kept_if_live : Client → Option KeptClient
 kept_if_live c = kept_row c.phase c
-
--- the k numbers from the first on, with what they have
-abbrev pub listed_at : {X : Type 0} → ℕ → Option X → List (ℕ × X) → List (ℕ × X)
-listed_at n None others = others
-listed_at n (Some x) others = (n, x) ∷ others
-
-abbrev pub listed : {X : Type 0} → (ℕ → Option X) → ℕ → ℕ → List (ℕ × X)
-listed rows first zero = []
-listed rows first (suc k) = listed_at first (rows first) (listed rows (suc first) k)
-
--- what a table has at a number
-abbrev pub at : {X : Type 0} → ℕ → List (ℕ × X) → Option X
-at n table = lookup (is_at (nat_cmp n)) table
-
-abbrev pub IsRising : {X : Type 0} → List (ℕ × X) → Type 0
-IsRising table = IsStrictlySortedBy nat_cmp (keys_of table)
 
 -- the numbers drawn, and the clients that live
 pub record Kept : Type 0 where

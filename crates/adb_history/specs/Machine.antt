@@ -7,10 +7,11 @@ use Rattle.adb_request.specs.declared.cutting.Found.{Found}
 use Rattle.adb_request.specs.declared.cutting.Found.TheVariants.{More, Malformed, Whole}
 use Rattle.adb_request.specs.declared.request.Request.{Request}
 use Rattle.adb_request.specs.declared.request.Request.TheVariants.{Version, Service, UnknownHost}
-use Rattle.adb_capture.specs.Records.{owner_of, data_of, HasPort}
+use Rattle.adb_capture.specs.Records.{number_of, data_of, HasPort}
 use Rattle.adb_capture.specs.declared.entry.Entry.{Entry}
 use Rattle.adb_capture.specs.declared.entry.Entry.TheVariants.{Join, Enter, Read, End, Bound, Attach, Recv, Detach, Put, Send}
-use Rattle.adb_history.specs.Rows.{Rows, put_row, change_row, IsPrefixOf}
+use Rattle.adb_outside.specs.Bytes.{IsPrefixOf}
+use Rattle.adb_outside.specs.Tables.{Rows, put_row, change_row}
 use Rattle.adb_history.specs.declared.phase.Phase.{Phase}
 use Rattle.adb_history.specs.declared.phase.Phase.TheVariants.{Asking, Closing, Gone}
 
@@ -151,7 +152,7 @@ IsDrawn s n = (0 < n) × (n ≤ s.joined)
 
 -- an entry whose number and bytes are in their types' ranges
 pub record IsInRange (e : Entry) : Type 0 where
-  pub owner : owner_of e < 2 ^ 32
+  pub owner : number_of e < 2 ^ 32
   pub port : HasPort e
   pub bytes : All (λ b. b < 256) (data_of e)
 

@@ -6,4 +6,4 @@ mod phase;
 mod refusal;
 
 pub use phase::Phase;
-pub use refusal::Refusal;
+pub use refusal::{Reason, Refusal};

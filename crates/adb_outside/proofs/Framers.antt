@@ -75,16 +75,15 @@ module _ {S V F : Type 0} (find : S → List ℕ → Front F) (item : S → List
     -- no frame is at the place: all are cut, and the bytes up to it are dropped
     pub is_over : (start now : Cut S V F) (reading : S) (place : ℕ) (front : Front F) → Cutting start now reading place front
         → ((n : ℕ) → front ≡ Whole n → ⊥) → start.fault ≡ None
-        → (kept : Cut S V F) → kept ≡ record { given = now.given; reading = now.reading; rest = drop place now.rest; fault = now.fault }
-        → (fault : Option F) → fault ≡ fault_of front
-        → record { given = kept.given; reading = reading; rest = kept.rest; fault = fault } ≡ joined start.given (cut find item after start.reading start.rest)
-    is_over start now reading place front h none sound kept is fault told =
+        → (rest : List ℕ) → rest ≡ drop place now.rest → (fault : Option F) → fault ≡ fault_of front
+        → record { given = now.given; reading = reading; rest = rest; fault = fault } ≡ joined start.given (cut find item after start.reading start.rest)
+    is_over start now reading place front h none sound rest is fault told =
         let old : now.rest ≡ start.rest = ap (λ (k : Cut S V F). k.rest) h.kept in
         let turn : cut find item after reading (drop place start.rest) ≡ uncut reading (drop place start.rest) (fault_of front) =
         cut_first find item after laws reading (drop place start.rest)
         ∙ (ap (λ f. cut_by find item after reading (drop place start.rest) f (cut find item after)) (sym h.found) ∙ stops front none) in
         let all : joined start.given (cut find item after start.reading start.rest) ≡ joined now.given (uncut reading (drop place start.rest) (fault_of front)) = h.frames ∙ ap (joined now.given) turn in
-        ap (λ (k : Cut S V F). record { given = k.given; reading = reading; rest = k.rest; fault = fault }) is
+        ap (λ b. record { given = now.given; reading = reading; rest = b; fault = fault }) is
         ∙ (ap (λ f. record { given = now.given; reading = reading; rest = drop place now.rest; fault = f }) told
         ∙ (ap (λ vs. record { given = vs; reading = reading; rest = drop place now.rest; fault = fault_of front }) (sym (append-nil now.given))
         ∙ (ap (λ b. record { given = now.given ++ []; reading = reading; rest = drop place b; fault = fault_of front }) old ∙ sym all)))

@@ -3,7 +3,7 @@ use Rattle.std.proofs.Common.{ℕ, ◌≡◌, ◌≤◌, List, [], ◌∷◌, �
 use Rattle.std.proofs.lemmas.List.{length-drop, take-append-le, drop-append-le, append_assoc}
 use Rattle.adb_outside.specs.declared.framer.Front.{Front}
 use Rattle.adb_outside.specs.declared.framer.Front.TheVariants.{More, Bad, Whole}
-use Rattle.adb_outside.specs.Framing.{Cut, uncut, joined, cut_by, cut_at, cut, IsFraming, Stands}
+use Rattle.adb_outside.specs.Framing.{Cut, uncut, joined, cut_by, cut_at, cut, IsFraming, Stands, held_after, Takes}
 
 module _ {S V F : Type 0} (find : S → List ℕ → Front F) (item : S → List ℕ → V) (after : S → List ℕ → S) (laws : IsFraming find item after) where
   abbrev at : ℕ → S → List ℕ → Cut S V F
@@ -124,3 +124,21 @@ module _ {S V F : Type 0} (find : S → List ℕ → Front F) (item : S → List
         fault = more.1 ∙ sym is;
         open_rest = λ none. let clash : Some fault ≡ None = sym is ∙ none in cc;
       }
+
+  -- A piece was taken where there was no fault.
+  pub takes_piece : (old : Cut S V F) (piece : List ℕ) (new : Cut S V F) → old.fault ≡ None
+      → new ≡ joined old.given (cut find item after old.reading (old.rest ++ piece))
+      → Takes find item after old piece new
+  takes_piece old piece new sound is = record {
+    held = is ∙ ap (held_after find item after old piece) (sym sound);
+    stands = λ start fed taken h. stands_feeds start fed taken old piece new h sound is;
+    first_fault = λ start fed taken h. sym (stands_feeds start fed taken old piece new h sound is).fault;
+  }
+
+  -- Where there was a fault all stays.
+  pub takes_nothing : (old : Cut S V F) (piece : List ℕ) (fault : F) → old.fault ≡ Some fault → Takes find item after old piece old
+  takes_nothing old piece fault is = record {
+    held = sym (ap (held_after find item after old piece) is);
+    stands = λ start fed taken h. stands_faulted start fed taken old piece fault h is;
+    first_fault = λ start fed taken h. sym (stands_faulted start fed taken old piece fault h is).fault;
+  }

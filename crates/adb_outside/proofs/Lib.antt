@@ -2,3 +2,5 @@ pub mod FramingLaws
 pub mod Framers
 pub mod TableLaws
 pub mod ByteLaws
+pub mod CutLaws
+pub mod Numbers

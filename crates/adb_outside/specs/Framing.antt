@@ -1,5 +1,6 @@
 -- Cutting bytes into frames: what a front of the bytes is, and what follows from it alone.
-use Rattle.std.specs.Prelude.{ℕ, ◌≡◌, ◌≤◌, ◌<◌, List, [], ◌∷◌, ◌++◌, length, take, drop, Option, Some, None, zero, suc}
+use Rattle.std.specs.Prelude.{ℕ, ◌+◌, ◌-◌, ◌^◌, ◌≡◌, ◌≢◌, ◌≤◌, ◌<◌, min, List, [], ◌∷◌, ◌++◌, length, take, drop, zero, suc}
+use Rattle.std.specs.Prelude.{Option, Some, None, IfSome, IfNone, option_to_list, Result, Ok, Err}
 use Rattle.adb_outside.specs.declared.framer.Front.{Front}
 use Rattle.adb_outside.specs.declared.framer.Front.TheVariants.{More, Bad, Whole}
 
@@ -24,6 +25,15 @@ fault_of More = None
 fault_of (Bad fault) = Some fault
 fault_of (Whole n) = None
 
+-- the answer of a call that reports a fault, where there is one
+abbrev pub answer_of : {F E : Type 0} → (F → E) → Option F → Result (Unit {0}) E
+answer_of fails None = Ok tt
+answer_of fails (Some fault) = Err (fails fault)
+
+-- the offset so many bytes on: it stays at the last number of 64 bits
+abbrev pub offset_past : ℕ → ℕ → ℕ
+offset_past offset n = min (offset + n) (2 ^ 64 - 1)
+
 -- A format: what a front of the bytes is, what a whole frame holds, and how the bytes after it are read.
 module _ {S V F : Type 0} (find : S → List ℕ → Front F) (item : S → List ℕ → V) (after : S → List ℕ → S) where
   abbrev pub cut_by : S → List ℕ → Front F → (S → List ℕ → Cut S V F) → Cut S V F
@@ -40,7 +50,8 @@ module _ {S V F : Type 0} (find : S → List ℕ → Front F) (item : S → List
   abbrev pub cut : S → List ℕ → Cut S V F
   cut s bytes = cut_at (length bytes) s bytes
 
-  -- Whether a front of the bytes is a whole frame or a fault stays so, whatever follows; a frame is not empty, lies within the bytes, and is a frame without those behind it too.
+  -- Whether a front of the bytes is a whole frame or a fault stays so, whatever follows; a frame is not empty, lies within the
+  -- bytes, and is a frame without those behind it too.
   pub record IsFraming : Type 0 where
     pub empty : (s : S) → find s [] ≡ More
     pub bad : (s : S) (x y : List ℕ) (fault : F) → find s x ≡ Bad fault → find s (x ++ y) ≡ Bad fault
@@ -48,16 +59,23 @@ module _ {S V F : Type 0} (find : S → List ℕ → Front F) (item : S → List
     pub fits : (s : S) (x : List ℕ) (n : ℕ) → find s x ≡ Whole n → (0 < n) × (n ≤ length x)
     pub alone : (s : S) (x : List ℕ) (n : ℕ) → find s x ≡ Whole n → find s (take n x) ≡ Whole n
 
-  -- A piece was taken: what is held is cut from what was held and the piece.
-  pub record Feeds (old : Cut S V F) (piece : List ℕ) (new : Cut S V F) : Type 0 where
-    pub sound : old.fault ≡ None
-    pub is : new ≡ joined old.given (cut old.reading (old.rest ++ piece))
+  -- all the frames of the bytes of a stream before their first fault
+  abbrev pub given_in : S → List ℕ → List V
+  given_in start bytes = (cut start bytes).given
 
-  -- A fault was answered: it is the first of all the bytes, or it was answered before and nothing was taken.
-  pub record Faults (old : Cut S V F) (piece : List ℕ) (new : Cut S V F) (fault : F) : Type 0 where
-    pub is : new.fault ≡ Some fault
-    pub first : old.fault ≡ None → new ≡ joined old.given (cut old.reading (old.rest ++ piece))
-    pub stays : (f : F) → old.fault ≡ Some f → new ≡ old
+  -- the first fault of the bytes of a stream
+  abbrev pub fault_in : S → List ℕ → Option F
+  fault_in start bytes = (cut start bytes).fault
+
+  -- what is held after a further piece: where there is a fault, all stays
+  abbrev pub held_after : Cut S V F → List ℕ → Option F → Cut S V F
+  held_after held piece None = joined held.given (cut held.reading (held.rest ++ piece))
+  held_after held piece (Some fault) = held
+
+  -- A cut stops where it may: its rest begins with no whole frame, and where it begins with a fault, that is the fault.
+  pub record Stops (c : Cut S V F) : Type 0 where
+    pub fault : c.fault ≡ fault_of (find c.reading c.rest)
+    pub none_left : (n : ℕ) → find c.reading c.rest ≢ Whole n
 
   -- What is held of a stream: of all the bytes that were fed and the frames that were taken it still has the other frames, the
   -- fault, and where there is none the bytes past the last frame.
@@ -65,3 +83,18 @@ module _ {S V F : Type 0} (find : S → List ℕ → Front F) (item : S → List
     pub frames : (cut start fed).given ≡ taken ++ now.given
     pub fault : (cut start fed).fault ≡ now.fault
     pub open_rest : now.fault ≡ None → ((cut start fed).rest ≡ now.rest) × ((cut start fed).reading ≡ now.reading)
+
+  -- A piece was taken: what is held is that after it; what it stood for has the piece too; and its fault is the first of all the
+  -- bytes.
+  pub record Takes (old : Cut S V F) (piece : List ℕ) (new : Cut S V F) : Type 0 where
+    pub held : new ≡ held_after old piece old.fault
+    pub stands : (start : S) (fed : List ℕ) (taken : List V) → Stands start fed taken old → Stands start (fed ++ piece) taken new
+    pub first_fault : (start : S) (fed : List ℕ) (taken : List V) → Stands start fed taken old → new.fault ≡ fault_in start (fed ++ piece)
+
+  -- The next frame was given, the first of those that are held; or all that the bytes have were given before.
+  pub record Gives (old new : Cut S V F) (given : Option V) : Type 0 where
+    pub some : IfSome given (λ v. old ≡ record new { given = v ∷ new.given })
+    pub none : IfNone given ((old.given ≡ []) × (new ≡ old))
+    pub stands : (start : S) (fed : List ℕ) (taken : List V) → Stands start fed taken old
+        → Stands start fed (taken ++ option_to_list given) new
+    pub none_left : IfNone given ((start : S) (fed : List ℕ) (taken : List V) → Stands start fed taken old → given_in start fed ≡ taken)

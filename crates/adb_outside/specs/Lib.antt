@@ -3,6 +3,7 @@ pub mod Source
 pub mod Sink
 pub mod Identity
 pub mod Framing
+pub mod Queued
 pub mod Memory
 pub mod Counted
 pub mod Decimal

@@ -1,5 +1,5 @@
 -- What a write says of the piece and of the bytes that went out.
-use Rattle.std.specs.Prelude.{ℕ, ◌≡◌, ◌≤◌, List, ◌++◌, length, take, Option, Some}
+use Rattle.std.specs.Prelude.{ℕ, ◌≡◌, ◌≤◌, Bool, true, false, List, ◌++◌, length, take, Option, Some}
 use Rattle.adb_outside.specs.declared.sink.Wrote.{Wrote}
 use Rattle.adb_outside.specs.declared.sink.Wrote.TheVariants.{All, Failed}
 
@@ -15,6 +15,7 @@ gone_out piece (Failed taken) = take taken piece
 abbrev pub TellsWrite : Option (List ℕ) → Option (List ℕ) → List ℕ → Wrote → Type 0
 TellsWrite before after piece wrote = (out : List ℕ) → before ≡ Some out → after ≡ Some (out ++ gone_out piece wrote)
 
--- a write to a sink that never fails
-abbrev pub IsSteadyWrite : ℕ → ℕ → Wrote → Type 0
-IsSteadyWrite old new wrote = (wrote ≡ All) × (new ≡ old)
+-- whether a write failed
+abbrev pub is_failed_write : Wrote → Bool
+is_failed_write All = false
+is_failed_write (Failed taken) = true

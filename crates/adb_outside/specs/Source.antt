@@ -1,5 +1,5 @@
 -- What a read says of the buffer and of the bytes that are still to come.
-use Rattle.std.specs.Prelude.{ℕ, ◌≡◌, ◌≢◌, ◌<◌, ◌≤◌, List, [], length, take, drop, Option, Some}
+use Rattle.std.specs.Prelude.{ℕ, ◌≡◌, ◌<◌, ◌≤◌, Bool, true, false, List, [], length, take, drop, Option, Some}
 use Rattle.adb_outside.specs.declared.source.Got.{Got}
 use Rattle.adb_outside.specs.declared.source.Got.TheVariants.{Bytes, End, Failed}
 
@@ -20,6 +20,8 @@ TellsRead before after into (Bytes n) = (coming : List ℕ) → before ≡ Some 
 TellsRead before after into End = (coming : List ℕ) → before ≡ Some coming → (coming ≡ []) × (after ≡ Some [])
 TellsRead before after into Failed = (coming : List ℕ) → before ≡ Some coming → after ≡ Some coming
 
--- a read of a source that never fails
-abbrev pub IsSteadyRead : ℕ → ℕ → Got → Type 0
-IsSteadyRead old new got = (got ≢ Failed) × (new ≡ old)
+-- whether a read failed
+abbrev pub is_failed_read : Got → Bool
+is_failed_read (Bytes n) = false
+is_failed_read End = false
+is_failed_read Failed = true

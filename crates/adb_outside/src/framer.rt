@@ -1,8 +1,9 @@
 //! Cutting a stream of bytes into frames, in whatever pieces it comes.
 
-ghost use Rattle.std.specs.Prelude.{◌≡◌, ◌++◌, ◌∷◌, [], List, ℕ, IfOk, IfSome, IfNone, OnErr, OnOk, take, drop, length, Option, Some, None, ◌≤◌, ◌≢◌, option_to_list};
-ghost use Rattle.adb_outside.specs.Framing.{cut, joined, fault_of, Feeds, Faults, Stands};
+ghost use Rattle.std.specs.Prelude.{◌≡◌, ◌++◌, [], List, ℕ, IfOk, OnErr, OnOk, take, drop, length, Option, Some, None, ◌≤◌, ◌≢◌};
+ghost use Rattle.adb_outside.specs.Framing.{cut, joined, fault_of, answer_of, Takes, Gives, Stands};
 
+use crate::byte_queue::ByteQueue;
 use std::alloc::{AllocError, Global};
 use std::collections::VecDeque;
 use std::marker::Model;
@@ -80,7 +81,7 @@ pub enum FeedError<F> {
 pub struct Framer<S: Drop, V: Drop, F: Drop> {
     alloc: Global,
     format: S,
-    held: Vec<u8>,
+    held: ByteQueue,
     ready: VecDeque<V>,
     fault: Option<F>,
 }
@@ -90,7 +91,7 @@ impl<S: Drop, V: Drop, F: Drop> Model for Framer<S, V, F> {
 
     ghost Value = { Cut S V F };
 
-    ghost view = { λ f. record { given = f.ready.items; reading = f.format; rest = f.held.items; fault = f.fault } };
+    ghost view = { λ f. record { given = f.ready.items; reading = f.format; rest = f.held.bytes; fault = f.fault } };
 }
 
 impl<V: Drop, F: Copy, S: Format<V, F>> Framer<S, V, F> {
@@ -102,7 +103,7 @@ impl<V: Drop, F: Copy, S: Format<V, F>> Framer<S, V, F> {
         Framer {
             alloc,
             format,
-            held: Vec::new(alloc),
+            held: ByteQueue::new(alloc),
             ready: VecDeque::new(alloc),
             fault: None,
         }
@@ -111,9 +112,7 @@ impl<V: Drop, F: Copy, S: Format<V, F>> Framer<S, V, F> {
     /// The next frame that was not yet taken; `None` where no further whole one was fed. It takes no
     /// memory.
     pub fn next(&mut self) -> Option<V>
-        ensures some { IfSome result (λ v. self.old ≡ record self.new { given = v ∷ self.new.given }) }
-        ensures none { IfNone result ((self.old.given ≡ []) × (self.new ≡ self.old)) }
-        ensures stands { (start : S) (fed : List ℕ) (taken : List V) → Stands S.find S.item S.after start fed taken self.old → Stands S.find S.item S.after start fed (taken ++ option_to_list result) self.new }
+        ensures { Gives S.find S.item S.after self.old self.new result }
     {
         self.ready.pop_front()
     }
@@ -121,17 +120,19 @@ impl<V: Drop, F: Copy, S: Format<V, F>> Framer<S, V, F> {
     /// Takes the next piece of the stream. A fault is that of all the bytes fed so far; the frames
     /// before it are still given, and from then on every call answers it and takes nothing.
     pub fn feed(&mut self, piece: &[u8]) -> Result<(), FeedError<F>>
-        ensures ok { OnOk result (Feeds S.find S.item S.after self.old piece.now self.new × (self.new.fault ≡ None)) }
-        ensures fault { (f : F) → result ≡ Err (FeedError.Fault f) → Faults S.find S.item S.after self.old piece.now self.new f }
-        ensures stays { (f : F) → self.old.fault ≡ Some f → result ≡ Err (FeedError.Fault f) }
         ensures memory { result ≡ Err FeedError.OutOfMemory → self.new ≡ self.old }
-        ensures stands { result ≢ Err FeedError.OutOfMemory → (start : S) (fed : List ℕ) (taken : List V) → Stands S.find S.item S.after start fed taken self.old → Stands S.find S.item S.after start (fed ++ piece.now) taken self.new }
+        ensures taken { result ≢ Err FeedError.OutOfMemory
+            → Takes S.find S.item S.after self.old piece.now self.new }
+        ensures answer { result ≢ Err FeedError.OutOfMemory
+            → result ≡ answer_of FeedError.Fault self.new.fault }
+        ensures stays { (fault : F) → self.old.fault ≡ Some fault
+            → result ≡ Err (FeedError.Fault fault) }
     {
         if let Some(fault) = self.fault {
             return Err(FeedError::Fault(fault));
         }
         let (held, ready) = (self.held.len(), self.ready.len());
-        if self.held.extend_from_slice(piece).is_err() {
+        if self.held.push(piece).is_err() {
             return Err(FeedError::OutOfMemory);
         }
         if self.cut_held().is_err() {
@@ -154,28 +155,17 @@ impl<V: Drop, F: Copy, S: Format<V, F>> Framer<S, V, F> {
         let mut at = 0;
         let mut front = format.front(self.held.as_slice());
         while let Front::Whole(n) = front {
-            let frame = &self.held[at..at + n];
+            let frame = &self.held.as_slice()[at..at + n];
             let item = format.read(self.alloc, frame)?;
             self.ready.push_back(item)?;
             format = format.past(frame);
             at += n;
-            front = format.front(&self.held[at..]);
+            front = format.front(&self.held.as_slice()[at..]);
         }
-        self.keep_from(at)?;
+        self.held.take(at);
+        self.held.give_back();
         self.format = format;
         self.fault = front.fault();
-        Ok(())
-    }
-
-    /// Drops the first bytes that are held. The others move once.
-    fn keep_from(&mut self, at: usize) -> Result<(), AllocError>
-        requires { at ≤ length self.old.rest }
-        ensures ok { OnOk result (self.new ≡ record self.old { rest = drop at self.old.rest }) }
-        ensures err { OnErr result (self.new ≡ self.old) }
-    {
-        if at > 0 {
-            self.held = Vec::from_slice(self.alloc, &self.held[at..])?;
-        }
         Ok(())
     }
 }

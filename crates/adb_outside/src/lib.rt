@@ -2,7 +2,9 @@
 //! memory, and how a stream is cut into frames.
 #![tactic(auto)]
 
+mod byte_queue;
 mod decimal;
+mod failing;
 mod framer;
 mod identity;
 mod kinds;
@@ -16,7 +18,9 @@ mod supply;
 mod tests;
 mod text;
 
+pub use byte_queue::ByteQueue;
 pub use decimal::read_number;
+pub use failing::Failing;
 pub use framer::{FeedError, Format, Framer, Front};
 pub use identity::{Identity, State, state_of, state_text};
 pub use kinds::{Cause, Kind, Selector};

@@ -1,7 +1,12 @@
 //! A source and a sink in memory, which fail where a test wants it.
 
-ghost use Rattle.std.specs.Prelude.{◌≡◌, ◌≤◌, ℕ, []};
+ghost use Rattle.std.specs.Prelude.{◌≡◌, ◌<◌, ◌≤◌, ◌↔◌, ℕ, [], length, Some, Contains};
+ghost use Rattle.adb_outside.specs.Outside.{Counts, counted_on};
+ghost use Rattle.adb_outside.specs.Source.{FitsBuffer, TellsRead, is_failed_read};
+ghost use Rattle.adb_outside.specs.Sink.{FitsPiece, TellsWrite, is_failed_write};
+ghost use Rattle.adb_outside.specs.Memory.{GivesPiece};
 
+use crate::failing::Failing;
 use crate::sink::{Sink, Wrote};
 use crate::source::{Got, Source};
 use crate::supply::Supply;
@@ -13,9 +18,7 @@ use std::marker::Model;
 #[derive(Drop)]
 pub struct MemorySource {
     supply: Supply,
-    failing: Vec<u64>,
-    calls: u64,
-    faults: u64,
+    failing: Failing,
 }
 
 impl Model for MemorySource {
@@ -23,7 +26,13 @@ impl Model for MemorySource {
 
     ghost Value = { MemoryInput };
 
-    ghost view = { λ s. record { coming = s.supply; failing = s.failing.items; faults = s.faults } };
+    ghost view = { λ s. record {
+      coming = s.supply.coming;
+      piece = s.supply.piece;
+      failing = s.failing.failing;
+      calls = s.failing.calls;
+      faults = s.failing.faults;
+    } };
 }
 
 impl MemorySource {
@@ -31,13 +40,17 @@ impl MemorySource {
     /// counted from 1, are in `failing`. It takes no memory.
     pub fn new(bytes: Text, piece: usize, failing: Vec<u64>) -> MemorySource
         requires { 1 ≤ piece }
-        ensures { result ≡ record { coming = bytes; failing = failing.items; faults = 0 } }
+        ensures { result ≡ record {
+          coming = bytes;
+          piece = piece;
+          failing = failing.items;
+          calls = 0;
+          faults = 0;
+        } }
     {
         MemorySource {
             supply: Supply::new(bytes, piece),
-            failing,
-            calls: 0,
-            faults: 0,
+            failing: Failing::new(failing),
         }
     }
 }
@@ -51,10 +64,19 @@ impl Source for MemorySource {
 
     ghost steady = { λ s. s.failing ≡ [] };
 
-    fn read(&mut self, into: &mut [u8]) -> Got {
-        self.calls = self.calls.saturating_add(1);
-        if self.failing.contains(&self.calls) {
-            self.faults = self.faults.saturating_add(1);
+    /// It fails at the calls whose numbers are in the list, and gives as much as it may.
+    fn read(&mut self, into: &mut [u8]) -> Got
+        requires { 0 < length into.old }
+        ensures fits { FitsBuffer into.old result }
+        ensures told { TellsRead (Some self.old.coming) (Some self.new.coming) into.new result }
+        ensures counts { Counts (λ s. s.failing ≡ []) (λ s. s.faults)
+            self.old self.new (is_failed_read result) }
+        ensures fails { (result ≡ Got.Failed) ↔ Contains self.old.failing self.new.calls }
+        ensures gives { GivesPiece self.old.piece self.old.coming into.old result }
+        ensures calls { self.new.calls ≡ counted_on self.old.calls }
+        ensures same { (self.new.failing ≡ self.old.failing) × (self.new.piece ≡ self.old.piece) }
+    {
+        if self.failing.fails() {
             return Got::Failed;
         }
         self.supply.give(into)
@@ -66,9 +88,7 @@ impl Source for MemorySource {
 #[derive(Drop)]
 pub struct MemorySink {
     written: Vec<u8>,
-    failing: Vec<u64>,
-    calls: u64,
-    faults: u64,
+    failing: Failing,
 }
 
 impl Model for MemorySink {
@@ -76,20 +96,23 @@ impl Model for MemorySink {
 
     ghost Value = { MemoryOutput };
 
-    ghost view = { λ s. record { out = s.written.items; failing = s.failing.items; faults = s.faults } };
+    ghost view = { λ s. record {
+      out = s.written.items;
+      failing = s.failing.failing;
+      calls = s.failing.calls;
+      faults = s.failing.faults;
+    } };
 }
 
 impl MemorySink {
     /// A sink that fails at the calls whose numbers, counted from 1, are in `failing`; a failing
     /// write takes nothing. It takes no memory.
     pub fn new(alloc: Global, failing: Vec<u64>) -> MemorySink
-        ensures { result ≡ record { out = []; failing = failing.items; faults = 0 } }
+        ensures { result ≡ record { out = []; failing = failing.items; calls = 0; faults = 0 } }
     {
         MemorySink {
             written: Vec::new(alloc),
-            failing,
-            calls: 0,
-            faults: 0,
+            failing: Failing::new(failing),
         }
     }
 
@@ -110,10 +133,24 @@ impl Sink for MemorySink {
 
     ghost steady = { λ s. ⊥ };
 
-    fn write(&mut self, piece: &[u8]) -> Wrote {
-        self.calls = self.calls.saturating_add(1);
-        if self.failing.contains(&self.calls) || self.written.extend_from_slice(piece).is_err() {
-            self.faults = self.faults.saturating_add(1);
+    /// It fails at the calls whose numbers are in the list, and where it finds no memory. A write
+    /// that fails takes nothing.
+    fn write(&mut self, piece: &[u8]) -> Wrote
+        requires { 0 < length piece.now }
+        ensures fits { FitsPiece piece.now result }
+        ensures told { TellsWrite (Some self.old.out) (Some self.new.out) piece.now result }
+        ensures counts { Counts (λ s. ⊥) (λ s. s.faults)
+            self.old self.new (is_failed_write result) }
+        ensures fails { Contains self.old.failing self.new.calls → result ≡ Wrote.Failed 0 }
+        ensures whole { (n : ℕ) → result ≡ Wrote.Failed n → n ≡ 0 }
+        ensures calls { self.new.calls ≡ counted_on self.old.calls }
+        ensures same { self.new.failing ≡ self.old.failing }
+    {
+        if self.failing.fails() {
+            return Wrote::Failed { taken: 0 };
+        }
+        if self.written.extend_from_slice(piece).is_err() {
+            self.failing.count_fault();
             return Wrote::Failed { taken: 0 };
         }
         Wrote::All

@@ -1,6 +1,9 @@
 //! A source and a sink that never fail.
 
-ghost use Rattle.std.specs.Prelude.{◌≡◌, ◌≤◌, ℕ};
+ghost use Rattle.std.specs.Prelude.{◌≡◌, ◌≢◌, ◌<◌, ◌≤◌, length, Some};
+ghost use Rattle.adb_outside.specs.Outside.{Counts};
+ghost use Rattle.adb_outside.specs.Source.{FitsBuffer, TellsRead, is_failed_read};
+ghost use Rattle.adb_outside.specs.Memory.{GivesPiece};
 
 use crate::sink::{Sink, Wrote};
 use crate::source::{Got, Source};
@@ -15,9 +18,9 @@ pub struct NeverSource {
 }
 
 impl Model for NeverSource {
-    ghost use Rattle.std.specs.Prelude.{List, ℕ};
+    ghost use Rattle.adb_outside.specs.Memory.{Supplied};
 
-    ghost Value = { List ℕ };
+    ghost Value = { Supplied };
 
     ghost view = { λ s. s.supply };
 }
@@ -26,7 +29,7 @@ impl NeverSource {
     /// A source that gives at most `piece` bytes a call. It takes no memory.
     pub fn new(bytes: Text, piece: usize) -> NeverSource
         requires { 1 ≤ piece }
-        ensures { result ≡ bytes }
+        ensures { result ≡ record { coming = bytes; piece = piece } }
     {
         NeverSource {
             supply: Supply::new(bytes, piece),
@@ -39,11 +42,20 @@ impl Source for NeverSource {
 
     ghost faults = { λ s. 0 };
 
-    ghost left = { λ s. Some s };
+    ghost left = { λ s. Some s.coming };
 
     ghost steady = { λ s. Unit {0} };
 
-    fn read(&mut self, into: &mut [u8]) -> Got {
+    /// It gives as much as it may.
+    fn read(&mut self, into: &mut [u8]) -> Got
+        requires { 0 < length into.old }
+        ensures fits { FitsBuffer into.old result }
+        ensures told { TellsRead (Some self.old.coming) (Some self.new.coming) into.new result }
+        ensures counts { Counts (λ s. Unit {0}) (λ s. 0)
+            self.old self.new (is_failed_read result) }
+        ensures gives { GivesPiece self.old.piece self.old.coming into.old result }
+        ensures same { self.new.piece ≡ self.old.piece }
+    {
         self.supply.give(into)
     }
 }

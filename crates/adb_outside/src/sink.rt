@@ -11,9 +11,9 @@ pub enum Wrote {
 
 /// A sink of bytes outside the program.
 pub trait Sink {
-    ghost use Rattle.std.specs.Prelude.{◌≡◌, ◌<◌, ◌≤◌, ℕ, List, Option, length};
-    ghost use Rattle.adb_outside.specs.Outside.{Rises};
-    ghost use Rattle.adb_outside.specs.Sink.{FitsPiece, TellsWrite, IsSteadyWrite};
+    ghost use Rattle.std.specs.Prelude.{◌<◌, ℕ, List, Option, length};
+    ghost use Rattle.adb_outside.specs.Outside.{Counts};
+    ghost use Rattle.adb_outside.specs.Sink.{FitsPiece, TellsWrite, is_failed_write};
 
     /// How many of its writes failed. A count at its last value counts as having risen.
     ghost faults: { Self → ℕ };
@@ -24,14 +24,11 @@ pub trait Sink {
     /// It never fails.
     ghost steady: { Self → Type 0 };
 
-    /// Writes the piece, which holds at least one byte. `Failed` comes only where the count of
-    /// faults rises; the first `taken` bytes of the piece went out then.
+    /// Writes the piece, which holds at least one byte. The count of faults rises at `Failed`,
+    /// where the first `taken` bytes of the piece went out, and stands at `All`.
     fn write(&mut self, piece: &[u8]) -> Wrote
         requires { 0 < length piece.now }
         ensures fits { FitsPiece piece.now result }
         ensures told { TellsWrite (written self.old) (written self.new) piece.now result }
-        ensures fault { (n : ℕ) → result ≡ Wrote.Failed n → Rises (faults self.old) (faults self.new) }
-        ensures count { faults self.old ≤ faults self.new }
-        ensures keeps_steady { steady self.old → steady self.new }
-        ensures steady_write { steady self.old → IsSteadyWrite (faults self.old) (faults self.new) result };
+        ensures counts { Counts steady faults self.old self.new (is_failed_write result) };
 }

@@ -13,9 +13,9 @@ pub enum Got {
 
 /// A source of bytes outside the program.
 pub trait Source {
-    ghost use Rattle.std.specs.Prelude.{◌≡◌, ◌<◌, ◌≤◌, ℕ, List, Option, length};
-    ghost use Rattle.adb_outside.specs.Outside.{Rises};
-    ghost use Rattle.adb_outside.specs.Source.{FitsBuffer, TellsRead, IsSteadyRead};
+    ghost use Rattle.std.specs.Prelude.{◌<◌, ℕ, List, Option, length};
+    ghost use Rattle.adb_outside.specs.Outside.{Counts};
+    ghost use Rattle.adb_outside.specs.Source.{FitsBuffer, TellsRead, is_failed_read};
 
     /// How many of its reads failed. A count at its last value counts as having risen.
     ghost faults: { Self → ℕ };
@@ -27,14 +27,11 @@ pub trait Source {
     ghost steady: { Self → Type 0 };
 
     /// Reads some of the bytes that are still to come into the front of the buffer, which holds at
-    /// least one byte. `End` comes exactly where none are left, where the source tells them, and
-    /// `Failed` only where the count of faults rises.
+    /// least one byte. `End` comes exactly where none are left, where the source tells them. The
+    /// count of faults rises at `Failed`, and stands at every other answer.
     fn read(&mut self, into: &mut [u8]) -> Got
         requires { 0 < length into.old }
         ensures fits { FitsBuffer into.old result }
         ensures told { TellsRead (left self.old) (left self.new) into.new result }
-        ensures fault { result ≡ Got.Failed → Rises (faults self.old) (faults self.new) }
-        ensures count { faults self.old ≤ faults self.new }
-        ensures keeps_steady { steady self.old → steady self.new }
-        ensures steady_read { steady self.old → IsSteadyRead (faults self.old) (faults self.new) result };
+        ensures counts { Counts steady faults self.old self.new (is_failed_read result) };
 }

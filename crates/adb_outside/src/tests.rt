@@ -1,67 +1,92 @@
-//! Texts, sources and sinks in memory, states, and a stream cut in pieces of each size.
+//! Texts, queues, sources and sinks in memory, and states.
 
 use super::*;
 use std::alloc::{AllocError, Global};
+use std::process::Abort;
 use std::test::Fail;
+
+/// The bytes are these.
+fn is(rt: &impl Abort, bytes: &[u8], want: &[u8]) {
+    assert_eq!(rt; bytes, want);
+}
 
 #[test]
 fn texts(rt: HostRuntime) -> Result<(), Fail> {
-    let alloc = rt.alloc();
-    let mut text = Text::new(alloc);
-    assert!(rt; text.is_empty());
-    text.push_slice(b"host:")?;
-    text.push_slice(b"version")?;
-    assert_eq!(rt; text.as_slice(), b"host:version".as_slice());
-    assert_eq!(rt; text.len(), 12);
-    assert!(rt; !text.is_empty());
-    let same = text.copy(alloc)?;
-    assert_eq!(rt; same.as_slice(), b"host:version".as_slice());
-    let moved = Text::from_vec(Text::from_slice(alloc, b"\x00\xff")?.into_vec());
-    assert_eq!(rt; moved.as_slice(), b"\x00\xff".as_slice());
+    let mut text = Text::new(rt.alloc());
+    text.reserve(12)?;
+    text.push_slice(b"host:version")?;
+    let mut host = text.copy()?;
+    host.truncate(4);
+    is(&rt, host.as_slice(), b"host");
+    let moved = Text::from_vec(text.into_vec());
+    is(&rt, moved.as_slice(), b"host:version");
+    assert!(rt; moved.len() == 12 && !moved.is_empty());
     Ok(())
 }
 
-/// The text, in pieces of at most three bytes, and then its end.
 #[test]
-fn a_source_gives_pieces(rt: HostRuntime) -> Result<(), Fail> {
+fn queues(rt: HostRuntime) -> Result<(), Fail> {
+    let mut queue = ByteQueue::from_text(Text::from_slice(rt.alloc(), b"host:")?);
+    queue.take(5);
+    queue.push(b"version")?;
+    queue.reserve(4)?;
+    queue.push_spare(b"host");
+    is(&rt, queue.as_slice(), b"versionhost");
+    queue.truncate(7);
+    queue.give_back();
+    assert!(rt; queue.len() == 7 && !queue.is_empty());
+    queue.clear();
+    queue.give_back();
+    assert!(rt; queue.spare() == ByteQueue::new(rt.alloc()).spare());
+    Ok(())
+}
+
+/// What a source gives of a buffer of that many bytes at each call, and what stands in the buffer.
+fn gives(rt: &impl Abort, source: &mut impl Source, calls: &[(usize, Got, &[u8])]) {
+    for (room, got, bytes) in calls {
+        let mut into = *b"........";
+        let room = (*room).clamp(1, into.len());
+        assert!(rt; source.read(&mut into[..room]) == *got);
+        is(rt, &into, bytes);
+    }
+}
+
+#[test]
+fn a_source_fails_and_gives_pieces(rt: HostRuntime) -> Result<(), Fail> {
     let text = Text::from_slice(rt.alloc(), b"shell:")?;
     let mut source = MemorySource::new(text, 3, Vec::from_slice(rt.alloc(), &[2])?);
-    let mut into = *b"....";
-    let mut small = *b"..";
-    assert_eq!(rt; source.read(&mut into), Got::Bytes(3));
-    assert_eq!(rt; &into, b"she.");
-    assert_eq!(rt; source.read(&mut into), Got::Failed);
-    assert_eq!(rt; &into, b"she.");
-    assert_eq!(rt; source.read(&mut small), Got::Bytes(2));
-    assert_eq!(rt; &small, b"ll");
-    assert_eq!(rt; source.read(&mut into), Got::Bytes(1));
-    assert_eq!(rt; &into, b":he.");
-    assert_eq!(rt; source.read(&mut into), Got::End);
-    assert_eq!(rt; source.read(&mut into), Got::End);
+    let calls: [(usize, Got, &[u8]); 6] = [
+        (4, Got::Bytes(3), b"she....."),
+        (4, Got::Failed, b"........"),
+        (2, Got::Bytes(2), b"ll......"),
+        (4, Got::Bytes(1), b":......."),
+        (4, Got::End, b"........"),
+        (4, Got::End, b"........"),
+    ];
+    gives(&rt, &mut source, &calls);
     Ok(())
 }
 
 #[test]
-fn a_sink_keeps_what_it_took(rt: HostRuntime) -> Result<(), Fail> {
-    let mut sink = MemorySink::new(rt.alloc(), Vec::from_slice(rt.alloc(), &[2])?);
-    assert_eq!(rt; sink.write(b"OK"), Wrote::All);
-    assert_eq!(rt; sink.write(b"AY"), Wrote::Failed { taken: 0 });
-    assert_eq!(rt; sink.bytes(), b"OK".as_slice());
-    assert_eq!(rt; sink.write(b"AY"), Wrote::All);
-    assert_eq!(rt; sink.bytes(), b"OKAY".as_slice());
-    Ok(())
-}
-
-#[test]
-fn what_never_fails(rt: HostRuntime) -> Result<(), Fail> {
+fn a_source_never_fails(rt: HostRuntime) -> Result<(), Fail> {
     let mut source = NeverSource::new(Text::from_slice(rt.alloc(), b"sync:")?, 4);
-    let mut into = *b"........";
-    assert_eq!(rt; source.read(&mut into), Got::Bytes(4));
-    assert_eq!(rt; &into, b"sync....");
-    assert_eq!(rt; source.read(&mut into), Got::Bytes(1));
-    assert_eq!(rt; &into, b":ync....");
-    assert_eq!(rt; source.read(&mut into), Got::End);
-    assert_eq!(rt; NeverSink::new().write(b"OKAY"), Wrote::All);
+    let calls: [(usize, Got, &[u8]); 3] = [
+        (8, Got::Bytes(4), b"sync...."),
+        (8, Got::Bytes(1), b":......."),
+        (8, Got::End, b"........"),
+    ];
+    gives(&rt, &mut source, &calls);
+    Ok(())
+}
+
+#[test]
+fn sinks_take(rt: HostRuntime) -> Result<(), Fail> {
+    let mut sink = MemorySink::new(rt.alloc(), Vec::from_slice(rt.alloc(), &[2])?);
+    for wrote in [Wrote::All, Wrote::Failed { taken: 0 }, Wrote::All] {
+        assert!(rt; sink.write(b"OK") == wrote);
+    }
+    is(&rt, sink.bytes(), b"OKOK");
+    assert!(rt; NeverSink::new().write(b"OKAY") == Wrote::All);
     Ok(())
 }
 
@@ -78,7 +103,7 @@ fn system(alloc: Global, system: &[u8]) -> Result<Identity, AllocError> {
 }
 
 #[test]
-fn states(rt: HostRuntime) -> Result<(), Fail> {
+fn systems_mean_states(rt: HostRuntime) -> Result<(), Fail> {
     let cases: [(&[u8], State); 9] = [
         (b"device", State::Device),
         (b"bootloader", State::Bootloader),
@@ -92,8 +117,13 @@ fn states(rt: HostRuntime) -> Result<(), Fail> {
     ];
     for (name, state) in cases {
         let identity = system(rt.alloc(), name)?;
-        assert_eq!(rt; state_of(&identity), state, "of {name:?}");
+        assert!(rt; state_of(&identity) == state);
     }
+    Ok(())
+}
+
+#[test]
+fn states_have_texts(rt: HostRuntime) {
     let texts: [(State, &[u8]); 8] = [
         (State::Offline, b"offline"),
         (State::Unauthorized, b"unauthorized"),
@@ -105,75 +135,6 @@ fn states(rt: HostRuntime) -> Result<(), Fail> {
         (State::Host, b"host"),
     ];
     for (state, text) in texts {
-        assert_eq!(rt; state_text(state), text, "of {state:?}");
+        is(&rt, state_text(state), text);
     }
-    Ok(())
-}
-
-/// Counted texts, the first of which begins at a place of the stream: a byte of length and that many
-/// bytes. A length of 0 is a fault, told by its place.
-#[derive(Clone, Copy)]
-struct Counted {
-    place: u64,
-}
-
-impl Format<Text, u64> for Counted {
-    ghost use Rattle.std.specs.Prelude.{◌+◌, ◌-◌, ◌^◌, min, length, drop};
-    ghost use Rattle.adb_outside.specs.Counted.{counted_front, counted_is_framed};
-
-    ghost find = { λ s. counted_front s.place };
-
-    ghost item = { λ s frame. drop 1 frame };
-
-    ghost after = { λ s frame. record { place = min (s.place + length frame) (2 ^ 64 - 1) } };
-
-    ghost framing = { counted_is_framed (λ s. s.place) _ _ };
-
-    fn front(&self, bytes: &[u8]) -> Front<u64> {
-        match bytes {
-            [] => Front::More,
-            [0, ..] => Front::Bad(self.place),
-            [size, text @ ..] if text.len() < usize::from(*size) => Front::More,
-            [size, ..] => Front::Whole(usize::from(*size) + 1),
-        }
-    }
-
-    fn read(&self, alloc: Global, frame: &[u8]) -> Result<Text, AllocError> {
-        Text::from_slice(alloc, &frame[1..])
-    }
-
-    fn past(&self, frame: &[u8]) -> Counted {
-        Counted {
-            place: self.place.saturating_add(frame.len() as u64),
-        }
-    }
-}
-
-/// Three texts, and a fault at place 9.
-const STREAM: &[u8] = b"\x01a\x03xyz\x02bc\x00\x01d";
-
-#[test]
-fn frames_come_whole_however_cut(rt: HostRuntime) -> Result<(), Fail> {
-    for size in 1..=STREAM.len() {
-        let mut framer = Framer::new(rt.alloc(), Counted { place: 0 });
-        let mut fed: usize = 0;
-        for piece in STREAM.chunks(size) {
-            fed = fed.saturating_add(piece.len());
-            let answer = framer.feed(piece);
-            let fault = if fed > 9 {
-                Some(FeedError::Fault(9))
-            } else {
-                None
-            };
-            assert_eq!(rt; answer.err(), fault, "{fed} bytes in pieces of {size}");
-        }
-        assert_eq!(rt; framer.feed(b"\x01e"), Err(FeedError::Fault(9)));
-        for text in [b"a".as_slice(), b"xyz", b"bc"] {
-            let frame = framer.next().ok_or("a frame is missing")?;
-            assert_eq!(rt; frame.as_slice(), text, "in pieces of {size}");
-        }
-        assert!(rt; framer.next().is_none());
-        assert_eq!(rt; framer.feed(b""), Err(FeedError::Fault(9)));
-    }
-    Ok(())
 }

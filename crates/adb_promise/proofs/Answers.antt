@@ -10,7 +10,7 @@ use Rattle.adb_request.specs.Requests.{request_at, meaning}
 use Rattle.adb_request.specs.declared.cutting.Found.{Found}
 use Rattle.adb_request.specs.declared.cutting.Found.TheVariants.{More, Malformed, Whole}
 use Rattle.adb_capture.specs.declared.entry.Entry.TheVariants.{Join, Enter, Read, End, Bound, Attach, Recv, Detach, Put, Send}
-use Rattle.adb_history.specs.Rows.{IsPrefixOf}
+use Rattle.adb_outside.specs.Bytes.{IsPrefixOf}
 use Rattle.adb_history.specs.Machine.{answer, Client, fresh, phase_after, settled, answered, asks, byte_in, bytes_in, is_unbuilt, byte_asks_unbuilt, asks_unbuilt, handed, end_phase, ended, History, state, IsDrawn, May, MayPut, IsLegal}
 use Rattle.adb_history.specs.Answered.{has_joined, has_ended, bytes_read, bytes_put, Asked, nothing_asked, after_answer, after_found, after_byte, after_bytes, asked, IsAnswered, DueIsPastHanded, UnreadIsPastUsed}
 use Rattle.adb_history.specs.declared.phase.Phase.{Phase}

@@ -20,7 +20,8 @@ pub enum Found {
 /// are a request (OVERVIEW.TXT, "Protocol details"). It looks at no more than the digits.
 pub fn cut(bytes: &[u8]) -> Found
     ensures found { result ≡ request_at bytes.now }
-    ensures within { (len : ℕ) → result ≡ Found.Whole len → (0 < len) × (len ≤ 65535) × (4 + len ≤ length bytes.now) }
+    ensures within { (len : ℕ) → result ≡ Found.Whole len →
+        (0 < len) × (len ≤ u16.MAX) × (4 + len ≤ length bytes.now) }
 {
     match bytes {
         [a, b, c, d, rest @ ..] => behind(number_of(*a, *b, *c, *d), rest.len()),
@@ -31,7 +32,7 @@ pub fn cut(bytes: &[u8]) -> Found
 /// What a length says where that many bytes stand behind it.
 fn behind(len: Option<u16>, have: usize) -> Found
     ensures found { result ≡ found_behind len have }
-    ensures within { (n : ℕ) → result ≡ Found.Whole n → (0 < n) × (n ≤ 65535) × (n ≤ have) }
+    ensures within { (n : ℕ) → result ≡ Found.Whole n → (0 < n) × (n ≤ u16.MAX) × (n ≤ have) }
 {
     match len {
         None | Some(0) => Found::Malformed,

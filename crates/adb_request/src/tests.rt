@@ -2,53 +2,31 @@ use super::*;
 use std::test::Fail;
 
 #[test]
-fn lengths_in_digits(rt: HostRuntime) {
-    let cases: [(&[u8], Option<u16>); 12] = [
-        (b"000C", Some(12)),
-        (b"000c", Some(12)),
-        (b"0000", Some(0)),
-        (b"ffff", Some(65535)),
-        (b"FfFf", Some(65535)),
-        (b"1234", Some(4660)),
-        (b"zzzz", None),
-        (b"000g", None),
-        (b"00 c", None),
-        (b"00", None),
-        (b"000c0", None),
-        (b"", None),
+fn requests_are_cut(rt: HostRuntime) {
+    let cases: [(&[u8], Option<u16>, Found); 13] = [
+        (b"", None, Found::More),
+        (b"zzz", None, Found::More),
+        (b"zzzz", None, Found::Malformed),
+        (b"000g", None, Found::Malformed),
+        (b"00 c", None, Found::Malformed),
+        (b"0000", Some(0), Found::Malformed),
+        (b"000C", Some(12), Found::More),
+        (b"FfFf", Some(65535), Found::More),
+        (b"000Chost:versio", None, Found::More),
+        (b"000Chost:version", None, Found::Whole { len: 12 }),
+        (b"000chost:version000c", None, Found::Whole { len: 12 }),
+        (b"ffffshell:", None, Found::More),
+        (b"0001a", None, Found::Whole { len: 1 }),
     ];
-    for (digits, number) in cases {
-        assert_eq!(rt; read_hex4(digits), number, "of {digits:?}");
+    for (bytes, number, found) in cases {
+        assert_eq!(rt;
+            (read_hex4(bytes), cut(bytes)),
+            (number, found),
+            "of {bytes:?}"
+        );
     }
-    for (number, digits) in [
-        (0, b"0000"),
-        (12, b"000c"),
-        (48879, b"beef"),
-        (65535, b"ffff"),
-    ] {
-        assert_eq!(rt; hex4(number).as_slice(), digits.as_slice(), "of {number}");
-    }
-}
-
-#[test]
-fn cuts_requests(rt: HostRuntime) {
-    let cases: [(&[u8], Found); 12] = [
-        (b"", Found::More),
-        (b"00", Found::More),
-        (b"zzz", Found::More),
-        (b"zzzz", Found::Malformed),
-        (b"0000", Found::Malformed),
-        (b"000C", Found::More),
-        (b"000Chost:versio", Found::More),
-        (b"000Chost:version", Found::Whole { len: 12 }),
-        (b"000chost:version", Found::Whole { len: 12 }),
-        (b"000chost:version000c", Found::Whole { len: 12 }),
-        (b"ffffshell:", Found::More),
-        (b"0001a", Found::Whole { len: 1 }),
-    ];
-    for (bytes, found) in cases {
-        assert_eq!(rt; cut(bytes), found, "of {bytes:?}");
-    }
+    assert_eq!(rt; hex4(12), *b"000c");
+    assert_eq!(rt; hex4(48879), *b"beef");
 }
 
 /// The text of a service, else the name of what is asked.

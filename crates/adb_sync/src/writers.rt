@@ -24,7 +24,7 @@ pub fn write_ask(alloc: Global, ask: &SyncAsk, out: &mut Text) -> Result<(), All
         SyncAsk::List(path) => counted(alloc, b"LIST", path.as_slice())?,
         SyncAsk::Recv(path) => counted(alloc, b"RECV", path.as_slice())?,
         SyncAsk::Send { path, mode } => {
-            let mut text = path.copy(alloc)?;
+            let mut text = path.copy()?;
             text.push_slice(b",")?;
             text.push_slice(mode.as_slice())?;
             counted(alloc, b"SEND", text.as_slice())?

@@ -8,11 +8,11 @@ use Rattle.adb_capture.specs.Awaiting.{Opens}
 use Rattle.adb_capture.specs.declared.entry.Entry.{Entry}
 use Rattle.adb_capture.specs.declared.error.CaptureError.{CaptureError}
 use Rattle.adb_capture.specs.declared.error.CaptureError.TheVariants as capture
-use Rattle.adb_history.specs.Rows.{IsPrefixOf}
+use Rattle.adb_outside.specs.Bytes.{IsPrefixOf}
 use Rattle.adb_history.specs.Machine.{History, IsLegal}
 use Rattle.adb_history.specs.Drained.{drained, drained_from}
 use Rattle.adb_history.specs.Accepted.{Accepted, accepted, accept_records, has_magic, replayed}
-use Rattle.adb_history.specs.declared.refusal.Refusal.TheVariants.{Form}
+use Rattle.adb_history.specs.Refusal.{refusal_by}
 use Rattle.adb_promise.proofs.Answers.{all_answered}
 use Rattle.adb_top.specs.Stop.{stop_of}
 use Rattle.adb_top.specs.Keeping.{HasPart}
@@ -137,7 +137,7 @@ no_magic bytes e = go (bytes_eq (take 8 bytes) magic) refl e
     go false is same = is
 
 accepted_with : (bytes : List ℕ) → has_magic bytes ≡ true → accepted bytes ≡ accept_records 8 (drop 8 bytes) []
-accepted_with bytes e = ap (λ b. cond b (accept_records 8 (drop 8 bytes) []) (record { inputs = []; refused = Some (Form capture.BadMagic) })) e
+accepted_with bytes e = ap (λ b. cond b (accept_records 8 (drop 8 bytes) []) (record { inputs = []; refused = refusal_by capture.BadMagic })) e
 
 replayed_with : (bytes : List ℕ) → has_magic bytes ≡ true → replayed bytes ≡ magic ++ records_of (drained (accept_records 8 (drop 8 bytes) []).inputs)
 replayed_with bytes e = ap (λ b. cond b (magic ++ records_of (drained (accepted bytes).inputs)) []) e ∙ ap (λ (a : Accepted). magic ++ records_of (drained a.inputs)) (accepted_with bytes e)
@@ -190,7 +190,7 @@ capture_unread left written = record {
 pub capture_unopened : (opened : Reading) (left_first left_opened written : Option (List ℕ)) (e : CaptureError) → Opens (record { opened = false; offset = 8; held = []; failed = None }) left_first opened left_opened (Err e) → ReplaysCapture left_first left_opened written written (Err (stop_of e))
 capture_unopened opened left_first left_opened written capture.BadMagic o = record {
   writes = λ bytes had told has. has ∙ ap Some (sym (append-nil had) ∙ ap (λ x. had ++ x) (sym (ap (λ b. cond b (magic ++ records_of (drained (accepted bytes).inputs)) []) (no_magic bytes (o bytes told)))));
-  ends = λ bytes told. ap (λ b. (cond b (accept_records 8 (drop 8 bytes) []) (record { inputs = []; refused = Some (Form capture.BadMagic) })).refused) (no_magic bytes (o bytes told));
+  ends = λ bytes told. ap (λ b. (cond b (accept_records 8 (drop 8 bytes) []) (record { inputs = []; refused = refusal_by capture.BadMagic })).refused) (no_magic bytes (o bytes told));
   spells = λ had has. nothing_spelled had written has;
 }
 capture_unopened opened left_first left_opened written (capture.BadRecord at why) o = absurd o

@@ -3,7 +3,7 @@ use Rattle.std.proofs.Common.{ℕ, ◌^◌, ◌≡◌, ◌≢◌, ◌<◌, ◌�
 use Rattle.std.specs.Prelude.{All}
 use Rattle.std.proofs.lemmas.Bool.{ne_eqb}
 use Rattle.std.proofs.lemmas.List.{append_assoc, append-nil, reverse-append, take-append-drop}
-use Rattle.adb_outside.specs.Outside.{Rises}
+use Rattle.adb_outside.specs.Outside.{Rises, Counted}
 use Rattle.adb_capture.specs.Records.{record_of, records_of, HasRecord}
 use Rattle.adb_capture.specs.declared.entry.Entry.{Entry}
 use Rattle.adb_capture.specs.declared.entry.Entry.TheVariants.{Put}
@@ -14,7 +14,6 @@ use Rattle.adb_history.proofs.Orderly.{orderly}
 use Rattle.adb_history.proofs.Draining.{next_is, drain_all_step, drain_all_over}
 use Rattle.adb_history.proofs.Accepting.{drain_adds}
 use Rattle.adb_top.specs.Machine.{Puts}
-use Rattle.adb_capture.specs.Counting.{Counted}
 use Rattle.adb_top.specs.Keeping.{HasPart}
 use Rattle.adb_top.specs.Replay.{written_of, OnlyDue, IsDrained, HasWritten, HasStopped}
 
@@ -23,8 +22,9 @@ pub counts_on : (a b c : Type 0) (x y z : ℕ) (failed : Bool) → Counted a b x
 counts_on a b c x y z failed first second = record {
   count = omega (arith, first.count, second.count);
   fault = λ e. rises (second.fault e);
+  stands = λ e. second.stands e ∙ first.stands refl;
   keeps = λ s. second.keeps (first.keeps s);
-  steady = λ s. let t = second.steady (first.keeps s) in (t.0, t.1 ∙ (first.steady s).1);
+  steady = λ s. second.steady (first.keeps s);
 }
   where
     rises : Rises y z → Rises x z

@@ -2,15 +2,17 @@
 use Rattle.std.proofs.Common.{ℕ, ◌+◌, ◌≡◌, Bool, true, false, cond, List, [], ◌∷◌, Option, Some, None, Ok, Err, refl, sym, ◌∙◌, ap, arith, inl, inr}
 use Rattle.std.specs.Prelude.{nat_eq, not}
 use Rattle.std.proofs.lemmas.Bool.{ne_eqb, eqb-true}
-use Rattle.adb_capture.specs.Records.{record_of, owner_of, HasRecord}
+use Rattle.adb_outside.specs.Serial.{is_serial}
+use Rattle.adb_capture.specs.Records.{record_of, number_of, HasRecord}
 use Rattle.adb_capture.specs.declared.entry.Entry.{Entry}
 use Rattle.adb_capture.specs.declared.entry.Entry.TheVariants.{Join, Enter, Read, End, Bound, Attach, Recv, Detach, Put, Send}
 use Rattle.adb_history.specs.Machine.{Client, State, History, state, step, fresh, settled, bytes_in, asks_unbuilt, ended, IsDrawn, IsInRange, May, IsLegal, to_client}
 use Rattle.adb_history.specs.Kept.{Kept, kept, IsLawful}
 use Rattle.adb_history.specs.Drained.{owed, drain_all, drained_after}
-use Rattle.adb_history.specs.Accepted.{refusal_of, read_refusal, is_drawn, is_serial, is_input}
+use Rattle.adb_history.specs.Accepted.{refusal_of, read_refusal, is_drawn, is_input}
 use Rattle.adb_history.specs.declared.refusal.Refusal.{Refusal}
-use Rattle.adb_history.specs.declared.refusal.Refusal.TheVariants.{NotDrawn, BadSerial, NotBuilt}
+use Rattle.adb_history.specs.Refusal.{refused_at}
+use Rattle.adb_history.specs.declared.refusal.Reason.TheVariants.{NotDrawn, BadSerial, NotBuilt}
 use Rattle.adb_history.proofs.Orderly.{orderly}
 use Rattle.adb_history.proofs.Draining.{nothing_due}
 use Rattle.adb_history.proofs.Accepting.{drain_adds}
@@ -32,22 +34,22 @@ never : {A : Type 0} (b : Bool) (one other : A) → cond b (Some one) (Some othe
 never true one other e = cc
 never false one other e = cc
 
-read_passes : (drawn unbuilt : Bool) (offset : ℕ) → cond drawn (read_refusal unbuilt offset) (Some (NotDrawn offset)) ≡ None → (drawn ≡ true) × (unbuilt ≡ false)
+read_passes : (drawn unbuilt : Bool) (offset : ℕ) → cond drawn (read_refusal unbuilt offset) (refused_at offset NotDrawn) ≡ None → (drawn ≡ true) × (unbuilt ≡ false)
 read_passes true true offset e = cc
 read_passes true false offset e = (refl, refl)
 read_passes false unbuilt offset e = cc
 
-attach_never : (next serial : Bool) (offset : ℕ) → cond next (cond serial (Some (NotBuilt offset)) (Some (BadSerial offset))) (Some (NotDrawn offset)) ≡ None → ⊥
-attach_never true serial offset e = never serial (NotBuilt offset) (BadSerial offset) e
+attach_never : (next serial : Bool) (offset : ℕ) → cond next (cond serial (refused_at offset NotBuilt) (refused_at offset BadSerial)) (refused_at offset NotDrawn) ≡ None → ⊥
+attach_never true serial offset e = never serial _ _ e
 attach_never false serial offset e = cc
 
 -- An input that a state does not refuse may come.
 pub accepted_may : (s : State) (offset : ℕ) (e : Entry) → refusal_of s offset e ≡ None → is_input e ≡ true → May s e
-accepted_may s offset (Join n) none input = eqb-true n (s.joined + 1) (passes (nat_eq n (s.joined + 1)) (NotDrawn offset) none)
+accepted_may s offset (Join n) none input = eqb-true n (s.joined + 1) (passes (nat_eq n (s.joined + 1)) _ none)
 accepted_may s offset (Read n bytes) none input = let p = read_passes (is_drawn s n) (asks_unbuilt (s.clients n) bytes) offset none in (drawn_is n s.joined p.0, p.1)
-accepted_may s offset (End n cause) none input = drawn_is n s.joined (passes (is_drawn s n) (NotDrawn offset) none)
-accepted_may s offset (Enter n port) none input = absurd (never (nat_eq n (s.joined + 1)) (NotBuilt offset) (NotDrawn offset) none)
-accepted_may s offset (Bound n port) none input = absurd (never (is_drawn s n) (NotBuilt offset) (NotDrawn offset) none)
+accepted_may s offset (End n cause) none input = drawn_is n s.joined (passes (is_drawn s n) _ none)
+accepted_may s offset (Enter n port) none input = absurd (never (nat_eq n (s.joined + 1)) _ _ none)
+accepted_may s offset (Bound n port) none input = absurd (never (is_drawn s n) _ _ none)
 accepted_may s offset (Attach n kind serial) none input = absurd (attach_never (nat_eq n 1) (is_serial serial) offset none)
 accepted_may s offset (Recv n bytes) none input = cc
 accepted_may s offset (Detach n cause) none input = cc
@@ -67,7 +69,7 @@ join_only s n is rests = record {
 }
 
 -- where nothing was due, only the owner of an input has bytes due after it
-pub entry_only : (s : State) (e : Entry) → May s e → is_input e ≡ true → ((m : ℕ) → (s.clients m).due ≡ []) → OnlyDue (step s e) (owner_of e)
+pub entry_only : (s : State) (e : Entry) → May s e → is_input e ≡ true → ((m : ℕ) → (s.clients m).due ≡ []) → OnlyDue (step s e) (number_of e)
 entry_only s (Join n) may input rests = join_only s n may rests
 entry_only s (Read n bytes) may input rests = client_only s n (λ c. bytes_in c bytes) may.0 rests
 entry_only s (End n cause) may input rests = client_only s n (ended cause) may rests
@@ -94,7 +96,7 @@ input_of e hand = flip (is_input e) hand
 pub record Made (offset : ℕ) (e : Entry) (h : History) (now : Kept) : Type 0 where
   pub none : refusal_of (state h) offset e ≡ None
   pub lawful : IsLawful now (e ∷ h)
-  pub only : OnlyDue (state (e ∷ h)) (owner_of e)
+  pub only : OnlyDue (state (e ∷ h)) (number_of e)
   pub after : history_after e h ≡ drain_all (e ∷ h)
 
 pub made : (old now : Kept) (offset : ℕ) (e : Entry) (h : History) → HasRecord e → not (is_input e) ≡ false → IsDrained old h → Applies (state h) e (Ok tt) now → Made offset e h now
@@ -124,9 +126,7 @@ passed_over old offset (Detach n cause) h hand drained = cc
 
 -- an entry was refused
 pub refused_entry : (s : State) (offset : ℕ) (e : Entry) (why : machine.Refused) (r : Refusal) (new : Kept) → Applies s e (Err why) new → stop_at offset why ≡ Refused r → refusal_of s offset e ≡ Some r
-refused_entry s offset e refused.NotDrawn r new a is = a offset ∙ (let same : NotDrawn offset ≡ r = cc in ap Some same)
-refused_entry s offset e refused.BadSerial r new a is = a offset ∙ (let same : BadSerial offset ≡ r = cc in ap Some same)
-refused_entry s offset e refused.NotBuilt r new a is = a offset ∙ (let same : NotBuilt offset ≡ r = cc in ap Some same)
+refused_entry s offset e (refused.Because reason) r new a is = a offset ∙ (let same : record { offset = offset; reason = reason } ≡ r = cc in ap Some same)
 refused_entry s offset e refused.OutOfMemory r new a is = cc
 
 -- the record of the entry was lost

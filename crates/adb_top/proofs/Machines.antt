@@ -7,11 +7,13 @@ use Rattle.adb_outside.specs.declared.kinds.Cause.{Cause}
 use Rattle.adb_outside.specs.declared.kinds.Cause.TheVariants.{Eof, Fault, Starved, NoThread}
 use Rattle.adb_capture.specs.declared.entry.Entry.TheVariants.{Join, Read}
 use Rattle.adb_history.specs.Machine.{Client, State, IsDrawn, to_client, step, fresh, settled, phase_after, bytes_in, asks_unbuilt, ended, handed}
-use Rattle.adb_history.specs.Kept.{Kept, KeptClient, kept, kept_of, kept_row, kept_if_live, at, IsRising, IsOrderly}
+use Rattle.adb_history.specs.Kept.{Kept, KeptClient, kept, kept_of, kept_row, kept_if_live, IsOrderly}
 use Rattle.adb_history.specs.Accepted.{refusal_of, is_drawn}
 use Rattle.adb_history.specs.declared.phase.Phase.{Phase}
 use Rattle.adb_history.specs.declared.phase.Phase.TheVariants.{Asking, Closing, Gone}
-use Rattle.adb_history.proofs.Tables.{at_kept, row_put, listed_rises, same_list}
+use Rattle.adb_outside.specs.Tables.{at, IsRising}
+use Rattle.adb_outside.proofs.TableLaws.{listed_rises, same_list}
+use Rattle.adb_history.proofs.Tables.{at_kept, row_put}
 use Rattle.adb_history.proofs.Bytes.{idle_gone}
 use Rattle.adb_top.specs.Client.{is_gone_phase}
 use Rattle.adb_top.specs.Machine.{ChangesOne, Becomes, ReadsRow, HandsRow, Applies, Puts}
@@ -163,9 +165,7 @@ read_fails s n bytes ok old why new same drawn live dead = go (s.clients n).phas
     has = holds s n old ok same
 
     refused_so : (w : Refused) → ReadsRow (s.clients n) bytes (Err w) (at n new.clients) → Applies s (Read n bytes) (Err w) new
-    refused_so refused.NotDrawn r = absurd r
-    refused_so refused.BadSerial r = absurd r
-    refused_so refused.NotBuilt r = λ offset. rw (drawn, r) refl
+    refused_so (refused.Because reason) r = λ offset. rw (drawn, r.1, r.0) refl
     refused_so refused.OutOfMemory r = tt
 
     go : (p : Phase) → (s.clients n).phase ≡ p → Applies s (Read n bytes) (Err why) new

@@ -1,5 +1,5 @@
 -- Replaying the records of a reader: what has come so far, and what is still ahead.
-use Rattle.std.proofs.Common.{ℕ, ◌≡◌, ◌≢◌, ◌≤◌, Bool, true, false, cond, List, [], ◌∷◌, ◌++◌, take, drop, Option, Some, None, Result, Ok, Err, refl, sym, ◌∙◌, ap, subst, inl, inr}
+use Rattle.std.proofs.Common.{ℕ, ◌≡◌, ◌≢◌, Bool, true, false, cond, List, [], ◌∷◌, ◌++◌, take, drop, Option, Some, None, Result, Ok, Err, refl, sym, ◌∙◌, ap, subst, inl, inr}
 use Rattle.std.specs.Prelude.{option_and_then}
 use Rattle.adb_outside.specs.declared.framer.Front.{Front}
 use Rattle.adb_outside.specs.declared.framer.Front.TheVariants.{More, Bad}
@@ -13,13 +13,12 @@ use Rattle.adb_history.specs.Kept.{Kept}
 use Rattle.adb_history.specs.Drained.{drained_after, drained_from}
 use Rattle.adb_history.specs.Accepted.{Accepted, refusal_of, is_input, accept_by, accept_records}
 use Rattle.adb_history.specs.declared.refusal.Refusal.{Refusal}
-use Rattle.adb_history.specs.declared.refusal.Refusal.TheVariants.{Form}
+use Rattle.adb_history.specs.Refusal.{refusal_by}
 use Rattle.adb_history.proofs.Accepting.{accept_front, accept_first, drained_adds}
 use Rattle.std.proofs.lemmas.List.{append-nil}
-use Rattle.adb_outside.specs.Outside.{Rises}
 use Rattle.adb_top.specs.Keeping.{is_read_fault, is_write_fault}
 use Rattle.adb_top.specs.Stop.{stop_of}
-use Rattle.adb_capture.specs.Counting.{Counted, is_fault}
+use Rattle.adb_capture.specs.Counting.{is_fault}
 use Rattle.adb_top.specs.Replay.{written_of, StopsWithin, IsDrained, HasWritten, StopsEntry, IsReached, history_after, Wrote, IsFrontOf, Reaches, EndsAs, WasAhead, Replays}
 use Rattle.adb_top.specs.declared.stop.Stop.{Stop}
 use Rattle.adb_top.specs.declared.stop.Stop.TheVariants.{ReadFault, WriteFault, OutOfMemory, Refused}
@@ -142,24 +141,28 @@ front_so_far first now left_first left written_first written holds r before was 
     record { more = more.0; is = c.inputs ∙ more.1 }
 
 -- the records are refused
-refused_ahead : (offset : ℕ) (before : List ℕ) (h : History) (f : Front CaptureError) (why : CaptureError) → record_at offset before ≡ f → accept_front offset before f h ≡ record { inputs = []; refused = Some (Form why) } → accept_records offset before h ≡ record { inputs = []; refused = Some (Form why) }
+-- nothing is accepted, as an error of the reader says
+abbrev refused_as : CaptureError → Accepted
+refused_as why = record { inputs = []; refused = refusal_by why }
+
+refused_ahead : (offset : ℕ) (before : List ℕ) (h : History) (f : Front CaptureError) (why : CaptureError) → record_at offset before ≡ f → accept_front offset before f h ≡ refused_as why → accept_records offset before h ≡ refused_as why
 refused_ahead offset before h f why is front = accept_first offset before h ∙ (ap (λ k. accept_front offset before k h) is ∙ front)
 
-truncated_ahead : (offset at : ℕ) (before : List ℕ) (h : History) → before ≢ [] → at ≡ offset → accept_front offset before More h ≡ record { inputs = []; refused = Some (Form (capture.Truncated at)) }
+truncated_ahead : (offset at : ℕ) (before : List ℕ) (h : History) → before ≢ [] → at ≡ offset → accept_front offset before More h ≡ refused_as (capture.Truncated at)
 truncated_ahead offset at [] h some is = absurd (some refl)
-truncated_ahead offset at (b ∷ before) h some is = ap (λ n. record { inputs = []; refused = Some (Form (capture.Truncated n)) }) (sym is)
+truncated_ahead offset at (b ∷ before) h some is = ap (λ n. refused_as (capture.Truncated n)) (sym is)
 
-refusal_ahead : (now new : Reading) (left left_new : Option (List ℕ)) (e : CaptureError) (before : List ℕ) (h : History) → Gives now left (Err e) new left_new → now.failed ≡ None → WasAhead now left before → stop_of e ≡ Refused (Form e)
-    → accept_records now.offset before h ≡ record { inputs = []; refused = Some (Form e) }
+refusal_ahead : (now new : Reading) (left left_new : Option (List ℕ)) (e : CaptureError) (before : List ℕ) (h : History) → Gives now left (Err e) new left_new → now.failed ≡ None → WasAhead now left before → refusal_by e ≢ None
+    → accept_records now.offset before h ≡ refused_as e
 refusal_ahead now new left left_new e before h gives sound was stops = go e stops (given_next now new left left_new (Err e) before gives sound was)
   where
-    go : (e : CaptureError) → stop_of e ≡ Refused (Form e) → IsRefused now.offset before e → accept_records now.offset before h ≡ record { inputs = []; refused = Some (Form e) }
+    go : (e : CaptureError) → refusal_by e ≢ None → IsRefused now.offset before e → accept_records now.offset before h ≡ refused_as e
     go capture.BadMagic s r = absurd r
     go (capture.BadRecord at why) s r = refused_ahead now.offset before h (Bad (capture.BadRecord at why)) (capture.BadRecord at why) r refl
     go (capture.Truncated at) s r = refused_ahead now.offset before h More (capture.Truncated at) r.1 (truncated_ahead now.offset at before h r.0 r.2)
     go (capture.TooLong at) s r = refused_ahead now.offset before h (Bad (capture.TooLong at)) (capture.TooLong at) r refl
-    go capture.ReadFault s r = cc
-    go capture.OutOfMemory s r = cc
+    go capture.ReadFault s r = absurd (s refl)
+    go capture.OutOfMemory s r = absurd (s refl)
 
 -- The reader stopped.
 pub replaying_stopped : (first now new : Reading) (left_first left left_new written_first written : Option (List ℕ)) (holds : Kept) (e : CaptureError) → Gives now left (Err e) new left_new
@@ -178,8 +181,8 @@ replaying_stopped first now new left_first left left_new written_first written h
       ends = λ before was. ends (accept_records first.offset before []);
     }
 
-    refusal : (why : CaptureError) → ((before : List ℕ) (h : History) → WasAhead now left before → accept_records now.offset before h ≡ record { inputs = []; refused = Some (Form why) }) → Replays first left_first left_new written_first written (Err (Refused (Form why)))
-    refusal why there = record {
+    refusal : (why : CaptureError) (named : Refusal) → refusal_by why ≡ Some named → ((before : List ℕ) (h : History) → WasAhead now left before → accept_records now.offset before h ≡ refused_as why) → Replays first left_first left_new written_first written (Err (Refused named))
+    refusal why named same there = record {
       wrote = λ front is. record {
         whole = r.done;
         out = written_of r.done;
@@ -187,14 +190,14 @@ replaying_stopped first now new left_first left left_new written_first written h
         wrote = (refl, r.drained.lawful.legal);
         reaches = λ before was. let c = r.came before was in c.inputs ∙ ap (λ (k : Accepted). drained_from r.done k.inputs) (there c.before r.done c.is);
       };
-      ends = λ before was. let c = r.came before was in c.refused ∙ ap (λ (k : Accepted). k.refused) (there c.before r.done c.is);
+      ends = λ before was. let c = r.came before was in c.refused ∙ (ap (λ (k : Accepted). k.refused) (there c.before r.done c.is) ∙ same);
     }
 
-    go : (e : CaptureError) → ((before : List ℕ) (h : History) → WasAhead now left before → stop_of e ≡ Refused (Form e) → accept_records now.offset before h ≡ record { inputs = []; refused = Some (Form e) }) → Replays first left_first left_new written_first written (Err (stop_of e))
-    go capture.BadMagic there = refusal capture.BadMagic (λ before h was. there before h was refl)
-    go (capture.BadRecord at why) there = refusal (capture.BadRecord at why) (λ before h was. there before h was refl)
-    go (capture.Truncated at) there = refusal (capture.Truncated at) (λ before h was. there before h was refl)
-    go (capture.TooLong at) there = refusal (capture.TooLong at) (λ before h was. there before h was refl)
+    go : (e : CaptureError) → ((before : List ℕ) (h : History) → WasAhead now left before → refusal_by e ≢ None → accept_records now.offset before h ≡ refused_as e) → Replays first left_first left_new written_first written (Err (stop_of e))
+    go capture.BadMagic there = refusal capture.BadMagic _ refl (λ before h was. there before h was (λ e. cc))
+    go (capture.BadRecord at why) there = refusal (capture.BadRecord at why) _ refl (λ before h was. there before h was (λ e. cc))
+    go (capture.Truncated at) there = refusal (capture.Truncated at) _ refl (λ before h was. there before h was (λ e. cc))
+    go (capture.TooLong at) there = refusal (capture.TooLong at) _ refl (λ before h was. there before h was (λ e. cc))
     go capture.ReadFault there = fault ReadFault (λ out s. s) (λ a f. f) (λ a. tt)
     go capture.OutOfMemory there = fault OutOfMemory (λ out s. s) (λ a f. f) (λ a. tt)
 
@@ -265,33 +268,6 @@ pub record GoingOn (first now : Reading) (left_first left_now written_first writ
   pub replaying : Replaying first now left_first left_now written_first written_now holds
   pub reads_counted : reads
   pub writes_counted : writes
-
--- what a call of the reader did to its source
-pub next_counted : (a b : Type 0) (x y : ℕ) (result : Result (Option (ℕ × Entry)) CaptureError) → x ≤ y → (result ≡ Err capture.ReadFault → Rises x y) → (a → b) → (a → (result ≢ Err capture.ReadFault) × (y ≡ x)) → Counted a b x y (is_fault result)
-next_counted a b x y result count fault keeps steady = record {
-  count = count;
-  fault = λ e. fault (is_read result e);
-  keeps = keeps;
-  steady = λ s. (not_read result (steady s).0, (steady s).1);
-}
-  where
-    is_read : (r : Result (Option (ℕ × Entry)) CaptureError) → is_fault r ≡ true → r ≡ Err capture.ReadFault
-    is_read (Ok x) e = cc
-    is_read (Err capture.BadMagic) e = cc
-    is_read (Err (capture.BadRecord at why)) e = cc
-    is_read (Err (capture.Truncated at)) e = cc
-    is_read (Err (capture.TooLong at)) e = cc
-    is_read (Err capture.ReadFault) e = refl
-    is_read (Err capture.OutOfMemory) e = cc
-
-    not_read : (r : Result (Option (ℕ × Entry)) CaptureError) → r ≢ Err capture.ReadFault → is_fault r ≡ false
-    not_read (Ok x) e = refl
-    not_read (Err capture.BadMagic) e = refl
-    not_read (Err (capture.BadRecord at why)) e = refl
-    not_read (Err (capture.Truncated at)) e = refl
-    not_read (Err (capture.TooLong at)) e = refl
-    not_read (Err capture.ReadFault) e = absurd (e refl)
-    not_read (Err capture.OutOfMemory) e = refl
 
 pub read_fault_of : (e : CaptureError) → is_fault {T = Unit {0}} (Err e) ≡ is_read_fault (Err (stop_of e))
 read_fault_of capture.BadMagic = refl

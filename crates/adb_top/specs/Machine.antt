@@ -2,10 +2,12 @@
 use Rattle.std.specs.Prelude.{ℕ, ◌≡◌, ◌≢◌, Bool, true, false, if◌then◌else◌, List, [], length, take, Option, Some, None, Result, Ok, Err}
 use Rattle.adb_capture.specs.declared.entry.Entry.{Entry}
 use Rattle.adb_capture.specs.declared.entry.Entry.TheVariants.{Put}
+use Rattle.adb_outside.specs.Tables.{at, IsRising}
 use Rattle.adb_history.specs.Machine.{Client, State, step, settled, bytes_in, asks_unbuilt, handed}
-use Rattle.adb_history.specs.Kept.{Kept, KeptClient, kept, kept_of, at, IsRising}
+use Rattle.adb_history.specs.Kept.{Kept, KeptClient, kept, kept_of}
 use Rattle.adb_history.specs.Accepted.{refusal_of, is_input}
-use Rattle.adb_history.specs.declared.refusal.Refusal.TheVariants.{NotDrawn, BadSerial, NotBuilt}
+use Rattle.adb_history.specs.Refusal.{refused_at}
+use Rattle.adb_history.specs.declared.refusal.Reason.TheVariants.{NotBuilt}
 use Rattle.adb_top.specs.Client.{is_gone_phase}
 use Rattle.adb_top.specs.declared.machine.Refused.{Refused}
 use Rattle.adb_top.specs.declared.machine.Refused.TheVariants as refused
@@ -25,9 +27,7 @@ pub record Becomes (row : Client) (gone : Bool) (now : Option KeptClient) : Type
 -- bytes came to a row
 abbrev pub ReadsRow : Client → List ℕ → Result Bool Refused → Option KeptClient → Type 0
 ReadsRow row bytes (Ok gone) now = (asks_unbuilt row bytes ≡ false) × Becomes (settled (bytes_in row bytes)) gone now
-ReadsRow row bytes (Err refused.NotDrawn) now = ⊥
-ReadsRow row bytes (Err refused.BadSerial) now = ⊥
-ReadsRow row bytes (Err refused.NotBuilt) now = asks_unbuilt row bytes ≡ true
+ReadsRow row bytes (Err (refused.Because reason)) now = (reason ≡ NotBuilt) × (asks_unbuilt row bytes ≡ true)
 ReadsRow row bytes (Err refused.OutOfMemory) now = Unit {0}
 
 -- bytes of a row were handed out, or it has none due
@@ -42,9 +42,7 @@ applied s e = if is_input e then step s e else s
 -- An entry is made of a state, or refused as the state refuses it.
 abbrev pub Applies : State → Entry → Result (Unit {0}) Refused → Kept → Type 0
 Applies s e (Ok done) new = ((offset : ℕ) → refusal_of s offset e ≡ None) × (new ≡ kept (applied s e))
-Applies s e (Err refused.NotDrawn) new = (offset : ℕ) → refusal_of s offset e ≡ Some (NotDrawn offset)
-Applies s e (Err refused.BadSerial) new = (offset : ℕ) → refusal_of s offset e ≡ Some (BadSerial offset)
-Applies s e (Err refused.NotBuilt) new = (offset : ℕ) → refusal_of s offset e ≡ Some (NotBuilt offset)
+Applies s e (Err (refused.Because reason)) new = (offset : ℕ) → refusal_of s offset e ≡ refused_at offset reason
 Applies s e (Err refused.OutOfMemory) new = Unit {0}
 
 -- how many bytes a machine has due to a client

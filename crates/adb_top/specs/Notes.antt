@@ -1,11 +1,7 @@
 -- The lines of the note.
 use Rattle.std.specs.Prelude.{ℕ, ◌≡◌, List, ◌++◌, Option, Some, codes, decimal}
-use Rattle.adb_capture.specs.declared.error.Why.{Why}
-use Rattle.adb_capture.specs.declared.error.Why.TheVariants.{UnknownKind, BadForm, TooLarge}
-use Rattle.adb_capture.specs.declared.error.CaptureError.{CaptureError}
-use Rattle.adb_capture.specs.declared.error.CaptureError.TheVariants as capture
+use Rattle.adb_history.specs.Refusal.{reason_text}
 use Rattle.adb_history.specs.declared.refusal.Refusal.{Refusal}
-use Rattle.adb_history.specs.declared.refusal.Refusal.TheVariants.{Form, NotDrawn, BadSerial, NotBuilt}
 use Rattle.adb_top.specs.declared.stop.Stop.{Stop}
 use Rattle.adb_top.specs.declared.stop.Stop.TheVariants as stop
 use Rattle.adb_top.specs.declared.status.Status.{Status}
@@ -20,45 +16,9 @@ read_fault_line = codes "adbhub: read fault\n"
 abbrev pub out_of_memory_line : List ℕ
 out_of_memory_line = codes "adbhub: out of memory\n"
 
-abbrev pub reason_of_why : Why → List ℕ
-reason_of_why UnknownKind = codes "unknown kind"
-reason_of_why BadForm = codes "bad form"
-reason_of_why TooLarge = codes "record too long"
-
--- what is wrong with a capture by form; the last two are no refusals
-abbrev pub reason_of_form : CaptureError → List ℕ
-reason_of_form capture.BadMagic = codes "bad magic"
-reason_of_form (capture.BadRecord offset why) = reason_of_why why
-reason_of_form (capture.Truncated offset) = codes "truncated"
-reason_of_form (capture.TooLong offset) = codes "capture too large"
-reason_of_form capture.ReadFault = codes "read fault"
-reason_of_form capture.OutOfMemory = codes "out of memory"
-
--- what is wrong with a capture
-abbrev pub reason_of : Refusal → List ℕ
-reason_of (Form why) = reason_of_form why
-reason_of (NotDrawn offset) = codes "number not drawn"
-reason_of (BadSerial offset) = codes "bad serial"
-reason_of (NotBuilt offset) = codes "not built yet"
-
-abbrev pub offset_of_form : CaptureError → ℕ
-offset_of_form capture.BadMagic = 0
-offset_of_form (capture.BadRecord offset why) = offset
-offset_of_form (capture.Truncated offset) = offset
-offset_of_form (capture.TooLong offset) = offset
-offset_of_form capture.ReadFault = 0
-offset_of_form capture.OutOfMemory = 0
-
--- the offset of the record that is refused
-abbrev pub offset_of : Refusal → ℕ
-offset_of (Form why) = offset_of_form why
-offset_of (NotDrawn offset) = offset
-offset_of (BadSerial offset) = offset
-offset_of (NotBuilt offset) = offset
-
 -- the line that names a refusal
 unfoldable pub bad_capture_line : Refusal → List ℕ
-bad_capture_line why = codes "adbhub: bad capture at byte " ++ decimal (offset_of why) ++ codes ": " ++ reason_of why ++ codes "\n"
+bad_capture_line why = codes "adbhub: bad capture at byte " ++ decimal why.offset ++ codes ": " ++ reason_text why.reason ++ codes "\n"
 
 -- the status that a stop may end as: its own, or what a write of the note or want of memory for its line makes of it
 abbrev pub EndsIn : Stop → Status → Type 0

@@ -3,7 +3,7 @@ use Rattle.std.specs.Prelude.{ℕ, ◌≡◌, ◌≢◌, ◌⊎◌, true, if◌t
 use Rattle.adb_capture.specs.Records.{record_of, records_of}
 use Rattle.adb_capture.specs.declared.entry.Entry.{Entry}
 use Rattle.adb_capture.specs.Reading.{Reading, ahead}
-use Rattle.adb_history.specs.Rows.{IsPrefixOf}
+use Rattle.adb_outside.specs.Bytes.{IsPrefixOf}
 use Rattle.adb_history.specs.Machine.{State, History, state, IsDrawn, IsLegal}
 use Rattle.adb_history.specs.Kept.{Kept, IsLawful}
 use Rattle.adb_history.specs.Drained.{next_out, drained_after, drained_from}

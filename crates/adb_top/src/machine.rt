@@ -1,20 +1,19 @@
 //! The machine: the clients that live, and what each entry makes of them.
 
 ghost use Rattle.std.specs.Prelude.{◌≡◌, ◌≢◌, ◌<◌, ◌≤◌, ◌+◌, ◌∷◌, ℕ, List, Ok, Some, None, nat_eq, nat_lt, nat_le, ◌&&◌, if◌then◌else◌, false, length, All, IfOk, OnOk, IfSome};
-ghost use Rattle.std.specs.List.{list_all};
 ghost use Rattle.adb_outside.specs.declared.kinds.Kind.{Kind};
+ghost use Rattle.adb_outside.specs.Tables.{at};
 ghost use Rattle.adb_capture.specs.declared.entry.Entry.{Entry};
 ghost use Rattle.adb_history.specs.Machine.{State, Client as Row, fresh, start, step, settled, ended};
-ghost use Rattle.adb_history.specs.Kept.{Kept, kept, kept_of, at, IsResting, IsOrderly};
-ghost use Rattle.adb_history.specs.Accepted.{is_drawn as is_drawn_number, is_serial};
+ghost use Rattle.adb_history.specs.Kept.{Kept, kept, kept_of, IsResting, IsOrderly};
 ghost use Rattle.adb_top.specs.Stop.{stop_at};
 ghost use Rattle.adb_top.specs.Machine.{ChangesOne, Becomes, ReadsRow, HandsRow, Applies, Puts, due_at};
 
 use crate::client::{Client, Unread};
 use crate::stop::Stop;
 use adb_capture::Entry;
-use adb_history::Refusal;
-use adb_outside::{Cause, Text};
+use adb_history::{Reason, Refusal};
+use adb_outside::{Cause, Text, is_serial};
 use std::alloc::{AllocError, Global};
 use std::collections::BTreeMap;
 use std::marker::Model;
@@ -22,12 +21,8 @@ use std::marker::Model;
 /// Why an entry is not made.
 #[derive(Clone, Copy, Debug, PartialEq, Eq, Drop)]
 pub enum Refused {
-    /// Its number was never drawn, or is not the next one.
-    NotDrawn,
-    /// Its serial has another form.
-    BadSerial,
-    /// It asks for what is not built yet.
-    NotBuilt,
+    /// Its record is refused.
+    Because(Reason),
     OutOfMemory,
 }
 
@@ -37,9 +32,7 @@ impl Refused {
         ensures { result ≡ stop_at offset self }
     {
         match self {
-            Refused::NotDrawn => Stop::Refused(Refusal::NotDrawn { offset }),
-            Refused::BadSerial => Stop::Refused(Refusal::BadSerial { offset }),
-            Refused::NotBuilt => Stop::Refused(Refusal::NotBuilt { offset }),
+            Refused::Because(reason) => Stop::Refused(Refusal { offset, reason }),
             Refused::OutOfMemory => Stop::OutOfMemory,
         }
     }
@@ -64,7 +57,7 @@ impl From<Unread> for Refused {
 
     fn from(why: Unread) -> Refused {
         match why {
-            Unread::NotBuilt => Refused::NotBuilt,
+            Unread::NotBuilt => Refused::Because(Reason::NotBuilt),
             Unread::OutOfMemory => Refused::OutOfMemory,
         }
     }
@@ -113,17 +106,21 @@ impl Machine {
             Entry::Join { client } => self.join(*client),
             Entry::Read { client, bytes } => self.read(*client, bytes.as_slice()),
             Entry::End { client, cause } => self.end(*client, *cause),
-            Entry::Enter { client, port: _ } if self.is_next(*client) => Err(Refused::NotBuilt),
-            Entry::Enter { .. } => Err(Refused::NotDrawn),
-            Entry::Bound { client, port: _ } if self.is_drawn(*client) => Err(Refused::NotBuilt),
-            Entry::Bound { .. } => Err(Refused::NotDrawn),
+            Entry::Enter { client, port: _ } if self.is_next(*client) => Err(Refused::Because(
+                Reason::NotBuilt,
+            )),
+            Entry::Enter { .. } => Err(Refused::Because(Reason::NotDrawn)),
+            Entry::Bound { client, port: _ } if self.is_drawn(*client) => Err(Refused::Because(
+                Reason::NotBuilt,
+            )),
+            Entry::Bound { .. } => Err(Refused::Because(Reason::NotDrawn)),
             Entry::Attach {
                 link,
                 kind: _,
                 serial,
             } => attach(*link, serial),
-            Entry::Recv { .. } => Err(Refused::NotDrawn),
-            Entry::Detach { .. } => Err(Refused::NotDrawn),
+            Entry::Recv { .. } => Err(Refused::Because(Reason::NotDrawn)),
+            Entry::Detach { .. } => Err(Refused::Because(Reason::NotDrawn)),
             Entry::Put { .. } => Ok(()),
             Entry::Send { .. } => Ok(()),
         }
@@ -152,7 +149,7 @@ impl Machine {
         ensures { (s : State) → IsOrderly s → self.old ≡ kept s → Applies s (Entry.Join client) result self.new }
     {
         if !self.is_next(client) {
-            return Err(Refused::NotDrawn);
+            return Err(Refused::Because(Reason::NotDrawn));
         }
         self.add_row(client)?;
         self.joined = client;
@@ -164,7 +161,7 @@ impl Machine {
         ensures { (s : State) → IsOrderly s → self.old ≡ kept s → Applies s (Entry.Read client bytes.now) result self.new }
     {
         if !self.is_drawn(client) {
-            return Err(Refused::NotDrawn);
+            return Err(Refused::Because(Reason::NotDrawn));
         }
         let gone = self.row_reads(client, bytes)?;
         self.drop_if(client, gone);
@@ -176,7 +173,7 @@ impl Machine {
         ensures { (s : State) → IsOrderly s → self.old ≡ kept s → Applies s (Entry.End client cause) result self.new }
     {
         if !self.is_drawn(client) {
-            return Err(Refused::NotDrawn);
+            return Err(Refused::Because(Reason::NotDrawn));
         }
         let gone = self.row_ends(client, cause);
         self.drop_if(client, gone);
@@ -272,23 +269,10 @@ fn attach(link: u32, serial: &Text) -> Result<(), Refused>
     ensures { (s : State) (kind : Kind) → (new : Kept) → Applies s (Entry.Attach link kind serial.now) result new }
 {
     if link != 1 {
-        Err(Refused::NotDrawn)
-    } else if is_a_serial(serial.as_slice()) {
-        Err(Refused::NotBuilt)
+        Err(Refused::Because(Reason::NotDrawn))
+    } else if is_serial(serial.as_slice()) {
+        Err(Refused::Because(Reason::NotBuilt))
     } else {
-        Err(Refused::BadSerial)
+        Err(Refused::Because(Reason::BadSerial))
     }
-}
-
-/// Whether a serial is 1 to 64 bytes of 0x21 to 0x7e.
-fn is_a_serial(serial: &[u8]) -> bool
-    ensures { result ≡ is_serial serial.now }
-{
-    !serial.is_empty() && serial.len() <= 64 && is_printable(serial)
-}
-
-fn is_printable(text: &[u8]) -> bool
-    ensures { result ≡ list_all (λ b. nat_le 33 b && nat_le b 126) text.now }
-{
-    text.iter().all(|b| 0x21 <= *b && *b <= 0x7e)
 }

@@ -2,11 +2,10 @@
 
 ghost use Rattle.std.specs.Prelude.{◌≡◌, ◌≢◌, ◌<◌, ◌≤◌, ◌++◌, ◌⊎◌, ℕ, List, Some, IfOk, OnOk, length, decimal, codes};
 ghost use Rattle.adb_outside.specs.Outside.{Rises};
-ghost use Rattle.adb_top.specs.Notes.{usage_line, reason_of, reason_of_form, offset_of, bad_capture_line, EndsIn, NotesLine};
+ghost use Rattle.adb_top.specs.Notes.{usage_line, bad_capture_line, EndsIn, NotesLine};
 
 use crate::status::Status;
 use crate::stop::Stop;
-use adb_capture::{CaptureError, Why};
 use adb_history::Refusal;
 use adb_outside::{Sink, Text, Wrote};
 use itoa::Buffer;
@@ -89,9 +88,9 @@ fn refusal_line(alloc: Global, refusal: Refusal) -> Result<Text, AllocError>
     ensures some { IfOk result (λ line. 0 < length line) }
 {
     let mut line = Text::from_slice(alloc, b"adbhub: bad capture at byte ")?;
-    push_number(&mut line, offset(&refusal))?;
+    push_number(&mut line, refusal.offset)?;
     line.push_slice(b": ")?;
-    line.push_slice(reason(&refusal))?;
+    line.push_slice(refusal.reason.text())?;
     line.push_slice(b"\n")?;
     Ok(line)
 }
@@ -101,46 +100,4 @@ fn push_number(line: &mut Text, number: u64) -> Result<(), AllocError>
 {
     let mut digits = Buffer::new();
     line.push_slice(digits.format(number).as_bytes())
-}
-
-fn offset(refusal: &Refusal) -> u64
-    ensures { result ≡ offset_of refusal.now }
-{
-    match refusal {
-        Refusal::Form(CaptureError::BadRecord { offset, .. })
-        | Refusal::Form(CaptureError::Truncated { offset })
-        | Refusal::Form(CaptureError::TooLong { offset })
-        | Refusal::NotDrawn { offset }
-        | Refusal::BadSerial { offset }
-        | Refusal::NotBuilt { offset } => *offset,
-        Refusal::Form(_) => 0,
-    }
-}
-
-fn reason(refusal: &Refusal) -> &'static [u8]
-    ensures { result.now ≡ reason_of refusal.now }
-{
-    match refusal {
-        Refusal::Form(error) => form_reason(error),
-        Refusal::NotDrawn { .. } => b"number not drawn",
-        Refusal::BadSerial { .. } => b"bad serial",
-        Refusal::NotBuilt { .. } => b"not built yet",
-    }
-}
-
-fn form_reason(error: &CaptureError) -> &'static [u8]
-    ensures { result.now ≡ reason_of_form error.now }
-{
-    match error {
-        CaptureError::BadMagic => b"bad magic",
-        CaptureError::BadRecord { why, .. } => match why {
-            Why::UnknownKind => b"unknown kind",
-            Why::BadForm => b"bad form",
-            Why::TooLarge => b"record too long",
-        },
-        CaptureError::Truncated { .. } => b"truncated",
-        CaptureError::TooLong { .. } => b"capture too large",
-        CaptureError::ReadFault => b"read fault",
-        CaptureError::OutOfMemory => b"out of memory",
-    }
 }

@@ -1,8 +1,7 @@
 //! Replaying a capture: its entries are made in order, and all that is due is handed out after each.
 
 ghost use Rattle.std.specs.Prelude.{◌≡◌, ◌≢◌, ◌≤◌, ◌⊎◌, ◌++◌, List, ℕ, [], Option, Some, None, Ok, Err, OnOk, IfErr, not, true};
-ghost use Rattle.adb_outside.specs.Outside.{Rises};
-ghost use Rattle.adb_capture.specs.Counting.{Counted};
+ghost use Rattle.adb_outside.specs.Outside.{Counts};
 ghost use Rattle.adb_capture.specs.Records.{HasRecord, record_of};
 ghost use Rattle.adb_capture.specs.declared.entry.Entry.{Entry};
 ghost use Rattle.adb_history.specs.Machine.{History, start, state};
@@ -27,8 +26,8 @@ const HAND_OUT: usize = 65_536;
 /// is written where the magic is bad.
 pub fn replay<S: Source, K: Sink>(alloc: Global, source: &mut S, sink: &mut K) -> Result<(), Stop>
     ensures replays { ReplaysCapture (S.left source.old) (S.left source.new) (K.written sink.old) (K.written sink.new) result }
-    ensures reads { Counted (S.steady source.old) (S.steady source.new) (S.faults source.old) (S.faults source.new) (is_read_fault result) }
-    ensures writes { Counted (K.steady sink.old) (K.steady sink.new) (K.faults sink.old) (K.faults sink.new) (is_write_fault result) }
+    ensures reads { Counts S.steady S.faults source.old source.new (is_read_fault result) }
+    ensures writes { Counts K.steady K.faults sink.old sink.new (is_write_fault result) }
 {
     let mut reader = CaptureReader::new(alloc)?;
     reader.open(source)?;
@@ -46,7 +45,7 @@ fn keep<K: Sink>(sink: &mut K, entry: &Entry) -> Result<(), Stop>
     requires { HasRecord entry.now }
     ensures told { KeepsRecord (K.written sink.old) (K.written sink.new) (record_of entry.now) result }
     ensures loss { IsLoss result }
-    ensures counts { Counted (K.steady sink.old) (K.steady sink.new) (K.faults sink.old) (K.faults sink.new) (is_write_fault result) }
+    ensures counts { Counts K.steady K.faults sink.old sink.new (is_write_fault result) }
 {
     match write_entry(sink, entry) {
         Wrote::All => Ok(()),
@@ -59,7 +58,7 @@ fn keep_put<K: Sink>(sink: &mut K, client: u32, bytes: Text) -> Result<(), Stop>
     requires { HasRecord (Entry.Put client bytes) }
     ensures told { KeepsRecord (K.written sink.old) (K.written sink.new) (record_of (Entry.Put client bytes)) result }
     ensures loss { IsLoss result }
-    ensures counts { Counted (K.steady sink.old) (K.steady sink.new) (K.faults sink.old) (K.faults sink.new) (is_write_fault result) }
+    ensures counts { Counts K.steady K.faults sink.old sink.new (is_write_fault result) }
 {
     keep(sink, &Entry::Put { client, bytes })
 }
@@ -71,7 +70,7 @@ fn hand_out<K: Sink>(machine: &mut Machine, sink: &mut K, client: u32) -> Result
     ensures told { OnOk result ((h : History) (front : List ℕ) → IsLawful machine.old h → OnlyDue (state h) client → HasWritten front h (K.written sink.old) → HasWritten front (drain_all h) (K.written sink.new)) }
     ensures stopped { IfErr result (λ why. (h : History) (front : List ℕ) → IsLawful machine.old h → OnlyDue (state h) client → HasWritten front h (K.written sink.old) → HasStopped front (drain_all h) (K.written sink.new)) }
     ensures loss { IsLoss result }
-    ensures counts { Counted (K.steady sink.old) (K.steady sink.new) (K.faults sink.old) (K.faults sink.new) (is_write_fault result) }
+    ensures counts { Counts K.steady K.faults sink.old sink.new (is_write_fault result) }
 {
     while let Some(bytes) = machine.put(client, HAND_OUT)? {
         keep_put(sink, client, bytes)?;
@@ -89,8 +88,8 @@ fn replay_records<S: Source, K: Sink>(
     requires fresh { machine.old ≡ kept start }
     requires open_reader { (reader.old.failed ≡ None) × (reader.old.opened ≡ true) }
     ensures replays { Replays reader.old (S.left source.old) (S.left source.new) (K.written sink.old) (K.written sink.new) result }
-    ensures reads { Counted (S.steady source.old) (S.steady source.new) (S.faults source.old) (S.faults source.new) (is_read_fault result) }
-    ensures writes { Counted (K.steady sink.old) (K.steady sink.new) (K.faults sink.old) (K.faults sink.new) (is_write_fault result) }
+    ensures reads { Counts S.steady S.faults source.old source.new (is_read_fault result) }
+    ensures writes { Counts K.steady K.faults sink.old sink.new (is_write_fault result) }
 {
     while let Some((offset, entry)) = reader.next(source)? {
         replay_entry(machine, sink, offset, entry)?;
@@ -111,7 +110,7 @@ fn replay_entry<K: Sink>(
     ensures refused { (why : Refusal) → result ≡ Err (Stop.Refused why) → (K.written sink.new ≡ K.written sink.old) × ((h : History) → IsDrained machine.old h → refusal_of (state h) offset entry ≡ Some why) }
     ensures stopped { IfErr result (λ why. (h : History) (front : List ℕ) → IsDrained machine.old h → HasWritten front h (K.written sink.old) → StopsEntry front offset entry h (K.written sink.new)) }
     ensures reads { result ≢ Err Stop.ReadFault }
-    ensures counts { Counted (K.steady sink.old) (K.steady sink.new) (K.faults sink.old) (K.faults sink.new) (is_write_fault result) }
+    ensures counts { Counts K.steady K.faults sink.old sink.new (is_write_fault result) }
 {
     replay_record(machine, sink, offset, &entry)
 }
@@ -130,7 +129,7 @@ fn replay_record<K: Sink>(
     ensures refused { (why : Refusal) → result ≡ Err (Stop.Refused why) → (K.written sink.new ≡ K.written sink.old) × ((h : History) → IsDrained machine.old h → refusal_of (state h) offset entry.now ≡ Some why) }
     ensures stopped { IfErr result (λ why. (h : History) (front : List ℕ) → IsDrained machine.old h → HasWritten front h (K.written sink.old) → StopsEntry front offset entry.now h (K.written sink.new)) }
     ensures reads { result ≢ Err Stop.ReadFault }
-    ensures counts { Counted (K.steady sink.old) (K.steady sink.new) (K.faults sink.old) (K.faults sink.new) (is_write_fault result) }
+    ensures counts { Counts K.steady K.faults sink.old sink.new (is_write_fault result) }
 {
     if is_hand_out(entry) {
         return Ok(());
@@ -139,7 +138,7 @@ fn replay_record<K: Sink>(
         Err(why) => Err(why.at(offset)),
         Ok(()) => {
             keep(sink, entry)?;
-            hand_out(machine, sink, entry.owner())
+            hand_out(machine, sink, entry.owner().number())
         }
     }
 }

@@ -35,10 +35,10 @@ impl From<CaptureError> for Stop {
     ghost from_gives = { λ why e. e ≡ stop_of why };
 
     fn from(error: CaptureError) -> Stop {
-        match error {
-            CaptureError::ReadFault => Stop::ReadFault,
-            CaptureError::OutOfMemory => Stop::OutOfMemory,
-            refused => Stop::Refused(Refusal::Form(refused)),
+        match Refusal::by(error) {
+            Some(refusal) => Stop::Refused(refusal),
+            None if error == CaptureError::ReadFault => Stop::ReadFault,
+            None => Stop::OutOfMemory,
         }
     }
 }

@@ -97,7 +97,7 @@ fn version_byte_by_byte(rt: HostRuntime) -> Result<(), Fail> {
         capture.push_slice(b"R\x01\0\0\0\x01\0\0\0")?;
         capture.push_slice(&[*byte])?;
     }
-    let mut history = capture.copy(alloc)?;
+    let mut history = capture.copy()?;
     history.push_slice(b"P\x01\0\0\0\x0c\0\0\0OKAY00040029")?;
     replays(
         &rt,

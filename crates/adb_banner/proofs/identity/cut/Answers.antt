@@ -9,7 +9,7 @@ returns-in_err-system c =
     let text = c.strip_nuls-text.result.now in
     let first = cut_at_first 58 text None c.in_err-system.ensures in
     let none : c.from_residual.result ≡ None = search rules in
-    rw (none, ← c.strip_nuls-text.ensures) (is_identity-none text first.0)
+    rw (none, ← c.strip_nuls-text.ensures) (is_identity-none text first.count)
 
 pub returns-in_err-serial : goal.returns-in_err-serial
 returns-in_err-serial c =
@@ -17,7 +17,7 @@ returns-in_err-serial c =
     let first = cut_at_first 58 text (Some (c.in_ok-system.system, c.in_ok-system.rest)) c.in_ok-system.ensures in
     let second = cut_at_first 58 c.in_ok-system.rest.now None c.in_err-serial.ensures in
     let none : c.from_residual-in_err-serial.result ≡ None = search rules in
-    rw (none, ← c.strip_nuls-text.ensures) (is_identity-one text c.in_ok-system.rest.now first.0 first.3 second.0)
+    rw (none, ← c.strip_nuls-text.ensures) (is_identity-one text c.in_ok-system.rest.now first.count first.after second.count)
 
 pub returns : goal.returns
 returns c =
@@ -26,8 +26,8 @@ returns c =
     let first = cut_at_first 58 text (Some (c.in_ok-system.system, c.in_ok-system.rest)) c.in_ok-system.ensures in
     let second = cut_at_first 58 rest (Some (c.in_ok-serial.serial, c.in_ok-serial.banner)) c.in_ok-serial.ensures in
     rw (← c.strip_nuls-text.ensures) (
-      is_identity-two text rest first.0 first.3 _ second.0 (omega arith),
-      first.2,
-      second.2 ∙ ap (before_first is_colon) first.3,
-      second.3 ∙ ap (after_first is_colon) first.3,
+      is_identity-two text rest first.count first.after _ second.count (omega arith),
+      first.before,
+      second.before ∙ ap (before_first is_colon) first.after,
+      second.after ∙ ap (after_first is_colon) first.after,
     )

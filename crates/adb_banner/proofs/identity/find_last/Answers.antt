@@ -24,8 +24,11 @@ loop-part-preserved c =
 pub returns-clause-last : goal.returns-clause-last
 returns-clause-last c =
     let all = YieldsList-from_slice_split _ is_semicolon c.args.banner.now (cc) (cc) (cc) (λ x b q k. search (rules, tests)) in
-    c.loop-part.invariant ∙ ap (last_value c.args.key.now) (YieldsList-end all c.loop-part.yielded _ c.loop-part.yielded_by _ _ c.in-None.is c.next.ensures.steps).0
+    c.loop-part.invariant
+    ∙ ap (last_value c.args.key.now) (YieldsList-end all c.loop-part.yielded _ c.loop-part.yielded_by _ _ c.in-None.is c.next.ensures.steps).0
 
 pub returns-clause-short : goal.returns-clause-short
 returns-clause-short c =
-    rw (returns-clause-last c) (length-last_value c.args.key.now (length c.args.banner.now) (slice_split is_semicolon c.args.banner.now) (All-slice_split is_semicolon c.args.banner.now))
+    let banner = c.args.banner.now in
+    let short = All-slice_split is_semicolon banner in
+    rw (returns-clause-last c) (length-last_value c.args.key.now (length banner) (slice_split is_semicolon banner) short)

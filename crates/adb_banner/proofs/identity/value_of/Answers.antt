@@ -7,11 +7,11 @@ use Rattle.adb_banner.proofs.identity.value_of.Goals as goal
 pub returns-in_err-name : goal.returns-in_err-name
 returns-in_err-name c =
     let cut = cut_at_first 61 c.args.part.now None c.in_err-name.ensures in
-    let none = part_value-none c.args.key.now c.args.part.now cut.1 in
+    let none = part_value-none c.args.key.now c.args.part.now cut.absent in
     rw none (search rules)
 
 pub returns : goal.returns
 returns c =
     let cut = cut_at_first 61 c.args.part.now (Some (c.in_ok-name.name, c.in_ok-name.value)) c.in_ok-name.ensures in
-    let some = part_value-some c.args.key.now c.args.part.now cut.1 in
-    rw (some, ← cut.2, ← cut.3) (grind (arith, common_steps))
+    let some = part_value-some c.args.key.now c.args.part.now cut.some in
+    rw (some, ← cut.before, ← cut.after) (grind (arith, common_steps))

@@ -1,5 +1,6 @@
 use Rattle.std.proofs.Common.{◌≡◌, ◌-◌, length, false}
-use Rattle.adb_capture.specs.Counting.{Counted, KeepsBytes}
+use Rattle.adb_outside.specs.Outside.{Counts}
+use Rattle.adb_capture.specs.Counting.{KeepsBytes}
 use Rattle.adb_capture.specs.Records.{record_at}
 use Rattle.adb_capture.proofs.awaiting.await_record.Given as goal
 
@@ -7,7 +8,7 @@ abbrev pub invariant-loop-found : goal.invariant-loop-found
 invariant-loop-found g l = record {
   found : l.found ≡ record_at l.offset l.held;
   bytes : KeepsBytes l.fn.held (g.S.Source.left l.fn.source) l.held (g.S.Source.left l.source);
-  counts : Counted (g.S.Source.steady l.fn.source) (g.S.Source.steady l.source) (g.S.Source.faults l.fn.source) (g.S.Source.faults l.source) false;
+  counts : Counts g.S.Source.steady g.S.Source.faults l.fn.source l.source false;
 }
 
 abbrev pub decreases-loop-found : goal.decreases-loop-found

@@ -1,5 +1,6 @@
-use Rattle.std.proofs.Common.{ℕ, ◌≡◌, ◌∷◌, sym, ◌∙◌, subst, refl}
+use Rattle.std.proofs.Common.{ℕ, ◌≡◌, ◌∷◌, sym, ◌∙◌, ap, subst, refl}
 use Rattle.std.proofs.lemmas.Result.{err_from_is_err_and}
+use Rattle.adb_capture.specs.Records.{number_in}
 use Rattle.adb_history.specs.Machine.{History, state}
 use Rattle.adb_history.proofs.Orderly.{orderly}
 use Rattle.adb_top.specs.Replay.{IsDrained, OnlyDue, HasWritten}
@@ -35,7 +36,7 @@ returns-in_ok-keep-in-Ok-clause-drained g c =
     let m = made c.args.machine.now c.apply.new.self c.args.offset c.args.entry.now h c.requires hand drained (c.in-Ok.ensures (state h) (orderly h drained.lawful.legal) drained.lawful.seen) in (
       m.none,
       subst (λ (k : History). IsDrained c.hand_out.new.machine k) (sym m.after)
-          (out (c.args.entry.now ∷ h) m.lawful (subst (λ (n : ℕ). OnlyDue (state (c.args.entry.now ∷ h)) n) (sym c.owner.ensures) m.only)),
+          (out (c.args.entry.now ∷ h) m.lawful (subst (λ (n : ℕ). OnlyDue (state (c.args.entry.now ∷ h)) n) (sym (c.number.ensures ∙ ap number_in c.owner.ensures)) m.only)),
     ))
 
 pub returns-in_ok-keep-in-Ok-clause-told : goal.returns-in_ok-keep-in-Ok-clause-told
@@ -44,7 +45,7 @@ returns-in_ok-keep-in-Ok-clause-told g c =
     on_ok c.hand_out.result _ _ c.hand_out.ensures.told (λ out h front drained has.
     let m = made c.args.machine.now c.apply.new.self c.args.offset c.args.entry.now h c.requires hand drained (c.in-Ok.ensures (state h) (orderly h drained.lawful.legal) drained.lawful.seen) in
     subst (λ (k : History). HasWritten front k (g.K.Sink.written c.hand_out.new.sink)) (sym m.after)
-    (out (c.args.entry.now ∷ h) front m.lawful (subst (λ (n : ℕ). OnlyDue (state (c.args.entry.now ∷ h)) n) (sym c.owner.ensures) m.only)
+    (out (c.args.entry.now ∷ h) front m.lawful (subst (λ (n : ℕ). OnlyDue (state (c.args.entry.now ∷ h)) n) (sym (c.number.ensures ∙ ap number_in c.owner.ensures)) m.only)
     (has_written_more front c.args.entry.now h _ (c.in_ok-keep-in-Ok.ensures.told _ has))))
 
 pub returns-in_ok-keep-in-Ok-clause-stopped : goal.returns-in_ok-keep-in-Ok-clause-stopped
@@ -53,5 +54,5 @@ returns-in_ok-keep-in-Ok-clause-stopped g c =
     if_err c.hand_out.result _ _ c.hand_out.ensures.stopped (λ why out h front drained has.
     let m = made c.args.machine.now c.apply.new.self c.args.offset c.args.entry.now h c.requires hand drained (c.in-Ok.ensures (state h) (orderly h drained.lawful.legal) drained.lawful.seen) in
     handing_stopped c.args.offset c.args.entry.now h c.apply.new.self front (g.K.Sink.written c.hand_out.new.sink) m (input_of c.args.entry.now hand)
-    (out (c.args.entry.now ∷ h) front m.lawful (subst (λ (n : ℕ). OnlyDue (state (c.args.entry.now ∷ h)) n) (sym c.owner.ensures) m.only)
+    (out (c.args.entry.now ∷ h) front m.lawful (subst (λ (n : ℕ). OnlyDue (state (c.args.entry.now ∷ h)) n) (sym (c.number.ensures ∙ ap number_in c.owner.ensures)) m.only)
     (has_written_more front c.args.entry.now h _ (c.in_ok-keep-in-Ok.ensures.told _ has))))

@@ -1,7 +1,7 @@
-use Rattle.std.proofs.Common.{Ok, Some, None}
+use Rattle.std.proofs.Common.{Some, None}
 use Rattle.std.proofs.lemmas.Result.{err_from_is_err_and}
 use Rattle.adb_top.proofs.Drains.{counts_on}
-use Rattle.adb_top.proofs.Records.{replaying_stopped, replaying_on, replaying_lost, replaying_over, next_counted, given_as}
+use Rattle.adb_top.proofs.Records.{replaying_stopped, replaying_on, replaying_lost, replaying_over, given_as}
 use Rattle.adb_top.proofs.replay.replay_records.Goals as goal
 
 pub returns-in_err-offset-clause-replays : goal.returns-in_err-offset-clause-replays
@@ -16,8 +16,7 @@ loop-offset-preserved g c =
       replaying = replaying_on c.args.reader.now c.loop-offset.reader c.next.new.self (g.S.Source.left c.args.source.now) (g.S.Source.left c.loop-offset.source) (g.S.Source.left c.next.new.source)
           (g.K.Sink.written c.args.sink.now) (g.K.Sink.written c.loop-offset.sink) (g.K.Sink.written c.replay_entry.new.sink) c.loop-offset.machine c.replay_entry.new.machine c.in-Some.offset c.in-Some.entry
           gives (c.in_ok-offset.ensures.ok.1, c.in_ok-offset.ensures.ok.2) c.in_ok-replay_entry.ensures.drained c.in_ok-replay_entry.ensures.told c.loop-offset.invariant.replaying;
-      reads_counted = counts_on _ _ _ _ _ _ _ c.loop-offset.invariant.reads_counted
-          (next_counted _ _ _ _ (Ok c.in_ok-offset.field-0) c.in_ok-offset.ensures.count (λ e. c.in_ok-offset.ensures.fault e c.loop-offset.invariant.replaying.open_reader.0) c.in_ok-offset.ensures.keeps_steady (λ s. c.in_ok-offset.ensures.steady s c.loop-offset.invariant.replaying.open_reader.0));
+      reads_counted = counts_on _ _ _ _ _ _ _ c.loop-offset.invariant.reads_counted (c.in_ok-offset.ensures.counts c.loop-offset.invariant.replaying.open_reader.0);
       writes_counted = counts_on _ _ _ _ _ _ _ c.loop-offset.invariant.writes_counted c.in_ok-replay_entry.ensures.counts;
     }
 

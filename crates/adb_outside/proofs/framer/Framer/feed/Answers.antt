@@ -1,12 +1,14 @@
 use Rattle.std.proofs.Common.{rules, ◌≡◌, None, sym, ◌∙◌, ap}
-use Rattle.adb_outside.proofs.FramingLaws.{stands_feeds, stands_faulted}
+use Rattle.adb_outside.proofs.FramingLaws.{takes_piece, takes_nothing}
 use Rattle.adb_outside.proofs.framer.Framer.feed.Goals as goal
 
-pub returns-in-Some-clause-stands : goal.returns-in-Some-clause-stands
-returns-in-Some-clause-stands g c = λ apart start fed taken h.
-    stands_faulted g.S.Format.find g.S.Format.item g.S.Format.after g.met.S.Format.framing start fed taken c.args.self.now c.args.piece.now c.in-Some.fault h (ap (λ k. k.fault) (sym c.self.view_is) ∙ c.in-Some.is)
+pub returns-in-Some-clause-taken : goal.returns-in-Some-clause-taken
+returns-in-Some-clause-taken g c = λ apart.
+    takes_nothing g.S.Format.find g.S.Format.item g.S.Format.after g.met.S.Format.framing c.args.self.now c.args.piece.now c.in-Some.fault
+    (ap (λ k. k.fault) (sym c.self.view_is) ∙ c.in-Some.is)
 
-pub returns-clause-stands : goal.returns-clause-stands
-returns-clause-stands g c = λ apart start fed taken h.
+pub returns-clause-taken : goal.returns-clause-taken
+returns-clause-taken g c = λ apart.
     let none : c.args.self.now.fault ≡ None = ap (λ k. k.fault) (sym c.self.view_is) ∙ c.in_default.is in
-    stands_feeds g.S.Format.find g.S.Format.item g.S.Format.after g.met.S.Format.framing start fed taken c.args.self.now c.args.piece.now c.cut_held.new.self h none (search rules)
+    takes_piece g.S.Format.find g.S.Format.item g.S.Format.after g.met.S.Format.framing c.args.self.now c.args.piece.now c.cut_held.new.self none
+    (search rules)

@@ -1,5 +1,5 @@
 use Rattle.std.proofs.Common.{sym, ◌∙◌, subst, Option}
-use Rattle.adb_history.specs.Kept.{at}
+use Rattle.adb_outside.specs.Tables.{at}
 use Rattle.adb_top.specs.Machine.{HandsRow}
 use Rattle.adb_top.specs.declared.machine.HandOut.{HandOut}
 use Rattle.adb_top.proofs.Machines.{puts_none, puts_some}

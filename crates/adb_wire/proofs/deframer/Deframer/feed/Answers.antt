@@ -18,7 +18,7 @@ returns-clause-stands c = λ apart fed given h.
     ] in
     let fits = All-append (λ b. b < 256) fed c.args.piece.now h.cuts.in_range (All-from_get_or (λ b. b < 256) c.args.piece.now 0 (λ i _. omega (arith, c.type_inv.piece i))) in
     stands_for (fed ++ c.args.piece.now) given c.feed.new.self fits
-    (c.feed.ensures.stands taken start fed given (subst (λ old. Stands front_of item after start fed given old) (sym c.self.view_is) (for_stands fed given c.args.self.now h)))
+    ((c.feed.ensures.taken taken).stands start fed given (subst (λ old. Stands front_of item after start fed given old) (sym c.self.view_is) (for_stands fed given c.args.self.now h)))
 
 pub returns-clause-cut : goal.returns-clause-cut
 returns-clause-cut c = λ apart fed given h packets rest fault i.

@@ -1,0 +1,60 @@
+//! The calls of a fake that fail.
+
+ghost use Rattle.std.specs.Prelude.{◌≡◌, ◌≤◌, [], IsTrue, ◌↔◌, Contains};
+ghost use Rattle.adb_outside.specs.Outside.{Rises, Counts, counted_on};
+
+use std::marker::Model;
+
+/// Which calls of a fake fail, how many there were, and how many failed. Both counts stay at their
+/// last value.
+#[derive(Drop)]
+pub struct Failing {
+    numbers: Vec<u64>,
+    calls: u64,
+    faults: u64,
+}
+
+impl Model for Failing {
+    ghost use Rattle.adb_outside.specs.Memory.{Calls};
+
+    ghost Value = { Calls };
+
+    ghost view = { λ f. record { failing = f.numbers.items; calls = f.calls; faults = f.faults } };
+}
+
+impl Failing {
+    /// No call was made. Those of these numbers, counted from 1, will fail. It takes no memory.
+    pub fn new(numbers: Vec<u64>) -> Failing
+        ensures { result ≡ record { failing = numbers.items; calls = 0; faults = 0 } }
+    {
+        Failing {
+            numbers,
+            calls: 0,
+            faults: 0,
+        }
+    }
+
+    /// Counts a call, and says whether it fails, which is counted too.
+    pub fn fails(&mut self) -> bool
+        ensures fails { IsTrue result ↔ Contains self.old.failing self.new.calls }
+        ensures calls { self.new.calls ≡ counted_on self.old.calls }
+        ensures counts { Counts (λ c. c.failing ≡ []) (λ c. c.faults) self.old self.new result }
+        ensures same { self.new.failing ≡ self.old.failing }
+    {
+        self.calls = self.calls.saturating_add(1);
+        let fails = self.numbers.contains(&self.calls);
+        if fails {
+            self.count_fault();
+        }
+        fails
+    }
+
+    /// Counts a fault of another cause.
+    pub fn count_fault(&mut self)
+        ensures count { self.old.faults ≤ self.new.faults }
+        ensures rises { Rises self.old.faults self.new.faults }
+        ensures same { self.new ≡ record self.old { faults = self.new.faults } }
+    {
+        self.faults = self.faults.saturating_add(1);
+    }
+}

@@ -1,0 +1,32 @@
+-- A credit in bytes.
+use Rattle.std.specs.Prelude.{ℕ, ◌≡◌, ◌+◌, ◌-◌, ◌<◌, ◌≤◌, ◌==◌, ◌||◌, nat_le, if◌then◌else◌}
+use Rattle.adb_stream.specs.declared.credit.TheConstants.{CREDIT_WINDOW, CREDIT_STEP}
+use Rattle.adb_stream.specs.declared.flow.Took.{Took}
+use Rattle.adb_stream.specs.declared.flow.Took.TheVariants.{Accepted, AckNow, OutOfTurn}
+
+-- The bytes that this end may send, and those that the other end may send; of what came from it, the bytes that are still to be handed out, and those that were and are not yet given back.
+pub record ByteCredit : Type 0 where
+  pub to_send : ℕ
+  pub left : ℕ
+  pub to_hand : ℕ
+  pub gathered : ℕ
+
+-- The other end may send the window, less what came and is not yet given back. What was handed out is given back at the latest when nothing is left to hand out, or a step has gathered.
+pub record IsWhole (credit : ByteCredit) : Type 0 where
+  pub window : credit.left + credit.to_hand + credit.gathered ≡ CREDIT_WINDOW
+  pub few : credit.gathered < CREDIT_STEP
+  pub none : credit.to_hand ≡ 0 → credit.gathered ≡ 0
+
+-- nothing may be sent yet, and the other end may send the whole window
+abbrev pub new_credit : ByteCredit
+new_credit = record { to_send = 0; left = CREDIT_WINDOW; to_hand = 0; gathered = 0 }
+
+-- A WRTE of n bytes came: when each answer is given, and what the credit is then.
+abbrev pub CreditTakes : ByteCredit → ℕ → ByteCredit → Took → Type 0
+CreditTakes old n new Accepted = (n ≤ old.left) × (new ≡ record old { left = old.left - n; to_hand = old.to_hand + n })
+CreditTakes old n new AckNow = ⊥
+CreditTakes old n new OutOfTurn = (old.left < n) × (new ≡ old)
+
+-- how many of the gathered bytes are given back: all, where nothing is left to hand out or a step has gathered
+abbrev pub given_back : ℕ → ℕ → ℕ
+given_back to_hand gathered = if (to_hand == 0) || nat_le CREDIT_STEP gathered then gathered else 0

@@ -1,0 +1,114 @@
+//! A credit in bytes.
+
+ghost use Rattle.std.specs.Prelude.{◌≡◌, ◌+◌, ◌-◌, ◌≤◌, ◌<◌, min};
+ghost use Rattle.adb_stream.specs.Credit.{IsWhole, new_credit, CreditTakes, given_back};
+
+use crate::flow::Took;
+use std::marker::Model;
+
+/// The bytes that the other end may send at first, or before it gets credit back.
+pub const CREDIT_WINDOW: u32 = 262_144;
+
+/// The handed bytes that are given back at once, where more are still to be handed out.
+pub const CREDIT_STEP: u32 = 65_536;
+
+/// A credit in bytes, on a link whose ends both name the feature `hub_credit`: a WRTE may hold as
+/// many bytes as there is credit for, and an OKAY gives credit. Contracts see the credit to send, what
+/// the other end has left, how many bytes are still to be handed out, and how many were handed out
+/// and are not yet given back. No call takes memory.
+#[derive(Clone, Copy, Drop)]
+pub struct Credit {
+    to_send: u32,
+    left: u32,
+    to_hand: u32,
+    gathered: u32,
+}
+
+impl Model for Credit {
+    ghost use Rattle.adb_stream.specs.Credit.{ByteCredit, IsWhole};
+
+    ghost Value = { ByteCredit };
+
+    ghost view = { λ c. record { to_send = c.to_send; left = c.left; to_hand = c.to_hand; gathered = c.gathered } };
+
+    ghost invariant = { λ c. IsWhole (record { to_send = c.to_send; left = c.left; to_hand = c.to_hand; gathered = c.gathered }) };
+
+    ghost inverse = { λ c. record { to_send = c.to_send; left = c.left; to_hand = c.to_hand; gathered = c.gathered } };
+}
+
+impl Credit {
+    /// Nothing may be sent yet, and the other end may send the whole window.
+    pub fn new() -> Credit
+        ensures { result ≡ new_credit }
+    {
+        Credit {
+            to_send: 0,
+            left: CREDIT_WINDOW,
+            to_hand: 0,
+            gathered: 0,
+        }
+    }
+
+    /// How many bytes may be sent.
+    pub fn can_send(&self) -> u32
+        ensures sendable { result ≡ self.now.to_send }
+        ensures whole { IsWhole self.now }
+    {
+        self.to_send
+    }
+
+    /// A WRTE of `n` bytes was sent, for which there was credit.
+    pub fn sent(&mut self, n: u32)
+        requires { n ≤ self.old.to_send }
+        ensures { self.new ≡ record self.old { to_send = self.old.to_send - n } }
+    {
+        self.to_send -= n;
+    }
+
+    /// An OKAY gave credit for `n` bytes more; what is past 4,294,967,295 is lost.
+    pub fn grant(&mut self, n: u32)
+        ensures { self.new ≡ record self.old { to_send = min (self.old.to_send + n) u32.MAX } }
+    {
+        self.to_send = self.to_send.saturating_add(n);
+    }
+
+    /// A WRTE of `n` bytes came. It is out of turn exactly where it holds more than the credit left,
+    /// and nothing changes; else its bytes are to be handed out. It is never acknowledged now.
+    pub fn took(&mut self, n: usize) -> Took
+        ensures took { CreditTakes self.old n self.new result }
+        ensures whole { IsWhole self.new }
+    {
+        if n > self.left as usize {
+            return Took::OutOfTurn;
+        }
+        self.left -= n as u32;
+        self.to_hand += n as u32;
+        Took::Accepted
+    }
+
+    /// `n` bytes were handed out, at least one and no more than were to be: the credit to give back
+    /// now. Handed bytes gather until none are still to be handed out, or 65,536 have gathered.
+    pub fn handed(&mut self, n: usize) -> u32
+        requires some { 0 < n }
+        requires most { n ≤ self.old.to_hand }
+        ensures given { result ≡ given_back (self.old.to_hand - n) (self.old.gathered + n) }
+        ensures after { self.new ≡ record self.old {
+          left = self.old.left + result;
+          to_hand = self.old.to_hand - n;
+          gathered = self.old.gathered + n - result;
+        } }
+        ensures whole { IsWhole self.new }
+    {
+        let to_hand = self.to_hand - n as u32;
+        let gathered = self.gathered + n as u32;
+        let back = if to_hand > 0 && gathered < CREDIT_STEP {
+            0
+        } else {
+            gathered
+        };
+        self.to_hand = to_hand;
+        self.gathered = gathered - back;
+        self.left += back;
+        back
+    }
+}

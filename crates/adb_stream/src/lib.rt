@@ -1,0 +1,10 @@
+//! The streams between clients and devices: who is at their ends, and what each end may send.
+#![tactic(auto)]
+
+mod credit;
+mod flow;
+mod window;
+
+pub use credit::{CREDIT_STEP, CREDIT_WINDOW, Credit};
+pub use flow::{Flow, Took};
+pub use window::Window;
