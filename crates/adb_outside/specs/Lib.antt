@@ -5,7 +5,6 @@ pub mod Identity
 pub mod Framing
 pub mod Queued
 pub mod Memory
-pub mod Counted
 pub mod Decimal
 pub mod Tables
 pub mod Bytes

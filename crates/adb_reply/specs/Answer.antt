@@ -1,5 +1,5 @@
 -- What a request is answered with, as a function of values (SERVICES.TXT, "HOST SERVICES").
-use Rattle.std.specs.Prelude.{ℕ, ◌+◌, Bool, true, false, nat_eq, nat_lt, ◌&&◌, not, if◌then◌else◌, List, [], ◌++◌, length, Option, Some, None, is_some, codes, decimal, option_map_or}
+use Rattle.std.specs.Prelude.{ℕ, ◌+◌, Bool, true, false, nat_eq, nat_lt, ◌&&◌, not, if◌then◌else◌, List, [], ◌++◌, length, Option, Some, None, is_some, codes, decimal}
 use Rattle.std.specs.Map.{values_of}
 use Rattle.byteorder.specs.Endian.{little_bytes}
 use Rattle.adb_outside.specs.Tables.{at}
@@ -11,14 +11,13 @@ use Rattle.adb_registry.specs.Lists.{short_list, long_list}
 use Rattle.adb_registry.specs.declared.row.Row.{Row}
 use Rattle.adb_forward.specs.Forwards.{forward_list}
 use Rattle.adb_forward.specs.declared.row.ForwardRow.{ForwardRow}
-use Rattle.adb_forward.specs.declared.table.TheConstants.{MAX_FORWARDS}
 use Rattle.adb_request.specs.declared.request.Which.{Which}
 use Rattle.adb_request.specs.declared.request.Which.TheVariants.{By}
 use Rattle.adb_request.specs.declared.request.Request.{Request}
 use Rattle.adb_request.specs.declared.request.Request.TheVariants as asks
 use Rattle.adb_reply.specs.Strings.{string, okay, told, failed}
 use Rattle.adb_reply.specs.Refusals.{no_transport}
-use Rattle.adb_reply.specs.Chosen.{chosen}
+use Rattle.adb_reply.specs.Chosen.{asked_device}
 use Rattle.adb_reply.specs.declared.answer.Answer.{Answer}
 use Rattle.adb_reply.specs.declared.answer.Next.{Next}
 use Rattle.adb_reply.specs.declared.answer.Next.TheVariants.{Close, Select, Track, Open, Bind, Rebind, Unbind, UnbindAll, Stop}
@@ -73,7 +72,7 @@ tells rows fact (Refused answer) = answer
 tells rows fact (Device id) = fact_at fact (at id rows)
 
 abbrev pub fact_answer : List (ℕ × Row) → Option ℕ → Fact → Which → Answer
-fact_answer rows selected fact on = tells rows fact (chosen rows selected on (asks_ready fact))
+fact_answer rows selected fact on = tells rows fact (asked_device rows selected on (asks_ready fact))
 
 -- ---- forwards
 
@@ -88,7 +87,7 @@ abbrev pub forwards_to : List (ℕ × ForwardRow) → Bool → ℕ → ℕ → L
 forwards_to forwards norebind transport local remote =
     let is_there = is_some (at local forwards) in
     if is_there && norebind then failed (codes "cannot rebind existing socket")
-    else (if not is_there && nat_eq (length forwards) MAX_FORWARDS then failed (codes "too many forwards")
+    else (if not is_there && nat_eq (length forwards) 64 then failed (codes "too many forwards")
     else forwards_from is_there transport local remote)
 
 abbrev pub forwards_by : List (ℕ × ForwardRow) → Bool → ℕ → List ℕ → Chosen → Answer
@@ -119,12 +118,12 @@ answer rows forwards selected asks.Version = record { bytes = codes "OKAY0004002
 answer rows forwards selected asks.Kill = record { bytes = okay; next = Stop }
 answer rows forwards selected (asks.Devices long) = told (device_list rows long) Close
 answer rows forwards selected (asks.Track long) = told (device_list rows long) (Track long)
-answer rows forwards selected (asks.Transport by tell_id) = selects tell_id (chosen rows selected (By by) true)
+answer rows forwards selected (asks.Transport by tell_id) = selects tell_id (asked_device rows selected (By by) true)
 answer rows forwards selected (asks.Serialno on) = fact_answer rows selected Serialno on
 answer rows forwards selected (asks.Devpath on) = fact_answer rows selected Devpath on
 answer rows forwards selected (asks.GetState on) = fact_answer rows selected GetState on
 answer rows forwards selected (asks.Features on) = fact_answer rows selected Features on
-answer rows forwards selected (asks.Forward on norebind local remote) = forwards_by forwards norebind local remote (chosen rows selected on true)
+answer rows forwards selected (asks.Forward on norebind local remote) = forwards_by forwards norebind local remote (asked_device rows selected on true)
 answer rows forwards selected asks.BadForward = failed (codes "bad forward specification")
 answer rows forwards selected (asks.KillForward port) = unbinds forwards port
 answer rows forwards selected asks.KillAll = record { bytes = codes "OKAYOKAY"; next = UnbindAll }

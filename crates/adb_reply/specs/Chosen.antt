@@ -15,16 +15,16 @@ use Rattle.adb_reply.specs.declared.chosen.Chosen.{Chosen}
 use Rattle.adb_reply.specs.declared.chosen.Chosen.TheVariants.{Device, Refused}
 
 -- the device that a selector chose, or the reply that refuses
-abbrev pub chosen_or : Selector → Result ℕ Refusal → Chosen
-chosen_or by (Ok id) = Device id
-chosen_or by (Err why) = Refused (failed (refusal_text by why))
+abbrev pub device_or : Selector → Result ℕ Refusal → Chosen
+device_or by (Ok id) = Device id
+device_or by (Err why) = Refused (failed (refusal_text by why))
 
 -- the one device that a selector means; where it has to be ready, it has said who it is
-abbrev pub chosen_by : List (ℕ × Row) → Selector → Bool → Chosen
-chosen_by rows by ready = chosen_or by (choice (values_of rows) by ready)
+abbrev pub device_by : List (ℕ × Row) → Selector → Bool → Chosen
+device_by rows by ready = device_or by (choice (values_of rows) by ready)
 
 -- The device that a request asks: the one that it names; else the one that the connection selected, which may be gone; else any.
-abbrev pub chosen : List (ℕ × Row) → Option ℕ → Which → Bool → Chosen
-chosen rows selected (By by) ready = chosen_by rows by ready
-chosen rows None Own ready = chosen_by rows Any ready
-chosen rows (Some id) Own ready = if is_some (at id rows) then chosen_by rows (Id id) ready else Refused (failed no_transport)
+abbrev pub asked_device : List (ℕ × Row) → Option ℕ → Which → Bool → Chosen
+asked_device rows selected (By by) ready = device_by rows by ready
+asked_device rows None Own ready = device_by rows Any ready
+asked_device rows (Some id) Own ready = if is_some (at id rows) then device_by rows (Id id) ready else Refused (failed no_transport)

@@ -1,13 +1,13 @@
 //! Replies about devices.
 
-ghost use Rattle.std.specs.Prelude.{◌≡◌, ◌<◌, ◌^◌, length, IfOk, codes, decimal};
+ghost use Rattle.std.specs.Prelude.{◌≡◌, ◌<◌, ◌^◌, length, true, IfOk};
 ghost use Rattle.adb_outside.specs.Tables.{at};
 ghost use Rattle.adb_reply.specs.Strings.{told};
-ghost use Rattle.adb_reply.specs.Chosen.{chosen};
+ghost use Rattle.adb_reply.specs.Chosen.{device_by};
 ghost use Rattle.adb_reply.specs.Answer.{device_list, selects, path_of, fact_of, asks_ready, fact_at, fact_answer, opens};
 
 use crate::answer::{Answer, Next};
-use crate::chosen::{Chosen, chosen, chosen_by, no_transport};
+use crate::chosen::{Chosen, choose, choose_by, no_transport};
 use crate::strings::{failed, told};
 use adb_outside::{Kind, Selector, Text, state_text};
 use adb_registry::{Registry, Row};
@@ -59,9 +59,9 @@ pub(crate) fn select(
     tell_id: bool,
 ) -> Result<Answer, AllocError>
     ensures { IfOk result (λ answer.
-        answer ≡ selects tell_id (chosen_by registry.now.rows by.now true)) }
+        answer ≡ selects tell_id (device_by registry.now.rows by.now true)) }
 {
-    match chosen_by(alloc, registry, by, true)? {
+    match choose_by(alloc, registry, by, true)? {
         Chosen::Refused(answer) => Ok(answer),
         Chosen::Device(id) => selected(alloc, id, tell_id),
     }
@@ -94,7 +94,7 @@ pub(crate) fn tell(
     ensures { IfOk result (λ answer.
         answer ≡ fact_answer registry.now.rows selected fact on.now) }
 {
-    match chosen(alloc, registry, selected, on, fact.asks_ready())? {
+    match choose(alloc, registry, selected, on, fact.asks_ready())? {
         Chosen::Refused(answer) => Ok(answer),
         Chosen::Device(id) => tell_of(alloc, registry, id, fact),
     }

@@ -3,7 +3,7 @@
 ghost use Rattle.std.specs.Prelude.{◌≡◌, IfOk};
 ghost use Rattle.adb_reply.specs.Refusals.{no_transport};
 ghost use Rattle.adb_reply.specs.Strings.{failed};
-ghost use Rattle.adb_reply.specs.Chosen.{chosen, chosen_by, chosen_or};
+ghost use Rattle.adb_reply.specs.Chosen.{asked_device, device_by, device_or};
 
 use crate::answer::Answer;
 use crate::refusals::refusal_text;
@@ -22,45 +22,45 @@ pub(crate) enum Chosen {
 
 /// The device that a request asks: the one that it names; else the one that the connection selected,
 /// which may be gone; else any. Where `ready`, it has said who it is.
-pub(crate) fn chosen(
+pub(crate) fn choose(
     alloc: Global,
     registry: &Registry,
     selected: Option<u32>,
     on: &Which,
     ready: bool,
 ) -> Result<Chosen, AllocError>
-    ensures { IfOk result (λ device. device ≡ chosen registry.now.rows selected on.now ready) }
+    ensures { IfOk result (λ device. device ≡ asked_device registry.now.rows selected on.now ready) }
 {
     match (on, selected) {
-        (Which::By(by), _) => chosen_by(alloc, registry, by, ready),
-        (Which::Own, None) => chosen_by(alloc, registry, &Selector::Any, ready),
-        (Which::Own, Some(id)) => chosen_own(alloc, registry, id, ready),
+        (Which::By(by), _) => choose_by(alloc, registry, by, ready),
+        (Which::Own, None) => choose_by(alloc, registry, &Selector::Any, ready),
+        (Which::Own, Some(id)) => choose_own(alloc, registry, id, ready),
     }
 }
 
 /// The device that the connection selected, which may be gone.
-fn chosen_own(
+fn choose_own(
     alloc: Global,
     registry: &Registry,
     id: u32,
     ready: bool,
 ) -> Result<Chosen, AllocError>
-    ensures { IfOk result (λ device. device ≡ chosen registry.now.rows (Some id) Which.Own ready) }
+    ensures { IfOk result (λ device. device ≡ asked_device registry.now.rows (Some id) Which.Own ready) }
 {
     if registry.row(id).is_none() {
         return Ok(Chosen::Refused(no_transport(alloc)?));
     }
-    chosen_by(alloc, registry, &Selector::Id(id), ready)
+    choose_by(alloc, registry, &Selector::Id(id), ready)
 }
 
 /// The one device that a selector means.
-pub(crate) fn chosen_by(
+pub(crate) fn choose_by(
     alloc: Global,
     registry: &Registry,
     by: &Selector,
     ready: bool,
 ) -> Result<Chosen, AllocError>
-    ensures { IfOk result (λ device. device ≡ chosen_by registry.now.rows by.now ready) }
+    ensures { IfOk result (λ device. device ≡ device_by registry.now.rows by.now ready) }
 {
     match registry.choose(by, ready) {
         Ok(id) => Ok(Chosen::Device(id)),

@@ -7,10 +7,8 @@ mod about_devices;
 mod about_forwards;
 mod chosen;
 mod refusals;
-mod reply;
+mod replies;
 mod strings;
-#[cfg(test)]
-mod tests;
 
 pub use answer::{Answer, Next};
-pub use reply::reply;
+pub use replies::reply;

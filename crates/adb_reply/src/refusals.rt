@@ -58,7 +58,7 @@ fn serial_not_found(alloc: Global, serial: &[u8]) -> Result<Text, AllocError>
     ensures short { IfOk result (λ text. length text < 2 ^ 16) }
 {
     let mut text = Text::from_slice(alloc, b"device '")?;
-    text.push_slice(&serial[..serial.len().min(PRINTED_SERIAL)])?;
+    text.push_slice(printed(serial))?;
     text.push_slice(b"' not found")?;
     Ok(text)
 }
@@ -72,4 +72,16 @@ fn id_not_found(alloc: Global, id: u32) -> Result<Text, AllocError>
     text.push_slice(Buffer::new().format(id).as_bytes())?;
     text.push_slice(b"'")?;
     Ok(text)
+}
+
+/// As much of a serial as a refusal prints.
+fn printed(serial: &[u8]) -> &[u8]
+    ensures text { result.now ≡ take PRINTED_SERIAL serial.now }
+    ensures short { length result.now ≤ PRINTED_SERIAL }
+{
+    if serial.len() > PRINTED_SERIAL {
+        &serial[..PRINTED_SERIAL]
+    } else {
+        serial
+    }
 }

@@ -2,12 +2,11 @@
 
 ghost use Rattle.std.specs.Prelude.{◌≡◌, IfOk, codes};
 ghost use Rattle.adb_reply.specs.Answer.{answer, forwards_by};
-ghost use Rattle.adb_reply.specs.Chosen.{chosen};
 
 use crate::about_devices::{self, Fact};
 use crate::about_forwards;
 use crate::answer::{Answer, Next};
-use crate::chosen::{Chosen, chosen};
+use crate::chosen::{Chosen, choose};
 use crate::strings::{failed, okay};
 use adb_forward::Forwards;
 use adb_outside::Text;
@@ -52,7 +51,7 @@ pub fn reply(
             norebind,
             local,
             remote,
-        } => match chosen(alloc, registry, selected, on, true)? {
+        } => match choose(alloc, registry, selected, on, true)? {
             Chosen::Refused(answer) => Ok(answer),
             Chosen::Device(id) => {
                 about_forwards::forward(alloc, forwards, *norebind, id, *local, remote.as_slice())
