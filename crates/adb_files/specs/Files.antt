@@ -6,7 +6,7 @@ use Rattle.std.specs.Ordering.{is_lt}
 use Rattle.adb_files.specs.declared.file.File.{File}
 use Rattle.adb_files.specs.Entries.{Entry}
 use Rattle.adb_files.specs.declared.file.FileError.{FileError}
-use Rattle.adb_files.specs.declared.file.FileError.TheVariants.{BadPath, IsDirectory, NotDirectory, NoSpace, NoFile}
+use Rattle.adb_files.specs.declared.file.FileError.TheVariants.{BadPath, IsDirectory, NotDirectory, NoSpace, NoFile, OutOfMemory}
 use Rattle.adb_files.specs.Paths.{path_cmp, is_path, is_below}
 
 -- the files whose paths are before a path, and those behind it
@@ -52,6 +52,15 @@ is_directory files path =
 -- whether a path goes on below a file
 abbrev pub is_under_file : List Entry → List ℕ → Bool
 is_under_file files path = list_any (λ entry. starts_with nat_eq path (entry.path ++ codes "/")) files
+
+-- the text of a refusal
+abbrev pub refusal_text : FileError → List ℕ
+refusal_text BadPath = codes "bad path"
+refusal_text IsDirectory = codes "is a directory"
+refusal_text NotDirectory = codes "not a directory"
+refusal_text NoSpace = codes "no space"
+refusal_text NoFile = codes "no such file"
+refusal_text OutOfMemory = codes "out of memory"
 
 -- why a file of so many bytes is not put at a path
 abbrev pub put_refusal : List Entry → List ℕ → ℕ → Option FileError

@@ -6,7 +6,7 @@ use Rattle.adb_files.specs.declared.part.Part.TheVariants as parts
 
 -- the bytes of a part that were not taken yet
 abbrev pub part_bytes : Part → List ℕ
-part_bytes (parts.Spelled bytes) = bytes
+part_bytes (parts.Spelled queue) = queue.bytes
 part_bytes (parts.Pull bytes) = bytes
 
 -- the bytes of parts and those behind them

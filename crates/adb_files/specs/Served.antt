@@ -12,18 +12,9 @@ use Rattle.adb_files.specs.declared.file.FileError.{FileError}
 use Rattle.adb_files.specs.declared.file.FileError.TheVariants as refusals
 use Rattle.adb_files.specs.declared.stat.Stat.{Stat}
 use Rattle.adb_files.specs.Paths.{is_path}
-use Rattle.adb_files.specs.Files.{file_at, is_directory, put_refusal, read_refusal, with_file}
+use Rattle.adb_files.specs.Files.{file_at, is_directory, refusal_text, put_refusal, read_refusal, with_file}
 use Rattle.adb_files.specs.Listing.{stat_of, directory_stat, listing}
 use Rattle.adb_files.specs.Requests.{Request, Stats, Lists, Receives, Sends, Quits, Fails, requests_in}
-
--- the text of a refusal
-abbrev pub refusal_text : FileError → List ℕ
-refusal_text refusals.BadPath = codes "bad path"
-refusal_text refusals.IsDirectory = codes "is a directory"
-refusal_text refusals.NotDirectory = codes "not a directory"
-refusal_text refusals.NoSpace = codes "no space"
-refusal_text refusals.NoFile = codes "no such file"
-refusal_text refusals.OutOfMemory = codes "out of memory"
 
 -- the text of a fault
 abbrev pub fault_text : SyncError → List ℕ

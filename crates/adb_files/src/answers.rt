@@ -3,31 +3,14 @@
 ghost use Rattle.std.specs.Prelude.{◌≡◌, ◌≤◌, ◌<◌, ◌^◌, ◌++◌, length, map, All, Option, OnOk, IfOk};
 ghost use Rattle.adb_sync.specs.declared.answer.Dirent.{Dirent};
 ghost use Rattle.adb_files.specs.Files.{is_directory};
-ghost use Rattle.adb_files.specs.Served.{refusal_text, fault_text, fail_bytes, stat_in, stat_bytes_of, list_bytes, chunk_bytes, recv_bytes};
+ghost use Rattle.adb_files.specs.Served.{fault_text, fail_bytes, stat_in, stat_bytes_of, list_bytes, chunk_bytes, recv_bytes};
 ghost use Rattle.adb_files.specs.Listing.{listing};
 
-use crate::file::FileError;
 use crate::files::Files;
 use crate::outbox::Outbox;
-use crate::path::is_path;
 use adb_outside::Text;
 use adb_sync::{SyncAnswer, SyncError};
 use std::alloc::{AllocError, Global};
-
-/// The text of a refusal.
-pub fn refusal_text(refusal: FileError) -> &'static [u8]
-    ensures text { result.now ≡ refusal_text refusal }
-    ensures short { length result.now ≤ 20 }
-{
-    match refusal {
-        FileError::BadPath => b"bad path",
-        FileError::IsDirectory => b"is a directory",
-        FileError::NotDirectory => b"not a directory",
-        FileError::NoSpace => b"no space",
-        FileError::NoFile => b"no such file",
-        FileError::OutOfMemory => b"out of memory",
-    }
-}
 
 /// The text of a fault.
 pub fn fault_text(fault: SyncError) -> &'static [u8]
@@ -88,14 +71,8 @@ pub fn answer_recv(
 ) -> Result<(), AllocError>
     ensures { OnOk result (out.new ≡ out.old ++ recv_bytes files.now path.now) }
 {
-    if !is_path(path) {
-        return fail(alloc, refusal_text(FileError::BadPath), out);
-    }
-    if files.is_directory(path) {
-        return fail(alloc, refusal_text(FileError::IsDirectory), out);
-    }
     match files.share(path)? {
-        Some(file) => out.push_file(file),
-        None => fail(alloc, refusal_text(FileError::NoFile), out),
+        Ok(file) => out.push_file(file),
+        Err(refusal) => fail(alloc, refusal.text(), out),
     }
 }

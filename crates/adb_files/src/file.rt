@@ -1,7 +1,8 @@
 //! One file, and why one may be refused.
 
 ghost use Rattle.adb_files.specs.declared.file.FileError.TheVariants.{OutOfMemory};
-ghost use Rattle.std.specs.Prelude.{◌≡◌};
+ghost use Rattle.std.specs.Prelude.{◌≡◌, ◌≤◌, length};
+ghost use Rattle.adb_files.specs.Files.{refusal_text};
 
 use adb_outside::Text;
 use std::alloc::{AllocError, AllocFailed};
@@ -31,6 +32,23 @@ pub enum FileError {
     /// No file has the path.
     NoFile,
     OutOfMemory,
+}
+
+impl FileError {
+    /// The refusal in words, as a FAIL says it.
+    pub fn text(self) -> &'static [u8]
+        ensures text { result.now ≡ refusal_text self }
+        ensures short { length result.now ≤ 20 }
+    {
+        match self {
+            FileError::BadPath => b"bad path",
+            FileError::IsDirectory => b"is a directory",
+            FileError::NotDirectory => b"not a directory",
+            FileError::NoSpace => b"no space",
+            FileError::NoFile => b"no such file",
+            FileError::OutOfMemory => b"out of memory",
+        }
+    }
 }
 
 impl From<AllocError> for FileError {

@@ -2,7 +2,7 @@
 
 ghost use Rattle.std.specs.Arc.{arc_value};
 ghost use Rattle.std.specs.Option.{option_copied};
-ghost use Rattle.std.specs.Prelude.{◌≡◌, ◌+◌, ◌^◌, ◌<◌, ◌≤◌, [], length, map, All, Option, option_map, OnOk, OnErr, IfOk, MatchResult};
+ghost use Rattle.std.specs.Prelude.{◌≡◌, ◌+◌, ◌^◌, ◌<◌, ◌≤◌, [], length, map, All, Option, Some, None, OnOk, OnErr, IfOk, MatchResult};
 ghost use Rattle.std.specs.List.{list_any};
 ghost use Rattle.adb_files.specs.declared.file.FileError.{FileError};
 ghost use Rattle.adb_files.specs.Paths.{is_below};
@@ -105,15 +105,7 @@ impl Files {
         ensures granted { read_refusal self.old path.now ≡ None → result ≡ Ok tt }
     {
         let used = self.used_without(path);
-        if !is_path(path) {
-            return Err(FileError::BadPath);
-        }
-        if self.is_directory(path) {
-            return Err(FileError::IsDirectory);
-        }
-        let Ok(i) = self.place(path) else {
-            return Err(FileError::NoFile);
-        };
+        let i = self.place_of_file(path)?;
         self.slots.remove(i);
         self.used = used;
         Ok(())
@@ -172,14 +164,28 @@ impl Files {
         is_path(path) && (path == ROOT || self.has_below(path))
     }
 
-    /// The file of the path, for who keeps it past the next change of the map; `None` exactly where no
-    /// file has it. It takes no memory, and fails where the count of the file's owners is full.
-    pub(crate) fn share(&self, path: &[u8]) -> Result<Option<Arc<File, Global>>, AllocError>
-        ensures { IfOk result (λ shared. option_map arc_value shared ≡ file_at path.now self.now) }
+    /// Why no file is read or removed at the path: the first that holds of `BadPath`, `IsDirectory`
+    /// and `NoFile`. `None` exactly where a file has it.
+    pub fn read_refusal(&self, path: &[u8]) -> Option<FileError>
+        ensures { result ≡ read_refusal self.now path.now }
     {
-        match self.place(path) {
-            Ok(i) => Ok(Some(self.slots[i].share()?)),
-            Err(_) => Ok(None),
+        self.place_of_file(path).err()
+    }
+
+    /// The file of the path, for who keeps it past the next change of the map, or why none is read. It
+    /// takes no memory, and fails where the count of the file's owners is full.
+    pub(crate) fn share(
+        &self,
+        path: &[u8],
+    ) -> Result<Result<Arc<File, Global>, FileError>, AllocError>
+        ensures { IfOk result (λ shared. MatchResult shared
+            (λ file. (file_at path.now self.now ≡ Some (arc_value file))
+            × (read_refusal self.now path.now ≡ None))
+            (λ refusal. read_refusal self.now path.now ≡ Some refusal)) }
+    {
+        match self.place_of_file(path) {
+            Ok(i) => Ok(Ok(self.slots[i].share()?)),
+            Err(refusal) => Ok(Err(refusal)),
         }
     }
 
@@ -197,6 +203,24 @@ impl Files {
             return Some(FileError::NotDirectory);
         }
         (size > MOST_BYTES - self.used_without(path)).then_some(FileError::NoSpace)
+    }
+
+    /// Where the file of the path stands among the entries, or why none is read there.
+    fn place_of_file(&self, path: &[u8]) -> Result<usize, FileError>
+        ensures { MatchResult result
+            (λ i. StandsAt path.now self.now i × (read_refusal self.now path.now ≡ None))
+            (λ refusal. read_refusal self.now path.now ≡ Some refusal) }
+    {
+        if !is_path(path) {
+            return Err(FileError::BadPath);
+        }
+        if self.is_directory(path) {
+            return Err(FileError::IsDirectory);
+        }
+        match self.place(path) {
+            Ok(i) => Ok(i),
+            Err(_) => Err(FileError::NoFile),
+        }
     }
 
     /// Where the path stands among the entries.

@@ -19,7 +19,6 @@ mod service;
 mod service_tests;
 mod session;
 mod slot;
-mod spelled;
 mod stat;
 #[cfg(test)]
 mod tests;

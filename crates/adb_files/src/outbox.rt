@@ -11,8 +11,8 @@ ghost use Rattle.adb_files.specs.Served.{file_bytes};
 use crate::file::File;
 use crate::part::Part;
 use crate::pull::Pull;
-use crate::spelled::Spelled;
-use adb_sync::SyncAnswer;
+use adb_outside::{ByteQueue, Text};
+use adb_sync::{SyncAnswer, write_answer};
 use std::alloc::{AllocError, Global};
 use std::collections::VecDeque;
 use std::marker::Model;
@@ -25,7 +25,7 @@ use std::sync::Arc;
 pub struct Outbox {
     alloc: Global,
     parts: VecDeque<Part>,
-    last: Spelled,
+    last: ByteQueue,
 }
 
 impl Model for Outbox {
@@ -35,7 +35,7 @@ impl Model for Outbox {
 
     ghost use Rattle.adb_files.specs.Part.{queued, NoneIsEmpty};
 
-    ghost view = { λ outbox. queued outbox.parts.items outbox.last };
+    ghost view = { λ outbox. queued outbox.parts.items outbox.last.bytes };
 
     ghost invariant = { λ outbox. NoneIsEmpty outbox.parts.items };
 }
@@ -48,7 +48,7 @@ impl Outbox {
         Outbox {
             alloc,
             parts: VecDeque::new(alloc),
-            last: Spelled::new(alloc),
+            last: ByteQueue::new(alloc),
         }
     }
 
@@ -84,7 +84,8 @@ impl Outbox {
     {
         let Some(part) = self.parts.front_mut() else {
             let taken = n.min(self.last.len());
-            self.last.taken(taken);
+            self.last.take(taken);
+            self.last.give_back();
             return taken;
         };
         let taken = part.take_front(n);
@@ -100,7 +101,9 @@ impl Outbox {
         ensures ok { OnOk result (self.new ≡ self.old ++ answer_bytes answer.now) }
         ensures err { OnErr result (self.new ≡ self.old) }
     {
-        self.last.push(answer)
+        let mut bytes = Text::new(self.alloc);
+        write_answer(self.alloc, answer, &mut bytes)?;
+        self.last.push(bytes.as_slice())
     }
 
     /// Adds the chunks of a file and their end at the end. The file is shared until all its bytes were
@@ -113,10 +116,10 @@ impl Outbox {
         if pull.is_empty() {
             return self.push(&SyncAnswer::ChunkEnd);
         }
-        let mut end = Spelled::new(self.alloc);
-        end.push(&SyncAnswer::ChunkEnd)?;
+        let mut end = Text::new(self.alloc);
+        write_answer(self.alloc, &SyncAnswer::ChunkEnd, &mut end)?;
         self.parts.reserve(2)?;
-        let before = mem::replace(&mut self.last, end);
+        let before = mem::replace(&mut self.last, ByteQueue::from_text(end));
         add(&mut self.parts, Part::Spelled(before));
         add(&mut self.parts, Part::Pull(pull));
         Ok(())

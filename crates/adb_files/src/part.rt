@@ -5,12 +5,12 @@ ghost use Rattle.std.specs.Io.{StartsWith};
 ghost use Rattle.adb_files.specs.Part.{part_bytes};
 
 use crate::pull::Pull;
-use crate::spelled::Spelled;
+use adb_outside::ByteQueue;
 
 /// Answers that are handed out in one way.
 #[derive(Drop)]
 pub enum Part {
-    Spelled(Spelled),
+    Spelled(ByteQueue),
     Pull(Pull),
 }
 
@@ -37,7 +37,8 @@ impl Part {
         match self {
             Part::Spelled(spelled) => {
                 let taken = n.min(spelled.len());
-                spelled.taken(taken);
+                spelled.take(taken);
+                spelled.give_back();
                 taken
             }
             Part::Pull(pull) => pull.take_front(n),

@@ -9,7 +9,7 @@ ghost use Rattle.adb_files.specs.Requests.{OpenSend, Sends, Fails, completed, co
 ghost use Rattle.adb_files.specs.Served.{serve_one, serve_all, fail_bytes, fault_text};
 ghost use Rattle.adb_files.specs.Service.{IsKept, KeepsSend, Serves, ServesGiven, ServesFront, HasShortPath, HasShortSend};
 
-use crate::answers::{answer_list, answer_recv, answer_stat, fail, fault_text, refusal_text};
+use crate::answers::{answer_list, answer_recv, answer_stat, fail, fault_text};
 use crate::file::{File, FileError};
 use crate::files::{Files, MOST_BYTES};
 use crate::mode::stored_mode;
@@ -76,13 +76,13 @@ fn serve_send(
         → (files.new ≡ files.old) ⊎ (files.new ≡ (serve_one files.old (Sends send.path send.mode send.bytes mtime)).files)) }
 {
     if !is_path(sending.path.as_slice()) {
-        return fail(alloc, refusal_text(FileError::BadPath), out);
+        return fail(alloc, FileError::BadPath.text(), out);
     }
     let Some(mode) = stored_mode(sending.mode.as_slice()) else {
         return fail(alloc, b"bad mode", out);
     };
     if let Some(refusal) = files.put_refusal(sending.path.as_slice(), sending.size) {
-        return fail(alloc, refusal_text(refusal), out);
+        return fail(alloc, refusal.text(), out);
     }
     let file = File {
         mode,

@@ -41,7 +41,7 @@ module _ {S V F : Type 0} (find : S → List ℕ → Front F) (item : S → List
     pub record Steps : Type 0 where
       pub stays : (s : S) (bytes : List ℕ) (n : ℕ) → Reads s bytes → find s bytes ≡ Whole n
           → Reads (after s (take n bytes)) (drop n bytes)
-      pub stops : (s : S) (bytes : List ℕ) (fault : Option F) → Reads s bytes → Stops find item after (uncut s bytes fault)
+      pub stops : (s : S) (bytes : List ℕ) (fault : Option F) → Reads s bytes → Stops find item after s bytes fault
           → IsRight s bytes (uncut s bytes fault)
       pub goes : (s : S) (bytes : List ℕ) (n : ℕ) (c : Cut S V F) → Reads s bytes → find s bytes ≡ Whole n
           → IsRight (after s (take n bytes)) (drop n bytes) c
@@ -50,7 +50,7 @@ module _ {S V F : Type 0} (find : S → List ℕ → Front F) (item : S → List
     stops_at : Steps → (s : S) (bytes : List ℕ) (f : Front F) → Reads s bytes → find s bytes ≡ f → ((n : ℕ) → f ≢ Whole n)
         → IsRight s bytes (uncut s bytes (fault_of f))
     stops_at steps s bytes f reads is apart =
-        steps.stops s bytes (fault_of f) reads (record { fault = ap fault_of (sym is); none_left = λ n e. apart n (sym is ∙ e) })
+        steps.stops s bytes (fault_of f) reads (record { told = ap fault_of (sym is); none_left = λ n e. apart n (sym is ∙ e) })
 
     right_at : Steps → (k : ℕ) (s : S) (bytes : List ℕ) → length bytes ≤ k → Reads s bytes → IsRight s bytes (cut_at find item after k s bytes)
     right_at steps zero s [] h reads = stops_at steps s [] More reads (laws.empty s) (λ n e. cc)
@@ -82,7 +82,7 @@ module _ {S V F : Type 0} (find : S → List ℕ → Front F) (item : S → List
     pub record Unfolds : Type 0 where
       pub stays : (s : S) (bytes : List ℕ) (n : ℕ) → Reads s bytes → find s bytes ≡ Whole n
           → Reads (after s (take n bytes)) (drop n bytes)
-      pub stops : (s : S) (bytes : List ℕ) (c : Cut S V F) → IsRight s bytes c → Stops find item after c
+      pub stops : (s : S) (bytes : List ℕ) (c : Cut S V F) → IsRight s bytes c → Stops find item after c.reading c.rest c.fault
       pub ends : (s : S) (bytes : List ℕ) (c : Cut S V F) → Reads s bytes → IsRight s bytes c → c.given ≡ []
           → (c.reading ≡ s) × (c.rest ≡ bytes)
       pub begins : (s : S) (bytes : List ℕ) (v : V) (c : Cut S V F) → Reads s bytes → IsRight s bytes (joined (v ∷ []) c) → Begins s bytes v c
@@ -96,7 +96,7 @@ module _ {S V F : Type 0} (find : S → List ℕ → Front F) (item : S → List
         let all = unfolds.ends s bytes c reads is none in
         let stop = unfolds.stops s bytes c is in
         let apart : (n : ℕ) → find s bytes ≢ Whole n = λ n e. stop.none_left n (ap (λ t. find t c.rest) all.0 ∙ (ap (find s) all.1 ∙ e)) in
-        ap (uncut c.reading c.rest) stop.fault
+        ap (uncut c.reading c.rest) stop.told
         ∙ (ap (λ t. uncut t c.rest (fault_of (find t c.rest))) all.0
         ∙ (ap (λ b. uncut s b (fault_of (find s b))) all.1
         ∙ sym (cut_first find item after laws s bytes ∙ by_front (find s bytes) apart)))

@@ -72,10 +72,10 @@ module _ {S V F : Type 0} (find : S → List ℕ → Front F) (item : S → List
   held_after held piece None = joined held.given (cut held.reading (held.rest ++ piece))
   held_after held piece (Some fault) = held
 
-  -- A cut stops where it may: its rest begins with no whole frame, and where it begins with a fault, that is the fault.
-  pub record Stops (c : Cut S V F) : Type 0 where
-    pub fault : c.fault ≡ fault_of (find c.reading c.rest)
-    pub none_left : (n : ℕ) → find c.reading c.rest ≢ Whole n
+  -- A cut may stop here: the rest begins with no whole frame, and where it begins with a fault, that is the fault.
+  pub record Stops (reading : S) (rest : List ℕ) (fault : Option F) : Type 0 where
+    pub told : fault ≡ fault_of (find reading rest)
+    pub none_left : (n : ℕ) → find reading rest ≢ Whole n
 
   -- What is held of a stream: of all the bytes that were fed and the frames that were taken it still has the other frames, the
   -- fault, and where there is none the bytes past the last frame.

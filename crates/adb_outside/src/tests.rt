@@ -52,30 +52,19 @@ fn gives(rt: &impl Abort, source: &mut impl Source, calls: &[(usize, Got, &[u8])
 }
 
 #[test]
-fn a_source_fails_and_gives_pieces(rt: HostRuntime) -> Result<(), Fail> {
+fn sources_give_pieces(rt: HostRuntime) -> Result<(), Fail> {
     let text = Text::from_slice(rt.alloc(), b"shell:")?;
     let mut source = MemorySource::new(text, 3, Vec::from_slice(rt.alloc(), &[2])?);
-    let calls: [(usize, Got, &[u8]); 6] = [
+    let calls: [(usize, Got, &[u8]); 5] = [
         (4, Got::Bytes(3), b"she....."),
         (4, Got::Failed, b"........"),
         (2, Got::Bytes(2), b"ll......"),
         (4, Got::Bytes(1), b":......."),
         (4, Got::End, b"........"),
-        (4, Got::End, b"........"),
     ];
     gives(&rt, &mut source, &calls);
-    Ok(())
-}
-
-#[test]
-fn a_source_never_fails(rt: HostRuntime) -> Result<(), Fail> {
-    let mut source = NeverSource::new(Text::from_slice(rt.alloc(), b"sync:")?, 4);
-    let calls: [(usize, Got, &[u8]); 3] = [
-        (8, Got::Bytes(4), b"sync...."),
-        (8, Got::Bytes(1), b":......."),
-        (8, Got::End, b"........"),
-    ];
-    gives(&rt, &mut source, &calls);
+    let mut source = NeverSource::new(Text::from_slice(rt.alloc(), b"sync:")?, 8);
+    gives(&rt, &mut source, &[(8, Got::Bytes(5), b"sync:...")]);
     Ok(())
 }
 
@@ -103,38 +92,20 @@ fn system(alloc: Global, system: &[u8]) -> Result<Identity, AllocError> {
 }
 
 #[test]
-fn systems_mean_states(rt: HostRuntime) -> Result<(), Fail> {
-    let cases: [(&[u8], State); 9] = [
+fn states_by_name(rt: HostRuntime) -> Result<(), Fail> {
+    let cases: [(&[u8], State); 6] = [
         (b"device", State::Device),
         (b"bootloader", State::Bootloader),
         (b"recovery", State::Recovery),
         (b"sideload", State::Sideload),
         (b"rescue", State::Rescue),
         (b"host", State::Host),
-        (b"", State::Host),
-        (b"Device", State::Host),
-        (b"device ", State::Host),
     ];
     for (name, state) in cases {
-        let identity = system(rt.alloc(), name)?;
-        assert!(rt; state_of(&identity) == state);
+        is(&rt, state_text(state), name);
+        assert!(rt; state_of(&system(rt.alloc(), name)?) == state);
     }
+    is(&rt, state_text(State::Offline), b"offline");
+    is(&rt, state_text(State::Unauthorized), b"unauthorized");
     Ok(())
-}
-
-#[test]
-fn states_have_texts(rt: HostRuntime) {
-    let texts: [(State, &[u8]); 8] = [
-        (State::Offline, b"offline"),
-        (State::Unauthorized, b"unauthorized"),
-        (State::Device, b"device"),
-        (State::Bootloader, b"bootloader"),
-        (State::Recovery, b"recovery"),
-        (State::Sideload, b"sideload"),
-        (State::Rescue, b"rescue"),
-        (State::Host, b"host"),
-    ];
-    for (state, text) in texts {
-        is(&rt, state_text(state), text);
-    }
 }

@@ -1,4 +1,3 @@
 pub mod Sound
-pub mod Each
 pub mod Meant
 pub mod Lengths

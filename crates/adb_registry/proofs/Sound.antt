@@ -1,61 +1,110 @@
 -- What every registry keeps, when a row is put, changed or removed.
-use Rattle.std.proofs.Common.{ℕ, ◌≡◌, ◌≤◌, ◌<◌, ◌+◌, ◌^◌, List, true, cond, refl, length, Option, Some, None, sym, ◌∙◌, ap, subst, arith, ◌⊎◌, inl, inr, ◌&&◌, Bool, false, nat_lt, nat_le}
+use Rattle.std.proofs.Common.{ℕ, ◌≡◌, ◌≤◌, ◌<◌, ◌+◌, ◌^◌, ◌&&◌, nat_lt, nat_le, Bool, true, false, cond, List, length, Option, Some, None, ◌⊎◌, inl, inr}
+use Rattle.std.proofs.Common.{refl, sym, ◌∙◌, ap, subst, arith}
 use Rattle.std.specs.Prelude.{option_map, is_some}
 use Rattle.std.proofs.lemmas.Bool.{cases_eq}
 use Rattle.std.proofs.lemmas.Bool.Decides.{nat_tests}
-use Rattle.std.specs.Char.{is_ascii_graphic}
-use Rattle.std.specs.List.{list_all}
-use Rattle.adb_registry.specs.Table.{at, IsRising, Puts}
+use Rattle.adb_outside.specs.Bytes.{is_graphic}
+use Rattle.adb_outside.specs.Tables.{at, IsRising, Puts, change_at}
+use Rattle.adb_outside.specs.Serial.{is_serial}
 use Rattle.adb_outside.specs.declared.kinds.Kind.{Kind}
-use Rattle.adb_registry.specs.Row.{is_serial, new_row}
-use Rattle.adb_registry.specs.Registry.{DeviceTable, IsRowAt, IsSound}
+use Rattle.adb_outside.specs.declared.serial.TheConstants.{MAX_SERIAL}
+use Rattle.adb_outside.proofs.TableLaws.{puts_is}
+use Rattle.adb_registry.specs.Row.{new_row}
+use Rattle.adb_registry.specs.Registry.{DeviceTable, IsRowAt, IsSound, changed}
 use Rattle.adb_registry.specs.declared.row.Row.{Row}
+use Rattle.adb_registry.specs.declared.registry.TheConstants.{MAX_DEVICES}
 
--- a serial holds at most 64 bytes
-serial_le : (serial : List ℕ) → is_serial serial ≡ true → length serial ≤ 64
-serial_le serial is = go (nat_lt 0 (length serial)) (nat_le (length serial) 64) refl is
+-- a serial is short
+serial_le : (serial : List ℕ) → is_serial serial ≡ true → length serial ≤ MAX_SERIAL
+serial_le serial is = go (nat_lt 0 (length serial)) (nat_le (length serial) MAX_SERIAL) refl is
   where
-    go : (some short : Bool) → nat_le (length serial) 64 ≡ short → (some && short && list_all is_ascii_graphic serial) ≡ true → length serial ≤ 64
+    go : (some short : Bool) → nat_le (length serial) MAX_SERIAL ≡ short → (some && short && is_graphic serial) ≡ true → length serial ≤ MAX_SERIAL
     go true true e h = grind (arith, nat_tests)
     go true false e h = let clash : false ≡ true = h in cc
     go false short e h = let clash : false ≡ true = h in cc
 
--- one row is put or removed
-pub sound_puts : (n : ℕ) (row : Option Row) (old new : DeviceTable) → IsSound old → old.drawn ≤ new.drawn → new.drawn < 2 ^ 32 → IsRising new.rows → length new.rows ≤ 128
-    → Puts n row old.rows new.rows → ((r : Row) → row ≡ Some r → IsRowAt new.drawn n r) → IsSound new
-sound_puts n row old new sound drawn fits rises few puts good =
-    record { drawn = fits; rises = rises; few = few; each = λ q r is. go q r is (cases_eq q n) }
+-- One row of sound devices is put or removed, and what is put may stand there.
+pub record PutsRow (id : ℕ) (row : Option Row) (old new : DeviceTable) : Type 0 where
+  pub sound : IsSound old
+  pub drawn : (old.drawn ≤ new.drawn) × (new.drawn < 2 ^ 32)
+  pub rises : IsRising new.rows
+  pub few : length new.rows ≤ MAX_DEVICES
+  pub puts : Puts id row old.rows new.rows
+  pub stands : (r : Row) → row ≡ Some r → IsRowAt new.drawn id r
+
+pub sound_puts : (id : ℕ) (row : Option Row) (old new : DeviceTable) → PutsRow id row old new → IsSound new
+sound_puts id row old new h = record { drawn = h.drawn.1; rises = h.rises; few = h.few; each = λ q r is. go q r is (cases_eq q id) }
   where
-    go : (q : ℕ) (r : Row) → at q new.rows ≡ Some r → (q ≡ n) ⊎ (q ≡ n → ⊥) → IsRowAt new.drawn q r
+    go : (q : ℕ) (r : Row) → at q new.rows ≡ Some r → (q ≡ id) ⊎ (q ≡ id → ⊥) → IsRowAt new.drawn q r
     go q r is (inl same) =
-        subst (λ (k : ℕ). IsRowAt new.drawn k r) (sym same) (good r (sym puts.here ∙ (ap (λ (k : ℕ). at k new.rows) (sym same) ∙ is)))
+        let here : row ≡ Some r = sym h.puts.here ∙ (ap (λ (k : ℕ). at k new.rows) (sym same) ∙ is) in
+        subst (λ (k : ℕ). IsRowAt new.drawn k r) (sym same) (h.stands r here)
     go q r is (inr apart) =
-        let was = sound.each q r (sym (puts.others q apart) ∙ is) in
-        record { own = was.own; from = was.from; to = omega arith; serial = was.serial; short = was.short; features = was.features; version = was.version; maxdata = was.maxdata }
+        let was = h.sound.each q r (sym (h.puts.others q apart) ∙ is) in
+        let to : q ≤ new.drawn = omega (arith, was.to, h.drawn) in
+        record {
+          own = was.own;
+          from = was.from;
+          to = to;
+          serial = was.serial;
+          short = was.short;
+          features = was.features;
+          version = was.version;
+          maxdata = was.maxdata;
+        }
 
--- one row is changed
-pub sound_changes : (n : ℕ) (f : Row → Row) (old new : DeviceTable) → IsSound old → new.drawn ≡ old.drawn → IsRising new.rows → length new.rows ≡ length old.rows
-    → Puts n (option_map f (at n old.rows)) old.rows new.rows → ((r : Row) → IsRowAt old.drawn n r → IsRowAt old.drawn n (f r)) → IsSound new
-sound_changes n f old new sound drawn rises len puts good =
-    sound_puts n (option_map f (at n old.rows)) old new sound (omega arith) (omega (arith, sound.drawn)) rises (omega (arith, sound.few)) puts (λ r is. go (at n old.rows) refl_at r is)
+-- One row of sound devices is changed alone.
+pub record ChangesAlone (id : ℕ) (f : Row → Row) (old new : DeviceTable) : Type 0 where
+  pub sound : IsSound old
+  pub drawn : new.drawn ≡ old.drawn
+  pub rises : IsRising new.rows
+  pub puts : Puts id (option_map f (at id old.rows)) old.rows new.rows
+
+pub sound_changes : (id : ℕ) (f : Row → Row) (old new : DeviceTable) → ChangesAlone id f old new → length new.rows ≡ length old.rows
+    → ((r : Row) → IsRowAt old.drawn id r → IsRowAt old.drawn id (f r)) → IsSound new
+sound_changes id f old new h as_many stands =
+    sound_puts id (option_map f (at id old.rows)) old new (record {
+      sound = h.sound;
+      drawn = (omega (arith, h.drawn), omega (arith, h.drawn, h.sound.drawn));
+      rises = h.rises;
+      few = omega (arith, as_many, h.sound.few);
+      puts = h.puts;
+      stands = λ r is. go (at id old.rows) refl r is;
+    })
   where
-    refl_at : at n old.rows ≡ at n old.rows
-    refl_at = λ _. at n old.rows
-
-    go : (o : Option Row) → at n old.rows ≡ o → (r : Row) → option_map f o ≡ Some r → IsRowAt new.drawn n r
+    go : (o : Option Row) → at id old.rows ≡ o → (r : Row) → option_map f o ≡ Some r → IsRowAt new.drawn id r
     go None was r is = let clash : None ≡ Some r = is in cc
-    go (Some old_row) was r is =
-        let same : f old_row ≡ r = cc in
-        subst (λ (d : ℕ). IsRowAt d n r) (sym drawn) (subst (λ (k : Row). IsRowAt old.drawn n k) same (good old_row (sound.each n old_row was)))
+    go (Some row) was r is =
+        let same : f row ≡ r = cc in
+        let changed_row = subst (λ (k : Row). IsRowAt old.drawn id k) same (stands row (h.sound.each id row was)) in
+        subst (λ (d : ℕ). IsRowAt d id r) (sym h.drawn) changed_row
 
--- A row more: fewer than 128 were there.
-pub one_more : (before : Option Row) (old new : ℕ) → new ≡ old + cond (is_some before) 0 1 → old < 128 → new ≤ 128
+-- what is left is the devices with that row changed
+pub changes_is : (id : ℕ) (f : Row → Row) (old new : DeviceTable) → ChangesAlone id f old new → new ≡ changed id f old
+changes_is id f old new h =
+    let row : Option Row = option_map f (at id old.rows) in
+    let rows : new.rows ≡ change_at id f old.rows = puts_is id row old.rows new.rows h.sound.rises h.rises h.puts in
+    λ i. record { drawn = h.drawn i; rows = rows i }
+
+-- A row more: there was room.
+pub one_more : (before : Option Row) (old new : ℕ) → new ≡ old + cond (is_some before) 0 1 → old < MAX_DEVICES → new ≤ MAX_DEVICES
 one_more None old new grows room = omega arith
 one_more (Some row) old new grows room = omega arith
 
 -- A device that was just plugged in stands under its id.
-pub new_row_at : (id : ℕ) (kind : Kind) (serial : List ℕ) (row : Row) → 0 < id → is_serial serial ≡ true → Some (new_row id kind serial) ≡ Some row → IsRowAt id id row
+pub new_row_at : (id : ℕ) (kind : Kind) (serial : List ℕ) (row : Row) → 0 < id → is_serial serial ≡ true
+    → Some (new_row id kind serial) ≡ Some row → IsRowAt id id row
 new_row_at id kind serial row from printed is =
     let same : new_row id kind serial ≡ row = cc in
     subst (λ (r : Row). IsRowAt id id r) same
-    (record { own = refl; from = from; to = omega arith; serial = printed; short = serial_le serial printed; features = omega arith; version = omega arith; maxdata = omega arith })
+    (record {
+      own = refl;
+      from = from;
+      to = omega arith;
+      serial = printed;
+      short = serial_le serial printed;
+      features = omega arith;
+      version = omega arith;
+      maxdata = omega arith;
+    })

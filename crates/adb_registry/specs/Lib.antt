@@ -1,4 +1,3 @@
-pub mod Table
 pub mod Row
 pub mod Registry
 pub mod Choice

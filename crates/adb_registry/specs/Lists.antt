@@ -5,6 +5,7 @@ use Rattle.std.specs.Char.{is_ascii_graphic, is_ascii_alphanumeric}
 use Rattle.adb_outside.specs.Identity.{text_of_state}
 use Rattle.adb_outside.specs.declared.identity.Identity.{Identity}
 use Rattle.adb_registry.specs.declared.row.Row.{Row}
+use Rattle.adb_registry.specs.declared.lists.TheConstants.{SERIAL_WIDTH, VALUE_LIMIT}
 
 -- the bytes that lines are made with
 abbrev pub tab : ℕ
@@ -23,9 +24,9 @@ underscore = 95
 abbrev pub short_line : Row → List ℕ
 short_line row = row.serial ++ (tab ∷ []) ++ text_of_state row.state ++ (newline ∷ [])
 
--- a text, with as many spaces as bring it to 22 bytes
+-- a text, with as many spaces as bring it to the width of a serial
 abbrev pub padded : List ℕ → List ℕ
-padded text = text ++ replicate (22 - length text) space
+padded text = text ++ replicate (SERIAL_WIDTH - length text) space
 
 -- a byte of a model's name
 abbrev pub model_byte : ℕ → ℕ
@@ -35,9 +36,9 @@ model_byte b = if is_ascii_alphanumeric b then b else underscore
 abbrev pub name_byte : ℕ → ℕ
 name_byte b = if is_ascii_graphic b then b else underscore
 
--- a value that is not empty behind its name: its first 64 bytes, each as it is printed
+-- a value that is not empty behind its name: its first bytes, each as it is printed
 abbrev pub field : List ℕ → (ℕ → ℕ) → List ℕ → List ℕ
-field name printed value = if length value == 0 then [] else name ++ map printed (take 64 value)
+field name printed value = if length value == 0 then [] else name ++ map printed (take VALUE_LIMIT value)
 
 -- what a device said of its make
 abbrev pub make_of : Option Identity → List ℕ

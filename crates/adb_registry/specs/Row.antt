@@ -1,16 +1,10 @@
 -- A device's row, and how it changes.
-use Rattle.std.specs.Prelude.{ℕ, Bool, ◌&&◌, nat_lt, nat_le, List, length, Option, Some, None}
-use Rattle.std.specs.List.{list_all}
-use Rattle.std.specs.Char.{is_ascii_graphic}
+use Rattle.std.specs.Prelude.{ℕ, List, length, Option, Some, None}
 use Rattle.adb_outside.specs.Identity.{state_of_system}
 use Rattle.adb_outside.specs.declared.kinds.Kind.{Kind}
 use Rattle.adb_outside.specs.declared.identity.Identity.{Identity}
 use Rattle.adb_outside.specs.declared.identity.State.TheVariants.{Offline, Unauthorized}
 use Rattle.adb_registry.specs.declared.row.Row.{Row}
-
--- a serial: 1 to 64 bytes of 0x21 to 0x7e
-abbrev pub is_serial : List ℕ → Bool
-is_serial serial = nat_lt 0 (length serial) && nat_le (length serial) 64 && list_all is_ascii_graphic serial
 
 -- a device that was just plugged in
 abbrev pub new_row : ℕ → Kind → List ℕ → Row

@@ -9,5 +9,5 @@ mod row;
 mod tests;
 
 pub use choice::Refusal;
-pub use registry::{AttachError, Registry};
+pub use registry::{AttachError, MAX_DEVICES, MAX_FEATURES, Registry};
 pub use row::Row;

@@ -110,7 +110,7 @@ fn push_model(list: &mut Vec<u8>, model: &[u8]) -> Result<(), AllocError>
 
 /// As much of a value as a long line has.
 fn cut(value: &[u8]) -> &[u8]
-    ensures { result.now ≡ take 64 value.now }
+    ensures { result.now ≡ take VALUE_LIMIT value.now }
 {
     if value.len() > VALUE_LIMIT {
         &value[..VALUE_LIMIT]

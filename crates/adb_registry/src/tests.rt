@@ -1,14 +1,22 @@
 //! What no clause says: lists as they are printed, and each call and refusal once.
 
-ghost use Rattle.std.specs.Prelude.{◌≤◌, length, IfOk};
+ghost use Rattle.std.specs.Prelude.{◌≡◌, length, IfOk};
 
 use crate::{AttachError, Refusal, Registry};
-use adb_outside::{Identity, Kind, Selector, State, Text};
+use adb_outside::{Identity, Kind, Selector, Text};
 use std::alloc::{AllocError, Global};
 use std::test::Fail;
 
-fn text(alloc: Global, bytes: &[u8]) -> Result<Text, AllocError> {
-    Text::from_slice(alloc, bytes)
+/// What a device says once it is plugged in.
+#[derive(Clone, Copy)]
+enum Says {
+    Nothing,
+    Auth,
+    Names {
+        product: &'static [u8],
+        model: &'static [u8],
+        device: &'static [u8],
+    },
 }
 
 fn identity(
@@ -17,98 +25,58 @@ fn identity(
     model: &[u8],
     device: &[u8],
 ) -> Result<Identity, AllocError>
-    ensures { IfOk result (λ identity. length identity.features ≤ 32768) }
+    ensures { IfOk result (λ identity. length identity.features ≡ 0) }
 {
     Ok(Identity {
-        system: text(alloc, b"device")?,
+        system: Text::from_slice(alloc, b"device")?,
         serial: Text::new(alloc),
-        product: text(alloc, product)?,
-        model: text(alloc, model)?,
-        device: text(alloc, device)?,
+        product: Text::from_slice(alloc, product)?,
+        model: Text::from_slice(alloc, model)?,
+        device: Text::from_slice(alloc, device)?,
         features: Text::new(alloc),
     })
 }
 
-/// Attaches a device that says who it is.
-fn plug(registry: &mut Registry, serial: &[u8], identity: Identity) -> Result<u32, AttachError>
-    requires { length identity.features ≤ 32768 }
-{
-    let id = registry.attach(Kind::Usb, serial)?;
-    registry.online(id, identity, 0x0100_0001, 4096);
+/// Plugs in a device, which then says this.
+fn plug(
+    alloc: Global,
+    registry: &mut Registry,
+    kind: Kind,
+    serial: &[u8],
+    says: Says,
+) -> Result<u32, AttachError> {
+    let id = registry.attach(kind, serial)?;
+    match says {
+        Says::Nothing => {}
+        Says::Auth => registry.unauthorized(id),
+        Says::Names {
+            product,
+            model,
+            device,
+        } => {
+            let identity = identity(alloc, product, model, device)?;
+            registry.online(id, identity, 0x0100_0001, 4096);
+        }
+    }
     Ok(id)
 }
 
 #[test]
-fn one_device_listed(rt: HostRuntime) -> Result<(), Fail> {
-    let alloc = rt.alloc();
-    let mut registry = Registry::new(alloc);
-    plug(&mut registry, b"emu1", identity(alloc, b"", b"Pix 3", b"")?)?;
-    let short = registry.short_list()?;
-    assert_eq!(rt; short.as_slice(), b"emu1\tdevice\n".as_slice());
-    let long = registry.long_list()?;
-    let line = b"emu1                   device model:Pix_3 transport_id:1\n";
-    assert_eq!(rt; long.as_slice(), line.as_slice());
-    Ok(())
-}
-
-#[test]
-fn long_list_line(rt: HostRuntime) -> Result<(), Fail> {
-    let alloc = rt.alloc();
-    let mut registry = Registry::new(alloc);
-    registry.attach(Kind::Local, b"serial-of-22-bytes-abc")?;
-    registry.attach(Kind::Local, b"serial-of-23-bytes-abcd")?;
-    let value = [b'p'; 65];
-    plug(
-        &mut registry,
-        b"emu1",
-        identity(alloc, b"a b~\x7f", &value, b"c:d\xff")?,
-    )?;
-    let long = registry.long_list()?;
-    let lines = b"serial-of-22-bytes-abc offline transport_id:1\n\
-        serial-of-23-bytes-abcd offline transport_id:2\n\
-        emu1                   device product:a_b~_ \
-        model:pppppppppppppppppppppppppppppppppppppppppppppppppppppppppppppppp \
-        device:c:d_ transport_id:3\n";
-    assert_eq!(rt; long.as_slice(), lines.as_slice());
-    Ok(())
-}
-
-#[test]
-fn equal_serials_stand_beside_each_other(rt: HostRuntime) -> Result<(), Fail> {
-    let alloc = rt.alloc();
-    let mut registry = Registry::new(alloc);
-    assert_eq!(rt; registry.attach(Kind::Usb, b"emu1"), Ok(1));
-    assert_eq!(rt; registry.attach(Kind::Local, b"emu1"), Ok(2));
-    registry.unauthorized(2);
-    let short = registry.short_list()?;
-    assert_eq!(rt;
-        short.as_slice(),
-        b"emu1\toffline\nemu1\tunauthorized\n".as_slice()
-    );
-    assert!(rt; registry.detach(1));
-    assert!(rt; !registry.detach(1));
-    assert!(rt; registry.row(1).is_none());
-    let state = registry.row(2).map(|row| row.state);
-    assert_eq!(rt; state, Some(State::Unauthorized));
-    Ok(())
-}
-
-#[test]
-fn attach_refuses(rt: HostRuntime) -> Result<(), Fail> {
+fn attached_or_refused(rt: HostRuntime) -> Result<(), Fail> {
     let alloc = rt.alloc();
     let mut registry = Registry::new(alloc);
     let long = [b'!'; 65];
     for serial in [b"".as_slice(), b"a b", b"a\x7f", b"\x20", &long] {
-        assert_eq!(rt;
-            registry.attach(Kind::Usb, serial),
-            Err(AttachError::BadSerial)
-        );
+        let refused = registry.attach(Kind::Usb, serial);
+        assert_eq!(rt; refused, Err(AttachError::BadSerial), "{serial:?}");
     }
     for id in 1..129 {
         assert_eq!(rt; registry.attach(Kind::Usb, &long[..64]), Ok(id));
     }
     assert_eq!(rt; registry.attach(Kind::Usb, b"a b"), Err(AttachError::Full));
     assert!(rt; registry.detach(5));
+    assert!(rt; !registry.detach(5));
+    assert!(rt; registry.row(5).is_none());
     assert_eq!(rt; registry.attach(Kind::Usb, b"~"), Ok(129));
     let mut exhausted = Registry::exhausted(alloc);
     assert_eq!(rt; exhausted.attach(Kind::Usb, b""), Err(AttachError::Numbers));
@@ -116,53 +84,141 @@ fn attach_refuses(rt: HostRuntime) -> Result<(), Fail> {
 }
 
 #[test]
-fn choice_among_none_and_several(rt: HostRuntime) -> Result<(), Fail> {
+fn listed(rt: HostRuntime) -> Result<(), Fail> {
     let alloc = rt.alloc();
     let mut registry = Registry::new(alloc);
-    let none = [
-        (Selector::Any, Refusal::NoAny),
-        (Selector::Usb, Refusal::NoUsb),
-        (Selector::Local, Refusal::NoLocal),
-        (Selector::Serial(text(alloc, b"emu1")?), Refusal::NoSerial),
-        (Selector::Id(1), Refusal::NoId),
+    let model = Says::Names {
+        product: b"",
+        model: b"Pix 3",
+        device: b"",
+    };
+    let all = Says::Names {
+        product: b"a b~\x7f",
+        model: &[b'p'; 65],
+        device: b"c:d\xff",
+    };
+    let devices: [(&[u8], Says); 5] = [
+        (b"emu1", model),
+        (b"emu1", Says::Auth),
+        (b"serial-of-22-bytes-abc", Says::Nothing),
+        (b"serial-of-23-bytes-abcd", Says::Nothing),
+        (b"emu2", all),
     ];
-    for (by, refusal) in &none {
-        assert_eq!(rt; registry.choose(by, true), Err(*refusal));
+    for (serial, says) in devices {
+        plug(alloc, &mut registry, Kind::Usb, serial, says)?;
     }
-    plug(&mut registry, b"emu1", identity(alloc, b"", b"", b"")?)?;
-    for kind in [Kind::Usb, Kind::Local, Kind::Local] {
-        registry.attach(kind, b"emu1")?;
-    }
-    let several = [
-        (Selector::Any, Refusal::ManyAny),
-        (Selector::Usb, Refusal::ManyUsb),
-        (Selector::Local, Refusal::ManyLocal),
-        (Selector::Serial(text(alloc, b"emu1")?), Refusal::ManySerial),
-        (Selector::Id(5), Refusal::NoId),
-        (Selector::Id(2), Refusal::Offline),
-    ];
-    for (by, refusal) in &several {
-        assert_eq!(rt; registry.choose(by, true), Err(*refusal));
-    }
-    assert_eq!(rt; registry.choose(&Selector::Id(1), true), Ok(1));
-    assert_eq!(rt; registry.choose(&Selector::Id(2), false), Ok(2));
+    let short = b"emu1\tdevice\nemu1\tunauthorized\nserial-of-22-bytes-abc\toffline\n\
+        serial-of-23-bytes-abcd\toffline\nemu2\tdevice\n";
+    assert_eq!(rt; registry.short_list()?.as_slice(), short.as_slice());
+    let long = b"emu1                   device model:Pix_3 transport_id:1\n\
+        emu1                   unauthorized transport_id:2\n\
+        serial-of-22-bytes-abc offline transport_id:3\n\
+        serial-of-23-bytes-abcd offline transport_id:4\n\
+        emu2                   device product:a_b~_ \
+        model:pppppppppppppppppppppppppppppppppppppppppppppppppppppppppppppppp \
+        device:c:d_ transport_id:5\n";
+    assert_eq!(rt; registry.long_list()?.as_slice(), long.as_slice());
     Ok(())
 }
 
+/// What is chosen by each of the selectors.
+fn choices(
+    registry: &Registry,
+    selectors: &[Selector; 5],
+    ready: bool,
+) -> [Result<u32, Refusal>; 5] {
+    let [first, second, third, fourth, fifth] = selectors;
+    [
+        registry.choose(first, ready),
+        registry.choose(second, ready),
+        registry.choose(third, ready),
+        registry.choose(fourth, ready),
+        registry.choose(fifth, ready),
+    ]
+}
+
+/// A device more at each stage; what is chosen of those that are ready, and of all.
 #[test]
-fn unauthorized_device(rt: HostRuntime) -> Result<(), Fail> {
+fn chosen(rt: HostRuntime) -> Result<(), Fail> {
+    use Refusal::*;
     let alloc = rt.alloc();
     let mut registry = Registry::new(alloc);
-    let id = registry.attach(Kind::Usb, b"emu1")?;
-    registry.unauthorized(id);
-    let by = Selector::Serial(text(alloc, b"emu1")?);
-    for by in [&Selector::Any, &Selector::Usb, &by, &Selector::Id(1)] {
-        assert_eq!(rt; registry.choose(by, true), Err(Refusal::Unauthorized));
-        assert_eq!(rt; registry.choose(by, false), Ok(1));
+    let selectors = [
+        Selector::Any,
+        Selector::Usb,
+        Selector::Local,
+        Selector::Serial(Text::from_slice(alloc, b"emu1")?),
+        Selector::Id(3),
+    ];
+    let none = [
+        Err(NoAny),
+        Err(NoUsb),
+        Err(NoLocal),
+        Err(NoSerial),
+        Err(NoId),
+    ];
+    assert_eq!(rt; choices(&registry, &selectors, true), none);
+    let names = Says::Names {
+        product: b"",
+        model: b"",
+        device: b"",
+    };
+    let stages = [
+        (
+            (Kind::Usb, Says::Nothing),
+            [
+                Err(Offline),
+                Err(Offline),
+                Err(NoLocal),
+                Err(Offline),
+                Err(NoId),
+            ],
+            [Ok(1), Ok(1), Err(NoLocal), Ok(1), Err(NoId)],
+        ),
+        (
+            (Kind::Local, Says::Auth),
+            [
+                Err(ManyAny),
+                Err(Offline),
+                Err(Unauthorized),
+                Err(ManySerial),
+                Err(NoId),
+            ],
+            [Err(ManyAny), Ok(1), Ok(2), Err(ManySerial), Err(NoId)],
+        ),
+        (
+            (Kind::Local, names),
+            [
+                Err(ManyAny),
+                Err(Offline),
+                Err(ManyLocal),
+                Err(ManySerial),
+                Ok(3),
+            ],
+            [Err(ManyAny), Ok(1), Err(ManyLocal), Err(ManySerial), Ok(3)],
+        ),
+        (
+            (Kind::Usb, Says::Nothing),
+            [
+                Err(ManyAny),
+                Err(ManyUsb),
+                Err(ManyLocal),
+                Err(ManySerial),
+                Ok(3),
+            ],
+            [
+                Err(ManyAny),
+                Err(ManyUsb),
+                Err(ManyLocal),
+                Err(ManySerial),
+                Ok(3),
+            ],
+        ),
+    ];
+    for ((kind, says), ready, any) in stages {
+        plug(alloc, &mut registry, kind, b"emu1", says)?;
+        assert_eq!(rt; choices(&registry, &selectors, true), ready);
+        assert_eq!(rt; choices(&registry, &selectors, false), any);
     }
-    assert_eq!(rt;
-        registry.choose(&Selector::Local, false),
-        Err(Refusal::NoLocal)
-    );
     Ok(())
 }

@@ -1,6 +1,6 @@
 //! How a stream is cut into packets.
 
-use crate::packet::{ShellError, ShellPacket};
+use crate::packet::{ShellFault, ShellPacket};
 use adb_outside::{Format, Front, Text};
 use byteorder::{ByteOrder, LittleEndian};
 use std::alloc::{AllocError, Global};
@@ -20,7 +20,7 @@ pub struct ShellFormat {
     pub offset: u64,
 }
 
-impl Format<ShellPacket, ShellError> for ShellFormat {
+impl Format<ShellPacket, ShellFault> for ShellFormat {
     ghost use Rattle.std.specs.Prelude.{◌≡◌, List, ℕ, IfOk, length};
     ghost use Rattle.adb_outside.specs.Framing.{IsFraming};
     ghost use Rattle.adb_shell.specs.Packets.{front, packet_of, past};
@@ -34,13 +34,13 @@ impl Format<ShellPacket, ShellError> for ShellFormat {
 
     ghost framing = { packets_are_framed };
 
-    fn front(&self, bytes: &[u8]) -> Front<ShellError> {
+    fn front(&self, bytes: &[u8]) -> Front<ShellFault> {
         if bytes.len() < HEADER_BYTES {
             return Front::More;
         }
         let id = bytes[0];
         if id > LAST_ID {
-            return Front::Bad(ShellError::BadId {
+            return Front::Bad(ShellFault::BadId {
                 offset: self.offset,
                 id,
             });
@@ -48,7 +48,7 @@ impl Format<ShellPacket, ShellError> for ShellFormat {
         let (_, after_id) = bytes.split_at(1);
         let length = LittleEndian::read_u32(after_id);
         if length > MOST_BYTES {
-            return Front::Bad(ShellError::TooLong {
+            return Front::Bad(ShellFault::TooLong {
                 offset: self.offset,
                 length,
             });

@@ -1,16 +1,19 @@
 //! What holds of all bytes and packets, whoever reads or writes them.
 
 ghost use Rattle.std.specs.Prelude.{◌≡◌, ◌<◌, ◌^◌, ◌++◌, ◌∷◌, [], List, ℕ, Some};
+ghost use Rattle.adb_outside.specs.Bytes.{AreBytes};
 ghost use Rattle.adb_outside.specs.Framing.{joined};
 ghost use Rattle.adb_shell.specs.declared.packet.ShellPacket.{ShellPacket};
-ghost use Rattle.adb_shell.specs.declared.packet.ShellError.{ShellError};
+ghost use Rattle.adb_shell.specs.declared.packet.ShellFault.{ShellFault};
 ghost use Rattle.adb_shell.specs.declared.format.ShellFormat.{ShellFormat};
-ghost use Rattle.adb_shell.specs.Packets.{IsPacket, spelling, AreBytes, IsCut, cut_from, past, packets_in, fault_in};
+ghost use Rattle.adb_shell.specs.Packets.{IsPacket, IsCut, Reading, cut_from, past};
+ghost use Rattle.adb_shell.specs.Packets.{spelling, packets_in, fault_in};
 
 /// A packet that was written is the packet that is read, whatever follows it.
 pub fn written_is_read()
     ensures { (from : ShellFormat) (packet : ShellPacket) (more : List ℕ) → IsPacket packet
-        → cut_from from (spelling packet ++ more) ≡ joined (packet ∷ []) (cut_from (past from (spelling packet)) more) }
+        → cut_from from (spelling packet ++ more)
+        ≡ joined (packet ∷ []) (cut_from (past from (spelling packet)) more) }
 {}
 
 /// The packets that are read from bytes are spelled there, one after the other, up to the first
@@ -20,8 +23,16 @@ pub fn cut_is_right()
         → IsCut from bytes (cut_from from bytes) }
 {}
 
+/// Bytes are cut in one way: packets with a rest, and a fault where one stands there, that are
+/// right are those that are read.
+pub fn cut_is_determined()
+    ensures { (from : ShellFormat) (bytes : List ℕ) (cut : Reading)
+        → from.offset < 2 ^ 64 → IsCut from bytes cut → cut ≡ cut_from from bytes }
+{}
+
 /// What follows the first fault changes neither the fault nor the packets before it.
 pub fn faults_stay()
-    ensures { (bytes more : List ℕ) (fault : ShellError) → fault_in bytes ≡ Some fault
-        → (fault_in (bytes ++ more) ≡ Some fault) × (packets_in (bytes ++ more) ≡ packets_in bytes) }
+    ensures { (bytes more : List ℕ) (fault : ShellFault) → fault_in bytes ≡ Some fault
+        → (fault_in (bytes ++ more) ≡ Some fault)
+        × (packets_in (bytes ++ more) ≡ packets_in bytes) }
 {}

@@ -1,6 +1,8 @@
 //! Packets and their faults.
 
-use adb_outside::Text;
+ghost use Rattle.adb_shell.specs.Packets.{error_of, failure_of};
+
+use adb_outside::{FeedError, Text};
 
 /// A packet of the shell protocol. Its id says what the bytes are: 0 is the command's input, 1 its
 /// output, 2 its error output, 3 its exit status in one byte, 4 the end of its input, 5 the size of
@@ -11,8 +13,17 @@ pub struct ShellPacket {
     pub bytes: Text,
 }
 
-/// Why bytes were not taken. An offset is that of the packet's first byte, counted from the first
-/// byte that was fed; past 2^64 - 1 it stays there.
+/// Why a stream is no stream of packets from some place on. An offset is that of the packet's first
+/// byte, counted from the first byte of the stream; past 2^64 - 1 it stays there.
+#[derive(Clone, Copy, Debug, PartialEq, Eq, Drop)]
+pub enum ShellFault {
+    /// The id of a packet is past 5.
+    BadId { offset: u64, id: u8 },
+    /// A packet says that it holds more than 1,048,576 bytes.
+    TooLong { offset: u64, length: u32 },
+}
+
+/// Why bytes were not taken.
 #[derive(Clone, Copy, Debug, PartialEq, Eq, Drop)]
 pub enum ShellError {
     /// Memory ran out. Nothing changed.
@@ -21,4 +32,30 @@ pub enum ShellError {
     BadId { offset: u64, id: u8 },
     /// A packet says that it holds more than 1,048,576 bytes.
     TooLong { offset: u64, length: u32 },
+}
+
+impl From<ShellFault> for ShellError {
+    ghost use Rattle.std.specs.Prelude.{◌≡◌};
+
+    ghost from_gives = { λ fault error. error ≡ error_of fault };
+
+    fn from(fault: ShellFault) -> ShellError {
+        match fault {
+            ShellFault::BadId { offset, id } => ShellError::BadId { offset, id },
+            ShellFault::TooLong { offset, length } => ShellError::TooLong { offset, length },
+        }
+    }
+}
+
+impl From<FeedError<ShellFault>> for ShellError {
+    ghost use Rattle.std.specs.Prelude.{◌≡◌};
+
+    ghost from_gives = { λ failure error. error ≡ failure_of failure };
+
+    fn from(failure: FeedError<ShellFault>) -> ShellError {
+        match failure {
+            FeedError::OutOfMemory => ShellError::OutOfMemory,
+            FeedError::Fault(fault) => fault.into(),
+        }
+    }
 }

@@ -1,12 +1,13 @@
 //! Packets of a stream that comes in pieces.
 
-ghost use Rattle.std.specs.Prelude.{◌≡◌, ◌≢◌, ◌++◌, ◌∷◌, [], List, ℕ, IfSome, IfNone};
-ghost use Rattle.adb_shell.specs.declared.packet.ShellPacket.{ShellPacket};
-ghost use Rattle.adb_shell.specs.Packets.{packets_in, fault_in, StandsFor, held_after, answer_of};
+ghost use Rattle.std.specs.Prelude.{◌≡◌, ◌≢◌, []};
+ghost use Rattle.adb_outside.specs.Framing.{Takes, Gives, answer_of};
+ghost use Rattle.adb_shell.specs.declared.packet.ShellFault.{ShellFault};
+ghost use Rattle.adb_shell.specs.Packets.{front, packet_of, past, StandsFor, error_of};
 
 use crate::format::ShellFormat;
-use crate::packet::{ShellError, ShellPacket};
-use adb_outside::{FeedError, Framer};
+use crate::packet::{ShellError, ShellFault, ShellPacket};
+use adb_outside::Framer;
 use std::alloc::Global;
 use std::marker::Model;
 
@@ -14,16 +15,13 @@ use std::marker::Model;
 /// packet and the packets that were not taken yet, never the stream.
 #[derive(Drop)]
 pub struct ShellReader {
-    framer: Framer<ShellFormat, ShellPacket, ShellError>,
+    framer: Framer<ShellFormat, ShellPacket, ShellFault>,
 }
 
 impl Model for ShellReader {
-    ghost use Rattle.adb_outside.specs.Framing.{Cut};
-    ghost use Rattle.adb_shell.specs.declared.packet.ShellPacket.{ShellPacket};
-    ghost use Rattle.adb_shell.specs.declared.packet.ShellError.{ShellError};
-    ghost use Rattle.adb_shell.specs.declared.format.ShellFormat.{ShellFormat};
+    ghost use Rattle.adb_shell.specs.Packets.{Reading};
 
-    ghost Value = { Cut ShellFormat ShellPacket ShellError };
+    ghost Value = { Reading };
 
     ghost view = { λ r. r.framer };
 }
@@ -44,30 +42,20 @@ impl ShellReader {
     /// nothing and answers that fault.
     pub fn feed(&mut self, piece: &[u8]) -> Result<(), ShellError>
         ensures memory { result ≡ Err ShellError.OutOfMemory → self.new ≡ self.old }
-        ensures answer { result ≢ Err ShellError.OutOfMemory → result ≡ answer_of self.new.fault }
-        ensures first_fault { result ≢ Err ShellError.OutOfMemory → (fed : List ℕ) (taken : List ShellPacket)
-            → StandsFor fed taken self.old → result ≡ answer_of (fault_in (fed ++ piece.now)) }
-        ensures stays { (fault : ShellError) → self.old.fault ≡ Some fault → result ≡ Err fault }
-        ensures held { result ≢ Err ShellError.OutOfMemory → self.new ≡ held_after self.old piece.now self.old.fault }
-        ensures stands { result ≢ Err ShellError.OutOfMemory → (fed : List ℕ) (taken : List ShellPacket)
-            → StandsFor fed taken self.old → StandsFor (fed ++ piece.now) taken self.new }
+        ensures taken { result ≢ Err ShellError.OutOfMemory
+            → Takes front packet_of past self.old piece.now self.new }
+        ensures answer { result ≢ Err ShellError.OutOfMemory
+            → result ≡ answer_of error_of self.new.fault }
+        ensures stays { (fault : ShellFault) → self.old.fault ≡ Some fault
+            → result ≡ Err (error_of fault) }
     {
-        match self.framer.feed(piece) {
-            Ok(()) => Ok(()),
-            Err(FeedError::OutOfMemory) => Err(ShellError::OutOfMemory),
-            Err(FeedError::Fault(fault)) => Err(fault),
-        }
+        Ok(self.framer.feed(piece)?)
     }
 
     /// The next packet that was not taken yet; `None` where no further whole packet was fed. It
     /// takes no memory.
     pub fn next(&mut self) -> Option<ShellPacket>
-        ensures some { IfSome result (λ packet. self.old ≡ record self.new { given = packet ∷ self.new.given }) }
-        ensures none { IfNone result ((self.old.given ≡ []) × (self.new ≡ self.old)) }
-        ensures some_stands { IfSome result (λ packet. (fed : List ℕ) (taken : List ShellPacket)
-            → StandsFor fed taken self.old → StandsFor fed (taken ++ packet ∷ []) self.new) }
-        ensures none_left { IfNone result ((fed : List ℕ) (taken : List ShellPacket)
-            → StandsFor fed taken self.old → packets_in fed ≡ taken) }
+        ensures { Gives front packet_of past self.old self.new result }
     {
         self.framer.next()
     }

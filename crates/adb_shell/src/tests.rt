@@ -1,4 +1,4 @@
-//! Worked packets, each fault, and a stream cut at each of its bytes.
+//! Worked packets, cut at each of their bytes, and each fault.
 
 use crate::{ShellError, ShellReader, write_packet};
 use adb_outside::Text;
@@ -19,32 +19,13 @@ const STREAM: &[u8] = b"\x00\x02\x00\x00\x00in\x01\x03\x00\x00\x00hi\n\x02\x00\x
 \x03\x01\x00\x00\x00\x07\x04\x00\x00\x00\x00\x05\x09\x00\x00\x0024x80,0x0";
 
 #[test]
-fn shell_v2_packets(rt: HostRuntime) -> Result<(), Fail> {
-    let mut out = Text::new(rt.alloc());
-    write_packet(rt.alloc(), 1, b"hi\n", &mut out)?;
-    assert_eq!(rt;
-        out.as_slice(),
-        b"\x01\x03\x00\x00\x00\x68\x69\x0a".as_slice()
-    );
-    let mut exit = Text::new(rt.alloc());
-    write_packet(rt.alloc(), 3, b"\x00", &mut exit)?;
-    assert_eq!(rt; exit.as_slice(), b"\x03\x01\x00\x00\x00\x00".as_slice());
-    Ok(())
-}
-
-#[test]
-fn packets_are_written(rt: HostRuntime) -> Result<(), Fail> {
+fn packets_are_written_and_come_whole_however_cut(rt: HostRuntime) -> Result<(), Fail> {
     let mut out = Text::new(rt.alloc());
     for (id, bytes) in PACKETS {
         assert!(rt; id <= 5 && bytes.len() <= 9);
         write_packet(rt.alloc(), id, bytes, &mut out)?;
     }
     assert_eq!(rt; out.as_slice(), STREAM);
-    Ok(())
-}
-
-#[test]
-fn packets_come_whole_however_cut(rt: HostRuntime) -> Result<(), Fail> {
     for at in 0..=STREAM.len() {
         let mut reader = ShellReader::new(rt.alloc());
         reader.feed(&STREAM[..at])?;
@@ -61,50 +42,43 @@ fn packets_come_whole_however_cut(rt: HostRuntime) -> Result<(), Fail> {
 
 #[test]
 fn bad_packets_are_refused(rt: HostRuntime) -> Result<(), Fail> {
-    let cases: [(&[u8], ShellError); 5] = [
+    let cases: [(&[u8], Result<(), ShellError>); 6] = [
         (
             b"\x06\x00\x00\x00\x00",
-            ShellError::BadId { offset: 0, id: 6 },
+            Err(ShellError::BadId { offset: 0, id: 6 }),
         ),
         (
             b"\xff\xff\xff\xff\xff",
-            ShellError::BadId { offset: 0, id: 255 },
+            Err(ShellError::BadId { offset: 0, id: 255 }),
         ),
         (
             b"\x01\x02\x00\x00\x00ok\x09\x00\x00\x00\x00",
-            ShellError::BadId { offset: 7, id: 9 },
+            Err(ShellError::BadId { offset: 7, id: 9 }),
         ),
         (
             b"\x00\x01\x00\x10\x00",
-            ShellError::TooLong {
+            Err(ShellError::TooLong {
                 offset: 0,
                 length: 1_048_577,
-            },
+            }),
         ),
         (
             b"\x04\x00\x00\x00\x00\x02\xff\xff\xff\xff",
-            ShellError::TooLong {
+            Err(ShellError::TooLong {
                 offset: 5,
                 length: 4_294_967_295,
-            },
+            }),
         ),
+        (b"\x01\x00\x00\x10\x00", Ok(())),
     ];
-    for (bytes, fault) in cases {
+    for (bytes, answer) in cases {
         assert!(rt; !bytes.is_empty());
         let mut reader = ShellReader::new(rt.alloc());
         reader.feed(&bytes[..bytes.len() - 1])?;
-        assert_eq!(rt; reader.feed(&bytes[bytes.len() - 1..]), Err(fault));
-        assert_eq!(rt; reader.feed(b"\x01\x00\x00\x00\x00"), Err(fault));
+        assert_eq!(rt; reader.feed(&bytes[bytes.len() - 1..]), answer);
+        assert_eq!(rt; reader.feed(b""), answer);
         assert_eq!(rt; reader.next().is_some(), bytes.len() > 5);
         assert!(rt; reader.next().is_none());
     }
-    Ok(())
-}
-
-#[test]
-fn the_longest_packet_is_taken(rt: HostRuntime) -> Result<(), Fail> {
-    let mut reader = ShellReader::new(rt.alloc());
-    reader.feed(b"\x01\x00\x00\x10\x00")?;
-    assert!(rt; reader.next().is_none());
     Ok(())
 }

@@ -1,2 +1,7 @@
 pub mod Window
 pub mod Credit
+pub mod Flow
+pub mod Stream
+pub mod Streams
+pub mod Shelf
+pub mod Lending

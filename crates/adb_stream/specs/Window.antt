@@ -1,5 +1,5 @@
 -- One write each way (protocol.txt, OKAY and WRTE).
-use Rattle.std.specs.Prelude.{ℕ, ◌≡◌, ◌<◌, Bool}
+use Rattle.std.specs.Prelude.{ℕ, ◌≡◌, ◌<◌, Bool, false}
 use Rattle.adb_stream.specs.declared.flow.Took.{Took}
 use Rattle.adb_stream.specs.declared.flow.Took.TheVariants.{Accepted, AckNow, OutOfTurn}
 
@@ -7,6 +7,10 @@ use Rattle.adb_stream.specs.declared.flow.Took.TheVariants.{Accepted, AckNow, Ou
 pub record OneWrite : Type 0 where
   pub outstanding : Bool
   pub to_hand : ℕ
+
+-- nothing is outstanding, and nothing is to be handed out
+abbrev pub new_window : OneWrite
+new_window = record { outstanding = false; to_hand = 0 }
 
 -- A WRTE of n bytes came: when each answer is given, and what the window is then.
 abbrev pub WindowTakes : OneWrite → ℕ → OneWrite → Took → Type 0

@@ -1,5 +1,7 @@
 //! What an end of a stream may send, and what it has taken.
 
+ghost use Rattle.std.specs.Prelude.{◌≡◌};
+
 use crate::credit::Credit;
 use crate::window::Window;
 
@@ -19,4 +21,19 @@ pub enum Took {
 pub enum Flow {
     One(Window),
     Credit(Credit),
+}
+
+impl Flow {
+    ghost use Rattle.adb_stream.specs.Flow.{new_flow};
+
+    /// What each end may send at first, on a link with or without credit in bytes.
+    pub(crate) fn new(credit: bool) -> Flow
+        ensures { result ≡ new_flow credit }
+    {
+        if credit {
+            Flow::Credit(Credit::new())
+        } else {
+            Flow::One(Window::new())
+        }
+    }
 }

@@ -3,8 +3,13 @@
 
 mod credit;
 mod flow;
+mod row;
+mod shelf;
+mod streams;
 mod window;
 
 pub use credit::{CREDIT_STEP, CREDIT_WINDOW, Credit};
 pub use flow::{Flow, Took};
+pub use row::{Part, Stream};
+pub use streams::{DrawError, Streams};
 pub use window::Window;

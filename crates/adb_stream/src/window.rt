@@ -1,7 +1,7 @@
 //! One write each way (protocol.txt).
 
 ghost use Rattle.std.specs.Prelude.{◌≡◌, ◌-◌, ◌≤◌, ◌<◌, not, true, false, IsTrue, ◌↔◌};
-ghost use Rattle.adb_stream.specs.Window.{WindowTakes};
+ghost use Rattle.adb_stream.specs.Window.{new_window, WindowTakes};
 
 use crate::flow::Took;
 use std::marker::Model;
@@ -29,7 +29,7 @@ impl Model for Window {
 impl Window {
     /// Nothing is outstanding, and nothing is to be handed out.
     pub fn new() -> Window
-        ensures { result ≡ record { outstanding = false; to_hand = 0 } }
+        ensures { result ≡ new_window }
     {
         Window {
             outstanding: false,

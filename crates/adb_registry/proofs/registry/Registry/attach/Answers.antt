@@ -1,15 +1,22 @@
-use Rattle.std.proofs.Common.{rules, arith, Some, ◌+◌}
+use Rattle.std.proofs.Common.{rules, arith, Some, ◌+◌, ℕ}
+use Rattle.adb_registry.specs.Registry.{DeviceTable}
 use Rattle.adb_registry.specs.Row.{new_row}
 use Rattle.adb_registry.proofs.Sound.{sound_puts, one_more, new_row_at}
 use Rattle.adb_registry.proofs.registry.Registry.attach.Goals as goal
 
 pub invariant_of-self-2 : goal.invariant_of-self-2
 invariant_of-self-2 c =
-    let id = c.self.inside.drawn + 1 in
-    let few = one_more c.in_ok-insert.field-0 _ _ c.in_ok-insert.ensures.len (omega (arith, c.self.invariant.few, c.len.ensures.len)) in
-    let row = new_row id c.args.kind c.args.serial.now in
-    sound_puts id (Some row) (record { drawn = c.self.inside.drawn; rows = c.self.inside.rows.entries }) (record { drawn = id; rows = c.insert.new.self.entries }) c.self.invariant (omega arith) (omega arith) (search rules) few (record { here = search rules; others = search rules })
-    (λ r is. new_row_at id c.args.kind c.args.serial.now r (omega arith) (search rules) is)
+    let id : ℕ = c.self.inside.drawn + 1 in
+    let old : DeviceTable = record { drawn = c.self.inside.drawn; rows = c.self.inside.rows.entries } in
+    let new : DeviceTable = record { drawn = id; rows = c.insert.new.self.entries } in
+    sound_puts id (Some (new_row id c.args.kind c.args.serial.now)) old new (record {
+      sound = c.self.invariant;
+      drawn = (omega arith, omega arith);
+      rises = search rules;
+      few = one_more c.in_ok-insert.field-0 _ _ c.in_ok-insert.ensures.len (omega (arith, c.self.invariant.few, c.len.ensures.len));
+      puts = record { here = search rules; others = search rules };
+      stands = λ r is. new_row_at id c.args.kind c.args.serial.now r (omega arith) (search rules) is;
+    })
 
 pub returns-clause-sound : goal.returns-clause-sound
 returns-clause-sound c = invariant_of-self-2 c

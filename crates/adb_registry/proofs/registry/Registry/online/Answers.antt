@@ -1,11 +1,40 @@
 use Rattle.std.proofs.Common.{rules, refl}
+use Rattle.adb_registry.specs.Registry.{DeviceTable}
 use Rattle.adb_registry.specs.Row.{online_row}
-use Rattle.adb_registry.proofs.Sound.{sound_changes}
+use Rattle.adb_registry.specs.declared.row.Row.{Row}
+use Rattle.adb_registry.proofs.Sound.{sound_changes, changes_is}
 use Rattle.adb_registry.proofs.registry.Registry.online.Goals as goal
 
 pub invariant_of-self : goal.invariant_of-self
 invariant_of-self c =
-    sound_changes c.args.id (online_row c.args.identity c.args.version c.args.maxdata) (record { drawn = c.self.inside.drawn; rows = c.self.inside.rows.entries }) _ c.self.invariant refl (search rules) (search rules) (record { here = search rules; others = search rules }) (λ r is. record { own = is.own; from = is.from; to = is.to; serial = is.serial; short = is.short; features = c.requires.features; version = c.ranges.version.fits; maxdata = c.ranges.maxdata.fits })
+    let old : DeviceTable = record { drawn = c.self.inside.drawn; rows = c.self.inside.rows.entries } in
+    let f : Row → Row = online_row c.args.identity c.args.version c.args.maxdata in
+    sound_changes c.args.id f old _ (record {
+      sound = c.self.invariant;
+      drawn = refl;
+      rises = search rules;
+      puts = record { here = search rules; others = search rules };
+    }) (search rules) (λ r is. record {
+      own = is.own;
+      from = is.from;
+      to = is.to;
+      serial = is.serial;
+      short = is.short;
+      features = c.requires.features;
+      version = c.ranges.version.fits;
+      maxdata = c.ranges.maxdata.fits;
+    })
+
+pub returns-clause-devices : goal.returns-clause-devices
+returns-clause-devices c =
+    let old : DeviceTable = record { drawn = c.self.inside.drawn; rows = c.self.inside.rows.entries } in
+    let f : Row → Row = online_row c.args.identity c.args.version c.args.maxdata in
+    rw (← c.self.view_is) (changes_is c.args.id f old _ (record {
+      sound = c.self.invariant;
+      drawn = refl;
+      rises = search rules;
+      puts = record { here = search rules; others = search rules };
+    }))
 
 pub returns-clause-sound : goal.returns-clause-sound
 returns-clause-sound c = invariant_of-self c

@@ -1,0 +1,11 @@
+use Rattle.std.proofs.Common.{ap, ◌∙◌, subst}
+use Rattle.adb_stream.specs.Streams.{StreamTable, IsSound, found}
+use Rattle.adb_stream.proofs.Shelves.{finds, sound}
+use Rattle.adb_stream.proofs.streams.Streams.find.Goals as goal
+
+pub returns-clause-found : goal.returns-clause-found
+returns-clause-found c = c.find.ensures
+    ∙ (finds c.self.inside.drawn c.self.inside.shelf c.self.invariant c.args.link c.args.id ∙ ap (λ (t : StreamTable). found c.args.link c.args.id t.streams) c.self.view_is)
+
+pub returns-clause-sound : goal.returns-clause-sound
+returns-clause-sound c = subst IsSound c.self.view_is (sound c.self.inside.drawn c.self.inside.shelf c.self.invariant)

@@ -1,0 +1,140 @@
+//! The streams in a slab, with their keys by id, and by link and id.
+
+ghost use Rattle.std.specs.Prelude.{◌≡◌, ◌<◌, ◌≤◌, ◌^◌, ℕ, [], Some, None, IfOk, IfSome, OnErr, OnOk, IsSome, MatchOption, option_map};
+ghost use Rattle.std.specs.Option.{option_copied, option_copied_mut};
+ghost use Rattle.std.specs.Borrow.{sem};
+ghost use Rattle.adb_outside.specs.Tables.{IsRising, put_row};
+ghost use Rattle.adb_stream.specs.Stream.{new_stream};
+ghost use Rattle.adb_stream.specs.Shelf.{keys_of, slots_of, index_of, stream_of, put_place, emptied, displaced};
+ghost use Rattle.adb_stream.specs.Lending.{LendsAt};
+
+use crate::flow::Flow;
+use crate::row::{Part, Stream};
+use slab::Slab;
+use std::alloc::{AllocError, Global};
+use std::collections::BTreeMap;
+
+/// The streams, each under a key of the slab's, with the keys by id, and by link and id.
+#[derive(Drop)]
+pub(crate) struct Shelf {
+    rows: Slab<Stream>,
+    keys: BTreeMap<u32, usize>,
+    index: BTreeMap<(u32, u32), usize>,
+}
+
+impl Shelf {
+    /// A shelf without streams. It takes no memory.
+    pub(crate) fn new(alloc: Global) -> Shelf
+        ensures keys { result.keys.entries ≡ [] }
+        ensures slots { result.rows.slots ≡ [] }
+        ensures index { result.index.entries ≡ [] }
+    {
+        Shelf {
+            rows: Slab::new(alloc),
+            keys: BTreeMap::new(alloc),
+            index: BTreeMap::new(alloc),
+        }
+    }
+
+    /// Puts a new stream under an id that has none, and gives its key.
+    pub(crate) fn add(
+        &mut self,
+        id: u32,
+        client: u32,
+        link: u32,
+        flow: Flow,
+    ) -> Result<usize, AllocError>
+        ensures vacant { IfOk result (λ key. slots_of self.old key ≡ None) }
+        ensures keys { IfOk result (λ key. keys_of self.new ≡ put_row id (Some key) (keys_of self.old)) }
+        ensures slots { IfOk result (λ key.
+            slots_of self.new ≡ put_row key (Some (new_stream id client link flow)) (slots_of self.old)) }
+        ensures index { IfOk result (λ key.
+            index_of self.new ≡ put_place link id (Some key) (index_of self.old)) }
+        ensures rises { OnOk result (IsRising self.new.keys.entries) }
+
+        ensures err_keys { OnErr result (self.new.keys.entries ≡ self.old.keys.entries) }
+        ensures err_slots { OnErr result (slots_of self.new ≡ slots_of self.old) }
+        ensures err_index { OnErr result (index_of self.old link id ≡ None
+            → index_of self.new ≡ index_of self.old) }
+    {
+        self.rows.reserve(1)?;
+        let key = self.rows.vacant_key();
+        self.place(link, id, key)?;
+        let part = Part {
+            remote: 0,
+            orphan: false,
+            flow,
+        };
+        self.rows.insert_reserved(Stream {
+            id,
+            client,
+            link,
+            part,
+        });
+        Ok(key)
+    }
+
+    /// Puts a key at an id that has none, and at its link.
+    fn place(&mut self, link: u32, id: u32, key: usize) -> Result<(), AllocError>
+        ensures rows { self.new.rows ≡ self.old.rows }
+        ensures keys { OnOk result (keys_of self.new ≡ put_row id (Some key) (keys_of self.old)) }
+        ensures index { OnOk result (
+            index_of self.new ≡ put_place link id (Some key) (index_of self.old)) }
+        ensures rises { OnOk result (IsRising self.new.keys.entries) }
+        ensures err_keys { OnErr result (self.new.keys.entries ≡ self.old.keys.entries) }
+        ensures err_index { OnErr result (index_of self.old link id ≡ None
+            → index_of self.new ≡ index_of self.old) }
+    {
+        self.index.insert((link, id), key)?;
+        if self.keys.insert(id, key).is_err() {
+            self.index.remove(&(link, id));
+            return Err(AllocError);
+        }
+        Ok(())
+    }
+
+    /// Takes out the stream of an id.
+    pub(crate) fn remove(&mut self, id: u32) -> Option<Stream>
+        ensures was { result ≡ stream_of (slots_of self.old) (keys_of self.old id) }
+        ensures keys { keys_of self.new ≡ put_row id None (keys_of self.old) }
+        ensures slots { slots_of self.new ≡ emptied (keys_of self.old id) (slots_of self.old) }
+        ensures index { index_of self.new ≡ displaced result id (index_of self.old) }
+        ensures rises { IsRising self.new.keys.entries }
+    {
+        let key = self.keys.remove(&id)?;
+        let stream = self.rows.try_remove(key)?;
+        self.index.remove(&(stream.link, id));
+        Some(stream)
+    }
+
+    /// The stream of a link and an id.
+    pub(crate) fn find(&self, link: u32, id: u32) -> Option<&Stream>
+        ensures { option_copied result ≡ stream_of (slots_of self.now) (index_of self.now link id) }
+    {
+        let key = self.index.get(&(link, id))?;
+        self.rows.get(*key)
+    }
+
+    /// The part of the stream of a link and an id, to be written.
+    pub(crate) fn find_mut(&mut self, link: u32, id: u32) -> Option<&mut Part>
+        ensures* writes_back { sem 𝓛 (LendsAt self.entry (index_of self.old link id) result) }
+        ensures value { option_copied_mut result ≡ option_map (λ stream. stream.part)
+            (stream_of (slots_of self.old) (index_of self.old link id)) }
+    {
+        let key = self.index.get(&(link, id)).copied()?;
+        let stream = self.rows.get_mut(key)?;
+        Some(&mut stream.part)
+    }
+
+    /// The least id of a link in the index.
+    pub(crate) fn first_of(&self, link: u32) -> Option<u32>
+        ensures here { MatchOption result
+            ((id : ℕ) → id < 2 ^ 32 → index_of self.now link id ≡ None)
+            (λ id. IsSome (index_of self.now link id)) }
+        ensures least { IfSome result (λ first.
+            (id : ℕ) → id < 2 ^ 32 → IsSome (index_of self.now link id) → first ≤ id) }
+    {
+        let (place, _key) = self.index.range((link, 0)..=(link, u32::MAX)).next()?;
+        Some(place.1)
+    }
+}
