@@ -53,11 +53,7 @@ fn fixed_form(on: Which, text: &[u8]) -> Option<Request>
 }
 
 /// The request of a form that names a forward.
-fn forward_form(
-    alloc: Global,
-    on: Which,
-    text: &[u8],
-) -> Result<Option<Request>, AllocError>
+fn forward_form(alloc: Global, on: Which, text: &[u8]) -> Result<Option<Request>, AllocError>
     ensures { IfOk result (λ request. request ≡ forward_form on text.now) }
 {
     if let Some(spec) = behind(b"forward:norebind:", text) {

@@ -18,11 +18,18 @@ pub enum Request {
     /// The server's end.
     Kill,
     /// The list of devices.
-    Devices { long: bool },
+    Devices {
+        long: bool,
+    },
     /// The list of devices now and after each change.
-    Track { long: bool },
+    Track {
+        long: bool,
+    },
     /// Selects a device for this connection; `tell_id` asks for its transport id.
-    Transport { by: Selector, tell_id: bool },
+    Transport {
+        by: Selector,
+        tell_id: bool,
+    },
     Serialno(Which),
     Devpath(Which),
     GetState(Which),
