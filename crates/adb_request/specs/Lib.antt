@@ -1,3 +1,4 @@
 pub mod Requests
 pub mod Forms
 pub mod Meaning
+pub mod Rows
