@@ -67,12 +67,6 @@ gives_refusal offset first held coming before after (TooLong at) h told is = let
 gives_refusal offset first held coming before after ReadFault h told is = tt
 gives_refusal offset first held coming before after OutOfMemory h told is = tt
 
--- a refusal says nothing of what is ahead then
-pub refused_same : (offset n m : ℕ) (bytes : List ℕ) (result : Result (Option (ℕ × Entry)) CaptureError) (a b : Option (List ℕ)) (e : CaptureError) → result ≡ Err e → GivesNext offset bytes result n a → GivesNext offset bytes result m b
-refused_same offset n m bytes result a b e is h =
-    let at : IsRefused offset bytes e = subst (λ (r : Result (Option (ℕ × Entry)) CaptureError). GivesNext offset bytes r n a) is h in
-    subst (λ (r : Result (Option (ℕ × Entry)) CaptureError). GivesNext offset bytes r m b) (sym is) at
-
 pub refusal_given : (offset n : ℕ) (bytes : List ℕ) (result : Result (Option (ℕ × Entry)) CaptureError) (b : Option (List ℕ)) (e : CaptureError) → result ≡ Err e → IsRefused offset bytes e → GivesNext offset bytes result n b
 refusal_given offset n bytes result b e is h = subst (λ (r : Result (Option (ℕ × Entry)) CaptureError). GivesNext offset bytes r n b) (sym is) h
 

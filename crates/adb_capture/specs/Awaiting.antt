@@ -1,11 +1,21 @@
 -- What a reader waits for, between the bytes that it held and those that it holds then.
-use Rattle.std.specs.Prelude.{ℕ, ◌≡◌, ◌≢◌, List, [], ◌++◌, Option, Some, None, Result, Ok, Err, option_map, option_and_then}
+use Rattle.std.specs.Prelude.{ℕ, ◌+◌, ◌≡◌, ◌≢◌, ◌<◌, ◌≤◌, List, [], ◌++◌, length, Option, Some, None, Result, Ok, Err, option_map}
+use Rattle.adb_outside.specs.declared.source.Got.{Got}
+use Rattle.adb_outside.specs.declared.source.Got.TheVariants.{Bytes, End, Failed}
 use Rattle.adb_outside.specs.declared.framer.Front.TheVariants.{More, Bad, Whole}
 use Rattle.adb_capture.specs.declared.error.CaptureError.{CaptureError}
 use Rattle.adb_capture.specs.declared.error.CaptureError.TheVariants.{BadMagic, BadRecord, Truncated, TooLong, ReadFault, OutOfMemory}
+use Rattle.adb_capture.specs.declared.limits.TheConstants.{READ_LIMIT}
 use Rattle.adb_capture.specs.Counting.{KeepsBytes}
 use Rattle.adb_capture.specs.Records.{magic, record_at}
-use Rattle.adb_capture.specs.Reading.{Reading, past_magic, ahead}
+use Rattle.adb_capture.specs.Reading.{past_magic}
+
+-- A read brings at least one byte and at most one read's, or says that no more come.
+abbrev pub ReadsMore : {E : Type 0} → List ℕ → Option (List ℕ) → List ℕ → Result Got E → Type 0
+ReadsMore held_before before held (Ok (Bytes n)) = (0 < n) × (n ≤ READ_LIMIT) × (length held ≡ length held_before + n)
+ReadsMore held_before before held (Ok End) = (held ≡ held_before) × ((coming : List ℕ) → before ≡ Some coming → coming ≡ [])
+ReadsMore held_before before held (Ok Failed) = held ≡ held_before
+ReadsMore held_before before held (Err e) = held ≡ held_before
 
 -- all that was to come is held
 abbrev pub HoldsAll : List ℕ → Option (List ℕ) → List ℕ → Type 0
@@ -15,11 +25,9 @@ HoldsAll held_before before held = (coming : List ℕ) → before ≡ Some comin
 abbrev pub AwaitsMagic : List ℕ → Option (List ℕ) → List ℕ → Option (List ℕ) → Result (Unit {0}) CaptureError → Type 0
 AwaitsMagic held_before before held after (Ok x) = (coming : List ℕ) → before ≡ Some coming → option_map (λ rest. magic ++ (held ++ rest)) after ≡ Some (held_before ++ coming)
 AwaitsMagic held_before before held after (Err BadMagic) = (coming : List ℕ) → before ≡ Some coming → past_magic (held_before ++ coming) ≡ None
-AwaitsMagic held_before before held after (Err (BadRecord at why)) = ⊥
-AwaitsMagic held_before before held after (Err (Truncated at)) = ⊥
-AwaitsMagic held_before before held after (Err (TooLong at)) = ⊥
 AwaitsMagic held_before before held after (Err ReadFault) = Unit {0}
 AwaitsMagic held_before before held after (Err OutOfMemory) = KeepsBytes held_before before held after
+AwaitsMagic held_before before held after (Err _) = ⊥
 
 -- the bytes that are held begin with a record or a refusal, or no more come
 abbrev pub AwaitsRecord : ℕ → List ℕ → Option (List ℕ) → List ℕ → Result (Option ℕ) CaptureError → Type 0
@@ -31,17 +39,3 @@ AwaitsRecord offset held_before before held (Err (Truncated at)) = (at ≡ offse
 AwaitsRecord offset held_before before held (Err (TooLong at)) = record_at offset held ≡ Bad (TooLong at)
 AwaitsRecord offset held_before before held (Err ReadFault) = Unit {0}
 AwaitsRecord offset held_before before held (Err OutOfMemory) = Unit {0}
-
--- Nothing of what is to be given was lost.
-abbrev pub StaysAhead : Reading → Option (List ℕ) → Reading → Option (List ℕ) → Type 0
-StaysAhead old before new after = (coming : List ℕ) → before ≡ Some coming → option_and_then (ahead new) after ≡ ahead old coming
-
--- The magic was there, or is not.
-abbrev pub Opens : Reading → Option (List ℕ) → Reading → Option (List ℕ) → Result (Unit {0}) CaptureError → Type 0
-Opens old before new after (Ok x) = (coming : List ℕ) → before ≡ Some coming → (rest : List ℕ) × (after ≡ Some rest) × (ahead old coming ≡ Some (new.held ++ rest))
-Opens old before new after (Err BadMagic) = (coming : List ℕ) → before ≡ Some coming → ahead old coming ≡ None
-Opens old before new after (Err (BadRecord at why)) = ⊥
-Opens old before new after (Err (Truncated at)) = ⊥
-Opens old before new after (Err (TooLong at)) = ⊥
-Opens old before new after (Err ReadFault) = Unit {0}
-Opens old before new after (Err OutOfMemory) = StaysAhead old before new after

@@ -3,7 +3,7 @@ use Rattle.std.specs.Prelude.{ℕ, ◌≡◌, ◌++◌, Bool, true, false, List,
 use Rattle.adb_outside.specs.declared.source.Got.{Got}
 use Rattle.adb_outside.specs.Source.{is_failed_read}
 use Rattle.adb_capture.specs.declared.error.CaptureError.{CaptureError}
-use Rattle.adb_capture.specs.declared.error.CaptureError.TheVariants.{BadMagic, BadRecord, Truncated, TooLong, ReadFault, OutOfMemory}
+use Rattle.adb_capture.specs.declared.error.CaptureError.TheVariants.{ReadFault}
 
 -- What is held and what is still to come are together the bytes that they were before.
 abbrev pub KeepsBytes : List ℕ → Option (List ℕ) → List ℕ → Option (List ℕ) → Type 0
@@ -16,10 +16,5 @@ is_failed (Err e) = false
 
 -- whether an answer is that a read failed
 abbrev pub is_fault : {T : Type 0} → Result T CaptureError → Bool
-is_fault (Ok x) = false
-is_fault (Err BadMagic) = false
-is_fault (Err (BadRecord at why)) = false
-is_fault (Err (Truncated at)) = false
-is_fault (Err (TooLong at)) = false
 is_fault (Err ReadFault) = true
-is_fault (Err OutOfMemory) = false
+is_fault _ = false

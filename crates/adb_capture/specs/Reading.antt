@@ -1,10 +1,11 @@
 -- What a reader of captures has before it, and what it gives of it.
-use Rattle.std.specs.Prelude.{ℕ, ◌≡◌, ◌≢◌, Bool, true, false, if◌then◌else◌, List, [], ◌++◌, take, drop, Option, Some, None, Result, Ok, Err, bytes_eq}
+use Rattle.std.specs.Prelude.{ℕ, ◌+◌, ◌≡◌, ◌≢◌, ◌<◌, ◌≤◌, Bool, true, false, if◌then◌else◌, List, [], ◌++◌, length, take, drop, Option, Some, None, option_and_then, Result, Ok, Err, IfOk, IfSome, bytes_eq}
 use Rattle.adb_outside.specs.declared.framer.Front.TheVariants.{More, Bad, Whole}
 use Rattle.adb_capture.specs.declared.entry.Entry.{Entry}
 use Rattle.adb_capture.specs.declared.error.CaptureError.{CaptureError}
 use Rattle.adb_capture.specs.declared.error.CaptureError.TheVariants.{BadMagic, BadRecord, Truncated, TooLong, ReadFault, OutOfMemory}
-use Rattle.adb_capture.specs.Records.{magic, record_at, entry_in, offset_after}
+use Rattle.adb_capture.specs.declared.limits.TheConstants.{DATA_LIMIT, CAPTURE_LIMIT, READ_LIMIT}
+use Rattle.adb_capture.specs.Records.{magic, record_at, entry_in, offset_after, HasRecord}
 
 -- A reader: whether the magic was read, the offset of the next record, the bytes that were read past it, and the error that it answers from now on.
 pub record Reading : Type 0 where
@@ -25,6 +26,14 @@ to_give false bytes = past_magic bytes
 abbrev pub ahead : Reading → List ℕ → Option (List ℕ)
 ahead reader coming = to_give reader.opened (reader.held ++ coming)
 
+-- the same where the source tells what it still has
+abbrev pub ahead_of : Reading → Option (List ℕ) → Option (List ℕ)
+ahead_of reader left = option_and_then (ahead reader) left
+
+-- A reader holds no more than one record and one read past it.
+abbrev pub HoldsFew : List ℕ → Type 0
+HoldsFew held = length held < 9 + DATA_LIMIT + READ_LIMIT
+
 -- A record was given, and these bytes are what is ahead then.
 pub record GivesRecord (offset : ℕ) (before : List ℕ) (given : ℕ × Entry) (next_offset : ℕ) (after : Option (List ℕ)) : Type 0 where
   pub size : ℕ
@@ -35,12 +44,12 @@ pub record GivesRecord (offset : ℕ) (before : List ℕ) (given : ℕ × Entry)
 
 -- an error says what the bytes ahead begin with
 abbrev pub IsRefused : ℕ → List ℕ → CaptureError → Type 0
-IsRefused offset before BadMagic = ⊥
 IsRefused offset before (BadRecord at why) = record_at offset before ≡ Bad (BadRecord at why)
 IsRefused offset before (Truncated at) = (before ≢ []) × (record_at offset before ≡ More) × (at ≡ offset)
 IsRefused offset before (TooLong at) = record_at offset before ≡ Bad (TooLong at)
 IsRefused offset before ReadFault = Unit {0}
 IsRefused offset before OutOfMemory = Unit {0}
+IsRefused offset before BadMagic = ⊥
 
 -- What a call gives of the bytes of the records ahead: the first record, the end where there is none, or the first refusal.
 abbrev pub GivesNext : ℕ → List ℕ → Result (Option (ℕ × Entry)) CaptureError → ℕ → Option (List ℕ) → Type 0
@@ -52,8 +61,32 @@ GivesNext offset before (Err e) next_offset after = IsRefused offset before e
 abbrev pub IsMagicRefused : Result (Option (ℕ × Entry)) CaptureError → Type 0
 IsMagicRefused (Ok given) = ⊥
 IsMagicRefused (Err BadMagic) = Unit {0}
-IsMagicRefused (Err (BadRecord at why)) = ⊥
-IsMagicRefused (Err (Truncated at)) = ⊥
-IsMagicRefused (Err (TooLong at)) = ⊥
 IsMagicRefused (Err ReadFault) = Unit {0}
 IsMagicRefused (Err OutOfMemory) = Unit {0}
+IsMagicRefused (Err _) = ⊥
+
+-- Nothing of what is to be given was lost.
+abbrev pub StaysAhead : Reading → Option (List ℕ) → Reading → Option (List ℕ) → Type 0
+StaysAhead old before new after = (coming : List ℕ) → before ≡ Some coming → ahead_of new after ≡ ahead old coming
+
+-- an offset goes on, within a capture
+pub record Moves (offset next_offset : ℕ) : Type 0 where
+  pub on : offset < next_offset
+  pub within : next_offset ≤ CAPTURE_LIMIT
+
+-- A call for the next entry, of a reader without an error: what it gives of the bytes ahead, or that the magic is not there. Want of
+-- memory loses nothing. An entry that is given has a record, which lies within a capture.
+pub record AnswersNext (old : Reading) (before : Option (List ℕ)) (new : Reading) (after : Option (List ℕ)) (result : Result (Option (ℕ × Entry)) CaptureError) : Type 0 where
+  pub records : (bytes : List ℕ) → ahead_of old before ≡ Some bytes → GivesNext old.offset bytes result new.offset (ahead_of new after)
+  pub magic : (coming : List ℕ) → before ≡ Some coming → ahead old coming ≡ None → IsMagicRefused result
+  pub memory : result ≡ Err OutOfMemory → (new.offset ≡ old.offset) × StaysAhead old before new after
+  pub form : IfOk result (λ given. IfSome given (λ g. HasRecord g.1))
+  pub moves : IfOk result (λ given. IfSome given (λ g. Moves old.offset new.offset))
+
+-- The magic was there, or is not.
+abbrev pub Opens : Reading → Option (List ℕ) → Reading → Option (List ℕ) → Result (Unit {0}) CaptureError → Type 0
+Opens old before new after (Ok x) = (coming : List ℕ) → before ≡ Some coming → (rest : List ℕ) × (after ≡ Some rest) × (ahead old coming ≡ Some (new.held ++ rest))
+Opens old before new after (Err BadMagic) = (coming : List ℕ) → before ≡ Some coming → ahead old coming ≡ None
+Opens old before new after (Err ReadFault) = Unit {0}
+Opens old before new after (Err OutOfMemory) = StaysAhead old before new after
+Opens old before new after (Err _) = ⊥

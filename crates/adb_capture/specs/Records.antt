@@ -11,6 +11,7 @@ use Rattle.adb_capture.specs.declared.entry.Entry.{Entry}
 use Rattle.adb_capture.specs.declared.entry.Entry.TheVariants.{Join, Enter, Read, End, Bound, Attach, Recv, Detach, Put, Send}
 use Rattle.adb_capture.specs.declared.entry.Owner.{Owner}
 use Rattle.adb_capture.specs.declared.entry.Owner.TheVariants.{Client, Link}
+use Rattle.adb_capture.specs.declared.limits.TheConstants.{DATA_LIMIT, CAPTURE_LIMIT}
 use Rattle.adb_capture.specs.declared.error.Why.TheVariants.{UnknownKind, BadForm, TooLarge}
 use Rattle.adb_capture.specs.declared.error.CaptureError.{CaptureError}
 use Rattle.adb_capture.specs.declared.error.CaptureError.TheVariants.{BadRecord, TooLong}
@@ -95,7 +96,7 @@ pub record HasRecord (e : Entry) : Type 0 where
   pub owner : number_of e < 2 ^ 32
   pub port : HasPort e
   pub bytes : All (λ b. b < 256) (data_of e)
-  pub size : length (data_of e) ≤ 2097152
+  pub size : length (data_of e) ≤ DATA_LIMIT
 
 -- the cause that a byte stands for
 abbrev pub cause_at : List ℕ → Option Cause
@@ -190,8 +191,8 @@ unfoldable pub record_at : ℕ → List ℕ → Front CaptureError
 record_at offset bytes =
     if nat_lt (length bytes) 9 then More
     else (if not (is_kind (kind_in bytes)) then Bad (BadRecord offset UnknownKind)
-    else (if nat_lt 2097152 (size_in bytes) then Bad (BadRecord offset TooLarge)
-    else (if nat_lt 1073741824 (offset + 9 + size_in bytes) then Bad (TooLong offset)
+    else (if nat_lt DATA_LIMIT (size_in bytes) then Bad (BadRecord offset TooLarge)
+    else (if nat_lt CAPTURE_LIMIT (offset + 9 + size_in bytes) then Bad (TooLong offset)
     else (if nat_lt (length bytes) (9 + size_in bytes) then More
     else formed offset (size_in bytes) (entry_at (kind_in bytes) (owner_in bytes) (data_in bytes))))))
 

@@ -3,6 +3,8 @@
 ghost use Rattle.std.specs.Prelude.{◌≡◌, ◌≤◌, Ok, Err};
 ghost use Rattle.adb_outside.specs.Outside.{Counts};
 ghost use Rattle.adb_capture.specs.Counting.{KeepsBytes, is_fault};
+ghost use Rattle.adb_capture.specs.declared.limits.TheConstants.{CAPTURE_LIMIT};
+ghost use Rattle.adb_capture.specs.Reading.{HoldsFew};
 ghost use Rattle.adb_capture.specs.Awaiting.{AwaitsMagic, AwaitsRecord};
 
 use crate::error::CaptureError;
@@ -16,7 +18,9 @@ pub(crate) const MAGIC: [u8; 8] = *b"ADBHUB1\n";
 
 /// Reads on until the bytes begin with the magic, and takes it.
 pub(crate) fn take_magic<S: Source>(held: &mut Held, source: &mut S) -> Result<(), CaptureError>
+    requires { HoldsFew held.old }
     ensures is { AwaitsMagic held.old (S.left source.old) held.new (S.left source.new) result }
+    ensures few { HoldsFew held.new }
     ensures counts { Counts S.steady S.faults source.old source.new (is_fault result) }
 {
     while held.as_slice().len() < MAGIC.len() {
@@ -41,7 +45,9 @@ pub(crate) fn await_record<S: Source>(
     offset: u64,
     source: &mut S,
 ) -> Result<Option<usize>, CaptureError>
-    requires { offset ≤ 1073741824 }
+    requires near { offset ≤ CAPTURE_LIMIT }
+    requires few { HoldsFew held.old }
+    ensures few { HoldsFew held.new }
     ensures bytes { KeepsBytes held.old (S.left source.old) held.new (S.left source.new) }
     ensures is { AwaitsRecord offset held.old (S.left source.old) held.new result }
     ensures counts { Counts S.steady S.faults source.old source.new (is_fault result) }

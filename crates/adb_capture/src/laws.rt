@@ -3,6 +3,7 @@
 ghost use Rattle.std.specs.Prelude.{◌≡◌, ◌<◌, ◌≤◌, ◌+◌, ◌++◌, ℕ, List, length, take, All};
 ghost use Rattle.adb_outside.specs.Framing.{IsFraming};
 ghost use Rattle.adb_outside.specs.declared.framer.Front.TheVariants.{More, Whole};
+ghost use Rattle.adb_capture.specs.declared.limits.TheConstants.{DATA_LIMIT, CAPTURE_LIMIT};
 ghost use Rattle.adb_capture.specs.declared.entry.Entry.{Entry};
 ghost use Rattle.adb_capture.specs.Records.{record_at, record_of, entry_in, offset_after, HasRecord};
 
@@ -10,17 +11,25 @@ ghost use Rattle.adb_capture.specs.Records.{record_at, record_of, entry_in, offs
 /// Bytes that begin with neither are fewer than the longest record has.
 pub fn records_are_framed()
     ensures framing { IsFraming record_at entry_in offset_after }
-    ensures short { (offset : ℕ) (bytes : List ℕ) → record_at offset bytes ≡ More → length bytes < 9 + 2097152 }
+    ensures short { (offset : ℕ) (bytes : List ℕ)
+        → record_at offset bytes ≡ More → length bytes < 9 + DATA_LIMIT }
 {}
 
 /// What is spelled is read back, whatever follows it.
 pub fn spelled_is_read()
-    ensures whole { (offset : ℕ) (e : Entry) (rest : List ℕ) → HasRecord e → offset + length (record_of e) ≤ 1073741824 → record_at offset (record_of e ++ rest) ≡ Whole (length (record_of e)) }
-    ensures entry { (offset : ℕ) (e : Entry) → HasRecord e → entry_in offset (record_of e) ≡ (offset, e) }
+    ensures whole { (offset : ℕ) (e : Entry) (rest : List ℕ)
+        → HasRecord e → offset + length (record_of e) ≤ CAPTURE_LIMIT
+        → record_at offset (record_of e ++ rest) ≡ Whole (length (record_of e)) }
+    ensures entry { (offset : ℕ) (e : Entry)
+        → HasRecord e → entry_in offset (record_of e) ≡ (offset, e) }
 {}
 
 /// What is read is spelled so: an entry has one spelling.
 pub fn read_is_spelled()
-    ensures spelled { (offset n : ℕ) (bytes : List ℕ) → All (λ b. b < 256) bytes → record_at offset bytes ≡ Whole n → take n bytes ≡ record_of (entry_in offset (take n bytes)).1 }
-    ensures form { (offset n : ℕ) (bytes : List ℕ) → All (λ b. b < 256) bytes → record_at offset bytes ≡ Whole n → HasRecord (entry_in offset (take n bytes)).1 }
+    ensures spelled { (offset n : ℕ) (bytes : List ℕ)
+        → All (λ b. b < 256) bytes → record_at offset bytes ≡ Whole n
+        → take n bytes ≡ record_of (entry_in offset (take n bytes)).1 }
+    ensures form { (offset n : ℕ) (bytes : List ℕ)
+        → All (λ b. b < 256) bytes → record_at offset bytes ≡ Whole n
+        → HasRecord (entry_in offset (take n bytes)).1 }
 {}

@@ -8,6 +8,7 @@ mod error;
 mod form;
 mod held;
 mod laws;
+mod limits;
 mod reader;
 mod record;
 #[cfg(test)]
@@ -17,5 +18,6 @@ mod writer;
 pub use entry::{Entry, Owner};
 pub use error::{CaptureError, Why};
 pub use laws::{read_is_spelled, records_are_framed, spelled_is_read};
+pub use limits::{CAPTURE_LIMIT, DATA_LIMIT, READ_LIMIT};
 pub use reader::CaptureReader;
 pub use writer::{append_entry, append_magic, write_entry, write_magic};

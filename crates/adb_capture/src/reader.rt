@@ -1,12 +1,11 @@
 //! Reading captures.
 
-ghost use Rattle.std.specs.Prelude.{◌≡◌, ◌≢◌, ◌<◌, ◌≤◌, ◌++◌, ◌+◌, ℕ, List, [], length, take, drop, Option, Some, None, Ok, Err, IfOk, IfSome, OnOk, OnErr, IsTrue, true, false, option_and_then, option_map};
+ghost use Rattle.std.specs.Prelude.{◌≡◌, ◌≢◌, ◌≤◌, ◌++◌, ◌+◌, ℕ, List, [], take, drop, Some, None, Ok, Err, IfOk, IfSome, OnOk, OnErr, IsTrue, true, false, option_map};
 ghost use Rattle.adb_outside.specs.Outside.{Counts};
 ghost use Rattle.adb_outside.specs.declared.framer.Front.TheVariants.{Whole};
 ghost use Rattle.adb_capture.specs.Counting.{KeepsBytes, is_fault};
 ghost use Rattle.adb_capture.specs.Records.{record_at, entry_in, HasRecord};
-ghost use Rattle.adb_capture.specs.Awaiting.{Opens, StaysAhead};
-ghost use Rattle.adb_capture.specs.Reading.{ahead, GivesNext, IsMagicRefused};
+ghost use Rattle.adb_capture.specs.Reading.{Opens, AnswersNext, GivesNext, Moves, HoldsFew};
 
 use crate::awaiting::{await_record, take_magic};
 use crate::entry::Entry;
@@ -31,13 +30,23 @@ pub struct CaptureReader {
 impl Model for CaptureReader {
     ghost use Rattle.std.specs.Prelude.{◌≤◌, ◌≢◌, Some};
     ghost use Rattle.adb_capture.specs.declared.error.CaptureError.TheVariants.{OutOfMemory};
-    ghost use Rattle.adb_capture.specs.Reading.{Reading};
+    ghost use Rattle.adb_capture.specs.declared.limits.TheConstants.{CAPTURE_LIMIT};
+    ghost use Rattle.adb_capture.specs.Reading.{Reading, HoldsFew};
 
     ghost Value = { Reading };
 
-    ghost view = { λ r. record { opened = r.opened; offset = r.offset; held = r.held; failed = r.failed } };
+    ghost view = { λ r. record {
+      opened = r.opened;
+      offset = r.offset;
+      held = r.held;
+      failed = r.failed;
+    } };
 
-    ghost invariant = { λ r. (r.offset ≤ 1073741824) × (r.failed ≢ Some OutOfMemory) };
+    ghost invariant = { λ r. record {
+      near : r.offset ≤ CAPTURE_LIMIT;
+      few : HoldsFew r.held;
+      stays : r.failed ≢ Some OutOfMemory;
+    } };
 }
 
 impl CaptureReader {
@@ -57,12 +66,18 @@ impl CaptureReader {
     /// Reads the magic, where it was not read yet; `next` does so too. Its errors stay as those of
     /// `next` do.
     pub fn open<S: Source>(&mut self, source: &mut S) -> Result<(), CaptureError>
-        ensures ahead { self.old.failed ≡ None → Opens self.old (S.left source.old) self.new (S.left source.new) result }
+        ensures ahead { self.old.failed ≡ None
+            → Opens self.old (S.left source.old) self.new (S.left source.new) result }
         ensures offset { self.new.offset ≡ self.old.offset }
-        ensures stays { (e : CaptureError) → self.old.failed ≡ Some e → (result ≡ Err e) × (self.new ≡ self.old) × (source.new ≡ source.old) }
-        ensures keeps { (e : CaptureError) → e ≢ CaptureError.OutOfMemory → result ≡ Err e → self.new.failed ≡ Some e }
-        ensures ok { OnOk result ((self.old.failed ≡ None) × (self.new.failed ≡ None) × (self.new.opened ≡ true)) }
-        ensures counts { self.old.failed ≡ None → Counts S.steady S.faults source.old source.new (is_fault result) }
+        ensures few { HoldsFew self.new.held }
+        ensures ok { OnOk result
+            ((self.old.failed ≡ None) × (self.new.failed ≡ None) × (self.new.opened ≡ true)) }
+        ensures counts { self.old.failed ≡ None
+            → Counts S.steady S.faults source.old source.new (is_fault result) }
+        ensures stays { (e : CaptureError) → self.old.failed ≡ Some e
+            → (result ≡ Err e) × (self.new ≡ self.old) × (source.new ≡ source.old) }
+        ensures keeps { (e : CaptureError) → e ≢ CaptureError.OutOfMemory
+            → result ≡ Err e → self.new.failed ≡ Some e }
     {
         if let Some(error) = self.failed {
             return Err(error);
@@ -80,16 +95,23 @@ impl CaptureReader {
     /// Every error but `OutOfMemory` stays: each later call answers it, and reads nothing. After
     /// `OutOfMemory` the next call gives the same record.
     pub fn next<S: Source>(&mut self, source: &mut S) -> Result<Option<(u64, Entry)>, CaptureError>
-        ensures records { (coming before : List ℕ) → S.left source.old ≡ Some coming → self.old.failed ≡ None → ahead self.old coming ≡ Some before
-            → GivesNext self.old.offset before result self.new.offset (option_and_then (ahead self.new) (S.left source.new)) }
-        ensures magic { (coming : List ℕ) → S.left source.old ≡ Some coming → self.old.failed ≡ None → ahead self.old coming ≡ None → IsMagicRefused result }
-        ensures memory { result ≡ Err CaptureError.OutOfMemory → (self.new.failed ≡ None) × (self.old.failed ≡ None) × (self.new.offset ≡ self.old.offset) × ((coming : List ℕ) → S.left source.old ≡ Some coming → option_and_then (ahead self.new) (S.left source.new) ≡ ahead self.old coming) }
-        ensures stays { (e : CaptureError) → self.old.failed ≡ Some e → (result ≡ Err e) × (self.new ≡ self.old) × (source.new ≡ source.old) }
-        ensures keeps { (e : CaptureError) → e ≢ CaptureError.OutOfMemory → result ≡ Err e → self.new.failed ≡ Some e }
-        ensures ok { OnOk result ((self.old.failed ≡ None) × (self.new.failed ≡ None) × IsTrue self.new.opened) }
-        ensures form { IfOk result (λ given. IfSome given (λ g. HasRecord g.1)) }
-        ensures moves { IfOk result (λ given. IfSome given (λ g. (self.old.offset < self.new.offset) × (self.new.offset ≤ 1073741824))) }
-        ensures counts { self.old.failed ≡ None → Counts S.steady S.faults source.old source.new (is_fault result) }
+        ensures answers { self.old.failed ≡ None
+            → AnswersNext self.old (S.left source.old) self.new (S.left source.new) result }
+        ensures few { HoldsFew self.new.held }
+        ensures ok { OnOk result
+            ((self.old.failed ≡ None) × (self.new.failed ≡ None) × IsTrue self.new.opened) }
+
+        // The count of faults rises at ReadFault, and stands at every other answer.
+        ensures counts { self.old.failed ≡ None
+            → Counts S.steady S.faults source.old source.new (is_fault result) }
+
+        // An error is answered again, and nothing is read; want of memory passes.
+        ensures stays { (e : CaptureError) → self.old.failed ≡ Some e
+            → (result ≡ Err e) × (self.new ≡ self.old) × (source.new ≡ source.old) }
+        ensures keeps { (e : CaptureError) → e ≢ CaptureError.OutOfMemory
+            → result ≡ Err e → self.new.failed ≡ Some e }
+        ensures memory { result ≡ Err CaptureError.OutOfMemory
+            → (self.old.failed ≡ None) × (self.new.failed ≡ None) }
     {
         if let Some(error) = self.failed {
             return Err(error);
@@ -103,14 +125,10 @@ impl CaptureReader {
 
     /// Reads the next record, with the magic before it where it was not read yet.
     fn advance<S: Source>(&mut self, source: &mut S) -> Result<Option<(u64, Entry)>, CaptureError>
-        ensures records { (coming before : List ℕ) → S.left source.old ≡ Some coming → ahead self.old coming ≡ Some before
-            → GivesNext self.old.offset before result self.new.offset (option_and_then (ahead self.new) (S.left source.new)) }
-        ensures magic { (coming : List ℕ) → S.left source.old ≡ Some coming → ahead self.old coming ≡ None → IsMagicRefused result }
-        ensures memory { result ≡ Err CaptureError.OutOfMemory → (self.new.offset ≡ self.old.offset) × StaysAhead self.old (S.left source.old) self.new (S.left source.new) }
+        ensures answers { AnswersNext self.old (S.left source.old) self.new (S.left source.new) result }
+        ensures few { HoldsFew self.new.held }
         ensures failed { self.new.failed ≡ self.old.failed }
         ensures ok { OnOk result (self.new.opened ≡ true) }
-        ensures form { IfOk result (λ given. IfSome given (λ g. HasRecord g.1)) }
-        ensures moves { IfOk result (λ given. IfSome given (λ g. (self.old.offset < self.new.offset) × (self.new.offset ≤ 1073741824))) }
         ensures counts { Counts S.steady S.faults source.old source.new (is_fault result) }
     {
         self.open_now(source)?;
@@ -120,7 +138,9 @@ impl CaptureReader {
     /// Takes the magic, where it was not taken yet.
     fn open_now<S: Source>(&mut self, source: &mut S) -> Result<(), CaptureError>
         ensures ahead { Opens self.old (S.left source.old) self.new (S.left source.new) result }
-        ensures same { (self.new.offset ≡ self.old.offset) × (self.new.failed ≡ self.old.failed) }
+        ensures offset { self.new.offset ≡ self.old.offset }
+        ensures few { HoldsFew self.new.held }
+        ensures failed { self.new.failed ≡ self.old.failed }
         ensures ok { OnOk result (self.new.opened ≡ true) }
         ensures counts { Counts S.steady S.faults source.old source.new (is_fault result) }
     {
@@ -131,14 +151,19 @@ impl CaptureReader {
         Ok(())
     }
 
-    /// Gives the next record.
+    /// Gives the next record, where the magic was taken.
     fn give_next<S: Source>(&mut self, source: &mut S) -> Result<Option<(u64, Entry)>, CaptureError>
-        ensures records { (coming : List ℕ) → S.left source.old ≡ Some coming → GivesNext self.old.offset (self.old.held ++ coming) result self.new.offset (option_map (λ rest. self.new.held ++ rest) (S.left source.new)) }
-        ensures memory { result ≡ Err CaptureError.OutOfMemory → (self.new.offset ≡ self.old.offset) × KeepsBytes self.old.held (S.left source.old) self.new.held (S.left source.new) }
-        ensures same { (self.new.opened ≡ self.old.opened) × (self.new.failed ≡ self.old.failed) }
-
+        ensures records { (coming : List ℕ) → S.left source.old ≡ Some coming
+            → GivesNext self.old.offset (self.old.held ++ coming) result self.new.offset
+            (option_map (λ rest. self.new.held ++ rest) (S.left source.new)) }
+        ensures memory { result ≡ Err CaptureError.OutOfMemory
+            → (self.new.offset ≡ self.old.offset)
+            × KeepsBytes self.old.held (S.left source.old) self.new.held (S.left source.new) }
         ensures form { IfOk result (λ given. IfSome given (λ g. HasRecord g.1)) }
-        ensures moves { IfOk result (λ given. IfSome given (λ g. (self.old.offset < self.new.offset) × (self.new.offset ≤ 1073741824))) }
+        ensures moves { IfOk result (λ given. IfSome given
+            (λ g. Moves self.old.offset self.new.offset)) }
+        ensures few { HoldsFew self.new.held }
+        ensures same { (self.new.opened ≡ self.old.opened) × (self.new.failed ≡ self.old.failed) }
         ensures counts { Counts S.steady S.faults source.old source.new (is_fault result) }
     {
         match await_record(&mut self.held, self.offset, source)? {
@@ -153,9 +178,13 @@ impl CaptureReader {
     /// Gives the record of that many bytes at the front.
     fn give(&mut self, size: usize) -> Result<(u64, Entry), AllocError>
         requires { record_at self.old.offset self.old.held ≡ Whole size }
-        ensures given { IfOk result (λ g. (g ≡ entry_in self.old.offset (take size self.old.held)) × HasRecord g.1) }
-        ensures ok { OnOk result (self.new ≡ record self.old { offset = self.old.offset + size; held = drop size self.old.held }) }
-        ensures moves { OnOk result ((self.old.offset < self.new.offset) × (self.new.offset ≤ 1073741824)) }
+        ensures given { IfOk result (λ g. g ≡ entry_in self.old.offset (take size self.old.held)) }
+        ensures form { IfOk result (λ g. HasRecord g.1) }
+        ensures ok { OnOk result (self.new ≡ record self.old {
+          offset = self.old.offset + size;
+          held = drop size self.old.held;
+        }) }
+        ensures moves { OnOk result (Moves self.old.offset self.new.offset) }
         ensures err { OnErr result (self.new ≡ self.old) }
     {
         let bytes = &self.held.as_slice()[..size];
@@ -168,8 +197,9 @@ impl CaptureReader {
     /// Keeps an error that stays.
     fn remember(&mut self, error: CaptureError)
         requires { self.old.failed ≡ None }
-        ensures memory { error ≡ CaptureError.OutOfMemory → self.new ≡ self.old }
-        ensures other { error ≢ CaptureError.OutOfMemory → self.new ≡ record self.old { failed = Some error } }
+        ensures memory { error ≡ CaptureError.OutOfMemory → self.new.failed ≡ None }
+        ensures other { error ≢ CaptureError.OutOfMemory → self.new.failed ≡ Some error }
+        ensures same { self.new ≡ record self.old { failed = self.new.failed } }
     {
         if error != CaptureError::OutOfMemory {
             self.failed = Some(error);

@@ -6,6 +6,7 @@ ghost use Rattle.adb_capture.specs.Records.{record_at, entry_in, is_kind, owner_
 use crate::entry::Entry;
 use crate::error::{CaptureError, Why};
 use crate::form::Form;
+use crate::limits::{CAPTURE_LIMIT, DATA_LIMIT};
 use adb_outside::Front;
 use byteorder::{ByteOrder, LittleEndian};
 use std::alloc::{AllocError, Global};
@@ -13,16 +14,10 @@ use std::alloc::{AllocError, Global};
 /// The bytes before a record's data: its kind, its number, and the length of its data.
 const HEADER_LEN: usize = 9;
 
-/// The most bytes of a record's data.
-const DATA_LIMIT: u32 = 2_097_152;
-
-/// The most bytes of a capture.
-const CAPTURE_LIMIT: u64 = 1_073_741_824;
-
 /// What the bytes at an offset of a capture begin with: a record, or the first of its refusals.
 #[tactic(auto, unfolding(crate::specs::Records::record_at))]
 pub(crate) fn front(offset: u64, bytes: &[u8]) -> Front<CaptureError>
-    requires { offset ≤ 1073741824 }
+    requires { offset ≤ CAPTURE_LIMIT }
     ensures { result ≡ record_at offset bytes.now }
 {
     if bytes.len() < HEADER_LEN {
@@ -31,14 +26,14 @@ pub(crate) fn front(offset: u64, bytes: &[u8]) -> Front<CaptureError>
     if !has_kind(bytes[0]) {
         return bad(offset, Why::UnknownKind);
     }
-    let size = data_len(bytes);
+    let size = data_len(bytes) as usize;
     if size > DATA_LIMIT {
         return bad(offset, Why::TooLarge);
     }
-    if offset + 9 + u64::from(size) > CAPTURE_LIMIT {
+    if offset + 9 + size as u64 > CAPTURE_LIMIT {
         return Front::Bad(CaptureError::TooLong { offset });
     }
-    let end = HEADER_LEN + size as usize;
+    let end = HEADER_LEN + size;
     if bytes.len() < end {
         return Front::More;
     }

@@ -6,7 +6,7 @@ use Rattle.std.specs.declared.cmp.Ordering.TheVariants.{Less, Equal, Greater}
 use Rattle.std.specs.BTreeMap.{insert_entry}
 use Rattle.std.specs.List.{AllByRecursion, flat_map}
 use Rattle.std.proofs.lemmas.Bool.{eq-eqb, ne_eqb}
-use Rattle.std.proofs.lemmas.List.{length-take, length-drop, append_assoc, take_min, drop_min, nil_from_length}
+use Rattle.std.proofs.lemmas.List.{length-take, length-drop, append-nil, append_assoc, take_min, drop_min, nil_from_length}
 use Rattle.std.proofs.lemmas.List.Elements.{All-from_recursion, recursion_from_All, All-nil}
 use Rattle.adb_sync.specs.declared.answer.SyncAnswer.TheVariants as answers
 use Rattle.adb_sync.specs.declared.answer.Dirent.{Dirent}
@@ -16,7 +16,8 @@ use Rattle.adb_files.specs.declared.stat.Stat.{Stat}
 use Rattle.adb_files.specs.Paths.{path_cmp, is_path, inside, is_below}
 use Rattle.adb_files.specs.Files.{IsFileMap}
 use Rattle.adb_files.specs.Listing.{slash_in, part_at, rest_below, name_below, stat_below, with_shown, shown_in, dirent_of, listing}
-use Rattle.adb_files.specs.Served.{chunks_at, chunk_bytes, dent_bytes}
+use Rattle.adb_files.specs.Served.{chunks_at, chunk_bytes, dent_bytes, list_bytes}
+use Rattle.adb_files.specs.Service.{TellsUpTo, TellsFront}
 
 -- no more chunks than bytes are needed
 enough : (k m : ℕ) (bytes : List ℕ) → length bytes ≤ k → length bytes ≤ m → chunks_at k bytes ≡ chunks_at m bytes
@@ -85,9 +86,21 @@ names_short directory files ok = go (is_path directory)
     go true = All-from_recursion (λ (d : Dirent). length d.name < 2 ^ 32) (map dirent_of (shown_in directory files)) (dirents_short (shown_in directory files) (short-shown directory files [] (recursion_from_All (λ (e : Entry). length e.path < 2 ^ 32) files ok.short) tt))
     go false = All-nil (λ (d : Dirent). length d.name < 2 ^ 32)
 
--- a step of a loop over entries
-pub dent_step : (out out' : List ℕ) (entry : Dirent) (rest left : List Dirent) → rest ≡ entry ∷ left → out' ≡ out ++ dent_bytes entry → out' ++ flat_map dent_bytes left ≡ out ++ flat_map dent_bytes rest
-dent_step out out' entry rest left all is =
-    ap (λ (o : List ℕ). o ++ flat_map dent_bytes left) is
-    ∙ (append_assoc out (dent_bytes entry) (flat_map dent_bytes left)
-    ∙ ap (λ (ds : List Dirent). out ++ flat_map dent_bytes ds) (sym all))
+-- A loop tells a list entry by entry: nothing yet, and one more.
+pub list_none : (answer out : List ℕ) → TellsUpTo answer answer out out
+list_none answer out = record { said = []; behind = sym (append-nil out); within = refl }
+
+pub list_step : {answer out0 out1 out2 : List ℕ} (entry : Dirent) (rest left : List Dirent) → TellsUpTo answer (list_bytes rest) out0 out1 → rest ≡ entry ∷ left
+    → out2 ≡ out1 ++ dent_bytes entry → TellsUpTo answer (list_bytes left) out0 out2
+list_step {answer} {out0} {out1} {out2} entry rest left told all is = record {
+  said = told.said ++ dent_bytes entry;
+  behind = is ∙ (ap (λ (o : List ℕ). o ++ dent_bytes entry) told.behind ∙ append_assoc out0 told.said (dent_bytes entry));
+  within = told.within
+      ∙ (ap (λ (ds : List Dirent). told.said ++ list_bytes ds) all
+      ∙ (ap (λ (o : List ℕ). told.said ++ o) (append_assoc (dent_bytes entry) (flat_map dent_bytes left) (answer_bytes answers.ListEnd))
+      ∙ sym (append_assoc told.said (dent_bytes entry) (list_bytes left))));
+}
+
+-- nothing more was told
+pub list_same : {answer unsaid out0 out1 out2 : List ℕ} → TellsUpTo answer unsaid out0 out1 → out2 ≡ out1 → TellsFront answer out0 out2
+list_same {unsaid = unsaid} told same = (unsaid, record { said = told.said; behind = same ∙ told.behind; within = told.within })

@@ -1,5 +1,5 @@
 -- A piece of a stream of requests.
-use Rattle.std.specs.Prelude.{ℕ, ◌≡◌, Bool, true, false, List, [], ◌∷◌, ◌++◌, Option, Some, None, Result, Ok, Err, OnErr, refl}
+use Rattle.std.specs.Prelude.{ℕ, ◌≡◌, true, false, List, [], ◌∷◌, ◌++◌, Option, Some, None, refl}
 use Rattle.std.proofs.Common.{◌∙◌, ap, sym, subst}
 use Rattle.std.proofs.lemmas.Bool.{true≢false}
 use Rattle.std.proofs.lemmas.List.{append-nil, append_assoc}
@@ -9,18 +9,18 @@ use Rattle.adb_sync.specs.declared.ask_format.AskFormat.{AskFormat}
 use Rattle.adb_sync.specs.declared.error.SyncError.{SyncError}
 use Rattle.adb_sync.specs.Messages.{answer_of}
 use Rattle.adb_sync.specs.Asks.{asks_in, ask_fault_in, StandsForAsks}
-use Rattle.adb_files.specs.Entries.{Entry}
-use Rattle.adb_files.specs.declared.session.Sending.{Sending}
+use Rattle.adb_files.specs.declared.session.Session.{Session}
 use Rattle.adb_files.specs.Requests.{OpenSend, Request, Fails, requests_of, open_after, fault_request, requests_in}
 use Rattle.adb_files.specs.Served.{fail_bytes, fault_text}
-use Rattle.adb_files.specs.Service.{Service, KeepsSend, Serves, ServesGiven, ServesFront, StandsFor, Feeds, FeedsFront}
-use Rattle.adb_files.proofs.Serving.{requests_of-append, open_after-append, serves_more, serves_ended, front_less}
+use Rattle.adb_files.specs.Service.{Run, run, moment, moment_of, held, KeepsSend, Serves, ServesGiven, ServesFront, StandsFor, Feeds, FeedsFront}
+use Rattle.adb_files.proofs.Serving.{requests_of-append, open_after-append, serves_more, serves_ended, front_none, front_more, front_less}
 
 abbrev Reading : Type 0
 Reading = Cut AskFormat SyncAsk SyncError
 
 -- the requests of all bytes are those of the bytes before, and those of what the reader gives
-fed_more : (fed piece : List ℕ) (r1 : Reading) → StandsForAsks (fed ++ piece) (asks_in fed) r1 → ask_fault_in fed ≡ None → requests_in (fed ++ piece) ≡ requests_in fed ++ (requests_of (open_after None (asks_in fed)) r1.given ++ fault_request r1.fault)
+fed_more : (fed piece : List ℕ) (r1 : Reading) → StandsForAsks (fed ++ piece) (asks_in fed) r1 → ask_fault_in fed ≡ None
+    → requests_in (fed ++ piece) ≡ requests_in fed ++ (requests_of (open_after None (asks_in fed)) r1.given ++ fault_request r1.fault)
 fed_more fed piece r1 stands sound =
     let send = open_after None (asks_in fed) in
     let before : requests_in fed ≡ requests_of None (asks_in fed) = ap (λ (f : Option SyncError). requests_of None (asks_in fed) ++ fault_request f) sound ∙ append-nil (requests_of None (asks_in fed)) in
@@ -30,50 +30,60 @@ fed_more fed piece r1 stands sound =
     ∙ (append_assoc (requests_of None (asks_in fed)) (requests_of send r1.given) (fault_request r1.fault)
     ∙ ap (λ (rs : List Request). rs ++ (requests_of send r1.given ++ fault_request r1.fault)) (sym before))))
 
-abbrev held : Reading → Option Sending → List ℕ → Bool → Service
-held reading sending out ended = record { reading = reading; sending = sending; out = out; ended = ended; spent = false }
+module _ (fed piece : List ℕ) (old : Run) (read : Reading) (new : Run) (goes_on : old.session.ended ≡ false)
+    (stood : StandsFor fed (held old.reader old.session)) (stands : (taken : List SyncAsk) → StandsForAsks fed taken old.reader → StandsForAsks (fed ++ piece) taken read) where
+  abbrev send : Option OpenSend
+  send = open_after None (asks_in fed)
 
-module _ (fed piece : List ℕ) (r0 r1 r2 : Reading) (k0 k1 k2 : Option Sending) (o0 o1 o2 : List ℕ) (f0 f1 : List Entry) (e0 e1 : Bool) (goes_on : e0 ≡ false) (stood : StandsFor fed (held r0 k0 o0 e0)) (stands : (taken : List SyncAsk) → StandsForAsks fed taken r0 → StandsForAsks (fed ++ piece) taken r1) where
-  now : StandsForAsks (fed ++ piece) (asks_in fed) r1
+  now : StandsForAsks (fed ++ piece) (asks_in fed) read
   now = stands (asks_in fed) (stood.reads goes_on)
 
   plain : ask_fault_in fed ≡ None
   plain = (stood.reads goes_on).fault ∙ stood.sound goes_on
 
   -- the end leaves nothing to hold
-  nothing : (k : Option Sending) (o : List ℕ) (e : Bool) → e ≡ true → StandsFor (fed ++ piece) (held r2 k o e)
-  nothing k o e stop = record {
+  nothing : (session : Session) → session.ended ≡ true → StandsFor (fed ++ piece) (held new.reader session)
+  nothing session stop = record {
     reads = λ on. absurd (true≢false (sym stop ∙ on));
     sound = λ on. absurd (true≢false (sym stop ∙ on));
     keeps = λ on. absurd (true≢false (sym stop ∙ on));
   }
 
+  -- what the reader gives was served
+  abbrev Given : Type 0
+  Given = (s : Option OpenSend) → KeepsSend s old.session.sending → ServesGiven s (run read old.session old.files) new
+
   -- a request ended the service
-  pub feeds_ended : ((send : Option OpenSend) → KeepsSend send k0 → ServesGiven send r1 r2 f0 f1 o0 o1 e1 k1) → e1 ≡ true → Feeds fed piece (held r0 k0 o0 e0) (held r2 k1 o1 e1) f0 f1
+  pub feeds_ended : Given → new.session.ended ≡ true → Feeds fed piece (held old.reader old.session) (held new.reader new.session) old.files new.files
   feeds_ended given stop = record {
-    requests = requests_of (open_after None (asks_in fed)) r1.given ++ fault_request r1.fault;
-    is = fed_more fed piece r1 now plain;
-    serves = serves_ended (requests_of (open_after None (asks_in fed)) r1.given) (fault_request r1.fault) f0 f1 o0 o1 e1 stop (given (open_after None (asks_in fed)) (stood.keeps goes_on)).serves;
-    stands = nothing k1 o1 e1 stop;
+    requests = requests_of send read.given ++ fault_request read.fault;
+    is = fed_more fed piece read now plain;
+    serves = serves_ended (requests_of send read.given) (fault_request read.fault) (moment_of old) (moment_of new) stop (given send (stood.keeps goes_on)).serves;
+    stands = nothing new.session stop;
   }
 
   -- a fault ended it
-  pub feeds_fault : (fault : SyncError) (e2 : Bool) → r1.fault ≡ Some fault → ((send : Option OpenSend) → KeepsSend send k0 → ServesGiven send r1 r2 f0 f1 o0 o1 e1 k1) → e1 ≡ false → o2 ≡ o1 ++ fail_bytes (fault_text fault) → e2 ≡ true → Feeds fed piece (held r0 k0 o0 e0) (held r2 k2 o2 e2) f0 f1
-  feeds_fault fault e2 is given on out stop = record {
-    requests = requests_of (open_after None (asks_in fed)) r1.given ++ fault_request r1.fault;
-    is = fed_more fed piece r1 now plain;
-    serves = subst (λ (f : Option SyncError). Serves (requests_of (open_after None (asks_in fed)) r1.given ++ fault_request f) f0 f1 o0 o2 e2) (sym is) (serves_more (requests_of (open_after None (asks_in fed)) r1.given) (Fails fault ∷ []) f0 f1 f1 o0 o1 o2 e1 e2 on (given (open_after None (asks_in fed)) (stood.keeps goes_on)).serves (record { files = refl; answer = out; ends = stop }));
-    stands = nothing k2 o2 e2 stop;
+  pub feeds_fault : (fault : SyncError) (last : Session) → read.fault ≡ Some fault → Given → new.session.ended ≡ false
+      → last.out ≡ new.session.out ++ fail_bytes (fault_text fault) → last.ended ≡ true
+      → Feeds fed piece (held old.reader old.session) (held new.reader last) old.files new.files
+  feeds_fault fault last is given on out stop = record {
+    requests = requests_of send read.given ++ fault_request read.fault;
+    is = fed_more fed piece read now plain;
+    serves = subst (λ (f : Option SyncError). Serves (requests_of send read.given ++ fault_request f) (moment_of old) (moment new.files last)) (sym is)
+        (serves_more (requests_of send read.given) (Fails fault ∷ []) (moment_of old) (moment_of new) (moment new.files last) on (given send (stood.keeps goes_on)).serves
+        (record { files = refl; answer = out; ends = stop }));
+    stands = nothing last stop;
   }
 
   -- all is well
-  pub feeds_on : r1.fault ≡ None → ((send : Option OpenSend) → KeepsSend send k0 → ServesGiven send r1 r2 f0 f1 o0 o1 e1 k1) → Feeds fed piece (held r0 k0 o0 e0) (held r2 k1 o1 e1) f0 f1
+  pub feeds_on : read.fault ≡ None → Given → Feeds fed piece (held old.reader old.session) (held new.reader new.session) old.files new.files
   feeds_on sound given =
-      let g = given (open_after None (asks_in fed)) (stood.keeps goes_on) in
+      let g = given send (stood.keeps goes_on) in
       record {
-        requests = requests_of (open_after None (asks_in fed)) r1.given ++ fault_request r1.fault;
-        is = fed_more fed piece r1 now plain;
-        serves = subst (λ (rs : List Request). Serves rs f0 f1 o0 o1 e1) (sym (ap (λ (f : Option SyncError). requests_of (open_after None (asks_in fed)) r1.given ++ fault_request f) sound ∙ append-nil (requests_of (open_after None (asks_in fed)) r1.given))) g.serves;
+        requests = requests_of send read.given ++ fault_request read.fault;
+        is = fed_more fed piece read now plain;
+        serves = subst (λ (rs : List Request). Serves rs (moment_of old) (moment_of new))
+            (sym (ap (λ (f : Option SyncError). requests_of send read.given ++ fault_request f) sound ∙ append-nil (requests_of send read.given))) g.serves;
         stands = record {
           reads = λ on. subst (StandsForAsks (fed ++ piece) (asks_in (fed ++ piece))) (sym (g.empty on)) (record {
             frames = sym (append-nil (asks_in (fed ++ piece)));
@@ -81,15 +91,28 @@ module _ (fed piece : List ℕ) (r0 r1 r2 : Reading) (k0 k1 k2 : Option Sending)
             open_rest = now.open_rest;
           });
           sound = λ on. ap (λ (r : Reading). r.fault) (g.empty on) ∙ sound;
-          keeps = λ on. subst (λ (s : Option OpenSend). KeepsSend s k1) (sym (ap (open_after None) now.frames ∙ open_after-append None (asks_in fed) r1.given)) (g.keeps on);
+          keeps = λ on. subst (λ (s : Option OpenSend). KeepsSend s new.session.sending)
+              (sym (ap (open_after None) now.frames ∙ open_after-append None (asks_in fed) read.given)) (g.keeps on);
         };
       }
 
-  pub feeds_front : ((send : Option OpenSend) → KeepsSend send k0 → ServesFront (requests_of send r1.given) f0 f1) → FeedsFront fed piece f0 f1
+  -- memory ran out while they were served
+  pub feeds_front : ((s : Option OpenSend) → KeepsSend s old.session.sending → ServesFront (requests_of s read.given) (moment_of old) (moment_of new))
+      → FeedsFront fed piece (held old.reader old.session) (held new.reader new.session) old.files new.files
   feeds_front front = record {
-    requests = requests_of (open_after None (asks_in fed)) r1.given ++ fault_request r1.fault;
-    is = fed_more fed piece r1 now plain;
-    front = front_less (requests_of (open_after None (asks_in fed)) r1.given) (fault_request r1.fault) f0 f1 (front (open_after None (asks_in fed)) (stood.keeps goes_on));
+    requests = requests_of send read.given ++ fault_request read.fault;
+    is = fed_more fed piece read now plain;
+    front = front_less (requests_of send read.given) (fault_request read.fault) (moment_of old) (moment_of new) (front send (stood.keeps goes_on));
+  }
+
+  -- memory ran out at the FAIL of a fault
+  pub feeds_unsaid : (last : Session) → Given → new.session.ended ≡ false → last.out ≡ new.session.out
+      → FeedsFront fed piece (held old.reader old.session) (held new.reader last) old.files new.files
+  feeds_unsaid last given on same = record {
+    requests = requests_of send read.given ++ fault_request read.fault;
+    is = fed_more fed piece read now plain;
+    front = front_more (requests_of send read.given) (fault_request read.fault) (moment_of old) (moment_of new) (moment new.files last) on (given send (stood.keeps goes_on)).serves
+        (front_none (fault_request read.fault) (moment_of new) (moment new.files last) refl same);
   }
 
 -- answers tell faults apart
@@ -98,17 +121,3 @@ same_fault None None e = refl
 same_fault None (Some y) e = absurd cc
 same_fault (Some x) None e = absurd cc
 same_fault (Some x) (Some y) e = cc
-
--- all the requests that a reader gave were served
-pub front_whole : (send : Option OpenSend) (r1 r2 : Reading) (f0 f1 : List Entry) (o0 o1 : List ℕ) (e : Bool) (k : Option Sending) → ServesGiven send r1 r2 f0 f1 o0 o1 e k → ServesFront (requests_of send r1.given) f0 f1
-front_whole send r1 r2 f0 f1 o0 o1 e k given = record {
-  front = requests_of send r1.given;
-  back = [];
-  is = sym (append-nil (requests_of send r1.given));
-  files = given.serves.files;
-}
-
--- what holds in any case holds after an error
-pub OnErr_always : {T E P : Type 0} (r : Result T E) → P → OnErr r P
-OnErr_always (Ok x) p = tt
-OnErr_always (Err e) p = p

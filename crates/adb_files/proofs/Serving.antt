@@ -1,6 +1,6 @@
 -- Requests served one after another.
-use Rattle.std.specs.Prelude.{ℕ, ◌≡◌, cond, Bool, true, false, List, [], ◌∷◌, ◌++◌, Option, refl}
-use Rattle.std.proofs.Common.{◌⊎◌, inl, inr, ◌∙◌, ap, sym, subst}
+use Rattle.std.specs.Prelude.{ℕ, ◌≡◌, cond, Bool, true, false, List, [], ◌∷◌, ◌++◌, Option, Some, None, Result, Ok, Err, OnErr, refl}
+use Rattle.std.proofs.Common.{◌⊎◌, inl, inr, ◌∙◌, ap, sym, subst, arith}
 use Rattle.std.proofs.lemmas.List.{append-nil, append_assoc}
 use Rattle.std.specs.List.{AllByRecursion}
 use Rattle.std.proofs.lemmas.Bool.{true≢false}
@@ -10,21 +10,14 @@ use Rattle.adb_sync.specs.declared.ask_format.AskFormat.{AskFormat}
 use Rattle.adb_sync.specs.declared.ask.SyncAsk.{SyncAsk}
 use Rattle.adb_sync.specs.declared.ask.SyncAsk.TheVariants as asks
 use Rattle.adb_files.specs.Entries.{Entry}
+use Rattle.adb_files.specs.Requests.{OpenSend, Request, Lists, Sends, completed, open_past, requests_of, open_after}
 use Rattle.adb_files.specs.declared.session.Sending.{Sending}
-use Rattle.adb_files.specs.Requests.{OpenSend, Request, completed, open_past, requests_of, open_after}
-use Rattle.adb_files.specs.Served.{Served, serve_one, serve_all, then_served, stat_bytes_of, stat_in}
-use Rattle.adb_files.specs.Service.{KeepsSend, Serves, ServesFront, ServesGiven, Done, HasShortPath}
+use Rattle.adb_files.specs.Served.{Served, serve_one, serve_all, stat_bytes_of, stat_in, list_bytes}
+use Rattle.adb_files.specs.Listing.{listing}
+use Rattle.adb_files.specs.Service.{Moment, Run, moment_of, IsKept, KeepsSend, Serves, ServesFront, TellsFront, ServesGiven, Done, HasShortPath}
 
-pub stat_served : (send : Option OpenSend) (kept : Option Sending) (ask : SyncAsk) (path p : List ℕ) (files : List Entry) (out out' : List ℕ) (ended : Bool) → ask ≡ asks.Stat path → p ≡ path → ended ≡ false → out' ≡ out ++ stat_bytes_of (stat_in files p) → KeepsSend send kept → Serves (completed send ask) files files out out' ended × KeepsSend (open_past send ask) kept
-stat_served send kept ask path p files out out' ended is same on h keeps =
-    subst (λ (a : SyncAsk). Serves (completed send a) files files out out' ended × KeepsSend (open_past send a) kept) (sym is) (
-      record {
-        files = refl;
-        answer = h ∙ (ap (λ (q : List ℕ). out ++ stat_bytes_of (stat_in files q)) same ∙ ap (λ (a : List ℕ). out ++ a) (sym (append-nil (stat_bytes_of (stat_in files path)))));
-        ends = on;
-      },
-      keeps,
-    )
+abbrev Reading : Type 0
+Reading = Cut AskFormat SyncAsk SyncError
 
 -- messages behind messages
 pub requests_of-append : (send : Option OpenSend) (xs ys : List SyncAsk) → requests_of send (xs ++ ys) ≡ requests_of send xs ++ requests_of (open_after send xs) ys
@@ -37,122 +30,286 @@ pub open_after-append : (send : Option OpenSend) (xs ys : List SyncAsk) → open
 open_after-append send [] ys = refl
 open_after-append send (x ∷ xs) ys = open_after-append (open_past send x) xs ys
 
+-- what a request and those behind it give, where it ends the service or not
+abbrev with_later : Bool → Served → Served → Served
+with_later stop first later = cond stop first (record { files = later.files; answer = first.answer ++ later.answer; ended = later.ended })
+
 -- past the end nothing is served
 pub serve_all-ended : (more rest : List Request) (files : List Entry) → (serve_all files more).ended ≡ true → serve_all files (more ++ rest) ≡ serve_all files more
 serve_all-ended [] rest files e = absurd cc
-serve_all-ended (q ∷ more) rest files e = go (serve_one files q) (serve_all-ended more rest) e
+serve_all-ended (q ∷ more) rest files e = by (serve_one files q).ended (serve_all-ended more rest (serve_one files q).files) e
   where
-    go : (s : Served) → ((left : List Entry) → (serve_all left more).ended ≡ true → serve_all left (more ++ rest) ≡ serve_all left more) → (then_served s (λ left. serve_all left more)).ended ≡ true → then_served s (λ left. serve_all left (more ++ rest)) ≡ then_served s (λ left. serve_all left more)
-    go s later = by s.ended
-      where
-        by : (t : Bool) → (cond t s (record { files = (serve_all s.files more).files; answer = s.answer ++ (serve_all s.files more).answer; ended = (serve_all s.files more).ended })).ended ≡ true → cond t s (record { files = (serve_all s.files (more ++ rest)).files; answer = s.answer ++ (serve_all s.files (more ++ rest)).answer; ended = (serve_all s.files (more ++ rest)).ended }) ≡ cond t s (record { files = (serve_all s.files more).files; answer = s.answer ++ (serve_all s.files more).answer; ended = (serve_all s.files more).ended })
-        by true h = refl
-        by false h = ap (λ (r : Served). let joined : Served = record { files = r.files; answer = s.answer ++ r.answer; ended = r.ended } in joined) (later s.files h)
+    s : Served
+    s = serve_one files q
 
--- where the service goes on, further requests are served over the files that are left
-pub serve_all-more : (more rest : List Request) (files : List Entry) → (serve_all files more).ended ≡ false → ((serve_all files (more ++ rest)).files ≡ (serve_all (serve_all files more).files rest).files) × ((serve_all files (more ++ rest)).answer ≡ (serve_all files more).answer ++ (serve_all (serve_all files more).files rest).answer) × ((serve_all files (more ++ rest)).ended ≡ (serve_all (serve_all files more).files rest).ended)
-serve_all-more [] rest files e = (refl, refl, refl)
-serve_all-more (q ∷ more) rest files e = go (serve_one files q) (serve_all-more more rest) e
+    by : (t : Bool) → ((serve_all s.files more).ended ≡ true → serve_all s.files (more ++ rest) ≡ serve_all s.files more)
+        → (with_later t s (serve_all s.files more)).ended ≡ true → with_later t s (serve_all s.files (more ++ rest)) ≡ with_later t s (serve_all s.files more)
+    by true later h = refl
+    by false later h = ap (with_later false s) (later h)
+
+-- Requests were served behind others, over the files that those leave.
+pub record Joins (first later both : Served) : Type 0 where
+  pub files : both.files ≡ later.files
+  pub answer : both.answer ≡ first.answer ++ later.answer
+  pub ended : both.ended ≡ later.ended
+
+pub serve_all-more : (more rest : List Request) (files : List Entry) → (serve_all files more).ended ≡ false
+    → Joins (serve_all files more) (serve_all (serve_all files more).files rest) (serve_all files (more ++ rest))
+serve_all-more [] rest files e = record { files = refl; answer = refl; ended = refl }
+serve_all-more (q ∷ more) rest files e = by (serve_one files q).ended refl (serve_all-more more rest (serve_one files q).files) e
   where
-    go : (s : Served) → ((left : List Entry) → (serve_all left more).ended ≡ false → ((serve_all left (more ++ rest)).files ≡ (serve_all (serve_all left more).files rest).files) × ((serve_all left (more ++ rest)).answer ≡ (serve_all left more).answer ++ (serve_all (serve_all left more).files rest).answer) × ((serve_all left (more ++ rest)).ended ≡ (serve_all (serve_all left more).files rest).ended)) → (then_served s (λ left. serve_all left more)).ended ≡ false → ((then_served s (λ left. serve_all left (more ++ rest))).files ≡ (serve_all (then_served s (λ left. serve_all left more)).files rest).files) × ((then_served s (λ left. serve_all left (more ++ rest))).answer ≡ (then_served s (λ left. serve_all left more)).answer ++ (serve_all (then_served s (λ left. serve_all left more)).files rest).answer) × ((then_served s (λ left. serve_all left (more ++ rest))).ended ≡ (serve_all (then_served s (λ left. serve_all left more)).files rest).ended)
-    go s later = by s.ended refl
-      where
-        by : (t : Bool) → s.ended ≡ t → (cond t s (record { files = (serve_all s.files more).files; answer = s.answer ++ (serve_all s.files more).answer; ended = (serve_all s.files more).ended })).ended ≡ false → ((cond t s (record { files = (serve_all s.files (more ++ rest)).files; answer = s.answer ++ (serve_all s.files (more ++ rest)).answer; ended = (serve_all s.files (more ++ rest)).ended })).files ≡ (serve_all (cond t s (record { files = (serve_all s.files more).files; answer = s.answer ++ (serve_all s.files more).answer; ended = (serve_all s.files more).ended })).files rest).files) × ((cond t s (record { files = (serve_all s.files (more ++ rest)).files; answer = s.answer ++ (serve_all s.files (more ++ rest)).answer; ended = (serve_all s.files (more ++ rest)).ended })).answer ≡ (cond t s (record { files = (serve_all s.files more).files; answer = s.answer ++ (serve_all s.files more).answer; ended = (serve_all s.files more).ended })).answer ++ (serve_all (cond t s (record { files = (serve_all s.files more).files; answer = s.answer ++ (serve_all s.files more).answer; ended = (serve_all s.files more).ended })).files rest).answer) × ((cond t s (record { files = (serve_all s.files (more ++ rest)).files; answer = s.answer ++ (serve_all s.files (more ++ rest)).answer; ended = (serve_all s.files (more ++ rest)).ended })).ended ≡ (serve_all (cond t s (record { files = (serve_all s.files more).files; answer = s.answer ++ (serve_all s.files more).answer; ended = (serve_all s.files more).ended })).files rest).ended)
-        by true is h = absurd cc
-        by false is h =
-            let l = later s.files h in
-            (l.0, ap (λ (a : List ℕ). s.answer ++ a) l.1 ∙ sym (append_assoc s.answer (serve_all s.files more).answer (serve_all (serve_all s.files more).files rest).answer), l.2)
+    s : Served
+    s = serve_one files q
 
-pub serves_none : (files : List Entry) (out : List ℕ) (ended : Bool) → ended ≡ false → Serves [] files files out out ended
-serves_none files out ended on = record { files = refl; answer = sym (append-nil out); ends = on }
+    by : (t : Bool) → s.ended ≡ t → ((serve_all s.files more).ended ≡ false → Joins (serve_all s.files more) (serve_all (serve_all s.files more).files rest) (serve_all s.files (more ++ rest)))
+        → (with_later t s (serve_all s.files more)).ended ≡ false
+        → Joins (with_later t s (serve_all s.files more)) (serve_all (with_later t s (serve_all s.files more)).files rest) (with_later t s (serve_all s.files (more ++ rest)))
+    by true is later h = absurd cc
+    by false is later h =
+        let l = later h in
+        record {
+          files = l.files;
+          answer = ap (λ (b : List ℕ). s.answer ++ b) l.answer ∙ sym (append_assoc s.answer (serve_all s.files more).answer (serve_all (serve_all s.files more).files rest).answer);
+          ended = l.ended;
+        }
 
-pub serves_more : (qs rs : List Request) (f0 f1 f2 : List Entry) (o0 o1 o2 : List ℕ) (e1 e2 : Bool) → e1 ≡ false → Serves qs f0 f1 o0 o1 e1 → Serves rs f1 f2 o1 o2 e2 → Serves (qs ++ rs) f0 f2 o0 o2 e2
-serves_more qs rs f0 f1 f2 o0 o1 o2 e1 e2 on first second =
-    let all = serve_all-more qs rs f0 (sym first.ends ∙ on) in
+-- one request alone
+pub serve_all-one : (files : List Entry) (q : Request) → ((serve_all files (q ∷ [])).files ≡ (serve_one files q).files) × ((serve_all files (q ∷ [])).answer ≡ (serve_one files q).answer)
+serve_all-one files q = by (serve_one files q).ended
+  where
+    s : Served
+    s = serve_one files q
+
+    by : (t : Bool) → ((with_later t s (serve_all s.files [])).files ≡ s.files) × ((with_later t s (serve_all s.files [])).answer ≡ s.answer)
+    by true = (refl, refl)
+    by false = (refl, append-nil s.answer)
+
+pub serves_more : (qs rs : List Request) (a b c : Moment) → b.ended ≡ false → Serves qs a b → Serves rs b c → Serves (qs ++ rs) a c
+serves_more qs rs a b c on first second =
+    let all = serve_all-more qs rs a.files (sym first.ends ∙ on) in
     record {
-      files = second.files ∙ (ap (λ (f : List Entry). (serve_all f rs).files) first.files ∙ sym all.0);
-      answer = second.answer ∙ (ap (λ (o : List ℕ). o ++ (serve_all f1 rs).answer) first.answer ∙ (append_assoc o0 (serve_all f0 qs).answer (serve_all f1 rs).answer ∙ (ap (λ (f : List Entry). o0 ++ ((serve_all f0 qs).answer ++ (serve_all f rs).answer)) first.files ∙ ap (λ (a : List ℕ). o0 ++ a) (sym all.1))));
-      ends = second.ends ∙ (ap (λ (f : List Entry). (serve_all f rs).ended) first.files ∙ sym all.2);
+      files = second.files ∙ (ap (λ (f : List Entry). (serve_all f rs).files) first.files ∙ sym all.files);
+      answer = second.answer
+          ∙ (ap (λ (o : List ℕ). o ++ (serve_all b.files rs).answer) first.answer
+          ∙ (append_assoc a.out (serve_all a.files qs).answer (serve_all b.files rs).answer
+          ∙ (ap (λ (f : List Entry). a.out ++ ((serve_all a.files qs).answer ++ (serve_all f rs).answer)) first.files ∙ ap (λ (o : List ℕ). a.out ++ o) (sym all.answer))));
+      ends = second.ends ∙ (ap (λ (f : List Entry). (serve_all f rs).ended) first.files ∙ sym all.ended);
     }
 
-pub serves_ended : (qs rs : List Request) (f0 f1 : List Entry) (o0 o1 : List ℕ) (e : Bool) → e ≡ true → Serves qs f0 f1 o0 o1 e → Serves (qs ++ rs) f0 f1 o0 o1 e
-serves_ended qs rs f0 f1 o0 o1 e stop first =
-    let all = serve_all-ended qs rs f0 (sym first.ends ∙ stop) in
+pub serves_ended : (qs rs : List Request) (a b : Moment) → b.ended ≡ true → Serves qs a b → Serves (qs ++ rs) a b
+serves_ended qs rs a b stop first =
+    let all = serve_all-ended qs rs a.files (sym first.ends ∙ stop) in
     record {
       files = first.files ∙ ap (λ (s : Served). s.files) (sym all);
-      answer = first.answer ∙ ap (λ (s : Served). o0 ++ s.answer) (sym all);
+      answer = first.answer ∙ ap (λ (s : Served). a.out ++ s.answer) (sym all);
       ends = first.ends ∙ ap (λ (s : Served). s.ended) (sym all);
     }
 
--- the files after a front of the requests that follow others
-pub front_more : (qs rs : List Request) (f0 f1 f2 : List Entry) (o0 o1 : List ℕ) (e : Bool) → e ≡ false → Serves qs f0 f1 o0 o1 e → ServesFront rs f1 f2 → ServesFront (qs ++ rs) f0 f2
-front_more qs rs f0 f1 f2 o0 o1 e on first front = record {
-  front = qs ++ front.front;
-  back = front.back;
-  is = ap (λ (xs : List Request). qs ++ xs) front.is ∙ sym (append_assoc qs front.front front.back);
-  files = front.files ∙ (ap (λ (f : List Entry). (serve_all f front.front).files) first.files ∙ sym (serve_all-more qs front.front f0 (sym first.ends ∙ on)).0);
+-- a STAT was served
+pub stat_served : (send : Option OpenSend) (ask : SyncAsk) (path : List ℕ) (kept : Option Sending) (a b : Moment) → ask ≡ asks.Stat path → b.files ≡ a.files
+    → b.out ≡ a.out ++ stat_bytes_of (stat_in a.files path) → b.ended ≡ false → KeepsSend send kept → Serves (completed send ask) a b × KeepsSend (open_past send ask) kept
+stat_served send ask path kept a b is same out on keeps =
+    let answer = stat_bytes_of (stat_in a.files path) in
+    subst (λ (q : SyncAsk). Serves (completed send q) a b × KeepsSend (open_past send q) kept) (sym is)
+    (record { files = same; answer = out ∙ ap (λ (o : List ℕ). a.out ++ o) (sym (append-nil answer)); ends = on }, keeps)
+
+-- memory ran out, and nothing was served
+pub front_none : (qs : List Request) (a b : Moment) → b.files ≡ a.files → b.out ≡ a.out → ServesFront qs a b
+front_none qs a b files out = record {
+  whole = [];
+  last = [];
+  back = qs;
+  is = refl;
+  one = omega arith;
+  files = files;
+  said = [];
+  unsaid = [];
+  answer = out ∙ sym (append-nil a.out);
+  within = refl;
 }
 
-pub front_less : (qs rs : List Request) (f0 f1 : List Entry) → ServesFront qs f0 f1 → ServesFront (qs ++ rs) f0 f1
-front_less qs rs f0 f1 front = record {
-  front = front.front;
+-- memory ran out in the first request
+pub front_one : (q : Request) (qs : List Request) (a b : Moment) → b.files ≡ (serve_one a.files q).files → TellsFront (serve_one a.files q).answer a.out b.out → ServesFront (q ∷ qs) a b
+front_one q qs a b files tells = record {
+  whole = [];
+  last = q ∷ [];
+  back = qs;
+  is = refl;
+  one = omega arith;
+  files = files ∙ sym (serve_all-one a.files q).0;
+  said = tells.1.said;
+  unsaid = tells.0;
+  answer = tells.1.behind;
+  within = (serve_all-one a.files q).1 ∙ tells.1.within;
+}
+
+-- memory ran out in a LIST
+pub list_front : (send : Option OpenSend) (ask : SyncAsk) (path : List ℕ) (a b : Moment) → ask ≡ asks.List path → b.files ≡ a.files
+    → TellsFront (list_bytes (listing path a.files)) a.out b.out → ServesFront (completed send ask) a b
+list_front send ask path a b is same tells =
+    subst (λ (q : SyncAsk). ServesFront (completed send q) a b) (sym is) (front_one (Lists path) [] a b same tells)
+
+-- memory ran out behind a SEND, whose file may be there
+pub send_front : (send : OpenSend) (mtime : ℕ) (a b : Moment)
+    → (b.files ≡ a.files) ⊎ (b.files ≡ (serve_one a.files (Sends send.path send.mode send.bytes mtime)).files) → b.out ≡ a.out
+    → ServesFront (Sends send.path send.mode send.bytes mtime ∷ []) a b
+send_front send mtime a b (inl same) out = front_none (Sends send.path send.mode send.bytes mtime ∷ []) a b same out
+send_front send mtime a b (inr done) out =
+    let q = Sends send.path send.mode send.bytes mtime in
+    front_one q [] a b done ((serve_one a.files q).answer, record { said = []; behind = out ∙ sym (append-nil a.out); within = refl })
+
+-- memory ran out at a DONE
+pub finish_front : (send : Option OpenSend) (ask : SyncAsk) (mtime : ℕ) (sending : Sending) (a b : Moment) → ask ≡ asks.Finish mtime → KeepsSend send (Some sending)
+    → ((s : OpenSend) → IsKept s sending → (b.files ≡ a.files) ⊎ (b.files ≡ (serve_one a.files (Sends s.path s.mode s.bytes mtime)).files)) → b.out ≡ a.out
+    → ServesFront (completed send ask) a b
+finish_front None ask mtime sending a b is keeps files out = absurd keeps
+finish_front (Some s) ask mtime sending a b is keeps files out =
+    subst (λ (q : SyncAsk). ServesFront (completed (Some s) q) a b) (sym is) (send_front s mtime a b (files s keeps) out)
+
+-- memory ran out behind all the requests
+pub front_whole : (qs : List Request) (a b : Moment) → Serves qs a b → ServesFront qs a b
+front_whole qs a b all = record {
+  whole = qs;
+  last = [];
+  back = [];
+  is = sym (append-nil qs);
+  one = omega arith;
+  files = all.files ∙ ap (λ (rs : List Request). (serve_all a.files rs).files) (sym (append-nil qs));
+  said = [];
+  unsaid = [];
+  answer = all.answer ∙ ap (λ (o : List ℕ). a.out ++ o) (sym (append-nil (serve_all a.files qs).answer));
+  within =
+      ap (λ (rs : List Request). (serve_all a.files rs).answer) (append-nil qs)
+      ∙ sym (append-nil ((serve_all a.files qs).answer ++ []) ∙ append-nil (serve_all a.files qs).answer);
+}
+
+-- memory ran out in a front of requests that follow others
+pub front_more : (qs rs : List Request) (a b c : Moment) → b.ended ≡ false → Serves qs a b → ServesFront rs b c → ServesFront (qs ++ rs) a c
+front_more qs rs a b c on first front = record {
+  whole = qs ++ front.whole;
+  last = front.last;
+  back = front.back;
+  is = ap (λ (xs : List Request). qs ++ xs) front.is ∙ sym (append_assoc qs front.whole (front.last ++ front.back));
+  one = front.one;
+  files = front.files ∙ (sym (moved (front.whole ++ front.last)).0 ∙ ap (λ (xs : List Request). (serve_all a.files xs).files) (sym together));
+  said = front.said;
+  unsaid = front.unsaid;
+  answer = front.answer
+      ∙ (ap (λ (o : List ℕ). o ++ (told ++ front.said)) first.answer
+      ∙ (append_assoc a.out before (told ++ front.said)
+      ∙ ap (λ (o : List ℕ). a.out ++ o) (sym (append_assoc before told front.said) ∙ ap (λ (o : List ℕ). o ++ front.said) (sym (moved front.whole).1))));
+  within = ap (λ (xs : List Request). (serve_all a.files xs).answer) together
+      ∙ ((moved (front.whole ++ front.last)).1
+      ∙ (ap (λ (o : List ℕ). before ++ o) front.within
+      ∙ (sym (append_assoc before (told ++ front.said) front.unsaid)
+      ∙ ap (λ (o : List ℕ). o ++ front.unsaid) (sym (append_assoc before told front.said) ∙ ap (λ (o : List ℕ). o ++ front.said) (sym (moved front.whole).1)))));
+}
+  where
+    before : List ℕ
+    before = (serve_all a.files qs).answer
+
+    told : List ℕ
+    told = (serve_all b.files front.whole).answer
+
+    together : (qs ++ front.whole) ++ front.last ≡ qs ++ (front.whole ++ front.last)
+    together = append_assoc qs front.whole front.last
+
+    moved : (xs : List Request) → ((serve_all a.files (qs ++ xs)).files ≡ (serve_all b.files xs).files) × ((serve_all a.files (qs ++ xs)).answer ≡ (serve_all a.files qs).answer ++ (serve_all b.files xs).answer)
+    moved xs =
+        let all = serve_all-more qs xs a.files (sym first.ends ∙ on) in (
+          all.files ∙ ap (λ (f : List Entry). (serve_all f xs).files) (sym first.files),
+          all.answer ∙ ap (λ (f : List Entry). (serve_all a.files qs).answer ++ (serve_all f xs).answer) (sym first.files),
+        )
+
+pub front_less : (qs rs : List Request) (a b : Moment) → ServesFront qs a b → ServesFront (qs ++ rs) a b
+front_less qs rs a b front = record {
+  whole = front.whole;
+  last = front.last;
   back = front.back ++ rs;
-  is = ap (λ (xs : List Request). xs ++ rs) front.is ∙ append_assoc front.front front.back rs;
+  is = ap (λ (xs : List Request). xs ++ rs) front.is
+      ∙ (append_assoc front.whole (front.last ++ front.back) rs ∙ ap (λ (xs : List Request). front.whole ++ xs) (append_assoc front.last front.back rs));
+  one = front.one;
   files = front.files;
+  said = front.said;
+  unsaid = front.unsaid;
+  answer = front.answer;
+  within = front.within;
 }
 
 -- a loop over the messages that a reader gives
-pub done_none : (send : Option OpenSend) (reader : Cut AskFormat SyncAsk SyncError) (files : List Entry) (out : List ℕ) (ended : Bool) (kept : Option Sending) → ended ≡ false → KeepsSend send kept → Done send reader reader files files out out ended kept
-done_none send reader files out ended kept on keeps = record { done = []; is = refl; same = refl; serves = serves_none files out ended on; keeps = keeps }
+pub done_none : (send : Option OpenSend) (r : Run) → r.session.ended ≡ false → KeepsSend send r.session.sending → Done send r r
+done_none send r on keeps = record {
+  done = [];
+  is = refl;
+  same = refl;
+  serves = record { files = refl; answer = sym (append-nil r.session.out); ends = on };
+  keeps = keeps;
+}
 
-pub done_more : (send : Option OpenSend) (r0 r1 r2 : Cut AskFormat SyncAsk SyncError) (f0 f1 f2 : List Entry) (o0 o1 o2 : List ℕ) (e1 e2 : Bool) (k1 k2 : Option Sending) (ask : SyncAsk) → e1 ≡ false → Done send r0 r1 f0 f1 o0 o1 e1 k1 → r1 ≡ record r2 { given = ask ∷ r2.given } → ((s : Option OpenSend) → KeepsSend s k1 → Serves (completed s ask) f1 f2 o1 o2 e2 × KeepsSend (open_past s ask) k2) → Done send r0 r2 f0 f2 o0 o2 e2 k2
-done_more send r0 r1 r2 f0 f1 f2 o0 o1 o2 e1 e2 k1 k2 ask on d next take =
+pub done_more : (send : Option OpenSend) (r0 r1 r2 : Run) (ask : SyncAsk) → r1.session.ended ≡ false → Done send r0 r1 → r1.reader ≡ record r2.reader { given = ask ∷ r2.reader.given }
+    → ((s : Option OpenSend) → KeepsSend s r1.session.sending → Serves (completed s ask) (moment_of r1) (moment_of r2) × KeepsSend (open_past s ask) r2.session.sending)
+    → Done send r0 r2
+done_more send r0 r1 r2 ask on d next take =
     let t = take (open_after send d.done) d.keeps in
     record {
       done = d.done ++ ask ∷ [];
-      is = d.is ∙ (ap (λ (r : Cut AskFormat SyncAsk SyncError). d.done ++ r.given) next ∙ sym (append_assoc d.done (ask ∷ []) r2.given));
+      is = d.is ∙ (ap (λ (r : Reading). d.done ++ r.given) next ∙ sym (append_assoc d.done (ask ∷ []) r2.reader.given));
       same = same;
-      serves = subst (λ (rs : List Request). Serves rs f0 f2 o0 o2 e2) (sym requests) (serves_more (requests_of send d.done) (completed (open_after send d.done) ask) f0 f1 f2 o0 o1 o2 e1 e2 on d.serves t.0);
-      keeps = subst (λ (s : Option OpenSend). KeepsSend s k2) (sym (open_after-append send d.done (ask ∷ []))) t.1;
+      serves = subst (λ (rs : List Request). Serves rs (moment_of r0) (moment_of r2)) (sym requests)
+          (serves_more (requests_of send d.done) (completed (open_after send d.done) ask) (moment_of r0) (moment_of r1) (moment_of r2) on d.serves t.0);
+      keeps = subst (λ (s : Option OpenSend). KeepsSend s r2.session.sending) (sym (open_after-append send d.done (ask ∷ []))) t.1;
     }
   where
-    same : r2 ≡ record r0 { given = r2.given }
-    same =
-        let whole = sym (ap (λ (r : Cut AskFormat SyncAsk SyncError). let c : Cut AskFormat SyncAsk SyncError = record r { given = r2.given } in c) next) in
-        whole ∙ ap (λ (r : Cut AskFormat SyncAsk SyncError). let c : Cut AskFormat SyncAsk SyncError = record r { given = r2.given } in c) d.same
+    left : Reading → Reading
+    left r = record r { given = r2.reader.given }
+
+    same : r2.reader ≡ record r0.reader { given = r2.reader.given }
+    same = sym (ap left next) ∙ ap left d.same
 
     requests : requests_of send (d.done ++ ask ∷ []) ≡ requests_of send d.done ++ completed (open_after send d.done) ask
     requests =
         requests_of-append send d.done (ask ∷ [])
         ∙ ap (λ (rs : List Request). requests_of send d.done ++ rs) (append-nil (completed (open_after send d.done) ask))
 
-pub given_all : (send : Option OpenSend) (r0 r1 r2 : Cut AskFormat SyncAsk SyncError) (f0 f1 : List Entry) (o0 o1 : List ℕ) (e : Bool) (k : Option Sending) → Done send r0 r1 f0 f1 o0 o1 e k → r1.given ≡ [] → r2 ≡ r1 → ServesGiven send r0 r2 f0 f1 o0 o1 e k
-given_all send r0 r1 r2 f0 f1 o0 o1 e k d none same =
-    let all : d.done ≡ r0.given = sym (append-nil d.done) ∙ (ap (λ (xs : List SyncAsk). d.done ++ xs) (sym none) ∙ sym d.is) in
-    record {
-      serves = subst (λ (xs : List SyncAsk). Serves (requests_of send xs) f0 f1 o0 o1 e) all d.serves;
-      empty = λ on. same ∙ (d.same ∙ ap (λ (xs : List SyncAsk). let c : Cut AskFormat SyncAsk SyncError = record r0 { given = xs } in c) none);
-      keeps = λ on. subst (λ (xs : List SyncAsk). KeepsSend (open_after send xs) k) all d.keeps;
-    }
+-- the reader has no more messages
+pub given_all : (send : Option OpenSend) (r0 r1 r2 : Run) → Done send r0 r1 → r1.reader.given ≡ [] → r2 ≡ r1 → ServesGiven send r0 r2
+given_all send r0 r1 r2 d none same =
+    let all : d.done ≡ r0.reader.given = sym (append-nil d.done) ∙ (ap (λ (xs : List SyncAsk). d.done ++ xs) (sym none) ∙ sym d.is) in
+    subst (ServesGiven send r0) (sym same) (record {
+      serves = subst (λ (xs : List SyncAsk). Serves (requests_of send xs) (moment_of r0) (moment_of r1)) all d.serves;
+      empty = λ on. d.same ∙ ap (λ (xs : List SyncAsk). let c : Reading = record r0.reader { given = xs } in c) none;
+      keeps = λ on. subst (λ (xs : List SyncAsk). KeepsSend (open_after send xs) r1.session.sending) all d.keeps;
+    })
 
-pub given_ended : (send : Option OpenSend) (r0 r1 : Cut AskFormat SyncAsk SyncError) (f0 f1 : List Entry) (o0 o1 : List ℕ) (e : Bool) (k : Option Sending) → e ≡ true → Done send r0 r1 f0 f1 o0 o1 e k → ServesGiven send r0 r1 f0 f1 o0 o1 e k
-given_ended send r0 r1 f0 f1 o0 o1 e k stop d = record {
-  serves = subst (λ (rs : List Request). Serves rs f0 f1 o0 o1 e) (sym (ap (requests_of send) d.is ∙ requests_of-append send d.done r1.given)) (serves_ended (requests_of send d.done) (requests_of (open_after send d.done) r1.given) f0 f1 o0 o1 e stop d.serves);
+pub given_ended : (send : Option OpenSend) (r0 r1 : Run) → r1.session.ended ≡ true → Done send r0 r1 → ServesGiven send r0 r1
+given_ended send r0 r1 stop d = record {
+  serves = subst (λ (rs : List Request). Serves rs (moment_of r0) (moment_of r1)) (sym (ap (requests_of send) d.is ∙ requests_of-append send d.done r1.reader.given))
+      (serves_ended (requests_of send d.done) (requests_of (open_after send d.done) r1.reader.given) (moment_of r0) (moment_of r1) stop d.serves);
   empty = λ on. absurd (true≢false (sym stop ∙ on));
   keeps = λ on. absurd (true≢false (sym stop ∙ on));
 }
 
 -- a message that wants memory
-pub given_front : (send : Option OpenSend) (r0 r1 r2 : Cut AskFormat SyncAsk SyncError) (f0 f1 f2 : List Entry) (o0 o1 : List ℕ) (e1 : Bool) (k1 : Option Sending) (ask : SyncAsk) → e1 ≡ false → Done send r0 r1 f0 f1 o0 o1 e1 k1 → r1 ≡ record r2 { given = ask ∷ r2.given } → ((s : Option OpenSend) → KeepsSend s k1 → (f2 ≡ f1) ⊎ (f2 ≡ (serve_all f1 (completed s ask)).files)) → ServesFront (requests_of send r0.given) f0 f2
-given_front send r0 r1 r2 f0 f1 f2 o0 o1 e1 k1 ask on d next take = subst (λ (rs : List Request). ServesFront rs f0 f2) (sym requests) (front_more (requests_of send d.done) (completed (open_after send d.done) ask ++ requests_of (open_past (open_after send d.done) ask) r2.given) f0 f1 f2 o0 o1 e1 on d.serves (go (take (open_after send d.done) d.keeps)))
-  where
-    requests : requests_of send r0.given ≡ requests_of send d.done ++ (completed (open_after send d.done) ask ++ requests_of (open_past (open_after send d.done) ask) r2.given)
-    requests = ap (requests_of send) (d.is ∙ ap (λ (r : Cut AskFormat SyncAsk SyncError). d.done ++ r.given) next) ∙ requests_of-append send d.done (ask ∷ r2.given)
+pub given_front : (send : Option OpenSend) (r0 r1 r2 : Run) (ask : SyncAsk) → r1.session.ended ≡ false → Done send r0 r1 → r1.reader ≡ record r2.reader { given = ask ∷ r2.reader.given }
+    → ((s : Option OpenSend) → KeepsSend s r1.session.sending → ServesFront (completed s ask) (moment_of r1) (moment_of r2))
+    → ServesFront (requests_of send r0.reader.given) (moment_of r0) (moment_of r2)
+given_front send r0 r1 r2 ask on d next take =
+    let s = open_after send d.done in
+    subst (λ (rs : List Request). ServesFront rs (moment_of r0) (moment_of r2))
+    (sym (ap (requests_of send) (d.is ∙ ap (λ (r : Reading). d.done ++ r.given) next) ∙ requests_of-append send d.done (ask ∷ r2.reader.given)))
+    (front_more (requests_of send d.done) (requests_of s (ask ∷ r2.reader.given)) (moment_of r0) (moment_of r1) (moment_of r2) on d.serves
+    (front_less (completed s ask) (requests_of (open_past s ask) r2.reader.given) (moment_of r1) (moment_of r2) (take s d.keeps)))
 
-    go : (f2 ≡ f1) ⊎ (f2 ≡ (serve_all f1 (completed (open_after send d.done) ask)).files) → ServesFront (completed (open_after send d.done) ask ++ requests_of (open_past (open_after send d.done) ask) r2.given) f1 f2
-    go (inl same) = record { front = []; back = completed (open_after send d.done) ask ++ requests_of (open_past (open_after send d.done) ask) r2.given; is = refl; files = same }
-    go (inr all) = record { front = completed (open_after send d.done) ask; back = requests_of (open_past (open_after send d.done) ask) r2.given; is = refl; files = all }
+-- what holds in any case holds after an error
+pub on_err_always : {T E P : Type 0} (r : Result T E) → P → OnErr r P
+on_err_always (Ok x) p = tt
+on_err_always (Err e) p = p
+
+-- what follows from two things that an error has
+pub on_err_both : {T E P Q R : Type 0} (r : Result T E) → (P → Q → R) → OnErr r P → OnErr r Q → OnErr r R
+on_err_both (Ok x) f p q = tt
+on_err_both (Err e) f p q = f p q
 
 -- the messages that are left after one
-pub short_left : (r1 r2 : Cut AskFormat SyncAsk SyncError) (ask : SyncAsk) → r1 ≡ record r2 { given = ask ∷ r2.given } → AllByRecursion HasShortPath r1.given → HasShortPath ask × AllByRecursion HasShortPath r2.given
-short_left r1 r2 ask next all = subst (λ (r : Cut AskFormat SyncAsk SyncError). AllByRecursion HasShortPath r.given) next all
+pub short_left : (r1 r2 : Reading) (ask : SyncAsk) → r1 ≡ record r2 { given = ask ∷ r2.given } → AllByRecursion HasShortPath r1.given → HasShortPath ask × AllByRecursion HasShortPath r2.given
+short_left r1 r2 ask next all = subst (λ (r : Reading). AllByRecursion HasShortPath r.given) next all

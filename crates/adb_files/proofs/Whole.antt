@@ -1,6 +1,6 @@
 -- All the bytes that a service was fed, where nobody else changes the files between its feeds.
-use Rattle.std.specs.Prelude.{ℕ, ◌≡◌, Bool, true, false, List, [], ◌++◌, length, take, drop, Option, Some, None, Result, Ok, Err, OnErr, refl}
-use Rattle.std.proofs.Common.{◌∙◌, ◌⊎◌, inl, inr, ap, sym, subst, arith}
+use Rattle.std.specs.Prelude.{ℕ, ◌≡◌, Bool, true, false, List, [], ◌++◌, length, take, drop, Option, Some, None, refl}
+use Rattle.std.proofs.Common.{◌∙◌, ap, sym, subst, arith}
 use Rattle.std.proofs.lemmas.Bool.{true≢false}
 use Rattle.std.proofs.lemmas.List.{append-nil, append_assoc, take-append-drop}
 use Rattle.adb_outside.specs.Framing.{Cut}
@@ -13,8 +13,8 @@ use Rattle.adb_sync.specs.Framed.{asks_are_framed}
 use Rattle.adb_files.specs.Entries.{Entry}
 use Rattle.adb_files.specs.Requests.{Request, requests_of, open_after, fault_request, requests_in}
 use Rattle.adb_files.specs.Served.{serve_all}
-use Rattle.adb_files.specs.Service.{Service, StandsFor, Serves, ServesFront, Feeds, FeedsFront, HasServed}
-use Rattle.adb_files.proofs.Serving.{requests_of-append, serves_more, serves_ended, front_more}
+use Rattle.adb_files.specs.Service.{Service, Moment, moment_behind, moment_first, StandsFor, Serves, ServesFront, Feeds, FeedsFront, HasServed}
+use Rattle.adb_files.proofs.Serving.{requests_of-append, serves_more, serves_ended, front_none, front_whole, front_more, front_less}
 
 -- more bytes have the requests of those before, and further ones
 pub record Grows (fed piece : List ℕ) : Type 0 where
@@ -45,42 +45,101 @@ requests_grow fed piece = go (ask_fault_in fed) refl
         }
 
 -- all that was served so far
-so_far : (first files : List Entry) (fed taken : List ℕ) (service : Service) → HasServed first fed taken service files → Serves (requests_in fed) first files [] (taken ++ service.out) service.ended
+so_far : (first files : List Entry) (fed taken : List ℕ) (service : Service) → HasServed first fed taken service files
+    → Serves (requests_in fed) (moment_first first) (moment_behind taken files service)
 so_far first files fed taken service has = record { files = has.left; answer = has.given_out; ends = has.ends }
+
+-- answers behind those that were taken
+abbrev behind : List ℕ → Moment → Moment
+behind taken m = record { files = m.files; out = taken ++ m.out; ended = m.ended }
+
+serves_behind : (taken : List ℕ) (requests : List Request) (a b : Moment) → Serves requests a b → Serves requests (behind taken a) (behind taken b)
+serves_behind taken requests a b all = record {
+  files = all.files;
+  answer = ap (λ (o : List ℕ). taken ++ o) all.answer ∙ sym (append_assoc taken a.out (serve_all a.files requests).answer);
+  ends = all.ends;
+}
+
+front_behind : (taken : List ℕ) (requests : List Request) (a b : Moment) → ServesFront requests a b → ServesFront requests (behind taken a) (behind taken b)
+front_behind taken requests a b front = record {
+  whole = front.whole;
+  last = front.last;
+  back = front.back;
+  is = front.is;
+  one = front.one;
+  files = front.files;
+  said = front.said;
+  unsaid = front.unsaid;
+  answer = ap (λ (o : List ℕ). taken ++ o) front.answer ∙ sym (append_assoc taken a.out ((serve_all a.files front.whole).answer ++ front.said));
+  within = front.within;
+}
 
 -- nothing was asked yet
 pub served_none : (files : List Entry) (service : Service) → StandsFor [] service → service.out ≡ [] → service.ended ≡ false → HasServed files [] [] service files
 served_none files service stands out on = record { stands = stands; left = refl; given_out = out; ends = on }
 
--- a piece that was taken
-pub served_more : (first : List Entry) (fed taken piece : List ℕ) (old new : Service) (files files' : List Entry) → old.ended ≡ false → HasServed first fed taken old files → Feeds fed piece old new files files' → HasServed first (fed ++ piece) taken new files'
-served_more first fed taken piece old new files files' on has feeds =
-    let second : Serves feeds.requests files files' (taken ++ old.out) (taken ++ new.out) new.ended = record {
-      files = feeds.serves.files;
-      answer = ap (λ (o : List ℕ). taken ++ o) feeds.serves.answer ∙ sym (append_assoc taken old.out (serve_all files feeds.requests).answer);
-      ends = feeds.serves.ends;
-    } in
-    let all = subst (λ (rs : List Request). Serves rs first files' [] (taken ++ new.out) new.ended) (sym feeds.is) (serves_more (requests_in fed) feeds.requests first files files' [] (taken ++ old.out) (taken ++ new.out) old.ended new.ended on (so_far first files fed taken old has) second) in
-    record { stands = feeds.stands; left = all.files; given_out = all.answer; ends = all.ends }
+-- whether a service is spent says nothing of what it holds
+stands_unspent : (fed : List ℕ) (service : Service) (spent : Bool) → StandsFor fed service → StandsFor fed (record service { spent = spent })
+stands_unspent fed service spent stands = record { reads = stands.reads; sound = stands.sound; keeps = stands.keeps }
 
--- a piece that an ended service dropped
-pub served_dropped : (first : List Entry) (fed taken piece : List ℕ) (old : Service) (files : List Entry) → old.ended ≡ true → HasServed first fed taken old files → HasServed first (fed ++ piece) taken old files
-served_dropped first fed taken piece old files stop has =
+-- want of memory at a piece of which nothing was served
+pub feeds_none : (fed piece : List ℕ) (old new : Service) (files : List Entry) → new.out ≡ old.out → FeedsFront fed piece old new files files
+feeds_none fed piece old new files same =
     let grows = requests_grow fed piece in
-    let all = subst (λ (rs : List Request). Serves rs first files [] (taken ++ old.out) old.ended) (sym grows.is) (serves_ended (requests_in fed) grows.further first files [] (taken ++ old.out) old.ended stop (so_far first files fed taken old has)) in
     record {
-      stands = record {
-        reads = λ on. absurd (true≢false (sym stop ∙ on));
-        sound = λ on. absurd (true≢false (sym stop ∙ on));
-        keeps = λ on. absurd (true≢false (sym stop ∙ on));
-      };
-      left = all.files;
-      given_out = all.answer;
-      ends = all.ends;
+      requests = grows.further;
+      is = grows.is;
+      front = front_none grows.further (moment_behind [] files old) (moment_behind [] files new) refl same;
     }
 
+-- A service that began over some files was fed these bytes, and these of its answers were taken. The next piece:
+module _ (first : List Entry) (fed taken piece : List ℕ) where
+  -- it was taken
+  pub served_more : (old new : Service) (files files' : List Entry) → old.ended ≡ false → HasServed first fed taken old files → Feeds fed piece old new files files'
+      → HasServed first (fed ++ piece) taken new files'
+  served_more old new files files' on has feeds =
+      let all = subst (λ (rs : List Request). Serves rs (moment_first first) (moment_behind taken files' new)) (sym feeds.is)
+      (serves_more (requests_in fed) feeds.requests (moment_first first) (moment_behind taken files old) (moment_behind taken files' new) on (so_far first files fed taken old has)
+      (serves_behind taken feeds.requests (moment_behind [] files old) (moment_behind [] files' new) feeds.serves)) in
+      record { stands = feeds.stands; left = all.files; given_out = all.answer; ends = all.ends }
+
+  -- an ended service dropped it
+  pub served_dropped : (old : Service) (files : List Entry) → old.ended ≡ true → HasServed first fed taken old files → HasServed first (fed ++ piece) taken old files
+  served_dropped old files stop has =
+      let grows = requests_grow fed piece in
+      let all = subst (λ (rs : List Request). Serves rs (moment_first first) (moment_behind taken files old)) (sym grows.is)
+      (serves_ended (requests_in fed) grows.further (moment_first first) (moment_behind taken files old) stop (so_far first files fed taken old has)) in
+      record {
+        stands = record {
+          reads = λ on. absurd (true≢false (sym stop ∙ on));
+          sound = λ on. absurd (true≢false (sym stop ∙ on));
+          keeps = λ on. absurd (true≢false (sym stop ∙ on));
+        };
+        left = all.files;
+        given_out = all.answer;
+        ends = all.ends;
+      }
+
+  -- a spent service refused it
+  pub front_same : (old : Service) (files : List Entry) → HasServed first fed taken old files
+      → ServesFront (requests_in (fed ++ piece)) (moment_first first) (moment_behind taken files old)
+  front_same old files has =
+      let grows = requests_grow fed piece in
+      subst (λ (rs : List Request). ServesFront rs (moment_first first) (moment_behind taken files old)) (sym grows.is)
+      (front_less (requests_in fed) grows.further (moment_first first) (moment_behind taken files old)
+      (front_whole (requests_in fed) (moment_first first) (moment_behind taken files old) (so_far first files fed taken old has)))
+
+  -- memory ran out at it
+  pub front_fed : (old new : Service) (files files' : List Entry) → old.ended ≡ false → HasServed first fed taken old files → FeedsFront fed piece old new files files'
+      → ServesFront (requests_in (fed ++ piece)) (moment_first first) (moment_behind taken files' new)
+  front_fed old new files files' on has feeds =
+      subst (λ (rs : List Request). ServesFront rs (moment_first first) (moment_behind taken files' new)) (sym feeds.is)
+      (front_more (requests_in fed) feeds.requests (moment_first first) (moment_behind taken files old) (moment_behind taken files' new) on (so_far first files fed taken old has)
+      (front_behind taken feeds.requests (moment_behind [] files old) (moment_behind [] files' new) feeds.front))
+
 -- answers that were taken
-pub served_taken : (first : List Entry) (fed taken : List ℕ) (n : ℕ) (old new : Service) (files : List Entry) → new ≡ record old { out = drop n old.out } → HasServed first fed taken old files → HasServed first fed (taken ++ take n old.out) new files
+pub served_taken : (first : List Entry) (fed taken : List ℕ) (n : ℕ) (old new : Service) (files : List Entry) → new ≡ record old { out = drop n old.out }
+    → HasServed first fed taken old files → HasServed first fed (taken ++ take n old.out) new files
 served_taken first fed taken n old new files is has =
     subst (λ (s : Service). HasServed first fed (taken ++ take n old.out) s files) (sym is) (record {
       stands = record { reads = has.stands.reads; sound = has.stands.sound; keeps = has.stands.keeps };
@@ -89,35 +148,23 @@ served_taken first fed taken n old new files is has =
       ends = has.ends;
     })
 
--- want of memory at a piece
-pub front_same : (first : List Entry) (fed taken piece : List ℕ) (old : Service) (files files' : List Entry) → HasServed first fed taken old files → files' ≡ files → ServesFront (requests_in (fed ++ piece)) first files'
-front_same first fed taken piece old files files' has same =
-    let grows = requests_grow fed piece in
-    record { front = requests_in fed; back = grows.further; is = grows.is; files = same ∙ has.left }
+-- A call on an open service, seen before as another view of the same.
+module _ (old view new : Service) (files files' : List Entry) (piece : List ℕ) (same : view ≡ old) (on : view.ended ≡ false) where
+  before : (first : List Entry) (fed taken : List ℕ) → HasServed first fed taken old files → HasServed first fed taken (record view { spent = false }) files
+  before first fed taken has =
+      let seen = subst (λ (s : Service). HasServed first fed taken s files) (sym same) has in
+      record { stands = stands_unspent fed view false seen.stands; left = seen.left; given_out = seen.given_out; ends = seen.ends }
 
-pub front_fed : (first : List Entry) (fed taken piece : List ℕ) (old : Service) (files files' : List Entry) → old.ended ≡ false → HasServed first fed taken old files → (files' ≡ files) ⊎ FeedsFront fed piece files files' → ServesFront (requests_in (fed ++ piece)) first files'
-front_fed first fed taken piece old files files' on has (inl same) = front_same first fed taken piece old files files' has same
-front_fed first fed taken piece old files files' on has (inr feeds) =
-    subst (λ (rs : List Request). ServesFront rs first files') (sym feeds.is) (front_more (requests_in fed) feeds.requests first files files' [] (taken ++ old.out) old.ended on (so_far first files fed taken old has) feeds.front)
+  pub call_served : ((fed : List ℕ) → StandsFor fed (record view { spent = false }) → Feeds fed piece (record view { spent = false }) new files files') → (spent : Bool)
+      → (first : List Entry) (fed taken : List ℕ) → HasServed first fed taken old files → HasServed first (fed ++ piece) taken (record new { spent = spent }) files'
+  call_served call spent first fed taken has =
+      let fresh = before first fed taken has in
+      let after = served_more first fed taken piece (record view { spent = false }) new files files' on fresh (call fed fresh.stands) in
+      record { stands = stands_unspent (fed ++ piece) new spent after.stands; left = after.left; given_out = after.given_out; ends = after.ends }
 
--- what follows from what an error has
-pub on_err_weaker : {T E P Q : Type 0} (r : Result T E) → (P → Q) → OnErr r P → OnErr r Q
-on_err_weaker (Ok x) f p = tt
-on_err_weaker (Err e) f p = f p
-
--- whether a service is spent says nothing of what it holds
-stands_unspent : (fed : List ℕ) (service : Service) (spent : Bool) → StandsFor fed service → StandsFor fed (record service { spent = spent })
-stands_unspent fed service spent stands = record { reads = stands.reads; sound = stands.sound; keeps = stands.keeps }
-
--- a call on an open service, seen before as another view of the same
-pub call_served : (old view new : Service) (files files' : List Entry) (piece : List ℕ) → view ≡ old → view.ended ≡ false → ((fed : List ℕ) → StandsFor fed (record view { spent = false }) → Feeds fed piece (record view { spent = false }) new files files') → (spent : Bool) → (first : List Entry) (fed taken : List ℕ) → HasServed first fed taken old files → HasServed first (fed ++ piece) taken (record new { spent = spent }) files'
-call_served old view new files files' piece same on call spent first fed taken has =
-    let before = subst (λ (s : Service). HasServed first fed taken s files) (sym same) has in
-    let fresh : HasServed first fed taken (record view { spent = false }) files = record { stands = stands_unspent fed view false before.stands; left = before.left; given_out = before.given_out; ends = before.ends } in
-    let after = served_more first fed taken piece (record view { spent = false }) new files files' on fresh (call fed fresh.stands) in
-    record { stands = stands_unspent (fed ++ piece) new spent after.stands; left = after.left; given_out = after.given_out; ends = after.ends }
-
-pub call_front : (old view : Service) (files files' : List Entry) (piece : List ℕ) → view ≡ old → view.ended ≡ false → ((fed : List ℕ) → StandsFor fed (record view { spent = false }) → (files' ≡ files) ⊎ FeedsFront fed piece files files') → (first : List Entry) (fed taken : List ℕ) → HasServed first fed taken old files → ServesFront (requests_in (fed ++ piece)) first files'
-call_front old view files files' piece same on call first fed taken has =
-    let before = subst (λ (s : Service). HasServed first fed taken s files) (sym same) has in
-    front_fed first fed taken piece view files files' on before (call fed (stands_unspent fed view false before.stands))
+  pub call_front : ((fed : List ℕ) → StandsFor fed (record view { spent = false }) → FeedsFront fed piece (record view { spent = false }) new files files')
+      → (first : List Entry) (fed taken : List ℕ) → HasServed first fed taken old files
+      → ServesFront (requests_in (fed ++ piece)) (moment_first first) (moment_behind taken files' new)
+  call_front call first fed taken has =
+      let fresh = before first fed taken has in
+      front_fed first fed taken piece (record view { spent = false }) new files files' on fresh (call fed fresh.stands)

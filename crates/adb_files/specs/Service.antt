@@ -8,6 +8,7 @@ use Rattle.adb_sync.specs.declared.ask_format.AskFormat.{AskFormat}
 use Rattle.adb_sync.specs.declared.error.SyncError.{SyncError}
 use Rattle.adb_files.specs.Entries.{Entry}
 use Rattle.adb_files.specs.declared.session.Sending.{Sending}
+use Rattle.adb_files.specs.declared.session.Session.{Session}
 use Rattle.adb_files.specs.Files.{most_bytes}
 use Rattle.adb_files.specs.Requests.{OpenSend, Request, requests_of, open_after, requests_in}
 use Rattle.adb_files.specs.Served.{serve_all, served}
@@ -34,11 +35,51 @@ KeepsSend None (Some kept) = ⊥
 KeepsSend (Some send) None = ⊥
 KeepsSend (Some send) (Some kept) = IsKept send kept
 
+-- what a service that serves has at a moment: the files that are lent to it, the answers that were not taken yet, and whether it has ended
+pub record Moment : Type 0 where
+  pub files : List Entry
+  pub out : List ℕ
+  pub ended : Bool
+
+abbrev pub moment : List Entry → Session → Moment
+moment files session = record { files = files; out = session.out; ended = session.ended }
+
+-- a moment of a service, its answers behind those that were taken
+abbrev pub moment_behind : List ℕ → List Entry → Service → Moment
+moment_behind taken files service = record { files = files; out = taken ++ service.out; ended = service.ended }
+
+-- a service that was asked nothing yet, over some files
+abbrev pub moment_first : List Entry → Moment
+moment_first files = record { files = files; out = []; ended = false }
+
 -- Requests were served: the files are those that they leave, their answer stands behind what was there, and the service has ended where they end it.
-pub record Serves (requests : List Request) (old new : List Entry) (out out' : List ℕ) (ended : Bool) : Type 0 where
-  pub files : new ≡ (serve_all old requests).files
-  pub answer : out' ≡ out ++ (serve_all old requests).answer
-  pub ends : ended ≡ (serve_all old requests).ended
+pub record Serves (requests : List Request) (old new : Moment) : Type 0 where
+  pub files : new.files ≡ (serve_all old.files requests).files
+  pub answer : new.out ≡ old.out ++ (serve_all old.files requests).answer
+  pub ends : new.ended ≡ (serve_all old.files requests).ended
+
+-- Of an answer this is not told yet; what is told of it stands behind what was there.
+pub record TellsUpTo (answer unsaid out out' : List ℕ) : Type 0 where
+  pub said : List ℕ
+  pub behind : out' ≡ out ++ said
+  pub within : answer ≡ said ++ unsaid
+
+-- a front of an answer is told
+abbrev pub TellsFront : List ℕ → List ℕ → List ℕ → Type 0
+TellsFront answer out out' = (unsaid : List ℕ) × TellsUpTo answer unsaid out out'
+
+-- Memory ran out while requests were served. The first of them were served and wholly answered. Of at most one more the files are what it leaves, and a front of its answer is told. No other was served.
+pub record ServesFront (requests : List Request) (old new : Moment) : Type 0 where
+  pub whole : List Request
+  pub last : List Request
+  pub back : List Request
+  pub is : requests ≡ whole ++ (last ++ back)
+  pub one : length last ≤ 1
+  pub files : new.files ≡ (serve_all old.files (whole ++ last)).files
+  pub said : List ℕ
+  pub unsaid : List ℕ
+  pub answer : new.out ≡ old.out ++ ((serve_all old.files whole).answer ++ said)
+  pub within : (serve_all old.files (whole ++ last)).answer ≡ ((serve_all old.files whole).answer ++ said) ++ unsaid
 
 -- the path of a SEND has at most 1,024 bytes
 abbrev pub HasShortPath : SyncAsk → Type 0
@@ -54,26 +95,35 @@ abbrev pub HasShortSend : Option Sending → Type 0
 HasShortSend None = Unit {0}
 HasShortSend (Some sending) = length sending.path ≤ 1024
 
--- A front of the requests was served, and the files are those that it leaves.
-pub record ServesFront (requests : List Request) (old new : List Entry) : Type 0 where
-  pub front : List Request
-  pub back : List Request
-  pub is : requests ≡ front ++ back
-  pub files : new ≡ (serve_all old front).files
+-- the reader of requests, the session that serves them, and the files that are lent to it
+pub record Run : Type 0 where
+  pub reader : Cut AskFormat SyncAsk SyncError
+  pub session : Session
+  pub files : List Entry
+
+abbrev pub run : Cut AskFormat SyncAsk SyncError → Session → List Entry → Run
+run reader session files = record { reader = reader; session = session; files = files }
+
+abbrev pub moment_of : Run → Moment
+moment_of r = moment r.files r.session
+
+-- a service that is not spent
+abbrev pub held : Cut AskFormat SyncAsk SyncError → Session → Service
+held reader session = record { reading = reader; sending = session.sending; out = session.out; ended = session.ended; spent = false }
 
 -- The requests that a reader gives were served. Where the service goes on the reader has none left, and what is kept is that of the SEND that they leave open.
-pub record ServesGiven (send : Option OpenSend) (reader reader' : Cut AskFormat SyncAsk SyncError) (old new : List Entry) (out out' : List ℕ) (ended : Bool) (kept : Option Sending) : Type 0 where
-  pub serves : Serves (requests_of send reader.given) old new out out' ended
-  pub empty : ended ≡ false → reader' ≡ record reader { given = [] }
-  pub keeps : ended ≡ false → KeepsSend (open_after send reader.given) kept
+pub record ServesGiven (send : Option OpenSend) (old new : Run) : Type 0 where
+  pub serves : Serves (requests_of send old.reader.given) (moment_of old) (moment_of new)
+  pub empty : new.session.ended ≡ false → new.reader ≡ record old.reader { given = [] }
+  pub keeps : new.session.ended ≡ false → KeepsSend (open_after send old.reader.given) new.session.sending
 
 -- Of the messages that a reader gave so far these are done, and their requests were served.
-pub record Done (send : Option OpenSend) (reader reader' : Cut AskFormat SyncAsk SyncError) (old new : List Entry) (out out' : List ℕ) (ended : Bool) (kept : Option Sending) : Type 0 where
+pub record Done (send : Option OpenSend) (old new : Run) : Type 0 where
   pub done : List SyncAsk
-  pub is : reader.given ≡ done ++ reader'.given
-  pub same : reader' ≡ record reader { given = reader'.given }
-  pub serves : Serves (requests_of send done) old new out out' ended
-  pub keeps : KeepsSend (open_after send done) kept
+  pub is : old.reader.given ≡ done ++ new.reader.given
+  pub same : new.reader ≡ record old.reader { given = new.reader.given }
+  pub serves : Serves (requests_of send done) (moment_of old) (moment_of new)
+  pub keeps : KeepsSend (open_after send done) new.session.sending
 
 -- What a service that goes on holds of all the bytes that it was fed: their requests were served, no fault is among them, and what is kept is that of the SEND that they leave open.
 pub record StandsFor (fed : List ℕ) (service : Service) : Type 0 where
@@ -85,14 +135,14 @@ pub record StandsFor (fed : List ℕ) (service : Service) : Type 0 where
 pub record Feeds (fed piece : List ℕ) (old new : Service) (files files' : List Entry) : Type 0 where
   pub requests : List Request
   pub is : requests_in (fed ++ piece) ≡ requests_in fed ++ requests
-  pub serves : Serves requests files files' old.out new.out new.ended
+  pub serves : Serves requests (moment_behind [] files old) (moment_behind [] files' new)
   pub stands : StandsFor (fed ++ piece) new
 
 -- Memory ran out at a piece: a front of the requests that it completes was served.
-pub record FeedsFront (fed piece : List ℕ) (files files' : List Entry) : Type 0 where
+pub record FeedsFront (fed piece : List ℕ) (old new : Service) (files files' : List Entry) : Type 0 where
   pub requests : List Request
   pub is : requests_in (fed ++ piece) ≡ requests_in fed ++ requests
-  pub front : ServesFront requests files files'
+  pub front : ServesFront requests (moment_behind [] files old) (moment_behind [] files' new)
 
 -- A service that began over some files, that was fed these bytes and of whose answers these were taken, where nobody else changed the files between its feeds: the files, its answers, the taken ones and those that are left, and whether it has ended are as all the bytes are served.
 pub record HasServed (first : List Entry) (fed taken : List ℕ) (service : Service) (files : List Entry) : Type 0 where

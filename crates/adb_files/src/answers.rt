@@ -1,10 +1,11 @@
 //! What a whole request is answered.
 
-ghost use Rattle.std.specs.Prelude.{◌≡◌, ◌≤◌, ◌<◌, ◌^◌, ◌++◌, length, map, All, Option, OnOk, IfOk};
+ghost use Rattle.std.specs.Prelude.{◌≡◌, ◌≤◌, ◌<◌, ◌^◌, ◌++◌, length, map, All, Option, OnOk, OnErr, IfOk};
 ghost use Rattle.adb_sync.specs.declared.answer.Dirent.{Dirent};
 ghost use Rattle.adb_files.specs.Files.{is_directory};
 ghost use Rattle.adb_files.specs.Served.{fault_text, fail_bytes, stat_in, stat_bytes_of, list_bytes, chunk_bytes, recv_bytes};
 ghost use Rattle.adb_files.specs.Listing.{listing};
+ghost use Rattle.adb_files.specs.Service.{TellsFront};
 
 use crate::files::Files;
 use crate::outbox::Outbox;
@@ -27,17 +28,19 @@ pub fn fault_text(fault: SyncError) -> &'static [u8]
     }
 }
 
-/// Adds a FAIL.
+/// Adds a FAIL. After want of memory the answers are as before.
 pub fn fail(alloc: Global, text: &[u8], out: &mut Outbox) -> Result<(), AllocError>
     requires { length text.now ≤ 20 }
-    ensures { OnOk result (out.new ≡ out.old ++ fail_bytes text.now) }
+    ensures ok { OnOk result (out.new ≡ out.old ++ fail_bytes text.now) }
+    ensures err { OnErr result (out.new ≡ out.old) }
 {
     out.push(&SyncAnswer::Fail(Text::from_slice(alloc, text)?))
 }
 
-/// Adds the answer of a STAT.
+/// Adds the answer of a STAT. After want of memory the answers are as before.
 pub fn answer_stat(files: &Files, path: &[u8], out: &mut Outbox) -> Result<(), AllocError>
-    ensures { OnOk result (out.new ≡ out.old ++ stat_bytes_of (stat_in files.now path.now)) }
+    ensures ok { OnOk result (out.new ≡ out.old ++ stat_bytes_of (stat_in files.now path.now)) }
+    ensures err { OnErr result (out.new ≡ out.old) }
 {
     let stat = files.stat(path);
     out.push(&SyncAnswer::Stat {
@@ -47,9 +50,11 @@ pub fn answer_stat(files: &Files, path: &[u8], out: &mut Outbox) -> Result<(), A
     })
 }
 
-/// Adds the answer of a LIST.
+/// Adds the answer of a LIST. After want of memory a front of it may stand there.
 pub fn answer_list(files: &Files, path: &[u8], out: &mut Outbox) -> Result<(), AllocError>
-    ensures { OnOk result (out.new ≡ out.old ++ list_bytes (listing path.now files.now)) }
+    ensures ok { OnOk result (out.new ≡ out.old ++ list_bytes (listing path.now files.now)) }
+    ensures err { OnErr result
+        (TellsFront (list_bytes (listing path.now files.now)) out.old out.new) }
 {
     for entry in files.list(path)? {
         out.push(&SyncAnswer::Dent {
@@ -62,14 +67,15 @@ pub fn answer_list(files: &Files, path: &[u8], out: &mut Outbox) -> Result<(), A
     out.push(&SyncAnswer::ListEnd)
 }
 
-/// Adds the answer of a RECV.
+/// Adds the answer of a RECV. After want of memory the answers are as before.
 pub fn answer_recv(
     alloc: Global,
     files: &Files,
     path: &[u8],
     out: &mut Outbox,
 ) -> Result<(), AllocError>
-    ensures { OnOk result (out.new ≡ out.old ++ recv_bytes files.now path.now) }
+    ensures ok { OnOk result (out.new ≡ out.old ++ recv_bytes files.now path.now) }
+    ensures err { OnErr result (out.new ≡ out.old) }
 {
     match files.share(path)? {
         Ok(file) => out.push_file(file),

@@ -6,7 +6,7 @@ ghost use Rattle.std.specs.List.{AllByRecursion};
 ghost use Rattle.std.specs.Io.{StartsWith};
 ghost use Rattle.adb_files.specs.Entries.{Entry};
 ghost use Rattle.adb_files.specs.Requests.{requests_in};
-ghost use Rattle.adb_files.specs.Service.{StandsFor, Feeds, FeedsFront, ServesFront, HasServed, HasShortPath, HasShortSend};
+ghost use Rattle.adb_files.specs.Service.{StandsFor, Feeds, FeedsFront, ServesFront, HasServed, held, moment_first, moment_behind, HasShortPath, HasShortSend};
 
 use crate::files::Files;
 use crate::session::{Session, serve_given};
@@ -54,8 +54,9 @@ impl SyncService {
     /// Takes the next piece of the stream, of any length. The whole requests that it completes are
     /// served in order over these files, a SEND with its DONE as one: the file changes at its DONE
     /// alone, as a whole. A fault is answered by one FAIL, and ends the service as a QUIT does; what
-    /// follows is dropped. After want of memory a front of these requests was served, and the service
-    /// is spent: every call answers want of memory and changes nothing. Where nobody else changes the
+    /// follows is dropped. After want of memory a front of these requests was served, of
+    /// whose answers all but the last are whole, and the service is spent: every call answers want of
+    /// memory and changes nothing. Where nobody else changes the
     /// files between the calls, all that the service did is what `served` says of all the bytes fed.
     pub fn feed(&mut self, files: &mut Files, piece: &[u8]) -> Result<(), AllocError>
         ensures ok { OnOk result ((self.old.spent ≡ false) × (self.new.spent ≡ false)) }
@@ -66,13 +67,14 @@ impl SyncService {
         ensures err { OnErr result (self.new.spent ≡ true) }
         ensures front { OnErr result (self.old.ended ≡ false → (fed : List ℕ)
             → StandsFor fed self.old
-            → (files.new ≡ files.old) ⊎ FeedsFront fed piece.now files.old files.new) }
+            → FeedsFront fed piece.now self.old self.new files.old files.new) }
         ensures whole { OnOk result ((first : List Entry) (fed taken : List ℕ)
             → HasServed first fed taken self.old files.old
             → HasServed first (fed ++ piece.now) taken self.new files.new) }
         ensures whole_front { OnErr result ((first : List Entry) (fed taken : List ℕ)
             → HasServed first fed taken self.old files.old
-            → ServesFront (requests_in (fed ++ piece.now)) first files.new) }
+            → ServesFront (requests_in (fed ++ piece.now))
+            (moment_first first) (moment_behind taken files.new self.new)) }
         ensures stays { self.old.spent ≡ true
             → (IsErr result) × (files.new ≡ files.old) × (self.new ≡ self.old) }
     {
@@ -129,12 +131,13 @@ fn feed_open(
     requires kept { HasShortSend session.old.sending }
     requires goes_on { session.old.ended ≡ false }
     ensures ok { OnOk result ((fed : List ℕ)
-        → StandsFor fed (record { reading = reader.old; sending = session.old.sending; out = session.old.out; ended = session.old.ended; spent = false })
-        → Feeds fed piece.now (record { reading = reader.old; sending = session.old.sending; out = session.old.out; ended = session.old.ended; spent = false })
-        (record { reading = reader.new; sending = session.new.sending; out = session.new.out; ended = session.new.ended; spent = false }) files.old files.new) }
+        → StandsFor fed (held reader.old session.old)
+        → Feeds fed piece.now (held reader.old session.old) (held reader.new session.new)
+        files.old files.new) }
     ensures err { OnErr result ((fed : List ℕ)
-        → StandsFor fed (record { reading = reader.old; sending = session.old.sending; out = session.old.out; ended = session.old.ended; spent = false })
-        → (files.new ≡ files.old) ⊎ FeedsFront fed piece.now files.old files.new) }
+        → StandsFor fed (held reader.old session.old)
+        → FeedsFront fed piece.now (held reader.old session.old) (held reader.new session.new)
+        files.old files.new) }
     ensures short { AllByRecursion HasShortPath reader.new.given }
     ensures kept { HasShortSend session.new.sending }
 {

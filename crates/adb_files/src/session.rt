@@ -7,7 +7,7 @@ ghost use Rattle.adb_files.specs.declared.session.Sending.{Sending};
 ghost use Rattle.adb_files.specs.Files.{most_bytes};
 ghost use Rattle.adb_files.specs.Requests.{OpenSend, Sends, Fails, completed, continued, open_past, requests_of};
 ghost use Rattle.adb_files.specs.Served.{serve_one, serve_all, fail_bytes, fault_text};
-ghost use Rattle.adb_files.specs.Service.{IsKept, KeepsSend, Serves, ServesGiven, ServesFront, HasShortPath, HasShortSend};
+ghost use Rattle.adb_files.specs.Service.{IsKept, KeepsSend, moment, run, Serves, ServesGiven, ServesFront, HasShortPath, HasShortSend};
 
 use crate::answers::{answer_list, answer_recv, answer_stat, fail, fault_text};
 use crate::file::{File, FileError};
@@ -73,7 +73,9 @@ fn serve_send(
         → let served = serve_one files.old (Sends send.path send.mode send.bytes mtime)
         in (files.new ≡ served.files) × (out.new ≡ out.old ++ served.answer)) }
     ensures err { OnErr result ((send : OpenSend) → IsKept send sending
-        → (files.new ≡ files.old) ⊎ (files.new ≡ (serve_one files.old (Sends send.path send.mode send.bytes mtime)).files)) }
+        → let served = serve_one files.old (Sends send.path send.mode send.bytes mtime)
+        in (files.new ≡ files.old) ⊎ (files.new ≡ served.files)) }
+    ensures same { OnErr result (out.new ≡ out.old) }
 {
     if !is_path(sending.path.as_slice()) {
         return fail(alloc, FileError::BadPath.text(), out);
@@ -125,10 +127,10 @@ impl Session {
         requires kept { HasShortSend self.old.sending }
         requires goes_on { self.old.ended ≡ false }
         ensures ok { OnOk result ((send : Option OpenSend) → KeepsSend send self.old.sending
-            → Serves (completed send ask) files.old files.new self.old.out self.new.out self.new.ended
+            → Serves (completed send ask) (moment files.old self.old) (moment files.new self.new)
             × KeepsSend (open_past send ask) self.new.sending) }
         ensures err { OnErr result ((send : Option OpenSend) → KeepsSend send self.old.sending
-            → (files.new ≡ files.old) ⊎ (files.new ≡ (serve_all files.old (completed send ask)).files)) }
+            → ServesFront (completed send ask) (moment files.old self.old) (moment files.new self.new)) }
         ensures short { HasShortSend self.new.sending }
     {
         let alloc = self.alloc;
@@ -157,7 +159,9 @@ impl Session {
 
     /// Serves a fault: a FAIL with its text, and the end.
     pub fn take_fault(&mut self, fault: SyncError) -> Result<(), AllocError>
-        ensures ok { OnOk result ((self.new.out ≡ self.old.out ++ fail_bytes (fault_text fault)) × (self.new.ended ≡ true)) }
+        ensures ok { OnOk result ((self.new.out ≡ self.old.out ++ fail_bytes (fault_text fault))
+            × (self.new.ended ≡ true)) }
+        ensures err { OnErr result (self.new.out ≡ self.old.out) }
         ensures kept { self.new.sending ≡ self.old.sending }
     {
         fail(self.alloc, fault_text(fault), &mut self.out)?;
@@ -176,9 +180,10 @@ pub fn serve_given(
     requires kept { HasShortSend session.old.sending }
     requires goes_on { session.old.ended ≡ false }
     ensures ok { OnOk result ((send : Option OpenSend) → KeepsSend send session.old.sending
-        → ServesGiven send reader.old reader.new files.old files.new session.old.out session.new.out session.new.ended session.new.sending) }
+        → ServesGiven send (run reader.old session.old files.old) (run reader.new session.new files.new)) }
     ensures err { OnErr result ((send : Option OpenSend) → KeepsSend send session.old.sending
-        → ServesFront (requests_of send reader.old.given) files.old files.new) }
+        → ServesFront (requests_of send reader.old.given)
+        (moment files.old session.old) (moment files.new session.new)) }
     ensures short { AllByRecursion HasShortPath reader.new.given }
     ensures kept { HasShortSend session.new.sending }
 {

@@ -1,21 +1,23 @@
 //! The table of forwards.
 
-ghost use Rattle.adb_forward.specs.Forwards.{row_at, IsSpecification, IsForwardTable, ChangesAt, forward_line, forward_list};
+ghost use Rattle.adb_forward.specs.Forwards.{IsSpecification, IsForwardTable, forward_row, forward_line, forward_list};
+ghost use Rattle.adb_outside.specs.Tables.{at, put_at, without, Puts};
+ghost use Rattle.std.specs.Bool.{OnFalse};
 ghost use Rattle.std.specs.Option.{option_copied};
-ghost use Rattle.std.specs.Prelude.{◌≡◌, ◌≤◌, ◌++◌, ◌↔◌, ◌==◌, [], length, filter, not, is_some, IsTrue, IsSome, IfOk, OnOk, OnErr};
+ghost use Rattle.std.specs.Prelude.{◌≡◌, ◌≤◌, ◌<◌, ◌^◌, ◌++◌, ◌↔◌, ◌==◌, [], length, filter, not, is_some, IsTrue, IsSome, IfOk, OnOk, OnErr};
 
 use crate::row::{ForwardError, ForwardRow};
-use adb_outside::Text;
+use adb_outside::{MAX_SERIAL, Text, is_graphic};
 use itoa::Buffer;
 use std::alloc::{AllocError, Global};
 use std::collections::BTreeMap;
 use std::marker::Model;
 
 /// How many forwards there may be.
-const MAX_FORWARDS: usize = 64;
+pub const MAX_FORWARDS: usize = 64;
 
 /// How many bytes a remote end may have.
-const MAX_REMOTE: usize = 512;
+pub const MAX_REMOTE: usize = 512;
 
 /// The forwards, at most 64. Contracts see them as the list of the entries, each a local port and
 /// its row, in rising port.
@@ -49,11 +51,11 @@ impl Forwards {
         }
     }
 
-    /// Puts a row at the local port, in the place of the one that is there. The refusals are looked
-    /// for in the order of `ForwardError`: `BadSpec` comes exactly where the port is 0 or the remote
-    /// end is not 1 to 512 bytes of 0x21 to 0x7e, `Exists` exactly where the port has a row and
-    /// `norebind` asks to keep it, `Full` exactly where it has none and 64 rows are held. After an
-    /// error the table is as before.
+    /// Puts a row at the local port, in the place of the one that is there. The refusals are
+    /// looked for in the order of `ForwardError`: `BadSpec` comes exactly where the port is 0 or
+    /// the remote end is not 1 to 512 bytes of 0x21 to 0x7e, `Exists` exactly where the port has a
+    /// row and `norebind` asks to keep it, `Full` exactly where it has none and 64 rows are held.
+    /// After an error the table is as before.
     pub fn put(
         &mut self,
         local: u16,
@@ -62,13 +64,11 @@ impl Forwards {
         remote: &[u8],
         norebind: bool,
     ) -> Result<(), ForwardError>
-        requires { length serial.now ≤ 64 }
-        ensures ok { OnOk result (ChangesAt local (Some (record {
-          local = local;
-          transport = transport;
-          serial = serial.now;
-          remote = remote.now;
-        })) self.old self.new) }
+        requires { length serial.now ≤ MAX_SERIAL }
+        ensures ok { OnOk result
+            (self.new ≡ put_at local (forward_row local transport serial.now remote.now) self.old) }
+        ensures row { OnOk result (Puts local
+            (Some (forward_row local transport serial.now remote.now)) self.old self.new) }
         ensures err { OnErr result (self.new ≡ self.old) }
         ensures table { IsForwardTable self.new }
 
@@ -76,10 +76,10 @@ impl Forwards {
         ensures bad_spec { (result ≡ Err ForwardError.BadSpec)
             ↔ (¬ (IsSpecification local remote.now)) }
         ensures exists { (result ≡ Err ForwardError.Exists)
-            ↔ (IsSpecification local remote.now × IsTrue norebind × IsSome (row_at local self.old)) }
+            ↔ (IsSpecification local remote.now × IsTrue norebind × IsSome (at local self.old)) }
         ensures full { (result ≡ Err ForwardError.Full)
-            ↔ (IsSpecification local remote.now × (row_at local self.old ≡ None)
-            × (length self.old ≡ 64)) }
+            ↔ (IsSpecification local remote.now × (at local self.old ≡ None)
+            × (length self.old ≡ MAX_FORWARDS)) }
     {
         let is_there = self.rows.contains_key(&local);
         if !is_specification(local, remote) {
@@ -103,8 +103,10 @@ impl Forwards {
 
     /// Removes the row of the local port, and says whether there was one.
     pub fn remove(&mut self, local: u16) -> bool
-        ensures found { result ≡ is_some (row_at local self.old) }
-        ensures after { ChangesAt local None self.old self.new }
+        ensures found { result ≡ is_some (at local self.old) }
+        ensures after { self.new ≡ without local self.old }
+        ensures row { Puts local None self.old self.new }
+        ensures absent { OnFalse result (self.new ≡ self.old) }
         ensures table { IsForwardTable self.new }
     {
         self.rows.remove(&local).is_some()
@@ -127,7 +129,7 @@ impl Forwards {
 
     /// Whether a port without a row can get none.
     pub fn is_full(&self) -> bool
-        ensures full { IsTrue result ↔ (length self.now ≡ 64) }
+        ensures full { IsTrue result ↔ (length self.now ≡ MAX_FORWARDS) }
         ensures table { IsForwardTable self.now }
     {
         self.rows.len() == MAX_FORWARDS
@@ -135,7 +137,7 @@ impl Forwards {
 
     /// The row of the local port, or `None` where there is none.
     pub fn find(&self, local: u16) -> Option<&ForwardRow>
-        ensures row { option_copied result ≡ row_at local self.now }
+        ensures row { option_copied result ≡ at local self.now }
         ensures table { IsForwardTable self.now }
     {
         self.rows.get(&local)
@@ -144,6 +146,7 @@ impl Forwards {
     /// A line `<serial> tcp:<local> <remote>` for each row, each with its newline, in rising port.
     pub fn list(&self) -> Result<Text, AllocError>
         ensures text { IfOk result (λ text. text ≡ forward_list self.now) }
+        ensures fits { IfOk result (λ text. length text < 2 ^ 16) }
         ensures table { IsForwardTable self.now }
     {
         let mut text = Text::new(self.alloc);
@@ -158,10 +161,7 @@ impl Forwards {
 fn is_specification(local: u16, remote: &[u8]) -> bool
     ensures { IsTrue result ↔ IsSpecification local remote.now }
 {
-    local != 0
-        && !remote.is_empty()
-        && remote.len() <= MAX_REMOTE
-        && remote.iter().all(|byte| byte.is_ascii_graphic())
+    local != 0 && !remote.is_empty() && remote.len() <= MAX_REMOTE && is_graphic(remote)
 }
 
 /// Adds the line of a row at the end of a text.

@@ -1,7 +1,6 @@
 -- What holds of a cut, frame by frame, for any format.
-use Rattle.std.proofs.Common.{ℕ, ◌+◌, ◌-◌, ◌≡◌, ◌≢◌, ◌≤◌, ◌<◌, zero, suc, List, [], ◌∷◌, ◌++◌, length, take, drop, Option}
-use Rattle.std.proofs.Common.{refl, sym, ◌∙◌, ap, subst, arith}
-use Rattle.std.proofs.lemmas.List.{length-drop, take_at, drop_at, append-nil}
+use Rattle.std.proofs.Common.{ℕ, ◌+◌, ◌-◌, ◌^◌, ◌≡◌, ◌≢◌, ◌≤◌, ◌<◌, zero, suc, List, [], ◌∷◌, ◌++◌, length, take, drop, Option, refl, sym, ◌∙◌, ap, subst, arith}
+use Rattle.std.proofs.lemmas.List.{length-append, length-drop, length-take, take_at, drop_at, take-append-drop, append-nil}
 use Rattle.std.proofs.lemmas.List.Elements.{All-take, All-drop}
 use Rattle.adb_outside.specs.declared.framer.Front.{Front}
 use Rattle.adb_outside.specs.declared.framer.Front.TheVariants.{More, Bad, Whole}
@@ -9,43 +8,69 @@ use Rattle.adb_outside.specs.Framing.{Cut, uncut, joined, cut_by, cut_at, cut, f
 use Rattle.adb_outside.specs.Bytes.{AreBytes}
 use Rattle.adb_outside.proofs.FramingLaws.{cut_first}
 
-pub bytes_before : (n : ℕ) (bytes : List ℕ) → AreBytes bytes → AreBytes (take n bytes)
-bytes_before n bytes are = All-take (λ byte. byte < 256) n bytes are
+-- a front of bytes, and what is behind it
+pub bytes_before : (front rest : List ℕ) → AreBytes (front ++ rest) → AreBytes front
+bytes_before front rest are =
+    subst AreBytes (take_at front rest (length front) refl) (All-take (λ byte. byte < 256) (length front) (front ++ rest) are)
+
+pub bytes_behind : (front rest : List ℕ) → AreBytes (front ++ rest) → AreBytes rest
+bytes_behind front rest are =
+    subst AreBytes (drop_at front rest (length front) refl) (All-drop (λ byte. byte < 256) (length front) (front ++ rest) are)
 
 pub bytes_after : (n : ℕ) (bytes : List ℕ) → AreBytes bytes → AreBytes (drop n bytes)
 bytes_after n bytes are = All-drop (λ byte. byte < 256) n bytes are
 
+-- no bytes on is here
+pub place_here : (offset : ℕ) (rest : List ℕ) → offset < 2 ^ 64 → offset ≡ offset_past offset (length rest - length rest)
+place_here offset rest room = omega (arith, room)
+
 -- an offset past a frame and more is that past both
-pub place_past : (from n len after left : ℕ) → after ≡ len - n → (n ≤ len) × (left ≤ after)
-    → offset_past (offset_past from n) (after - left) ≡ offset_past from (len - left)
-place_past from n len after left rest fits = omega (arith, fits.0, fits.1)
+pub place_past : (offset : ℕ) (frame more rest : List ℕ) → length rest ≤ length more
+    → offset_past (offset_past offset (length frame)) (length more - length rest) ≡ offset_past offset (length (frame ++ more) - length rest)
+place_past offset frame more rest fits = omega (arith, fits, length-append frame more)
 
 module _ {S V F : Type 0} (find : S → List ℕ → Front F) (item : S → List ℕ → V) (after : S → List ℕ → S) (laws : IsFraming find item after) where
   abbrev all : S → List ℕ → Cut S V F
   all = cut find item after
 
+  -- a frame alone
+  abbrev pub IsFrame : S → List ℕ → Type 0
+  IsFrame s frame = find s frame ≡ Whole (length frame)
+
   -- bytes that begin with a frame are that frame and the cut of those behind it
-  pub frame_first : (s : S) (frame more : List ℕ) → find s (frame ++ more) ≡ Whole (length frame)
-      → all s (frame ++ more) ≡ joined (item s frame ∷ []) (all (after s frame) more)
+  pub frame_first : (s : S) (frame more : List ℕ) → IsFrame s frame → all s (frame ++ more) ≡ joined (item s frame ∷ []) (all (after s frame) more)
   frame_first s frame more e =
       let bytes = frame ++ more in
       let n = length frame in
       cut_first find item after laws s bytes
-      ∙ (ap (λ f. cut_by find item after s bytes f all) e
+      ∙ (ap (λ f. cut_by find item after s bytes f all) (laws.whole s frame more n e)
       ∙ (ap (λ b. joined (item s b ∷ []) (all (after s b) (drop n bytes))) (take_at frame more n refl)
       ∙ ap (λ b. joined (item s frame ∷ []) (all (after s frame) b)) (drop_at frame more n refl)))
 
+  -- what bytes begin with is a frame alone, and the others are behind it
+  pub record Splits (s : S) (bytes : List ℕ) (n : ℕ) : Type 0 where
+    pub frame : IsFrame s (take n bytes)
+    pub whole : take n bytes ++ drop n bytes ≡ bytes
+    pub less : length (drop n bytes) < length bytes
+
+  splits : (s : S) (bytes : List ℕ) (n : ℕ) → find s bytes ≡ Whole n → Splits s bytes n
+  splits s bytes n e =
+      let fits = laws.fits s bytes n e in
+      let len : length (take n bytes) ≡ n = omega (arith, length-take n bytes, fits) in
+      record { frame = laws.alone s bytes n e ∙ ap Whole (sym len); whole = take-append-drop n bytes; less = omega (arith, fits, length-drop n bytes) }
+
   -- A relation of bytes that may be read to a cut of them.
   module _ (Reads : S → List ℕ → Type 0) (IsRight : S → List ℕ → Cut S V F → Type 0) where
-    -- What may be read past a frame may be read there; a cut of no frames is right, and one of a frame more than a right one.
+    -- What may be read may be read past a frame.
+    abbrev pub Stays : Type 0
+    Stays = (s : S) (frame more : List ℕ) → IsFrame s frame → Reads s (frame ++ more) → Reads (after s frame) more
+
+    -- A cut without frames is right where it may stop, and so is one with a frame before a right one.
     pub record Steps : Type 0 where
-      pub stays : (s : S) (bytes : List ℕ) (n : ℕ) → Reads s bytes → find s bytes ≡ Whole n
-          → Reads (after s (take n bytes)) (drop n bytes)
-      pub stops : (s : S) (bytes : List ℕ) (fault : Option F) → Reads s bytes → Stops find item after s bytes fault
-          → IsRight s bytes (uncut s bytes fault)
-      pub goes : (s : S) (bytes : List ℕ) (n : ℕ) (c : Cut S V F) → Reads s bytes → find s bytes ≡ Whole n
-          → IsRight (after s (take n bytes)) (drop n bytes) c
-          → IsRight s bytes (joined (item s (take n bytes) ∷ []) c)
+      pub stays : Stays
+      pub stops : (s : S) (bytes : List ℕ) (fault : Option F) → Reads s bytes → Stops find item after s bytes fault → IsRight s bytes (uncut s bytes fault)
+      pub goes : (s : S) (frame more : List ℕ) (c : Cut S V F) → IsFrame s frame → Reads s (frame ++ more) → IsRight (after s frame) more c
+          → IsRight s (frame ++ more) (joined (item s frame ∷ []) c)
 
     stops_at : Steps → (s : S) (bytes : List ℕ) (f : Front F) → Reads s bytes → find s bytes ≡ f → ((n : ℕ) → f ≢ Whole n)
         → IsRight s bytes (uncut s bytes (fault_of f))
@@ -63,9 +88,13 @@ module _ {S V F : Type 0} (find : S → List ℕ → Front F) (item : S → List
         go More is others = stops_at steps s bytes More reads is (λ n e. cc)
         go (Bad fault) is others = stops_at steps s bytes (Bad fault) reads is (λ n e. cc)
         go (Whole n) is others =
-            let fits = laws.fits s bytes n is in
-            steps.goes s bytes n (cut_at find item after k (after s (take n bytes)) (drop n bytes)) reads is
-            (others (after s (take n bytes)) (drop n bytes) (omega (arith, fits, h, length-drop n bytes)) (steps.stays s bytes n reads is))
+            let frame = take n bytes in
+            let more = drop n bytes in
+            let split = splits s bytes n is in
+            let c = cut_at find item after k (after s frame) more in
+            let read : Reads s (frame ++ more) = subst (Reads s) (sym split.whole) reads in
+            let behind = others (after s frame) more (omega (arith, split.less, h)) (steps.stays s frame more split.frame read) in
+            subst (λ b. IsRight s b (joined (item s frame ∷ []) c)) split.whole (steps.goes s frame more c split.frame read behind)
 
     -- the cut is right
     pub right : Steps → (s : S) (bytes : List ℕ) → Reads s bytes → IsRight s bytes (all s bytes)
@@ -73,15 +102,16 @@ module _ {S V F : Type 0} (find : S → List ℕ → Front F) (item : S → List
 
     -- Bytes begin with a frame, and a right cut of those behind it follows.
     pub record Begins (s : S) (bytes : List ℕ) (v : V) (c : Cut S V F) : Type 0 where
-      pub len : ℕ
-      pub found : find s bytes ≡ Whole len
-      pub holds : item s (take len bytes) ≡ v
-      pub behind : IsRight (after s (take len bytes)) (drop len bytes) c
+      pub frame : List ℕ
+      pub more : List ℕ
+      pub whole : bytes ≡ frame ++ more
+      pub found : IsFrame s frame
+      pub holds : item s frame ≡ v
+      pub behind : IsRight (after s frame) more c
 
-    -- A right cut stops where it may; one without frames leaves all, and another begins with a frame, past which bytes may be read.
+    -- A right cut stops where it may; one without frames leaves all, and another begins with a frame.
     pub record Unfolds : Type 0 where
-      pub stays : (s : S) (bytes : List ℕ) (n : ℕ) → Reads s bytes → find s bytes ≡ Whole n
-          → Reads (after s (take n bytes)) (drop n bytes)
+      pub stays : Stays
       pub stops : (s : S) (bytes : List ℕ) (c : Cut S V F) → IsRight s bytes c → Stops find item after c.reading c.rest c.fault
       pub ends : (s : S) (bytes : List ℕ) (c : Cut S V F) → Reads s bytes → IsRight s bytes c → c.given ≡ []
           → (c.reading ≡ s) × (c.rest ≡ bytes)
@@ -93,12 +123,12 @@ module _ {S V F : Type 0} (find : S → List ℕ → Front F) (item : S → List
     ends_so : Unfolds → (s : S) (bytes : List ℕ) (c : Cut S V F) → Reads s bytes → IsRight s bytes c → c.given ≡ []
         → uncut c.reading c.rest c.fault ≡ all s bytes
     ends_so unfolds s bytes c reads is none =
-        let all = unfolds.ends s bytes c reads is none in
+        let here = unfolds.ends s bytes c reads is none in
         let stop = unfolds.stops s bytes c is in
-        let apart : (n : ℕ) → find s bytes ≢ Whole n = λ n e. stop.none_left n (ap (λ t. find t c.rest) all.0 ∙ (ap (find s) all.1 ∙ e)) in
+        let apart : (n : ℕ) → find s bytes ≢ Whole n = λ n e. stop.none_left n (ap (λ t. find t c.rest) here.0 ∙ (ap (find s) here.1 ∙ e)) in
         ap (uncut c.reading c.rest) stop.told
-        ∙ (ap (λ t. uncut t c.rest (fault_of (find t c.rest))) all.0
-        ∙ (ap (λ b. uncut s b (fault_of (find s b))) all.1
+        ∙ (ap (λ t. uncut t c.rest (fault_of (find t c.rest))) here.0
+        ∙ (ap (λ b. uncut s b (fault_of (find s b))) here.1
         ∙ sym (cut_first find item after laws s bytes ∙ by_front (find s bytes) apart)))
       where
         by_front : (f : Front F) → ((n : ℕ) → f ≢ Whole n) → cut_by find item after s bytes f all ≡ uncut s bytes (fault_of f)
@@ -113,14 +143,12 @@ module _ {S V F : Type 0} (find : S → List ℕ → Front F) (item : S → List
         let others : Cut S V F = joined given (uncut c.reading c.rest c.fault) in
         let here = subst (λ vs. IsRight s bytes (joined vs (uncut c.reading c.rest c.fault))) are (subst (IsRight s bytes) (same_cut c) is) in
         let first = unfolds.begins s bytes v others reads here in
-        let n = first.len in
-        let further = unfolds.stays s bytes n reads first.found in
-        let more = determined_by unfolds given (after s (take n bytes)) (drop n bytes) others further first.behind (append-nil given) in
+        let further = unfolds.stays s first.frame first.more first.found (subst (Reads s) first.whole reads) in
+        let more = determined_by unfolds given (after s first.frame) first.more others further first.behind (append-nil given) in
         ap (joined (v ∷ [])) more
-        ∙ (ap (λ u. joined (u ∷ []) (all (after s (take n bytes)) (drop n bytes))) (sym first.holds)
-        ∙ sym (cut_first find item after laws s bytes ∙ ap (λ f. cut_by find item after s bytes f all) first.found))
+        ∙ (ap (λ u. joined (u ∷ []) (all (after s first.frame) first.more)) (sym first.holds)
+        ∙ sym (ap (all s) first.whole ∙ frame_first s first.frame first.more first.found))
 
     -- a right cut is the cut
     pub determined : Unfolds → (s : S) (bytes : List ℕ) (c : Cut S V F) → Reads s bytes → IsRight s bytes c → c ≡ all s bytes
-    determined unfolds s bytes c reads is =
-        same_cut c ∙ determined_by unfolds c.given s bytes c reads is refl
+    determined unfolds s bytes c reads is = same_cut c ∙ determined_by unfolds c.given s bytes c reads is refl

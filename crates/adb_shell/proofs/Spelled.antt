@@ -14,26 +14,24 @@ use Rattle.adb_shell.specs.declared.packet.ShellPacket.{ShellPacket}
 use Rattle.adb_shell.specs.declared.format.ShellFormat.{ShellFormat}
 use Rattle.adb_shell.specs.declared.format.TheConstants.{HEADER_BYTES, LAST_ID, MOST_BYTES}
 use Rattle.adb_shell.specs.Packets.{IsPacket, spelling, front, front_with, packet_of, past, cut_from, id_of, length_of}
-use Rattle.adb_shell.specs.Framed.{packets_are_framed, front_there, whole_there, with_fits}
+use Rattle.adb_shell.specs.Framed.{packets_are_framed, there, whole_there, with_fits}
 
 with_packet : (offset id len there : ℕ) → id ≤ LAST_ID → len ≤ MOST_BYTES → HEADER_BYTES + len ≤ there
     → front_with offset id len there ≡ Whole (HEADER_BYTES + len)
 with_packet offset id len there known short h = grind (arith, nat_tests)
 
--- what begins with a packet begins with it
-pub spelled_front : (from : ShellFormat) (packet : ShellPacket) (more : List ℕ) → IsPacket packet
-    → front from (spelling packet ++ more) ≡ Whole (length (spelling packet))
-spelled_front from packet more h =
+-- a packet that was spelled is one
+pub spelled_front : (from : ShellFormat) (packet : ShellPacket) → IsPacket packet → front from (spelling packet) ≡ Whole (length (spelling packet))
+spelled_front from packet h =
     let len : length (spelling packet) ≡ HEADER_BYTES + length packet.bytes = omega arith in
     let said : length_of (spelling packet) ≡ length packet.bytes = little_number-reads_back 4 (length packet.bytes) packet.bytes (omega (arith, h.bytes)) in
-    front_there from (spelling packet) more (omega (arith, len))
-    ∙ (ap (λ k. front_with from.offset packet.id k (length (spelling packet) + length more)) said
-    ∙ (with_packet from.offset packet.id (length packet.bytes) (length (spelling packet) + length more) h.id h.bytes (omega (arith, len))
-    ∙ ap Whole (sym len)))
+    there (length (spelling packet)) (front_with from.offset packet.id (length_of (spelling packet)) (length (spelling packet))) (omega (arith, len))
+    ∙ (ap (λ k. front_with from.offset packet.id k (length (spelling packet))) said
+    ∙ (with_packet from.offset packet.id (length packet.bytes) (length (spelling packet)) h.id h.bytes (omega (arith, len)) ∙ ap Whole (sym len)))
 
 pub read_again : (from : ShellFormat) (packet : ShellPacket) (more : List ℕ) → IsPacket packet
     → cut_from from (spelling packet ++ more) ≡ joined (packet ∷ []) (cut_from (past from (spelling packet)) more)
-read_again from packet more h = frame_first front packet_of past packets_are_framed from (spelling packet) more (spelled_front from packet more h)
+read_again from packet more h = frame_first front packet_of past packets_are_framed from (spelling packet) more (spelled_front from packet h)
 
 with_good : (offset id len there n : ℕ) → front_with offset id len there ≡ Whole n → (id ≤ LAST_ID) × (len ≤ MOST_BYTES)
 with_good offset id len there n e = grind (arith, nat_tests)

@@ -37,11 +37,11 @@ pub whole_there : (len : ℕ) (told : Front ShellFault) (n : ℕ) → cond (nat_
     → (HEADER_BYTES ≤ len) × (told ≡ Whole n)
 whole_there len told n e = grind (arith, nat_tests)
 
-there : (len : ℕ) (told : Front ShellFault) → HEADER_BYTES ≤ len → cond (nat_lt len HEADER_BYTES) More told ≡ told
+pub there : (len : ℕ) (told : Front ShellFault) → HEADER_BYTES ≤ len → cond (nat_lt len HEADER_BYTES) More told ≡ told
 there len told h = grind (arith, nat_tests)
 
 -- a header is the same whatever follows it
-pub front_there : (s : ShellFormat) (x y : List ℕ) → HEADER_BYTES ≤ length x
+front_there : (s : ShellFormat) (x y : List ℕ) → HEADER_BYTES ≤ length x
     → front s (x ++ y) ≡ front_with s.offset (id_of x) (length_of x) (length x + length y)
 front_there s x y h =
     let len : length (x ++ y) ≡ length x + length y = length-append x y in

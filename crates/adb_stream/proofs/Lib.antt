@@ -1,2 +1,4 @@
 mod Places
 mod Shelves
+mod Changes
+mod Calls

@@ -4,14 +4,16 @@ use Rattle.adb_stream.specs.declared.credit.TheConstants.{CREDIT_WINDOW, CREDIT_
 use Rattle.adb_stream.specs.declared.flow.Took.{Took}
 use Rattle.adb_stream.specs.declared.flow.Took.TheVariants.{Accepted, AckNow, OutOfTurn}
 
--- The bytes that this end may send, and those that the other end may send; of what came from it, the bytes that are still to be handed out, and those that were and are not yet given back.
+-- How many bytes this end may send, and the other end; and of what came from there, how many are still to be handed out, and how many were and are not given
+-- back yet.
 pub record ByteCredit : Type 0 where
   pub to_send : ℕ
   pub left : ℕ
   pub to_hand : ℕ
   pub gathered : ℕ
 
--- The other end may send the window, less what came and is not yet given back. What was handed out is given back at the latest when nothing is left to hand out, or a step has gathered.
+-- Each byte of the window is left to the other end, or to be handed out, or to be given back. Those to be given back are fewer than a step, and none where
+-- nothing is to be handed out.
 pub record IsWhole (credit : ByteCredit) : Type 0 where
   pub window : credit.left + credit.to_hand + credit.gathered ≡ CREDIT_WINDOW
   pub few : credit.gathered < CREDIT_STEP

@@ -1,5 +1,6 @@
 pub mod Window
 pub mod Credit
+pub mod Held
 pub mod Flow
 pub mod Stream
 pub mod Streams

@@ -6,16 +6,16 @@ ghost use Rattle.adb_stream.specs.Credit.{IsWhole, new_credit, CreditTakes, give
 use crate::flow::Took;
 use std::marker::Model;
 
-/// The bytes that the other end may send at first, or before it gets credit back.
+/// How many bytes each end may send before it is given credit back.
 pub const CREDIT_WINDOW: u32 = 262_144;
 
-/// The handed bytes that are given back at once, where more are still to be handed out.
+/// How many bytes that were handed out are given back at once, where more are still to be.
 pub const CREDIT_STEP: u32 = 65_536;
 
-/// A credit in bytes, on a link whose ends both name the feature `hub_credit`: a WRTE may hold as
-/// many bytes as there is credit for, and an OKAY gives credit. Contracts see the credit to send, what
-/// the other end has left, how many bytes are still to be handed out, and how many were handed out
-/// and are not yet given back. No call takes memory.
+/// A credit in bytes, on a link whose two ends name the feature `hub_credit`: a WRTE holds no more
+/// bytes than there is credit for, and an OKAY gives credit for some more. Contracts see the credit
+/// to send, what the other end has left, how many bytes are still to be handed out, and how many
+/// were and are not given back yet. No call takes memory.
 #[derive(Clone, Copy, Drop)]
 pub struct Credit {
     to_send: u32,
@@ -29,11 +29,13 @@ impl Model for Credit {
 
     ghost Value = { ByteCredit };
 
-    ghost view = { λ c. record { to_send = c.to_send; left = c.left; to_hand = c.to_hand; gathered = c.gathered } };
+    ghost use Rattle.adb_stream.specs.Held.{seen, held};
 
-    ghost invariant = { λ c. IsWhole (record { to_send = c.to_send; left = c.left; to_hand = c.to_hand; gathered = c.gathered }) };
+    ghost view = { seen };
 
-    ghost inverse = { λ c. record { to_send = c.to_send; left = c.left; to_hand = c.to_hand; gathered = c.gathered } };
+    ghost invariant = { λ c. IsWhole (seen c) };
+
+    ghost inverse = { held };
 }
 
 impl Credit {
@@ -72,8 +74,8 @@ impl Credit {
         self.to_send = self.to_send.saturating_add(n);
     }
 
-    /// A WRTE of `n` bytes came. It is out of turn exactly where it holds more than the credit left,
-    /// and nothing changes; else its bytes are to be handed out. It is never acknowledged now.
+    /// A WRTE of `n` bytes came. It is out of turn exactly where these are more than the credit
+    /// left, and then nothing changes. Else its bytes are to be handed out. None is acknowledged now.
     pub fn took(&mut self, n: usize) -> Took
         ensures took { CreditTakes self.old n self.new result }
         ensures whole { IsWhole self.new }

@@ -45,9 +45,10 @@ impl Shelf {
         flow: Flow,
     ) -> Result<usize, AllocError>
         ensures vacant { IfOk result (λ key. slots_of self.old key ≡ None) }
-        ensures keys { IfOk result (λ key. keys_of self.new ≡ put_row id (Some key) (keys_of self.old)) }
-        ensures slots { IfOk result (λ key.
-            slots_of self.new ≡ put_row key (Some (new_stream id client link flow)) (slots_of self.old)) }
+        ensures keys { IfOk result (λ key.
+            keys_of self.new ≡ put_row id (Some key) (keys_of self.old)) }
+        ensures slots { let stream = new_stream id client link flow in
+            IfOk result (λ key. slots_of self.new ≡ put_row key (Some stream) (slots_of self.old)) }
         ensures index { IfOk result (λ key.
             index_of self.new ≡ put_place link id (Some key) (index_of self.old)) }
         ensures rises { OnOk result (IsRising self.new.keys.entries) }

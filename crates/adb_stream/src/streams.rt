@@ -65,9 +65,9 @@ impl Streams {
         }
     }
 
-    /// Draws the next id, which it gives, for a stream between a client and a link, on which writes are
-    /// held back by a credit in bytes where `credit`, else by one write each way. `NoIds` comes exactly
-    /// where 2^32 - 1 ids were drawn. After an error the streams are as before.
+    /// Draws the next id, which it gives, for a stream of a client and a link: with a credit in bytes
+    /// where `credit`, else with one write each way. `NoIds` comes exactly where 2^32 - 1 ids were
+    /// drawn. After an error the streams are as before.
     pub fn draw(&mut self, client: u32, link: u32, credit: bool) -> Result<u32, DrawError>
         ensures no_ids { (result ≡ Err DrawError.NoIds) ↔ (self.old.drawn ≡ u32.MAX) }
         ensures id { IfOk result (λ id. id ≡ self.old.drawn + 1) }

@@ -6,10 +6,10 @@ ghost use Rattle.adb_stream.specs.Window.{new_window, WindowTakes};
 use crate::flow::Took;
 use std::marker::Model;
 
-/// One write each way (protocol.txt, OKAY and WRTE): after a WRTE the next one waits for an OKAY, and
-/// a WRTE of the other end is acknowledged when its bytes were handed out. Both ends of a stream have
-/// one. Contracts see whether a WRTE is outstanding, and how many bytes are still to be handed out.
-/// No call takes memory.
+/// One write each way (protocol.txt, OKAY and WRTE): after a WRTE the next one waits for an OKAY,
+/// and a WRTE of the other end is acknowledged when its bytes were handed out. Both ends of a
+/// stream have one. Contracts see whether a WRTE is outstanding, and how many bytes are still to be
+/// handed out. No call takes memory.
 #[derive(Clone, Copy, Drop)]
 pub struct Window {
     outstanding: bool,
@@ -44,7 +44,7 @@ impl Window {
         !self.outstanding
     }
 
-    /// A WRTE was sent, which none was outstanding for.
+    /// A WRTE was sent, while none was outstanding.
     pub fn wrote(&mut self)
         requires { self.old.outstanding ≡ false }
         ensures { self.new ≡ record self.old { outstanding = true } }
@@ -62,8 +62,9 @@ impl Window {
         was
     }
 
-    /// A WRTE of `n` bytes came. It is out of turn exactly where bytes are still to be handed out, and
-    /// nothing changes; else its bytes are to be handed out, and without any it is acknowledged now.
+    /// A WRTE of `n` bytes came. It is out of turn exactly where bytes are still to be handed out,
+    /// and then nothing changes. Else its bytes are to be handed out; one without bytes is
+    /// acknowledged now.
     pub fn took(&mut self, n: usize) -> Took
         ensures { WindowTakes self.old n self.new result }
     {
@@ -74,8 +75,8 @@ impl Window {
         if n == 0 { Took::AckNow } else { Took::Accepted }
     }
 
-    /// `n` bytes were handed out, at least one and no more than were to be: whether none are left, so
-    /// that the WRTE is acknowledged.
+    /// `n` bytes were handed out, at least one and no more than were to be: whether none are left,
+    /// so that the WRTE is acknowledged now.
     pub fn handed(&mut self, n: usize) -> bool
         requires some { 0 < n }
         requires most { n ≤ self.old.to_hand }

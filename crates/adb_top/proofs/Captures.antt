@@ -3,8 +3,7 @@ use Rattle.std.proofs.Common.{ℕ, ◌≡◌, ◌≢◌, Bool, true, false, cond
 use Rattle.std.specs.Prelude.{option_and_then, bytes_eq}
 use Rattle.std.proofs.lemmas.List.{append_assoc, append-nil, reverse-append}
 use Rattle.adb_capture.specs.Records.{magic, record_of, records_of}
-use Rattle.adb_capture.specs.Reading.{Reading, ahead, to_give, past_magic}
-use Rattle.adb_capture.specs.Awaiting.{Opens}
+use Rattle.adb_capture.specs.Reading.{Reading, ahead, to_give, past_magic, Opens}
 use Rattle.adb_capture.specs.declared.entry.Entry.{Entry}
 use Rattle.adb_capture.specs.declared.error.CaptureError.{CaptureError}
 use Rattle.adb_capture.specs.declared.error.CaptureError.TheVariants as capture

@@ -4,7 +4,7 @@ use Rattle.std.specs.Prelude.{option_and_then}
 use Rattle.adb_outside.specs.declared.framer.Front.{Front}
 use Rattle.adb_outside.specs.declared.framer.Front.TheVariants.{More, Bad}
 use Rattle.adb_capture.specs.Records.{record_at, offset_after}
-use Rattle.adb_capture.specs.Reading.{Reading, ahead, to_give, GivesNext, GivesRecord, IsRefused}
+use Rattle.adb_capture.specs.Reading.{Reading, ahead, ahead_of, to_give, AnswersNext, GivesNext, GivesRecord, IsRefused}
 use Rattle.adb_capture.specs.declared.entry.Entry.{Entry}
 use Rattle.adb_capture.specs.declared.error.CaptureError.{CaptureError}
 use Rattle.adb_capture.specs.declared.error.CaptureError.TheVariants as capture
@@ -54,11 +54,11 @@ replaying_first reader left written holds drained opened = record {
 
 -- what a call of the reader says of what is ahead
 abbrev pub Gives : Reading → Option (List ℕ) → Result (Option (ℕ × Entry)) CaptureError → Reading → Option (List ℕ) → Type 0
-Gives now left result new left_new = (coming before : List ℕ) → left ≡ Some coming → now.failed ≡ None → ahead now coming ≡ Some before → GivesNext now.offset before result new.offset (option_and_then (ahead new) left_new)
+Gives now left result new left_new = now.failed ≡ None → AnswersNext now left new left_new result
 
-given_next : (now new : Reading) (left left_new : Option (List ℕ)) (result : Result (Option (ℕ × Entry)) CaptureError) (before : List ℕ) → Gives now left result new left_new → now.failed ≡ None → WasAhead now left before → GivesNext now.offset before result new.offset (option_and_then (ahead new) left_new)
-given_next now new left left_new result before gives sound was =
-    let s = split_ahead (ahead now) left before was in gives s.0 before s.1 sound s.2
+given_next : (now new : Reading) (left left_new : Option (List ℕ)) (result : Result (Option (ℕ × Entry)) CaptureError) (before : List ℕ) → Gives now left result new left_new → now.failed ≡ None → WasAhead now left before
+    → GivesNext now.offset before result new.offset (ahead_of new left_new)
+given_next now new left left_new result before gives sound was = (gives sound).records before was
 
 -- what is accepted from a record on
 accept_given : (offset : ℕ) (before : List ℕ) (given : ℕ × Entry) (next : ℕ) (after : Option (List ℕ)) (h : History) (g : GivesRecord offset before given next after)

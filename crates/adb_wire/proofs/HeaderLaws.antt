@@ -1,5 +1,6 @@
 -- A header that was written is read, and one that is read is written so.
-use Rattle.std.proofs.Common.{ℕ, zero, suc, ◌+◌, ◌*◌, ◌^◌, ◌≡◌, ◌≤◌, ◌<◌, Bool, true, false, cond, eqb, not, nat_lt, List, [], ◌∷◌, ◌++◌, length, drop, get_or, Option, Some, None, Result, Ok, Err, refl, sym, ◌∙◌, ap, subst, arith, find}
+use Rattle.std.proofs.Common.{ℕ, zero, suc, ◌+◌, ◌*◌, ◌^◌, ◌≡◌, ◌≤◌, ◌<◌, Bool, true, false, cond, eqb, not, nat_lt, List, [], ◌∷◌, ◌++◌, length, drop, get_or}
+use Rattle.std.proofs.Common.{Option, Some, None, Result, Ok, Err, refl, sym, ◌∙◌, ap, subst, arith, find}
 use Rattle.std.specs.List.{flat_map}
 use Rattle.std.specs.Result.{IfOk}
 use Rattle.std.proofs.lemmas.Bool.{ltb-false, le-ltb, eq-eqb, eqb-true}
@@ -12,25 +13,35 @@ use Rattle.adb_wire.specs.declared.command.Command.{Command}
 use Rattle.adb_wire.specs.declared.command.Command.TheVariants.{Cnxn, Open, Okay, Wrte, Clse, Auth, Stls}
 use Rattle.adb_wire.specs.declared.headers.Head.{Head}
 use Rattle.adb_wire.specs.declared.headers.HeadFault.{HeadFault}
+use Rattle.adb_wire.specs.declared.headers.TheConstants.{HEADER_LEN, MAX_PAYLOAD}
 use Rattle.adb_wire.specs.declared.headers.HeadFault.TheVariants.{BadMagic, TooLong}
 use Rattle.adb_wire.specs.Command.{word_of, command_of, commands}
 use Rattle.adb_wire.specs.Header.{IsBytes, IsHead, word_at, header_bytes, head_at, head_of, magic_of}
 
 -- ---- the table of commands
-pub command_again : (c : Command) → command_of (word_of c) ≡ Some c
-command_again Cnxn = refl
-command_again Open = refl
-command_again Okay = refl
-command_again Wrte = refl
-command_again Clse = refl
-command_again Auth = refl
-command_again Stls = refl
+-- A command's word stands for it, and is a word; so is its magic.
+record IsCoded (c : Command) : Type 0 where
+  pub again : command_of (word_of c) ≡ Some c
+  pub word : word_of c < 2 ^ 32
+  pub magic : magic_of (word_of c) < 2 ^ 32
+
+coded : (c : Command) → IsCoded c
+coded Cnxn = record { again = refl; word = omega arith; magic = omega arith }
+coded Open = record { again = refl; word = omega arith; magic = omega arith }
+coded Okay = record { again = refl; word = omega arith; magic = omega arith }
+coded Wrte = record { again = refl; word = omega arith; magic = omega arith }
+coded Clse = record { again = refl; word = omega arith; magic = omega arith }
+coded Auth = record { again = refl; word = omega arith; magic = omega arith }
+coded Stls = record { again = refl; word = omega arith; magic = omega arith }
 
 found_word : (word : ℕ) (cs : List Command) (c : Command) → find (λ d. eqb word (word_of d)) cs ≡ Some c → word ≡ word_of c
 found_word word [] c e = absurd cc
 found_word word (d ∷ cs) c e = go (eqb word (word_of d)) refl e (found_word word cs c)
   where
-    go : (b : Bool) → eqb word (word_of d) ≡ b → cond b (Some d) (find (λ d. eqb word (word_of d)) cs) ≡ Some c → (find (λ d. eqb word (word_of d)) cs ≡ Some c → word ≡ word_of c) → word ≡ word_of c
+    found : Option Command
+    found = find (λ d. eqb word (word_of d)) cs
+
+    go : (b : Bool) → eqb word (word_of d) ≡ b → cond b (Some d) found ≡ Some c → (found ≡ Some c → word ≡ word_of c) → word ≡ word_of c
     go true is e others = let same : d ≡ c = cc in eqb-true word (word_of d) is ∙ ap word_of same
     go false is e others = others e
 
@@ -39,7 +50,8 @@ command_word word c e = found_word word commands c e
 
 -- ---- one word
 -- a word that was written is read
-pub word_again : (front : List ℕ) (word place : ℕ) (rest : List ℕ) → length front ≡ 4 * place → word < 2 ^ 32 → word_at place (front ++ (little_bytes 4 word ++ rest)) ≡ word
+pub word_again : (front : List ℕ) (word place : ℕ) (rest : List ℕ) → length front ≡ 4 * place → word < 2 ^ 32
+    → word_at place (front ++ (little_bytes 4 word ++ rest)) ≡ word
 unfolding word_at
 word_again front word place rest len lt =
     rw (drop_at front (little_bytes 4 word ++ rest) (4 * place) len) (little_number-reads_back 4 word rest lt)
@@ -55,7 +67,8 @@ word_off (a ∷ b ∷ c ∷ d ∷ rest) h fits =
     let b_fits : b < 256 = fits 1 0 (omega arith) in
     let c_fits : c < 256 = fits 2 0 (omega arith) in
     let d_fits : d < 256 = fits 3 0 (omega arith) in
-    ap (λ front. front ++ rest) (sym (le_bytes_4 (a ∷ b ∷ c ∷ d ∷ []) (little_number 4 (a ∷ b ∷ c ∷ d ∷ [])) refl (small a b c d a_fits b_fits c_fits d_fits) (omega arith)))
+    let bytes : List ℕ = a ∷ b ∷ c ∷ d ∷ [] in
+    ap (λ front. front ++ rest) (sym (le_bytes_4 bytes (little_number 4 bytes) refl (small a b c d a_fits b_fits c_fits d_fits) (omega arith)))
   where
     small : (a b c d : ℕ) → a < 256 → b < 256 → c < 256 → d < 256 → (i : ℕ) → get_or (a ∷ b ∷ c ∷ d ∷ []) i 0 < 256
     small a b c d p q r s zero = p
@@ -71,53 +84,17 @@ word_fits place bytes h fits =
     let len = length-drop (4 * place) bytes in
     omega (arith, small 0 0 (omega arith), small 1 0 (omega arith), small 2 0 (omega arith), small 3 0 (omega arith))
 
--- the word at a place, and what is behind it
-pub word_split : (place : ℕ) (bytes : List ℕ) → 4 * place + 4 ≤ length bytes → IsBytes bytes → drop (4 * place) bytes ≡ little_bytes 4 (word_at place bytes) ++ drop (4 * place + 4) bytes
+-- a word that is read at a place stands there, and what is behind it
+pub word_stands : (place word : ℕ) (bytes : List ℕ) → 4 * place + 4 ≤ length bytes → IsBytes bytes → word_at place bytes ≡ word
+    → drop (4 * place) bytes ≡ little_bytes 4 word ++ drop (4 * place + 4) bytes
 unfolding word_at
-word_split place bytes h fits =
-    word_off (drop (4 * place) bytes) (omega (arith, length-drop (4 * place) bytes)) (All-drop (λ b. b < 256) (4 * place) bytes fits)
-    ∙ ap (λ rest. little_bytes 4 (little_number 4 (drop (4 * place) bytes)) ++ rest) (drop-drop 4 (4 * place) bytes)
+word_stands place word bytes h fits e =
+    let from = drop (4 * place) bytes in
+    word_off from (omega (arith, length-drop (4 * place) bytes)) (All-drop (λ b. b < 256) (4 * place) bytes fits)
+    ∙ (ap (λ rest. little_bytes 4 (little_number 4 from) ++ rest) (drop-drop 4 (4 * place) bytes)
+    ∙ ap (λ w. little_bytes 4 w ++ drop (4 * place + 4) bytes) e)
 
 -- ---- the header
-word_of_fits : (c : Command) → word_of c < 2 ^ 32
-word_of_fits Cnxn = omega arith
-word_of_fits Open = omega arith
-word_of_fits Okay = omega arith
-word_of_fits Wrte = omega arith
-word_of_fits Clse = omega arith
-word_of_fits Auth = omega arith
-word_of_fits Stls = omega arith
-
-magic_fits : (c : Command) → magic_of (word_of c) < 2 ^ 32
-magic_fits Cnxn = omega arith
-magic_fits Open = omega arith
-magic_fits Okay = omega arith
-magic_fits Wrte = omega arith
-magic_fits Clse = omega arith
-magic_fits Auth = omega arith
-magic_fits Stls = omega arith
-
--- a header that was written is read, whatever follows
-pub head_again : (head : Head) (more : List ℕ) → IsHead head → head_at (header_bytes head ++ more) ≡ Ok head
-head_again head more fits =
-    let bytes : List ℕ = header_bytes head ++ more in
-    let word = word_of head.command in
-    let w0 : word_at 0 bytes ≡ word = word_again [] word 0 (flat_map (little_bytes 4) (head.arg0 ∷ head.arg1 ∷ head.length ∷ head.check ∷ magic_of word ∷ []) ++ more) refl (word_of_fits head.command) in
-    let w1 : word_at 1 bytes ≡ head.arg0 = word_again (flat_map (little_bytes 4) (word ∷ [])) head.arg0 1 (flat_map (little_bytes 4) (head.arg1 ∷ head.length ∷ head.check ∷ magic_of word ∷ []) ++ more) refl fits.arg0 in
-    let w2 : word_at 2 bytes ≡ head.arg1 = word_again (flat_map (little_bytes 4) (word ∷ head.arg0 ∷ [])) head.arg1 2 (flat_map (little_bytes 4) (head.length ∷ head.check ∷ magic_of word ∷ []) ++ more) refl fits.arg1 in
-    let w3 : word_at 3 bytes ≡ head.length = word_again (flat_map (little_bytes 4) (word ∷ head.arg0 ∷ head.arg1 ∷ [])) head.length 3 (flat_map (little_bytes 4) (head.check ∷ magic_of word ∷ []) ++ more) refl (omega (arith, fits.size)) in
-    let w4 : word_at 4 bytes ≡ head.check = word_again (flat_map (little_bytes 4) (word ∷ head.arg0 ∷ head.arg1 ∷ head.length ∷ [])) head.check 4 (flat_map (little_bytes 4) (magic_of word ∷ []) ++ more) refl fits.check in
-    let w5 : word_at 5 bytes ≡ magic_of word = word_again (flat_map (little_bytes 4) (word ∷ head.arg0 ∷ head.arg1 ∷ head.length ∷ head.check ∷ [])) (magic_of word) 5 more refl (magic_fits head.command) in
-    words_read head (word_at 0 bytes) (word_at 1 bytes) (word_at 2 bytes) (word_at 3 bytes) (word_at 4 bytes) (word_at 5 bytes) fits.size w0 w1 w2 w3 w4 w5
-  where
-    words_read : (head : Head) (word arg0 arg1 size check magic : ℕ) → head.length ≤ 1048576 → word ≡ word_of head.command → arg0 ≡ head.arg0 → arg1 ≡ head.arg1 → size ≡ head.length → check ≡ head.check → magic ≡ magic_of (word_of head.command)
-        → cond (not (eqb magic (magic_of word))) (Err (BadMagic word magic)) (head_of (command_of word) word arg0 arg1 size check) ≡ Ok head
-    words_read head word arg0 arg1 size check magic le e0 e1 e2 e3 e4 e5 =
-        let right : eqb magic (magic_of word) ≡ true = eq-eqb magic (magic_of word) (e5 ∙ ap magic_of (sym e0)) in
-        let known : command_of word ≡ Some head.command = ap command_of e0 ∙ command_again head.command in
-        let short : nat_lt 1048576 size ≡ false = le-ltb 1048576 size (omega (arith, e3)) in
-        rw (right, known, short, e1, e2, e3, e4) refl
-
 -- what is read of a header
 pub record Reads (bytes : List ℕ) (head : Head) : Type 0 where
   pub command : word_at 0 bytes ≡ word_of head.command
@@ -126,17 +103,51 @@ pub record Reads (bytes : List ℕ) (head : Head) : Type 0 where
   pub size : word_at 3 bytes ≡ head.length
   pub check : word_at 4 bytes ≡ head.check
   pub magic : word_at 5 bytes ≡ magic_of (word_of head.command)
-  pub short : head.length ≤ 1048576
+  pub short : head.length ≤ MAX_PAYLOAD
+
+reads_head : (bytes : List ℕ) (head : Head) → Reads bytes head → head_at bytes ≡ Ok head
+reads_head bytes head r =
+    let right : eqb (word_at 5 bytes) (magic_of (word_at 0 bytes)) ≡ true =
+    eq-eqb (word_at 5 bytes) (magic_of (word_at 0 bytes)) (r.magic ∙ ap magic_of (sym r.command)) in
+    let known : command_of (word_at 0 bytes) ≡ Some head.command = ap command_of r.command ∙ (coded head.command).again in
+    let short : nat_lt MAX_PAYLOAD (word_at 3 bytes) ≡ false = le-ltb MAX_PAYLOAD (word_at 3 bytes) (omega (arith, r.size, r.short)) in
+    rw (right, known, short, r.arg0, r.arg1, r.size, r.check) refl
+
+-- a header that was written is read, whatever follows
+pub head_again : (head : Head) (more : List ℕ) → IsHead head → head_at (header_bytes head ++ more) ≡ Ok head
+head_again head more fits = reads_head (header_bytes head ++ more) head (record {
+  command = word_again [] word 0 (spelled (head.arg0 ∷ head.arg1 ∷ head.length ∷ head.check ∷ magic ∷ []) ++ more) refl is.word;
+  arg0 = word_again (spelled (word ∷ [])) head.arg0 1 (spelled (head.arg1 ∷ head.length ∷ head.check ∷ magic ∷ []) ++ more) refl fits.arg0;
+  arg1 = word_again (spelled (word ∷ head.arg0 ∷ [])) head.arg1 2 (spelled (head.length ∷ head.check ∷ magic ∷ []) ++ more) refl fits.arg1;
+  size = word_again (spelled (word ∷ head.arg0 ∷ head.arg1 ∷ [])) head.length 3 (spelled (head.check ∷ magic ∷ []) ++ more) refl (omega (arith, fits.size));
+  check = word_again (spelled (word ∷ head.arg0 ∷ head.arg1 ∷ head.length ∷ [])) head.check 4 (spelled (magic ∷ []) ++ more) refl fits.check;
+  magic = word_again (spelled (word ∷ head.arg0 ∷ head.arg1 ∷ head.length ∷ head.check ∷ [])) magic 5 more refl is.magic;
+  short = fits.size;
+})
+  where
+    word : ℕ
+    word = word_of head.command
+
+    magic : ℕ
+    magic = magic_of word
+
+    is : IsCoded head.command
+    is = coded head.command
+
+    spelled : List ℕ → List ℕ
+    spelled words = flat_map (little_bytes 4) words
 
 pub head_reads : (bytes : List ℕ) (head : Head) → head_at bytes ≡ Ok head → Reads bytes head
 head_reads bytes head e = by_magic (eqb (word_at 5 bytes) (magic_of (word_at 0 bytes))) refl e
   where
-    by_size : (c : Command) → word_at 5 bytes ≡ magic_of (word_at 0 bytes) → command_of (word_at 0 bytes) ≡ Some c → (b : Bool) → nat_lt 1048576 (word_at 3 bytes) ≡ b
-        → cond b (Err (TooLong (word_at 3 bytes))) (Ok (record { command = c; arg0 = word_at 1 bytes; arg1 = word_at 2 bytes; length = word_at 3 bytes; check = word_at 4 bytes })) ≡ Ok head → Reads bytes head
+    read : Command → Head
+    read c = record { command = c; arg0 = word_at 1 bytes; arg1 = word_at 2 bytes; length = word_at 3 bytes; check = word_at 4 bytes }
+
+    by_size : (c : Command) → word_at 5 bytes ≡ magic_of (word_at 0 bytes) → command_of (word_at 0 bytes) ≡ Some c
+        → (b : Bool) → nat_lt MAX_PAYLOAD (word_at 3 bytes) ≡ b → cond b (Err (TooLong (word_at 3 bytes))) (Ok (read c)) ≡ Ok head → Reads bytes head
     by_size c magic known true is e = absurd cc
     by_size c magic known false is e =
-        let read : Head = record { command = c; arg0 = word_at 1 bytes; arg1 = word_at 2 bytes; length = word_at 3 bytes; check = word_at 4 bytes } in
-        let same : read ≡ head = cc in
+        let same : read c ≡ head = cc in
         let word : word_at 0 bytes ≡ word_of head.command = command_word (word_at 0 bytes) c known ∙ ap (λ (h : Head). word_of h.command) same in
         record {
           command = word;
@@ -145,40 +156,50 @@ head_reads bytes head e = by_magic (eqb (word_at 5 bytes) (magic_of (word_at 0 b
           size = ap (λ (h : Head). h.length) same;
           check = ap (λ (h : Head). h.check) same;
           magic = magic ∙ ap magic_of word;
-          short = subst (λ (h : Head). h.length ≤ 1048576) same (ltb-false 1048576 (word_at 3 bytes) is);
+          short = subst (λ (h : Head). h.length ≤ MAX_PAYLOAD) same (ltb-false MAX_PAYLOAD (word_at 3 bytes) is);
         }
 
-    by_command : word_at 5 bytes ≡ magic_of (word_at 0 bytes) → (o : Option Command) → command_of (word_at 0 bytes) ≡ o
-        → head_of o (word_at 0 bytes) (word_at 1 bytes) (word_at 2 bytes) (word_at 3 bytes) (word_at 4 bytes) ≡ Ok head → Reads bytes head
+    headed : Option Command → Result Head HeadFault
+    headed o = head_of o (word_at 0 bytes) (word_at 1 bytes) (word_at 2 bytes) (word_at 3 bytes) (word_at 4 bytes)
+
+    by_command : word_at 5 bytes ≡ magic_of (word_at 0 bytes) → (o : Option Command) → command_of (word_at 0 bytes) ≡ o → headed o ≡ Ok head → Reads bytes head
     by_command magic None known e = absurd cc
-    by_command magic (Some c) known e = by_size c magic known (nat_lt 1048576 (word_at 3 bytes)) refl e
+    by_command magic (Some c) known e = by_size c magic known (nat_lt MAX_PAYLOAD (word_at 3 bytes)) refl e
 
     by_magic : (b : Bool) → eqb (word_at 5 bytes) (magic_of (word_at 0 bytes)) ≡ b
-        → cond (not b) (Err (BadMagic (word_at 0 bytes) (word_at 5 bytes))) (head_of (command_of (word_at 0 bytes)) (word_at 0 bytes) (word_at 1 bytes) (word_at 2 bytes) (word_at 3 bytes) (word_at 4 bytes)) ≡ Ok head → Reads bytes head
+        → cond (not b) (Err (BadMagic (word_at 0 bytes) (word_at 5 bytes))) (headed (command_of (word_at 0 bytes))) ≡ Ok head → Reads bytes head
     by_magic false is e = absurd cc
     by_magic true is e = by_command (eqb-true (word_at 5 bytes) (magic_of (word_at 0 bytes)) is) (command_of (word_at 0 bytes)) refl e
 
 -- a header that is read is written so
-pub head_spelled : (bytes : List ℕ) (head : Head) → 24 ≤ length bytes → IsBytes bytes → head_at bytes ≡ Ok head → IsHead head × (bytes ≡ header_bytes head ++ drop 24 bytes)
+pub head_spelled : (bytes : List ℕ) (head : Head) → HEADER_LEN ≤ length bytes → IsBytes bytes → head_at bytes ≡ Ok head
+    → IsHead head × (bytes ≡ header_bytes head ++ drop HEADER_LEN bytes)
 head_spelled bytes head h fits e =
     let r = head_reads bytes head e in
-    let s0 : bytes ≡ little_bytes 4 (word_of head.command) ++ drop 4 bytes = word_split 0 bytes (omega arith) fits ∙ ap (λ w. little_bytes 4 w ++ drop 4 bytes) r.command in
-    let s1 : drop 4 bytes ≡ little_bytes 4 head.arg0 ++ drop 8 bytes = word_split 1 bytes (omega arith) fits ∙ ap (λ w. little_bytes 4 w ++ drop 8 bytes) r.arg0 in
-    let s2 : drop 8 bytes ≡ little_bytes 4 head.arg1 ++ drop 12 bytes = word_split 2 bytes (omega arith) fits ∙ ap (λ w. little_bytes 4 w ++ drop 12 bytes) r.arg1 in
-    let s3 : drop 12 bytes ≡ little_bytes 4 head.length ++ drop 16 bytes = word_split 3 bytes (omega arith) fits ∙ ap (λ w. little_bytes 4 w ++ drop 16 bytes) r.size in
-    let s4 : drop 16 bytes ≡ little_bytes 4 head.check ++ drop 20 bytes = word_split 4 bytes (omega arith) fits ∙ ap (λ w. little_bytes 4 w ++ drop 20 bytes) r.check in
-    let s5 : drop 20 bytes ≡ little_bytes 4 (magic_of (word_of head.command)) ++ drop 24 bytes = word_split 5 bytes (omega arith) fits ∙ ap (λ w. little_bytes 4 w ++ drop 24 bytes) r.magic in (
+    let s0 : bytes ≡ word (word_of head.command) ++ drop 4 bytes = word_stands 0 _ bytes (omega arith) fits r.command in
+    let s1 : drop 4 bytes ≡ word head.arg0 ++ drop 8 bytes = word_stands 1 _ bytes (omega arith) fits r.arg0 in
+    let s2 : drop 8 bytes ≡ word head.arg1 ++ drop 12 bytes = word_stands 2 _ bytes (omega arith) fits r.arg1 in
+    let s3 : drop 12 bytes ≡ word head.length ++ drop 16 bytes = word_stands 3 _ bytes (omega arith) fits r.size in
+    let s4 : drop 16 bytes ≡ word head.check ++ drop 20 bytes = word_stands 4 _ bytes (omega arith) fits r.check in
+    let s5 : drop 20 bytes ≡ word (magic_of (word_of head.command)) ++ drop HEADER_LEN bytes = word_stands 5 _ bytes (omega arith) fits r.magic in (
       record {
         arg0 = omega (arith, r.arg0, word_fits 1 bytes (omega arith) fits);
         arg1 = omega (arith, r.arg1, word_fits 2 bytes (omega arith) fits);
         size = r.short;
         check = omega (arith, r.check, word_fits 4 bytes (omega arith) fits);
       },
-      s0 ∙ ap (λ rest. little_bytes 4 (word_of head.command) ++ rest) (s1 ∙ ap (λ rest. little_bytes 4 head.arg0 ++ rest) (s2 ∙ ap (λ rest. little_bytes 4 head.arg1 ++ rest)
-          (s3 ∙ ap (λ rest. little_bytes 4 head.length ++ rest) (s4 ∙ ap (λ rest. little_bytes 4 head.check ++ rest) s5)))),
+      s0 ∙ behind (word_of head.command) (s1 ∙ behind head.arg0 (s2 ∙ behind head.arg1 (s3 ∙ behind head.length (s4 ∙ behind head.check s5)))),
     )
+  where
+    word : ℕ → List ℕ
+    word n = little_bytes 4 n
 
-pub read_spelled : (bytes : List ℕ) (read : Result Head HeadFault) → length bytes ≡ 24 → IsBytes bytes → read ≡ head_at bytes → IfOk read (λ head. bytes ≡ header_bytes head)
+    behind : (n : ℕ) {x y : List ℕ} → x ≡ y → word n ++ x ≡ word n ++ y
+    behind n same = ap (λ rest. word n ++ rest) same
+
+pub read_spelled : (bytes : List ℕ) (read : Result Head HeadFault) → length bytes ≡ HEADER_LEN → IsBytes bytes → read ≡ head_at bytes
+    → IfOk read (λ head. bytes ≡ header_bytes head)
 read_spelled bytes (Err fault) len fits e = tt
 read_spelled bytes (Ok head) len fits e =
-    (head_spelled bytes head (omega arith) fits (sym e)).1 ∙ (ap (λ rest. header_bytes head ++ rest) (drop_all 24 bytes (omega arith)) ∙ append-nil (header_bytes head))
+    (head_spelled bytes head (omega arith) fits (sym e)).1
+    ∙ (ap (λ rest. header_bytes head ++ rest) (drop_all HEADER_LEN bytes (omega arith)) ∙ append-nil (header_bytes head))

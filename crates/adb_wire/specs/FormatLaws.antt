@@ -8,11 +8,12 @@ use Rattle.adb_outside.specs.declared.framer.Front.TheVariants.{More, Bad, Whole
 use Rattle.adb_outside.specs.Framing.{IsFraming}
 use Rattle.adb_wire.specs.declared.headers.Head.{Head}
 use Rattle.adb_wire.specs.declared.headers.HeadFault.{HeadFault}
+use Rattle.adb_wire.specs.declared.headers.TheConstants.{HEADER_LEN}
 use Rattle.adb_wire.specs.declared.format.PacketFault.{PacketFault}
 use Rattle.adb_wire.specs.declared.format.PacketFault.TheVariants.{Broken}
 use Rattle.adb_wire.specs.declared.format.PacketFormat.{PacketFormat}
 use Rattle.adb_wire.specs.Header.{word_at, head_at}
-use Rattle.adb_wire.specs.Format.{payload_at, sum_fault, whole_front, headed_front, front_of, packet_of, format_after}
+use Rattle.adb_wire.specs.Format.{payload_at, sum_fault, whole_front, packet_len, front_under, headed_front, front_of, packet_of, format_after}
 
 -- the words of a header do not depend on what follows
 pub word_same : (place : ℕ) (x y : List ℕ) → 4 * place + 4 ≤ length x → word_at place (x ++ y) ≡ word_at place x
@@ -20,58 +21,72 @@ unfolding word_at
 word_same place x y h =
     rw (drop-append-le (4 * place) x y (omega arith)) (little_from-append 4 (drop (4 * place) x) y (omega (arith, length-drop (4 * place) x)))
 
-pub head_same : (x y : List ℕ) → 24 ≤ length x → head_at (x ++ y) ≡ head_at x
+pub head_same : (x y : List ℕ) → HEADER_LEN ≤ length x → head_at (x ++ y) ≡ head_at x
 head_same x y h =
-    rw (word_same 0 x y (omega arith), word_same 1 x y (omega arith), word_same 2 x y (omega arith), word_same 3 x y (omega arith), word_same 4 x y (omega arith), word_same 5 x y (omega arith)) refl
+    rw (
+      word_same 0 x y (omega arith),
+      word_same 1 x y (omega arith),
+      word_same 2 x y (omega arith),
+      word_same 3 x y (omega arith),
+      word_same 4 x y (omega arith),
+      word_same 5 x y (omega arith),
+    ) refl
 
-pub payload_same : (head : Head) (x y : List ℕ) → 24 + head.length ≤ length x → payload_at head (x ++ y) ≡ payload_at head x
+pub payload_same : (head : Head) (x y : List ℕ) → packet_len head ≤ length x → payload_at head (x ++ y) ≡ payload_at head x
 payload_same head x y h =
-    ap (take head.length) (drop-append-le 24 x y (omega arith)) ∙ take-append-le head.length (drop 24 x) y (omega (arith, length-drop 24 x))
+    ap (take head.length) (drop-append-le HEADER_LEN x y (omega arith))
+    ∙ take-append-le head.length (drop HEADER_LEN x) y (omega (arith, length-drop HEADER_LEN x))
 
 -- ---- what a front is, case by case
-pub front_short : (format : PacketFormat) (bytes : List ℕ) → length bytes < 24 → front_of format bytes ≡ More
-front_short format bytes h = rw (lt-ltb (length bytes) 24 h) refl
+pub front_short : (format : PacketFormat) (bytes : List ℕ) → length bytes < HEADER_LEN → front_of format bytes ≡ More
+front_short format bytes h = rw (lt-ltb (length bytes) HEADER_LEN h) refl
 
-pub front_headed : (format : PacketFormat) (bytes : List ℕ) (read : Result Head HeadFault) → 24 ≤ length bytes → head_at bytes ≡ read → front_of format bytes ≡ headed_front format bytes read
+pub front_headed : (format : PacketFormat) (bytes : List ℕ) (read : Result Head HeadFault) → HEADER_LEN ≤ length bytes → head_at bytes ≡ read
+    → front_of format bytes ≡ headed_front format bytes read
 front_headed format bytes read h e =
-    ap (λ (b : Bool). cond b More (headed_front format bytes (head_at bytes))) (le-ltb (length bytes) 24 h) ∙ ap (headed_front format bytes) e
+    ap (λ (b : Bool). cond b More (headed_front format bytes (head_at bytes))) (le-ltb (length bytes) HEADER_LEN h) ∙ ap (headed_front format bytes) e
 
-pub front_partial : (format : PacketFormat) (bytes : List ℕ) (head : Head) → 24 ≤ length bytes → head_at bytes ≡ Ok head → length bytes < 24 + head.length → front_of format bytes ≡ More
+pub front_partial : (format : PacketFormat) (bytes : List ℕ) (head : Head) → HEADER_LEN ≤ length bytes → head_at bytes ≡ Ok head
+    → length bytes < packet_len head → front_of format bytes ≡ More
 front_partial format bytes head h e short =
-    front_headed format bytes (Ok head) h e ∙ ap (λ (b : Bool). cond b More (whole_front (24 + head.length) (sum_fault format head (payload_at head bytes)))) (lt-ltb (length bytes) (24 + head.length) short)
+    front_headed format bytes (Ok head) h e
+    ∙ ap (λ (b : Bool). cond b More (front_under format bytes head)) (lt-ltb (length bytes) (packet_len head) short)
 
-pub front_full : (format : PacketFormat) (bytes : List ℕ) (head : Head) → head_at bytes ≡ Ok head → 24 + head.length ≤ length bytes → front_of format bytes ≡ whole_front (24 + head.length) (sum_fault format head (payload_at head bytes))
+pub front_full : (format : PacketFormat) (bytes : List ℕ) (head : Head) → head_at bytes ≡ Ok head → packet_len head ≤ length bytes
+    → front_of format bytes ≡ front_under format bytes head
 front_full format bytes head e long =
-    front_headed format bytes (Ok head) (omega arith) e ∙ ap (λ (b : Bool). cond b More (whole_front (24 + head.length) (sum_fault format head (payload_at head bytes)))) (le-ltb (length bytes) (24 + head.length) long)
+    front_headed format bytes (Ok head) (omega arith) e
+    ∙ ap (λ (b : Bool). cond b More (front_under format bytes head)) (le-ltb (length bytes) (packet_len head) long)
 
 -- the cases of a front
 pub data Shows (format : PacketFormat) (bytes : List ℕ) (front : Front PacketFault) : Type 0 where
-  short : length bytes < 24 → front ≡ More → Shows format bytes front
-  broken : (fault : HeadFault) → 24 ≤ length bytes → head_at bytes ≡ Err fault → front ≡ Bad (Broken fault) → Shows format bytes front
-  partial : (head : Head) → 24 ≤ length bytes → head_at bytes ≡ Ok head → length bytes < 24 + head.length → front ≡ More → Shows format bytes front
-  full : (head : Head) → head_at bytes ≡ Ok head → 24 + head.length ≤ length bytes → front ≡ whole_front (24 + head.length) (sum_fault format head (payload_at head bytes)) → Shows format bytes front
+  short : length bytes < HEADER_LEN → front ≡ More → Shows format bytes front
+  broken : (fault : HeadFault) → HEADER_LEN ≤ length bytes → head_at bytes ≡ Err fault → front ≡ Bad (Broken fault) → Shows format bytes front
+  partial : (head : Head) → HEADER_LEN ≤ length bytes → head_at bytes ≡ Ok head → length bytes < packet_len head → front ≡ More → Shows format bytes front
+  full : (head : Head) → head_at bytes ≡ Ok head → packet_len head ≤ length bytes → front ≡ front_under format bytes head → Shows format bytes front
 
 pub shows : (format : PacketFormat) (bytes : List ℕ) → Shows format bytes (front_of format bytes)
-shows format bytes = elim (cases_lt (length bytes) 24) [
+shows format bytes = elim (cases_lt (length bytes) HEADER_LEN) [
   | inl lt ↦ short lt (front_short format bytes lt)
   | inr le ↦ by_head (head_at bytes) refl le
 ]
   where
-    by_size : (head : Head) → 24 ≤ length bytes → head_at bytes ≡ Ok head → Shows format bytes (front_of format bytes)
-    by_size head h e = elim (cases_lt (length bytes) (24 + head.length)) [
+    by_size : (head : Head) → HEADER_LEN ≤ length bytes → head_at bytes ≡ Ok head → Shows format bytes (front_of format bytes)
+    by_size head h e = elim (cases_lt (length bytes) (packet_len head)) [
       | inl lt ↦ partial head h e lt (front_partial format bytes head h e lt)
       | inr le ↦ full head e le (front_full format bytes head e le)
     ]
 
-    by_head : (read : Result Head HeadFault) → head_at bytes ≡ read → 24 ≤ length bytes → Shows format bytes (front_of format bytes)
+    by_head : (read : Result Head HeadFault) → head_at bytes ≡ read → HEADER_LEN ≤ length bytes → Shows format bytes (front_of format bytes)
     by_head (Err fault) e h = broken fault h e (front_headed format bytes (Err fault) h e)
     by_head (Ok head) e h = by_size head h e
 
 -- ---- the laws
-pub full_same : (format : PacketFormat) (x y : List ℕ) (head : Head) → head_at x ≡ Ok head → 24 + head.length ≤ length x → front_of format (x ++ y) ≡ front_of format x
+pub full_same : (format : PacketFormat) (x y : List ℕ) (head : Head) → head_at x ≡ Ok head → packet_len head ≤ length x
+    → front_of format (x ++ y) ≡ front_of format x
 full_same format x y head e long =
     front_full format (x ++ y) head (head_same x y (omega arith) ∙ e) (omega (arith, length-append x y))
-    ∙ (ap (λ p. whole_front (24 + head.length) (sum_fault format head p)) (payload_same head x y long) ∙ sym (front_full format x head e long))
+    ∙ (ap (λ p. whole_front (packet_len head) (sum_fault format head p)) (payload_same head x y long) ∙ sym (front_full format x head e long))
 
 -- what is settled stays
 pub settled : (format : PacketFormat) (x y : List ℕ) → front_of format x ≢ More → front_of format (x ++ y) ≡ front_of format x
@@ -86,8 +101,8 @@ settled format x y apart = elim (shows format x) [
 pub record IsWhole (format : PacketFormat) (bytes : List ℕ) (n : ℕ) : Type 0 where
   pub head : Head
   pub read : head_at bytes ≡ Ok head
-  pub size : n ≡ 24 + head.length
-  pub fits : 24 + head.length ≤ length bytes
+  pub size : n ≡ packet_len head
+  pub fits : packet_len head ≤ length bytes
   pub sums : sum_fault format head (payload_at head bytes) ≡ None
 
 pub is_whole : (format : PacketFormat) (bytes : List ℕ) (n : ℕ) → front_of format bytes ≡ Whole n → IsWhole format bytes n
@@ -98,7 +113,8 @@ is_whole format bytes n whole = elim (shows format bytes) [
   | full head e long is ↦ by_fault head e long (sum_fault format head (payload_at head bytes)) refl (sym is ∙ whole)
 ]
   where
-    by_fault : (head : Head) → head_at bytes ≡ Ok head → 24 + head.length ≤ length bytes → (fault : Option PacketFault) → sum_fault format head (payload_at head bytes) ≡ fault → whole_front (24 + head.length) fault ≡ Whole n → IsWhole format bytes n
+    by_fault : (head : Head) → head_at bytes ≡ Ok head → packet_len head ≤ length bytes → (fault : Option PacketFault)
+        → sum_fault format head (payload_at head bytes) ≡ fault → whole_front (packet_len head) fault ≡ Whole n → IsWhole format bytes n
     by_fault head e long None f is = record { head = head; read = e; size = cc; fits = long; sums = f }
     by_fault head e long (Some fault) f is = absurd cc
 

@@ -5,6 +5,7 @@ use Rattle.byteorder.specs.Endian.{little_bytes, little_number}
 use Rattle.adb_wire.specs.declared.command.Command.{Command}
 use Rattle.adb_wire.specs.declared.headers.Head.{Head}
 use Rattle.adb_wire.specs.declared.headers.HeadFault.{HeadFault}
+use Rattle.adb_wire.specs.declared.headers.TheConstants.{MAX_PAYLOAD}
 use Rattle.adb_wire.specs.declared.headers.HeadFault.TheVariants.{BadMagic, UnknownCommand, TooLong}
 use Rattle.adb_wire.specs.Command.{word_of, command_of}
 
@@ -24,7 +25,7 @@ magic_of word = bit_xor word 0xffffffff
 pub record IsHead (head : Head) : Type 0 where
   pub arg0 : head.arg0 < 2 ^ 32
   pub arg1 : head.arg1 < 2 ^ 32
-  pub size : head.length ≤ 1048576
+  pub size : head.length ≤ MAX_PAYLOAD
   pub check : head.check < 2 ^ 32
 
 -- the words of a header
@@ -43,7 +44,7 @@ word_at place bytes = little_number 4 (drop (4 * place) bytes)
 abbrev pub head_of : Option Command → (word arg0 arg1 size check : ℕ) → Result Head HeadFault
 head_of None word arg0 arg1 size check = Err (UnknownCommand word)
 head_of (Some command) word arg0 arg1 size check =
-    if nat_lt 1048576 size then Err (TooLong size)
+    if nat_lt MAX_PAYLOAD size then Err (TooLong size)
     else Ok (record { command = command; arg0 = arg0; arg1 = arg1; length = size; check = check })
 
 -- What the first 24 bytes say: the header, or its first fault.

@@ -1,6 +1,7 @@
 -- Packets and their spelling (protocol.txt).
 use Rattle.std.specs.Prelude.{ℕ, ◌^◌, ◌<◌, ◌≤◌, Bool, if◌then◌else◌, List, ◌++◌, length}
 use Rattle.adb_wire.specs.declared.headers.Head.{Head}
+use Rattle.adb_wire.specs.declared.headers.TheConstants.{MAX_PAYLOAD}
 use Rattle.adb_wire.specs.declared.packets.Packet.{Packet}
 use Rattle.adb_wire.specs.Header.{IsBytes, byte_sum_of, header_bytes}
 
@@ -20,5 +21,5 @@ check_of sums p = if sums then byte_sum_of p.payload else 0
 pub record IsPacket (p : Packet) : Type 0 where
   pub arg0 : p.arg0 < 2 ^ 32
   pub arg1 : p.arg1 < 2 ^ 32
-  pub size : length p.payload ≤ 1048576
+  pub size : length p.payload ≤ MAX_PAYLOAD
   pub bytes : IsBytes p.payload

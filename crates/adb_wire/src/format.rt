@@ -12,7 +12,7 @@ use adb_outside::{Format, Front, Text};
 use std::alloc::{AllocError, Global};
 
 /// The first version in which check words are not looked at.
-const VERSION_WITHOUT_SUMS: u32 = 0x0100_0001;
+pub const VERSION_WITHOUT_SUMS: u32 = 0x0100_0001;
 
 /// Why a stream is no stream of packets from some place on (protocol.txt, "MESSAGES").
 #[derive(Clone, Copy, Debug, PartialEq, Eq, Drop)]

@@ -7,10 +7,10 @@ use crate::command::Command;
 use byteorder::{ByteOrder, LittleEndian};
 
 /// How many bytes a header has: six words of four bytes.
-pub(crate) const HEADER_LEN: usize = 24;
+pub const HEADER_LEN: usize = 24;
 
 /// The most bytes that a payload has.
-pub(crate) const MAX_PAYLOAD: u32 = 1_048_576;
+pub const MAX_PAYLOAD: u32 = 1_048_576;
 
 /// The words of a header (protocol.txt, "MESSAGES"), but for its magic, which is the command's word
 /// with all bits turned.
@@ -32,7 +32,7 @@ pub enum HeadFault {
     BadMagic { command: u32, magic: u32 },
     /// The command's word is none of the seven.
     UnknownCommand(u32),
-    /// The length is above 1,048,576.
+    /// The length is above `MAX_PAYLOAD`.
     TooLong(u32),
 }
 
@@ -48,7 +48,7 @@ pub fn byte_sum(payload: &[u8]) -> u32
 }
 
 /// Writes a header: its five words and the magic, in little-endian order. It takes no memory.
-pub fn header(head: &Head, out: &mut [u8; 24])
+pub fn header(head: &Head, out: &mut [u8; HEADER_LEN])
     ensures { out.new ≡ header_bytes head.now }
 {
     let command = head.command.word();
@@ -63,19 +63,20 @@ pub fn header(head: &Head, out: &mut [u8; 24])
     LittleEndian::write_u32_into(&words, out);
 }
 
-/// Reads a header. The fault is the first in the order of `HeadFault`; `TooLong` comes exactly where
-/// the length is above 1,048,576. It takes no memory.
-pub fn read_header(bytes: &[u8; 24]) -> Result<Head, HeadFault>
+/// Reads a header. The fault is the first in the order of `HeadFault`; `TooLong` comes exactly
+/// where the length is above `MAX_PAYLOAD`. It takes no memory.
+pub fn read_header(bytes: &[u8; HEADER_LEN]) -> Result<Head, HeadFault>
     ensures exact { result ≡ head_at bytes.now }
     ensures spelled { IfOk result (λ head. bytes.now ≡ header_bytes head) }
-    ensures read_back { (head : Head) → IsHead head → bytes.now ≡ header_bytes head → result ≡ Ok head }
+    ensures read_back { (head : Head) → IsHead head → bytes.now ≡ header_bytes head
+        → result ≡ Ok head }
 {
     read_head(bytes)
 }
 
 /// The header that the first 24 bytes are.
 pub(crate) fn read_head(bytes: &[u8]) -> Result<Head, HeadFault>
-    requires { 24 ≤ length bytes.now }
+    requires { HEADER_LEN ≤ length bytes.now }
     ensures { result ≡ head_at bytes.now }
 {
     let (command, magic) = (word(bytes, 0), word(bytes, 5));

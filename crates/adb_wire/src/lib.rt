@@ -13,6 +13,6 @@ mod tests;
 
 pub use command::Command;
 pub use deframer::{Deframer, WireError};
-pub use format::{PacketFault, PacketFormat};
-pub use headers::{Head, HeadFault, byte_sum, header, read_header};
+pub use format::{PacketFault, PacketFormat, VERSION_WITHOUT_SUMS};
+pub use headers::{HEADER_LEN, Head, HeadFault, MAX_PAYLOAD, byte_sum, header, read_header};
 pub use packets::{Packet, frame};

@@ -1,14 +1,12 @@
 //! A packet, and its spelling.
 
-ghost use Rattle.std.specs.Prelude.{◌≡◌, ◌≤◌, ◌++◌, [], ℕ, List, length, Option, Some, None, if◌then◌else◌, OnOk, OnErr};
-ghost use Rattle.adb_wire.specs.declared.packets.Packet.{Packet};
-ghost use Rattle.adb_wire.specs.declared.format.PacketFault.{PacketFault};
+ghost use Rattle.std.specs.Prelude.{◌≡◌, ◌≤◌, ◌++◌, ℕ, List, length, if◌then◌else◌, OnOk, OnErr};
 ghost use Rattle.adb_wire.specs.Header.{IsBytes, IsHead, byte_sum_of};
 ghost use Rattle.adb_wire.specs.Packet.{IsPacket, spelling, check_of};
-ghost use Rattle.adb_wire.specs.Cutting.{Cuts, MayCarry, IsNextOf};
+ghost use Rattle.adb_wire.specs.Cutting.{Adds};
 
 use crate::command::Command;
-use crate::headers::{HEADER_LEN, Head, byte_sum, header};
+use crate::headers::{HEADER_LEN, Head, MAX_PAYLOAD, byte_sum, header};
 use adb_outside::Text;
 use std::alloc::{AllocError, Global};
 use std::mem;
@@ -22,16 +20,14 @@ pub struct Packet {
     pub payload: Text,
 }
 
-/// Adds a packet at the end of `out`; its payload holds at most 1,048,576 bytes. Its check word is the
-/// sum of the payload's bytes where `sums`, and else 0: a CNXN goes out with its sum, and another
-/// packet does on a link of version 0x01000000. After want of memory `out` is as before.
+/// Adds a packet at the end of `out`. Its check word is the sum of the payload's bytes where
+/// `sums`, and else 0: a CNXN goes out with its sum, and another packet does on a link of version
+/// 0x01000000. After want of memory `out` is as before.
 pub fn frame(alloc: Global, packet: &Packet, sums: bool, out: &mut Text) -> Result<(), AllocError>
-    requires { length packet.now.payload ≤ 1048576 }
-    ensures ok { OnOk result (out.new ≡ out.old ++ spelling packet.now (check_of sums packet.now)) }
-    // Behind whole packets it is cut to the packet, whatever follows, if its check word may stand there.
-    ensures cut { OnOk result ((before packets : List Packet) (more rest : List ℕ) (fault : Option PacketFault) →
-        Cuts out.old before [] None → MayCarry before packet.now (check_of sums packet.now) →
-        Cuts (out.new ++ more) packets rest fault → IsNextOf packets before (Some packet.now)) }
+    requires { length packet.now.payload ≤ MAX_PAYLOAD }
+    ensures ok { OnOk result
+        (out.new ≡ out.old ++ spelling packet.now (check_of sums packet.now)) }
+    ensures cut { OnOk result (Adds out.old out.new packet.now (check_of sums packet.now)) }
     ensures err { OnErr result (out.new ≡ out.old) }
 {
     let mut bytes = mem::replace(out, Text::new(alloc)).into_vec();
@@ -46,8 +42,9 @@ pub fn frame(alloc: Global, packet: &Packet, sums: bool, out: &mut Text) -> Resu
 
 /// Adds the packet's bytes, or after want of memory some of them.
 fn push_packet(packet: &Packet, sums: bool, bytes: &mut Vec<u8>) -> Result<(), AllocError>
-    requires { length packet.now.payload ≤ 1048576 }
-    ensures ok { OnOk result (bytes.new.items ≡ bytes.old.items ++ spelling packet.now (check_of sums packet.now)) }
+    requires { length packet.now.payload ≤ MAX_PAYLOAD }
+    ensures ok { OnOk result
+        (bytes.new.items ≡ bytes.old.items ++ spelling packet.now (check_of sums packet.now)) }
     ensures packet { IsPacket packet.now }
     ensures err { OnErr result ((some : List ℕ) × (bytes.new.items ≡ bytes.old.items ++ some)) }
 {
@@ -61,8 +58,14 @@ fn push_packet(packet: &Packet, sums: bool, bytes: &mut Vec<u8>) -> Result<(), A
 
 /// The header of a packet with these arguments and this payload.
 fn head_with(command: Command, arg0: u32, arg1: u32, payload: &[u8], sums: bool) -> Head
-    requires { length payload.now ≤ 1048576 }
-    ensures head { result ≡ record { command = command; arg0 = arg0; arg1 = arg1; length = length payload.now; check = if sums then byte_sum_of payload.now else 0 } }
+    requires { length payload.now ≤ MAX_PAYLOAD }
+    ensures head { result ≡ record {
+      command = command;
+      arg0 = arg0;
+      arg1 = arg1;
+      length = length payload.now;
+      check = if sums then byte_sum_of payload.now else 0;
+    } }
     ensures in_range { IsHead result }
     ensures bytes { IsBytes payload.now }
 {

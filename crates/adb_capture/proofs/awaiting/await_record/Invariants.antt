@@ -1,5 +1,7 @@
-use Rattle.std.proofs.Common.{◌≡◌, ◌-◌, length, false}
+use Rattle.std.proofs.Common.{◌≡◌, ◌+◌, ◌-◌, length, false}
+use Rattle.adb_capture.specs.declared.limits.TheConstants.{DATA_LIMIT}
 use Rattle.adb_outside.specs.Outside.{Counts}
+use Rattle.adb_capture.specs.Reading.{HoldsFew}
 use Rattle.adb_capture.specs.Counting.{KeepsBytes}
 use Rattle.adb_capture.specs.Records.{record_at}
 use Rattle.adb_capture.proofs.awaiting.await_record.Given as goal
@@ -7,9 +9,10 @@ use Rattle.adb_capture.proofs.awaiting.await_record.Given as goal
 abbrev pub invariant-loop-found : goal.invariant-loop-found
 invariant-loop-found g l = record {
   found : l.found ≡ record_at l.offset l.held;
+  few : HoldsFew l.held;
   bytes : KeepsBytes l.fn.held (g.S.Source.left l.fn.source) l.held (g.S.Source.left l.source);
   counts : Counts g.S.Source.steady g.S.Source.faults l.fn.source l.source false;
 }
 
 abbrev pub decreases-loop-found : goal.decreases-loop-found
-decreases-loop-found g l = 2097161 - length l.held
+decreases-loop-found g l = (9 + DATA_LIMIT) - length l.held

@@ -1,10 +1,12 @@
 use Rattle.std.proofs.Common.{◌-◌, length, false}
 use Rattle.adb_outside.specs.Outside.{Counts}
+use Rattle.adb_capture.specs.Reading.{HoldsFew}
 use Rattle.adb_capture.specs.Counting.{KeepsBytes}
 use Rattle.adb_capture.proofs.awaiting.take_magic.Given as goal
 
 abbrev pub invariant-loop-held : goal.invariant-loop-held
 invariant-loop-held g l = record {
+  few : HoldsFew l.held;
   bytes : KeepsBytes l.fn.held (g.S.Source.left l.fn.source) l.held (g.S.Source.left l.source);
   counts : Counts g.S.Source.steady g.S.Source.faults l.fn.source l.source false;
 }

@@ -1,7 +1,6 @@
 use Rattle.std.proofs.Common.{◌≡◌, Ok, Err, None, ◌∙◌, ap, subst, refl}
 use Rattle.std.proofs.lemmas.Result.{err_from_is_err_and}
-use Rattle.adb_capture.specs.Reading.{Reading}
-use Rattle.adb_capture.specs.Awaiting.{Opens}
+use Rattle.adb_capture.specs.Reading.{Reading, Opens}
 use Rattle.adb_top.proofs.Drains.{part_written}
 use Rattle.adb_top.proofs.Captures.{capture_replayed, capture_unopened, capture_unwritten}
 use Rattle.adb_top.proofs.replay.replay.Goals as goal

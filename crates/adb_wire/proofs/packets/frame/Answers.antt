@@ -5,5 +5,9 @@ use Rattle.adb_wire.proofs.packets.frame.Goals as goal
 
 pub returns-clause-cut : goal.returns-clause-cut
 returns-clause-cut c =
-    let ok : OnOk c.push_packet-framed.result (c.from_vec.result ≡ c.args.out.now ++ spelling c.args.packet.now (check_of c.args.sums c.args.packet.now)) = search rules in
-    framed_is_next c.push_packet-framed.result c.args.out.now c.from_vec.result c.args.packet.now c.args.sums ok c.push_packet-framed.ensures.packet
+    let old = c.args.out.now in
+    let new = c.from_vec.result in
+    let p = c.args.packet.now in
+    let sums = c.args.sums in
+    let ok : OnOk c.push_packet-framed.result (new ≡ old ++ spelling p (check_of sums p)) = search rules in
+    framed_is_next c.push_packet-framed.result old new p sums ok c.push_packet-framed.ensures.packet

@@ -1,12 +1,12 @@
 use Rattle.std.proofs.Common.{rules, ◌≡◌, ◌++◌, take, ◌∙◌, ap}
 use Rattle.std.proofs.lemmas.List.{take_at}
-use Rattle.adb_capture.proofs.Keeping.{keeps_more, grows}
+use Rattle.adb_capture.proofs.Keeping.{keeps_more}
 use Rattle.adb_capture.proofs.held.Held.fill.Goals as goal
 
-pub returns-in_ok-extend_from_slice-in-Bytes-clause-bytes : goal.returns-in_ok-extend_from_slice-in-Bytes-clause-bytes
-returns-in_ok-extend_from_slice-in-Bytes-clause-bytes g c = λ coming told.
-    let chunk : c.deref.result.now ≡ c.read.new.into = c.deref.ensures.value ∙ take_at c.read.new.into _ c.self.inside.chunk.len (search rules) in
-    keeps_more c.args.self.now _ c.read.new.into coming _ c.in-Bytes.count
-    (grows c.self.inside.taken c.self.inside.bytes.items c.args.self.now (take c.in-Bytes.count c.read.new.into) c.extend_from_slice.new.self.items c.self.invariant.0 (c.self.view_is ∙ c.drop_taken.ensures)
-    (c.in_ok-extend_from_slice-in-Bytes.ensures.items ∙ (ap (λ b. b ++ take c.in-Bytes.count c.deref.result.now) c.reserve.ensures.items ∙ ap (λ b. c.self.inside.bytes.items ++ take c.in-Bytes.count b) chunk)))
-    (c.in-Bytes.ensures.told coming told)
+pub returns-in-Bytes-clause-bytes : goal.returns-in-Bytes-clause-bytes
+returns-in-Bytes-clause-bytes g c = λ coming told.
+    let held = c.reserve.ensures.bytes ∙ c.self.view_is in
+    let chunk : c.deref.result.now ≡ c.read-got.new.into = c.deref.ensures.value ∙ take_at c.read-got.new.into _ c.self.inside.chunk.len (search rules) in
+    let is = c.push_spare.ensures.bytes
+    ∙ (ap (λ b. b ++ take c.in-Bytes.count c.deref.result.now) held ∙ ap (λ b. c.args.self.now ++ take c.in-Bytes.count b) chunk) in
+    keeps_more c.args.self.now c.push_spare.new.self.bytes c.read-got.new.into coming _ c.in-Bytes.count is (c.in-Bytes.ensures.told coming told)

@@ -1,5 +1,5 @@
-use Rattle.std.proofs.Common.{◌≡◌, length, sym, ◌∙◌, ap, arith}
-use Rattle.std.proofs.lemmas.List.{length-take-le}
+use Rattle.std.proofs.Common.{ℕ, ◌≡◌, length, sym, ◌∙◌, ap, arith}
+use Rattle.std.proofs.lemmas.List.{length-take-le, length-drop}
 use Rattle.adb_capture.specs.Records.{record_at}
 use Rattle.adb_capture.proofs.Fronts.{whole_tells}
 use Rattle.adb_capture.proofs.Giving.{whole_fits, whole_given}
@@ -30,10 +30,14 @@ overflow_add-self c =
 pub invariant_of-self : goal.invariant_of-self
 invariant_of-self c =
     let w = ap (λ r. record_at r.offset r.held) c.self.view_is ∙ c.requires in
-    ((whole_fits c.self.inside.offset c.self.inside.held c.args.size w).1, c.self.invariant.1)
+    record {
+      near = (whole_fits c.self.inside.offset c.self.inside.held c.args.size w).1;
+      few = omega (arith, c.self.invariant.few, ap (length {A = ℕ}) c.skip.ensures, length-drop c.args.size c.self.inside.held);
+      stays = c.self.invariant.stays;
+    }
 
 pub returns-clause-moves : goal.returns-clause-moves
 returns-clause-moves c =
     let tells = whole_tells c.args.self.now.offset c.args.self.now.held c.args.size c.requires in
     let place : c.self.inside.offset ≡ c.args.self.now.offset = ap (λ k. k.offset) c.self.view_is in
-    (omega (arith, tells.size, place), omega (arith, tells.size, tells.near, place))
+    record { on = omega (arith, tells.size, place); within = omega (arith, tells.size, tells.near, place) }

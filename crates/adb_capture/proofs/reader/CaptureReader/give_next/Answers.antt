@@ -27,4 +27,4 @@ returns-in-Ok-clause-records g c = λ coming told.
     let now = c.in-Ok.ensures.ok in
     record_given c.self.inside.offset c.args.self.now.offset c.give.new.self.offset (c.args.self.now.held ++ coming) c.in-Ok.given _ (ap (λ r. r.offset) c.self.view_is)
     (gives_record c.self.inside.offset c.give.new.self.offset c.in-Some.size c.await_record.new.held c.give.new.self.held (c.args.self.now.held ++ coming) c.in-Ok.given _
-    (c.await_record.ensures.bytes coming told ∙ ap Some first) whole given.0 (ap (λ r. r.held) now) (ap (λ r. r.offset) now))
+    (c.await_record.ensures.bytes coming told ∙ ap Some first) whole given (ap (λ r. r.held) now) (ap (λ r. r.offset) now))

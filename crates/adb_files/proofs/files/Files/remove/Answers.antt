@@ -2,7 +2,7 @@ use Rattle.std.proofs.Common.{List, arith, sym, ◌∙◌, ◌≡◌, ◌++◌, 
 use Rattle.adb_files.specs.Files.{IsFileMap, ChangesAt, without, total}
 use Rattle.adb_files.specs.Entries.{Entry}
 use Rattle.adb_files.proofs.Maps.{map-without}
-use Rattle.adb_files.proofs.Lookups.{entry_removed, changes-without, parts_where_stands, none_where_fits, file_where_stands, no_entry}
+use Rattle.adb_files.proofs.Lookups.{entry_removed, changes-without, parts_where_stands}
 use Rattle.adb_files.proofs.files.Files.remove.Goals as goal
 
 -- the entries that are left

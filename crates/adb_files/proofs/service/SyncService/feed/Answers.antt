@@ -1,11 +1,14 @@
-use Rattle.std.proofs.Common.{◌≡◌, refl, true, false}
-use Rattle.std.proofs.lemmas.Result.{on_ok_weaker}
-use Rattle.adb_files.specs.Service.{Service}
-use Rattle.adb_files.proofs.Whole.{served_dropped, front_same, call_served, call_front, on_err_weaker}
+use Rattle.std.proofs.Common.{◌≡◌, refl, true}
+use Rattle.std.proofs.lemmas.Result.{on_ok_weaker, on_err_weaker}
+use Rattle.adb_files.specs.Service.{Service, held}
+use Rattle.adb_files.proofs.Whole.{served_dropped, front_same, feeds_none, call_served, call_front}
 use Rattle.adb_files.proofs.service.SyncService.feed.Goals as goal
 
+pub returns-then-self-clause-front : goal.returns-then-self-clause-front
+returns-then-self-clause-front c = λ on fed stood. feeds_none fed c.args.piece.now c.args.self.now c.args.self.now c.args.files.now refl
+
 pub returns-then-self-clause-whole_front : goal.returns-then-self-clause-whole_front
-returns-then-self-clause-whole_front c = λ first fed taken has. front_same first fed taken c.args.piece.now c.args.self.now c.args.files.now c.args.files.now has refl
+returns-then-self-clause-whole_front c = λ first fed taken has. front_same first fed taken c.args.piece.now c.args.self.now c.args.files.now has
 
 pub returns-then-self-2-clause-whole : goal.returns-then-self-2-clause-whole
 returns-then-self-2-clause-whole c = λ first fed taken has.
@@ -14,11 +17,13 @@ returns-then-self-2-clause-whole c = λ first fed taken has.
 
 pub returns-then-is_err-clause-whole_front : goal.returns-then-is_err-clause-whole_front
 returns-then-is_err-clause-whole_front c =
-    let view : Service = record { reading = c.self.inside.reader; sending = c.self.inside.session.sending; out = c.self.inside.session.out; ended = c.self.inside.session.ended; spent = c.self.inside.spent } in
-    on_err_weaker c.feed_open-result.result (λ call. call_front c.args.self.now view c.args.files.now c.feed_open-result.new.files c.args.piece.now c.self.view_is c.if-self-2.false call) c.feed_open-result.ensures.err
+    let view : Service = record (held c.self.inside.reader c.self.inside.session) { spent = c.self.inside.spent } in
+    let new : Service = held c.feed_open-result.new.reader c.feed_open-result.new.session in
+    on_err_weaker c.feed_open-result.result (λ call. call_front c.args.self.now view new c.args.files.now c.feed_open-result.new.files c.args.piece.now c.self.view_is c.if-self-2.false call) c.feed_open-result.ensures.err
 
 pub returns-else-is_err-clause-whole : goal.returns-else-is_err-clause-whole
 returns-else-is_err-clause-whole c =
-    let view : Service = record { reading = c.self.inside.reader; sending = c.self.inside.session.sending; out = c.self.inside.session.out; ended = c.self.inside.session.ended; spent = c.self.inside.spent } in
-    let new : Service = record { reading = c.feed_open-result.new.reader; sending = c.feed_open-result.new.session.sending; out = c.feed_open-result.new.session.out; ended = c.feed_open-result.new.session.ended; spent = false } in
-    on_ok_weaker c.feed_open-result.result (λ call. call_served c.args.self.now view new c.args.files.now c.feed_open-result.new.files c.args.piece.now c.self.view_is c.if-self-2.false call c.self.inside.spent) c.feed_open-result.ensures.ok
+    let view : Service = record (held c.self.inside.reader c.self.inside.session) { spent = c.self.inside.spent } in
+    let new : Service = held c.feed_open-result.new.reader c.feed_open-result.new.session in
+    on_ok_weaker c.feed_open-result.result (λ call. call_served c.args.self.now view new c.args.files.now c.feed_open-result.new.files c.args.piece.now c.self.view_is c.if-self-2.false call c.self.inside.spent)
+    c.feed_open-result.ensures.ok
