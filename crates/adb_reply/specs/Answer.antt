@@ -11,6 +11,7 @@ use Rattle.adb_registry.specs.Lists.{short_list, long_list}
 use Rattle.adb_registry.specs.declared.row.Row.{Row}
 use Rattle.adb_forward.specs.Forwards.{forward_list}
 use Rattle.adb_forward.specs.declared.row.ForwardRow.{ForwardRow}
+use Rattle.adb_forward.specs.declared.table.TheConstants.{MAX_FORWARDS}
 use Rattle.adb_request.specs.declared.request.Which.{Which}
 use Rattle.adb_request.specs.declared.request.Which.TheVariants.{By}
 use Rattle.adb_request.specs.declared.request.Request.{Request}
@@ -87,7 +88,7 @@ abbrev pub forwards_to : List (ℕ × ForwardRow) → Bool → ℕ → ℕ → L
 forwards_to forwards norebind transport local remote =
     let is_there = is_some (at local forwards) in
     if is_there && norebind then failed (codes "cannot rebind existing socket")
-    else (if not is_there && nat_eq (length forwards) 64 then failed (codes "too many forwards")
+    else (if not is_there && nat_eq (length forwards) MAX_FORWARDS then failed (codes "too many forwards")
     else forwards_from is_there transport local remote)
 
 abbrev pub forwards_by : List (ℕ × ForwardRow) → Bool → ℕ → List ℕ → Chosen → Answer
