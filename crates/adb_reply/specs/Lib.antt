@@ -2,3 +2,4 @@ pub mod Strings
 pub mod Refusals
 pub mod Chosen
 pub mod Answer
+pub mod Laws

@@ -101,12 +101,7 @@ pub(crate) fn tell(
 }
 
 /// What is asked of the device of a transport id.
-fn tell_of(
-    alloc: Global,
-    registry: &Registry,
-    id: u32,
-    fact: Fact,
-) -> Result<Answer, AllocError>
+fn tell_of(alloc: Global, registry: &Registry, id: u32, fact: Fact) -> Result<Answer, AllocError>
     ensures { IfOk result (λ answer. answer ≡ fact_at fact (at id registry.now.rows)) }
 {
     let Some(row) = registry.row(id) else {

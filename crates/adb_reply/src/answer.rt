@@ -10,9 +10,14 @@ pub enum Next {
     /// It selects the device of this transport id, and reads the next request.
     Select(u32),
     /// It gives the list again after each change.
-    Track { long: bool },
+    Track {
+        long: bool,
+    },
     /// It opens a stream to this service of the device.
-    Open { transport: u32, service: Text },
+    Open {
+        transport: u32,
+        service: Text,
+    },
     /// It listens at the local port, at any where that is 0, which `chosen` says; the reply follows
     /// then.
     Bind {

@@ -2,13 +2,17 @@
 //! function of the devices, the forwards, what the connection selected, and the request.
 #![tactic(auto)]
 
-mod answer;
 mod about_devices;
 mod about_forwards;
+mod answer;
 mod chosen;
+mod laws;
 mod refusals;
 mod replies;
 mod strings;
+#[cfg(test)]
+mod tests;
 
 pub use answer::{Answer, Next};
+pub use laws::{replies_begin_right, texts_carry_their_length};
 pub use replies::reply;
