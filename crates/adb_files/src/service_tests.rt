@@ -5,9 +5,6 @@ use adb_outside::Text;
 use std::alloc::{AllocError, Global};
 use std::test::Fail;
 
-/// The most bytes that all files may have.
-const MOST_BYTES: usize = 268_435_456;
-
 /// What a service answers to a stream that comes in pieces of `size`.
 fn answer_of(
     alloc: Global,
@@ -165,52 +162,6 @@ fn pushes_are_pulled(rt: HostRuntime) -> Result<(), Fail> {
                 "of {length} bytes"
             );
         }
-    }
-    Ok(())
-}
-
-#[test]
-fn pulls_what_was_there_when_it_was_asked(rt: HostRuntime) -> Result<(), Fail> {
-    let alloc = rt.alloc();
-    let mut files = two_files(alloc)?;
-    let mut service = SyncService::new(alloc);
-    service.feed(&mut files, b"RECV\x04\0\0\0/d/f")?;
-    files.put(b"/d/f", file_of(Text::from_slice(alloc, b"other")?))?;
-    let mut answer = Text::new(alloc);
-    drain(&mut service, &mut answer)?;
-    assert!(rt; answer.as_slice() == b"DATA\x02\0\0\0hiDONE\0\0\0\0".as_slice());
-    Ok(())
-}
-
-#[test]
-fn a_push_past_the_limit_has_no_space(rt: HostRuntime) -> Result<(), Fail> {
-    let alloc = rt.alloc();
-    let mut files = Files::new(alloc);
-    let most = Text::from_vec(vec![in alloc; 0; MOST_BYTES - 1]?);
-    files.put(b"/most", file_of(most))?;
-    let cases: [(&[u8], &[u8]); 4] = [
-        (
-            b"SEND\x06\0\0\0/n,420DATA\x02\0\0\0xyDONE\0\0\0\0",
-            b"FAIL\x08\0\0\0no space",
-        ),
-        (
-            b"SEND\x06\0\0\0/n,420DATA\x01\0\0\0xDONE\0\0\0\0",
-            b"OKAY\0\0\0\0",
-        ),
-        (
-            b"SEND\x06\0\0\0/n,420DATA\x02\0\0\0xyDONE\0\0\0\0",
-            b"FAIL\x08\0\0\0no space",
-        ),
-        (b"STAT\x02\0\0\0/n", b"STAT\xa4\x81\0\0\x01\0\0\0\0\0\0\0"),
-    ];
-    for (asked, answer) in cases {
-        let (told, ended) = answer_of(alloc, &mut files, asked, 4096)?;
-        assert!(rt;
-            told.as_slice() == answer,
-            "{:?} to {asked:?}",
-            told.as_slice()
-        );
-        assert!(rt; !ended);
     }
     Ok(())
 }

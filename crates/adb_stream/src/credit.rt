@@ -88,6 +88,13 @@ impl Credit {
         Took::Accepted
     }
 
+    /// How many bytes are still to be handed out.
+    pub fn to_hand(&self) -> usize
+        ensures { result ≡ self.now.to_hand }
+    {
+        self.to_hand as usize
+    }
+
     /// `n` bytes were handed out, at least one and no more than were to be: the credit to give back
     /// now. Handed bytes gather until none are still to be handed out, or 65,536 have gathered.
     pub fn handed(&mut self, n: usize) -> u32

@@ -75,6 +75,13 @@ impl Window {
         if n == 0 { Took::AckNow } else { Took::Accepted }
     }
 
+    /// How many bytes are still to be handed out.
+    pub fn to_hand(&self) -> usize
+        ensures { result ≡ self.now.to_hand }
+    {
+        self.to_hand
+    }
+
     /// `n` bytes were handed out, at least one and no more than were to be: whether none are left,
     /// so that the WRTE is acknowledged now.
     pub fn handed(&mut self, n: usize) -> bool

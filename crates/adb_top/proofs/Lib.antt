@@ -6,3 +6,4 @@ pub mod Outcomes
 pub mod Records
 pub mod Captures
 pub mod Runs
+pub mod Lines

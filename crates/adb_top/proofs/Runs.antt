@@ -1,13 +1,15 @@
 -- From how a replay stopped to the status of the run.
-use Rattle.std.proofs.Common.{ℕ, ◌≡◌, List, [], ◌++◌, Option, Some, None, Err, refl, sym, ap, subst, true, inl, inr}
+use Rattle.std.proofs.Common.{ℕ, ◌≡◌, ◌≢◌, ◌⊎◌, true, false, List, [], ◌++◌, Option, Some, None, Err, refl, sym, ◌∙◌, ap, subst, inl, inr}
 use Rattle.std.proofs.lemmas.List.{append-nil}
+use Rattle.adb_capture.specs.Records.{magic}
 use Rattle.adb_history.specs.Accepted.{Accepted}
 use Rattle.adb_history.specs.declared.refusal.Refusal.{Refusal}
-use Rattle.adb_top.specs.Notes.{EndsIn, NotesLine}
+use Rattle.adb_top.specs.Faults.{IsFaultless}
+use Rattle.adb_top.specs.Notes.{EndsIn, bad_capture_line}
 use Rattle.adb_top.specs.Keeping.{is_read_fault, is_write_fault}
 use Rattle.adb_top.specs.Replay.{EndsAs}
-use Rattle.adb_top.specs.Replayed.{HasFront, WritesText}
-use Rattle.adb_top.specs.Run.{WritesBy, NotesBy, NamesRefusal, Completes}
+use Rattle.adb_top.specs.Replayed.{HasFront, GrowsSpelled, WritesText}
+use Rattle.adb_top.specs.Run.{WritesBy, EndsBy, NamesBy, CompletesBy}
 use Rattle.adb_top.specs.declared.stop.Stop.{Stop}
 use Rattle.adb_top.specs.declared.stop.Stop.TheVariants as stop
 use Rattle.adb_top.specs.declared.status.Status.{Status}
@@ -16,6 +18,9 @@ use Rattle.adb_top.specs.declared.status.Status.TheVariants.{Done, Usage, ReadFa
 -- all of a text is a front of it
 all_out : (text had : List ℕ) (written : Option (List ℕ)) → written ≡ Some (had ++ text) → HasFront had text written
 all_out text had written is = record { growth = text; is = is; front = ([], append-nil text) }
+
+none_out : (text had : List ℕ) (written : Option (List ℕ)) → written ≡ Some had → HasFront had text written
+none_out text had written is = record { growth = []; is = is ∙ ap Some (sym (append-nil had)); front = (text, refl) }
 
 front_out : (why : Stop) (text had : List ℕ) (written : Option (List ℕ)) → WritesText (Err why) text had written → HasFront had text written
 front_out stop.ReadFault text had written w = w
@@ -31,44 +36,91 @@ writes_by why WriteFault text had written e w = front_out why text had written w
 writes_by why BadCapture text had written e w = subst (λ (k : Stop). WritesText (Err k) text had written) e.1 w
 writes_by why OutOfMemory text had written e w = front_out why text had written w
 
-pub notes_by : (why : Stop) (status : Status) (had : List ℕ) (after : Option (List ℕ)) → EndsIn why status → NotesLine why status had after → NotesBy status had after
-notes_by why Done had after e n = absurd e
-notes_by why Usage had after e n = absurd e
-notes_by why ReadFault had after e n = n
-notes_by why WriteFault had after e n = tt
-notes_by why BadCapture had after e n = (e.0, n e.0 e.1)
-notes_by why OutOfMemory had after e n = n
+pub ends_by : (why : Stop) (status : Status) (a : Accepted) (left : Option (List ℕ)) → EndsIn why status → EndsAs (Err why) a left → EndsBy status a left
+ends_by why Done a left e ends = absurd e
+ends_by why Usage a left e ends = tt
+ends_by why ReadFault a left e ends = tt
+ends_by why WriteFault a left e ends = tt
+ends_by why BadCapture a left e ends = (e.0, subst (λ (k : Stop). EndsAs (Err k) a left) e.1 ends)
+ends_by why OutOfMemory a left e ends = tt
 
-pub names_refusal : (why : Stop) (status : Status) (a : Accepted) (left : Option (List ℕ)) (had : List ℕ) (after : Option (List ℕ)) → EndsIn why status → EndsAs (Err why) a left → NotesLine why status had after → NamesRefusal status a had after
-names_refusal why Done a left had after e ends n = tt
-names_refusal why Usage a left had after e ends n = tt
-names_refusal why ReadFault a left had after e ends n = tt
-names_refusal why WriteFault a left had after e ends n = tt
-names_refusal why BadCapture a left had after e ends n = record { why = e.0; refused = subst (λ (k : Stop). EndsAs (Err k) a left) e.1 ends; line = n e.0 e.1 }
-names_refusal why OutOfMemory a left had after e ends n = tt
+pub names_by : (why : Stop) (status : Status) (a : Accepted) (left : Option (List ℕ)) (had : List ℕ) (after : Option (List ℕ)) → EndsIn why status → EndsAs (Err why) a left
+    → ((refusal : Refusal) → why ≡ stop.Refused refusal → status ≡ BadCapture → after ≡ Some (had ++ bad_capture_line refusal)) → NamesBy status a had after
+names_by why Done a left had after e ends line = tt
+names_by why Usage a left had after e ends line = tt
+names_by why ReadFault a left had after e ends line = tt
+names_by why WriteFault a left had after e ends line = tt
+names_by why BadCapture a left had after e ends line = record { why = e.0; refused = subst (λ (k : Stop). EndsAs (Err k) a left) e.1 ends; line = line e.0 e.1 refl }
+names_by why OutOfMemory a left had after e ends line = tt
 
-pub completes_done : (refused : Option Refusal) → refused ≡ None → Completes Done refused
+-- nothing was read, and nothing went out
+pub unread_writes : (status : Status) (text had : List ℕ) (written : Option (List ℕ)) → (status ≡ Usage) ⊎ (status ≡ WriteFault) → written ≡ Some had → WritesBy status text had written
+unread_writes status text had written (inl usage) is = subst (λ (s : Status). WritesBy s text had written) (sym usage) is
+unread_writes status text had written (inr fault) is = subst (λ (s : Status). WritesBy s text had written) (sym fault) (none_out text had written is)
+
+pub unread_spells : (had : List ℕ) (written : Option (List ℕ)) → written ≡ Some had → GrowsSpelled had written
+unread_spells had written is = record { growth = []; is = is ∙ ap Some (sym (append-nil had)); spelled = inl (magic, refl) }
+
+pub unread_ends : (status : Status) (a : Accepted) (left : Option (List ℕ)) → (status ≡ Usage) ⊎ (status ≡ WriteFault) → EndsBy status a left
+unread_ends status a left (inl usage) = subst (λ (s : Status). EndsBy s a left) (sym usage) tt
+unread_ends status a left (inr fault) = subst (λ (s : Status). EndsBy s a left) (sym fault) tt
+
+pub unread_names : (status : Status) (a : Accepted) (had : List ℕ) (after : Option (List ℕ)) → (status ≡ Usage) ⊎ (status ≡ WriteFault) → NamesBy status a had after
+unread_names status a had after (inl usage) = subst (λ (s : Status). NamesBy s a had after) (sym usage) tt
+unread_names status a had after (inr fault) = subst (λ (s : Status). NamesBy s a had after) (sym fault) tt
+
+pub completes_done : (refused : Option Refusal) → refused ≡ None → CompletesBy Done refused
 completes_done None e = inl refl
 completes_done (Some why) e = cc
 
 -- a stop that no fault made
-pub completes_stopped : (why : Stop) (status : Status) (refused : Option Refusal) → EndsIn why status → (why ≡ stop.ReadFault → ⊥) → (status ≡ WriteFault → ⊥) → ((refusal : Refusal) → why ≡ stop.Refused refusal → refused ≡ Some refusal) → Completes status refused
-completes_stopped why Done refused e reads writes names = absurd e
-completes_stopped why Usage refused e reads writes names = absurd e
-completes_stopped why ReadFault refused e reads writes names = absurd (reads e)
-completes_stopped why WriteFault refused e reads writes names = absurd (writes refl)
-completes_stopped why BadCapture refused e reads writes names = subst (λ (r : Option Refusal). Completes BadCapture r) (sym (names e.0 e.1)) (inl refl)
-completes_stopped why OutOfMemory refused e reads writes names = memory refused
+pub completes_stopped : (why : Stop) (status : Status) (a : Accepted) (left : Option (List ℕ)) → EndsIn why status → EndsAs (Err why) a left → (why ≡ stop.ReadFault → ⊥) → (status ≡ WriteFault → ⊥) → CompletesBy status a.refused
+completes_stopped why Done a left e ends reads writes = absurd e
+completes_stopped why Usage a left e ends reads writes = absurd e
+completes_stopped why ReadFault a left e ends reads writes = absurd (reads e)
+completes_stopped why WriteFault a left e ends reads writes = absurd (writes refl)
+completes_stopped why BadCapture a left e ends reads writes = subst (λ (r : Option Refusal). CompletesBy BadCapture r) (sym (ends_by why BadCapture a left e ends).1) (inl refl)
+completes_stopped why OutOfMemory a left e ends reads writes = memory a.refused
   where
-    memory : (r : Option Refusal) → Completes OutOfMemory r
+    memory : (r : Option Refusal) → CompletesBy OutOfMemory r
     memory None = inr refl
     memory (Some w) = inr refl
-
-pub refused_as : (why : Stop) (a : Accepted) (left : Option (List ℕ)) → EndsAs (Err why) a left → (refusal : Refusal) → why ≡ stop.Refused refusal → a.refused ≡ Some refusal
-refused_as why a left ends refusal is = subst (λ (k : Stop). EndsAs (Err k) a left) is ends
 
 pub read_fault_is : (why : Stop) → why ≡ stop.ReadFault → is_read_fault (Err why) ≡ true
 read_fault_is why e = ap (λ k. is_read_fault (Err k)) e
 
 pub write_fault_is : (why : Stop) → why ≡ stop.WriteFault → is_write_fault (Err why) ≡ true
 write_fault_is why e = ap (λ k. is_write_fault (Err k)) e
+
+-- a status that names no fault comes of a stop that no source made
+pub faultless_reads : (why : Stop) (status : Status) → EndsIn why status → IsFaultless status → is_read_fault (Err why) ≡ false
+faultless_reads why Done e f = absurd e
+faultless_reads why Usage e f = absurd e
+faultless_reads why ReadFault e f = absurd f
+faultless_reads why WriteFault e f = absurd f
+faultless_reads why BadCapture e f = ap (λ k. is_read_fault (Err k)) e.1
+faultless_reads stop.ReadFault OutOfMemory e f = absurd e
+faultless_reads stop.WriteFault OutOfMemory e f = absurd e
+faultless_reads stop.OutOfMemory OutOfMemory e f = refl
+faultless_reads (stop.Refused refusal) OutOfMemory e f = refl
+
+-- a status other than WriteFault comes of a stop that no sink made
+pub other_writes : (why : Stop) (status : Status) → EndsIn why status → status ≢ WriteFault → is_write_fault (Err why) ≡ false
+other_writes why Done e other = absurd e
+other_writes why Usage e other = absurd e
+other_writes why ReadFault e other = ap (λ k. is_write_fault (Err k)) e
+other_writes why WriteFault e other = absurd (other refl)
+other_writes why BadCapture e other = ap (λ k. is_write_fault (Err k)) e.1
+other_writes stop.ReadFault OutOfMemory e other = absurd e
+other_writes stop.WriteFault OutOfMemory e other = absurd e
+other_writes stop.OutOfMemory OutOfMemory e other = refl
+other_writes (stop.Refused refusal) OutOfMemory e other = refl
+
+-- streams that never fail
+pub faultless_stopped : (why : Stop) (status : Status) → EndsIn why status → is_read_fault (Err why) ≡ false → is_write_fault (Err why) ≡ false → (status ≡ WriteFault → why ≡ stop.WriteFault) → IsFaultless status
+faultless_stopped why Done e reads writes note = absurd e
+faultless_stopped why Usage e reads writes note = absurd e
+faultless_stopped why ReadFault e reads writes note = let clash = sym (read_fault_is why e) ∙ reads in cc
+faultless_stopped why WriteFault e reads writes note = let clash = sym (write_fault_is why (note refl)) ∙ writes in cc
+faultless_stopped why BadCapture e reads writes note = tt
+faultless_stopped why OutOfMemory e reads writes note = tt

@@ -6,6 +6,7 @@ pub mod Replay
 pub mod Keeping
 pub mod Status
 pub mod Words
+pub mod Faults
 pub mod Notes
 pub mod Replayed
 pub mod Run

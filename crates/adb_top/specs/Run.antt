@@ -1,26 +1,44 @@
 -- What a run leaves, by its status.
-use Rattle.std.specs.Prelude.{ℕ, ◌≡◌, ◌⊎◌, List, [], ◌++◌, Option, Some, None}
-use Rattle.adb_history.specs.Accepted.{Accepted}
+use Rattle.std.specs.Prelude.{ℕ, ◌≡◌, ◌⊎◌, true, false, List, [], ◌++◌, Option, Some, None, String}
+use Rattle.adb_history.specs.Accepted.{Accepted, accepted, replayed}
 use Rattle.adb_history.specs.declared.refusal.Refusal.{Refusal}
-use Rattle.adb_top.specs.Notes.{usage_line, read_fault_line, out_of_memory_line, bad_capture_line}
-use Rattle.adb_top.specs.Replayed.{HasFront}
+use Rattle.adb_top.specs.Words.{is_replay}
+use Rattle.adb_top.specs.Notes.{bad_capture_line}
+use Rattle.adb_top.specs.Replayed.{HasFront, GrowsSpelled}
 use Rattle.adb_top.specs.declared.status.Status.{Status}
 use Rattle.adb_top.specs.declared.status.Status.TheVariants.{Done, Usage, ReadFault, WriteFault, BadCapture, OutOfMemory}
 
--- What went out of a text: at Done and BadCapture all of it, else a front.
+-- The words are the one command that is built.
+abbrev pub IsCommand : {A : Type 0} → List (String A) → Type 0
+IsCommand words = is_replay words ≡ true
+
+abbrev pub IsNoCommand : {A : Type 0} → List (String A) → Type 0
+IsNoCommand words = is_replay words ≡ false
+
+-- What went out of a text: at Done and BadCapture all of it, at Usage nothing, else a front.
 abbrev pub WritesBy : Status → List ℕ → List ℕ → Option (List ℕ) → Type 0
 WritesBy Done text had written = written ≡ Some (had ++ text)
 WritesBy BadCapture text had written = written ≡ Some (had ++ text)
-WritesBy Usage text had written = HasFront had text written
+WritesBy Usage text had written = written ≡ Some had
 WritesBy ReadFault text had written = HasFront had text written
 WritesBy WriteFault text had written = HasFront had text written
 WritesBy OutOfMemory text had written = HasFront had text written
+
+-- What goes out behind what the sink had: the drained history of what the source's capture gives.
+abbrev pub WritesHistory : {K : Type 0} → Status → Option (List ℕ) → (K → Option (List ℕ)) → K → K → Type 0
+WritesHistory status left written old new =
+    (capture had : List ℕ) → left ≡ Some capture → written old ≡ Some had
+    → WritesBy status (replayed capture) had (written new)
+
+-- The whole records that went out spell a legal history, whose clients are answered.
+abbrev pub WritesLegal : {K : Type 0} → (K → Option (List ℕ)) → K → K → Type 0
+WritesLegal written old new = (had : List ℕ) → written old ≡ Some had → GrowsSpelled had (written new)
 
 -- why a capture is refused
 abbrev pub IsRefusedCapture : Accepted → Type 0
 IsRefusedCapture a = (why : Refusal) × (a.refused ≡ Some why)
 
--- How the capture ends, and at Done that the source was read to its end.
+-- Done: the capture is whole, and the source was read to its end. BadCapture: it is refused.
 abbrev pub EndsBy : Status → Accepted → Option (List ℕ) → Type 0
 EndsBy Done a left = (a.refused ≡ None) × (left ≡ Some [])
 EndsBy BadCapture a left = IsRefusedCapture a
@@ -29,30 +47,36 @@ EndsBy ReadFault a left = Unit {0}
 EndsBy WriteFault a left = Unit {0}
 EndsBy OutOfMemory a left = Unit {0}
 
--- The line of a status stands behind what the note had.
-abbrev pub NotesBy : Status → List ℕ → Option (List ℕ) → Type 0
-NotesBy Done had after = after ≡ Some had
-NotesBy Usage had after = after ≡ Some (had ++ usage_line)
-NotesBy ReadFault had after = after ≡ Some (had ++ read_fault_line)
-NotesBy WriteFault had after = Unit {0}
-NotesBy BadCapture had after = (why : Refusal) × (after ≡ Some (had ++ bad_capture_line why))
-NotesBy OutOfMemory had after = after ≡ Some (had ++ out_of_memory_line)
+abbrev pub EndsCapture : {S : Type 0} → Status → (S → Option (List ℕ)) → S → S → Type 0
+EndsCapture status left old new =
+    (capture : List ℕ) → left old ≡ Some capture → EndsBy status (accepted capture) (left new)
 
--- At BadCapture the line names why the capture is refused.
+-- the line of the note names why a capture is refused
 pub record IsNamed (a : Accepted) (had : List ℕ) (after : Option (List ℕ)) : Type 0 where
   pub why : Refusal
   pub refused : a.refused ≡ Some why
   pub line : after ≡ Some (had ++ bad_capture_line why)
 
-abbrev pub NamesRefusal : Status → Accepted → List ℕ → Option (List ℕ) → Type 0
-NamesRefusal BadCapture a had after = IsNamed a had after
-NamesRefusal Done a had after = Unit {0}
-NamesRefusal Usage a had after = Unit {0}
-NamesRefusal ReadFault a had after = Unit {0}
-NamesRefusal WriteFault a had after = Unit {0}
-NamesRefusal OutOfMemory a had after = Unit {0}
+abbrev pub NamesBy : Status → Accepted → List ℕ → Option (List ℕ) → Type 0
+NamesBy BadCapture a had after = IsNamed a had after
+NamesBy Done a had after = Unit {0}
+NamesBy Usage a had after = Unit {0}
+NamesBy ReadFault a had after = Unit {0}
+NamesBy WriteFault a had after = Unit {0}
+NamesBy OutOfMemory a had after = Unit {0}
 
--- The status where no fault came: by how the capture ends, unless memory ran out.
-abbrev pub Completes : Status → Option Refusal → Type 0
-Completes status None = (status ≡ Done) ⊎ (status ≡ OutOfMemory)
-Completes status (Some why) = (status ≡ BadCapture) ⊎ (status ≡ OutOfMemory)
+-- At BadCapture the note names why the source's capture is refused.
+abbrev pub NamesRefusal : {N : Type 0} → Status → Option (List ℕ) → (N → Option (List ℕ)) → N → N → Type 0
+NamesRefusal status left written old new =
+    (capture had : List ℕ) → left ≡ Some capture → written old ≡ Some had
+    → NamesBy status (accepted capture) had (written new)
+
+-- by how a capture ends, unless memory ran out
+abbrev pub CompletesBy : Status → Option Refusal → Type 0
+CompletesBy status None = (status ≡ Done) ⊎ (status ≡ OutOfMemory)
+CompletesBy status (Some why) = (status ≡ BadCapture) ⊎ (status ≡ OutOfMemory)
+
+-- A capture that is whole is Done, and one that is refused is BadCapture, unless memory ran out.
+abbrev pub Completes : Status → Option (List ℕ) → Type 0
+Completes status left =
+    (capture : List ℕ) → left ≡ Some capture → CompletesBy status (accepted capture).refused

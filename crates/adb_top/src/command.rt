@@ -1,11 +1,10 @@
 //! The top call.
 
-ghost use Rattle.std.specs.Prelude.{◌≡◌, ◌≢◌, ◌⊎◌, ◌++◌, List, ℕ, Option, Some, None, true, false};
-ghost use Rattle.adb_outside.specs.Outside.{Rises};
-ghost use Rattle.adb_history.specs.Accepted.{accepted, replayed};
-ghost use Rattle.adb_top.specs.Words.{is_replay as is_replay_line};
-ghost use Rattle.adb_top.specs.Replayed.{GrowsSpelled};
-ghost use Rattle.adb_top.specs.Run.{WritesBy, EndsBy, NotesBy, NamesRefusal, Completes};
+ghost use Rattle.std.specs.Prelude.{◌≡◌, ◌≢◌, ◌⊎◌};
+ghost use Rattle.adb_top.specs.Faults.{Rose, Stood, IsFaultless};
+ghost use Rattle.adb_top.specs.Notes.{WritesNote};
+ghost use Rattle.adb_top.specs.Run.{IsCommand, IsNoCommand, WritesHistory, WritesLegal};
+ghost use Rattle.adb_top.specs.Run.{EndsCapture, NamesRefusal, Completes};
 
 use crate::note::{say_stop, say_usage};
 use crate::replay::replay;
@@ -27,29 +26,46 @@ pub fn run<S: Source, K: Sink, N: Sink>(
     sink: &mut K,
     note: &mut N,
 ) -> Status
-    // The words are looked at first. Where they are no command nothing is read or written.
-    ensures usage { is_replay_line words.now ≡ false → ((result ≡ Status.Usage) ⊎ (result ≡ Status.WriteFault)) × (source.new ≡ source.old) × (sink.new ≡ sink.old) }
-    ensures command { is_replay_line words.now ≡ true → result ≢ Status.Usage }
+    // Words that are no command: nothing is read, and nothing goes out.
+    ensures usage { IsNoCommand words.now → (result ≡ Status.Usage) ⊎ (result ≡ Status.WriteFault) }
+    ensures untouched { IsNoCommand words.now → (source.new ≡ source.old) × (sink.new ≡ sink.old) }
+    ensures command { IsCommand words.now → result ≢ Status.Usage }
 
-    // What the sink holds: the drained history of what the capture gives, all of it or a front.
-    ensures writes { (bytes had : List ℕ) → is_replay_line words.now ≡ true → S.left source.old ≡ Some bytes → K.written sink.old ≡ Some had → WritesBy result (replayed bytes) had (K.written sink.new) }
+    // The drained history of the capture goes out: at Done and BadCapture all of it, else a front.
+    ensures writes { WritesHistory result (S.left source.old) K.written sink.old sink.new }
 
-    // How the capture ends: whole and read to its end at Done, refused at BadCapture.
-    ensures ends { (bytes : List ℕ) → is_replay_line words.now ≡ true → S.left source.old ≡ Some bytes → EndsBy result (accepted bytes) (S.left source.new) }
+    // Whatever the source tells, what went out spells a legal history, whose clients are answered.
+    ensures legal { WritesLegal K.written sink.old sink.new }
 
-    // Whatever the source tells: the whole records that went out spell a legal history, whose clients are answered.
-    ensures spells { (had : List ℕ) → is_replay_line words.now ≡ true → K.written sink.old ≡ Some had → GrowsSpelled had (K.written sink.new) }
+    // Done: the capture is whole and was read to its end. BadCapture: it is refused.
+    ensures ends { EndsCapture result S.left source.old source.new }
 
-    // The note has the line of the status, which names a refusal with its offset and reason.
-    ensures notes { (had : List ℕ) → N.written note.old ≡ Some had → NotesBy result had (N.written note.new) }
-    ensures refusal_named { (bytes had : List ℕ) → is_replay_line words.now ≡ true → S.left source.old ≡ Some bytes → N.written note.old ≡ Some had → NamesRefusal result (accepted bytes) had (N.written note.new) }
+    // The note has the one line of the status; at WriteFault, where it failed itself, what went out.
+    ensures notes { WritesNote result N.faults N.written note.old note.new }
 
-    // Faults come only where the count of that very object rose in this run.
-    ensures read_fault { result ≡ Status.ReadFault → Rises (S.faults source.old) (S.faults source.new) }
-    ensures write_fault { result ≡ Status.WriteFault → Rises (K.faults sink.old) (K.faults sink.new) ⊎ Rises (N.faults note.old) (N.faults note.new) }
+    // At BadCapture that line names why the capture is refused.
+    ensures names { NamesRefusal result (S.left source.old) N.written note.old note.new }
 
-    // Where no count rose, a capture that is whole is replayed and one that is refused is named, unless memory ran out.
-    ensures complete { (bytes : List ℕ) → is_replay_line words.now ≡ true → S.left source.old ≡ Some bytes → ¬ Rises (S.faults source.old) (S.faults source.new) → ¬ Rises (K.faults sink.old) (K.faults sink.new) → ¬ Rises (N.faults note.old) (N.faults note.new) → Completes result (accepted bytes).refused }
+    // A fault comes only where the count of that very stream rose in this run,
+    ensures read_fault { result ≡ Status.ReadFault → Rose S.faults source.old source.new }
+    ensures write_fault { result ≡ Status.WriteFault
+        → Rose K.faults sink.old sink.new ⊎ Rose N.faults note.old note.new }
+
+    // and another status only where all three counts stood.
+    ensures source_stood { IsFaultless result → Stood S.faults source.old source.new }
+    ensures sink_stood { result ≢ Status.WriteFault → Stood K.faults sink.old sink.new }
+    ensures note_stood { result ≢ Status.WriteFault → Stood N.faults note.old note.new }
+
+    // Streams that never fail give no fault.
+    ensures steady { S.steady source.old → K.steady sink.old → N.steady note.old
+        → IsFaultless result }
+
+    // Where no count rose, a whole capture is Done and a refused one is BadCapture, but for memory.
+    ensures complete { IsCommand words.now
+        → ¬ Rose S.faults source.old source.new
+        → ¬ Rose K.faults sink.old sink.new
+        → ¬ Rose N.faults note.old note.new
+        → Completes result (S.left source.old) }
 {
     if !is_replay(words) {
         return say_usage(note);

@@ -1,8 +1,12 @@
 //! The lines of the note: one for each status but Done.
 
-ghost use Rattle.std.specs.Prelude.{◌≡◌, ◌≢◌, ◌<◌, ◌≤◌, ◌++◌, ◌⊎◌, ℕ, List, Some, IfOk, OnOk, length, decimal, codes};
-ghost use Rattle.adb_outside.specs.Outside.{Rises};
-ghost use Rattle.adb_top.specs.Notes.{usage_line, bad_capture_line, EndsIn, NotesLine};
+ghost use Rattle.std.specs.Prelude.{◌≡◌, ◌≢◌, ◌<◌, ◌++◌, ◌⊎◌, IfOk, OnOk, length, decimal};
+ghost use Rattle.adb_outside.specs.Outside.{Counts};
+ghost use Rattle.adb_outside.specs.Sink.{TellsWrite, is_failed_write};
+ghost use Rattle.adb_history.specs.declared.refusal.Refusal.{Refusal};
+ghost use Rattle.adb_top.specs.Faults.{Rose, Stood, tells_write_fault};
+ghost use Rattle.adb_top.specs.Notes.{write_fault_line, bad_capture_line};
+ghost use Rattle.adb_top.specs.Notes.{IsLine, EndsIn, WritesNote};
 
 use crate::status::Status;
 use crate::stop::Stop;
@@ -14,10 +18,8 @@ use std::alloc::{AllocError, Global};
 /// Tells the note that the words are no command.
 pub fn say_usage<N: Sink>(note: &mut N) -> Status
     ensures status { (result ≡ Status.Usage) ⊎ (result ≡ Status.WriteFault) }
-    ensures told { (had : List ℕ) → N.written note.old ≡ Some had → result ≡ Status.Usage → N.written note.new ≡ Some (had ++ usage_line) }
-    ensures fault { result ≡ Status.WriteFault → Rises (N.faults note.old) (N.faults note.new) }
-    ensures count { N.faults note.old ≤ N.faults note.new }
-    ensures steady { N.steady note.old → (result ≡ Status.Usage) × N.steady note.new × (N.faults note.new ≡ N.faults note.old) }
+    ensures told { WritesNote result N.faults N.written note.old note.new }
+    ensures counts { Counts N.steady N.faults note.old note.new (tells_write_fault result) }
 {
     say(
         note,
@@ -29,14 +31,19 @@ pub fn say_usage<N: Sink>(note: &mut N) -> Status
 /// Tells the note why a replay stopped.
 pub fn say_stop<N: Sink>(alloc: Global, note: &mut N, stop: Stop) -> Status
     ensures status { EndsIn stop result }
-    ensures told { (had : List ℕ) → N.written note.old ≡ Some had → NotesLine stop result had (N.written note.new) }
-    ensures fault { result ≡ Status.WriteFault → (stop ≡ Stop.WriteFault) ⊎ Rises (N.faults note.old) (N.faults note.new) }
-    ensures count { N.faults note.old ≤ N.faults note.new }
+    ensures told { WritesNote result N.faults N.written note.old note.new }
+    ensures names { (why : Refusal) → stop ≡ Stop.Refused why → result ≡ Status.BadCapture
+        → TellsWrite (N.written note.old) (N.written note.new) (bad_capture_line why) Wrote.All }
+    ensures fault { result ≡ Status.WriteFault
+        → (stop ≡ Stop.WriteFault) ⊎ Rose N.faults note.old note.new }
+    ensures stands { result ≢ Status.WriteFault → Stood N.faults note.old note.new }
+    ensures steady { N.steady note.old
+        → result ≡ Status.WriteFault → stop ≡ Stop.WriteFault }
 {
     match stop {
         Stop::ReadFault => say(note, Status::ReadFault, b"adbhub: read fault\n"),
         Stop::WriteFault => {
-            say_write_fault(note);
+            let _last = say_write_fault(note);
             Status::WriteFault
         }
         Stop::OutOfMemory => say_out_of_memory(note),
@@ -49,36 +56,37 @@ pub fn say_stop<N: Sink>(alloc: Global, note: &mut N, stop: Stop) -> Status
 
 fn say_out_of_memory<N: Sink>(note: &mut N) -> Status
     ensures status { (result ≡ Status.OutOfMemory) ⊎ (result ≡ Status.WriteFault) }
-    ensures told { (had : List ℕ) → N.written note.old ≡ Some had → result ≡ Status.OutOfMemory → N.written note.new ≡ Some (had ++ codes "adbhub: out of memory\n") }
-    ensures fault { result ≡ Status.WriteFault → Rises (N.faults note.old) (N.faults note.new) }
-    ensures count { N.faults note.old ≤ N.faults note.new }
+    ensures told { WritesNote result N.faults N.written note.old note.new }
+    ensures counts { Counts N.steady N.faults note.old note.new (tells_write_fault result) }
 {
     say(note, Status::OutOfMemory, b"adbhub: out of memory\n")
 }
 
-/// Writes the line of a status. Where that fails the status is WriteFault.
+/// Writes the line of a status. Where that fails the line of WriteFault is tried once.
 fn say<N: Sink>(note: &mut N, status: Status, line: &[u8]) -> Status
-    requires { 0 < length line.now }
+    requires some { 0 < length line.now }
+    requires own { IsLine status line.now }
+    requires other { status ≢ Status.WriteFault }
     ensures status { (result ≡ status) ⊎ (result ≡ Status.WriteFault) }
-    ensures told { (had : List ℕ) → N.written note.old ≡ Some had → status ≢ Status.WriteFault → result ≡ status → N.written note.new ≡ Some (had ++ line.now) }
-    ensures fault { status ≢ Status.WriteFault → result ≡ Status.WriteFault → Rises (N.faults note.old) (N.faults note.new) }
-    ensures count { N.faults note.old ≤ N.faults note.new }
-    ensures steady { N.steady note.old → (result ≡ status) × N.steady note.new × (N.faults note.new ≡ N.faults note.old) }
+    ensures told { WritesNote result N.faults N.written note.old note.new }
+    ensures whole { result ≡ status
+        → TellsWrite (N.written note.old) (N.written note.new) line.now Wrote.All }
+    ensures counts { Counts N.steady N.faults note.old note.new (tells_write_fault result) }
 {
     match note.write(line) {
         Wrote::All => status,
         Wrote::Failed { taken: _ } => {
-            say_write_fault(note);
+            let _last = say_write_fault(note);
             Status::WriteFault
         }
     }
 }
 
-/// Tries the line of WriteFault once.
-fn say_write_fault<N: Sink>(note: &mut N)
-    ensures count { N.faults note.old ≤ N.faults note.new }
+fn say_write_fault<N: Sink>(note: &mut N) -> Wrote
+    ensures told { TellsWrite (N.written note.old) (N.written note.new) write_fault_line result }
+    ensures counts { Counts N.steady N.faults note.old note.new (is_failed_write result) }
 {
-    let _wrote = note.write(b"adbhub: write fault\n");
+    note.write(b"adbhub: write fault\n")
 }
 
 /// The line that names a refusal.

@@ -1,10 +1,10 @@
 //! Packets byte for byte, and streams in pieces.
 
-ghost use Rattle.std.specs.Prelude.{◌<◌};
+ghost use Rattle.std.specs.Prelude.{◌<◌, ◌≤◌, length};
 
 use super::*;
 use adb_outside::Text;
-use std::alloc::Global;
+use std::alloc::{AllocError, Global};
 use std::test::Fail;
 
 /// What the server says first: version 0x01000001, 1,048,576 bytes at most, and what it can do.
@@ -36,6 +36,34 @@ const WRONG_SYNC: &[u8] =
 
 const LONG_WRITE: &[u8] =
     b"WRTE\x07\x00\x00\x00\x01\x00\x00\x00\x01\x00\x10\x00\x00\x00\x00\x00\xa8\xad\xab\xba";
+
+/// The bytes of a packet.
+fn spelled(
+    alloc: Global,
+    command: Command,
+    args: [u32; 2],
+    payload: &[u8],
+    sums: bool,
+) -> Result<Text, AllocError>
+    requires { length payload.now ≤ MAX_PAYLOAD }
+{
+    let packet = Packet {
+        command,
+        arg0: args[0],
+        arg1: args[1],
+        payload: Text::from_slice(alloc, payload)?,
+    };
+    let mut out = Text::new(alloc);
+    frame(alloc, &packet, sums, &mut out)?;
+    Ok(out)
+}
+
+/// The first packet of some bytes.
+fn first_in(alloc: Global, bytes: &[u8]) -> Result<Packet, Fail> {
+    let mut deframer = Deframer::new(alloc);
+    deframer.feed(bytes)?;
+    Ok(deframer.next().ok_or("no packet")?)
+}
 
 #[test]
 fn packets_are_spelled(rt: HostRuntime) -> Result<(), Fail> {
@@ -85,19 +113,10 @@ fn packets_are_spelled(rt: HostRuntime) -> Result<(), Fail> {
         ),
     ];
     for (command, args, sums, payload, bytes) in rows {
-        let packet = Packet {
-            command,
-            arg0: args[0],
-            arg1: args[1],
-            payload: Text::from_slice(rt.alloc(), payload)?,
-        };
-        assert!(rt; packet.payload.len() <= 1_048_576);
-        let mut out = Text::new(rt.alloc());
-        frame(rt.alloc(), &packet, sums, &mut out)?;
+        assert!(rt; payload.len() <= 1_048_576);
+        let out = spelled(rt.alloc(), command, args, payload, sums)?;
         assert_eq!(rt; out.as_slice(), bytes);
-        let mut deframer = Deframer::new(rt.alloc());
-        deframer.feed(bytes)?;
-        let back = deframer.next().ok_or("no packet")?;
+        let back = first_in(rt.alloc(), bytes)?;
         assert_eq!(rt; (back.command, [back.arg0, back.arg1]), (command, args));
         assert_eq!(rt; back.payload.as_slice(), payload);
     }
