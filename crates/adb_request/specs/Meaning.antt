@@ -88,5 +88,5 @@ host_meaning text =
     (option_map (λ rest. or_unknown (id_request rest)) (behind (codes "host-transport-id:") text)))))
 
 -- what a text means: any other text asks for a service
-abbrev pub meaning : List ℕ → Request
+unfoldable pub meaning : List ℕ → Request
 meaning text = unwrap_or (host_meaning text) (Service text)

@@ -19,11 +19,13 @@ pub fn spelled_is_read()
 {}
 
 /// Each text that is a row of its own is read as that row.
+#[tactic(auto, unfolding(crate::specs::Meaning::meaning))]
 pub fn fixed_texts_are_read()
     ensures { AllByRecursion (λ row. meaning row.0 ≡ row.1) fixed_rows }
 {}
 
 /// A transport by serial or by id is read, whatever the serial.
+#[tactic(auto, unfolding(crate::specs::Meaning::meaning))]
 pub fn transports_are_read()
     ensures serial { (serial : List ℕ)
         → meaning (codes "host:transport:" ++ serial) ≡ Transport (Serial serial) false }

@@ -11,6 +11,7 @@ use std::alloc::{AllocError, Global};
 
 /// What a request's text means (SERVICES.TXT, "HOST SERVICES"). Every text means something; an error
 /// is want of memory for a text of the request.
+#[tactic(auto, unfolding(crate::specs::Meaning::meaning))]
 pub fn read(alloc: Global, text: &[u8]) -> Result<Request, AllocError>
     ensures { IfOk result (λ request. request ≡ meaning text.now) }
 {
