@@ -3,7 +3,8 @@ use Rattle.std.proofs.Common.{ℕ, ◌+◌, ◌≡◌, ◌≤◌, true, false, L
 use Rattle.std.specs.Prelude.{◌||◌, is_none}
 use Rattle.std.proofs.Math.Seq.{take-append_seam}
 use Rattle.std.proofs.lemmas.List.{drop-append-le, length-drop, append-nil}
-use Rattle.adb_request.specs.Requests.{request_at, meaning}
+use Rattle.adb_request.specs.Requests.{request_at}
+use Rattle.adb_request.specs.Meaning.{meaning}
 use Rattle.adb_request.specs.declared.cutting.Found.{Found}
 use Rattle.adb_request.specs.declared.cutting.Found.TheVariants.{More, Malformed, Whole}
 use Rattle.adb_history.specs.Machine.{answer, Client, closing, answered, asks, byte_in, bytes_in, is_unbuilt, byte_asks_unbuilt, asks_unbuilt}

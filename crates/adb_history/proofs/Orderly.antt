@@ -3,7 +3,8 @@ use Rattle.std.proofs.Common.{ℕ, ◌+◌, ◌≡◌, Bool, true, false, cond, 
 use Rattle.std.proofs.Math.Seq.{drop-nil}
 use Rattle.std.proofs.lemmas.Bool.{ne_eqb}
 use Rattle.std.proofs.lemmas.List.{reverse-append}
-use Rattle.adb_request.specs.Requests.{request_at, meaning}
+use Rattle.adb_request.specs.Requests.{request_at}
+use Rattle.adb_request.specs.Meaning.{meaning}
 use Rattle.adb_request.specs.declared.cutting.Found.{Found}
 use Rattle.adb_request.specs.declared.cutting.Found.TheVariants.{More, Malformed, Whole}
 use Rattle.adb_outside.specs.declared.kinds.Cause.{Cause}

@@ -1,7 +1,7 @@
 -- Captures worked by hand, so that a mistake in a definition shows: what is replayed, and why a capture is refused, are computed from the definitions.
 use Rattle.std.specs.Prelude.{ℕ, ◌≡◌, List, [], ◌∷◌, ◌++◌, None, codes, flat_map}
 use Rattle.std.proofs.Common.{refl}
-use Rattle.adb_request.specs.Requests.{meaning}
+use Rattle.adb_request.specs.Meaning.{meaning}
 use Rattle.adb_capture.specs.Records.{record_at}
 use Rattle.adb_history.specs.Refusal.{refused_at}
 use Rattle.adb_history.specs.Accepted.{accepted, replayed}

@@ -1,6 +1,7 @@
 -- What every legal history has: its clients are answered, over the bytes that were read and handed out.
 use Rattle.std.specs.Prelude.{ℕ, ◌+◌, ◌≡◌, ◌≢◌, Bool, true, false, if◌then◌else◌, ◌&&◌, ◌||◌, not, nat_eq, List, [], ◌∷◌, ◌++◌, length, drop, Option, Some, None}
-use Rattle.adb_request.specs.Requests.{request_at, meaning}
+use Rattle.adb_request.specs.Requests.{request_at}
+use Rattle.adb_request.specs.Meaning.{meaning}
 use Rattle.adb_request.specs.declared.cutting.Found.{Found}
 use Rattle.adb_request.specs.declared.cutting.Found.TheVariants.{More, Malformed, Whole}
 use Rattle.adb_capture.specs.declared.entry.Entry.TheVariants.{Join, Read, End, Put}

@@ -2,11 +2,12 @@
 use Rattle.std.specs.Prelude.{ℕ, ◌+◌, ◌^◌, ◌≡◌, ◌≢◌, ◌≤◌, ◌<◌, Bool, false, ◌||◌, is_none, List, [], ◌∷◌, ◌++◌, length, drop, All, Option, Some, None, codes}
 use Rattle.adb_outside.specs.declared.kinds.Cause.{Cause}
 use Rattle.adb_outside.specs.declared.kinds.Cause.TheVariants.{Eof, Fault, Starved, NoThread}
-use Rattle.adb_request.specs.Requests.{request_at, meaning}
+use Rattle.adb_request.specs.Requests.{request_at}
+use Rattle.adb_request.specs.Meaning.{meaning}
 use Rattle.adb_request.specs.declared.cutting.Found.{Found}
 use Rattle.adb_request.specs.declared.cutting.Found.TheVariants.{More, Malformed, Whole}
 use Rattle.adb_request.specs.declared.request.Request.{Request}
-use Rattle.adb_request.specs.declared.request.Request.TheVariants.{Version, Service, UnknownHost}
+use Rattle.adb_request.specs.declared.request.Request.TheVariants.{Version}
 use Rattle.adb_capture.specs.Records.{number_of, data_of, HasPort}
 use Rattle.adb_capture.specs.declared.entry.Entry.{Entry}
 use Rattle.adb_capture.specs.declared.entry.Entry.TheVariants.{Join, Enter, Read, End, Bound, Attach, Recv, Detach, Put, Send}
@@ -18,8 +19,7 @@ use Rattle.adb_history.specs.declared.phase.Phase.TheVariants.{Asking, Closing, 
 -- What a request is answered with before its client is closed (SERVICES.TXT); none where the request is not built yet.
 abbrev pub answer : Request → Option (List ℕ)
 answer Version = Some (codes "OKAY00040029")
-answer (Service text) = None
-answer UnknownHost = None
+answer _ = None
 
 -- A client. unread: what was read and is no whole request yet; due: what is still to be handed out; output: all that ever became due.
 pub record Client : Type 0 where

@@ -5,6 +5,7 @@ pub mod Identity
 pub mod Framing
 pub mod Queued
 pub mod Memory
+pub mod Decimal
 pub mod Tables
 pub mod Bytes
 pub mod Serial

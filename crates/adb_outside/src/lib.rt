@@ -3,6 +3,7 @@
 #![tactic(auto)]
 
 mod byte_queue;
+mod decimal;
 mod failing;
 mod framer;
 mod identity;
@@ -18,6 +19,7 @@ mod tests;
 mod text;
 
 pub use byte_queue::ByteQueue;
+pub use decimal::read_number;
 pub use failing::Failing;
 pub use framer::{FeedError, Format, Framer, Front};
 pub use identity::{Identity, State, state_of, state_text};

@@ -1,1 +1,4 @@
 pub mod Requests
+pub mod Forms
+pub mod Meaning
+pub mod Rows

@@ -1,10 +1,7 @@
 -- Requests (OVERVIEW.TXT, "Protocol details"): four hexadecimal digits of length, and that many bytes of text.
-use Rattle.std.specs.Prelude.{ℕ, ◌+◌, ◌-◌, ◌*◌, ◌/◌, ◌%◌, Bool, if◌then◌else◌, ◌&&◌, ◌||◌, nat_lt, nat_le, nat_eq, List, [], ◌∷◌, length, Option, Some, None, codes, bytes_eq, zero, suc}
-use Rattle.std.specs.List.{starts_with}
+use Rattle.std.specs.Prelude.{ℕ, ◌+◌, ◌-◌, ◌*◌, ◌/◌, ◌%◌, if◌then◌else◌, ◌&&◌, nat_lt, nat_le, List, [], ◌∷◌, length, Option, Some, None, zero, suc}
 use Rattle.adb_request.specs.declared.cutting.Found.{Found}
 use Rattle.adb_request.specs.declared.cutting.Found.TheVariants.{More, Malformed, Whole}
-use Rattle.adb_request.specs.declared.request.Request.{Request}
-use Rattle.adb_request.specs.declared.request.Request.TheVariants.{Version, Service, UnknownHost}
 
 -- the lower-case digit of a value below 16
 abbrev pub hex_digit : ℕ → ℕ
@@ -47,19 +44,3 @@ found_behind (Some (suc n)) have = if nat_lt have (suc n) then More else Whole (
 abbrev pub request_at : List ℕ → Found
 request_at (a ∷ b ∷ c ∷ d ∷ rest) = found_behind (hex_value a b c d) (length rest)
 request_at _ = More
-
--- A text that begins so asks the host itself.
-abbrev pub is_host_text : List ℕ → Bool
-is_host_text text =
-    starts_with nat_eq text (codes "host:")
-    || starts_with nat_eq text (codes "host-serial:")
-    || starts_with nat_eq text (codes "host-usb:")
-    || starts_with nat_eq text (codes "host-local:")
-    || starts_with nat_eq text (codes "host-transport-id:")
-
--- what a text means
-unfoldable pub meaning : List ℕ → Request
-meaning text =
-    if bytes_eq text (codes "host:version") then Version
-    else (if is_host_text text then UnknownHost
-    else Service text)

@@ -3,13 +3,16 @@
 #![tactic(auto)]
 
 mod cutting;
+mod forms;
 mod hex;
 mod laws;
+mod meaning;
 mod request;
 #[cfg(test)]
 mod tests;
 
 pub use cutting::{Found, cut};
 pub use hex::{hex4, read_hex4};
-pub use laws::spelled_is_read;
-pub use request::{Request, read};
+pub use laws::{fixed_texts_are_read, forms_are_read, forwards_are_read, spelled_is_read, transports_are_read};
+pub use meaning::read;
+pub use request::{Request, Which};

@@ -1,44 +1,55 @@
-//! What a request's text means.
+//! What a client asks for.
 
-ghost use Rattle.std.specs.Prelude.{◌≡◌, IfOk};
-ghost use Rattle.adb_request.specs.Requests.{is_host_text, meaning};
+use adb_outside::{Selector, Text};
 
-use adb_outside::Text;
-use std::alloc::{AllocError, Global};
+/// Of which device a request asks.
+#[derive(Drop)]
+pub enum Which {
+    /// The one that the connection selected, or any where it selected none.
+    Own,
+    By(Selector),
+}
 
-/// What a client asks for (SERVICES.TXT).
+/// What a client asks for (SERVICES.TXT, "HOST SERVICES").
 #[derive(Drop)]
 pub enum Request {
-    /// `host:version`.
+    /// The version of the server.
     Version,
-    /// A service on the selected device: any text that asks nothing of the host.
+    /// The server's end.
+    Kill,
+    /// The list of devices.
+    Devices {
+        long: bool,
+    },
+    /// The list of devices now and after each change.
+    Track {
+        long: bool,
+    },
+    /// Selects a device for this connection; `tell_id` asks for its transport id.
+    Transport {
+        by: Selector,
+        tell_id: bool,
+    },
+    Serialno(Which),
+    Devpath(Which),
+    GetState(Which),
+    Features(Which),
+    /// Listens at a local port, 0 for any, for connections to an end at the device. `norebind`
+    /// refuses a port that is forwarded already.
+    Forward {
+        on: Which,
+        norebind: bool,
+        local: u16,
+        remote: Text,
+    },
+    /// A forward, or the end of one, whose specification has another form.
+    BadForward,
+    /// The end of the forward of that local port.
+    KillForward(u16),
+    KillAll,
+    ListForward,
+    /// A service of the selected device: any text that does not ask the host.
     Service(Text),
     /// A text that asks the host for what it does not know.
     UnknownHost,
-}
-
-/// What a request's text means. Every text means something; an error is want of memory for a
-/// service's text.
-#[tactic(auto, unfolding(crate::specs::Requests::meaning))]
-pub fn read(alloc: Global, text: &[u8]) -> Result<Request, AllocError>
-    ensures { IfOk result (λ r. r ≡ meaning text.now) }
-{
-    if text == b"host:version".as_slice() {
-        Ok(Request::Version)
-    } else if asks_host(text) {
-        Ok(Request::UnknownHost)
-    } else {
-        Ok(Request::Service(Text::from_slice(alloc, text)?))
-    }
-}
-
-/// Whether a text asks the host itself, and not a device's service.
-fn asks_host(text: &[u8]) -> bool
-    ensures { result ≡ is_host_text text.now }
-{
-    text.starts_with(b"host:")
-        || text.starts_with(b"host-serial:")
-        || text.starts_with(b"host-usb:")
-        || text.starts_with(b"host-local:")
-        || text.starts_with(b"host-transport-id:")
 }

@@ -1,6 +1,6 @@
 -- What a client's calls make of its row.
 use Rattle.std.specs.Prelude.{ℕ, ◌≡◌, Bool, true, false, List, [], ◌++◌, take, drop, Option, Some, None, Result, Ok, Err}
-use Rattle.adb_request.specs.Requests.{meaning}
+use Rattle.adb_request.specs.Meaning.{meaning}
 use Rattle.adb_request.specs.declared.cutting.Found.{Found}
 use Rattle.adb_request.specs.declared.cutting.Found.TheVariants.{More, Malformed, Whole}
 use Rattle.adb_history.specs.Machine.{Client, answer, settled, bytes_in, asks_unbuilt}

@@ -38,8 +38,7 @@ fn reply_to(request: &Request) -> Option<&'static [u8]>
 {
     match request {
         Request::Version => Some(b"OKAY00040029"),
-        Request::Service(_) => None,
-        Request::UnknownHost => None,
+        _ => None,
     }
 }
 

@@ -1,0 +1,5 @@
+pub mod Strings
+pub mod Refusals
+pub mod Chosen
+pub mod Answer
+pub mod Laws

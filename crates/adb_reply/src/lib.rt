@@ -1,0 +1,18 @@
+//! What requests are answered with: the bytes of the reply, and what the server does then, as a
+//! function of the devices, the forwards, what the connection selected, and the request.
+#![tactic(auto)]
+
+mod about_devices;
+mod about_forwards;
+mod answer;
+mod chosen;
+mod laws;
+mod refusals;
+mod replies;
+mod strings;
+#[cfg(test)]
+mod tests;
+
+pub use answer::{Answer, Next};
+pub use laws::{replies_begin_right, texts_carry_their_length};
+pub use replies::reply;

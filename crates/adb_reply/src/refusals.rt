@@ -1,0 +1,87 @@
+//! The texts of refusals.
+
+ghost use Rattle.std.specs.Prelude.{◌≡◌, ◌<◌, ◌≤◌, ◌^◌, ◌++◌, length, IfOk, take, codes, decimal};
+ghost use Rattle.adb_reply.specs.Refusals.{asked_serial, asked_id, refusal_text};
+
+use adb_outside::{Selector, Text};
+use adb_registry::Refusal;
+use itoa::Buffer;
+use std::alloc::{AllocError, Global};
+
+/// The most bytes of a serial that a refusal prints.
+const PRINTED_SERIAL: usize = 64;
+
+/// Why a selector chose no device.
+pub(crate) fn refusal_text(alloc: Global, by: &Selector, why: Refusal) -> Result<Text, AllocError>
+    ensures text { IfOk result (λ text. text ≡ refusal_text by.now why) }
+    ensures short { IfOk result (λ text. length text < 2 ^ 16) }
+{
+    let text: &[u8] = match why {
+        Refusal::NoAny => b"no devices/emulators found",
+        Refusal::ManyAny => b"more than one device/emulator",
+        Refusal::NoUsb => b"no devices found",
+        Refusal::ManyUsb => b"more than one device",
+        Refusal::NoLocal => b"no emulators found",
+        Refusal::ManyLocal => b"more than one emulator",
+        Refusal::NoSerial => return serial_not_found(alloc, asked_serial(by)),
+        Refusal::ManySerial => b"more than one device",
+        Refusal::NoId => return id_not_found(alloc, asked_id(by)),
+        Refusal::Offline => b"device offline",
+        Refusal::Unauthorized => b"device unauthorized",
+    };
+    Text::from_slice(alloc, text)
+}
+
+/// The serial that a selector names, and none where it names a device otherwise.
+fn asked_serial(by: &Selector) -> &[u8]
+    ensures { result.now ≡ asked_serial by.now }
+{
+    match by {
+        Selector::Serial(serial) => serial.as_slice(),
+        _ => b"",
+    }
+}
+
+/// The transport id that a selector names.
+fn asked_id(by: &Selector) -> u32
+    ensures { result ≡ asked_id by.now }
+{
+    match by {
+        Selector::Id(id) => *id,
+        _ => 0,
+    }
+}
+
+fn serial_not_found(alloc: Global, serial: &[u8]) -> Result<Text, AllocError>
+    ensures text { IfOk result (λ text.
+        text ≡ codes "device '" ++ take PRINTED_SERIAL serial.now ++ codes "' not found") }
+    ensures short { IfOk result (λ text. length text < 2 ^ 16) }
+{
+    let mut text = Text::from_slice(alloc, b"device '")?;
+    text.push_slice(printed(serial))?;
+    text.push_slice(b"' not found")?;
+    Ok(text)
+}
+
+fn id_not_found(alloc: Global, id: u32) -> Result<Text, AllocError>
+    ensures text { IfOk result (λ text.
+        text ≡ codes "no device with transport id '" ++ decimal id ++ codes "'") }
+    ensures short { IfOk result (λ text. length text < 2 ^ 16) }
+{
+    let mut text = Text::from_slice(alloc, b"no device with transport id '")?;
+    text.push_slice(Buffer::new().format(id).as_bytes())?;
+    text.push_slice(b"'")?;
+    Ok(text)
+}
+
+/// As much of a serial as a refusal prints.
+fn printed(serial: &[u8]) -> &[u8]
+    ensures text { result.now ≡ take PRINTED_SERIAL serial.now }
+    ensures short { length result.now ≤ PRINTED_SERIAL }
+{
+    if serial.len() > PRINTED_SERIAL {
+        &serial[..PRINTED_SERIAL]
+    } else {
+        serial
+    }
+}

@@ -1,0 +1,51 @@
+//! The parts of replies (OVERVIEW.TXT, "Protocol details").
+
+ghost use Rattle.std.specs.Prelude.{◌≡◌, ◌++◌, ◌<◌, ◌^◌, length, IfOk, OnOk};
+ghost use Rattle.adb_reply.specs.Strings.{string, okay, failed, told};
+
+use crate::answer::{Answer, Next};
+use adb_outside::Text;
+use adb_request::hex4;
+use std::alloc::{AllocError, Global};
+
+/// Adds the four digits of a text's length, and the text.
+pub(crate) fn push_string(bytes: &mut Text, text: &[u8]) -> Result<(), AllocError>
+    requires { length text.now < 2 ^ 16 }
+    ensures { OnOk result (bytes.new ≡ bytes.old ++ string text.now) }
+{
+    bytes.push_slice(&hex4(text.len() as u16))?;
+    bytes.push_slice(text)
+}
+
+/// `OKAY` and nothing else.
+pub(crate) fn okay(alloc: Global, next: Next) -> Result<Answer, AllocError>
+    ensures { IfOk result (λ answer. answer ≡ record { bytes = okay; next = next }) }
+{
+    Ok(Answer {
+        bytes: Text::from_slice(alloc, b"OKAY")?,
+        next,
+    })
+}
+
+/// `OKAY` and a text that was asked for.
+pub(crate) fn told(alloc: Global, text: &[u8], next: Next) -> Result<Answer, AllocError>
+    requires { length text.now < 2 ^ 16 }
+    ensures { IfOk result (λ answer. answer ≡ told text.now next) }
+{
+    let mut bytes = Text::from_slice(alloc, b"OKAY")?;
+    push_string(&mut bytes, text)?;
+    Ok(Answer { bytes, next })
+}
+
+/// `FAIL` and why.
+pub(crate) fn failed(alloc: Global, why: &[u8]) -> Result<Answer, AllocError>
+    requires { length why.now < 2 ^ 16 }
+    ensures { IfOk result (λ answer. answer ≡ failed why.now) }
+{
+    let mut bytes = Text::from_slice(alloc, b"FAIL")?;
+    push_string(&mut bytes, why)?;
+    Ok(Answer {
+        bytes,
+        next: Next::Close,
+    })
+}

@@ -1,0 +1,165 @@
+//! What a request's text means.
+
+ghost use Rattle.std.specs.Prelude.{◌≡◌, ◌+◌, ◌<◌, [], length, IfOk, IfSome, option_map, find};
+ghost use Rattle.adb_request.specs.Forms.{is_form};
+ghost use Rattle.adb_request.specs.Meaning.{id_in, fixed_request, fixed_transport, host_request, split_at, splits_behind, serial_request, id_request, host_meaning, meaning, or_unknown};
+
+use crate::forms::{behind, form, is_form, place_of};
+use crate::request::{Request, Which};
+use adb_outside::{Selector, Text, read_number};
+use std::alloc::{AllocError, Global};
+
+/// What a request's text means (SERVICES.TXT, "HOST SERVICES"). Every text means something; an error
+/// is want of memory for a text of the request.
+#[tactic(auto, unfolding(crate::specs::Meaning::meaning))]
+pub fn read(alloc: Global, text: &[u8]) -> Result<Request, AllocError>
+    ensures { IfOk result (λ request. request ≡ meaning text.now) }
+{
+    match host(alloc, text)? {
+        Some(request) => Ok(request),
+        None => Ok(Request::Service(Text::from_slice(alloc, text)?)),
+    }
+}
+
+/// The request of a text that asks the host; `None` where it asks a device.
+fn host(alloc: Global, text: &[u8]) -> Result<Option<Request>, AllocError>
+    ensures { IfOk result (λ request. request ≡ host_meaning text.now) }
+{
+    if let Some(rest) = behind(b"host:", text) {
+        return Ok(Some(or_unknown(host_request(alloc, rest)?)));
+    }
+    if let Some(rest) = behind(b"host-serial:", text) {
+        return Ok(Some(or_unknown(serial_request(alloc, rest)?)));
+    }
+    if let Some(rest) = behind(b"host-usb:", text) {
+        return Ok(Some(or_unknown(form(alloc, Which::By(Selector::Usb), rest)?)));
+    }
+    if let Some(rest) = behind(b"host-local:", text) {
+        return Ok(Some(or_unknown(form(alloc, Which::By(Selector::Local), rest)?)));
+    }
+    match behind(b"host-transport-id:", text) {
+        Some(rest) => Ok(Some(or_unknown(id_request(alloc, rest)?))),
+        None => Ok(None),
+    }
+}
+
+/// A text that asks the host means nothing where no row fits it.
+fn or_unknown(request: Option<Request>) -> Request
+    ensures { result ≡ or_unknown request }
+{
+    request.unwrap_or(Request::UnknownHost)
+}
+
+/// What stands behind `host:`.
+fn host_request(alloc: Global, text: &[u8]) -> Result<Option<Request>, AllocError>
+    ensures { IfOk result (λ request. request ≡ host_request text.now) }
+{
+    if let Some(request) = fixed_request(text) {
+        return Ok(Some(request));
+    }
+    if let Some(serial) = behind(b"transport:", text) {
+        let by = Selector::Serial(Text::from_slice(alloc, serial)?);
+        return Ok(Some(Request::Transport { by, tell_id: false }));
+    }
+    if let Some(serial) = behind(b"tport:serial:", text) {
+        let by = Selector::Serial(Text::from_slice(alloc, serial)?);
+        return Ok(Some(Request::Transport { by, tell_id: true }));
+    }
+    if let Some(id) = behind(b"transport-id:", text).and_then(read_id) {
+        let by = Selector::Id(id);
+        return Ok(Some(Request::Transport { by, tell_id: false }));
+    }
+    form(alloc, Which::Own, text)
+}
+
+/// The request behind `host:` that says nothing else, where the text is one.
+fn fixed_request(text: &[u8]) -> Option<Request>
+    ensures { result ≡ fixed_request text.now }
+{
+    if text == b"version".as_slice() {
+        Some(Request::Version)
+    } else if text == b"kill".as_slice() {
+        Some(Request::Kill)
+    } else if text == b"devices".as_slice() {
+        Some(Request::Devices { long: false })
+    } else if text == b"devices-l".as_slice() {
+        Some(Request::Devices { long: true })
+    } else if text == b"track-devices".as_slice() {
+        Some(Request::Track { long: false })
+    } else if text == b"track-devices-l".as_slice() {
+        Some(Request::Track { long: true })
+    } else {
+        fixed_transport(text)
+    }
+}
+
+/// The request behind `host:` that selects a device by its kind, where the text is one.
+fn fixed_transport(text: &[u8]) -> Option<Request>
+    ensures { result ≡ fixed_transport text.now }
+{
+    let (by, tell_id) = if text == b"transport-usb".as_slice() {
+        (Selector::Usb, false)
+    } else if text == b"transport-local".as_slice() {
+        (Selector::Local, false)
+    } else if text == b"transport-any".as_slice() {
+        (Selector::Any, false)
+    } else if text == b"tport:usb".as_slice() {
+        (Selector::Usb, true)
+    } else if text == b"tport:local".as_slice() {
+        (Selector::Local, true)
+    } else if text == b"tport:any".as_slice() {
+        (Selector::Any, true)
+    } else {
+        return None;
+    };
+    Some(Request::Transport { by, tell_id })
+}
+
+/// The request behind `host-serial:`, whose serial ends at the first colon behind which a form stands.
+fn serial_request(alloc: Global, text: &[u8]) -> Result<Option<Request>, AllocError>
+    ensures { IfOk result (λ request. request ≡ serial_request text.now) }
+{
+    let Some(place) = serial_end(text) else {
+        return Ok(None);
+    };
+    let by = Selector::Serial(Text::from_slice(alloc, &text[..place])?);
+    form(alloc, Which::By(by), &text[place + 1..])
+}
+
+/// The place of the first colon behind which a form stands.
+fn serial_end(text: &[u8]) -> Option<usize>
+    ensures split { option_map (split_at text.now) result ≡ find (λ split. is_form split.after) (splits_behind [] text.now) }
+    ensures within { IfSome result (λ place. place < length text.now) }
+{
+    for (place, byte) in text.iter().enumerate() {
+        if *byte == b':' && is_form(&text[place + 1..]) {
+            return Some(place);
+        }
+    }
+    None
+}
+
+/// The request behind `host-transport-id:`, whose id ends at the first colon.
+fn id_request(alloc: Global, text: &[u8]) -> Result<Option<Request>, AllocError>
+    ensures { IfOk result (λ request. request ≡ id_request text.now) }
+{
+    let Some(place) = place_of(text, b':') else {
+        return Ok(None);
+    };
+    match read_id(&text[..place]) {
+        None => Ok(None),
+        Some(id) => form(alloc, Which::By(Selector::Id(id)), &text[place + 1..]),
+    }
+}
+
+/// A transport id: 1 to 10 digits of at most 4,294,967,295.
+fn read_id(text: &[u8]) -> Option<u32>
+    ensures { result ≡ id_in text.now }
+{
+    let id = read_number(text, 10)?;
+    if id <= 4_294_967_295 {
+        Some(id as u32)
+    } else {
+        None
+    }
+}
