@@ -32,6 +32,14 @@ fn featuring(features: &'static [u8]) -> Texts {
     [b"", b"", b"", b"", b"", features]
 }
 
+/// Whether bytes are read as these texts, or refused.
+fn is_read(alloc: Global, bytes: &[u8], want: Texts) -> bool {
+    match read(alloc, bytes) {
+        Ok(identity) => has_texts(&identity, want),
+        Err(error) => error == IdentityError::NotIdentity && want[0] == REFUSED[0],
+    }
+}
+
 #[test]
 fn identities_read(rt: HostRuntime) {
     let cases: [(&[u8], Texts); 18] = [
@@ -64,11 +72,7 @@ fn identities_read(rt: HostRuntime) {
         (b"device\0:", REFUSED),
     ];
     for (bytes, want) in cases {
-        let is_right = match read(rt.alloc(), bytes) {
-            Ok(identity) => has_texts(&identity, want),
-            Err(error) => error == IdentityError::NotIdentity && want[0] == REFUSED[0],
-        };
-        assert!(rt; is_right, "{bytes:?}");
+        assert!(rt; is_read(rt.alloc(), bytes, want), "{bytes:?}");
     }
 }
 
