@@ -1,10 +1,11 @@
 -- What holds of a cut, frame by frame, for any format.
 use Rattle.std.proofs.Common.{ℕ, ◌+◌, ◌-◌, ◌^◌, ◌≡◌, ◌≢◌, ◌≤◌, ◌<◌, zero, suc, List, [], ◌∷◌, ◌++◌, length, take, drop, Option, refl, sym, ◌∙◌, ap, subst, arith}
+use Rattle.std.specs.List.{flat_map}
 use Rattle.std.proofs.lemmas.List.{length-append, length-drop, length-take, take_at, drop_at, take-append-drop, append-nil}
 use Rattle.std.proofs.lemmas.List.Elements.{All-take, All-drop}
 use Rattle.adb_outside.specs.declared.framer.Front.{Front}
 use Rattle.adb_outside.specs.declared.framer.Front.TheVariants.{More, Bad, Whole}
-use Rattle.adb_outside.specs.Framing.{Cut, uncut, joined, cut_by, cut_at, cut, fault_of, offset_past, IsFraming, Stops}
+use Rattle.adb_outside.specs.Framing.{Cut, uncut, joined, cut_by, cut_at, cut, fault_of, offset_past, IsFraming, Stops, IsRightCut}
 use Rattle.adb_outside.specs.Bytes.{AreBytes}
 use Rattle.adb_outside.proofs.FramingLaws.{cut_first}
 
@@ -19,6 +20,10 @@ bytes_behind front rest are =
 
 pub bytes_after : (n : ℕ) (bytes : List ℕ) → AreBytes bytes → AreBytes (drop n bytes)
 bytes_after n bytes are = All-drop (λ byte. byte < 256) n bytes are
+
+-- what is spelled before a rest leaves no more than there is
+pub rest_within : {V : Type 0} (spell : V → List ℕ) (given : List V) (rest bytes : List ℕ) → bytes ≡ flat_map spell given ++ rest → length rest ≤ length bytes
+rest_within spell given rest bytes whole = omega (arith, ap (length {A = ℕ}) whole, length-append (flat_map spell given) rest)
 
 -- no bytes on is here
 pub place_here : (offset : ℕ) (rest : List ℕ) → offset < 2 ^ 64 → offset ≡ offset_past offset (length rest - length rest)
@@ -58,6 +63,15 @@ module _ {S V F : Type 0} (find : S → List ℕ → Front F) (item : S → List
       let fits = laws.fits s bytes n e in
       let len : length (take n bytes) ≡ n = omega (arith, length-take n bytes, fits) in
       record { frame = laws.alone s bytes n e ∙ ap Whole (sym len); whole = take-append-drop n bytes; less = omega (arith, fits, length-drop n bytes) }
+
+  -- Bytes begin with a frame, and what holds of the cut of those behind it.
+  pub record Begins (IsRight : S → List ℕ → Cut S V F → Type 0) (s : S) (bytes : List ℕ) (v : V) (c : Cut S V F) : Type 0 where
+    pub frame : List ℕ
+    pub more : List ℕ
+    pub whole : bytes ≡ frame ++ more
+    pub found : IsFrame s frame
+    pub holds : item s frame ≡ v
+    pub behind : IsRight (after s frame) more c
 
   -- A relation of bytes that may be read to a cut of them.
   module _ (Reads : S → List ℕ → Type 0) (IsRight : S → List ℕ → Cut S V F → Type 0) where
@@ -100,22 +114,13 @@ module _ {S V F : Type 0} (find : S → List ℕ → Front F) (item : S → List
     pub right : Steps → (s : S) (bytes : List ℕ) → Reads s bytes → IsRight s bytes (all s bytes)
     right steps s bytes reads = right_at steps (length bytes) s bytes (omega arith) reads
 
-    -- Bytes begin with a frame, and a right cut of those behind it follows.
-    pub record Begins (s : S) (bytes : List ℕ) (v : V) (c : Cut S V F) : Type 0 where
-      pub frame : List ℕ
-      pub more : List ℕ
-      pub whole : bytes ≡ frame ++ more
-      pub found : IsFrame s frame
-      pub holds : item s frame ≡ v
-      pub behind : IsRight (after s frame) more c
-
     -- A right cut stops where it may; one without frames leaves all, and another begins with a frame.
     pub record Unfolds : Type 0 where
       pub stays : Stays
       pub stops : (s : S) (bytes : List ℕ) (c : Cut S V F) → IsRight s bytes c → Stops find item after c.reading c.rest c.fault
       pub ends : (s : S) (bytes : List ℕ) (c : Cut S V F) → Reads s bytes → IsRight s bytes c → c.given ≡ []
           → (c.reading ≡ s) × (c.rest ≡ bytes)
-      pub begins : (s : S) (bytes : List ℕ) (v : V) (c : Cut S V F) → Reads s bytes → IsRight s bytes (joined (v ∷ []) c) → Begins s bytes v c
+      pub begins : (s : S) (bytes : List ℕ) (v : V) (c : Cut S V F) → Reads s bytes → IsRight s bytes (joined (v ∷ []) c) → Begins IsRight s bytes v c
 
     same_cut : (c : Cut S V F) → c ≡ joined c.given (uncut c.reading c.rest c.fault)
     same_cut c = ap (λ vs. record { given = vs; reading = c.reading; rest = c.rest; fault = c.fault }) (sym (append-nil c.given))
@@ -152,3 +157,80 @@ module _ {S V F : Type 0} (find : S → List ℕ → Front F) (item : S → List
     -- a right cut is the cut
     pub determined : Unfolds → (s : S) (bytes : List ℕ) (c : Cut S V F) → Reads s bytes → IsRight s bytes c → c ≡ all s bytes
     determined unfolds s bytes c reads is = same_cut c ∙ determined_by unfolds c.given s bytes c reads is refl
+
+  -- Frames that are spelled in a format's own words, each at an offset.
+  module _ (offset : S → ℕ) (Spells : S → List ℕ → List V → S → List ℕ → Type 0) where
+    abbrev SpellsCut : S → List ℕ → Cut S V F → Type 0
+    SpellsCut s bytes c = Spells s bytes c.given c.reading c.rest
+
+    -- Offsets move with the frames; all bytes may be a rest, and a frame may stand before others; and what is spelled has no other beginning.
+    pub record Frames : Type 0 where
+      pub moves : (s : S) (frame : List ℕ) → offset (after s frame) ≡ offset_past (offset s) (length frame)
+      pub within : (s : S) (bytes : List ℕ) (c : Cut S V F) → SpellsCut s bytes c → length c.rest ≤ length bytes
+      pub none : (s : S) (bytes : List ℕ) → Spells s bytes [] s bytes
+      pub one : (s : S) (frame more : List ℕ) (c : Cut S V F) → IsFrame s frame → AreBytes frame → SpellsCut (after s frame) more c
+          → SpellsCut s (frame ++ more) (joined (item s frame ∷ []) c)
+      pub all_left : (s : S) (bytes : List ℕ) (c : Cut S V F) → c.given ≡ [] → SpellsCut s bytes c → c.rest ≡ bytes
+      pub reads_on : (s : S) (bytes : List ℕ) (c : Cut S V F) → c.given ≡ [] → SpellsCut s bytes c → offset c.reading ≡ offset s → c.reading ≡ s
+      pub begins : (s : S) (bytes : List ℕ) (v : V) (c : Cut S V F) → SpellsCut s bytes (joined (v ∷ []) c) → Begins SpellsCut s bytes v c
+
+    abbrev IsPlace : S → List ℕ → Type 0
+    IsPlace s bytes = offset s < 2 ^ 64
+
+    abbrev Reads : S → List ℕ → Type 0
+    Reads s bytes = (offset s < 2 ^ 64) × AreBytes bytes
+
+    abbrev IsRight : S → List ℕ → Cut S V F → Type 0
+    IsRight = IsRightCut find item after offset Spells
+
+    moved : Frames → (s : S) (frame more rest : List ℕ) → length rest ≤ length more
+        → offset_past (offset (after s frame)) (length more - length rest) ≡ offset_past (offset s) (length (frame ++ more) - length rest)
+    moved frames s frame more rest fits =
+        ap (λ k. offset_past k (length more - length rest)) (frames.moves s frame) ∙ place_past (offset s) frame more rest fits
+
+    none_given : Frames → (s : S) (bytes : List ℕ) (c : Cut S V F) → offset s < 2 ^ 64 → IsRight s bytes c → c.given ≡ []
+        → (c.reading ≡ s) × (c.rest ≡ bytes)
+    none_given frames s bytes c room is none =
+        let left = frames.all_left s bytes c none is.spelled in
+        let same : offset c.reading ≡ offset s =
+        is.place ∙ (ap (λ (b : List ℕ). offset_past (offset s) (length bytes - length b)) left ∙ sym (place_here (offset s) bytes room)) in
+        (frames.reads_on s bytes c none is.spelled same, left)
+
+    first_given : Frames → (s : S) (bytes : List ℕ) (v : V) (c : Cut S V F) → IsRight s bytes (joined (v ∷ []) c) → Begins IsRight s bytes v c
+    first_given frames s bytes v c is =
+        let b = frames.begins s bytes v c is.spelled in
+        record {
+          frame = b.frame;
+          more = b.more;
+          whole = b.whole;
+          found = b.found;
+          holds = b.holds;
+          behind = record {
+            spelled = b.behind;
+            place = is.place
+                ∙ (ap (λ (x : List ℕ). offset_past (offset s) (length x - length c.rest)) b.whole
+                ∙ sym (moved frames s b.frame b.more c.rest (frames.within (after s b.frame) b.more c b.behind)));
+            stops = is.stops;
+          };
+        }
+
+    -- the cut is right
+    pub right_cut : Frames → (s : S) (bytes : List ℕ) → offset s < 2 ^ 64 → AreBytes bytes → IsRight s bytes (all s bytes)
+    right_cut frames s bytes room are = right Reads IsRight (record {
+      stays = λ t frame more found reads. (omega (arith, frames.moves t frame), bytes_behind frame more reads.1);
+      stops = λ t rest fault reads stop. record { spelled = frames.none t rest; place = place_here (offset t) rest reads.0; stops = stop };
+      goes = λ t frame more c found reads others. record {
+        spelled = frames.one t frame more c found (bytes_before frame more reads.1) others.spelled;
+        place = others.place ∙ moved frames t frame more c.rest (frames.within (after t frame) more c others.spelled);
+        stops = others.stops;
+      };
+    }) s bytes (room, are)
+
+    -- and what is right is the cut
+    pub only_cut : Frames → (s : S) (bytes : List ℕ) (c : Cut S V F) → offset s < 2 ^ 64 → IsRight s bytes c → c ≡ all s bytes
+    only_cut frames s bytes c room is = determined IsPlace IsRight (record {
+      stays = λ t frame more found reads. omega (arith, frames.moves t frame);
+      stops = λ t rest d right. right.stops;
+      ends = none_given frames;
+      begins = λ t rest v d reads right. first_given frames t rest v d right;
+    }) s bytes c room is

@@ -1,12 +1,12 @@
 -- Shell packets (the shell protocol header): one byte of id, the length in four bytes, the lowest first, and that many bytes.
-use Rattle.std.specs.Prelude.{ℕ, ◌+◌, ◌-◌, ◌≤◌, ◌≡◌, nat_lt, if◌then◌else◌, List, ◌∷◌, ◌++◌, length, drop, slice_index, Option, All}
+use Rattle.std.specs.Prelude.{ℕ, ◌+◌, ◌≤◌, ◌≡◌, nat_lt, if◌then◌else◌, List, ◌∷◌, ◌++◌, length, drop, slice_index, Option, All}
 use Rattle.std.specs.List.{flat_map}
 use Rattle.byteorder.specs.Endian.{little_number, little_bytes}
 use Rattle.adb_outside.specs.declared.framer.Front.{Front}
 use Rattle.adb_outside.specs.declared.framer.Front.TheVariants.{More, Bad, Whole}
 use Rattle.adb_outside.specs.declared.framer.FeedError.{FeedError}
 use Rattle.adb_outside.specs.declared.framer.FeedError.TheVariants as failures
-use Rattle.adb_outside.specs.Framing.{Cut, cut, given_in, fault_in as first_fault_in, offset_past, Stands, Stops}
+use Rattle.adb_outside.specs.Framing.{Cut, cut, given_in, fault_in as first_fault_in, offset_past, Stands, IsRightCut}
 use Rattle.adb_shell.specs.declared.packet.ShellPacket.{ShellPacket}
 use Rattle.adb_shell.specs.declared.packet.ShellFault.{ShellFault}
 use Rattle.adb_shell.specs.declared.packet.ShellFault.TheVariants.{BadId, TooLong}
@@ -86,9 +86,12 @@ abbrev pub failure_of : FeedError ShellFault → ShellError
 failure_of failures.OutOfMemory = errors.OutOfMemory
 failure_of (failures.Fault fault) = error_of fault
 
--- A cut is right: the bytes are the spellings of its packets and then its rest, which begins at the place that it reads from, and where it stops it may.
-pub record IsCut (from : ShellFormat) (bytes : List ℕ) (c : Reading) : Type 0 where
-  pub whole : bytes ≡ flat_map spelling c.given ++ c.rest
-  pub each : All IsPacket c.given
-  pub place : c.reading.offset ≡ offset_past from.offset (length bytes - length c.rest)
-  pub stops : Stops front packet_of past c.reading c.rest c.fault
+-- The bytes are the spellings of packets that may be sent, and then a rest.
+pub record SpellsPackets (from : ShellFormat) (bytes : List ℕ) (packets : List ShellPacket) (reading : ShellFormat) (rest : List ℕ) : Type 0 where
+  pub whole : bytes ≡ flat_map spelling packets ++ rest
+  pub each : All IsPacket packets
+
+-- A cut is right: it spells the bytes; the rest begins at the offset that it is read from; it begins with no whole packet,
+-- and where it begins with a fault, that is the fault.
+abbrev pub IsCut : ShellFormat → List ℕ → Reading → Type 0
+IsCut = IsRightCut front packet_of past (λ format. format.offset) SpellsPackets

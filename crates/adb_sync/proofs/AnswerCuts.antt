@@ -1,5 +1,5 @@
 -- A cut into answers is right, and what is right is the cut.
-use Rattle.std.proofs.Common.{ℕ, ◌+◌, ◌-◌, ◌*◌, ◌^◌, ◌≡◌, ◌≤◌, ◌<◌, cond, Bool, true, false, List, [], ◌∷◌, ◌++◌, length, take, drop, Option, Some, None, Ok, refl, sym, ◌∙◌, ap, subst, arith}
+use Rattle.std.proofs.Common.{ℕ, ◌+◌, ◌*◌, ◌^◌, ◌≡◌, ◌≤◌, ◌<◌, cond, Bool, true, false, List, [], ◌∷◌, ◌++◌, length, take, drop, Option, Some, None, Ok, refl, sym, ◌∙◌, ap, subst, arith}
 use Rattle.std.specs.Prelude.{codes}
 use Rattle.std.proofs.lemmas.List.{length-append, length-drop, take-append-drop, drop_all, drop-drop}
 use Rattle.std.proofs.lemmas.List.Elements.{All-nil, All-cons, All-head, All-tail}
@@ -7,8 +7,8 @@ use Rattle.byteorder.specs.Endian.{little_bytes}
 use Rattle.byteorder.specs.Numbers.{little_number-reads_back}
 use Rattle.adb_outside.specs.declared.framer.Front.TheVariants.{Whole}
 use Rattle.adb_outside.specs.Bytes.{AreBytes}
-use Rattle.adb_outside.specs.Framing.{joined, offset_past}
-use Rattle.adb_outside.proofs.CutLaws.{bytes_before, bytes_behind, bytes_after, place_here, place_past, frame_first, right, determined, Begins}
+use Rattle.adb_outside.specs.Framing.{joined}
+use Rattle.adb_outside.proofs.CutLaws.{bytes_after, frame_first, Frames, right_cut, only_cut}
 use Rattle.adb_outside.proofs.Numbers.{number_again}
 use Rattle.adb_sync.specs.declared.answer.SyncAnswer.{SyncAnswer}
 use Rattle.adb_sync.specs.declared.answer.SyncAnswer.TheVariants as answers
@@ -19,7 +19,7 @@ use Rattle.adb_sync.specs.declared.error.SyncRule.TheVariants as rules
 use Rattle.adb_sync.specs.declared.layout.Layout.{Layout}
 use Rattle.adb_sync.specs.declared.layout.TheConstants.{MOST_CHUNK}
 use Rattle.adb_sync.specs.Messages.{number_at, chunk_limit}
-use Rattle.adb_sync.specs.Answers.{AnswerReading, answer_id_of, answer_layout, known_answer, answered_at, answer_front, answer_by, answer_of_bytes, end_of, past_answer, answers_from, stat_bytes, answer_bytes, IsAnswer, HasAnswerWords, EndsKind, IsIdAnd, IsSpelling, AreSpelled, IsAnswerCut}
+use Rattle.adb_sync.specs.Answers.{AnswerReading, answer_id_of, answer_layout, known_answer, answered_at, answer_front, answer_by, answer_of_bytes, end_of, past_answer, answers_from, stat_bytes, answer_bytes, IsAnswer, HasAnswerWords, EndsKind, IsIdAnd, IsSpelling, AreSpelled, SpellsAnswers, IsAnswerCut}
 use Rattle.adb_sync.specs.Framed.{IsBehind, message_told, framed_message, answer_head, answer_heads, answers_are_framed}
 use Rattle.adb_sync.proofs.Messages.{number_fits, counted_again, is_one, within, is_within, numbers_behind, text_behind}
 
@@ -45,7 +45,8 @@ letters_id ids.Fail = refl
 abbrev IsReadAs : AnswerFormat → List ℕ → SyncAnswer → Type 0
 IsReadAs from bytes answer = (answer_front from bytes ≡ Whole (length bytes)) × (answer_of_bytes from bytes ≡ answer)
 
-read_as : (from : AnswerFormat) (id : AnswerId) (bytes : List ℕ) (answer : SyncAnswer) → take 4 bytes ≡ letters id → IsBehind (answer_layout from.list id) (drop 4 bytes)
+read_as : (from : AnswerFormat) (id : AnswerId) (bytes : List ℕ) (answer : SyncAnswer) → take 4 bytes ≡ letters id
+    → IsBehind (answer_layout from.list id) (drop 4 bytes)
     → answer_by from.list (Some id) (drop 4 bytes) ≡ answer → IsReadAs from bytes answer
 read_as from id bytes answer begins behind is =
     let found : answer_id_of (take 4 bytes) ≡ Some id = ap answer_id_of begins ∙ letters_id id in (
@@ -58,13 +59,17 @@ read_as from id bytes answer begins behind is =
       ap (λ o. answer_by from.list o (drop 4 bytes)) found ∙ is,
     )
 
+-- what three numbers make
+abbrev of_numbers : (ℕ → ℕ → ℕ → SyncAnswer) → List ℕ → SyncAnswer
+of_numbers make bytes = make (number_at 0 bytes) (number_at 4 bytes) (number_at 8 bytes)
+
 -- three numbers are read again
 numbers_again : (make : ℕ → ℕ → ℕ → SyncAnswer) (mode size mtime : ℕ) (rest : List ℕ) → (mode < 2 ^ 32) × (size < 2 ^ 32) × (mtime < 2 ^ 32)
-    → make (number_at 0 (stat_bytes mode size mtime ++ rest)) (number_at 4 (stat_bytes mode size mtime ++ rest)) (number_at 8 (stat_bytes mode size mtime ++ rest))
-    ≡ make mode size mtime
+    → of_numbers make (stat_bytes mode size mtime ++ rest) ≡ make mode size mtime
 numbers_again make mode size mtime rest fits =
     let bytes = stat_bytes mode size mtime ++ rest in
-    ap (λ k. make k (number_at 4 bytes) (number_at 8 bytes)) (little_number-reads_back 4 mode (little_bytes 4 size ++ little_bytes 4 mtime ++ rest) (omega (arith, fits.0)))
+    ap (λ k. make k (number_at 4 bytes) (number_at 8 bytes))
+    (little_number-reads_back 4 mode (little_bytes 4 size ++ little_bytes 4 mtime ++ rest) (omega (arith, fits.0)))
     ∙ (ap (λ k. make mode k (number_at 8 bytes)) (little_number-reads_back 4 size (little_bytes 4 mtime ++ rest) (omega (arith, fits.1)))
     ∙ ap (make mode size) (little_number-reads_back 4 mtime rest (omega (arith, fits.2))))
 
@@ -72,21 +77,25 @@ numbers_again make mode size mtime rest fits =
 dent_behind : (list : Bool) (mode size mtime : ℕ) (name : List ℕ) → length name < 2 ^ 32
     → IsBehind (answer_layout list ids.Dent) (stat_bytes mode size mtime ++ little_bytes 4 (length name) ++ name)
 dent_behind list mode size mtime name short =
-    let count : number_at 12 (stat_bytes mode size mtime ++ little_bytes 4 (length name) ++ name) ≡ length name = little_number-reads_back 4 (length name) name (omega (arith, short)) in
+    let count : number_at 12 (stat_bytes mode size mtime ++ little_bytes 4 (length name) ++ name) ≡ length name =
+    little_number-reads_back 4 (length name) name (omega (arith, short)) in
     record { head = omega arith; number = refl; size = omega (arith, count); body = refl }
 
 -- a DONE of either kind
-end_read : (from : AnswerFormat) (list : Bool) (bytes : List ℕ) → from.list ≡ list → IsIdAnd (codes "DONE") (4 * cond list 4 1) bytes → IsReadAs from bytes (end_of list)
+end_read : (from : AnswerFormat) (list : Bool) (bytes : List ℕ) → from.list ≡ list → IsIdAnd (codes "DONE") (4 * cond list 4 1) bytes
+    → IsReadAs from bytes (end_of list)
 end_read from list bytes kind is = read_as from ids.Done bytes (end_of list) is.0
     (numbers_behind (cond from.list 4 1) (drop 4 bytes) (omega (arith, is.1, ap (λ (l : Bool). 4 * cond l 4 1) kind, length-drop 4 bytes))) (ap end_of kind)
 
-spelled_read : (from : AnswerFormat) (answer : SyncAnswer) (bytes : List ℕ) → IsSpelling answer bytes → IsAnswer answer → HasAnswerWords answer → EndsKind from.list answer
+spelled_read : (from : AnswerFormat) (answer : SyncAnswer) (bytes : List ℕ) → IsSpelling answer bytes → IsAnswer answer → HasAnswerWords answer
+    → EndsKind from.list answer
     → IsReadAs from bytes answer
 spelled_read from (answers.Stat mode size mtime) bytes is good words kind = subst (λ b. IsReadAs from b (answers.Stat mode size mtime)) (sym is)
     (read_as from ids.Stat (answer_bytes (answers.Stat mode size mtime)) (answers.Stat mode size mtime) refl
     (numbers_behind 3 (stat_bytes mode size mtime) refl) (numbers_again answers.Stat mode size mtime [] words))
 spelled_read from (answers.Dent mode size mtime name) bytes is good words kind = subst (λ b. IsReadAs from b (answers.Dent mode size mtime name)) (sym is)
-    (read_as from ids.Dent (answer_bytes (answers.Dent mode size mtime name)) (answers.Dent mode size mtime name) refl (dent_behind from.list mode size mtime name good)
+    (read_as from ids.Dent (answer_bytes (answers.Dent mode size mtime name)) (answers.Dent mode size mtime name) refl
+    (dent_behind from.list mode size mtime name good)
     (numbers_again (λ a b c. answers.Dent a b c name) mode size mtime (little_bytes 4 (length name) ++ name) words))
 spelled_read from (answers.Chunk chunk) bytes is good words kind = subst (λ b. IsReadAs from b (answers.Chunk chunk)) (sym is)
     (read_as from ids.Data (answer_bytes (answers.Chunk chunk)) (answers.Chunk chunk) refl
@@ -127,7 +136,8 @@ id_again bytes id =
     (is_one letters bytes ids.Fail id None (λ e. let clash : ◌≡◌ {A = Option AnswerId} None (Some id) = e in absurd cc))))))
 
 -- only an id is known
-known_here : (list : Bool) (found : Option AnswerId) (layout : Layout) → known_answer list found ≡ Ok layout → (id : AnswerId) × (found ≡ Some id) × (answer_layout list id ≡ layout)
+known_here : (list : Bool) (found : Option AnswerId) (layout : Layout) → known_answer list found ≡ Ok layout
+    → (id : AnswerId) × (found ≡ Some id) × (answer_layout list id ≡ layout)
 known_here list None layout e = absurd (cc)
 known_here list (Some id) layout e = (id, refl, (cc))
 
@@ -138,7 +148,8 @@ next_word i bytes are h =
     ∙ number_again (drop i bytes) (bytes_after i bytes are) (omega (arith, h, length-drop i bytes))
 
 -- three numbers, and the bytes behind them
-stat_again : (bytes : List ℕ) → AreBytes bytes → 12 ≤ length bytes → stat_bytes (number_at 0 bytes) (number_at 4 bytes) (number_at 8 bytes) ++ drop 12 bytes ≡ bytes
+stat_again : (bytes : List ℕ) → AreBytes bytes → 12 ≤ length bytes
+    → stat_bytes (number_at 0 bytes) (number_at 4 bytes) (number_at 8 bytes) ++ drop 12 bytes ≡ bytes
 stat_again bytes are h =
     ap (λ more. little_bytes 4 (number_at 0 bytes) ++ little_bytes 4 (number_at 4 bytes) ++ more) (next_word 8 bytes are (omega (arith, h)))
     ∙ (ap (λ more. little_bytes 4 (number_at 0 bytes) ++ more) (next_word 4 bytes are (omega (arith, h)))
@@ -199,7 +210,8 @@ spelled_by from ids.Fail rest are m = record {
 }
 
 -- a frame is spelled by its bytes
-read_answer : (from : AnswerFormat) (bytes : List ℕ) → AreBytes bytes → answer_front from bytes ≡ Whole (length bytes) → IsSpelledAnswer from bytes (answer_of_bytes from bytes)
+read_answer : (from : AnswerFormat) (bytes : List ℕ) → AreBytes bytes → answer_front from bytes ≡ Whole (length bytes)
+    → IsSpelledAnswer from bytes (answer_of_bytes from bytes)
 read_answer from bytes are e =
     let m = framed_message (λ format. format.offset) answered_at answer_heads from bytes e in
     let known = known_here from.list (answer_id_of (take 4 bytes)) m.layout m.known in
@@ -210,91 +222,59 @@ read_answer from bytes are e =
     subst (λ (b : List ℕ). IsSpelledAnswer from b (answer_of_bytes from b)) whole (spelled_by from id rest (bytes_after 4 bytes are) behind)
 
 -- ---- cuts
-abbrev IsPlace : AnswerFormat → List ℕ → Type 0
-IsPlace from bytes = from.offset < 2 ^ 64
-
-abbrev Reads : AnswerFormat → List ℕ → Type 0
-Reads from bytes = (from.offset < 2 ^ 64) × AreBytes bytes
-
 -- what is spelled is not longer than the bytes
-rest_within : (given : List SyncAnswer) (rest bytes : List ℕ) → AreSpelled given rest bytes → length rest ≤ length bytes
-rest_within [] rest bytes whole = omega (arith, ap (length {A = ℕ}) whole)
-rest_within (answer ∷ given) rest bytes whole =
-    omega (arith, rest_within given rest whole.1 whole.4, ap (length {A = ℕ}) whole.2, length-append whole.0 whole.1)
+answers_within : (given : List SyncAnswer) (rest bytes : List ℕ) → AreSpelled given rest bytes → length rest ≤ length bytes
+answers_within [] rest bytes whole = omega (arith, ap (length {A = ℕ}) whole)
+answers_within (answer ∷ given) rest bytes whole =
+    omega (arith, answers_within given rest whole.1 whole.4, ap (length {A = ℕ}) whole.2, length-append whole.0 whole.1)
 
--- an answer before a right cut
-answer_goes : (from : AnswerFormat) (frame more : List ℕ) (c : AnswerReading) → answer_front from frame ≡ Whole (length frame) → Reads from (frame ++ more)
-    → IsAnswerCut (past_answer from frame) more c → IsAnswerCut from (frame ++ more) (joined (answer_of_bytes from frame ∷ []) c)
-answer_goes from frame more c found reads others =
+-- an answer before others
+answer_before : (from : AnswerFormat) (frame more : List ℕ) (c : AnswerReading) → answer_front from frame ≡ Whole (length frame) → AreBytes frame
+    → SpellsAnswers (past_answer from frame) more c.given c.reading c.rest
+    → SpellsAnswers from (frame ++ more) (answer_of_bytes from frame ∷ c.given) c.reading c.rest
+answer_before from frame more c found are others =
     let answer = answer_of_bytes from frame in
-    let spelled = read_answer from frame (bytes_before frame more reads.1) found in
+    let spelled = read_answer from frame are found in
     record {
       whole = (frame, more, refl, spelled.again, others.whole);
       each = All-cons IsAnswer answer c.given spelled.good others.each;
       words = All-cons HasAnswerWords answer c.given spelled.words others.words;
       kinds = All-cons (EndsKind from.list) answer c.given spelled.kind others.kinds;
       list = others.list;
-      place = others.place ∙ place_past from.offset frame more c.rest (rest_within c.given c.rest more others.whole);
-      stops = others.stops;
     }
+
+answers_spelled : Frames answer_front answer_of_bytes past_answer answers_are_framed (λ format. format.offset) SpellsAnswers
+answers_spelled = record {
+  moves = λ s frame. refl;
+  within = λ s bytes c is. answers_within c.given c.rest bytes is.whole;
+  none = λ s bytes. record { whole = refl; each = All-nil IsAnswer; words = All-nil HasAnswerWords; kinds = All-nil (EndsKind s.list); list = refl };
+  one = answer_before;
+  all_left = λ s bytes c none is. sym (subst (λ given. AreSpelled given c.rest bytes) none is.whole);
+  reads_on = λ s bytes c none is same.
+      ap (λ (k : ℕ). record { offset = k; list = c.reading.list }) same ∙ ap (λ (l : Bool). record { offset = s.offset; list = l }) is.list;
+  begins = λ s bytes answer c is.
+      let good = All-head IsAnswer answer c.given is.each in
+      let words = All-head HasAnswerWords answer c.given is.words in
+      let read = spelled_read s answer is.whole.0 is.whole.3 good words (All-head (EndsKind s.list) answer c.given is.kinds) in
+      record {
+        frame = is.whole.0;
+        more = is.whole.1;
+        whole = is.whole.2;
+        found = read.0;
+        holds = read.1;
+        behind = record {
+          whole = is.whole.4;
+          each = All-tail IsAnswer answer c.given is.each;
+          words = All-tail HasAnswerWords answer c.given is.words;
+          kinds = All-tail (EndsKind s.list) answer c.given is.kinds;
+          list = is.list;
+        };
+      };
+}
 
 pub answer_cut_right : (from : AnswerFormat) (bytes : List ℕ) → from.offset < 2 ^ 64 → AreBytes bytes → IsAnswerCut from bytes (answers_from from bytes)
-answer_cut_right from bytes room are = right answer_front answer_of_bytes past_answer answers_are_framed Reads IsAnswerCut (record {
-  stays = λ s frame more found reads. (omega arith, bytes_behind frame more reads.1);
-  stops = λ s rest fault reads stop. record {
-    whole = refl;
-    each = All-nil IsAnswer;
-    words = All-nil HasAnswerWords;
-    kinds = All-nil (EndsKind s.list);
-    list = refl;
-    place = place_here s.offset rest reads.0;
-    stops = stop;
-  };
-  goes = answer_goes;
-}) from bytes (room, are)
+answer_cut_right = right_cut answer_front answer_of_bytes past_answer answers_are_framed (λ format. format.offset) SpellsAnswers answers_spelled
 
--- a right cut without answers leaves all
-none_cut : (from : AnswerFormat) (bytes : List ℕ) (c : AnswerReading) → IsPlace from bytes → IsAnswerCut from bytes c → c.given ≡ []
-    → (c.reading ≡ from) × (c.rest ≡ bytes)
-none_cut from bytes c room is none =
-    let all : c.rest ≡ bytes = sym (subst (λ given. AreSpelled given c.rest bytes) none is.whole) in
-    let same : c.reading.offset ≡ from.offset =
-    is.place ∙ (ap (λ (b : List ℕ). offset_past from.offset (length bytes - length b)) all ∙ sym (place_here from.offset bytes room)) in
-    (ap (λ (k : ℕ). record { offset = k; list = c.reading.list }) same ∙ ap (λ (l : Bool). record { offset = from.offset; list = l }) is.list, all)
-
--- an answer before the others of a right cut
-answer_begins : (from : AnswerFormat) (bytes : List ℕ) (answer : SyncAnswer) (c : AnswerReading) → IsPlace from bytes
-    → IsAnswerCut from bytes (joined (answer ∷ []) c)
-    → Begins answer_front answer_of_bytes past_answer answers_are_framed IsPlace IsAnswerCut from bytes answer c
-answer_begins from bytes answer c room is =
-    let frame = is.whole.0 in
-    let more = is.whole.1 in
-    let whole = is.whole.2 in
-    let read = spelled_read from answer frame is.whole.3
-    (All-head IsAnswer answer c.given is.each) (All-head HasAnswerWords answer c.given is.words) (All-head (EndsKind from.list) answer c.given is.kinds) in
-    record {
-      frame = frame;
-      more = more;
-      whole = whole;
-      found = read.0;
-      holds = read.1;
-      behind = record {
-        whole = is.whole.4;
-        each = All-tail IsAnswer answer c.given is.each;
-        words = All-tail HasAnswerWords answer c.given is.words;
-        kinds = All-tail (EndsKind from.list) answer c.given is.kinds;
-        list = is.list;
-        place = is.place
-            ∙ (ap (λ (b : List ℕ). offset_past from.offset (length b - length c.rest)) whole
-            ∙ sym (place_past from.offset frame more c.rest (rest_within c.given c.rest more is.whole.4)));
-        stops = is.stops;
-      };
-    }
-
-pub answer_cut_only : (from : AnswerFormat) (bytes : List ℕ) (c : AnswerReading) → from.offset < 2 ^ 64 → IsAnswerCut from bytes c → c ≡ answers_from from bytes
-answer_cut_only from bytes c room is = determined answer_front answer_of_bytes past_answer answers_are_framed IsPlace IsAnswerCut (record {
-  stays = λ s frame more found reads. omega arith;
-  stops = λ s rest d right. right.stops;
-  ends = none_cut;
-  begins = answer_begins;
-}) from bytes c room is
+pub answer_cut_only : (from : AnswerFormat) (bytes : List ℕ) (c : AnswerReading) → from.offset < 2 ^ 64 → IsAnswerCut from bytes c
+    → c ≡ answers_from from bytes
+answer_cut_only = only_cut answer_front answer_of_bytes past_answer answers_are_framed (λ format. format.offset) SpellsAnswers answers_spelled

@@ -1,5 +1,5 @@
 -- A cut into requests is right, and what is right is the cut.
-use Rattle.std.proofs.Common.{ℕ, suc, ◌+◌, ◌-◌, ◌^◌, ◌≡◌, ◌≤◌, ◌<◌, nat_eq, cond, Bool, true, false, List, [], ◌∷◌, ◌++◌, length, take, drop, Option, Some, None, Result, Ok, Err, refl, sym, ◌∙◌, ap, subst, arith, add-one, append_assoc, eqb-true}
+use Rattle.std.proofs.Common.{ℕ, suc, ◌+◌, ◌^◌, ◌≡◌, ◌≤◌, ◌<◌, nat_eq, cond, Bool, true, false, List, [], ◌∷◌, ◌++◌, length, take, drop, Option, Some, None, Result, Ok, Err, refl, sym, ◌∙◌, ap, subst, arith, add-one, append_assoc, eqb-true}
 use Rattle.std.specs.Prelude.{codes}
 use Rattle.std.specs.List.{flat_map}
 use Rattle.std.proofs.lemmas.List.{length-append, length-drop, take-append-drop, take_at, drop_all}
@@ -8,8 +8,8 @@ use Rattle.byteorder.specs.Endian.{little_bytes}
 use Rattle.byteorder.specs.Numbers.{little_number-reads_back}
 use Rattle.adb_outside.specs.declared.framer.Front.TheVariants.{Whole}
 use Rattle.adb_outside.specs.Bytes.{AreBytes}
-use Rattle.adb_outside.specs.Framing.{joined, offset_past}
-use Rattle.adb_outside.proofs.CutLaws.{bytes_before, bytes_behind, bytes_after, place_here, place_past, frame_first, right, determined, Begins}
+use Rattle.adb_outside.specs.Framing.{joined}
+use Rattle.adb_outside.proofs.CutLaws.{bytes_after, rest_within, frame_first, Frames, right_cut, only_cut}
 use Rattle.adb_outside.proofs.Numbers.{number_again}
 use Rattle.adb_sync.specs.declared.ask.SyncAsk.{SyncAsk}
 use Rattle.adb_sync.specs.declared.ask.SyncAsk.TheVariants as asks
@@ -20,8 +20,8 @@ use Rattle.adb_sync.specs.declared.error.SyncRule.{SyncRule}
 use Rattle.adb_sync.specs.declared.error.SyncRule.TheVariants as rules
 use Rattle.adb_sync.specs.declared.layout.Layout.{Layout}
 use Rattle.adb_sync.specs.declared.layout.TheConstants.{MOST_PATH, MOST_CHUNK}
-use Rattle.adb_sync.specs.Messages.{number_at, path_limit, chunk_limit, comma_fault, last_comma, comma_behind}
-use Rattle.adb_sync.specs.Asks.{AskReading, ask_id_of, ask_layout, ask_in_place, asked_at, is_in_place, ask_front, ask_of, past_ask, asks_from, ask_bytes, id_of_ask, is_sending_after, IsAsk, HasAskWords, StandInPlace, IsAskCut, send_cut}
+use Rattle.adb_sync.specs.Messages.{message, number_at, text, path_limit, chunk_limit, limit_fault, comma_fault, last_comma, comma_behind}
+use Rattle.adb_sync.specs.Asks.{AskReading, ask_id_of, ask_layout, ask_in_place, asked_at, is_in_place, ask_front, ask_of, past_ask, asks_from, ask_bytes, id_of_ask, is_sending_after, IsAsk, HasAskWords, StandInPlace, SpellsAsks, IsAskCut, send_cut}
 use Rattle.adb_sync.specs.Framed.{IsBehind, message_told, framed_message, ask_head, ask_heads, asks_are_framed}
 use Rattle.adb_sync.proofs.Messages.{number_fits, counted_again, is_one, within, is_within, numbers_behind, text_behind}
 
@@ -43,15 +43,20 @@ cut_again path mode none =
     ∙ ap (asks.Send path) (ap (λ k. drop k text) (add-one (length path)) ∙ drop_path path mode))
 
 -- what stands behind its id
+path_behind : (path : List ℕ) → length path ≤ MOST_PATH → IsBehind (text 1 path_limit) (little_bytes 4 (length path) ++ path)
+path_behind path short = text_behind path_limit false path (omega (arith, short)) (within MOST_PATH (length path) rules.PathTooLong short) refl
+
 said : (ask : SyncAsk) → IsAsk ask → HasAskWords ask → IsBehind (ask_layout (id_of_ask ask)) (drop 4 (ask_bytes ask))
-said (asks.Stat path) good words = text_behind path_limit false path (omega (arith, good)) (within MOST_PATH (length path) rules.PathTooLong good) refl
-said (asks.List path) good words = text_behind path_limit false path (omega (arith, good)) (within MOST_PATH (length path) rules.PathTooLong good) refl
-said (asks.Recv path) good words = text_behind path_limit false path (omega (arith, good)) (within MOST_PATH (length path) rules.PathTooLong good) refl
+said (asks.Stat path) good words = path_behind path good
+said (asks.List path) good words = path_behind path good
+said (asks.Recv path) good words = path_behind path good
 said (asks.Send path mode) good words =
     let text = path ++ 44 ∷ mode in
     let few : length text ≤ MOST_PATH = omega (arith, length-append path (44 ∷ mode), good.0) in
-    text_behind path_limit true text (omega (arith, few)) (within MOST_PATH (length text) rules.PathTooLong few) (ap comma_fault (comma_at path mode good.1))
-said (asks.Chunk bytes) good words = text_behind chunk_limit false bytes (omega (arith, good)) (within MOST_CHUNK (length bytes) rules.ChunkTooLong good) refl
+    text_behind path_limit true text (omega (arith, few)) (within MOST_PATH (length text) rules.PathTooLong few)
+    (ap comma_fault (comma_at path mode good.1))
+said (asks.Chunk bytes) good words =
+    text_behind chunk_limit false bytes (omega (arith, good)) (within MOST_CHUNK (length bytes) rules.ChunkTooLong good) refl
 said (asks.Finish mtime) good words = numbers_behind 1 (little_bytes 4 mtime) refl
 said asks.Quit good words = record { head = omega arith; number = refl; size = refl; body = refl }
 
@@ -75,6 +80,10 @@ said_again from (asks.Chunk bytes) good words = refl
 said_again from (asks.Finish mtime) good words = ap asks.Finish (little_number-reads_back 4 mtime [] (omega (arith, words)))
 said_again from asks.Quit good words = refl
 
+-- what stands behind an id that may stand here, or may not
+abbrev placed : AskId → Bool → Result Layout SyncRule
+placed id t = cond t (Ok (ask_layout id)) (Err rules.BadPlace)
+
 said_front : (from : AskFormat) (ask : SyncAsk) → IsAsk ask → HasAskWords ask → is_in_place from.sending (id_of_ask ask) ≡ true
     → ask_front from (ask_bytes ask) ≡ Whole (length (ask_bytes ask))
 said_front from ask good words place =
@@ -83,7 +92,7 @@ said_front from ask good words place =
     message_told (λ format. format.offset) asked_at from (ask_bytes ask) (record {
       layout = ask_layout id;
       id = omega (arith, behind.head, ask_head id, length-drop 4 (ask_bytes ask));
-      known = ap (ask_in_place from.sending) (said_id ask) ∙ ap (λ (t : Bool). cond {A = Result Layout SyncRule} t (Ok (ask_layout id)) (Err rules.BadPlace)) place;
+      known = ap (ask_in_place from.sending) (said_id ask) ∙ ap (placed id) place;
       behind = behind;
     })
 
@@ -126,7 +135,7 @@ known_here : (from : AskFormat) (found : Option AskId) (layout : Layout) → ask
 known_here from None layout e = absurd (cc)
 known_here from (Some id) layout e = go (is_in_place from.sending id) refl e
   where
-    go : (t : Bool) → is_in_place from.sending id ≡ t → cond {A = Result Layout SyncRule} t (Ok (ask_layout id)) (Err rules.BadPlace) ≡ Ok layout → IsKnown from (Some id) layout
+    go : (t : Bool) → is_in_place from.sending id ≡ t → placed id t ≡ Ok layout → IsKnown from (Some id) layout
     go true is found = record { id = id; is = refl; place = is; behind = cc }
     go false is found = absurd (cc)
 
@@ -145,7 +154,8 @@ comma_cuts (byte ∷ text) k e = go (last_comma text) refl (comma_cuts text) e
         subst (λ (j : ℕ). CutAtComma (byte ∷ text) j) first (record { whole = ap (λ b. b ∷ text) (sym (eqb-true byte 44 is)); none_behind = none })
     here none false is found = let clash : ◌≡◌ {A = Option ℕ} None (Some k) = found in absurd cc
 
-    go : (o : Option ℕ) → last_comma text ≡ o → ((j : ℕ) → last_comma text ≡ Some j → CutAtComma text j) → comma_behind byte o ≡ Some k → CutAtComma (byte ∷ text) k
+    go : (o : Option ℕ) → last_comma text ≡ o → ((j : ℕ) → last_comma text ≡ Some j → CutAtComma text j) → comma_behind byte o ≡ Some k
+        → CutAtComma (byte ∷ text) k
     go (Some j) is others found =
         let next : suc j ≡ k = (cc) in
         let cuts = others j is in
@@ -164,11 +174,31 @@ record IsSpelledAsk (id : AskId) (bytes : List ℕ) (ask : SyncAsk) : Type 0 whe
   kind : id_of_ask ask ≡ id
 
 -- a path within its limit
-path_fits : (rest : List ℕ) → length rest ≡ 4 + number_at 0 rest → number_at 0 rest ≤ MOST_PATH → length (drop 4 rest) ≤ MOST_PATH
-path_fits rest len most = omega (arith, len, most, length-drop 4 rest)
+path_fits : (rest : List ℕ) → length rest ≡ 4 + number_at 0 rest → limit_fault path_limit (number_at 0 rest) ≡ None → length (drop 4 rest) ≤ MOST_PATH
+path_fits rest len good = omega (arith, len, is_within MOST_PATH (number_at 0 rest) rules.PathTooLong good, length-drop 4 rest)
+
+-- a path behind its id
+record AsksPath (id : AskId) (make : List ℕ → SyncAsk) : Type 0 where
+  bytes : (path : List ℕ) → ask_bytes (make path) ≡ message (letters id) (length path) path
+  good : (path : List ℕ) → length path ≤ MOST_PATH → IsAsk (make path)
+  words : (path : List ℕ) → HasAskWords (make path)
+  kind : (path : List ℕ) → id_of_ask (make path) ≡ id
+
+path_spelled : (id : AskId) (make : List ℕ → SyncAsk) (rest : List ℕ) → AsksPath id make → AreBytes rest → IsBehind (text 1 path_limit) rest
+    → IsSpelledAsk id (letters id ++ rest) (make (drop 4 rest))
+path_spelled id make rest asks are m =
+    let path = drop 4 rest in
+    let begin = letters id in
+    record {
+      again = asks.bytes path ∙ (append_assoc begin (little_bytes 4 (length path)) path ∙ ap (λ r. begin ++ r) (counted_again rest are m.size));
+      good = asks.good path (path_fits rest m.size m.number);
+      words = asks.words path;
+      kind = asks.kind path;
+    }
 
 -- a SEND and its comma
-send_spelled : (rest text : List ℕ) (k : ℕ) → text ≡ drop 4 rest → last_comma text ≡ Some k → length text ≤ MOST_PATH → little_bytes 4 (length (drop 4 rest)) ++ drop 4 rest ≡ rest
+send_spelled : (rest text : List ℕ) (k : ℕ) → text ≡ drop 4 rest → last_comma text ≡ Some k → length text ≤ MOST_PATH
+    → little_bytes 4 (length (drop 4 rest)) ++ drop 4 rest ≡ rest
     → IsSpelledAsk ids.Send (codes "SEND" ++ rest) (send_cut text (Some k))
 send_spelled rest text k is found short counted =
     let cuts = comma_cuts text k found in
@@ -182,29 +212,24 @@ send_spelled rest text k is found short counted =
       kind = refl;
     }
 
+asks_stat : AsksPath ids.Stat asks.Stat
+asks_stat = record { bytes = λ p. refl; good = λ p short. short; words = λ p. tt; kind = λ p. refl }
+
+asks_list : AsksPath ids.List asks.List
+asks_list = record { bytes = λ p. refl; good = λ p short. short; words = λ p. tt; kind = λ p. refl }
+
+asks_recv : AsksPath ids.Recv asks.Recv
+asks_recv = record { bytes = λ p. refl; good = λ p short. short; words = λ p. tt; kind = λ p. refl }
+
 -- what an id and the bytes behind it spell
-spelled_by : (from : AskFormat) (id : AskId) (rest : List ℕ) → AreBytes rest → IsBehind (ask_layout id) rest → IsSpelledAsk id (letters id ++ rest) (ask_of from (letters id ++ rest))
-spelled_by from ids.Stat rest are m = record {
-  again = ap (λ r. codes "STAT" ++ r) (counted_again rest are m.size);
-  good = path_fits rest m.size (is_within MOST_PATH (number_at 0 rest) rules.PathTooLong m.number);
-  words = tt;
-  kind = refl;
-}
-spelled_by from ids.List rest are m = record {
-  again = ap (λ r. codes "LIST" ++ r) (counted_again rest are m.size);
-  good = path_fits rest m.size (is_within MOST_PATH (number_at 0 rest) rules.PathTooLong m.number);
-  words = tt;
-  kind = refl;
-}
-spelled_by from ids.Recv rest are m = record {
-  again = ap (λ r. codes "RECV" ++ r) (counted_again rest are m.size);
-  good = path_fits rest m.size (is_within MOST_PATH (number_at 0 rest) rules.PathTooLong m.number);
-  words = tt;
-  kind = refl;
-}
+spelled_by : (from : AskFormat) (id : AskId) (rest : List ℕ) → AreBytes rest → IsBehind (ask_layout id) rest
+    → IsSpelledAsk id (letters id ++ rest) (ask_of from (letters id ++ rest))
+spelled_by from ids.Stat rest are m = path_spelled ids.Stat asks.Stat rest asks_stat are m
+spelled_by from ids.List rest are m = path_spelled ids.List asks.List rest asks_list are m
+spelled_by from ids.Recv rest are m = path_spelled ids.Recv asks.Recv rest asks_recv are m
 spelled_by from ids.Send rest are m =
     let comma = comma_there (last_comma (drop 4 rest)) m.body in
-    let short = path_fits rest m.size (is_within MOST_PATH (number_at 0 rest) rules.PathTooLong m.number) in
+    let short = path_fits rest m.size m.number in
     subst (λ (o : Option ℕ). IsSpelledAsk ids.Send (codes "SEND" ++ rest) (send_cut (drop 4 rest) o)) (sym comma.1)
     (send_spelled rest (drop 4 rest) comma.0 refl comma.1 short (counted_again rest are m.size))
 spelled_by from ids.Data rest are m = record {
@@ -255,22 +280,12 @@ read_ask from bytes are e =
     }
 
 -- ---- cuts
-abbrev IsPlace : AskFormat → List ℕ → Type 0
-IsPlace from bytes = from.offset < 2 ^ 64
-
-abbrev Reads : AskFormat → List ℕ → Type 0
-Reads from bytes = (from.offset < 2 ^ 64) × AreBytes bytes
-
--- requests and a rest are as long as both
-rest_within : (given : List SyncAsk) (rest bytes : List ℕ) → bytes ≡ flat_map ask_bytes given ++ rest → length rest ≤ length bytes
-rest_within given rest bytes whole = omega (arith, ap (length {A = ℕ}) whole, length-append (flat_map ask_bytes given) rest)
-
--- a request before a right cut
-ask_goes : (from : AskFormat) (frame more : List ℕ) (c : AskReading) → ask_front from frame ≡ Whole (length frame) → Reads from (frame ++ more)
-    → IsAskCut (past_ask from frame) more c → IsAskCut from (frame ++ more) (joined (ask_of from frame ∷ []) c)
-ask_goes from frame more c found reads others =
+-- a request before others
+ask_before : (from : AskFormat) (frame more : List ℕ) (c : AskReading) → ask_front from frame ≡ Whole (length frame) → AreBytes frame
+    → SpellsAsks (past_ask from frame) more c.given c.reading c.rest → SpellsAsks from (frame ++ more) (ask_of from frame ∷ c.given) c.reading c.rest
+ask_before from frame more c found are others =
     let ask = ask_of from frame in
-    let r = read_ask from frame (bytes_before frame more reads.1) found in
+    let r = read_ask from frame are found in
     let kind = r.spelled.kind in
     let sends : is_sending_after (ask_id_of (take 4 frame)) ≡ is_sending_after (Some (id_of_ask ask)) = ap is_sending_after (r.known ∙ ap Some (sym kind)) in
     record {
@@ -280,65 +295,43 @@ ask_goes from frame more c found reads others =
       each = All-cons IsAsk ask c.given r.spelled.good others.each;
       words = All-cons HasAskWords ask c.given r.spelled.words others.words;
       in_place = (ap (is_in_place from.sending) kind ∙ r.place, subst (λ (s : Bool). StandInPlace s c.given c.reading.sending) sends others.in_place);
-      place = others.place ∙ place_past from.offset frame more c.rest (rest_within c.given c.rest more others.whole);
-      stops = others.stops;
     }
+
+-- reading goes on as it began
+reads_on : (from : AskFormat) (bytes : List ℕ) (c : AskReading) → c.given ≡ [] → SpellsAsks from bytes c.given c.reading c.rest
+    → c.reading.offset ≡ from.offset → c.reading ≡ from
+reads_on from bytes c none is same =
+    let sends : c.reading.sending ≡ from.sending = subst (λ given. StandInPlace from.sending given c.reading.sending) none is.in_place in
+    ap (λ (k : ℕ). record { offset = k; sending = c.reading.sending }) same ∙ ap (λ (s : Bool). record { offset = from.offset; sending = s }) sends
+
+asks_spelled : Frames ask_front ask_of past_ask asks_are_framed (λ format. format.offset) SpellsAsks
+asks_spelled = record {
+  moves = λ s frame. refl;
+  within = λ s bytes c is. rest_within ask_bytes c.given c.rest bytes is.whole;
+  none = λ s bytes. record { whole = refl; each = All-nil IsAsk; words = All-nil HasAskWords; in_place = refl };
+  one = ask_before;
+  all_left = λ s bytes c none is. sym (is.whole ∙ ap (λ given. flat_map ask_bytes given ++ c.rest) none);
+  reads_on = reads_on;
+  begins = λ s bytes ask c is.
+      let good = All-head IsAsk ask c.given is.each in
+      let words = All-head HasAskWords ask c.given is.words in
+      record {
+        frame = ask_bytes ask;
+        more = flat_map ask_bytes c.given ++ c.rest;
+        whole = is.whole ∙ append_assoc (ask_bytes ask) (flat_map ask_bytes c.given) c.rest;
+        found = said_front s ask good words is.in_place.0;
+        holds = said_again s ask good words;
+        behind = record {
+          whole = refl;
+          each = All-tail IsAsk ask c.given is.each;
+          words = All-tail HasAskWords ask c.given is.words;
+          in_place = subst (λ (o : Option AskId). StandInPlace (is_sending_after o) c.given c.reading.sending) (sym (said_id ask)) is.in_place.1;
+        };
+      };
+}
 
 pub ask_cut_right : (from : AskFormat) (bytes : List ℕ) → from.offset < 2 ^ 64 → AreBytes bytes → IsAskCut from bytes (asks_from from bytes)
-ask_cut_right from bytes room are = right ask_front ask_of past_ask asks_are_framed Reads IsAskCut (record {
-  stays = λ s frame more found reads. (omega arith, bytes_behind frame more reads.1);
-  stops = λ s rest fault reads stop. record {
-    whole = refl;
-    each = All-nil IsAsk;
-    words = All-nil HasAskWords;
-    in_place = refl;
-    place = place_here s.offset rest reads.0;
-    stops = stop;
-  };
-  goes = ask_goes;
-}) from bytes (room, are)
-
--- a right cut without requests leaves all
-none_cut : (from : AskFormat) (bytes : List ℕ) (c : AskReading) → IsPlace from bytes → IsAskCut from bytes c → c.given ≡ []
-    → (c.reading ≡ from) × (c.rest ≡ bytes)
-none_cut from bytes c room is none =
-    let all : c.rest ≡ bytes = sym (is.whole ∙ ap (λ given. flat_map ask_bytes given ++ c.rest) none) in
-    let same : c.reading.offset ≡ from.offset =
-    is.place ∙ (ap (λ (b : List ℕ). offset_past from.offset (length bytes - length b)) all ∙ sym (place_here from.offset bytes room)) in
-    let sends : c.reading.sending ≡ from.sending = subst (λ given. StandInPlace from.sending given c.reading.sending) none is.in_place in
-    (ap (λ (k : ℕ). record { offset = k; sending = c.reading.sending }) same ∙ ap (λ (s : Bool). record { offset = from.offset; sending = s }) sends, all)
-
--- a request before the others of a right cut
-ask_begins : (from : AskFormat) (bytes : List ℕ) (ask : SyncAsk) (c : AskReading) → IsPlace from bytes
-    → IsAskCut from bytes (joined (ask ∷ []) c) → Begins ask_front ask_of past_ask asks_are_framed IsPlace IsAskCut from bytes ask c
-ask_begins from bytes ask c room is =
-    let frame = ask_bytes ask in
-    let more = flat_map ask_bytes c.given ++ c.rest in
-    let whole : bytes ≡ frame ++ more = is.whole ∙ append_assoc frame (flat_map ask_bytes c.given) c.rest in
-    let good = All-head IsAsk ask c.given is.each in
-    let words = All-head HasAskWords ask c.given is.words in
-    record {
-      frame = frame;
-      more = more;
-      whole = whole;
-      found = said_front from ask good words is.in_place.0;
-      holds = said_again from ask good words;
-      behind = record {
-        whole = refl;
-        each = All-tail IsAsk ask c.given is.each;
-        words = All-tail HasAskWords ask c.given is.words;
-        in_place = subst (λ (o : Option AskId). StandInPlace (is_sending_after o) c.given c.reading.sending) (sym (said_id ask)) is.in_place.1;
-        place = is.place
-            ∙ (ap (λ (b : List ℕ). offset_past from.offset (length b - length c.rest)) whole
-            ∙ sym (place_past from.offset frame more c.rest (rest_within c.given c.rest more refl)));
-        stops = is.stops;
-      };
-    }
+ask_cut_right = right_cut ask_front ask_of past_ask asks_are_framed (λ format. format.offset) SpellsAsks asks_spelled
 
 pub ask_cut_only : (from : AskFormat) (bytes : List ℕ) (c : AskReading) → from.offset < 2 ^ 64 → IsAskCut from bytes c → c ≡ asks_from from bytes
-ask_cut_only from bytes c room is = determined ask_front ask_of past_ask asks_are_framed IsPlace IsAskCut (record {
-  stays = λ s frame more found reads. omega arith;
-  stops = λ s rest d right. right.stops;
-  ends = none_cut;
-  begins = ask_begins;
-}) from bytes c room is
+ask_cut_only = only_cut ask_front ask_of past_ask asks_are_framed (λ format. format.offset) SpellsAsks asks_spelled

@@ -1,8 +1,9 @@
--- What the answering side writes (SYNC.TXT): STAT with three numbers; DENT with four and a name; DATA with a chunk; DONE, after a list with sixteen bytes; OKAY; FAIL with a text.
-use Rattle.std.specs.Prelude.{ℕ, ◌+◌, ◌-◌, ◌^◌, ◌<◌, ◌≤◌, ◌≡◌, if◌then◌else◌, Bool, true, false, List, [], ◌∷◌, ◌++◌, length, take, drop, replicate, Option, Some, None, Result, Ok, Err, codes, bytes_eq, All}
+-- What the answering side writes (SYNC.TXT): STAT with three numbers; DENT with four and a name; DATA with a chunk; DONE,
+-- after a list with sixteen bytes; OKAY; FAIL with a text.
+use Rattle.std.specs.Prelude.{ℕ, ◌+◌, ◌^◌, ◌<◌, ◌≤◌, ◌≡◌, if◌then◌else◌, Bool, true, false, List, [], ◌∷◌, ◌++◌, length, take, drop, replicate, Option, Some, None, Result, Ok, Err, codes, bytes_eq, All}
 use Rattle.byteorder.specs.Endian.{little_bytes}
 use Rattle.adb_outside.specs.declared.framer.Front.{Front}
-use Rattle.adb_outside.specs.Framing.{Cut, cut, given_in, fault_in, offset_past, Stands, Stops}
+use Rattle.adb_outside.specs.Framing.{Cut, cut, given_in, fault_in, offset_past, Stands, IsRightCut}
 use Rattle.adb_sync.specs.declared.answer.SyncAnswer.{SyncAnswer}
 use Rattle.adb_sync.specs.declared.answer.SyncAnswer.TheVariants as answers
 use Rattle.adb_sync.specs.declared.answer_id.AnswerId.{AnswerId}
@@ -158,12 +159,15 @@ AreSpelled [] rest bytes = bytes ≡ rest
 AreSpelled (answer ∷ others) rest bytes =
     (frame : List ℕ) × (more : List ℕ) × (bytes ≡ frame ++ more) × IsSpelling answer frame × AreSpelled others rest more
 
--- A cut is right: the bytes are those of its answers, which may be written and read here, and then its rest, which begins at the place that it reads from, and where it stops it may.
-pub record IsAnswerCut (from : AnswerFormat) (bytes : List ℕ) (c : AnswerReading) : Type 0 where
-  pub whole : AreSpelled c.given c.rest bytes
-  pub each : All IsAnswer c.given
-  pub words : All HasAnswerWords c.given
-  pub kinds : All (EndsKind from.list) c.given
-  pub list : c.reading.list ≡ from.list
-  pub place : c.reading.offset ≡ offset_past from.offset (length bytes - length c.rest)
-  pub stops : Stops answer_front answer_of_bytes past_answer c.reading c.rest c.fault
+-- The bytes are those of answers that may be written and read here, and then a rest.
+pub record SpellsAnswers (from : AnswerFormat) (bytes : List ℕ) (given : List SyncAnswer) (reading : AnswerFormat) (rest : List ℕ) : Type 0 where
+  pub whole : AreSpelled given rest bytes
+  pub each : All IsAnswer given
+  pub words : All HasAnswerWords given
+  pub kinds : All (EndsKind from.list) given
+  pub list : reading.list ≡ from.list
+
+-- A cut is right: it spells the bytes; the rest begins at the offset that it is read from; it begins with no whole answer,
+-- and where it begins with a fault, that is the fault.
+abbrev pub IsAnswerCut : AnswerFormat → List ℕ → AnswerReading → Type 0
+IsAnswerCut = IsRightCut answer_front answer_of_bytes past_answer (λ format. format.offset) SpellsAnswers

@@ -1,8 +1,8 @@
 -- What the asking side writes (SYNC.TXT): STAT, LIST and RECV with a path; SEND with a path and a mode, then any number of DATA, then DONE; QUIT.
-use Rattle.std.specs.Prelude.{ℕ, ◌+◌, ◌-◌, ◌^◌, ◌<◌, ◌≤◌, ◌≡◌, if◌then◌else◌, Bool, true, false, not, List, [], ◌∷◌, ◌++◌, length, take, drop, Option, Some, None, Result, Ok, Err, codes, bytes_eq, All}
+use Rattle.std.specs.Prelude.{ℕ, ◌+◌, ◌^◌, ◌<◌, ◌≤◌, ◌≡◌, if◌then◌else◌, Bool, true, false, not, List, [], ◌∷◌, ◌++◌, length, take, drop, Option, Some, None, Result, Ok, Err, codes, bytes_eq, All}
 use Rattle.std.specs.List.{flat_map}
 use Rattle.adb_outside.specs.declared.framer.Front.{Front}
-use Rattle.adb_outside.specs.Framing.{Cut, cut, given_in, fault_in, offset_past, Stands, Stops}
+use Rattle.adb_outside.specs.Framing.{Cut, cut, given_in, fault_in, offset_past, Stands, IsRightCut}
 use Rattle.adb_sync.specs.declared.ask.SyncAsk.{SyncAsk}
 use Rattle.adb_sync.specs.declared.ask.SyncAsk.TheVariants as asks
 use Rattle.adb_sync.specs.declared.ask_id.AskId.{AskId}
@@ -128,7 +128,8 @@ id_of_ask (asks.Chunk bytes) = ids.Data
 id_of_ask (asks.Finish mtime) = ids.Done
 id_of_ask asks.Quit = ids.Quit
 
--- what may be written: a path request of at most 1,024 bytes, in a SEND counted with its comma and mode, a mode without a comma, and a chunk of at most 65,536 bytes
+-- what may be written: a path request of at most 1,024 bytes, in a SEND counted with its comma and mode, a mode without a
+-- comma, and a chunk of at most 65,536 bytes
 abbrev pub IsAsk : SyncAsk → Type 0
 IsAsk (asks.Stat path) = length path ≤ MOST_PATH
 IsAsk (asks.List path) = length path ≤ MOST_PATH
@@ -163,11 +164,14 @@ abbrev pub StandInPlace : Bool → List SyncAsk → Bool → Type 0
 StandInPlace sending [] behind = behind ≡ sending
 StandInPlace sending (ask ∷ others) behind = (is_in_place sending (id_of_ask ask) ≡ true) × StandInPlace (is_sending_after (Some (id_of_ask ask))) others behind
 
--- A cut is right: the bytes are those of its requests, which may be written and stand where they may, and then its rest, which begins at the place that it reads from, and where it stops it may.
-pub record IsAskCut (from : AskFormat) (bytes : List ℕ) (c : AskReading) : Type 0 where
-  pub whole : bytes ≡ flat_map ask_bytes c.given ++ c.rest
-  pub each : All IsAsk c.given
-  pub words : All HasAskWords c.given
-  pub in_place : StandInPlace from.sending c.given c.reading.sending
-  pub place : c.reading.offset ≡ offset_past from.offset (length bytes - length c.rest)
-  pub stops : Stops ask_front ask_of past_ask c.reading c.rest c.fault
+-- The bytes are those of requests that may be written and stand where they may, and then a rest.
+pub record SpellsAsks (from : AskFormat) (bytes : List ℕ) (given : List SyncAsk) (reading : AskFormat) (rest : List ℕ) : Type 0 where
+  pub whole : bytes ≡ flat_map ask_bytes given ++ rest
+  pub each : All IsAsk given
+  pub words : All HasAskWords given
+  pub in_place : StandInPlace from.sending given reading.sending
+
+-- A cut is right: it spells the bytes; the rest begins at the offset that it is read from; it begins with no whole request,
+-- and where it begins with a fault, that is the fault.
+abbrev pub IsAskCut : AskFormat → List ℕ → AskReading → Type 0
+IsAskCut = IsRightCut ask_front ask_of past_ask (λ format. format.offset) SpellsAsks

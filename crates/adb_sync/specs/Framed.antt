@@ -56,19 +56,21 @@ or_bad_stays : (offset : ℕ) (broken : Option SyncRule) (told later f : Front S
 or_bad_stays offset None told later f stays e = stays e
 or_bad_stays offset (Some rule) told later f stays e = e
 
-past_id_stays : (offset : ℕ) (known : Result Layout SyncRule) (x y : List ℕ) (f : Front SyncFault) → ((layout : Layout) → known ≡ Ok layout → 4 ≤ layout.head) → (f ≡ More → ⊥)
+past_id_stays : (offset : ℕ) (known : Result Layout SyncRule) (x y : List ℕ) (f : Front SyncFault)
+    → ((layout : Layout) → known ≡ Ok layout → 4 ≤ layout.head) → (f ≡ More → ⊥)
     → front_past_id offset known x ≡ f → front_past_id offset known (x ++ y) ≡ f
 past_id_stays offset (Err rule) x y f heads apart e = e
 past_id_stays offset (Ok layout) x y f heads apart e =
     let hd = layout.head in
     let n = head_number layout x in
-    let told : List ℕ → Front SyncFault = λ b. or_bad offset (limit_fault layout.limit n) (front_of_body offset layout n b) in
-    let h = told_there (length x) hd (told (drop hd x)) f apart e in
+    let numbered : ℕ → List ℕ → Front SyncFault = λ k b. or_bad offset (limit_fault layout.limit k) (front_of_body offset layout k b) in
+    let h = told_there (length x) hd (numbered n (drop hd x)) f apart e in
     let same : head_number layout (x ++ y) ≡ n = number_there (hd - 4) x y (omega (arith, h.0, heads layout refl)) in
-    there (length (x ++ y)) hd (or_bad offset (limit_fault layout.limit (head_number layout (x ++ y))) (front_of_body offset layout (head_number layout (x ++ y)) (drop hd (x ++ y)))) (omega (arith, h.0, length-append x y))
-    ∙ (ap (λ k. or_bad offset (limit_fault layout.limit k) (front_of_body offset layout k (drop hd (x ++ y)))) same
-    ∙ (ap told (drop-append-le hd x y h.0)
-    ∙ or_bad_stays offset (limit_fault layout.limit n) (front_of_body offset layout n (drop hd x)) (front_of_body offset layout n (drop hd x ++ y)) f (body_stays offset layout n (drop hd x) y f apart) h.1))
+    there (length (x ++ y)) hd (numbered (head_number layout (x ++ y)) (drop hd (x ++ y))) (omega (arith, h.0, length-append x y))
+    ∙ (ap (λ k. numbered k (drop hd (x ++ y))) same
+    ∙ (ap (numbered n) (drop-append-le hd x y h.0)
+    ∙ or_bad_stays offset (limit_fault layout.limit n) (front_of_body offset layout n (drop hd x)) (front_of_body offset layout n (drop hd x ++ y)) f
+    (body_stays offset layout n (drop hd x) y f apart) h.1))
 
 -- the bytes behind an id are a head and a body that break nothing
 pub record IsBehind (layout : Layout) (rest : List ℕ) : Type 0 where
@@ -103,7 +105,8 @@ pub record HasBehind (layout : Layout) (rest : List ℕ) (m : ℕ) : Type 0 wher
 same_whole : (n m : ℕ) → ◌≡◌ {A = Front SyncFault} (Whole n) (Whole m) → n ≡ m
 same_whole n m e = cc
 
-told_behind : (offset : ℕ) (layout : Layout) (rest : List ℕ) (m : ℕ) → 4 ≤ layout.head → front_past_id offset (Ok layout) rest ≡ Whole m → HasBehind layout rest m
+told_behind : (offset : ℕ) (layout : Layout) (rest : List ℕ) (m : ℕ) → 4 ≤ layout.head → front_past_id offset (Ok layout) rest ≡ Whole m
+    → HasBehind layout rest m
 told_behind offset layout rest m low e =
     let hd = layout.head in
     let n = head_number layout rest in
@@ -159,11 +162,13 @@ module _ {S : Type 0} (offset : S → ℕ) (layout_at : S → List ℕ → Resul
         let h = told_there (length bytes) 4 (front_past_id (offset s) (layout_at s (take 4 bytes)) (drop 4 bytes)) (Whole m) (λ c. cc) e in
         go (layout_at s (take 4 bytes)) refl h.0 h.1
       where
-        go : (known : Result Layout SyncRule) → layout_at s (take 4 bytes) ≡ known → 4 ≤ length bytes → front_past_id (offset s) known (drop 4 bytes) ≡ Whole m → HasMessage s bytes m
+        go : (known : Result Layout SyncRule) → layout_at s (take 4 bytes) ≡ known → 4 ≤ length bytes
+            → front_past_id (offset s) known (drop 4 bytes) ≡ Whole m → HasMessage s bytes m
         go (Err rule) is long told = absurd (cc)
         go (Ok layout) is long told =
             let b = told_behind (offset s) layout (drop 4 bytes) m (heads s (take 4 bytes) layout is) told in
-            let parts : take b.len (drop 4 bytes) ≡ drop 4 (take m bytes) = sym (drop-take 4 b.len bytes) ∙ ap (λ (k : ℕ). drop 4 (take k bytes)) (sym b.size) in
+            let parts : take b.len (drop 4 bytes) ≡ drop 4 (take m bytes) =
+            sym (drop-take 4 b.len bytes) ∙ ap (λ (k : ℕ). drop 4 (take k bytes)) (sym b.size) in
             let all : m ≤ length bytes = omega (arith, b.size, b.fits, long, length-drop 4 bytes) in
             record {
               low = omega (arith, b.size, b.low);

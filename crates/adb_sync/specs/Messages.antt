@@ -1,4 +1,5 @@
--- Sync messages, requests and answers (SYNC.TXT): four bytes of id, a head of numbers, the lowest byte first, and a body as long as the last number says, or none.
+-- Sync messages, requests and answers (SYNC.TXT): four bytes of id, a head of numbers, the lowest byte first, and a body as
+-- long as the last number says, or none.
 use Rattle.std.specs.Prelude.{ℕ, ◌+◌, ◌-◌, ◌*◌, ◌≤◌, ◌==◌, nat_lt, if◌then◌else◌, true, false, List, [], ◌∷◌, ◌++◌, length, take, drop, suc, Option, Some, None, Result, Ok, Err}
 use Rattle.byteorder.specs.Endian.{little_number, little_bytes}
 use Rattle.adb_outside.specs.declared.framer.Front.{Front}

@@ -12,7 +12,8 @@ use std::alloc::{AllocError, Global};
 /// The numbers of a STAT.
 pub fn stat_of(rest: &[u8]) -> SyncAnswer
     requires { 12 ≤ length rest.now }
-    ensures { result ≡ SyncAnswer.Stat (number_at 0 rest.now) (number_at 4 rest.now) (number_at 8 rest.now) }
+    ensures { result
+        ≡ SyncAnswer.Stat (number_at 0 rest.now) (number_at 4 rest.now) (number_at 8 rest.now) }
 {
     SyncAnswer::Stat {
         mode: number_from(rest, 0),
@@ -25,7 +26,8 @@ pub fn stat_of(rest: &[u8]) -> SyncAnswer
 pub fn dent_of(alloc: Global, rest: &[u8]) -> Result<SyncAnswer, AllocError>
     requires { 16 ≤ length rest.now }
     ensures { IfOk result (λ answer. answer
-        ≡ SyncAnswer.Dent (number_at 0 rest.now) (number_at 4 rest.now) (number_at 8 rest.now) (drop 16 rest.now)) }
+        ≡ SyncAnswer.Dent (number_at 0 rest.now) (number_at 4 rest.now) (number_at 8 rest.now)
+        (drop 16 rest.now)) }
 {
     let (_, name) = rest.split_at(4 * WORD_BYTES);
     Ok(SyncAnswer::Dent {

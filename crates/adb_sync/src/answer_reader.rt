@@ -4,7 +4,8 @@ ghost use Rattle.std.specs.Prelude.{◌≡◌, ◌≢◌, []};
 ghost use Rattle.adb_outside.specs.Framing.{Takes, Gives, answer_of};
 ghost use Rattle.adb_sync.specs.declared.error.SyncFault.{SyncFault};
 ghost use Rattle.adb_sync.specs.Messages.{error_of};
-ghost use Rattle.adb_sync.specs.Answers.{answer_front, answer_of_bytes, past_answer, StandsForAnswers};
+ghost use Rattle.adb_sync.specs.Answers.{StandsForAnswers, answer_front, answer_of_bytes};
+ghost use Rattle.adb_sync.specs.Answers.{past_answer};
 
 use crate::answer::SyncAnswer;
 use crate::answer_format::AnswerFormat;

@@ -29,23 +29,24 @@ pub fn written_answers_are_read()
         ≡ joined (answer ∷ []) (answers_from (past_answer from (answer_bytes answer)) more) }
 {}
 
-/// The requests that are read from bytes are spelled there, one after the other, each where it may stand,
-/// up to the first place where no whole request stands; where a fault stands there, it is the fault.
+/// The requests that are read from bytes are spelled there, one after the other, each where it may
+/// stand, up to the first place where no whole request stands; where a fault stands there, it is
+/// the fault.
 pub fn ask_cut_is_right()
     ensures { (from : AskFormat) (bytes : List ℕ) → from.offset < 2 ^ 64 → AreBytes bytes
         → IsAskCut from bytes (asks_from from bytes) }
 {}
 
-/// The answers that are read from bytes are spelled there, one after the other, but for the numbers of
-/// OKAY and DONE, which may be any, up to the first place where no whole answer stands; where a fault
-/// stands there, it is the fault.
+/// The answers that are read from bytes are spelled there, one after the other, but for the numbers
+/// of OKAY and DONE, which may be any, up to the first place where no whole answer stands; where a
+/// fault stands there, it is the fault.
 pub fn answer_cut_is_right()
     ensures { (from : AnswerFormat) (bytes : List ℕ) → from.offset < 2 ^ 64 → AreBytes bytes
         → IsAnswerCut from bytes (answers_from from bytes) }
 {}
 
-/// Bytes are cut into requests in one way: requests with a rest, and a fault where one stands there,
-/// that are right are those that are read.
+/// Bytes are cut into requests in one way: requests with a rest, and a fault where one stands
+/// there, that are right are those that are read.
 pub fn ask_cut_is_determined()
     ensures { (from : AskFormat) (bytes : List ℕ) (cut : AskReading)
         → from.offset < 2 ^ 64 → IsAskCut from bytes cut → cut ≡ asks_from from bytes }

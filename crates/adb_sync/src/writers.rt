@@ -67,8 +67,9 @@ pub fn write_answer(alloc: Global, answer: &SyncAnswer, out: &mut Text) -> Resul
 /// How many bytes stand before those of a chunk.
 pub const CHUNK_HEADER_BYTES: usize = 8;
 
-/// What stands before the bytes of a chunk of so many bytes, for who hands a chunk out of a buffer of his
-/// own: with them behind it, it is what `write_answer` writes of the chunk. It takes no memory.
+/// What stands before the bytes of a chunk of so many bytes, for who hands a chunk out of a buffer
+/// of his own: with them behind it, it is what `write_answer` writes of the chunk. It takes no
+/// memory.
 pub fn chunk_header(size: u32) -> [u8; CHUNK_HEADER_BYTES]
     ensures { (bytes : List ℕ) → length bytes ≡ size
         → result ++ bytes ≡ answer_bytes (SyncAnswer.Chunk bytes) }
