@@ -1,5 +1,5 @@
 -- What a sync service answers to whole requests, and what becomes of the files (SYNC.TXT).
-use Rattle.std.specs.Prelude.{ℕ, ◌+◌, ◌-◌, ◌*◌, ◌==◌, ◌&&◌, bit_and, nat_lt, nat_le, if◌then◌else◌, Bool, true, false, not, List, [], ◌∷◌, ◌++◌, length, take, drop, fold, zero, suc, Option, Some, None, codes}
+use Rattle.std.specs.Prelude.{ℕ, ◌+◌, ◌-◌, ◌*◌, ◌==◌, ◌&&◌, bit_and, nat_lt, nat_le, if◌then◌else◌, Bool, true, false, not, List, [], ◌∷◌, ◌++◌, length, take, drop, fold, zero, suc, Option, Some, None, option_and_then, codes}
 use Rattle.std.specs.List.{flat_map, list_all}
 use Rattle.adb_sync.specs.declared.answer.SyncAnswer.TheVariants as answers
 use Rattle.adb_sync.specs.declared.answer.Dirent.{Dirent}
@@ -8,6 +8,7 @@ use Rattle.adb_sync.specs.declared.error.SyncRule.{SyncRule}
 use Rattle.adb_sync.specs.declared.error.SyncRule.TheVariants as rules
 use Rattle.adb_sync.specs.Answers.{answer_bytes}
 use Rattle.adb_files.specs.declared.chunk.TheConstants.{MOST_CHUNK}
+use Rattle.adb_outside.specs.Decimal.{number_in}
 use Rattle.adb_files.specs.declared.file.File.{File}
 use Rattle.adb_files.specs.Entries.{Entry}
 use Rattle.adb_files.specs.declared.file.FileError.{FileError}
@@ -74,22 +75,13 @@ recv_by None file = file_bytes file
 abbrev pub recv_bytes : List Entry → List ℕ → List ℕ
 recv_bytes files path = recv_by (read_refusal files path) (file_at path files)
 
--- the number of decimal digits
-abbrev pub digits_value : List ℕ → ℕ
-digits_value digits = fold (λ value digit. 10 * value + (digit - 48)) 0 digits
+-- what a file keeps of a mode of 32 bits: the lowest nine
+abbrev pub kept_mode : ℕ → Option ℕ
+kept_mode mode = if nat_lt mode 4294967296 then Some (32768 + bit_and mode 511) else None
 
-abbrev pub is_digit : ℕ → Bool
-is_digit byte = nat_le 48 byte && nat_le byte 57
-
--- whether a text is 1 to 10 decimal digits
-abbrev pub is_digits : List ℕ → Bool
-is_digits text = not (length text == 0) && nat_le (length text) 10 && list_all is_digit text
-
--- A mode is 1 to 10 decimal digits of a number of 32 bits. A file keeps the lowest nine bits of it.
+-- A mode is 1 to 10 decimal digits of a number of 32 bits.
 abbrev pub stored_mode : List ℕ → Option ℕ
-stored_mode digits =
-    if is_digits digits && nat_lt (digits_value digits) 4294967296 then Some (32768 + bit_and (digits_value digits) 511)
-    else None
+stored_mode digits = option_and_then kept_mode (number_in 10 digits)
 
 -- the file of a SEND
 abbrev pub sent_file : ℕ → ℕ → List ℕ → File
