@@ -14,12 +14,11 @@ use Rattle.adb_history.specs.Refusal.{refusal_by}
 use Rattle.adb_history.specs.Accepted.{Accepted, accepted, accept_records, has_magic, replayed}
 use Rattle.adb_promise.proofs.Answers.{all_answered}
 use Rattle.adb_top.specs.Stop.{stop_of}
-use Rattle.adb_top.specs.Keeping.{Out, Keeps, HasFront, KeepsAs, LosesRest, WritesOut, IsWriteEnd}
-use Rattle.adb_top.specs.Replay.{written_of, capture_of, IsFrontOf, Reaches, EndsAs, Moment, moment, IsAhead, Replays}
+use Rattle.adb_top.specs.Keeping.{Out, Keeps, HasFront, KeepsAs}
+use Rattle.adb_top.specs.Replay.{written_of, capture_of, IsFrontOf, Reaches, EndsAs, Moment, IsAhead, Replays}
 use Rattle.adb_top.specs.Replayed.{WritesText, IsSpelled, SpellsHistory, GrowsSpelled, ReplaysCapture}
 use Rattle.adb_top.specs.declared.stop.Stop.{Stop}
 use Rattle.adb_top.specs.declared.stop.Stop.TheVariants.{ReadFault, WriteFault, OutOfMemory, Refused}
-use Rattle.adb_top.proofs.Outputs.{all_out}
 use Rattle.adb_top.proofs.Drains.{capture_more}
 
 -- the records of a history that goes on begin with those that it had
@@ -132,6 +131,15 @@ finished (Err WriteFault) had text out written k goes idle = record { growth = k
 finished (Err OutOfMemory) had text out written k goes idle = all_front had text written (goes had text k)
 finished (Err (Refused why)) had text out written k goes idle = goes had text k
 
+-- and where no write failed, all of it
+all_went_out : (ended : Result (Unit {0}) Stop) (had text : List ℕ) (out : Out) (written : Option (List ℕ)) → ◌≢◌ {A = Result (Unit {0}) Stop} ended (Err WriteFault) → KeepsAs ended had text out
+    → ((had text : List ℕ) → Keeps had text out → written ≡ Some (had ++ text)) → written ≡ Some (had ++ text)
+all_went_out (Ok done) had text out written other k goes = goes had text k
+all_went_out (Err ReadFault) had text out written other k goes = goes had text k
+all_went_out (Err WriteFault) had text out written other k goes = absurd (other refl)
+all_went_out (Err OutOfMemory) had text out written other k goes = goes had text k
+all_went_out (Err (Refused why)) had text out written other k goes = goes had text k
+
 -- the sink failed at last
 pub lost_at_last : (ended : Result (Unit {0}) Stop) (had text : List ℕ) (out : Out) (written : Option (List ℕ)) → KeepsAs ended had text out
     → ((had text : List ℕ) → Keeps had text out → HasFront had text written) → (out.1 ≡ [] → written ≡ out.0) → HasFront had text written
@@ -202,6 +210,7 @@ capture_replayed left_first written first last ended o r goes idle = record {
   spells = λ had has.
       let f = text_front ended (capture_of r.whole) had written (text had has) in
       record { growth = f.growth; is = f.is; spelled = front_spelled r.whole f.growth r.on.legal f.front };
+  whole = λ other had has. inr (record { history = r.whole; legal = r.on.legal; is = all_went_out ended had (capture_of r.whole) last.out written other (r.on.kept had (keeps_magic left_first first had o has)) goes });
 }
   where
     text : (had : List ℕ) → first.out.0 ≡ Some had → WritesText ended (capture_of r.whole) had written
@@ -219,6 +228,7 @@ capture_lost left_first written first last ended o r goes idle = record {
   spells = λ had has.
       let f = front had has in
       record { growth = f.growth; is = f.is; spelled = front_spelled r.whole f.growth r.on.legal f.front };
+  whole = λ other had has. absurd (other refl);
 }
   where
     front : (had : List ℕ) → first.out.0 ≡ Some had → HasFront had (capture_of r.whole) written
@@ -237,6 +247,7 @@ capture_unread left left_after written = record {
   writes = λ bytes had told has. nothing_front had (replayed bytes) written has;
   ends = λ bytes told. tt;
   spells = λ had has. nothing_spelled had written has;
+  whole = λ other had has. inl has;
 }
 
 -- The magic was not read.
@@ -245,6 +256,7 @@ capture_unopened opened left_first left_opened written capture.BadMagic o = reco
   writes = λ bytes had told has. has ∙ ap Some (sym (append-nil had) ∙ ap (λ x. had ++ x) (sym (ap (λ b. cond b (magic ++ records_of (drained (accepted bytes).inputs)) []) (no_magic bytes (o bytes told)))));
   ends = λ bytes told. ap (λ b. (cond b (accept_records 8 (drop 8 bytes) []) (record { inputs = []; refused = refusal_by capture.BadMagic })).refused) (no_magic bytes (o bytes told));
   spells = λ had has. nothing_spelled had written has;
+  whole = λ other had has. inl has;
 }
 capture_unopened opened left_first left_opened written (capture.BadRecord at why) o = absurd o
 capture_unopened opened left_first left_opened written (capture.Truncated at) o = absurd o
@@ -253,5 +265,6 @@ capture_unopened opened left_first left_opened written capture.ReadFault o = rec
   writes = λ bytes had told has. nothing_front had (replayed bytes) written has;
   ends = λ bytes told. tt;
   spells = λ had has. nothing_spelled had written has;
+  whole = λ other had has. inl has;
 }
 capture_unopened opened left_first left_opened written capture.OutOfMemory o = capture_unread left_first left_opened written

@@ -1,5 +1,5 @@
 -- An entry that a state does not refuse may come; what its replay leaves.
-use Rattle.std.proofs.Common.{ℕ, ◌+◌, ◌≡◌, Bool, true, false, cond, List, ◌∷◌, Option, Some, None, Result, Ok, Err, refl, sym, ◌∙◌, ap, subst, ◌⊎◌, inl, inr}
+use Rattle.std.proofs.Common.{ℕ, ◌+◌, ◌≡◌, Bool, true, false, cond, ◌∷◌, Some, None, Result, Ok, Err, refl, sym, ◌∙◌, ap, subst, ◌⊎◌, inl, inr}
 use Rattle.std.specs.Prelude.{nat_eq, not}
 use Rattle.std.proofs.lemmas.Bool.{eqb-true}
 use Rattle.adb_outside.specs.Serial.{is_serial}
@@ -11,7 +11,6 @@ use Rattle.adb_history.specs.Kept.{Kept, kept, IsLawful, IsOrderly}
 use Rattle.adb_history.specs.Drained.{drain_all, drained_after}
 use Rattle.adb_history.specs.Refusal.{refused_at}
 use Rattle.adb_history.specs.Accepted.{refusal_of, read_refusal, is_drawn, is_input}
-use Rattle.adb_history.specs.declared.refusal.Reason.{Reason}
 use Rattle.adb_history.specs.declared.refusal.Reason.TheVariants.{NotDrawn, BadSerial, NotBuilt}
 use Rattle.adb_history.proofs.Orderly.{orderly}
 use Rattle.adb_top.specs.Machine.{Applies}

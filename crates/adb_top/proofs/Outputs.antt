@@ -1,8 +1,7 @@
 -- What is kept goes out in pieces.
 use Rattle.std.proofs.Common.{ℕ, ◌≡◌, List, [], ◌++◌, take, drop, Option, Some, Result, Ok, Err, sym, refl, ◌∙◌, ap, Bool, false}
 use Rattle.std.proofs.lemmas.List.{append_assoc, append-nil, take-append-drop}
-use Rattle.adb_outside.specs.Bytes.{IsPrefixOf}
-use Rattle.adb_top.specs.Keeping.{Out, Keeps, HasFront, LosesRest, KeepsMore, WritesOut, IsWriteEnd, CountsReads, is_read_fault}
+use Rattle.adb_top.specs.Keeping.{Out, Keeps, HasFront, KeepsMore, WritesOut, IsWriteEnd, CountsReads, is_read_fault}
 use Rattle.adb_top.specs.declared.stop.Stop.{Stop}
 use Rattle.adb_top.specs.declared.stop.Stop.TheVariants.{ReadFault, WriteFault, OutOfMemory, Refused}
 

@@ -9,7 +9,7 @@ use Rattle.adb_capture.specs.Counting.{is_fault}
 use Rattle.adb_capture.specs.declared.entry.Entry.{Entry}
 use Rattle.adb_capture.specs.declared.error.CaptureError.{CaptureError}
 use Rattle.adb_capture.specs.declared.error.CaptureError.TheVariants as capture
-use Rattle.adb_history.specs.Machine.{History, start, state, IsLegal}
+use Rattle.adb_history.specs.Machine.{History, start, state}
 use Rattle.adb_history.specs.Kept.{Kept, kept}
 use Rattle.adb_history.specs.Drained.{drained_after, drained_from}
 use Rattle.adb_history.specs.Refusal.{refusal_by}
@@ -17,9 +17,9 @@ use Rattle.adb_history.specs.Accepted.{Accepted, refusal_of, is_input, accept_by
 use Rattle.adb_history.specs.declared.refusal.Refusal.{Refusal}
 use Rattle.std.proofs.lemmas.List.{append_assoc}
 use Rattle.adb_history.proofs.Accepting.{accept_front, accept_first, drained_adds}
-use Rattle.adb_top.specs.Keeping.{Out, Keeps, KeepsAs, is_read_fault, is_write_fault}
+use Rattle.adb_top.specs.Keeping.{Out, Keeps, is_read_fault, is_write_fault}
 use Rattle.adb_top.specs.Stop.{stop_of}
-use Rattle.adb_top.specs.Replay.{capture_of, IsDrained, IsFrontOf, GoesOn, ReplaysEntry, EntryGives, IsReached, history_after, Reaches, EndsAs, Moment, IsAhead, Replays}
+use Rattle.adb_top.specs.Replay.{capture_of, IsDrained, IsFrontOf, ReplaysEntry, EntryGives, IsReached, Reaches, EndsAs, Moment, IsAhead, Replays}
 use Rattle.adb_top.specs.declared.stop.Stop.{Stop}
 use Rattle.adb_top.specs.declared.stop.Stop.TheVariants.{ReadFault, WriteFault, OutOfMemory, Refused}
 use Rattle.adb_top.proofs.Drains.{goes_on}

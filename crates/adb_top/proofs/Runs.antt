@@ -1,5 +1,5 @@
 -- From how a replay stopped to the status of the run.
-use Rattle.std.proofs.Common.{ℕ, ◌≡◌, ◌≢◌, ◌⊎◌, true, false, List, [], ◌++◌, Option, Some, None, Err, refl, sym, ◌∙◌, ap, subst, inl, inr}
+use Rattle.std.proofs.Common.{ℕ, ◌≡◌, ◌≢◌, ◌⊎◌, true, false, List, [], ◌++◌, Option, Some, None, Result, Err, refl, sym, ◌∙◌, ap, subst, inl, inr}
 use Rattle.std.proofs.lemmas.List.{append-nil}
 use Rattle.adb_capture.specs.Records.{magic}
 use Rattle.adb_history.specs.Accepted.{Accepted}
@@ -139,6 +139,10 @@ other_writes stop.ReadFault OutOfMemory e other = absurd e
 other_writes stop.WriteFault OutOfMemory e other = absurd e
 other_writes stop.OutOfMemory OutOfMemory e other = refl
 other_writes (stop.Refused refusal) OutOfMemory e other = refl
+
+-- a status other than WriteFault comes of another stop
+pub other_stop : (why : Stop) (status : Status) → EndsIn why status → status ≢ WriteFault → ◌≢◌ {A = Result (Unit {0}) Stop} (Err why) (Err stop.WriteFault)
+other_stop why status e other is = let clash : is_write_fault (Err why) ≡ true = ap is_write_fault is in let none = sym clash ∙ other_writes why status e other in cc
 
 -- streams that never fail
 pub faultless_stopped : (why : Stop) (status : Status) → EndsIn why status → is_read_fault (Err why) ≡ false → is_write_fault (Err why) ≡ false → (status ≡ WriteFault → why ≡ stop.WriteFault) → IsFaultless status

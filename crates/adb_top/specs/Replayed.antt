@@ -7,7 +7,7 @@ use Rattle.adb_history.specs.Machine.{History, IsLegal}
 use Rattle.adb_history.specs.Answered.{IsAnswered}
 use Rattle.adb_history.specs.Accepted.{accepted, replayed}
 use Rattle.adb_top.specs.Keeping.{HasFront}
-use Rattle.adb_top.specs.Replay.{written_of, EndsAs}
+use Rattle.adb_top.specs.Replay.{written_of, capture_of, EndsAs}
 use Rattle.adb_top.specs.declared.stop.Stop.{Stop}
 use Rattle.adb_top.specs.declared.stop.Stop.TheVariants.{ReadFault, WriteFault, OutOfMemory, Refused}
 
@@ -46,8 +46,19 @@ pub record GrowsSpelled (had : List ℕ) (written : Option (List ℕ)) : Type 0 
   pub is : written ≡ Some (had ++ growth)
   pub spelled : IsSpelled growth
 
--- A capture was replayed.
+-- the capture of a legal history went out, to the end of a record
+pub record GrowsByCapture (had : List ℕ) (written : Option (List ℕ)) : Type 0 where
+  pub history : History
+  pub legal : IsLegal history
+  pub is : written ≡ Some (had ++ capture_of history)
+
+-- Nothing went out, or whole records.
+abbrev pub GrowsWhole : List ℕ → Option (List ℕ) → Type 0
+GrowsWhole had written = (written ≡ Some had) ⊎ GrowsByCapture had written
+
+-- A capture was replayed. What was gathered is lost where the sink failed alone: else whole records went out.
 pub record ReplaysCapture (left_before left_after written_before written_after : Option (List ℕ)) (result : Result (Unit {0}) Stop) : Type 0 where
   pub writes : (bytes had : List ℕ) → left_before ≡ Some bytes → written_before ≡ Some had → WritesText result (replayed bytes) had written_after
   pub ends : (bytes : List ℕ) → left_before ≡ Some bytes → EndsAs result (accepted bytes) left_after
   pub spells : (had : List ℕ) → written_before ≡ Some had → GrowsSpelled had written_after
+  pub whole : result ≢ Err WriteFault → (had : List ℕ) → written_before ≡ Some had → GrowsWhole had written_after

@@ -5,7 +5,7 @@ use Rattle.adb_history.specs.declared.refusal.Refusal.{Refusal}
 use Rattle.adb_top.specs.Words.{is_replay}
 use Rattle.adb_top.specs.Notes.{bad_capture_line}
 use Rattle.adb_top.specs.Keeping.{HasFront}
-use Rattle.adb_top.specs.Replayed.{GrowsSpelled}
+use Rattle.adb_top.specs.Replayed.{GrowsSpelled, GrowsWhole}
 use Rattle.adb_top.specs.declared.status.Status.{Status}
 use Rattle.adb_top.specs.declared.status.Status.TheVariants.{Done, Usage, ReadFault, WriteFault, BadCapture, OutOfMemory}
 
@@ -34,6 +34,10 @@ WritesHistory status left written old new =
 -- The whole records that went out spell a legal history, whose clients are answered.
 abbrev pub WritesLegal : {K : Type 0} → (K → Option (List ℕ)) → K → K → Type 0
 WritesLegal written old new = (had : List ℕ) → written old ≡ Some had → GrowsSpelled had (written new)
+
+-- Nothing went out, or whole records of a legal history.
+abbrev pub WritesWhole : {K : Type 0} → (K → Option (List ℕ)) → K → K → Type 0
+WritesWhole written old new = (had : List ℕ) → written old ≡ Some had → GrowsWhole had (written new)
 
 -- why a capture is refused
 abbrev pub IsRefusedCapture : Accepted → Type 0

@@ -3,7 +3,7 @@
 ghost use Rattle.std.specs.Prelude.{◌≡◌, ◌≢◌, ◌⊎◌};
 ghost use Rattle.adb_top.specs.Faults.{Rose, Stood, IsFaultless};
 ghost use Rattle.adb_top.specs.Notes.{WritesNote};
-ghost use Rattle.adb_top.specs.Run.{IsCommand, IsNoCommand, WritesHistory, WritesLegal};
+ghost use Rattle.adb_top.specs.Run.{IsCommand, IsNoCommand, WritesHistory, WritesLegal, WritesWhole};
 ghost use Rattle.adb_top.specs.Run.{EndsCapture, NamesRefusal, Completes};
 
 use crate::note::{say_stop, say_usage};
@@ -36,6 +36,9 @@ pub fn run<S: Source, K: Sink, N: Sink>(
 
     // Whatever the source tells, what went out spells a legal history, whose clients are answered.
     ensures legal { WritesLegal K.written sink.old sink.new }
+
+    // No record is torn, and none that was made is held back, but where a write failed.
+    ensures whole { result ≢ Status.WriteFault → WritesWhole K.written sink.old sink.new }
 
     // Done: the capture is whole and was read to its end. BadCapture: it is refused.
     ensures ends { EndsCapture result S.left source.old source.new }

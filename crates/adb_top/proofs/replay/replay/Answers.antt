@@ -4,8 +4,7 @@ use Rattle.adb_outside.specs.Outside.{Counts}
 use Rattle.adb_capture.specs.Reading.{Reading, Opens}
 use Rattle.adb_top.specs.Keeping.{is_read_fault}
 use Rattle.adb_top.specs.Replay.{Moment, moment}
-use Rattle.adb_top.specs.declared.stop.Stop.TheVariants.{WriteFault}
-use Rattle.adb_top.proofs.Outputs.{write_fault_of, counts_reads}
+use Rattle.adb_top.proofs.Outputs.{write_fault_of}
 use Rattle.adb_top.proofs.Drains.{counts_then}
 use Rattle.adb_top.proofs.Captures.{Opened, capture_replayed, capture_lost, capture_unopened, capture_unread}
 use Rattle.adb_top.proofs.replay.replay.Goals as goal
