@@ -1,5 +1,6 @@
 -- Bytes in chunks, and names of a listing.
-use Rattle.std.specs.Prelude.{Option, Some, None, ℕ, ◌^◌, ◌≡◌, ◌≢◌, ◌<◌, ◌≤◌, ◌==◌, min, cond, Bool, true, false, List, [], ◌∷◌, ◌++◌, length, take, drop, fold, filter, map, All, refl, zero, suc}
+use Rattle.std.specs.Prelude.{Option, Some, None, ℕ, ◌^◌, ◌≡◌, ◌≢◌, ◌<◌, ◌≤◌, ◌==◌, min, cond, Bool, true, false, List, [], ◌∷◌, ◌++◌, length, take}
+use Rattle.std.specs.Prelude.{drop, fold, filter, map, All, refl, zero, suc}
 use Rattle.std.proofs.Common.{◌∙◌, ap, sym, arith, Ordering}
 use Rattle.std.specs.Ordering.{match_ordering}
 use Rattle.std.specs.declared.cmp.Ordering.TheVariants.{Less, Equal, Greater}
@@ -24,7 +25,8 @@ use Rattle.adb_files.specs.Service.{TellsUpTo, TellsFront}
 enough : (k m : ℕ) (bytes : List ℕ) → length bytes ≤ k → length bytes ≤ m → chunks_at k bytes ≡ chunks_at m bytes
 enough zero zero bytes h g = refl
 enough zero (suc m) bytes h g =
-    sym (ap (λ t. cond t [] (answer_bytes (answers.Chunk (take MOST_CHUNK bytes)) ++ chunks_at m (drop MOST_CHUNK bytes))) (eq-eqb (length bytes) 0 (omega arith)))
+    sym (ap (λ t. cond t [] (answer_bytes (answers.Chunk (take MOST_CHUNK bytes)) ++ chunks_at m (drop MOST_CHUNK bytes)))
+        (eq-eqb (length bytes) 0 (omega arith)))
 enough (suc k) zero bytes h g =
     ap (λ t. cond t [] (answer_bytes (answers.Chunk (take MOST_CHUNK bytes)) ++ chunks_at k (drop MOST_CHUNK bytes))) (eq-eqb (length bytes) 0 (omega arith))
 enough (suc k) (suc m) bytes h g = go (length bytes == 0)
@@ -41,7 +43,8 @@ pub chunk_more : (bytes : List ℕ) → length bytes ≢ 0
     → chunk_bytes bytes ≡ answer_bytes (answers.Chunk (take (min MOST_CHUNK (length bytes)) bytes)) ++ chunk_bytes (drop (min MOST_CHUNK (length bytes)) bytes)
 chunk_more bytes some =
     enough (length bytes) (suc (length bytes)) bytes (omega arith) (omega arith)
-    ∙ (ap (λ t. cond t [] (answer_bytes (answers.Chunk (take MOST_CHUNK bytes)) ++ chunks_at (length bytes) (drop MOST_CHUNK bytes))) (ne_eqb (length bytes) 0 some)
+    ∙ (ap (λ t. cond t [] (answer_bytes (answers.Chunk (take MOST_CHUNK bytes)) ++ chunks_at (length bytes) (drop MOST_CHUNK bytes)))
+        (ne_eqb (length bytes) 0 some)
     ∙ (ap (λ (rest : List ℕ). answer_bytes (answers.Chunk (take MOST_CHUNK bytes)) ++ rest)
     (enough (length bytes) (length (drop MOST_CHUNK bytes)) (drop MOST_CHUNK bytes) (omega (arith, length-drop MOST_CHUNK bytes)) (omega arith))
     ∙ (ap (λ (front : List ℕ). answer_bytes (answers.Chunk front) ++ chunk_bytes (drop MOST_CHUNK bytes)) (sym (take_min MOST_CHUNK bytes))

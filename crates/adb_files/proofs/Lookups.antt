@@ -1,5 +1,6 @@
 -- What a file map has at a path, before and after a change.
-use Rattle.std.specs.Prelude.{ℕ, ◌+◌, ◌≡◌, ◌≢◌, ◌<◌, ◌≤◌, cond, Bool, true, false, List, [], ◌∷◌, ◌++◌, length, take, drop, filter, slice_index_or, Option, Some, None, option_map, bytes_eq, is_some, ◌||◌, not, refl, zero, suc}
+use Rattle.std.specs.Prelude.{ℕ, ◌+◌, ◌≡◌, ◌≢◌, ◌<◌, ◌≤◌, cond, Bool, true, false, List, [], ◌∷◌, ◌++◌, length, take, drop, filter, slice_index_or}
+use Rattle.std.specs.Prelude.{Option, Some, None, option_map, bytes_eq, is_some, ◌||◌, not, refl, zero, suc}
 use Rattle.std.specs.Option.{option_copied}
 use Rattle.std.proofs.Common.{ltb, Bor, add-one, ◌⊎◌, inl, inr, ◌∙◌, ap, sym, arith, Ordering}
 use Rattle.std.specs.Ordering.{is_lt, is_eq}
@@ -14,7 +15,8 @@ use Rattle.adb_files.specs.declared.files.TheConstants.{MOST_BYTES}
 use Rattle.adb_files.specs.Entries.{Entry}
 use Rattle.adb_files.specs.declared.file.FileError.TheVariants.{BadPath, IsDirectory, NotDirectory, NoSpace, NoFile}
 use Rattle.adb_files.specs.Paths.{path_cmp, is_path}
-use Rattle.adb_files.specs.Files.{before, behind, file_at, with_file, without, ChangesAt, is_directory, is_under_file, read_refusal, put_refusal, none_there, total}
+use Rattle.adb_files.specs.Files.{before, behind, file_at, with_file, without, ChangesAt, is_directory, is_under_file, read_refusal, put_refusal}
+use Rattle.adb_files.specs.Files.{none_there, total}
 use Rattle.adb_files.specs.Places.{StandsAt, FitsAt}
 use Rattle.adb_files.specs.Listing.{directory_stat}
 use Rattle.adb_files.specs.Served.{file_stat, stat_in}

@@ -1,5 +1,6 @@
 -- The files before and behind a place of files whose paths rise.
-use Rattle.std.specs.Prelude.{ℕ, ◌+◌, ◌≡◌, ◌<◌, ◌≤◌, cond, Bool, true, false, List, [], ◌∷◌, length, take, drop, map, filter, slice_index_or, Result, Ok, Err, MatchResult, refl, zero, suc}
+use Rattle.std.specs.Prelude.{ℕ, ◌+◌, ◌≡◌, ◌<◌, ◌≤◌, cond, Bool, true, false, List, [], ◌∷◌, length, take, drop, map, filter, slice_index_or, Result}
+use Rattle.std.specs.Prelude.{Ok, Err, MatchResult, refl, zero, suc}
 use Rattle.std.proofs.Common.{⊎_elim, ◌⊎◌, ◌∙◌, ap, sym, subst, arith}
 use Rattle.std.specs.Ordering.{is_lt, ordering_index}
 use Rattle.std.specs.declared.cmp.Ordering.TheVariants.{Less, Equal, Greater}

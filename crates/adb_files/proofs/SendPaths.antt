@@ -15,7 +15,8 @@ use Rattle.adb_sync.specs.declared.ask_id.AskId.{AskId}
 use Rattle.adb_sync.specs.declared.ask_id.AskId.TheVariants as ids
 use Rattle.adb_sync.specs.declared.ask_format.AskFormat.{AskFormat}
 use Rattle.adb_sync.specs.Messages.{number_at, last_comma}
-use Rattle.adb_sync.specs.Asks.{AskReading, ask_front, ask_of, ask_by, past_ask, ask_layout, ask_in_place, asked_at, is_in_place, ask_id_of, asks_from, send_cut}
+use Rattle.adb_sync.specs.Asks.{AskReading, ask_front, ask_of, ask_by, past_ask, ask_layout, ask_in_place, asked_at, is_in_place, ask_id_of}
+use Rattle.adb_sync.specs.Asks.{asks_from, send_cut}
 use Rattle.adb_sync.specs.Framed.{asks_are_framed, ask_heads, framed_message, IsBehind}
 use Rattle.adb_sync.proofs.Messages.{is_within}
 use Rattle.adb_files.specs.Service.{HasShortPath}
@@ -38,7 +39,8 @@ frame_short s frame found =
     let m = framed_message (λ format. format.offset) asked_at ask_heads s frame found in
     go m.layout m.behind (ask_id_of (take 4 frame)) m.known
   where
-    go : (layout : Layout) → IsBehind layout (drop 4 frame) → (id : Option AskId) → ask_in_place s.sending id ≡ Ok layout → HasShortPath (ask_by id (number_at 4 frame) (drop 8 frame))
+    go : (layout : Layout) → IsBehind layout (drop 4 frame) → (id : Option AskId) → ask_in_place s.sending id ≡ Ok layout
+        → HasShortPath (ask_by id (number_at 4 frame) (drop 8 frame))
     go layout behind None e = tt
     go layout behind (Some ids.Stat) e = tt
     go layout behind (Some ids.List) e = tt
@@ -48,7 +50,8 @@ frame_short s frame found =
     go layout behind (Some ids.Quit) e = tt
     go layout behind (Some ids.Send) e = by (is_in_place s.sending ids.Send) e
       where
-        by : (t : Bool) → cond {A = Result Layout SyncRule} t (Ok (ask_layout ids.Send)) (Err BadPlace) ≡ Ok layout → HasShortPath (send_cut (drop 8 frame) (last_comma (drop 8 frame)))
+        by : (t : Bool) → cond {A = Result Layout SyncRule} t (Ok (ask_layout ids.Send)) (Err BadPlace) ≡ Ok layout
+            → HasShortPath (send_cut (drop 8 frame) (last_comma (drop 8 frame)))
         by false h = absurd (cc)
         by true h = let same : ask_layout ids.Send ≡ layout = cc in send_short frame (subst (λ (l : Layout). IsBehind l (drop 4 frame)) (sym same) behind)
 

@@ -1,5 +1,6 @@
 -- What the files of a part of the map show of a directory.
-use Rattle.std.specs.Prelude.{ℕ, ◌+◌, ◌-◌, ◌≡◌, ◌≢◌, ◌<◌, ◌≤◌, ◌==◌, cond, true, false, List, [], ◌∷◌, ◌++◌, length, take, drop, filter, fold, slice_index_or, Option, Some, None, Vec, nat_eq, codes, refl, zero, suc}
+use Rattle.std.specs.Prelude.{ℕ, ◌+◌, ◌-◌, ◌≡◌, ◌≢◌, ◌<◌, ◌≤◌, ◌==◌, cond, true, false, List, [], ◌∷◌, ◌++◌, length, take, drop, filter, fold}
+use Rattle.std.specs.Prelude.{slice_index_or, Option, Some, None, Vec, nat_eq, codes, refl, zero, suc}
 use Rattle.std.proofs.Common.{add-zero, ◌⊎◌, inl, inr, ◌∙◌, ap, sym, subst, arith, Ordering}
 use Rattle.std.specs.Ordering.{match_ordering}
 use Rattle.std.specs.declared.cmp.Ordering.TheVariants.{Less, Equal, Greater}

@@ -1,5 +1,6 @@
 -- The files below a directory that lie in one further directory stand next to each other.
-use Rattle.std.specs.Prelude.{ℕ, ◌+◌, ◌≡◌, ◌<◌, ◌≤◌, ◌==◌, cond, true, false, List, [], ◌∷◌, ◌++◌, length, take, drop, slice_index_or, nat_eq, Some, None, codes, refl}
+use Rattle.std.specs.Prelude.{ℕ, ◌+◌, ◌≡◌, ◌<◌, ◌≤◌, ◌==◌, cond, true, false, List, [], ◌∷◌, ◌++◌, length, take, drop, slice_index_or, nat_eq, Some}
+use Rattle.std.specs.Prelude.{None, codes, refl}
 use Rattle.std.proofs.Common.{◌∙◌, ap, sym, subst, arith, Ordering, ltb}
 use Rattle.std.specs.Ordering.{MatchOrdering, nat_cmp, ordering_then}
 use Rattle.std.specs.declared.cmp.Ordering.TheVariants.{Less, Equal, Greater}

@@ -1,5 +1,6 @@
 -- How replies begin.
-use Rattle.std.proofs.Common.{ℕ, ◌≡◌, ◌++◌, Bool, true, false, cond, List, [], length, codes, Option, Some, None, is_some, Result, Ok, Err, refl, inl, inr, nat_lt, nat_eq, not, ◌&&◌, ◌+◌}
+use Rattle.std.proofs.Common.{ℕ, ◌≡◌, ◌++◌, Bool, true, false, cond, List, [], length, codes, Option, Some, None, is_some, Result, Ok, Err, refl, inl}
+use Rattle.std.proofs.Common.{inr, nat_lt, nat_eq, not, ◌&&◌, ◌+◌}
 use Rattle.adb_outside.specs.Tables.{at}
 use Rattle.adb_outside.specs.declared.kinds.Selector.{Selector}
 use Rattle.adb_outside.specs.declared.kinds.Selector.TheVariants.{Any, Id}
@@ -18,7 +19,8 @@ use Rattle.std.specs.Map.{values_of}
 use Rattle.adb_reply.specs.Strings.{string, okay, told, failed}
 use Rattle.adb_reply.specs.Refusals.{no_transport, refusal_text}
 use Rattle.adb_reply.specs.Chosen.{device_or, device_by, asked_device}
-use Rattle.adb_reply.specs.Answer.{device_list, told_id, selects, fact_of, asks_ready, fact_at, tells, fact_answer, forwards_from, forwards_to, forwards_by, unbinds, opens_at, opens, answer}
+use Rattle.adb_reply.specs.Answer.{device_list, told_id, selects, fact_of, asks_ready, fact_at, tells, fact_answer, forwards_from, forwards_to}
+use Rattle.adb_reply.specs.Answer.{forwards_by, unbinds, opens_at, opens, answer}
 use Rattle.adb_reply.specs.Laws.{BeginsBy, BeginsRight}
 use Rattle.adb_reply.specs.declared.answer.Answer.{Answer}
 use Rattle.adb_reply.specs.declared.answer.Next.TheVariants.{Close, Open, Unbind}
@@ -71,17 +73,20 @@ forwarding_from : (is_there : Bool) (transport local : ℕ) (remote : List ℕ) 
 forwarding_from true transport local remote = (codes "OKAY", refl)
 forwarding_from false transport local remote = refl
 
-forwarding_to : (forwards : List (ℕ × ForwardRow)) (norebind : Bool) (transport local : ℕ) (remote : List ℕ) → BeginsRight (forwards_to forwards norebind transport local remote)
+forwarding_to : (forwards : List (ℕ × ForwardRow)) (norebind : Bool) (transport local : ℕ) (remote : List ℕ)
+    → BeginsRight (forwards_to forwards norebind transport local remote)
 forwarding_to forwards norebind transport local remote =
     exists (is_some (at local forwards)) (is_some (at local forwards) && norebind) (not (is_some (at local forwards)) && nat_eq (length forwards) MAX_FORWARDS)
   where
     exists : (there again full : Bool)
-        → BeginsRight (cond again (failed (codes "cannot rebind existing socket")) (cond full (failed (codes "too many forwards")) (forwards_from there transport local remote)))
+        → BeginsRight (cond again (failed (codes "cannot rebind existing socket"))
+            (cond full (failed (codes "too many forwards")) (forwards_from there transport local remote)))
     exists there true full = fails (codes "cannot rebind existing socket")
     exists there false true = fails (codes "too many forwards")
     exists there false false = forwarding_from there transport local remote
 
-forwarding : (forwards : List (ℕ × ForwardRow)) (norebind : Bool) (local : ℕ) (remote : List ℕ) (device : Chosen) → RefusesRight device → BeginsRight (forwards_by forwards norebind local remote device)
+forwarding : (forwards : List (ℕ × ForwardRow)) (norebind : Bool) (local : ℕ) (remote : List ℕ) (device : Chosen) → RefusesRight device
+    → BeginsRight (forwards_by forwards norebind local remote device)
 unfolding RefusesRight
 forwarding forwards norebind local remote (Refused answer) right = right
 forwarding forwards norebind local remote (Device id) right = forwarding_to forwards norebind id local remote
@@ -105,12 +110,14 @@ opening : (rows : List (ℕ × Row)) (selected : Option ℕ) (text : List ℕ) �
 opening rows None text = fails no_transport
 opening rows (Some id) text = opening_at id text (at id rows)
 
-pub all_begin : (rows : List (ℕ × Row)) (forwards : List (ℕ × ForwardRow)) (selected : Option ℕ) (request : Request) → BeginsRight (answer rows forwards selected request)
+pub all_begin : (rows : List (ℕ × Row)) (forwards : List (ℕ × ForwardRow)) (selected : Option ℕ) (request : Request)
+    → BeginsRight (answer rows forwards selected request)
 all_begin rows forwards selected asks.Version = inl (codes "00040029", refl)
 all_begin rows forwards selected asks.Kill = ([], refl)
 all_begin rows forwards selected (asks.Devices long) = tells_text (device_list rows long)
 all_begin rows forwards selected (asks.Track long) = (string (device_list rows long), refl)
-all_begin rows forwards selected (asks.Transport by tell_id) = selecting tell_id (asked_device rows selected (By by) true) (of_device rows selected (By by) true)
+all_begin rows forwards selected (asks.Transport by tell_id) =
+    selecting tell_id (asked_device rows selected (By by) true) (of_device rows selected (By by) true)
 all_begin rows forwards selected (asks.Serialno on) = telling rows Serialno (asked_device rows selected on false) (of_device rows selected on false)
 all_begin rows forwards selected (asks.Devpath on) = telling rows Devpath (asked_device rows selected on false) (of_device rows selected on false)
 all_begin rows forwards selected (asks.GetState on) = telling rows GetState (asked_device rows selected on false) (of_device rows selected on false)

@@ -22,7 +22,8 @@ module _ {A : Type 0} where
 
   -- rows that take what is behind a word
   three : {X : Type 0} (a b c : Bool) (f g h : X → A) (x y z : X)
-      → is_some (option_or (option_map f (cond a (Some x) None)) (option_or (option_map g (cond b (Some y) None)) (option_map h (cond c (Some z) None)))) ≡ (a || (b || c))
+      → is_some (option_or (option_map f (cond a (Some x) None)) (option_or (option_map g (cond b (Some y) None)) (option_map h (cond c (Some z) None)))) ≡
+          (a || (b || c))
   three true b c f g h x y z = refl
   three false true c f g h x y z = refl
   three false false true f g h x y z = refl
@@ -58,10 +59,12 @@ absorbed false b c h = refl
 -- a text that begins with the longer word begins with the shorter one
 norebind_is_forward : (text : List ℕ) → starts_with nat_eq text norebind_word ≡ true → starts_with nat_eq text (codes "forward:") ≡ true
 norebind_is_forward text h =
-    let is : text ≡ norebind_word ++ drop (length norebind_word) text = (starts_is Decides-eqb text norebind_word (starts_with nat_eq text norebind_word) refl).0 h in
+    let is : text ≡ norebind_word ++ drop (length norebind_word) text =
+        (starts_is Decides-eqb text norebind_word (starts_with nat_eq text norebind_word) refl).0 h in
     ap (λ t. starts_with nat_eq t (codes "forward:")) is
 
-forward_fits : (on : Which) (text : List ℕ) → is_some (forward_form on text) ≡ (starts_with nat_eq text (codes "forward:") || starts_with nat_eq text (codes "killforward:"))
+forward_fits : (on : Which) (text : List ℕ) → is_some (forward_form on text) ≡
+    (starts_with nat_eq text (codes "forward:") || starts_with nat_eq text (codes "killforward:"))
 forward_fits on text =
     let a = starts_with nat_eq text norebind_word in
     let b = starts_with nat_eq text (codes "forward:") in
@@ -70,7 +73,8 @@ forward_fits on text =
 
 -- a row fits a text exactly where it is a form
 pub fits : (on : Which) (text : List ℕ) → is_some (form on text) ≡ is_form text
-fits on text = either (fixed_form on text) (forward_form on text) ∙ (ap (λ a. a || is_some (forward_form on text)) (fixed_fits on text) ∙ ap (λ b. is_fixed text || b) (forward_fits on text))
+fits on text = either (fixed_form on text) (forward_form on text)
+    ∙ (ap (λ a. a || is_some (forward_form on text)) (fixed_fits on text) ∙ ap (λ b. is_fixed text || b) (forward_fits on text))
 
 -- a value that a call gives, under another name
 pub if_ok_as : {T E : Type 0} (r : Result T E) (a b : T) → a ≡ b → IfOk r (λ x. x ≡ a) → IfOk r (λ x. x ≡ b)

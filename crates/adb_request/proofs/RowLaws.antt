@@ -1,5 +1,6 @@
 -- Where a text is cut at a byte that stands in no number.
-use Rattle.std.proofs.Common.{◌||◌, append_assoc, is_some, ℕ, ◌+◌, ◌≡◌, ◌<◌, ◌==◌, ◌&&◌, Bool, true, false, cond, nat_le, nat_lt, List, [], ◌∷◌, ◌++◌, length, take, drop, codes, Option, Some, None, refl, sym, ◌∙◌, ap, arith, suc, position, get_or}
+use Rattle.std.proofs.Common.{◌||◌, append_assoc, is_some, ℕ, ◌+◌, ◌≡◌, ◌<◌, ◌==◌, ◌&&◌, Bool, true, false, cond, nat_le, nat_lt, List, [], ◌∷◌, ◌++◌}
+use Rattle.std.proofs.Common.{length, take, drop, codes, Option, Some, None, refl, sym, ◌∙◌, ap, arith, suc, position, get_or}
 use Rattle.std.specs.Prelude.{option_and_then}
 use Rattle.std.proofs.lemmas.Bool.{lt-ltb, ne_eqb}
 use Rattle.std.proofs.lemmas.List.{take_at, length-append, append-nil}
@@ -21,14 +22,16 @@ both_true true b e = (refl, e)
 both_true false b e = cc
 
 -- the first place of a byte behind bytes that are none
-place_behind : (p : ℕ → Bool) (front : List ℕ) (b : ℕ) (rest : List ℕ) → list_any p front ≡ false → p b ≡ true → position_or_len p (front ++ b ∷ rest) ≡ length front
+place_behind : (p : ℕ → Bool) (front : List ℕ) (b : ℕ) (rest : List ℕ) → list_any p front ≡ false → p b ≡ true
+    → position_or_len p (front ++ b ∷ rest) ≡ length front
 place_behind p [] b rest none here = rw here refl
 place_behind p (a ∷ front) b rest none here =
     let e = either_false (p a) (list_any p front) none in
     let one_more : 1 + length front ≡ suc (length front) = omega arith in
     rw e.0 (ap (λ n. 1 + n) (place_behind p front b rest e.1 here) ∙ one_more)
 
-pub cut_behind : (p : ℕ → Bool) (front : List ℕ) (b : ℕ) (rest : List ℕ) → list_any p front ≡ false → p b ≡ true → position p (front ++ b ∷ rest) ≡ Some (length front)
+pub cut_behind : (p : ℕ → Bool) (front : List ℕ) (b : ℕ) (rest : List ℕ) → list_any p front ≡ false → p b ≡ true
+    → position p (front ++ b ∷ rest) ≡ Some (length front)
 cut_behind p front b rest none here =
     let within : length front < length (front ++ b ∷ rest) = omega (arith, length-append front (b ∷ rest)) in
     rw (place_behind p front b rest none here, lt-ltb (length front) (length (front ++ b ∷ rest)) within) refl
@@ -63,7 +66,8 @@ none_in_number b most digits n no_digit is = go (is_digits most digits) refl is
     go false e h = cc
 
 -- what a number was that is at most so much
-pub number_there : (most limit : ℕ) (digits : List ℕ) (n : ℕ) → option_and_then (at_most limit) (number_in most digits) ≡ Some n → (m : ℕ) × (number_in most digits ≡ Some m)
+pub number_there : (most limit : ℕ) (digits : List ℕ) (n : ℕ) → option_and_then (at_most limit) (number_in most digits) ≡ Some n → (m : ℕ)
+    × (number_in most digits ≡ Some m)
 number_there most limit digits n is = go (number_in most digits) refl is
   where
     go : (o : Option ℕ) → number_in most digits ≡ o → option_and_then (at_most limit) o ≡ Some n → (m : ℕ) × (number_in most digits ≡ Some m)
@@ -91,7 +95,8 @@ forward_cut on norebind local remote none =
     ∙ (ap (λ l. forward_between on norebind (local_in l) (drop (length local + 1) spec)) (taken_behind local semicolon remote)
     ∙ ap (forward_between on norebind (local_in local)) (left_behind local semicolon remote))
 
-pub forward_read : (on : Which) (norebind : Bool) (local remote : List ℕ) (port : ℕ) → (list_any (λ byte. byte == semicolon) local ≡ false) × (local_in local ≡ Some port)
+pub forward_read : (on : Which) (norebind : Bool) (local remote : List ℕ) (port : ℕ) → (list_any (λ byte. byte == semicolon) local ≡ false)
+    × (local_in local ≡ Some port)
     → is_remote remote ≡ true → forward_of on norebind (local ++ semicolon ∷ remote) ≡ Forward on norebind port remote
 forward_read on norebind local remote port is good =
     forward_cut on norebind local remote is.0

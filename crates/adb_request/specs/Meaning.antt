@@ -1,5 +1,6 @@
 -- What a request's text means: the table of requests, whose rows are tried as whole texts (SERVICES.TXT, "HOST SERVICES").
-use Rattle.std.specs.Prelude.{ℕ, ◌+◌, ◌==◌, Bool, true, false, if◌then◌else◌, List, [], ◌∷◌, ◌++◌, take, drop, Option, Some, None, codes, unwrap_or, option_and_then, option_map, position, find}
+use Rattle.std.specs.Prelude.{ℕ, ◌+◌, ◌==◌, Bool, true, false, if◌then◌else◌, List, [], ◌∷◌, ◌++◌, take, drop, Option, Some, None, codes, unwrap_or}
+use Rattle.std.specs.Prelude.{option_and_then, option_map, position, find}
 use Rattle.std.specs.Option.{option_or}
 use Rattle.adb_outside.specs.Decimal.{number_in}
 use Rattle.adb_outside.specs.declared.kinds.Selector.{Selector}
@@ -72,7 +73,8 @@ serial_request text =
 -- what stands behind `host-transport-id:`, whose id ends at the first colon
 abbrev pub id_request : List ℕ → Option Request
 id_request text =
-    option_and_then (λ place. option_and_then (λ id. form (By (Id id)) (drop (place + 1) text)) (id_in (take place text))) (position (λ byte. byte == colon) text)
+    option_and_then (λ place. option_and_then (λ id. form (By (Id id)) (drop (place + 1) text)) (id_in (take place text)))
+        (position (λ byte. byte == colon) text)
 
 -- a text that asks the host, and means nothing where no row fits it
 abbrev pub or_unknown : Option Request → Request

@@ -18,7 +18,8 @@ pub returns-then-session-clause-ok : goal.returns-then-session-clause-ok
 returns-then-session-clause-ok c = λ fed stood.
     feeds_ended fed c.args.piece.now (run c.args.reader.now c.args.session.now c.args.files.now) c.feed.new.self
     (run c.serve_given.new.reader c.serve_given.new.session c.serve_given.new.files)
-    c.requires.goes_on stood (λ taken r. (c.feed.ensures.taken c.in_ok-fault.ensures.ok.0).stands asks_start fed taken r) c.in_ok-serve_given.ensures.ok c.if-session.true
+    c.requires.goes_on stood (λ taken r. (c.feed.ensures.taken c.in_ok-fault.ensures.ok.0).stands asks_start fed taken r) c.in_ok-serve_given.ensures.ok
+        c.if-session.true
 
 pub returns-in-None-clause-ok : goal.returns-in-None-clause-ok
 returns-in-None-clause-ok c = λ fed stood.
@@ -57,5 +58,6 @@ returns-in-Some-clause-err c =
     on_err_weaker c.take_fault.result (λ same fed stood.
     feeds_unsaid fed c.args.piece.now (run c.args.reader.now c.args.session.now c.args.files.now) c.feed.new.self
     (run c.serve_given.new.reader c.serve_given.new.session c.serve_given.new.files)
-    c.requires.goes_on stood (λ taken r. (c.feed.ensures.taken c.in_ok-fault.ensures.ok.0).stands asks_start fed taken r) c.take_fault.new.self c.in_ok-serve_given.ensures.ok
+    c.requires.goes_on stood (λ taken r. (c.feed.ensures.taken c.in_ok-fault.ensures.ok.0).stands asks_start fed taken r) c.take_fault.new.self
+        c.in_ok-serve_given.ensures.ok
     c.if-session.false same) c.take_fault.ensures.err
