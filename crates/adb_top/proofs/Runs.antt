@@ -125,18 +125,6 @@ read_fault_is why e = ap (λ k. is_read_fault (Err k)) e
 pub write_fault_is : (why : Stop) → why ≡ stop.WriteFault → is_write_fault (Err why) ≡ true
 write_fault_is why e = ap (λ k. is_write_fault (Err k)) e
 
--- a status that names no fault comes of a stop that no source made
-pub faultless_reads : (why : Stop) (status : Status) → EndsIn why status → IsFaultless status → is_read_fault (Err why) ≡ false
-faultless_reads why Done e f = absurd e
-faultless_reads why Usage e f = absurd e
-faultless_reads why ReadFault e f = absurd f
-faultless_reads why WriteFault e f = absurd f
-faultless_reads why BadCapture e f = ap (λ k. is_read_fault (Err k)) e.1
-faultless_reads stop.ReadFault OutOfMemory e f = absurd e
-faultless_reads stop.WriteFault OutOfMemory e f = absurd e
-faultless_reads stop.OutOfMemory OutOfMemory e f = refl
-faultless_reads (stop.Refused refusal) OutOfMemory e f = refl
-
 -- a status other than WriteFault comes of a stop that no sink made
 pub other_writes : (why : Stop) (status : Status) → EndsIn why status → status ≢ WriteFault → is_write_fault (Err why) ≡ false
 other_writes why Done e other = absurd e
