@@ -19,14 +19,16 @@ abbrev pub accept_front : ℕ → List ℕ → Front CaptureError → History �
 accept_front offset bytes More h = accept_from [] (end_of None bytes offset) h
 accept_front offset bytes (Bad why) h = accept_from [] (refusal_by why) h
 accept_front offset bytes (Whole n) h =
-    accept_by (refusal_of (state h) (entry_in offset (take n bytes)).0 (entry_in offset (take n bytes)).1) (is_input (entry_in offset (take n bytes)).1) h (entry_in offset (take n bytes)).1
+    accept_by (refusal_of (state h) (entry_in offset (take n bytes)).0 (entry_in offset (take n bytes)).1)
+        (is_input (entry_in offset (take n bytes)).1) h (entry_in offset (take n bytes)).1
     (accept_records (offset_after offset (take n bytes)) (drop n bytes))
 
 pub accept_first : (offset : ℕ) (bytes : List ℕ) (h : History) → accept_records offset bytes h ≡ accept_front offset bytes (record_at offset bytes) h
 accept_first offset bytes h =
     ap (λ (c : Cut ℕ (ℕ × Entry) CaptureError). accept_cut c h) (cut_first record_at entry_in offset_after framing offset bytes) ∙ go (record_at offset bytes)
   where
-    go : (f : Front CaptureError) → accept_cut (cut_by record_at entry_in offset_after offset bytes f (cut record_at entry_in offset_after)) h ≡ accept_front offset bytes f h
+    go : (f : Front CaptureError)
+        → accept_cut (cut_by record_at entry_in offset_after offset bytes f (cut record_at entry_in offset_after)) h ≡ accept_front offset bytes f h
     go More = refl
     go (Bad why) = refl
     go (Whole n) = refl
@@ -36,7 +38,8 @@ pub drain_adds : (k : ℕ) (h : History) → (more : History) × (drain k h ≡ 
 drain_adds zero h = ([], refl)
 drain_adds (suc k) h = go (next_out (state h)) (λ e. drain_adds k (e ∷ h))
   where
-    go : (o : Option Entry) → ((e : Entry) → (more : History) × (drain k (e ∷ h) ≡ more ++ e ∷ h)) → (more : History) × (or_stay o h (λ e. drain k (e ∷ h)) ≡ more ++ h)
+    go : (o : Option Entry) → ((e : Entry) → (more : History) × (drain k (e ∷ h) ≡ more ++ e ∷ h))
+        → (more : History) × (or_stay o h (λ e. drain k (e ∷ h)) ≡ more ++ h)
     go None others = ([], refl)
     go (Some e) others = let m = others e in (m.0 ++ e ∷ [], m.1 ∙ sym (append_assoc m.0 (e ∷ []) h))
 

@@ -27,7 +27,8 @@ pub record IsPut (e : Entry) : Type 0 where
   pub bytes : List ℕ
   pub is : e ≡ Put client bytes
 
-less_here : (rows : Rows Client) (n k b : ℕ) (bs : List ℕ) → (rows n).due ≡ b ∷ bs → owed_from (change_row n (λ c. settled (handed (length (take 65536 (b ∷ bs))) c)) rows) n (suc k) < owed_from rows n (suc k)
+less_here : (rows : Rows Client) (n k b : ℕ) (bs : List ℕ) → (rows n).due ≡ b ∷ bs
+    → owed_from (change_row n (λ c. settled (handed (length (take 65536 (b ∷ bs))) c)) rows) n (suc k) < owed_from rows n (suc k)
 less_here rows n k b bs is =
     let yes : eqb n n ≡ true = eq-eqb n n refl in
     let same = owed_below rows (λ c. settled (handed (length (take 65536 (b ∷ bs))) c)) n (suc n) k (omega arith) in
@@ -50,7 +51,9 @@ less_owed s n (suc k) e is = go (s.clients n).due refl is (less_owed s (suc n) k
         → owed_from (step s e).clients n (suc k) < owed_from s.clients n (suc k)
     go [] has i later =
         let p = put_first s.clients (suc n) k e i in
-        let at : length ((step s e).clients n).due ≤ length (s.clients n).due = subst (λ (x : Entry). length ((step s x).clients n).due ≤ length (s.clients n).due) (sym p.is) (hands_less (eqb p.client n) (length p.bytes) (s.clients n)) in
+        let at : length ((step s e).clients n).due ≤ length (s.clients n).due = subst
+            (λ (x : Entry). length ((step s x).clients n).due ≤ length (s.clients n).due) (sym p.is)
+            (hands_less (eqb p.client n) (length p.bytes) (s.clients n)) in
         omega (arith, later i, at)
     go (b ∷ bs) has i later =
         let same : e ≡ Put n (take 65536 (b ∷ bs)) = cc in
@@ -68,7 +71,8 @@ drained_rests zero h le = go (next_out (state h)) refl
     go (Some x) e = absurd (omega (arith, less_owed (state h) 1 (state h).joined x e))
 drained_rests (suc k) h le = go (next_out (state h)) refl (λ x. drained_rests k (x ∷ h))
   where
-    go : (o : Option Entry) → next_out (state h) ≡ o → ((x : Entry) → owed (state (x ∷ h)) ≤ k → next_out (state (drain k (x ∷ h))) ≡ None) → next_out (state (or_stay o h (λ x. drain k (x ∷ h)))) ≡ None
+    go : (o : Option Entry) → next_out (state h) ≡ o → ((x : Entry) → owed (state (x ∷ h)) ≤ k → next_out (state (drain k (x ∷ h))) ≡ None)
+        → next_out (state (or_stay o h (λ x. drain k (x ∷ h)))) ≡ None
     go None e more = e
     go (Some x) e more =
         let j = joined_stays (state h) x (put_first (state h).clients 1 (state h).joined x e) in
@@ -90,7 +94,9 @@ drained_enough (suc k) zero h le le2 = go (next_out (state h)) refl
     go (Some x) e = absurd (omega (arith, less_owed (state h) 1 (state h).joined x e))
 drained_enough (suc k) (suc m) h le le2 = go (next_out (state h)) refl (λ x. drained_enough k m (x ∷ h))
   where
-    go : (o : Option Entry) → next_out (state h) ≡ o → ((x : Entry) → owed (state (x ∷ h)) ≤ k → owed (state (x ∷ h)) ≤ m → drain k (x ∷ h) ≡ drain m (x ∷ h)) → or_stay o h (λ x. drain k (x ∷ h)) ≡ or_stay o h (λ x. drain m (x ∷ h))
+    go : (o : Option Entry) → next_out (state h) ≡ o
+        → ((x : Entry) → owed (state (x ∷ h)) ≤ k → owed (state (x ∷ h)) ≤ m → drain k (x ∷ h) ≡ drain m (x ∷ h))
+        → or_stay o h (λ x. drain k (x ∷ h)) ≡ or_stay o h (λ x. drain m (x ∷ h))
     go None e more = refl
     go (Some x) e more =
         let j = joined_stays (state h) x (put_first (state h).clients 1 (state h).joined x e) in
@@ -103,7 +109,8 @@ pub drain_step : (h : History) (e : Entry) → next_out (state h) ≡ Some e →
 drain_step h e is = go (owed (state h)) refl
   where
     smaller : owed (state (e ∷ h)) < owed (state h)
-    smaller = subst (λ (n : ℕ). owed_from (state (e ∷ h)).clients 1 n < owed (state h)) (sym (joined_stays (state h) e (put_first (state h).clients 1 (state h).joined e is))) (less_owed (state h) 1 (state h).joined e is)
+    smaller = subst (λ (n : ℕ). owed_from (state (e ∷ h)).clients 1 n < owed (state h))
+        (sym (joined_stays (state h) e (put_first (state h).clients 1 (state h).joined e is))) (less_owed (state h) 1 (state h).joined e is)
 
     go : (k : ℕ) → owed (state h) ≡ k → drain k h ≡ drain (owed (state (e ∷ h))) (e ∷ h)
     go zero same = absurd (omega (arith, smaller))
@@ -146,7 +153,8 @@ least_out rows c n zero low high none some = absurd (omega (arith, low, high))
 least_out rows c n (suc k) low high none some = go (cases_eq n c) (least_out rows c (suc n) k)
   where
     go : (n ≡ c) ⊎ (n ≡ c → ⊥)
-        → (suc n ≤ c → c < suc n + k → ((m : ℕ) → m < c → (rows m).due ≡ []) → (rows c).due ≢ [] → first_out rows (suc n) k ≡ Some (Put c (take 65536 (rows c).due)))
+        → (suc n ≤ c → c < suc n + k → ((m : ℕ) → m < c → (rows m).due ≡ []) → (rows c).due ≢ []
+        → first_out rows (suc n) k ≡ Some (Put c (take 65536 (rows c).due)))
         → out_or n (rows n).due (first_out rows (suc n) k) ≡ Some (Put c (take 65536 (rows c).due))
     go (inl same) more =
         ap (λ m. out_or m (rows m).due (first_out rows (suc n) k)) same ∙ some_out c (rows c).due (first_out rows (suc n) k) some

@@ -32,7 +32,8 @@ written_adds later done = ap records_of (reverse-append later done) ∙ join (re
 capture_front : (whole all : History) → IsFrontOf whole all → IsPrefixOf (capture_of whole) (capture_of all)
 capture_front whole all f = (
   records_of (reverse f.more),
-  append_assoc magic (written_of whole) (records_of (reverse f.more)) ∙ ap (λ bytes. magic ++ bytes) (sym (written_adds f.more whole) ∙ ap written_of (sym f.is)),
+  append_assoc magic (written_of whole) (records_of (reverse f.more)) ∙ ap (λ bytes. magic ++ bytes)
+      (sym (written_adds f.more whole) ∙ ap written_of (sym f.is)),
 )
 
 prefix_on : (a b c : List ℕ) → IsPrefixOf a b → IsPrefixOf b c → IsPrefixOf a c
@@ -65,12 +66,21 @@ empty_or [] = inl refl
 empty_or (b ∷ rest) = inr (λ e. cc)
 
 history_spelled : (h : History) (bytes : List ℕ) → IsLegal h → bytes ≡ capture_of h → SpellsHistory bytes
-history_spelled h bytes legal is = record { history = h; legal = legal; answered = all_answered h legal; part = []; is = is ∙ ap (λ x. magic ++ x) (sym (append-nil (written_of h))); rest = inl refl }
+history_spelled h bytes legal is = record {
+  history = h;
+  legal = legal;
+  answered = all_answered h legal;
+  part = [];
+  is = is ∙ ap (λ x. magic ++ x)
+      (sym (append-nil (written_of h)));
+  rest = inl refl;
+}
 
 -- A front of the capture of a legal history spells one.
 front_spelled : (h : History) (front : List ℕ) → IsLegal h → IsPrefixOf front (capture_of h) → IsSpelled front
 front_spelled [] front legal p = inl (p.0, p.1 ∙ append-nil magic)
-front_spelled (e ∷ h) front legal p = go (split_front front (capture_of h) (record_of e) p.0 (p.1 ∙ sym (capture_more e h))) (λ q. front_spelled h front legal.0 q)
+front_spelled (e ∷ h) front legal p = go (split_front front (capture_of h) (record_of e) p.0 (p.1 ∙ sym (capture_more e h)))
+    (λ q. front_spelled h front legal.0 q)
   where
     past : (q : IsPast front (capture_of h) (record_of e)) → (q.front_of.0 ≡ []) ⊎ (q.front_of.0 ≢ []) → SpellsHistory front
     past q (inl none) =
@@ -93,7 +103,8 @@ front_spelled (e ∷ h) front legal p = go (split_front front (capture_of h) (re
 magic_there : (bytes before : List ℕ) → past_magic bytes ≡ Some before → (has_magic bytes ≡ true) × (before ≡ drop 8 bytes)
 magic_there bytes before e = go (bytes_eq (take 8 bytes) magic) refl e
   where
-    go : (b : Bool) → bytes_eq (take 8 bytes) magic ≡ b → cond b (Some (drop 8 bytes)) None ≡ Some before → (bytes_eq (take 8 bytes) magic ≡ true) × (before ≡ drop 8 bytes)
+    go : (b : Bool) → bytes_eq (take 8 bytes) magic ≡ b → cond b (Some (drop 8 bytes)) None ≡ Some before
+        → (bytes_eq (take 8 bytes) magic ≡ true) × (before ≡ drop 8 bytes)
     go true is same = (is, cc)
     go false is same = cc
 
@@ -115,7 +126,8 @@ longer : (had text all : List ℕ) (written : Option (List ℕ)) → IsPrefixOf 
 longer had text all written p f = record { growth = f.growth; is = f.is; front = prefix_on f.growth text all f.front p }
 
 -- a front of all that is there is a front at least
-pub text_front : (result : Result (Unit {0}) Stop) (text had : List ℕ) (written : Option (List ℕ)) → WritesText result text had written → HasFront had text written
+pub text_front : (result : Result (Unit {0}) Stop) (text had : List ℕ) (written : Option (List ℕ)) → WritesText result text had written
+    → HasFront had text written
 text_front (Ok done) text had written w = all_front had text written w
 text_front (Err ReadFault) text had written w = w
 text_front (Err WriteFault) text had written w = w
@@ -132,7 +144,8 @@ finished (Err OutOfMemory) had text out written k goes idle = all_front had text
 finished (Err (Refused why)) had text out written k goes idle = goes had text k
 
 -- and where no write failed, all of it
-all_went_out : (ended : Result (Unit {0}) Stop) (had text : List ℕ) (out : Out) (written : Option (List ℕ)) → ◌≢◌ {A = Result (Unit {0}) Stop} ended (Err WriteFault) → KeepsAs ended had text out
+all_went_out : (ended : Result (Unit {0}) Stop) (had text : List ℕ) (out : Out) (written : Option (List ℕ))
+    → ◌≢◌ {A = Result (Unit {0}) Stop} ended (Err WriteFault) → KeepsAs ended had text out
     → ((had text : List ℕ) → Keeps had text out → written ≡ Some (had ++ text)) → written ≡ Some (had ++ text)
 all_went_out (Ok done) had text out written other k goes = goes had text k
 all_went_out (Err ReadFault) had text out written other k goes = goes had text k
@@ -150,7 +163,8 @@ lost_at_last (Err OutOfMemory) had text out written k goes idle = goes had text 
 lost_at_last (Err (Refused why)) had text out written k goes idle = goes had text k
 
 -- what was reached of all that a capture gives, as a part of its text
-reached_text : (result : Result (Unit {0}) Stop) (whole : History) (had : List ℕ) (a : Accepted) (written : Option (List ℕ)) → Reaches result whole a → WritesText result (capture_of whole) had written → WritesText result (capture_of (drained_from [] a.inputs)) had written
+reached_text : (result : Result (Unit {0}) Stop) (whole : History) (had : List ℕ) (a : Accepted) (written : Option (List ℕ)) → Reaches result whole a
+    → WritesText result (capture_of whole) had written → WritesText result (capture_of (drained_from [] a.inputs)) had written
 reached_text (Ok done) whole had a written r w = w ∙ ap (λ h. Some (had ++ capture_of h)) (sym r)
 reached_text (Err ReadFault) whole had a written r w = longer had _ _ written (capture_front whole _ r) w
 reached_text (Err WriteFault) whole had a written r w = longer had _ _ written (capture_front whole _ r) w
@@ -193,37 +207,49 @@ from_magic left_first first bytes o told =
 replayed_is : (bytes : List ℕ) → has_magic bytes ≡ true → capture_of (drained_from [] (accepted bytes).inputs) ≡ replayed bytes
 replayed_is bytes there = sym (ap (λ b. cond b (magic ++ records_of (drained (accepted bytes).inputs)) []) there)
 
-keeps_magic : (left_first : Option (List ℕ)) (first : Moment) (had : List ℕ) → Opened left_first first → first.out.0 ≡ Some had → Keeps had (capture_of []) first.out
+keeps_magic : (left_first : Option (List ℕ)) (first : Moment) (had : List ℕ) → Opened left_first first → first.out.0 ≡ Some had
+    → Keeps had (capture_of []) first.out
 keeps_magic left_first first had o is = record { growth = []; is = is ∙ ap Some (sym (append-nil had)); whole = o.gathered ∙ sym (append-nil magic) }
 
 -- The records were replayed, and all that was kept went out.
-pub capture_replayed : (left_first written : Option (List ℕ)) (first last : Moment) (ended : Result (Unit {0}) Stop) → Opened left_first first → Replays first last ended
-    → ((had text : List ℕ) → Keeps had text last.out → written ≡ Some (had ++ text)) → (last.out.1 ≡ [] → written ≡ last.out.0) → ReplaysCapture left_first last.left first.out.0 written ended
+pub capture_replayed : (left_first written : Option (List ℕ)) (first last : Moment) (ended : Result (Unit {0}) Stop) → Opened left_first first
+    → Replays first last ended
+    → ((had text : List ℕ) → Keeps had text last.out → written ≡ Some (had ++ text)) → (last.out.1 ≡ [] → written ≡ last.out.0)
+    → ReplaysCapture left_first last.left first.out.0 written ended
 capture_replayed left_first written first last ended o r goes idle = record {
   writes = λ bytes had told has.
       let f = from_magic left_first first bytes o told in
       subst (λ (text : List ℕ). WritesText ended text had written) (replayed_is bytes f.there)
-      (reached_text ended r.whole had (accepted bytes) written (subst (λ (a : Accepted). Reaches ended r.whole a) f.same (r.reaches f.before f.is)) (text had has));
+      (reached_text ended r.whole had (accepted bytes) written (subst (λ (a : Accepted). Reaches ended r.whole a) f.same (r.reaches f.before f.is))
+      (text had has));
   ends = λ bytes told.
       let f = from_magic left_first first bytes o told in
       subst (λ (a : Accepted). EndsAs ended a last.left) f.same (r.ends f.before f.is);
   spells = λ had has.
       let f = text_front ended (capture_of r.whole) had written (text had has) in
       record { growth = f.growth; is = f.is; spelled = front_spelled r.whole f.growth r.on.legal f.front };
-  whole = λ other had has. inr (record { history = r.whole; legal = r.on.legal; is = all_went_out ended had (capture_of r.whole) last.out written other (r.on.kept had (keeps_magic left_first first had o has)) goes });
+  whole = λ other had has. inr (record {
+    history = r.whole;
+    legal = r.on.legal;
+    is = all_went_out ended had (capture_of r.whole) last.out written
+        other (r.on.kept had (keeps_magic left_first first had o has)) goes;
+  });
 }
   where
     text : (had : List ℕ) → first.out.0 ≡ Some had → WritesText ended (capture_of r.whole) had written
     text had has = finished ended had (capture_of r.whole) last.out written (r.on.kept had (keeps_magic left_first first had o has)) goes idle
 
 -- The records were replayed, and what was kept did not go out.
-pub capture_lost : (left_first written : Option (List ℕ)) (first last : Moment) (ended : Result (Unit {0}) Stop) → Opened left_first first → Replays first last ended
-    → ((had text : List ℕ) → Keeps had text last.out → HasFront had text written) → (last.out.1 ≡ [] → written ≡ last.out.0) → ReplaysCapture left_first last.left first.out.0 written (Err WriteFault)
+pub capture_lost : (left_first written : Option (List ℕ)) (first last : Moment) (ended : Result (Unit {0}) Stop) → Opened left_first first
+    → Replays first last ended
+    → ((had text : List ℕ) → Keeps had text last.out → HasFront had text written) → (last.out.1 ≡ [] → written ≡ last.out.0)
+    → ReplaysCapture left_first last.left first.out.0 written (Err WriteFault)
 capture_lost left_first written first last ended o r goes idle = record {
   writes = λ bytes had told has.
       let f = from_magic left_first first bytes o told in
       subst (λ (all : List ℕ). HasFront had all written) (replayed_is bytes f.there)
-      (longer had _ _ written (capture_front r.whole _ (reached_part ended r.whole (accepted bytes) (subst (λ (a : Accepted). Reaches ended r.whole a) f.same (r.reaches f.before f.is)))) (front had has));
+      (longer had _ _ written (capture_front r.whole _ (reached_part ended r.whole (accepted bytes)
+      (subst (λ (a : Accepted). Reaches ended r.whole a) f.same (r.reaches f.before f.is)))) (front had has));
   ends = λ bytes told. tt;
   spells = λ had has.
       let f = front had has in
@@ -251,10 +277,14 @@ capture_unread left left_after written = record {
 }
 
 -- The magic was not read.
-pub capture_unopened : (opened : Reading) (left_first left_opened written : Option (List ℕ)) (e : CaptureError) → Opens (record { opened = false; offset = 8; held = []; failed = None }) left_first opened left_opened (Err e) → ReplaysCapture left_first left_opened written written (Err (stop_of e))
+pub capture_unopened : (opened : Reading) (left_first left_opened written : Option (List ℕ)) (e : CaptureError)
+    → Opens (record { opened = false; offset = 8; held = []; failed = None }) left_first opened left_opened (Err e)
+    → ReplaysCapture left_first left_opened written written (Err (stop_of e))
 capture_unopened opened left_first left_opened written capture.BadMagic o = record {
-  writes = λ bytes had told has. has ∙ ap Some (sym (append-nil had) ∙ ap (λ x. had ++ x) (sym (ap (λ b. cond b (magic ++ records_of (drained (accepted bytes).inputs)) []) (no_magic bytes (o bytes told)))));
-  ends = λ bytes told. ap (λ b. (cond b (accept_records 8 (drop 8 bytes) []) (record { inputs = []; refused = refusal_by capture.BadMagic })).refused) (no_magic bytes (o bytes told));
+  writes = λ bytes had told has. has ∙ ap Some (sym (append-nil had) ∙ ap (λ x. had ++ x)
+      (sym (ap (λ b. cond b (magic ++ records_of (drained (accepted bytes).inputs)) []) (no_magic bytes (o bytes told)))));
+  ends = λ bytes told. ap (λ b. (cond b (accept_records 8 (drop 8 bytes) []) (record { inputs = []; refused = refusal_by capture.BadMagic })).refused)
+      (no_magic bytes (o bytes told));
   spells = λ had has. nothing_spelled had written has;
   whole = λ other had has. inl has;
 }

@@ -20,14 +20,18 @@ same_row : (row : Client) → row.phase ≡ Asking → asking_with row.unread ro
 same_row row e = λ i. record row { phase = sym e i }
 
 -- what the bytes make of the row, from what they make of a row that asks
-of_row : (row other : Client) (piece : List ℕ) (b : Bool) → row.phase ≡ Asking → (bytes_in (asking_with row.unread row) piece ≡ other) × (asks_unbuilt (asking_with row.unread row) piece ≡ b) → (bytes_in row piece ≡ other) × (asks_unbuilt row piece ≡ b)
+of_row : (row other : Client) (piece : List ℕ) (b : Bool) → row.phase ≡ Asking
+    → (bytes_in (asking_with row.unread row) piece ≡ other) × (asks_unbuilt (asking_with row.unread row) piece ≡ b)
+    → (bytes_in row piece ≡ other) × (asks_unbuilt row piece ≡ b)
 of_row row other piece b e is = (ap (λ c. bytes_in c piece) (sym (same_row row e)) ∙ is.0, ap (λ c. asks_unbuilt c piece) (sym (same_row row e)) ∙ is.1)
 
 -- the row after a piece
-after : (row other : Client) (piece : List ℕ) (mid : KeptClient) → mid ≡ kept_of other → (bytes_in row piece ≡ other) × (asks_unbuilt row piece ≡ false) → ReadsPiece row piece (Ok tt) (settled_row mid)
+after : (row other : Client) (piece : List ℕ) (mid : KeptClient) → mid ≡ kept_of other
+    → (bytes_in row piece ≡ other) × (asks_unbuilt row piece ≡ false) → ReadsPiece row piece (Ok tt) (settled_row mid)
 after row other piece mid same is = (is.1, ap settled_row same ∙ ap (λ c. kept_of (settled c)) (sym is.0))
 
-pub asks_piece : (row : Client) (piece : List ℕ) (old : KeptClient) (result : Result (Unit {0}) Unread) (mid : KeptClient) → old ≡ kept_of row → old.phase ≡ Asking → IsResting row.phase row.unread
+pub asks_piece : (row : Client) (piece : List ℕ) (old : KeptClient) (result : Result (Unit {0}) Unread) (mid : KeptClient) → old ≡ kept_of row
+    → old.phase ≡ Asking → IsResting row.phase row.unread
     → AnswersFront (request_at (old.unread ++ piece)) (record old { unread = old.unread ++ piece }) result mid → ReadsPiece row piece result (settled_row mid)
 asks_piece row piece old result mid same asking rests front =
     let e : row.phase ≡ Asking = ap (λ (k : KeptClient). k.phase) (sym same) ∙ asking in
@@ -36,7 +40,8 @@ asks_piece row piece old result mid same asking rests front =
   where
     go : (f : Found) → request_at (row.unread ++ piece) ≡ f → (r : Result (Unit {0}) Unread) → row.phase ≡ Asking → request_at row.unread ≡ More
         → AnswersFront f (record (kept_of row) { unread = row.unread ++ piece }) r mid → ReadsPiece row piece r (settled_row mid)
-    go More is (Ok done) e more same = after row (asking_with (row.unread ++ piece) row) piece mid (same ∙ (λ i. record (kept_of row) { phase = e i; unread = row.unread ++ piece })) (of_row row _ piece false e (reads_more row row.unread piece is))
+    go More is (Ok done) e more same = after row (asking_with (row.unread ++ piece) row) piece mid
+        (same ∙ (λ i. record (kept_of row) { phase = e i; unread = row.unread ++ piece })) (of_row row _ piece false e (reads_more row row.unread piece is))
     go Malformed is (Ok done) e more same = after row (closing row) piece mid same (of_row row _ piece false e (reads_malformed row row.unread piece more is))
     go (Whole len) is (Ok done) e more c =
         after row (answered (Some c.bytes) row) piece mid c.is (of_row row _ piece false e (reads_whole row row.unread piece len c.bytes more is c.built))

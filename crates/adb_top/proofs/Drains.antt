@@ -67,7 +67,8 @@ written_more e h = ap records_of (reverse-append (e ∷ []) h) ∙ two (reverse 
 pub capture_more : (e : Entry) (h : History) → capture_of h ++ record_of e ≡ capture_of (e ∷ h)
 capture_more e h = append_assoc magic (written_of h) (record_of e) ∙ ap (λ bytes. magic ++ bytes) (sym (written_more e h))
 
-pub entry_kept : (e : Entry) (h : History) (had : List ℕ) (before after : Out) → KeepsEntry (Ok tt) e before after → Keeps had (capture_of h) before → Keeps had (capture_of (e ∷ h)) after
+pub entry_kept : (e : Entry) (h : History) (had : List ℕ) (before after : Out) → KeepsEntry (Ok tt) e before after → Keeps had (capture_of h) before
+    → Keeps had (capture_of (e ∷ h)) after
 entry_kept e h had before after keeps k = subst (λ (t : List ℕ). Keeps had t after) (capture_more e h) (keeps had (capture_of h) k)
 
 -- What an entry that was not kept leaves: the history without it, or with it, where a front of its record may have gone out.
@@ -76,7 +77,8 @@ pub record Loses (why : Stop) (e : Entry) (h : History) (before after : Out) : T
   pub at : (whole ≡ h) ⊎ (whole ≡ e ∷ h)
   pub on : GoesOn (Err why) h whole before after
 
-pub loses : (why : Stop) (e : Entry) (h : History) (before after : Out) → IsLegal (e ∷ h) → IsLoss (Err why) → KeepsEntry (Err why) e before after → Loses why e h before after
+pub loses : (why : Stop) (e : Entry) (h : History) (before after : Out) → IsLegal (e ∷ h) → IsLoss (Err why) → KeepsEntry (Err why) e before after
+    → Loses why e h before after
 loses ReadFault e h before after legal loss keeps = absurd loss
 loses WriteFault e h before after legal loss keeps = record {
   whole = e ∷ h;
@@ -91,7 +93,8 @@ loses OutOfMemory e h before after legal loss keeps = record {
 loses (Refused why) e h before after legal loss keeps = absurd loss
 
 -- what was kept up to a history, and on from there
-pub goes_on : (result : Result (Unit {0}) Stop) (h now whole : History) (before mid after : Out) → ((had : List ℕ) → Keeps had (capture_of h) before → Keeps had (capture_of now) mid)
+pub goes_on : (result : Result (Unit {0}) Stop) (h now whole : History) (before mid after : Out)
+    → ((had : List ℕ) → Keeps had (capture_of h) before → Keeps had (capture_of now) mid)
     → GoesOn result now whole mid after → GoesOn result h whole before after
 goes_on result h now whole before mid after first on = record { legal = on.legal; kept = λ had k. on.kept had (first had k) }
 
@@ -120,7 +123,8 @@ handed_legal : (h : History) (e : Entry) → IsLegal h → HasRecord e → Some 
 handed_legal h e legal has next = (legal, record_in_range e has, next_may h e legal (sym next))
 
 -- it was kept
-pub draining_on : (h : History) (before mid after : Out) (holds new : Kept) (e : Entry) → HasRecord e → Hands holds (Some e) new → KeepsEntry (Ok tt) e mid after → Draining h before mid holds → Draining h before after new
+pub draining_on : (h : History) (before mid after : Out) (holds new : Kept) (e : Entry) → HasRecord e → Hands holds (Some e) new
+    → KeepsEntry (Ok tt) e mid after → Draining h before mid holds → Draining h before after new
 draining_on h before mid after holds new e has hands keeps d =
     let n = hands_now d.done holds new (Some e) d.lawful hands in
     record {
@@ -150,7 +154,8 @@ draining_stopped h before now holds new d = record {
 }
 
 -- it was not kept
-pub draining_lost : (h : History) (before mid after : Out) (holds new last : Kept) (e : Entry) (why : Stop) → HasRecord e → Hands holds (Some e) new → IsLoss (Err why) → KeepsEntry (Err why) e mid after → Draining h before mid holds
+pub draining_lost : (h : History) (before mid after : Out) (holds new last : Kept) (e : Entry) (why : Stop) → HasRecord e → Hands holds (Some e) new
+    → IsLoss (Err why) → KeepsEntry (Err why) e mid after → Draining h before mid holds
     → Drains (Err why) h before after last
 draining_lost h before mid after holds new last e why has hands loss keeps d =
     let n = hands_now d.done holds new (Some e) d.lawful hands in

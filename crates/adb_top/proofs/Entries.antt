@@ -32,19 +32,22 @@ never : {A : Type 0} (b : Bool) (one other : A) → cond b (Some one) (Some othe
 never true one other e = cc
 never false one other e = cc
 
-read_passes : (drawn unbuilt : Bool) (offset : ℕ) → cond drawn (read_refusal unbuilt offset) (refused_at offset NotDrawn) ≡ None → (drawn ≡ true) × (unbuilt ≡ false)
+read_passes : (drawn unbuilt : Bool) (offset : ℕ) → cond drawn (read_refusal unbuilt offset) (refused_at offset NotDrawn) ≡ None
+    → (drawn ≡ true) × (unbuilt ≡ false)
 read_passes true true offset e = cc
 read_passes true false offset e = (refl, refl)
 read_passes false unbuilt offset e = cc
 
-attach_never : (next serial : Bool) (offset : ℕ) → cond next (cond serial (refused_at offset NotBuilt) (refused_at offset BadSerial)) (refused_at offset NotDrawn) ≡ None → ⊥
+attach_never : (next serial : Bool) (offset : ℕ)
+    → cond next (cond serial (refused_at offset NotBuilt) (refused_at offset BadSerial)) (refused_at offset NotDrawn) ≡ None → ⊥
 attach_never true serial offset e = never serial _ _ e
 attach_never false serial offset e = cc
 
 -- An input that a state does not refuse may come.
 pub accepted_may : (s : State) (offset : ℕ) (e : Entry) → refusal_of s offset e ≡ None → is_input e ≡ true → May s e
 accepted_may s offset (Join n) none input = eqb-true n (s.joined + 1) (passes (nat_eq n (s.joined + 1)) _ none)
-accepted_may s offset (Read n bytes) none input = let p = read_passes (is_drawn s n) (asks_unbuilt (s.clients n) bytes) offset none in (drawn_is n s.joined p.0, p.1)
+accepted_may s offset (Read n bytes) none input = let p = read_passes (is_drawn s n) (asks_unbuilt (s.clients n) bytes) offset none in
+    (drawn_is n s.joined p.0, p.1)
 accepted_may s offset (End n cause) none input = drawn_is n s.joined (passes (is_drawn s n) _ none)
 accepted_may s offset (Enter n port) none input = absurd (never (nat_eq n (s.joined + 1)) _ _ none)
 accepted_may s offset (Bound n port) none input = absurd (never (is_drawn s n) _ _ none)
@@ -73,10 +76,12 @@ pub record Made (offset : ℕ) (e : Entry) (h : History) (now : Kept) : Type 0 w
 abbrev pub AppliesNow : Kept → Entry → Result (Unit {0}) machine.Refused → Kept → Type 0
 AppliesNow holds e result new = (s : State) → IsOrderly s → holds ≡ kept s → Applies s e result new
 
-applied_now : (holds new : Kept) (e : Entry) (h : History) (result : Result (Unit {0}) machine.Refused) → AppliesNow holds e result new → IsDrained holds h → Applies (state h) e result new
+applied_now : (holds new : Kept) (e : Entry) (h : History) (result : Result (Unit {0}) machine.Refused) → AppliesNow holds e result new
+    → IsDrained holds h → Applies (state h) e result new
 applied_now holds new e h result a drained = a (state h) (orderly h drained.lawful.legal) drained.lawful.seen
 
-pub made : (old now : Kept) (offset : ℕ) (e : Entry) (h : History) → HasRecord e → not (is_input e) ≡ false → AppliesNow old e (Ok tt) now → IsDrained old h → Made offset e h now
+pub made : (old now : Kept) (offset : ℕ) (e : Entry) (h : History) → HasRecord e → not (is_input e) ≡ false → AppliesNow old e (Ok tt) now
+    → IsDrained old h → Made offset e h now
 made old now offset e h has hand applies drained =
     let a = applied_now old now e h (Ok tt) applies drained in
     let input = input_of e hand in
@@ -102,7 +107,8 @@ passed offset (Attach n kind serial) h hand = cc
 passed offset (Recv n bytes) h hand = cc
 passed offset (Detach n cause) h hand = cc
 
-pub passed_over : (offset : ℕ) (e : Entry) (h : History) (holds : Kept) (out : Out) → not (is_input e) ≡ true → IsDrained holds h → ReplaysEntry (Ok tt) offset e h out out holds
+pub passed_over : (offset : ℕ) (e : Entry) (h : History) (holds : Kept) (out : Out) → not (is_input e) ≡ true → IsDrained holds h
+    → ReplaysEntry (Ok tt) offset e h out out holds
 passed_over offset e h holds out hand drained =
     let p = passed offset e h hand in
     record {
@@ -112,7 +118,8 @@ passed_over offset e h holds out hand drained =
     }
 
 -- an entry was not made
-pub not_made : (offset : ℕ) (e : Entry) (h : History) (holds new : Kept) (out : Out) (why : machine.Refused) → AppliesNow holds e (Err why) new → IsDrained holds h → ReplaysEntry (Err (stop_at offset why)) offset e h out out new
+pub not_made : (offset : ℕ) (e : Entry) (h : History) (holds new : Kept) (out : Out) (why : machine.Refused) → AppliesNow holds e (Err why) new
+    → IsDrained holds h → ReplaysEntry (Err (stop_at offset why)) offset e h out out new
 not_made offset e h holds new out why applies drained = go why (applied_now holds new e h (Err why) applies drained)
   where
     go : (why : machine.Refused) → Applies (state h) e (Err why) new → ReplaysEntry (Err (stop_at offset why)) offset e h out out new
@@ -120,17 +127,20 @@ not_made offset e h holds new out why applies drained = go why (applied_now hold
     go refused.OutOfMemory a = record { whole = h; on = record { legal = drained.lawful.legal; kept = λ had k. k }; gives = inl refl }
 
 -- how far an entry that was made came
-made_reached : (offset : ℕ) (e : Entry) (h : History) (now : Kept) → Made offset e h now → (whole : History) → IsFrontOf whole (drain_all (e ∷ h)) → IsReached offset e h whole
+made_reached : (offset : ℕ) (e : Entry) (h : History) (now : Kept) → Made offset e h now → (whole : History) → IsFrontOf whole (drain_all (e ∷ h))
+    → IsReached offset e h whole
 made_reached offset e h now m whole front = inr (m.none, m.input, front)
 
-gives_part : (why : Stop) (offset : ℕ) (e : Entry) (h whole : History) (new : Kept) → IsLoss (Err why) → IsReached offset e h whole → EntryGives (Err why) offset e h whole new
+gives_part : (why : Stop) (offset : ℕ) (e : Entry) (h whole : History) (new : Kept) → IsLoss (Err why) → IsReached offset e h whole
+    → EntryGives (Err why) offset e h whole new
 gives_part ReadFault offset e h whole new loss reached = absurd loss
 gives_part WriteFault offset e h whole new loss reached = reached
 gives_part OutOfMemory offset e h whole new loss reached = reached
 gives_part (Refused why) offset e h whole new loss reached = absurd loss
 
 -- it was made, and not kept
-pub not_kept : (offset : ℕ) (e : Entry) (h : History) (now new : Kept) (before after : Out) (why : Stop) → Made offset e h now → IsLoss (Err why) → KeepsEntry (Err why) e before after → ReplaysEntry (Err why) offset e h before after new
+pub not_kept : (offset : ℕ) (e : Entry) (h : History) (now new : Kept) (before after : Out) (why : Stop) → Made offset e h now → IsLoss (Err why)
+    → KeepsEntry (Err why) e before after → ReplaysEntry (Err why) offset e h before after new
 not_kept offset e h now new before after why m loss keeps =
     let l = loses why e h before after m.lawful.legal loss keeps in
     record { whole = l.whole; on = l.on; gives = gives_part why offset e h l.whole new loss (reached l.whole l.at) }
@@ -140,7 +150,8 @@ not_kept offset e h now new before after why m loss keeps =
     reached whole (inr same) = made_reached offset e h now m whole (subst (λ (w : History). IsFrontOf w (drain_all (e ∷ h))) (sym same) (drain_front (e ∷ h)))
 
 -- it was kept, and what was due then was handed out, or a part of it
-pub kept_and_drained : (offset : ℕ) (e : Entry) (h : History) (now new : Kept) (before mid after : Out) (result : Result (Unit {0}) Stop) → Made offset e h now → KeepsEntry (Ok tt) e before mid
+pub kept_and_drained : (offset : ℕ) (e : Entry) (h : History) (now new : Kept) (before mid after : Out) (result : Result (Unit {0}) Stop)
+    → Made offset e h now → KeepsEntry (Ok tt) e before mid
     → IsLoss result → Drains result (e ∷ h) mid after new → ReplaysEntry result offset e h before after new
 kept_and_drained offset e h now new before mid after result m keeps loss d = record {
   whole = d.whole;

@@ -46,7 +46,8 @@ one_client s n f ok drawn old new same c here =
     (λ q. puts q (eqb n q) refl)
     (c.rises (rw same (kept_rises s))) (c.joined ∙ ap (λ (k : Kept). k.joined) same) here (λ q apart. c.others q apart ∙ ap (λ (k : Kept). at q k.clients) same)
   where
-    puts : (q : ℕ) (b : Bool) → eqb n q ≡ b → cond (eqb n q) (settled (f (s.clients q))) (s.clients q) ≡ cond (eqb n q) (settled (f (s.clients n))) (s.clients q)
+    puts : (q : ℕ) (b : Bool) → eqb n q ≡ b
+        → cond (eqb n q) (settled (f (s.clients q))) (s.clients q) ≡ cond (eqb n q) (settled (f (s.clients n))) (s.clients q)
     puts q true e = let is : n ≡ q = eqb-true n q e in ap (λ k. cond (eqb n q) (settled (f (s.clients k))) (s.clients q)) (sym is)
     puts q false e = rw e refl
 
@@ -222,10 +223,12 @@ pub hands_none : (s : State) → IsOrderly s → (old : Kept) → old ≡ kept s
 hands_none s ok old same none = (sym (next_none s (λ n. none_due (s.clients n).due (due_at n old) (due_held s n ok old same) (none n))), same)
 
 -- the first client to which bytes are due is handed some
-pub hands_some : (s : State) (n : ℕ) (bytes : List ℕ) → IsOrderly s → (old new : Kept) → old ≡ kept s → 0 < due_at n old → ((m : ℕ) → m < n → due_at m old ≡ 0) → Puts s n bytes new → HandsNext s (Some (Put n bytes)) new
+pub hands_some : (s : State) (n : ℕ) (bytes : List ℕ) → IsOrderly s → (old new : Kept) → old ≡ kept s → 0 < due_at n old
+    → ((m : ℕ) → m < n → due_at m old ≡ 0) → Puts s n bytes new → HandsNext s (Some (Put n bytes)) new
 hands_some s n bytes ok old new same some first p = (
   ap (λ b. Some (Put n b)) p.0
-      ∙ sym (next_is s n drawn (λ m below. none_due (s.clients m).due (due_at m old) (due_held s m ok old same) (first m below)) (some_due (s.clients n).due (due_at n old) (due_held s n ok old same) some)),
+      ∙ sym (next_is s n drawn (λ m below. none_due (s.clients m).due (due_at m old) (due_held s m ok old same) (first m below))
+      (some_due (s.clients n).due (due_at n old) (due_held s n ok old same) some)),
   p.1,
 )
   where

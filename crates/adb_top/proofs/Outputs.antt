@@ -6,7 +6,8 @@ use Rattle.adb_top.specs.declared.stop.Stop.{Stop}
 use Rattle.adb_top.specs.declared.stop.Stop.TheVariants.{ReadFault, WriteFault, OutOfMemory, Refused}
 
 -- a piece is gathered
-pub gathers : (had text piece gathered : List ℕ) (before : Out) → gathered ≡ before.1 ++ piece → Keeps had text before → Keeps had (text ++ piece) (before.0, gathered)
+pub gathers : (had text piece gathered : List ℕ) (before : Out) → gathered ≡ before.1 ++ piece → Keeps had text before
+    → Keeps had (text ++ piece) (before.0, gathered)
 gathers had text piece gathered before is k = record {
   growth = k.growth;
   is = k.is;
@@ -20,11 +21,13 @@ all_out had text out none k =
     k.is ∙ ap (λ g. Some (had ++ g)) all
 
 -- what was gathered went out
-pub goes_out : (had text : List ℕ) (before : Out) (written : Option (List ℕ)) → Keeps had text before → ((out : List ℕ) → before.0 ≡ Some out → written ≡ Some (out ++ before.1)) → written ≡ Some (had ++ text)
+pub goes_out : (had text : List ℕ) (before : Out) (written : Option (List ℕ)) → Keeps had text before
+    → ((out : List ℕ) → before.0 ≡ Some out → written ≡ Some (out ++ before.1)) → written ≡ Some (had ++ text)
 goes_out had text before written k told = told (had ++ k.growth) k.is ∙ ap Some (append_assoc had k.growth before.1 ∙ ap (λ t. had ++ t) k.whole)
 
 -- a front of it did
-pub goes_out_in_part : (had text : List ℕ) (taken : ℕ) (before : Out) (written : Option (List ℕ)) → Keeps had text before → ((out : List ℕ) → before.0 ≡ Some out → written ≡ Some (out ++ take taken before.1)) → HasFront had text written
+pub goes_out_in_part : (had text : List ℕ) (taken : ℕ) (before : Out) (written : Option (List ℕ)) → Keeps had text before
+    → ((out : List ℕ) → before.0 ≡ Some out → written ≡ Some (out ++ take taken before.1)) → HasFront had text written
 goes_out_in_part had text taken before written k told = record {
   growth = k.growth ++ take taken before.1;
   is = told (had ++ k.growth) k.is ∙ ap Some (append_assoc had k.growth (take taken before.1));
@@ -40,8 +43,10 @@ kept_out had text out is none = record { growth = text; is = is; whole = ap (λ 
 
 -- a record is gathered, and what is gathered goes out
 pub piece_out : (had text piece gathered : List ℕ) (before after : Out) (result : Result (Unit {0}) Stop) → gathered ≡ before.1 ++ piece → Keeps had text before
-    → ((had text : List ℕ) → Keeps had text (before.0, gathered) → WritesOut result had text after.0) → IsWriteEnd result → after.1 ≡ [] → KeepsMore result had text piece after
-piece_out had text piece gathered before after result is k writes ends none = go result ends (writes had (text ++ piece) (gathers had text piece gathered before is k))
+    → ((had text : List ℕ) → Keeps had text (before.0, gathered) → WritesOut result had text after.0) → IsWriteEnd result → after.1 ≡ []
+    → KeepsMore result had text piece after
+piece_out had text piece gathered before after result is k writes ends none = go result ends
+    (writes had (text ++ piece) (gathers had text piece gathered before is k))
   where
     go : (r : Result (Unit {0}) Stop) → IsWriteEnd r → WritesOut r had (text ++ piece) after.0 → KeepsMore r had text piece after
     go (Ok done) e w = kept_out had (text ++ piece) after w none

@@ -10,7 +10,8 @@ use Rattle.adb_history.specs.Kept.{Kept, KeptClient}
 use Rattle.adb_top.specs.Due.{due_in, owed_by, owed_in, CoversDue}
 
 -- the first bytes that are due to a client are handed out
-pub handed_less : (n : ℕ) (old new : List (ℕ × KeptClient)) (was now : KeptClient) (bytes : List ℕ) → Some was ≡ at n old → new ≡ set_value (is_at (nat_cmp n)) old now
+pub handed_less : (n : ℕ) (old new : List (ℕ × KeptClient)) (was now : KeptClient) (bytes : List ℕ) → Some was ≡ at n old
+    → new ≡ set_value (is_at (nat_cmp n)) old now
     → bytes ≡ take 65536 was.due → length now.due + length bytes ≡ length was.due → 0 < due_in (at n old) → owed_by new < owed_by old
 handed_less n old new was now bytes here is taken left some =
     let sums = sum_by-set_value (λ (row : KeptClient). length row.due) (is_at (nat_cmp n)) old was now (sym here) in

@@ -60,19 +60,31 @@ starts holds is = record { lawful = record { legal = tt; seen = is }; rests = re
 abbrev pub Gives : Moment → Result (Option (ℕ × Entry)) CaptureError → Moment → Type 0
 Gives now result new = now.reader.failed ≡ None → AnswersNext now.reader now.left new.reader new.left result
 
-given_next : (now new : Moment) (result : Result (Option (ℕ × Entry)) CaptureError) (before : List ℕ) → Gives now result new → now.reader.failed ≡ None → IsAhead now before
+given_next : (now new : Moment) (result : Result (Option (ℕ × Entry)) CaptureError) (before : List ℕ) → Gives now result new
+    → now.reader.failed ≡ None → IsAhead now before
     → GivesNext now.reader.offset before result new.reader.offset (ahead_of new.reader new.left)
 given_next now new result before gives sound was = (gives sound).records before was
+
+-- what is accepted from a record on
+abbrev accept_at : ℕ → Entry → History → (History → Accepted) → Accepted
+accept_at offset e done others = accept_by (refusal_of (state done) offset e) (is_input e) done e others
 
 -- A record came: what of all that a capture gives is accepted from it on.
 pub record CameOn (now new : Moment) (offset : ℕ) (e : Entry) (done : History) (all : Accepted) : Type 0 where
   pub others : List ℕ
   pub is : IsAhead new others
-  pub inputs : drained_from [] all.inputs ≡ drained_from done (accept_by (refusal_of (state done) offset e) (is_input e) done e (accept_records new.reader.offset others)).inputs
-  pub refused : all.refused ≡ (accept_by (refusal_of (state done) offset e) (is_input e) done e (accept_records new.reader.offset others)).refused
+  pub inputs : drained_from [] all.inputs ≡ drained_from done (accept_at offset e done (accept_records new.reader.offset others)).inputs
+  pub refused : all.refused ≡ (accept_at offset e done (accept_records new.reader.offset others)).refused
 
-came_on : (now new : Moment) (offset : ℕ) (e : Entry) (done : History) (all : Accepted) → Gives now (Ok (Some (offset, e))) new → now.reader.failed ≡ None → ComesOn now done all → CameOn now new offset e done all
-came_on now new offset e done all gives sound c = record { others = drop g.size c.before; is = g.rest; inputs = c.inputs ∙ ap (λ (a : Accepted). drained_from done a.inputs) given; refused = c.refused ∙ ap (λ (a : Accepted). a.refused) given }
+came_on : (now new : Moment) (offset : ℕ) (e : Entry) (done : History) (all : Accepted) → Gives now (Ok (Some (offset, e))) new
+    → now.reader.failed ≡ None → ComesOn now done all → CameOn now new offset e done all
+came_on now new offset e done all gives sound c = record {
+  others = drop g.size c.before;
+  is = g.rest;
+  inputs = c.inputs ∙ ap
+      (λ (a : Accepted). drained_from done a.inputs) given;
+  refused = c.refused ∙ ap (λ (a : Accepted). a.refused) given;
+}
   where
     g : GivesRecord now.reader.offset c.before (offset, e) new.reader.offset (ahead_of new.reader new.left)
     g = given_next now new (Ok (Some (offset, e))) c.before gives sound c.is
@@ -80,22 +92,25 @@ came_on now new offset e done all gives sound c = record { others = drop g.size 
     from : ℕ × Entry → (History → Accepted) → Accepted
     from p others = accept_by (refusal_of (state done) p.0 p.1) (is_input p.1) done p.1 others
 
-    given : accept_records now.reader.offset c.before done ≡ accept_by (refusal_of (state done) offset e) (is_input e) done e (accept_records new.reader.offset (drop g.size c.before))
+    given : accept_records now.reader.offset c.before done ≡ accept_at offset e done (accept_records new.reader.offset (drop g.size c.before))
     given =
         accept_first now.reader.offset c.before done
         ∙ (ap (λ f. accept_front now.reader.offset c.before f done) g.whole
-        ∙ (ap (λ (p : ℕ × Entry). accept_by (refusal_of (state done) p.0 p.1) (is_input p.1) done p.1 (accept_records (offset_after now.reader.offset (take g.size c.before)) (drop g.size c.before))) (sym g.is)
-        ∙ ap (λ n. accept_by (refusal_of (state done) offset e) (is_input e) done e (accept_records n (drop g.size c.before))) (sym g.next_offset_is)))
+        ∙ (ap (λ (p : ℕ × Entry). accept_by (refusal_of (state done) p.0 p.1) (is_input p.1) done p.1
+        (accept_records (offset_after now.reader.offset (take g.size c.before)) (drop g.size c.before))) (sym g.is)
+        ∙ ap (λ n. accept_at offset e done (accept_records n (drop g.size c.before))) (sym g.next_offset_is)))
 
 -- an input that is accepted, or a hand-out that is passed over
 accept_on : (b : Bool) (h : History) (e : Entry) (others : History → Accepted)
-    → (drained_from h (accept_by None b h e others).inputs ≡ drained_from (cond b (drained_after h e) h) (others (cond b (drained_after h e) h)).inputs) × ((accept_by None b h e others).refused ≡ (others (cond b (drained_after h e) h)).refused)
+    → (drained_from h (accept_by None b h e others).inputs ≡ drained_from (cond b (drained_after h e) h) (others (cond b (drained_after h e) h)).inputs)
+    × ((accept_by None b h e others).refused ≡ (others (cond b (drained_after h e) h)).refused)
 accept_on true h e others = (refl, refl)
 accept_on false h e others = (refl, refl)
 
 -- A record was replayed.
 pub replaying_on : (first now new : Moment) (holds holds_new : Kept) (offset : ℕ) (e : Entry) → Gives now (Ok (Some (offset, e))) new → new.reader.failed ≡ None
-    → ((h : History) → IsDrained holds h → ReplaysEntry (Ok tt) offset e h now.out new.out holds_new) → Replaying first now holds → Replaying first new holds_new
+    → ((h : History) → IsDrained holds h → ReplaysEntry (Ok tt) offset e h now.out new.out holds_new) → Replaying first now holds
+    → Replaying first new holds_new
 replaying_on first now new holds holds_new offset e gives sound entry r = record {
   done = x.whole;
   drained = x.gives.2;
@@ -108,8 +123,10 @@ replaying_on first now new holds holds_new offset e gives sound entry r = record
       record {
         before = c.others;
         is = c.is;
-        inputs = c.inputs ∙ (ap (λ why. drained_from r.done (accept_by why (is_input e) r.done e others).inputs) x.gives.0 ∙ (on.0 ∙ ap (λ h. drained_from h (others h).inputs) (sym x.gives.1)));
-        refused = c.refused ∙ (ap (λ why. (accept_by why (is_input e) r.done e others).refused) x.gives.0 ∙ (on.1 ∙ ap (λ h. (others h).refused) (sym x.gives.1)));
+        inputs = c.inputs ∙ (ap (λ why. drained_from r.done (accept_by why (is_input e) r.done e others).inputs) x.gives.0 ∙
+            (on.0 ∙ ap (λ h. drained_from h (others h).inputs) (sym x.gives.1)));
+        refused = c.refused ∙ (ap (λ why. (accept_by why (is_input e) r.done e others).refused) x.gives.0 ∙
+            (on.1 ∙ ap (λ h. (others h).refused) (sym x.gives.1)));
       };
 }
   where
@@ -128,19 +145,26 @@ left_empty new opened e =
     let none : new.reader.held ++ s.0 ≡ [] = cc in
     s.1 ∙ ap Some (ahead_empty new.reader.held s.0 none)
 
-pub replaying_over : (first now new : Moment) (holds : Kept) → now.out ≡ new.out → Gives now (Ok None) new → new.reader.opened ≡ true → Replaying first now holds → Replays first new (Ok tt)
+pub replaying_over : (first now new : Moment) (holds : Kept) → now.out ≡ new.out → Gives now (Ok None) new → new.reader.opened ≡ true
+    → Replaying first now holds → Replays first new (Ok tt)
 replaying_over first now new holds same gives opened r = record {
   whole = r.done;
   on = record { legal = r.drained.lawful.legal; kept = λ had k. subst (λ (out : Out). Keeps had (capture_of r.done) out) same (r.kept had k) };
   reaches = λ before was. let c = r.came before was in c.inputs ∙ ap (λ b. drained_from r.done (accept_records now.reader.offset b r.done).inputs) (over c).0;
-  ends = λ before was. let c = r.came before was in (c.refused ∙ ap (λ b. (accept_records now.reader.offset b r.done).refused) (over c).0, left_empty new opened (over c).1);
+  ends = λ before was. let c = r.came before was in (
+    c.refused ∙ ap (λ b. (accept_records now.reader.offset b r.done).refused) (over c).0,
+    left_empty
+        new opened (over c).1,
+  );
 }
   where
-    over : {all : Accepted} → (c : ComesOn now r.done all) → (c.before ≡ []) × (ahead_of new.reader new.left ≡ Some []) × (new.reader.offset ≡ now.reader.offset)
+    over : {all : Accepted} → (c : ComesOn now r.done all)
+        → (c.before ≡ []) × (ahead_of new.reader new.left ≡ Some []) × (new.reader.offset ≡ now.reader.offset)
     over c = given_next now new (Ok None) c.before gives r.sound c.is
 
 -- what has come so far is the first part of all that comes
-front_so_far : (first now : Moment) (holds : Kept) (r : Replaying first now holds) (before : List ℕ) → IsAhead first before → IsFrontOf r.done (drained_from [] (accept_records first.reader.offset before []).inputs)
+front_so_far : (first now : Moment) (holds : Kept) (r : Replaying first now holds) (before : List ℕ) → IsAhead first before
+    → IsFrontOf r.done (drained_from [] (accept_records first.reader.offset before []).inputs)
 front_so_far first now holds r before was =
     let c = r.came before was in
     let more = drained_adds r.done (accept_records now.reader.offset c.before r.done).inputs in
@@ -150,29 +174,35 @@ front_so_far first now holds r before was =
 abbrev refused_as : CaptureError → Accepted
 refused_as why = record { inputs = []; refused = refusal_by why }
 
-refused_ahead : (offset : ℕ) (before : List ℕ) (h : History) (f : Front CaptureError) (why : CaptureError) → record_at offset before ≡ f → accept_front offset before f h ≡ refused_as why → accept_records offset before h ≡ refused_as why
+refused_ahead : (offset : ℕ) (before : List ℕ) (h : History) (f : Front CaptureError) (why : CaptureError) → record_at offset before ≡ f
+    → accept_front offset before f h ≡ refused_as why → accept_records offset before h ≡ refused_as why
 refused_ahead offset before h f why is front = accept_first offset before h ∙ (ap (λ k. accept_front offset before k h) is ∙ front)
 
-truncated_ahead : (offset at : ℕ) (before : List ℕ) (h : History) → before ≢ [] → at ≡ offset → accept_front offset before More h ≡ refused_as (capture.Truncated at)
+truncated_ahead : (offset at : ℕ) (before : List ℕ) (h : History) → before ≢ [] → at ≡ offset
+    → accept_front offset before More h ≡ refused_as (capture.Truncated at)
 truncated_ahead offset at [] h some is = absurd (some refl)
 truncated_ahead offset at (b ∷ before) h some is = ap (λ n. refused_as (capture.Truncated n)) (sym is)
 
-refusal_ahead : (offset : ℕ) (before : List ℕ) (h : History) (e : CaptureError) → refusal_by e ≢ None → IsRefused offset before e → accept_records offset before h ≡ refused_as e
+refusal_ahead : (offset : ℕ) (before : List ℕ) (h : History) (e : CaptureError) → refusal_by e ≢ None → IsRefused offset before e
+    → accept_records offset before h ≡ refused_as e
 refusal_ahead offset before h capture.BadMagic s r = absurd r
 refusal_ahead offset before h (capture.BadRecord at why) s r = refused_ahead offset before h (Bad (capture.BadRecord at why)) (capture.BadRecord at why) r refl
-refusal_ahead offset before h (capture.Truncated at) s r = refused_ahead offset before h More (capture.Truncated at) r.1 (truncated_ahead offset at before h r.0 r.2)
+refusal_ahead offset before h (capture.Truncated at) s r = refused_ahead offset before h More (capture.Truncated at) r.1
+    (truncated_ahead offset at before h r.0 r.2)
 refusal_ahead offset before h (capture.TooLong at) s r = refused_ahead offset before h (Bad (capture.TooLong at)) (capture.TooLong at) r refl
 refusal_ahead offset before h capture.ReadFault s r = absurd (s refl)
 refusal_ahead offset before h capture.OutOfMemory s r = absurd (s refl)
 
 -- The reader stopped.
-pub replaying_stopped : (first now new : Moment) (holds : Kept) (e : CaptureError) → now.out ≡ new.out → Gives now (Err e) new → Replaying first now holds → Replays first new (Err (stop_of e))
+pub replaying_stopped : (first now new : Moment) (holds : Kept) (e : CaptureError) → now.out ≡ new.out → Gives now (Err e) new
+    → Replaying first now holds → Replays first new (Err (stop_of e))
 replaying_stopped first now new holds e same gives r = go e (λ c sound. given_next now new (Err e) c gives r.sound sound)
   where
     keeps : (had : List ℕ) → Keeps had (capture_of []) first.out → Keeps had (capture_of r.done) new.out
     keeps had k = subst (λ (out : Out). Keeps had (capture_of r.done) out) same (r.kept had k)
 
-    refusal : (e : CaptureError) (named : Refusal) → refusal_by e ≡ Some named → refusal_by e ≢ None → ((before : List ℕ) → IsAhead now before → IsRefused now.reader.offset before e) → Replays first new (Err (Refused named))
+    refusal : (e : CaptureError) (named : Refusal) → refusal_by e ≡ Some named → refusal_by e ≢ None
+        → ((before : List ℕ) → IsAhead now before → IsRefused now.reader.offset before e) → Replays first new (Err (Refused named))
     refusal e named is stops refused = record {
       whole = r.done;
       on = record { legal = r.drained.lawful.legal; kept = keeps };
@@ -188,14 +218,28 @@ replaying_stopped first now new holds e same gives r = go e (λ c sound. given_n
     go (capture.BadRecord at why) refused = refusal (capture.BadRecord at why) _ refl (λ e. cc) refused
     go (capture.Truncated at) refused = refusal (capture.Truncated at) _ refl (λ e. cc) refused
     go (capture.TooLong at) refused = refusal (capture.TooLong at) _ refl (λ e. cc) refused
-    go capture.ReadFault refused = record { whole = r.done; on = record { legal = r.drained.lawful.legal; kept = keeps }; reaches = front_so_far first now holds r; ends = λ before was. tt }
-    go capture.OutOfMemory refused = record { whole = r.done; on = record { legal = r.drained.lawful.legal; kept = keeps }; reaches = front_so_far first now holds r; ends = λ before was. tt }
+    go capture.ReadFault refused = record {
+      whole = r.done;
+      on = record { legal = r.drained.lawful.legal; kept = keeps };
+      reaches = front_so_far first
+          now holds r;
+      ends = λ before was. tt;
+    }
+    go capture.OutOfMemory refused = record {
+      whole = r.done;
+      on = record { legal = r.drained.lawful.legal; kept = keeps };
+      reaches = front_so_far
+          first now holds r;
+      ends = λ before was. tt;
+    }
 
 -- What is reached of all that a capture gives, where a record was not replayed to its end.
-reached_front : (first now new : Moment) (holds : Kept) (offset : ℕ) (e : Entry) → Gives now (Ok (Some (offset, e))) new → (r : Replaying first now holds) (whole : History) → IsReached offset e r.done whole
+reached_front : (first now new : Moment) (holds : Kept) (offset : ℕ) (e : Entry) → Gives now (Ok (Some (offset, e))) new
+    → (r : Replaying first now holds) (whole : History) → IsReached offset e r.done whole
     → (before : List ℕ) → IsAhead first before → IsFrontOf whole (drained_from [] (accept_records first.reader.offset before []).inputs)
 reached_front first now new holds offset e gives r whole (inl same) before was =
-    subst (λ (h : History). IsFrontOf h (drained_from [] (accept_records first.reader.offset before []).inputs)) (sym same) (front_so_far first now holds r before was)
+    subst (λ (h : History). IsFrontOf h (drained_from [] (accept_records first.reader.offset before []).inputs)) (sym same)
+    (front_so_far first now holds r before was)
 reached_front first now new holds offset e gives r whole (inr on) before was =
     let c = came_on now new offset e r.done _ gives r.sound (r.came before was) in
     let others : History → Accepted = accept_records new.reader.offset c.others in

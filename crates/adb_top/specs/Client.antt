@@ -1,5 +1,6 @@
 -- What a client's calls make of its row.
 use Rattle.std.specs.Prelude.{ℕ, ◌≡◌, Bool, true, false, List, [], ◌++◌, take, drop, Option, Some, None, Result, Ok, Err}
+use Rattle.adb_request.specs.Requests.{request_at}
 use Rattle.adb_request.specs.Meaning.{meaning}
 use Rattle.adb_request.specs.declared.cutting.Found.{Found}
 use Rattle.adb_request.specs.declared.cutting.Found.TheVariants.{More, Malformed, Whole}
@@ -31,6 +32,12 @@ pub record ClosesWith (old : KeptClient) (reply : Option (List ℕ)) (new : Kept
   pub built : reply ≡ Some bytes
   pub is : new ≡ record old { phase = Closing; unread = []; due = old.due ++ bytes }
 
+-- a row owes the reply to a request, or the request is not built yet
+abbrev pub Replies : Option (List ℕ) → KeptClient → Result (Unit {0}) Unread → KeptClient → Type 0
+Replies reply old (Ok done) new = ClosesWith old reply new
+Replies reply old (Err NotBuilt) new = reply ≡ None
+Replies reply old (Err OutOfMemory) new = Unit {0}
+
 -- What the request that is unread makes of a row that asks.
 abbrev pub AnswersFront : Found → KeptClient → Result (Unit {0}) Unread → KeptClient → Type 0
 AnswersFront More old (Ok done) new = new ≡ old
@@ -40,3 +47,11 @@ AnswersFront More old (Err NotBuilt) new = ⊥
 AnswersFront Malformed old (Err NotBuilt) new = ⊥
 AnswersFront (Whole len) old (Err NotBuilt) new = first_reply old.unread len ≡ None
 AnswersFront _ old (Err OutOfMemory) new = Unit {0}
+
+-- the row with a piece behind what is unread
+abbrev pub joined : KeptClient → List ℕ → KeptClient
+joined old piece = record old { unread = old.unread ++ piece }
+
+-- What the request makes of it that is unread with a piece behind it.
+abbrev pub AnswersPiece : KeptClient → List ℕ → Result (Unit {0}) Unread → KeptClient → Type 0
+AnswersPiece old piece result new = AnswersFront (request_at (old.unread ++ piece)) (joined old piece) result new

@@ -4,8 +4,7 @@ ghost use Rattle.std.specs.Prelude.{◌≡◌, ◌<◌, ◌≤◌, ◌+◌, ◌+
 ghost use Rattle.std.specs.Option.{option_copied};
 ghost use Rattle.adb_history.specs.Machine.{Client as Row, fresh, settled, ended, handed, answer, end_phase, phase_after};
 ghost use Rattle.adb_history.specs.Kept.{kept_of, IsResting};
-ghost use Rattle.adb_request.specs.Requests.{request_at};
-ghost use Rattle.adb_top.specs.Client.{ReadsPiece, AnswersFront, is_gone_phase};
+ghost use Rattle.adb_top.specs.Client.{ReadsPiece, AnswersPiece, Replies, is_gone_phase};
 
 use adb_history::Phase;
 use adb_outside::{ByteQueue, Cause, Text};
@@ -94,7 +93,8 @@ impl Client {
 
     /// Bytes come from the client.
     pub fn read(&mut self, alloc: Global, piece: &[u8]) -> Result<(), Unread>
-        ensures { (row : Row) → self.old ≡ kept_of row → IsResting row.phase row.unread → ReadsPiece row piece.now result self.new }
+        ensures { (row : Row) → self.old ≡ kept_of row → IsResting row.phase row.unread
+            → ReadsPiece row piece.now result self.new }
     {
         if self.phase == Phase::Asking {
             return self.ask(alloc, piece);
@@ -106,28 +106,58 @@ impl Client {
     /// The bytes of a client that asks join what is unread, and its request is answered.
     fn ask(&mut self, alloc: Global, piece: &[u8]) -> Result<(), Unread>
         requires { self.old.phase ≡ Phase.Asking }
-        ensures { (row : Row) → self.old ≡ kept_of row → IsResting row.phase row.unread → ReadsPiece row piece.now result self.new }
+        ensures { (row : Row) → self.old ≡ kept_of row → IsResting row.phase row.unread
+            → ReadsPiece row piece.now result self.new }
     {
-        self.unread.extend_from_slice(piece)?;
-        let answered = self.answer(alloc);
+        let answered = if self.unread.is_empty() {
+            self.answer_piece(alloc, piece)
+        } else {
+            self.answer_joined(alloc, piece)
+        };
         self.settle();
         answered
     }
 
-    /// Answers the request that is unread, where it is whole.
-    fn answer(&mut self, alloc: Global) -> Result<(), Unread>
-        ensures { AnswersFront (request_at self.old.unread) self.old result self.new }
+    /// Answers the request of a piece before which nothing is unread: what is no whole request
+    /// stays unread.
+    fn answer_piece(&mut self, alloc: Global, piece: &[u8]) -> Result<(), Unread>
+        requires { self.old.unread ≡ [] }
+        ensures { AnswersPiece self.old piece.now result self.new }
     {
+        match cut(piece) {
+            Found::More => self.unread.extend_from_slice(piece)?,
+            Found::Malformed => self.close(),
+            Found::Whole { len } => {
+                let request = read(alloc, &piece[4..4 + len])?;
+                self.reply(&request)?;
+            }
+        }
+        Ok(())
+    }
+
+    /// Answers the request that is unread with a piece behind it.
+    fn answer_joined(&mut self, alloc: Global, piece: &[u8]) -> Result<(), Unread>
+        ensures { AnswersPiece self.old piece.now result self.new }
+    {
+        self.unread.extend_from_slice(piece)?;
         match cut(self.unread.as_slice()) {
             Found::More => {}
             Found::Malformed => self.close(),
             Found::Whole { len } => {
                 let request = read(alloc, &self.unread[4..4 + len])?;
-                let reply = reply_to(&request).ok_or(Unread::NotBuilt)?;
-                self.due.push(reply)?;
-                self.close();
+                self.reply(&request)?;
             }
         }
+        Ok(())
+    }
+
+    /// Owes the reply to a request, where it is built, and is read no more.
+    fn reply(&mut self, request: &Request) -> Result<(), Unread>
+        ensures { Replies (answer request.now) self.old result self.new }
+    {
+        let reply = reply_to(request).ok_or(Unread::NotBuilt)?;
+        self.due.push(reply)?;
+        self.close();
         Ok(())
     }
 
@@ -153,7 +183,8 @@ impl Client {
             → self.new ≡ kept_of (settled (handed (length text) row))) }
         ensures in_range { IfOk result (All (λ b. b < 256)) }
         ensures short { IfOk result (λ text. length text ≤ max) }
-        ensures fewer { IfOk result (λ text. length self.new.due + length text ≡ length self.old.due) }
+        ensures fewer { IfOk result
+            (λ text. length self.new.due + length text ≡ length self.old.due) }
     {
         let text = Text::from_slice(alloc, first(self.due.as_slice(), max))?;
         self.due.take(text.len());

@@ -111,7 +111,8 @@ impl Machine {
 
     /// Makes an entry. A hand-out that was recorded is passed over.
     pub fn apply(&mut self, entry: &Entry) -> Result<(), Refused>
-        ensures { (s : State) → IsOrderly s → self.old ≡ kept s → Applies s entry.now result self.new }
+        ensures { (s : State) → IsOrderly s → self.old ≡ kept s
+            → Applies s entry.now result self.new }
     {
         match entry {
             Entry::Join { client } => self.join(*client),
@@ -137,8 +138,8 @@ impl Machine {
         }
     }
 
-    /// Makes the next hand-out: at most 65,536 bytes, to the first of the clients to which bytes are
-    /// due; `None` where there is none.
+    /// Makes the next hand-out: at most 65,536 bytes, to the first client to which bytes are due;
+    /// `None` where there is none.
     pub fn hand_next(&mut self) -> Result<Option<Entry>, AllocError>
         ensures next { IfOk result (λ out. (s : State) → IsOrderly s → self.old ≡ kept s
             → HandsNext s out self.new) }
@@ -188,7 +189,8 @@ impl Machine {
 
     /// A client comes.
     fn join(&mut self, client: u32) -> Result<(), Refused>
-        ensures { (s : State) → IsOrderly s → self.old ≡ kept s → Applies s (Entry.Join client) result self.new }
+        ensures { (s : State) → IsOrderly s → self.old ≡ kept s
+            → Applies s (Entry.Join client) result self.new }
     {
         if !self.is_next(client) {
             return Err(Refused::Because(Reason::NotDrawn));
@@ -200,7 +202,8 @@ impl Machine {
 
     /// Bytes come from a client.
     fn read(&mut self, client: u32, bytes: &[u8]) -> Result<(), Refused>
-        ensures { (s : State) → IsOrderly s → self.old ≡ kept s → Applies s (Entry.Read client bytes.now) result self.new }
+        ensures { (s : State) → IsOrderly s → self.old ≡ kept s
+            → Applies s (Entry.Read client bytes.now) result self.new }
     {
         if !self.is_drawn(client) {
             return Err(Refused::Because(Reason::NotDrawn));
@@ -212,7 +215,8 @@ impl Machine {
 
     /// A client's input ends.
     fn end(&mut self, client: u32, cause: Cause) -> Result<(), Refused>
-        ensures { (s : State) → IsOrderly s → self.old ≡ kept s → Applies s (Entry.End client cause) result self.new }
+        ensures { (s : State) → IsOrderly s → self.old ≡ kept s
+            → Applies s (Entry.End client cause) result self.new }
     {
         if !self.is_drawn(client) {
             return Err(Refused::Because(Reason::NotDrawn));
@@ -247,8 +251,11 @@ impl Machine {
 
     /// Bytes come to a client's row; answers whether nothing of it is to be kept.
     fn row_reads(&mut self, client: u32, bytes: &[u8]) -> Result<bool, Refused>
-        ensures row { (row : Row) → IsResting row.phase row.unread → at client self.old.clients ≡ Some (kept_of row) → ReadsRow row bytes.now result (at client self.new.clients) }
-        ensures absent { at client self.old.clients ≡ None → ReadsNone result (at client self.new.clients) }
+        ensures row { (row : Row) → IsResting row.phase row.unread
+            → at client self.old.clients ≡ Some (kept_of row)
+            → ReadsRow row bytes.now result (at client self.new.clients) }
+        ensures absent { at client self.old.clients ≡ None
+            → ReadsNone result (at client self.new.clients) }
         ensures others { OnOk result (ChangesOne self.old client self.new) }
     {
         if self.due.insert(client).is_err() {
@@ -265,8 +272,10 @@ impl Machine {
 
     /// The input of a client's row ends; answers whether nothing of it is to be kept.
     fn row_ends(&mut self, client: u32, cause: Cause) -> bool
-        ensures row { (row : Row) → at client self.old.clients ≡ Some (kept_of row) → Becomes (settled (ended cause row)) result (at client self.new.clients) }
-        ensures absent { at client self.old.clients ≡ None → (result ≡ false) × (at client self.new.clients ≡ None) }
+        ensures row { (row : Row) → at client self.old.clients ≡ Some (kept_of row)
+            → Becomes (settled (ended cause row)) result (at client self.new.clients) }
+        ensures absent { at client self.old.clients ≡ None
+            → (result ≡ false) × (at client self.new.clients ≡ None) }
         ensures others { ChangesOne self.old client self.new }
     {
         match self.clients.get_mut(&client) {
@@ -281,7 +290,8 @@ impl Machine {
     /// The first bytes that are due to a client's row are handed out.
     fn row_hands(&mut self, client: u32) -> Result<HandOut, AllocError>
         requires { 0 < due_at client self.old }
-        ensures row { IfOk result (λ out. (row : Row) → at client self.old.clients ≡ Some (kept_of row)
+        ensures row { IfOk result (λ out. (row : Row)
+            → at client self.old.clients ≡ Some (kept_of row)
             → HandsRow row out (at client self.new.clients)) }
         ensures others { OnOk result (ChangesOne self.old client self.new) }
         ensures in_range { IfOk result (λ out. All (λ b. b < 256) out.bytes) }
@@ -301,7 +311,8 @@ impl Machine {
     /// Drops a client's row where nothing of it is to be kept.
     #[tactic(auto, using(crate::proofs::Owed::dropped_no_more))]
     fn drop_if(&mut self, client: u32, gone: bool)
-        ensures here { at client self.new.clients ≡ (if gone then None else at client self.old.clients) }
+        ensures here { at client self.new.clients ≡
+            (if gone then None else at client self.old.clients) }
         ensures others { ChangesOne self.old client self.new }
         ensures no_more { owed_in self.new ≤ owed_in self.old }
     {
@@ -313,7 +324,8 @@ impl Machine {
 
 /// A device is plugged in. No link was drawn yet, so the next one is 1.
 fn attach(link: u32, serial: &Text) -> Result<(), Refused>
-    ensures { (s : State) (kind : Kind) → (new : Kept) → Applies s (Entry.Attach link kind serial.now) result new }
+    ensures { (s : State) (kind : Kind) → (new : Kept)
+        → Applies s (Entry.Attach link kind serial.now) result new }
 {
     if link != 1 {
         Err(Refused::Because(Reason::NotDrawn))

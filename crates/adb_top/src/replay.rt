@@ -1,4 +1,5 @@
-//! Replaying a capture: its entries are made in order, and all that is due is handed out after each.
+//! Replaying a capture: its entries are made in order, and all that is due is handed out after
+//! each.
 
 ghost use Rattle.std.specs.Prelude.{◌≡◌, ◌≢◌, None, Err, not, true};
 ghost use Rattle.adb_outside.specs.Outside.{Counts};
@@ -83,7 +84,8 @@ fn replay_record<K: Sink>(
     entry: &Entry,
 ) -> Result<(), Stop>
     requires { HasRecord entry.now }
-    ensures replays { (h : History) → IsDrained machine.old h → ReplaysEntry result offset entry.now h
+    ensures replays { (h : History) → IsDrained machine.old h
+        → ReplaysEntry result offset entry.now h
         (K.written sink.old, output.old) (K.written sink.new, output.new) machine.new }
     ensures source { result ≢ Err Stop.ReadFault }
     ensures counts { Counts K.steady K.faults sink.old sink.new (is_write_fault result) }

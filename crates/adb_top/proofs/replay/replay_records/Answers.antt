@@ -8,7 +8,8 @@ use Rattle.adb_top.proofs.replay.replay_records.Goals as goal
 pub returns-in_err-offset-clause-replays : goal.returns-in_err-offset-clause-replays
 returns-in_err-offset-clause-replays g c =
     let passed = err_from_is_err_and c.from_residual.result c.from_residual.ensures.1 in
-    rw (passed.1, passed.2) (replaying_stopped _ _ (moment c.next.new.self (g.S.Source.left c.next.new.source) (g.K.Sink.written c.loop-machine.sink, c.loop-machine.output)) c.loop-machine.machine c.in_err-offset.field-0.0 refl
+    rw (passed.1, passed.2) (replaying_stopped _ _ (moment c.next.new.self (g.S.Source.left c.next.new.source)
+    (g.K.Sink.written c.loop-machine.sink, c.loop-machine.output)) c.loop-machine.machine c.in_err-offset.field-0.0 refl
     c.in_err-offset.ensures.answers c.loop-machine.invariant.replaying)
 
 pub loop-machine-init : goal.loop-machine-init
@@ -24,8 +25,10 @@ loop-machine-preserved g c =
     let new : Moment = moment c.next.new.self (g.S.Source.left c.next.new.source) (g.K.Sink.written c.replay_entry.new.sink, c.replay_entry.new.output) in
     let gives = given_as now new c.in_ok-offset.field-0 (Some (c.in-Some.offset, c.in-Some.entry)) c.in-Some.is c.in_ok-offset.ensures.answers in
     record {
-      replaying = replaying_on _ now new c.loop-machine.machine c.replay_entry.new.machine c.in-Some.offset c.in-Some.entry gives c.in_ok-offset.ensures.ok.1 c.in_ok-replay_entry.ensures.replays c.loop-machine.invariant.replaying;
-      reads_counted = counts_then _ _ _ _ _ _ _ _ c.loop-machine.invariant.reads_counted (c.in_ok-offset.ensures.counts c.loop-machine.invariant.replaying.sound);
+      replaying = replaying_on _ now new c.loop-machine.machine c.replay_entry.new.machine c.in-Some.offset c.in-Some.entry gives
+          c.in_ok-offset.ensures.ok.1 c.in_ok-replay_entry.ensures.replays c.loop-machine.invariant.replaying;
+      reads_counted = counts_then _ _ _ _ _ _ _ _ c.loop-machine.invariant.reads_counted
+          (c.in_ok-offset.ensures.counts c.loop-machine.invariant.replaying.sound);
       writes_counted = counts_then _ _ _ _ _ _ _ _ c.loop-machine.invariant.writes_counted c.in_ok-replay_entry.ensures.counts;
     }
 
@@ -35,11 +38,13 @@ returns-in_err-replay_entry-clause-replays g c =
     let now : Moment = moment c.loop-machine.reader (g.S.Source.left c.loop-machine.source) (g.K.Sink.written c.loop-machine.sink, c.loop-machine.output) in
     let new : Moment = moment c.next.new.self (g.S.Source.left c.next.new.source) (g.K.Sink.written c.replay_entry.new.sink, c.replay_entry.new.output) in
     let gives = given_as now new c.in_ok-offset.field-0 (Some (c.in-Some.offset, c.in-Some.entry)) c.in-Some.is c.in_ok-offset.ensures.answers in
-    rw (passed.1, passed.2) (replaying_lost _ now new c.loop-machine.machine c.replay_entry.new.machine c.in-Some.offset c.in-Some.entry c.in_err-replay_entry.field-0.0 gives c.in_err-replay_entry.ensures.replays
+    rw (passed.1, passed.2) (replaying_lost _ now new c.loop-machine.machine c.replay_entry.new.machine c.in-Some.offset c.in-Some.entry
+    c.in_err-replay_entry.field-0.0 gives c.in_err-replay_entry.ensures.replays
     c.loop-machine.invariant.replaying)
 
 pub returns-clause-replays : goal.returns-clause-replays
 returns-clause-replays g c =
     let now : Moment = moment c.loop-machine.reader (g.S.Source.left c.loop-machine.source) (g.K.Sink.written c.loop-machine.sink, c.loop-machine.output) in
     let new : Moment = moment c.next.new.self (g.S.Source.left c.next.new.source) (g.K.Sink.written c.loop-machine.sink, c.loop-machine.output) in
-    replaying_over _ now new c.loop-machine.machine refl (given_as now new c.in_ok-offset.field-0 None c.in_default.is c.in_ok-offset.ensures.answers) c.in_ok-offset.ensures.ok.2 c.loop-machine.invariant.replaying
+    replaying_over _ now new c.loop-machine.machine refl (given_as now new c.in_ok-offset.field-0 None c.in_default.is c.in_ok-offset.ensures.answers)
+    c.in_ok-offset.ensures.ok.2 c.loop-machine.invariant.replaying

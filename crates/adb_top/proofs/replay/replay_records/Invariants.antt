@@ -6,7 +6,8 @@ use Rattle.adb_top.proofs.replay.replay_records.Given as goal
 
 abbrev pub invariant-loop-machine : goal.invariant-loop-machine
 invariant-loop-machine g l =
-    GoingOn (moment l.fn.reader (g.S.Source.left l.fn.source) (g.K.Sink.written l.fn.sink, l.fn.output)) (moment l.reader (g.S.Source.left l.source) (g.K.Sink.written l.sink, l.output)) l.machine
+    GoingOn (moment l.fn.reader (g.S.Source.left l.fn.source) (g.K.Sink.written l.fn.sink, l.fn.output))
+    (moment l.reader (g.S.Source.left l.source) (g.K.Sink.written l.sink, l.output)) l.machine
     (Counts g.S.Source.steady g.S.Source.faults l.fn.source l.source false)
     (Counts g.K.Sink.steady g.K.Sink.faults l.fn.sink l.sink false)
 

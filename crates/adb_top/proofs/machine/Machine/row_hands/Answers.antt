@@ -12,4 +12,5 @@ returns-clause-fewer c =
     let hands = c.in_ok-bytes-in-Some.ensures in
     let some = subst (λ (k : Kept). 0 < due_in (at c.args.client k.clients)) (sym c.self.view_is) c.requires in
     subst (λ (k : Kept). owed_by new.entries < owed_in k) c.self.view_is
-    (handed_less c.args.client c.self.inside.clients.entries new.entries c.in-Some.row.now c.hand.new.self c.in_ok-bytes-in-Some.bytes c.in-Some.ensures.value writes.0 hands.bytes hands.fewer some)
+    (handed_less c.args.client c.self.inside.clients.entries new.entries c.in-Some.row.now c.hand.new.self c.in_ok-bytes-in-Some.bytes
+    c.in-Some.ensures.value writes.0 hands.bytes hands.fewer some)
