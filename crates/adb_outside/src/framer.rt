@@ -148,8 +148,11 @@ impl<V: Drop, F: Copy, S: Format<V, F>> Framer<S, V, F> {
 
     /// Cuts what is held into frames.
     fn cut_held(&mut self) -> Result<(), AllocError>
-        ensures ok { self.old.fault ≡ None → OnOk result (self.new ≡ joined self.old.given (cut S.find S.item S.after self.old.reading self.old.rest)) }
-        ensures err { OnErr result ((take (length self.old.given) self.new.given ≡ self.old.given) × (self.new ≡ record self.old { given = self.new.given })) }
+        ensures ok { self.old.fault ≡ None → OnOk result (self.new ≡ joined self.old.given
+            (cut S.find S.item S.after self.old.reading self.old.rest)) }
+        ensures err { OnErr result (
+            (take (length self.old.given) self.new.given ≡ self.old.given)
+            × (self.new ≡ record self.old { given = self.new.given })) }
     {
         let mut format = self.format;
         let mut at = 0;

@@ -29,7 +29,8 @@ pub(crate) fn choose(
     on: &Which,
     ready: bool,
 ) -> Result<Chosen, AllocError>
-    ensures { IfOk result (λ device. device ≡ asked_device registry.now.rows selected on.now ready) }
+    ensures { IfOk result (λ device. device
+        ≡ asked_device registry.now.rows selected on.now ready) }
 {
     match (on, selected) {
         (Which::By(by), _) => choose_by(alloc, registry, by, ready),
@@ -45,7 +46,8 @@ fn choose_own(
     id: u32,
     ready: bool,
 ) -> Result<Chosen, AllocError>
-    ensures { IfOk result (λ device. device ≡ asked_device registry.now.rows (Some id) Which.Own ready) }
+    ensures { IfOk result (λ device. device
+        ≡ asked_device registry.now.rows (Some id) Which.Own ready) }
 {
     if registry.row(id).is_none() {
         return Ok(Chosen::Refused(no_transport(alloc)?));

@@ -68,7 +68,8 @@ pub fn reply(
 
 /// The version of this server.
 fn version(alloc: Global) -> Result<Answer, AllocError>
-    ensures { IfOk result (λ given. given ≡ record { bytes = codes "OKAY00040029"; next = Next.Close }) }
+    ensures { IfOk result (λ given. given
+        ≡ record { bytes = codes "OKAY00040029"; next = Next.Close }) }
 {
     Ok(Answer {
         bytes: Text::from_slice(alloc, b"OKAY00040029")?,
@@ -78,7 +79,8 @@ fn version(alloc: Global) -> Result<Answer, AllocError>
 
 /// All forwards end.
 fn unbind_all(alloc: Global) -> Result<Answer, AllocError>
-    ensures { IfOk result (λ given. given ≡ record { bytes = codes "OKAYOKAY"; next = Next.UnbindAll }) }
+    ensures { IfOk result (λ given. given
+        ≡ record { bytes = codes "OKAYOKAY"; next = Next.UnbindAll }) }
 {
     Ok(Answer {
         bytes: Text::from_slice(alloc, b"OKAYOKAY")?,

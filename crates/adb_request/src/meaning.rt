@@ -128,7 +128,8 @@ fn serial_request(alloc: Global, text: &[u8]) -> Result<Option<Request>, AllocEr
 
 /// The place of the first colon behind which a form stands.
 fn serial_end(text: &[u8]) -> Option<usize>
-    ensures split { option_map (split_at text.now) result ≡ find (λ split. is_form split.after) (splits_behind [] text.now) }
+    ensures split { option_map (split_at text.now) result
+        ≡ find (λ split. is_form split.after) (splits_behind [] text.now) }
     ensures within { IfSome result (λ place. place < length text.now) }
 {
     for (place, byte) in text.iter().enumerate() {
