@@ -16,7 +16,8 @@ gone_front piece All = ([], append-nil piece)
 gone_front piece (Failed taken) = (drop taken piece, take-append-drop taken piece)
 
 -- The line of a status that is no WriteFault went out.
-pub line_said : (status : Status) (line had : List ℕ) (after : Option (List ℕ)) (rose : Type 0) → IsLine status line → status ≢ WriteFault → after ≡ Some (had ++ line) → NotesBy status rose had after
+pub line_said : (status : Status) (line had : List ℕ) (after : Option (List ℕ)) (rose : Type 0) → IsLine status line
+    → status ≢ WriteFault → after ≡ Some (had ++ line) → NotesBy status rose had after
 line_said Done line had after rose own other is = absurd own
 line_said Usage line had after rose own other is = record { line = line; own = own; is = is }
 line_said ReadFault line had after rose own other is = record { line = line; own = own; is = is }
@@ -25,8 +26,9 @@ line_said BadCapture line had after rose own other is = record { line = line; ow
 line_said OutOfMemory line had after rose own other is = record { line = line; own = own; is = is }
 
 -- A line was cut, and the line of WriteFault was tried.
-pub line_cut : (status : Status) (line had : List ℕ) (taken : ℕ) (last : Wrote) (mid after : Option (List ℕ)) → IsLine status line → mid ≡ Some (had ++ take taken line) → TellsWrite mid after write_fault_line last → HasFailed had after
-line_cut status line had taken last mid after own first second = record {
+pub line_cut : {mid after : Option (List ℕ)} (status : Status) (line had : List ℕ) (taken : ℕ) (last : Wrote)
+    → IsLine status line → mid ≡ Some (had ++ take taken line) → TellsWrite mid after write_fault_line last → HasFailed had after
+line_cut status line had taken last own first second = record {
   status = status;
   line = line;
   own = own;
@@ -40,7 +42,8 @@ line_cut status line had taken last mid after own first second = record {
 }
 
 -- The line of WriteFault was tried alone.
-pub last_tried : (had : List ℕ) (last : Wrote) (after : Option (List ℕ)) (rose : Type 0) → (is_failed_write last ≡ true → rose) → after ≡ Some (had ++ gone_out write_fault_line last) → NotesBy WriteFault rose had after
+pub last_tried : (had : List ℕ) (last : Wrote) (after : Option (List ℕ)) (rose : Type 0) → (is_failed_write last ≡ true → rose)
+    → after ≡ Some (had ++ gone_out write_fault_line last) → NotesBy WriteFault rose had after
 last_tried had All after rose fault is = inl (record { line = write_fault_line; own = refl; is = is })
 last_tried had (Failed taken) after rose fault is =
     inr (

@@ -29,7 +29,8 @@ front_out stop.WriteFault text had written w = w
 front_out stop.OutOfMemory text had written w = w
 front_out (stop.Refused refusal) text had written w = all_out text had written w
 
-pub writes_by : (why : Stop) (status : Status) (text had : List ℕ) (written : Option (List ℕ)) → EndsIn why status → WritesText (Err why) text had written → WritesBy status text had written
+pub writes_by : (why : Stop) (status : Status) (text had : List ℕ) (written : Option (List ℕ)) → EndsIn why status
+    → WritesText (Err why) text had written → WritesBy status text had written
 writes_by why Done text had written e w = absurd e
 writes_by why Usage text had written e w = absurd e
 writes_by why ReadFault text had written e w = front_out why text had written w
@@ -37,7 +38,8 @@ writes_by why WriteFault text had written e w = front_out why text had written w
 writes_by why BadCapture text had written e w = subst (λ (k : Stop). WritesText (Err k) text had written) e.1 w
 writes_by why OutOfMemory text had written e w = front_out why text had written w
 
-pub ends_by : (why : Stop) (status : Status) (a : Accepted) (left : Option (List ℕ)) → EndsIn why status → EndsAs (Err why) a left → EndsBy status a left
+pub ends_by : (why : Stop) (status : Status) (a : Accepted) (left : Option (List ℕ)) → EndsIn why status
+    → EndsAs (Err why) a left → EndsBy status a left
 ends_by why Done a left e ends = absurd e
 ends_by why Usage a left e ends = tt
 ends_by why ReadFault a left e ends = tt
@@ -45,17 +47,20 @@ ends_by why WriteFault a left e ends = tt
 ends_by why BadCapture a left e ends = (e.0, subst (λ (k : Stop). EndsAs (Err k) a left) e.1 ends)
 ends_by why OutOfMemory a left e ends = tt
 
-pub names_by : (why : Stop) (status : Status) (a : Accepted) (left : Option (List ℕ)) (had : List ℕ) (after : Option (List ℕ)) → EndsIn why status → EndsAs (Err why) a left
+pub names_by : (why : Stop) (status : Status) (a : Accepted) (left : Option (List ℕ)) (had : List ℕ) (after : Option (List ℕ))
+    → EndsIn why status → EndsAs (Err why) a left
     → ((refusal : Refusal) → why ≡ stop.Refused refusal → status ≡ BadCapture → after ≡ Some (had ++ bad_capture_line refusal)) → NamesBy status a had after
 names_by why Done a left had after e ends line = tt
 names_by why Usage a left had after e ends line = tt
 names_by why ReadFault a left had after e ends line = tt
 names_by why WriteFault a left had after e ends line = tt
-names_by why BadCapture a left had after e ends line = record { why = e.0; refused = subst (λ (k : Stop). EndsAs (Err k) a left) e.1 ends; line = line e.0 e.1 refl }
+names_by why BadCapture a left had after e ends line =
+    record { why = e.0; refused = subst (λ (k : Stop). EndsAs (Err k) a left) e.1 ends; line = line e.0 e.1 refl }
 names_by why OutOfMemory a left had after e ends line = tt
 
 -- nothing was read, and nothing went out
-pub unread_writes : (status : Status) (text had : List ℕ) (written : Option (List ℕ)) → (status ≡ Usage) ⊎ (status ≡ WriteFault) → written ≡ Some had → WritesBy status text had written
+pub unread_writes : (status : Status) (text had : List ℕ) (written : Option (List ℕ))
+    → (status ≡ Usage) ⊎ (status ≡ WriteFault) → written ≡ Some had → WritesBy status text had written
 unread_writes status text had written (inl usage) is = subst (λ (s : Status). WritesBy s text had written) (sym usage) is
 unread_writes status text had written (inr fault) is = subst (λ (s : Status). WritesBy s text had written) (sym fault) (none_out text had written is)
 
@@ -66,7 +71,8 @@ pub unread_ends : (status : Status) (a : Accepted) (left : Option (List ℕ)) �
 unread_ends status a left (inl usage) = subst (λ (s : Status). EndsBy s a left) (sym usage) tt
 unread_ends status a left (inr fault) = subst (λ (s : Status). EndsBy s a left) (sym fault) tt
 
-pub unread_names : (status : Status) (a : Accepted) (had : List ℕ) (after : Option (List ℕ)) → (status ≡ Usage) ⊎ (status ≡ WriteFault) → NamesBy status a had after
+pub unread_names : (status : Status) (a : Accepted) (had : List ℕ) (after : Option (List ℕ))
+    → (status ≡ Usage) ⊎ (status ≡ WriteFault) → NamesBy status a had after
 unread_names status a had after (inl usage) = subst (λ (s : Status). NamesBy s a had after) (sym usage) tt
 unread_names status a had after (inr fault) = subst (λ (s : Status). NamesBy s a had after) (sym fault) tt
 
@@ -75,12 +81,14 @@ completes_done None e = inl refl
 completes_done (Some why) e = cc
 
 -- a stop that no fault made
-pub completes_stopped : (why : Stop) (status : Status) (a : Accepted) (left : Option (List ℕ)) → EndsIn why status → EndsAs (Err why) a left → (why ≡ stop.ReadFault → ⊥) → (status ≡ WriteFault → ⊥) → CompletesBy status a.refused
+pub completes_stopped : (why : Stop) (status : Status) (a : Accepted) (left : Option (List ℕ)) → EndsIn why status
+    → EndsAs (Err why) a left → (why ≡ stop.ReadFault → ⊥) → (status ≡ WriteFault → ⊥) → CompletesBy status a.refused
 completes_stopped why Done a left e ends reads writes = absurd e
 completes_stopped why Usage a left e ends reads writes = absurd e
 completes_stopped why ReadFault a left e ends reads writes = absurd (reads e)
 completes_stopped why WriteFault a left e ends reads writes = absurd (writes refl)
-completes_stopped why BadCapture a left e ends reads writes = subst (λ (r : Option Refusal). CompletesBy BadCapture r) (sym (ends_by why BadCapture a left e ends).1) (inl refl)
+completes_stopped why BadCapture a left e ends reads writes =
+    subst (λ (r : Option Refusal). CompletesBy BadCapture r) (sym (ends_by why BadCapture a left e ends).1) (inl refl)
 completes_stopped why OutOfMemory a left e ends reads writes = memory a.refused
   where
     memory : (r : Option Refusal) → CompletesBy OutOfMemory r
@@ -92,7 +100,8 @@ pub reads_rose : (why : Stop) (a b : Type 0) (x y : ℕ) → CountsReads (Err wh
 reads_rose why a b x y reads e = (subst (λ (k : Stop). CountsReads (Err k) (Counted a b x y)) e reads).fault refl
 
 -- and its count stood where no status names a fault
-pub reads_stood : (why : Stop) (status : Status) (a b : Type 0) (x y : ℕ) → CountsReads (Err why) (Counted a b x y) → EndsIn why status → IsFaultless status → y ≡ x
+pub reads_stood : (why : Stop) (status : Status) (a b : Type 0) (x y : ℕ) → CountsReads (Err why) (Counted a b x y)
+    → EndsIn why status → IsFaultless status → y ≡ x
 reads_stood why Done a b x y reads e f = absurd e
 reads_stood why Usage a b x y reads e f = absurd e
 reads_stood why ReadFault a b x y reads e f = absurd f
@@ -116,18 +125,6 @@ read_fault_is why e = ap (λ k. is_read_fault (Err k)) e
 pub write_fault_is : (why : Stop) → why ≡ stop.WriteFault → is_write_fault (Err why) ≡ true
 write_fault_is why e = ap (λ k. is_write_fault (Err k)) e
 
--- a status that names no fault comes of a stop that no source made
-pub faultless_reads : (why : Stop) (status : Status) → EndsIn why status → IsFaultless status → is_read_fault (Err why) ≡ false
-faultless_reads why Done e f = absurd e
-faultless_reads why Usage e f = absurd e
-faultless_reads why ReadFault e f = absurd f
-faultless_reads why WriteFault e f = absurd f
-faultless_reads why BadCapture e f = ap (λ k. is_read_fault (Err k)) e.1
-faultless_reads stop.ReadFault OutOfMemory e f = absurd e
-faultless_reads stop.WriteFault OutOfMemory e f = absurd e
-faultless_reads stop.OutOfMemory OutOfMemory e f = refl
-faultless_reads (stop.Refused refusal) OutOfMemory e f = refl
-
 -- a status other than WriteFault comes of a stop that no sink made
 pub other_writes : (why : Stop) (status : Status) → EndsIn why status → status ≢ WriteFault → is_write_fault (Err why) ≡ false
 other_writes why Done e other = absurd e
@@ -145,7 +142,8 @@ pub other_stop : (why : Stop) (status : Status) → EndsIn why status → status
 other_stop why status e other is = let clash : is_write_fault (Err why) ≡ true = ap is_write_fault is in let none = sym clash ∙ other_writes why status e other in cc
 
 -- streams that never fail
-pub faultless_stopped : (why : Stop) (status : Status) → EndsIn why status → is_read_fault (Err why) ≡ false → is_write_fault (Err why) ≡ false → (status ≡ WriteFault → why ≡ stop.WriteFault) → IsFaultless status
+pub faultless_stopped : (why : Stop) (status : Status) → EndsIn why status → is_read_fault (Err why) ≡ false
+    → is_write_fault (Err why) ≡ false → (status ≡ WriteFault → why ≡ stop.WriteFault) → IsFaultless status
 faultless_stopped why Done e reads writes note = absurd e
 faultless_stopped why Usage e reads writes note = absurd e
 faultless_stopped why ReadFault e reads writes note = let clash = sym (read_fault_is why e) ∙ reads in cc

@@ -26,14 +26,16 @@ WritesBy WriteFault text had written = HasFront had text written
 WritesBy OutOfMemory text had written = HasFront had text written
 
 -- What goes out behind what the sink had: the drained history of what the source's capture gives.
-abbrev pub WritesHistory : {K : Type 0} → Status → Option (List ℕ) → (K → Option (List ℕ)) → K → K → Type 0
+abbrev pub WritesHistory : {K : Type 0}
+    → Status → Option (List ℕ) → (K → Option (List ℕ)) → K → K → Type 0
 WritesHistory status left written old new =
     (capture had : List ℕ) → left ≡ Some capture → written old ≡ Some had
     → WritesBy status (replayed capture) had (written new)
 
 -- The whole records that went out spell a legal history, whose clients are answered.
 abbrev pub WritesLegal : {K : Type 0} → (K → Option (List ℕ)) → K → K → Type 0
-WritesLegal written old new = (had : List ℕ) → written old ≡ Some had → GrowsSpelled had (written new)
+WritesLegal written old new =
+    (had : List ℕ) → written old ≡ Some had → GrowsSpelled had (written new)
 
 -- Nothing went out, or whole records of a legal history.
 abbrev pub WritesWhole : {K : Type 0} → (K → Option (List ℕ)) → K → K → Type 0
@@ -71,7 +73,8 @@ NamesBy WriteFault a had after = Unit {0}
 NamesBy OutOfMemory a had after = Unit {0}
 
 -- At BadCapture the note names why the source's capture is refused.
-abbrev pub NamesRefusal : {N : Type 0} → Status → Option (List ℕ) → (N → Option (List ℕ)) → N → N → Type 0
+abbrev pub NamesRefusal : {N : Type 0}
+    → Status → Option (List ℕ) → (N → Option (List ℕ)) → N → N → Type 0
 NamesRefusal status left written old new =
     (capture had : List ℕ) → left ≡ Some capture → written old ≡ Some had
     → NamesBy status (accepted capture) had (written new)

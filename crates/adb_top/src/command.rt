@@ -43,7 +43,7 @@ pub fn run<S: Source, K: Sink, N: Sink>(
     // Done: the capture is whole and was read to its end. BadCapture: it is refused.
     ensures ends { EndsCapture result S.left source.old source.new }
 
-    // The note has the one line of the status; at WriteFault, where it failed itself, what went out.
+    // The note has the one line of the status; where it failed itself, what went out of its lines.
     ensures notes { WritesNote result N.faults N.written note.old note.new }
 
     // At BadCapture that line names why the capture is refused.

@@ -18,28 +18,31 @@ const READ_FAULT: &[u8] = b"adbhub: read fault\n";
 
 const WRITE_FAULT: &[u8] = b"adbhub: write fault\n";
 
-/// A run over `ASKED`, at which calls its source, its sink and its note fail, and how it ends.
+/// A run over `ASKED` and so many clients more that join, at which calls its source, its sink and
+/// its note fail, and how it ends: how many bytes of the whole history go out.
 #[derive(Drop)]
 struct Case {
     words: &'static [&'static str],
+    joins: u32,
     reads: &'static [u64],
     writes: &'static [u64],
     notes: &'static [u64],
     status: Status,
     code: u8,
-    history: &'static [u8],
+    written: usize,
     note: &'static [u8],
 }
 
 /// A replay over which nothing fails.
 const REPLAY: Case = Case {
     words: &["replay"],
+    joins: 0,
     reads: &[],
     writes: &[],
     notes: &[],
     status: Status::Done,
     code: 0,
-    history: ANSWERED,
+    written: 63,
     note: b"",
 };
 
@@ -47,7 +50,7 @@ const NO_COMMAND: Case = Case {
     words: &[],
     status: Status::Usage,
     code: 2,
-    history: b"",
+    written: 0,
     note: USAGE,
     ..REPLAY
 };
@@ -56,7 +59,7 @@ const FAILING_SOURCE: Case = Case {
     reads: &[2],
     status: Status::ReadFault,
     code: 3,
-    history: b"",
+    written: 0,
     note: READ_FAULT,
     ..REPLAY
 };
@@ -65,7 +68,7 @@ const FAILING_SINK: Case = Case {
     writes: &[1],
     status: Status::WriteFault,
     code: 4,
-    history: b"",
+    written: 0,
     note: WRITE_FAULT,
     ..REPLAY
 };
@@ -78,17 +81,29 @@ fn words_of(alloc: Global, words: &[&str]) -> Result<Vec<String>, AllocError> {
     Ok(owned)
 }
 
+/// Some records, and behind them those of so many clients that join from the second on.
+fn with_joins(alloc: Global, records: &[u8], joins: u32) -> Result<Text, AllocError> {
+    let mut bytes = Text::from_slice(alloc, records)?;
+    for client in 2..2 + u64::from(joins) {
+        // Its kind, then its number and the length 0 of its data in four bytes each.
+        bytes.push_slice(b"J")?;
+        bytes.push_slice(&client.to_le_bytes())?;
+    }
+    Ok(bytes)
+}
+
 /// The run of a case ends as it says.
 fn ends(rt: &impl Abort, alloc: Global, case: &Case) -> Result<(), Fail> {
     let words = words_of(alloc, case.words)?;
-    let bytes = Text::from_slice(alloc, ASKED)?;
+    let bytes = with_joins(alloc, ASKED, case.joins)?;
+    let history = with_joins(alloc, ANSWERED, case.joins)?;
     let mut source = MemorySource::new(bytes, 5, Vec::from_slice(alloc, case.reads)?);
     let mut sink = MemorySink::new(alloc, Vec::from_slice(alloc, case.writes)?);
     let mut note = MemorySink::new(alloc, Vec::from_slice(alloc, case.notes)?);
     let status = run(alloc, words.as_slice(), &mut source, &mut sink, &mut note);
     assert_eq!(rt; status, case.status);
     assert_eq!(rt; status.code(), case.code);
-    assert_eq!(rt; sink.bytes(), case.history);
+    assert_eq!(rt; Some(sink.bytes()), history.as_slice().get(..case.written));
     assert_eq!(rt; note.bytes(), case.note);
     Ok(())
 }
@@ -109,10 +124,17 @@ fn wrong_words_and_failing_streams(rt: HostRuntime) -> Result<(), Fail> {
         FAILING_SOURCE,
         Case {
             reads: &[5],
-            history: b"ADBHUB1\nJ\x01\0\0\0\0\0\0\0",
+            written: 17,
             ..FAILING_SOURCE
         },
         FAILING_SINK,
+        // The first piece has the records up to the one that makes it 65,536 bytes.
+        Case {
+            joins: 8_000,
+            writes: &[2],
+            written: 65_538,
+            ..FAILING_SINK
+        },
         Case {
             notes: &[1],
             note: b"",
