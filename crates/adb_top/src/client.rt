@@ -1,16 +1,17 @@
 //! One client of the machine.
 
-ghost use Rattle.std.specs.Prelude.{◌≡◌, ◌<◌, ◌≤◌, ◌+◌, ◌++◌, List, ℕ, [], length, take, All, IfOk, nat_lt};
+ghost use Rattle.std.specs.Prelude.{◌≡◌, ◌<◌, ◌≤◌, ◌+◌, ◌++◌, List, ℕ, [], length, take, drop, All, IfOk, nat_lt};
 ghost use Rattle.std.specs.Option.{option_copied};
 ghost use Rattle.adb_history.specs.Machine.{Client as Row, fresh, settled, ended, handed, answer, end_phase, phase_after};
 ghost use Rattle.adb_history.specs.Kept.{kept_of, IsResting};
 ghost use Rattle.adb_top.specs.Client.{ReadsPiece, AnswersPiece, Replies, is_gone_phase};
 
 use adb_history::Phase;
-use adb_outside::{ByteQueue, Cause, Text};
+use adb_outside::{Cause, Text};
 use adb_request::{Found, Request, cut, read};
 use std::alloc::{AllocError, Global};
 use std::marker::Model;
+use std::mem::replace;
 
 /// Why the bytes of a client were not read.
 #[derive(Clone, Copy, Debug, PartialEq, Eq, Drop)]
@@ -54,15 +55,24 @@ fn first(bytes: &[u8], max: usize) -> &[u8]
 pub struct Client {
     phase: Phase,
     unread: Vec<u8>,
-    due: ByteQueue,
+    due: Vec<u8>,
+    /// How many of the bytes in `due` were handed out.
+    handed: usize,
 }
 
 impl Model for Client {
+    ghost use Rattle.std.specs.Prelude.{◌≤◌, drop, length};
     ghost use Rattle.adb_history.specs.Kept.{KeptClient};
 
     ghost Value = { KeptClient };
 
-    ghost view = { λ c. record { phase = c.phase; unread = c.unread.items; due = c.due.bytes } };
+    ghost view = { λ c. record {
+      phase = c.phase;
+      unread = c.unread.items;
+      due = drop c.handed c.due.items;
+    } };
+
+    ghost invariant = { λ c. c.handed ≤ length c.due.items };
 }
 
 impl Client {
@@ -73,7 +83,8 @@ impl Client {
         Client {
             phase: Phase::Asking,
             unread: Vec::new(alloc),
-            due: ByteQueue::new(alloc),
+            due: Vec::new(alloc),
+            handed: 0,
         }
     }
 
@@ -88,7 +99,7 @@ impl Client {
     pub fn is_owed(&self) -> bool
         ensures { result ≡ nat_lt 0 (length self.now.due) }
     {
-        !self.due.is_empty()
+        self.handed < self.due.len()
     }
 
     /// Bytes come from the client.
@@ -156,7 +167,7 @@ impl Client {
         ensures { Replies (answer request.now) self.old result self.new }
     {
         let reply = reply_to(request).ok_or(Unread::NotBuilt)?;
-        self.due.push(reply)?;
+        self.due.extend_from_slice(reply)?;
         self.close();
         Ok(())
     }
@@ -186,10 +197,29 @@ impl Client {
         ensures fewer { IfOk result
             (λ text. length self.new.due + length text ≡ length self.old.due) }
     {
-        let text = Text::from_slice(alloc, first(self.due.as_slice(), max))?;
-        self.due.take(text.len());
+        let front = first(&self.due[self.handed..], max);
+        let text = if front.len() == self.due.len() {
+            Text::from_vec(replace(&mut self.due, Vec::new(alloc)))
+        } else {
+            let text = Text::from_slice(alloc, front)?;
+            self.took(text.len());
+            text
+        };
         self.settle();
         Ok(text)
+    }
+
+    /// So many of the bytes that are due were handed out. Where these were all, the room is used
+    /// anew.
+    fn took(&mut self, count: usize)
+        requires { count ≤ length self.old.due }
+        ensures { self.new ≡ record self.old { due = drop count self.old.due } }
+    {
+        self.handed += count;
+        if self.handed == self.due.len() {
+            self.due.clear();
+            self.handed = 0;
+        }
     }
 
     /// It is read no more.
@@ -216,6 +246,7 @@ impl Client {
     {
         self.unread.clear();
         self.due.clear();
+        self.handed = 0;
         self.phase = Phase::Gone;
     }
 
