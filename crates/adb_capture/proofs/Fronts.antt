@@ -1,5 +1,5 @@
 -- A record at the front of some bytes: what it tells, and what tells it.
-use Rattle.std.proofs.Common.{ℕ, ◌+◌, ◌≡◌, ◌≤◌, ◌<◌, Bool, true, false, not, if◌then◌else◌, List, ◌++◌, length, take, drop, Option, Some, None, refl, sym, ◌∙◌, ap, subst, arith, inl, inr}
+use Rattle.std.proofs.Common.{ℕ, ◌+◌, ◌≡◌, ◌≤◌, ◌<◌, Bool, true, false, not, if◌then◌else◌, List, ◌++◌, length, take, drop, Option, Some, None, refl, sym, ◌∙◌, ap, arith, inl, inr}
 use Rattle.std.specs.Prelude.{nat_lt}
 use Rattle.std.proofs.lemmas.Bool.{cases_lt, ltb-true, ltb-false, le-ltb}
 use Rattle.std.proofs.lemmas.List.{length-append, length-drop, length-take-le, take-append-le, drop-append-le, take-append-drop, get_or_append_left}
@@ -9,13 +9,13 @@ use Rattle.adb_outside.specs.declared.framer.Front.{Front}
 use Rattle.adb_outside.specs.declared.framer.Front.TheVariants.{More, Bad, Whole}
 use Rattle.adb_outside.specs.Framing.{IsFraming}
 use Rattle.adb_capture.specs.declared.entry.Entry.{Entry}
-use Rattle.adb_capture.specs.declared.error.CaptureError.{CaptureError}
-use Rattle.adb_capture.specs.declared.error.CaptureError.TheVariants.{BadMagic, BadRecord, Truncated, TooLong, ReadFault, OutOfMemory}
+use Rattle.adb_capture.specs.declared.error.FormFault.{FormFault}
+use Rattle.adb_capture.specs.declared.error.FormFault.TheVariants.{BadRecord, TooLong}
 use Rattle.adb_capture.specs.declared.error.Why.TheVariants.{UnknownKind, BadForm, TooLarge}
 use Rattle.adb_capture.specs.Records.{record_at, formed, is_kind, kind_in, owner_in, size_in, data_in, entry_at, entry_in, offset_after}
 
 -- the tests of a record, apart from the bytes
-abbrev pub tested : (short known large far part : Bool) → ℕ → ℕ → Option Entry → Front CaptureError
+abbrev pub tested : (short known large far part : Bool) → ℕ → ℕ → Option Entry → Front FormFault
 tested short known large far part offset size e =
     if short then More
     else (if not known then Bad (BadRecord offset UnknownKind)
@@ -132,12 +132,12 @@ whole_alone offset x n h =
       formed = sym (entry_before (take n x) (drop n x) (omega (arith, s, w.size, len))) ∙ (ap entry_of parts ∙ w.formed);
     })
 
-formed_bad : (offset size : ℕ) (e : Option Entry) (error : CaptureError) → formed offset size e ≡ Bad error → (e ≡ None) × (error ≡ BadRecord offset BadForm)
+formed_bad : (offset size : ℕ) (e : Option Entry) (error : FormFault) → formed offset size e ≡ Bad error → (e ≡ None) × (error ≡ BadRecord offset BadForm)
 formed_bad offset size None error h = (refl, cc)
 formed_bad offset size (Some e) error h = cc
 
 -- what a refusal tells: it is none of the tests of the bytes behind the header, or these are passed
-tested_bad : (short known large far part other_part : Bool) (offset size : ℕ) (e other : Option Entry) (error : CaptureError) → tested short known large far part offset size e ≡ Bad error
+tested_bad : (short known large far part other_part : Bool) (offset size : ℕ) (e other : Option Entry) (error : FormFault) → tested short known large far part offset size e ≡ Bad error
     → (part ≡ false → (other_part ≡ false) × (other ≡ e)) → (short ≡ false) × (tested false known large far other_part offset size other ≡ Bad error)
 tested_bad true known large far part other_part offset size e other error h same = cc
 tested_bad false false large far part other_part offset size e other error h same = (refl, h)
@@ -148,7 +148,7 @@ tested_bad false true false false false other_part offset size e other error h s
     (refl, ap (λ b. tested false true false false b offset size other) (same refl).0 ∙ (ap (formed offset size) (same refl).1 ∙ h))
 
 -- a refusal stays, whatever follows
-pub bad_stays : (offset : ℕ) (x y : List ℕ) (error : CaptureError) → record_at offset x ≡ Bad error → record_at offset (x ++ y) ≡ Bad error
+pub bad_stays : (offset : ℕ) (x y : List ℕ) (error : FormFault) → record_at offset x ≡ Bad error → record_at offset (x ++ y) ≡ Bad error
 bad_stays offset x y error h =
     let h' = sym (as_tested offset x) ∙ h in
     let long : (nat_lt (length x) 9 ≡ false) → 9 ≤ length x = ltb-false (length x) 9 in
@@ -192,25 +192,3 @@ more_is_short offset x h =
           let t = tested_more (nat_lt (length x) 9) (is_kind (kind_in x)) (nat_lt 2097152 (size_in x)) (nat_lt 1073741824 (offset + 9 + size_in x)) (nat_lt (length x) (9 + size_in x)) offset (size_in x) (entry_of x) (sym (as_tested offset x) ∙ h) (le-ltb (length x) 9 l) in
           omega (arith, ltb-false 2097152 (size_in x) t.0, ltb-true (length x) (9 + size_in x) t.1)
     ]
-
--- what a front is refused for
-abbrev pub IsFormError : CaptureError → Type 0
-IsFormError BadMagic = ⊥
-IsFormError (BadRecord at why) = Unit {0}
-IsFormError (Truncated at) = ⊥
-IsFormError (TooLong at) = Unit {0}
-IsFormError ReadFault = ⊥
-IsFormError OutOfMemory = ⊥
-
-tested_error : (short known large far part : Bool) (offset size : ℕ) (e : Option Entry) (error : CaptureError) → tested short known large far part offset size e ≡ Bad error → IsFormError error
-tested_error true known large far part offset size e error h = let clash : More ≡ Bad error = h in cc
-tested_error false false large far part offset size e error h = let is : BadRecord offset UnknownKind ≡ error = cc in subst IsFormError is tt
-tested_error false true true far part offset size e error h = let is : BadRecord offset TooLarge ≡ error = cc in subst IsFormError is tt
-tested_error false true false true part offset size e error h = let is : TooLong offset ≡ error = cc in subst IsFormError is tt
-tested_error false true false false true offset size e error h = let clash : More ≡ Bad error = h in cc
-tested_error false true false false false offset size None error h = let is : BadRecord offset BadForm ≡ error = cc in subst IsFormError is tt
-tested_error false true false false false offset size (Some e) error h = let clash : Whole (9 + size) ≡ Bad error = h in cc
-
-pub bad_is_form : (offset : ℕ) (x : List ℕ) (error : CaptureError) → record_at offset x ≡ Bad error → IsFormError error
-bad_is_form offset x error h =
-    tested_error (nat_lt (length x) 9) (is_kind (kind_in x)) (nat_lt 2097152 (size_in x)) (nat_lt 1073741824 (offset + 9 + size_in x)) (nat_lt (length x) (9 + size_in x)) offset (size_in x) (entry_of x) error (sym (as_tested offset x) ∙ h)

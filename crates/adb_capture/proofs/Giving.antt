@@ -4,6 +4,7 @@ use Rattle.std.specs.Prelude.{option_map}
 use Rattle.std.proofs.lemmas.List.{length-take-le, take-append-le, drop-append-le}
 use Rattle.adb_outside.specs.declared.framer.Front.TheVariants.{Whole}
 use Rattle.adb_capture.specs.declared.entry.Entry.{Entry}
+use Rattle.adb_capture.specs.declared.error.FormFault.TheVariants as form
 use Rattle.adb_capture.specs.declared.error.CaptureError.{CaptureError}
 use Rattle.adb_capture.specs.declared.error.CaptureError.TheVariants.{BadMagic, BadRecord, Truncated, TooLong, ReadFault, OutOfMemory}
 use Rattle.adb_capture.specs.Records.{magic, record_at, entry_in}
@@ -59,11 +60,11 @@ gives_end offset held bytes after h none all = let empty : bytes ≡ [] = sym al
 pub gives_refusal : (offset : ℕ) (first held coming : List ℕ) (before after : Option (List ℕ)) (e : CaptureError) → option_map (λ rest. held ++ rest) after ≡ Some (first ++ coming) → before ≡ Some coming
     → AwaitsRecord offset first before held (Err e) → IsRefused offset (first ++ coming) e
 gives_refusal offset first held coming before after BadMagic h told is = is
-gives_refusal offset first held coming before after (BadRecord at why) h told is = let f = held_first held (first ++ coming) after h in ap (record_at offset) f.2 ∙ bad_stays offset held f.0 (BadRecord at why) is
+gives_refusal offset first held coming before after (BadRecord at why) h told is = let f = held_first held (first ++ coming) after h in ap (record_at offset) f.2 ∙ bad_stays offset held f.0 (form.BadRecord at why) is
 gives_refusal offset first held coming before after (Truncated at) h told is =
     let all : held ≡ first ++ coming = is.3 coming told in
     (λ none. is.1 (all ∙ none), ap (record_at offset) (sym all) ∙ is.2, is.0)
-gives_refusal offset first held coming before after (TooLong at) h told is = let f = held_first held (first ++ coming) after h in ap (record_at offset) f.2 ∙ bad_stays offset held f.0 (TooLong at) is
+gives_refusal offset first held coming before after (TooLong at) h told is = let f = held_first held (first ++ coming) after h in ap (record_at offset) f.2 ∙ bad_stays offset held f.0 (form.TooLong at) is
 gives_refusal offset first held coming before after ReadFault h told is = tt
 gives_refusal offset first held coming before after OutOfMemory h told is = tt
 

@@ -1,9 +1,8 @@
 -- Bytes that are held and bytes that are still to come.
-use Rattle.std.proofs.Common.{ℕ, ◌+◌, ◌≡◌, ◌≤◌, List, [], ◌∷◌, ◌++◌, length, take, drop, Option, Some, Bool, suc, sym, ◌∙◌, ap, subst, arith}
+use Rattle.std.proofs.Common.{ℕ, ◌+◌, ◌≡◌, ◌≤◌, List, [], ◌∷◌, ◌++◌, length, take, drop, Option, Some, suc, sym, ◌∙◌, ap, arith}
 use Rattle.std.specs.Prelude.{option_map}
 use Rattle.std.proofs.lemmas.List.{append_assoc, take-append-drop, drop-append-le}
 use Rattle.adb_outside.specs.Source.{Takes}
-use Rattle.adb_outside.specs.Outside.{Counted}
 
 -- the first bytes that were to come are held now
 pub keeps_more : (old held chunk coming : List ℕ) (after : Option (List ℕ)) (n : ℕ) → held ≡ old ++ take n chunk → Takes coming after chunk n → option_map (λ rest. held ++ rest) after ≡ Some (old ++ coming)
@@ -14,10 +13,6 @@ keeps_more old held chunk coming after n is t =
 -- bytes at the end of those of which some were taken
 pub grows : (taken : ℕ) (bytes old x grown : List ℕ) → taken ≤ length bytes → drop taken bytes ≡ old → grown ≡ bytes ++ x → drop taken grown ≡ old ++ x
 grows taken bytes old x grown within is more = ap (drop taken) more ∙ (drop-append-le taken bytes x within ∙ ap (λ h. h ++ x) is)
-
--- the same of an answer that is no failed read either
-pub counted_as : (P Q : Type 0) (a b : ℕ) (failed other : Bool) → failed ≡ other → Counted P Q a b failed → Counted P Q a b other
-counted_as P Q a b failed other e h = subst (λ (f : Bool). Counted P Q a b f) e h
 
 -- a front that goes past the first of two lists
 pub take_past : (xs ys : List ℕ) (n : ℕ) → take (length xs + n) (xs ++ ys) ≡ xs ++ take n ys

@@ -3,6 +3,7 @@ use Rattle.std.specs.Prelude.{ℕ, ◌+◌, ◌≡◌, ◌≢◌, ◌<◌, ◌�
 use Rattle.adb_outside.specs.declared.source.Got.{Got}
 use Rattle.adb_outside.specs.declared.source.Got.TheVariants.{Bytes, End, Failed}
 use Rattle.adb_outside.specs.declared.framer.Front.TheVariants.{More, Bad, Whole}
+use Rattle.adb_capture.specs.declared.error.FormFault.TheVariants as form
 use Rattle.adb_capture.specs.declared.error.CaptureError.{CaptureError}
 use Rattle.adb_capture.specs.declared.error.CaptureError.TheVariants.{BadMagic, BadRecord, Truncated, TooLong, ReadFault, OutOfMemory}
 use Rattle.adb_capture.specs.declared.limits.TheConstants.{READ_LIMIT}
@@ -34,8 +35,8 @@ abbrev pub AwaitsRecord : ℕ → List ℕ → Option (List ℕ) → List ℕ �
 AwaitsRecord offset held_before before held (Ok (Some size)) = record_at offset held ≡ Whole size
 AwaitsRecord offset held_before before held (Ok None) = (held ≡ []) × HoldsAll held_before before held
 AwaitsRecord offset held_before before held (Err BadMagic) = ⊥
-AwaitsRecord offset held_before before held (Err (BadRecord at why)) = record_at offset held ≡ Bad (BadRecord at why)
+AwaitsRecord offset held_before before held (Err (BadRecord at why)) = record_at offset held ≡ Bad (form.BadRecord at why)
 AwaitsRecord offset held_before before held (Err (Truncated at)) = (at ≡ offset) × (held ≢ []) × (record_at offset held ≡ More) × HoldsAll held_before before held
-AwaitsRecord offset held_before before held (Err (TooLong at)) = record_at offset held ≡ Bad (TooLong at)
+AwaitsRecord offset held_before before held (Err (TooLong at)) = record_at offset held ≡ Bad (form.TooLong at)
 AwaitsRecord offset held_before before held (Err ReadFault) = Unit {0}
 AwaitsRecord offset held_before before held (Err OutOfMemory) = Unit {0}

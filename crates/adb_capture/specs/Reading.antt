@@ -2,6 +2,7 @@
 use Rattle.std.specs.Prelude.{ℕ, ◌+◌, ◌≡◌, ◌≢◌, ◌<◌, ◌≤◌, Bool, true, false, if◌then◌else◌, List, [], ◌++◌, length, take, drop, Option, Some, None, option_and_then, Result, Ok, Err, IfOk, IfSome, bytes_eq}
 use Rattle.adb_outside.specs.declared.framer.Front.TheVariants.{More, Bad, Whole}
 use Rattle.adb_capture.specs.declared.entry.Entry.{Entry}
+use Rattle.adb_capture.specs.declared.error.FormFault.TheVariants as form
 use Rattle.adb_capture.specs.declared.error.CaptureError.{CaptureError}
 use Rattle.adb_capture.specs.declared.error.CaptureError.TheVariants.{BadMagic, BadRecord, Truncated, TooLong, ReadFault, OutOfMemory}
 use Rattle.adb_capture.specs.declared.limits.TheConstants.{DATA_LIMIT, CAPTURE_LIMIT, READ_LIMIT}
@@ -44,9 +45,9 @@ pub record GivesRecord (offset : ℕ) (before : List ℕ) (given : ℕ × Entry)
 
 -- an error says what the bytes ahead begin with
 abbrev pub IsRefused : ℕ → List ℕ → CaptureError → Type 0
-IsRefused offset before (BadRecord at why) = record_at offset before ≡ Bad (BadRecord at why)
+IsRefused offset before (BadRecord at why) = record_at offset before ≡ Bad (form.BadRecord at why)
 IsRefused offset before (Truncated at) = (before ≢ []) × (record_at offset before ≡ More) × (at ≡ offset)
-IsRefused offset before (TooLong at) = record_at offset before ≡ Bad (TooLong at)
+IsRefused offset before (TooLong at) = record_at offset before ≡ Bad (form.TooLong at)
 IsRefused offset before ReadFault = Unit {0}
 IsRefused offset before OutOfMemory = Unit {0}
 IsRefused offset before BadMagic = ⊥

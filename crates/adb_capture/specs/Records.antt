@@ -13,8 +13,8 @@ use Rattle.adb_capture.specs.declared.entry.Owner.{Owner}
 use Rattle.adb_capture.specs.declared.entry.Owner.TheVariants.{Client, Link}
 use Rattle.adb_capture.specs.declared.limits.TheConstants.{DATA_LIMIT, CAPTURE_LIMIT}
 use Rattle.adb_capture.specs.declared.error.Why.TheVariants.{UnknownKind, BadForm, TooLarge}
-use Rattle.adb_capture.specs.declared.error.CaptureError.{CaptureError}
-use Rattle.adb_capture.specs.declared.error.CaptureError.TheVariants.{BadRecord, TooLong}
+use Rattle.adb_capture.specs.declared.error.FormFault.{FormFault}
+use Rattle.adb_capture.specs.declared.error.FormFault.TheVariants.{BadRecord, TooLong}
 
 -- the eight bytes that a capture begins with: ADBHUB1 and a newline
 abbrev pub magic : List ℕ
@@ -182,12 +182,12 @@ size_in bytes = little_number 4 (drop 5 bytes)
 abbrev pub data_in : List ℕ → List ℕ
 data_in bytes = take (size_in bytes) (drop 9 bytes)
 
-abbrev pub formed : ℕ → ℕ → Option Entry → Front CaptureError
+abbrev pub formed : ℕ → ℕ → Option Entry → Front FormFault
 formed offset size None = Bad (BadRecord offset BadForm)
 formed offset size (Some e) = Whole (9 + size)
 
 -- What the bytes at an offset begin with: a record, or the first of its refusals.
-unfoldable pub record_at : ℕ → List ℕ → Front CaptureError
+unfoldable pub record_at : ℕ → List ℕ → Front FormFault
 record_at offset bytes =
     if nat_lt (length bytes) 9 then More
     else (if not (is_kind (kind_in bytes)) then Bad (BadRecord offset UnknownKind)

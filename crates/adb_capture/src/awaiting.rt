@@ -64,7 +64,7 @@ pub(crate) fn await_record<S: Source>(
         found = front(offset, held.as_slice());
     }
     match found {
-        Front::Bad(error) => Err(error),
+        Front::Bad(fault) => Err(CaptureError::from(fault)),
         Front::Whole(size) => Ok(Some(size)),
         Front::More => unreachable!(),
     }

@@ -11,6 +11,14 @@ pub enum Why {
     TooLarge,
 }
 
+/// Why no record begins so. An offset is that of its first byte in the capture.
+#[derive(Clone, Copy, Debug, PartialEq, Eq, Drop)]
+pub enum FormFault {
+    BadRecord { offset: u64, why: Why },
+    /// The record ends past byte 1,073,741,824 of the capture.
+    TooLong { offset: u64 },
+}
+
 /// Why no record is read. An offset is that of the record's first byte in the capture.
 #[derive(Clone, Copy, Debug, PartialEq, Eq, Drop)]
 pub enum CaptureError {
@@ -25,4 +33,18 @@ pub enum CaptureError {
     ReadFault,
     /// Memory ran out. The next call gives the same record.
     OutOfMemory,
+}
+
+impl From<FormFault> for CaptureError {
+    ghost use Rattle.std.specs.Prelude.{◌≡◌};
+    ghost use Rattle.adb_capture.specs.Faults.{error_of};
+
+    ghost from_gives = { λ fault e. e ≡ error_of fault };
+
+    fn from(fault: FormFault) -> CaptureError {
+        match fault {
+            FormFault::BadRecord { offset, why } => CaptureError::BadRecord { offset, why },
+            FormFault::TooLong { offset } => CaptureError::TooLong { offset },
+        }
+    }
 }

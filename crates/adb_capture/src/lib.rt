@@ -16,7 +16,7 @@ mod tests;
 mod writer;
 
 pub use entry::{Entry, Owner};
-pub use error::{CaptureError, Why};
+pub use error::{CaptureError, FormFault, Why};
 pub use laws::{read_is_spelled, records_are_framed, spelled_is_read};
 pub use limits::{CAPTURE_LIMIT, DATA_LIMIT, READ_LIMIT};
 pub use reader::CaptureReader;

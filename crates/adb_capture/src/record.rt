@@ -4,7 +4,7 @@ ghost use Rattle.std.specs.Prelude.{◌≡◌, ◌≤◌, IfOk, length};
 ghost use Rattle.adb_capture.specs.Records.{record_at, entry_in, is_kind, owner_in, size_in, HasRecord};
 
 use crate::entry::Entry;
-use crate::error::{CaptureError, Why};
+use crate::error::{FormFault, Why};
 use crate::form::Form;
 use crate::limits::{CAPTURE_LIMIT, DATA_LIMIT};
 use adb_outside::Front;
@@ -16,7 +16,7 @@ const HEADER_LEN: usize = 9;
 
 /// What the bytes at an offset of a capture begin with: a record, or the first of its refusals.
 #[tactic(auto, unfolding(crate::specs::Records::record_at))]
-pub(crate) fn front(offset: u64, bytes: &[u8]) -> Front<CaptureError>
+pub(crate) fn front(offset: u64, bytes: &[u8]) -> Front<FormFault>
     requires { offset ≤ CAPTURE_LIMIT }
     ensures { result ≡ record_at offset bytes.now }
 {
@@ -31,7 +31,7 @@ pub(crate) fn front(offset: u64, bytes: &[u8]) -> Front<CaptureError>
         return bad(offset, Why::TooLarge);
     }
     if offset + 9 + size as u64 > CAPTURE_LIMIT {
-        return Front::Bad(CaptureError::TooLong { offset });
+        return Front::Bad(FormFault::TooLong { offset });
     }
     let end = HEADER_LEN + size;
     if bytes.len() < end {
@@ -56,10 +56,10 @@ pub(crate) fn read(alloc: Global, offset: u64, bytes: &[u8]) -> Result<(u64, Ent
     }
 }
 
-fn bad(offset: u64, why: Why) -> Front<CaptureError>
-    ensures { result ≡ Front.Bad (CaptureError.BadRecord offset why) }
+fn bad(offset: u64, why: Why) -> Front<FormFault>
+    ensures { result ≡ Front.Bad (FormFault.BadRecord offset why) }
 {
-    Front::Bad(CaptureError::BadRecord { offset, why })
+    Front::Bad(FormFault::BadRecord { offset, why })
 }
 
 /// Whether some record is of that kind.

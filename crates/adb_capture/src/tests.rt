@@ -162,7 +162,7 @@ fn a_capture_has_a_last_byte(rt: HostRuntime) {
     let join = b"J\x01\0\0\0\0\0\0\0";
     let offset = 1_073_741_816;
     assert!(rt; front(offset - 1, join) == Front::Whole(9));
-    assert!(rt; front(offset, join) == Front::Bad(CaptureError::TooLong { offset }));
+    assert!(rt; front(offset, join) == Front::Bad(FormFault::TooLong { offset }));
     records_are_framed();
     spelled_is_read();
     read_is_spelled();

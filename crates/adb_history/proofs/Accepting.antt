@@ -8,16 +8,17 @@ use Rattle.adb_outside.proofs.FramingLaws.{cut_first}
 use Rattle.adb_capture.specs.Records.{record_at, entry_in, offset_after}
 use Rattle.adb_capture.proofs.Fronts.{framing}
 use Rattle.adb_capture.specs.declared.entry.Entry.{Entry}
-use Rattle.adb_capture.specs.declared.error.CaptureError.{CaptureError}
+use Rattle.adb_capture.specs.Faults.{error_of}
+use Rattle.adb_capture.specs.declared.error.FormFault.{FormFault}
 use Rattle.adb_history.specs.Machine.{History, state}
 use Rattle.adb_history.specs.Drained.{or_stay, drain, drained_after, drained_from, next_out, owed}
 use Rattle.adb_history.specs.Refusal.{refusal_by}
 use Rattle.adb_history.specs.Accepted.{Accepted, refusal_of, is_input, accept_by, accept_from, accept_cut, accept_records, end_of}
 
 -- a front of the records ahead decides what is accepted of them
-abbrev pub accept_front : ℕ → List ℕ → Front CaptureError → History → Accepted
+abbrev pub accept_front : ℕ → List ℕ → Front FormFault → History → Accepted
 accept_front offset bytes More h = accept_from [] (end_of None bytes offset) h
-accept_front offset bytes (Bad why) h = accept_from [] (refusal_by why) h
+accept_front offset bytes (Bad fault) h = accept_from [] (refusal_by (error_of fault)) h
 accept_front offset bytes (Whole n) h =
     accept_by (refusal_of (state h) (entry_in offset (take n bytes)).0 (entry_in offset (take n bytes)).1)
         (is_input (entry_in offset (take n bytes)).1) h (entry_in offset (take n bytes)).1
@@ -25,9 +26,9 @@ accept_front offset bytes (Whole n) h =
 
 pub accept_first : (offset : ℕ) (bytes : List ℕ) (h : History) → accept_records offset bytes h ≡ accept_front offset bytes (record_at offset bytes) h
 accept_first offset bytes h =
-    ap (λ (c : Cut ℕ (ℕ × Entry) CaptureError). accept_cut c h) (cut_first record_at entry_in offset_after framing offset bytes) ∙ go (record_at offset bytes)
+    ap (λ (c : Cut ℕ (ℕ × Entry) FormFault). accept_cut c h) (cut_first record_at entry_in offset_after framing offset bytes) ∙ go (record_at offset bytes)
   where
-    go : (f : Front CaptureError)
+    go : (f : Front FormFault)
         → accept_cut (cut_by record_at entry_in offset_after offset bytes f (cut record_at entry_in offset_after)) h ≡ accept_front offset bytes f h
     go More = refl
     go (Bad why) = refl

@@ -5,7 +5,8 @@ use Rattle.adb_outside.specs.Serial.{is_serial}
 use Rattle.adb_capture.specs.Records.{magic, record_at, entry_in, offset_after, records_of}
 use Rattle.adb_capture.specs.declared.entry.Entry.{Entry}
 use Rattle.adb_capture.specs.declared.entry.Entry.TheVariants.{Join, Enter, Read, End, Bound, Attach, Recv, Detach, Put, Send}
-use Rattle.adb_capture.specs.declared.error.CaptureError.{CaptureError}
+use Rattle.adb_capture.specs.Faults.{error_of}
+use Rattle.adb_capture.specs.declared.error.FormFault.{FormFault}
 use Rattle.adb_capture.specs.declared.error.CaptureError.TheVariants.{BadMagic, Truncated}
 use Rattle.adb_history.specs.Machine.{State, History, state, asks_unbuilt}
 use Rattle.adb_history.specs.Drained.{drained_after, drained}
@@ -62,12 +63,12 @@ accept_from (placed ∷ records) ending h =
     accept_by (refusal_of (state h) placed.0 placed.1) (is_input placed.1) h placed.1 (accept_from records ending)
 
 -- how the records end: by a fault, within a record, or between two
-abbrev pub end_of : Option CaptureError → List ℕ → ℕ → Option Refusal
-end_of (Some why) rest offset = refusal_by why
+abbrev pub end_of : Option FormFault → List ℕ → ℕ → Option Refusal
+end_of (Some fault) rest offset = refusal_by (error_of fault)
 end_of None [] offset = None
 end_of None (b ∷ rest) offset = refusal_by (Truncated offset)
 
-abbrev pub accept_cut : Cut ℕ (ℕ × Entry) CaptureError → History → Accepted
+abbrev pub accept_cut : Cut ℕ (ℕ × Entry) FormFault → History → Accepted
 accept_cut c h = accept_from c.given (end_of c.fault c.rest c.reading) h
 
 -- what the records behind an offset give a server with a history

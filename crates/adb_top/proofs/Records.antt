@@ -7,6 +7,8 @@ use Rattle.adb_capture.specs.Records.{record_at, offset_after}
 use Rattle.adb_capture.specs.Reading.{ahead, ahead_of, to_give, AnswersNext, GivesNext, GivesRecord, IsRefused}
 use Rattle.adb_capture.specs.Counting.{is_fault}
 use Rattle.adb_capture.specs.declared.entry.Entry.{Entry}
+use Rattle.adb_capture.specs.declared.error.FormFault.{FormFault}
+use Rattle.adb_capture.specs.declared.error.FormFault.TheVariants as form
 use Rattle.adb_capture.specs.declared.error.CaptureError.{CaptureError}
 use Rattle.adb_capture.specs.declared.error.CaptureError.TheVariants as capture
 use Rattle.adb_history.specs.Machine.{History, start, state}
@@ -174,7 +176,7 @@ front_so_far first now holds r before was =
 abbrev refused_as : CaptureError → Accepted
 refused_as why = record { inputs = []; refused = refusal_by why }
 
-refused_ahead : (offset : ℕ) (before : List ℕ) (h : History) (f : Front CaptureError) (why : CaptureError) → record_at offset before ≡ f
+refused_ahead : (offset : ℕ) (before : List ℕ) (h : History) (f : Front FormFault) (why : CaptureError) → record_at offset before ≡ f
     → accept_front offset before f h ≡ refused_as why → accept_records offset before h ≡ refused_as why
 refused_ahead offset before h f why is front = accept_first offset before h ∙ (ap (λ k. accept_front offset before k h) is ∙ front)
 
@@ -186,10 +188,11 @@ truncated_ahead offset at (b ∷ before) h some is = ap (λ n. refused_as (captu
 refusal_ahead : (offset : ℕ) (before : List ℕ) (h : History) (e : CaptureError) → refusal_by e ≢ None → IsRefused offset before e
     → accept_records offset before h ≡ refused_as e
 refusal_ahead offset before h capture.BadMagic s r = absurd r
-refusal_ahead offset before h (capture.BadRecord at why) s r = refused_ahead offset before h (Bad (capture.BadRecord at why)) (capture.BadRecord at why) r refl
+refusal_ahead offset before h (capture.BadRecord at why) s r =
+    refused_ahead offset before h (Bad (form.BadRecord at why)) (capture.BadRecord at why) r refl
 refusal_ahead offset before h (capture.Truncated at) s r = refused_ahead offset before h More (capture.Truncated at) r.1
     (truncated_ahead offset at before h r.0 r.2)
-refusal_ahead offset before h (capture.TooLong at) s r = refused_ahead offset before h (Bad (capture.TooLong at)) (capture.TooLong at) r refl
+refusal_ahead offset before h (capture.TooLong at) s r = refused_ahead offset before h (Bad (form.TooLong at)) (capture.TooLong at) r refl
 refusal_ahead offset before h capture.ReadFault s r = absurd (s refl)
 refusal_ahead offset before h capture.OutOfMemory s r = absurd (s refl)
 

@@ -1,7 +1,6 @@
-use Rattle.std.proofs.Common.{rules, ℕ, Option, ap, false, sym, ◌∙◌, arith}
+use Rattle.std.proofs.Common.{rules, ℕ, Option, ap, sym, ◌∙◌, arith}
 use Rattle.adb_capture.specs.Records.{record_at}
 use Rattle.adb_capture.proofs.Fronts.{more_is_short}
-use Rattle.adb_capture.proofs.Keeping.{counted_as}
 use Rattle.adb_capture.proofs.Awaited.{bad_awaited, bad_no_fault}
 use Rattle.adb_capture.proofs.awaiting.await_record.Goals as goal
 
@@ -19,10 +18,10 @@ loop-found-preserved g c =
 
 pub returns-in-Bad : goal.returns-in-Bad
 returns-in-Bad g c =
-    let is = sym c.loop-found.invariant.found ∙ c.in-Bad.is in
+    let bad = bad_awaited c.args.offset c.args.held.now (g.S.Source.left c.args.source.now) c.loop-found.held c.in-Bad.fault (sym c.loop-found.invariant.found ∙ c.in-Bad.is) in
     record {
       few = c.loop-found.invariant.few;
       bytes = c.loop-found.invariant.bytes;
-      is = bad_awaited c.args.offset _ _ c.loop-found.held c.in-Bad.error is;
-      counts = counted_as _ _ _ _ false _ (sym (bad_no_fault (Option ℕ) c.args.offset c.loop-found.held c.in-Bad.error is)) c.loop-found.invariant.counts;
+      is = rw c.from.ensures bad;
+      counts = rw (c.from.ensures, bad_no_fault (Option ℕ) c.in-Bad.fault) c.loop-found.invariant.counts;
     }
