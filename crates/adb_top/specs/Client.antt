@@ -32,12 +32,6 @@ pub record ClosesWith (old : KeptClient) (reply : Option (List ℕ)) (new : Kept
   pub built : reply ≡ Some bytes
   pub is : new ≡ record old { phase = Closing; unread = []; due = old.due ++ bytes }
 
--- a row owes the reply to a request, or the request is not built yet
-abbrev pub Replies : Option (List ℕ) → KeptClient → Result (Unit {0}) Unread → KeptClient → Type 0
-Replies reply old (Ok done) new = ClosesWith old reply new
-Replies reply old (Err NotBuilt) new = reply ≡ None
-Replies reply old (Err OutOfMemory) new = Unit {0}
-
 -- What the request that is unread makes of a row that asks.
 abbrev pub AnswersFront : Found → KeptClient → Result (Unit {0}) Unread → KeptClient → Type 0
 AnswersFront More old (Ok done) new = new ≡ old

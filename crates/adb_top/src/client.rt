@@ -1,10 +1,12 @@
 //! One client of the machine.
 
-ghost use Rattle.std.specs.Prelude.{◌≡◌, ◌<◌, ◌≤◌, ◌+◌, ◌++◌, List, ℕ, [], length, take, drop, All, IfOk, nat_lt};
+ghost use Rattle.std.specs.Prelude.{◌≡◌, ◌<◌, ◌≤◌, ◌+◌, ◌++◌, List, ℕ, [], length, take, drop, All};
+ghost use Rattle.std.specs.Prelude.{Some, None, Err, IfOk, OnOk, nat_lt};
 ghost use Rattle.std.specs.Option.{option_copied};
 ghost use Rattle.adb_history.specs.Machine.{Client as Row, fresh, settled, ended, handed, answer, end_phase, phase_after};
 ghost use Rattle.adb_history.specs.Kept.{kept_of, IsResting};
-ghost use Rattle.adb_top.specs.Client.{ReadsPiece, AnswersPiece, Replies, is_gone_phase};
+ghost use Rattle.adb_request.specs.Meaning.{meaning};
+ghost use Rattle.adb_top.specs.Client.{ReadsPiece, AnswersPiece, ClosesWith, is_gone_phase};
 
 use adb_history::Phase;
 use adb_outside::{Cause, Text};
@@ -30,6 +32,15 @@ impl From<AllocError> for Unread {
     fn from(_error: AllocError) -> Unread {
         Unread::OutOfMemory
     }
+}
+
+/// The reply to the request of a text.
+fn reply(alloc: Global, text: &[u8]) -> Result<&'static [u8], Unread>
+    ensures built { IfOk result (λ reply. answer (meaning text.now) ≡ Some reply.now) }
+    ensures not_built { result ≡ Err Unread.NotBuilt → answer (meaning text.now) ≡ None }
+{
+    let request = read(alloc, text)?;
+    reply_to(&request).ok_or(Unread::NotBuilt)
 }
 
 /// The reply to a request, where it is built: `OKAY` and the version as a string of four digits.
@@ -139,8 +150,8 @@ impl Client {
             Found::More => self.unread.extend_from_slice(piece)?,
             Found::Malformed => self.close(),
             Found::Whole { len } => {
-                let request = read(alloc, &piece[4..4 + len])?;
-                self.reply(&request)?;
+                let owed = reply(alloc, &piece[4..4 + len])?;
+                self.owe(owed)?;
             }
         }
         Ok(())
@@ -155,18 +166,17 @@ impl Client {
             Found::More => {}
             Found::Malformed => self.close(),
             Found::Whole { len } => {
-                let request = read(alloc, &self.unread[4..4 + len])?;
-                self.reply(&request)?;
+                let owed = reply(alloc, &self.unread[4..4 + len])?;
+                self.owe(owed)?;
             }
         }
         Ok(())
     }
 
-    /// Owes the reply to a request, where it is built, and is read no more.
-    fn reply(&mut self, request: &Request) -> Result<(), Unread>
-        ensures { Replies (answer request.now) self.old result self.new }
+    /// Owes the reply to its request, and is read no more.
+    fn owe(&mut self, reply: &[u8]) -> Result<(), AllocError>
+        ensures { OnOk result (ClosesWith self.old (Some reply.now) self.new) }
     {
-        let reply = reply_to(request).ok_or(Unread::NotBuilt)?;
         self.due.extend_from_slice(reply)?;
         self.close();
         Ok(())
