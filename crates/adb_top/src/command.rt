@@ -37,7 +37,7 @@ pub fn run<S: Source, K: Sink, N: Sink>(
     // Whatever the source tells, what went out spells a legal history, whose clients are answered.
     ensures legal { WritesLegal K.written sink.old sink.new }
 
-    // No record is torn, and none that was made is held back, but where a write failed.
+    // No record is torn but where a write failed.
     ensures whole { result ≢ Status.WriteFault → WritesWhole K.written sink.old sink.new }
 
     // Done: the capture is whole and was read to its end. BadCapture: it is refused.
