@@ -1,5 +1,6 @@
 -- A record at the front of some bytes: what it tells, and what tells it.
-use Rattle.std.proofs.Common.{ℕ, ◌+◌, ◌≡◌, ◌≤◌, ◌<◌, Bool, true, false, not, if◌then◌else◌, List, ◌++◌, length, take, drop, Option, Some, None, refl, sym, ◌∙◌, ap, arith, inl, inr}
+use Rattle.std.proofs.Common.{ℕ, ◌+◌, ◌≡◌, ◌≤◌, ◌<◌, Bool, true, false, not, if◌then◌else◌, List, ◌++◌, length, take, drop, Option, Some, None, refl}
+use Rattle.std.proofs.Common.{sym, ◌∙◌, ap, arith, inl, inr}
 use Rattle.std.specs.Prelude.{nat_lt}
 use Rattle.std.proofs.lemmas.Bool.{cases_lt, ltb-true, ltb-false, le-ltb}
 use Rattle.std.proofs.lemmas.List.{length-append, length-drop, length-take-le, take-append-le, drop-append-le, take-append-drop, get_or_append_left}
@@ -27,7 +28,8 @@ tested short known large far part offset size e =
 abbrev pub entry_of : List ℕ → Option Entry
 entry_of x = entry_at (kind_in x) (owner_in x) (data_in x)
 
-pub as_tested : (offset : ℕ) (x : List ℕ) → record_at offset x ≡ tested (nat_lt (length x) 9) (is_kind (kind_in x)) (nat_lt 2097152 (size_in x)) (nat_lt 1073741824 (offset + 9 + size_in x)) (nat_lt (length x) (9 + size_in x)) offset (size_in x) (entry_of x)
+pub as_tested : (offset : ℕ) (x : List ℕ) → record_at offset x ≡ tested (nat_lt (length x) 9) (is_kind (kind_in x)) (nat_lt 2097152 (size_in x))
+    (nat_lt 1073741824 (offset + 9 + size_in x)) (nat_lt (length x) (9 + size_in x)) offset (size_in x) (entry_of x)
 unfolding record_at
 as_tested offset x = refl
 
@@ -72,9 +74,12 @@ pub whole_told : (offset : ℕ) (x : List ℕ) (n : ℕ) → IsWhole offset x n 
 whole_told offset x n h =
     let fits = h.fits in
     as_tested offset x
-    ∙ (ap (λ b. tested b (is_kind (kind_in x)) (nat_lt 2097152 (size_in x)) (nat_lt 1073741824 (offset + 9 + size_in x)) (nat_lt (length x) (9 + size_in x)) offset (size_in x) (entry_of x)) (le-ltb _ _ (omega (arith, h.fits)))
-    ∙ (ap (λ b. tested false b (nat_lt 2097152 (size_in x)) (nat_lt 1073741824 (offset + 9 + size_in x)) (nat_lt (length x) (9 + size_in x)) offset (size_in x) (entry_of x)) h.known
-    ∙ (ap (λ b. tested false true b (nat_lt 1073741824 (offset + 9 + size_in x)) (nat_lt (length x) (9 + size_in x)) offset (size_in x) (entry_of x)) (le-ltb _ _ h.small)
+    ∙ (ap (λ b. tested b (is_kind (kind_in x)) (nat_lt 2097152 (size_in x)) (nat_lt 1073741824 (offset + 9 + size_in x))
+        (nat_lt (length x) (9 + size_in x)) offset (size_in x) (entry_of x)) (le-ltb _ _ (omega (arith, h.fits)))
+    ∙ (ap (λ b. tested false b (nat_lt 2097152 (size_in x)) (nat_lt 1073741824 (offset + 9 + size_in x)) (nat_lt (length x) (9 + size_in x)) offset
+        (size_in x) (entry_of x)) h.known
+    ∙ (ap (λ b. tested false true b (nat_lt 1073741824 (offset + 9 + size_in x)) (nat_lt (length x) (9 + size_in x)) offset (size_in x) (entry_of x))
+        (le-ltb _ _ h.small)
     ∙ (ap (λ b. tested false true false b (nat_lt (length x) (9 + size_in x)) offset (size_in x) (entry_of x)) (le-ltb _ _ h.near)
     ∙ (ap (λ b. tested false true false false b offset (size_in x) (entry_of x)) (le-ltb _ _ h.fits)
     ∙ (ap (λ e. formed offset (size_in x) e) h.formed ∙ ap Whole (sym h.size)))))))
@@ -137,7 +142,8 @@ formed_bad offset size None error h = (refl, cc)
 formed_bad offset size (Some e) error h = cc
 
 -- what a refusal tells: it is none of the tests of the bytes behind the header, or these are passed
-tested_bad : (short known large far part other_part : Bool) (offset size : ℕ) (e other : Option Entry) (error : FormFault) → tested short known large far part offset size e ≡ Bad error
+tested_bad : (short known large far part other_part : Bool) (offset size : ℕ) (e other : Option Entry) (error : FormFault)
+    → tested short known large far part offset size e ≡ Bad error
     → (part ≡ false → (other_part ≡ false) × (other ≡ e)) → (short ≡ false) × (tested false known large far other_part offset size other ≡ Bad error)
 tested_bad true known large far part other_part offset size e other error h same = cc
 tested_bad false false large far part other_part offset size e other error h same = (refl, h)
@@ -152,15 +158,20 @@ pub bad_stays : (offset : ℕ) (x y : List ℕ) (error : FormFault) → record_a
 bad_stays offset x y error h =
     let h' = sym (as_tested offset x) ∙ h in
     let long : (nat_lt (length x) 9 ≡ false) → 9 ≤ length x = ltb-false (length x) 9 in
-    let first = tested_bad (nat_lt (length x) 9) (is_kind (kind_in x)) (nat_lt 2097152 (size_in x)) (nat_lt 1073741824 (offset + 9 + size_in x)) (nat_lt (length x) (9 + size_in x)) (nat_lt (length x) (9 + size_in x)) offset (size_in x) (entry_of x) (entry_of x) error h' (λ o. (o, refl)) in
+    let first = tested_bad (nat_lt (length x) 9) (is_kind (kind_in x)) (nat_lt 2097152 (size_in x)) (nat_lt 1073741824 (offset + 9 + size_in x))
+        (nat_lt (length x) (9 + size_in x)) (nat_lt (length x) (9 + size_in x)) offset (size_in x) (entry_of x) (entry_of x) error h' (λ o. (o, refl)) in
     let nine : 9 ≤ length x = long first.0 in
     let s : size_in (x ++ y) ≡ size_in x = size_before x y nine in
-    let t = tested_bad (nat_lt (length x) 9) (is_kind (kind_in x)) (nat_lt 2097152 (size_in x)) (nat_lt 1073741824 (offset + 9 + size_in x)) (nat_lt (length x) (9 + size_in x)) (nat_lt (length (x ++ y)) (9 + size_in x)) offset (size_in x) (entry_of x) (entry_of (x ++ y)) error h'
+    let t = tested_bad (nat_lt (length x) 9) (is_kind (kind_in x)) (nat_lt 2097152 (size_in x)) (nat_lt 1073741824 (offset + 9 + size_in x))
+        (nat_lt (length x) (9 + size_in x)) (nat_lt (length (x ++ y)) (9 + size_in x)) offset (size_in x) (entry_of x) (entry_of (x ++ y)) error h'
     (λ o. (le-ltb _ _ (omega (arith, ltb-false (length x) (9 + size_in x) o, length-append x y)), entry_before x y (ltb-false _ _ o))) in
     as_tested offset (x ++ y)
-    ∙ (ap (λ k. tested (nat_lt (length (x ++ y)) 9) (is_kind (kind_in (x ++ y))) (nat_lt 2097152 k) (nat_lt 1073741824 (offset + 9 + k)) (nat_lt (length (x ++ y)) (9 + k)) offset k (entry_of (x ++ y))) s
-    ∙ (ap (λ k. tested (nat_lt (length (x ++ y)) 9) (is_kind k) (nat_lt 2097152 (size_in x)) (nat_lt 1073741824 (offset + 9 + size_in x)) (nat_lt (length (x ++ y)) (9 + size_in x)) offset (size_in x) (entry_of (x ++ y))) (kind_before x y nine)
-    ∙ (ap (λ b. tested b (is_kind (kind_in x)) (nat_lt 2097152 (size_in x)) (nat_lt 1073741824 (offset + 9 + size_in x)) (nat_lt (length (x ++ y)) (9 + size_in x)) offset (size_in x) (entry_of (x ++ y))) (le-ltb _ _ (omega (arith, length-append x y)))
+    ∙ (ap (λ k. tested (nat_lt (length (x ++ y)) 9) (is_kind (kind_in (x ++ y))) (nat_lt 2097152 k) (nat_lt 1073741824 (offset + 9 + k))
+        (nat_lt (length (x ++ y)) (9 + k)) offset k (entry_of (x ++ y))) s
+    ∙ (ap (λ k. tested (nat_lt (length (x ++ y)) 9) (is_kind k) (nat_lt 2097152 (size_in x)) (nat_lt 1073741824 (offset + 9 + size_in x))
+        (nat_lt (length (x ++ y)) (9 + size_in x)) offset (size_in x) (entry_of (x ++ y))) (kind_before x y nine)
+    ∙ (ap (λ b. tested b (is_kind (kind_in x)) (nat_lt 2097152 (size_in x)) (nat_lt 1073741824 (offset + 9 + size_in x))
+        (nat_lt (length (x ++ y)) (9 + size_in x)) offset (size_in x) (entry_of (x ++ y))) (le-ltb _ _ (omega (arith, length-append x y)))
     ∙ t.1)))
 
 -- Records are a format.
@@ -174,7 +185,8 @@ framing = record {
   alone = whole_alone;
 }
 
-tested_more : (short known large far part : Bool) (offset size : ℕ) (e : Option Entry) → tested short known large far part offset size e ≡ More → short ≡ false → (large ≡ false) × (part ≡ true)
+tested_more : (short known large far part : Bool) (offset size : ℕ) (e : Option Entry) → tested short known large far part offset size e ≡ More
+    → short ≡ false → (large ≡ false) × (part ≡ true)
 tested_more true known large far part offset size e h g = cc
 tested_more false false large far part offset size e h g = cc
 tested_more false true true far part offset size e h g = cc
@@ -189,6 +201,7 @@ more_is_short offset x h =
     elim (cases_lt (length x) 9) [
       | inl l ↦ omega (arith, l)
       | inr l ↦
-          let t = tested_more (nat_lt (length x) 9) (is_kind (kind_in x)) (nat_lt 2097152 (size_in x)) (nat_lt 1073741824 (offset + 9 + size_in x)) (nat_lt (length x) (9 + size_in x)) offset (size_in x) (entry_of x) (sym (as_tested offset x) ∙ h) (le-ltb (length x) 9 l) in
+          let t = tested_more (nat_lt (length x) 9) (is_kind (kind_in x)) (nat_lt 2097152 (size_in x)) (nat_lt 1073741824 (offset + 9 + size_in x))
+              (nat_lt (length x) (9 + size_in x)) offset (size_in x) (entry_of x) (sym (as_tested offset x) ∙ h) (le-ltb (length x) 9 l) in
           omega (arith, ltb-false 2097152 (size_in x) t.0, ltb-true (length x) (9 + size_in x) t.1)
     ]

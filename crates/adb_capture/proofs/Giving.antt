@@ -1,5 +1,6 @@
 -- What a reader gives of the bytes that it holds and those that are still to come.
-use Rattle.std.proofs.Common.{ℕ, ◌+◌, ◌≡◌, ◌≤◌, List, [], ◌++◌, length, take, drop, Option, Some, None, Result, Ok, Err, false, refl, sym, ◌∙◌, ap, subst, arith}
+use Rattle.std.proofs.Common.{ℕ, ◌+◌, ◌≡◌, ◌≤◌, List, [], ◌++◌, length, take, drop, Option, Some, None, Result, Ok, Err, false, refl, sym, ◌∙◌, ap}
+use Rattle.std.proofs.Common.{subst, arith}
 use Rattle.std.specs.Prelude.{option_map}
 use Rattle.std.proofs.lemmas.List.{length-take-le, take-append-le, drop-append-le}
 use Rattle.adb_outside.specs.declared.framer.Front.TheVariants.{Whole}
@@ -24,7 +25,8 @@ whole_given offset x y n w same =
     here ∙ ap Whole (sym len)
 
 -- the magic was the first of the bytes
-pub magic_taken : (old : Reading) (coming held : List ℕ) (after : Option (List ℕ)) → old.opened ≡ false → option_map (λ rest. magic ++ (held ++ rest)) after ≡ Some (old.held ++ coming)
+pub magic_taken : (old : Reading) (coming held : List ℕ) (after : Option (List ℕ)) → old.opened ≡ false
+    → option_map (λ rest. magic ++ (held ++ rest)) after ≡ Some (old.held ++ coming)
     → (rest : List ℕ) × (after ≡ Some rest) × (ahead old coming ≡ Some (held ++ rest))
 magic_taken old coming held None closed h = let e : None ≡ Some (old.held ++ coming) = h in cc
 magic_taken old coming held (Some rest) closed h =
@@ -33,13 +35,16 @@ magic_taken old coming held (Some rest) closed h =
     (rest, refl, ap (λ b. to_give b (old.held ++ coming)) closed ∙ ap past_magic f)
 
 -- what is held is a front of the bytes
-pub held_first : (held whole : List ℕ) (after : Option (List ℕ)) → option_map (λ rest. held ++ rest) after ≡ Some whole → (rest : List ℕ) × (after ≡ Some rest) × (whole ≡ held ++ rest)
+pub held_first : (held whole : List ℕ) (after : Option (List ℕ)) → option_map (λ rest. held ++ rest) after ≡ Some whole
+    → (rest : List ℕ) × (after ≡ Some rest) × (whole ≡ held ++ rest)
 held_first held whole None h = let e : None ≡ Some whole = h in cc
 held_first held whole (Some rest) h = let e : Some (held ++ rest) ≡ Some whole = h in (rest, refl, cc)
 
 -- a record at the front of what is held is given
-pub gives_record : (offset next size : ℕ) (held left bytes : List ℕ) (given : ℕ × Entry) (after : Option (List ℕ)) → option_map (λ rest. held ++ rest) after ≡ Some bytes → record_at offset held ≡ Whole size
-    → given ≡ entry_in offset (take size held) → left ≡ drop size held → next ≡ offset + size → GivesRecord offset bytes given next (option_map (λ rest. left ++ rest) after)
+pub gives_record : (offset next size : ℕ) (held left bytes : List ℕ) (given : ℕ × Entry) (after : Option (List ℕ))
+    → option_map (λ rest. held ++ rest) after ≡ Some bytes → record_at offset held ≡ Whole size
+    → given ≡ entry_in offset (take size held) → left ≡ drop size held → next ≡ offset + size
+        → GivesRecord offset bytes given next (option_map (λ rest. left ++ rest) after)
 gives_record offset next size held left bytes given after h whole is dropped place =
     let f = held_first held bytes after h in
     let fits = whole_fits offset held size whole in
@@ -49,33 +54,42 @@ gives_record offset next size held left bytes given after h whole is dropped pla
       whole = ap (record_at offset) f.2 ∙ whole_stays offset held f.0 size whole;
       is = is ∙ ap (entry_in offset) (sym same);
       next_offset_is = place ∙ ap (λ n. offset + n) (sym (ap length same ∙ length-take-le size held fits.0));
-      rest = ap (λ (a : Option (List ℕ)). option_map (λ (r : List ℕ). left ++ r) a) f.1 ∙ ap Some (ap (λ b. b ++ f.0) dropped ∙ (sym (drop-append-le size held f.0 fits.0) ∙ ap (drop size) (sym f.2)));
+      rest = ap (λ (a : Option (List ℕ)). option_map (λ (r : List ℕ). left ++ r) a) f.1
+          ∙ ap Some (ap (λ b. b ++ f.0) dropped ∙ (sym (drop-append-le size held f.0 fits.0) ∙ ap (drop size) (sym f.2)));
     }
 
 -- the end
-pub gives_end : (offset : ℕ) (held bytes : List ℕ) (after : Option (List ℕ)) → option_map (λ rest. held ++ rest) after ≡ Some bytes → held ≡ [] → held ≡ bytes → GivesNext offset bytes (Ok None) offset (option_map (λ rest. held ++ rest) after)
+pub gives_end : (offset : ℕ) (held bytes : List ℕ) (after : Option (List ℕ)) → option_map (λ rest. held ++ rest) after ≡ Some bytes → held ≡ [] → held ≡ bytes
+    → GivesNext offset bytes (Ok None) offset (option_map (λ rest. held ++ rest) after)
 gives_end offset held bytes after h none all = let empty : bytes ≡ [] = sym all ∙ none in (empty, h ∙ ap Some empty, refl)
 
 -- a refusal of what is held is one of the bytes
-pub gives_refusal : (offset : ℕ) (first held coming : List ℕ) (before after : Option (List ℕ)) (e : CaptureError) → option_map (λ rest. held ++ rest) after ≡ Some (first ++ coming) → before ≡ Some coming
+pub gives_refusal : (offset : ℕ) (first held coming : List ℕ) (before after : Option (List ℕ)) (e : CaptureError)
+    → option_map (λ rest. held ++ rest) after ≡ Some (first ++ coming) → before ≡ Some coming
     → AwaitsRecord offset first before held (Err e) → IsRefused offset (first ++ coming) e
 gives_refusal offset first held coming before after BadMagic h told is = is
-gives_refusal offset first held coming before after (BadRecord at why) h told is = let f = held_first held (first ++ coming) after h in ap (record_at offset) f.2 ∙ bad_stays offset held f.0 (form.BadRecord at why) is
+gives_refusal offset first held coming before after (BadRecord at why) h told is = let f = held_first held (first ++ coming) after h in
+    ap (record_at offset) f.2 ∙ bad_stays offset held f.0 (form.BadRecord at why) is
 gives_refusal offset first held coming before after (Truncated at) h told is =
     let all : held ≡ first ++ coming = is.3 coming told in
     (λ none. is.1 (all ∙ none), ap (record_at offset) (sym all) ∙ is.2, is.0)
-gives_refusal offset first held coming before after (TooLong at) h told is = let f = held_first held (first ++ coming) after h in ap (record_at offset) f.2 ∙ bad_stays offset held f.0 (form.TooLong at) is
+gives_refusal offset first held coming before after (TooLong at) h told is = let f = held_first held (first ++ coming) after h in ap (record_at offset) f.2
+    ∙ bad_stays offset held f.0 (form.TooLong at) is
 gives_refusal offset first held coming before after ReadFault h told is = tt
 gives_refusal offset first held coming before after OutOfMemory h told is = tt
 
-pub refusal_given : (offset n : ℕ) (bytes : List ℕ) (result : Result (Option (ℕ × Entry)) CaptureError) (b : Option (List ℕ)) (e : CaptureError) → result ≡ Err e → IsRefused offset bytes e → GivesNext offset bytes result n b
+pub refusal_given : (offset n : ℕ) (bytes : List ℕ) (result : Result (Option (ℕ × Entry)) CaptureError) (b : Option (List ℕ)) (e : CaptureError)
+    → result ≡ Err e → IsRefused offset bytes e → GivesNext offset bytes result n b
 refusal_given offset n bytes result b e is h = subst (λ (r : Result (Option (ℕ × Entry)) CaptureError). GivesNext offset bytes r n b) (sym is) h
 
-pub awaited_end : (offset : ℕ) (first held : List ℕ) (before : Option (List ℕ)) (x : Option ℕ) → AwaitsRecord offset first before held (Ok x) → x ≡ None → (held ≡ []) × HoldsAll first before held
+pub awaited_end : (offset : ℕ) (first held : List ℕ) (before : Option (List ℕ)) (x : Option ℕ) → AwaitsRecord offset first before held (Ok x) → x ≡ None
+    → (held ≡ []) × HoldsAll first before held
 awaited_end offset first held before x h e = subst (λ (o : Option ℕ). AwaitsRecord offset first before held (Ok o)) e h
 
-pub awaited_record : (offset : ℕ) (first held : List ℕ) (before : Option (List ℕ)) (x : Option ℕ) (size : ℕ) → AwaitsRecord offset first before held (Ok x) → x ≡ Some size → record_at offset held ≡ Whole size
+pub awaited_record : (offset : ℕ) (first held : List ℕ) (before : Option (List ℕ)) (x : Option ℕ) (size : ℕ) → AwaitsRecord offset first before held (Ok x)
+    → x ≡ Some size → record_at offset held ≡ Whole size
 awaited_record offset first held before x size h e = subst (λ (o : Option ℕ). AwaitsRecord offset first before held (Ok o)) e h
 
-pub record_given : (offset start next : ℕ) (bytes : List ℕ) (given : ℕ × Entry) (after : Option (List ℕ)) → offset ≡ start → GivesRecord offset bytes given next after → GivesRecord start bytes given next after
+pub record_given : (offset start next : ℕ) (bytes : List ℕ) (given : ℕ × Entry) (after : Option (List ℕ)) → offset ≡ start
+    → GivesRecord offset bytes given next after → GivesRecord start bytes given next after
 record_given offset start next bytes given after same h = subst (λ (o : ℕ). GivesRecord o bytes given next after) same h

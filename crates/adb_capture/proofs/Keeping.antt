@@ -5,10 +5,12 @@ use Rattle.std.proofs.lemmas.List.{append_assoc, take-append-drop, drop-append-l
 use Rattle.adb_outside.specs.Source.{Takes}
 
 -- the first bytes that were to come are held now
-pub keeps_more : (old held chunk coming : List ℕ) (after : Option (List ℕ)) (n : ℕ) → held ≡ old ++ take n chunk → Takes coming after chunk n → option_map (λ rest. held ++ rest) after ≡ Some (old ++ coming)
+pub keeps_more : (old held chunk coming : List ℕ) (after : Option (List ℕ)) (n : ℕ) → held ≡ old ++ take n chunk → Takes coming after chunk n
+    → option_map (λ rest. held ++ rest) after ≡ Some (old ++ coming)
 keeps_more old held chunk coming after n is t =
     ap (λ a. option_map (λ (rest : List ℕ). held ++ rest) a) t.rest
-    ∙ ap Some (ap (λ h. h ++ drop n coming) (is ∙ ap (λ k. old ++ k) t.front) ∙ (append_assoc old (take n coming) (drop n coming) ∙ ap (λ k. old ++ k) (take-append-drop n coming)))
+    ∙ ap Some (ap (λ h. h ++ drop n coming) (is ∙ ap (λ k. old ++ k) t.front)
+        ∙ (append_assoc old (take n coming) (drop n coming) ∙ ap (λ k. old ++ k) (take-append-drop n coming)))
 
 -- bytes at the end of those of which some were taken
 pub grows : (taken : ℕ) (bytes old x grown : List ℕ) → taken ≤ length bytes → drop taken bytes ≡ old → grown ≡ bytes ++ x → drop taken grown ≡ old ++ x
@@ -21,5 +23,6 @@ take_past (x ∷ xs) ys n =
     let e : suc (length xs) + n ≡ suc (length xs + n) = omega arith in
     ap (λ k. take k (x ∷ (xs ++ ys))) e ∙ ap (λ r. x ∷ r) (take_past xs ys n)
 
-pub written_past : (out first last : List ℕ) (written : Option (List ℕ)) (n : ℕ) → written ≡ Some ((out ++ first) ++ take n last) → written ≡ Some (out ++ take (length first + n) (first ++ last))
+pub written_past : (out first last : List ℕ) (written : Option (List ℕ)) (n : ℕ) → written ≡ Some ((out ++ first) ++ take n last)
+    → written ≡ Some (out ++ take (length first + n) (first ++ last))
 written_past out first last written n h = h ∙ ap Some (append_assoc out first (take n last) ∙ ap (λ r. out ++ r) (sym (take_past first last n)))

@@ -1,5 +1,6 @@
 -- What is spelled is read back, and what is read is spelled so.
-use Rattle.std.proofs.Common.{ℕ, ◌+◌, ◌-◌, ◌/◌, ◌%◌, ◌^◌, ◌≡◌, ◌≤◌, ◌<◌, Bool, true, false, if◌then◌else◌, List, [], ◌∷◌, ◌++◌, length, take, drop, Option, Some, None, refl, sym, ◌∙◌, ap, subst, arith, suc}
+use Rattle.std.proofs.Common.{ℕ, ◌+◌, ◌-◌, ◌/◌, ◌%◌, ◌^◌, ◌≡◌, ◌≤◌, ◌<◌, Bool, true, false, if◌then◌else◌, List, [], ◌∷◌, ◌++◌, length, take, drop}
+use Rattle.std.proofs.Common.{Option, Some, None, refl, sym, ◌∙◌, ap, subst, arith, suc}
 use Rattle.std.specs.Prelude.{nat_eq, All}
 use Rattle.std.proofs.lemmas.Bool.{eqb-true, eqb-false, ne_eqb}
 use Rattle.std.proofs.lemmas.List.{length-append, length-take-le, take_at, take_all, append-nil}
@@ -13,7 +14,9 @@ use Rattle.adb_outside.specs.declared.kinds.Cause.{Cause}
 use Rattle.adb_outside.specs.declared.kinds.Cause.TheVariants.{Eof, Fault, Starved, NoThread}
 use Rattle.adb_capture.specs.declared.entry.Entry.{Entry}
 use Rattle.adb_capture.specs.declared.entry.Entry.TheVariants.{Join, Enter, Read, End, Bound, Attach, Recv, Detach, Put, Send}
-use Rattle.adb_capture.specs.Records.{record_at, is_kind, kind_in, owner_in, size_in, data_in, entry_at, entry_in, or_join, kind_of, number_of, data_of, record_of, cause_byte, plug_letter, HasRecord, HasPort, cause_at, port_at, plug_at, join_at, enter_at, bound_at, end_at, detach_at, attach_by, attach_at}
+use Rattle.adb_capture.specs.Records.{record_at, is_kind, kind_in, owner_in, size_in, data_in, entry_at, entry_in, or_join, kind_of, number_of}
+use Rattle.adb_capture.specs.Records.{data_of, record_of, cause_byte, plug_letter, HasRecord, HasPort, cause_at, port_at, plug_at, join_at, enter_at}
+use Rattle.adb_capture.specs.Records.{bound_at, end_at, detach_at, attach_by, attach_at}
 use Rattle.adb_capture.proofs.Fronts.{entry_of, whole_tells, whole_told, whole_alone}
 
 kind_known : (e : Entry) → is_kind (kind_of e) ≡ true
@@ -51,7 +54,8 @@ attach_again n Local serial = refl
 -- an entry's kind, number and data are read as the entry
 pub entry_again : (e : Entry) → HasPort e → entry_at (kind_of e) (number_of e) (data_of e) ≡ Some e
 entry_again (Join client) h = refl
-entry_again (Enter client port) h = ap (enter_at client) (port_again port h.1) ∙ ap (λ (b : Bool). if b then None else Some (Enter client port)) (ne_eqb port 0 (λ e. omega (arith, h.0)))
+entry_again (Enter client port) h = ap (enter_at client) (port_again port h.1)
+    ∙ ap (λ (b : Bool). if b then None else Some (Enter client port)) (ne_eqb port 0 (λ e. omega (arith, h.0)))
 entry_again (Read client bytes) h = refl
 entry_again (End client cause) h = end_again client cause
 entry_again (Bound client port) h = ap (bound_at client) (port_again port h)
@@ -79,7 +83,8 @@ pub length_record : (e : Entry) → length (record_of e) ≡ 9 + length (data_of
 length_record e = omega arith
 
 -- An entry's record is read as a whole one, whatever follows.
-pub spelled_whole : (offset : ℕ) (e : Entry) (rest : List ℕ) → HasRecord e → offset + length (record_of e) ≤ 1073741824 → record_at offset (record_of e ++ rest) ≡ Whole (length (record_of e))
+pub spelled_whole : (offset : ℕ) (e : Entry) (rest : List ℕ) → HasRecord e → offset + length (record_of e) ≤ 1073741824
+    → record_at offset (record_of e ++ rest) ≡ Whole (length (record_of e))
 spelled_whole offset e rest h near =
     let s = size_again e rest h in
     whole_told offset (record_of e ++ rest) (length (record_of e)) (record {
@@ -122,7 +127,8 @@ AreSpelled kind n bytes o = (e : Entry) → o ≡ Some e → Spells kind n bytes
 abbrev IsByte : ℕ → Type 0
 IsByte b = b < 256
 
-by_kind : (kind k n : ℕ) (bytes : List ℕ) (o others : Option Entry) → AreSpelled k n bytes o → AreSpelled kind n bytes others → AreSpelled kind n bytes (if nat_eq kind k then o else others)
+by_kind : (kind k n : ℕ) (bytes : List ℕ) (o others : Option Entry) → AreSpelled k n bytes o → AreSpelled kind n bytes others
+    → AreSpelled kind n bytes (if nat_eq kind k then o else others)
 by_kind kind k n bytes o others h i = go (nat_eq kind k) refl
   where
     go : (b : Bool) → nat_eq kind k ≡ b → AreSpelled kind n bytes (if b then o else others)
@@ -130,7 +136,8 @@ by_kind kind k n bytes o others h i = go (nat_eq kind k) refl
     go false t = i
 
 this_entry : (e : Entry) → HasPort e → AreSpelled (kind_of e) (number_of e) (data_of e) (Some e)
-this_entry e port other is = let same : e ≡ other = cc in subst (λ (x : Entry). Spells (kind_of e) (number_of e) (data_of e) x) same (record { kind_is = refl; owner_is = refl; data_is = refl; port = port })
+this_entry e port other is = let same : e ≡ other = cc in
+    subst (λ (x : Entry). Spells (kind_of e) (number_of e) (data_of e) x) same (record { kind_is = refl; owner_is = refl; data_is = refl; port = port })
 
 no_entry : (kind n : ℕ) (bytes : List ℕ) → AreSpelled kind n bytes None
 no_entry kind n bytes e is = cc
@@ -156,7 +163,8 @@ enter_spells n (a ∷ b ∷ []) h = go (nat_eq port 0) refl
     hb : b < 256
     hb = h 1 0 (omega arith)
 
-    go : (t : Bool) → nat_eq (little_number 2 (a ∷ b ∷ [])) 0 ≡ t → AreSpelled 78 n (a ∷ b ∷ []) (if t then None else Some (Enter n (little_number 2 (a ∷ b ∷ []))))
+    go : (t : Bool) → nat_eq (little_number 2 (a ∷ b ∷ [])) 0 ≡ t
+        → AreSpelled 78 n (a ∷ b ∷ []) (if t then None else Some (Enter n (little_number 2 (a ∷ b ∷ []))))
     go true t = no_entry 78 n (a ∷ b ∷ [])
     go false t = subst (λ bytes. AreSpelled 78 n bytes (Some (Enter n (little_number 2 (a ∷ b ∷ []))))) (two_bytes a b ha hb)
         (this_entry (Enter n (little_number 2 (a ∷ b ∷ []))) (let ne = eqb-false (little_number 2 (a ∷ b ∷ [])) 0 t in omega (arith, ne), port_fits a b ha hb))
@@ -180,15 +188,19 @@ cause_spells (b ∷ []) cause h = zeroth (nat_eq b 0) refl h
     third true t h = let e : NoThread ≡ cause = cc in ap (λ k. k ∷ []) (eqb-true b 3 t) ∙ ap (λ (k : Cause). cause_byte k ∷ []) e
     third false t h = cc
 
-    second : (t : Bool) → nat_eq b 2 ≡ t → (if t then Some Starved else (if nat_eq b 3 then Some NoThread else None)) ≡ Some cause → b ∷ [] ≡ cause_byte cause ∷ []
+    second : (t : Bool) → nat_eq b 2 ≡ t → (if t then Some Starved else (if nat_eq b 3 then Some NoThread else None)) ≡ Some cause
+        → b ∷ [] ≡ cause_byte cause ∷ []
     second true t h = let e : Starved ≡ cause = cc in ap (λ k. k ∷ []) (eqb-true b 2 t) ∙ ap (λ (k : Cause). cause_byte k ∷ []) e
     second false t h = third (nat_eq b 3) refl h
 
-    first : (t : Bool) → nat_eq b 1 ≡ t → (if t then Some Fault else (if nat_eq b 2 then Some Starved else (if nat_eq b 3 then Some NoThread else None))) ≡ Some cause → b ∷ [] ≡ cause_byte cause ∷ []
+    first : (t : Bool) → nat_eq b 1 ≡ t → (if t then Some Fault else (if nat_eq b 2 then Some Starved else (if nat_eq b 3 then Some NoThread else None))) ≡
+        Some cause → b ∷ [] ≡ cause_byte cause ∷ []
     first true t h = let e : Fault ≡ cause = cc in ap (λ k. k ∷ []) (eqb-true b 1 t) ∙ ap (λ (k : Cause). cause_byte k ∷ []) e
     first false t h = second (nat_eq b 2) refl h
 
-    zeroth : (t : Bool) → nat_eq b 0 ≡ t → (if t then Some Eof else (if nat_eq b 1 then Some Fault else (if nat_eq b 2 then Some Starved else (if nat_eq b 3 then Some NoThread else None)))) ≡ Some cause → b ∷ [] ≡ cause_byte cause ∷ []
+    zeroth : (t : Bool) → nat_eq b 0 ≡ t → (if t then Some Eof else
+        (if nat_eq b 1 then Some Fault else (if nat_eq b 2 then Some Starved else (if nat_eq b 3 then Some NoThread else None)))) ≡ Some cause
+            → b ∷ [] ≡ cause_byte cause ∷ []
     zeroth true t h = let e : Eof ≡ cause = cc in ap (λ k. k ∷ []) (eqb-true b 0 t) ∙ ap (λ (k : Cause). cause_byte k ∷ []) e
     zeroth false t h = first (nat_eq b 1) refl h
 
@@ -223,7 +235,8 @@ attach_spells n (b ∷ serial) = go (plug_at b) refl
   where
     go : (o : Option Kind) → plug_at b ≡ o → AreSpelled 65 n (b ∷ serial) (attach_by n o serial)
     go None is = no_entry 65 n (b ∷ serial)
-    go (Some kind) is = subst (λ k. AreSpelled 65 n (k ∷ serial) (Some (Attach n kind serial))) (sym (plug_spells b kind is)) (this_entry (Attach n kind serial) tt)
+    go (Some kind) is = subst (λ k. AreSpelled 65 n (k ∷ serial) (Some (Attach n kind serial))) (sym (plug_spells b kind is))
+        (this_entry (Attach n kind serial) tt)
 
 -- What is read as an entry is its kind, its number and its data.
 pub entry_spells : (kind n : ℕ) (bytes : List ℕ) → All IsByte bytes → AreSpelled kind n bytes (entry_at kind n bytes)
@@ -247,16 +260,20 @@ pub record IsSpelled (offset : ℕ) (bytes : List ℕ) : Type 0 where
 
 -- bytes of a header and data
 header_spells : (k a b c d e f g h : ℕ) (rest bytes : List ℕ) → All IsByte (k ∷ a ∷ b ∷ c ∷ d ∷ e ∷ f ∷ g ∷ h ∷ rest)
-    → k ∷ little_bytes 4 (little_number 4 (a ∷ b ∷ c ∷ d ∷ [])) ++ little_bytes 4 (little_number 4 (e ∷ f ∷ g ∷ h ∷ [])) ++ rest ≡ k ∷ a ∷ b ∷ c ∷ d ∷ e ∷ f ∷ g ∷ h ∷ rest
+    → k ∷ little_bytes 4 (little_number 4 (a ∷ b ∷ c ∷ d ∷ [])) ++ little_bytes 4
+        (little_number 4 (e ∷ f ∷ g ∷ h ∷ [])) ++ rest ≡ k ∷ a ∷ b ∷ c ∷ d ∷ e ∷ f ∷ g ∷ h ∷ rest
 header_spells k a b c d e f g h rest bytes all =
-    ap (λ x. k ∷ x ++ little_bytes 4 (little_number 4 (e ∷ f ∷ g ∷ h ∷ [])) ++ rest) (four_bytes a b c d (all 1 0 (omega arith)) (all 2 0 (omega arith)) (all 3 0 (omega arith)) (all 4 0 (omega arith)))
-    ∙ ap (λ x. k ∷ a ∷ b ∷ c ∷ d ∷ x ++ rest) (four_bytes e f g h (all 5 0 (omega arith)) (all 6 0 (omega arith)) (all 7 0 (omega arith)) (all 8 0 (omega arith)))
+    ap (λ x. k ∷ x ++ little_bytes 4 (little_number 4 (e ∷ f ∷ g ∷ h ∷ [])) ++ rest)
+        (four_bytes a b c d (all 1 0 (omega arith)) (all 2 0 (omega arith)) (all 3 0 (omega arith)) (all 4 0 (omega arith)))
+    ∙ ap (λ x. k ∷ a ∷ b ∷ c ∷ d ∷ x ++ rest) (four_bytes e f g h (all 5 0 (omega arith)) (all 6 0 (omega arith)) (all 7 0 (omega arith))
+        (all 8 0 (omega arith)))
 
 number_fits : (a b c d : ℕ) → a < 256 → b < 256 → c < 256 → d < 256 → little_number 4 (a ∷ b ∷ c ∷ d ∷ []) < 4294967296
 number_fits a b c d ha hb hc hd = omega arith
 
 -- a record of an entry that was read, by the parts of the bytes
-record_by : (kind n size : ℕ) (bytes : List ℕ) (e : Entry) → Spells kind n bytes e → size ≡ length bytes → kind ∷ little_bytes 4 n ++ little_bytes 4 size ++ bytes ≡ record_of e
+record_by : (kind n size : ℕ) (bytes : List ℕ) (e : Entry) → Spells kind n bytes e → size ≡ length bytes
+    → kind ∷ little_bytes 4 n ++ little_bytes 4 size ++ bytes ≡ record_of e
 record_by kind n size bytes e s len =
     ap (λ z. kind ∷ little_bytes 4 n ++ little_bytes 4 z ++ bytes) len
     ∙ (ap (λ x. kind ∷ little_bytes 4 n ++ little_bytes 4 (length x) ++ x) s.data_is
@@ -272,16 +289,20 @@ read_spelled offset (k ∷ a ∷ b ∷ c ∷ []) all w = let t = whole_tells off
 read_spelled offset (k ∷ a ∷ b ∷ c ∷ d ∷ []) all w = let t = whole_tells offset (k ∷ a ∷ b ∷ c ∷ d ∷ []) 5 w in absurd (omega (arith, t.size))
 read_spelled offset (k ∷ a ∷ b ∷ c ∷ d ∷ e ∷ []) all w = let t = whole_tells offset (k ∷ a ∷ b ∷ c ∷ d ∷ e ∷ []) 6 w in absurd (omega (arith, t.size))
 read_spelled offset (k ∷ a ∷ b ∷ c ∷ d ∷ e ∷ f ∷ []) all w = let t = whole_tells offset (k ∷ a ∷ b ∷ c ∷ d ∷ e ∷ f ∷ []) 7 w in absurd (omega (arith, t.size))
-read_spelled offset (k ∷ a ∷ b ∷ c ∷ d ∷ e ∷ f ∷ g ∷ []) all w = let t = whole_tells offset (k ∷ a ∷ b ∷ c ∷ d ∷ e ∷ f ∷ g ∷ []) 8 w in absurd (omega (arith, t.size))
+read_spelled offset (k ∷ a ∷ b ∷ c ∷ d ∷ e ∷ f ∷ g ∷ []) all w = let t = whole_tells offset (k ∷ a ∷ b ∷ c ∷ d ∷ e ∷ f ∷ g ∷ []) 8 w in
+    absurd (omega (arith, t.size))
 read_spelled offset (k ∷ a ∷ b ∷ c ∷ d ∷ e ∷ f ∷ g ∷ h ∷ rest) all w =
     let bytes : List ℕ = k ∷ a ∷ b ∷ c ∷ d ∷ e ∷ f ∷ g ∷ h ∷ rest in
     let t = whole_tells offset bytes (length bytes) w in
     let size : little_number 4 (e ∷ f ∷ g ∷ h ∷ []) ≡ length rest = omega (arith, t.size) in
     let part : data_in bytes ≡ rest = take_all (size_in bytes) rest (omega (arith, size)) in
-    let is : entry_at k (little_number 4 (a ∷ b ∷ c ∷ d ∷ [])) rest ≡ Some t.entry = ap (λ x. entry_at k (little_number 4 (a ∷ b ∷ c ∷ d ∷ [])) x) (sym part) ∙ t.formed in
-    let s = entry_spells k (little_number 4 (a ∷ b ∷ c ∷ d ∷ [])) rest (λ i z l. all (suc (suc (suc (suc (suc (suc (suc (suc (suc i))))))))) z (omega arith)) t.entry is in
+    let is : entry_at k (little_number 4 (a ∷ b ∷ c ∷ d ∷ [])) rest ≡ Some t.entry = ap (λ x. entry_at k (little_number 4 (a ∷ b ∷ c ∷ d ∷ [])) x) (sym part)
+        ∙ t.formed in
+    let s = entry_spells k (little_number 4 (a ∷ b ∷ c ∷ d ∷ [])) rest
+        (λ i z l. all (suc (suc (suc (suc (suc (suc (suc (suc (suc i))))))))) z (omega arith)) t.entry is in
     let same : t.entry ≡ (entry_in offset bytes).1 = ap or_join (sym t.formed) in
-    let spelled : bytes ≡ record_of t.entry = sym (header_spells k a b c d e f g h rest bytes all) ∙ record_by k (little_number 4 (a ∷ b ∷ c ∷ d ∷ [])) (little_number 4 (e ∷ f ∷ g ∷ h ∷ [])) rest t.entry s size in
+    let spelled : bytes ≡ record_of t.entry = sym (header_spells k a b c d e f g h rest bytes all)
+        ∙ record_by k (little_number 4 (a ∷ b ∷ c ∷ d ∷ [])) (little_number 4 (e ∷ f ∷ g ∷ h ∷ [])) rest t.entry s size in
     let form : HasRecord t.entry = record {
       owner = omega (arith, s.owner_is, number_fits a b c d (all 1 0 (omega arith)) (all 2 0 (omega arith)) (all 3 0 (omega arith)) (all 4 0 (omega arith)));
       port = s.port;
@@ -308,12 +329,14 @@ whole_data : (offset : ℕ) (x : List ℕ) → record_at offset x ≡ Whole (len
 whole_data offset x w = let t = whole_tells offset x (length x) w in let e : size_in x ≡ length x - 9 = omega (arith, t.size) in ap (λ n. take n (drop 9 x)) e
 
 -- it has an entry
-pub whole_read : (offset : ℕ) (x : List ℕ) → record_at offset x ≡ Whole (length x) → None ≡ entry_at (kind_in x) (owner_in x) (take (length x - 9) (drop 9 x)) → ⊥
+pub whole_read : (offset : ℕ) (x : List ℕ) → record_at offset x ≡ Whole (length x) → None ≡ entry_at (kind_in x) (owner_in x) (take (length x - 9) (drop 9 x))
+    → ⊥
 whole_read offset x w none =
     let t = whole_tells offset x (length x) w in
     let e : None ≡ Some t.entry = none ∙ (ap (λ b. entry_at (kind_in x) (owner_in x) b) (sym (whole_data offset x w)) ∙ t.formed) in
     cc
 
 -- and this one
-pub entry_read : (offset : ℕ) (x : List ℕ) (e : Entry) → record_at offset x ≡ Whole (length x) → Some e ≡ entry_at (kind_in x) (owner_in x) (take (length x - 9) (drop 9 x)) → (offset, e) ≡ entry_in offset x
+pub entry_read : (offset : ℕ) (x : List ℕ) (e : Entry) → record_at offset x ≡ Whole (length x)
+    → Some e ≡ entry_at (kind_in x) (owner_in x) (take (length x - 9) (drop 9 x)) → (offset, e) ≡ entry_in offset x
 entry_read offset x e w is = ap (λ o. (offset, or_join o)) (is ∙ ap (λ b. entry_at (kind_in x) (owner_in x) b) (sym (whole_data offset x w)))

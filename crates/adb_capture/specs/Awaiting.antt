@@ -24,7 +24,8 @@ HoldsAll held_before before held = (coming : List ℕ) → before ≡ Some comin
 
 -- The magic was the first of the bytes and was taken, or it is not.
 abbrev pub AwaitsMagic : List ℕ → Option (List ℕ) → List ℕ → Option (List ℕ) → Result (Unit {0}) CaptureError → Type 0
-AwaitsMagic held_before before held after (Ok x) = (coming : List ℕ) → before ≡ Some coming → option_map (λ rest. magic ++ (held ++ rest)) after ≡ Some (held_before ++ coming)
+AwaitsMagic held_before before held after (Ok x) = (coming : List ℕ) → before ≡ Some coming
+    → option_map (λ rest. magic ++ (held ++ rest)) after ≡ Some (held_before ++ coming)
 AwaitsMagic held_before before held after (Err BadMagic) = (coming : List ℕ) → before ≡ Some coming → past_magic (held_before ++ coming) ≡ None
 AwaitsMagic held_before before held after (Err ReadFault) = Unit {0}
 AwaitsMagic held_before before held after (Err OutOfMemory) = KeepsBytes held_before before held after
@@ -36,7 +37,8 @@ AwaitsRecord offset held_before before held (Ok (Some size)) = record_at offset 
 AwaitsRecord offset held_before before held (Ok None) = (held ≡ []) × HoldsAll held_before before held
 AwaitsRecord offset held_before before held (Err BadMagic) = ⊥
 AwaitsRecord offset held_before before held (Err (BadRecord at why)) = record_at offset held ≡ Bad (form.BadRecord at why)
-AwaitsRecord offset held_before before held (Err (Truncated at)) = (at ≡ offset) × (held ≢ []) × (record_at offset held ≡ More) × HoldsAll held_before before held
+AwaitsRecord offset held_before before held (Err (Truncated at)) = (at ≡ offset) × (held ≢ []) × (record_at offset held ≡ More)
+    × HoldsAll held_before before held
 AwaitsRecord offset held_before before held (Err (TooLong at)) = record_at offset held ≡ Bad (form.TooLong at)
 AwaitsRecord offset held_before before held (Err ReadFault) = Unit {0}
 AwaitsRecord offset held_before before held (Err OutOfMemory) = Unit {0}

@@ -1,5 +1,6 @@
 -- What a reader of captures has before it, and what it gives of it.
-use Rattle.std.specs.Prelude.{ℕ, ◌+◌, ◌≡◌, ◌≢◌, ◌<◌, ◌≤◌, Bool, true, false, if◌then◌else◌, List, [], ◌++◌, length, take, drop, Option, Some, None, option_and_then, Result, Ok, Err, IfOk, IfSome, bytes_eq}
+use Rattle.std.specs.Prelude.{ℕ, ◌+◌, ◌≡◌, ◌≢◌, ◌<◌, ◌≤◌, Bool, true, false, if◌then◌else◌, List, [], ◌++◌, length, take, drop, Option, Some, None}
+use Rattle.std.specs.Prelude.{option_and_then, Result, Ok, Err, IfOk, IfSome, bytes_eq}
 use Rattle.adb_outside.specs.declared.framer.Front.TheVariants.{More, Bad, Whole}
 use Rattle.adb_capture.specs.declared.entry.Entry.{Entry}
 use Rattle.adb_capture.specs.declared.error.FormFault.TheVariants as form
@@ -77,7 +78,8 @@ pub record Moves (offset next_offset : ℕ) : Type 0 where
 
 -- A call for the next entry, of a reader without an error: what it gives of the bytes ahead, or that the magic is not there. Want of
 -- memory loses nothing. An entry that is given has a record, which lies within a capture.
-pub record AnswersNext (old : Reading) (before : Option (List ℕ)) (new : Reading) (after : Option (List ℕ)) (result : Result (Option (ℕ × Entry)) CaptureError) : Type 0 where
+pub record AnswersNext (old : Reading) (before : Option (List ℕ)) (new : Reading) (after : Option (List ℕ))
+    (result : Result (Option (ℕ × Entry)) CaptureError) : Type 0 where
   pub records : (bytes : List ℕ) → ahead_of old before ≡ Some bytes → GivesNext old.offset bytes result new.offset (ahead_of new after)
   pub magic : (coming : List ℕ) → before ≡ Some coming → ahead old coming ≡ None → IsMagicRefused result
   pub memory : result ≡ Err OutOfMemory → (new.offset ≡ old.offset) × StaysAhead old before new after
@@ -86,7 +88,8 @@ pub record AnswersNext (old : Reading) (before : Option (List ℕ)) (new : Readi
 
 -- The magic was there, or is not.
 abbrev pub Opens : Reading → Option (List ℕ) → Reading → Option (List ℕ) → Result (Unit {0}) CaptureError → Type 0
-Opens old before new after (Ok x) = (coming : List ℕ) → before ≡ Some coming → (rest : List ℕ) × (after ≡ Some rest) × (ahead old coming ≡ Some (new.held ++ rest))
+Opens old before new after (Ok x) = (coming : List ℕ) → before ≡ Some coming → (rest : List ℕ) × (after ≡ Some rest)
+    × (ahead old coming ≡ Some (new.held ++ rest))
 Opens old before new after (Err BadMagic) = (coming : List ℕ) → before ≡ Some coming → ahead old coming ≡ None
 Opens old before new after (Err ReadFault) = Unit {0}
 Opens old before new after (Err OutOfMemory) = StaysAhead old before new after

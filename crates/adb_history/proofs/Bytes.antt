@@ -1,5 +1,6 @@
 -- Byte by byte, or a whole piece at once: the same.
-use Rattle.std.proofs.Common.{ℕ, ◌+◌, ◌≡◌, ◌≤◌, true, false, List, [], ◌∷◌, ◌++◌, length, drop, take, Some, None, refl, sym, ◌∙◌, ap, subst, append_assoc, arith}
+use Rattle.std.proofs.Common.{ℕ, ◌+◌, ◌≡◌, ◌≤◌, true, false, List, [], ◌∷◌, ◌++◌, length, drop, take, Some, None, refl, sym, ◌∙◌, ap, subst}
+use Rattle.std.proofs.Common.{append_assoc, arith}
 use Rattle.std.specs.Prelude.{◌||◌, is_none}
 use Rattle.std.proofs.Math.Seq.{take-append_seam}
 use Rattle.std.proofs.lemmas.List.{drop-append-le, length-drop, append-nil}
@@ -15,7 +16,8 @@ abbrev pub asking_with : List ℕ → Client → Client
 asking_with unread c = record c { phase = Asking; unread = unread }
 
 -- bytes that make no request whole are kept
-pub reads_more : (c : Client) (u v : List ℕ) → request_at (u ++ v) ≡ More → (bytes_in (asking_with u c) v ≡ asking_with (u ++ v) c) × (asks_unbuilt (asking_with u c) v ≡ false)
+pub reads_more : (c : Client) (u v : List ℕ) → request_at (u ++ v) ≡ More → (bytes_in (asking_with u c) v ≡ asking_with (u ++ v) c)
+    × (asks_unbuilt (asking_with u c) v ≡ false)
 reads_more c u [] e = (ap (λ w. asking_with w c) (sym (append-nil u)), refl)
 reads_more c u (b ∷ v) e =
     let f : request_at ((u ++ b ∷ []) ++ v) ≡ More = subst (λ (w : List ℕ). request_at w ≡ More) (sym (append_assoc u (b ∷ []) v)) e in
@@ -39,7 +41,8 @@ idle_gone c (b ∷ v) e =
     (ap (λ p. bytes_in (byte_in p c b) v) e ∙ more.0, ap (λ p. byte_asks_unbuilt p c b || asks_unbuilt (byte_in p c b) v) e ∙ more.1)
 
 -- what the whole bytes make of a client that has read nothing else: they are no request
-pub reads_malformed : (c : Client) (u v : List ℕ) → request_at u ≡ More → request_at (u ++ v) ≡ Malformed → (bytes_in (asking_with u c) v ≡ closing c) × (asks_unbuilt (asking_with u c) v ≡ false)
+pub reads_malformed : (c : Client) (u v : List ℕ) → request_at u ≡ More → request_at (u ++ v) ≡ Malformed → (bytes_in (asking_with u c) v ≡ closing c)
+    × (asks_unbuilt (asking_with u c) v ≡ false)
 reads_malformed c u [] e f = let g : request_at u ≡ Malformed = subst (λ (w : List ℕ). request_at w ≡ Malformed) (append-nil u) f in cc
 reads_malformed c u (b ∷ v) e f =
     let f2 : request_at ((u ++ b ∷ []) ++ v) ≡ Malformed = subst (λ (w : List ℕ). request_at w ≡ Malformed) (sym (append_assoc u (b ∷ []) v)) f in
@@ -47,7 +50,8 @@ reads_malformed c u (b ∷ v) e f =
   where
     go : (k : Found) → request_at (u ++ b ∷ []) ≡ k → request_at ((u ++ b ∷ []) ++ v) ≡ Malformed
         → (request_at (u ++ b ∷ []) ≡ More → (bytes_in (asking_with (u ++ b ∷ []) c) v ≡ closing c) × (asks_unbuilt (asking_with (u ++ b ∷ []) c) v ≡ false))
-        → (bytes_in (asks (asking_with u c) (u ++ b ∷ []) k) v ≡ closing c) × ((is_unbuilt (u ++ b ∷ []) k || asks_unbuilt (asks (asking_with u c) (u ++ b ∷ []) k) v) ≡ false)
+        → (bytes_in (asks (asking_with u c) (u ++ b ∷ []) k) v ≡ closing c)
+            × ((is_unbuilt (u ++ b ∷ []) k || asks_unbuilt (asks (asking_with u c) (u ++ b ∷ []) k) v) ≡ false)
     go More is f more = more is
     go Malformed is f more = idle_closing (closing c) v refl
     go (Whole m) is f more = let g = whole_front (u ++ b ∷ []) v m is in cc
@@ -63,18 +67,23 @@ text_is x v len e =
     ap (take len) (drop-append-le 4 x v four) ∙ (ap (λ k. take k (drop 4 x ++ v)) (sym n) ∙ take-append_seam (drop 4 x) v)
 
 -- What the whole bytes make of a client: they begin with a request that is built, which is its last.
-pub reads_whole : (c : Client) (u v : List ℕ) (len : ℕ) (reply : List ℕ) → request_at u ≡ More → request_at (u ++ v) ≡ Whole len → answer (meaning (first_text (u ++ v) len)) ≡ Some reply
+pub reads_whole : (c : Client) (u v : List ℕ) (len : ℕ) (reply : List ℕ) → request_at u ≡ More → request_at (u ++ v) ≡ Whole len
+    → answer (meaning (first_text (u ++ v) len)) ≡ Some reply
     → (bytes_in (asking_with u c) v ≡ answered (Some reply) c) × (asks_unbuilt (asking_with u c) v ≡ false)
 reads_whole c u [] len reply e f built = let g : request_at u ≡ Whole len = subst (λ (w : List ℕ). request_at w ≡ Whole len) (append-nil u) f in cc
 reads_whole c u (b ∷ v) len reply e f built =
     let same : (u ++ b ∷ []) ++ v ≡ u ++ b ∷ v = append_assoc u (b ∷ []) v in
     let f2 : request_at ((u ++ b ∷ []) ++ v) ≡ Whole len = subst (λ (w : List ℕ). request_at w ≡ Whole len) (sym same) f in
-    let built2 : answer (meaning (first_text ((u ++ b ∷ []) ++ v) len)) ≡ Some reply = subst (λ (w : List ℕ). answer (meaning (first_text w len)) ≡ Some reply) (sym same) built in
+    let built2 : answer (meaning (first_text ((u ++ b ∷ []) ++ v) len)) ≡ Some reply =
+        subst (λ (w : List ℕ). answer (meaning (first_text w len)) ≡ Some reply) (sym same) built in
     go (request_at (u ++ b ∷ [])) refl f2 built2 (λ g. reads_whole c (u ++ b ∷ []) v len reply g f2 built2)
   where
-    go : (k : Found) → request_at (u ++ b ∷ []) ≡ k → request_at ((u ++ b ∷ []) ++ v) ≡ Whole len → answer (meaning (first_text ((u ++ b ∷ []) ++ v) len)) ≡ Some reply
-        → (request_at (u ++ b ∷ []) ≡ More → (bytes_in (asking_with (u ++ b ∷ []) c) v ≡ answered (Some reply) c) × (asks_unbuilt (asking_with (u ++ b ∷ []) c) v ≡ false))
-        → (bytes_in (asks (asking_with u c) (u ++ b ∷ []) k) v ≡ answered (Some reply) c) × ((is_unbuilt (u ++ b ∷ []) k || asks_unbuilt (asks (asking_with u c) (u ++ b ∷ []) k) v) ≡ false)
+    go : (k : Found) → request_at (u ++ b ∷ []) ≡ k → request_at ((u ++ b ∷ []) ++ v) ≡ Whole len
+        → answer (meaning (first_text ((u ++ b ∷ []) ++ v) len)) ≡ Some reply
+        → (request_at (u ++ b ∷ []) ≡ More → (bytes_in (asking_with (u ++ b ∷ []) c) v ≡ answered (Some reply) c)
+            × (asks_unbuilt (asking_with (u ++ b ∷ []) c) v ≡ false))
+        → (bytes_in (asks (asking_with u c) (u ++ b ∷ []) k) v ≡ answered (Some reply) c)
+            × ((is_unbuilt (u ++ b ∷ []) k || asks_unbuilt (asks (asking_with u c) (u ++ b ∷ []) k) v) ≡ false)
     go More is f built more = more is
     go Malformed is f built more = let g = malformed_front (u ++ b ∷ []) v is in cc
     go (Whole m) is f built more =
@@ -88,16 +97,19 @@ reads_whole c u (b ∷ v) len reply e f built =
         )
 
 -- They begin with a request that is not built.
-pub reads_unbuilt : (c : Client) (u v : List ℕ) (len : ℕ) → request_at u ≡ More → request_at (u ++ v) ≡ Whole len → answer (meaning (first_text (u ++ v) len)) ≡ None
+pub reads_unbuilt : (c : Client) (u v : List ℕ) (len : ℕ) → request_at u ≡ More → request_at (u ++ v) ≡ Whole len
+    → answer (meaning (first_text (u ++ v) len)) ≡ None
     → asks_unbuilt (asking_with u c) v ≡ true
 reads_unbuilt c u [] len e f none = let g : request_at u ≡ Whole len = subst (λ (w : List ℕ). request_at w ≡ Whole len) (append-nil u) f in cc
 reads_unbuilt c u (b ∷ v) len e f none =
     let same : (u ++ b ∷ []) ++ v ≡ u ++ b ∷ v = append_assoc u (b ∷ []) v in
     let f2 : request_at ((u ++ b ∷ []) ++ v) ≡ Whole len = subst (λ (w : List ℕ). request_at w ≡ Whole len) (sym same) f in
-    let none2 : answer (meaning (first_text ((u ++ b ∷ []) ++ v) len)) ≡ None = subst (λ (w : List ℕ). answer (meaning (first_text w len)) ≡ None) (sym same) none in
+    let none2 : answer (meaning (first_text ((u ++ b ∷ []) ++ v) len)) ≡ None =
+        subst (λ (w : List ℕ). answer (meaning (first_text w len)) ≡ None) (sym same) none in
     go (request_at (u ++ b ∷ [])) refl f2 none2 (λ g. reads_unbuilt c (u ++ b ∷ []) v len g f2 none2)
   where
-    go : (k : Found) → request_at (u ++ b ∷ []) ≡ k → request_at ((u ++ b ∷ []) ++ v) ≡ Whole len → answer (meaning (first_text ((u ++ b ∷ []) ++ v) len)) ≡ None
+    go : (k : Found) → request_at (u ++ b ∷ []) ≡ k → request_at ((u ++ b ∷ []) ++ v) ≡ Whole len
+        → answer (meaning (first_text ((u ++ b ∷ []) ++ v) len)) ≡ None
         → (request_at (u ++ b ∷ []) ≡ More → asks_unbuilt (asking_with (u ++ b ∷ []) c) v ≡ true)
         → (is_unbuilt (u ++ b ∷ []) k || asks_unbuilt (asks (asking_with u c) (u ++ b ∷ []) k) v) ≡ true
     go More is f none more = more is

@@ -11,7 +11,8 @@ use Rattle.adb_outside.specs.declared.kinds.Cause.{Cause}
 use Rattle.adb_outside.specs.declared.kinds.Cause.TheVariants.{Eof, Fault, Starved, NoThread}
 use Rattle.adb_capture.specs.declared.entry.Entry.{Entry}
 use Rattle.adb_capture.specs.declared.entry.Entry.TheVariants.{Join, Enter, Read, End, Bound, Attach, Recv, Detach, Put, Send}
-use Rattle.adb_history.specs.Machine.{Client, State, History, state, step, May, IsLegal, IsDrawn, fresh, settled, answer, answered, asks, byte_in, bytes_in, phase_after, end_phase, ended, handed, to_client}
+use Rattle.adb_history.specs.Machine.{Client, State, History, state, step, May, IsLegal, IsDrawn, fresh, settled, answer, answered, asks, byte_in}
+use Rattle.adb_history.specs.Machine.{bytes_in, phase_after, end_phase, ended, handed, to_client}
 use Rattle.adb_history.specs.Kept.{IsResting, IsOrderly}
 use Rattle.adb_history.specs.declared.phase.Phase.{Phase}
 use Rattle.adb_history.specs.declared.phase.Phase.TheVariants.{Asking, Closing, Gone}
@@ -24,7 +25,8 @@ told_more told e = reverse-append told (e ∷ [])
 abbrev Rests : Client → Type 0
 Rests c = IsResting c.phase c.unread × (c.phase ≡ Gone → c.due ≡ [])
 
-settled_rests : (p : Phase) (due unread : List ℕ) → IsResting p unread → (p ≡ Gone → due ≡ []) → IsResting (phase_after p due) unread × (phase_after p due ≡ Gone → due ≡ [])
+settled_rests : (p : Phase) (due unread : List ℕ) → IsResting p unread → (p ≡ Gone → due ≡ []) → IsResting (phase_after p due) unread
+    × (phase_after p due ≡ Gone → due ≡ [])
 settled_rests Asking due u r none = (r, λ e. cc)
 settled_rests Closing [] u r none = (r, λ e. refl)
 settled_rests Closing (b ∷ due) u r none = (r, λ e. cc)

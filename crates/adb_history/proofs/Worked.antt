@@ -48,7 +48,8 @@ unfolding record_at meaning
 version_byte_by_byte = refl
 
 -- it is closed without an answer, and what it sends then is nothing
-malformed_requests_close : replayed (joins ++ sends 4 (codes "zzzz") ++ sends 16 (codes "000Chost:version")) ≡ joins ++ sends 4 (codes "zzzz") ++ sends 16 (codes "000Chost:version")
+malformed_requests_close : replayed (joins ++ sends 4 (codes "zzzz") ++ sends 16 (codes "000Chost:version")) ≡ joins ++ sends 4 (codes "zzzz") ++ sends 16
+    (codes "000Chost:version")
 unfolding record_at meaning
 malformed_requests_close = refl
 

@@ -1,5 +1,6 @@
 -- Which entries a capture gives a server, and why it ends before its end.
-use Rattle.std.specs.Prelude.{ℕ, ◌+◌, Bool, true, false, if◌then◌else◌, ◌&&◌, nat_eq, nat_lt, nat_le, List, [], ◌∷◌, ◌++◌, take, drop, Option, Some, None, bytes_eq}
+use Rattle.std.specs.Prelude.{ℕ, ◌+◌, Bool, true, false, if◌then◌else◌, ◌&&◌, nat_eq, nat_lt, nat_le, List, [], ◌∷◌, ◌++◌, take, drop, Option, Some}
+use Rattle.std.specs.Prelude.{None, bytes_eq}
 use Rattle.adb_outside.specs.Framing.{Cut, cut}
 use Rattle.adb_outside.specs.Serial.{is_serial}
 use Rattle.adb_capture.specs.Records.{magic, record_at, entry_in, offset_after, records_of}
@@ -30,7 +31,8 @@ refusal_of s offset (Read n bytes) = if is_drawn s n then read_refusal (asks_unb
 refusal_of s offset (End n cause) = if is_drawn s n then None else refused_at offset NotDrawn
 refusal_of s offset (Enter n port) = if nat_eq n (s.joined + 1) then refused_at offset NotBuilt else refused_at offset NotDrawn
 refusal_of s offset (Bound n port) = if is_drawn s n then refused_at offset NotBuilt else refused_at offset NotDrawn
-refusal_of s offset (Attach n kind serial) = if nat_eq n 1 then (if is_serial serial then refused_at offset NotBuilt else refused_at offset BadSerial) else refused_at offset NotDrawn
+refusal_of s offset (Attach n kind serial) = if nat_eq n 1 then
+    (if is_serial serial then refused_at offset NotBuilt else refused_at offset BadSerial) else refused_at offset NotDrawn
 refusal_of s offset (Recv n bytes) = refused_at offset NotDrawn
 refusal_of s offset (Detach n cause) = refused_at offset NotDrawn
 refusal_of s offset (Put n bytes) = None

@@ -1,5 +1,6 @@
 -- What every legal history has: its clients are answered, over the bytes that were read and handed out.
-use Rattle.std.specs.Prelude.{ℕ, ◌+◌, ◌≡◌, ◌≢◌, Bool, true, false, if◌then◌else◌, ◌&&◌, ◌||◌, not, nat_eq, List, [], ◌∷◌, ◌++◌, length, drop, Option, Some, None}
+use Rattle.std.specs.Prelude.{ℕ, ◌+◌, ◌≡◌, ◌≢◌, Bool, true, false, if◌then◌else◌, ◌&&◌, ◌||◌, not, nat_eq, List, [], ◌∷◌, ◌++◌, length, drop, Option}
+use Rattle.std.specs.Prelude.{Some, None}
 use Rattle.adb_request.specs.Requests.{request_at}
 use Rattle.adb_request.specs.Meaning.{meaning}
 use Rattle.adb_request.specs.declared.cutting.Found.{Found}
@@ -89,8 +90,10 @@ IsAnswered h = (c : ℕ) → has_joined c h ≡ true → IsAnsweredAt h c
 
 -- what is due to a client that lives is what became due past what was handed out
 abbrev pub DueIsPastHanded : History → Type 0
-DueIsPastHanded h = (c : ℕ) → has_joined c h ≡ true → ((state h).clients c).phase ≢ Gone → ((state h).clients c).due ≡ drop (length (bytes_put c h)) (output_of c h)
+DueIsPastHanded h = (c : ℕ) → has_joined c h ≡ true → ((state h).clients c).phase ≢ Gone
+    → ((state h).clients c).due ≡ drop (length (bytes_put c h)) (output_of c h)
 
 -- what a client that asks has unread is what was read from it past its whole requests
 abbrev pub UnreadIsPastUsed : History → Type 0
-UnreadIsPastUsed h = (c : ℕ) → has_joined c h ≡ true → ((state h).clients c).phase ≡ Asking → ((state h).clients c).unread ≡ drop (asked c h).used (bytes_read c h)
+UnreadIsPastUsed h = (c : ℕ) → has_joined c h ≡ true → ((state h).clients c).phase ≡ Asking
+    → ((state h).clients c).unread ≡ drop (asked c h).used (bytes_read c h)

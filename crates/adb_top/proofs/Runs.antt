@@ -139,7 +139,8 @@ other_writes (stop.Refused refusal) OutOfMemory e other = refl
 
 -- a status other than WriteFault comes of another stop
 pub other_stop : (why : Stop) (status : Status) → EndsIn why status → status ≢ WriteFault → ◌≢◌ {A = Result (Unit {0}) Stop} (Err why) (Err stop.WriteFault)
-other_stop why status e other is = let clash : is_write_fault (Err why) ≡ true = ap is_write_fault is in let none = sym clash ∙ other_writes why status e other in cc
+other_stop why status e other is = let clash : is_write_fault (Err why) ≡ true = ap is_write_fault is in let none = sym clash
+    ∙ other_writes why status e other in cc
 
 -- streams that never fail
 pub faultless_stopped : (why : Stop) (status : Status) → EndsIn why status → is_read_fault (Err why) ≡ false

@@ -3,7 +3,8 @@ use Rattle.adb_top.proofs.Runs.{writes_by, completes_stopped, reads_rose, write_
 use Rattle.adb_top.proofs.command.run.Goals as goal
 
 pub returns-in-Err-clause-writes : goal.returns-in-Err-clause-writes
-returns-in-Err-clause-writes g c = λ bytes had told has. writes_by c.in-Err.stop c.say_stop.result _ had _ c.say_stop.ensures.status (c.in-Err.ensures.replays.writes bytes had told has)
+returns-in-Err-clause-writes g c = λ bytes had told has. writes_by c.in-Err.stop c.say_stop.result _ had _ c.say_stop.ensures.status
+    (c.in-Err.ensures.replays.writes bytes had told has)
 
 pub returns-in-Err-clause-complete : goal.returns-in-Err-clause-complete
 returns-in-Err-clause-complete g c = λ right no_read no_write no_note bytes told.

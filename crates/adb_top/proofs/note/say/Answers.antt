@@ -9,5 +9,6 @@ pub returns-in-Failed-clause-told : goal.returns-in-Failed-clause-told
 returns-in-Failed-clause-told g c = λ had has.
     inr (
       rises_on c.in-Failed.ensures.counts c.say_write_fault-last.ensures.counts,
-      line_cut c.args.status c.args.line.now had c.in-Failed.taken c.say_write_fault-last.result c.requires.own (c.in-Failed.ensures.told had has) c.say_write_fault-last.ensures.told,
+      line_cut c.args.status c.args.line.now had c.in-Failed.taken c.say_write_fault-last.result c.requires.own
+          (c.in-Failed.ensures.told had has) c.say_write_fault-last.ensures.told,
     )
