@@ -75,11 +75,11 @@ whole_told offset x n h =
     let fits = h.fits in
     as_tested offset x
     ∙ (ap (λ b. tested b (is_kind (kind_in x)) (nat_lt 2097152 (size_in x)) (nat_lt 1073741824 (offset + 9 + size_in x))
-        (nat_lt (length x) (9 + size_in x)) offset (size_in x) (entry_of x)) (le-ltb _ _ (omega (arith, h.fits)))
+    (nat_lt (length x) (9 + size_in x)) offset (size_in x) (entry_of x)) (le-ltb _ _ (omega (arith, h.fits)))
     ∙ (ap (λ b. tested false b (nat_lt 2097152 (size_in x)) (nat_lt 1073741824 (offset + 9 + size_in x)) (nat_lt (length x) (9 + size_in x)) offset
-        (size_in x) (entry_of x)) h.known
+    (size_in x) (entry_of x)) h.known
     ∙ (ap (λ b. tested false true b (nat_lt 1073741824 (offset + 9 + size_in x)) (nat_lt (length x) (9 + size_in x)) offset (size_in x) (entry_of x))
-        (le-ltb _ _ h.small)
+    (le-ltb _ _ h.small)
     ∙ (ap (λ b. tested false true false b (nat_lt (length x) (9 + size_in x)) offset (size_in x) (entry_of x)) (le-ltb _ _ h.near)
     ∙ (ap (λ b. tested false true false false b offset (size_in x) (entry_of x)) (le-ltb _ _ h.fits)
     ∙ (ap (λ e. formed offset (size_in x) e) h.formed ∙ ap Whole (sym h.size)))))))
@@ -159,19 +159,19 @@ bad_stays offset x y error h =
     let h' = sym (as_tested offset x) ∙ h in
     let long : (nat_lt (length x) 9 ≡ false) → 9 ≤ length x = ltb-false (length x) 9 in
     let first = tested_bad (nat_lt (length x) 9) (is_kind (kind_in x)) (nat_lt 2097152 (size_in x)) (nat_lt 1073741824 (offset + 9 + size_in x))
-        (nat_lt (length x) (9 + size_in x)) (nat_lt (length x) (9 + size_in x)) offset (size_in x) (entry_of x) (entry_of x) error h' (λ o. (o, refl)) in
+    (nat_lt (length x) (9 + size_in x)) (nat_lt (length x) (9 + size_in x)) offset (size_in x) (entry_of x) (entry_of x) error h' (λ o. (o, refl)) in
     let nine : 9 ≤ length x = long first.0 in
     let s : size_in (x ++ y) ≡ size_in x = size_before x y nine in
     let t = tested_bad (nat_lt (length x) 9) (is_kind (kind_in x)) (nat_lt 2097152 (size_in x)) (nat_lt 1073741824 (offset + 9 + size_in x))
-        (nat_lt (length x) (9 + size_in x)) (nat_lt (length (x ++ y)) (9 + size_in x)) offset (size_in x) (entry_of x) (entry_of (x ++ y)) error h'
+    (nat_lt (length x) (9 + size_in x)) (nat_lt (length (x ++ y)) (9 + size_in x)) offset (size_in x) (entry_of x) (entry_of (x ++ y)) error h'
     (λ o. (le-ltb _ _ (omega (arith, ltb-false (length x) (9 + size_in x) o, length-append x y)), entry_before x y (ltb-false _ _ o))) in
     as_tested offset (x ++ y)
     ∙ (ap (λ k. tested (nat_lt (length (x ++ y)) 9) (is_kind (kind_in (x ++ y))) (nat_lt 2097152 k) (nat_lt 1073741824 (offset + 9 + k))
-        (nat_lt (length (x ++ y)) (9 + k)) offset k (entry_of (x ++ y))) s
+    (nat_lt (length (x ++ y)) (9 + k)) offset k (entry_of (x ++ y))) s
     ∙ (ap (λ k. tested (nat_lt (length (x ++ y)) 9) (is_kind k) (nat_lt 2097152 (size_in x)) (nat_lt 1073741824 (offset + 9 + size_in x))
-        (nat_lt (length (x ++ y)) (9 + size_in x)) offset (size_in x) (entry_of (x ++ y))) (kind_before x y nine)
+    (nat_lt (length (x ++ y)) (9 + size_in x)) offset (size_in x) (entry_of (x ++ y))) (kind_before x y nine)
     ∙ (ap (λ b. tested b (is_kind (kind_in x)) (nat_lt 2097152 (size_in x)) (nat_lt 1073741824 (offset + 9 + size_in x))
-        (nat_lt (length (x ++ y)) (9 + size_in x)) offset (size_in x) (entry_of (x ++ y))) (le-ltb _ _ (omega (arith, length-append x y)))
+    (nat_lt (length (x ++ y)) (9 + size_in x)) offset (size_in x) (entry_of (x ++ y))) (le-ltb _ _ (omega (arith, length-append x y)))
     ∙ t.1)))
 
 -- Records are a format.
@@ -202,6 +202,6 @@ more_is_short offset x h =
       | inl l ↦ omega (arith, l)
       | inr l ↦
           let t = tested_more (nat_lt (length x) 9) (is_kind (kind_in x)) (nat_lt 2097152 (size_in x)) (nat_lt 1073741824 (offset + 9 + size_in x))
-              (nat_lt (length x) (9 + size_in x)) offset (size_in x) (entry_of x) (sym (as_tested offset x) ∙ h) (le-ltb (length x) 9 l) in
+          (nat_lt (length x) (9 + size_in x)) offset (size_in x) (entry_of x) (sym (as_tested offset x) ∙ h) (le-ltb (length x) 9 l) in
           omega (arith, ltb-false 2097152 (size_in x) t.0, ltb-true (length x) (9 + size_in x) t.1)
     ]

@@ -44,7 +44,7 @@ held_first held whole (Some rest) h = let e : Some (held ++ rest) ≡ Some whole
 pub gives_record : (offset next size : ℕ) (held left bytes : List ℕ) (given : ℕ × Entry) (after : Option (List ℕ))
     → option_map (λ rest. held ++ rest) after ≡ Some bytes → record_at offset held ≡ Whole size
     → given ≡ entry_in offset (take size held) → left ≡ drop size held → next ≡ offset + size
-        → GivesRecord offset bytes given next (option_map (λ rest. left ++ rest) after)
+    → GivesRecord offset bytes given next (option_map (λ rest. left ++ rest) after)
 gives_record offset next size held left bytes given after h whole is dropped place =
     let f = held_first held bytes after h in
     let fits = whole_fits offset held size whole in

@@ -10,7 +10,7 @@ pub keeps_more : (old held chunk coming : List ℕ) (after : Option (List ℕ)) 
 keeps_more old held chunk coming after n is t =
     ap (λ a. option_map (λ (rest : List ℕ). held ++ rest) a) t.rest
     ∙ ap Some (ap (λ h. h ++ drop n coming) (is ∙ ap (λ k. old ++ k) t.front)
-        ∙ (append_assoc old (take n coming) (drop n coming) ∙ ap (λ k. old ++ k) (take-append-drop n coming)))
+    ∙ (append_assoc old (take n coming) (drop n coming) ∙ ap (λ k. old ++ k) (take-append-drop n coming)))
 
 -- bytes at the end of those of which some were taken
 pub grows : (taken : ℕ) (bytes old x grown : List ℕ) → taken ≤ length bytes → drop taken bytes ≡ old → grown ≡ bytes ++ x → drop taken grown ≡ old ++ x

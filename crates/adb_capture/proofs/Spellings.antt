@@ -200,7 +200,7 @@ cause_spells (b ∷ []) cause h = zeroth (nat_eq b 0) refl h
 
     zeroth : (t : Bool) → nat_eq b 0 ≡ t → (if t then Some Eof else
         (if nat_eq b 1 then Some Fault else (if nat_eq b 2 then Some Starved else (if nat_eq b 3 then Some NoThread else None)))) ≡ Some cause
-            → b ∷ [] ≡ cause_byte cause ∷ []
+        → b ∷ [] ≡ cause_byte cause ∷ []
     zeroth true t h = let e : Eof ≡ cause = cc in ap (λ k. k ∷ []) (eqb-true b 0 t) ∙ ap (λ (k : Cause). cause_byte k ∷ []) e
     zeroth false t h = first (nat_eq b 1) refl h
 
@@ -261,12 +261,12 @@ pub record IsSpelled (offset : ℕ) (bytes : List ℕ) : Type 0 where
 -- bytes of a header and data
 header_spells : (k a b c d e f g h : ℕ) (rest bytes : List ℕ) → All IsByte (k ∷ a ∷ b ∷ c ∷ d ∷ e ∷ f ∷ g ∷ h ∷ rest)
     → k ∷ little_bytes 4 (little_number 4 (a ∷ b ∷ c ∷ d ∷ [])) ++ little_bytes 4
-        (little_number 4 (e ∷ f ∷ g ∷ h ∷ [])) ++ rest ≡ k ∷ a ∷ b ∷ c ∷ d ∷ e ∷ f ∷ g ∷ h ∷ rest
+    (little_number 4 (e ∷ f ∷ g ∷ h ∷ [])) ++ rest ≡ k ∷ a ∷ b ∷ c ∷ d ∷ e ∷ f ∷ g ∷ h ∷ rest
 header_spells k a b c d e f g h rest bytes all =
     ap (λ x. k ∷ x ++ little_bytes 4 (little_number 4 (e ∷ f ∷ g ∷ h ∷ [])) ++ rest)
-        (four_bytes a b c d (all 1 0 (omega arith)) (all 2 0 (omega arith)) (all 3 0 (omega arith)) (all 4 0 (omega arith)))
+    (four_bytes a b c d (all 1 0 (omega arith)) (all 2 0 (omega arith)) (all 3 0 (omega arith)) (all 4 0 (omega arith)))
     ∙ ap (λ x. k ∷ a ∷ b ∷ c ∷ d ∷ x ++ rest) (four_bytes e f g h (all 5 0 (omega arith)) (all 6 0 (omega arith)) (all 7 0 (omega arith))
-        (all 8 0 (omega arith)))
+    (all 8 0 (omega arith)))
 
 number_fits : (a b c d : ℕ) → a < 256 → b < 256 → c < 256 → d < 256 → little_number 4 (a ∷ b ∷ c ∷ d ∷ []) < 4294967296
 number_fits a b c d ha hb hc hd = omega arith
@@ -297,12 +297,12 @@ read_spelled offset (k ∷ a ∷ b ∷ c ∷ d ∷ e ∷ f ∷ g ∷ h ∷ rest)
     let size : little_number 4 (e ∷ f ∷ g ∷ h ∷ []) ≡ length rest = omega (arith, t.size) in
     let part : data_in bytes ≡ rest = take_all (size_in bytes) rest (omega (arith, size)) in
     let is : entry_at k (little_number 4 (a ∷ b ∷ c ∷ d ∷ [])) rest ≡ Some t.entry = ap (λ x. entry_at k (little_number 4 (a ∷ b ∷ c ∷ d ∷ [])) x) (sym part)
-        ∙ t.formed in
+    ∙ t.formed in
     let s = entry_spells k (little_number 4 (a ∷ b ∷ c ∷ d ∷ [])) rest
-        (λ i z l. all (suc (suc (suc (suc (suc (suc (suc (suc (suc i))))))))) z (omega arith)) t.entry is in
+    (λ i z l. all (suc (suc (suc (suc (suc (suc (suc (suc (suc i))))))))) z (omega arith)) t.entry is in
     let same : t.entry ≡ (entry_in offset bytes).1 = ap or_join (sym t.formed) in
     let spelled : bytes ≡ record_of t.entry = sym (header_spells k a b c d e f g h rest bytes all)
-        ∙ record_by k (little_number 4 (a ∷ b ∷ c ∷ d ∷ [])) (little_number 4 (e ∷ f ∷ g ∷ h ∷ [])) rest t.entry s size in
+    ∙ record_by k (little_number 4 (a ∷ b ∷ c ∷ d ∷ [])) (little_number 4 (e ∷ f ∷ g ∷ h ∷ [])) rest t.entry s size in
     let form : HasRecord t.entry = record {
       owner = omega (arith, s.owner_is, number_fits a b c d (all 1 0 (omega arith)) (all 2 0 (omega arith)) (all 3 0 (omega arith)) (all 4 0 (omega arith)));
       port = s.port;

@@ -26,7 +26,7 @@ enough : (k m : ℕ) (bytes : List ℕ) → length bytes ≤ k → length bytes 
 enough zero zero bytes h g = refl
 enough zero (suc m) bytes h g =
     sym (ap (λ t. cond t [] (answer_bytes (answers.Chunk (take MOST_CHUNK bytes)) ++ chunks_at m (drop MOST_CHUNK bytes)))
-        (eq-eqb (length bytes) 0 (omega arith)))
+    (eq-eqb (length bytes) 0 (omega arith)))
 enough (suc k) zero bytes h g =
     ap (λ t. cond t [] (answer_bytes (answers.Chunk (take MOST_CHUNK bytes)) ++ chunks_at k (drop MOST_CHUNK bytes))) (eq-eqb (length bytes) 0 (omega arith))
 enough (suc k) (suc m) bytes h g = go (length bytes == 0)
@@ -44,7 +44,7 @@ pub chunk_more : (bytes : List ℕ) → length bytes ≢ 0
 chunk_more bytes some =
     enough (length bytes) (suc (length bytes)) bytes (omega arith) (omega arith)
     ∙ (ap (λ t. cond t [] (answer_bytes (answers.Chunk (take MOST_CHUNK bytes)) ++ chunks_at (length bytes) (drop MOST_CHUNK bytes)))
-        (ne_eqb (length bytes) 0 some)
+    (ne_eqb (length bytes) 0 some)
     ∙ (ap (λ (rest : List ℕ). answer_bytes (answers.Chunk (take MOST_CHUNK bytes)) ++ rest)
     (enough (length bytes) (length (drop MOST_CHUNK bytes)) (drop MOST_CHUNK bytes) (omega (arith, length-drop MOST_CHUNK bytes)) (omega arith))
     ∙ (ap (λ (front : List ℕ). answer_bytes (answers.Chunk front) ++ chunk_bytes (drop MOST_CHUNK bytes)) (sym (take_min MOST_CHUNK bytes))

@@ -51,7 +51,7 @@ reads_malformed c u (b ∷ v) e f =
     go : (k : Found) → request_at (u ++ b ∷ []) ≡ k → request_at ((u ++ b ∷ []) ++ v) ≡ Malformed
         → (request_at (u ++ b ∷ []) ≡ More → (bytes_in (asking_with (u ++ b ∷ []) c) v ≡ closing c) × (asks_unbuilt (asking_with (u ++ b ∷ []) c) v ≡ false))
         → (bytes_in (asks (asking_with u c) (u ++ b ∷ []) k) v ≡ closing c)
-            × ((is_unbuilt (u ++ b ∷ []) k || asks_unbuilt (asks (asking_with u c) (u ++ b ∷ []) k) v) ≡ false)
+        × ((is_unbuilt (u ++ b ∷ []) k || asks_unbuilt (asks (asking_with u c) (u ++ b ∷ []) k) v) ≡ false)
     go More is f more = more is
     go Malformed is f more = idle_closing (closing c) v refl
     go (Whole m) is f more = let g = whole_front (u ++ b ∷ []) v m is in cc
@@ -75,15 +75,15 @@ reads_whole c u (b ∷ v) len reply e f built =
     let same : (u ++ b ∷ []) ++ v ≡ u ++ b ∷ v = append_assoc u (b ∷ []) v in
     let f2 : request_at ((u ++ b ∷ []) ++ v) ≡ Whole len = subst (λ (w : List ℕ). request_at w ≡ Whole len) (sym same) f in
     let built2 : answer (meaning (first_text ((u ++ b ∷ []) ++ v) len)) ≡ Some reply =
-        subst (λ (w : List ℕ). answer (meaning (first_text w len)) ≡ Some reply) (sym same) built in
+    subst (λ (w : List ℕ). answer (meaning (first_text w len)) ≡ Some reply) (sym same) built in
     go (request_at (u ++ b ∷ [])) refl f2 built2 (λ g. reads_whole c (u ++ b ∷ []) v len reply g f2 built2)
   where
     go : (k : Found) → request_at (u ++ b ∷ []) ≡ k → request_at ((u ++ b ∷ []) ++ v) ≡ Whole len
         → answer (meaning (first_text ((u ++ b ∷ []) ++ v) len)) ≡ Some reply
         → (request_at (u ++ b ∷ []) ≡ More → (bytes_in (asking_with (u ++ b ∷ []) c) v ≡ answered (Some reply) c)
-            × (asks_unbuilt (asking_with (u ++ b ∷ []) c) v ≡ false))
+        × (asks_unbuilt (asking_with (u ++ b ∷ []) c) v ≡ false))
         → (bytes_in (asks (asking_with u c) (u ++ b ∷ []) k) v ≡ answered (Some reply) c)
-            × ((is_unbuilt (u ++ b ∷ []) k || asks_unbuilt (asks (asking_with u c) (u ++ b ∷ []) k) v) ≡ false)
+        × ((is_unbuilt (u ++ b ∷ []) k || asks_unbuilt (asks (asking_with u c) (u ++ b ∷ []) k) v) ≡ false)
     go More is f built more = more is
     go Malformed is f built more = let g = malformed_front (u ++ b ∷ []) v is in cc
     go (Whole m) is f built more =
@@ -105,7 +105,7 @@ reads_unbuilt c u (b ∷ v) len e f none =
     let same : (u ++ b ∷ []) ++ v ≡ u ++ b ∷ v = append_assoc u (b ∷ []) v in
     let f2 : request_at ((u ++ b ∷ []) ++ v) ≡ Whole len = subst (λ (w : List ℕ). request_at w ≡ Whole len) (sym same) f in
     let none2 : answer (meaning (first_text ((u ++ b ∷ []) ++ v) len)) ≡ None =
-        subst (λ (w : List ℕ). answer (meaning (first_text w len)) ≡ None) (sym same) none in
+    subst (λ (w : List ℕ). answer (meaning (first_text w len)) ≡ None) (sym same) none in
     go (request_at (u ++ b ∷ [])) refl f2 none2 (λ g. reads_unbuilt c (u ++ b ∷ []) v len g f2 none2)
   where
     go : (k : Found) → request_at (u ++ b ∷ []) ≡ k → request_at ((u ++ b ∷ []) ++ v) ≡ Whole len

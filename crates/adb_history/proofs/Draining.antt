@@ -53,8 +53,8 @@ less_owed s n (suc k) e is = go (s.clients n).due refl is (less_owed s (suc n) k
     go [] has i later =
         let p = put_first s.clients (suc n) k e i in
         let at : length ((step s e).clients n).due ≤ length (s.clients n).due = subst
-            (λ (x : Entry). length ((step s x).clients n).due ≤ length (s.clients n).due) (sym p.is)
-            (hands_less (eqb p.client n) (length p.bytes) (s.clients n)) in
+        (λ (x : Entry). length ((step s x).clients n).due ≤ length (s.clients n).due) (sym p.is)
+        (hands_less (eqb p.client n) (length p.bytes) (s.clients n)) in
         omega (arith, later i, at)
     go (b ∷ bs) has i later =
         let same : e ≡ Put n (take 65536 (b ∷ bs)) = cc in

@@ -78,5 +78,5 @@ whole_exact (a ∷ a2 ∷ []) b len e f = cc
 whole_exact (a ∷ a2 ∷ a3 ∷ []) b len e f = absurd (none_at_zero (hex_value a a2 a3 b) len f)
 whole_exact (a ∷ a2 ∷ a3 ∷ d ∷ r) b len e f =
     let e : suc (length r) ≡ len = after_exact (hex_value a a2 a3 d) (length r) len e
-        (subst (λ (n : ℕ). found_behind (hex_value a a2 a3 d) n ≡ Whole len) (one_more r b) f) in
+    (subst (λ (n : ℕ). found_behind (hex_value a a2 a3 d) n ≡ Whole len) (one_more r b) f) in
     omega (arith, one_more r b, e)

@@ -29,7 +29,7 @@ module _ {S V F : Type 0} (find : S → List ℕ → Front F) (item : S → List
         let fits = laws.fits reading (drop place bytes) n e in
         let len : length (take n (drop place bytes)) ≡ n = omega (arith, fits, length-take n (drop place bytes)) in
         subst (λ (k : ℕ). find reading (take k (drop place bytes)) ≡ Whole (length (take k (drop place bytes)))) (sym same)
-            (laws.alone reading (drop place bytes) n e ∙ ap Whole (sym len))
+        (laws.alone reading (drop place bytes) n e ∙ ap Whole (sym len))
 
     -- the frame at the place is what the format may read
     pub may_read : (start now : Cut S V F) (reading : S) (place : ℕ) (front : Front F) → Cutting start now reading place front
@@ -67,10 +67,15 @@ module _ {S V F : Type 0} (find : S → List ℕ → Front F) (item : S → List
           within = omega (arith, fits, h.within, length-drop place start.rest);
           found = found ∙ ap (find then) (from_place (place + n) rest ∙ ap (drop (place + n)) (still ∙ old));
           frames = h.frames ∙ (ap (joined now.given) turn
-              ∙ ap (λ vs. record { given = vs; reading = (cut find item after then (drop (place + n) start.rest)).reading; rest =
-                  (cut find item after then (drop (place + n) start.rest)).rest; fault = (cut find item after then (drop (place + n) start.rest)).fault })
+              ∙ ap (λ vs. record {
+                given = vs;
+                reading = (cut find item after then (drop (place + n) start.rest)).reading;
+                rest =
+                    (cut find item after then (drop (place + n) start.rest)).rest;
+                fault = (cut find item after then (drop (place + n) start.rest)).fault;
+              })
               (sym (append_assoc now.given (v ∷ []) (cut find item after then (drop (place + n) start.rest)).given)
-                  ∙ ap (λ vs. vs ++ (cut find item after then (drop (place + n) start.rest)).given) (sym more)));
+              ∙ ap (λ vs. vs ++ (cut find item after then (drop (place + n) start.rest)).given) (sym more)));
           kept = ap (λ (k : Cut S V F). record { given = given; reading = k.reading; rest = k.rest; fault = k.fault }) h.kept;
           front_of =
               let room : length start.given ≤ length now.given = omega (arith, ap (length {A = V}) h.front_of, length-take (length start.given) now.given) in
@@ -88,7 +93,7 @@ module _ {S V F : Type 0} (find : S → List ℕ → Front F) (item : S → List
         cut_first find item after laws reading (drop place start.rest)
         ∙ (ap (λ f. cut_by find item after reading (drop place start.rest) f (cut find item after)) (sym h.found) ∙ stops front none) in
         let all : joined start.given (cut find item after start.reading start.rest) ≡ joined now.given
-            (uncut reading (drop place start.rest) (fault_of front)) = h.frames ∙ ap (joined now.given) turn in
+        (uncut reading (drop place start.rest) (fault_of front)) = h.frames ∙ ap (joined now.given) turn in
         ap (λ b. record { given = now.given; reading = reading; rest = b; fault = fault }) is
         ∙ (ap (λ f. record { given = now.given; reading = reading; rest = drop place now.rest; fault = f }) told
         ∙ (ap (λ vs. record { given = vs; reading = reading; rest = drop place now.rest; fault = fault_of front }) (sym (append-nil now.given))

@@ -28,7 +28,7 @@ module _ {S V F : Type 0} (find : S → List ℕ → Front F) (item : S → List
       go (Whole n) e others =
           let fits = laws.fits s bytes n e in
           ap (joined (item s (take n bytes) ∷ [])) (others (after s (take n bytes)) (drop n bytes) (omega (arith, fits, length-drop n bytes))
-              (omega (arith, fits, length-drop n bytes)))
+          (omega (arith, fits, length-drop n bytes)))
 
   -- a cut by its first front
   pub cut_first : (s : S) (bytes : List ℕ) → cut find item after s bytes ≡ cut_by find item after s bytes (find s bytes) (cut find item after)
@@ -42,28 +42,28 @@ module _ {S V F : Type 0} (find : S → List ℕ → Front F) (item : S → List
       go (Whole n) e =
           let fits = laws.fits s (b ∷ bytes) n e in
           ap (joined (item s (take n (b ∷ bytes)) ∷ []))
-              (enough (length bytes) (length (drop n (b ∷ bytes))) (after s (take n (b ∷ bytes))) (drop n (b ∷ bytes))
-                  (omega (arith, fits, length-drop n (b ∷ bytes))) (omega arith))
+          (enough (length bytes) (length (drop n (b ∷ bytes))) (after s (take n (b ∷ bytes))) (drop n (b ∷ bytes))
+          (omega (arith, fits, length-drop n (b ∷ bytes))) (omega arith))
 
   -- A piece that follows is cut with what was left over.
   pub cut_piece : (k : ℕ) (s : S) (x y : List ℕ) → length x ≤ k → (cut find item after s x).fault ≡ None
       → cut find item after s (x ++ y) ≡ joined (cut find item after s x).given
-          (cut find item after (cut find item after s x).reading ((cut find item after s x).rest ++ y))
+      (cut find item after (cut find item after s x).reading ((cut find item after s x).rest ++ y))
   cut_piece k s [] y h ok = refl
   cut_piece zero s (b ∷ x) y h ok = absurd (omega (arith, h))
   cut_piece (suc k) s (b ∷ x) y h ok =
       subst (λ (c : Cut S V F). c.fault ≡ None → cut find item after s ((b ∷ x) ++ y) ≡ joined c.given (cut find item after c.reading (c.rest ++ y)))
-          (sym (cut_first s (b ∷ x)))
+      (sym (cut_first s (b ∷ x)))
       (go (find s (b ∷ x)) refl (λ t c. cut_piece k t c y)) ok
     where
       go : (f : Front F) → find s (b ∷ x) ≡ f
           → ((t : S) (c : List ℕ) → length c ≤ k → (cut find item after t c).fault ≡ None
-              → cut find item after t (c ++ y) ≡ joined (cut find item after t c).given
-                  (cut find item after (cut find item after t c).reading ((cut find item after t c).rest ++ y)))
+          → cut find item after t (c ++ y) ≡ joined (cut find item after t c).given
+          (cut find item after (cut find item after t c).reading ((cut find item after t c).rest ++ y)))
           → (cut_by find item after s (b ∷ x) f (cut find item after)).fault ≡ None
           → cut find item after s ((b ∷ x) ++ y) ≡ joined (cut_by find item after s (b ∷ x) f (cut find item after)).given
-              (cut find item after (cut_by find item after s (b ∷ x) f (cut find item after)).reading
-                  ((cut_by find item after s (b ∷ x) f (cut find item after)).rest ++ y))
+          (cut find item after (cut_by find item after s (b ∷ x) f (cut find item after)).reading
+          ((cut_by find item after s (b ∷ x) f (cut find item after)).rest ++ y))
       go More e others none = refl
       go (Bad fault) e others none = cc
       go (Whole n) e others none =
@@ -84,20 +84,20 @@ module _ {S V F : Type 0} (find : S → List ℕ → Front F) (item : S → List
   fault_stays zero s (b ∷ x) y fault h e = absurd (omega (arith, h))
   fault_stays (suc k) s (b ∷ x) y fault h e =
       subst (λ (c : Cut S V F). c.fault ≡ Some fault → ((cut find item after s ((b ∷ x) ++ y)).given ≡ c.given)
-          × ((cut find item after s ((b ∷ x) ++ y)).fault ≡ Some fault)) (sym (cut_first s (b ∷ x)))
+      × ((cut find item after s ((b ∷ x) ++ y)).fault ≡ Some fault)) (sym (cut_first s (b ∷ x)))
       (go (find s (b ∷ x)) refl (λ t c. fault_stays k t c y fault)) e
     where
       go : (f : Front F) → find s (b ∷ x) ≡ f
           → ((t : S) (c : List ℕ) → length c ≤ k → (cut find item after t c).fault ≡ Some fault
-              → ((cut find item after t (c ++ y)).given ≡ (cut find item after t c).given) × ((cut find item after t (c ++ y)).fault ≡ Some fault))
+          → ((cut find item after t (c ++ y)).given ≡ (cut find item after t c).given) × ((cut find item after t (c ++ y)).fault ≡ Some fault))
           → (cut_by find item after s (b ∷ x) f (cut find item after)).fault ≡ Some fault
           → ((cut find item after s ((b ∷ x) ++ y)).given ≡ (cut_by find item after s (b ∷ x) f (cut find item after)).given)
-              × ((cut find item after s ((b ∷ x) ++ y)).fault ≡ Some fault)
+          × ((cut find item after s ((b ∷ x) ++ y)).fault ≡ Some fault)
       go More is others e = cc
       go (Bad other) is others e =
           let w : find s ((b ∷ x) ++ y) ≡ Bad other = laws.bad s (b ∷ x) y other is in
           let c : cut find item after s ((b ∷ x) ++ y) ≡ uncut s ((b ∷ x) ++ y) (Some other) = cut_first s ((b ∷ x) ++ y)
-              ∙ ap (λ f. cut_by find item after s ((b ∷ x) ++ y) f (cut find item after)) w in
+          ∙ ap (λ f. cut_by find item after s ((b ∷ x) ++ y) f (cut find item after)) w in
           (ap (λ (k : Cut S V F). k.given) c, ap (λ (k : Cut S V F). k.fault) c ∙ e)
       go (Whole n) is others e =
           let fits = laws.fits s (b ∷ x) n is in
@@ -106,7 +106,7 @@ module _ {S V F : Type 0} (find : S → List ℕ → Front F) (item : S → List
           let d : drop n ((b ∷ x) ++ y) ≡ drop n (b ∷ x) ++ y = drop-append-le n (b ∷ x) y fits.1 in
           let more = others (after s (take n (b ∷ x))) (drop n (b ∷ x)) (omega (arith, fits, length-drop n (b ∷ x))) e in
           let c : cut find item after s ((b ∷ x) ++ y) ≡ joined (item s (take n (b ∷ x)) ∷ [])
-              (cut find item after (after s (take n (b ∷ x))) (drop n (b ∷ x) ++ y)) =
+          (cut find item after (after s (take n (b ∷ x))) (drop n (b ∷ x) ++ y)) =
           cut_first s ((b ∷ x) ++ y)
           ∙ (ap (λ f. cut_by find item after s ((b ∷ x) ++ y) f (cut find item after)) w
           ∙ (ap (λ z. joined (item s z ∷ []) (cut find item after (after s z) (drop n ((b ∷ x) ++ y)))) t
@@ -128,8 +128,11 @@ module _ {S V F : Type 0} (find : S → List ℕ → Front F) (item : S → List
         frames = ap (λ (k : Cut S V F). k.given) c ∙ (append_assoc taken old.given (cut find item after old.reading (old.rest ++ piece)).given
             ∙ ap (λ (k : Cut S V F). taken ++ k.given) (sym is));
         fault = ap (λ (k : Cut S V F). k.fault) c ∙ ap (λ (k : Cut S V F). k.fault) (sym is);
-        open_rest = λ _. (ap (λ (k : Cut S V F). k.rest) c ∙ ap (λ (k : Cut S V F). k.rest) (sym is), ap (λ (k : Cut S V F). k.reading) c
-            ∙ ap (λ (k : Cut S V F). k.reading) (sym is));
+        open_rest = λ _. (
+          ap (λ (k : Cut S V F). k.rest) c ∙ ap (λ (k : Cut S V F). k.rest) (sym is),
+          ap (λ (k : Cut S V F). k.reading) c
+              ∙ ap (λ (k : Cut S V F). k.reading) (sym is),
+        );
       }
 
   -- What has a fault stands for all that follows too.

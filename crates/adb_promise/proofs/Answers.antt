@@ -97,7 +97,7 @@ byte_tie Asking b input out c q is built t =
     let u : TiesAsking input out false c q = subst (λ (p : Phase). PhaseTie p input out false c q) is t.phase in
     subst (λ (a : Bool). Tie (input ++ b ∷ []) out false (byte_in Asking c b) (after_byte a q b)) (sym u.asks_on)
     (subst (λ (r : List ℕ). Tie (input ++ b ∷ []) out false (asks c (r ++ b ∷ []) (request_at (r ++ b ∷ [])))
-        (after_found q (q.rest ++ b ∷ []) (request_at (q.rest ++ b ∷ [])))) u.unread
+    (after_found q (q.rest ++ b ∷ []) (request_at (q.rest ++ b ∷ [])))) u.unread
     (asks_tie (request_at (q.rest ++ b ∷ [])) b input out c q is
     (subst (λ (r : List ℕ). is_unbuilt (r ++ b ∷ []) (request_at (r ++ b ∷ [])) ≡ false) (sym u.unread) built) t.output u))
 byte_tie Closing b input out c q is built t =
@@ -117,7 +117,7 @@ bytes_tie [] input out c q built t = rw append-nil t
 bytes_tie (b ∷ bytes) input out c q built t =
     let e = either_false (byte_asks_unbuilt c.phase c b) (asks_unbuilt (byte_in c.phase c b) bytes) built in
     subst (λ (x : List ℕ). Tie x out false (bytes_in (byte_in c.phase c b) bytes) (after_bytes (after_byte q.asking q b) bytes))
-        (append_assoc input (b ∷ []) bytes)
+    (append_assoc input (b ∷ []) bytes)
     (bytes_tie bytes (input ++ b ∷ []) out (byte_in c.phase c b) (after_byte q.asking q b) e.1 (byte_tie c.phase b input out c q refl e.0 t))
 
 -- after the end of its input a client reads nothing
@@ -177,7 +177,7 @@ put_tie : (here over : Bool) (bytes input out : List ℕ) (c : Client) (q : Aske
 put_tie false over bytes input out c q may t = t
 put_tie true over bytes input out c q may t =
     settled_tie input (out ++ bytes) over (handed (length bytes) c) q
-        (record { output = t.output; phase = put_phase c.phase bytes input out over c q (may refl).lives (may refl).front t.phase })
+    (record { output = t.output; phase = put_phase c.phase bytes input out over c q (may refl).lives (may refl).front t.phase })
 
 -- a client that has not come yet has nothing
 pub record IsAbsent (h : History) (c : ℕ) : Type 0 where
@@ -208,8 +208,11 @@ tied_join n older may known c = (
     go true e below pos =
         let same : n ≡ c = eqb-true n c e in
         let a = (known c).1 (omega (arith, may)) in
-        rw (a.input, a.out, a.over, a.asks) (record { output = refl; phase =
-            record { due = refl; unread = refl; asks_on = refl; open_input = refl; unused = record { within = omega arith; rest = refl } } })
+        rw (a.input, a.out, a.over, a.asks) (record {
+          output = refl;
+          phase =
+              record { due = refl; unread = refl; asks_on = refl; open_input = refl; unused = record { within = omega arith; rest = refl } };
+        })
     go false e below pos =
         let apart : n ≢ c = eqb-false n c e in
         (known c).0 (omega (arith, may)) pos
@@ -278,8 +281,10 @@ pub all_answered : (h : History) → IsLegal h → IsAnswered h
 all_answered h l c j =
     let t = tie_of h l c j in
     record {
-      replies = (front_of ((state h).clients c).phase (bytes_read c h) (bytes_put c h) (has_ended c h) ((state h).clients c) (asked c h) t.phase,
-          ([], append-nil (asked c h).replies ∙ sym t.output));
+      replies = (
+        front_of ((state h).clients c).phase (bytes_read c h) (bytes_put c h) (has_ended c h) ((state h).clients c) (asked c h) t.phase,
+        ([], append-nil (asked c h).replies ∙ sym t.output),
+      );
       nothing_more = t.output;
     }
 
@@ -296,5 +301,5 @@ all_due_past_handed h l c j live = past_handed ((state h).clients c).phase (byte
 pub all_unread_past_used : (h : History) → IsLegal h → UnreadIsPastUsed h
 all_unread_past_used h l c j asking =
     let u : TiesAsking (bytes_read c h) (bytes_put c h) (has_ended c h) ((state h).clients c) (asked c h) =
-        subst (λ (p : Phase). PhaseTie p (bytes_read c h) (bytes_put c h) (has_ended c h) ((state h).clients c) (asked c h)) asking (tie_of h l c j).phase in
+    subst (λ (p : Phase). PhaseTie p (bytes_read c h) (bytes_put c h) (has_ended c h) ((state h).clients c) (asked c h)) asking (tie_of h l c j).phase in
     sym u.unread ∙ u.unused.rest

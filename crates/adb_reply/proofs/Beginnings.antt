@@ -80,7 +80,7 @@ forwarding_to forwards norebind transport local remote =
   where
     exists : (there again full : Bool)
         → BeginsRight (cond again (failed (codes "cannot rebind existing socket"))
-            (cond full (failed (codes "too many forwards")) (forwards_from there transport local remote)))
+        (cond full (failed (codes "too many forwards")) (forwards_from there transport local remote)))
     exists there true full = fails (codes "cannot rebind existing socket")
     exists there false true = fails (codes "too many forwards")
     exists there false false = forwarding_from there transport local remote

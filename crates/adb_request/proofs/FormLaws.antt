@@ -23,7 +23,7 @@ module _ {A : Type 0} where
   -- rows that take what is behind a word
   three : {X : Type 0} (a b c : Bool) (f g h : X → A) (x y z : X)
       → is_some (option_or (option_map f (cond a (Some x) None)) (option_or (option_map g (cond b (Some y) None)) (option_map h (cond c (Some z) None)))) ≡
-          (a || (b || c))
+      (a || (b || c))
   three true b c f g h x y z = refl
   three false true c f g h x y z = refl
   three false false true f g h x y z = refl
@@ -60,7 +60,7 @@ absorbed false b c h = refl
 norebind_is_forward : (text : List ℕ) → starts_with nat_eq text norebind_word ≡ true → starts_with nat_eq text (codes "forward:") ≡ true
 norebind_is_forward text h =
     let is : text ≡ norebind_word ++ drop (length norebind_word) text =
-        (starts_is Decides-eqb text norebind_word (starts_with nat_eq text norebind_word) refl).0 h in
+    (starts_is Decides-eqb text norebind_word (starts_with nat_eq text norebind_word) refl).0 h in
     ap (λ t. starts_with nat_eq t (codes "forward:")) is
 
 forward_fits : (on : Which) (text : List ℕ) → is_some (forward_form on text) ≡

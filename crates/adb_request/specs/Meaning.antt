@@ -74,7 +74,7 @@ serial_request text =
 abbrev pub id_request : List ℕ → Option Request
 id_request text =
     option_and_then (λ place. option_and_then (λ id. form (By (Id id)) (drop (place + 1) text)) (id_in (take place text)))
-        (position (λ byte. byte == colon) text)
+    (position (λ byte. byte == colon) text)
 
 -- a text that asks the host, and means nothing where no row fits it
 abbrev pub or_unknown : Option Request → Request

@@ -13,6 +13,8 @@ mod tests;
 
 pub use cutting::{Found, cut};
 pub use hex::{hex4, read_hex4};
-pub use laws::{fixed_texts_are_read, forms_are_read, forwards_are_read, spelled_is_read, transports_are_read};
+pub use laws::{
+    fixed_texts_are_read, forms_are_read, forwards_are_read, spelled_is_read, transports_are_read,
+};
 pub use meaning::read;
 pub use request::{Request, Which};

@@ -14,13 +14,18 @@ pub loop-found-preserved : goal.loop-found-preserved
 loop-found-preserved g c =
     let short = more_is_short c.args.offset c.loop-found.held (sym c.loop-found.invariant.found ∙ c.in-More.is) in
     let more = rw c.in-Ok-Bytes.field-0-is at c.in-Ok-Bytes.ensures.more in
-    record { found = c.front-found-in-More.ensures ∙ ap (record_at c.args.offset) c.as_slice-in-More.ensures; few = omega (arith, short, more); bytes =
-        search rules; counts = search rules }
+    record {
+      found = c.front-found-in-More.ensures ∙ ap (record_at c.args.offset) c.as_slice-in-More.ensures;
+      few = omega (arith, short, more);
+      bytes =
+          search rules;
+      counts = search rules;
+    }
 
 pub returns-in-Bad : goal.returns-in-Bad
 returns-in-Bad g c =
     let bad = bad_awaited c.args.offset c.args.held.now (g.S.Source.left c.args.source.now) c.loop-found.held c.in-Bad.fault
-        (sym c.loop-found.invariant.found ∙ c.in-Bad.is) in
+    (sym c.loop-found.invariant.found ∙ c.in-Bad.is) in
     record {
       few = c.loop-found.invariant.few;
       bytes = c.loop-found.invariant.bytes;

@@ -19,7 +19,7 @@ returns-then-session-clause-ok c = λ fed stood.
     feeds_ended fed c.args.piece.now (run c.args.reader.now c.args.session.now c.args.files.now) c.feed.new.self
     (run c.serve_given.new.reader c.serve_given.new.session c.serve_given.new.files)
     c.requires.goes_on stood (λ taken r. (c.feed.ensures.taken c.in_ok-fault.ensures.ok.0).stands asks_start fed taken r) c.in_ok-serve_given.ensures.ok
-        c.if-session.true
+    c.if-session.true
 
 pub returns-in-None-clause-ok : goal.returns-in-None-clause-ok
 returns-in-None-clause-ok c = λ fed stood.
@@ -59,5 +59,5 @@ returns-in-Some-clause-err c =
     feeds_unsaid fed c.args.piece.now (run c.args.reader.now c.args.session.now c.args.files.now) c.feed.new.self
     (run c.serve_given.new.reader c.serve_given.new.session c.serve_given.new.files)
     c.requires.goes_on stood (λ taken r. (c.feed.ensures.taken c.in_ok-fault.ensures.ok.0).stands asks_start fed taken r) c.take_fault.new.self
-        c.in_ok-serve_given.ensures.ok
+    c.in_ok-serve_given.ensures.ok
     c.if-session.false same) c.take_fault.ensures.err

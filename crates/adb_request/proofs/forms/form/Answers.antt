@@ -7,10 +7,10 @@ pub returns-then-is_fixed : goal.returns-then-is_fixed
 returns-then-is_fixed c =
     let fits = fixed_fits c.args.on c.args.text.now in
     c.fixed_form.ensures ∙ or_some (fixed_form c.args.on c.args.text.now) (forward_form c.args.on c.args.text.now)
-        (fits ∙ (sym c.is_fixed.ensures ∙ c.if-is_fixed.true))
+    (fits ∙ (sym c.is_fixed.ensures ∙ c.if-is_fixed.true))
 
 pub returns : goal.returns
 returns c =
     let fits = fixed_fits c.args.on c.args.text.now in
     if_ok_as c.forward_form.result _ _ (or_none (fixed_form c.args.on c.args.text.now) (forward_form c.args.on c.args.text.now)
-        (fits ∙ (sym c.is_fixed.ensures ∙ c.if-is_fixed.false))) c.forward_form.ensures
+    (fits ∙ (sym c.is_fixed.ensures ∙ c.if-is_fixed.false))) c.forward_form.ensures

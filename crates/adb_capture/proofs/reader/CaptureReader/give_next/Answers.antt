@@ -9,7 +9,7 @@ returns-in_err-await_record-clause-records g c = λ coming told.
     let p = err_from_is_err_and c.from_residual.result c.from_residual.ensures.1 in
     let error = c.in_err-await_record.field-0.0 in
     let refused = gives_refusal c.self.inside.offset c.self.inside.held c.await_record.new.held coming _ _ error
-        (c.await_record.ensures.bytes coming told) told c.in_err-await_record.ensures.is in
+    (c.await_record.ensures.bytes coming told) told c.in_err-await_record.ensures.is in
     refusal_given c.args.self.now.offset _ (c.args.self.now.held ++ coming) c.from_residual.result _ error (p.1 ∙ ap Err p.2)
     (subst (λ r. IsRefused r.offset (r.held ++ coming) error) c.self.view_is refused)
 
@@ -18,18 +18,18 @@ returns-in-None-clause-records g c = λ coming told.
     let end = awaited_end c.self.inside.offset c.self.inside.held c.await_record.new.held _ _ c.in_ok-await_record.ensures.is c.in-None.is in
     let first = ap (λ r. r.held ++ coming) c.self.view_is in
     let all = gives_end c.self.inside.offset c.await_record.new.held (c.args.self.now.held ++ coming) _
-        (c.await_record.ensures.bytes coming told ∙ ap Some first) end.0 (end.1 coming told ∙ first) in
+    (c.await_record.ensures.bytes coming told ∙ ap Some first) end.0 (end.1 coming told ∙ first) in
     (all.0, all.1, ap (λ r. r.offset) c.self.view_is)
 
 pub returns-in-Ok-clause-records : goal.returns-in-Ok-clause-records
 returns-in-Ok-clause-records g c = λ coming told.
     let whole = awaited_record c.self.inside.offset c.self.inside.held c.await_record.new.held _ _ c.in-Some.size c.in_ok-await_record.ensures.is c.in-Some.is
-        in
+    in
     let first = ap (λ r. r.held ++ coming) c.self.view_is in
     let given = c.in-Ok.ensures.given in
     let now = c.in-Ok.ensures.ok in
     record_given c.self.inside.offset c.args.self.now.offset c.give.new.self.offset (c.args.self.now.held ++ coming) c.in-Ok.given _
-        (ap (λ r. r.offset) c.self.view_is)
+    (ap (λ r. r.offset) c.self.view_is)
     (gives_record c.self.inside.offset c.give.new.self.offset c.in-Some.size c.await_record.new.held c.give.new.self.held
-        (c.args.self.now.held ++ coming) c.in-Ok.given _
+    (c.args.self.now.held ++ coming) c.in-Ok.given _
     (c.await_record.ensures.bytes coming told ∙ ap Some first) whole given (ap (λ r. r.held) now) (ap (λ r. r.offset) now))

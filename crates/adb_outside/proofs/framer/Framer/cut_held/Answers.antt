@@ -5,12 +5,12 @@ use Rattle.adb_outside.proofs.framer.Framer.cut_held.Goals as goal
 pub read-requires : goal.read-requires
 read-requires g c =
     may_read g.S.Format.find g.S.Format.item g.S.Format.after g.met.S.Format.framing _ _ _ _ _ c.loop-front.invariant c.in-Whole.n c.in-Whole.is
-        c.as_slice-in-Whole.result.now c.as_slice-in-Whole.ensures
+    c.as_slice-in-Whole.result.now c.as_slice-in-Whole.ensures
 
 pub past-format-requires : goal.past-format-requires
 past-format-requires g c =
     may_read g.S.Format.find g.S.Format.item g.S.Format.after g.met.S.Format.framing _ _ _ _ _ c.loop-front.invariant c.in-Whole.n c.in-Whole.is
-        c.as_slice-in-Whole.result.now c.as_slice-in-Whole.ensures
+    c.as_slice-in-Whole.result.now c.as_slice-in-Whole.ensures
 
 pub loop-front-preserved : goal.loop-front-preserved
 loop-front-preserved g c =
@@ -18,7 +18,7 @@ loop-front-preserved g c =
     c.in-Whole.n c.in-Whole.is c.as_slice-in-Whole.result.now c.as_slice-in-Whole.ensures
     c.in_ok-item.item c.in_ok-item.ensures _ c.in_ok-push_back.ensures.items
     c.past-format.result c.past-format.ensures c.as_slice-in-Whole-2.result.now c.as_slice-in-Whole-2.ensures c.front-front-in-Whole.result
-        c.front-front-in-Whole.ensures
+    c.front-front-in-Whole.ensures
 
 pub returns : goal.returns
 returns g c = record {

@@ -6,7 +6,7 @@ pub returns-in_err-place-clause-here : goal.returns-in_err-place-clause-here
 returns-in_err-place-clause-here c =
     let inside = c.range.ensures.in_range (search rules) in
     rw c.from_residual.ensures (λ id fits. inside.5 c.in_err-place.ensures.steps.0 (c.args.link, id)
-        (place_in c.args.link id _ _ c.new.ensures.start c.new.ensures.end fits))
+    (place_in c.args.link id _ _ c.new.ensures.start c.new.ensures.end fits))
 
 pub returns-clause-least : goal.returns-clause-least
 returns-clause-least c = λ id fits some.
