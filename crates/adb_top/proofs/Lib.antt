@@ -4,7 +4,6 @@ pub mod Owed
 pub mod Machines
 pub mod Drains
 pub mod Entries
-pub mod Outcomes
 pub mod Records
 pub mod Captures
 pub mod Runs
