@@ -20,7 +20,7 @@ accept_front offset bytes More h = accept_from [] (end_of None bytes offset) h
 accept_front offset bytes (Bad why) h = accept_from [] (refusal_by why) h
 accept_front offset bytes (Whole n) h =
     accept_by (refusal_of (state h) (entry_in offset (take n bytes)).0 (entry_in offset (take n bytes)).1)
-        (is_input (entry_in offset (take n bytes)).1) h (entry_in offset (take n bytes)).1
+    (is_input (entry_in offset (take n bytes)).1) h (entry_in offset (take n bytes)).1
     (accept_records (offset_after offset (take n bytes)) (drop n bytes))
 
 pub accept_first : (offset : ℕ) (bytes : List ℕ) (h : History) → accept_records offset bytes h ≡ accept_front offset bytes (record_at offset bytes) h

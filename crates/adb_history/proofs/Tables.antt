@@ -24,12 +24,12 @@ pub row_put : (s t : State) (n : ℕ) (row : Client) (new : Kept) → IsOrderly 
 row_put s t n row new ok drawn more puts rises joined here others =
     let row_of : ℕ → Option KeptClient = λ q. kept_if_live (t.clients q) in
     let zeroth : row_of 0 ≡ None = ap kept_if_live (puts 0) ∙
-        (ap (λ b. kept_if_live (cond b row (s.clients 0))) (ne_eqb n 0 (λ e. omega (arith, drawn, e))) ∙ ap kept_if_live ok.none_at_zero) in
+    (ap (λ b. kept_if_live (cond b row (s.clients 0))) (ne_eqb n 0 (λ e. omega (arith, drawn, e))) ∙ ap kept_if_live ok.none_at_zero) in
     let above : (q : ℕ) → t.joined < q → row_of q ≡ None = λ q h. ap kept_if_live (puts q) ∙
-        (ap (λ b. kept_if_live (cond b row (s.clients q))) (ne_eqb n q (λ e. omega (arith, drawn, e, h))) ∙ ap kept_if_live
-        (ok.none_above q (omega (arith, h)))) in
+    (ap (λ b. kept_if_live (cond b row (s.clients q))) (ne_eqb n q (λ e. omega (arith, drawn, e, h))) ∙ ap kept_if_live
+    (ok.none_above q (omega (arith, h)))) in
     let clients : new.clients ≡ listed row_of 1 t.joined = same_table new.clients row_of t.joined rises zeroth above
-        (λ q. go q (eqb n q) refl ∙ sym (ap kept_if_live (puts q))) in
+    (λ q. go q (eqb n q) refl ∙ sym (ap kept_if_live (puts q))) in
     λ i. record { joined = joined i; clients = clients i }
   where
     go : (q : ℕ) (b : Bool) → eqb n q ≡ b → at q new.clients ≡ kept_if_live (cond (eqb n q) row (s.clients q))
