@@ -6,6 +6,7 @@ use Rattle.std.proofs.lemmas.List.{length-drop, length-take, take-append-drop}
 use Rattle.adb_capture.specs.declared.entry.Entry.{Entry}
 use Rattle.adb_capture.specs.declared.entry.Entry.TheVariants.{Put}
 use Rattle.adb_outside.specs.Tables.{Rows, change_row}
+use Rattle.adb_history.specs.declared.hand_out.TheConstants.{HAND_OUT}
 use Rattle.adb_history.specs.Machine.{Client, State, History, state, step, settled, handed, IsDrawn, IsLegal, May}
 use Rattle.adb_history.proofs.Orderly.{orderly}
 use Rattle.adb_history.specs.Drained.{out_or, first_out, next_out, owed_from, owed, drain, drain_all, or_stay}
@@ -29,11 +30,11 @@ pub record IsPut (e : Entry) : Type 0 where
   pub is : e ≡ Put client bytes
 
 less_here : (rows : Rows Client) (n k b : ℕ) (bs : List ℕ) → (rows n).due ≡ b ∷ bs
-    → owed_from (change_row n (λ c. settled (handed (length (take 65536 (b ∷ bs))) c)) rows) n (suc k) < owed_from rows n (suc k)
+    → owed_from (change_row n (λ c. settled (handed (length (take HAND_OUT (b ∷ bs))) c)) rows) n (suc k) < owed_from rows n (suc k)
 less_here rows n k b bs is =
     let yes : eqb n n ≡ true = eq-eqb n n refl in
-    let same = owed_below rows (λ c. settled (handed (length (take 65536 (b ∷ bs))) c)) n (suc n) k (omega arith) in
-    rw yes (omega (arith, same, length-drop (length (take 65536 (b ∷ bs))) (rows n).due, length-take 65536 (b ∷ bs), ap (length {A = ℕ}) is))
+    let same = owed_below rows (λ c. settled (handed (length (take HAND_OUT (b ∷ bs))) c)) n (suc n) k (omega arith) in
+    rw yes (omega (arith, same, length-drop (length (take HAND_OUT (b ∷ bs))) (rows n).due, length-take HAND_OUT (b ∷ bs), ap (length {A = ℕ}) is))
 
 put_first : (rows : Rows Client) (n k : ℕ) (e : Entry) → first_out rows n k ≡ Some e → IsPut e
 put_first rows n zero e is = cc
@@ -41,7 +42,7 @@ put_first rows n (suc k) e is = go (rows n).due is (put_first rows (suc n) k e)
   where
     go : (due : List ℕ) → out_or n due (first_out rows (suc n) k) ≡ Some e → (first_out rows (suc n) k ≡ Some e → IsPut e) → IsPut e
     go [] i later = later i
-    go (b ∷ bs) i later = let same : e ≡ Put n (take 65536 (b ∷ bs)) = cc in record { client = n; bytes = take 65536 (b ∷ bs); is = same }
+    go (b ∷ bs) i later = let same : e ≡ Put n (take HAND_OUT (b ∷ bs)) = cc in record { client = n; bytes = take HAND_OUT (b ∷ bs); is = same }
 
 less_owed : (s : State) (n k : ℕ) (e : Entry) → first_out s.clients n k ≡ Some e → owed_from (step s e).clients n k < owed_from s.clients n k
 less_owed s n zero e is = cc
@@ -57,7 +58,7 @@ less_owed s n (suc k) e is = go (s.clients n).due refl is (less_owed s (suc n) k
         (hands_less (eqb p.client n) (length p.bytes) (s.clients n)) in
         omega (arith, later i, at)
     go (b ∷ bs) has i later =
-        let same : e ≡ Put n (take 65536 (b ∷ bs)) = cc in
+        let same : e ≡ Put n (take HAND_OUT (b ∷ bs)) = cc in
         subst (λ (x : Entry). owed_from (step s x).clients n (suc k) < owed_from s.clients n (suc k)) (sym same) (less_here s.clients n k b bs has)
 
 joined_stays : (s : State) (e : Entry) → IsPut e → (step s e).joined ≡ s.joined
@@ -143,20 +144,20 @@ none_out rows n (suc k) none = ap (λ due. out_or n due (first_out rows (suc n) 
 pub next_none : (s : State) → ((m : ℕ) → (s.clients m).due ≡ []) → next_out s ≡ None
 next_none s none = none_out s.clients 1 s.joined none
 
-some_out : (n : ℕ) (due : List ℕ) (later : Option Entry) → due ≢ [] → out_or n due later ≡ Some (Put n (take 65536 due))
+some_out : (n : ℕ) (due : List ℕ) (later : Option Entry) → due ≢ [] → out_or n due later ≡ Some (Put n (take HAND_OUT due))
 some_out n [] later some = absurd (some refl)
 some_out n (b ∷ due) later some = refl
 
 -- the first of k numbers that has bytes due is handed some of them
 least_out : (rows : Rows Client) (c n k : ℕ) → n ≤ c → c < n + k → ((m : ℕ) → m < c → (rows m).due ≡ []) → (rows c).due ≢ []
-    → first_out rows n k ≡ Some (Put c (take 65536 (rows c).due))
+    → first_out rows n k ≡ Some (Put c (take HAND_OUT (rows c).due))
 least_out rows c n zero low high none some = absurd (omega (arith, low, high))
 least_out rows c n (suc k) low high none some = go (cases_eq n c) (least_out rows c (suc n) k)
   where
     go : (n ≡ c) ⊎ (n ≡ c → ⊥)
         → (suc n ≤ c → c < suc n + k → ((m : ℕ) → m < c → (rows m).due ≡ []) → (rows c).due ≢ []
-        → first_out rows (suc n) k ≡ Some (Put c (take 65536 (rows c).due)))
-        → out_or n (rows n).due (first_out rows (suc n) k) ≡ Some (Put c (take 65536 (rows c).due))
+        → first_out rows (suc n) k ≡ Some (Put c (take HAND_OUT (rows c).due)))
+        → out_or n (rows n).due (first_out rows (suc n) k) ≡ Some (Put c (take HAND_OUT (rows c).due))
     go (inl same) more =
         ap (λ m. out_or m (rows m).due (first_out rows (suc n) k)) same ∙ some_out c (rows c).due (first_out rows (suc n) k) some
     go (inr apart) more =
@@ -164,7 +165,7 @@ least_out rows c n (suc k) low high none some = go (cases_eq n c) (least_out row
         ∙ more (omega (arith, low, apart)) (omega (arith, high)) none some
 
 pub next_is : (s : State) (c : ℕ) → IsDrawn s c → ((m : ℕ) → m < c → (s.clients m).due ≡ []) → (s.clients c).due ≢ []
-    → next_out s ≡ Some (Put c (take 65536 (s.clients c).due))
+    → next_out s ≡ Some (Put c (take HAND_OUT (s.clients c).due))
 next_is s c drawn none some = least_out s.clients c 1 s.joined (omega (arith, drawn)) (omega (arith, drawn)) none some
 
 -- Whose bytes the next hand-out has.
@@ -173,7 +174,7 @@ record IsOutOf (rows : Rows Client) (n k : ℕ) (e : Entry) : Type 0 where
   pub low : n ≤ client
   pub high : client < n + k
   pub some : (rows client).due ≢ []
-  pub is : e ≡ Put client (take 65536 (rows client).due)
+  pub is : e ≡ Put client (take HAND_OUT (rows client).due)
 
 whose_out : (rows : Rows Client) (n k : ℕ) (e : Entry) → first_out rows n k ≡ Some e → IsOutOf rows n k e
 whose_out rows n zero e is = cc
@@ -183,16 +184,16 @@ whose_out rows n (suc k) e is = go (rows n).due refl is (whose_out rows (suc n) 
         → (first_out rows (suc n) k ≡ Some e → IsOutOf rows (suc n) k e) → IsOutOf rows n (suc k) e
     go [] has i later = let o = later i in record { client = o.client; low = omega (arith, o.low); high = omega (arith, o.high); some = o.some; is = o.is }
     go (b ∷ bs) has i later =
-        let same : e ≡ Put n (take 65536 (b ∷ bs)) = cc in
+        let same : e ≡ Put n (take HAND_OUT (b ∷ bs)) = cc in
         record {
           client = n;
           low = omega arith;
           high = omega arith;
           some = λ none. (let clash : b ∷ bs ≡ [] = sym has ∙ none in cc);
-          is = same ∙ ap (λ due. Put n (take 65536 due)) (sym has);
+          is = same ∙ ap (λ due. Put n (take HAND_OUT due)) (sym has);
         }
 
-some_front : (due : List ℕ) → due ≢ [] → take 65536 due ≢ []
+some_front : (due : List ℕ) → due ≢ [] → take HAND_OUT due ≢ []
 some_front [] some is = some refl
 some_front (b ∷ due) some is = let clash : b ∷ take 65535 due ≡ [] = is in cc
 
@@ -203,7 +204,7 @@ next_may h e legal next = subst (λ (x : Entry). May (state h) x) (sym o.is) (
   record {
     some = some_front due o.some;
     lives = λ gone. o.some ((orderly h legal).gone_has_none o.client gone);
-    front = (drop 65536 due, take-append-drop 65536 due);
+    front = (drop HAND_OUT due, take-append-drop HAND_OUT due);
   },
 )
   where

@@ -3,12 +3,13 @@ use Rattle.std.specs.Prelude.{ℕ, ◌+◌, List, [], ◌∷◌, length, take, O
 use Rattle.adb_capture.specs.declared.entry.Entry.{Entry}
 use Rattle.adb_capture.specs.declared.entry.Entry.TheVariants.{Put}
 use Rattle.adb_outside.specs.Tables.{Rows}
+use Rattle.adb_history.specs.declared.hand_out.TheConstants.{HAND_OUT}
 use Rattle.adb_history.specs.Machine.{Client, State, History, state}
 
--- a number's hand-out of at most 65,536 bytes, or another's where it has nothing due
+-- a number's hand-out of at most HAND_OUT bytes, or another's where it has nothing due
 abbrev pub out_or : ℕ → List ℕ → Option Entry → Option Entry
 out_or n [] later = later
-out_or n (b ∷ due) later = Some (Put n (take 65536 (b ∷ due)))
+out_or n (b ∷ due) later = Some (Put n (take HAND_OUT (b ∷ due)))
 
 -- the hand-out of the first of k numbers that has bytes due
 abbrev pub first_out : Rows Client → ℕ → ℕ → Option Entry

@@ -8,6 +8,7 @@ use Rattle.adb_outside.specs.declared.kinds.Cause.{Cause}
 use Rattle.adb_outside.specs.declared.kinds.Cause.TheVariants.{Eof, Fault, Starved, NoThread}
 use Rattle.adb_capture.specs.declared.entry.Entry.TheVariants.{Join, Read, Put}
 use Rattle.adb_capture.specs.Records.{HasRecord}
+use Rattle.adb_history.specs.declared.hand_out.TheConstants.{HAND_OUT}
 use Rattle.adb_history.specs.Machine.{Client, State, absent, IsDrawn, to_client, step, fresh, settled, phase_after, bytes_in, asks_unbuilt, ended, handed}
 use Rattle.adb_history.specs.Kept.{Kept, KeptClient, kept, kept_of, kept_row, kept_if_live, IsOrderly}
 use Rattle.adb_history.specs.Accepted.{refusal_of, is_drawn}
@@ -253,5 +254,5 @@ hands_some s n bytes ok old new same some first p = (
     drawn = (above_zero n (λ zero_is. none_absent 0 ok.none_at_zero (sym zero_is)), within (cases n s.joined))
 
 -- a hand-out has a record
-pub put_record : (n : ℕ) (bytes : List ℕ) → n < 2 ^ 32 → All (λ b. b < 256) bytes → length bytes ≤ 65536 → HasRecord (Put n bytes)
+pub put_record : (n : ℕ) (bytes : List ℕ) → n < 2 ^ 32 → All (λ b. b < 256) bytes → length bytes ≤ HAND_OUT → HasRecord (Put n bytes)
 put_record n bytes small range short = record { owner = small; port = tt; bytes = range; size = omega (arith, short) }

@@ -3,6 +3,7 @@ use Rattle.std.specs.Prelude.{ℕ, ◌≡◌, ◌≢◌, Bool, true, false, if�
 use Rattle.adb_capture.specs.declared.entry.Entry.{Entry}
 use Rattle.adb_capture.specs.declared.entry.Entry.TheVariants.{Put}
 use Rattle.adb_outside.specs.Tables.{at, IsRising}
+use Rattle.adb_history.specs.declared.hand_out.TheConstants.{HAND_OUT}
 use Rattle.adb_history.specs.Machine.{Client, State, step, settled, bytes_in, asks_unbuilt, handed}
 use Rattle.adb_history.specs.Kept.{Kept, KeptClient, kept, kept_of}
 use Rattle.adb_history.specs.Drained.{next_out}
@@ -39,7 +40,7 @@ ReadsNone (Err refused.OutOfMemory) now = Unit {0}
 
 -- the first bytes that are due to a row were handed out
 abbrev pub HandsRow : Client → HandOut → Option KeptClient → Type 0
-HandsRow row out now = (out.bytes ≡ take 65536 row.due) × Becomes (settled (handed (length out.bytes) row)) out.gone now
+HandsRow row out now = (out.bytes ≡ take HAND_OUT row.due) × Becomes (settled (handed (length out.bytes) row)) out.gone now
 
 -- what an entry makes of a state; a hand-out that was recorded is passed over
 abbrev pub applied : State → Entry → State
@@ -53,7 +54,7 @@ Applies s e (Err refused.OutOfMemory) new = Unit {0}
 
 -- the first bytes that are due to a client were put to it
 abbrev pub Puts : State → ℕ → List ℕ → Kept → Type 0
-Puts s n bytes new = (bytes ≡ take 65536 (s.clients n).due) × (new ≡ kept (step s (Put n bytes)))
+Puts s n bytes new = (bytes ≡ take HAND_OUT (s.clients n).due) × (new ≡ kept (step s (Put n bytes)))
 
 abbrev pub after_out : Option Entry → State → State
 after_out None s = s

@@ -14,14 +14,11 @@ ghost use Rattle.adb_capture.specs.Records.{HasRecord};
 use crate::client::{Client, Unread};
 use crate::stop::Stop;
 use adb_capture::Entry;
-use adb_history::{Reason, Refusal};
+use adb_history::{HAND_OUT, Reason, Refusal};
 use adb_outside::{Cause, Text, is_serial};
 use std::alloc::{AllocError, Global};
 use std::collections::{BTreeMap, BTreeSet};
 use std::marker::Model;
-
-/// The most bytes of one hand-out.
-const HAND_OUT: usize = 65_536;
 
 /// Why an entry is not made.
 #[derive(Clone, Copy, Debug, PartialEq, Eq, Drop)]

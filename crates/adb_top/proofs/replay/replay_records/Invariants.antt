@@ -1,4 +1,5 @@
 use Rattle.std.proofs.Common.{◌-◌, false}
+use Rattle.adb_capture.specs.declared.limits.TheConstants.{CAPTURE_LIMIT}
 use Rattle.adb_outside.specs.Outside.{Counts}
 use Rattle.adb_top.specs.Replay.{moment}
 use Rattle.adb_top.proofs.Records.{GoingOn}
@@ -12,4 +13,4 @@ invariant-loop-machine g l =
     (Counts g.K.Sink.steady g.K.Sink.faults l.fn.sink l.sink false)
 
 abbrev pub decreases-loop-machine : goal.decreases-loop-machine
-decreases-loop-machine g l = 1073741824 - l.reader.offset
+decreases-loop-machine g l = CAPTURE_LIMIT - l.reader.offset
