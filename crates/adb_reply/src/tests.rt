@@ -1,5 +1,7 @@
 //! Each request over a few registries, with its reply and what follows, byte for byte.
 
+ghost use Rattle.std.specs.Prelude.{◌≡◌, IfOk, codes};
+
 use crate::{Answer, Next, replies_begin_right, reply, texts_carry_their_length};
 use adb_forward::Forwards;
 use adb_outside::{Identity, Kind, Text};
@@ -19,7 +21,9 @@ const TWO: u32 = 2;
 const ALL: u32 = 4;
 
 /// A device that names its model and its features.
-fn identity(alloc: Global) -> Result<Identity, AllocError> {
+fn identity(alloc: Global) -> Result<Identity, AllocError>
+    ensures { IfOk result (λ identity. identity.features ≡ codes "shell_v2") }
+{
     Ok(Identity {
         system: Text::from_slice(alloc, b"device")?,
         serial: Text::new(alloc),
@@ -95,7 +99,7 @@ fn numbered(alloc: Global, name: &[u8], number: u32, end: &[u8]) -> Result<Text,
 type Case = (u32, u32, &'static [u8], &'static [u8], &'static [u8]);
 
 /// The forward of port 40000 to `tcp:80` of the first device is there in each case.
-const CASES: [Case; 60] = [
+const CASES: &[Case] = &[
     (NONE, 0, b"host:version", b"OKAY00040029", b"close"),
     (NONE, 0, b"host:kill", b"OKAY", b"stop"),
     (
@@ -417,7 +421,7 @@ fn answer_to(
 fn requests_are_answered(rt: HostRuntime) -> Result<(), Fail> {
     let alloc = rt.alloc();
     let forwards = forwards(alloc)?;
-    for (count, selected, text, bytes, next) in CASES {
+    for &(count, selected, text, bytes, next) in CASES {
         let answer = answer_to(alloc, count, selected, text, &forwards)?;
         assert_eq!(rt; answer.bytes.as_slice(), bytes, "to {text:?}");
         assert_eq!(rt;

@@ -124,7 +124,7 @@ fn shown_forward(
 
 /// Each row of the table of requests, each corner of it, and texts that are one byte off. Numbers are
 /// shown in hexadecimal digits.
-const MEANINGS: [(&[u8], &[u8]); 76] = [
+const MEANINGS: &[(&[u8], &[u8])] = &[
     (b"host:version", b"version"),
     (b"host:version ", b"unknown"),
     (b"host:versio", b"unknown"),
@@ -220,7 +220,7 @@ const MEANINGS: [(&[u8], &[u8]); 76] = [
 
 #[test]
 fn texts_mean_requests(rt: HostRuntime) -> Result<(), Fail> {
-    for (text, meaning) in MEANINGS {
+    for &(text, meaning) in MEANINGS {
         let request = read(rt.alloc(), text)?;
         let words = shown(rt.alloc(), &request)?;
         assert_eq!(rt; words.as_slice(), meaning, "of {text:?}");
