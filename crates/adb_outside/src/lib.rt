@@ -2,14 +2,22 @@
 //! memory, and how a stream is cut into frames.
 #![tactic(auto)]
 
+mod answers;
 mod byte_queue;
 mod decimal;
+mod device;
+mod door;
 mod failing;
 mod framer;
+mod gate;
 mod identity;
 mod kinds;
 mod memory;
+mod memory_device;
+mod memory_door;
+mod memory_port;
 mod never;
+mod port;
 mod serial;
 mod sink;
 mod source;
@@ -18,14 +26,22 @@ mod supply;
 mod tests;
 mod text;
 
+pub use answers::Answers;
 pub use byte_queue::ByteQueue;
 pub use decimal::read_number;
+pub use device::{DeviceIn, DeviceOut, Plug};
+pub use door::{Arrival, Bell, Came, Door, SilentBell};
 pub use failing::Failing;
 pub use framer::{FeedError, Format, Framer, Front};
+pub use gate::{Gate, OpenGate, Place};
 pub use identity::{Identity, State, state_of, state_text};
 pub use kinds::{Cause, Kind, Selector};
 pub use memory::{MemorySink, MemorySource};
+pub use memory_device::{MemoryDeviceIn, MemoryDeviceOut};
+pub use memory_door::{Caller, MemoryDoor};
+pub use memory_port::{MemoryIn, MemoryOut};
 pub use never::{NeverSink, NeverSource};
+pub use port::{PortIn, PortOut};
 pub use serial::{MAX_SERIAL, is_graphic, is_serial};
 pub use sink::{Sink, Wrote};
 pub use source::{Got, Source};

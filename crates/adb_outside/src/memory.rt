@@ -1,10 +1,10 @@
 //! A source and a sink in memory, which fail where a test wants it.
 
-ghost use Rattle.std.specs.Prelude.{◌≡◌, ◌<◌, ◌≤◌, ◌↔◌, ℕ, [], length, Some, Contains};
-ghost use Rattle.adb_outside.specs.Outside.{Counts, counted_on};
+ghost use Rattle.std.specs.Prelude.{◌≡◌, ◌<◌, ◌≤◌, [], length, Some};
+ghost use Rattle.adb_outside.specs.Outside.{Counts, Rises};
 ghost use Rattle.adb_outside.specs.Source.{FitsBuffer, TellsRead, is_failed_read};
 ghost use Rattle.adb_outside.specs.Sink.{FitsPiece, TellsWrite, is_failed_write};
-ghost use Rattle.adb_outside.specs.Memory.{GivesPiece};
+ghost use Rattle.adb_outside.specs.Memory.{ReadsMemory, WritesMemory};
 
 use crate::failing::Failing;
 use crate::sink::{Sink, Wrote};
@@ -53,6 +53,15 @@ impl MemorySource {
             failing: Failing::new(failing),
         }
     }
+
+    /// Counts a fault of another call than a read.
+    pub(crate) fn count_fault(&mut self)
+        ensures count { self.old.faults ≤ self.new.faults }
+        ensures rises { Rises self.old.faults self.new.faults }
+        ensures same { self.new ≡ record self.old { faults = self.new.faults } }
+    {
+        self.failing.count_fault();
+    }
 }
 
 impl Source for MemorySource {
@@ -71,10 +80,7 @@ impl Source for MemorySource {
         ensures told { TellsRead (Some self.old.coming) (Some self.new.coming) into.new result }
         ensures counts { Counts (λ s. s.failing ≡ []) (λ s. s.faults)
             self.old self.new (is_failed_read result) }
-        ensures fails { (result ≡ Got.Failed) ↔ Contains self.old.failing self.new.calls }
-        ensures gives { GivesPiece self.old.piece self.old.coming into.old result }
-        ensures calls { self.new.calls ≡ counted_on self.old.calls }
-        ensures same { (self.new.failing ≡ self.old.failing) × (self.new.piece ≡ self.old.piece) }
+        ensures reads { ReadsMemory self.old self.new into.old result }
     {
         if self.failing.fails() {
             return Got::Failed;
@@ -141,10 +147,7 @@ impl Sink for MemorySink {
         ensures told { TellsWrite (Some self.old.out) (Some self.new.out) piece.now result }
         ensures counts { Counts (λ s. ⊥) (λ s. s.faults)
             self.old self.new (is_failed_write result) }
-        ensures fails { Contains self.old.failing self.new.calls → result ≡ Wrote.Failed 0 }
-        ensures whole { (n : ℕ) → result ≡ Wrote.Failed n → n ≡ 0 }
-        ensures calls { self.new.calls ≡ counted_on self.old.calls }
-        ensures same { self.new.failing ≡ self.old.failing }
+        ensures writes { WritesMemory self.old self.new result }
     {
         if self.failing.fails() {
             return Wrote::Failed { taken: 0 };

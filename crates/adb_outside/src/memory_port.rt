@@ -1,0 +1,148 @@
+//! A port in memory, which fails where a test wants it.
+
+ghost use Rattle.std.specs.Prelude.{◌≡◌, ◌<◌, ◌≤◌, true, false, [], length, Some};
+ghost use Rattle.adb_outside.specs.Outside.{Counts};
+ghost use Rattle.adb_outside.specs.Source.{FitsBuffer, TellsRead, is_failed_read};
+ghost use Rattle.adb_outside.specs.Sink.{FitsPiece, TellsWrite, is_failed_write};
+ghost use Rattle.adb_outside.specs.Memory.{ReadsMemory, WritesMemory};
+
+use crate::memory::{MemorySink, MemorySource};
+use crate::port::{PortIn, PortOut};
+use crate::sink::{Sink, Wrote};
+use crate::source::{Got, Source};
+use crate::text::Text;
+use std::alloc::Global;
+use std::marker::Model;
+
+/// A client that sends the bytes of a text. It tells what is left.
+#[derive(Drop)]
+pub struct MemoryIn {
+    source: MemorySource,
+}
+
+impl Model for MemoryIn {
+    ghost use Rattle.adb_outside.specs.Memory.{MemoryInput};
+
+    ghost Value = { MemoryInput };
+
+    ghost view = { λ port. port.source };
+}
+
+impl MemoryIn {
+    /// A client that sends at most `piece` bytes a call, and fails at the calls whose numbers,
+    /// counted from 1, are in `failing`. It takes no memory.
+    pub fn new(bytes: Text, piece: usize, failing: Vec<u64>) -> MemoryIn
+        requires { 1 ≤ piece }
+        ensures { result ≡ record {
+          coming = bytes;
+          piece = piece;
+          failing = failing.items;
+          calls = 0;
+          faults = 0;
+        } }
+    {
+        MemoryIn {
+            source: MemorySource::new(bytes, piece, failing),
+        }
+    }
+}
+
+impl PortIn for MemoryIn {
+    ghost use Rattle.std.specs.Prelude.{◌≡◌, [], Some};
+
+    ghost faults = { λ port. port.faults };
+
+    ghost left = { λ port. Some port.coming };
+
+    ghost steady = { λ port. port.failing ≡ [] };
+
+    /// It fails at the calls whose numbers are in the list, and gives as much as it may.
+    fn read(&mut self, into: &mut [u8]) -> Got
+        requires { 0 < length into.old }
+        ensures fits { FitsBuffer into.old result }
+        ensures told { TellsRead (Some self.old.coming) (Some self.new.coming) into.new result }
+        ensures counts { Counts (λ port. port.failing ≡ []) (λ port. port.faults)
+            self.old self.new (is_failed_read result) }
+        ensures reads { ReadsMemory self.old self.new into.old result }
+    {
+        self.source.read(into)
+    }
+}
+
+/// A client that keeps the bytes that it is sent, and whether it was closed. It tells them. A write
+/// that finds no memory is a failed write, so it is never steady.
+#[derive(Drop)]
+pub struct MemoryOut {
+    sink: MemorySink,
+    closed: bool,
+}
+
+impl Model for MemoryOut {
+    ghost use Rattle.adb_outside.specs.Memory.{MemoryClosing};
+
+    ghost Value = { MemoryClosing };
+
+    ghost view = { λ port. record { sink = port.sink; closed = port.closed } };
+}
+
+impl MemoryOut {
+    /// A client to which writes fail at the calls whose numbers, counted from 1, are in `failing`; a
+    /// failing write takes nothing. It takes no memory.
+    pub fn new(alloc: Global, failing: Vec<u64>) -> MemoryOut
+        ensures sink { result.sink
+            ≡ record { out = []; failing = failing.items; calls = 0; faults = 0 } }
+        ensures closed { result.closed ≡ false }
+    {
+        MemoryOut {
+            sink: MemorySink::new(alloc, failing),
+            closed: false,
+        }
+    }
+
+    /// The bytes that were written.
+    pub fn bytes(&self) -> &[u8]
+        ensures { result.now ≡ self.now.sink.out }
+    {
+        self.sink.bytes()
+    }
+
+    /// Whether it was closed.
+    pub fn is_closed(&self) -> bool
+        ensures { result ≡ self.now.closed }
+    {
+        self.closed
+    }
+}
+
+impl PortOut for MemoryOut {
+    ghost use Rattle.std.specs.Prelude.{Some};
+
+    ghost faults = { λ port. port.sink.faults };
+
+    ghost written = { λ port. Some port.sink.out };
+
+    ghost closed = { λ port. port.closed };
+
+    ghost steady = { λ port. ⊥ };
+
+    /// It fails at the calls whose numbers are in the list, and where it finds no memory. A write
+    /// that fails takes nothing. A port that was closed is written to as before.
+    fn write(&mut self, piece: &[u8]) -> Wrote
+        requires { 0 < length piece.now }
+        ensures fits { FitsPiece piece.now result }
+        ensures told { TellsWrite (Some self.old.sink.out) (Some self.new.sink.out)
+            piece.now result }
+        ensures counts { Counts (λ port. ⊥) (λ port. port.sink.faults)
+            self.old self.new (is_failed_write result) }
+        ensures closed { self.new.closed ≡ self.old.closed }
+        ensures writes { WritesMemory self.old.sink self.new.sink result }
+    {
+        self.sink.write(piece)
+    }
+
+    fn close(&mut self)
+        ensures { self.new ≡ record self.old { closed = true } }
+    {
+        self.closed = true;
+    }
+}
