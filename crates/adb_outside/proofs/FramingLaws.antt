@@ -45,6 +45,27 @@ module _ {S V F : Type 0} (find : S → List ℕ → Front F) (item : S → List
           (enough (length bytes) (length (drop n (b ∷ bytes))) (after s (take n (b ∷ bytes))) (drop n (b ∷ bytes))
           (omega (arith, fits, length-drop n (b ∷ bytes))) (omega arith))
 
+  -- Where no fault came, what was left over begins with no whole frame.
+  pub cut_open : (k : ℕ) (s : S) (bytes : List ℕ) → length bytes ≤ k → (cut find item after s bytes).fault ≡ None
+      → find (cut find item after s bytes).reading (cut find item after s bytes).rest ≡ More
+  cut_open k s [] h none = laws.empty s
+  cut_open zero s (b ∷ bytes) h none = absurd (omega (arith, h))
+  cut_open (suc k) s (b ∷ bytes) h none =
+      subst (λ (c : Cut S V F). c.fault ≡ None → find c.reading c.rest ≡ More) (sym (cut_first s (b ∷ bytes)))
+      (go (find s (b ∷ bytes)) refl (λ t c. cut_open k t c)) none
+    where
+      go : (f : Front F) → find s (b ∷ bytes) ≡ f
+          → ((t : S) (c : List ℕ) → length c ≤ k → (cut find item after t c).fault ≡ None
+          → find (cut find item after t c).reading (cut find item after t c).rest ≡ More)
+          → (cut_by find item after s (b ∷ bytes) f (cut find item after)).fault ≡ None
+          → find (cut_by find item after s (b ∷ bytes) f (cut find item after)).reading
+          (cut_by find item after s (b ∷ bytes) f (cut find item after)).rest ≡ More
+      go More e others sound = e
+      go (Bad fault) e others sound = cc
+      go (Whole n) e others sound =
+          let fits = laws.fits s (b ∷ bytes) n e in
+          others (after s (take n (b ∷ bytes))) (drop n (b ∷ bytes)) (omega (arith, fits, length-drop n (b ∷ bytes))) sound
+
   -- A piece that follows is cut with what was left over.
   pub cut_piece : (k : ℕ) (s : S) (x y : List ℕ) → length x ≤ k → (cut find item after s x).fault ≡ None
       → cut find item after s (x ++ y) ≡ joined (cut find item after s x).given
