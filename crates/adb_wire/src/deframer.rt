@@ -1,6 +1,7 @@
 //! The packets of a stream that comes in pieces.
 
-ghost use Rattle.std.specs.Prelude.{◌≡◌, ◌≢◌, ◌<◌, [], List, ℕ, length, Some, None, IfOk, MatchOption};
+ghost use Rattle.std.specs.Prelude.{◌≡◌, ◌≢◌, ◌<◌, ◌≤◌, [], List, ℕ, length, Some, None, IfOk, IfSome, MatchOption};
+ghost use Rattle.adb_wire.specs.declared.headers.TheConstants.{MAX_PAYLOAD};
 
 use crate::format::{PacketFault, PacketFormat};
 use crate::headers::HeadFault;
@@ -33,11 +34,11 @@ impl Model for Deframer {
 
     ghost Value = { Deframing };
 
-    ghost use Rattle.adb_wire.specs.Deframing.{IsOpen};
+    ghost use Rattle.adb_wire.specs.Deframing.{IsSound};
 
     ghost view = { λ d. d.framer };
 
-    ghost invariant = { λ d. IsOpen d.framer };
+    ghost invariant = { λ d. IsSound d.framer };
 }
 
 impl Deframer {
@@ -82,14 +83,15 @@ impl Deframer {
     /// The next packet that was not yet given; `None` exactly where no further whole packet was
     /// fed. It takes no memory.
     pub fn next(&mut self) -> Option<Packet>
-        ensures { Gives self.old self.new result }
+        ensures given { Gives self.old self.new result }
+        ensures sized { IfSome result (λ packet. length packet.payload ≤ MAX_PAYLOAD) }
     {
         self.framer.next()
     }
 
     /// How many bytes are missing, at least, until a packet is whole or a fault is there: a shorter
-    /// piece completes nothing. Where there is a fault, no packet ever is, and it is `usize::MAX`. It
-    /// takes no memory.
+    /// piece completes nothing. Where there is a fault, no packet ever is, and it is `usize::MAX`.
+    /// It takes no memory.
     pub fn missing(&self) -> usize
         ensures value { MatchOption self.now.fault (result ≡ need_of self.now.rest)
             (λ _. result ≡ usize.MAX) }

@@ -8,10 +8,10 @@ pub returns-in-None-clause-some : goal.returns-in-None-clause-some
 returns-in-None-clause-some c =
     let held = c.self.inside.framer in
     let n : c.need.result ≡ need_of held.rest = c.need.ensures ∙ ap need_of c.rest.ensures in
-    omega (arith, n, some_missing held.reading held.rest (c.self.invariant (sym c.fault.ensures ∙ c.in-None.is)))
+    omega (arith, n, some_missing held.reading held.rest (c.self.invariant.opened (sym c.fault.ensures ∙ c.in-None.is)))
 
 pub returns-in-None-clause-short : goal.returns-in-None-clause-short
 returns-in-None-clause-short c = λ none piece few.
     let held = c.args.self.now in
     let n : c.need.result ≡ need_of held.rest = c.need.ensures ∙ (ap need_of c.rest.ensures ∙ ap (λ (d : Deframing). need_of d.rest) c.self.view_is) in
-    short_waits held piece (subst IsOpen c.self.view_is c.self.invariant) none (omega (arith, n, few))
+    short_waits held piece (subst IsOpen c.self.view_is c.self.invariant.opened) none (omega (arith, n, few))
