@@ -396,7 +396,7 @@ first_fault fed given now parts h i =
     ap (λ (p : Parts). p.fault) (cuts_same fed (record { packets = given ++ now.given; rest = h.rest; fault = now.fault }) parts h.cuts i)
 
 -- the packets of a stream are those that were given and those that are held
-all_packets : (fed : List ℕ) (given : List Packet) (now : Deframing) (parts : Parts) → StandsFor fed given now → Cuts fed parts
+pub all_packets : (fed : List ℕ) (given : List Packet) (now : Deframing) (parts : Parts) → StandsFor fed given now → Cuts fed parts
     → parts.packets ≡ given ++ now.given
 all_packets fed given now parts h i =
     ap (λ (p : Parts). p.packets) (cuts_same fed parts (record { packets = given ++ now.given; rest = h.rest; fault = now.fault }) i h.cuts)
