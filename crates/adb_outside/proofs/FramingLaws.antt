@@ -1,6 +1,8 @@
 -- Bytes may be cut piece by piece.
 use Rattle.std.proofs.Common.{ℕ, ◌≡◌, ◌≤◌, List, [], ◌∷◌, ◌++◌, length, take, drop, Some, None, refl, sym, ◌∙◌, ap, subst, arith, zero, suc}
 use Rattle.std.proofs.lemmas.List.{length-drop, take-append-le, drop-append-le, append_assoc}
+use Rattle.std.specs.List.{All}
+use Rattle.std.proofs.lemmas.List.Elements.{All-nil, All-cons}
 use Rattle.adb_outside.specs.declared.framer.Front.{Front}
 use Rattle.adb_outside.specs.declared.framer.Front.TheVariants.{More, Bad, Whole}
 use Rattle.adb_outside.specs.Framing.{Cut, uncut, joined, cut_by, cut_at, cut, IsFraming, Stands, held_after, Takes}
@@ -44,6 +46,45 @@ module _ {S V F : Type 0} (find : S → List ℕ → Front F) (item : S → List
           ap (joined (item s (take n (b ∷ bytes)) ∷ []))
           (enough (length bytes) (length (drop n (b ∷ bytes))) (after s (take n (b ∷ bytes))) (drop n (b ∷ bytes))
           (omega (arith, fits, length-drop n (b ∷ bytes))) (omega arith))
+
+  -- Where no fault came, what was left over begins with no whole frame.
+  pub cut_open : (k : ℕ) (s : S) (bytes : List ℕ) → length bytes ≤ k → (cut find item after s bytes).fault ≡ None
+      → find (cut find item after s bytes).reading (cut find item after s bytes).rest ≡ More
+  cut_open k s [] h none = laws.empty s
+  cut_open zero s (b ∷ bytes) h none = absurd (omega (arith, h))
+  cut_open (suc k) s (b ∷ bytes) h none =
+      subst (λ (c : Cut S V F). c.fault ≡ None → find c.reading c.rest ≡ More) (sym (cut_first s (b ∷ bytes)))
+      (go (find s (b ∷ bytes)) refl (λ t c. cut_open k t c)) none
+    where
+      go : (f : Front F) → find s (b ∷ bytes) ≡ f
+          → ((t : S) (c : List ℕ) → length c ≤ k → (cut find item after t c).fault ≡ None
+          → find (cut find item after t c).reading (cut find item after t c).rest ≡ More)
+          → (cut_by find item after s (b ∷ bytes) f (cut find item after)).fault ≡ None
+          → find (cut_by find item after s (b ∷ bytes) f (cut find item after)).reading
+          (cut_by find item after s (b ∷ bytes) f (cut find item after)).rest ≡ More
+      go More e others sound = e
+      go (Bad fault) e others sound = cc
+      go (Whole n) e others sound =
+          let fits = laws.fits s (b ∷ bytes) n e in
+          others (after s (take n (b ∷ bytes))) (drop n (b ∷ bytes)) (omega (arith, fits, length-drop n (b ∷ bytes))) sound
+
+  -- What holds of each whole frame's item holds of all that are cut.
+  pub cut_all : (P : V → Type 0) → ((s : S) (bytes : List ℕ) (n : ℕ) → find s bytes ≡ Whole n → P (item s (take n bytes)))
+      → (k : ℕ) (s : S) (bytes : List ℕ) → length bytes ≤ k → All P (cut find item after s bytes).given
+  cut_all P each k s [] h = All-nil P
+  cut_all P each zero s (b ∷ bytes) h = absurd (omega (arith, h))
+  cut_all P each (suc k) s (b ∷ bytes) h =
+      subst (λ (c : Cut S V F). All P c.given) (sym (cut_first s (b ∷ bytes))) (go (find s (b ∷ bytes)) refl (λ t c. cut_all P each k t c))
+    where
+      go : (f : Front F) → find s (b ∷ bytes) ≡ f → ((t : S) (c : List ℕ) → length c ≤ k → All P (cut find item after t c).given)
+          → All P (cut_by find item after s (b ∷ bytes) f (cut find item after)).given
+      go More e others = All-nil P
+      go (Bad fault) e others = All-nil P
+      go (Whole n) e others =
+          let fits = laws.fits s (b ∷ bytes) n e in
+          let rest = (cut find item after (after s (take n (b ∷ bytes))) (drop n (b ∷ bytes))).given in
+          let behind : All P rest = others (after s (take n (b ∷ bytes))) (drop n (b ∷ bytes)) (omega (arith, fits, length-drop n (b ∷ bytes))) in
+          All-cons P (item s (take n (b ∷ bytes))) rest (each s (b ∷ bytes) n e) behind
 
   -- A piece that follows is cut with what was left over.
   pub cut_piece : (k : ℕ) (s : S) (x y : List ℕ) → length x ≤ k → (cut find item after s x).fault ≡ None

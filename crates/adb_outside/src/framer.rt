@@ -109,6 +109,20 @@ impl<V: Drop, F: Copy, S: Format<V, F>> Framer<S, V, F> {
         }
     }
 
+    /// The bytes past the last whole frame.
+    pub fn rest(&self) -> &[u8]
+        ensures { result.now ≡ self.now.rest }
+    {
+        self.held.as_slice()
+    }
+
+    /// The first fault of all the bytes that were fed, if they have one.
+    pub fn fault(&self) -> Option<F>
+        ensures { result ≡ self.now.fault }
+    {
+        self.fault
+    }
+
     /// The next frame that was not yet taken; `None` where no further whole one was fed. It takes no
     /// memory.
     pub fn next(&mut self) -> Option<V>
@@ -170,5 +184,23 @@ impl<V: Drop, F: Copy, S: Format<V, F>> Framer<S, V, F> {
         self.format = format;
         self.fault = front.fault();
         Ok(())
+    }
+}
+
+impl<V: Clone, F: Copy, S: Format<V, F>> Framer<S, V, F> {
+    /// A framer that holds the same, in memory of its own.
+    pub fn copy(&self) -> Result<Framer<S, V, F>, AllocError>
+        ensures same { IfOk result (λ copy. ((v clone : V) → V.is_clone v clone → clone ≡ v)
+            → copy ≡ self.now) }
+    {
+        let mut held = ByteQueue::new(self.alloc);
+        held.push(self.held.as_slice())?;
+        Ok(Framer {
+            alloc: self.alloc,
+            format: self.format,
+            held,
+            ready: self.ready.clone()?,
+            fault: self.fault,
+        })
     }
 }

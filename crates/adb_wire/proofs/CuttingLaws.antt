@@ -66,7 +66,7 @@ pub record Found (before : List Packet) (p : Packet) (bytes more : List ℕ) : T
 length_header : (head : Head) → length (header_bytes head) ≡ HEADER_LEN
 length_header head = refl
 
-found : (before : List Packet) (p : Packet) (bytes more : List ℕ) → Begins before p bytes more → Found before p bytes more
+pub found : (before : List Packet) (p : Packet) (bytes more : List ℕ) → Begins before p bytes more → Found before p bytes more
 found before p bytes more b =
     let head : Head = head_for p b.check in
     let fits : IsHead head = record { arg0 = b.packet.arg0; arg1 = b.packet.arg1; size = b.packet.size; check = b.word } in
@@ -126,7 +126,7 @@ stop_cut : (before : List Packet) (rest : List ℕ) (fault : Option PacketFault)
 stop_cut before rest None = refl
 stop_cut before rest (Some fault) = refl
 
-cut_step : (format : PacketFormat) (bytes : List ℕ) (front : Front PacketFault) → front_of format bytes ≡ front
+pub cut_step : (format : PacketFormat) (bytes : List ℕ) (front : Front PacketFault) → front_of format bytes ≡ front
     → cut_packets format bytes ≡ cut_at_front format bytes front
 cut_step format bytes front e = cut_first front_of item after packets_are_framed format bytes ∙ ap (cut_at_front format bytes) e
 
@@ -396,12 +396,12 @@ first_fault fed given now parts h i =
     ap (λ (p : Parts). p.fault) (cuts_same fed (record { packets = given ++ now.given; rest = h.rest; fault = now.fault }) parts h.cuts i)
 
 -- the packets of a stream are those that were given and those that are held
-all_packets : (fed : List ℕ) (given : List Packet) (now : Deframing) (parts : Parts) → StandsFor fed given now → Cuts fed parts
+pub all_packets : (fed : List ℕ) (given : List Packet) (now : Deframing) (parts : Parts) → StandsFor fed given now → Cuts fed parts
     → parts.packets ≡ given ++ now.given
 all_packets fed given now parts h i =
     ap (λ (p : Parts). p.packets) (cuts_same fed parts (record { packets = given ++ now.given; rest = h.rest; fault = now.fault }) i h.cuts)
 
-same_held : (old : Deframing) (piece : List ℕ) (fault : Option PacketFault)
+pub same_held : (old : Deframing) (piece : List ℕ) (fault : Option PacketFault)
     → framing.held_after front_of item after old piece fault ≡ held_after old piece fault
 same_held old piece None = refl
 same_held old piece (Some fault) = refl

@@ -1,2 +1,5 @@
 pub mod HeaderLaws
 pub mod CuttingLaws
+pub mod Slices
+pub mod SliceLaws
+pub mod Missing

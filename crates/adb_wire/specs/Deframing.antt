@@ -1,12 +1,16 @@
 -- What a deframer holds, and what it stands for.
-use Rattle.std.specs.Prelude.{ℕ, ◌≡◌, false, List, [], ◌∷◌, ◌++◌, Option, Some, None, IfSome, IfNone, option_to_list, Result, Ok, Err}
+use Rattle.std.specs.Prelude.{ℕ, ◌≡◌, ◌≤◌, false, List, [], ◌∷◌, ◌++◌, length, Option, Some, None, IfSome, IfNone, option_to_list, Result, Ok, Err}
+use Rattle.std.specs.List.{All}
+use Rattle.adb_outside.specs.declared.framer.Front.TheVariants.{More}
 use Rattle.adb_outside.specs.Framing.{Cut, uncut, joined}
+use Rattle.adb_wire.specs.declared.headers.TheConstants.{MAX_PAYLOAD}
 use Rattle.adb_wire.specs.declared.packets.Packet.{Packet}
 use Rattle.adb_wire.specs.declared.format.PacketFault.{PacketFault}
 use Rattle.adb_wire.specs.declared.format.PacketFault.TheVariants.{Broken, BadSum}
 use Rattle.adb_wire.specs.declared.format.PacketFormat.{PacketFormat}
 use Rattle.adb_wire.specs.declared.deframer.WireError.{WireError}
 use Rattle.adb_wire.specs.declared.deframer.WireError.TheVariants as errors
+use Rattle.adb_wire.specs.Format.{front_of}
 use Rattle.adb_wire.specs.Cutting.{Parts, Cuts, IsNextOf, wants_sums, cut_packets}
 
 -- The packets that are still to be given, whether check words are looked at behind them, the bytes past them, and the fault there.
@@ -34,6 +38,19 @@ pub record StandsFor (fed : List ℕ) (given : List Packet) (now : Deframing) : 
 abbrev pub held_after : Deframing → List ℕ → Option PacketFault → Deframing
 held_after held piece None = joined held.given (cut_packets held.reading (held.rest ++ piece))
 held_after held piece (Some fault) = held
+
+-- No packet is whole in the bytes past the packets, and where there is no fault, none is there.
+abbrev pub IsOpen : Deframing → Type 0
+IsOpen held = held.fault ≡ None → front_of held.reading held.rest ≡ More
+
+-- What a deframer may hold: none of its payloads is too long, and it is open.
+pub record IsSound (held : Deframing) : Type 0 where
+  pub sized : All (λ (p : Packet). length p.payload ≤ MAX_PAYLOAD) held.given
+  pub opened : IsOpen held
+
+-- A piece completes nothing: it is held behind the bytes that are held.
+abbrev pub Waits : Deframing → List ℕ → Type 0
+Waits held piece = held_after held piece None ≡ record held { rest = held.rest ++ piece }
 
 -- A piece was taken: what is held is that after it; what it stood for has the piece too; and its fault is that of all the bytes.
 pub record Takes (old : Deframing) (piece : List ℕ) (new : Deframing) : Type 0 where

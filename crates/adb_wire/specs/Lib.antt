@@ -4,4 +4,5 @@ pub mod Packet
 pub mod Format
 pub mod FormatLaws
 pub mod Cutting
+pub mod Slicing
 pub mod Deframing

@@ -1,12 +1,14 @@
 //! The packets of a stream that comes in pieces.
 
-ghost use Rattle.std.specs.Prelude.{◌≡◌, ◌≢◌, [], Some};
+ghost use Rattle.std.specs.Prelude.{◌≡◌, ◌≢◌, ◌<◌, ◌≤◌, [], List, ℕ, length, Some, None, IfOk, IfSome, MatchOption};
+ghost use Rattle.adb_wire.specs.declared.headers.TheConstants.{MAX_PAYLOAD};
 
 use crate::format::{PacketFault, PacketFormat};
 use crate::headers::HeadFault;
 use crate::packets::Packet;
+use crate::slicer::need;
 use adb_outside::{FeedError, Framer};
-use std::alloc::Global;
+use std::alloc::{AllocError, Global};
 use std::marker::Model;
 
 /// Why a piece was not taken, or not taken to its end.
@@ -32,11 +34,16 @@ impl Model for Deframer {
 
     ghost Value = { Deframing };
 
+    ghost use Rattle.adb_wire.specs.Deframing.{IsSound};
+
     ghost view = { λ d. d.framer };
+
+    ghost invariant = { λ d. IsSound d.framer };
 }
 
 impl Deframer {
-    ghost use Rattle.adb_wire.specs.Deframing.{StandsFor, Takes, Gives, answer_of, no_bytes};
+    ghost use Rattle.adb_wire.specs.Deframing.{StandsFor, Takes, Gives, Waits, answer_of, no_bytes};
+    ghost use Rattle.adb_wire.specs.Slicing.{need_of};
 
     /// Nothing was fed yet. It takes no memory.
     pub fn new(alloc: Global) -> Deframer
@@ -76,8 +83,34 @@ impl Deframer {
     /// The next packet that was not yet given; `None` exactly where no further whole packet was
     /// fed. It takes no memory.
     pub fn next(&mut self) -> Option<Packet>
-        ensures { Gives self.old self.new result }
+        ensures given { Gives self.old self.new result }
+        ensures sized { IfSome result (λ packet. length packet.payload ≤ MAX_PAYLOAD) }
     {
         self.framer.next()
+    }
+
+    /// How many bytes are missing, at least, until a packet is whole or a fault is there: a shorter
+    /// piece completes nothing. Where there is a fault, no packet ever is, and it is `usize::MAX`.
+    /// It takes no memory.
+    pub fn missing(&self) -> usize
+        ensures value { MatchOption self.now.fault (result ≡ need_of self.now.rest)
+            (λ _. result ≡ usize.MAX) }
+        ensures some { 0 < result }
+        ensures short { self.now.fault ≡ None → (piece : List ℕ) → length piece < result
+            → Waits self.now piece }
+    {
+        match self.framer.fault() {
+            None => need(self.framer.rest()),
+            Some(_) => usize::MAX,
+        }
+    }
+
+    /// A deframer that stands for the same, in memory of its own.
+    pub fn copy(&self) -> Result<Deframer, AllocError>
+        ensures { IfOk result (λ copy. copy ≡ self.now) }
+    {
+        Ok(Deframer {
+            framer: self.framer.copy()?,
+        })
     }
 }

@@ -10,6 +10,7 @@ ghost use Rattle.adb_wire.specs.Header.{IsBytes, IsHead, header_bytes, head_at};
 ghost use Rattle.adb_wire.specs.Packet.{IsPacket, spelling, check_of};
 ghost use Rattle.adb_wire.specs.Cutting.{Begins, Parts, Cuts, Adds, Continues, MayCarry};
 ghost use Rattle.adb_wire.specs.Cutting.{parts_of, goes_with_sum, wants_sums};
+ghost use Rattle.adb_wire.specs.Slicing.{HasSliced, Follow, whole_of, open_of};
 
 /// A header that was written is read, whatever follows it.
 pub fn headers_are_read()
@@ -52,6 +53,14 @@ pub fn fronts_are_cut_alike()
 pub fn spelled_packets_are_cut()
     ensures { (front : List ℕ) (p : Packet) (check : ℕ) → IsPacket p → check < 2 ^ 32
         → Adds front (front ++ spelling p check) p check }
+{}
+
+/// A slicer that was fed any pieces gave the packets of the stream first, in their bytes: these and
+/// nothing else where the stream has no fault, and next the header that has one.
+pub fn slices_are_packets()
+    ensures { (fed : List ℕ) (gave : List (List ℕ)) (held : List ℕ) (parts : Parts)
+        → HasSliced fed gave held → Cuts fed parts
+        → Follow (gave ++ whole_of held) (open_of held) parts }
 {}
 
 /// The check word that a link's version fixes for what goes out may stand there, if sums are looked

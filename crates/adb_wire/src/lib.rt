@@ -8,6 +8,7 @@ mod format;
 mod headers;
 pub mod laws;
 mod packets;
+mod slicer;
 #[cfg(test)]
 mod tests;
 
@@ -16,3 +17,4 @@ pub use deframer::{Deframer, WireError};
 pub use format::{PacketFault, PacketFormat, VERSION_WITHOUT_SUMS};
 pub use headers::{HEADER_LEN, Head, HeadFault, MAX_PAYLOAD, byte_sum, header, read_header};
 pub use packets::{Packet, frame};
+pub use slicer::{MAX_PACKET, Slicer};

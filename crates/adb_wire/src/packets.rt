@@ -20,6 +20,19 @@ pub struct Packet {
     pub payload: Text,
 }
 
+impl Clone for Packet {
+    ghost is_clone = { λ packet clone. clone ≡ packet };
+
+    fn clone(&self) -> Result<Packet, AllocError> {
+        Ok(Packet {
+            command: self.command,
+            arg0: self.arg0,
+            arg1: self.arg1,
+            payload: self.payload.copy()?,
+        })
+    }
+}
+
 /// Adds a packet at the end of `out`. Its check word is the sum of the payload's bytes where
 /// `sums`, and else 0: a CNXN goes out with its sum, and another packet does on a link of version
 /// 0x01000000. After want of memory `out` is as before.

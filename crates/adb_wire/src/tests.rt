@@ -5,6 +5,7 @@ ghost use Rattle.std.specs.Prelude.{◌<◌, ◌≤◌, length};
 use super::*;
 use adb_outside::Text;
 use std::alloc::{AllocError, Global};
+use std::process::Abort;
 use std::test::Fail;
 
 /// What the server says first: version 0x01000001, 1,048,576 bytes at most, and what it can do.
@@ -218,5 +219,76 @@ fn a_megabyte_takes_no_long_time(rt: HostRuntime) -> Result<(), Fail> {
         packets_in(rt.alloc(), stream.as_slice(), 65_536),
         (40_000, Ok(()))
     );
+    Ok(())
+}
+
+/// The packets of a deframer that holds an OPEN, a CNXN of an old version, and all but the last byte
+/// of a WRTE with a wrong check word.
+fn goes_on(rt: &impl Abort, deframer: &mut Deframer) -> Result<(), Fail> {
+    assert_eq!(rt; deframer.missing(), 1);
+    let open = deframer.next().ok_or("no packet")?;
+    assert_eq!(rt; open.payload.as_slice(), b"shell:echo hi\x00".as_slice());
+    let connect = deframer.next().ok_or("no second packet")?;
+    assert_eq!(rt;
+        (connect.command, connect.arg0),
+        (Command::Cnxn, 0x0100_0000)
+    );
+    assert!(rt; deframer.next().is_none());
+    let (said, is) = (0xda, 0xdb);
+    assert_eq!(rt; deframer.feed(b"\n"), Err(WireError::BadSum { said, is }));
+    assert_eq!(rt; deframer.missing(), usize::MAX);
+    Ok(())
+}
+
+#[test]
+fn a_copy_goes_on_alike(rt: HostRuntime) -> Result<(), Fail> {
+    let mut deframer = Deframer::new(rt.alloc());
+    for (piece, missing) in [
+        (&OPEN[..20], 4),
+        (&OPEN[20..37], 1),
+        (&OPEN[37..], 24),
+        (OLD_CONNECT, 24),
+        (&WRITE[..26], 1),
+    ] {
+        deframer.feed(piece)?;
+        assert_eq!(rt; deframer.missing(), missing);
+    }
+    let mut copy = deframer.copy()?;
+    goes_on(&rt, &mut deframer)?;
+    goes_on(&rt, &mut copy)
+}
+
+/// The slices of a stream that comes in pieces of that many bytes, and what is held then.
+fn slices_in(alloc: Global, stream: &[u8], piece: usize) -> Result<(Vec<Text>, Text), AllocError> {
+    let mut slicer = Slicer::new(alloc)?;
+    let mut slices = Vec::new(alloc);
+    let mut rest = stream;
+    for _ in stream {
+        let taken = slicer.take(&rest[..rest.len().min(piece)]);
+        rest = &rest[taken..];
+        if let Some(slice) = slicer.whole() {
+            slices.push(Text::from_slice(alloc, slice)?)?;
+            slicer.clear();
+        }
+    }
+    Ok((slices, Text::from_slice(alloc, slicer.held())?))
+}
+
+#[test]
+fn slices_in_any_pieces(rt: HostRuntime) -> Result<(), Fail> {
+    let parts = [CONNECT, WRITE, SYNC, LONG_WRITE, OPEN, &OPEN[..37]];
+    let mut stream = Vec::new(rt.alloc());
+    for part in parts {
+        stream.extend_from_slice(part)?;
+    }
+    for piece in [1, 23, 24, 25, 47, 200] {
+        let (slices, held) = slices_in(rt.alloc(), stream.as_slice(), piece)?;
+        assert_eq!(rt; slices.len(), 5);
+        for (slice, part) in slices.iter().zip(parts) {
+            assert_eq!(rt; slice.as_slice(), part);
+        }
+        assert_eq!(rt; held.as_slice(), &OPEN[..37]);
+    }
+    assert_eq!(rt; MAX_PACKET, 1_048_600);
     Ok(())
 }

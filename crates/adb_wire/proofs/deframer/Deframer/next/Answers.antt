@@ -1,10 +1,19 @@
-use Rattle.std.proofs.Common.{subst}
+use Rattle.std.proofs.Common.{IfSome, subst, sym}
 use Rattle.adb_outside.specs.Framing as framing
 use Rattle.adb_wire.specs.Format.{front_of}
 use Rattle.adb_wire.proofs.CuttingLaws.{item, after, gives}
+use Rattle.adb_wire.proofs.Missing.{given_sound}
 use Rattle.adb_wire.proofs.deframer.Deframer.next.Goals as goal
 
-pub returns : goal.returns
-returns c =
+pub invariant_of-self : goal.invariant_of-self
+invariant_of-self c =
+    (given_sound c.self.inside.framer c.next.new.self c.next.result c.self.invariant (gives c.self.inside.framer c.next.new.self c.next.result c.next.ensures)).0
+
+pub returns-clause-given : goal.returns-clause-given
+returns-clause-given c =
     gives c.args.self.now c.next.new.self c.next.result
     (subst (λ old. framing.Gives front_of item after old c.next.new.self c.next.result) c.self.view_is c.next.ensures)
+
+pub returns-clause-sized : goal.returns-clause-sized
+returns-clause-sized c =
+    (given_sound c.self.inside.framer c.next.new.self c.next.result c.self.invariant (gives c.self.inside.framer c.next.new.self c.next.result c.next.ensures)).1

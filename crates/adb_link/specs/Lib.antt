@@ -1,0 +1,4 @@
+pub mod Outgoing
+pub mod Outbox
+pub mod Incoming
+pub mod Linked

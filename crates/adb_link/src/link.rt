@@ -1,0 +1,310 @@
+//! A device's link.
+
+ghost use Rattle.std.specs.Prelude.{◌≡◌, ◌≢◌, ◌<◌, ◌≤◌, ◌++◌, [], List, ℕ, length, take, drop, max, Some, None, option_to_list, IfOk, IfSome, OnOk, OnErr, MatchOption, if◌then◌else◌};
+ghost use Rattle.adb_wire.specs.declared.format.PacketFault.{PacketFault};
+ghost use Rattle.adb_wire.specs.declared.packets.Packet.{Packet};
+ghost use Rattle.adb_wire.specs.declared.headers.TheConstants.{MAX_PAYLOAD};
+ghost use Rattle.adb_wire.specs.declared.deframer.WireError.{WireError};
+ghost use Rattle.adb_wire.specs.Packet.{head_for, check_of};
+ghost use Rattle.adb_wire.specs.Format.{packet_under};
+ghost use Rattle.adb_wire.specs.Cutting.{goes_with_sum};
+ghost use Rattle.adb_wire.specs.Slicing.{need_of};
+ghost use Rattle.adb_link.specs.Linked.{IsHeadOf, packet_given, version_past, version_after, version_behind};
+
+use crate::incoming::Incoming;
+use crate::outbox::Outbox;
+use crate::outgoing::{MAX_SHORT, Outgoing};
+use adb_wire::{Command, Head, Packet, WireError, byte_sum};
+use bytes::Bytes;
+use std::alloc::{AllocError, Global};
+use std::marker::Model;
+
+/// The version in which every packet goes out with its sum.
+pub const VERSION_WITH_SUMS: u32 = 0x0100_0000;
+
+/// A device's link: what comes in on it is cut into packets, and packets become due on it, with the
+/// check word that protocol.txt has for its version ("MESSAGES"). A packet that becomes due keeps its
+/// check word: a CNXN goes out with its sum, and another packet does where the last CNXN that was
+/// taken from the link had the version 0x01000000.
+///
+/// Places for packets can be reserved, to owe them later without memory; a place holds one packet,
+/// whatever its payload. Only the calls that take a place lower their number.
+#[derive(Drop)]
+pub struct Link {
+    alloc: Global,
+    incoming: Incoming,
+    version: u32,
+    outbox: Outbox,
+}
+
+impl Model for Link {
+    ghost use Rattle.adb_link.specs.Linked.{Linked};
+
+    ghost Value = { Linked };
+
+    ghost view = { λ link. record {
+      incoming = link.incoming;
+      version = link.version;
+      due = link.outbox.due;
+      spare = link.outbox.spare;
+    } };
+}
+
+impl Link {
+    ghost use Rattle.adb_wire.specs.Deframing.{StandsFor, Takes, Gives, Waits, answer_of};
+    ghost use Rattle.adb_link.specs.Linked.{new_link, owing, placing};
+
+    /// Nothing was fed yet, nothing is due, and no place is reserved. It takes no memory.
+    pub fn new(alloc: Global) -> Link
+        ensures value { result ≡ new_link }
+        ensures stands { StandsFor [] [] result.incoming }
+    {
+        Link {
+            alloc,
+            incoming: Incoming::new(alloc),
+            version: 0,
+            outbox: Outbox::new(alloc),
+        }
+    }
+
+    /// Takes the next piece of what comes in, of any length. `Broken` and `BadSum` come exactly where
+    /// all the bytes fed so far have that fault first; the packets before it are still given, and
+    /// from then on every call answers it and takes nothing. After want of memory all is as before.
+    pub fn feed(&mut self, piece: &[u8]) -> Result<(), WireError>
+        ensures answer { result ≢ Err WireError.OutOfMemory
+            → result ≡ answer_of self.new.incoming.fault }
+        ensures taken { result ≢ Err WireError.OutOfMemory
+            → Takes self.old.incoming piece.now self.new.incoming }
+        ensures stays { (fault : PacketFault) → self.old.incoming.fault ≡ Some fault
+            → result ≡ answer_of (Some fault) }
+        ensures memory { result ≡ Err WireError.OutOfMemory → self.new ≡ self.old }
+        ensures others { self.new ≡ record self.old { incoming = self.new.incoming } }
+    {
+        self.incoming.feed(piece)
+    }
+
+    /// How many bytes are missing, at least, until a packet is whole or a fault is there: a shorter
+    /// piece completes nothing. Where there is a fault it is `usize::MAX`. It takes no memory.
+    pub fn missing(&self) -> usize
+        ensures value { MatchOption self.now.incoming.fault
+            (result ≡ need_of self.now.incoming.rest) (λ _. result ≡ usize.MAX) }
+        ensures some { 0 < result }
+        ensures short { self.now.incoming.fault ≡ None → (piece : List ℕ) → length piece < result
+            → Waits self.now.incoming piece }
+    {
+        self.incoming.missing()
+    }
+
+    /// The next packet that was not yet given; `None` exactly where no further whole packet was fed.
+    /// A CNXN fixes the link's version. It takes no memory.
+    pub fn next(&mut self) -> Option<Packet>
+        ensures given { Gives self.old.incoming self.new.incoming result }
+        ensures sized { IfSome result (λ packet. length packet.payload ≤ MAX_PAYLOAD) }
+        ensures others { self.new ≡ record self.old {
+          incoming = self.new.incoming;
+          version = version_after self.old.version result;
+        } }
+        ensures last { (before : List Packet) → self.old.version ≡ version_behind before
+            → self.new.version ≡ version_behind (before ++ option_to_list result) }
+    {
+        let packet = self.incoming.next();
+        if let Some(packet) = &packet {
+            self.version = version_past(self.version, packet.command, packet.arg0);
+        }
+        packet
+    }
+
+    /// The next packet, as its header and a payload that can be shared: its bytes are not copied. The
+    /// header's check word is 0, since it was looked at. A CNXN fixes the link's version. After want
+    /// of memory all is as before, and that packet is still the next.
+    pub fn next_slice(&mut self) -> Result<Option<(Head, Bytes)>, AllocError>
+        ensures given { IfOk result (λ given.
+            Gives self.old.incoming self.new.incoming (packet_given given)) }
+        ensures head { IfOk result (λ given. IfSome given (λ (head, payload).
+            IsHeadOf head payload × (head.check ≡ 0))) }
+        ensures others { IfOk result (λ given. self.new ≡ record self.old {
+          incoming = self.new.incoming;
+          version = version_after self.old.version (packet_given given);
+        }) }
+        ensures last { IfOk result (λ given. (before : List Packet)
+            → self.old.version ≡ version_behind before
+            → self.new.version ≡ version_behind (before ++ option_to_list (packet_given given))) }
+        ensures err { OnErr result (self.new ≡ self.old) }
+    {
+        let given = self.incoming.next_slice()?;
+        if let Some((head, _)) = &given {
+            self.version = version_past(self.version, head.command, head.arg0);
+        }
+        Ok(given)
+    }
+
+    /// A packet with that header was taken from a copy of what comes in: a CNXN fixes the link's
+    /// version. It takes no memory.
+    pub fn took(&mut self, head: &Head)
+        ensures { self.new ≡ record self.old {
+          version = version_past self.old.version head.now.command head.now.arg0;
+        } }
+    {
+        self.version = version_past(self.version, head.command, head.arg0);
+    }
+
+    /// A copy of what comes in.
+    pub fn incoming(&self) -> Result<Incoming, AllocError>
+        ensures { IfOk result (λ incoming. incoming ≡ self.now.incoming) }
+    {
+        self.incoming.copy()
+    }
+
+    /// Puts that in the place of what comes in. It takes no memory.
+    pub fn put_incoming(&mut self, incoming: Incoming)
+        ensures { self.new ≡ record self.old { incoming = incoming } }
+    {
+        self.incoming = incoming;
+    }
+
+    /// A packet is due next; its payload is copied. After want of memory all is as before.
+    pub fn owe(&mut self, packet: &Packet) -> Result<(), AllocError>
+        requires { length packet.now.payload ≤ MAX_PAYLOAD }
+        ensures ok { OnOk result (self.new ≡ owing self.old packet.now) }
+        ensures err { OnErr result (self.new ≡ self.old) }
+    {
+        let payload = Bytes::copy_from_slice(self.alloc, packet.payload.as_slice())?;
+        self.owe_slice(&head_of(packet), payload)
+    }
+
+    /// A packet of that header and shared payload is due next, with the link's check word in the
+    /// place of the header's. After want of memory all is as before, and the payload is dropped.
+    pub fn owe_slice(&mut self, head: &Head, payload: Bytes) -> Result<(), AllocError>
+        requires { IsHeadOf head.now payload }
+        ensures ok { OnOk result (self.new ≡ owing self.old (packet_under head.now payload)) }
+        ensures err { OnErr result (self.new ≡ self.old) }
+    {
+        let head = head_to_send(self.version, head, payload.as_slice());
+        self.outbox.push(Outgoing::new(&head, &[], payload))
+    }
+
+    /// Makes places for `packets` packets, with those that are reserved already. After want of memory
+    /// all is as before.
+    pub fn reserve(&mut self, packets: usize) -> Result<(), AllocError>
+        ensures ok { OnOk result
+            (self.new ≡ record self.old { spare = max packets self.old.spare }) }
+        ensures err { OnErr result (self.new ≡ self.old) }
+    {
+        self.outbox.reserve(packets)
+    }
+
+    /// A packet without payload is due next, in a reserved place. It takes no memory.
+    pub fn owe_spare(&mut self, packet: &Packet)
+        requires place { 0 < self.old.spare }
+        requires empty { packet.now.payload ≡ [] }
+        ensures { self.new ≡ placing self.old packet.now }
+    {
+        self.owe_short_spare(&head_of(packet), packet.payload.as_slice());
+    }
+
+    /// A packet of that header and a payload of at most `MAX_SHORT` bytes, which are copied into the
+    /// place, is due next, in a reserved place, with the link's check word. It takes no memory.
+    pub fn owe_short_spare(&mut self, head: &Head, payload: &[u8])
+        requires place { 0 < self.old.spare }
+        requires head { IsHeadOf head.now payload.now }
+        requires short { length payload.now ≤ MAX_SHORT }
+        ensures { self.new ≡ placing self.old (packet_under head.now payload.now) }
+    {
+        let head = head_to_send(self.version, head, payload);
+        self.outbox
+            .push_spare(Outgoing::new(&head, payload, Bytes::new()));
+    }
+
+    /// A packet of that header and shared payload is due next, in a reserved place, with the link's
+    /// check word. It takes no memory.
+    pub fn owe_slice_spare(&mut self, head: &Head, payload: Bytes)
+        requires place { 0 < self.old.spare }
+        requires head { IsHeadOf head.now payload }
+        ensures { self.new ≡ placing self.old (packet_under head.now payload) }
+    {
+        let head = head_to_send(self.version, head, payload.as_slice());
+        self.outbox.push_spare(Outgoing::new(&head, &[], payload));
+    }
+
+    /// How many bytes are due. It takes no memory.
+    pub fn owed(&self) -> usize
+        ensures { result ≡ length self.now.due }
+    {
+        self.outbox.owed()
+    }
+
+    /// The first bytes that are due: some where any are, up to the end of a header or a payload. It
+    /// takes no memory.
+    pub fn front(&self) -> &[u8]
+        ensures within { length result.now ≤ length self.now.due }
+        ensures front { result.now ≡ take (length result.now) self.now.due }
+        ensures some { 0 < length self.now.due → 0 < length result.now }
+    {
+        self.outbox.front()
+    }
+
+    /// The first `n` bytes that are due were handed out, also beyond the front. It takes no memory.
+    pub fn hand(&mut self, n: usize)
+        requires { n ≤ length self.old.due }
+        ensures { self.new ≡ record self.old { due = drop n self.old.due } }
+    {
+        self.outbox.hand(n);
+    }
+
+    /// A link that holds the same and has as many places. Payloads that are due are shared, and the
+    /// packets that came in are copied.
+    pub fn copy(&self) -> Result<Link, AllocError>
+        ensures { IfOk result (λ copy. copy ≡ self.now) }
+    {
+        Ok(Link {
+            alloc: self.alloc,
+            incoming: self.incoming.copy()?,
+            version: self.version,
+            outbox: self.outbox.copy()?,
+        })
+    }
+}
+
+/// The version of a link after a packet was taken from it: a CNXN says it.
+fn version_past(version: u32, command: Command, arg0: u32) -> u32
+    ensures { result ≡ version_past version command arg0 }
+{
+    match command {
+        Command::Cnxn => arg0,
+        _ => version,
+    }
+}
+
+/// The header of a packet, without its check word.
+fn head_of(packet: &Packet) -> Head
+    requires { length packet.now.payload ≤ MAX_PAYLOAD }
+    ensures head { result ≡ head_for packet.now 0 }
+    ensures of { IsHeadOf result packet.now.payload }
+{
+    Head {
+        command: packet.command,
+        arg0: packet.arg0,
+        arg1: packet.arg1,
+        length: packet.payload.len() as u32,
+        check: 0,
+    }
+}
+
+/// The header with the check word that it goes out with on a link of that version.
+fn head_to_send(version: u32, head: &Head, payload: &[u8]) -> Head
+    requires { IsHeadOf head.now payload.now }
+    ensures { let p = packet_under head.now payload.now in
+        result ≡ head_for p (check_of (goes_with_sum version p) p) }
+{
+    let has_sum = match head.command {
+        Command::Cnxn => true,
+        _ => version == VERSION_WITH_SUMS,
+    };
+    Head {
+        command: head.command,
+        arg0: head.arg0,
+        arg1: head.arg1,
+        length: head.length,
+        check: if has_sum { byte_sum(payload) } else { 0 },
+    }
+}

@@ -1,0 +1,146 @@
+//! The packets that are due, in order.
+
+ghost use Rattle.std.specs.Prelude.{◌≡◌, ◌<◌, ◌≤◌, ◌+◌, ◌-◌, ◌++◌, [], length, take, drop, max, IfOk, OnOk, OnErr};
+
+use crate::outgoing::Outgoing;
+use adb_wire::MAX_PACKET;
+use std::alloc::{AllocError, Global};
+use std::collections::VecDeque;
+use std::marker::Model;
+
+/// Packets that are due, and places for more that need no memory: a place holds one packet, whatever
+/// its payload. Contracts see the bytes that are due and how many places are spare.
+#[derive(Drop)]
+pub(crate) struct Outbox {
+    packets: VecDeque<Outgoing>,
+    owed: usize,
+    spare: usize,
+}
+
+impl Model for Outbox {
+    ghost use Rattle.adb_link.specs.Outbox.{Queue, IsBox};
+    ghost use Rattle.std.specs.List.{concat};
+    ghost use Rattle.std.specs.VecDeque.{deque_len, deque_capacity};
+
+    ghost Value = { Queue };
+
+    ghost view = { λ o. record { due = concat o.packets.items; spare = o.spare } };
+
+    ghost invariant = { λ o. IsBox o.packets.items o.owed o.spare (deque_len o.packets)
+        (deque_capacity o.packets) };
+}
+
+impl Outbox {
+    /// Nothing is due, and no place is spare. It takes no memory.
+    pub(crate) fn new(alloc: Global) -> Outbox
+        ensures { result ≡ record { due = []; spare = 0 } }
+    {
+        Outbox {
+            packets: VecDeque::new(alloc),
+            owed: 0,
+            spare: 0,
+        }
+    }
+
+    /// Makes places for `n` packets. After want of memory, and where so many bytes could not be
+    /// counted, all is as before.
+    pub(crate) fn reserve(&mut self, n: usize) -> Result<(), AllocError>
+        ensures ok { OnOk result (self.new ≡ record self.old { spare = max n self.old.spare }) }
+        ensures err { OnErr result (self.new ≡ self.old) }
+    {
+        let n = n.max(self.spare);
+        if n > (usize::MAX - self.owed) / MAX_PACKET {
+            return Err(AllocError);
+        }
+        self.packets.reserve(n)?;
+        self.spare = n;
+        Ok(())
+    }
+
+    /// A packet is due next, in a spare place. It takes no memory.
+    pub(crate) fn push_spare(&mut self, packet: Outgoing)
+        requires place { 0 < self.old.spare }
+        requires some { 0 < length packet }
+        requires fits { length packet ≤ MAX_PACKET }
+        ensures { self.new ≡ record { due = self.old.due ++ packet; spare = self.old.spare - 1 } }
+    {
+        self.owed += packet.len();
+        self.packets.push_back_reserved(packet);
+        self.spare -= 1;
+    }
+
+    /// A packet is due next. After want of memory all is as before.
+    pub(crate) fn push(&mut self, packet: Outgoing) -> Result<(), AllocError>
+        requires some { 0 < length packet }
+        requires fits { length packet ≤ MAX_PACKET }
+        ensures ok { OnOk result (self.new ≡ record self.old { due = self.old.due ++ packet }) }
+        ensures err { OnErr result (self.new ≡ self.old) }
+    {
+        let places = self.spare + 1;
+        self.reserve(places)?;
+        self.push_spare(packet);
+        Ok(())
+    }
+
+    /// How many bytes are due.
+    pub(crate) fn owed(&self) -> usize
+        ensures { result ≡ length self.now.due }
+    {
+        self.owed
+    }
+
+    /// The first bytes that are due, some where any are.
+    pub(crate) fn front(&self) -> &[u8]
+        ensures within { length result.now ≤ length self.now.due }
+        ensures front { result.now ≡ take (length result.now) self.now.due }
+        ensures some { 0 < length self.now.due → 0 < length result.now }
+    {
+        match self.packets.front() {
+            Some(packet) => packet.front(),
+            None => &[],
+        }
+    }
+
+    /// The first `n` bytes were handed out. It takes no memory.
+    pub(crate) fn hand(&mut self, n: usize)
+        requires { n ≤ length self.old.due }
+        ensures { self.new ≡ record self.old { due = drop n self.old.due } }
+    {
+        let mut left = n;
+        while left > 0 {
+            left -= self.hand_first(left);
+        }
+    }
+
+    /// Of the first packet up to `n` bytes were handed out; tells how many.
+    fn hand_first(&mut self, n: usize) -> usize
+        requires { (0 < n) × (n ≤ length self.old.due) }
+        ensures some { (0 < result) × (result ≤ n) }
+        ensures rest { self.new ≡ record self.old { due = drop result self.old.due } }
+    {
+        let Some(mut packet) = self.packets.pop_front() else {
+            unreachable!()
+        };
+        let len = packet.len();
+        let taken = n.min(len);
+        self.owed -= taken;
+        if taken < len {
+            packet.hand(taken);
+            self.packets.push_front_reserved(packet);
+        }
+        taken
+    }
+
+    /// An outbox that holds the same.
+    pub(crate) fn copy(&self) -> Result<Outbox, AllocError>
+        ensures { IfOk result (λ copy. copy ≡ self.now) }
+    {
+        let mut packets = self.packets.clone()?;
+        packets.reserve(self.spare)?;
+        Ok(Outbox {
+            packets,
+            owed: self.owed,
+            spare: self.spare,
+        })
+    }
+}

@@ -1,0 +1,109 @@
+//! One packet that is due.
+
+ghost use Rattle.std.specs.Prelude.{◌≡◌, ◌<◌, ◌≤◌, ◌+◌, ◌++◌, length, take, drop};
+ghost use Rattle.adb_wire.specs.Header.{header_bytes};
+
+use adb_wire::{HEADER_LEN, Head, header};
+use bytes::Bytes;
+use std::alloc::AllocError;
+use std::marker::Model;
+
+/// The most bytes of a payload that a packet holds in its own place.
+pub const MAX_SHORT: usize = 8;
+
+/// How many bytes a packet holds in its own place: a header and a short payload.
+const START_LEN: usize = HEADER_LEN + MAX_SHORT;
+
+/// What is still due of a packet: bytes of its start, which is the header and a short payload, and
+/// those of its shared payload. Contracts see it as these bytes.
+#[derive(Drop)]
+pub(crate) struct Outgoing {
+    start: [u8; START_LEN],
+    /// Of the start the bytes from here are still due,
+    from: usize,
+    /// and up to here.
+    to: usize,
+    payload: Bytes,
+}
+
+impl Model for Outgoing {
+    ghost use Rattle.std.specs.Prelude.{List, ℕ};
+    ghost use Rattle.adb_link.specs.Outgoing.{left_of, IsHeld};
+
+    ghost Value = { List ℕ };
+
+    ghost view = { λ packet. left_of packet.start packet.from packet.to packet.payload };
+
+    ghost invariant = { λ packet. IsHeld packet.start packet.from packet.to };
+}
+
+/// Writes bytes over those from a place on.
+fn put_at(out: &mut [u8; START_LEN], at: usize, bytes: &[u8])
+    requires { at + length bytes.now ≤ START_LEN }
+    ensures { out.new ≡ take at out.old ++ bytes.now ++ drop (at + length bytes.now) out.old }
+{
+    out[at..at + bytes.len()].copy_from_slice(bytes);
+}
+
+impl Outgoing {
+    /// A packet of a header, a short payload and a shared payload. It takes no memory.
+    pub(crate) fn new(head: &Head, short: &[u8], payload: Bytes) -> Outgoing
+        requires { length short.now ≤ MAX_SHORT }
+        ensures { result ≡ header_bytes head.now ++ short.now ++ payload }
+    {
+        let mut words = [0; HEADER_LEN];
+        header(head, &mut words);
+        let mut start = [0; START_LEN];
+        put_at(&mut start, 0, &words);
+        put_at(&mut start, HEADER_LEN, short);
+        Outgoing {
+            start,
+            from: 0,
+            to: HEADER_LEN + short.len(),
+            payload,
+        }
+    }
+
+    /// How many bytes are still due.
+    pub(crate) fn len(&self) -> usize
+        ensures { result ≡ length self.now }
+    {
+        self.to - self.from + self.payload.len()
+    }
+
+    /// The first bytes that are still due, some where any are.
+    pub(crate) fn front(&self) -> &[u8]
+        ensures within { length result.now ≤ length self.now }
+        ensures front { result.now ≡ take (length result.now) self.now }
+        ensures some { 0 < length self.now → 0 < length result.now }
+    {
+        if self.from < self.to {
+            &self.start[self.from..self.to]
+        } else {
+            self.payload.as_slice()
+        }
+    }
+
+    /// The first `n` bytes were handed out. It takes no memory.
+    pub(crate) fn hand(&mut self, n: usize)
+        requires { n ≤ length self.old }
+        ensures { self.new ≡ drop n self.old }
+    {
+        let of_start = n.min(self.to - self.from);
+        self.from += of_start;
+        self.payload.advance(n - of_start);
+    }
+}
+
+impl Clone for Outgoing {
+    ghost is_clone = { λ packet clone. clone ≡ packet };
+
+    fn clone(&self) -> Result<Outgoing, AllocError> {
+        Ok(Outgoing {
+            start: self.start,
+            from: self.from,
+            to: self.to,
+            payload: self.payload.clone()?,
+        })
+    }
+}

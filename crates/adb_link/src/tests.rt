@@ -1,0 +1,1 @@
+//! What is due to a link, byte for byte.

@@ -1,0 +1,109 @@
+//! The packets of a stream, whole but not looked into, in memory that is taken once.
+
+ghost use Rattle.std.specs.Prelude.{◌≡◌, ◌≤◌, ◌++◌, ◌∷◌, [], ℕ, List, min, take, length, IfOk, IfSome, IsSome, ◌↔◌};
+ghost use Rattle.adb_wire.specs.Slicing.{slice_len, need_of, IsSlice, HasSliced};
+
+use crate::headers::{HEADER_LEN, MAX_PAYLOAD, read_head};
+use adb_outside::ByteQueue;
+use std::alloc::{AllocError, Global};
+use std::marker::Model;
+
+/// The most bytes that a packet has: its header and the longest payload.
+pub const MAX_PACKET: usize = HEADER_LEN + MAX_PAYLOAD as usize;
+
+/// How long the slice is that the bytes begin: a header's length as long as that is not whole or has
+/// a fault, and else that of its packet.
+#[tactic(auto, unfolding(crate::specs::Slicing::slice_len))]
+fn slice_len(bytes: &[u8]) -> usize
+    ensures { result ≡ slice_len bytes.now }
+{
+    if bytes.len() < HEADER_LEN {
+        return HEADER_LEN;
+    }
+    match read_head(bytes) {
+        Ok(head) => HEADER_LEN + head.length as usize,
+        Err(_) => HEADER_LEN,
+    }
+}
+
+/// How many bytes are missing to that slice.
+pub(crate) fn need(bytes: &[u8]) -> usize
+    ensures { result ≡ need_of bytes.now }
+{
+    slice_len(bytes).saturating_sub(bytes.len())
+}
+
+/// Cuts a stream into slices: each is a packet whose header has no fault, or a header that has one
+/// (protocol.txt, "MESSAGES"). Check words are not looked at. It holds one slice, or a front of it,
+/// and takes memory only when it is made. Contracts see it as the bytes that it holds.
+///
+/// What comes behind a header with a fault means nothing: the stream has no packets from there on.
+#[derive(Drop)]
+pub struct Slicer {
+    held: ByteQueue,
+}
+
+impl Model for Slicer {
+    ghost use Rattle.std.specs.Prelude.{List, ℕ, ◌+◌, ◌≤◌, length};
+    ghost use Rattle.adb_wire.specs.declared.slicer.TheConstants.{MAX_PACKET};
+    ghost use Rattle.adb_wire.specs.Slicing.{slice_len};
+
+    ghost Value = { List ℕ };
+
+    ghost view = { λ slicer. slicer.held.bytes };
+
+    ghost invariant = { λ slicer. (length slicer.held.bytes ≤ slice_len slicer.held.bytes)
+        × (MAX_PACKET ≤ length slicer.held.bytes + slicer.held.spare) };
+}
+
+impl Slicer {
+    /// Nothing was fed yet. It takes the memory of the longest packet.
+    pub fn new(alloc: Global) -> Result<Slicer, AllocError>
+        ensures value { IfOk result (λ slicer. slicer ≡ []) }
+        ensures stands { IfOk result (λ slicer. HasSliced [] [] slicer) }
+    {
+        let mut held = ByteQueue::new(alloc);
+        held.reserve(MAX_PACKET)?;
+        Ok(Slicer { held })
+    }
+
+    /// Takes bytes off the front of a piece, as many as are missing to 24 bytes, and then to the
+    /// packet that the header tells, and says how many: all of a shorter piece, and none exactly
+    /// where a slice is whole or the piece has no bytes. It takes no memory.
+    pub fn take(&mut self, piece: &[u8]) -> usize
+        ensures taken { result ≡ min (length piece.now) (need_of self.old) }
+        ensures held { self.new ≡ self.old ++ take result piece.now }
+        ensures stands { (fed : List ℕ) (gave : List (List ℕ)) → HasSliced fed gave self.old
+            → HasSliced (fed ++ take result piece.now) gave self.new }
+    {
+        let n = piece.len().min(need(self.held.as_slice()));
+        self.held.push_spare(&piece[..n]);
+        n
+    }
+
+    /// The slice that is held; `None` exactly where bytes are missing to it. It takes no memory.
+    pub fn whole(&self) -> Option<&[u8]>
+        ensures whole { IsSome result ↔ (need_of self.now ≡ 0) }
+        ensures bytes { IfSome result (λ bytes. bytes.now ≡ self.now) }
+        ensures slice { IfSome result (λ bytes. IsSlice bytes.now) }
+    {
+        let bytes = self.held.as_slice();
+        if need(bytes) == 0 { Some(bytes) } else { None }
+    }
+
+    /// The bytes that are held: a slice, or a front of it. It takes no memory.
+    pub fn held(&self) -> &[u8]
+        ensures { result.now ≡ self.now }
+    {
+        self.held.as_slice()
+    }
+
+    /// All that is held goes; where it was whole, it was the next slice. It takes no memory.
+    pub fn clear(&mut self)
+        ensures value { self.new ≡ [] }
+        ensures stands { (fed : List ℕ) (gave : List (List ℕ)) → need_of self.old ≡ 0
+            → HasSliced fed gave self.old → HasSliced fed (gave ++ self.old ∷ []) self.new }
+    {
+        self.held.clear();
+    }
+}
