@@ -2,7 +2,13 @@
 #![tactic(auto)]
 
 mod about;
+mod ask;
+mod client;
+mod input;
+mod output;
 mod phase;
 
 pub use about::{About, Want};
+pub use ask::{Ask, Asked};
+pub use client::Client;
 pub use phase::Phase;
