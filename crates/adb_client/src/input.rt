@@ -5,6 +5,7 @@ ghost use Rattle.adb_client.specs.Ask.{asked_in};
 ghost use Rattle.adb_client.specs.Input.{EndsWith};
 
 use crate::ask::{Asked, ask_in};
+use crate::slices::{behind, first, share};
 use bytes::{Bytes, BytesMut};
 use std::alloc::{AllocError, Global};
 use std::marker::Model;
@@ -155,10 +156,11 @@ impl Input {
         requires { n ≤ length self.old.held }
         ensures { self.new ≡ self.old }
     {
-        if self.front.is_empty() {
-            self.handles.clear();
-            self.front = self.rest.freeze_to(n)?;
+        if !self.front.is_empty() {
+            return Ok(());
         }
+        self.handles.clear();
+        self.front = self.rest.freeze_to(n)?;
         Ok(())
     }
 
@@ -204,10 +206,8 @@ impl Input {
           cuts = self.old.cuts - 1;
         } }
     {
-        let piece = match self.handles.pop() {
-            Some(handle) => part(handle, self.front.len(), n),
-            None => Bytes::new(),
-        };
+        let handle = self.handles.pop().unwrap_or(Bytes::new());
+        let piece = part(handle, self.front.len(), n);
         self.front.advance(n);
         self.ready -= n;
         self.cuts -= 1;
@@ -256,34 +256,17 @@ fn handles_of(alloc: Global, front: &Bytes, n: usize) -> Result<Vec<Bytes>, Allo
 {
     let mut handles = Vec::new(alloc);
     for _ in 0..n {
-        handles.push(front.slice(0..front.len())?)?;
+        handles.push(share(front)?)?;
     }
     Ok(handles)
 }
 
 /// The first `n` of a handle's last `len` bytes.
 fn part(handle: Bytes, len: usize, n: usize) -> Bytes
-    requires { len ≤ length handle }
     ensures { result ≡ take n (drop (length handle - len) handle) }
 {
     let mut piece = handle;
-    piece.advance(piece.len() - len);
+    piece.advance(piece.len().saturating_sub(len));
     piece.truncate(n);
     piece
-}
-
-/// The first `n` bytes.
-fn first(bytes: &[u8], n: usize) -> &[u8]
-    requires { n ≤ length bytes.now }
-    ensures { result.now ≡ take n bytes.now }
-{
-    &bytes[..n]
-}
-
-/// The bytes behind the first `n`.
-fn behind(bytes: &[u8], n: usize) -> &[u8]
-    requires { n ≤ length bytes.now }
-    ensures { result.now ≡ drop n bytes.now }
-{
-    &bytes[n..]
 }

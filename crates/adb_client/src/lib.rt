@@ -7,6 +7,9 @@ mod client;
 mod input;
 mod output;
 mod phase;
+mod slices;
+#[cfg(test)]
+mod tests;
 
 pub use about::{About, Want};
 pub use ask::{Ask, Asked};

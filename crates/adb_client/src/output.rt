@@ -5,6 +5,7 @@ ghost use Rattle.std.specs.List.{concat};
 ghost use Rattle.std.specs.VecDeque.{deque_len, deque_capacity};
 ghost use Rattle.bytes.specs.Unread.{IsChunkOf};
 
+use crate::slices::share;
 use bytes::{Bytes, BytesMut};
 use std::alloc::{AllocError, Global};
 use std::collections::VecDeque;
@@ -12,6 +13,10 @@ use std::marker::Model;
 
 /// How many bytes the slices hold at most, so that all that is due fits a `usize`.
 const MOST: usize = 1 << 63;
+
+/// How many bytes, and how many places of slices, may stay taken where nothing is due.
+const FEW_BYTES: usize = 16 * 1024;
+const FEW_SLICES: usize = 64;
 
 /// The bytes that are due: slices, which are shared, and behind them bytes of its own, with the places
 /// that are reserved. What was handed out of the first slice is cut off.
@@ -130,6 +135,7 @@ impl Output {
         while left > 0 {
             left -= self.hand_first(left);
         }
+        self.give_back();
     }
 
     /// At most the first `n` bytes were handed out, of the first slice alone: how many.
@@ -151,6 +157,21 @@ impl Output {
         taken
     }
 
+    /// Gives back memory that only serves bytes that were handed out, all but the reserved places.
+    fn give_back(&mut self)
+        ensures { self.new ≡ self.old }
+    {
+        if self.slices.is_empty() && self.slices.capacity() > FEW_SLICES {
+            self.slices = VecDeque::new(self.alloc);
+        }
+        if self.tail.is_empty()
+            && self.tail.capacity() > FEW_BYTES.saturating_add(self.spare)
+            && let Ok(tail) = BytesMut::with_capacity(self.alloc, self.spare)
+        {
+            self.tail = tail;
+        }
+    }
+
     /// Nothing is due or reserved any more. It takes no memory.
     pub(crate) fn clear(&mut self)
         ensures { self.new ≡ record { due = []; spare = 0 } }
@@ -167,7 +188,7 @@ impl Output {
         tail.reserve(self.spare)?;
         Ok(Output {
             alloc: self.alloc,
-            slices: share(self.alloc, &self.slices)?,
+            slices: share_all(self.alloc, &self.slices)?,
             shared: self.shared,
             tail,
             spare: self.spare,
@@ -189,13 +210,12 @@ fn push(slices: &mut VecDeque<Bytes>, slice: Bytes)
 }
 
 /// Other owners of the same slices.
-fn share(alloc: Global, slices: &VecDeque<Bytes>) -> Result<VecDeque<Bytes>, AllocError>
+fn share_all(alloc: Global, slices: &VecDeque<Bytes>) -> Result<VecDeque<Bytes>, AllocError>
     ensures { IfOk result (λ shared. shared.items ≡ slices.now.items) }
 {
-    let mut shared = VecDeque::new(alloc);
-    shared.reserve(slices.len())?;
-    for slice in slices.iter() {
-        shared.push_back(slice.slice(0..slice.len())?)?;
+    let mut shared = VecDeque::with_capacity(alloc, slices.len())?;
+    for i in 0..slices.len() {
+        shared.push_back(share(&slices[i])?)?;
     }
     Ok(shared)
 }
