@@ -1,0 +1,14 @@
+-- What a client sent that is held.
+use Rattle.std.specs.Prelude.{ℕ, ◌≡◌, ◌≤◌, ◌<◌, ◌++◌, List, length, All, vec_len}
+use Rattle.adb_client.specs.declared.input.Input.TheInside.{Inside}
+
+-- the bytes in order; how many of the first can be cut off without memory, and in how many pieces
+pub record Incoming : Type 0 where
+  pub held : List ℕ
+  pub ready : ℕ
+  pub cuts : ℕ
+
+-- A list ends with another.
+pub record EndsWith (end all : List ℕ) : Type 0 where
+  pub start : List ℕ
+  pub is : start ++ end ≡ all

@@ -1,0 +1,8 @@
+pub mod Ask
+pub mod Client
+pub mod Parts
+pub mod Lending
+pub mod Input
+pub mod Cutting
+pub mod Output
+pub mod Slices

@@ -1,0 +1,307 @@
+//! A client.
+
+ghost use Rattle.std.specs.Prelude.{◌≡◌, ◌<◌, ◌≤◌, ◌+◌, ◌-◌, ◌++◌, [], length, take, drop, max, IfOk, OnOk, OnErr};
+ghost use Rattle.bytes.specs.Unread.{IsChunkOf};
+ghost use Rattle.adb_client.specs.Ask.{asked_in};
+ghost use Rattle.adb_client.specs.Client.{new_about};
+
+use crate::about::{About, Want};
+use crate::ask::{Ask, Asked};
+use crate::input::Input;
+use crate::output::Output;
+use crate::phase::Phase;
+use bytes::Bytes;
+use std::alloc::{AllocError, Global};
+use std::marker::Model;
+
+/// A client: what is plain of it, what it sent that is held, and what is due to it. What is held was
+/// not read yet while the client asks; from then on it is to be sent up. Contracts see both as lists
+/// of bytes, and three numbers beside them: how many of the first bytes held are ready to be cut off
+/// without memory, in how many pieces, and how many places are reserved for bytes that become due
+/// without memory. After want of memory the client is as before.
+#[derive(Drop)]
+pub struct Client {
+    about: About,
+    input: Input,
+    output: Output,
+}
+
+impl Model for Client {
+    ghost use Rattle.adb_client.specs.Client.{SeenClient};
+
+    ghost Value = { SeenClient };
+
+    ghost use Rattle.adb_client.specs.Parts.{seen};
+
+    ghost view = { seen };
+}
+
+impl Client {
+    ghost use Rattle.std.specs.Borrow.{sem};
+    ghost use Rattle.adb_client.specs.Lending.{LendsAbout};
+
+    /// A client that asks and sent nothing yet, by its number, and whether it came through a forward.
+    /// It takes no memory.
+    pub fn new(alloc: Global, number: u32, forwarded: bool) -> Client
+        ensures { result ≡ record {
+          about = new_about number forwarded;
+          held = [];
+          ready = 0;
+          cuts = 0;
+          due = [];
+          spare = 0;
+        } }
+    {
+        Client {
+            about: About {
+                number,
+                forwarded,
+                phase: Phase::Asking,
+                selected: None,
+                ended: false,
+                mark: false,
+                long: false,
+                want: None,
+            },
+            input: Input::new(alloc),
+            output: Output::new(alloc),
+        }
+    }
+
+    /// What is plain of it.
+    pub fn about(&self) -> &About
+        ensures { result.now ≡ self.now.about }
+    {
+        &self.about
+    }
+
+    /// What is plain of it, to be written.
+    pub fn about_mut(&mut self) -> &mut About
+        ensures* writes_back { sem 𝓛 (LendsAbout self.entry result) }
+        ensures value { result.now ≡ self.old.about }
+    {
+        &mut self.about
+    }
+
+    /// A piece came, and is held behind what was.
+    pub fn take_in(&mut self, piece: &[u8]) -> Result<(), AllocError>
+        ensures ok { OnOk result (self.new ≡ record self.old { held = self.old.held ++ piece.now }) }
+        ensures err { OnErr result (self.new ≡ self.old) }
+    {
+        self.input.take_in(piece)
+    }
+
+    /// The last `n` bytes held go again, and what was ready is so no longer. It takes no memory.
+    pub fn take_back(&mut self, n: usize)
+        requires { n ≤ length self.old.held }
+        ensures { self.new ≡ record self.old {
+          held = take (length self.old.held - n) self.old.held;
+          ready = 0;
+          cuts = 0;
+        } }
+    {
+        self.input.take_back(n);
+    }
+
+    /// What is asked first from a place on among what is held. Nothing changes. An error is want of
+    /// memory for a text of the request.
+    pub fn ask_from(&self, at: usize) -> Result<Asked, AllocError>
+        requires { at ≤ length self.now.held }
+        ensures asked { IfOk result (λ asked. asked ≡ asked_in (drop at self.now.held)) }
+        ensures within { IfOk result (λ asked. at + asked.len ≤ length self.now.held) }
+    {
+        self.input.ask_from(at)
+    }
+
+    /// The first `n` bytes held go. It takes no memory.
+    pub fn pass_over(&mut self, n: usize)
+        requires { n ≤ length self.old.held }
+        ensures { self.new ≡ record self.old {
+          held = drop n self.old.held;
+          ready = self.old.ready - n;
+        } }
+    {
+        self.input.pass_over(n);
+    }
+
+    /// Takes a whole request off the front of what is held, where one stands there.
+    pub fn next_request(&mut self) -> Result<Ask, AllocError>
+        ensures ask { IfOk result (λ ask. ask ≡ (asked_in self.old.held).ask) }
+        ensures ok { let len = (asked_in self.old.held).len in
+            OnOk result (self.new ≡ record self.old {
+              held = drop len self.old.held;
+              ready = self.old.ready - len;
+            }) }
+        ensures err { OnErr result (self.new ≡ self.old) }
+    {
+        let asked = self.input.ask_from(0)?;
+        self.input.pass_over(asked.len);
+        Ok(asked.ask)
+    }
+
+    /// How many bytes are held.
+    pub fn held(&self) -> usize
+        ensures { result ≡ length self.now.held }
+    {
+        self.input.len()
+    }
+
+    /// Takes the first `n` bytes held off, as a shared slice; the rest is not copied.
+    pub fn cut_up(&mut self, n: usize) -> Result<Bytes, AllocError>
+        requires { n ≤ length self.old.held }
+        ensures piece { IfOk result (λ piece. piece ≡ take n self.old.held) }
+        ensures ok { OnOk result (self.new ≡ record self.old {
+          held = drop n self.old.held;
+          ready = self.old.ready - n;
+        }) }
+        ensures err { OnErr result (self.new ≡ self.old) }
+    {
+        self.input.cut_up(n)
+    }
+
+    /// Makes at least the first `n` bytes held ready to be cut off, in at least `cuts` pieces, whose
+    /// lengths need not be known yet. They are copied only where bytes that were made ready before
+    /// were not cut off.
+    pub fn prepare_cuts(&mut self, n: usize, cuts: usize) -> Result<(), AllocError>
+        requires { n ≤ length self.old.held }
+        ensures ok { OnOk result (self.new ≡ record self.old {
+          ready = max n self.old.ready;
+          cuts = max cuts self.old.cuts;
+        }) }
+        ensures err { OnErr result (self.new ≡ self.old) }
+    {
+        self.input.prepare_cuts(n, cuts)
+    }
+
+    /// Takes the first `n` bytes held off, of those that are ready, as a shared slice. It takes no
+    /// memory.
+    pub fn cut_ready(&mut self, n: usize) -> Bytes
+        requires within { n ≤ self.old.ready }
+        requires cut { 0 < self.old.cuts }
+        ensures piece { result ≡ take n self.old.held }
+        ensures rest { self.new ≡ record self.old {
+          held = drop n self.old.held;
+          ready = self.old.ready - n;
+          cuts = self.old.cuts - 1;
+        } }
+    {
+        self.input.cut_ready(n)
+    }
+
+    /// Bytes become due, copied.
+    pub fn owe(&mut self, bytes: &[u8]) -> Result<(), AllocError>
+        ensures ok { OnOk result (self.new ≡ record self.old { due = self.old.due ++ bytes.now }) }
+        ensures err { OnErr result (self.new ≡ self.old) }
+    {
+        self.output.owe(bytes)
+    }
+
+    /// A slice becomes due; no byte is copied. After an error it is dropped.
+    pub fn owe_slice(&mut self, bytes: Bytes) -> Result<(), AllocError>
+        ensures ok { OnOk result (self.new ≡ record self.old { due = self.old.due ++ bytes }) }
+        ensures err { OnErr result (self.new ≡ self.old) }
+    {
+        self.output.owe_slice(bytes)
+    }
+
+    /// Makes the spare at least `n`: so many bytes can become due by `owe_spare`. No other call but
+    /// that and `finish` lowers it.
+    pub fn reserve(&mut self, n: usize) -> Result<(), AllocError>
+        ensures ok { OnOk result (self.new ≡ record self.old { spare = max n self.old.spare }) }
+        ensures err { OnErr result (self.new ≡ self.old) }
+    {
+        self.output.reserve(n)
+    }
+
+    /// Bytes become due, in reserved places. It takes no memory.
+    pub fn owe_spare(&mut self, bytes: &[u8])
+        requires { length bytes.now ≤ self.old.spare }
+        ensures { self.new ≡ record self.old {
+          due = self.old.due ++ bytes.now;
+          spare = self.old.spare - length bytes.now;
+        } }
+    {
+        self.output.owe_spare(bytes);
+    }
+
+    /// How many bytes are due.
+    pub fn owed(&self) -> usize
+        ensures { result ≡ length self.now.due }
+    {
+        self.output.owed()
+    }
+
+    /// The first bytes that are due: at least one where any are, and perhaps not all.
+    pub fn front(&self) -> &[u8]
+        ensures { IsChunkOf result.now self.now.due }
+    {
+        self.output.front()
+    }
+
+    /// The first `n` bytes that were due were handed out. It takes no memory.
+    pub fn hand(&mut self, n: usize)
+        requires { n ≤ length self.old.due }
+        ensures { self.new ≡ record self.old { due = drop n self.old.due } }
+    {
+        self.output.hand(n);
+    }
+
+    /// The client is gone: nothing of it is held, due or reserved. It takes no memory.
+    pub fn finish(&mut self)
+        ensures { self.new ≡ record {
+          about = record self.old.about { phase = Phase.Gone };
+          held = [];
+          ready = 0;
+          cuts = 0;
+          due = [];
+          spare = 0;
+        } }
+    {
+        self.about.phase = Phase::Gone;
+        self.input.clear();
+        self.output.clear();
+    }
+
+    /// Another client that holds the same, with the same spare, and of which nothing is ready. Slices
+    /// that are due are shared.
+    pub fn copy(&self) -> Result<Client, AllocError>
+        ensures { IfOk result (λ client. client ≡ record self.now { ready = 0; cuts = 0 }) }
+    {
+        Ok(Client {
+            about: copy_about(&self.about)?,
+            input: self.input.copy()?,
+            output: self.output.copy()?,
+        })
+    }
+}
+
+/// The same, in memory of its own.
+fn copy_about(about: &About) -> Result<About, AllocError>
+    ensures { IfOk result (λ copy. copy ≡ about.now) }
+{
+    let want = match &about.want {
+        Some(want) => Some(copy_want(want)?),
+        None => None,
+    };
+    Ok(About {
+        number: about.number,
+        forwarded: about.forwarded,
+        phase: about.phase,
+        selected: about.selected,
+        ended: about.ended,
+        mark: about.mark,
+        long: about.long,
+        want,
+    })
+}
+
+/// The same, in memory of its own.
+fn copy_want(want: &Want) -> Result<Want, AllocError>
+    ensures { IfOk result (λ copy. copy ≡ want.now) }
+{
+    Ok(Want {
+        transport: want.transport,
+        local: want.local,
+        remote: want.remote.copy()?,
+    })
+}

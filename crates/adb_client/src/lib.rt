@@ -1,0 +1,17 @@
+//! What a server keeps of a client: where it stands, what it sent, and what is due to it.
+#![tactic(auto)]
+
+mod about;
+mod ask;
+mod client;
+mod input;
+mod output;
+mod phase;
+mod slices;
+#[cfg(test)]
+mod tests;
+
+pub use about::{About, Want};
+pub use ask::{Ask, Asked};
+pub use client::Client;
+pub use phase::Phase;
