@@ -3,3 +3,4 @@ pub mod Keeping
 pub mod Spellings
 pub mod Awaited
 pub mod Giving
+pub mod Recorded
