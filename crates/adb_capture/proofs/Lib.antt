@@ -4,3 +4,4 @@ pub mod Spellings
 pub mod Awaited
 pub mod Giving
 pub mod Recorded
+pub mod Stopping
