@@ -3,3 +3,5 @@ pub mod Keeping
 pub mod Spellings
 pub mod Awaited
 pub mod Giving
+pub mod Recorded
+pub mod Stopping

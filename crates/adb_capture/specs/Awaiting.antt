@@ -27,7 +27,7 @@ abbrev pub AwaitsMagic : List ℕ → Option (List ℕ) → List ℕ → Option 
 AwaitsMagic held_before before held after (Ok x) = (coming : List ℕ) → before ≡ Some coming
     → option_map (λ rest. magic ++ (held ++ rest)) after ≡ Some (held_before ++ coming)
 AwaitsMagic held_before before held after (Err BadMagic) = (coming : List ℕ) → before ≡ Some coming → past_magic (held_before ++ coming) ≡ None
-AwaitsMagic held_before before held after (Err ReadFault) = Unit {0}
+AwaitsMagic held_before before held after (Err ReadFault) = (length held < length magic) × KeepsBytes held_before before held after
 AwaitsMagic held_before before held after (Err OutOfMemory) = KeepsBytes held_before before held after
 AwaitsMagic held_before before held after (Err _) = ⊥
 
@@ -40,5 +40,5 @@ AwaitsRecord offset held_before before held (Err (BadRecord at why)) = record_at
 AwaitsRecord offset held_before before held (Err (Truncated at)) = (at ≡ offset) × (held ≢ []) × (record_at offset held ≡ More)
     × HoldsAll held_before before held
 AwaitsRecord offset held_before before held (Err (TooLong at)) = record_at offset held ≡ Bad (form.TooLong at)
-AwaitsRecord offset held_before before held (Err ReadFault) = Unit {0}
+AwaitsRecord offset held_before before held (Err ReadFault) = record_at offset held ≡ More
 AwaitsRecord offset held_before before held (Err OutOfMemory) = Unit {0}

@@ -5,3 +5,4 @@ pub mod Forms
 pub mod Counting
 pub mod Awaiting
 pub mod Pieces
+pub mod Recording

@@ -6,7 +6,8 @@ use Rattle.adb_capture.specs.declared.entry.Entry.{Entry}
 use Rattle.adb_capture.specs.declared.error.FormFault.TheVariants as form
 use Rattle.adb_capture.specs.declared.error.CaptureError.{CaptureError}
 use Rattle.adb_capture.specs.declared.error.CaptureError.TheVariants.{BadMagic, BadRecord, Truncated, TooLong, ReadFault, OutOfMemory}
-use Rattle.adb_capture.specs.declared.limits.TheConstants.{DATA_LIMIT, CAPTURE_LIMIT, READ_LIMIT}
+use Rattle.adb_capture.specs.declared.limits.TheConstants.{HEADER_LEN, DATA_LIMIT, CAPTURE_LIMIT, READ_LIMIT}
+use Rattle.adb_capture.specs.Counting.{KeepsBytes}
 use Rattle.adb_capture.specs.Records.{magic, record_at, entry_in, offset_after, HasRecord}
 
 -- A reader: whether the magic was read, the offset of the next record, the bytes that were read past it, and the error that it answers from now on.
@@ -34,7 +35,7 @@ ahead_of reader left = option_and_then (ahead reader) left
 
 -- A reader holds no more than one record and one read past it.
 abbrev pub HoldsFew : List ℕ → Type 0
-HoldsFew held = length held < 9 + DATA_LIMIT + READ_LIMIT
+HoldsFew held = length held < HEADER_LEN + DATA_LIMIT + READ_LIMIT
 
 -- A record was given, and these bytes are what is ahead then.
 pub record GivesRecord (offset : ℕ) (before : List ℕ) (given : ℕ × Entry) (next_offset : ℕ) (after : Option (List ℕ)) : Type 0 where
@@ -71,18 +72,35 @@ IsMagicRefused (Err _) = ⊥
 abbrev pub StaysAhead : Reading → Option (List ℕ) → Reading → Option (List ℕ) → Type 0
 StaysAhead old before new after = (coming : List ℕ) → before ≡ Some coming → ahead_of new after ≡ ahead old coming
 
+-- the bytes that a reader took of its source, but for those of the records that it gave
+abbrev pub taken_by : Reading → List ℕ
+taken_by reader = if reader.opened then magic ++ reader.held else reader.held
+
+-- whether what is held, by whether the magic was read, is less than what comes next: no whole record, and no refusal, or no whole magic
+abbrev pub IsPart : Bool → ℕ → List ℕ → Type 0
+IsPart true offset held = record_at offset held ≡ More
+IsPart false offset held = length held < length magic
+
+-- A reader stopped before the next record: what it holds is a part of that, and no byte that was taken is lost.
+pub record StopsWithin (old : Reading) (before : Option (List ℕ)) (new : Reading) (after : Option (List ℕ)) : Type 0 where
+  pub offset : new.offset ≡ old.offset
+  pub opened : old.opened ≡ true → new.opened ≡ true
+  pub part : IsPart new.opened new.offset new.held
+  pub keeps : KeepsBytes (taken_by old) before (taken_by new) after
+
 -- an offset goes on, within a capture
 pub record Moves (offset next_offset : ℕ) : Type 0 where
   pub on : offset < next_offset
   pub within : next_offset ≤ CAPTURE_LIMIT
 
 -- A call for the next entry, of a reader without an error: what it gives of the bytes ahead, or that the magic is not there. Want of
--- memory loses nothing. An entry that is given has a record, which lies within a capture.
+-- memory and a failed read lose nothing. An entry that is given has a record, which lies within a capture.
 pub record AnswersNext (old : Reading) (before : Option (List ℕ)) (new : Reading) (after : Option (List ℕ))
     (result : Result (Option (ℕ × Entry)) CaptureError) : Type 0 where
   pub records : (bytes : List ℕ) → ahead_of old before ≡ Some bytes → GivesNext old.offset bytes result new.offset (ahead_of new after)
   pub magic : (coming : List ℕ) → before ≡ Some coming → ahead old coming ≡ None → IsMagicRefused result
   pub memory : result ≡ Err OutOfMemory → (new.offset ≡ old.offset) × StaysAhead old before new after
+  pub fault : result ≡ Err ReadFault → StopsWithin old before new after
   pub form : IfOk result (λ given. IfSome given (λ g. HasRecord g.1))
   pub moves : IfOk result (λ given. IfSome given (λ g. Moves old.offset new.offset))
 
@@ -91,6 +109,6 @@ abbrev pub Opens : Reading → Option (List ℕ) → Reading → Option (List �
 Opens old before new after (Ok x) = (coming : List ℕ) → before ≡ Some coming → (rest : List ℕ) × (after ≡ Some rest)
     × (ahead old coming ≡ Some (new.held ++ rest))
 Opens old before new after (Err BadMagic) = (coming : List ℕ) → before ≡ Some coming → ahead old coming ≡ None
-Opens old before new after (Err ReadFault) = Unit {0}
+Opens old before new after (Err ReadFault) = (new.opened ≡ false) × StopsWithin old before new after
 Opens old before new after (Err OutOfMemory) = StaysAhead old before new after
 Opens old before new after (Err _) = ⊥

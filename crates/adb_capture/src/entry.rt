@@ -1,6 +1,7 @@
 //! What happens to the server: one entry for each event.
 
 use adb_outside::{Cause, Kind, Text};
+use std::alloc::AllocError;
 
 /// One event of the server. Clients, links and ports are named by their numbers.
 #[derive(Drop)]
@@ -50,7 +51,7 @@ impl Owner {
 }
 
 impl Entry {
-    ghost use Rattle.std.specs.Prelude.{◌≡◌};
+    ghost use Rattle.std.specs.Prelude.{◌≡◌, IfOk};
     ghost use Rattle.adb_capture.specs.Records.{owner_of};
 
     /// The client or the link that the entry names.
@@ -69,5 +70,50 @@ impl Entry {
             | Entry::Detach { link, .. }
             | Entry::Send { link, .. } => Owner::Link(*link),
         }
+    }
+    /// The same entry, in memory of its own.
+    pub fn copy(&self) -> Result<Entry, AllocError>
+        ensures { IfOk result (λ e. e ≡ self.now) }
+    {
+        Ok(match self {
+            Entry::Join { client } => Entry::Join { client: *client },
+            Entry::Enter { client, port } => Entry::Enter {
+                client: *client,
+                port: *port,
+            },
+            Entry::Read { client, bytes } => Entry::Read {
+                client: *client,
+                bytes: bytes.copy()?,
+            },
+            Entry::End { client, cause } => Entry::End {
+                client: *client,
+                cause: *cause,
+            },
+            Entry::Bound { client, port } => Entry::Bound {
+                client: *client,
+                port: *port,
+            },
+            Entry::Attach { link, kind, serial } => Entry::Attach {
+                link: *link,
+                kind: *kind,
+                serial: serial.copy()?,
+            },
+            Entry::Recv { link, bytes } => Entry::Recv {
+                link: *link,
+                bytes: bytes.copy()?,
+            },
+            Entry::Detach { link, cause } => Entry::Detach {
+                link: *link,
+                cause: *cause,
+            },
+            Entry::Put { client, bytes } => Entry::Put {
+                client: *client,
+                bytes: bytes.copy()?,
+            },
+            Entry::Send { link, bytes } => Entry::Send {
+                link: *link,
+                bytes: bytes.copy()?,
+            },
+        })
     }
 }

@@ -1,5 +1,5 @@
 //! Captures of histories: the entries of a history as records of bytes, read from a source and
-//! written to a sink.
+//! written to a sink, and what keeps the entries of a running server.
 #![tactic(auto)]
 
 mod awaiting;
@@ -9,8 +9,11 @@ mod form;
 mod held;
 mod laws;
 mod limits;
+mod memory_recorder;
 mod reader;
 mod record;
+mod recorder;
+mod sink_recorder;
 #[cfg(test)]
 mod tests;
 mod writer;
@@ -19,5 +22,8 @@ pub use entry::{Entry, Owner};
 pub use error::{CaptureError, FormFault, Why};
 pub use laws::{read_is_spelled, records_are_framed, spelled_is_read};
 pub use limits::{CAPTURE_LIMIT, DATA_LIMIT, READ_LIMIT};
+pub use memory_recorder::MemoryRecorder;
 pub use reader::CaptureReader;
+pub use recorder::{NullRecorder, RecordError, Recorder};
+pub use sink_recorder::SinkRecorder;
 pub use writer::{append_entry, append_magic, write_entry, write_magic};

@@ -1,5 +1,8 @@
 //! The limits of captures.
 
+/// The bytes before a record's data: its kind, its number, and the length of its data.
+pub(crate) const HEADER_LEN: usize = 9;
+
 /// The most bytes of a record's data.
 pub const DATA_LIMIT: usize = 2_097_152;
 

@@ -2,10 +2,10 @@
 
 ghost use Rattle.std.specs.Prelude.{◌≡◌, ◌≢◌, ◌≤◌, ◌++◌, ◌+◌, ℕ, List, [], take, drop, Some, None, Ok, Err, IfOk, IfSome, OnOk, OnErr, IsTrue, true, false, option_map};
 ghost use Rattle.adb_outside.specs.Outside.{Counts};
-ghost use Rattle.adb_outside.specs.declared.framer.Front.TheVariants.{Whole};
+ghost use Rattle.adb_outside.specs.declared.framer.Front.TheVariants.{More, Whole};
 ghost use Rattle.adb_capture.specs.Counting.{KeepsBytes, is_fault};
 ghost use Rattle.adb_capture.specs.Records.{record_at, entry_in, HasRecord};
-ghost use Rattle.adb_capture.specs.Reading.{Opens, AnswersNext, GivesNext, Moves, HoldsFew};
+ghost use Rattle.adb_capture.specs.Reading.{Opens, AnswersNext, GivesNext, Moves, HoldsFew, taken_by};
 
 use crate::awaiting::{await_record, take_magic};
 use crate::entry::Entry;
@@ -98,7 +98,8 @@ impl CaptureReader {
     /// between two records; a later call asks the source again. The first call reads the magic.
     ///
     /// Every error but `OutOfMemory` stays: each later call answers it, and reads nothing. After
-    /// `OutOfMemory` the next call gives the same record.
+    /// `OutOfMemory` the next call gives the same record. At `ReadFault` too no byte that was read is
+    /// lost: what is held is a part of the next record, or of the magic.
     pub fn next<S: Source>(&mut self, source: &mut S) -> Result<Option<(u64, Entry)>, CaptureError>
         ensures answers { self.old.failed ≡ None
             → AnswersNext self.old (S.left source.old) self.new (S.left source.new) result }
@@ -144,6 +145,8 @@ impl CaptureReader {
     /// Takes the magic, where it was not taken yet.
     fn open_now<S: Source>(&mut self, source: &mut S) -> Result<(), CaptureError>
         ensures ahead { Opens self.old (S.left source.old) self.new (S.left source.new) result }
+        ensures keeps { OnOk result (KeepsBytes (taken_by self.old) (S.left source.old)
+            (taken_by self.new) (S.left source.new)) }
         ensures offset { self.new.offset ≡ self.old.offset }
         ensures few { HoldsFew self.new.held }
         ensures failed { self.new.failed ≡ self.old.failed }
@@ -164,6 +167,10 @@ impl CaptureReader {
             (option_map (λ rest. self.new.held ++ rest) (S.left source.new)) }
         ensures memory { result ≡ Err CaptureError.OutOfMemory
             → (self.new.offset ≡ self.old.offset)
+            × KeepsBytes self.old.held (S.left source.old) self.new.held (S.left source.new) }
+        ensures fault { result ≡ Err CaptureError.ReadFault
+            → (self.new.offset ≡ self.old.offset)
+            × (record_at self.new.offset self.new.held ≡ More)
             × KeepsBytes self.old.held (S.left source.old) self.new.held (S.left source.new) }
         ensures form { IfOk result (λ given. IfSome given (λ g. HasRecord g.1)) }
         ensures moves { IfOk result (λ given. IfSome given

@@ -1,18 +1,16 @@
 //! A record at the front of some bytes.
 
 ghost use Rattle.std.specs.Prelude.{◌≡◌, ◌≤◌, IfOk, length};
+ghost use Rattle.adb_capture.specs.declared.limits.TheConstants.{HEADER_LEN};
 ghost use Rattle.adb_capture.specs.Records.{record_at, entry_in, is_kind, owner_in, size_in, HasRecord};
 
 use crate::entry::Entry;
 use crate::error::{FormFault, Why};
 use crate::form::Form;
-use crate::limits::{CAPTURE_LIMIT, DATA_LIMIT};
+use crate::limits::{CAPTURE_LIMIT, DATA_LIMIT, HEADER_LEN};
 use adb_outside::Front;
 use byteorder::{ByteOrder, LittleEndian};
 use std::alloc::{AllocError, Global};
-
-/// The bytes before a record's data: its kind, its number, and the length of its data.
-const HEADER_LEN: usize = 9;
 
 /// What the bytes at an offset of a capture begin with: a record, or the first of its refusals.
 #[tactic(auto, unfolding(crate::specs::Records::record_at))]
@@ -30,7 +28,7 @@ pub(crate) fn front(offset: u64, bytes: &[u8]) -> Front<FormFault>
     if size > DATA_LIMIT {
         return bad(offset, Why::TooLarge);
     }
-    if offset + 9 + size as u64 > CAPTURE_LIMIT {
+    if offset + HEADER_LEN as u64 + size as u64 > CAPTURE_LIMIT {
         return Front::Bad(FormFault::TooLong { offset });
     }
     let end = HEADER_LEN + size;
@@ -74,14 +72,14 @@ fn has_kind(letter: u8) -> bool
 
 /// The number of the client or link.
 fn owner(bytes: &[u8]) -> u32
-    requires { 9 ≤ length bytes.now }
+    requires { HEADER_LEN ≤ length bytes.now }
     ensures { result ≡ owner_in bytes.now }
 {
     LittleEndian::read_u32(&bytes[1..])
 }
 
 fn data_len(bytes: &[u8]) -> u32
-    requires { 9 ≤ length bytes.now }
+    requires { HEADER_LEN ≤ length bytes.now }
     ensures { result ≡ size_in bytes.now }
 {
     LittleEndian::read_u32(&bytes[5..])

@@ -1,5 +1,6 @@
 //! The records of captures byte by byte, and what is refused.
 
+ghost use Rattle.std.specs.Prelude.{IfOk};
 ghost use Rattle.adb_capture.specs.Records.{HasRecord};
 
 use super::*;
@@ -176,16 +177,52 @@ fn a_source_fails(rt: HostRuntime) -> Result<(), Fail> {
     Ok(())
 }
 
-#[test]
-fn a_sink_fails(rt: HostRuntime) -> Result<(), Fail> {
-    let serial = Text::from_slice(rt.alloc(), b"abc")?;
-    let attach = Entry::Attach {
+/// An entry whose record is written in two pieces.
+fn attach(alloc: Global) -> Result<Entry, AllocError>
+    ensures { IfOk result HasRecord }
+{
+    Ok(Entry::Attach {
         link: 1,
         kind: Kind::Usb,
-        serial,
-    };
+        serial: Text::from_slice(alloc, b"abc")?,
+    })
+}
+
+#[test]
+fn a_sink_fails(rt: HostRuntime) -> Result<(), Fail> {
     let mut sink = MemorySink::new(rt.alloc(), Vec::from_slice(rt.alloc(), &[3])?);
     assert!(rt; write_magic(&mut sink) == Wrote::All);
-    assert!(rt; write_entry(&mut sink, &attach) == (Wrote::Failed { taken: 10 }));
+    assert!(rt; write_entry(&mut sink, &attach(rt.alloc())?) == (Wrote::Failed { taken: 10 }));
+    Ok(())
+}
+
+/// A recorder over a sink whose second record is torn: nothing follows it.
+#[test]
+fn records_go_out(rt: HostRuntime) -> Result<(), Fail> {
+    let entry = attach(rt.alloc())?;
+    let failing = Vec::from_slice(rt.alloc(), &[5])?;
+    let mut recorder = SinkRecorder::new(MemorySink::new(rt.alloc(), failing));
+    assert!(rt; recorder.keep(&entry) == Ok(()));
+    assert!(rt; recorder.sink().bytes() == b"ADBHUB1\nA\x01\0\0\0\x04\0\0\0uabc".as_slice());
+    for _ in 0..2 {
+        assert!(rt; recorder.keep(&entry) == Err(RecordError::Failed));
+        assert!(rt; recorder.sink().bytes().ends_with(b"uabcA\x01\0\0\0\x04\0\0\0u"));
+    }
+    assert!(rt; NullRecorder::new().keep(&entry) == Ok(()));
+    Ok(())
+}
+
+/// A recorder in memory whose second call fails.
+#[test]
+fn entries_are_kept(rt: HostRuntime) -> Result<(), Fail> {
+    let entry = attach(rt.alloc())?;
+    let mut recorder = MemoryRecorder::new(rt.alloc(), Vec::from_slice(rt.alloc(), &[2])?);
+    for fails in [false, true, false] {
+        assert!(rt; recorder.keep(&entry).is_err() == fails);
+    }
+    assert!(rt; recorder.entries().len() == 2);
+    for kept in recorder.entries() {
+        says(&rt, kept, ("attach", 1, 0, b"abc"));
+    }
     Ok(())
 }

@@ -3,11 +3,13 @@
 ghost use Rattle.std.specs.Prelude.{◌≡◌, ◌<◌, ◌≤◌, ◌+◌, ◌++◌, ◌^◌, ℕ, OnOk, OnErr, length, take};
 ghost use Rattle.adb_outside.specs.Outside.{Counts};
 ghost use Rattle.adb_outside.specs.Sink.{FitsPiece, TellsWrite, is_failed_write};
+ghost use Rattle.adb_capture.specs.declared.limits.TheConstants.{HEADER_LEN};
 ghost use Rattle.adb_capture.specs.Records.{magic, kind_of, data_of, record_of, cause_byte, plug_letter, HasRecord};
 ghost use Rattle.adb_capture.specs.Pieces.{text_of, word_of};
 
 use crate::awaiting::MAGIC;
 use crate::entry::Entry;
+use crate::limits::HEADER_LEN;
 use adb_outside::{ByteQueue, Cause, Kind, Sink, Wrote};
 use byteorder::{ByteOrder, LittleEndian};
 use std::alloc::AllocError;
@@ -90,7 +92,7 @@ impl Head {
     fn of(entry: &Entry) -> Head
         requires { HasRecord entry.now }
         ensures is { take result.len result.bytes ++ text_of entry.now ≡ record_of entry.now }
-        ensures len { (9 ≤ result.len) × (result.len ≤ 11) }
+        ensures len { (HEADER_LEN ≤ result.len) × (result.len ≤ 11) }
     {
         let word = Word::of(entry);
         let size = word.len + text(entry).len();
@@ -102,7 +104,7 @@ impl Head {
         bytes[10] = word.bytes[1];
         Head {
             bytes,
-            len: 9 + word.len,
+            len: HEADER_LEN + word.len,
         }
     }
 

@@ -1,11 +1,12 @@
 -- From the records of a reader to a whole capture.
-use Rattle.std.proofs.Common.{ℕ, ◌≡◌, ◌≢◌, Bool, true, false, cond, List, [], ◌∷◌, ◌++◌, take, drop, reverse, Option, Some, None, Result, Ok, Err}
-use Rattle.std.proofs.Common.{refl, sym, ◌∙◌, ap, subst, ◌⊎◌, inl, inr}
+use Rattle.std.proofs.Common.{ℕ, ◌≡◌, ◌≢◌, Bool, true, false, cond, if◌then◌else◌, ◌<◌, length, List, [], ◌∷◌, ◌++◌, take, drop, reverse, Option, Some, None, Result, Ok, Err}
+use Rattle.std.proofs.Common.{arith, refl, sym, ◌∙◌, ap, subst, ◌⊎◌, inl, inr}
 use Rattle.std.specs.Prelude.{option_and_then, bytes_eq}
-use Rattle.std.proofs.lemmas.List.{append_assoc, append-nil, reverse-append}
+use Rattle.std.proofs.lemmas.List.{append_assoc, append-nil, reverse-append, take-append-drop, length-take}
+use Rattle.std.proofs.lemmas.Slice.Eq.{bytes_eq-Decides}
 use Rattle.adb_outside.specs.Bytes.{IsPrefixOf}
 use Rattle.adb_capture.specs.Records.{magic, record_of, records_of}
-use Rattle.adb_capture.specs.Reading.{Reading, ahead, to_give, past_magic, Opens}
+use Rattle.adb_capture.specs.Reading.{Reading, ahead, to_give, past_magic, taken_by, IsPart, Opens}
 use Rattle.adb_capture.specs.declared.entry.Entry.{Entry}
 use Rattle.adb_capture.specs.declared.error.CaptureError.{CaptureError}
 use Rattle.adb_capture.specs.declared.error.CaptureError.TheVariants as capture
@@ -16,11 +17,12 @@ use Rattle.adb_history.specs.Accepted.{Accepted, accepted, accept_records, has_m
 use Rattle.adb_promise.proofs.Answers.{all_answered}
 use Rattle.adb_top.specs.Stop.{stop_of}
 use Rattle.adb_top.specs.Keeping.{Out, Keeps, HasFront, KeepsAs}
-use Rattle.adb_top.specs.Replay.{written_of, capture_of, IsFrontOf, Reaches, EndsAs, Moment, IsAhead, Replays}
+use Rattle.adb_top.specs.Replay.{written_of, capture_of, IsFrontOf, Reaches, EndsAs, Moment, IsAhead, Consumes, Replays}
 use Rattle.adb_top.specs.Replayed.{WritesText, IsSpelled, SpellsHistory, GrowsSpelled, ReplaysCapture}
 use Rattle.adb_top.specs.declared.stop.Stop.{Stop}
 use Rattle.adb_top.specs.declared.stop.Stop.TheVariants.{ReadFault, WriteFault, OutOfMemory, Refused}
 use Rattle.adb_top.proofs.Drains.{capture_more}
+use Rattle.adb_top.proofs.Records.{split_front}
 
 -- the records of a history that goes on begin with those that it had
 written_adds : (later done : History) → written_of (later ++ done) ≡ written_of done ++ records_of (reverse later)
@@ -46,10 +48,10 @@ pub record IsPast (front first last : List ℕ) : Type 0 where
   pub is : front ≡ first ++ part
   pub front_of : IsPrefixOf part last
 
-split_front : (front first last rest : List ℕ) → front ++ rest ≡ first ++ last → IsPrefixOf front first ⊎ IsPast front first last
-split_front [] first last rest e = inl (first, refl)
-split_front (a ∷ front) [] last rest e = inr (record { part = a ∷ front; is = refl; front_of = (rest, e) })
-split_front (a ∷ front) (b ∷ first) last rest e = go (split_front front first last rest tails)
+cut_front : (front first last rest : List ℕ) → front ++ rest ≡ first ++ last → IsPrefixOf front first ⊎ IsPast front first last
+cut_front [] first last rest e = inl (first, refl)
+cut_front (a ∷ front) [] last rest e = inr (record { part = a ∷ front; is = refl; front_of = (rest, e) })
+cut_front (a ∷ front) (b ∷ first) last rest e = go (cut_front front first last rest tails)
   where
     head : a ≡ b
     head = cc
@@ -80,7 +82,7 @@ history_spelled h bytes legal is = record {
 -- A front of the capture of a legal history spells one.
 front_spelled : (h : History) (front : List ℕ) → IsLegal h → IsPrefixOf front (capture_of h) → IsSpelled front
 front_spelled [] front legal p = inl (p.0, p.1 ∙ append-nil magic)
-front_spelled (e ∷ h) front legal p = go (split_front front (capture_of h) (record_of e) p.0 (p.1 ∙ sym (capture_more e h)))
+front_spelled (e ∷ h) front legal p = go (cut_front front (capture_of h) (record_of e) p.0 (p.1 ∙ sym (capture_more e h)))
     (λ q. front_spelled h front legal.0 q)
   where
     past : (q : IsPast front (capture_of h) (record_of e)) → (q.front_of.0 ≡ []) ⊎ (q.front_of.0 ≢ []) → SpellsHistory front
@@ -108,6 +110,24 @@ magic_there bytes before e = go (bytes_eq (take 8 bytes) magic) refl e
         → (bytes_eq (take 8 bytes) magic ≡ true) × (before ≡ drop 8 bytes)
     go true is same = (is, cc)
     go false is same = cc
+
+past_is : (bytes before : List ℕ) → has_magic bytes ≡ true → before ≡ drop 8 bytes → bytes ≡ magic ++ before
+past_is bytes before there is =
+    sym (take-append-drop 8 bytes)
+    ∙ (ap (λ b. b ++ drop 8 bytes) ((bytes_eq-Decides (take 8 bytes) magic).0 there) ∙ ap (λ b. magic ++ b) (sym is))
+
+-- fewer bytes than the magic has
+short_no_magic : (bytes : List ℕ) → length bytes < length magic → has_magic bytes ≡ false
+short_no_magic bytes short = go (bytes_eq (take 8 bytes) magic) refl
+  where
+    go : (b : Bool) → bytes_eq (take 8 bytes) magic ≡ b → bytes_eq (take 8 bytes) magic ≡ false
+    go true is =
+        let all : length (take 8 bytes) ≡ 8 = ap length ((bytes_eq-Decides (take 8 bytes) magic).0 is) in
+        absurd (omega (arith, all, length-take 8 bytes, short))
+    go false is = is
+
+nothing_replayed : (bytes : List ℕ) → has_magic bytes ≡ false → replayed bytes ≡ []
+nothing_replayed bytes none = ap (λ b. cond b (magic ++ records_of (drained (accepted bytes).inputs)) []) none
 
 no_magic : (bytes : List ℕ) → past_magic bytes ≡ None → has_magic bytes ≡ false
 no_magic bytes e = go (bytes_eq (take 8 bytes) magic) refl e
@@ -154,6 +174,9 @@ all_went_out (Err WriteFault) had text out written other k goes = absurd (other 
 all_went_out (Err OutOfMemory) had text out written other k goes = goes had text k
 all_went_out (Err (Refused why)) had text out written other k goes = goes had text k
 
+read_fault_alone : (ended : Result (Unit {0}) Stop) → ended ≡ Err ReadFault → ◌≢◌ {A = Result (Unit {0}) Stop} ended (Err WriteFault)
+read_fault_alone ended fault other = let clash : ◌≡◌ {A = Result (Unit {0}) Stop} (Err ReadFault) (Err WriteFault) = sym fault ∙ other in cc
+
 -- the sink failed at last
 pub lost_at_last : (ended : Result (Unit {0}) Stop) (had text : List ℕ) (out : Out) (written : Option (List ℕ)) → KeepsAs ended had text out
     → ((had text : List ℕ) → Keeps had text out → HasFront had text written) → (out.1 ≡ [] → written ≡ out.0) → HasFront had text written
@@ -190,6 +213,7 @@ pub record Opened (left_first : Option (List ℕ)) (first : Moment) : Type 0 whe
 -- what is ahead then, of the bytes of the capture
 record FromMagic (bytes : List ℕ) (first : Moment) : Type 0 where
   pub before : List ℕ
+  pub whole : bytes ≡ magic ++ before
   pub there : has_magic bytes ≡ true
   pub is : IsAhead first before
   pub same : accept_records first.reader.offset before [] ≡ accepted bytes
@@ -200,6 +224,7 @@ from_magic left_first first bytes o told =
     let m = magic_there bytes (first.reader.held ++ p.0) p.2 in
     record {
       before = first.reader.held ++ p.0;
+      whole = past_is bytes (first.reader.held ++ p.0) m.0 m.1;
       there = m.0;
       is = ap (option_and_then (ahead first.reader)) p.1 ∙ ap (λ b. to_give b (first.reader.held ++ p.0)) o.opened;
       same = ap (λ n. accept_records n (first.reader.held ++ p.0) []) o.offset ∙ (ap (λ b. accept_records 8 b []) m.1 ∙ sym (accepted_with bytes m.0));
@@ -235,8 +260,25 @@ capture_replayed left_first written first last ended o r goes idle = record {
     is = all_went_out ended had (capture_of r.whole) last.out written
         other (r.on.kept had (keeps_magic left_first first had o has)) goes;
   });
+  consumes = λ fault bytes had told has.
+      let f = from_magic left_first first bytes o told in
+      let u = r.consumes fault f.before f.is in
+      record {
+        consumed = magic ++ u.consumed;
+        rest = u.rest;
+        is = f.whole ∙ ap (λ b. magic ++ b) u.is;
+        is_left = u.left;
+        goes_out = all_went_out ended had (capture_of r.whole) last.out written (read_fault_alone ended fault)
+            (r.on.kept had (keeps_magic left_first first had o has)) goes ∙ ap (λ text. Some (had ++ text)) (consumed_text u);
+      };
 }
   where
+    consumed_text : {before : List ℕ} → (u : Consumes first last r.whole before) → capture_of r.whole ≡ replayed (magic ++ u.consumed)
+    consumed_text u =
+        let same : accepted (magic ++ u.consumed) ≡ accept_records first.reader.offset u.consumed [] =
+            accepted_with (magic ++ u.consumed) refl ∙ ap (λ n. accept_records n u.consumed []) (sym o.offset) in
+        ap capture_of (sym (ap (λ (a : Accepted). drained_from [] a.inputs) same ∙ u.reached)) ∙ replayed_is (magic ++ u.consumed) refl
+
     text : (had : List ℕ) → first.out.0 ≡ Some had → WritesText ended (capture_of r.whole) had written
     text had has = finished ended had (capture_of r.whole) last.out written (r.on.kept had (keeps_magic left_first first had o has)) goes idle
 
@@ -256,6 +298,7 @@ capture_lost left_first written first last ended o r goes idle = record {
       let f = front had has in
       record { growth = f.growth; is = f.is; spelled = front_spelled r.whole f.growth r.on.legal f.front };
   whole = λ other had has. absurd (other refl);
+  consumes = λ fault bytes had told has. cc;
 }
   where
     front : (had : List ℕ) → first.out.0 ≡ Some had → HasFront had (capture_of r.whole) written
@@ -275,6 +318,7 @@ capture_unread left left_after written = record {
   ends = λ bytes told. tt;
   spells = λ had has. nothing_spelled had written has;
   whole = λ other had has. inl has;
+  consumes = λ fault bytes had told has. cc;
 }
 
 -- The magic was not read.
@@ -288,6 +332,7 @@ capture_unopened opened left_first left_opened written capture.BadMagic o = reco
       (no_magic bytes (o bytes told));
   spells = λ had has. nothing_spelled had written has;
   whole = λ other had has. inl has;
+  consumes = λ fault bytes had told has. cc;
 }
 capture_unopened opened left_first left_opened written (capture.BadRecord at why) o = absurd o
 capture_unopened opened left_first left_opened written (capture.Truncated at) o = absurd o
@@ -297,5 +342,16 @@ capture_unopened opened left_first left_opened written capture.ReadFault o = rec
   ends = λ bytes told. tt;
   spells = λ had has. nothing_spelled had written has;
   whole = λ other had has. inl has;
+  consumes = λ fault bytes had told has.
+      let held : taken_by opened ≡ opened.held = ap (λ b. if b then magic ++ opened.held else opened.held) o.0 in
+      let k = split_front (taken_by opened) bytes left_opened (o.1.keeps bytes told) in
+      let short : length opened.held < length magic = subst (λ b. IsPart b opened.offset opened.held) o.0 o.1.part in
+      record {
+        consumed = opened.held;
+        rest = k.0;
+        is = sym k.2 ∙ ap (λ b. b ++ k.0) held;
+        is_left = k.1;
+        goes_out = has ∙ ap Some (sym (append-nil had) ∙ ap (λ text. had ++ text) (sym (nothing_replayed opened.held (short_no_magic opened.held short))));
+      };
 }
 capture_unopened opened left_first left_opened written capture.OutOfMemory o = capture_unread left_first left_opened written

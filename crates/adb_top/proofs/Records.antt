@@ -1,11 +1,12 @@
 -- Replaying the records of a reader: what has come so far, and what is still ahead.
-use Rattle.std.proofs.Common.{ℕ, ◌≡◌, ◌≢◌, Bool, true, false, cond, List, [], ◌∷◌, ◌++◌, take, drop, Option, Some, None, Result, Ok, Err, refl, sym}
+use Rattle.std.proofs.Common.{ℕ, ◌≡◌, ◌≢◌, Bool, true, false, cond, if◌then◌else◌, List, [], ◌∷◌, ◌++◌, take, drop, Option, Some, None, Result, Ok, Err, refl, sym}
 use Rattle.std.proofs.Common.{◌∙◌, ap, subst, inl, inr}
-use Rattle.std.specs.Prelude.{option_and_then}
+use Rattle.std.specs.Prelude.{option_and_then, option_map, length}
 use Rattle.adb_outside.specs.declared.framer.Front.{Front}
 use Rattle.adb_outside.specs.declared.framer.Front.TheVariants.{More, Bad}
-use Rattle.adb_capture.specs.Records.{record_at, offset_after}
-use Rattle.adb_capture.specs.Reading.{ahead, ahead_of, to_give, AnswersNext, GivesNext, GivesRecord, IsRefused}
+use Rattle.adb_capture.specs.Records.{magic, record_at, entry_in, offset_after}
+use Rattle.adb_capture.proofs.Fronts.{framing}
+use Rattle.adb_capture.specs.Reading.{ahead, ahead_of, to_give, AnswersNext, GivesNext, GivesRecord, IsRefused, IsPart, StopsWithin, Reading, taken_by}
 use Rattle.adb_capture.specs.Counting.{is_fault}
 use Rattle.adb_capture.specs.declared.entry.Entry.{Entry}
 use Rattle.adb_capture.specs.declared.error.FormFault.{FormFault}
@@ -18,11 +19,11 @@ use Rattle.adb_history.specs.Drained.{drained_after, drained_from}
 use Rattle.adb_history.specs.Refusal.{refusal_by}
 use Rattle.adb_history.specs.Accepted.{Accepted, refusal_of, is_input, accept_by, accept_records}
 use Rattle.adb_history.specs.declared.refusal.Refusal.{Refusal}
-use Rattle.std.proofs.lemmas.List.{append_assoc}
+use Rattle.std.proofs.lemmas.List.{append_assoc, take-append-drop, take_at, drop_at, length-take-le}
 use Rattle.adb_history.proofs.Accepting.{accept_front, accept_first, drained_adds}
 use Rattle.adb_top.specs.Keeping.{Out, Keeps, is_read_fault, is_write_fault}
 use Rattle.adb_top.specs.Stop.{stop_of}
-use Rattle.adb_top.specs.Replay.{capture_of, IsDrained, IsFrontOf, ReplaysEntry, EntryGives, IsReached, Reaches, EndsAs, Moment, IsAhead, Replays}
+use Rattle.adb_top.specs.Replay.{capture_of, IsDrained, IsFrontOf, ReplaysEntry, EntryGives, IsReached, Reaches, EndsAs, Moment, IsAhead, Consumes, Replays}
 use Rattle.adb_top.specs.declared.stop.Stop.{Stop}
 use Rattle.adb_top.specs.declared.stop.Stop.TheVariants.{ReadFault, WriteFault, OutOfMemory, Refused}
 use Rattle.adb_top.proofs.Drains.{goes_on}
@@ -34,26 +35,60 @@ pub record ComesOn (now : Moment) (done : History) (all : Accepted) : Type 0 whe
   pub inputs : drained_from [] all.inputs ≡ drained_from done (accept_records now.reader.offset before done).inputs
   pub refused : all.refused ≡ (accept_records now.reader.offset before done).refused
 
+-- Of two captures' records: what the first give makes the same history as what the others give it, and both are refused alike.
+pub record IsAlike (first : Accepted) (done : History) (others : Accepted) : Type 0 where
+  pub inputs : drained_from [] first.inputs ≡ drained_from done others.inputs
+  pub refused : first.refused ≡ others.refused
+
+-- what was replayed of the bytes ahead, and what is still ahead of them: whatever follows, it comes to the history that was made
+pub record Came (first now : Moment) (done : History) (before : List ℕ) : Type 0 where
+  pub used : List ℕ
+  pub rest : List ℕ
+  pub is : before ≡ used ++ rest
+  pub told : IsAhead now rest
+  pub on : (more : List ℕ) → IsAlike (accept_records first.reader.offset (used ++ more) []) done (accept_records now.reader.offset more done)
+
 -- How far a replay has come: the history now.
 pub record Replaying (first now : Moment) (holds : Kept) : Type 0 where
   pub done : History
   pub drained : IsDrained holds done
   pub sound : now.reader.failed ≡ None
+  pub opened : now.reader.opened ≡ true
   pub kept : (had : List ℕ) → Keeps had (capture_of []) first.out → Keeps had (capture_of done) now.out
-  pub came : (before : List ℕ) → IsAhead first before → ComesOn now done (accept_records first.reader.offset before [])
+  pub came : (before : List ℕ) → IsAhead first before → Came first now done before
+
+comes : (first now : Moment) (holds : Kept) (r : Replaying first now holds) (before : List ℕ) → IsAhead first before
+    → ComesOn now r.done (accept_records first.reader.offset before [])
+comes first now holds r before was =
+    let c = r.came before was in
+    let all = ap (λ b. accept_records first.reader.offset b []) c.is in
+    record {
+      before = c.rest;
+      is = c.told;
+      inputs = ap (λ (a : Accepted). drained_from [] a.inputs) all ∙ (c.on c.rest).inputs;
+      refused = ap (λ (a : Accepted). a.refused) all ∙ (c.on c.rest).refused;
+    }
 
 -- a front of what is ahead was told
 split_ahead : (f : List ℕ → Option (List ℕ)) (o : Option (List ℕ)) (y : List ℕ) → option_and_then f o ≡ Some y → (x : List ℕ) × (o ≡ Some x) × (f x ≡ Some y)
 split_ahead f None y e = let clash : None ≡ Some y = e in cc
 split_ahead f (Some x) y e = (x, refl, e)
 
-pub replaying_first : (first : Moment) (holds : Kept) → IsDrained holds [] → first.reader.failed ≡ None → Replaying first first holds
-replaying_first first holds drained sound = record {
+pub replaying_first : (first : Moment) (holds : Kept) → IsDrained holds [] → first.reader.failed ≡ None → first.reader.opened ≡ true
+    → Replaying first first holds
+replaying_first first holds drained sound opened = record {
   done = [];
   drained = drained;
   sound = sound;
+  opened = opened;
   kept = λ had k. k;
-  came = λ before was. record { before = before; is = was; inputs = refl; refused = refl };
+  came = λ before was. record {
+    used = [];
+    rest = before;
+    is = refl;
+    told = was;
+    on = λ more. record { inputs = refl; refused = refl };
+  };
 }
 
 pub starts : (holds : Kept) → holds ≡ kept start → IsDrained holds []
@@ -79,6 +114,33 @@ pub record CameOn (now new : Moment) (offset : ℕ) (e : Entry) (done : History)
   pub inputs : drained_from [] all.inputs ≡ drained_from done (accept_at offset e done (accept_records new.reader.offset others)).inputs
   pub refused : all.refused ≡ (accept_at offset e done (accept_records new.reader.offset others)).refused
 
+-- from a record that came on, whatever follows it
+front_accepted : (now new : Moment) (offset : ℕ) (e : Entry) (done : History) (before : List ℕ)
+    → (g : GivesRecord now.reader.offset before (offset, e) new.reader.offset (ahead_of new.reader new.left)) → (more : List ℕ)
+    → accept_records now.reader.offset (take g.size before ++ more) done ≡ accept_at offset e done (accept_records new.reader.offset more)
+front_accepted now new offset e done before g more =
+    accept_first at bytes done
+    ∙ (ap (λ f. accept_front at bytes f done) (framing.whole at front more g.size (framing.alone at before g.size g.whole))
+    ∙ (ap (λ t. from (entry_in at t) (accept_records (offset_after at t) (drop g.size bytes))) (take_at front more g.size len)
+    ∙ (ap (λ d. from (entry_in at front) (accept_records (offset_after at front) d)) (drop_at front more g.size len)
+    ∙ (ap (λ (p : ℕ × Entry). from p (accept_records (offset_after at front) more)) (sym g.is)
+    ∙ ap (λ n. from (offset, e) (accept_records n more)) (sym g.next_offset_is)))))
+  where
+    at : ℕ
+    at = now.reader.offset
+
+    front : List ℕ
+    front = take g.size before
+
+    bytes : List ℕ
+    bytes = take g.size before ++ more
+
+    from : ℕ × Entry → (History → Accepted) → Accepted
+    from p others = accept_at p.0 p.1 done others
+
+    len : length (take g.size before) ≡ g.size
+    len = length-take-le g.size before (framing.fits now.reader.offset before g.size g.whole).1
+
 came_on : (now new : Moment) (offset : ℕ) (e : Entry) (done : History) (all : Accepted) → Gives now (Ok (Some (offset, e))) new
     → now.reader.failed ≡ None → ComesOn now done all → CameOn now new offset e done all
 came_on now new offset e done all gives sound c = record {
@@ -92,16 +154,9 @@ came_on now new offset e done all gives sound c = record {
     g : GivesRecord now.reader.offset c.before (offset, e) new.reader.offset (ahead_of new.reader new.left)
     g = given_next now new (Ok (Some (offset, e))) c.before gives sound c.is
 
-    from : ℕ × Entry → (History → Accepted) → Accepted
-    from p others = accept_by (refusal_of (state done) p.0 p.1) (is_input p.1) done p.1 others
-
     given : accept_records now.reader.offset c.before done ≡ accept_at offset e done (accept_records new.reader.offset (drop g.size c.before))
-    given =
-        accept_first now.reader.offset c.before done
-        ∙ (ap (λ f. accept_front now.reader.offset c.before f done) g.whole
-        ∙ (ap (λ (p : ℕ × Entry). accept_by (refusal_of (state done) p.0 p.1) (is_input p.1) done p.1
-        (accept_records (offset_after now.reader.offset (take g.size c.before)) (drop g.size c.before))) (sym g.is)
-        ∙ ap (λ n. accept_at offset e done (accept_records n (drop g.size c.before))) (sym g.next_offset_is)))
+    given = ap (λ b. accept_records now.reader.offset b done) (sym (take-append-drop g.size c.before))
+        ∙ front_accepted now new offset e done c.before g (drop g.size c.before)
 
 -- an input that is accepted, or a hand-out that is passed over
 accept_on : (b : Bool) (h : History) (e : Entry) (others : History → Accepted)
@@ -112,29 +167,48 @@ accept_on false h e others = (refl, refl)
 
 -- A record was replayed.
 pub replaying_on : (first now new : Moment) (holds holds_new : Kept) (offset : ℕ) (e : Entry) → Gives now (Ok (Some (offset, e))) new → new.reader.failed ≡ None
-    → ((h : History) → IsDrained holds h → ReplaysEntry (Ok tt) offset e h now.out new.out holds_new) → Replaying first now holds
+    → new.reader.opened ≡ true → ((h : History) → IsDrained holds h → ReplaysEntry (Ok tt) offset e h now.out new.out holds_new) → Replaying first now holds
     → Replaying first new holds_new
-replaying_on first now new holds holds_new offset e gives sound entry r = record {
+replaying_on first now new holds holds_new offset e gives sound opened entry r = record {
   done = x.whole;
   drained = x.gives.2;
   sound = sound;
+  opened = opened;
   kept = λ had k. x.on.kept had (r.kept had k);
   came = λ before was.
-      let c = came_on now new offset e r.done _ gives r.sound (r.came before was) in
-      let others : History → Accepted = accept_records new.reader.offset c.others in
-      let on = accept_on (is_input e) r.done e others in
+      let c = r.came before was in
+      let g = given_next now new (Ok (Some (offset, e))) c.rest gives r.sound c.told in
+      let front = take g.size c.rest in
       record {
-        before = c.others;
-        is = c.is;
-        inputs = c.inputs ∙ (ap (λ why. drained_from r.done (accept_by why (is_input e) r.done e others).inputs) x.gives.0 ∙
-            (on.0 ∙ ap (λ h. drained_from h (others h).inputs) (sym x.gives.1)));
-        refused = c.refused ∙ (ap (λ why. (accept_by why (is_input e) r.done e others).refused) x.gives.0 ∙
-            (on.1 ∙ ap (λ h. (others h).refused) (sym x.gives.1)));
+        used = c.used ++ front;
+        rest = drop g.size c.rest;
+        is = c.is ∙ (ap (λ b. c.used ++ b) (sym (take-append-drop g.size c.rest)) ∙ sym (append_assoc c.used front (drop g.size c.rest)));
+        told = g.rest;
+        on = λ more.
+            let all = ap (λ b. accept_records first.reader.offset b []) (append_assoc c.used front more) in
+            let so_far = c.on (front ++ more) in
+            let next = front_accepted now new offset e r.done c.rest g more in
+            record {
+              inputs = ap (λ (a : Accepted). drained_from [] a.inputs) all
+                  ∙ (so_far.inputs ∙ (ap (λ (a : Accepted). drained_from r.done a.inputs) next ∙ (made (accept_records new.reader.offset more)).0));
+              refused = ap (λ (a : Accepted). a.refused) all
+                  ∙ (so_far.refused ∙ (ap (λ (a : Accepted). a.refused) next ∙ (made (accept_records new.reader.offset more)).1));
+            };
       };
 }
   where
     x : ReplaysEntry (Ok tt) offset e r.done now.out new.out holds_new
     x = entry r.done r.drained
+
+    made : (others : History → Accepted)
+        → (drained_from r.done (accept_at offset e r.done others).inputs ≡ drained_from x.whole (others x.whole).inputs)
+        × ((accept_at offset e r.done others).refused ≡ (others x.whole).refused)
+    made others =
+        let on = accept_on (is_input e) r.done e others in (
+          ap (λ why. drained_from r.done (accept_by why (is_input e) r.done e others).inputs) x.gives.0
+          ∙ (on.0 ∙ ap (λ h. drained_from h (others h).inputs) (sym x.gives.1)),
+          ap (λ why. (accept_by why (is_input e) r.done e others).refused) x.gives.0 ∙ (on.1 ∙ ap (λ h. (others h).refused) (sym x.gives.1)),
+        )
 
 -- the records end
 ahead_empty : (held coming : List ℕ) → held ++ coming ≡ [] → coming ≡ []
@@ -153,8 +227,10 @@ pub replaying_over : (first now new : Moment) (holds : Kept) → now.out ≡ new
 replaying_over first now new holds same gives opened r = record {
   whole = r.done;
   on = record { legal = r.drained.lawful.legal; kept = λ had k. subst (λ (out : Out). Keeps had (capture_of r.done) out) same (r.kept had k) };
-  reaches = λ before was. let c = r.came before was in c.inputs ∙ ap (λ b. drained_from r.done (accept_records now.reader.offset b r.done).inputs) (over c).0;
-  ends = λ before was. let c = r.came before was in (
+  reaches = λ before was. let c = comes first now holds r before was in
+      c.inputs ∙ ap (λ b. drained_from r.done (accept_records now.reader.offset b r.done).inputs) (over c).0;
+  consumes = λ is before was. cc;
+  ends = λ before was. let c = comes first now holds r before was in (
     c.refused ∙ ap (λ b. (accept_records now.reader.offset b r.done).refused) (over c).0,
     left_empty
         new opened (over c).1,
@@ -169,7 +245,7 @@ replaying_over first now new holds same gives opened r = record {
 front_so_far : (first now : Moment) (holds : Kept) (r : Replaying first now holds) (before : List ℕ) → IsAhead first before
     → IsFrontOf r.done (drained_from [] (accept_records first.reader.offset before []).inputs)
 front_so_far first now holds r before was =
-    let c = r.came before was in
+    let c = comes first now holds r before was in
     let more = drained_adds r.done (accept_records now.reader.offset c.before r.done).inputs in
     record { more = more.0; is = c.inputs ∙ more.1 }
 
@@ -197,10 +273,57 @@ refusal_ahead offset before h (capture.TooLong at) s r = refused_ahead offset be
 refusal_ahead offset before h capture.ReadFault s r = absurd (s refl)
 refusal_ahead offset before h capture.OutOfMemory s r = absurd (s refl)
 
+-- what an option gives in front of which something stands
+pub split_front : (front whole : List ℕ) (o : Option (List ℕ)) → option_map (λ rest. front ++ rest) o ≡ Some whole
+    → (rest : List ℕ) × (o ≡ Some rest) × (front ++ rest ≡ whole)
+split_front front whole None e = let clash : None ≡ Some whole = e in cc
+split_front front whole (Some rest) e = let same : Some (front ++ rest) ≡ Some whole = e in (rest, refl, cc)
+
+past_opened : (reader : Reading) → reader.opened ≡ true → taken_by reader ≡ magic ++ reader.held
+past_opened reader opened = ap (λ b. if b then magic ++ reader.held else reader.held) opened
+
+-- The source failed: what the reader holds gives no record more, and is all that was taken past the last one.
+consumed : (first now new : Moment) (holds : Kept) (r : Replaying first now holds) → StopsWithin now.reader now.left new.reader new.left
+    → (before : List ℕ) → IsAhead first before → Consumes first new r.done before
+consumed first now new holds r stops before was = record {
+  consumed = c.used ++ new.reader.held;
+  rest = k.0;
+  is = c.is ∙ (ap (λ b. c.used ++ b) ahead_is ∙ sym (append_assoc c.used new.reader.held k.0));
+  left = k.1;
+  reached = (c.on new.reader.held).inputs ∙ ap (λ (a : Accepted). drained_from r.done a.inputs) none;
+}
+  where
+    c : Came first now r.done before
+    c = r.came before was
+
+    s : (coming : List ℕ) × (now.left ≡ Some coming) × (ahead now.reader coming ≡ Some c.rest)
+    s = split_ahead (ahead now.reader) now.left c.rest c.told
+
+    k : (rest : List ℕ) × (new.left ≡ Some rest) × (taken_by new.reader ++ rest ≡ taken_by now.reader ++ s.0)
+    k = split_front (taken_by new.reader) (taken_by now.reader ++ s.0) new.left (stops.keeps s.0 s.1)
+
+    opened : new.reader.opened ≡ true
+    opened = stops.opened r.opened
+
+    same : new.reader.held ++ k.0 ≡ now.reader.held ++ s.0
+    same = ap (drop 8)
+        (ap (λ b. b ++ k.0) (sym (past_opened new.reader opened)) ∙ (k.2 ∙ ap (λ b. b ++ s.0) (past_opened now.reader r.opened)))
+
+    ahead_is : c.rest ≡ new.reader.held ++ k.0
+    ahead_is =
+        let told : Some (now.reader.held ++ s.0) ≡ Some c.rest = ap (λ b. to_give b (now.reader.held ++ s.0)) (sym r.opened) ∙ s.2 in
+        let is : now.reader.held ++ s.0 ≡ c.rest = cc in sym is ∙ sym same
+
+    part : record_at now.reader.offset new.reader.held ≡ More
+    part = ap (λ n. record_at n new.reader.held) (sym stops.offset) ∙ subst (λ b. IsPart b new.reader.offset new.reader.held) opened stops.part
+
+    none : accept_records now.reader.offset new.reader.held r.done ≡ accept_front now.reader.offset new.reader.held More r.done
+    none = accept_first now.reader.offset new.reader.held r.done ∙ ap (λ f. accept_front now.reader.offset new.reader.held f r.done) part
+
 -- The reader stopped.
 pub replaying_stopped : (first now new : Moment) (holds : Kept) (e : CaptureError) → now.out ≡ new.out → Gives now (Err e) new
     → Replaying first now holds → Replays first new (Err (stop_of e))
-replaying_stopped first now new holds e same gives r = go e (λ c sound. given_next now new (Err e) c gives r.sound sound)
+replaying_stopped first now new holds e same gives r = go e (λ c sound. given_next now new (Err e) c gives r.sound sound) (gives r.sound).fault
   where
     keeps : (had : List ℕ) → Keeps had (capture_of []) first.out → Keeps had (capture_of r.done) new.out
     keeps had k = subst (λ (out : Out). Keeps had (capture_of r.done) out) same (r.kept had k)
@@ -210,31 +333,34 @@ replaying_stopped first now new holds e same gives r = go e (λ c sound. given_n
     refusal e named is stops refused = record {
       whole = r.done;
       on = record { legal = r.drained.lawful.legal; kept = keeps };
-      reaches = λ before was. let c = r.came before was in c.inputs ∙ ap (λ (a : Accepted). drained_from r.done a.inputs) (none c);
-      ends = λ before was. let c = r.came before was in c.refused ∙ (ap (λ (a : Accepted). a.refused) (none c) ∙ is);
+      reaches = λ before was. let c = comes first now holds r before was in c.inputs ∙ ap (λ (a : Accepted). drained_from r.done a.inputs) (none c);
+      consumes = λ fault before was. cc;
+      ends = λ before was. let c = comes first now holds r before was in c.refused ∙ (ap (λ (a : Accepted). a.refused) (none c) ∙ is);
     }
       where
         none : {all : Accepted} → (c : ComesOn now r.done all) → accept_records now.reader.offset c.before r.done ≡ refused_as e
         none c = refusal_ahead now.reader.offset c.before r.done e stops (refused c.before c.is)
 
-    go : (e : CaptureError) → ((before : List ℕ) → IsAhead now before → IsRefused now.reader.offset before e) → Replays first new (Err (stop_of e))
-    go capture.BadMagic refused = refusal capture.BadMagic _ refl (λ e. cc) refused
-    go (capture.BadRecord at why) refused = refusal (capture.BadRecord at why) _ refl (λ e. cc) refused
-    go (capture.Truncated at) refused = refusal (capture.Truncated at) _ refl (λ e. cc) refused
-    go (capture.TooLong at) refused = refusal (capture.TooLong at) _ refl (λ e. cc) refused
-    go capture.ReadFault refused = record {
+    go : (e : CaptureError) → ((before : List ℕ) → IsAhead now before → IsRefused now.reader.offset before e)
+        → (◌≡◌ {A = Result (Option (ℕ × Entry)) CaptureError} (Err e) (Err capture.ReadFault) → StopsWithin now.reader now.left new.reader new.left)
+        → Replays first new (Err (stop_of e))
+    go capture.BadMagic refused stops = refusal capture.BadMagic _ refl (λ e. cc) refused
+    go (capture.BadRecord at why) refused stops = refusal (capture.BadRecord at why) _ refl (λ e. cc) refused
+    go (capture.Truncated at) refused stops = refusal (capture.Truncated at) _ refl (λ e. cc) refused
+    go (capture.TooLong at) refused stops = refusal (capture.TooLong at) _ refl (λ e. cc) refused
+    go capture.ReadFault refused stops = record {
       whole = r.done;
       on = record { legal = r.drained.lawful.legal; kept = keeps };
-      reaches = front_so_far first
-          now holds r;
+      reaches = front_so_far first now holds r;
       ends = λ before was. tt;
+      consumes = λ fault before was. consumed first now new holds r (stops refl) before was;
     }
-    go capture.OutOfMemory refused = record {
+    go capture.OutOfMemory refused stops = record {
       whole = r.done;
       on = record { legal = r.drained.lawful.legal; kept = keeps };
-      reaches = front_so_far
-          first now holds r;
+      reaches = front_so_far first now holds r;
       ends = λ before was. tt;
+      consumes = λ fault before was. cc;
     }
 
 -- What is reached of all that a capture gives, where a record was not replayed to its end.
@@ -245,7 +371,7 @@ reached_front first now new holds offset e gives r whole (inl same) before was =
     subst (λ (h : History). IsFrontOf h (drained_from [] (accept_records first.reader.offset before []).inputs)) (sym same)
     (front_so_far first now holds r before was)
 reached_front first now new holds offset e gives r whole (inr on) before was =
-    let c = came_on now new offset e r.done _ gives r.sound (r.came before was) in
+    let c = came_on now new offset e r.done _ gives r.sound (comes first now holds r before was) in
     let others : History → Accepted = accept_records new.reader.offset c.others in
     let more = drained_adds (drained_after r.done e) (others (drained_after r.done e)).inputs in
     record {
@@ -263,6 +389,7 @@ replaying_lost first now new holds last offset e why gives entry r = record {
   on = goes_on (Err why) [] r.done x.whole first.out now.out new.out r.kept x.on;
   reaches = λ before was. reaches why x.gives before was;
   ends = λ before was. ends why x.gives before was;
+  consumes = consumes why x.gives;
 }
   where
     x : ReplaysEntry (Err why) offset e r.done now.out new.out last
@@ -276,15 +403,22 @@ replaying_lost first now new holds last offset e why gives entry r = record {
     reaches WriteFault g before was = reached_front first now new holds offset e gives r x.whole g before was
     reaches OutOfMemory g before was = reached_front first now new holds offset e gives r x.whole g before was
     reaches (Refused named) g before was =
-        let c = came_on now new offset e r.done (all before) gives r.sound (r.came before was) in
+        let c = came_on now new offset e r.done (all before) gives r.sound (comes first now holds r before was) in
         c.inputs ∙ (ap (λ w. drained_from r.done (accept_by w (is_input e) r.done e (accept_records new.reader.offset c.others)).inputs) g.0 ∙ sym g.1)
+
+    consumes : (w : Stop) → EntryGives (Err w) offset e r.done x.whole last → ◌≡◌ {A = Result (Unit {0}) Stop} (Err w) (Err ReadFault)
+        → (before : List ℕ) → IsAhead first before → Consumes first new x.whole before
+    consumes ReadFault g fault before was = absurd g
+    consumes WriteFault g fault before was = cc
+    consumes OutOfMemory g fault before was = cc
+    consumes (Refused named) g fault before was = cc
 
     ends : (w : Stop) → EntryGives (Err w) offset e r.done x.whole last → (before : List ℕ) → IsAhead first before → EndsAs (Err w) (all before) new.left
     ends ReadFault g before was = tt
     ends WriteFault g before was = tt
     ends OutOfMemory g before was = tt
     ends (Refused named) g before was =
-        let c = came_on now new offset e r.done (all before) gives r.sound (r.came before was) in
+        let c = came_on now new offset e r.done (all before) gives r.sound (comes first now holds r before was) in
         c.refused ∙ ap (λ w. (accept_by w (is_input e) r.done e (accept_records new.reader.offset c.others)).refused) g.0
 
 -- what a loop over records keeps: how far it has come, and that nothing failed

@@ -96,9 +96,18 @@ moment reader left out = record { reader = reader; left = left; out = out }
 abbrev pub IsAhead : Moment → List ℕ → Type 0
 IsAhead m before = ahead_of m.reader m.left ≡ Some before
 
+-- The bytes ahead that were consumed before the source failed: the history that was reached is all that they give.
+pub record Consumes (first last : Moment) (whole : History) (before : List ℕ) : Type 0 where
+  pub consumed : List ℕ
+  pub rest : List ℕ
+  pub is : before ≡ consumed ++ rest
+  pub left : last.left ≡ Some rest
+  pub reached : drained_from [] (accept_records first.reader.offset consumed []).inputs ≡ whole
+
 -- The records ahead were replayed, with no entry before them.
 pub record Replays (first last : Moment) (result : Result (Unit {0}) Stop) : Type 0 where
   pub whole : History
   pub on : GoesOn result [] whole first.out last.out
   pub reaches : (before : List ℕ) → IsAhead first before → Reaches result whole (accept_records first.reader.offset before [])
   pub ends : (before : List ℕ) → IsAhead first before → EndsAs result (accept_records first.reader.offset before []) last.left
+  pub consumes : result ≡ Err ReadFault → (before : List ℕ) → IsAhead first before → Consumes first last whole before

@@ -5,7 +5,7 @@ use Rattle.adb_history.specs.declared.refusal.Refusal.{Refusal}
 use Rattle.adb_top.specs.Words.{is_replay}
 use Rattle.adb_top.specs.Notes.{bad_capture_line}
 use Rattle.adb_top.specs.Keeping.{HasFront}
-use Rattle.adb_top.specs.Replayed.{GrowsSpelled, GrowsWhole}
+use Rattle.adb_top.specs.Replayed.{GrowsSpelled, GrowsWhole, WritesConsumed}
 use Rattle.adb_top.specs.declared.status.Status.{Status}
 use Rattle.adb_top.specs.declared.status.Status.TheVariants.{Done, Usage, ReadFault, WriteFault, BadCapture, OutOfMemory}
 
@@ -40,6 +40,13 @@ WritesLegal written old new =
 -- Nothing went out, or whole records of a legal history.
 abbrev pub WritesWhole : {K : Type 0} → (K → Option (List ℕ)) → K → K → Type 0
 WritesWhole written old new = (had : List ℕ) → written old ≡ Some had → GrowsWhole had (written new)
+
+-- All went out that the bytes give that were read of the source's capture.
+abbrev pub WritesRead : {S K : Type 0}
+    → (S → Option (List ℕ)) → S → S → (K → Option (List ℕ)) → K → K → Type 0
+WritesRead left source_old source_new written sink_old sink_new =
+    (capture had : List ℕ) → left source_old ≡ Some capture → written sink_old ≡ Some had
+    → WritesConsumed capture had (left source_new) (written sink_new)
 
 -- why a capture is refused
 abbrev pub IsRefusedCapture : Accepted → Type 0

@@ -3,7 +3,7 @@
 ghost use Rattle.std.specs.Prelude.{◌≡◌, ◌≢◌, ◌⊎◌};
 ghost use Rattle.adb_top.specs.Faults.{Rose, Stood, IsFaultless};
 ghost use Rattle.adb_top.specs.Notes.{WritesNote};
-ghost use Rattle.adb_top.specs.Run.{IsCommand, IsNoCommand, WritesHistory, WritesLegal, WritesWhole};
+ghost use Rattle.adb_top.specs.Run.{IsCommand, IsNoCommand, WritesHistory, WritesRead, WritesLegal, WritesWhole};
 ghost use Rattle.adb_top.specs.Run.{EndsCapture, NamesRefusal, Completes};
 
 use crate::note::{say_stop, say_usage};
@@ -33,6 +33,10 @@ pub fn run<S: Source, K: Sink, N: Sink>(
 
     // The drained history of the capture goes out: at Done and BadCapture all of it, else a front.
     ensures writes { WritesHistory result (S.left source.old) K.written sink.old sink.new }
+
+    // At ReadFault all that the bytes give that were read of the capture.
+    ensures consumed { result ≡ Status.ReadFault
+        → WritesRead S.left source.old source.new K.written sink.old sink.new }
 
     // Whatever the source tells, what went out spells a legal history, whose clients are answered.
     ensures legal { WritesLegal K.written sink.old sink.new }

@@ -1,5 +1,6 @@
 use Rattle.std.proofs.Common.{rules, ◌-◌, ◌<◌, length, take, drop, Some, sym, ◌∙◌, ap, subst, arith}
 use Rattle.std.proofs.lemmas.List.Elements.{All-from_get_or}
+use Rattle.adb_capture.specs.declared.limits.TheConstants.{HEADER_LEN}
 use Rattle.adb_capture.specs.Forms.{entry_by}
 use Rattle.adb_capture.specs.Records.{owner_in, HasRecord}
 use Rattle.adb_capture.proofs.Spellings.{whole_header, whole_read, entry_read, read_spelled}
@@ -22,7 +23,7 @@ unreachable-requires c = whole_read c.args.offset c.args.bytes.now c.requires (c
 
 pub returns-clause-entry : goal.returns-clause-entry
 returns-clause-entry c = entry_read c.args.offset c.args.bytes.now c.in_ok-entry-in-Some.field-0 c.requires
-    (ap Some (c.in_ok-entry-in-Some.ensures ∙ ap (λ n. entry_by c.in-Some.form n (take (length c.args.bytes.now - 9) (drop 9 c.args.bytes.now)))
+    (ap Some (c.in_ok-entry-in-Some.ensures ∙ ap (λ n. entry_by c.in-Some.form n (take (length c.args.bytes.now - HEADER_LEN) (drop HEADER_LEN c.args.bytes.now)))
     c.owner.ensures) ∙ c.in-Some.ensures (owner_in c.args.bytes.now))
 
 pub returns-clause-form : goal.returns-clause-form

@@ -14,7 +14,7 @@ returns-in_err-offset-clause-replays g c =
 
 pub loop-machine-init : goal.loop-machine-init
 loop-machine-init g c = record {
-  replaying = replaying_first _ c.new-machine.result (starts c.new-machine.result c.new-machine.ensures) c.requires.sound;
+  replaying = replaying_first _ c.new-machine.result (starts c.new-machine.result c.new-machine.ensures) c.requires.sound c.requires.opened;
   reads_counted = counts_first _ _;
   writes_counted = counts_first _ _;
 }
@@ -26,7 +26,7 @@ loop-machine-preserved g c =
     let gives = given_as now new c.in_ok-offset.field-0 (Some (c.in-Some.offset, c.in-Some.entry)) c.in-Some.is c.in_ok-offset.ensures.answers in
     record {
       replaying = replaying_on _ now new c.loop-machine.machine c.replay_entry.new.machine c.in-Some.offset c.in-Some.entry gives
-          c.in_ok-offset.ensures.ok.1 c.in_ok-replay_entry.ensures.replays c.loop-machine.invariant.replaying;
+          c.in_ok-offset.ensures.ok.1 c.in_ok-offset.ensures.ok.2 c.in_ok-replay_entry.ensures.replays c.loop-machine.invariant.replaying;
       reads_counted = counts_then _ _ _ _ _ _ _ _ c.loop-machine.invariant.reads_counted
           (c.in_ok-offset.ensures.counts c.loop-machine.invariant.replaying.sound);
       writes_counted = counts_then _ _ _ _ _ _ _ _ c.loop-machine.invariant.writes_counted c.in_ok-replay_entry.ensures.counts;

@@ -1,0 +1,82 @@
+//! A recorder in memory, which fails where a test wants it.
+
+ghost use Rattle.std.specs.Prelude.{◌≡◌, ◌↔◌, [], Some, Err, Contains};
+ghost use Rattle.adb_outside.specs.Outside.{Counts, counted_on};
+ghost use Rattle.adb_capture.specs.Records.{HasRecord};
+ghost use Rattle.adb_capture.specs.Recording.{TellsRecord, is_failed_record};
+
+use crate::entry::Entry;
+use crate::recorder::{RecordError, Recorder};
+use adb_outside::Failing;
+use std::alloc::Global;
+use std::marker::Model;
+
+/// A recorder that keeps a copy of each entry. It tells them.
+#[derive(Drop)]
+pub struct MemoryRecorder {
+    kept: Vec<Entry>,
+    failing: Failing,
+}
+
+impl Model for MemoryRecorder {
+    ghost use Rattle.adb_capture.specs.Recording.{MemoryRecording};
+
+    ghost Value = { MemoryRecording };
+
+    ghost view = { λ r. record {
+      told = r.kept.items;
+      failing = r.failing.failing;
+      calls = r.failing.calls;
+      faults = r.failing.faults;
+    } };
+}
+
+impl MemoryRecorder {
+    /// A recorder that fails at the calls whose numbers, counted from 1, are in `failing`. It takes
+    /// no memory.
+    pub fn new(alloc: Global, failing: Vec<u64>) -> MemoryRecorder
+        ensures { result ≡ record { told = []; failing = failing.items; calls = 0; faults = 0 } }
+    {
+        MemoryRecorder {
+            kept: Vec::new(alloc),
+            failing: Failing::new(failing),
+        }
+    }
+
+    /// The entries that are kept, the oldest first.
+    pub fn entries(&self) -> &[Entry]
+        ensures { result.now ≡ self.now.told }
+    {
+        self.kept.as_slice()
+    }
+}
+
+impl Recorder for MemoryRecorder {
+    ghost use Rattle.std.specs.Prelude.{◌≡◌, [], Some};
+
+    ghost told = { λ r. Some r.told };
+
+    ghost faults = { λ r. r.faults };
+
+    ghost steady = { λ r. r.failing ≡ [] };
+
+    /// Keeps a copy of the entry. It fails at the calls whose numbers are in the list.
+    fn keep(&mut self, entry: &Entry) -> Result<(), RecordError>
+        requires { HasRecord entry.now }
+        ensures told { TellsRecord (Some self.old.told) (Some self.new.told) entry.now result }
+        ensures counts { Counts (λ r. r.failing ≡ []) (λ r. r.faults)
+            self.old self.new (is_failed_record result) }
+        ensures fails { (result ≡ Err RecordError.Failed) ↔ Contains self.old.failing self.new.calls }
+        ensures calls { self.new.calls ≡ counted_on self.old.calls }
+        ensures same { self.new.failing ≡ self.old.failing }
+    {
+        if self.failing.fails() {
+            return Err(RecordError::Failed);
+        }
+        let copy = entry.copy()?;
+        match self.kept.push(copy) {
+            Ok(()) => Ok(()),
+            Err(_full) => Err(RecordError::OutOfMemory),
+        }
+    }
+}
