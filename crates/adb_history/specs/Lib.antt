@@ -23,3 +23,5 @@ pub mod Drained
 pub mod Refusal
 pub mod Accepted
 pub mod Kept
+pub mod Orderly
+pub mod Tied
