@@ -1,0 +1,3 @@
+pub mod Examples
+mod WorkedClients
+mod WorkedStreams
