@@ -1,3 +1,5 @@
-pub mod Examples
 mod WorkedClients
 mod WorkedStreams
+pub mod Refuted
+pub mod RefutedCauses
+pub mod RefutedAnswers

@@ -13,7 +13,7 @@ use Rattle.adb_banner.specs.Banner.{identity_of, last_value}
 use Rattle.adb_capture.specs.declared.entry.Entry.TheVariants.{Join, Enter, Read, End, Bound, Attach, Recv, Detach, Put, Send}
 use Rattle.adb_history.specs.Links.{open_packet, close_packet}
 use Rattle.adb_history.specs.Drained.{drained}
-use Rattle.adb_history.proofs.Examples.{sends, hears, connect, pixel, hello, plugs, plugged, asks}
+use Rattle.adb_history.specs.Examples.{sends, hears, connect, pixel, hello, plugs, plugged, asks}
 
 empty_history : drained [] ≡ []
 empty_history = refl
@@ -45,7 +45,7 @@ unknown_serial_refused = refl
 any_of_two_refused :
     drained (plugs (pixel 4096) ++ Attach 2 Local (codes "127.0.0.1:5555") ∷ Recv 2 (sends (pixel 4096 ∷ [])) ∷ asks 1 (codes "0012host:transport-any"))
     ≡ plugged (pixel 4096) ++ Attach 2 Local (codes "127.0.0.1:5555") ∷ Send 2 hello ∷ Recv 2 (sends (pixel 4096 ∷ []))
-      ∷ asks 1 (codes "0012host:transport-any") ++ Put 1 (codes "FAIL001dmore than one device/emulator") ∷ []
+    ∷ asks 1 (codes "0012host:transport-any") ++ Put 1 (codes "FAIL001dmore than one device/emulator") ∷ []
 unfolding meaning word_at identity_of last_value
 any_of_two_refused = refl
 
@@ -61,7 +61,7 @@ transport_id_told = refl
 
 long_list_line : drained (plugs (pixel 4096) ++ asks 1 (codes "000ehost:devices-l"))
     ≡ plugged (pixel 4096) ++ asks 1 (codes "000ehost:devices-l")
-      ++ Put 1 (codes "OKAY0039emu1                   device model:Pix_3 transport_id:1" ++ 10 ∷ []) ∷ []
+    ++ Put 1 (codes "OKAY0039emu1                   device model:Pix_3 transport_id:1" ++ 10 ∷ []) ∷ []
 unfolding meaning word_at identity_of last_value digits
 long_list_line = refl
 
@@ -69,7 +69,7 @@ long_list_line = refl
 malformed_requests_close :
     drained (asks 1 (codes "zzzz") ++ asks 2 (codes "0000") ++ asks 3 (codes "00") ++ asks 4 (codes "0009host:nope") ++ Read 1 (codes "000Chost:version") ∷ [])
     ≡ asks 1 (codes "zzzz") ++ asks 2 (codes "0000") ++ asks 3 (codes "00") ++ asks 4 (codes "0009host:nope")
-      ++ Put 4 (codes "FAIL0014unknown host service") ∷ Read 1 (codes "000Chost:version") ∷ []
+    ++ Put 4 (codes "FAIL0014unknown host service") ∷ Read 1 (codes "000Chost:version") ∷ []
 unfolding meaning
 malformed_requests_close = refl
 
@@ -85,8 +85,8 @@ login = record { command = Auth; arg0 = 1; arg1 = 0; payload = take 20 (codes "a
 unauthorized_device :
     drained (Attach 1 Usb (codes "emu1") ∷ Recv 1 (sends (login ∷ [])) ∷ asks 1 (codes "000chost:devices") ++ asks 2 (codes "0012host:transport-any"))
     ≡ Attach 1 Usb (codes "emu1") ∷ Send 1 hello ∷ Recv 1 (sends (login ∷ [])) ∷ asks 1 (codes "000chost:devices")
-      ++ Put 1 (codes "OKAY0012emu1" ++ 9 ∷ codes "unauthorized" ++ 10 ∷ []) ∷ asks 2 (codes "0012host:transport-any")
-      ++ Put 2 (codes "FAIL0013device unauthorized") ∷ []
+    ++ Put 1 (codes "OKAY0012emu1" ++ 9 ∷ codes "unauthorized" ++ 10 ∷ []) ∷ asks 2 (codes "0012host:transport-any")
+    ++ Put 2 (codes "FAIL0013device unauthorized") ∷ []
 unfolding meaning word_at
 unauthorized_device = refl
 
@@ -106,26 +106,26 @@ wrong_magic = take 20 (spelling (close_packet 7 1) 0) ++ 189 ∷ 179 ∷ 172 ∷
 
 broken_link_leaves_list : drained (plugs (pixel 4096) ++ asks 1 (codes "0012host:track-devices") ++ Recv 1 wrong_magic ∷ Recv 1 (codes "more") ∷ [])
     ≡ plugged (pixel 4096) ++ asks 1 (codes "0012host:track-devices") ++ Put 1 (codes "OKAY000cemu1" ++ 9 ∷ codes "device" ++ 10 ∷ [])
-      ∷ Recv 1 wrong_magic ∷ Put 1 (codes "0000") ∷ Recv 1 (codes "more") ∷ []
+    ∷ Recv 1 wrong_magic ∷ Put 1 (codes "0000") ∷ Recv 1 (codes "more") ∷ []
 unfolding meaning word_at identity_of last_value
 broken_link_leaves_list = refl
 
 tracker_gets_newest_list : drained (asks 1 (codes "0012host:track-devices") ++ plugs (pixel 4096) ++ Detach 1 Eof ∷ [])
     ≡ asks 1 (codes "0012host:track-devices") ++ Put 1 (codes "OKAY0000") ∷ Attach 1 Usb (codes "emu1") ∷ Send 1 hello
-      ∷ Put 1 (codes "000demu1" ++ 9 ∷ codes "offline" ++ 10 ∷ []) ∷ Recv 1 (sends (pixel 4096 ∷ []))
-      ∷ Put 1 (codes "000cemu1" ++ 9 ∷ codes "device" ++ 10 ∷ []) ∷ Detach 1 Eof ∷ Put 1 (codes "0000") ∷ []
+    ∷ Put 1 (codes "000demu1" ++ 9 ∷ codes "offline" ++ 10 ∷ []) ∷ Recv 1 (sends (pixel 4096 ∷ []))
+    ∷ Put 1 (codes "000cemu1" ++ 9 ∷ codes "device" ++ 10 ∷ []) ∷ Detach 1 Eof ∷ Put 1 (codes "0000") ∷ []
 unfolding meaning word_at identity_of last_value
 tracker_gets_newest_list = refl
 
 -- ---- forwards
 forward_to_any_port :
     drained (plugs (pixel 4096) ++ asks 1 (codes "0019host:forward:tcp:0;tcp:80") ++ Bound 1 40000
-      ∷ asks 2 (codes "0026host:forward:norebind:tcp:40000;tcp:81") ++ asks 3 (codes "0011host:list-forward") ++ Enter 4 40000 ∷ Detach 1 Eof
-      ∷ asks 5 (codes "0011host:list-forward"))
+    ∷ asks 2 (codes "0026host:forward:norebind:tcp:40000;tcp:81") ++ asks 3 (codes "0011host:list-forward") ++ Enter 4 40000 ∷ Detach 1 Eof
+    ∷ asks 5 (codes "0011host:list-forward"))
     ≡ plugged (pixel 4096) ++ asks 1 (codes "0019host:forward:tcp:0;tcp:80") ++ Bound 1 40000 ∷ Put 1 (codes "OKAYOKAY000540000")
-      ∷ asks 2 (codes "0026host:forward:norebind:tcp:40000;tcp:81") ++ Put 2 (codes "FAIL001dcannot rebind existing socket")
-      ∷ asks 3 (codes "0011host:list-forward") ++ Put 3 (codes "OKAY0016emu1 tcp:40000 tcp:80" ++ 10 ∷ [])
-      ∷ Enter 4 40000 ∷ Send 1 (hears (open_packet false 1 (codes "tcp:80") ∷ [])) ∷ Detach 1 Eof
-      ∷ asks 5 (codes "0011host:list-forward") ++ Put 5 (codes "OKAY0000") ∷ []
+    ∷ asks 2 (codes "0026host:forward:norebind:tcp:40000;tcp:81") ++ Put 2 (codes "FAIL001dcannot rebind existing socket")
+    ∷ asks 3 (codes "0011host:list-forward") ++ Put 3 (codes "OKAY0016emu1 tcp:40000 tcp:80" ++ 10 ∷ [])
+    ∷ Enter 4 40000 ∷ Send 1 (hears (open_packet false 1 (codes "tcp:80") ∷ [])) ∷ Detach 1 Eof
+    ∷ asks 5 (codes "0011host:list-forward") ++ Put 5 (codes "OKAY0000") ∷ []
 unfolding meaning word_at identity_of last_value digits
 forward_to_any_port = refl

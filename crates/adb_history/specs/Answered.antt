@@ -28,7 +28,7 @@ abbrev pub lists_of : Bool → ℕ → History → List ℕ
 lists_of long c [] = []
 lists_of long c (Put n bytes ∷ older) =
     list_if (nat_eq n c && nat_eq (length (bytes_put c older)) (length ((asked c older).replies ++ lists_of long c older)))
-      (tracked_list (devices older) long) (lists_of long c older)
+    (tracked_list (devices older) long) (lists_of long c older)
 lists_of long c (_ ∷ older) = lists_of long c older
 
 -- the last list that was due to a tracker: that of its reply, or of a later moment
@@ -93,22 +93,47 @@ abbrev pub IsUpToDate : Option Client → Type 0
 IsUpToDate None = ⊥
 IsUpToDate (Some client) = (client.about.phase ≡ Tracking) × (client.due ≡ []) × (client.about.mark ≡ false)
 
+-- What was handed out is a front of what became due, and that begins with the replies to its whole requests, in order.
+pub record RepliesFirst (h : History) (c : ℕ) : Type 0 where
+  pub handed : IsPrefixOf (bytes_put c h) (output_of c h)
+  pub begins : IsPrefixOf (asked c h).replies (output_of c h)
+
+-- A forward whose port is to be bound is answered when its listener stands, or could not be made.
+abbrev pub RepliesWhenBound : History → ℕ → Type 0
+RepliesWhenBound h c = (transport local : ℕ) (remote : List ℕ) (chosen : Bool) → (asked c h).next ≡ Some (Bind transport local remote chosen)
+    → output_of c h ≡ (asked c h).replies ++ bound_reply c h
+
+-- what became due to a client behind its replies
+pub record IsBehindReplies (h : History) (c : ℕ) (Behind : List ℕ → Type 0) : Type 0 where
+  pub after : List ℕ
+  pub output : output_of c h ≡ (asked c h).replies ++ after
+  pub is : Behind after
+
+-- A service is answered by its device, and then come the bytes that the device wrote.
+abbrev pub RepliesOfStream : History → ℕ → Type 0
+RepliesOfStream h c = (transport : ℕ) (service : List ℕ) → (asked c h).next ≡ Some (Open transport service) → IsBehindReplies h c (AnswersOpen h c)
+
+-- A tracker is handed lists, each that of the moment when its first byte was handed out.
+abbrev pub ListsTracked : History → ℕ → Type 0
+ListsTracked h c = (long : Bool) → (asked c h).next ≡ Some (Track long) → output_of c h ≡ (asked c h).replies ++ lists_of long c h
+
+-- A tracker to which nothing is due has the present list.
+abbrev pub HasPresentList : History → ℕ → Type 0
+HasPresentList h c = (long : Bool) → (asked c h).next ≡ Some (Track long) → IsUpToDate ((state h).clients c)
+    → last_list long c h ≡ tracked_list (devices h) long
+
+-- Nothing more is said.
+abbrev pub SaysNothingMore : History → ℕ → Type 0
+SaysNothingMore h c = is_all (asked c h).next ≡ true → output_of c h ≡ (asked c h).replies
+
+-- A client that came by itself is answered.
 pub record IsAnsweredAt (h : History) (c : ℕ) : Type 0 where
-  -- what was handed out is a front of what became due, and that begins with the replies to its whole requests, in order
-  pub replies : IsPrefixOf (bytes_put c h) (output_of c h) × IsPrefixOf (asked c h).replies (output_of c h)
-  -- a forward whose port was to be bound is answered when its listener stands, or could not be made
-  pub bound_reply : (transport local : ℕ) (remote : List ℕ) (chosen : Bool) → (asked c h).next ≡ Some (Bind transport local remote chosen)
-      → output_of c h ≡ (asked c h).replies ++ bound_reply c h
-  -- a service is answered by its device, and then come the bytes that the device wrote
-  pub stream_reply : (transport : ℕ) (service : List ℕ) → (asked c h).next ≡ Some (Open transport service)
-      → (after : List ℕ) × (output_of c h ≡ (asked c h).replies ++ after) × AnswersOpen h c after
-  -- a tracker is handed lists, each that of the moment when its first byte was handed out
-  pub tracked_lists : (long : Bool) → (asked c h).next ≡ Some (Track long) → output_of c h ≡ (asked c h).replies ++ lists_of long c h
-  -- and a tracker to which nothing is due has the present list
-  pub up_to_date : (long : Bool) → (asked c h).next ≡ Some (Track long) → IsUpToDate ((state h).clients c)
-      → last_list long c h ≡ tracked_list (devices h) long
-  -- and nothing more is said
-  pub nothing_more : is_all (asked c h).next ≡ true → output_of c h ≡ (asked c h).replies
+  pub replies : RepliesFirst h c
+  pub bound_reply : RepliesWhenBound h c
+  pub stream_reply : RepliesOfStream h c
+  pub tracked_lists : ListsTracked h c
+  pub present_list : HasPresentList h c
+  pub nothing_more : SaysNothingMore h c
 
 -- A client that came through a forward is handed the bytes of its stream, and nothing else.
 abbrev pub HasStreamAlone : History → ℕ → Type 0

@@ -55,7 +55,7 @@ given_to l b h = CREDIT_WINDOW + credit_of (okays_of l (packets_of b.link h))
 abbrev pub writes_early : ℕ → Birth → Entry → History → Bool
 writes_early l b e older =
     writes_early_in b (remote_of l b older) l (length (joined (told_to l b older))) (length (handed_to l b older)) (given_to l b older)
-      (brings b.link e older)
+    (brings b.link e older)
 
 -- Its link is lost, or its device says anew who it is.
 abbrev pub detaches : ℕ → Entry → Bool
@@ -129,21 +129,45 @@ abbrev pub WhereEnds : History → Ending → (ℕ → Birth → Entry → Histo
 WhereEnds h ending Cause =
     (l : ℕ) (e : Entry) (older : History) → IsMoment e older h → ending_in l (told_at e older) ≡ Some ending → EndsFor Cause l e older
 
+-- A stream whose client closed: all that the client wrote had gone up.
+abbrev pub EndsByClient : History → Type 0
+EndsByClient h = WhereEnds h client_closed IsClosedByClient
+
+-- A stream whose device closed.
+abbrev pub EndsByPeer : History → Type 0
+EndsByPeer h = WhereEnds h peer_closed (λ l b e older. peer_closes l b e older ≡ true)
+
+-- A stream whose device wrote out of turn.
+abbrev pub EndsOutOfTurn : History → Type 0
+EndsOutOfTurn h = WhereEnds h out_of_turn (λ l b e older. writes_early l b e older ≡ true)
+
+-- A stream whose link was lost.
+abbrev pub EndsByLoss : History → Type 0
+EndsByLoss h = WhereEnds h lost (λ l b e older. loses_link b e older ≡ true)
+
+-- A stream whose link was broken.
+abbrev pub EndsByBreak : History → Type 0
+EndsByBreak h = WhereEnds h broken (λ l b e older. breaks_link b e older ≡ true)
+
+-- A stream whose client's connection failed, for that cause.
+abbrev pub EndsByFailure : History → Type 0
+EndsByFailure h = (cause : Cause) → WhereEnds h (client_failed cause) (λ l b e older. failure_of b.client e ≡ Some cause)
+
+-- A stream that ended when the server stopped.
+abbrev pub EndsByStop : History → Type 0
+EndsByStop h = WhereEnds h stopped (λ l b e older. stops_now e older ≡ true)
+
+-- At an entry that leaves a stream alive stands none of these but its client's end.
+abbrev pub HasNoOtherCause : History → Type 0
+HasNoOtherCause h = (l : ℕ) (b : Birth) (e : Entry) (older : History) → IsMoment e older h → born l older ≡ Some b
+    → ending_of l (e ∷ older) ≡ None → is_struck l b e older ≡ false
+
 pub record HasCauses (h : History) : Type 0 where
-  -- its client closed, and all that it wrote had gone up
-  pub by_client : WhereEnds h client_closed IsClosedByClient
-  -- its device closed
-  pub by_peer : WhereEnds h peer_closed (λ l b e older. peer_closes l b e older ≡ true)
-  -- its device wrote out of turn
-  pub out_of_turn : WhereEnds h out_of_turn (λ l b e older. writes_early l b e older ≡ true)
-  -- its link was lost
-  pub lost : WhereEnds h lost (λ l b e older. loses_link b e older ≡ true)
-  -- its link was broken
-  pub broken : WhereEnds h broken (λ l b e older. breaks_link b e older ≡ true)
-  -- its client's connection failed, for that cause
-  pub failed : (cause : Cause) → WhereEnds h (client_failed cause) (λ l b e older. failure_of b.client e ≡ Some cause)
-  -- the server stopped
-  pub stopped : WhereEnds h stopped (λ l b e older. stops_now e older ≡ true)
-  -- and none of these but its client's end stands at an entry that leaves the stream alive
-  pub no_other : (l : ℕ) (b : Birth) (e : Entry) (older : History) → IsMoment e older h → born l older ≡ Some b
-      → ending_of l (e ∷ older) ≡ None → is_struck l b e older ≡ false
+  pub by_client : EndsByClient h
+  pub by_peer : EndsByPeer h
+  pub out_of_turn : EndsOutOfTurn h
+  pub lost : EndsByLoss h
+  pub broken : EndsByBreak h
+  pub failed : EndsByFailure h
+  pub stopped : EndsByStop h
+  pub no_other : HasNoOtherCause h

@@ -137,24 +137,43 @@ pub record HasNoCrossing (h : History) : Type 0 where
 abbrev pub OfEachStream : History → (ℕ → Birth → Type 0) → Type 0
 OfEachStream h Holds = (l : ℕ) (b : Birth) → born l h ≡ Some b → Holds l b
 
+-- What is sent to each link is whole packets and a front of one, each right.
+abbrev pub SendsPackets : History → Type 0
+SendsPackets h = (t : ℕ) → (framed (bytes_sent t h)).fault ≡ None
+
+-- A device is written what the client of the stream wrote, in order and once.
+abbrev pub CarriesRest : History → Type 0
+CarriesRest h = OfEachStream h (λ l b. IsPrefixOf (carried_of l b h) (rest_of l b h))
+
+-- And all of it, where the client closed and the device was told so.
+abbrev pub CarriesWholeRest : History → Type 0
+CarriesWholeRest h = OfEachStream h (λ l b. ending_of l h ≡ Some client_closed
+    → Contains (sent b.link h) (close_packet l (remote_of l b h)) → carried_of l b h ≡ rest_of l b h)
+
+-- A client is handed what the device of its stream wrote, in order and once.
+abbrev pub HandsTold : History → Type 0
+HandsTold h = OfEachStream h (λ l b. IsPrefixOf (handed_to l b h) (joined (told_to l b h)))
+
+-- And all of it, where the device closed and the client was handed all that became due to it.
+abbrev pub HandsWholeTold : History → Type 0
+HandsWholeTold h = OfEachStream h (λ l b. ending_of l h ≡ Some peer_closed
+    → bytes_put b.client h ≡ output_of b.client h → handed_to l b h ≡ joined (told_before_close l b h))
+
+-- A device is written no more than it allowed.
+abbrev pub KeepsUpWindow : History → Type 0
+KeepsUpWindow h = OfEachStream h (λ l b. IsWithinUp b.credit l b h)
+
+-- What a device is told that its client was handed, it was.
+abbrev pub KeepsDownWindow : History → Type 0
+KeepsDownWindow h = OfEachStream h (λ l b. IsWithinDown b.credit l b h)
+
 pub record IsFifo (h : History) : Type 0 where
-  -- what is sent to each link is packets
-  pub clean : (t : ℕ) → (framed (bytes_sent t h)).fault ≡ None
-  -- the streams are those that were asked for, in that order, each its client's and its device's
+  pub packets : SendsPackets h
   pub birth : HasBirths h
-  -- a device is written what the client of the stream wrote, in order and once
-  pub up : OfEachStream h (λ l b. IsPrefixOf (carried_of l b h) (rest_of l b h))
-  -- and all of it, where the client closed and the device was told so
-  pub up_whole : OfEachStream h (λ l b. ending_of l h ≡ Some client_closed → Contains (sent b.link h) (close_packet l (remote_of l b h))
-      → carried_of l b h ≡ rest_of l b h)
-  -- a client is handed what the device of its stream wrote, in order and once
-  pub down : OfEachStream h (λ l b. IsPrefixOf (handed_to l b h) (joined (told_to l b h)))
-  -- and all of it, where the device closed and the client was handed all that is due to it
-  pub down_whole : OfEachStream h (λ l b. ending_of l h ≡ Some peer_closed → bytes_put b.client h ≡ output_of b.client h
-      → handed_to l b h ≡ joined (told_before_close l b h))
-  -- a device is written no more than it allowed
-  pub up_window : OfEachStream h (λ l b. IsWithinUp b.credit l b h)
-  -- a write of the device is acknowledged when its client was handed it
-  pub down_window : OfEachStream h (λ l b. IsWithinDown b.credit l b h)
-  -- no packet of a stream goes to another link or another stream
+  pub up : CarriesRest h
+  pub up_whole : CarriesWholeRest h
+  pub down : HandsTold h
+  pub down_whole : HandsWholeTold h
+  pub up_window : KeepsUpWindow h
+  pub down_window : KeepsDownWindow h
   pub no_crossing : HasNoCrossing h

@@ -25,3 +25,5 @@ pub mod Accepted
 pub mod Kept
 pub mod Orderly
 pub mod Tied
+pub mod Examples
+pub mod Broken

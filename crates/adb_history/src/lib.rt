@@ -3,8 +3,10 @@
 //! legal history.
 #![tactic(auto)]
 
+mod broken;
 mod hand_out;
 mod refusal;
 
+pub use broken::{answers_can_be_broken, causes_can_be_broken, fifo_can_be_broken};
 pub use hand_out::HAND_OUT;
 pub use refusal::{Reason, Refusal};
