@@ -1,5 +1,7 @@
 mod WorkedClients
 mod WorkedStreams
+mod WorkedWords
+mod WorkedCaptures
 pub mod Refuted
 pub mod RefutedCauses
 pub mod RefutedAnswers
