@@ -1,7 +1,7 @@
-pub mod Requests
-pub mod Bytes
-pub mod Tables
-pub mod Worked
-pub mod Orderly
-pub mod Draining
-pub mod Accepting
+mod WorkedClients
+mod WorkedStreams
+mod WorkedWords
+mod WorkedCaptures
+pub mod Refuted
+pub mod RefutedCauses
+pub mod RefutedAnswers

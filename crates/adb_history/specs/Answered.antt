@@ -1,99 +1,145 @@
--- What every legal history has: its clients are answered, over the bytes that were read and handed out.
-use Rattle.std.specs.Prelude.{ℕ, ◌+◌, ◌≡◌, ◌≢◌, Bool, true, false, if◌then◌else◌, ◌&&◌, ◌||◌, not, nat_eq, List, [], ◌∷◌, ◌++◌, length, drop, Option}
-use Rattle.std.specs.Prelude.{Some, None}
-use Rattle.adb_request.specs.Requests.{request_at}
-use Rattle.adb_request.specs.Meaning.{meaning}
-use Rattle.adb_request.specs.declared.cutting.Found.{Found}
-use Rattle.adb_request.specs.declared.cutting.Found.TheVariants.{More, Malformed, Whole}
-use Rattle.adb_capture.specs.declared.entry.Entry.TheVariants.{Join, Read, End, Put}
+-- The third promise: each whole request of a client is answered from what the server knew at its own entry, and nothing else is said.
+use Rattle.std.specs.Prelude.{ℕ, ◌≡◌, ◌≢◌, ◌⊎◌, Bool, true, false, if◌then◌else◌, ◌&&◌, ◌||◌, not, nat_eq, nat_lt, List, [], ◌∷◌, ◌++◌, length, Option, Some, None, codes}
+use Rattle.std.specs.Prelude.{is_some}
 use Rattle.adb_outside.specs.Bytes.{IsPrefixOf}
-use Rattle.adb_history.specs.Machine.{answer, History, state}
-use Rattle.adb_history.specs.declared.phase.Phase.TheVariants.{Asking, Gone}
+use Rattle.adb_client.specs.declared.phase.Phase.{Phase}
+use Rattle.adb_client.specs.declared.phase.Phase.TheVariants.{Tracking}
+use Rattle.adb_reply.specs.Strings.{okay, failed}
+use Rattle.adb_reply.specs.declared.answer.Next.{Next}
+use Rattle.adb_reply.specs.declared.answer.Next.TheVariants.{Close, Select, Track, Open, Bind, Rebind, Unbind, UnbindAll, Stop}
+use Rattle.adb_capture.specs.declared.entry.Entry.{Entry}
+use Rattle.adb_capture.specs.declared.entry.Entry.TheVariants.{Join, Enter, Read, End, Bound, Attach, Recv, Detach, Put, Send}
+use Rattle.adb_history.specs.Rows.{Client}
+use Rattle.adb_history.specs.Events.{Ending, peer_closed, lost, broken}
+use Rattle.adb_history.specs.Tracking.{tracked_list}
+use Rattle.adb_history.specs.Machine.{History, state}
+use Rattle.adb_history.specs.Bytes.{has_joined, has_failed, bytes_put}
+use Rattle.adb_history.specs.Book.{Book, asked, newly, devices, bound_reply}
+use Rattle.adb_history.specs.Births.{Birth, born, opening_of, told_to, joined}
+use Rattle.adb_history.specs.Lives.{output_of, ending_of}
 
--- a client came
-abbrev pub has_joined : ℕ → History → Bool
-has_joined c [] = false
-has_joined c (Join n ∷ older) = nat_eq n c || has_joined c older
-has_joined c (_ ∷ older) = has_joined c older
+-- ---- the lists of a tracker
+abbrev pub list_if : Bool → List ℕ → List ℕ → List ℕ
+list_if true list lists = lists ++ list
+list_if false list lists = lists
 
--- a client's input ended
-abbrev pub has_ended : ℕ → History → Bool
-has_ended c [] = false
-has_ended c (End n cause ∷ older) = nat_eq n c || has_ended c older
-has_ended c (_ ∷ older) = has_ended c older
+-- The lists that a tracker is handed after its reply: whenever it is handed bytes though all before had been handed out, that is the list of that moment.
+abbrev pub lists_of : Bool → ℕ → History → List ℕ
+lists_of long c [] = []
+lists_of long c (Put n bytes ∷ older) =
+    list_if (nat_eq n c && nat_eq (length (bytes_put c older)) (length ((asked c older).replies ++ lists_of long c older)))
+    (tracked_list (devices older) long) (lists_of long c older)
+lists_of long c (_ ∷ older) = lists_of long c older
 
--- the bytes that were read from a client before its input ended
-abbrev pub bytes_read : ℕ → History → List ℕ
-bytes_read c [] = []
-bytes_read c (Read n bytes ∷ older) = if nat_eq n c && not (has_ended c older) then bytes_read c older ++ bytes else bytes_read c older
-bytes_read c (_ ∷ older) = bytes_read c older
+-- the last list that was due to a tracker: that of its reply, or of a later moment
+abbrev pub reply_list : ℕ → Option Next → History → List ℕ → List ℕ
+reply_list c (Some (Track long)) older last = tracked_list (devices older) long
+reply_list c _ older last = last
 
--- the bytes that were handed out to a client
-abbrev pub bytes_put : ℕ → History → List ℕ
-bytes_put c [] = []
-bytes_put c (Put n bytes ∷ older) = if nat_eq n c then bytes_put c older ++ bytes else bytes_put c older
-bytes_put c (_ ∷ older) = bytes_put c older
+abbrev pub last_list : Bool → ℕ → History → List ℕ
+last_list long c [] = []
+last_list long c (Put n bytes ∷ older) =
+    if nat_eq n c && nat_eq (length (bytes_put c older)) (length ((asked c older).replies ++ lists_of long c older))
+    then tracked_list (devices older) long else last_list long c older
+last_list long c (Read n bytes ∷ older) =
+    if nat_eq n c then reply_list c (newly (asked c older).next (asked c (Read n bytes ∷ older)).next) older (last_list long c older)
+    else last_list long c older
+last_list long c (_ ∷ older) = last_list long c older
 
--- What a client asked: the replies to its whole requests, how many bytes these requests have, the bytes past them, and whether a next one is cut.
-pub record Asked : Type 0 where
-  pub replies : List ℕ
-  pub used : ℕ
-  pub rest : List ℕ
-  pub asking : Bool
+-- ---- what follows the replies
+-- a stream that never opened: its client is told so where its device or its link ended it
+abbrev pub tells_closed : Option Ending → Bool
+tells_closed (Some peer_closed) = true
+tells_closed (Some lost) = true
+tells_closed (Some broken) = true
+tells_closed _ = false
 
-abbrev pub nothing_asked : Asked
-nothing_asked = record { replies = []; used = 0; rest = []; asking = true }
+abbrev pub closed_reply : Bool → List ℕ
+closed_reply true = (failed (codes "closed")).bytes
+closed_reply false = []
 
--- no next request is cut
-abbrev pub no_more : Asked → Asked
-no_more q = record q { rest = []; asking = false }
+-- whether a stream was opened while its client's connection had not failed
+abbrev pub is_heard : ℕ → Birth → History → Bool
+is_heard l b [] = false
+is_heard l b (e ∷ older) =
+    is_heard l b older || (is_some (opening_of l b (e ∷ older)) && not (is_some (opening_of l b older)) && not (has_failed b.client older))
 
--- after the answer to a request of so many bytes; what is not built is answered in no legal history
-abbrev pub after_answer : Option (List ℕ) → ℕ → Asked → Asked
-after_answer None size q = q
-after_answer (Some reply) size q = no_more (record q { replies = q.replies ++ reply; used = q.used + size })
+-- what follows the request for a stream: `OKAY` and bytes that the device wrote, where the client heard that it is open; else why it was not opened
+abbrev pub FollowsOpen : Bool → History → ℕ → Birth → List ℕ → Type 0
+FollowsOpen true h l b after = (bytes : List ℕ) × (after ≡ okay ++ bytes) × IsPrefixOf bytes (joined (told_to l b h))
+FollowsOpen false h l b after = after ≡ closed_reply (tells_closed (ending_of l h))
 
--- after a byte that makes these of the bytes past the last request
-abbrev pub after_found : Asked → List ℕ → Found → Asked
-after_found q bytes More = record q { rest = bytes }
-after_found q bytes Malformed = no_more q
-after_found q bytes (Whole len) = after_answer (answer (meaning (drop 4 bytes))) (length bytes) q
+-- a stream that a client asked for
+pub record IsStreamOf (h : History) (c l : ℕ) (b : Birth) : Type 0 where
+  pub is : born l h ≡ Some b
+  pub client : b.client ≡ c
 
-abbrev pub after_byte : Bool → Asked → ℕ → Asked
-after_byte false q b = q
-after_byte true q b = after_found q (q.rest ++ b ∷ []) (request_at (q.rest ++ b ∷ []))
+-- what follows the request for a stream; where no id was left, that
+abbrev pub AnswersOpen : History → ℕ → List ℕ → Type 0
+AnswersOpen h c after =
+    ((l : ℕ) × (b : Birth) × IsStreamOf h c l b × FollowsOpen (is_heard l b h) h l b after)
+    ⊎ (((l : ℕ) (b : Birth) → IsStreamOf h c l b → ⊥) × (after ≡ (failed (codes "no stream ids left")).bytes))
 
-abbrev pub after_bytes : Asked → List ℕ → Asked
-after_bytes q [] = q
-after_bytes q (b ∷ bytes) = after_bytes (after_byte q.asking q b) bytes
+-- whether nothing more follows the reply to a request
+abbrev pub is_all : Option Next → Bool
+is_all (Some (Bind transport local remote chosen)) = false
+is_all (Some (Open transport service)) = false
+is_all (Some (Track long)) = false
+is_all _ = true
 
--- a client's requests, cut from the bytes that were read from it before its input ended
-abbrev pub asked : ℕ → History → Asked
-asked c [] = nothing_asked
-asked c (Read n bytes ∷ older) = if nat_eq n c && not (has_ended c older) then after_bytes (asked c older) bytes else asked c older
-asked c (_ ∷ older) = asked c older
+-- ---- a client that came by itself is answered
+-- whether nothing is due to a client that tracks, and its list is not stale
+abbrev pub IsUpToDate : Option Client → Type 0
+IsUpToDate None = ⊥
+IsUpToDate (Some client) = (client.about.phase ≡ Tracking) × (client.due ≡ []) × (client.about.mark ≡ false)
 
--- all that ever became due to a client
-abbrev pub output_of : ℕ → History → List ℕ
-output_of c h = ((state h).clients c).output
+-- What was handed out is a front of what became due, and that begins with the replies to its whole requests, in order.
+pub record RepliesFirst (h : History) (c : ℕ) : Type 0 where
+  pub handed : IsPrefixOf (bytes_put c h) (output_of c h)
+  pub begins : IsPrefixOf (asked c h).replies (output_of c h)
 
--- A client is answered.
+-- A forward whose port is to be bound is answered when its listener stands, or could not be made.
+abbrev pub RepliesWhenBound : History → ℕ → Type 0
+RepliesWhenBound h c = (transport local : ℕ) (remote : List ℕ) (chosen : Bool) → (asked c h).next ≡ Some (Bind transport local remote chosen)
+    → output_of c h ≡ (asked c h).replies ++ bound_reply c h
+
+-- what became due to a client behind its replies
+pub record IsBehindReplies (h : History) (c : ℕ) (Behind : List ℕ → Type 0) : Type 0 where
+  pub after : List ℕ
+  pub output : output_of c h ≡ (asked c h).replies ++ after
+  pub is : Behind after
+
+-- A service is answered by its device, and then come the bytes that the device wrote.
+abbrev pub RepliesOfStream : History → ℕ → Type 0
+RepliesOfStream h c = (transport : ℕ) (service : List ℕ) → (asked c h).next ≡ Some (Open transport service) → IsBehindReplies h c (AnswersOpen h c)
+
+-- A tracker is handed lists, each that of the moment when its first byte was handed out.
+abbrev pub ListsTracked : History → ℕ → Type 0
+ListsTracked h c = (long : Bool) → (asked c h).next ≡ Some (Track long) → output_of c h ≡ (asked c h).replies ++ lists_of long c h
+
+-- A tracker to which nothing is due has the present list.
+abbrev pub HasPresentList : History → ℕ → Type 0
+HasPresentList h c = (long : Bool) → (asked c h).next ≡ Some (Track long) → IsUpToDate ((state h).clients c)
+    → last_list long c h ≡ tracked_list (devices h) long
+
+-- Nothing more is said.
+abbrev pub SaysNothingMore : History → ℕ → Type 0
+SaysNothingMore h c = is_all (asked c h).next ≡ true → output_of c h ≡ (asked c h).replies
+
+-- A client that came by itself is answered.
 pub record IsAnsweredAt (h : History) (c : ℕ) : Type 0 where
-  -- what was handed out is a front of what became due, which begins with the replies to its whole requests, in order
-  pub replies : IsPrefixOf (bytes_put c h) (output_of c h) × IsPrefixOf (asked c h).replies (output_of c h)
-  -- and nothing else becomes due
-  pub nothing_more : output_of c h ≡ (asked c h).replies
+  pub replies : RepliesFirst h c
+  pub bound_reply : RepliesWhenBound h c
+  pub stream_reply : RepliesOfStream h c
+  pub tracked_lists : ListsTracked h c
+  pub present_list : HasPresentList h c
+  pub nothing_more : SaysNothingMore h c
 
--- each client that came is answered
-abbrev pub IsAnswered : History → Type 0
-IsAnswered h = (c : ℕ) → has_joined c h ≡ true → IsAnsweredAt h c
+-- A client that came through a forward is handed the bytes of its stream, and nothing else.
+abbrev pub HasStreamAlone : History → ℕ → Type 0
+HasStreamAlone h c =
+    (output_of c h ≡ []) ⊎ ((l : ℕ) × (b : Birth) × IsStreamOf h c l b × IsPrefixOf (output_of c h) (joined (told_to l b h)))
 
--- what is due to a client that lives is what became due past what was handed out
-abbrev pub DueIsPastHanded : History → Type 0
-DueIsPastHanded h = (c : ℕ) → has_joined c h ≡ true → ((state h).clients c).phase ≢ Gone
-    → ((state h).clients c).due ≡ drop (length (bytes_put c h)) (output_of c h)
-
--- what a client that asks has unread is what was read from it past its whole requests
-abbrev pub UnreadIsPastUsed : History → Type 0
-UnreadIsPastUsed h = (c : ℕ) → has_joined c h ≡ true → ((state h).clients c).phase ≡ Asking
-    → ((state h).clients c).unread ≡ drop (asked c h).used (bytes_read c h)
+pub record IsAnswered (h : History) : Type 0 where
+  pub joined : (c : ℕ) → has_joined c h ≡ true → IsAnsweredAt h c
+  pub entered : (c : ℕ) → has_joined c h ≡ false → HasStreamAlone h c

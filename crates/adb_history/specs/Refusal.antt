@@ -7,7 +7,7 @@ use Rattle.adb_capture.specs.declared.error.CaptureError.TheVariants as capture
 use Rattle.adb_history.specs.declared.refusal.Refusal.{Refusal}
 use Rattle.adb_history.specs.declared.refusal.Reason.{Reason}
 use Rattle.adb_history.specs.declared.refusal.Reason.TheVariants.{BadMagic, Truncated, UnknownKind, RecordTooLong, CaptureTooLarge, BadForm, NotDrawn}
-use Rattle.adb_history.specs.declared.refusal.Reason.TheVariants.{BadSerial, NotBuilt}
+use Rattle.adb_history.specs.declared.refusal.Reason.TheVariants.{TooManyDevices, BadSerial}
 
 abbrev pub reason_text : Reason → List ℕ
 reason_text BadMagic = codes "bad magic"
@@ -17,8 +17,8 @@ reason_text RecordTooLong = codes "record too long"
 reason_text CaptureTooLarge = codes "capture too large"
 reason_text BadForm = codes "bad form"
 reason_text NotDrawn = codes "number not drawn"
+reason_text TooManyDevices = codes "too many devices"
 reason_text BadSerial = codes "bad serial"
-reason_text NotBuilt = codes "not built yet"
 
 abbrev pub refused_at : ℕ → Reason → Option Refusal
 refused_at offset reason = Some (record { offset = offset; reason = reason })

@@ -1,11 +1,12 @@
-//! Histories: what a list of entries means for the clients of the server, which lists are legal, and
-//! what handing out all that is due makes of the entries that came.
+//! Histories: what a list of entries means for the clients, devices and streams of the server, which lists are
+//! legal, what handing out all that is due makes of the entries that came, and what the server promises of every
+//! legal history.
 #![tactic(auto)]
 
+mod broken;
 mod hand_out;
-mod phase;
 mod refusal;
 
+pub use broken::{answers_can_be_broken, causes_can_be_broken, fifo_can_be_broken};
 pub use hand_out::HAND_OUT;
-pub use phase::Phase;
 pub use refusal::{Reason, Refusal};

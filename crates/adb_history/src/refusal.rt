@@ -29,10 +29,10 @@ pub enum Reason {
     BadForm,
     /// The record names a number that was never drawn, or draws another than the next one.
     NotDrawn,
+    /// The record plugs in a device, and as many as there may be are plugged in.
+    TooManyDevices,
     /// The record plugs in a device whose serial is not lawful.
     BadSerial,
-    /// The record asks for what is not built yet.
-    NotBuilt,
 }
 
 impl Reason {
@@ -48,8 +48,8 @@ impl Reason {
             Reason::CaptureTooLarge => b"capture too large",
             Reason::BadForm => b"bad form",
             Reason::NotDrawn => b"number not drawn",
+            Reason::TooManyDevices => b"too many devices",
             Reason::BadSerial => b"bad serial",
-            Reason::NotBuilt => b"not built yet",
         }
     }
 }

@@ -13,12 +13,12 @@ use Rattle.adb_request.specs.declared.cutting.Found.{Found}
 use Rattle.adb_request.specs.declared.cutting.Found.TheVariants.{More, Malformed, Whole}
 use Rattle.adb_capture.specs.declared.entry.Entry.TheVariants.{Join, Enter, Read, End, Bound, Attach, Recv, Detach, Put, Send}
 use Rattle.adb_outside.specs.Bytes.{IsPrefixOf}
-use Rattle.adb_history.specs.Machine.{answer, Client, fresh, phase_after, settled, answered, asks, byte_in, bytes_in, is_unbuilt, byte_asks_unbuilt}
-use Rattle.adb_history.specs.Machine.{asks_unbuilt, handed, end_phase, ended, History, state, IsDrawn, May, MayPut, IsLegal}
-use Rattle.adb_history.specs.Answered.{has_joined, has_ended, bytes_read, bytes_put, Asked, nothing_asked, after_answer, after_found, after_byte}
-use Rattle.adb_history.specs.Answered.{after_bytes, asked, IsAnswered, DueIsPastHanded, UnreadIsPastUsed}
-use Rattle.adb_history.specs.declared.phase.Phase.{Phase}
-use Rattle.adb_history.specs.declared.phase.Phase.TheVariants.{Asking, Closing, Gone}
+use Rattle.adb_one_request.specs.Machine.{answer, Client, fresh, phase_after, settled, answered, asks, byte_in, bytes_in, is_unbuilt, byte_asks_unbuilt}
+use Rattle.adb_one_request.specs.Machine.{asks_unbuilt, handed, end_phase, ended, History, state, IsDrawn, May, MayPut, IsLegal}
+use Rattle.adb_one_request.specs.Answered.{has_joined, has_ended, bytes_read, bytes_put, Asked, nothing_asked, after_answer, after_found, after_byte}
+use Rattle.adb_one_request.specs.Answered.{after_bytes, asked, IsAnswered, DueIsPastHanded, UnreadIsPastUsed}
+use Rattle.adb_one_request.specs.declared.phase.Phase.{Phase}
+use Rattle.adb_one_request.specs.declared.phase.Phase.TheVariants.{Asking, Closing, Gone}
 
 -- no next request is cut: the client sent no request, or its last one, or its input ended
 abbrev IsShut : Bool → Asked → Type 0

@@ -2,8 +2,8 @@
 
 ghost use Rattle.std.specs.Prelude.{List};
 ghost use Rattle.adb_capture.specs.declared.entry.Entry.{Entry};
-ghost use Rattle.adb_history.specs.Machine.{IsLegal};
-ghost use Rattle.adb_history.specs.Answered.{IsAnswered, DueIsPastHanded, UnreadIsPastUsed};
+ghost use Rattle.adb_one_request.specs.Machine.{IsLegal};
+ghost use Rattle.adb_one_request.specs.Answered.{IsAnswered, DueIsPastHanded, UnreadIsPastUsed};
 
 /// In every legal history each client that came is handed a front of the replies to its whole
 /// requests, in their order, and nothing else.

@@ -10,10 +10,10 @@ use Rattle.adb_capture.specs.Reading.{Reading, ahead, to_give, past_magic, taken
 use Rattle.adb_capture.specs.declared.entry.Entry.{Entry}
 use Rattle.adb_capture.specs.declared.error.CaptureError.{CaptureError}
 use Rattle.adb_capture.specs.declared.error.CaptureError.TheVariants as capture
-use Rattle.adb_history.specs.Machine.{History, IsLegal}
-use Rattle.adb_history.specs.Drained.{drained, drained_from}
-use Rattle.adb_history.specs.Refusal.{refusal_by}
-use Rattle.adb_history.specs.Accepted.{Accepted, accepted, accept_records, has_magic, replayed}
+use Rattle.adb_one_request.specs.Machine.{History, IsLegal}
+use Rattle.adb_one_request.specs.Drained.{drained, drained_from}
+use Rattle.adb_one_request.specs.Refusal.{refusal_by}
+use Rattle.adb_one_request.specs.Accepted.{Accepted, accepted, accept_records, has_magic, replayed}
 use Rattle.adb_promise.proofs.Answers.{all_answered}
 use Rattle.adb_top.specs.Stop.{stop_of}
 use Rattle.adb_top.specs.Keeping.{Out, Keeps, HasFront, KeepsAs}

@@ -3,11 +3,11 @@ use Rattle.std.proofs.Common.{ℕ, ◌≢◌, ◌≡◌, Bool, false, List, ◌+
 use Rattle.adb_request.specs.Requests.{request_at}
 use Rattle.adb_request.specs.declared.cutting.Found.{Found}
 use Rattle.adb_request.specs.declared.cutting.Found.TheVariants.{More, Malformed, Whole}
-use Rattle.adb_history.specs.Machine.{Client, settled, bytes_in, asks_unbuilt, phase_after, answered, closing}
-use Rattle.adb_history.specs.Kept.{KeptClient, kept_of, IsResting}
-use Rattle.adb_history.specs.declared.phase.Phase.{Phase}
-use Rattle.adb_history.specs.declared.phase.Phase.TheVariants.{Asking, Closing, Gone}
-use Rattle.adb_history.proofs.Bytes.{asking_with, reads_more, reads_malformed, reads_whole, reads_unbuilt, idle_closing, idle_gone}
+use Rattle.adb_one_request.specs.Machine.{Client, settled, bytes_in, asks_unbuilt, phase_after, answered, closing}
+use Rattle.adb_one_request.specs.Kept.{KeptClient, kept_of, IsResting}
+use Rattle.adb_one_request.specs.declared.phase.Phase.{Phase}
+use Rattle.adb_one_request.specs.declared.phase.Phase.TheVariants.{Asking, Closing, Gone}
+use Rattle.adb_one_request.proofs.Bytes.{asking_with, reads_more, reads_malformed, reads_whole, reads_unbuilt, idle_closing, idle_gone}
 use Rattle.adb_top.specs.Client.{ReadsPiece, AnswersFront}
 use Rattle.adb_top.specs.declared.client.Unread.{Unread}
 use Rattle.adb_top.specs.declared.client.Unread.TheVariants.{NotBuilt, OutOfMemory}

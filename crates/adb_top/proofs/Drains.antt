@@ -6,12 +6,12 @@ use Rattle.std.proofs.lemmas.List.{append_assoc, append-nil, reverse-append}
 use Rattle.adb_outside.specs.Outside.{Rises, Counted}
 use Rattle.adb_capture.specs.Records.{record_of, records_of, HasRecord, magic}
 use Rattle.adb_capture.specs.declared.entry.Entry.{Entry}
-use Rattle.adb_history.specs.Machine.{State, History, state, IsInRange, IsLegal}
-use Rattle.adb_history.specs.Kept.{Kept, kept, IsLawful, IsOrderly}
-use Rattle.adb_history.specs.Drained.{next_out, owed, drain_all}
-use Rattle.adb_history.proofs.Orderly.{orderly}
-use Rattle.adb_history.proofs.Draining.{drain_all_step, drain_all_over, next_may}
-use Rattle.adb_history.proofs.Accepting.{drain_adds}
+use Rattle.adb_one_request.specs.Machine.{State, History, state, IsInRange, IsLegal}
+use Rattle.adb_one_request.specs.Kept.{Kept, kept, IsLawful, IsOrderly}
+use Rattle.adb_one_request.specs.Drained.{next_out, owed, drain_all}
+use Rattle.adb_one_request.proofs.Orderly.{orderly}
+use Rattle.adb_one_request.proofs.Draining.{drain_all_step, drain_all_over, next_may}
+use Rattle.adb_one_request.proofs.Accepting.{drain_adds}
 use Rattle.adb_top.specs.Machine.{HandsNext}
 use Rattle.adb_top.specs.Keeping.{Out, Keeps, KeepsEntry, LosesRest, IsLoss}
 use Rattle.adb_top.specs.Replay.{written_of, capture_of, IsFrontOf, GoesOn, Drains}

@@ -6,13 +6,13 @@ use Rattle.adb_outside.specs.Serial.{is_serial}
 use Rattle.adb_capture.specs.Records.{HasRecord}
 use Rattle.adb_capture.specs.declared.entry.Entry.{Entry}
 use Rattle.adb_capture.specs.declared.entry.Entry.TheVariants.{Join, Enter, Read, End, Bound, Attach, Recv, Detach, Put, Send}
-use Rattle.adb_history.specs.Machine.{State, History, state, step, asks_unbuilt, May, IsLegal}
-use Rattle.adb_history.specs.Kept.{Kept, kept, IsLawful, IsOrderly}
-use Rattle.adb_history.specs.Drained.{drain_all, drained_after}
-use Rattle.adb_history.specs.Refusal.{refused_at}
-use Rattle.adb_history.specs.Accepted.{refusal_of, read_refusal, is_drawn, is_input}
-use Rattle.adb_history.specs.declared.refusal.Reason.TheVariants.{NotDrawn, BadSerial, NotBuilt}
-use Rattle.adb_history.proofs.Orderly.{orderly}
+use Rattle.adb_one_request.specs.Machine.{State, History, state, step, asks_unbuilt, May, IsLegal}
+use Rattle.adb_one_request.specs.Kept.{Kept, kept, IsLawful, IsOrderly}
+use Rattle.adb_one_request.specs.Drained.{drain_all, drained_after}
+use Rattle.adb_one_request.specs.Refusal.{refused_at}
+use Rattle.adb_one_request.specs.Accepted.{refusal_of, read_refusal, is_drawn, is_input}
+use Rattle.adb_one_request.specs.declared.refusal.Reason.TheVariants.{NotDrawn, BadSerial, NotBuilt}
+use Rattle.adb_one_request.proofs.Orderly.{orderly}
 use Rattle.adb_top.specs.Machine.{Applies}
 use Rattle.adb_top.specs.Stop.{stop_at}
 use Rattle.adb_top.specs.Keeping.{Out, KeepsEntry, IsLoss}

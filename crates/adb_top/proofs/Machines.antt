@@ -8,17 +8,17 @@ use Rattle.adb_outside.specs.declared.kinds.Cause.{Cause}
 use Rattle.adb_outside.specs.declared.kinds.Cause.TheVariants.{Eof, Fault, Starved, NoThread}
 use Rattle.adb_capture.specs.declared.entry.Entry.TheVariants.{Join, Read, Put}
 use Rattle.adb_capture.specs.Records.{HasRecord}
-use Rattle.adb_history.specs.declared.hand_out.TheConstants.{HAND_OUT}
-use Rattle.adb_history.specs.Machine.{Client, State, absent, IsDrawn, to_client, step, fresh, settled, phase_after, bytes_in, asks_unbuilt, ended, handed}
-use Rattle.adb_history.specs.Kept.{Kept, KeptClient, kept, kept_of, kept_row, kept_if_live, IsOrderly}
-use Rattle.adb_history.specs.Accepted.{refusal_of, is_drawn}
-use Rattle.adb_history.specs.declared.phase.Phase.{Phase}
-use Rattle.adb_history.specs.declared.phase.Phase.TheVariants.{Asking, Closing, Gone}
+use Rattle.adb_one_request.specs.declared.hand_out.TheConstants.{HAND_OUT}
+use Rattle.adb_one_request.specs.Machine.{Client, State, absent, IsDrawn, to_client, step, fresh, settled, phase_after, bytes_in, asks_unbuilt, ended, handed}
+use Rattle.adb_one_request.specs.Kept.{Kept, KeptClient, kept, kept_of, kept_row, kept_if_live, IsOrderly}
+use Rattle.adb_one_request.specs.Accepted.{refusal_of, is_drawn}
+use Rattle.adb_one_request.specs.declared.phase.Phase.{Phase}
+use Rattle.adb_one_request.specs.declared.phase.Phase.TheVariants.{Asking, Closing, Gone}
 use Rattle.adb_outside.specs.Tables.{at, IsRising}
 use Rattle.adb_outside.proofs.TableLaws.{listed_rises}
-use Rattle.adb_history.proofs.Tables.{at_kept, row_put}
-use Rattle.adb_history.proofs.Bytes.{idle_gone}
-use Rattle.adb_history.proofs.Draining.{next_none, next_is}
+use Rattle.adb_one_request.proofs.Tables.{at_kept, row_put}
+use Rattle.adb_one_request.proofs.Bytes.{idle_gone}
+use Rattle.adb_one_request.proofs.Draining.{next_none, next_is}
 use Rattle.adb_top.specs.Client.{is_gone_phase}
 use Rattle.adb_top.specs.Due.{due_in, due_at}
 use Rattle.adb_top.specs.Machine.{ChangesOne, Becomes, ReadsRow, ReadsNone, HandsRow, Applies, Puts, HandsNext}

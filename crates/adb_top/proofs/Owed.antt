@@ -6,8 +6,8 @@ use Rattle.std.specs.Map.{set_value, remove_entry}
 use Rattle.std.specs.Ordering.{nat_cmp}
 use Rattle.std.specs.BTreeMap.{is_at}
 use Rattle.adb_outside.specs.Tables.{at}
-use Rattle.adb_history.specs.declared.hand_out.TheConstants.{HAND_OUT}
-use Rattle.adb_history.specs.Kept.{Kept, KeptClient}
+use Rattle.adb_one_request.specs.declared.hand_out.TheConstants.{HAND_OUT}
+use Rattle.adb_one_request.specs.Kept.{Kept, KeptClient}
 use Rattle.adb_top.specs.Due.{due_in, owed_by, owed_in, CoversDue}
 
 -- the first bytes that are due to a client are handed out

@@ -13,14 +13,14 @@ use Rattle.adb_capture.specs.declared.error.FormFault.{FormFault}
 use Rattle.adb_capture.specs.declared.error.FormFault.TheVariants as form
 use Rattle.adb_capture.specs.declared.error.CaptureError.{CaptureError}
 use Rattle.adb_capture.specs.declared.error.CaptureError.TheVariants as capture
-use Rattle.adb_history.specs.Machine.{History, start, state}
-use Rattle.adb_history.specs.Kept.{Kept, kept}
-use Rattle.adb_history.specs.Drained.{drained_after, drained_from}
-use Rattle.adb_history.specs.Refusal.{refusal_by}
-use Rattle.adb_history.specs.Accepted.{Accepted, refusal_of, is_input, accept_by, accept_records}
-use Rattle.adb_history.specs.declared.refusal.Refusal.{Refusal}
+use Rattle.adb_one_request.specs.Machine.{History, start, state}
+use Rattle.adb_one_request.specs.Kept.{Kept, kept}
+use Rattle.adb_one_request.specs.Drained.{drained_after, drained_from}
+use Rattle.adb_one_request.specs.Refusal.{refusal_by}
+use Rattle.adb_one_request.specs.Accepted.{Accepted, refusal_of, is_input, accept_by, accept_records}
+use Rattle.adb_one_request.specs.declared.refusal.Refusal.{Refusal}
 use Rattle.std.proofs.lemmas.List.{append_assoc, take-append-drop, take_at, drop_at, length-take-le}
-use Rattle.adb_history.proofs.Accepting.{accept_front, accept_first, drained_adds}
+use Rattle.adb_one_request.proofs.Accepting.{accept_front, accept_first, drained_adds}
 use Rattle.adb_top.specs.Keeping.{Out, Keeps, is_read_fault, is_write_fault}
 use Rattle.adb_top.specs.Stop.{stop_of}
 use Rattle.adb_top.specs.Replay.{capture_of, IsDrained, IsFrontOf, ReplaysEntry, EntryGives, IsReached, Reaches, EndsAs, Moment, IsAhead, Consumes, Replays}

@@ -4,10 +4,10 @@ use Rattle.adb_request.specs.Requests.{request_at}
 use Rattle.adb_request.specs.Meaning.{meaning}
 use Rattle.adb_request.specs.declared.cutting.Found.{Found}
 use Rattle.adb_request.specs.declared.cutting.Found.TheVariants.{More, Malformed, Whole}
-use Rattle.adb_history.specs.Machine.{Client, answer, settled, bytes_in, asks_unbuilt}
-use Rattle.adb_history.specs.Kept.{KeptClient, kept_of}
-use Rattle.adb_history.specs.declared.phase.Phase.{Phase}
-use Rattle.adb_history.specs.declared.phase.Phase.TheVariants.{Asking, Closing, Gone}
+use Rattle.adb_one_request.specs.Machine.{Client, answer, settled, bytes_in, asks_unbuilt}
+use Rattle.adb_one_request.specs.Kept.{KeptClient, kept_of}
+use Rattle.adb_one_request.specs.declared.phase.Phase.{Phase}
+use Rattle.adb_one_request.specs.declared.phase.Phase.TheVariants.{Asking, Closing, Gone}
 use Rattle.adb_top.specs.declared.client.Unread.{Unread}
 use Rattle.adb_top.specs.declared.client.Unread.TheVariants.{NotBuilt, OutOfMemory}
 

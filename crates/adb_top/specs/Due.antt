@@ -5,7 +5,7 @@ use Rattle.std.specs.Map.{values_of}
 use Rattle.std.specs.BTreeMap.{is_at}
 use Rattle.std.specs.Ordering.{nat_cmp}
 use Rattle.adb_outside.specs.Tables.{at}
-use Rattle.adb_history.specs.Kept.{Kept, KeptClient}
+use Rattle.adb_one_request.specs.Kept.{Kept, KeptClient}
 
 -- how many bytes are due to a client
 abbrev pub due_in : Option KeptClient → ℕ

@@ -3,13 +3,13 @@ use Rattle.std.specs.Prelude.{ℕ, ◌≡◌, ◌≢◌, Bool, true, false, if�
 use Rattle.adb_capture.specs.declared.entry.Entry.{Entry}
 use Rattle.adb_capture.specs.declared.entry.Entry.TheVariants.{Put}
 use Rattle.adb_outside.specs.Tables.{at, IsRising}
-use Rattle.adb_history.specs.declared.hand_out.TheConstants.{HAND_OUT}
-use Rattle.adb_history.specs.Machine.{Client, State, step, settled, bytes_in, asks_unbuilt, handed}
-use Rattle.adb_history.specs.Kept.{Kept, KeptClient, kept, kept_of}
-use Rattle.adb_history.specs.Drained.{next_out}
-use Rattle.adb_history.specs.Accepted.{refusal_of, is_input}
-use Rattle.adb_history.specs.Refusal.{refused_at}
-use Rattle.adb_history.specs.declared.refusal.Reason.TheVariants.{NotBuilt}
+use Rattle.adb_one_request.specs.declared.hand_out.TheConstants.{HAND_OUT}
+use Rattle.adb_one_request.specs.Machine.{Client, State, step, settled, bytes_in, asks_unbuilt, handed}
+use Rattle.adb_one_request.specs.Kept.{Kept, KeptClient, kept, kept_of}
+use Rattle.adb_one_request.specs.Drained.{next_out}
+use Rattle.adb_one_request.specs.Accepted.{refusal_of, is_input}
+use Rattle.adb_one_request.specs.Refusal.{refused_at}
+use Rattle.adb_one_request.specs.declared.refusal.Reason.TheVariants.{NotBuilt}
 use Rattle.adb_top.specs.Client.{is_gone_phase}
 use Rattle.adb_top.specs.declared.machine.Refused.{Refused}
 use Rattle.adb_top.specs.declared.machine.Refused.TheVariants as refused

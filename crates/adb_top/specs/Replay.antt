@@ -3,10 +3,10 @@ use Rattle.std.specs.Prelude.{ℕ, ◌≡◌, ◌⊎◌, true, if◌then◌else�
 use Rattle.adb_capture.specs.Records.{magic, records_of}
 use Rattle.adb_capture.specs.declared.entry.Entry.{Entry}
 use Rattle.adb_capture.specs.Reading.{Reading, ahead_of}
-use Rattle.adb_history.specs.Machine.{History, state, IsLegal}
-use Rattle.adb_history.specs.Kept.{Kept, IsLawful}
-use Rattle.adb_history.specs.Drained.{next_out, drain_all, drained_after, drained_from}
-use Rattle.adb_history.specs.Accepted.{Accepted, refusal_of, is_input, accept_records}
+use Rattle.adb_one_request.specs.Machine.{History, state, IsLegal}
+use Rattle.adb_one_request.specs.Kept.{Kept, IsLawful}
+use Rattle.adb_one_request.specs.Drained.{next_out, drain_all, drained_after, drained_from}
+use Rattle.adb_one_request.specs.Accepted.{Accepted, refusal_of, is_input, accept_records}
 use Rattle.adb_top.specs.Keeping.{Out, Keeps, KeepsAs}
 use Rattle.adb_top.specs.declared.stop.Stop.{Stop}
 use Rattle.adb_top.specs.declared.stop.Stop.TheVariants.{ReadFault, WriteFault, OutOfMemory, Refused}

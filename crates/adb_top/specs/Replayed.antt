@@ -3,9 +3,9 @@ use Rattle.std.specs.Prelude.{ℕ, ◌≡◌, ◌≢◌, ◌⊎◌, List, [], �
 use Rattle.adb_capture.specs.Records.{magic, record_of}
 use Rattle.adb_capture.specs.declared.entry.Entry.{Entry}
 use Rattle.adb_outside.specs.Bytes.{IsPrefixOf}
-use Rattle.adb_history.specs.Machine.{History, IsLegal}
-use Rattle.adb_history.specs.Answered.{IsAnswered}
-use Rattle.adb_history.specs.Accepted.{accepted, replayed}
+use Rattle.adb_one_request.specs.Machine.{History, IsLegal}
+use Rattle.adb_one_request.specs.Answered.{IsAnswered}
+use Rattle.adb_one_request.specs.Accepted.{accepted, replayed}
 use Rattle.adb_top.specs.Keeping.{HasFront}
 use Rattle.adb_top.specs.Replay.{written_of, capture_of, EndsAs}
 use Rattle.adb_top.specs.declared.stop.Stop.{Stop}

@@ -1,7 +1,7 @@
 -- What a run leaves, by its status.
 use Rattle.std.specs.Prelude.{ℕ, ◌≡◌, ◌⊎◌, true, false, List, [], ◌++◌, Option, Some, None, String}
-use Rattle.adb_history.specs.Accepted.{Accepted, accepted, replayed}
-use Rattle.adb_history.specs.declared.refusal.Refusal.{Refusal}
+use Rattle.adb_one_request.specs.Accepted.{Accepted, accepted, replayed}
+use Rattle.adb_one_request.specs.declared.refusal.Refusal.{Refusal}
 use Rattle.adb_top.specs.Words.{is_replay}
 use Rattle.adb_top.specs.Notes.{bad_capture_line}
 use Rattle.adb_top.specs.Keeping.{HasFront}

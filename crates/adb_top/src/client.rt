@@ -3,12 +3,12 @@
 ghost use Rattle.std.specs.Prelude.{◌≡◌, ◌<◌, ◌≤◌, ◌+◌, ◌++◌, List, ℕ, [], length, take, drop, All};
 ghost use Rattle.std.specs.Prelude.{Some, None, Err, IfOk, OnOk, nat_lt};
 ghost use Rattle.std.specs.Option.{option_copied};
-ghost use Rattle.adb_history.specs.Machine.{Client as Row, fresh, settled, ended, handed, answer, end_phase, phase_after};
-ghost use Rattle.adb_history.specs.Kept.{kept_of, IsResting};
+ghost use Rattle.adb_one_request.specs.Machine.{Client as Row, fresh, settled, ended, handed, answer, end_phase, phase_after};
+ghost use Rattle.adb_one_request.specs.Kept.{kept_of, IsResting};
 ghost use Rattle.adb_request.specs.Meaning.{meaning};
 ghost use Rattle.adb_top.specs.Client.{ReadsPiece, AnswersPiece, ClosesWith, is_gone_phase};
 
-use adb_history::Phase;
+use adb_one_request::Phase;
 use adb_outside::{Cause, Text};
 use adb_request::{Found, Request, cut, read};
 use std::alloc::{AllocError, Global};
@@ -73,7 +73,7 @@ pub struct Client {
 
 impl Model for Client {
     ghost use Rattle.std.specs.Prelude.{◌≤◌, drop, length};
-    ghost use Rattle.adb_history.specs.Kept.{KeptClient};
+    ghost use Rattle.adb_one_request.specs.Kept.{KeptClient};
 
     ghost Value = { KeptClient };
 

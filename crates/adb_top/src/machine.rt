@@ -4,8 +4,8 @@ ghost use Rattle.std.specs.Prelude.{◌≡◌, ◌≢◌, ◌<◌, ◌≤◌, �
 ghost use Rattle.adb_outside.specs.declared.kinds.Kind.{Kind};
 ghost use Rattle.adb_outside.specs.Tables.{at};
 ghost use Rattle.adb_capture.specs.declared.entry.Entry.{Entry};
-ghost use Rattle.adb_history.specs.Machine.{State, Client as Row, fresh, start, step, settled, ended};
-ghost use Rattle.adb_history.specs.Kept.{Kept, kept, kept_of, IsResting, IsOrderly};
+ghost use Rattle.adb_one_request.specs.Machine.{State, Client as Row, fresh, start, step, settled, ended};
+ghost use Rattle.adb_one_request.specs.Kept.{Kept, kept, kept_of, IsResting, IsOrderly};
 ghost use Rattle.adb_top.specs.Stop.{stop_at};
 ghost use Rattle.adb_top.specs.Due.{due_at, owed_in};
 ghost use Rattle.adb_top.specs.Machine.{ChangesOne, Becomes, ReadsRow, ReadsNone, HandsRow, Applies, Puts, HandsNext};
@@ -14,7 +14,7 @@ ghost use Rattle.adb_capture.specs.Records.{HasRecord};
 use crate::client::{Client, Unread};
 use crate::stop::Stop;
 use adb_capture::Entry;
-use adb_history::{HAND_OUT, Reason, Refusal};
+use adb_one_request::{HAND_OUT, Reason, Refusal};
 use adb_outside::{Cause, Text, is_serial};
 use std::alloc::{AllocError, Global};
 use std::collections::{BTreeMap, BTreeSet};
@@ -83,7 +83,7 @@ pub struct Machine {
 }
 
 impl Model for Machine {
-    ghost use Rattle.adb_history.specs.Kept.{Kept};
+    ghost use Rattle.adb_one_request.specs.Kept.{Kept};
     ghost use Rattle.adb_top.specs.Due.{CoversDue};
 
     ghost Value = { Kept };

@@ -4,9 +4,9 @@
 ghost use Rattle.std.specs.Prelude.{◌≡◌, ◌≢◌, None, Err, not, true};
 ghost use Rattle.adb_outside.specs.Outside.{Counts};
 ghost use Rattle.adb_capture.specs.Records.{HasRecord};
-ghost use Rattle.adb_history.specs.Machine.{History};
-ghost use Rattle.adb_history.specs.Kept.{IsLawful};
-ghost use Rattle.adb_history.specs.Accepted.{is_input};
+ghost use Rattle.adb_one_request.specs.Machine.{History};
+ghost use Rattle.adb_one_request.specs.Kept.{IsLawful};
+ghost use Rattle.adb_one_request.specs.Accepted.{is_input};
 ghost use Rattle.adb_top.specs.Replay.{IsDrained, Drains, ReplaysEntry, Replays, moment};
 ghost use Rattle.adb_top.specs.Replayed.{ReplaysCapture};
 ghost use Rattle.adb_top.specs.Keeping.{KeepsEntry, CountsReads, IsLoss, is_write_fault, is_read_fault};

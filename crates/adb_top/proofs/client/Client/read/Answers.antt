@@ -1,5 +1,5 @@
 use Rattle.std.proofs.Common.{rules, ◌≢◌, ap, ◌∙◌}
-use Rattle.adb_history.specs.declared.phase.Phase.TheVariants.{Asking}
+use Rattle.adb_one_request.specs.declared.phase.Phase.TheVariants.{Asking}
 use Rattle.adb_top.proofs.Clients.{idle_reads}
 use Rattle.adb_top.proofs.client.Client.read.Goals as goal
 

@@ -1,5 +1,5 @@
 use Rattle.std.proofs.Common.{sym, ◌∙◌, refl}
-use Rattle.adb_history.specs.Machine.{ended}
+use Rattle.adb_one_request.specs.Machine.{ended}
 use Rattle.adb_top.proofs.Machines.{row_changes, ended_gone, is_drawn_of}
 use Rattle.adb_top.proofs.machine.Machine.end.Goals as goal
 

@@ -1,6 +1,6 @@
 use Rattle.std.proofs.Common.{sym, ◌∙◌, refl, false}
 use Rattle.std.proofs.lemmas.Result.{err_from_is_err_and}
-use Rattle.adb_history.specs.Machine.{bytes_in}
+use Rattle.adb_one_request.specs.Machine.{bytes_in}
 use Rattle.adb_top.proofs.Machines.{row_changes, row_asks, is_drawn_of, bytes_gone, read_fails}
 use Rattle.adb_top.proofs.machine.Machine.read.Goals as goal
 

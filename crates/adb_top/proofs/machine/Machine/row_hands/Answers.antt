@@ -1,6 +1,6 @@
 use Rattle.std.proofs.Common.{◌<◌, subst, sym}
 use Rattle.adb_outside.specs.Tables.{at}
-use Rattle.adb_history.specs.Kept.{Kept}
+use Rattle.adb_one_request.specs.Kept.{Kept}
 use Rattle.adb_top.specs.Due.{due_in, owed_by, owed_in}
 use Rattle.adb_top.proofs.Owed.{handed_less}
 use Rattle.adb_top.proofs.machine.Machine.row_hands.Goals as goal

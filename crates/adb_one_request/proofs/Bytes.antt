@@ -8,9 +8,9 @@ use Rattle.adb_request.specs.Requests.{request_at}
 use Rattle.adb_request.specs.Meaning.{meaning}
 use Rattle.adb_request.specs.declared.cutting.Found.{Found}
 use Rattle.adb_request.specs.declared.cutting.Found.TheVariants.{More, Malformed, Whole}
-use Rattle.adb_history.specs.Machine.{answer, Client, closing, answered, asks, byte_in, bytes_in, is_unbuilt, byte_asks_unbuilt, asks_unbuilt}
-use Rattle.adb_history.specs.declared.phase.Phase.TheVariants.{Asking, Closing, Gone}
-use Rattle.adb_history.proofs.Requests.{more_front, whole_front, malformed_front, whole_exact}
+use Rattle.adb_one_request.specs.Machine.{answer, Client, closing, answered, asks, byte_in, bytes_in, is_unbuilt, byte_asks_unbuilt, asks_unbuilt}
+use Rattle.adb_one_request.specs.declared.phase.Phase.TheVariants.{Asking, Closing, Gone}
+use Rattle.adb_one_request.proofs.Requests.{more_front, whole_front, malformed_front, whole_exact}
 
 abbrev pub asking_with : List ℕ → Client → Client
 asking_with unread c = record c { phase = Asking; unread = unread }

@@ -3,10 +3,10 @@ use Rattle.std.proofs.Common.{ℕ, ◌≡◌, ◌≢◌, ◌≤◌, ◌<◌, Boo
 use Rattle.std.proofs.lemmas.Bool.{eqb-true, eqb-false, ne_eqb}
 use Rattle.adb_outside.specs.Tables.{at, IsRising, listed}
 use Rattle.adb_outside.proofs.TableLaws.{shows, same_table}
-use Rattle.adb_history.specs.Kept.{Kept, KeptClient, kept, kept_row, kept_if_live, IsOrderly}
-use Rattle.adb_history.specs.Machine.{Client, State}
-use Rattle.adb_history.specs.declared.phase.Phase.{Phase}
-use Rattle.adb_history.specs.declared.phase.Phase.TheVariants.{Asking, Closing, Gone}
+use Rattle.adb_one_request.specs.Kept.{Kept, KeptClient, kept, kept_row, kept_if_live, IsOrderly}
+use Rattle.adb_one_request.specs.Machine.{Client, State}
+use Rattle.adb_one_request.specs.declared.phase.Phase.{Phase}
+use Rattle.adb_one_request.specs.declared.phase.Phase.TheVariants.{Asking, Closing, Gone}
 
 -- what the table of a state has at a number
 pub at_kept : (s : State) → IsOrderly s → (q : ℕ) → at q (kept s).clients ≡ kept_if_live (s.clients q)

@@ -3,9 +3,9 @@ use Rattle.std.specs.Prelude.{ℕ, ◌≡◌, List, [], ◌∷◌, ◌++◌, Non
 use Rattle.std.proofs.Common.{refl}
 use Rattle.adb_request.specs.Meaning.{meaning}
 use Rattle.adb_capture.specs.Records.{record_at}
-use Rattle.adb_history.specs.Refusal.{refused_at}
-use Rattle.adb_history.specs.Accepted.{accepted, replayed}
-use Rattle.adb_history.specs.declared.refusal.Reason.TheVariants.{BadMagic, Truncated, NotDrawn, NotBuilt}
+use Rattle.adb_one_request.specs.Refusal.{refused_at}
+use Rattle.adb_one_request.specs.Accepted.{accepted, replayed}
+use Rattle.adb_one_request.specs.declared.refusal.Reason.TheVariants.{BadMagic, Truncated, NotDrawn, NotBuilt}
 
 -- the magic, ADBHUB1 and a newline
 abbrev begins : List ℕ

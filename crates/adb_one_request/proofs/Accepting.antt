@@ -10,10 +10,10 @@ use Rattle.adb_capture.proofs.Fronts.{framing}
 use Rattle.adb_capture.specs.declared.entry.Entry.{Entry}
 use Rattle.adb_capture.specs.Faults.{error_of}
 use Rattle.adb_capture.specs.declared.error.FormFault.{FormFault}
-use Rattle.adb_history.specs.Machine.{History, state}
-use Rattle.adb_history.specs.Drained.{or_stay, drain, drained_after, drained_from, next_out, owed}
-use Rattle.adb_history.specs.Refusal.{refusal_by}
-use Rattle.adb_history.specs.Accepted.{Accepted, refusal_of, is_input, accept_by, accept_from, accept_cut, accept_records, end_of}
+use Rattle.adb_one_request.specs.Machine.{History, state}
+use Rattle.adb_one_request.specs.Drained.{or_stay, drain, drained_after, drained_from, next_out, owed}
+use Rattle.adb_one_request.specs.Refusal.{refusal_by}
+use Rattle.adb_one_request.specs.Accepted.{Accepted, refusal_of, is_input, accept_by, accept_from, accept_cut, accept_records, end_of}
 
 -- a front of the records ahead decides what is accepted of them
 abbrev pub accept_front : ℕ → List ℕ → Front FormFault → History → Accepted

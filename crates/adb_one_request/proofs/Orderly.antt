@@ -11,11 +11,11 @@ use Rattle.adb_outside.specs.declared.kinds.Cause.{Cause}
 use Rattle.adb_outside.specs.declared.kinds.Cause.TheVariants.{Eof, Fault, Starved, NoThread}
 use Rattle.adb_capture.specs.declared.entry.Entry.{Entry}
 use Rattle.adb_capture.specs.declared.entry.Entry.TheVariants.{Join, Enter, Read, End, Bound, Attach, Recv, Detach, Put, Send}
-use Rattle.adb_history.specs.Machine.{Client, State, History, state, step, May, IsLegal, IsDrawn, fresh, settled, answer, answered, asks, byte_in}
-use Rattle.adb_history.specs.Machine.{bytes_in, phase_after, end_phase, ended, handed, to_client}
-use Rattle.adb_history.specs.Kept.{IsResting, IsOrderly}
-use Rattle.adb_history.specs.declared.phase.Phase.{Phase}
-use Rattle.adb_history.specs.declared.phase.Phase.TheVariants.{Asking, Closing, Gone}
+use Rattle.adb_one_request.specs.Machine.{Client, State, History, state, step, May, IsLegal, IsDrawn, fresh, settled, answer, answered, asks, byte_in}
+use Rattle.adb_one_request.specs.Machine.{bytes_in, phase_after, end_phase, ended, handed, to_client}
+use Rattle.adb_one_request.specs.Kept.{IsResting, IsOrderly}
+use Rattle.adb_one_request.specs.declared.phase.Phase.{Phase}
+use Rattle.adb_one_request.specs.declared.phase.Phase.TheVariants.{Asking, Closing, Gone}
 
 -- one entry more at the end of an oldest-first list
 pub told_more : (told : List Entry) (e : Entry) → reverse (told ++ e ∷ []) ≡ e ∷ reverse told

@@ -6,10 +6,10 @@ use Rattle.std.proofs.lemmas.List.{length-drop, length-take, take-append-drop}
 use Rattle.adb_capture.specs.declared.entry.Entry.{Entry}
 use Rattle.adb_capture.specs.declared.entry.Entry.TheVariants.{Put}
 use Rattle.adb_outside.specs.Tables.{Rows, change_row}
-use Rattle.adb_history.specs.declared.hand_out.TheConstants.{HAND_OUT}
-use Rattle.adb_history.specs.Machine.{Client, State, History, state, step, settled, handed, IsDrawn, IsLegal, May}
-use Rattle.adb_history.proofs.Orderly.{orderly}
-use Rattle.adb_history.specs.Drained.{out_or, first_out, next_out, owed_from, owed, drain, drain_all, or_stay}
+use Rattle.adb_one_request.specs.declared.hand_out.TheConstants.{HAND_OUT}
+use Rattle.adb_one_request.specs.Machine.{Client, State, History, state, step, settled, handed, IsDrawn, IsLegal, May}
+use Rattle.adb_one_request.proofs.Orderly.{orderly}
+use Rattle.adb_one_request.specs.Drained.{out_or, first_out, next_out, owed_from, owed, drain, drain_all, or_stay}
 
 -- a change at a lower number changes nothing
 owed_below : (rows : Rows Client) (f : Client → Client) (m n k : ℕ) → m < n → owed_from (change_row m f rows) n k ≡ owed_from rows n k

@@ -1,0 +1,32 @@
+-- Clients that track the list of the devices (SERVICES.TXT, `host:track-devices`).
+use Rattle.std.specs.Prelude.{ℕ, Bool, true, false, if◌then◌else◌, ◌&&◌, List, [], ◌∷◌, ◌++◌, Option, Some, None, option_map}
+use Rattle.adb_reply.specs.Strings.{string}
+use Rattle.adb_reply.specs.Answer.{device_list}
+use Rattle.adb_registry.specs.Registry.{DeviceTable}
+use Rattle.adb_client.specs.declared.phase.Phase.{Phase}
+use Rattle.adb_client.specs.declared.phase.Phase.TheVariants.{Tracking}
+use Rattle.adb_history.specs.Rows.{Client, State, to_client}
+use Rattle.adb_history.specs.Events.{Made, quietly, due_to_client}
+
+-- the list that a tracker is handed, behind its length
+abbrev pub tracked_list : DeviceTable → Bool → List ℕ
+tracked_list devices long = string (device_list devices.rows long)
+
+abbrev pub marked_in : Phase → Client → Client
+marked_in Tracking c = record c { about = record c.about { mark = true } }
+marked_in _ c = c
+
+abbrev pub marked : Client → Client
+marked c = marked_in c.about.phase c
+
+-- the devices changed: each tracker's list is stale
+abbrev pub mark_all : State → State
+mark_all s = record s { clients = λ c. option_map marked (s.clients c) }
+
+-- What may be handed out to a client: what is due; and where nothing is, the present list to a tracker whose list is stale.
+abbrev pub offered : DeviceTable → Client → List ℕ
+offered devices c = offers devices c.about.mark c.about.long c.due
+  where
+    offers : DeviceTable → Bool → Bool → List ℕ → List ℕ
+    offers devices mark long [] = if mark then tracked_list devices long else []
+    offers devices mark long (b ∷ due) = b ∷ due
