@@ -30,6 +30,6 @@ take_drop xs ys n h =
     let e : min n (length xs) ≡ length xs = omega (arith, h) in
     let none : drop (min n (length xs)) xs ≡ [] = ap (λ (m : ℕ). drop m xs) e ∙ drop-length xs in
     let rest : drop n (xs ++ ys) ≡ drop (n - length xs) ys =
-        drop-append_min xs ys n ∙ (ap (λ (l : List ℕ). l ++ drop (n - min n (length xs)) ys) none ∙ ap (λ (m : ℕ). drop (n - m) ys) e)
+    drop-append_min xs ys n ∙ (ap (λ (l : List ℕ). l ++ drop (n - min n (length xs)) ys) none ∙ ap (λ (m : ℕ). drop (n - m) ys) e)
     in
     ap (λ (l : List ℕ). take n (xs ++ ys) ++ l) (sym rest) ∙ take-append-drop n (xs ++ ys)

@@ -16,6 +16,7 @@ const MOST: usize = 1 << 63;
 
 /// How many bytes, and how many places of slices, may stay taken where nothing is due.
 const FEW_BYTES: usize = 16 * 1024;
+
 const FEW_SLICES: usize = 64;
 
 /// The bytes that are due: slices, which are shared, and behind them bytes of its own, with the places

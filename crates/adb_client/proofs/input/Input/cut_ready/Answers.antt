@@ -23,11 +23,11 @@ returns-clause-piece c =
     let cuts : c.self.inside.cuts ≡ c.args.self.now.cuts = ap (λ (i : Incoming). i.cuts) c.self.view_is in
     let within : c.args.n ≤ length c.self.inside.front = omega (arith, c.self.invariant.ready) in
     let held : take c.args.n c.args.self.now.held ≡ take c.args.n c.self.inside.front =
-        sym (ap (λ (i : Incoming). take c.args.n i.held) c.self.view_is) ∙ take-append-le c.args.n c.self.inside.front c.self.inside.rest.items within
+    sym (ap (λ (i : Incoming). take c.args.n i.held) c.self.view_is) ∙ take-append-le c.args.n c.self.inside.front c.self.inside.rest.items within
     in
     let handle : c.unwrap_or-handle.result ≡ unwrap_or c.pop.result [] = search rules in
     let none : c.pop.result ≡ None → c.args.n ≡ 0 =
-        λ was. let empty = (rw was at c.pop.ensures.cases).0 in
-        nothing_ready c.args.n c.self.inside.ready c.self.inside.cuts _ (omega arith) (omega arith) empty c.self.invariant.cuts
+    λ was. let empty = (rw was at c.pop.ensures.cases).0 in
+    nothing_ready c.args.n c.self.inside.ready c.self.inside.cuts _ (omega arith) (omega arith) empty c.self.invariant.cuts
     in
     cc (held, piece_is c.args.n c.self.inside.front c.pop.result ends none)
