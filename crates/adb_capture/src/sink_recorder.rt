@@ -113,7 +113,7 @@ impl<K: Sink + Drop> Recorder for SinkRecorder<K> {
         // Until the sink failed: the record goes out, behind the magic where it is the first one.
         ensures writes { (out : List ℕ) → self.old.faults ≡ 0 → K.written self.old.sink ≡ Some out
             → WritesRecord out (recorded self.old.opened entry.now)
-                (K.written self.new.sink) result }
+            (K.written self.new.sink) result }
         ensures opened { OnOk result (self.new.opened ≡ true) }
         ensures sink { self.old.faults ≡ 0 → Counts K.steady K.faults
             self.old.sink self.new.sink (is_failed_record result) }

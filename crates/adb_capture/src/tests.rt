@@ -10,11 +10,10 @@ use std::alloc::{AllocError, Global};
 use std::process::Abort;
 use std::test::Fail;
 
-/// A record, and what its entry says.
-type Row<'a> = (&'a [u8], (&'a str, u32, u16, &'a [u8]));
-
 /// What an entry says: its kind, its number, what else is no text, and its text.
-fn said(entry: &Entry) -> (&'static str, u32, u16, &[u8]) {
+type Said<'a> = (&'a str, u32, u16, &'a [u8]);
+
+fn said(entry: &Entry) -> Said<'_> {
     match entry {
         Entry::Join { client } => ("join", *client, 0, b""),
         Entry::Enter { client, port } => ("enter", *client, *port, b""),
@@ -29,7 +28,7 @@ fn said(entry: &Entry) -> (&'static str, u32, u16, &[u8]) {
     }
 }
 
-fn says(rt: &impl Abort, entry: &Entry, want: (&str, u32, u16, &[u8])) {
+fn says(rt: &impl Abort, entry: &Entry, want: Said<'_>) {
     let (kind, number, word, text) = said(entry);
     assert!(rt; kind == want.0, "{kind} is no {}", want.0);
     assert!(rt; number == want.1 && word == want.2 && text == want.3);
@@ -53,18 +52,14 @@ impl Bench {
         })
     }
 
-    /// The next entry says this, and its record is this.
-    fn gives(
-        &mut self,
-        rt: &impl Abort,
-        alloc: Global,
-        want: (&str, u32, u16, &[u8]),
-        record: &[u8],
-    ) -> Result<(), Fail> {
+    /// The next entry, which is written again and added again.
+    fn copies(&mut self, sink: &mut MemorySink, queue: &mut ByteQueue) -> Result<Entry, Fail> {
         let (_, entry) = self.reader.next(&mut self.source)?.ok_or("no record")?;
-        says(rt, &entry, want);
-        is_spelled(rt, alloc, &entry, record)?;
-        Ok(())
+        if write_entry(sink, &entry) != Wrote::All {
+            return Err("not written".into());
+        }
+        append_entry(queue, &entry)?;
+        Ok(entry)
     }
 
     /// The next call answers the error, and the one after it.
@@ -75,58 +70,44 @@ impl Bench {
     }
 }
 
-/// An entry is written so, and added so.
-fn is_spelled(
-    rt: &impl Abort,
-    alloc: Global,
-    entry: &Entry,
-    record: &[u8],
-) -> Result<(), AllocError>
-    requires { HasRecord entry.now }
-{
-    let mut sink = MemorySink::new(alloc, Vec::new(alloc));
-    assert!(rt; write_entry(&mut sink, entry) == Wrote::All);
-    assert!(rt; sink.bytes() == record);
-    let mut queue = ByteQueue::new(alloc);
-    append_entry(&mut queue, entry)?;
-    assert!(rt; queue.as_slice() == record);
-    Ok(())
-}
-
-/// The capture of these records.
-fn capture_of(alloc: Global, rows: &[Row<'_>]) -> Result<ByteQueue, AllocError> {
-    let mut capture = ByteQueue::new(alloc);
-    append_magic(&mut capture)?;
-    for (record, _) in rows {
-        capture.push(record)?;
-    }
-    Ok(capture)
-}
-
 /// A record of each kind, and what its entry says.
 #[test]
 fn records_are_read_and_written(rt: HostRuntime) -> Result<(), Fail> {
-    let rows: [Row<'_>; 10] = [
-        (b"J\x01\x02\x03\x04\0\0\0\0", ("join", 67305985, 0, b"")),
-        (b"N\x02\0\0\0\x02\0\0\0\x39\x30", ("enter", 2, 12345, b"")),
-        (b"R\x03\0\0\0\x02\0\0\0hi", ("read", 3, 0, b"hi")),
-        (b"E\x04\0\0\0\x01\0\0\0\x03", ("end", 4, 3, b"")),
-        (b"B\x05\0\0\0\x02\0\0\0\0\0", ("bound", 5, 0, b"")),
-        (b"A\x06\0\0\0\x04\0\0\0labc", ("attach", 6, 1, b"abc")),
-        (
-            b"V\x07\0\0\0\x03\0\0\0\0\xff\n",
-            ("recv", 7, 0, b"\0\xff\n"),
-        ),
-        (b"D\x08\0\0\0\x01\0\0\0\x02", ("detach", 8, 2, b"")),
-        (b"P\x09\0\0\0\0\0\0\0", ("put", 9, 0, b"")),
-        (b"S\x0a\0\0\0\x01\0\0\0s", ("send", 10, 0, b"s")),
+    let capture = b"ADBHUB1\n\
+        J\x01\x02\x03\x04\0\0\0\0\
+        N\x02\0\0\0\x02\0\0\0\x39\x30\
+        R\x03\0\0\0\x02\0\0\0hi\
+        E\x04\0\0\0\x01\0\0\0\x03\
+        B\x05\0\0\0\x02\0\0\0\0\0\
+        A\x06\0\0\0\x04\0\0\0labc\
+        V\x07\0\0\0\x03\0\0\0\0\xff\n\
+        D\x08\0\0\0\x01\0\0\0\x02\
+        P\x09\0\0\0\0\0\0\0\
+        S\x0a\0\0\0\x01\0\0\0s"
+        .as_slice();
+    let rows: &[Said<'_>] = &[
+        ("join", 67305985, 0, b""),
+        ("enter", 2, 12345, b""),
+        ("read", 3, 0, b"hi"),
+        ("end", 4, 3, b""),
+        ("bound", 5, 0, b""),
+        ("attach", 6, 1, b"abc"),
+        ("recv", 7, 0, b"\0\xff\n"),
+        ("detach", 8, 2, b""),
+        ("put", 9, 0, b""),
+        ("send", 10, 0, b"s"),
     ];
-    let capture = capture_of(rt.alloc(), &rows)?;
-    let mut bench = Bench::new(rt.alloc(), capture.as_slice(), &[])?;
-    for (record, want) in rows {
-        bench.gives(&rt, rt.alloc(), want, record)?;
+    let mut bench = Bench::new(rt.alloc(), capture, &[])?;
+    assert!(rt; bench.reader.open(&mut bench.source).is_ok());
+    let mut sink = MemorySink::new(rt.alloc(), Vec::new(rt.alloc()));
+    let mut queue = ByteQueue::new(rt.alloc());
+    assert!(rt; write_magic(&mut sink) == Wrote::All);
+    append_magic(&mut queue)?;
+    for want in rows {
+        says(&rt, &bench.copies(&mut sink, &mut queue)?, *want);
     }
     assert!(rt; matches!(bench.reader.next(&mut bench.source), Ok(None)));
+    assert!(rt; sink.bytes() == capture && queue.as_slice() == capture);
     Ok(())
 }
 
@@ -134,7 +115,7 @@ fn records_are_read_and_written(rt: HostRuntime) -> Result<(), Fail> {
 fn captures_are_refused(rt: HostRuntime) -> Result<(), Fail> {
     let bad = |why| CaptureError::BadRecord { offset: 8, why };
     let truncated = CaptureError::Truncated { offset: 8 };
-    let cases: [(&[u8], CaptureError); 16] = [
+    let cases: &[(&[u8], CaptureError)] = &[
         (b"", CaptureError::BadMagic),
         (b"ADBHUB1\r\n", CaptureError::BadMagic),
         (b"ADBHUB1\nJ", truncated),
@@ -153,8 +134,10 @@ fn captures_are_refused(rt: HostRuntime) -> Result<(), Fail> {
         (b"ADBHUB1\nX\0\0\0\0\0\0\0", truncated),
     ];
     for (capture, error) in cases {
-        Bench::new(rt.alloc(), capture, &[])?.fails(&rt, error);
+        Bench::new(rt.alloc(), capture, &[])?.fails(&rt, *error);
     }
+    let part = b"ADBHUB1\nJ\x01\0\0\0\0";
+    Bench::new(rt.alloc(), part, &[3])?.fails(&rt, CaptureError::ReadFault);
     Ok(())
 }
 
@@ -169,14 +152,6 @@ fn a_capture_has_a_last_byte(rt: HostRuntime) {
     read_is_spelled();
 }
 
-#[test]
-fn a_source_fails(rt: HostRuntime) -> Result<(), Fail> {
-    let mut bench = Bench::new(rt.alloc(), b"ADBHUB1\nJ\x01\0\0\0\0", &[3])?;
-    assert!(rt; bench.reader.open(&mut bench.source).is_ok());
-    bench.fails(&rt, CaptureError::ReadFault);
-    Ok(())
-}
-
 /// An entry whose record is written in two pieces.
 fn attach(alloc: Global) -> Result<Entry, AllocError>
     ensures { IfOk result HasRecord }
@@ -188,41 +163,29 @@ fn attach(alloc: Global) -> Result<Entry, AllocError>
     })
 }
 
+/// Recorders in memory, over a sink and over nothing. Of the first the second call fails, of the
+/// second the second record is torn: nothing follows it.
 #[test]
-fn a_sink_fails(rt: HostRuntime) -> Result<(), Fail> {
-    let mut sink = MemorySink::new(rt.alloc(), Vec::from_slice(rt.alloc(), &[3])?);
-    assert!(rt; write_magic(&mut sink) == Wrote::All);
-    assert!(rt; write_entry(&mut sink, &attach(rt.alloc())?) == (Wrote::Failed { taken: 10 }));
-    Ok(())
-}
-
-/// A recorder over a sink whose second record is torn: nothing follows it.
-#[test]
-fn records_go_out(rt: HostRuntime) -> Result<(), Fail> {
+fn recorders_keep(rt: HostRuntime) -> Result<(), Fail> {
     let entry = attach(rt.alloc())?;
+    let mut memory = MemoryRecorder::new(rt.alloc(), Vec::from_slice(rt.alloc(), &[2])?);
     let failing = Vec::from_slice(rt.alloc(), &[5])?;
-    let mut recorder = SinkRecorder::new(MemorySink::new(rt.alloc(), failing));
-    assert!(rt; recorder.keep(&entry) == Ok(()));
-    assert!(rt; recorder.sink().bytes() == b"ADBHUB1\nA\x01\0\0\0\x04\0\0\0uabc".as_slice());
-    for _ in 0..2 {
-        assert!(rt; recorder.keep(&entry) == Err(RecordError::Failed));
-        assert!(rt; recorder.sink().bytes().ends_with(b"uabcA\x01\0\0\0\x04\0\0\0u"));
+    let mut written = SinkRecorder::new(MemorySink::new(rt.alloc(), failing));
+    let torn = b"ADBHUB1\nA\x01\0\0\0\x04\0\0\0uabcA\x01\0\0\0\x04\0\0\0u".as_slice();
+    let rows: &[(bool, bool, usize, usize)] = &[
+        (true, true, 1, 21),
+        (false, false, 1, 31),
+        (true, false, 2, 31),
+    ];
+    for &(kept, wrote, count, len) in rows {
+        assert!(rt; memory.keep(&entry).is_ok() == kept);
+        assert!(rt; written.keep(&entry).is_ok() == wrote);
+        assert!(rt; memory.entries().len() == count);
+        assert!(rt; written.sink().bytes() == &torn[..len]);
     }
-    assert!(rt; NullRecorder::new().keep(&entry) == Ok(()));
-    Ok(())
-}
-
-/// A recorder in memory whose second call fails.
-#[test]
-fn entries_are_kept(rt: HostRuntime) -> Result<(), Fail> {
-    let entry = attach(rt.alloc())?;
-    let mut recorder = MemoryRecorder::new(rt.alloc(), Vec::from_slice(rt.alloc(), &[2])?);
-    for fails in [false, true, false] {
-        assert!(rt; recorder.keep(&entry).is_err() == fails);
+    for copy in memory.entries() {
+        says(&rt, copy, ("attach", 1, 0, b"abc"));
     }
-    assert!(rt; recorder.entries().len() == 2);
-    for kept in recorder.entries() {
-        says(&rt, kept, ("attach", 1, 0, b"abc"));
-    }
+    assert!(rt; NullRecorder::new().keep(&entry).is_ok());
     Ok(())
 }
