@@ -1,0 +1,3 @@
+pub mod Binder
+pub mod Memory
+pub mod OpenPorts

@@ -1,0 +1,12 @@
+//! What binds the ports of forwards, and the ports that are bound.
+#![tactic(auto)]
+
+mod binder;
+mod memory;
+mod open_ports;
+#[cfg(test)]
+mod tests;
+
+pub use binder::{Binder, Binding};
+pub use memory::MemoryBinder;
+pub use open_ports::OpenPorts;

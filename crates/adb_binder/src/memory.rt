@@ -1,0 +1,130 @@
+//! A binder in memory, which fails where a test wants it.
+
+ghost use Rattle.std.specs.Prelude.{◌≡◌, ◌≢◌, [], Some, option_map};
+ghost use Rattle.adb_outside.specs.Outside.{Counts, TellsOneMore};
+ghost use Rattle.adb_binder.specs.Binder.{FitsPort, port_of, is_failed_bind};
+ghost use Rattle.adb_binder.specs.Memory.{Binds, Noted, Offers};
+
+use crate::binder::{Binder, Binding};
+use adb_outside::{Answers, Failing};
+use std::alloc::Global;
+use std::marker::Model;
+
+/// A binder that binds nothing. It tells its answers as long as it finds memory for them. The call
+/// that finds none fails, so it is never steady.
+#[derive(Drop)]
+pub struct MemoryBinder {
+    next: Option<u16>,
+    answered: Answers<(u16, u16)>,
+    failing: Failing,
+}
+
+impl Model for MemoryBinder {
+    ghost use Rattle.std.specs.Prelude.{◌≢◌, IfSome};
+    ghost use Rattle.adb_binder.specs.Memory.{Bindings};
+
+    ghost Value = { Bindings };
+
+    ghost view = { λ binder. record {
+      next = binder.next;
+      answered = binder.answered;
+      failing = binder.failing.failing;
+      calls = binder.failing.calls;
+      faults = binder.failing.faults;
+    } };
+
+    ghost invariant = { λ binder. IfSome binder.next (λ port. port ≢ 0) };
+}
+
+impl MemoryBinder {
+    /// A binder that answers `first` and then one more each time where any port is asked for, up to
+    /// 65,535, and fails there afterwards; and that fails at the calls whose numbers, counted from 1,
+    /// are in `failing`. It takes no memory.
+    pub fn new(alloc: Global, first: u16, failing: Vec<u64>) -> MemoryBinder
+        requires { first ≢ 0 }
+        ensures { result ≡ record {
+          next = Some first;
+          answered = Some [];
+          failing = failing.items;
+          calls = 0;
+          faults = 0;
+        } }
+    {
+        MemoryBinder {
+            next: Some(first),
+            answered: Answers::new(alloc),
+            failing: Failing::new(failing),
+        }
+    }
+
+    /// The ports that were asked for and answered, as long as it finds memory for them.
+    pub fn answered(&self) -> Option<&[(u16, u16)]>
+        ensures { option_map (λ list. list.now) result ≡ self.now.answered }
+    {
+        self.answered.list()
+    }
+
+    /// The answer to a port that is asked for, if it can be noted.
+    fn offer(&mut self, port: u16) -> Binding
+        ensures fits { FitsPort port result }
+        ensures counts { Counts (λ binder. ⊥) (λ binder. binder.faults)
+            self.old self.new (is_failed_bind result) }
+        ensures offers { Offers self.old port result self.new }
+    {
+        if self.failing.fails() {
+            return Binding::Failed;
+        }
+        let offered = if port == 0 { self.next } else { Some(port) };
+        match offered {
+            Some(port) => Binding::Bound(port),
+            None => {
+                self.failing.count_fault();
+                Binding::Failed
+            }
+        }
+    }
+
+    /// Notes an answer; `false` where the answers were told, and there is no memory for this one.
+    fn note(&mut self, port: u16, binding: Binding) -> bool
+        ensures told { TellsOneMore self.old.answered (port, port_of binding) self.new.answered }
+        ensures noted { Noted self.old.answered result self.new.answered }
+        ensures same { self.new ≡ record self.old { answered = self.new.answered } }
+    {
+        let answered = match binding {
+            Binding::Bound(port) => port,
+            Binding::Failed => 0,
+        };
+        let told = self.answered.list().is_some();
+        self.answered.note((port, answered)) || !told
+    }
+}
+
+impl Binder for MemoryBinder {
+    ghost faults = { λ binder. binder.faults };
+
+    ghost answered = { λ binder. binder.answered };
+
+    ghost steady = { λ binder. ⊥ };
+
+    /// It fails at the calls whose numbers are in the list, where any port is asked for and none is
+    /// left, and where it finds no memory for its answer.
+    fn bind(&mut self, port: u16) -> Binding
+        ensures fits { FitsPort port result }
+        ensures told { TellsOneMore self.old.answered (port, port_of result) self.new.answered }
+        ensures counts { Counts (λ binder. ⊥) (λ binder. binder.faults)
+            self.old self.new (is_failed_bind result) }
+        ensures binds { Binds self.old port result self.new }
+    {
+        let binding = self.offer(port);
+        if !self.note(port, binding) {
+            self.failing.count_fault();
+            return Binding::Failed;
+        }
+        if let Binding::Bound(given) = binding {
+            if port == 0 {
+                self.next = given.checked_add(1);
+            }
+        }
+        binding
+    }
+}
