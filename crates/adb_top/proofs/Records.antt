@@ -206,7 +206,7 @@ replaying_on first now new holds holds_new offset e gives sound opened entry r =
     made others =
         let on = accept_on (is_input e) r.done e others in (
           ap (λ why. drained_from r.done (accept_by why (is_input e) r.done e others).inputs) x.gives.0
-          ∙ (on.0 ∙ ap (λ h. drained_from h (others h).inputs) (sym x.gives.1)),
+              ∙ (on.0 ∙ ap (λ h. drained_from h (others h).inputs) (sym x.gives.1)),
           ap (λ why. (accept_by why (is_input e) r.done e others).refused) x.gives.0 ∙ (on.1 ∙ ap (λ h. (others h).refused) (sym x.gives.1)),
         )
 
