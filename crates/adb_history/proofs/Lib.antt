@@ -1,3 +1,6 @@
+mod Calm
+mod Draining
+mod Drains
 mod WorkedClients
 mod WorkedStreams
 mod WorkedWords

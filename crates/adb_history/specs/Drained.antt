@@ -48,10 +48,6 @@ abbrev pub owed_link : Option Link → ℕ
 owed_link None = 0
 owed_link (Some link) = length link.due
 
-abbrev pub owed_links : Rows (Option Link) → (t k : ℕ) → ℕ
-owed_links links t zero = 0
-owed_links links t (suc k) = owed_link (links t) + owed_links links (suc t) k
-
 -- the bytes that a client is owed, with those of the list that it has to be handed
 abbrev pub owed_list : DeviceTable → Bool → Bool → ℕ
 owed_list devices mark long = if mark then length (tracked_list devices long) else 0
@@ -60,9 +56,16 @@ abbrev pub owed_client : DeviceTable → Option Client → ℕ
 owed_client devices None = 0
 owed_client devices (Some client) = length client.due + owed_list devices client.about.mark client.about.long
 
-abbrev pub owed_clients : DeviceTable → Rows (Option Client) → (c k : ℕ) → ℕ
-owed_clients devices clients c zero = 0
-owed_clients devices clients c (suc k) = owed_client devices (clients c) + owed_clients devices clients (suc c) k
+-- what k rows owe, together
+abbrev pub owed_by : {A : Type 0} → (Option A → ℕ) → Rows (Option A) → (first k : ℕ) → ℕ
+owed_by owed_row rows first zero = 0
+owed_by owed_row rows first (suc k) = owed_row (rows first) + owed_by owed_row rows (suc first) k
+
+abbrev pub owed_links : State → ℕ
+owed_links s = owed_by owed_link s.links 1 s.devices.drawn
+
+abbrev pub owed_clients : State → ℕ
+owed_clients s = owed_by (owed_client s.devices) s.clients 1 s.joined
 
 -- the most bytes that become due to a link when bytes are put to a client: an OKAY with its credit word
 abbrev pub answer_len : ℕ
@@ -70,7 +73,7 @@ answer_len = 28
 
 -- A hand-out takes a byte at least, and a byte that is put to a client makes no more than an OKAY due.
 abbrev pub owed : State → ℕ
-owed s = (answer_len + 1) * owed_clients s.devices s.clients 1 s.joined + owed_links s.links 1 s.devices.drawn
+owed s = (answer_len + 1) * owed_clients s + owed_links s
 
 -- ---- draining
 abbrev pub or_stay : Option Entry → History → (Entry → History) → History

@@ -23,10 +23,14 @@ marked c = marked_in c.about.phase c
 abbrev pub mark_all : State → State
 mark_all s = record s { clients = λ c. option_map marked (s.clients c) }
 
+-- the present list, to a tracker whose list is stale
+abbrev pub list_if_stale : DeviceTable → (mark long : Bool) → List ℕ
+list_if_stale devices mark long = if mark then tracked_list devices long else []
+
+abbrev pub due_or : List ℕ → List ℕ → List ℕ
+due_or [] list = list
+due_or (b ∷ due) list = b ∷ due
+
 -- What may be handed out to a client: what is due; and where nothing is, the present list to a tracker whose list is stale.
 abbrev pub offered : DeviceTable → Client → List ℕ
-offered devices c = offers devices c.about.mark c.about.long c.due
-  where
-    offers : DeviceTable → Bool → Bool → List ℕ → List ℕ
-    offers devices mark long [] = if mark then tracked_list devices long else []
-    offers devices mark long (b ∷ due) = b ∷ due
+offered devices c = due_or c.due (list_if_stale devices c.about.mark c.about.long)
