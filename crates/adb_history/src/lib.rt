@@ -4,6 +4,7 @@
 #![tactic(auto)]
 
 mod hand_out;
+pub mod order;
 mod refusal;
 
 pub use hand_out::HAND_OUT;
