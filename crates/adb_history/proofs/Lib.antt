@@ -4,3 +4,6 @@ pub mod PacketMoves
 pub mod Readiness
 pub mod ReadMoves
 pub mod RuleMoves
+pub mod PlainMoves
+pub mod Numbers
+pub mod Births

@@ -2,7 +2,6 @@ use Rattle.std.proofs.Common.{List, [], ◌∷◌, ◌++◌}
 use Rattle.adb_capture.specs.declared.entry.Entry.{Entry}
 use Rattle.adb_history.specs.Machine.{IsLegal}
 use Rattle.adb_history.proofs.order.every_front_is_legal.Goals as goal
-use Rattle.adb_history.proofs.RuleMoves.{rule_kept}
 
 front_legal : (newer older : List Entry) → IsLegal (newer ++ older) → IsLegal older
 front_legal [] older legal = legal
