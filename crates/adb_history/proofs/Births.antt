@@ -12,11 +12,12 @@ use Rattle.adb_history.specs.Rows.{State}
 use Rattle.adb_history.specs.Events.{Event, due_to_client, due_to_link, ended}
 use Rattle.adb_history.specs.Moves.{IsOfStream}
 use Rattle.adb_history.specs.Machine.{History, state, told, step, May, IsLegal}
+use Rattle.adb_history.specs.Owned.{AllDrawn}
 use Rattle.adb_history.specs.Order.{IsOfBorn, AreOfBorn}
 use Rattle.adb_history.specs.Orderly.{IsDrawnOnly}
 use Rattle.adb_history.proofs.PlainMoves.{Plain, plain_moves}
 use Rattle.adb_history.proofs.RuleMoves.{Begins, step_kept}
-use Rattle.adb_history.proofs.Numbers.{AllDrawn, drawn_plain, all_drawn, begins_drawn}
+use Rattle.adb_history.proofs.Numbers.{drawn_plain, all_drawn, begins_drawn}
 
 -- every packet that was told is of a stream that was born
 pub record Born (s : State) (w : List Event) : Type 0 where

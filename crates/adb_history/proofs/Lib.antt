@@ -7,3 +7,4 @@ pub mod RuleMoves
 pub mod PlainMoves
 pub mod Numbers
 pub mod Births
+pub mod Owning

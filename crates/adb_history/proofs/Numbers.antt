@@ -14,6 +14,7 @@ use Rattle.adb_history.specs.Machine.{History, state, step, May, IsLegal}
 use Rattle.adb_history.specs.Book.{plugged_count}
 use Rattle.adb_history.specs.Tied.{came_count}
 use Rattle.adb_history.specs.Orderly.{IsDrawnOnly}
+use Rattle.adb_history.specs.Owned.{AllDrawn}
 use Rattle.adb_history.specs.Order.{IsNext, IsCounted}
 use Rattle.adb_history.proofs.PlainMoves.{Plain, plain_moves}
 use Rattle.adb_history.proofs.RuleMoves.{Begins, step_kept}
@@ -144,12 +145,6 @@ module _ {A : Type 0} where
 
   pub map_drawn : (drawn : ℕ) (f : A → A) (rows : Rows (Option A)) → IsDrawnOnly drawn rows → IsDrawnOnly drawn (λ n. option_map f (rows n))
   map_drawn drawn f rows h = record { above = λ m above. ap (option_map f) (h.above m above); zero = ap (option_map f) h.zero }
-
--- nothing is kept under a number that was not drawn, of clients, links and streams
-pub record AllDrawn (s : State) : Type 0 where
-  pub clients : IsDrawnOnly s.joined s.clients
-  pub links : IsDrawnOnly s.devices.drawn s.links
-  pub streams : IsDrawnOnly s.drawn s.streams
 
 only_drawn : (drawn c : ℕ) (rows : Rows (Option Client)) → IsDrawnOnly drawn rows → IsDrawnOnly drawn (only_client c rows)
 only_drawn drawn c rows h = record { above = λ m above. go m (eqb c m) (h.above m above); zero = go 0 (eqb c 0) h.zero }

@@ -1,3 +1,4 @@
+pub mod Owned
 pub mod Order
 pub mod Moves
 pub mod Rows
