@@ -8,3 +8,5 @@ pub mod PlainMoves
 pub mod Numbers
 pub mod Births
 pub mod Owning
+pub mod OwnedMoves
+pub mod OwnedRules
