@@ -10,3 +10,4 @@ pub mod Births
 pub mod Owning
 pub mod OwnedMoves
 pub mod OwnedRules
+pub mod OwnedStep

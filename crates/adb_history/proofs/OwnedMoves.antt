@@ -58,10 +58,10 @@ owned_client s c f x h is keeps = owned_changes s (to_client c f s) c 0 changes 
 
     changes : Changes s (to_client c f s) c 0
     changes = record {
-      joined = refl;
+      joined = omega arith;
       clients = λ k apart. changed_other c k f s.clients apart;
       streams = λ m apart. refl;
-      gone = λ e. absurd (let clash : None ≡ Some x = sym e ∙ is.0 in cc);
+      gone = λ within e. absurd (let clash : None ≡ Some x = sym e ∙ is.0 in cc);
       only = λ z e. let same : x ≡ z = (let both : Some x ≡ Some z = sym is.0 ∙ e in cc) in subst (λ (k : Client). IsOnly 0 k.about.phase) same is.1;
       own = λ z e. absurd (none z e);
       stream = λ y e. absurd (none y e);
@@ -316,10 +316,10 @@ module _ (s : State) (c l : ℕ) (client : Client) (stream : Stream) (t : Togeth
       → ((y : Client) → f client ≡ Some y → ClientIn (change_row l (option_and_then g) s.streams) c y)
       → Owned s.joined (change_row c (option_and_then f) s.clients) (change_row l (option_and_then g) s.streams)
   owned_both f g owned streams clients = owned_changes s (to_client c f (to_stream l g s)) c l (record {
-    joined = refl;
+    joined = omega arith;
     clients = λ k apart. changed_other c k f s.clients apart;
     streams = λ m apart. changed_other l m g s.streams apart;
-    gone = λ e. absurd (let clash : None ≡ Some client = sym e ∙ t.here in cc);
+    gone = λ within e. absurd (let clash : None ≡ Some client = sym e ∙ t.here in cc);
     only = only_stream;
     own = own_client;
     stream = λ y e. streams y (sym (changed_here l g s.streams stream t.there) ∙ e);
@@ -332,10 +332,10 @@ module _ (s : State) (c l : ℕ) (client : Client) (stream : Stream) (t : Togeth
       → ((y : Client) → f client ≡ Some y → ClientIn s.streams c y)
       → Owned s.joined (change_row c (option_and_then f) s.clients) s.streams
   owned_kept f owned kept clients = owned_changes s (to_client c f s) c l (record {
-    joined = refl;
+    joined = omega arith;
     clients = λ k apart. changed_other c k f s.clients apart;
     streams = λ m apart. refl;
-    gone = λ e. absurd (let clash : None ≡ Some client = sym e ∙ t.here in cc);
+    gone = λ within e. absurd (let clash : None ≡ Some client = sym e ∙ t.here in cc);
     only = only_stream;
     own = own_client;
     stream = λ y e. (let same : stream ≡ y = (let both : Some stream ≡ Some y = sym t.there ∙ e in cc) in

@@ -94,10 +94,10 @@ draws_owned s c t x is asking h = owned_changes s (draws_now c t s) c (s.drawn +
 
     changes : Changes s (draws_now c t s) c (s.drawn + 1)
     changes = record {
-      joined = refl;
+      joined = omega arith;
       clients = λ k apart. changed_other c k (in_phase (Opening (s.drawn + 1))) s.clients apart;
       streams = λ m apart. rw (ne_eqb (s.drawn + 1) m apart) refl;
-      gone = λ e. absurd (let clash : None ≡ Some x = sym e ∙ is in cc);
+      gone = λ within e. absurd (let clash : None ≡ Some x = sym e ∙ is in cc);
       only = λ z e. (let same : x ≡ z = (let both : Some x ≡ Some z = sym is ∙ e in cc) in
         subst (λ (k : Client). IsOnly (s.drawn + 1) k.about.phase) same (subst (IsOnly (s.drawn + 1)) (sym asking) tt));
       own = λ z e. absurd (none z e);
@@ -252,10 +252,10 @@ closed_owned s l stream is owned h =
 pub orphan_owned : (s : State) (l : ℕ) (stream : Stream) → s.streams l ≡ Some stream → stream.part.orphan ≡ true → IsOwned s
     → Owned s.joined s.clients (to_stream l none_kept s).streams
 orphan_owned s l stream is orphan h = owned_changes s (to_stream l none_kept s) 0 l (record {
-  joined = refl;
+  joined = omega arith;
   clients = λ k apart. refl;
   streams = λ m apart. changed_other l m none_kept s.streams apart;
-  gone = λ e. e;
+  gone = λ within e. e;
   only = λ x e. absurd (let clash : None ≡ Some x = sym h.rows.clients.zero ∙ e in cc);
   own = λ x e. (let same : stream ≡ x = (let both : Some stream ≡ Some x = sym is ∙ e in cc) in inl (ap (λ (y : Stream). y.part.orphan) (sym same) ∙ orphan));
   stream = λ y e. absurd (let clash : None ≡ Some y = sym (changed_here l none_kept s.streams stream is) ∙ e in cc);

@@ -157,10 +157,10 @@ IsOnly l _ = Unit {0}
 
 -- A client and a stream change, each of which has no other than the other.
 pub record Changes (old new : State) (c l : ℕ) : Type 0 where
-  pub joined : new.joined ≡ old.joined
+  pub joined : old.joined ≤ new.joined
   pub clients : (k : ℕ) → c ≢ k → new.clients k ≡ old.clients k
   pub streams : (m : ℕ) → l ≢ m → new.streams m ≡ old.streams m
-  pub gone : old.clients c ≡ None → new.clients c ≡ None
+  pub gone : c ≤ old.joined → old.clients c ≡ None → new.clients c ≡ None
   pub only : (x : Client) → old.clients c ≡ Some x → IsOnly l x.about.phase
   pub own : (x : Stream) → old.streams l ≡ Some x → (x.part.orphan ≡ true) ⊎ (x.client ≡ c)
   pub stream : (y : Stream) → new.streams l ≡ Some y → StreamIn new.joined new.clients l y
@@ -171,18 +171,18 @@ only_one l m zero e = e
 only_one l m (suc n) e = e
 
 module _ (old new : State) (c l : ℕ) (h : Changes old new c l) where
-  others_owner : (orphan : Bool) (m : ℕ) (y : Stream) → l ≢ m → OwnerIn orphan old.clients m y → OwnerIn orphan new.clients m y
+  others_owner : (orphan : Bool) (m : ℕ) (y : Stream) → (l ≢ m) × (y.client ≤ old.joined) → OwnerIn orphan old.clients m y → OwnerIn orphan new.clients m y
   others_owner true m y apart owner = (owner.0, go (cases_eq c y.client))
     where
       go : (c ≡ y.client) ⊎ (c ≡ y.client → ⊥) → new.clients y.client ≡ None
-      go (inl same) = subst (λ (n : ℕ). new.clients n ≡ None) same (h.gone (ap old.clients same ∙ owner.1))
+      go (inl same) = subst (λ (n : ℕ). new.clients n ≡ None) same (h.gone (omega (arith, same, apart.1)) (ap old.clients same ∙ owner.1))
       go (inr other) = h.clients y.client other ∙ owner.1
   others_owner false m y apart owner = go (cases_eq c y.client)
     where
       go : (c ≡ y.client) ⊎ (c ≡ y.client → ⊥) → ClientOf new.clients m y
       go (inl same) =
           let only : IsOnly l owner.client.about.phase = h.only owner.client (ap old.clients same ∙ owner.is) in
-          absurd (apart (sym (only_one l m y.part.remote (subst (IsOnly l) owner.phase only))))
+          absurd (apart.0 (sym (only_one l m y.part.remote (subst (IsOnly l) owner.phase only))))
       go (inr other) =
           record { client = owner.client; is = h.clients y.client other ∙ owner.is; phase = owner.phase; accepted = owner.accepted }
 
@@ -210,7 +210,7 @@ module _ (old new : State) (c l : ℕ) (h : Changes old new c l) where
             from = omega (arith, was.from, h.joined);
             sound = was.sound;
             fresh = was.fresh;
-            owner = others_owner y.part.orphan m y apart was.owner;
+            owner = others_owner y.part.orphan m y (apart, was.from) was.owner;
           }
 
       client : (k : ℕ) (y : Client) → new.clients k ≡ Some y → (c ≡ k) ⊎ (c ≡ k → ⊥) → ClientIn new.streams k y
