@@ -11,3 +11,6 @@ pub mod Owning
 pub mod OwnedMoves
 pub mod OwnedRules
 pub mod OwnedStep
+pub mod Writes
+pub mod Sweep
+pub mod Quiet
