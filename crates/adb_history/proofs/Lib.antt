@@ -14,3 +14,4 @@ pub mod OwnedStep
 pub mod Writes
 pub mod Sweep
 pub mod Quiet
+pub mod Linking

@@ -1,4 +1,5 @@
 pub mod Owned
+pub mod Linked
 pub mod Order
 pub mod Moves
 pub mod Rows

@@ -1,5 +1,6 @@
 use Rattle.adb_history.proofs.Births.{told_of_born}
 use Rattle.adb_history.proofs.Quiet.{all_still}
+use Rattle.adb_history.proofs.Linking.{no_rows}
 use Rattle.adb_history.proofs.order.no_packet_of_an_unborn_stream.Goals as goal
 
 pub returns : goal.returns
