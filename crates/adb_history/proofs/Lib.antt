@@ -15,3 +15,5 @@ pub mod Writes
 pub mod Sweep
 pub mod Quiet
 pub mod Linking
+pub mod LinkMoves
+pub mod Unread

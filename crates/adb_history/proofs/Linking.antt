@@ -52,7 +52,7 @@ on_same devices x y e h = record {
 pub on_other : (old new : DeviceTable) (x : Stream) → at x.link new.rows ≡ at x.link old.rows → OnLink old x → OnLink new x
 on_other old new x e h = record { connected = ap is_connected_row e ∙ h.connected; credit = h.credit ∙ sym (ap is_credit_row e) }
 
-credit_new : (credit : Bool) → has_credit (new_flow credit) ≡ credit
+pub credit_new : (credit : Bool) → has_credit (new_flow credit) ≡ credit
 credit_new true = refl
 credit_new false = refl
 

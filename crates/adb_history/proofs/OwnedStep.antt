@@ -259,7 +259,7 @@ asked_owned q c s client is asking h = owned_alike s.joined s.clients (to_client
           };
         }
 
-begins_owned : (e : Entry) (s : State) (w : List Event) → May s e → IsOwned s → Begins owned_moves e s w
+pub begins_owned : (e : Entry) (s : State) (w : List Event) → May s e → IsOwned s → Begins owned_moves e s w
 begins_owned (Join c) s w may h = record { rows = begins_drawn (Join c) s may h.rows; owned = comes_owned false c s may.1 h }
 begins_owned (Enter c port) s w may h =
     let b = begins_drawn (Enter c port) s may h.rows in

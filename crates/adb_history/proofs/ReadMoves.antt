@@ -66,7 +66,7 @@ module _ {P : State → List Event → Type 0} (k : Moves P) where
   goes_on_kept None c client s w is asking ready h = after_quietly P w s h
   goes_on_kept (Some Close) c client s w is asking ready h =
       after_quietly P w (closes c s) (k.closes c client s w is (asks_free client.about.phase asking) h)
-  goes_on_kept (Some (Select id)) c client s w is asking ready h = after_quietly P w s h
+  goes_on_kept (Some (Select id)) c client s w is asking ready h = absurd ready
   goes_on_kept (Some (Track long)) c client s w is asking ready h =
       after_quietly P w (to_client c (tracks long) s) (k.tracks c client long s w is asking h)
   goes_on_kept (Some (Open t service)) c client s w is asking ready h = service_kept k false c t service client s w is asking (inr ready) h

@@ -15,8 +15,10 @@ use Rattle.adb_reply.specs.declared.answer.Next.TheVariants.{Close, Select, Trac
 use Rattle.adb_reply.proofs.Readiness.{answer_ready}
 use Rattle.adb_history.specs.Asking.{Asked, replied, after_next, after_answer, after_found, reads_on, asks_with}
 
+-- what follows the last request: no further one, and a stream only on a device that takes payloads
 abbrev pub IsAskedReady : DeviceTable → Option Next → Type 0
 IsAskedReady devices None = Unit {0}
+IsAskedReady devices (Some (Select id)) = ⊥
 IsAskedReady devices (Some next) = OpensReady devices.rows next
 
 module _ (devices : DeviceTable) where
