@@ -17,3 +17,4 @@ pub mod Quiet
 pub mod Linking
 pub mod LinkMoves
 pub mod Unread
+pub mod OrderlyStates

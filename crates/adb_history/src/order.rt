@@ -3,8 +3,9 @@
 
 ghost use Rattle.std.specs.Prelude.{List, ◌++◌, ◌∷◌};
 ghost use Rattle.adb_capture.specs.declared.entry.Entry.{Entry};
-ghost use Rattle.adb_history.specs.Machine.{IsLegal};
-ghost use Rattle.adb_history.specs.Order.{AreOfBorn, IsCounted, IsNext};
+ghost use Rattle.adb_history.specs.Machine.{IsLegal, state};
+ghost use Rattle.adb_history.specs.Order.{AreOfBorn, IsCounted, IsNext, IsSettled};
+ghost use Rattle.adb_history.specs.Orderly.{IsOrderly};
 
 /// What came until any time of a legal history is a legal history.
 pub fn every_front_is_legal()
@@ -21,4 +22,16 @@ pub fn numbers_are_drawn_in_order()
 /// No packet becomes due of a stream that was not born.
 pub fn no_packet_of_an_unborn_stream()
     ensures { (history : List Entry) → IsLegal history → AreOfBorn history }
+{}
+
+/// Every state that a legal history leaves is orderly: a stream that lives has a connected link and
+/// a client of its own, no client keeps a whole request unread, and no stream may send.
+pub fn every_legal_state_is_orderly()
+    ensures { (history : List Entry) → IsLegal history → IsOrderly (state history) }
+{}
+
+/// What a legal history leaves is at rest: the up rule once more changes nothing, and nothing
+/// becomes due by it.
+pub fn every_legal_state_is_settled()
+    ensures { (history : List Entry) → IsLegal history → IsSettled (state history) }
 {}

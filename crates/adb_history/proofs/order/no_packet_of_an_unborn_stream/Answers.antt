@@ -1,7 +1,4 @@
 use Rattle.adb_history.proofs.Births.{told_of_born}
-use Rattle.adb_history.proofs.Quiet.{all_still}
-use Rattle.adb_history.proofs.LinkMoves.{all_linked}
-use Rattle.adb_history.proofs.Unread.{all_unread}
 use Rattle.adb_history.proofs.order.no_packet_of_an_unborn_stream.Goals as goal
 
 pub returns : goal.returns
