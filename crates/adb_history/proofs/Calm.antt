@@ -48,9 +48,9 @@ noted_nothing : (l : ℕ) (stream : Stream) (client : Client) (s : State) → s.
     → noted l stream client.held [] s ≡ s
 noted_nothing l stream client s is here =
     let streams : change_row l (option_and_then (with_stream_part (with_flow stream.part.flow stream.part))) s.streams ≡ s.streams =
-        same_rows s.streams l (with_stream_part (with_flow stream.part.flow stream.part)) stream is refl in
+    same_rows s.streams l (with_stream_part (with_flow stream.part.flow stream.part)) stream is refl in
     let clients : change_row stream.client (option_and_then (with_held client.held)) s.clients ≡ s.clients =
-        same_rows s.clients stream.client (with_held client.held) client here refl in
+    same_rows s.clients stream.client (with_held client.held) client here refl in
     ap (λ (rows : Rows (Option Stream)). record s {
       clients = change_row stream.client (option_and_then (with_held client.held)) s.clients;
       streams = rows;
@@ -71,9 +71,9 @@ sends_none l stream client s is here calm =
     over : is_over client.about.ended client.held stream.part.flow ≡ false → sends_up l stream client [] s ≡ quietly (noted l stream client.held [] s)
     over goes_on =
         let same : closes_if (is_over client.about.ended client.held stream.part.flow) l ((noted l stream client.held [] s).streams l) (noted l stream client.held [] s)
-              ≡ quietly (noted l stream client.held [] s) =
-            ap (λ b. closes_if b l ((noted l stream client.held [] s).streams l) (noted l stream client.held [] s)) goes_on
-            ∙ closes_nothing l ((noted l stream client.held [] s).streams l) (noted l stream client.held [] s) in
+        ≡ quietly (noted l stream client.held [] s) =
+        ap (λ b. closes_if b l ((noted l stream client.held [] s).streams l) (noted l stream client.held [] s)) goes_on
+        ∙ closes_nothing l ((noted l stream client.held [] s).streams l) (noted l stream client.held [] s) in
         ap (λ (m : Made). record { state = m.state; told = m.told }) same
 
 calm_up : (l : ℕ) (s : State) → IsCalm s → up l s ≡ quietly s
@@ -270,7 +270,7 @@ calm_lists : (c : ℕ) (due : List ℕ) (client : Client) (s : State) → IsCalm
 calm_lists c (b ∷ due) client s calm = calm
 calm_lists c [] client s calm =
     calm_to_client c (with_due (offered s.devices client)) (to_client c unmarked s) (λ l old new. due_sends l (offered s.devices client) old new)
-      (calm_to_client c unmarked s unmarked_sends calm)
+    (calm_to_client c unmarked s unmarked_sends calm)
 
 pub calm_puts : (c n : ℕ) (s : State) → IsCalm s → IsCalm (puts c n s).state
 calm_puts c n s calm = by_row (s.clients c)

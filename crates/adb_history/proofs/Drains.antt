@@ -8,7 +8,7 @@ use Rattle.adb_history.specs.Events.{Made}
 use Rattle.adb_history.specs.Tracking.{offered}
 use Rattle.adb_history.specs.Machine.{History, state, step, rule, ups}
 use Rattle.adb_history.specs.Drained.{first_send, first_put, next_out, owed, or_stay, drain, drain_all}
-use Rattle.adb_history.proofs.Draining.{IsSend, IsPut, sends_first, puts_first, hand_out_less}
+use Rattle.adb_history.proofs.HandOuts.{IsSend, IsPut, sends_first, puts_first, hand_out_less}
 use Rattle.adb_history.proofs.Calm.{IsCalm, calm_ups, calm_puts, calm_sends}
 
 -- a hand-out where no stream may send leaves it so, and less due
@@ -51,7 +51,7 @@ drained_rests (suc k) h calm le = go (next_out (state h)) refl (λ x. drained_re
   where
     go : (o : Option Entry) → next_out (state h) ≡ o
         → ((x : Entry) → IsCalm (state (x ∷ h)) → owed (state (x ∷ h)) ≤ k
-          → (next_out (state (drain k (x ∷ h))) ≡ None) × IsCalm (state (drain k (x ∷ h))))
+        → (next_out (state (drain k (x ∷ h))) ≡ None) × IsCalm (state (drain k (x ∷ h))))
         → (next_out (state (or_stay o h (λ x. drain k (x ∷ h)))) ≡ None) × IsCalm (state (or_stay o h (λ x. drain k (x ∷ h))))
     go None e more = (e, calm)
     go (Some x) e more = let out = hands_out (state h) x e calm in more x out.calm (omega (arith, out.less))

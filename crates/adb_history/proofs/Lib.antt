@@ -1,6 +1,27 @@
+pub mod Following
+pub mod StreamMoves
+pub mod PacketMoves
+pub mod Readiness
+pub mod ReadMoves
+pub mod RuleMoves
+pub mod PlainMoves
+pub mod Numbers
+pub mod Births
+pub mod Owning
+pub mod OwnedMoves
+pub mod OwnedRules
+pub mod OwnedStep
+pub mod Writes
+pub mod Sweep
+pub mod Quiet
+pub mod Linking
+pub mod LinkMoves
+pub mod Unread
+pub mod OrderlyStates
 mod Calm
-mod Draining
+mod HandOuts
 mod Drains
+mod Settled
 mod WorkedClients
 mod WorkedStreams
 mod WorkedWords

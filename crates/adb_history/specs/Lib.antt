@@ -1,3 +1,7 @@
+pub mod Owned
+pub mod Linked
+pub mod Order
+pub mod Moves
 pub mod Rows
 pub mod Events
 pub mod Links
@@ -27,3 +31,4 @@ pub mod Orderly
 pub mod Tied
 pub mod Examples
 pub mod Broken
+pub mod Settling

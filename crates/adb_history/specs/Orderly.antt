@@ -1,6 +1,7 @@
 -- What holds of every state that a legal history leaves.
 use Rattle.std.specs.Prelude.{ℕ, ◌≡◌, ◌≢◌, ◌≤◌, ◌<◌, Bool, true, false, is_some, zero, suc, List, [], length, Option, Some, None}
-use Rattle.adb_outside.specs.Tables.{at}
+use Rattle.adb_outside.specs.Tables.{at, IsRising}
+use Rattle.adb_registry.specs.declared.row.Row.{Row}
 use Rattle.adb_forward.specs.declared.row.ForwardRow.{ForwardRow}
 use Rattle.adb_request.specs.Requests.{request_at}
 use Rattle.adb_request.specs.declared.cutting.Found.TheVariants.{More}
@@ -11,7 +12,7 @@ use Rattle.adb_stream.specs.declared.row.Stream.{Stream}
 use Rattle.adb_client.specs.declared.phase.Phase.{Phase}
 use Rattle.adb_client.specs.declared.phase.Phase.TheVariants.{Asking, Opening, Streaming, Binding, Tracking, Closing, Gone}
 use Rattle.adb_history.specs.Rows.{Client, Link, State}
-use Rattle.adb_history.specs.Links.{is_connected, is_credit, maxdata_of}
+use Rattle.adb_history.specs.Links.{is_connected, is_connected_state, is_credit, maxdata_of}
 use Rattle.adb_history.specs.Flow.{payloads, is_over}
 use Rattle.adb_history.specs.Handing.{to_hand}
 use Rattle.adb_history.specs.Fifo.{has_credit}
@@ -36,7 +37,7 @@ pub record HasClient (s : State) (l : ℕ) (stream : Stream) : Type 0 where
 
 -- an orphan has no client, and its device has not told its id
 abbrev pub HasOwner : Bool → State → ℕ → Stream → Type 0
-HasOwner true s l stream = stream.part.remote ≡ 0
+HasOwner true s l stream = (stream.part.remote ≡ 0) × (s.clients stream.client ≡ None)
 HasOwner false s l stream = HasClient s l stream
 
 -- what a credit keeps
@@ -49,6 +50,8 @@ pub record IsOrderlyStream (s : State) (l : ℕ) (stream : Stream) : Type 0 wher
   pub connected : is_connected stream.link s.devices ≡ true
   pub credit : has_credit stream.part.flow ≡ is_credit stream.link s.devices
   pub sound : IsSoundFlow stream.part.flow
+  -- a stream that its device has not opened has accepted nothing
+  pub fresh : stream.part.remote ≡ 0 → to_hand stream.part.flow ≡ 0
   pub owner : HasOwner stream.part.orphan s l stream
 
 -- ---- clients
@@ -86,8 +89,12 @@ pub record IsOrderly (s : State) : Type 0 where
   pub clients : IsDrawnOnly s.joined s.clients
   pub links : IsDrawnOnly s.devices.drawn s.links
   pub streams : IsDrawnOnly s.drawn s.streams
+  -- the devices stand in rising number
+  pub rises : IsRising s.devices.rows
   -- a link lives exactly where its device has a row
   pub linked : (t : ℕ) → is_some (s.links t) ≡ is_some (at t s.devices.rows)
+  -- a device that has not said who it is takes no payload
+  pub silent : (t : ℕ) (row : Row) → at t s.devices.rows ≡ Some row → is_connected_state row.state ≡ false → row.maxdata ≡ 0
   -- a live stream's link is connected, and its client is its own
   pub stream : (l : ℕ) (stream : Stream) → s.streams l ≡ Some stream → IsOrderlyStream s l stream
   -- no client keeps a whole request unread, no stream may send, nothing is kept of a client that is gone

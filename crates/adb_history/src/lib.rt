@@ -4,9 +4,12 @@
 #![tactic(auto)]
 
 mod broken;
+mod draining;
 mod hand_out;
+pub mod order;
 mod refusal;
 
 pub use broken::{answers_can_be_broken, causes_can_be_broken, fifo_can_be_broken};
+pub use draining::draining_ends;
 pub use hand_out::HAND_OUT;
 pub use refusal::{Reason, Refusal};

@@ -108,10 +108,10 @@ adds_packet t p s short =
     let bytes = spelling p check in
     let later : Rows (Option Link) = change_row t (option_and_then (with_link_due bytes)) s.links in
     let here : owed_link (later t) ≤ owed_link (s.links t) + length bytes =
-        subst (λ (row : Option Link). owed_link row ≤ owed_link (s.links t) + length bytes)
-          (sym (changed_here s.links t (option_and_then (with_link_due bytes)))) (link_more bytes (s.links t)) in
+    subst (λ (row : Option Link). owed_link row ≤ owed_link (s.links t) + length bytes)
+    (sym (changed_here s.links t (option_and_then (with_link_due bytes)))) (link_more bytes (s.links t)) in
     let more = owed_more owed_link s.links later t 1 s.devices.drawn (length bytes)
-        (λ q other. changed_elsewhere s.links t q (option_and_then (with_link_due bytes)) other) here in
+    (λ q other. changed_elsewhere s.links t q (option_and_then (with_link_due bytes)) other) here in
     record { clients = refl; devices = refl; joined = refl; links = omega (arith, more, length_spelling p check, short) }
 
 adds_credit : (n l : ℕ) (stream : Stream) (s : State) → AddsAnswer s (tells_credit n l stream s).state
@@ -177,20 +177,20 @@ pub record TakesSome (c n : ℕ) (old new : State) : Type 0 where
 takes_some : (c n : ℕ) (s : State) (client : Client) → s.clients c ≡ Some client → n ≤ length client.due → TakesSome c n s (takes_of c n (s.clients c) s).state
 takes_some c n s client is some =
     subst (λ (row : Option Client). TakesSome c n s (takes_of c n row s).state) (sym is) (
-      let handed : State = to_client c (hands n) s in
-      let adds = adds_client_left client.about.phase (length (drop n client.due)) handed in
-      let at_row : handed.clients c ≡ left_in client.about.phase (drop n client.due) client =
-          changed_here s.clients c (option_and_then (hands n)) ∙ ap (option_and_then (hands n)) is in
-      record {
-        devices = adds.devices;
-        joined = adds.joined;
-        others = λ q other. ap (λ rows. rows q) adds.clients ∙ changed_elsewhere s.clients c q (option_and_then (hands n)) other;
-        here = subst (λ (row : Option Client). owed_client s.devices row + n ≤ owed_client s.devices (s.clients c))
-            (sym (ap (λ rows. rows c) adds.clients ∙ at_row))
-            (subst (λ (row : Option Client). owed_client s.devices (left_in client.about.phase (drop n client.due) client) + n ≤ owed_client s.devices row) (sym is)
-              (hands_less s.devices client.about.phase n client some));
-        links = adds.links;
-      })
+    let handed : State = to_client c (hands n) s in
+    let adds = adds_client_left client.about.phase (length (drop n client.due)) handed in
+    let at_row : handed.clients c ≡ left_in client.about.phase (drop n client.due) client =
+    changed_here s.clients c (option_and_then (hands n)) ∙ ap (option_and_then (hands n)) is in
+    record {
+      devices = adds.devices;
+      joined = adds.joined;
+      others = λ q other. ap (λ rows. rows q) adds.clients ∙ changed_elsewhere s.clients c q (option_and_then (hands n)) other;
+      here = subst (λ (row : Option Client). owed_client s.devices row + n ≤ owed_client s.devices (s.clients c))
+          (sym (ap (λ rows. rows c) adds.clients ∙ at_row))
+          (subst (λ (row : Option Client). owed_client s.devices (left_in client.about.phase (drop n client.due) client) + n ≤ owed_client s.devices row) (sym is)
+          (hands_less s.devices client.about.phase n client some));
+      links = adds.links;
+    })
 
 -- the list of a stale tracker becomes due, and its mark goes: it owes no more than before
 pub record ListsFirst (c n : ℕ) (old new : State) : Type 0 where
@@ -222,11 +222,11 @@ lists_by c n s client is (b ∷ due) has some = record {
 lists_by c n s client is [] has some =
     let list : List ℕ = offered s.devices client in
     let same : list ≡ list_if_stale s.devices client.about.mark client.about.long =
-        ap (λ l. due_or l (list_if_stale s.devices client.about.mark client.about.long)) has in
+    ap (λ l. due_or l (list_if_stale s.devices client.about.mark client.about.long)) has in
     let open_row : Client = record client { about = record client.about { mark = false }; due = client.due ++ list } in
     let at_row : (to_client c (with_due list) (to_client c unmarked s)).clients c ≡ Some open_row =
-        changed_here (to_client c unmarked s).clients c (option_and_then (with_due list))
-        ∙ ap (option_and_then (with_due list)) (changed_here s.clients c (option_and_then unmarked) ∙ ap (option_and_then unmarked) is) in
+    changed_here (to_client c unmarked s).clients c (option_and_then (with_due list))
+    ∙ ap (option_and_then (with_due list)) (changed_here s.clients c (option_and_then unmarked) ∙ ap (option_and_then unmarked) is) in
     let size : length open_row.due ≡ length list = omega (arith, length-append client.due list, ap (length {A = ℕ}) has) in
     record {
       client = open_row;
@@ -239,7 +239,7 @@ lists_by c n s client is [] has some =
           ∙ changed_elsewhere s.clients c q (option_and_then unmarked) other;
       here = subst (λ (row : Option Client). owed_client s.devices row ≤ owed_client s.devices (s.clients c)) (sym at_row)
           (subst (λ (row : Option Client). owed_client s.devices (Some open_row) ≤ owed_client s.devices row) (sym is)
-            (omega (arith, size, ap (length {A = ℕ}) same, list_owed s.devices client.about.mark client.about.long, ap (length {A = ℕ}) has)));
+          (omega (arith, size, ap (length {A = ℕ}) same, list_owed s.devices client.about.mark client.about.long, ap (length {A = ℕ}) has)));
     }
 
 -- a put of so many bytes that may be handed out
@@ -247,23 +247,23 @@ pub puts_less : (c n : ℕ) (s : State) (client : Client) → s.clients c ≡ So
     → TakesSome c n s (puts c n s).state
 puts_less c n s client is some =
     subst (λ (row : Option Client). TakesSome c n s (puts_to row c n s).state) (sym is) (
-      let listed = lists_by c n s client is client.due refl some in
-      let taken = takes_some c n (lists_first c client.due client s).state listed.client listed.is listed.enough in
-      let owes : owed_client s.devices ((lists_first c client.due client s).state.clients c) ≤ owed_client s.devices (s.clients c) = listed.here in
-      let less : owed_client s.devices ((puts_to (Some client) c n s).state.clients c) + n
-            ≤ owed_client s.devices ((lists_first c client.due client s).state.clients c) =
-          subst (λ (d : DeviceTable). owed_client d ((puts_to (Some client) c n s).state.clients c) + n
-            ≤ owed_client d ((lists_first c client.due client s).state.clients c)) listed.devices taken.here in
-      let same_links : owed_links (lists_first c client.due client s).state ≡ owed_links s =
-          ap (λ (d : DeviceTable). owed_by owed_link (lists_first c client.due client s).state.links 1 d.drawn) listed.devices
-          ∙ ap (λ (rows : Rows (Option Link)). owed_by owed_link rows 1 s.devices.drawn) listed.links in
-      record {
-        devices = taken.devices ∙ listed.devices;
-        joined = taken.joined ∙ listed.joined;
-        others = λ q other. taken.others q other ∙ listed.others q other;
-        here = omega (arith, owes, less);
-        links = omega (arith, taken.links, same_links);
-      })
+    let listed = lists_by c n s client is client.due refl some in
+    let taken = takes_some c n (lists_first c client.due client s).state listed.client listed.is listed.enough in
+    let owes : owed_client s.devices ((lists_first c client.due client s).state.clients c) ≤ owed_client s.devices (s.clients c) = listed.here in
+    let less : owed_client s.devices ((puts_to (Some client) c n s).state.clients c) + n
+    ≤ owed_client s.devices ((lists_first c client.due client s).state.clients c) =
+    subst (λ (d : DeviceTable). owed_client d ((puts_to (Some client) c n s).state.clients c) + n
+    ≤ owed_client d ((lists_first c client.due client s).state.clients c)) listed.devices taken.here in
+    let same_links : owed_links (lists_first c client.due client s).state ≡ owed_links s =
+    ap (λ (d : DeviceTable). owed_by owed_link (lists_first c client.due client s).state.links 1 d.drawn) listed.devices
+    ∙ ap (λ (links : Rows (Option Link)). owed_by owed_link links 1 s.devices.drawn) listed.links in
+    record {
+      devices = taken.devices ∙ listed.devices;
+      joined = taken.joined ∙ listed.joined;
+      others = λ q other. taken.others q other ∙ listed.others q other;
+      here = omega (arith, owes, less);
+      links = omega (arith, taken.links, same_links);
+    })
 
 -- ---- the next hand-out
 -- a send of some of the bytes that are due to a link that lives
@@ -357,13 +357,13 @@ send_less s e r = subst (λ (x : Entry). owed (rule x s).state < owed s) (sym r.
     let n = length (take HAND_OUT r.row.due) in
     let later : Rows (Option Link) = change_row r.link (option_and_then (link_hands n)) s.links in
     let at_row : later r.link ≡ Some (record r.row { due = drop n r.row.due }) =
-        changed_here s.links r.link (option_and_then (link_hands n)) ∙ ap (option_and_then (link_hands n)) r.is in
+    changed_here s.links r.link (option_and_then (link_hands n)) ∙ ap (option_and_then (link_hands n)) r.is in
     let here : owed_link (later r.link) + n ≤ owed_link (s.links r.link) =
-        subst (λ (row : Option Link). owed_link row + n ≤ owed_link (s.links r.link)) (sym at_row)
-          (subst (λ (row : Option Link). length (drop n r.row.due) + n ≤ owed_link row) (sym r.is)
-            (omega (arith, length-drop n r.row.due, no_longer r.row.due))) in
+    subst (λ (row : Option Link). owed_link row + n ≤ owed_link (s.links r.link)) (sym at_row)
+    (subst (λ (row : Option Link). length (drop n r.row.due) + n ≤ owed_link row) (sym r.is)
+    (omega (arith, length-drop n r.row.due, no_longer r.row.due))) in
     let less = owed_less owed_link s.links later r.link 1 s.devices.drawn n
-        (λ q other. changed_elsewhere s.links r.link q (option_and_then (link_hands n)) other) here r.from r.to in
+    (λ q other. changed_elsewhere s.links r.link q (option_and_then (link_hands n)) other) here r.from r.to in
     omega (arith, less, some_long r.row.due r.some))
 
 put_less : (s : State) (e : Entry) → IsPut s e 1 s.joined → owed (rule e s).state < owed s
@@ -373,8 +373,8 @@ put_less s e r = subst (λ (x : Entry). owed (rule x s).state < owed s) (sym r.e
     let after : State = (puts r.client (length bytes) s).state in
     let less = owed_less (owed_client s.devices) s.clients after.clients r.client 1 s.joined (length bytes) t.others t.here r.from r.to in
     let same : owed_clients after ≡ owed_by (owed_client s.devices) after.clients 1 s.joined =
-        ap (λ (d : DeviceTable). owed_by (owed_client d) after.clients 1 after.joined) t.devices
-        ∙ ap (λ (k : ℕ). owed_by (owed_client s.devices) after.clients 1 k) t.joined in
+    ap (λ (d : DeviceTable). owed_by (owed_client d) after.clients 1 after.joined) t.devices
+    ∙ ap (λ (k : ℕ). owed_by (owed_client s.devices) after.clients 1 k) t.joined in
     omega (arith, less, same, t.links, some_long (offered s.devices r.row) r.some))
 
 -- a hand-out by the rules of put and send leaves less due
