@@ -212,6 +212,9 @@ part_of true offset size e h = refl
 part_of false offset size None h = cc
 part_of false offset size (Some e) h = cc
 
+within_longest : (n size : ℕ) → size ≤ DATA_LIMIT → n < HEADER_LEN + size → n < HEADER_LEN + DATA_LIMIT
+within_longest n size small part = omega (arith, small, part)
+
 -- Bytes that are no whole record yet are fewer than the longest record.
 pub more_is_short : (offset : ℕ) (x : List ℕ) → record_at offset x ≡ More → length x < HEADER_LEN + DATA_LIMIT
 more_is_short offset x h =
@@ -222,7 +225,5 @@ more_is_short offset x h =
           (sym (behind _ _ _ (le-ltb (length x) HEADER_LEN l)) ∙ (sym (as_tested offset x) ∙ h)) in
           let large = passed _ _ _ _ (refusal_is_no_more (BadRecord offset TooLarge)) known.1 in
           let far = passed _ _ _ _ (refusal_is_no_more (TooLong offset)) large.1 in
-          let small : size_in x ≤ DATA_LIMIT = ltb-false DATA_LIMIT (size_in x) large.0 in
-          let part : length x < HEADER_LEN + size_in x = ltb-true _ _ (part_of _ _ _ _ far.1) in
-          omega (arith, small, part)
+          within_longest (length x) (size_in x) (ltb-false _ _ large.0) (ltb-true _ _ (part_of _ _ _ _ far.1))
     ]

@@ -41,22 +41,29 @@ pub held_first : (held whole : List ℕ) (after : Option (List ℕ)) → option_
 held_first held whole None h = let e : None ≡ Some whole = h in cc
 held_first held whole (Some rest) h = let e : Some (held ++ rest) ≡ Some whole = h in (rest, refl, cc)
 
--- a record at the front of what is held is given
-pub gives_record : (offset next size : ℕ) (held left bytes : List ℕ) (given : ℕ × Entry) (after : Option (List ℕ))
-    → option_map (λ rest. held ++ rest) after ≡ Some bytes → record_at offset held ≡ Whole size
-    → given ≡ entry_in offset (take size held) → left ≡ drop size held → next ≡ offset + size
+-- A record at the front of what was held was given: the offset behind it, and what is held then.
+pub record Gave (offset : ℕ) (held : List ℕ) (given : ℕ × Entry) (next : ℕ) (left : List ℕ) : Type 0 where
+  pub size : ℕ
+  pub whole : record_at offset held ≡ Whole size
+  pub is : given ≡ entry_in offset (take size held)
+  pub dropped : left ≡ drop size held
+  pub place : next ≡ offset + size
+
+-- it is the first of all that is ahead
+pub gives_record : {offset next : ℕ} {left : List ℕ} {given : ℕ × Entry} → (held bytes : List ℕ) (after : Option (List ℕ))
+    → option_map (λ rest. held ++ rest) after ≡ Some bytes → Gave offset held given next left
     → GivesRecord offset bytes given next (option_map (λ rest. left ++ rest) after)
-gives_record offset next size held left bytes given after h whole is dropped place =
+gives_record {offset} {next} {left} {given} held bytes after h g =
     let f = held_first held bytes after h in
-    let fits = whole_fits offset held size whole in
-    let same : take size bytes ≡ take size held = ap (take size) f.2 ∙ take-append-le size held f.0 fits.0 in
+    let fits = whole_fits offset held g.size g.whole in
+    let same : take g.size bytes ≡ take g.size held = ap (take g.size) f.2 ∙ take-append-le g.size held f.0 fits.0 in
     record {
-      size = size;
-      whole = ap (record_at offset) f.2 ∙ whole_stays offset held f.0 size whole;
-      is = is ∙ ap (entry_in offset) (sym same);
-      next_offset_is = place ∙ ap (λ n. offset + n) (sym (ap length same ∙ length-take-le size held fits.0));
+      size = g.size;
+      whole = ap (record_at offset) f.2 ∙ whole_stays offset held f.0 g.size g.whole;
+      is = g.is ∙ ap (entry_in offset) (sym same);
+      next_offset_is = g.place ∙ ap (λ n. offset + n) (sym (ap length same ∙ length-take-le g.size held fits.0));
       rest = ap (λ (a : Option (List ℕ)). option_map (λ (r : List ℕ). left ++ r) a) f.1
-          ∙ ap Some (ap (λ b. b ++ f.0) dropped ∙ (sym (drop-append-le size held f.0 fits.0) ∙ ap (drop size) (sym f.2)));
+          ∙ ap Some (ap (λ b. b ++ f.0) g.dropped ∙ (sym (drop-append-le g.size held f.0 fits.0) ∙ ap (drop g.size) (sym f.2)));
     }
 
 -- the end
@@ -65,19 +72,19 @@ pub gives_end : (offset : ℕ) (held bytes : List ℕ) (after : Option (List ℕ
 gives_end offset held bytes after h none all = let empty : bytes ≡ [] = sym all ∙ none in (empty, h ∙ ap Some empty, refl)
 
 -- a refusal of what is held is one of the bytes
-pub gives_refusal : (offset : ℕ) (first held coming : List ℕ) (before after : Option (List ℕ)) (e : CaptureError)
-    → option_map (λ rest. held ++ rest) after ≡ Some (first ++ coming) → before ≡ Some coming
-    → AwaitsRecord offset first before held (Err e) → IsRefused offset (first ++ coming) e
-gives_refusal offset first held coming before after BadMagic h told is = is
-gives_refusal offset first held coming before after (BadRecord at why) h told is = let f = held_first held (first ++ coming) after h in
+pub gives_refusal : (offset : ℕ) (first held coming : List ℕ) (after : Option (List ℕ)) (e : CaptureError)
+    → option_map (λ rest. held ++ rest) after ≡ Some (first ++ coming) → AwaitsRecord offset first (Some coming) held (Err e)
+    → IsRefused offset (first ++ coming) e
+gives_refusal offset first held coming after BadMagic h is = is
+gives_refusal offset first held coming after (BadRecord at why) h is = let f = held_first held (first ++ coming) after h in
     ap (record_at offset) f.2 ∙ bad_stays offset held f.0 (form.BadRecord at why) is
-gives_refusal offset first held coming before after (Truncated at) h told is =
-    let all : held ≡ first ++ coming = is.3 coming told in
+gives_refusal offset first held coming after (Truncated at) h is =
+    let all : held ≡ first ++ coming = is.3 coming refl in
     (λ none. is.1 (all ∙ none), ap (record_at offset) (sym all) ∙ is.2, is.0)
-gives_refusal offset first held coming before after (TooLong at) h told is = let f = held_first held (first ++ coming) after h in ap (record_at offset) f.2
+gives_refusal offset first held coming after (TooLong at) h is = let f = held_first held (first ++ coming) after h in ap (record_at offset) f.2
     ∙ bad_stays offset held f.0 (form.TooLong at) is
-gives_refusal offset first held coming before after ReadFault h told is = tt
-gives_refusal offset first held coming before after OutOfMemory h told is = tt
+gives_refusal offset first held coming after ReadFault h is = tt
+gives_refusal offset first held coming after OutOfMemory h is = tt
 
 pub refusal_given : (offset n : ℕ) (bytes : List ℕ) (result : Result (Option (ℕ × Entry)) CaptureError) (b : Option (List ℕ)) (e : CaptureError)
     → result ≡ Err e → IsRefused offset bytes e → GivesNext offset bytes result n b

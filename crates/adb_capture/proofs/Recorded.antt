@@ -1,5 +1,5 @@
 -- What a recorder over a sink writes.
-use Rattle.std.proofs.Common.{ℕ, ◌+◌, ◌≡◌, ◌≤◌, Bool, false, List, ◌++◌, length, take, drop, Option, Some, Err, sym, ◌∙◌, ap}
+use Rattle.std.proofs.Common.{ℕ, ◌+◌, ◌≡◌, ◌≤◌, Bool, false, List, ◌++◌, length, take, drop, Option, Some, sym, ◌∙◌, ap}
 use Rattle.std.proofs.lemmas.List.{append_assoc, take-append-le, take-append-drop}
 use Rattle.adb_capture.specs.declared.entry.Entry.{Entry}
 use Rattle.adb_capture.specs.Records.{magic, record_of}

@@ -3,10 +3,13 @@ use Rattle.std.proofs.Common.{ℕ, ◌+◌, ◌-◌, ◌/◌, ◌%◌, ◌^◌, 
 use Rattle.std.proofs.Common.{Option, Some, None, refl, sym, ◌∙◌, ap, subst, arith, suc}
 use Rattle.std.specs.Prelude.{nat_eq, All}
 use Rattle.std.proofs.lemmas.Bool.{eqb-true, eqb-false, ne_eqb}
-use Rattle.std.proofs.lemmas.List.{length-append, length-take-le, take_at, take_all, append-nil}
-use Rattle.std.proofs.lemmas.List.Elements.{All-take}
+use Rattle.std.proofs.lemmas.List.{append_assoc, length-append, length-drop, length-take-le, drop-drop, take_at, take_all, append-nil}
+use Rattle.std.proofs.lemmas.List.Elements.{All-take, All-drop}
 use Rattle.byteorder.specs.Endian.{little_number, little_bytes}
-use Rattle.byteorder.specs.Numbers.{little_number-reads_back}
+use Rattle.byteorder.specs.Numbers.{little_number-reads_back, little_from-lt}
+use Rattle.adb_outside.specs.Bytes.{AreBytes}
+use Rattle.adb_outside.proofs.ByteLaws.{byte_at}
+use Rattle.adb_outside.proofs.Numbers.{number_again}
 use Rattle.adb_outside.specs.declared.framer.Front.TheVariants.{Whole}
 use Rattle.adb_outside.specs.declared.kinds.Kind.{Kind}
 use Rattle.adb_outside.specs.declared.kinds.Kind.TheVariants.{Usb, Local}
@@ -18,7 +21,7 @@ use Rattle.adb_capture.specs.declared.limits.TheConstants.{HEADER_LEN, CAPTURE_L
 use Rattle.adb_capture.specs.Records.{record_at, is_kind, kind_in, owner_in, size_in, data_in, entry_at, entry_in, or_join, kind_of, number_of}
 use Rattle.adb_capture.specs.Records.{data_of, record_of, cause_byte, plug_letter, HasRecord, HasPort, cause_at, port_at, plug_at, join_at, enter_at}
 use Rattle.adb_capture.specs.Records.{bound_at, end_at, detach_at, attach_by, attach_at}
-use Rattle.adb_capture.proofs.Fronts.{entry_of, whole_tells, whole_told, whole_alone}
+use Rattle.adb_capture.proofs.Fronts.{IsWhole, entry_of, whole_tells, whole_told, whole_alone}
 
 kind_known : (e : Entry) → is_kind (kind_of e) ≡ true
 kind_known (Join client) = refl
@@ -101,13 +104,6 @@ spelled_whole offset e rest h near =
 -- And holds the entry.
 pub spelled_again : (offset : ℕ) (e : Entry) → HasRecord e → entry_in offset (record_of e) ≡ (offset, e)
 spelled_again offset e h = ap (λ o. (offset, or_join o)) (ap entry_of (sym (append-nil (record_of e))) ∙ all_again e [] h)
-
-four_cells : (n a b c d : ℕ) → n % 256 ≡ a → n / 256 % 256 ≡ b → n / 65536 % 256 ≡ c → n / 16777216 % 256 ≡ d → little_bytes 4 n ≡ a ∷ b ∷ c ∷ d ∷ []
-four_cells n a b c d e0 e1 e2 e3 = cc
-
--- four bytes are those of the number that they spell
-pub four_bytes : (a b c d : ℕ) → a < 256 → b < 256 → c < 256 → d < 256 → little_bytes 4 (little_number 4 (a ∷ b ∷ c ∷ d ∷ [])) ≡ a ∷ b ∷ c ∷ d ∷ []
-four_bytes a b c d ha hb hc hd = four_cells (little_number 4 (a ∷ b ∷ c ∷ d ∷ [])) a b c d (omega arith) (omega arith) (omega arith) (omega arith)
 
 two_cells : (n a b : ℕ) → n % 256 ≡ a → n / 256 % 256 ≡ b → little_bytes 2 n ≡ a ∷ b ∷ []
 two_cells n a b e0 e1 = cc
@@ -259,18 +255,16 @@ pub record IsSpelled (offset : ℕ) (bytes : List ℕ) : Type 0 where
   pub spelled : bytes ≡ record_of (entry_in offset bytes).1
   pub form : HasRecord (entry_in offset bytes).1
 
--- bytes of a header and data
-header_spells : (k a b c d e f g h : ℕ) (rest bytes : List ℕ) → All IsByte (k ∷ a ∷ b ∷ c ∷ d ∷ e ∷ f ∷ g ∷ h ∷ rest)
-    → k ∷ little_bytes 4 (little_number 4 (a ∷ b ∷ c ∷ d ∷ [])) ++ little_bytes 4
-    (little_number 4 (e ∷ f ∷ g ∷ h ∷ [])) ++ rest ≡ k ∷ a ∷ b ∷ c ∷ d ∷ e ∷ f ∷ g ∷ h ∷ rest
-header_spells k a b c d e f g h rest bytes all =
-    ap (λ x. k ∷ x ++ little_bytes 4 (little_number 4 (e ∷ f ∷ g ∷ h ∷ [])) ++ rest)
-    (four_bytes a b c d (all 1 0 (omega arith)) (all 2 0 (omega arith)) (all 3 0 (omega arith)) (all 4 0 (omega arith)))
-    ∙ ap (λ x. k ∷ a ∷ b ∷ c ∷ d ∷ x ++ rest) (four_bytes e f g h (all 5 0 (omega arith)) (all 6 0 (omega arith)) (all 7 0 (omega arith))
-    (all 8 0 (omega arith)))
-
-number_fits : (a b c d : ℕ) → a < 256 → b < 256 → c < 256 → d < 256 → little_number 4 (a ∷ b ∷ c ∷ d ∷ []) < 4294967296
-number_fits a b c d ha hb hc hd = omega arith
+-- the bytes of a whole record: its kind, its number, its length and its data
+parts_again : (k : ℕ) (tail : List ℕ) → AreBytes tail → 8 ≤ length tail
+    → k ∷ little_bytes 4 (little_number 4 tail) ++ little_bytes 4 (little_number 4 (drop 4 tail)) ++ drop 8 tail ≡ k ∷ tail
+parts_again k tail are long =
+    let owner = number_again tail are (omega (arith, long)) in
+    let size = number_again (drop 4 tail) (All-drop IsByte 4 tail are) (omega (arith, long, length-drop 4 tail)) in
+    append_assoc (k ∷ little_bytes 4 (little_number 4 tail)) (little_bytes 4 (little_number 4 (drop 4 tail))) (drop 8 tail)
+    ∙ (ap (λ bytes. k ∷ little_bytes 4 (little_number 4 tail) ++ bytes)
+    (ap (λ bytes. little_bytes 4 (little_number 4 (drop 4 tail)) ++ bytes) (sym (drop-drop 4 4 tail)) ∙ size)
+    ∙ ap (λ bytes. k ∷ bytes) owner)
 
 -- a record of an entry that was read, by the parts of the bytes
 record_by : (kind n size : ℕ) (bytes : List ℕ) (e : Entry) → Spells kind n bytes e → size ≡ length bytes
@@ -283,37 +277,40 @@ record_by kind n size bytes e s len =
 
 pub read_spelled : (offset : ℕ) (bytes : List ℕ) → All IsByte bytes → record_at offset bytes ≡ Whole (length bytes) → IsSpelled offset bytes
 read_spelled offset [] all w = let t = whole_tells offset [] 0 w in absurd (omega (arith, t.size))
-read_spelled offset (k ∷ []) all w = let t = whole_tells offset (k ∷ []) 1 w in absurd (omega (arith, t.size))
-read_spelled offset (k ∷ a ∷ []) all w = let t = whole_tells offset (k ∷ a ∷ []) 2 w in absurd (omega (arith, t.size))
-read_spelled offset (k ∷ a ∷ b ∷ []) all w = let t = whole_tells offset (k ∷ a ∷ b ∷ []) 3 w in absurd (omega (arith, t.size))
-read_spelled offset (k ∷ a ∷ b ∷ c ∷ []) all w = let t = whole_tells offset (k ∷ a ∷ b ∷ c ∷ []) 4 w in absurd (omega (arith, t.size))
-read_spelled offset (k ∷ a ∷ b ∷ c ∷ d ∷ []) all w = let t = whole_tells offset (k ∷ a ∷ b ∷ c ∷ d ∷ []) 5 w in absurd (omega (arith, t.size))
-read_spelled offset (k ∷ a ∷ b ∷ c ∷ d ∷ e ∷ []) all w = let t = whole_tells offset (k ∷ a ∷ b ∷ c ∷ d ∷ e ∷ []) 6 w in absurd (omega (arith, t.size))
-read_spelled offset (k ∷ a ∷ b ∷ c ∷ d ∷ e ∷ f ∷ []) all w = let t = whole_tells offset (k ∷ a ∷ b ∷ c ∷ d ∷ e ∷ f ∷ []) 7 w in absurd (omega (arith, t.size))
-read_spelled offset (k ∷ a ∷ b ∷ c ∷ d ∷ e ∷ f ∷ g ∷ []) all w = let t = whole_tells offset (k ∷ a ∷ b ∷ c ∷ d ∷ e ∷ f ∷ g ∷ []) 8 w in
-    absurd (omega (arith, t.size))
-read_spelled offset (k ∷ a ∷ b ∷ c ∷ d ∷ e ∷ f ∷ g ∷ h ∷ rest) all w =
-    let bytes : List ℕ = k ∷ a ∷ b ∷ c ∷ d ∷ e ∷ f ∷ g ∷ h ∷ rest in
-    let t = whole_tells offset bytes (length bytes) w in
-    let size : little_number 4 (e ∷ f ∷ g ∷ h ∷ []) ≡ length rest = omega (arith, t.size) in
-    let part : data_in bytes ≡ rest = take_all (size_in bytes) rest (omega (arith, size)) in
-    let is : entry_at k (little_number 4 (a ∷ b ∷ c ∷ d ∷ [])) rest ≡ Some t.entry = ap (λ x. entry_at k (little_number 4 (a ∷ b ∷ c ∷ d ∷ [])) x) (sym part)
-    ∙ t.formed in
-    let s = entry_spells k (little_number 4 (a ∷ b ∷ c ∷ d ∷ [])) rest
-    (λ i z l. all (suc (suc (suc (suc (suc (suc (suc (suc (suc i))))))))) z (omega arith)) t.entry is in
-    let same : t.entry ≡ (entry_in offset bytes).1 = ap or_join (sym t.formed) in
-    let spelled : bytes ≡ record_of t.entry = sym (header_spells k a b c d e f g h rest bytes all)
-    ∙ record_by k (little_number 4 (a ∷ b ∷ c ∷ d ∷ [])) (little_number 4 (e ∷ f ∷ g ∷ h ∷ [])) rest t.entry s size in
-    let form : HasRecord t.entry = record {
-      owner = omega (arith, s.owner_is, number_fits a b c d (all 1 0 (omega arith)) (all 2 0 (omega arith)) (all 3 0 (omega arith)) (all 4 0 (omega arith)));
-      port = s.port;
-      bytes = subst (λ x. All IsByte x) s.data_is (λ i z l. all (suc (suc (suc (suc (suc (suc (suc (suc (suc i))))))))) z (omega arith));
-      size = omega (arith, ap length s.data_is, t.small, size);
-    } in
-    record {
-      spelled = spelled ∙ ap record_of same;
-      form = subst HasRecord same form;
-    }
+read_spelled offset (k ∷ tail) all w = record {
+  spelled = spelled ∙ ap record_of same;
+  form = subst HasRecord same (record {
+    owner = omega (arith, s.owner_is, little_from-lt 0 4 tail (byte_at tail are));
+    port = s.port;
+    bytes = subst (λ x. All IsByte x) s.data_is content_are;
+    size = omega (arith, ap length s.data_is, t.small, size);
+  });
+}
+  where
+    t : IsWhole offset (k ∷ tail) (length (k ∷ tail))
+    t = whole_tells offset (k ∷ tail) (length (k ∷ tail)) w
+
+    are : AreBytes tail
+    are = λ i z l. all (suc i) z (omega arith)
+
+    content_are : AreBytes (drop 8 tail)
+    content_are = All-drop IsByte 8 tail are
+
+    size : size_in (k ∷ tail) ≡ length (drop 8 tail)
+    size = omega (arith, t.size, length-drop 8 tail)
+
+    part : data_in (k ∷ tail) ≡ drop 8 tail
+    part = take_all (size_in (k ∷ tail)) (drop 8 tail) (omega (arith, size))
+
+    s : Spells k (little_number 4 tail) (drop 8 tail) t.entry
+    s = entry_spells k (little_number 4 tail) (drop 8 tail) content_are t.entry (ap (λ x. entry_at k (little_number 4 tail) x) (sym part) ∙ t.formed)
+
+    same : t.entry ≡ (entry_in offset (k ∷ tail)).1
+    same = ap or_join (sym t.formed)
+
+    spelled : k ∷ tail ≡ record_of t.entry
+    spelled = sym (parts_again k tail are (omega (arith, t.size)))
+        ∙ record_by k (little_number 4 tail) (little_number 4 (drop 4 tail)) (drop 8 tail) t.entry s size
 
 -- The same of the record at the front of some bytes.
 pub front_spelled : (offset n : ℕ) (bytes : List ℕ) → All IsByte bytes → record_at offset bytes ≡ Whole n → IsSpelled offset (take n bytes)

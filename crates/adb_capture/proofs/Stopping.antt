@@ -1,5 +1,5 @@
 -- Where a reader stops before the next record: no byte that was taken is lost.
-use Rattle.std.proofs.Common.{ℕ, ◌≡◌, true, if◌then◌else◌, List, ◌++◌, Option, Some, sym, ◌∙◌, ap, subst}
+use Rattle.std.proofs.Common.{ℕ, ◌≡◌, true, if◌then◌else◌, List, ◌++◌, Option, Some, sym, ◌∙◌, ap}
 use Rattle.std.specs.Prelude.{option_map}
 use Rattle.adb_capture.specs.Counting.{KeepsBytes}
 use Rattle.adb_capture.specs.Records.{magic}

@@ -20,14 +20,15 @@ module _ {A : Type 0} where
   last_row true x = refl
   last_row false x = refl
 
-  -- rows that take what is behind a word
-  three : {X : Type 0} (a b c : Bool) (f g h : X → A) (x y z : X)
-      → is_some (option_or (option_map f (cond a (Some x) None)) (option_or (option_map g (cond b (Some y) None)) (option_map h (cond c (Some z) None)))) ≡
-      (a || (b || c))
-  three true b c f g h x y z = refl
-  three false true c f g h x y z = refl
-  three false false true f g h x y z = refl
-  three false false false f g h x y z = refl
+  -- a row more, of those that take what is behind a word
+  taken_or : {X : Type 0} (f : X → A) (b rest : Bool) (x : X) (o : Option A) → is_some o ≡ rest
+      → is_some (option_or (option_map f (cond b (Some x) None)) o) ≡ (b || rest)
+  taken_or f true rest x o e = refl
+  taken_or f false rest x o e = e
+
+  last_taken : {X : Type 0} (f : X → A) (b : Bool) (x : X) → is_some (option_map f (cond b (Some x) None)) ≡ b
+  last_taken f true x = refl
+  last_taken f false x = refl
 
   either : (o p : Option A) → is_some (option_or o p) ≡ (is_some o || is_some p)
   either (Some x) p = refl
@@ -69,7 +70,8 @@ forward_fits on text =
     let a = starts_with nat_eq text norebind_word in
     let b = starts_with nat_eq text (codes "forward:") in
     let c = starts_with nat_eq text (codes "killforward:") in
-    three a b c (forward_of on true) (forward_of on false) (λ local. killed_at (local_in local)) _ _ _ ∙ absorbed a b c (norebind_is_forward text)
+    taken_or (forward_of on true) a _ _ _ (taken_or (forward_of on false) b _ _ _ (last_taken (λ local. killed_at (local_in local)) c _))
+    ∙ absorbed a b c (norebind_is_forward text)
 
 -- a row fits a text exactly where it is a form
 pub fits : (on : Which) (text : List ℕ) → is_some (form on text) ≡ is_form text

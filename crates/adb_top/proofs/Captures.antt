@@ -210,6 +210,20 @@ pub record Opened (left_first : Option (List ℕ)) (first : Moment) : Type 0 whe
   pub past : (coming : List ℕ) → left_first ≡ Some coming → (rest : List ℕ) × (first.left ≡ Some rest) × (past_magic coming ≡ Some (first.reader.held ++ rest))
   pub gathered : first.out.1 ≡ magic
 
+abbrev pub fresh : Reading
+fresh = record { opened = false; offset = 8; held = []; failed = None }
+
+-- a reader that had read nothing read the magic
+pub opened_first : (reader : Reading) (left_first : Option (List ℕ)) (first : Moment) → reader ≡ fresh → first.reader.offset ≡ reader.offset
+    → (reader.failed ≡ None → Opens reader left_first first.reader first.left (Ok tt)) → first.reader.opened ≡ true → first.out.1 ≡ magic
+    → Opened left_first first
+opened_first reader left_first first is place opens opened gathered = record {
+  offset = place ∙ ap (λ (r : Reading). r.offset) is;
+  opened = opened;
+  past = subst (λ (r : Reading). r.failed ≡ None → Opens r left_first first.reader first.left (Ok tt)) is opens refl;
+  gathered = gathered;
+}
+
 -- what is ahead then, of the bytes of the capture
 record FromMagic (bytes : List ℕ) (first : Moment) : Type 0 where
   pub before : List ℕ
@@ -323,7 +337,7 @@ capture_unread left left_after written = record {
 
 -- The magic was not read.
 pub capture_unopened : (opened : Reading) (left_first left_opened written : Option (List ℕ)) (e : CaptureError)
-    → Opens (record { opened = false; offset = 8; held = []; failed = None }) left_first opened left_opened (Err e)
+    → Opens fresh left_first opened left_opened (Err e)
     → ReplaysCapture left_first left_opened written written (Err (stop_of e))
 capture_unopened opened left_first left_opened written capture.BadMagic o = record {
   writes = λ bytes had told has. has ∙ ap Some (sym (append-nil had) ∙ ap (λ x. had ++ x)

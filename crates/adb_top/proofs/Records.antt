@@ -107,27 +107,37 @@ given_next now new result before gives sound was = (gives sound).records before 
 abbrev accept_at : ℕ → Entry → History → (History → Accepted) → Accepted
 accept_at offset e done others = accept_by (refusal_of (state done) offset e) (is_input e) done e others
 
+-- a record that the reader gave: the moments before and after its replay, its offset, and its entry
+pub record Turn : Type 0 where
+  pub now : Moment
+  pub new : Moment
+  pub offset : ℕ
+  pub entry : Entry
+
+abbrev pub IsGiven : Turn → Type 0
+IsGiven t = Gives t.now (Ok (Some (t.offset, t.entry))) t.new
+
 -- A record came: what of all that a capture gives is accepted from it on.
-pub record CameOn (now new : Moment) (offset : ℕ) (e : Entry) (done : History) (all : Accepted) : Type 0 where
+pub record CameOn (t : Turn) (done : History) (all : Accepted) : Type 0 where
   pub others : List ℕ
-  pub is : IsAhead new others
-  pub inputs : drained_from [] all.inputs ≡ drained_from done (accept_at offset e done (accept_records new.reader.offset others)).inputs
-  pub refused : all.refused ≡ (accept_at offset e done (accept_records new.reader.offset others)).refused
+  pub is : IsAhead t.new others
+  pub inputs : drained_from [] all.inputs ≡ drained_from done (accept_at t.offset t.entry done (accept_records t.new.reader.offset others)).inputs
+  pub refused : all.refused ≡ (accept_at t.offset t.entry done (accept_records t.new.reader.offset others)).refused
 
 -- from a record that came on, whatever follows it
-front_accepted : (now new : Moment) (offset : ℕ) (e : Entry) (done : History) (before : List ℕ)
-    → (g : GivesRecord now.reader.offset before (offset, e) new.reader.offset (ahead_of new.reader new.left)) → (more : List ℕ)
-    → accept_records now.reader.offset (take g.size before ++ more) done ≡ accept_at offset e done (accept_records new.reader.offset more)
-front_accepted now new offset e done before g more =
+front_accepted : (t : Turn) (done : History) (before : List ℕ)
+    → (g : GivesRecord t.now.reader.offset before (t.offset, t.entry) t.new.reader.offset (ahead_of t.new.reader t.new.left)) → (more : List ℕ)
+    → accept_records t.now.reader.offset (take g.size before ++ more) done ≡ accept_at t.offset t.entry done (accept_records t.new.reader.offset more)
+front_accepted t done before g more =
     accept_first at bytes done
     ∙ (ap (λ f. accept_front at bytes f done) (framing.whole at front more g.size (framing.alone at before g.size g.whole))
     ∙ (ap (λ t. from (entry_in at t) (accept_records (offset_after at t) (drop g.size bytes))) (take_at front more g.size len)
     ∙ (ap (λ d. from (entry_in at front) (accept_records (offset_after at front) d)) (drop_at front more g.size len)
     ∙ (ap (λ (p : ℕ × Entry). from p (accept_records (offset_after at front) more)) (sym g.is)
-    ∙ ap (λ n. from (offset, e) (accept_records n more)) (sym g.next_offset_is)))))
+    ∙ ap (λ n. from (t.offset, t.entry) (accept_records n more)) (sym g.next_offset_is)))))
   where
     at : ℕ
-    at = now.reader.offset
+    at = t.now.reader.offset
 
     front : List ℕ
     front = take g.size before
@@ -139,11 +149,11 @@ front_accepted now new offset e done before g more =
     from p others = accept_at p.0 p.1 done others
 
     len : length (take g.size before) ≡ g.size
-    len = length-take-le g.size before (framing.fits now.reader.offset before g.size g.whole).1
+    len = length-take-le g.size before (framing.fits t.now.reader.offset before g.size g.whole).1
 
-came_on : (now new : Moment) (offset : ℕ) (e : Entry) (done : History) (all : Accepted) → Gives now (Ok (Some (offset, e))) new
-    → now.reader.failed ≡ None → ComesOn now done all → CameOn now new offset e done all
-came_on now new offset e done all gives sound c = record {
+came_on : (t : Turn) (done : History) (all : Accepted) → IsGiven t
+    → t.now.reader.failed ≡ None → ComesOn t.now done all → CameOn t done all
+came_on t done all gives sound c = record {
   others = drop g.size c.before;
   is = g.rest;
   inputs = c.inputs ∙ ap
@@ -151,12 +161,12 @@ came_on now new offset e done all gives sound c = record {
   refused = c.refused ∙ ap (λ (a : Accepted). a.refused) given;
 }
   where
-    g : GivesRecord now.reader.offset c.before (offset, e) new.reader.offset (ahead_of new.reader new.left)
-    g = given_next now new (Ok (Some (offset, e))) c.before gives sound c.is
+    g : GivesRecord t.now.reader.offset c.before (t.offset, t.entry) t.new.reader.offset (ahead_of t.new.reader t.new.left)
+    g = given_next t.now t.new (Ok (Some (t.offset, t.entry))) c.before gives sound c.is
 
-    given : accept_records now.reader.offset c.before done ≡ accept_at offset e done (accept_records new.reader.offset (drop g.size c.before))
-    given = ap (λ b. accept_records now.reader.offset b done) (sym (take-append-drop g.size c.before))
-        ∙ front_accepted now new offset e done c.before g (drop g.size c.before)
+    given : accept_records t.now.reader.offset c.before done ≡ accept_at t.offset t.entry done (accept_records t.new.reader.offset (drop g.size c.before))
+    given = ap (λ b. accept_records t.now.reader.offset b done) (sym (take-append-drop g.size c.before))
+        ∙ front_accepted t done c.before g (drop g.size c.before)
 
 -- an input that is accepted, or a hand-out that is passed over
 accept_on : (b : Bool) (h : History) (e : Entry) (others : History → Accepted)
@@ -166,10 +176,10 @@ accept_on true h e others = (refl, refl)
 accept_on false h e others = (refl, refl)
 
 -- A record was replayed.
-pub replaying_on : (first now new : Moment) (holds holds_new : Kept) (offset : ℕ) (e : Entry) → Gives now (Ok (Some (offset, e))) new → new.reader.failed ≡ None
-    → new.reader.opened ≡ true → ((h : History) → IsDrained holds h → ReplaysEntry (Ok tt) offset e h now.out new.out holds_new) → Replaying first now holds
-    → Replaying first new holds_new
-replaying_on first now new holds holds_new offset e gives sound opened entry r = record {
+pub replaying_on : (first : Moment) (t : Turn) (holds holds_new : Kept) → IsGiven t → t.new.reader.failed ≡ None
+    → t.new.reader.opened ≡ true → ((h : History) → IsDrained holds h → ReplaysEntry (Ok tt) t.offset t.entry h t.now.out t.new.out holds_new) → Replaying first t.now holds
+    → Replaying first t.new holds_new
+replaying_on first t holds holds_new gives sound opened entry r = record {
   done = x.whole;
   drained = x.gives.2;
   sound = sound;
@@ -177,7 +187,7 @@ replaying_on first now new holds holds_new offset e gives sound opened entry r =
   kept = λ had k. x.on.kept had (r.kept had k);
   came = λ before was.
       let c = r.came before was in
-      let g = given_next now new (Ok (Some (offset, e))) c.rest gives r.sound c.told in
+      let g = given_next t.now t.new (Ok (Some (t.offset, t.entry))) c.rest gives r.sound c.told in
       let front = take g.size c.rest in
       record {
         used = c.used ++ front;
@@ -187,27 +197,27 @@ replaying_on first now new holds holds_new offset e gives sound opened entry r =
         on = λ more.
             let all = ap (λ b. accept_records first.reader.offset b []) (append_assoc c.used front more) in
             let so_far = c.on (front ++ more) in
-            let next = front_accepted now new offset e r.done c.rest g more in
+            let next = front_accepted t r.done c.rest g more in
             record {
               inputs = ap (λ (a : Accepted). drained_from [] a.inputs) all
-                  ∙ (so_far.inputs ∙ (ap (λ (a : Accepted). drained_from r.done a.inputs) next ∙ (made (accept_records new.reader.offset more)).0));
+                  ∙ (so_far.inputs ∙ (ap (λ (a : Accepted). drained_from r.done a.inputs) next ∙ (made (accept_records t.new.reader.offset more)).0));
               refused = ap (λ (a : Accepted). a.refused) all
-                  ∙ (so_far.refused ∙ (ap (λ (a : Accepted). a.refused) next ∙ (made (accept_records new.reader.offset more)).1));
+                  ∙ (so_far.refused ∙ (ap (λ (a : Accepted). a.refused) next ∙ (made (accept_records t.new.reader.offset more)).1));
             };
       };
 }
   where
-    x : ReplaysEntry (Ok tt) offset e r.done now.out new.out holds_new
+    x : ReplaysEntry (Ok tt) t.offset t.entry r.done t.now.out t.new.out holds_new
     x = entry r.done r.drained
 
     made : (others : History → Accepted)
-        → (drained_from r.done (accept_at offset e r.done others).inputs ≡ drained_from x.whole (others x.whole).inputs)
-        × ((accept_at offset e r.done others).refused ≡ (others x.whole).refused)
+        → (drained_from r.done (accept_at t.offset t.entry r.done others).inputs ≡ drained_from x.whole (others x.whole).inputs)
+        × ((accept_at t.offset t.entry r.done others).refused ≡ (others x.whole).refused)
     made others =
-        let on = accept_on (is_input e) r.done e others in (
-          ap (λ why. drained_from r.done (accept_by why (is_input e) r.done e others).inputs) x.gives.0
-              ∙ (on.0 ∙ ap (λ h. drained_from h (others h).inputs) (sym x.gives.1)),
-          ap (λ why. (accept_by why (is_input e) r.done e others).refused) x.gives.0 ∙ (on.1 ∙ ap (λ h. (others h).refused) (sym x.gives.1)),
+        let on = accept_on (is_input t.entry) r.done t.entry others in (
+          ap (λ why. drained_from r.done (accept_by why (is_input t.entry) r.done t.entry others).inputs) x.gives.0
+          ∙ (on.0 ∙ ap (λ h. drained_from h (others h).inputs) (sym x.gives.1)),
+          ap (λ why. (accept_by why (is_input t.entry) r.done t.entry others).refused) x.gives.0 ∙ (on.1 ∙ ap (λ h. (others h).refused) (sym x.gives.1)),
         )
 
 -- the records end
@@ -364,62 +374,62 @@ replaying_stopped first now new holds e same gives r = go e (λ c sound. given_n
     }
 
 -- What is reached of all that a capture gives, where a record was not replayed to its end.
-reached_front : (first now new : Moment) (holds : Kept) (offset : ℕ) (e : Entry) → Gives now (Ok (Some (offset, e))) new
-    → (r : Replaying first now holds) (whole : History) → IsReached offset e r.done whole
+reached_front : (first : Moment) (t : Turn) (holds : Kept) → IsGiven t
+    → (r : Replaying first t.now holds) (whole : History) → IsReached t.offset t.entry r.done whole
     → (before : List ℕ) → IsAhead first before → IsFrontOf whole (drained_from [] (accept_records first.reader.offset before []).inputs)
-reached_front first now new holds offset e gives r whole (inl same) before was =
+reached_front first t holds gives r whole (inl same) before was =
     subst (λ (h : History). IsFrontOf h (drained_from [] (accept_records first.reader.offset before []).inputs)) (sym same)
-    (front_so_far first now holds r before was)
-reached_front first now new holds offset e gives r whole (inr on) before was =
-    let c = came_on now new offset e r.done _ gives r.sound (comes first now holds r before was) in
-    let others : History → Accepted = accept_records new.reader.offset c.others in
-    let more = drained_adds (drained_after r.done e) (others (drained_after r.done e)).inputs in
+    (front_so_far first t.now holds r before was)
+reached_front first t holds gives r whole (inr on) before was =
+    let c = came_on t r.done _ gives r.sound (comes first t.now holds r before was) in
+    let others : History → Accepted = accept_records t.new.reader.offset c.others in
+    let more = drained_adds (drained_after r.done t.entry) (others (drained_after r.done t.entry)).inputs in
     record {
       more = more.0 ++ on.2.more;
-      is = c.inputs ∙ (ap (λ why. drained_from r.done (accept_by why (is_input e) r.done e others).inputs) on.0
-          ∙ (ap (λ b. drained_from r.done (accept_by None b r.done e others).inputs) on.1
+      is = c.inputs ∙ (ap (λ why. drained_from r.done (accept_by why (is_input t.entry) r.done t.entry others).inputs) on.0
+          ∙ (ap (λ b. drained_from r.done (accept_by None b r.done t.entry others).inputs) on.1
           ∙ (more.1 ∙ (ap (λ h. more.0 ++ h) on.2.is ∙ sym (append_assoc more.0 on.2.more whole)))));
     }
 
 -- A record was not replayed to its end.
-pub replaying_lost : (first now new : Moment) (holds last : Kept) (offset : ℕ) (e : Entry) (why : Stop) → Gives now (Ok (Some (offset, e))) new
-    → ((h : History) → IsDrained holds h → ReplaysEntry (Err why) offset e h now.out new.out last) → Replaying first now holds → Replays first new (Err why)
-replaying_lost first now new holds last offset e why gives entry r = record {
+pub replaying_lost : (first : Moment) (t : Turn) (holds last : Kept) (why : Stop) → IsGiven t
+    → ((h : History) → IsDrained holds h → ReplaysEntry (Err why) t.offset t.entry h t.now.out t.new.out last) → Replaying first t.now holds → Replays first t.new (Err why)
+replaying_lost first t holds last why gives entry r = record {
   whole = x.whole;
-  on = goes_on (Err why) [] r.done x.whole first.out now.out new.out r.kept x.on;
+  on = goes_on (Err why) [] r.done x.whole first.out t.now.out t.new.out r.kept x.on;
   reaches = λ before was. reaches why x.gives before was;
   ends = λ before was. ends why x.gives before was;
   consumes = consumes why x.gives;
 }
   where
-    x : ReplaysEntry (Err why) offset e r.done now.out new.out last
+    x : ReplaysEntry (Err why) t.offset t.entry r.done t.now.out t.new.out last
     x = entry r.done r.drained
 
     all : List ℕ → Accepted
     all before = accept_records first.reader.offset before []
 
-    reaches : (w : Stop) → EntryGives (Err w) offset e r.done x.whole last → (before : List ℕ) → IsAhead first before → Reaches (Err w) x.whole (all before)
+    reaches : (w : Stop) → EntryGives (Err w) t.offset t.entry r.done x.whole last → (before : List ℕ) → IsAhead first before → Reaches (Err w) x.whole (all before)
     reaches ReadFault g before was = absurd g
-    reaches WriteFault g before was = reached_front first now new holds offset e gives r x.whole g before was
-    reaches OutOfMemory g before was = reached_front first now new holds offset e gives r x.whole g before was
+    reaches WriteFault g before was = reached_front first t holds gives r x.whole g before was
+    reaches OutOfMemory g before was = reached_front first t holds gives r x.whole g before was
     reaches (Refused named) g before was =
-        let c = came_on now new offset e r.done (all before) gives r.sound (comes first now holds r before was) in
-        c.inputs ∙ (ap (λ w. drained_from r.done (accept_by w (is_input e) r.done e (accept_records new.reader.offset c.others)).inputs) g.0 ∙ sym g.1)
+        let c = came_on t r.done (all before) gives r.sound (comes first t.now holds r before was) in
+        c.inputs ∙ (ap (λ w. drained_from r.done (accept_by w (is_input t.entry) r.done t.entry (accept_records t.new.reader.offset c.others)).inputs) g.0 ∙ sym g.1)
 
-    consumes : (w : Stop) → EntryGives (Err w) offset e r.done x.whole last → ◌≡◌ {A = Result (Unit {0}) Stop} (Err w) (Err ReadFault)
-        → (before : List ℕ) → IsAhead first before → Consumes first new x.whole before
+    consumes : (w : Stop) → EntryGives (Err w) t.offset t.entry r.done x.whole last → ◌≡◌ {A = Result (Unit {0}) Stop} (Err w) (Err ReadFault)
+        → (before : List ℕ) → IsAhead first before → Consumes first t.new x.whole before
     consumes ReadFault g fault before was = absurd g
     consumes WriteFault g fault before was = cc
     consumes OutOfMemory g fault before was = cc
     consumes (Refused named) g fault before was = cc
 
-    ends : (w : Stop) → EntryGives (Err w) offset e r.done x.whole last → (before : List ℕ) → IsAhead first before → EndsAs (Err w) (all before) new.left
+    ends : (w : Stop) → EntryGives (Err w) t.offset t.entry r.done x.whole last → (before : List ℕ) → IsAhead first before → EndsAs (Err w) (all before) t.new.left
     ends ReadFault g before was = tt
     ends WriteFault g before was = tt
     ends OutOfMemory g before was = tt
     ends (Refused named) g before was =
-        let c = came_on now new offset e r.done (all before) gives r.sound (comes first now holds r before was) in
-        c.refused ∙ ap (λ w. (accept_by w (is_input e) r.done e (accept_records new.reader.offset c.others)).refused) g.0
+        let c = came_on t r.done (all before) gives r.sound (comes first t.now holds r before was) in
+        c.refused ∙ ap (λ w. (accept_by w (is_input t.entry) r.done t.entry (accept_records t.new.reader.offset c.others)).refused) g.0
 
 -- what a loop over records keeps: how far it has come, and that nothing failed
 pub record GoingOn (first now : Moment) (holds : Kept) (reads writes : Type 0) : Type 0 where

@@ -6,7 +6,7 @@ use Rattle.adb_top.specs.Keeping.{is_read_fault}
 use Rattle.adb_top.specs.Replay.{Moment, moment}
 use Rattle.adb_top.proofs.Outputs.{write_fault_of}
 use Rattle.adb_top.proofs.Drains.{counts_then}
-use Rattle.adb_top.proofs.Captures.{Opened, capture_replayed, capture_lost, capture_unopened, capture_unread}
+use Rattle.adb_top.proofs.Captures.{opened_first, capture_replayed, capture_lost, capture_unopened, capture_unread}
 use Rattle.adb_top.proofs.replay.replay.Goals as goal
 
 pub returns-in_err-open-clause-replays : goal.returns-in_err-open-clause-replays
@@ -23,13 +23,8 @@ returns-in_err-write_out-clause-replays g c =
     let first : Moment = moment c.open.new.self (g.S.Source.left c.open.new.source) (g.K.Sink.written c.args.sink.now, c.in_ok-output.output) in
     let last : Moment = moment c.replay_records-ended.new.reader (g.S.Source.left c.replay_records-ended.new.source)
     (g.K.Sink.written c.replay_records-ended.new.sink, c.replay_records-ended.new.output) in
-    let opened : Opened (g.S.Source.left c.args.source.now) first = record {
-      offset = c.in_ok-open.ensures.offset ∙ ap (λ (r : Reading). r.offset) c.in_ok-reader.ensures;
-      opened = c.in_ok-open.ensures.ok.2;
-      past = subst (λ (r : Reading). r.failed ≡ None → Opens r (g.S.Source.left c.args.source.now) c.open.new.self (g.S.Source.left c.open.new.source)
-          (Ok tt)) c.in_ok-reader.ensures c.in_ok-open.ensures.ahead refl;
-      gathered = c.in_ok-output.ensures;
-    } in
+    let opened = opened_first _ (g.S.Source.left c.args.source.now) first c.in_ok-reader.ensures c.in_ok-open.ensures.offset
+    c.in_ok-open.ensures.ahead c.in_ok-open.ensures.ok.2 c.in_ok-output.ensures in
     rw (passed.1, passed.2, write_fault_of c.in_err-write_out.field-0.0 c.in_err-write_out.ensures.fault)
     (capture_lost (g.S.Source.left c.args.source.now) (g.K.Sink.written c.write_out.new.sink) first last c.replay_records-ended.result opened
     c.replay_records-ended.ensures.replays c.in_err-write_out.ensures.out (λ none. ap g.K.Sink.written (c.write_out.ensures.nothing none)))
@@ -39,13 +34,8 @@ returns-clause-replays g c =
     let first : Moment = moment c.open.new.self (g.S.Source.left c.open.new.source) (g.K.Sink.written c.args.sink.now, c.in_ok-output.output) in
     let last : Moment = moment c.replay_records-ended.new.reader (g.S.Source.left c.replay_records-ended.new.source)
     (g.K.Sink.written c.replay_records-ended.new.sink, c.replay_records-ended.new.output) in
-    let opened : Opened (g.S.Source.left c.args.source.now) first = record {
-      offset = c.in_ok-open.ensures.offset ∙ ap (λ (r : Reading). r.offset) c.in_ok-reader.ensures;
-      opened = c.in_ok-open.ensures.ok.2;
-      past = subst (λ (r : Reading). r.failed ≡ None → Opens r (g.S.Source.left c.args.source.now) c.open.new.self (g.S.Source.left c.open.new.source)
-          (Ok tt)) c.in_ok-reader.ensures c.in_ok-open.ensures.ahead refl;
-      gathered = c.in_ok-output.ensures;
-    } in
+    let opened = opened_first _ (g.S.Source.left c.args.source.now) first c.in_ok-reader.ensures c.in_ok-open.ensures.offset
+    c.in_ok-open.ensures.ahead c.in_ok-open.ensures.ok.2 c.in_ok-output.ensures in
     capture_replayed (g.S.Source.left c.args.source.now) (g.K.Sink.written c.write_out.new.sink) first last c.replay_records-ended.result opened
     c.replay_records-ended.ensures.replays
     c.in_ok-write_out.ensures.out (λ none. ap g.K.Sink.written (c.write_out.ensures.nothing none))

@@ -1,5 +1,4 @@
 use Rattle.std.proofs.Common.{rules, ◌≡◌, true, ◌∙◌}
-use Rattle.adb_capture.specs.Reading.{AnswersNext}
 use Rattle.adb_capture.proofs.Stopping.{keeps_through, keeps_past}
 use Rattle.adb_capture.proofs.reader.CaptureReader.advance.Goals as goal
 

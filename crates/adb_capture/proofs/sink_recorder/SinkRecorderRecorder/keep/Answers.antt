@@ -1,4 +1,4 @@
-use Rattle.std.proofs.Common.{sym, ◌∙◌, ap}
+use Rattle.std.proofs.Common.{ap}
 use Rattle.adb_capture.specs.Recording.{recorded}
 use Rattle.adb_capture.proofs.Recorded.{front_recorded}
 use Rattle.adb_capture.proofs.sink_recorder.SinkRecorderRecorder.keep.Goals as goal
