@@ -8,104 +8,107 @@ use std::alloc::{AllocError, Global};
 use std::process::Abort;
 use std::test::Fail;
 
+/// It is so.
+fn is(rt: &impl Abort, so: bool) {
+    assert!(rt; so);
+}
+
 /// The bytes are these.
-fn holds(rt: &impl Abort, bytes: &[u8], want: &[u8]) {
+fn same(rt: &impl Abort, bytes: &[u8], want: &[u8]) {
     assert_eq!(rt; bytes, want);
 }
 
 #[test]
 fn texts(rt: HostRuntime) -> Result<(), Fail> {
-    let mut text = Text::new(rt.alloc());
-    text.push_slice(b"host:version")?;
-    let mut host = text.copy()?;
-    host.truncate(4);
-    holds(&rt, host.as_slice(), b"host");
-    let moved = Text::from_vec(text.into_vec());
-    holds(&rt, moved.as_slice(), b"host:version");
-    assert!(rt; moved.len() == 12 && !moved.is_empty());
+    let mut text = Text::from_slice(rt.alloc(), b"host:")?;
+    text.push_slice(b"version")?;
+    same(&rt, text.copy()?.as_slice(), b"host:version");
+    text.truncate(4);
+    is(&rt, text.len() == 4);
+    is(&rt, !text.is_empty());
+    same(&rt, Text::from_vec(text.into_vec()).as_slice(), b"host");
     Ok(())
+}
+
+/// A queue that let go of its first bytes.
+fn halved(alloc: Global) -> Result<ByteQueue, AllocError> {
+    let mut queue = ByteQueue::from_text(Text::from_slice(alloc, b"host:")?);
+    queue.take(5.min(queue.len()));
+    queue.push(b"ver")?;
+    queue.reserve(4)?;
+    queue.push_spare(b"sion");
+    Ok(queue)
 }
 
 #[test]
 fn queues(rt: HostRuntime) -> Result<(), Fail> {
-    let mut queue = ByteQueue::from_text(Text::from_slice(rt.alloc(), b"host:")?);
-    queue.take(5);
-    queue.push(b"version")?;
-    queue.reserve(4)?;
-    queue.push_spare(b"host");
-    holds(&rt, queue.as_slice(), b"versionhost");
-    queue.truncate(7);
+    let mut queue = halved(rt.alloc())?;
     queue.give_back();
-    assert!(rt; queue.len() == 7 && !queue.is_empty());
+    same(&rt, queue.as_slice(), b"version");
+    queue.truncate(3);
     queue.clear();
-    queue.give_back();
-    assert!(rt; queue.spare() == ByteQueue::new(rt.alloc()).spare());
+    is(&rt, queue.is_empty());
+    is(&rt, ByteQueue::new(rt.alloc()).spare() == 0);
     Ok(())
 }
 
-/// What a source gives of a buffer of that many bytes at each call, and what stands in the buffer.
-fn gives(rt: &impl Abort, source: &mut impl Source, calls: &[(usize, Got, &[u8])]) {
-    for (room, got, bytes) in calls {
-        let mut into = *b"........";
-        let room = (*room).clamp(1, into.len());
-        assert!(rt; source.read(&mut into[..room]) == *got);
-        holds(rt, &into, bytes);
-    }
-}
-
-#[test]
-fn sources_give_pieces(rt: HostRuntime) -> Result<(), Fail> {
-    let text = Text::from_slice(rt.alloc(), b"shell:")?;
-    let mut source = MemorySource::new(text, 3, Vec::from_slice(rt.alloc(), &[2])?);
-    let calls: [(usize, Got, &[u8]); 5] = [
-        (4, Got::Bytes(3), b"she....."),
-        (4, Got::Failed, b"........"),
-        (2, Got::Bytes(2), b"ll......"),
-        (4, Got::Bytes(1), b":......."),
-        (4, Got::End, b"........"),
-    ];
-    gives(&rt, &mut source, &calls);
-    let mut source = NeverSource::new(Text::from_slice(rt.alloc(), b"sync:")?, 8);
-    gives(&rt, &mut source, &[(8, Got::Bytes(5), b"sync:...")]);
-    Ok(())
-}
-
-#[test]
-fn sinks_take(rt: HostRuntime) -> Result<(), Fail> {
-    let mut sink = MemorySink::new(rt.alloc(), Vec::from_slice(rt.alloc(), &[2])?);
-    for wrote in [Wrote::All, Wrote::Failed { taken: 0 }, Wrote::All] {
-        assert!(rt; sink.write(b"OK") == wrote);
-    }
-    holds(&rt, sink.bytes(), b"OKOK");
-    assert!(rt; NeverSink::new().write(b"OKAY") == Wrote::All);
-    Ok(())
-}
-
-#[test]
-fn ports_read(rt: HostRuntime) -> Result<(), Fail> {
-    let text = Text::from_slice(rt.alloc(), b"OKAY")?;
-    let mut input = MemoryIn::new(text, 3, Vec::from_slice(rt.alloc(), &[2])?);
+/// What a source gives of a buffer of four bytes, and what stands in the buffer.
+fn gives(rt: &impl Abort, source: &mut impl Source, got: Got, bytes: &[u8]) {
     let mut into = *b"....";
-    assert!(rt; input.read(&mut into) == Got::Bytes(3));
-    assert!(rt; input.read(&mut into) == Got::Failed);
-    holds(&rt, &into, b"OKA.");
+    is(rt, source.read(&mut into) == got);
+    same(rt, &into, bytes);
+}
+
+#[test]
+fn sources_give(rt: HostRuntime) -> Result<(), Fail> {
+    let text = Text::from_slice(rt.alloc(), b"sync:")?;
+    gives(
+        &rt,
+        &mut MemorySource::new(text, 3, Vec::new(rt.alloc())),
+        Got::Bytes(3),
+        b"syn.",
+    );
+    let text = Text::from_slice(rt.alloc(), b"sync:")?;
+    gives(&rt, &mut NeverSource::new(text, 8), Got::Bytes(4), b"sync");
     Ok(())
+}
+
+#[test]
+fn sinks_take(rt: HostRuntime) {
+    let mut sink = MemorySink::new(rt.alloc(), Vec::new(rt.alloc()));
+    is(&rt, sink.write(b"OKAY") == Wrote::All);
+    same(&rt, sink.bytes(), b"OKAY");
+    is(&rt, NeverSink::new().write(b"OKAY") == Wrote::All);
+}
+
+#[test]
+fn ports_read(rt: HostRuntime) {
+    let mut input = MemoryIn::new(Text::new(rt.alloc()), 1, Vec::new(rt.alloc()));
+    is(&rt, input.read(&mut [0]) == Got::End);
 }
 
 #[test]
 fn ports_write(rt: HostRuntime) {
     let mut output = MemoryOut::new(rt.alloc(), Vec::new(rt.alloc()));
-    assert!(rt; output.write(b"OKAY") == Wrote::All && !output.is_closed());
+    is(&rt, output.write(b"OKAY") == Wrote::All);
     output.close();
-    holds(&rt, output.bytes(), b"OKAY");
-    assert!(rt; output.is_closed());
+    is(&rt, output.is_closed());
+    same(&rt, output.bytes(), b"OKAY");
+}
+
+/// A device without bytes.
+fn silent(alloc: Global, plug: Plug) -> MemoryDeviceIn {
+    MemoryDeviceIn::new(alloc, plug, Text::new(alloc), 1, Vec::new(alloc))
 }
 
 /// A device answers `plug` as it was made.
 fn answers(rt: &impl Abort, alloc: Global, plug: Plug) {
-    let mut device = MemoryDeviceIn::new(alloc, plug, Text::new(alloc), 1, Vec::new(alloc));
-    assert!(rt; device.plug() == plug);
-    assert!(rt; device.plugs().is_some_and(|told| told == [plug].as_slice()));
+    let mut device = silent(alloc, plug);
+    is(rt, device.plug() == plug);
+    is(
+        rt,
+        device.plugs().is_some_and(|told| told == [plug].as_slice()),
+    );
 }
 
 #[test]
@@ -116,23 +119,19 @@ fn devices_are_plugged_in(rt: HostRuntime) {
 }
 
 #[test]
-fn devices_read_boxed(rt: HostRuntime) -> Result<(), Fail> {
-    let text = Text::from_slice(rt.alloc(), b"CNXN")?;
-    let device = MemoryDeviceIn::new(rt.alloc(), Plug::Here, text, 3, Vec::new(rt.alloc()));
-    let mut boxed: Box<dyn DeviceIn + Send> = Box::new(rt.alloc(), device)?;
-    let mut into = *b"....";
-    assert!(rt; boxed.read(&mut into) == Got::Bytes(3));
-    holds(&rt, &into, b"CNX.");
+fn devices_are_boxed(rt: HostRuntime) -> Result<(), Fail> {
+    let mut input: Box<dyn DeviceIn + Send> = Box::new(rt.alloc(), silent(rt.alloc(), Plug::Here))?;
+    is(&rt, input.read(&mut [0]) == Got::End);
     Ok(())
 }
 
 #[test]
 fn devices_write(rt: HostRuntime) {
     let mut output = MemoryDeviceOut::new(rt.alloc(), Vec::new(rt.alloc()));
-    assert!(rt; output.write(b"OPEN") == Wrote::All && !output.is_unplugged());
+    is(&rt, output.write(b"OPEN") == Wrote::All);
     output.unplug();
-    holds(&rt, output.bytes(), b"OPEN");
-    assert!(rt; output.is_unplugged());
+    is(&rt, output.is_unplugged());
+    same(&rt, output.bytes(), b"OPEN");
 }
 
 /// A client that says nothing, and one that comes through a forward.
@@ -158,23 +157,25 @@ fn opens(rt: &impl Abort, door: MemoryDoor<MemoryIn, MemoryOut>) {
         Arrival::Forward(40_000),
         Arrival::Closed,
     ];
-    assert!(rt; door.came().is_some_and(|told| told == came.as_slice()));
+    is(rt, door.came().is_some_and(|told| told == came.as_slice()));
 }
 
 #[test]
 fn doors_open_and_close(rt: HostRuntime) -> Result<(), Fail> {
-    let failing = Vec::from_slice(rt.alloc(), &[2])?;
     let callers = callers(rt.alloc())?;
+    let failing = Vec::from_slice(rt.alloc(), &[2])?;
     opens(&rt, MemoryDoor::new(rt.alloc(), callers, failing));
-    SilentBell::new().ring();
     Ok(())
 }
 
 #[test]
-fn places_by_number(rt: HostRuntime) {
-    assert!(rt; Place::ClientReader as u8 == 1 && Place::ClientWriter as u8 == 2);
-    assert!(rt; Place::DeviceReader as u8 == 3 && Place::DeviceWriter as u8 == 4);
+fn gates_and_bells(rt: HostRuntime) {
+    is(&rt, Place::ClientReader as u8 == 1);
+    is(&rt, Place::ClientWriter as u8 == 2);
+    is(&rt, Place::DeviceReader as u8 == 3);
+    is(&rt, Place::DeviceWriter as u8 == 4);
     OpenGate::new().pass(Place::DeviceWriter as u8, 1);
+    SilentBell::new().ring();
 }
 
 /// What a device says that names only its system.
@@ -189,21 +190,22 @@ fn system(alloc: Global, system: &[u8]) -> Result<Identity, AllocError> {
     })
 }
 
+/// A device that names this system is in this state, whose name it is.
+fn names(rt: &impl Abort, alloc: Global, name: &[u8], state: State) -> Result<(), AllocError> {
+    is(rt, state_of(&system(alloc, name)?) == state);
+    same(rt, state_text(state), name);
+    Ok(())
+}
+
 #[test]
 fn states_by_name(rt: HostRuntime) -> Result<(), Fail> {
-    let cases: [(&[u8], State); 6] = [
-        (b"device", State::Device),
-        (b"bootloader", State::Bootloader),
-        (b"recovery", State::Recovery),
-        (b"sideload", State::Sideload),
-        (b"rescue", State::Rescue),
-        (b"host", State::Host),
-    ];
-    for (name, state) in cases {
-        holds(&rt, state_text(state), name);
-        assert!(rt; state_of(&system(rt.alloc(), name)?) == state);
-    }
-    holds(&rt, state_text(State::Offline), b"offline");
-    holds(&rt, state_text(State::Unauthorized), b"unauthorized");
+    names(&rt, rt.alloc(), b"device", State::Device)?;
+    names(&rt, rt.alloc(), b"bootloader", State::Bootloader)?;
+    names(&rt, rt.alloc(), b"recovery", State::Recovery)?;
+    names(&rt, rt.alloc(), b"sideload", State::Sideload)?;
+    names(&rt, rt.alloc(), b"rescue", State::Rescue)?;
+    names(&rt, rt.alloc(), b"host", State::Host)?;
+    same(&rt, state_text(State::Offline), b"offline");
+    same(&rt, state_text(State::Unauthorized), b"unauthorized");
     Ok(())
 }
