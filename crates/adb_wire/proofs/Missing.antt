@@ -75,8 +75,10 @@ pub given_sound : (old new : Deframing) (given : Option Packet) → IsSound old 
 given_sound old new None sound g = (subst IsSound (sym g.none.1) sound, tt)
 given_sound old new (Some p) sound g =
     let is : AreSized (p ∷ new.given) = subst AreSized (ap (λ (d : Deframing). d.given) g.some) sound.sized in (
-      record { sized = All-rest IsSized p new.given _ refl is;
-        opened = λ none. ap (λ (d : Deframing). front_of d.reading d.rest) (sym g.some) ∙ sound.opened (ap (λ (d : Deframing). d.fault) g.some ∙ none) },
+      record {
+        sized = All-rest IsSized p new.given _ refl is;
+        opened = λ none. ap (λ (d : Deframing). front_of d.reading d.rest) (sym g.some) ∙ sound.opened (ap (λ (d : Deframing). d.fault) g.some ∙ none);
+      },
       All-head IsSized p new.given is,
     )
 
