@@ -65,7 +65,8 @@ pub record IsTaken (old : Deframing) : Type 0 where
   pub value : taken ≡ first
   pub after : left ≡ None
 
-pub gives_next : (old new : Deframing) (given : Option Packet) (t : IsTaken old) → Gives (held_behind t.taken t.held) new given → Gives old (held_behind t.left new) given
+pub gives_next : (old new : Deframing) (given : Option Packet) (t : IsTaken old) → Gives (held_behind t.taken t.held) new given
+    → Gives old (held_behind t.left new) given
 gives_next old new given t g =
     subst (λ left. Gives old (held_behind left new) given) (sym t.after)
     (subst (λ o. Gives o new given) (ap (λ first. held_behind first t.held) t.value ∙ t.shown) g)

@@ -1,12 +1,11 @@
 -- What is left of one packet that is due, and of all of them.
-use Rattle.std.proofs.Common.{◌≡◌, ℕ, ◌+◌, ◌-◌, ◌*◌, ◌^◌, ◌<◌, ◌≤◌, min, List, [], ◌∷◌, ◌++◌, length, take, drop, refl, sym, ap, ◌∙◌, subst, arith, inl, inr}
-use Rattle.std.specs.List.{All, concat}
+use Rattle.std.proofs.Common.{◌≡◌, ℕ, ◌+◌, ◌-◌, ◌<◌, ◌≤◌, min, List, [], ◌∷◌, ◌++◌, length, take, drop, refl, sym, ap, ◌∙◌, arith, inl, inr}
+use Rattle.std.specs.List.{concat}
 use Rattle.std.proofs.lemmas.Bool.{cases_lt}
-use Rattle.std.proofs.lemmas.List.{length-append, length-take, length-drop, drop-append-le, drop_at, drop-drop, drop-take, append-nil, append_assoc, take-append-le, take_at}
+use Rattle.std.proofs.lemmas.List.{length-append, length-take, length-drop, drop-append-le, drop_at, drop-drop, drop-take, append-nil}
 use Rattle.std.proofs.lemmas.List.Elements.{All-rest, All-push}
 use Rattle.std.proofs.lemmas.List.Folds.{concat-append}
 use Rattle.adb_wire.specs.declared.slicer.TheConstants.{MAX_PACKET}
-use Rattle.adb_link.specs.declared.outgoing.TheConstants.{START_LEN}
 use Rattle.adb_link.specs.Outgoing.{left_of, IsHeld}
 use Rattle.adb_link.specs.Outbox.{IsBox}
 

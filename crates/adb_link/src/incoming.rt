@@ -15,8 +15,8 @@ use bytes::Bytes;
 use std::alloc::{AllocError, AllocFailed, Global};
 use std::marker::Model;
 
-/// The packets that come in on a link, as its deframer cuts them. They are given as they are, or with
-/// a payload that can be shared. Contracts see it as a deframer.
+/// The packets that come in on a link, as its deframer cuts them. They are given as they are, or
+/// with a payload that can be shared. Contracts see it as a deframer.
 #[derive(Drop)]
 pub struct Incoming {
     deframer: Deframer,
@@ -70,8 +70,8 @@ impl Incoming {
         self.deframer.missing()
     }
 
-    /// The next packet that was not yet given; `None` exactly where no further whole packet was fed.
-    /// It takes no memory.
+    /// The next packet that was not yet given; `None` exactly where no further whole packet was
+    /// fed. It takes no memory.
     pub fn next(&mut self) -> Option<Packet>
         ensures given { Gives self.old self.new result }
         ensures sized { IfSome result (λ packet. length packet.payload ≤ MAX_PAYLOAD) }
@@ -80,9 +80,9 @@ impl Incoming {
         first_of(refused, &mut self.deframer)
     }
 
-    /// The next packet, as its header and a payload that can be shared. The bytes are not copied. The
-    /// header's check word is 0, since it was looked at. After want of memory that packet is still
-    /// the next.
+    /// The next packet, as its header and a payload that can be shared. The bytes are not copied.
+    /// The header's check word is 0, since it was looked at. After want of memory that packet is
+    /// still the next.
     pub fn next_slice(&mut self) -> Result<Option<(Head, Bytes)>, AllocError>
         ensures given { IfOk result (λ given. Gives self.old self.new (packet_given given)) }
         ensures head { IfOk result (λ given. IfSome given (λ (head, payload).

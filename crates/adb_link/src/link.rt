@@ -23,9 +23,9 @@ use std::marker::Model;
 pub const VERSION_WITH_SUMS: u32 = 0x0100_0000;
 
 /// A device's link: what comes in on it is cut into packets, and packets become due on it, with the
-/// check word that protocol.txt has for its version ("MESSAGES"). A packet that becomes due keeps its
-/// check word: a CNXN goes out with its sum, and another packet does where the last CNXN that was
-/// taken from the link had the version 0x01000000.
+/// check word that protocol.txt has for its version ("MESSAGES"). A packet that becomes due keeps
+/// its check word: a CNXN goes out with its sum, and another packet does where the last CNXN that
+/// was taken from the link had the version 0x01000000.
 ///
 /// Places for packets can be reserved, to owe them later without memory; a place holds one packet,
 /// whatever its payload. Only the calls that take a place lower their number.
@@ -67,9 +67,10 @@ impl Link {
         }
     }
 
-    /// Takes the next piece of what comes in, of any length. `Broken` and `BadSum` come exactly where
-    /// all the bytes fed so far have that fault first; the packets before it are still given, and
-    /// from then on every call answers it and takes nothing. After want of memory all is as before.
+    /// Takes the next piece of what comes in, of any length. `Broken` and `BadSum` come exactly
+    /// where all the bytes fed so far have that fault first; the packets before it are still given,
+    /// and from then on every call answers it and takes nothing. After want of memory all is as
+    /// before.
     pub fn feed(&mut self, piece: &[u8]) -> Result<(), WireError>
         ensures answer { result ≢ Err WireError.OutOfMemory
             → result ≡ answer_of self.new.incoming.fault }
@@ -95,8 +96,8 @@ impl Link {
         self.incoming.missing()
     }
 
-    /// The next packet that was not yet given; `None` exactly where no further whole packet was fed.
-    /// A CNXN fixes the link's version. It takes no memory.
+    /// The next packet that was not yet given; `None` exactly where no further whole packet was
+    /// fed. A CNXN fixes the link's version. It takes no memory.
     pub fn next(&mut self) -> Option<Packet>
         ensures given { Gives self.old.incoming self.new.incoming result }
         ensures sized { IfSome result (λ packet. length packet.payload ≤ MAX_PAYLOAD) }
@@ -114,9 +115,9 @@ impl Link {
         packet
     }
 
-    /// The next packet, as its header and a payload that can be shared: its bytes are not copied. The
-    /// header's check word is 0, since it was looked at. A CNXN fixes the link's version. After want
-    /// of memory all is as before, and that packet is still the next.
+    /// The next packet, as its header and a payload that can be shared: its bytes are not copied.
+    /// The header's check word is 0, since it was looked at. A CNXN fixes the link's version. After
+    /// want of memory all is as before, and that packet is still the next.
     pub fn next_slice(&mut self) -> Result<Option<(Head, Bytes)>, AllocError>
         ensures given { IfOk result (λ given.
             Gives self.old.incoming self.new.incoming (packet_given given)) }
@@ -183,8 +184,8 @@ impl Link {
         self.outbox.push(Outgoing::new(&head, &[], payload))
     }
 
-    /// Makes places for `packets` packets, with those that are reserved already. After want of memory
-    /// all is as before.
+    /// Makes places for `packets` packets, with those that are reserved already. After want of
+    /// memory, and where the bytes of so many packets could not be counted, all is as before.
     pub fn reserve(&mut self, packets: usize) -> Result<(), AllocError>
         ensures ok { OnOk result
             (self.new ≡ record self.old { spare = max packets self.old.spare }) }
@@ -202,8 +203,8 @@ impl Link {
         self.owe_short_spare(&head_of(packet), packet.payload.as_slice());
     }
 
-    /// A packet of that header and a payload of at most `MAX_SHORT` bytes, which are copied into the
-    /// place, is due next, in a reserved place, with the link's check word. It takes no memory.
+    /// A packet of that header and a payload of at most `MAX_SHORT` bytes, which are copied into
+    /// the place, is due next, in a reserved place, with the link's check word. It takes no memory.
     pub fn owe_short_spare(&mut self, head: &Head, payload: &[u8])
         requires place { 0 < self.old.spare }
         requires head { IsHeadOf head.now payload.now }

@@ -8,8 +8,8 @@ use std::alloc::{AllocError, Global};
 use std::collections::VecDeque;
 use std::marker::Model;
 
-/// Packets that are due, and places for more that need no memory: a place holds one packet, whatever
-/// its payload. Contracts see the bytes that are due and how many places are spare.
+/// Packets that are due, and places for more that need no memory: a place holds one packet,
+/// whatever its payload. Contracts see the bytes that are due and how many places are spare.
 #[derive(Drop)]
 pub(crate) struct Outbox {
     packets: VecDeque<Outgoing>,

@@ -196,7 +196,8 @@ takes_more held more within fits fed gave h = elim (cases_lt 0 (need_of held)) [
     empty [] h = refl
     empty (b ∷ bytes) h = absurd (omega (arith, h))
 
-pub goes_on : (held : List ℕ) → length held ≤ slice_len held → need_of held ≡ 0 → (fed : List ℕ) (gave : List (List ℕ)) → HasSliced fed gave held → HasSliced fed (gave ++ held ∷ []) []
+pub goes_on : (held : List ℕ) → length held ≤ slice_len held → need_of held ≡ 0 → (fed : List ℕ) (gave : List (List ℕ)) → HasSliced fed gave held
+    → HasSliced fed (gave ++ held ∷ []) []
 goes_on held within none fed gave h =
     let w = whole_held held none in
     let o = open_held [] (omega (arith, slice_bounds [])) in

@@ -11,8 +11,8 @@ use std::marker::Model;
 /// The most bytes that a packet has: its header and the longest payload.
 pub const MAX_PACKET: usize = HEADER_LEN + MAX_PAYLOAD as usize;
 
-/// How long the slice is that the bytes begin: a header's length as long as that is not whole or has
-/// a fault, and else that of its packet.
+/// How long the slice is that the bytes begin: a header's length as long as that is not whole or
+/// has a fault, and else that of its packet.
 #[tactic(auto, unfolding(crate::specs::Slicing::slice_len))]
 fn slice_len(bytes: &[u8]) -> usize
     ensures { result ≡ slice_len bytes.now }

@@ -222,8 +222,8 @@ fn a_megabyte_takes_no_long_time(rt: HostRuntime) -> Result<(), Fail> {
     Ok(())
 }
 
-/// The packets of a deframer that holds an OPEN, a CNXN of an old version, and all but the last byte
-/// of a WRTE with a wrong check word.
+/// The packets of a deframer that holds an OPEN, a CNXN of an old version, and all but the last
+/// byte of a WRTE with a wrong check word.
 fn goes_on(rt: &impl Abort, deframer: &mut Deframer) -> Result<(), Fail> {
     assert_eq!(rt; deframer.missing(), 1);
     let open = deframer.next().ok_or("no packet")?;

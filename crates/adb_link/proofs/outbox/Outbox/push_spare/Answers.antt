@@ -1,4 +1,4 @@
-use Rattle.std.proofs.Common.{ℕ, ◌≡◌, ◌<◌, List, ap, ◌∙◌, ◌-◌, ◌++◌, arith, deque_len, deque_capacity}
+use Rattle.std.proofs.Common.{ℕ, ◌<◌, List, ap, ◌∙◌, ◌-◌, ◌++◌, arith, deque_len, deque_capacity}
 use Rattle.std.specs.List.{concat}
 use Rattle.adb_link.specs.Outbox.{Queue}
 use Rattle.adb_link.proofs.Packets.{box_push, concat_push}

@@ -7,7 +7,8 @@ use Rattle.adb_wire.proofs.deframer.Deframer.next.Goals as goal
 
 pub invariant_of-self : goal.invariant_of-self
 invariant_of-self c =
-    (given_sound c.self.inside.framer c.next.new.self c.next.result c.self.invariant (gives c.self.inside.framer c.next.new.self c.next.result c.next.ensures)).0
+    let held = c.self.inside.framer in
+    (given_sound held c.next.new.self c.next.result c.self.invariant (gives held c.next.new.self c.next.result c.next.ensures)).0
 
 pub returns-clause-given : goal.returns-clause-given
 returns-clause-given c =
@@ -16,4 +17,5 @@ returns-clause-given c =
 
 pub returns-clause-sized : goal.returns-clause-sized
 returns-clause-sized c =
-    (given_sound c.self.inside.framer c.next.new.self c.next.result c.self.invariant (gives c.self.inside.framer c.next.new.self c.next.result c.next.ensures)).1
+    let held = c.self.inside.framer in
+    (given_sound held c.next.new.self c.next.result c.self.invariant (gives held c.next.new.self c.next.result c.next.ensures)).1
