@@ -290,7 +290,7 @@ capture_replayed left_first written first last ended o r goes idle = record {
     consumed_text : {before : List ℕ} → (u : Consumes first last r.whole before) → capture_of r.whole ≡ replayed (magic ++ u.consumed)
     consumed_text u =
         let same : accepted (magic ++ u.consumed) ≡ accept_records first.reader.offset u.consumed [] =
-            accepted_with (magic ++ u.consumed) refl ∙ ap (λ n. accept_records n u.consumed []) (sym o.offset) in
+        accepted_with (magic ++ u.consumed) refl ∙ ap (λ n. accept_records n u.consumed []) (sym o.offset) in
         ap capture_of (sym (ap (λ (a : Accepted). drained_from [] a.inputs) same ∙ u.reached)) ∙ replayed_is (magic ++ u.consumed) refl
 
     text : (had : List ℕ) → first.out.0 ≡ Some had → WritesText ended (capture_of r.whole) had written

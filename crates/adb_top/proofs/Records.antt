@@ -216,7 +216,7 @@ replaying_on first t holds holds_new gives sound opened entry r = record {
     made others =
         let on = accept_on (is_input t.entry) r.done t.entry others in (
           ap (λ why. drained_from r.done (accept_by why (is_input t.entry) r.done t.entry others).inputs) x.gives.0
-          ∙ (on.0 ∙ ap (λ h. drained_from h (others h).inputs) (sym x.gives.1)),
+              ∙ (on.0 ∙ ap (λ h. drained_from h (others h).inputs) (sym x.gives.1)),
           ap (λ why. (accept_by why (is_input t.entry) r.done t.entry others).refused) x.gives.0 ∙ (on.1 ∙ ap (λ h. (others h).refused) (sym x.gives.1)),
         )
 
