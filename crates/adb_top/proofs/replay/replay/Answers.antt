@@ -1,4 +1,4 @@
-use Rattle.std.proofs.Common.{◌≡◌, false, Ok, Err, None, refl, ◌∙◌, ap, subst}
+use Rattle.std.proofs.Common.{◌≡◌, false, Err, None, refl, ap, subst}
 use Rattle.std.proofs.lemmas.Result.{err_from_is_err_and}
 use Rattle.adb_outside.specs.Outside.{Counts}
 use Rattle.adb_capture.specs.Reading.{Reading, Opens}
