@@ -1,3 +1,5 @@
+mod FirstBad
+mod Lasting
 mod Modes
 mod Readings
 mod Strays

@@ -72,7 +72,7 @@ two_pieces given reading rest None x y = go (cut_from reading (rest ++ x)).fault
 means_alike : (r : Read) (a b : Held) → IsHeldAlike a b → meaning (record r { cut = a }) ≡ meaning (record r { cut = b })
 means_alike r a b h = λ i. ended_or r.next r.said (meant r.said (h.given i) (h.fault i))
 
-more_on : (r : Read) (x y : List ℕ) → meaning_with (with_more r x) y ≡ meaning_with r (x ++ y)
+pub more_on : (r : Read) (x y : List ℕ) → meaning_with (with_more r x) y ≡ meaning_with r (x ++ y)
 more_on r x y =
     means_alike r (after_piece (after_piece r.cut x) y) (after_piece r.cut (x ++ y)) (two_pieces r.cut.given r.cut.reading r.cut.rest r.cut.fault x y)
 

@@ -27,11 +27,11 @@ stray_stays (suc n) kind before (byte ∷ x) y place e = go (may_begin kind (bef
     go false is further = is
 
 -- an answer has eight bytes at least, and they are there
-record IsLong (bytes : List ℕ) (n : ℕ) : Type 0 where
-  low : 8 ≤ n
-  fits : n ≤ length bytes
+pub record IsLong (bytes : List ℕ) (n : ℕ) : Type 0 where
+  pub low : 8 ≤ n
+  pub fits : n ≤ length bytes
 
-answer_is_long : (s : AnswerFormat) (bytes : List ℕ) (n : ℕ) → answer_front s bytes ≡ Whole n → IsLong bytes n
+pub answer_is_long : (s : AnswerFormat) (bytes : List ℕ) (n : ℕ) → answer_front s bytes ≡ Whole n → IsLong bytes n
 answer_is_long s bytes n e =
     let fits = answers_are_framed.fits s bytes n e in
     let size : length (take n bytes) ≡ n = omega (arith, length-take n bytes, fits.1) in

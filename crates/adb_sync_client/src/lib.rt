@@ -5,6 +5,7 @@
 mod entries;
 mod expected;
 mod kind;
+mod laws;
 mod list;
 mod outgoing;
 mod pull;
@@ -19,6 +20,7 @@ mod told;
 
 pub use entries::Entries;
 pub use kind::AnswerKind;
+pub use laws::{ended_answers_stay, first_bad_byte_is_told};
 pub use list::List;
 pub use pull::Pull;
 pub use push::Push;
