@@ -137,7 +137,8 @@ abbrev means_by : Expected → Said → List ℕ → Front ℕ → Step Said
 means_by e said bytes front =
     let c = cut_by expected_front expected_answer past_expected e bytes front cut_from in meant said c.given c.fault
 
-means_first : (e : Expected) (said : Said) (bytes : List ℕ) (front : Front ℕ) → expected_front e bytes ≡ front → means e said bytes ≡ means_by e said bytes front
+means_first : (e : Expected) (said : Said) (bytes : List ℕ) (front : Front ℕ) → expected_front e bytes ≡ front
+    → means e said bytes ≡ means_by e said bytes front
 means_first e said bytes front is =
     ap (λ (c : Held). meant said c.given c.fault) (cut_first expected_front expected_answer past_expected expected_are_framed e bytes)
     ∙ ap (means_by e said bytes) is
@@ -147,7 +148,8 @@ abbrev means_behind : Expected → Said → List ℕ → List ℕ → Step Said
 means_behind e said frame more =
     let answer = expected_answer e frame in ended_or (next_of answer) (told_by said answer) (means (past_expected e frame) (told_by said answer) more)
 
-means_frame : (e : Expected) (said : Said) (frame more : List ℕ) → expected_front e frame ≡ Whole (length frame) → means e said (frame ++ more) ≡ means_behind e said frame more
+means_frame : (e : Expected) (said : Said) (frame more : List ℕ) → expected_front e frame ≡ Whole (length frame)
+    → means e said (frame ++ more) ≡ means_behind e said frame more
 means_frame e said frame more is =
     ap (λ (c : Held). meant said c.given c.fault) (frame_first expected_front expected_answer past_expected expected_are_framed e frame more is)
 

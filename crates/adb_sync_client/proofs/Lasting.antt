@@ -9,7 +9,7 @@ use Rattle.adb_sync_client.specs.declared.told.Next.TheVariants.{GoesOn, Done, R
 use Rattle.adb_sync_client.specs.Expected.{expected_start}
 use Rattle.adb_sync_client.specs.Values.{Said, told_nothing, told_by, next_of, ended_or, meant, answer_value}
 use Rattle.adb_sync_client.specs.Reading.{Read, with_more, meaning, meaning_with}
-use Rattle.adb_sync_client.proofs.Readings.{more_on}
+use Rattle.adb_sync_client.proofs.Readings.{Held, more_on}
 
 -- answers behind those that ended change nothing
 ended_stays : (said : Said) (given further : List SyncAnswer) (fault : Option ℕ) → meant said given None ≢ More
@@ -36,6 +36,7 @@ held_stays said given reading rest None GoesOn spent more some = ended_stays sai
 
 pub value_stays : (kind : AnswerKind) (bytes more : List ℕ) → answer_value kind bytes ≢ More → answer_value kind (bytes ++ more) ≡ answer_value kind bytes
 value_stays kind bytes more some =
-    let start : Read = record { cut = record { given = []; reading = expected_start kind; rest = []; fault = None }; said = told_nothing; next = GoesOn; spent = false } in
+    let nothing : Held = record { given = []; reading = expected_start kind; rest = []; fault = None } in
+    let start : Read = record { cut = nothing; said = told_nothing; next = GoesOn; spent = false } in
     let r = with_more start bytes in
     sym (more_on start bytes more) ∙ held_stays r.said r.cut.given r.cut.reading r.cut.rest r.cut.fault r.next r.spent more some

@@ -1,6 +1,6 @@
 -- What is read means, answer by answer and piece by piece, what the bytes mean.
 use Rattle.std.proofs.Common.{ℕ, ◌≡◌, Bool, List, [], ◌∷◌, ◌++◌, Option, Some, None, length, Result, sym, refl, ◌∙◌, ap, append_assoc, arith}
-use Rattle.adb_outside.specs.Framing.{Cut, cut, held_after, answer_of}
+use Rattle.adb_outside.specs.Framing.{Cut, cut, held_after, joined, answer_of}
 use Rattle.adb_outside.specs.declared.framer.FeedError.{FeedError}
 use Rattle.adb_outside.specs.declared.framer.FeedError.TheVariants.{Fault}
 use Rattle.adb_outside.proofs.FramingLaws.{cut_piece, fault_stays}
@@ -12,20 +12,21 @@ use Rattle.adb_sync_client.specs.Framed.{expected_are_framed}
 use Rattle.adb_sync_client.specs.Values.{Said, told_by, next_of, ended_or, meant}
 use Rattle.adb_sync_client.specs.Reading.{Read, MeansSame, Gathers, Continues, with_more, meaning, meaning_with}
 
-abbrev Held : Type 0
+abbrev pub Held : Type 0
 Held = Cut Expected SyncAnswer ℕ
 
 -- the first answer that is held is told
-told_later : (said : Said) (answer : SyncAnswer) (given : List SyncAnswer) (reading : Expected) (rest : List ℕ) (fault : Option ℕ) (spent : Bool) (more : List ℕ)
-    → meaning_with (record { cut = record { given = given; reading = reading; rest = rest; fault = fault }; said = told_by said answer; next = next_of answer; spent = spent }) more
-    ≡ meaning_with (record { cut = record { given = answer ∷ given; reading = reading; rest = rest; fault = fault }; said = said; next = GoesOn; spent = spent }) more
-told_later said answer given reading rest None spent more = refl
-told_later said answer given reading rest (Some fault) spent more = refl
+told_later : (said : Said) (answer : SyncAnswer) (held : Held) (fault : Option ℕ) (spent : Bool) (more : List ℕ)
+    → let now : Held = record held { fault = fault } in
+    meaning_with (record { cut = now; said = told_by said answer; next = next_of answer; spent = spent }) more
+    ≡ meaning_with (record { cut = record now { given = answer ∷ held.given }; said = said; next = GoesOn; spent = spent }) more
+told_later said answer held None spent more = refl
+told_later said answer held (Some fault) spent more = refl
 
 pub first_told : (said : Said) (answer : SyncAnswer) (held : Held) (spent : Bool)
     → MeansSame (record { cut = record held { given = answer ∷ held.given }; said = said; next = GoesOn; spent = spent })
     (record { cut = held; said = told_by said answer; next = next_of answer; spent = spent })
-first_told said answer held spent = record { now = refl; later = told_later said answer held.given held.reading held.rest held.fault spent }
+first_told said answer held spent = record { now = refl; later = told_later said answer held held.fault spent }
 
 pub same_on : (a b c : Read) → MeansSame a b → MeansSame b c → MeansSame a c
 same_on a b c h k = record { now = k.now ∙ h.now; later = λ more. k.later more ∙ h.later more }
@@ -51,8 +52,7 @@ two_pieces given reading rest None x y = go (cut_from reading (rest ++ x)).fault
   where
     go : (fault : Option ℕ) → (cut_from reading (rest ++ x)).fault ≡ fault
         → let k = cut_from reading (rest ++ x) in
-        IsHeldAlike (held_after expected_front expected_answer past_expected (record { given = given ++ k.given; reading = k.reading; rest = k.rest; fault = k.fault }) y fault)
-        (record { given = given ++ (cut_from reading (rest ++ (x ++ y))).given; reading = (cut_from reading (rest ++ (x ++ y))).reading; rest = (cut_from reading (rest ++ (x ++ y))).rest; fault = (cut_from reading (rest ++ (x ++ y))).fault })
+        IsHeldAlike (held_after expected_front expected_answer past_expected (joined given k) y fault) (joined given (cut_from reading (rest ++ (x ++ y))))
     go None is =
         let k = cut_from reading (rest ++ x) in
         let whole = ap (cut_from reading) (sym (append_assoc rest x y))
@@ -62,7 +62,8 @@ two_pieces given reading rest None x y = go (cut_from reading (rest ++ x)).fault
           fault = ap (λ (c : Held). c.fault) (sym whole);
         }
     go (Some fault) is =
-        let stays = fault_stays expected_front expected_answer past_expected expected_are_framed (length (rest ++ x)) reading (rest ++ x) y fault (omega arith) is in
+        let stays = fault_stays expected_front expected_answer past_expected expected_are_framed (length (rest ++ x)) reading (rest ++ x) y
+        fault (omega arith) is in
         let one = ap (cut_from reading) (append_assoc rest x y) in
         record {
           given = ap (λ l. given ++ l) (sym stays.0 ∙ ap (λ (c : Held). c.given) one);

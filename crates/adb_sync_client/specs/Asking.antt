@@ -21,7 +21,8 @@ Gives text gone left = gone ++ left ≡ text
 
 -- A piece of the answer was taken: where memory lasted, the step is the value of all the bytes that were fed. The bytes that are left of the
 -- request stay. After want of memory the machine is spent: each call answers it and changes nothing.
-pub record Feeds {V E : Type 0} (kind : AnswerKind) (value : List ℕ → Step V) (old : Asking) (piece : List ℕ) (answer : Result (Step V) E) (new : Asking) : Type 0 where
+pub record Feeds {V E : Type 0} (kind : AnswerKind) (value : List ℕ → Step V) (old : Asking) (piece : List ℕ) (answer : Result (Step V) E)
+    (new : Asking) : Type 0 where
   pub told : IfOk answer (λ step. (fed : List ℕ) → StandsFor kind fed old.read → step ≡ value (fed ++ piece))
   pub stands : OnOk answer ((fed : List ℕ) → StandsFor kind fed old.read → StandsFor kind (fed ++ piece) new.read)
   pub left : new.left ≡ old.left

@@ -25,7 +25,8 @@ told_nothing = record { bytes = []; stat = record { mode = 0; size = 0; mtime = 
 -- with one answer more
 abbrev pub told_by : Said → SyncAnswer → Said
 told_by said (answers.Stat mode size mtime) = record said { stat = record { mode = mode; size = size; mtime = mtime } }
-told_by said (answers.Dent mode size mtime name) = record said { entries = said.entries ++ record { name = name; mode = mode; size = size; mtime = mtime } ∷ [] }
+told_by said (answers.Dent mode size mtime name) =
+    record said { entries = said.entries ++ record { name = name; mode = mode; size = size; mtime = mtime } ∷ [] }
 told_by said (answers.Chunk bytes) = record said { bytes = said.bytes ++ bytes }
 told_by said answers.ListEnd = said
 told_by said answers.ChunkEnd = said

@@ -5,8 +5,8 @@ use adb_outside::{Format, Front};
 use adb_sync::{AnswerFormat, SyncAnswer};
 use std::alloc::{AllocError, Global};
 
-/// Answers of a kind, the first of which begins at an offset of the stream. A fault is the offset of
-/// the first byte that breaks the grammar.
+/// Answers of a kind, the first of which begins at an offset of the stream. A fault is the offset
+/// of the first byte that breaks the grammar.
 #[derive(Clone, Copy)]
 pub struct Expected {
     pub kind: AnswerKind,
@@ -32,7 +32,8 @@ impl Expected {
 impl Format<SyncAnswer, u64> for Expected {
     ghost use Rattle.std.specs.Prelude.{◌≡◌, List, ℕ, IfOk, length};
     ghost use Rattle.adb_outside.specs.Framing.{IsFraming};
-    ghost use Rattle.adb_sync_client.specs.Expected.{expected_front, expected_answer, past_expected};
+    ghost use Rattle.adb_sync_client.specs.Expected.{expected_front, expected_answer};
+    ghost use Rattle.adb_sync_client.specs.Expected.{past_expected};
     ghost use Rattle.adb_sync_client.specs.Framed.{expected_are_framed};
 
     ghost find = { expected_front };

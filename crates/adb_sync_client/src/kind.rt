@@ -24,8 +24,8 @@ pub enum AnswerKind {
 }
 
 impl AnswerKind {
-    /// The place of the first byte after which no answer of this kind can follow. Such a byte is one
-    /// of an id, or of the length of a DATA.
+    /// The place of the first byte after which no answer of this kind can follow. Such a byte is
+    /// one of an id, or of the length of a DATA.
     pub fn stray(self, bytes: &[u8]) -> Option<usize>
         ensures { result ≡ stray_in self bytes.now }
     {

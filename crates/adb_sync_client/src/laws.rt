@@ -5,8 +5,8 @@ ghost use Rattle.adb_sync_client.specs.declared.kind.AnswerKind.{AnswerKind};
 ghost use Rattle.adb_sync_client.specs.declared.step.Step.TheVariants.{BadAnswer, More};
 ghost use Rattle.adb_sync_client.specs.Values.{answer_value};
 
-/// Where answer bytes mean something other than that more of them are wanted, what follows them does
-/// not change it.
+/// Where answer bytes mean something other than that more of them are wanted, what follows them
+/// does not change it.
 #[tactic(auto, using(crate::proofs::Lasting::value_stays))]
 pub fn ended_answers_stay()
     ensures { (kind : AnswerKind) (bytes more : List ℕ) → answer_value kind bytes ≢ More

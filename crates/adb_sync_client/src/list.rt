@@ -64,8 +64,8 @@ impl List {
     }
 
     /// Takes the next piece of the answer bytes, of any length, and gives what all of them mean, as
-    /// often as it is called. The entries are copies. After want of memory the machine is spent: every call
-    /// answers it.
+    /// often as it is called. The entries are copies. After want of memory the machine is spent:
+    /// every call answers it.
     pub fn feed(&mut self, piece: &[u8]) -> Result<Step<Entries>, AllocError>
         ensures { Feeds AnswerKind.List list_value self.old piece.now result self.new }
     {

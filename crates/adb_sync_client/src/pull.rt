@@ -63,8 +63,8 @@ impl Pull {
     }
 
     /// Takes the next piece of the answer bytes, of any length, and gives what all of them mean, as
-    /// often as it is called. The bytes of the file are a copy. After want of memory the machine is spent: every call
-    /// answers it.
+    /// often as it is called. The bytes of the file are a copy. After want of memory the machine is
+    /// spent: every call answers it.
     pub fn feed(&mut self, piece: &[u8]) -> Result<Step<Text>, AllocError>
         ensures { Feeds AnswerKind.Pull pull_value self.old piece.now result self.new }
     {

@@ -1,6 +1,6 @@
 //! Pushing a file.
 
-ghost use Rattle.std.specs.Prelude.{◌≡◌, ◌≢◌, ◌≤◌, ◌<◌, ◌++◌, [], List, ℕ, length, take, drop, IfOk};
+ghost use Rattle.std.specs.Prelude.{◌≡◌, ◌≢◌, ◌≤◌, ◌++◌, [], List, ℕ, length, take, drop, IfOk};
 ghost use Rattle.std.specs.Io.{StartsWith};
 ghost use Rattle.adb_sync_client.specs.Asking.{Asks, Feeds, Gives};
 ghost use Rattle.adb_sync_client.specs.Texts.{push_text};
@@ -49,7 +49,8 @@ impl Push {
         })
     }
 
-    /// The first of the bytes of the request that were not taken yet, at least one where one is left.
+    /// The first bytes of the request that were not taken yet: at least one where one is left. The
+    /// header of each chunk, and its bytes, come one by one as those before are taken.
     pub fn out(&self) -> &[u8]
         ensures front { StartsWith self.now.left result.now }
         ensures some { self.now.left ≢ [] → result.now ≢ [] }

@@ -2,7 +2,8 @@
 
 ghost use Rattle.std.specs.Prelude.{◌≡◌, ◌≢◌, [], true, false, Err, IfOk, OnOk, OnErr, IsErr};
 ghost use Rattle.adb_outside.specs.Framing.{answer_of};
-ghost use Rattle.adb_sync_client.specs.Reading.{Continues, Gathers, Reads, StandsFor, meaning, spend, with_said};
+ghost use Rattle.adb_sync_client.specs.Reading.{Continues, Gathers, Reads, StandsFor};
+ghost use Rattle.adb_sync_client.specs.Reading.{meaning, spend, with_said};
 ghost use Rattle.adb_sync_client.specs.Values.{Said, unended};
 
 use crate::expected::Expected;
@@ -46,8 +47,8 @@ impl Reading {
         }
     }
 
-    /// Takes the next piece of the answer bytes. Where they are an answer, what it told is in `told`.
-    /// After want of memory it is spent.
+    /// Takes the next piece of the answer bytes. Where they are an answer, what it told is in
+    /// `told`. After want of memory it is spent.
     pub fn feed(&mut self, piece: &[u8]) -> Result<Step<()>, AllocError>
         ensures ok { IfOk result (λ step. Reads self.old piece.now step self.new) }
         ensures open { OnOk result ((self.old.spent ≡ false) × (self.new.spent ≡ false)) }

@@ -63,8 +63,7 @@ impl Stat {
     }
 
     /// Takes the next piece of the answer bytes, of any length, and gives what all of them mean, as
-    /// often as it is called. After want of memory the machine is spent: every call
-    /// answers it.
+    /// often as it is called. After want of memory the machine is spent: every call answers it.
     pub fn feed(&mut self, piece: &[u8]) -> Result<Step<StatValue>, AllocError>
         ensures { Feeds AnswerKind.Stat stat_value self.old piece.now result self.new }
     {

@@ -12,8 +12,8 @@ pub enum Step<V: Drop> {
     Done(V),
     /// The answer is a FAIL with this text.
     Refused(Text),
-    /// The first byte after which no answer to the request can follow, by its offset, which stays at
-    /// 2^64 - 1.
+    /// The first byte after which no answer to the request can follow, by its offset, which stays
+    /// at 2^64 - 1.
     BadAnswer { offset: u64 },
 }
 

@@ -65,14 +65,21 @@ fn answers(rt: HostRuntime) -> Result<(), Fail> {
 fn pulls_abc(alloc: Global) -> Result<bool, AllocError> {
     let mut pull = Pull::new(alloc, b"/n")?;
     let step = pull.feed(b"DATA\x02\0\0\0abDATA\x01\0\0\0cDONE\x09\0\0\0")?;
-    Ok(matches!(step, Step::Done(text) if text.as_slice() == b"abc".as_slice()))
+    let want: &[u8] = b"abc";
+    Ok(match &step {
+        Step::Done(text) => text.as_slice() == want,
+        _ => false,
+    })
 }
 
-/// Whether a stat is done with the numbers of an empty file.
+/// Whether a stat is done with the numbers of a file of five bytes.
 fn stats_a_file(alloc: Global) -> Result<bool, AllocError> {
     let mut stat = Stat::new(alloc, b"/n")?;
     let step = stat.feed(b"STAT\xa4\x81\0\0\x05\0\0\0\x01\0\0\0")?;
-    Ok(matches!(step, Step::Done(told) if (told.mode, told.size, told.mtime) == (33_188, 5, 1)))
+    Ok(match &step {
+        Step::Done(told) => told.mode == 33_188 && told.size == 5 && told.mtime == 1,
+        _ => false,
+    })
 }
 
 /// Whether a list is done with the one entry `x`.
@@ -80,11 +87,12 @@ fn lists_x(alloc: Global) -> Result<bool, AllocError> {
     let mut list = List::new(alloc, b"/")?;
     list.feed(b"DENT\xa4\x81\0\0\x05\0\0\0\x01\0\0\0\x01\0\0\0x")?;
     let step = list.feed(b"DONE0123456789abcdef")?;
+    let want: &[u8] = b"x";
     Ok(match &step {
-        Step::Done(entries) => match entries.as_slice() {
-            [entry] => entry.name.as_slice() == b"x".as_slice() && entry.size == 5,
-            _ => false,
-        },
+        Step::Done(entries) => {
+            let entries = entries.as_slice();
+            entries.len() == 1 && entries[0].name.as_slice() == want && entries[0].size == 5
+        }
         _ => false,
     })
 }
