@@ -1,4 +1,4 @@
--- Bytes in chunks, and names of a listing.
+-- Names of a listing.
 use Rattle.std.specs.Prelude.{Option, Some, None, ℕ, ◌^◌, ◌≡◌, ◌≢◌, ◌<◌, ◌≤◌, ◌==◌, min, cond, Bool, true, false, List, [], ◌∷◌, ◌++◌, length, take}
 use Rattle.std.specs.Prelude.{drop, fold, filter, map, All, refl, zero, suc}
 use Rattle.std.proofs.Common.{◌∙◌, ap, sym, arith, Ordering}
@@ -12,46 +12,13 @@ use Rattle.std.proofs.lemmas.List.Elements.{All-from_recursion, recursion_from_A
 use Rattle.adb_sync.specs.declared.answer.SyncAnswer.TheVariants as answers
 use Rattle.adb_sync.specs.declared.answer.Dirent.{Dirent}
 use Rattle.adb_sync.specs.Answers.{answer_bytes}
-use Rattle.adb_files.specs.declared.chunk.TheConstants.{MOST_CHUNK}
 use Rattle.adb_files.specs.Entries.{Entry}
 use Rattle.adb_files.specs.declared.stat.Stat.{Stat}
 use Rattle.adb_files.specs.Paths.{path_cmp, is_path, inside, is_below}
 use Rattle.adb_files.specs.Files.{IsFileMap}
 use Rattle.adb_files.specs.Listing.{slash_in, part_at, rest_below, name_below, stat_below, with_shown, shown_in, dirent_of, listing}
-use Rattle.adb_files.specs.Served.{chunks_at, chunk_bytes, dent_bytes, list_bytes}
+use Rattle.adb_files.specs.Served.{dent_bytes, list_bytes}
 use Rattle.adb_files.specs.Service.{TellsUpTo, TellsFront}
-
--- no more chunks than bytes are needed
-enough : (k m : ℕ) (bytes : List ℕ) → length bytes ≤ k → length bytes ≤ m → chunks_at k bytes ≡ chunks_at m bytes
-enough zero zero bytes h g = refl
-enough zero (suc m) bytes h g =
-    sym (ap (λ t. cond t [] (answer_bytes (answers.Chunk (take MOST_CHUNK bytes)) ++ chunks_at m (drop MOST_CHUNK bytes)))
-    (eq-eqb (length bytes) 0 (omega arith)))
-enough (suc k) zero bytes h g =
-    ap (λ t. cond t [] (answer_bytes (answers.Chunk (take MOST_CHUNK bytes)) ++ chunks_at k (drop MOST_CHUNK bytes))) (eq-eqb (length bytes) 0 (omega arith))
-enough (suc k) (suc m) bytes h g = go (length bytes == 0)
-    (enough k m (drop MOST_CHUNK bytes) (omega (arith, h, length-drop MOST_CHUNK bytes)) (omega (arith, g, length-drop MOST_CHUNK bytes)))
-  where
-    go : (t : Bool) → chunks_at k (drop MOST_CHUNK bytes) ≡ chunks_at m (drop MOST_CHUNK bytes)
-        → cond t [] (answer_bytes (answers.Chunk (take MOST_CHUNK bytes)) ++ chunks_at k (drop MOST_CHUNK bytes)) ≡ cond t []
-        (answer_bytes (answers.Chunk (take MOST_CHUNK bytes)) ++ chunks_at m (drop MOST_CHUNK bytes))
-    go true e = refl
-    go false e = ap (λ (rest : List ℕ). answer_bytes (answers.Chunk (take MOST_CHUNK bytes)) ++ rest) e
-
--- a chunk comes off
-pub chunk_more : (bytes : List ℕ) → length bytes ≢ 0
-    → chunk_bytes bytes ≡ answer_bytes (answers.Chunk (take (min MOST_CHUNK (length bytes)) bytes)) ++ chunk_bytes (drop (min MOST_CHUNK (length bytes)) bytes)
-chunk_more bytes some =
-    enough (length bytes) (suc (length bytes)) bytes (omega arith) (omega arith)
-    ∙ (ap (λ t. cond t [] (answer_bytes (answers.Chunk (take MOST_CHUNK bytes)) ++ chunks_at (length bytes) (drop MOST_CHUNK bytes)))
-    (ne_eqb (length bytes) 0 some)
-    ∙ (ap (λ (rest : List ℕ). answer_bytes (answers.Chunk (take MOST_CHUNK bytes)) ++ rest)
-    (enough (length bytes) (length (drop MOST_CHUNK bytes)) (drop MOST_CHUNK bytes) (omega (arith, length-drop MOST_CHUNK bytes)) (omega arith))
-    ∙ (ap (λ (front : List ℕ). answer_bytes (answers.Chunk front) ++ chunk_bytes (drop MOST_CHUNK bytes)) (sym (take_min MOST_CHUNK bytes))
-    ∙ ap (λ (rest : List ℕ). answer_bytes (answers.Chunk (take (min MOST_CHUNK (length bytes)) bytes)) ++ chunk_bytes rest) (sym (drop_min MOST_CHUNK bytes)))))
-
-pub chunk_none : (bytes : List ℕ) → length bytes ≡ 0 → chunk_bytes bytes ≡ []
-chunk_none bytes none = ap chunk_bytes (nil_from_length bytes none)
 
 -- no name is longer than a path
 part_short : (rest : List ℕ) → length (part_at (slash_in rest) rest) ≤ length rest

@@ -8,7 +8,6 @@ pub mod Maps
 pub mod Siblings
 pub mod Shown
 pub mod Chunks
-pub mod Handing
 pub mod Serving
 pub mod SendPaths
 pub mod Feeding

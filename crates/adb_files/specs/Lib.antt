@@ -6,5 +6,4 @@ pub mod Listing
 pub mod Requests
 pub mod Served
 pub mod Service
-pub mod Chunk
 pub mod Part

@@ -8,7 +8,7 @@ use Rattle.adb_sync.specs.declared.error.SyncFault.{SyncFault}
 use Rattle.adb_sync.specs.declared.error.SyncRule.{SyncRule}
 use Rattle.adb_sync.specs.declared.error.SyncRule.TheVariants as rules
 use Rattle.adb_sync.specs.Answers.{answer_bytes}
-use Rattle.adb_files.specs.declared.chunk.TheConstants.{MOST_CHUNK}
+use Rattle.adb_sync.specs.Chunk.{chunk_bytes}
 use Rattle.adb_outside.specs.Decimal.{number_in}
 use Rattle.adb_files.specs.declared.file.File.{File}
 use Rattle.adb_files.specs.Entries.{Entry}
@@ -56,15 +56,7 @@ dent_bytes entry = answer_bytes (answers.Dent entry.mode entry.size entry.mtime 
 abbrev pub list_bytes : List Dirent → List ℕ
 list_bytes entries = flat_map dent_bytes entries ++ answer_bytes answers.ListEnd
 
--- bytes in chunks of the most bytes and a last shorter one where a rest is left: at most so many of them
-abbrev pub chunks_at : ℕ → List ℕ → List ℕ
-chunks_at zero bytes = []
-chunks_at (suc k) bytes =
-    if length bytes == 0 then [] else answer_bytes (answers.Chunk (take MOST_CHUNK bytes)) ++ chunks_at k (drop MOST_CHUNK bytes)
-
-abbrev pub chunk_bytes : List ℕ → List ℕ
-chunk_bytes bytes = chunks_at (length bytes) bytes
-
+-- the chunks of a file, and their end
 abbrev pub file_bytes : Option File → List ℕ
 file_bytes None = []
 file_bytes (Some file) = chunk_bytes file.bytes ++ answer_bytes answers.ChunkEnd

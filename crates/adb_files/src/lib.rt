@@ -2,7 +2,6 @@
 #![tactic(auto)]
 
 mod answers;
-mod chunk;
 mod file;
 mod files;
 mod listing;

@@ -3,10 +3,10 @@
 ghost use Rattle.std.specs.Prelude.{◌≡◌, ◌≢◌, ◌<◌, ◌≤◌, ◌==◌, [], length, drop};
 ghost use Rattle.std.specs.Arc.{arc_value};
 ghost use Rattle.std.specs.Io.{StartsWith};
-ghost use Rattle.adb_files.specs.Served.{chunk_bytes};
+ghost use Rattle.adb_sync.specs.Chunk.{chunk_bytes};
 
-use crate::chunk::Chunk;
 use crate::file::File;
+use adb_sync::Chunk;
 use std::marker::Model;
 use std::sync::Arc;
 
@@ -21,7 +21,7 @@ pub struct Pull {
 impl Model for Pull {
     ghost use Rattle.std.specs.Prelude.{List, ℕ};
     ghost use Rattle.std.specs.Arc.{arc_value};
-    ghost use Rattle.adb_files.specs.Chunk.{IsWithin, HasFront, left_from};
+    ghost use Rattle.adb_sync.specs.Chunk.{IsWithin, HasFront, left_from};
 
     ghost Value = { List ℕ };
 

@@ -11,6 +11,7 @@ mod ask;
 mod ask_format;
 mod ask_id;
 mod ask_reader;
+mod chunk;
 mod comma;
 mod error;
 mod laws;
@@ -20,12 +21,15 @@ mod tests;
 mod writers;
 
 pub use answer::{Dirent, SyncAnswer};
+pub use answer_format::AnswerFormat;
 pub use answer_reader::AnswerReader;
 pub use ask::SyncAsk;
 pub use ask_reader::AskReader;
+pub use chunk::Chunk;
 pub use error::{SyncError, SyncFault, SyncRule};
 pub use laws::{
     answer_cut_is_determined, answer_cut_is_right, answer_faults_stay, ask_cut_is_determined,
     ask_cut_is_right, ask_faults_stay, written_answers_are_read, written_asks_are_read,
 };
+pub use layout::MOST_CHUNK;
 pub use writers::{CHUNK_HEADER_BYTES, chunk_header, write_answer, write_ask};

@@ -1,6 +1,6 @@
 use Rattle.std.proofs.Common.{◌∙◌, sym}
-use Rattle.adb_files.proofs.Handing.{spent}
-use Rattle.adb_files.proofs.chunk.Chunk.take_front.Goals as goal
+use Rattle.adb_sync.proofs.Handing.{spent}
+use Rattle.adb_sync.proofs.chunk.Chunk.take_front.Goals as goal
 
 pub returns-then-self-clause-left : goal.returns-then-self-clause-left
 returns-then-self-clause-left c =

@@ -1,5 +1,5 @@
-use Rattle.adb_files.proofs.Handing.{takes_bytes}
-use Rattle.adb_files.proofs.chunk.Chunk.take_here.Goals as goal
+use Rattle.adb_sync.proofs.Handing.{takes_bytes}
+use Rattle.adb_sync.proofs.chunk.Chunk.take_here.Goals as goal
 
 pub returns-clause-takes : goal.returns-clause-takes
 returns-clause-takes c bytes =

@@ -1,6 +1,6 @@
 use Rattle.std.proofs.Common.{refl}
-use Rattle.adb_files.proofs.Handing.{begins}
-use Rattle.adb_files.proofs.chunk.Chunk.begin.Goals as goal
+use Rattle.adb_sync.proofs.Handing.{begins}
+use Rattle.adb_sync.proofs.chunk.Chunk.begin.Goals as goal
 
 pub returns-clause-left : goal.returns-clause-left
 returns-clause-left c =

@@ -1,17 +1,15 @@
-//! The chunk of a file that is handed out.
+//! The chunk of some bytes that is handed out.
 
 ghost use Rattle.std.specs.Prelude.{◌≡◌, ◌≢◌, ◌<◌, ◌≤◌, [], List, ℕ, length, drop};
 ghost use Rattle.std.specs.Io.{StartsWith};
-ghost use Rattle.adb_files.specs.Chunk.{IsWithin, HasFront, TakesHere, left_from};
-ghost use Rattle.adb_files.specs.Served.{chunk_bytes};
+ghost use Rattle.adb_sync.specs.Chunk.{IsWithin, HasFront, TakesHere, chunk_bytes, left_from};
 
-use adb_sync::{CHUNK_HEADER_BYTES, chunk_header};
+use crate::layout::MOST_CHUNK;
+use crate::writers::{CHUNK_HEADER_BYTES, chunk_header};
 
-/// The most bytes of a chunk.
-pub const MOST_CHUNK: usize = 65_536;
-
-/// A chunk of a file that is handed out: its header, how many bytes of that were taken, and where the
-/// bytes of the chunk that were not taken begin and end in the file.
+/// A chunk of some bytes that are handed out as DATA, one chunk after the other, without a copy: its
+/// header, how many bytes of that were taken, and where the bytes of the chunk that were not taken
+/// begin and end. The bytes are lent to each call, and are the same each time.
 #[derive(Drop)]
 pub struct Chunk {
     pub header: [u8; CHUNK_HEADER_BYTES],
@@ -28,7 +26,7 @@ impl Chunk {
         ensures within { IsWithin result bytes.now }
         ensures front { HasFront result bytes.now }
     {
-        let size = MOST_CHUNK.min(bytes.len() - from);
+        let size = (MOST_CHUNK as usize).min(bytes.len() - from);
         if size == 0 {
             return Chunk {
                 header: [0; CHUNK_HEADER_BYTES],

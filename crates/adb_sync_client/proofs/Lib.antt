@@ -1,0 +1,5 @@
+mod FirstBad
+mod Lasting
+mod Modes
+mod Readings
+mod Strays

@@ -1,0 +1,23 @@
+//! What holds of all answer bytes.
+
+ghost use Rattle.std.specs.Prelude.{◌≡◌, ◌≢◌, ◌<◌, ◌+◌, ◌^◌, ◌++◌, List, ℕ, length, take};
+ghost use Rattle.adb_sync_client.specs.declared.kind.AnswerKind.{AnswerKind};
+ghost use Rattle.adb_sync_client.specs.declared.step.Step.TheVariants.{BadAnswer, More};
+ghost use Rattle.adb_sync_client.specs.Values.{answer_value};
+
+/// Where answer bytes mean something other than that more of them are wanted, what follows them
+/// does not change it.
+#[tactic(auto, using(crate::proofs::Lasting::value_stays))]
+pub fn ended_answers_stay()
+    ensures { (kind : AnswerKind) (bytes more : List ℕ) → answer_value kind bytes ≢ More
+        → answer_value kind (bytes ++ more) ≡ answer_value kind bytes }
+{}
+
+/// A bad answer is told by its first byte after which no answer of the kind can follow: the bytes
+/// before it may be the beginning of an answer, and with it they are not, whatever follows.
+pub fn first_bad_byte_is_told()
+    ensures { (kind : AnswerKind) (bytes : List ℕ) (offset : ℕ) → length bytes < 2 ^ 64
+        → answer_value kind bytes ≡ BadAnswer offset
+        → (offset < length bytes) × (answer_value kind (take offset bytes) ≡ More)
+        × (answer_value kind (take (offset + 1) bytes) ≡ BadAnswer offset) }
+{}

@@ -1,0 +1,29 @@
+//! The asking side of a device's file sync service (SYNC.TXT): one machine for each request, which
+//! gives the request's bytes as they are taken and tells what the answer bytes mean.
+#![tactic(auto)]
+
+mod entries;
+mod expected;
+mod kind;
+mod laws;
+mod list;
+mod outgoing;
+mod pull;
+mod push;
+mod reading;
+mod request;
+mod stat;
+mod step;
+#[cfg(test)]
+mod tests;
+mod told;
+
+pub use entries::Entries;
+pub use kind::AnswerKind;
+pub use laws::{ended_answers_stay, first_bad_byte_is_told};
+pub use list::List;
+pub use pull::Pull;
+pub use push::Push;
+pub use request::MAX_PATH;
+pub use stat::Stat;
+pub use step::{StatValue, Step};

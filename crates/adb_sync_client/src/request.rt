@@ -1,0 +1,21 @@
+//! The bytes of a request.
+
+ghost use Rattle.std.specs.Prelude.{◌≡◌, IfOk};
+ghost use Rattle.adb_sync.specs.Asks.{IsAsk, ask_bytes};
+
+use adb_outside::{ByteQueue, Text};
+use adb_sync::{SyncAsk, write_ask};
+use std::alloc::{AllocError, Global};
+
+/// The most bytes of a path.
+pub const MAX_PATH: usize = 1000;
+
+/// The bytes of a request, to be taken from the front.
+pub fn spelled(alloc: Global, ask: &SyncAsk) -> Result<ByteQueue, AllocError>
+    requires { IsAsk ask.now }
+    ensures { IfOk result (λ queue. queue.bytes ≡ ask_bytes ask.now) }
+{
+    let mut text = Text::new(alloc);
+    write_ask(alloc, ask, &mut text)?;
+    Ok(ByteQueue::from_text(text))
+}

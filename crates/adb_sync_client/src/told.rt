@@ -1,0 +1,91 @@
+//! What the whole answers told so far.
+
+ghost use Rattle.std.specs.Prelude.{◌≡◌, ℕ, IfOk, OnOk};
+ghost use Rattle.adb_sync_client.specs.Values.{next_of, told_by, told_nothing};
+
+use crate::step::StatValue;
+use adb_outside::Text;
+use adb_sync::{Dirent, SyncAnswer};
+use std::alloc::{AllocError, Global};
+use std::marker::Model;
+
+/// What follows a whole answer.
+#[derive(Drop)]
+pub enum Next {
+    /// Further answers.
+    GoesOn,
+    /// Nothing: the request was done.
+    Done,
+    /// Nothing: the request was refused.
+    Refused(Text),
+}
+
+/// The bytes of the chunks, the numbers of the STAT, and the entries of the list.
+#[derive(Drop)]
+pub struct Told {
+    pub bytes: Text,
+    pub stat: StatValue,
+    pub entries: Vec<Dirent>,
+}
+
+impl Model for Told {
+    ghost use Rattle.adb_sync_client.specs.Values.{Said};
+
+    ghost Value = { Said };
+
+    ghost view = { λ told. record {
+      bytes = told.bytes;
+      stat = told.stat;
+      entries = told.entries.items;
+    } };
+}
+
+impl Told {
+    /// Nothing was told yet. It takes no memory.
+    pub fn new(alloc: Global) -> Told
+        ensures { result ≡ told_nothing }
+    {
+        Told {
+            bytes: Text::new(alloc),
+            stat: StatValue {
+                mode: 0,
+                size: 0,
+                mtime: 0,
+            },
+            entries: Vec::new(alloc),
+        }
+    }
+
+    /// Takes the next answer, and gives what follows it.
+    pub fn take(&mut self, answer: SyncAnswer) -> Result<Next, AllocError>
+        ensures next { IfOk result (λ next. next ≡ next_of answer) }
+        ensures told { OnOk result (self.new ≡ told_by self.old answer) }
+    {
+        match answer {
+            SyncAnswer::Chunk(bytes) => {
+                self.bytes.push_slice(bytes.as_slice())?;
+                Ok(Next::GoesOn)
+            }
+            SyncAnswer::Dent {
+                mode,
+                size,
+                mtime,
+                name,
+            } => {
+                self.entries.push(Dirent {
+                    name,
+                    mode,
+                    size,
+                    mtime,
+                })?;
+                Ok(Next::GoesOn)
+            }
+            SyncAnswer::Stat { mode, size, mtime } => {
+                self.stat = StatValue { mode, size, mtime };
+                Ok(Next::Done)
+            }
+            SyncAnswer::Okay | SyncAnswer::ChunkEnd | SyncAnswer::ListEnd => Ok(Next::Done),
+            SyncAnswer::Fail(text) => Ok(Next::Refused(text)),
+        }
+    }
+}
