@@ -3,6 +3,8 @@
 
 mod asked;
 mod service;
+mod stream;
 
 pub use asked::{Asked, read_service, service_name};
 pub use service::Service;
+pub use stream::Stream;
