@@ -1,5 +1,9 @@
 -- A stream at the device's end: what it was opened for, what came and what it wrote, and what its window lets it write.
 use Rattle.std.specs.Prelude.{ℕ, ◌+◌, ◌-◌, ◌≡◌, ◌<◌, ◌==◌, ◌^◌, min, ◌&&◌, ◌≤◌, not, if◌then◌else◌, Bool, true, false, List, [], ◌∷◌, ◌++◌, length, take, drop, Option, Some, None, zero, suc}
+use Rattle.std.specs.List.{flat_map}
+use Rattle.adb_wire.specs.declared.command.Command.TheVariants as commands
+use Rattle.adb_wire.specs.declared.packets.Packet.{Packet}
+use Rattle.adb_wire.specs.Packet.{spelling, check_of}
 use Rattle.adb_stream.specs.declared.flow.Flow.{Flow}
 use Rattle.adb_stream.specs.declared.flow.Flow.TheVariants as flows
 use Rattle.adb_stream.specs.Window.{OneWrite, new_window}
@@ -115,3 +119,24 @@ pub record TakesWrite (came : Came) (row : Row) (new : Stream) (left : List Entr
 
 abbrev pub TakesWriteFront : Came → Row → Stream → List Entry → Type 0
 TakesWriteFront came row new left = TakesFrontOfOne row.kind row.first row.past row.sent came new.service left
+
+-- the packet of a write, between the device's id and the host's
+abbrev pub wrte : ℕ → ℕ → List ℕ → Packet
+wrte own host payload = record { command = commands.Wrte; arg0 = own; arg1 = host; payload = payload }
+
+-- the bytes of a packet that goes out
+abbrev pub packet_bytes : Bool → Packet → List ℕ
+packet_bytes sums packet = spelling packet (check_of sums packet)
+
+-- the bytes of the packets of writes
+abbrev pub writes_bytes : Bool → ℕ → ℕ → List (List ℕ) → List ℕ
+writes_bytes sums own host payloads = flat_map (λ payload. packet_bytes sums (wrte own host payload)) payloads
+
+-- the stream past all the writes that the window lets go
+abbrev pub row_written : ℕ → Row → Row
+row_written most row = row_past_all (writes most row) row
+
+-- All the writes that the window lets go were made: their packets became due, in order.
+pub record Writes (sums : Bool) (own most : ℕ) (row : Row) (new : Stream) (due due' : List ℕ) : Type 0 where
+  pub stands : StandsFor (row_written most row) new
+  pub written : due' ≡ due ++ writes_bytes sums own row.host (writes most row)

@@ -1,8 +1,8 @@
 //! A stream at the device's end.
 
-ghost use Rattle.std.specs.Prelude.{◌≡◌, ◌≤◌, ◌<◌, length, IfOk, OnOk, OnErr};
+ghost use Rattle.std.specs.Prelude.{◌≡◌, ◌≤◌, ◌<◌, length, IfOk, IfSome, OnOk, OnErr};
 ghost use Rattle.adb_daemon.specs.Asked.{kind_of};
-ghost use Rattle.adb_daemon.specs.Service.{came_over, files_opened};
+ghost use Rattle.adb_daemon.specs.Service.{came_over, files_opened, out_of};
 ghost use Rattle.adb_daemon.specs.Stream.{Row, StandsFor, TakesFirst, TakesWrite, TakesWriteFront, MakesWrite, CanWrite};
 ghost use Rattle.adb_daemon.specs.Stream.{opened, row_acked, is_done, first_flow, room_of, flow_past, flow_acked, is_acked};
 
@@ -65,8 +65,11 @@ impl Stream {
     /// The payload of the next write, of at most `most` bytes; `None` where the window lets none go or
     /// nothing is left to write. After want of memory what is left of the answer is lost.
     pub fn next_write(&mut self, alloc: Global, most: usize) -> Result<Option<Text>, AllocError>
-        ensures { IfOk result (λ payload. (row : Row) → StandsFor row self.old
+        ensures write { IfOk result (λ payload. (row : Row) → StandsFor row self.old
             → MakesWrite most row self.new payload) }
+        ensures short { IfOk result (λ next. IfSome next (λ payload. length payload ≤ most)) }
+        ensures less { IfOk result (λ next. IfSome next (λ payload.
+            length (out_of self.new.service) < length (out_of self.old.service))) }
     {
         let payload = take_first(alloc, &mut self.service, room(&self.flow, most))?;
         if payload.is_empty() {
