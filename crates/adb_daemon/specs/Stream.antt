@@ -4,6 +4,8 @@ use Rattle.std.specs.List.{flat_map}
 use Rattle.adb_wire.specs.declared.command.Command.TheVariants as commands
 use Rattle.adb_wire.specs.declared.packets.Packet.{Packet}
 use Rattle.adb_wire.specs.Packet.{spelling, check_of}
+use Rattle.byteorder.specs.Endian.{little_bytes}
+use Rattle.adb_stream.specs.declared.credit.TheConstants.{CREDIT_WINDOW}
 use Rattle.adb_stream.specs.declared.flow.Flow.{Flow}
 use Rattle.adb_stream.specs.declared.flow.Flow.TheVariants as flows
 use Rattle.adb_stream.specs.Window.{OneWrite, new_window}
@@ -140,3 +142,30 @@ row_written most row = row_past_all (writes most row) row
 pub record Writes (sums : Bool) (own most : ℕ) (row : Row) (new : Stream) (due due' : List ℕ) : Type 0 where
   pub stands : StandsFor (row_written most row) new
   pub written : due' ≡ due ++ writes_bytes sums own row.host (writes most row)
+
+-- an OKAY with a payload, and a CLSE, between the device's id and the host's
+abbrev pub okay : ℕ → ℕ → List ℕ → Packet
+okay own host payload = record { command = commands.Okay; arg0 = own; arg1 = host; payload = payload }
+
+abbrev pub clse : ℕ → ℕ → Packet
+clse own host = record { command = commands.Clse; arg0 = own; arg1 = host; payload = [] }
+
+-- The opening OKAY: where the link has credit in bytes the whole window is its credit word.
+abbrev pub opening_word : Option ℕ → List ℕ
+opening_word None = []
+opening_word (Some given) = little_bytes 4 CREDIT_WINDOW
+
+-- A write of so many bytes is acknowledged at once; where the link has credit in bytes these are given back, and none where there are none.
+abbrev pub ack_bytes : Bool → ℕ → ℕ → Flow → ℕ → List ℕ
+ack_bytes sums own host (flows.One window) n = packet_bytes sums (okay own host [])
+ack_bytes sums own host (flows.Credit credit) n = if n == 0 then [] else packet_bytes sums (okay own host (little_bytes 4 n))
+
+-- the CLSE of a stream that is done
+abbrev pub close_bytes : Bool → ℕ → Row → List ℕ
+close_bytes sums own row = if is_done row then packet_bytes sums (clse own row.host) else []
+
+-- A stream has settled: all the writes that its window lets go were made, and where it is done then its CLSE follows.
+pub record Settles (sums : Bool) (own most : ℕ) (row : Row) (new : Stream) (due due' : List ℕ) (done : Bool) : Type 0 where
+  pub stands : StandsFor (row_written most row) new
+  pub written : due' ≡ (due ++ writes_bytes sums own row.host (writes most row)) ++ close_bytes sums own (row_written most row)
+  pub done_then : done ≡ is_done (row_written most row)
