@@ -6,6 +6,8 @@ mod asked;
 mod due;
 mod service;
 mod stream;
+#[cfg(test)]
+mod tests;
 mod writes;
 
 pub use answers::{answer_okay, answer_open, answer_write};
