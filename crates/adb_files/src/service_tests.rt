@@ -71,75 +71,78 @@ fn two_files(alloc: Global) -> Result<Files, Fail> {
     Ok(files)
 }
 
+/// What is asked over `two_files`, one after the other, what is answered, and whether that ends the
+/// service.
+const ANSWERS: [(&[u8], &[u8], bool); 18] = [
+    (
+        b"STAT\x02\0\0\0/a",
+        b"STAT\xa4\x81\0\0\0\0\0\0\x01\0\0\0",
+        false,
+    ),
+    (
+        b"STAT\x02\0\0\0/d",
+        b"STAT\xed\x41\0\0\0\0\0\0\0\0\0\0",
+        false,
+    ),
+    (b"STAT\x01\0\0\0x", b"STAT\0\0\0\0\0\0\0\0\0\0\0\0", false),
+    (
+        b"STA2\x02\0\0\0/a",
+        b"FAIL\x14\0\0\0unknown sync request",
+        true,
+    ),
+    (b"STAT\x01\x04\0\0", b"FAIL\x0d\0\0\0path too long", true),
+    (b"SEND\x02\0\0\0/a", b"FAIL\x0d\0\0\0bad send path", true),
+    (
+        b"SEND\x06\0\0\0/a,420DATA\x01\0\x01\0",
+        b"FAIL\x0f\0\0\0bad data length",
+        true,
+    ),
+    (b"DONE\0\0\0\0", b"FAIL\x0b\0\0\0bad data id", true),
+    (b"QUIT\0\0\0\0STAT\x02\0\0\0/a", b"", true),
+    (
+        b"LIST\x02\0\0\0/d",
+        b"DENT\xa4\x81\0\0\x02\0\0\0\x01\0\0\0\x01\0\0\0fDONE\0\0\0\0\0\0\0\0\0\0\0\0\0\0\0\0",
+        false,
+    ),
+    (
+        b"RECV\x04\0\0\0/d/f",
+        b"DATA\x02\0\0\0hiDONE\0\0\0\0",
+        false,
+    ),
+    (b"RECV\x02\0\0\0/d", b"FAIL\x0e\0\0\0is a directory", false),
+    (b"RECV\x02\0\0\0/x", b"FAIL\x0c\0\0\0no such file", false),
+    (b"RECV\x01\0\0\0x", b"FAIL\x08\0\0\0bad path", false),
+    (
+        b"SEND\x04\0\0\0/x,xDONE\0\0\0\0",
+        b"FAIL\x08\0\0\0bad mode",
+        false,
+    ),
+    (
+        b"SEND\x06\0\0\0/a/b,0DONE\0\0\0\0",
+        b"FAIL\x0f\0\0\0not a directory",
+        false,
+    ),
+    (b"SEND\x06\0\0\0/n,420DATA\x01\0\0\0x", b"", false),
+    (
+        b"SEND\x06\0\0\0/n,420DATA\x01\0\0\0xDONE\x05\0\0\0STAT\x02\0\0\0/n",
+        b"OKAY\0\0\0\0STAT\xa4\x81\0\0\x01\0\0\0\x05\0\0\0",
+        false,
+    ),
+];
+
 #[test]
 fn answers_byte_for_byte(rt: HostRuntime) -> Result<(), Fail> {
     let alloc = rt.alloc();
     let mut files = two_files(alloc)?;
-    let cases: [(&[u8], &[u8], bool); 18] = [
-        (
-            b"STAT\x02\0\0\0/a",
-            b"STAT\xa4\x81\0\0\0\0\0\0\x01\0\0\0",
-            false,
-        ),
-        (
-            b"STAT\x02\0\0\0/d",
-            b"STAT\xed\x41\0\0\0\0\0\0\0\0\0\0",
-            false,
-        ),
-        (b"STAT\x01\0\0\0x", b"STAT\0\0\0\0\0\0\0\0\0\0\0\0", false),
-        (
-            b"STA2\x02\0\0\0/a",
-            b"FAIL\x14\0\0\0unknown sync request",
-            true,
-        ),
-        (b"STAT\x01\x04\0\0", b"FAIL\x0d\0\0\0path too long", true),
-        (b"SEND\x02\0\0\0/a", b"FAIL\x0d\0\0\0bad send path", true),
-        (
-            b"SEND\x06\0\0\0/a,420DATA\x01\0\x01\0",
-            b"FAIL\x0f\0\0\0bad data length",
-            true,
-        ),
-        (b"DONE\0\0\0\0", b"FAIL\x0b\0\0\0bad data id", true),
-        (b"QUIT\0\0\0\0STAT\x02\0\0\0/a", b"", true),
-        (
-            b"LIST\x02\0\0\0/d",
-            b"DENT\xa4\x81\0\0\x02\0\0\0\x01\0\0\0\x01\0\0\0fDONE\0\0\0\0\0\0\0\0\0\0\0\0\0\0\0\0",
-            false,
-        ),
-        (
-            b"RECV\x04\0\0\0/d/f",
-            b"DATA\x02\0\0\0hiDONE\0\0\0\0",
-            false,
-        ),
-        (b"RECV\x02\0\0\0/d", b"FAIL\x0e\0\0\0is a directory", false),
-        (b"RECV\x02\0\0\0/x", b"FAIL\x0c\0\0\0no such file", false),
-        (b"RECV\x01\0\0\0x", b"FAIL\x08\0\0\0bad path", false),
-        (
-            b"SEND\x04\0\0\0/x,xDONE\0\0\0\0",
-            b"FAIL\x08\0\0\0bad mode",
-            false,
-        ),
-        (
-            b"SEND\x06\0\0\0/a/b,0DONE\0\0\0\0",
-            b"FAIL\x0f\0\0\0not a directory",
-            false,
-        ),
-        (b"SEND\x06\0\0\0/n,420DATA\x01\0\0\0x", b"", false),
-        (
-            b"SEND\x06\0\0\0/n,420DATA\x01\0\0\0xDONE\x05\0\0\0STAT\x02\0\0\0/n",
-            b"OKAY\0\0\0\0STAT\xa4\x81\0\0\x01\0\0\0\x05\0\0\0",
-            false,
-        ),
-    ];
-    for (asked, answer, ended) in cases {
+    for (asked, answer, ended) in &ANSWERS {
         for size in [1, 4096] {
             let (told, over) = answer_of(alloc, &mut files, asked, size)?;
             assert!(rt;
-                told.as_slice() == answer,
+                told.as_slice() == *answer,
                 "{:?} to {asked:?}",
                 told.as_slice()
             );
-            assert_eq!(rt; over, ended, "after {asked:?}");
+            assert_eq!(rt; over, *ended, "after {asked:?}");
         }
     }
     Ok(())

@@ -1,0 +1,3 @@
+pub mod Syncing
+pub mod Taking
+pub mod Windows

@@ -1,0 +1,17 @@
+//! A model of a device: its services (SERVICES.TXT, SYNC.TXT).
+#![tactic(auto)]
+
+mod answers;
+mod asked;
+mod due;
+mod service;
+mod stream;
+#[cfg(test)]
+mod tests;
+mod writes;
+
+pub use answers::{answer_okay, answer_open, answer_write};
+pub use asked::{Asked, read_service, service_name};
+pub use service::Service;
+pub use stream::Stream;
+pub use writes::Outgoing;

@@ -1,0 +1,14 @@
+//! The commands of a model device's shell, and the service that runs one for a stream
+//! (SERVICES.TXT, `shell:` and `shell,v2:`).
+#![tactic(auto)]
+
+mod commands;
+mod outcome;
+mod output;
+mod program;
+mod service;
+#[cfg(test)]
+mod tests;
+mod words;
+
+pub use service::ShellService;

@@ -1,0 +1,64 @@
+//! How what a command writes is spelled.
+
+ghost use Rattle.std.specs.Prelude.{◌≡◌, ◌≤◌, ◌++◌, length, IfOk, OnOk};
+ghost use Rattle.adb_shell_service.specs.Output.{output_bytes, exit_bytes, spelled};
+
+use crate::outcome::Outcome;
+use adb_outside::Text;
+use adb_shell::write_packet;
+use std::alloc::{AllocError, Global};
+
+/// The id of a packet of the command's input.
+pub const STDIN: u8 = 0;
+
+/// The id of a packet of the command's output.
+pub const STDOUT: u8 = 1;
+
+/// The id of a packet of the command's error output.
+pub const STDERR: u8 = 2;
+
+/// The id of the packet that has the command's status.
+pub const EXIT: u8 = 3;
+
+/// The id of the packet that ends the command's input.
+pub const CLOSE_STDIN: u8 = 4;
+
+/// The most bytes of output in one packet.
+pub const MOST_OUTPUT: usize = 65_536;
+
+/// Adds output as packets. After want of memory the first of them may stand there.
+pub fn add_output(alloc: Global, id: u8, bytes: &[u8], out: &mut Text) -> Result<(), AllocError>
+    requires { id ≤ 5 }
+    ensures { OnOk result (out.new ≡ out.old ++ output_bytes id bytes.now) }
+{
+    let mut rest = bytes;
+    while !rest.is_empty() {
+        let (first, others) = rest.split_at(MOST_OUTPUT.min(rest.len()));
+        write_packet(alloc, id, first, out)?;
+        rest = others;
+    }
+    Ok(())
+}
+
+/// Adds the packet that has the status. After want of memory nothing is added.
+pub fn add_exit(alloc: Global, status: u8, out: &mut Text) -> Result<(), AllocError>
+    ensures { OnOk result (out.new ≡ out.old ++ exit_bytes status) }
+{
+    write_packet(alloc, EXIT, &[status], out)
+}
+
+/// All that a command writes, and its status where that is told.
+pub fn spelled(alloc: Global, packets: bool, outcome: &Outcome) -> Result<Text, AllocError>
+    ensures { IfOk result (λ bytes. bytes ≡ spelled packets outcome.now) }
+{
+    let mut bytes = Text::new(alloc);
+    if packets {
+        add_output(alloc, STDOUT, outcome.stdout.as_slice(), &mut bytes)?;
+        add_output(alloc, STDERR, outcome.stderr.as_slice(), &mut bytes)?;
+        add_exit(alloc, outcome.status, &mut bytes)?;
+    } else {
+        bytes.push_slice(outcome.stdout.as_slice())?;
+        bytes.push_slice(outcome.stderr.as_slice())?;
+    }
+    Ok(bytes)
+}

@@ -1,0 +1,16 @@
+//! The words of a command.
+
+ghost use Rattle.std.specs.Prelude.{◌≡◌, map, IfOk};
+ghost use Rattle.adb_shell_service.specs.Commands.{words_of};
+
+use std::alloc::{AllocError, Global};
+
+/// The words of a command: what stands between its runs of spaces.
+pub fn words_of(alloc: Global, command: &[u8]) -> Result<Vec<&[u8]>, AllocError>
+    ensures { IfOk result (λ words. map (λ word. word.now) words.items ≡ words_of command.now) }
+{
+    command
+        .split(|byte| *byte == b' ')
+        .filter(|word| !word.is_empty())
+        .collect(alloc)
+}
