@@ -10,6 +10,7 @@ use crate::ask::{Ask, Asked};
 use crate::input::Input;
 use crate::output::Output;
 use crate::phase::Phase;
+use adb_outside::Text;
 use bytes::Bytes;
 use std::alloc::{AllocError, Global};
 use std::marker::Model;
@@ -236,6 +237,13 @@ impl Client {
         ensures { IsChunkOf result.now self.now.due }
     {
         self.output.front()
+    }
+
+    /// The first `max` bytes that are due, or all where there are fewer, copied. Nothing changes.
+    pub fn copy_front(&self, max: usize) -> Result<Text, AllocError>
+        ensures { IfOk result (λ text. text ≡ take max self.now.due) }
+    {
+        self.output.copy_front(max)
     }
 
     /// The first `n` bytes that were due were handed out. It takes no memory.

@@ -1,11 +1,12 @@
 //! What is due to a client.
 
-ghost use Rattle.std.specs.Prelude.{◌≡◌, ◌<◌, ◌≤◌, ◌+◌, ◌-◌, ◌++◌, [], List, ℕ, length, drop, max, All, IfOk, OnOk, OnErr};
+ghost use Rattle.std.specs.Prelude.{◌≡◌, ◌<◌, ◌≤◌, ◌+◌, ◌-◌, ◌++◌, [], List, ℕ, length, take, drop, max, All, IfOk, OnOk, OnErr};
 ghost use Rattle.std.specs.List.{concat};
 ghost use Rattle.std.specs.VecDeque.{deque_len, deque_capacity};
 ghost use Rattle.bytes.specs.Unread.{IsChunkOf};
 
-use crate::slices::share;
+use crate::slices::{first, share};
+use adb_outside::Text;
 use bytes::{Bytes, BytesMut};
 use std::alloc::{AllocError, Global};
 use std::collections::VecDeque;
@@ -127,6 +128,17 @@ impl Output {
         }
     }
 
+    /// The first `max` bytes that are due, or all where there are fewer, copied.
+    pub(crate) fn copy_front(&self, max: usize) -> Result<Text, AllocError>
+        ensures { IfOk result (λ text. text ≡ take max self.now.due) }
+    {
+        let mut text = Text::new(self.alloc);
+        text.reserve(max.min(self.owed()))?;
+        fill_from_slices(&mut text, &self.slices, max)?;
+        fill(&mut text, self.tail.as_slice(), max)?;
+        Ok(text)
+    }
+
     /// The first `n` bytes were handed out. It takes no memory.
     pub(crate) fn hand(&mut self, n: usize)
         requires { n ≤ length self.old.due }
@@ -219,4 +231,26 @@ fn share_all(alloc: Global, slices: &VecDeque<Bytes>) -> Result<VecDeque<Bytes>,
         shared.push_back(share(&slices[i])?)?;
     }
     Ok(shared)
+}
+
+/// Fills an empty text up to `max` bytes from slices, and looks at none behind them.
+fn fill_from_slices(text: &mut Text, slices: &VecDeque<Bytes>, max: usize) -> Result<(), AllocError>
+    requires { text.old ≡ [] }
+    ensures { OnOk result (text.new ≡ take max (concat slices.now.items)) }
+{
+    for i in 0..slices.len() {
+        if text.len() >= max {
+            return Ok(());
+        }
+        fill(text, slices[i].as_slice(), max)?;
+    }
+    Ok(())
+}
+
+/// Fills a text up to `max` bytes from the front of others.
+fn fill(text: &mut Text, bytes: &[u8], max: usize) -> Result<(), AllocError>
+    ensures { OnOk result (text.new ≡ text.old ++ take (max - length text.old) bytes.now) }
+{
+    let n = max.saturating_sub(text.len()).min(bytes.len());
+    text.push_slice(first(bytes, n))
 }
