@@ -1,13 +1,14 @@
 -- In every state that a legal history leaves, the link of a stream is connected, and a link lives where its device has a row.
-use Rattle.std.proofs.Common.{◌≡◌, ◌≢◌, ℕ, ◌+◌, ◌<◌, ◌≤◌, zero, suc, Bool, true, false, cond, All, List, [], ◌∷◌, ◌++◌, length, min, Option, Some, None, refl, sym, ap, subst, ◌∙◌, arith, ◌⊎◌, inl, inr, eqb}
-use Rattle.std.specs.Prelude.{is_some, option_and_then, option_map, nat_eq}
-use Rattle.std.proofs.lemmas.Bool.{eqb-true, eqb-false, eq-eqb, ne_eqb, cases_eq}
+use Rattle.std.proofs.Common.{◌≡◌, ◌≢◌, ℕ, ◌+◌, ◌<◌, ◌≤◌, zero, suc, Bool, true, false, cond, List, [], ◌∷◌, ◌++◌, length, min, Option, Some, None}
+use Rattle.std.proofs.Common.{refl, sym, ap, subst, ◌∙◌, arith, ◌⊎◌, inl, inr, eqb}
+use Rattle.std.specs.Prelude.{is_some, option_and_then, nat_eq}
+use Rattle.std.proofs.lemmas.Bool.{eqb-false, cases_eq}
 use Rattle.adb_outside.specs.Tables.{Rows, at, change_row, put_row}
 use Rattle.adb_outside.specs.declared.kinds.Kind.{Kind}
 use Rattle.adb_outside.specs.declared.identity.Identity.{Identity}
 use Rattle.adb_outside.specs.declared.identity.State.TheVariants.{Offline}
 use Rattle.adb_registry.specs.Row.{online_row, unauthorized_row}
-use Rattle.adb_registry.specs.Registry.{DeviceTable, attached, changed, detached}
+use Rattle.adb_registry.specs.Registry.{DeviceTable, attached, changed}
 use Rattle.adb_registry.specs.declared.row.Row.{Row}
 use Rattle.adb_forward.specs.declared.row.ForwardRow.{ForwardRow}
 use Rattle.adb_wire.specs.Format.{has_sums}
@@ -22,23 +23,24 @@ use Rattle.adb_stream.specs.declared.row.Part.{Part}
 use Rattle.adb_stream.specs.declared.row.Stream.{Stream}
 use Rattle.adb_capture.specs.declared.entry.Entry.{Entry}
 use Rattle.adb_capture.specs.declared.entry.Entry.TheVariants.{Join, Enter, Read, End, Bound, Attach, Recv, Detach, Put, Send}
-use Rattle.adb_history.specs.Rows.{Client, Link, State, start, new_link, to_client, to_link, to_stream, none_kept, with_link_due, with_stream_part}
-use Rattle.adb_history.specs.Events.{Made, Event, Ending, quietly, then_also, lost}
+use Rattle.adb_history.specs.Rows.{Link, State, new_link, to_stream, none_kept, with_stream_part}
+use Rattle.adb_history.specs.Events.{Event, Ending, quietly, lost}
 use Rattle.adb_history.specs.Links.{is_connected, is_connected_row, is_connected_state, is_credit}
-use Rattle.adb_history.specs.Streams.{draw, client_loses, ends_row, ends_if_of, ends_of, all_end}
+use Rattle.adb_history.specs.Streams.{ends_row, ends_if_of, ends_of, all_end}
 use Rattle.adb_history.specs.Flow.{with_flow}
-use Rattle.adb_history.specs.Tracking.{mark_all}
-use Rattle.adb_history.specs.Losing.{forgets, link_ends, orphaned, stops}
-use Rattle.adb_history.specs.Packets.{with_remote, with_sums, first_credit, accepted, streams_end_first, goes_online, unauthorized_from}
-use Rattle.adb_history.specs.Machine.{History, state, step, May, IsLegal}
+use Rattle.adb_history.specs.Losing.{forgets, link_ends, orphaned}
+use Rattle.adb_history.specs.Packets.{with_remote, with_sums, first_credit, accepted, streams_end_first, unauthorized_from}
+use Rattle.adb_history.specs.Machine.{History, state, May, IsLegal}
 use Rattle.adb_history.specs.Fifo.{has_credit}
-use Rattle.adb_history.specs.Moves.{After, Moves, IsLed, IsReady, IsLike, connects_now, draws_now}
-use Rattle.adb_history.specs.Owned.{IsOwned, AllDrawn}
+use Rattle.adb_history.specs.Moves.{Moves, IsReady, connects_now, draws_now}
+use Rattle.adb_history.specs.Owned.{AllDrawn}
 use Rattle.adb_history.specs.Linked.{DeviceRows, OnLink, AllOn, IsLinked}
 use Rattle.adb_history.proofs.RuleMoves.{Begins, step_kept}
 use Rattle.adb_history.proofs.Numbers.{drawn_plain}
 use Rattle.adb_history.proofs.OwnedStep.{owned_moves, begins_owned, start_owned, ends_state, client_loses_frame}
-use Rattle.adb_history.proofs.Linking.{on_change, on_gone, on_same, on_other, credit_new, ready_connected, link_rows, forward_rows, changed_other_at, Silent, changed_rows, online_silent, unauthorized_silent, detached_on, detached_rows, attached_rows, attached_on, no_rows}
+use Rattle.adb_history.proofs.Linking.{on_change, on_gone, on_same, on_other, credit_new, ready_connected, link_rows, forward_rows, changed_other_at}
+use Rattle.adb_history.proofs.Linking.{Silent, changed_rows, online_silent, unauthorized_silent, detached_on, detached_rows, attached_rows}
+use Rattle.adb_history.proofs.Linking.{attached_on, no_rows}
 
 -- ---- the streams of a link end
 -- what is left of a state, of which so many streams were looked at
@@ -60,7 +62,15 @@ ends_left t ending s zero = record {
 ends_left t ending s (suc k) = go (ends_of t k ending s).state (ends_left t ending s k) ((ends_of t k ending s).state.streams (suc k)) refl
   where
     go : (now : State) → IsLeft t k s now → (o : Option Stream) → now.streams (suc k) ≡ o → IsLeft t (suc k) s (ends_if_of t (suc k) ending o now).state
-    go now h None is = record { devices = h.devices; links = h.links; forwards = h.forwards; same = h.same; done = λ m x some within e. done m x some within e (cases_eq m (suc k)) }
+    go now h None is =
+        record {
+          devices = h.devices;
+          links = h.links;
+          forwards = h.forwards;
+          same = h.same;
+          done = λ m x some within e. done m x some within e
+              (cases_eq m (suc k));
+        }
       where
         done : (m : ℕ) (x : Stream) → 0 < m → m ≤ suc k → now.streams m ≡ Some x → (m ≡ suc k) ⊎ (m ≡ suc k → ⊥) → x.link ≢ t
         done m x some within e (inl same) = absurd (let clash : None ≡ Some x = sym is ∙ (ap now.streams (sym same) ∙ e) in cc)
@@ -83,16 +93,25 @@ ends_left t ending s (suc k) = go (ends_of t k ending s).state (ends_left t endi
             one false f o g e = (eqb-false (suc k) m f, g ∙ e)
 
         ended : IsLeft t (suc k) s (ends_row (suc k) ending stream now).state
-        ended = subst (IsLeft t (suc k) s) (sym (ends_state (suc k) ending stream now ∙ client_loses_frame (now.clients stream.client) stream.client gone)) (record {
-          devices = h.devices;
-          links = h.links;
-          forwards = h.forwards;
-          same = λ m x e. h.same m x (was m x e).1;
-          done = λ m x some within e. (let w = was m x e in h.done m x some (omega (arith, within, w.0)) w.1);
-        })
+        ended = subst (IsLeft t (suc k) s) (sym (ends_state (suc k) ending stream now ∙ client_loses_frame (now.clients stream.client) stream.client gone))
+            (record {
+              devices = h.devices;
+              links = h.links;
+              forwards = h.forwards;
+              same = λ m x e. h.same m x (was m x e).1;
+              done = λ m x some within e. (let w = was m x e in h.done m x some (omega (arith, within, w.0)) w.1);
+            })
 
         stays : stream.link ≢ t → IsLeft t (suc k) s now
-        stays other = record { devices = h.devices; links = h.links; forwards = h.forwards; same = h.same; done = λ m x some within e. done m x some within e (cases_eq m (suc k)) }
+        stays other =
+            record {
+              devices = h.devices;
+              links = h.links;
+              forwards = h.forwards;
+              same = h.same;
+              done = λ m x some within e. done m x some within e
+                  (cases_eq m (suc k));
+            }
           where
             done : (m : ℕ) (x : Stream) → 0 < m → m ≤ suc k → now.streams m ≡ Some x → (m ≡ suc k) ⊎ (m ≡ suc k → ⊥) → x.link ≢ t
             done m x some within e (inl same) =
@@ -146,10 +165,10 @@ link_ends_linked : (t : ℕ) (ending : Ending) (s : State) → IsLinked s → Is
 link_ends_linked t ending s h = record {
   owned = owned_moves.link_ends t ending s [] h.owned;
   rows = subst (λ (l : Rows (Option Link)). DeviceRows now.devices l now.forwards) (sym left.links)
-    (subst (λ (f : List (ℕ × ForwardRow)). DeviceRows now.devices forgot.links f) (sym left.forwards)
-    (subst (λ (d : DeviceTable). DeviceRows d forgot.links forgot.forwards) (sym left.devices) (detached_rows s.devices s.links s.forwards t h.rows)));
+      (subst (λ (f : List (ℕ × ForwardRow)). DeviceRows now.devices forgot.links f) (sym left.forwards)
+      (subst (λ (d : DeviceTable). DeviceRows d forgot.links forgot.forwards) (sym left.devices) (detached_rows s.devices s.links s.forwards t h.rows)));
   on = subst (λ (d : DeviceTable). AllOn d now.streams) (sym left.devices)
-    (λ m x e. detached_on t s.devices x h.rows.rises (left.clear m x e) (h.on m x (left.same m x e)));
+      (λ m x e. detached_on t s.devices x h.rows.rises (left.clear m x e) (h.on m x (left.same m x e)));
 }
   where
     forgot : State
@@ -174,11 +193,15 @@ first_cleared false t s is h =
 online_linked : (t version maxdata : ℕ) (identity : Identity) (s : State) → IsLinked s → IsLinked (connects_now t version maxdata identity s).state
 online_linked t version maxdata identity s h = record {
   owned = owned_moves.online t version maxdata identity s [] h.owned;
-  rows = subst (λ (d : DeviceTable). DeviceRows (changed t row d) (change_row t (option_and_then (with_sums (has_sums version))) now.links) now.forwards) (sym left.devices)
-    (subst (λ (l : Rows (Option Link)). DeviceRows (changed t row s.devices) (change_row t (option_and_then (with_sums (has_sums version))) l) now.forwards) (sym left.links)
-    (subst (λ (f : List (ℕ × ForwardRow)). DeviceRows (changed t row s.devices) (change_row t (option_and_then (with_sums (has_sums version))) s.links) f) (sym left.forwards) rows));
+  rows = subst (λ (d : DeviceTable). DeviceRows (changed t row d) (change_row t (option_and_then (with_sums (has_sums version))) now.links) now.forwards)
+      (sym left.devices)
+      (subst (λ (l : Rows (Option Link)). DeviceRows (changed t row s.devices) (change_row t (option_and_then (with_sums (has_sums version))) l) now.forwards)
+      (sym left.links)
+      (subst (λ (f : List (ℕ × ForwardRow)). DeviceRows (changed t row s.devices) (change_row t (option_and_then (with_sums (has_sums version))) s.links) f)
+      (sym left.forwards) rows));
   on = subst (λ (d : DeviceTable). AllOn (changed t row d) now.streams) (sym left.devices)
-    (λ m x e. on_other s.devices (changed t row s.devices) x (changed_other_at t row s.devices h.rows.rises x.link (left.clear m x e)) (h.on m x (left.same m x e)));
+      (λ m x e. on_other s.devices (changed t row s.devices) x (changed_other_at t row s.devices h.rows.rises x.link (left.clear m x e))
+      (h.on m x (left.same m x e)));
 }
   where
     row : Row → Row
@@ -193,16 +216,18 @@ online_linked t version maxdata identity s h = record {
     rows : DeviceRows (changed t (online_row identity (min version VERSION_WITHOUT_SUMS) (min maxdata MAX_PAYLOAD)) s.devices)
         (change_row t (option_and_then (with_sums (has_sums version))) s.links) s.forwards
     rows = link_rows (changed t (online_row identity (min version VERSION_WITHOUT_SUMS) (min maxdata MAX_PAYLOAD)) s.devices) s.links s.forwards t
-      (λ link. record link { sums = has_sums version })
-      (changed_rows s.devices s.links s.forwards t (online_row identity (min version VERSION_WITHOUT_SUMS) (min maxdata MAX_PAYLOAD))
+        (λ link. record link { sums = has_sums version })
+        (changed_rows s.devices s.links s.forwards t (online_row identity (min version VERSION_WITHOUT_SUMS) (min maxdata MAX_PAYLOAD))
         (λ r is. online_silent identity (min version VERSION_WITHOUT_SUMS) (min maxdata MAX_PAYLOAD) r) h.rows)
 
-unauthorized_linked : (t : ℕ) (row : Row) (s : State) (w : List Event) → at t s.devices.rows ≡ Some row → row.state ≡ Offline → IsLinked s → IsLinked (unauthorized_from t Offline s)
+unauthorized_linked : (t : ℕ) (row : Row) (s : State) (w : List Event) → at t s.devices.rows ≡ Some row → row.state ≡ Offline → IsLinked s
+    → IsLinked (unauthorized_from t Offline s)
 unauthorized_linked t row s w is offline h = record {
   owned = owned_moves.unauthorized t row s w is offline h.owned;
   rows = changed_rows s.devices s.links s.forwards t unauthorized_row silent h.rows;
   on = λ m x e. on_other s.devices (changed t unauthorized_row s.devices) x
-    (changed_other_at t unauthorized_row s.devices h.rows.rises x.link (none_on t s.devices x (ap is_connected_row is ∙ ap is_connected_state offline) (h.on m x e))) (h.on m x e);
+      (changed_other_at t unauthorized_row s.devices h.rows.rises x.link
+      (none_on t s.devices x (ap is_connected_row is ∙ ap is_connected_state offline) (h.on m x e))) (h.on m x e);
 }
   where
     silent : (r : Row) → at t s.devices.rows ≡ Some r → Silent (unauthorized_row r)
@@ -211,7 +236,8 @@ unauthorized_linked t row s w is offline h = record {
         unauthorized_silent r (ap (λ (x : Row). x.state) (sym same) ∙ offline) (h.rows.silent t r e)
 
 -- ---- streams change
-part_on : (devices : DeviceTable) (stream x y : Stream) (part : Part) → stream ≡ x → with_stream_part part x ≡ Some y → has_credit part.flow ≡ has_credit stream.part.flow
+part_on : (devices : DeviceTable) (stream x y : Stream) (part : Part) → stream ≡ x → with_stream_part part x ≡ Some y
+    → has_credit part.flow ≡ has_credit stream.part.flow
     → OnLink devices x → OnLink devices y
 part_on devices stream x y part same e credit h =
     let z : Stream = record x { part = part } in
@@ -247,7 +273,8 @@ draws_on s c t ready h m y is = go (eqb (s.drawn + 1) m) is
     go true e = let row : new_stream (s.drawn + 1) c t (new_flow (is_credit t s.devices)) ≡ y = cc in subst (OnLink s.devices) row drawn
     go false e = h.on m y e
 
-ends_linked : (s : State) (l : ℕ) (ending : Ending) (stream : Stream) (w : List Event) → s.streams l ≡ Some stream → IsLinked s → IsLinked (ends_row l ending stream s).state
+ends_linked : (s : State) (l : ℕ) (ending : Ending) (stream : Stream) (w : List Event) → s.streams l ≡ Some stream → IsLinked s
+    → IsLinked (ends_row l ending stream s).state
 ends_linked s l ending stream w is h =
     let gone : State = to_stream l none_kept s in
     let frame = sym (ends_state l ending stream s ∙ client_loses_frame (s.clients stream.client) stream.client gone) in
@@ -293,7 +320,8 @@ linked_moves = record {
   };
   orphan_goes = λ l stream s w is orphan h. record { owned = owned_moves.orphan_goes l stream s w is orphan h.owned; rows = h.rows; on = gone_on s l h.on };
   ends = λ l ending stream s w is h. ends_linked s l ending stream w is h;
-  fails_open = λ c l x stream s w is in_ at_l h. record { owned = owned_moves.fails_open c l x stream s w is in_ at_l h.owned; rows = h.rows; on = gone_on s l h.on };
+  fails_open =
+      λ c l x stream s w is in_ at_l h. record { owned = owned_moves.fails_open c l x stream s w is in_ at_l h.owned; rows = h.rows; on = gone_on s l h.on };
   fails_asked = λ c l x stream s w is in_ at_l h. record {
     owned = owned_moves.fails_asked c l x stream s w is in_ at_l h.owned;
     rows = h.rows;
@@ -318,10 +346,11 @@ linked_moves = record {
 -- ---- who comes
 plugged_linked : (t : ℕ) (kind : Kind) (serial : List ℕ) (s : State) → t ≡ s.devices.drawn + 1 → IsLinked s
     → DeviceRows (attached kind serial s.devices) (put_row t (Some new_link) s.links) s.forwards × AllOn (attached kind serial s.devices) s.streams
-plugged_linked t kind serial s next h =
-    (subst (λ (n : ℕ). DeviceRows (attached kind serial s.devices) (put_row n (Some new_link) s.links) s.forwards) (sym next)
+plugged_linked t kind serial s next h = (
+  subst (λ (n : ℕ). DeviceRows (attached kind serial s.devices) (put_row n (Some new_link) s.links) s.forwards) (sym next)
       (attached_rows s.devices s.links s.forwards kind serial new_link h.rows),
-     λ l x is. attached_on s.devices kind serial x none (h.on l x is))
+  λ l x is. attached_on s.devices kind serial x none (h.on l x is),
+)
   where
     gone : (o : Option Row) → is_some o ≡ false → o ≡ None
     gone None e = refl
@@ -329,7 +358,7 @@ plugged_linked t kind serial s next h =
 
     none : at (s.devices.drawn + 1) s.devices.rows ≡ None
     none = gone (at (s.devices.drawn + 1) s.devices.rows)
-      (sym (h.rows.linked (s.devices.drawn + 1)) ∙ ap is_some (h.owned.rows.links.above (s.devices.drawn + 1) (omega arith)))
+        (sym (h.rows.linked (s.devices.drawn + 1)) ∙ ap is_some (h.owned.rows.links.above (s.devices.drawn + 1) (omega arith)))
 
 begins_linked : (e : Entry) (s : State) (w : List Event) → May s e → IsLinked s → Begins linked_moves e s w
 begins_linked (Join c) s w may h = record { owned = begins_owned (Join c) s w may h.owned; rows = h.rows; on = h.on }

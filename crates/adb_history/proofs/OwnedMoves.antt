@@ -1,31 +1,24 @@
 -- Clients and streams keep each other through each move.
-use Rattle.std.proofs.Common.{◌≡◌, ◌≢◌, ℕ, ◌+◌, ◌-◌, ◌<◌, ◌≤◌, zero, suc, Bool, true, false, cond, List, [], ◌∷◌, ◌++◌, length, drop, Option, Some, None, refl, sym, ap, subst, ◌∙◌, arith, ◌⊎◌, inl, inr, eqb, length-append}
-use Rattle.std.specs.Prelude.{is_some, option_and_then, option_map, codes, nat_lt}
-use Rattle.std.proofs.lemmas.Bool.{eqb-true, eqb-false, eq-eqb, ne_eqb, cases_eq}
-use Rattle.std.proofs.lemmas.Bool.Decides.{nat_tests}
-use Rattle.adb_outside.specs.Tables.{Rows, change_row, put_row}
-use Rattle.adb_stream.specs.Stream.{new_stream}
-use Rattle.adb_stream.specs.Flow.{new_flow}
+use Rattle.std.proofs.Common.{◌≡◌, ◌≢◌, ℕ, ◌<◌, ◌≤◌, zero, suc, Bool, true, false, List, [], ◌∷◌, ◌++◌, length, Option, Some, None, refl, sym, ap}
+use Rattle.std.proofs.Common.{subst, ◌∙◌, arith, ◌⊎◌, inl, inr, length-append}
+use Rattle.std.specs.Prelude.{is_some, option_and_then, option_map}
+use Rattle.adb_outside.specs.Tables.{Rows, change_row}
 use Rattle.adb_stream.specs.declared.flow.Flow.{Flow}
-use Rattle.adb_stream.specs.declared.flow.Flow.TheVariants.{One, Credit}
 use Rattle.adb_stream.specs.declared.row.Stream.{Stream}
 use Rattle.adb_client.specs.declared.phase.Phase.{Phase}
 use Rattle.adb_client.specs.declared.phase.Phase.TheVariants.{Asking, Opening, Streaming, Binding, Tracking, Closing, Gone}
 use Rattle.adb_client.specs.declared.about.Want.{Want}
-use Rattle.adb_history.specs.Rows.{Client, Link, State, to_client, to_stream, none_kept, with_due, with_held, in_phase, with_stream_part}
+use Rattle.adb_history.specs.Rows.{Client, State, to_client, to_stream, none_kept, with_due, with_held, with_stream_part}
 use Rattle.adb_history.specs.Clients.{closing, closing_with, closes}
-use Rattle.adb_history.specs.Streams.{draw}
-use Rattle.adb_history.specs.Links.{is_credit}
 use Rattle.adb_history.specs.Flow.{with_flow}
 use Rattle.adb_history.specs.Tracking.{marked, marked_in}
-use Rattle.adb_history.specs.Losing.{stream_of, orphaned, input_ended}
-use Rattle.adb_history.specs.Packets.{with_remote, first_credit, accepted, is_out_of_turn}
+use Rattle.adb_history.specs.Losing.{stream_of, input_ended}
 use Rattle.adb_history.specs.Reading.{tracks, awaits}
-use Rattle.adb_history.specs.Handing.{to_hand, hands, left_in, unmarked}
-use Rattle.adb_history.specs.Orderly.{IsSoundFlow, IsDrawnOnly, phase_for}
+use Rattle.adb_history.specs.Handing.{to_hand, unmarked}
+use Rattle.adb_history.specs.Orderly.{phase_for}
 use Rattle.adb_history.specs.Moves.{IsFree, HasOne, IsLike}
 use Rattle.adb_history.specs.Owned.{StreamOf, ClientOf, OwnerIn, StreamIn, HoldsIn, ClientIn, Owned, IsOwned, AllDrawn}
-use Rattle.adb_history.proofs.Following.{changed_here, changed_none, changed_other}
+use Rattle.adb_history.proofs.Following.{changed_here, changed_other}
 use Rattle.adb_history.proofs.Owning.{Alike, AlikeAt, owned_alike, alike_change, AlikeStream, owned_stream, IsOnly, Changes, owned_changes}
 
 order : (a b : ℕ) → (a ≤ b) ⊎ (b < a)
@@ -69,12 +62,14 @@ owned_client s c f x h is keeps = owned_changes s (to_client c f s) c 0 changes 
     }
 
 -- what is left of a client that closes
-pub closing_in : (streams : Rows (Option Stream)) (c : ℕ) (due : List ℕ) (x y : Client) → x.about.number ≡ c → closing_with due x ≡ Some y → ClientIn streams c y
+pub closing_in : (streams : Rows (Option Stream)) (c : ℕ) (due : List ℕ) (x y : Client) → x.about.number ≡ c → closing_with due x ≡ Some y
+    → ClientIn streams c y
 closing_in streams c [] x y number e = absurd (let clash : None ≡ Some y = e in cc)
 closing_in streams c (b ∷ due) x y number e =
     let z : Client = record x { about = record x.about { phase = Closing; mark = false; want = None }; held = []; due = b ∷ due } in
     let same : z ≡ y = cc in
-    subst (λ (k : Client). ClientIn streams c k) same (record { number = number; mark = λ m. absurd (let clash : false ≡ true = m in cc); holds = (refl, λ nil. absurd (some nil)) })
+    subst (λ (k : Client). ClientIn streams c k) same
+    (record { number = number; mark = λ m. absurd (let clash : false ≡ true = m in cc); holds = (refl, λ nil. absurd (some nil)) })
   where
     some : b ∷ due ≡ [] → ⊥
     some nil = cc
@@ -106,7 +101,7 @@ awaits_owned s c x want is asking h = owned_client s c (awaits want) x h (is, su
         let same : z ≡ y = cc in
         let was = h.owned.client c x is in
         subst (λ (k : Client). ClientIn s.streams c k) same
-          (record { number = was.number; mark = λ m. absurd (no_mark x was.mark asking m); holds = (refl, refl) })
+        (record { number = was.number; mark = λ m. absurd (no_mark x was.mark asking m); holds = (refl, refl) })
 
 streamless : (streams : Rows (Option Stream)) (c : ℕ) (x : Client) (phase : Phase) → HoldsIn phase streams c x → stream_of phase streams ≡ None → IsOnly 0 phase
 streamless streams c x Asking h e = tt
@@ -120,7 +115,8 @@ streamless streams c x Gone h e = tt
 pub drops_owned : (s : State) (c : ℕ) (x : Client) → s.clients c ≡ Some x → stream_of x.about.phase s.streams ≡ None → IsOwned s
     → Owned s.joined (to_client c none_kept s).clients s.streams
 drops_owned s c x is none h =
-    owned_client s c none_kept x h (is, streamless s.streams c x x.about.phase (h.owned.client c x is).holds none) (λ y e. absurd (let clash : None ≡ Some y = e in cc))
+    owned_client s c none_kept x h (is, streamless s.streams c x x.about.phase (h.owned.client c x is).holds none)
+    (λ y e. absurd (let clash : None ≡ Some y = e in cc))
 
 -- ---- clients that are alike
 holds_due : (streams : Rows (Option Stream)) (c : ℕ) (x : Client) (bytes : List ℕ) (phase : Phase) → HoldsIn phase streams c x
@@ -138,7 +134,8 @@ holds_due streams c x bytes Closing h = (h.0, go x.due h.1)
 holds_due streams c x bytes Gone h = h
 
 pub due_owned : (s : State) (c : ℕ) (bytes : List ℕ) → IsOwned s → Owned s.joined (to_client c (with_due bytes) s).clients s.streams
-due_owned s c bytes h = owned_alike s.joined s.clients (to_client c (with_due bytes) s).clients s.streams (alike_change s.streams s.clients c (λ x. record x { due = x.due ++ bytes }) alike) h.owned
+due_owned s c bytes h = owned_alike s.joined s.clients (to_client c (with_due bytes) s).clients s.streams
+    (alike_change s.streams s.clients c (λ x. record x { due = x.due ++ bytes }) alike) h.owned
   where
     alike : (x : Client) → s.clients c ≡ Some x → Alike s.streams c x (record x { due = x.due ++ bytes })
     alike x is = record {
@@ -159,7 +156,8 @@ holds_held streams c x bytes Gone one h = absurd one
 
 pub held_owned : (s : State) (c : ℕ) (bytes : List ℕ) (client : Client) → s.clients c ≡ Some client → HasOne client.about.phase → IsOwned s
     → Owned s.joined (to_client c (with_held bytes) s).clients s.streams
-held_owned s c bytes client is has h = owned_alike s.joined s.clients (to_client c (with_held bytes) s).clients s.streams (alike_change s.streams s.clients c (λ x. record x { held = bytes }) alike) h.owned
+held_owned s c bytes client is has h = owned_alike s.joined s.clients (to_client c (with_held bytes) s).clients s.streams
+    (alike_change s.streams s.clients c (λ x. record x { held = bytes }) alike) h.owned
   where
     alike : (x : Client) → s.clients c ≡ Some x → Alike s.streams c x (record x { held = bytes })
     alike x e =
@@ -183,7 +181,8 @@ holds_about streams c x y Closing e h = (e.0 ∙ h.0, λ nil. h.1 (sym e.1 ∙ n
 holds_about streams c x y Gone e h = h
 
 pub unmark_owned : (s : State) (c : ℕ) → IsOwned s → Owned s.joined (to_client c unmarked s).clients s.streams
-unmark_owned s c h = owned_alike s.joined s.clients (to_client c unmarked s).clients s.streams (alike_change s.streams s.clients c (λ x. record x { about = record x.about { mark = false } }) alike) h.owned
+unmark_owned s c h = owned_alike s.joined s.clients (to_client c unmarked s).clients s.streams
+    (alike_change s.streams s.clients c (λ x. record x { about = record x.about { mark = false } }) alike) h.owned
   where
     alike : (x : Client) → s.clients c ≡ Some x → Alike s.streams c x (record x { about = record x.about { mark = false } })
     alike x is = record {
@@ -197,7 +196,8 @@ unmark_owned s c h = owned_alike s.joined s.clients (to_client c unmarked s).cli
     }
 
 pub ended_owned : (s : State) (c : ℕ) → IsOwned s → Owned s.joined (to_client c input_ended s).clients s.streams
-ended_owned s c h = owned_alike s.joined s.clients (to_client c input_ended s).clients s.streams (alike_change s.streams s.clients c (λ x. record x { about = record x.about { ended = true } }) alike) h.owned
+ended_owned s c h = owned_alike s.joined s.clients (to_client c input_ended s).clients s.streams
+    (alike_change s.streams s.clients c (λ x. record x { about = record x.about { ended = true } }) alike) h.owned
   where
     alike : (x : Client) → s.clients c ≡ Some x → Alike s.streams c x (record x { about = record x.about { ended = true } })
     alike x is = record {
@@ -248,7 +248,7 @@ flow_owned s l stream flow is like h = owned_stream s.joined s.clients s.streams
     alike x e =
         let same : stream ≡ x = (let both : Some stream ≡ Some x = sym is ∙ e in cc) in
         subst (λ (y : Stream). AlikeStream y (record y { part = with_flow flow stream.part })) same
-          (record { id = refl; client = refl; orphan = refl; remote = refl; left = like.left; sound = like.sound })
+        (record { id = refl; client = refl; orphan = refl; remote = refl; left = like.left; sound = like.sound })
 
 -- ---- a client and its stream
 pub record Together (s : State) (c l : ℕ) (client : Client) (stream : Stream) : Type 0 where
@@ -259,10 +259,12 @@ pub record Together (s : State) (c l : ℕ) (client : Client) (stream : Stream) 
   pub phase : client.about.phase ≡ phase_for l stream.part.remote
   pub accepted : to_hand stream.part.flow ≤ length client.due
 
-owner_of : (clients : Rows (Option Client)) (l : ℕ) (stream : Stream) → stream.part.orphan ≡ false → OwnerIn stream.part.orphan clients l stream → ClientOf clients l stream
+owner_of : (clients : Rows (Option Client)) (l : ℕ) (stream : Stream) → stream.part.orphan ≡ false → OwnerIn stream.part.orphan clients l stream
+    → ClientOf clients l stream
 owner_of clients l stream e h = subst (λ (b : Bool). OwnerIn b clients l stream) e h
 
-pub owner_to : (clients : Rows (Option Client)) (l : ℕ) (stream : Stream) → stream.part.orphan ≡ false → ClientOf clients l stream → OwnerIn stream.part.orphan clients l stream
+pub owner_to : (clients : Rows (Option Client)) (l : ℕ) (stream : Stream) → stream.part.orphan ≡ false → ClientOf clients l stream
+    → OwnerIn stream.part.orphan clients l stream
 owner_to clients l stream e h = subst (λ (b : Bool). OwnerIn b clients l stream) (sym e) h
 
 -- of a stream that is no orphan
@@ -276,7 +278,8 @@ together s l stream is owned h =
     record { here = of.is; there = is; of = refl; owned = owned; phase = of.phase; accepted = of.accepted }
 
 -- of a client that has a stream
-pub together_own : (s : State) (c l : ℕ) (client : Client) (own : StreamOf s.streams c l) → s.clients c ≡ Some client → IsOwned s → Together s c l client own.stream
+pub together_own : (s : State) (c l : ℕ) (client : Client) (own : StreamOf s.streams c l) → s.clients c ≡ Some client → IsOwned s
+    → Together s c l client own.stream
 together_own s c l client own is h =
     let of = client_of s l own.stream own.is own.owned h in
     let same : of.client ≡ client = (let both : Some of.client ≡ Some client = sym of.is ∙ (ap s.clients own.client ∙ is) in cc) in
@@ -339,6 +342,6 @@ module _ (s : State) (c l : ℕ) (client : Client) (stream : Stream) (t : Togeth
     only = only_stream;
     own = own_client;
     stream = λ y e. (let same : stream ≡ y = (let both : Some stream ≡ Some y = sym t.there ∙ e in cc) in
-      subst (λ (x : Stream). StreamIn s.joined (change_row c (option_and_then f) s.clients) l x) same kept);
+        subst (λ (x : Stream). StreamIn s.joined (change_row c (option_and_then f) s.clients) l x) same kept);
     client = λ y e. clients y (sym (changed_here c f s.clients client t.here) ∙ e);
   }) owned

@@ -1,36 +1,32 @@
 -- Clients and streams keep each other through every rule.
-use Rattle.std.proofs.Common.{◌≡◌, ◌≢◌, ℕ, ◌+◌, ◌-◌, ◌<◌, ◌≤◌, zero, suc, Bool, true, false, cond, List, [], ◌∷◌, ◌++◌, length, drop, Option, Some, None, refl, sym, ap, subst, ◌∙◌, arith, ◌⊎◌, inl, inr, eqb, length-append}
-use Rattle.std.specs.Prelude.{is_some, option_and_then, option_map, codes, nat_lt}
-use Rattle.std.proofs.lemmas.Bool.{eqb-true, eqb-false, eq-eqb, ne_eqb, cases_eq}
+use Rattle.std.proofs.Common.{◌≡◌, ◌≢◌, ℕ, ◌+◌, ◌≤◌, zero, suc, Bool, true, false, List, ◌++◌, length, drop, Option, Some, None, refl, sym, ap, subst}
+use Rattle.std.proofs.Common.{◌∙◌, arith, inl, length-append}
+use Rattle.std.specs.Prelude.{option_and_then}
+use Rattle.std.proofs.lemmas.Bool.{eq-eqb, ne_eqb}
 use Rattle.std.proofs.lemmas.Bool.Decides.{nat_tests}
-use Rattle.adb_outside.specs.Tables.{Rows, change_row, put_row}
-use Rattle.adb_registry.specs.Registry.{detached, changed}
+use Rattle.adb_outside.specs.Tables.{Rows, change_row}
 use Rattle.adb_stream.specs.Stream.{new_stream}
 use Rattle.adb_stream.specs.Flow.{new_flow}
-use Rattle.adb_stream.specs.Credit.{IsWhole}
-use Rattle.adb_stream.specs.declared.credit.TheConstants.{CREDIT_WINDOW, CREDIT_STEP}
 use Rattle.adb_stream.specs.declared.flow.Flow.{Flow}
 use Rattle.adb_stream.specs.declared.flow.Flow.TheVariants.{One, Credit}
 use Rattle.adb_stream.specs.declared.row.Part.{Part}
 use Rattle.adb_stream.specs.declared.row.Stream.{Stream}
 use Rattle.adb_client.specs.declared.phase.Phase.{Phase}
 use Rattle.adb_client.specs.declared.phase.Phase.TheVariants.{Asking, Opening, Streaming, Binding, Tracking, Closing, Gone}
-use Rattle.adb_reply.specs.Strings.{failed}
-use Rattle.adb_history.specs.Rows.{Client, Link, State, to_client, to_link, to_stream, none_kept, with_due, in_phase, with_stream_part}
-use Rattle.adb_history.specs.Events.{Made, Event, Ending, quietly, then_also, due_to_client, ended}
-use Rattle.adb_history.specs.Clients.{closing, closing_with, closes, closes_with}
-use Rattle.adb_history.specs.Streams.{draw, loses, client_loses, tells_end, ends_row, all_end}
+use Rattle.adb_history.specs.Rows.{Client, State, to_client, to_stream, none_kept, with_due, in_phase, with_stream_part}
+use Rattle.adb_history.specs.Clients.{closing, closes}
 use Rattle.adb_history.specs.Links.{is_credit}
 use Rattle.adb_history.specs.Flow.{with_flow}
-use Rattle.adb_history.specs.Losing.{stream_of, orphaned}
+use Rattle.adb_history.specs.Losing.{orphaned}
 use Rattle.adb_history.specs.Packets.{with_remote, first_credit, accepted, is_out_of_turn}
 use Rattle.adb_history.specs.Handing.{to_hand, hands, left_in}
-use Rattle.adb_history.specs.Orderly.{IsSoundFlow, IsDrawnOnly, phase_for}
-use Rattle.adb_history.specs.Moves.{After, IsFree, HasOne, IsLike, draws_now, open_now, accepts_now}
-use Rattle.adb_history.specs.Owned.{StreamOf, ClientOf, OwnerIn, StreamIn, HoldsIn, ClientIn, Owned, IsOwned, AllDrawn}
-use Rattle.adb_history.proofs.Following.{changed_here, changed_none, changed_other, after_quietly, after_then}
+use Rattle.adb_history.specs.Orderly.{IsSoundFlow, phase_for}
+use Rattle.adb_history.specs.Moves.{draws_now, open_now, accepts_now}
+use Rattle.adb_history.specs.Owned.{StreamOf, ClientOf, OwnerIn, StreamIn, HoldsIn, ClientIn, Owned, IsOwned}
+use Rattle.adb_history.proofs.Following.{changed_here, changed_other}
 use Rattle.adb_history.proofs.Owning.{IsOnly, Changes, owned_changes}
-use Rattle.adb_history.proofs.OwnedMoves.{joined_client, owned_client, closing_in, no_mark, closes_owned, due_owned, owner_to, client_of, together, together_own, together_at, Together, owned_both, owned_kept, free_only}
+use Rattle.adb_history.proofs.OwnedMoves.{joined_client, owned_client, closing_in, no_mark, owner_to, client_of, together, together_own, Together}
+use Rattle.adb_history.proofs.OwnedMoves.{owned_both, owned_kept}
 
 -- the phase of a client of a stream that is open, or is not
 open_phase : (l remote : ℕ) → remote ≢ 0 → phase_for l remote ≡ Streaming l
@@ -99,14 +95,14 @@ draws_owned s c t x is asking h = owned_changes s (draws_now c t s) c (s.drawn +
       streams = λ m apart. rw (ne_eqb (s.drawn + 1) m apart) refl;
       gone = λ within e. absurd (let clash : None ≡ Some x = sym e ∙ is in cc);
       only = λ z e. (let same : x ≡ z = (let both : Some x ≡ Some z = sym is ∙ e in cc) in
-        subst (λ (k : Client). IsOnly (s.drawn + 1) k.about.phase) same (subst (IsOnly (s.drawn + 1)) (sym asking) tt));
+          subst (λ (k : Client). IsOnly (s.drawn + 1) k.about.phase) same (subst (IsOnly (s.drawn + 1)) (sym asking) tt));
       own = λ z e. absurd (none z e);
       stream = λ y e. (let same : new_stream (s.drawn + 1) c t (new_flow (is_credit t s.devices)) ≡ y =
-        (let both : Some (new_stream (s.drawn + 1) c t (new_flow (is_credit t s.devices))) ≡ Some y = sym there ∙ e in cc) in
-        subst (λ (z : Stream). StreamIn s.joined (draws_now c t s).clients (s.drawn + 1) z) same stream);
+          (let both : Some (new_stream (s.drawn + 1) c t (new_flow (is_credit t s.devices))) ≡ Some y = sym there ∙ e in cc) in
+          subst (λ (z : Stream). StreamIn s.joined (draws_now c t s).clients (s.drawn + 1) z) same stream);
       client = λ y e. (let same : record x { about = record x.about { phase = Opening (s.drawn + 1) } } ≡ y =
-        (let both : Some (record x { about = record x.about { phase = Opening (s.drawn + 1) } }) ≡ Some y = sym here ∙ e in cc) in
-        subst (λ (z : Client). ClientIn (draws_now c t s).streams c z) same client);
+          (let both : Some (record x { about = record x.about { phase = Opening (s.drawn + 1) } }) ≡ Some y = sym here ∙ e in cc) in
+          subst (λ (z : Client). ClientIn (draws_now c t s).streams c z) same client);
     }
 
 -- ---- opens
@@ -147,7 +143,8 @@ opens_owned s l remote word stream is new h =
       accepted = omega (arith, of.accepted, hand_first word stream.part.flow);
     }
 
-    streams : (y : Stream) → with_stream_part part stream ≡ Some y → StreamIn s.joined (change_row stream.client (option_and_then (in_phase (Streaming l))) s.clients) l y
+    streams : (y : Stream) → with_stream_part part stream ≡ Some y
+        → StreamIn s.joined (change_row stream.client (option_and_then (in_phase (Streaming l))) s.clients) l y
     streams y e =
         let same : opened ≡ y = cc in
         subst (λ (z : Stream). StreamIn s.joined (change_row stream.client (option_and_then (in_phase (Streaming l))) s.clients) l z) same (record {
@@ -158,7 +155,8 @@ opens_owned s l remote word stream is new h =
           owner = owner_to (change_row stream.client (option_and_then (in_phase (Streaming l))) s.clients) l opened new.1 owner;
         })
 
-    clients : (y : Client) → in_phase (Streaming l) of.client ≡ Some y → ClientIn (change_row l (option_and_then (with_stream_part part)) s.streams) stream.client y
+    clients : (y : Client) → in_phase (Streaming l) of.client ≡ Some y
+        → ClientIn (change_row l (option_and_then (with_stream_part part)) s.streams) stream.client y
     clients y e =
         let same : client ≡ y = cc in
         let own = h.owned.client stream.client of.client of.is in
@@ -208,7 +206,8 @@ accepts_owned s l payload stream is may h =
     taken : Stream
     taken = record stream { part = part }
 
-    streams : (y : Stream) → with_stream_part part stream ≡ Some y → StreamIn s.joined (change_row stream.client (option_and_then (with_due payload)) s.clients) l y
+    streams : (y : Stream) → with_stream_part part stream ≡ Some y
+        → StreamIn s.joined (change_row stream.client (option_and_then (with_due payload)) s.clients) l y
     streams y e =
         let same : taken ≡ y = cc in
         subst (λ (z : Stream). StreamIn s.joined (change_row stream.client (option_and_then (with_due payload)) s.clients) l z) same (record {
@@ -233,7 +232,7 @@ accepts_owned s l payload stream is may h =
           number = own.number;
           mark = own.mark;
           holds = subst (λ (p : Phase). HoldsIn p (change_row l (option_and_then (with_stream_part part)) s.streams) stream.client client) (sym in_)
-            (record { stream = taken; is = changed_here l (with_stream_part part) s.streams stream is; client = refl; owned = owned });
+              (record { stream = taken; is = changed_here l (with_stream_part part) s.streams stream is; client = refl; owned = owned });
         })
 
 -- ---- ends
@@ -243,7 +242,7 @@ pub closed_owned : (s : State) (l : ℕ) (stream : Stream) → s.streams l ≡ S
 closed_owned s l stream is owned h =
     let of = client_of s l stream is owned h in
     owned_both s stream.client l of.client stream (together s l stream is owned h) closing none_kept h.owned (λ y e. absurd (none y e))
-      (λ y e. closing_in (to_stream l none_kept s).streams stream.client of.client.due of.client y (h.owned.client stream.client of.client of.is).number e)
+    (λ y e. closing_in (to_stream l none_kept s).streams stream.client of.client.due of.client y (h.owned.client stream.client of.client of.is).number e)
   where
     none : (y : Stream) → None ≡ Some y → ⊥
     none y e = cc
@@ -265,7 +264,8 @@ orphan_owned s l stream is orphan h = owned_changes s (to_stream l none_kept s) 
 -- both go
 pub fails_owned : (s : State) (c l : ℕ) (client : Client) (stream : Stream) → Together s c l client stream → IsOwned s
     → Owned s.joined (to_client c none_kept s).clients (to_stream l none_kept s).streams
-fails_owned s c l client stream t h = owned_both s c l client stream t none_kept none_kept h.owned (λ y e. absurd (stream_none y e)) (λ y e. absurd (client_none y e))
+fails_owned s c l client stream t h =
+    owned_both s c l client stream t none_kept none_kept h.owned (λ y e. absurd (stream_none y e)) (λ y e. absurd (client_none y e))
   where
     stream_none : (y : Stream) → None ≡ Some y → ⊥
     stream_none y e = cc
@@ -282,7 +282,8 @@ orphans_owned s c l client stream t asked h =
     client_none : (y : Client) → None ≡ Some y → ⊥
     client_none y e = cc
 
-    streams : (y : Stream) → with_stream_part (orphaned stream.part) stream ≡ Some y → StreamIn s.joined (change_row c (option_and_then none_kept) s.clients) l y
+    streams : (y : Stream) → with_stream_part (orphaned stream.part) stream ≡ Some y
+        → StreamIn s.joined (change_row c (option_and_then none_kept) s.clients) l y
     streams y e =
         let orphan : Stream = record stream { part = orphaned stream.part } in
         let same : orphan ≡ y = cc in
@@ -292,8 +293,10 @@ orphans_owned s c l client stream t asked h =
           from = was.from;
           sound = was.sound;
           fresh = was.fresh;
-          owner = (asked_phase client.about.phase l stream.part.remote asked t.phase,
-            ap (change_row c (option_and_then none_kept) s.clients) t.of ∙ changed_here c none_kept s.clients client t.here);
+          owner = (
+            asked_phase client.about.phase l stream.part.remote asked t.phase,
+            ap (change_row c (option_and_then none_kept) s.clients) t.of ∙ changed_here c none_kept s.clients client t.here,
+          );
         })
 
 -- ---- hands
@@ -360,7 +363,8 @@ hands_owned s c n x is fits h = go x.about.phase refl (h.owned.client c x is).ho
     go Binding e holds =
         free_less s c n x (is, subst (IsOnly 0) (sym e) tt) (at_phase Binding e) (to_phase Binding e (subst (λ (p : Phase). HoldsIn p s.streams c x) e holds)) h
     go Tracking e holds =
-        free_less s c n x (is, subst (IsOnly 0) (sym e) tt) (at_phase Tracking e) (to_phase Tracking e (subst (λ (p : Phase). HoldsIn p s.streams c x) e holds)) h
+        free_less s c n x (is, subst (IsOnly 0) (sym e) tt) (at_phase Tracking e)
+        (to_phase Tracking e (subst (λ (p : Phase). HoldsIn p s.streams c x) e holds)) h
     go (Opening l) e holds =
         let own : StreamOf s.streams c l = subst (λ (p : Phase). HoldsIn p s.streams c x) e holds in
         let t = together_own s c l x own is h in
@@ -371,5 +375,5 @@ hands_owned s c n x is fits h = go x.about.phase refl (h.owned.client c x is).ho
         less_owned s c n l x own.stream (together_own s c l x own is h) (at_phase (Streaming l) e) (fits l own.stream e own.is, to_phase (Streaming l) e own) h
     go Closing e holds =
         owned_client s c (hands n) x h (is, subst (IsOnly 0) (sym e) tt)
-          (λ y f. closing_in s.streams c (drop n x.due) less y (h.owned.client c x is).number (sym (at_phase Closing e) ∙ f))
+        (λ y f. closing_in s.streams c (drop n x.due) less y (h.owned.client c x is).number (sym (at_phase Closing e) ∙ f))
     go Gone e holds = absurd (subst (λ (p : Phase). HoldsIn p s.streams c x) e holds)

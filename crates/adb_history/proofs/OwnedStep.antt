@@ -1,10 +1,9 @@
 -- In every state that a legal history leaves, clients and streams keep each other.
-use Rattle.std.proofs.Common.{◌≡◌, ◌≢◌, ℕ, ◌+◌, ◌<◌, ◌≤◌, zero, suc, Bool, true, false, cond, List, [], ◌∷◌, ◌++◌, length, Option, Some, None, refl, sym, ap, subst, ◌∙◌, arith, ◌⊎◌, inl, inr, eqb}
-use Rattle.std.specs.Prelude.{option_and_then, option_map, codes}
+use Rattle.std.proofs.Common.{◌≡◌, ℕ, ◌+◌, zero, suc, Bool, true, false, cond, List, [], ◌∷◌, Option, Some, None, refl, sym, ap, subst, ◌∙◌, arith, eqb}
+use Rattle.std.specs.Prelude.{codes}
 use Rattle.std.proofs.lemmas.Bool.{eqb-true, eq-eqb, ne_eqb}
-use Rattle.adb_outside.specs.Tables.{Rows, change_row, put_row}
+use Rattle.adb_outside.specs.Tables.{Rows}
 use Rattle.adb_outside.specs.declared.identity.Identity.{Identity}
-use Rattle.adb_registry.specs.Registry.{detached}
 use Rattle.adb_stream.specs.declared.row.Stream.{Stream}
 use Rattle.adb_client.specs.declared.phase.Phase.{Phase}
 use Rattle.adb_client.specs.declared.phase.Phase.TheVariants.{Asking, Opening, Streaming, Binding, Tracking, Closing, Gone}
@@ -12,27 +11,25 @@ use Rattle.adb_capture.specs.declared.entry.Entry.{Entry}
 use Rattle.adb_capture.specs.declared.entry.Entry.TheVariants.{Join, Enter, Read, End, Bound, Attach, Recv, Detach, Put, Send}
 use Rattle.adb_reply.specs.Strings.{failed}
 use Rattle.adb_history.specs.Rows.{Client, State, start, new_client, to_client, to_stream, none_kept, with_due}
-use Rattle.adb_history.specs.Events.{Made, Event, Ending, quietly, then_also, lost}
-use Rattle.adb_history.specs.Clients.{closing, closes}
+use Rattle.adb_history.specs.Events.{Event, Ending, lost}
 use Rattle.adb_history.specs.Streams.{loses, client_loses, tells_end, ends_row, all_end}
 use Rattle.adb_history.specs.Links.{is_connected}
 use Rattle.adb_history.specs.Tracking.{mark_all}
-use Rattle.adb_history.specs.Forwarding.{forwards_without}
 use Rattle.adb_history.specs.Losing.{forgets, link_ends, only_client, stops}
-use Rattle.adb_history.specs.Packets.{streams_end_first, goes_online}
+use Rattle.adb_history.specs.Packets.{streams_end_first}
 use Rattle.adb_history.specs.Asking.{Asked, asks_with}
-use Rattle.adb_history.specs.Reading.{comes, comes_in_vain, has_asked, asked_before}
-use Rattle.adb_history.specs.Machine.{History, state, step, May, IsLegal}
+use Rattle.adb_history.specs.Reading.{comes, has_asked, asked_before}
+use Rattle.adb_history.specs.Machine.{History, state, May, IsLegal}
 use Rattle.adb_history.specs.Orderly.{phase_for}
 use Rattle.adb_history.specs.Moves.{After, Moves, connects_now}
-use Rattle.adb_history.specs.Owned.{StreamOf, ClientOf, OwnerIn, StreamIn, HoldsIn, ClientIn, Owned, IsOwned, AllDrawn}
-use Rattle.adb_history.proofs.Following.{changed_here, changed_other, after_quietly, after_then}
+use Rattle.adb_history.specs.Owned.{OwnerIn, HoldsIn, ClientIn, Owned, IsOwned, AllDrawn}
 use Rattle.adb_history.proofs.StreamMoves.{all_end_kept}
 use Rattle.adb_history.proofs.PlainMoves.{plain_moves, stopped_state}
 use Rattle.adb_history.proofs.RuleMoves.{Begins, step_kept}
 use Rattle.adb_history.proofs.Numbers.{drawn_plain, begins_drawn, start_drawn}
-use Rattle.adb_history.proofs.Owning.{Alike, owned_alike, alike_change, IsOnly, Changes, owned_changes}
-use Rattle.adb_history.proofs.OwnedMoves.{free_only, closes_owned, tracks_owned, awaits_owned, drops_owned, due_owned, held_owned, unmark_owned, ended_owned, marks_owned, flow_owned, client_of, together_at}
+use Rattle.adb_history.proofs.Owning.{Alike, owned_alike, alike_change, IsOnly, owned_changes}
+use Rattle.adb_history.proofs.OwnedMoves.{free_only, closes_owned, tracks_owned, awaits_owned, drops_owned, due_owned, held_owned, unmark_owned}
+use Rattle.adb_history.proofs.OwnedMoves.{ended_owned, marks_owned, flow_owned, client_of, together_at}
 use Rattle.adb_history.proofs.OwnedRules.{draws_owned, opens_owned, accepts_owned, closed_owned, orphan_owned, fails_owned, orphans_owned, hands_owned}
 
 -- what the moves keep of the numbers
@@ -59,7 +56,8 @@ loses_owned true (Opening k) s l stream is owned e h = closed_owned s l stream i
 loses_owned false (Opening k) s l stream is owned e h =
     let reply : List ℕ = (failed (codes "closed")).bytes in
     let told : State = to_client stream.client (with_due reply) s in
-    closed_owned told l stream is owned (record { rows = drawn_plain.client stream.client (with_due reply) s [] h.rows; owned = due_owned s stream.client reply h })
+    closed_owned told l stream is owned
+    (record { rows = drawn_plain.client stream.client (with_due reply) s [] h.rows; owned = due_owned s stream.client reply h })
 loses_owned true Asking s l stream is owned e h = absurd (no_other l stream.part.remote Asking tt e)
 loses_owned true Binding s l stream is owned e h = absurd (no_other l stream.part.remote Binding tt e)
 loses_owned true Tracking s l stream is owned e h = absurd (no_other l stream.part.remote Tracking tt e)
@@ -72,7 +70,8 @@ loses_owned false Closing s l stream is owned e h = absurd (no_other l stream.pa
 loses_owned false Gone s l stream is owned e h = absurd (no_other l stream.part.remote Gone tt e)
 
 -- the state after a client lost its stream is the one before, but for its clients
-loses_frame : (forwarded : Bool) (phase : Phase) (c : ℕ) (s : State) → (loses forwarded phase c s).state ≡ record s { clients = (loses forwarded phase c s).state.clients }
+loses_frame : (forwarded : Bool) (phase : Phase) (c : ℕ) (s : State)
+    → (loses forwarded phase c s).state ≡ record s { clients = (loses forwarded phase c s).state.clients }
 loses_frame true (Streaming l) c s = refl
 loses_frame false (Streaming l) c s = refl
 loses_frame true (Opening l) c s = refl
@@ -105,8 +104,9 @@ ends_state l ending stream s =
 ends_owned : (s : State) (l : ℕ) (ending : Ending) (stream : Stream) → s.streams l ≡ Some stream → IsOwned s → IsOwned (ends_row l ending stream s).state
 ends_owned s l ending stream is h = record {
   rows = rows.ends l ending stream s [] is h.rows;
-  owned = subst (λ (x : State). Owned x.joined x.clients x.streams) (sym (ends_state l ending stream s ∙ client_loses_frame (s.clients stream.client) stream.client gone))
-    (go stream.part.orphan refl);
+  owned = subst (λ (x : State). Owned x.joined x.clients x.streams)
+      (sym (ends_state l ending stream s ∙ client_loses_frame (s.clients stream.client) stream.client gone))
+      (go stream.part.orphan refl);
 }
   where
     gone : State
@@ -117,16 +117,17 @@ ends_owned s l ending stream is h = record {
     go true orphan =
         let owner : OwnerIn true s.clients l stream = subst (λ (b : Bool). OwnerIn b s.clients l stream) orphan (h.owned.stream l stream is).owner in
         subst (λ (o : Option Client). Owned s.joined (client_loses o stream.client (to_stream l none_kept s)).state.clients (to_stream l none_kept s).streams)
-          (sym owner.1) (orphan_owned s l stream is orphan h)
+        (sym owner.1) (orphan_owned s l stream is orphan h)
     go false owned =
         let of = client_of s l stream is owned h in
         subst (λ (o : Option Client). Owned s.joined (client_loses o stream.client (to_stream l none_kept s)).state.clients (to_stream l none_kept s).streams)
-          (sym of.is) (loses_owned of.client.about.forwarded of.client.about.phase s l stream is owned of.phase h)
+        (sym of.is) (loses_owned of.client.about.forwarded of.client.about.phase s l stream is owned of.phase h)
 
 marked_owned : (s : State) → IsOwned s → IsOwned (mark_all s)
 marked_owned s h = record { rows = drawn_plain.marks s [] h.rows; owned = marks_owned s.joined s.clients s.streams h.owned }
 
-ends_kept : (l : ℕ) (ending : Ending) (stream : Stream) (s : State) (w : List Event) → s.streams l ≡ Some stream → IsOwned s → After (λ s w. IsOwned s) w (ends_row l ending stream s)
+ends_kept : (l : ℕ) (ending : Ending) (stream : Stream) (s : State) (w : List Event) → s.streams l ≡ Some stream → IsOwned s
+    → After (λ s w. IsOwned s) w (ends_row l ending stream s)
 ends_kept l ending stream s w is h = ends_owned s l ending stream is h
 
 link_ends_owned : (t : ℕ) (ending : Ending) (s : State) → IsOwned s → IsOwned (link_ends t ending s).state
@@ -192,18 +193,23 @@ owned_moves = record {
   draws = λ c t x s w is asking ready h. record { rows = rows.draws c t x s w is asking ready h.rows; owned = draws_owned s c t x is asking h };
   flows = λ l stream flow s w is like h. record { rows = rows.flows l stream flow s w is like h.rows; owned = flow_owned s l stream flow is like h };
   accepts = λ l payload stream s w is known turn h.
-    record { rows = rows.accepts l payload stream s w is known turn h.rows; owned = accepts_owned s l payload stream is (known, turn) h };
-  opens = λ l remote word stream s w is new h. record { rows = rows.opens l remote word stream s w is new h.rows; owned = opens_owned s l remote word stream is new h };
+      record { rows = rows.accepts l payload stream s w is known turn h.rows; owned = accepts_owned s l payload stream is (known, turn) h };
+  opens = λ l remote word stream s w is new h.
+      record {
+        rows = rows.opens l remote word stream s w is new h.rows;
+        owned = opens_owned s l remote word stream is new h;
+      };
   orphan_goes = λ l stream s w is orphan h. record { rows = rows.orphan_goes l stream s w is orphan h.rows; owned = orphan_owned s l stream is orphan h };
   ends = λ l ending stream s w is h. ends_owned s l ending stream is h;
   fails_open = λ c l x stream s w is in_ at_l h. record {
     rows = rows.fails_open c l x stream s w is in_ at_l h.rows;
-    owned = fails_owned s c l x stream (together_at s c l x stream (subst (λ (p : Phase). HoldsIn p s.streams c x) in_ (h.owned.client c x is).holds) (is, at_l) h) h;
+    owned =
+        fails_owned s c l x stream (together_at s c l x stream (subst (λ (p : Phase). HoldsIn p s.streams c x) in_ (h.owned.client c x is).holds) (is, at_l) h) h;
   };
   fails_asked = λ c l x stream s w is in_ at_l h. record {
     rows = rows.fails_asked c l x stream s w is in_ at_l h.rows;
     owned = orphans_owned s c l x stream
-      (together_at s c l x stream (subst (λ (p : Phase). HoldsIn p s.streams c x) in_ (h.owned.client c x is).holds) (is, at_l) h) in_ h;
+        (together_at s c l x stream (subst (λ (p : Phase). HoldsIn p s.streams c x) in_ (h.owned.client c x is).holds) (is, at_l) h) in_ h;
   };
   links = λ t f s w h. record { rows = rows.links t f s w h.rows; owned = h.owned };
   link_ends = λ t ending s w h. link_ends_owned t ending s h;
@@ -230,20 +236,21 @@ comes_owned forwarded c s next h = owned_changes s (comes forwarded c s) c 0 (re
   own = λ x e. absurd (let clash : None ≡ Some x = sym h.rows.streams.zero ∙ e in cc);
   stream = λ y e. absurd (let clash : None ≡ Some y = sym h.rows.streams.zero ∙ e in cc);
   client = λ y e. (let is : (comes forwarded c s).clients c ≡ Some (new_client forwarded c) = rw (eq-eqb c c refl) refl in
-    let same : new_client forwarded c ≡ y = (let both : Some (new_client forwarded c) ≡ Some y = sym is ∙ e in cc) in
-    subst (λ (z : Client). ClientIn s.streams c z) same (new_in forwarded c s.streams));
+      let same : new_client forwarded c ≡ y = (let both : Some (new_client forwarded c) ≡ Some y = sym is ∙ e in cc) in
+      subst (λ (z : Client). ClientIn s.streams c z) same (new_in forwarded c s.streams));
 }) h.owned
 
 vain_owned : (s : State) → IsOwned s → Owned (s.joined + 1) s.clients s.streams
 vain_owned s h = record {
   stream = λ l x is. (let was = h.owned.stream l x is in
-    record { id = was.id; from = omega (arith, was.from); sound = was.sound; fresh = was.fresh; owner = was.owner });
+      record { id = was.id; from = omega (arith, was.from); sound = was.sound; fresh = was.fresh; owner = was.owner });
   client = h.owned.client;
 }
 
 asked_owned : (q : Asked) (c : ℕ) (s : State) (client : Client) → s.clients c ≡ Some client → client.about.phase ≡ Asking → IsOwned s
     → Owned s.joined (to_client c (has_asked q) s).clients s.streams
-asked_owned q c s client is asking h = owned_alike s.joined s.clients (to_client c (has_asked q) s).clients s.streams (alike_change s.streams s.clients c (λ x. record x { about = record x.about { selected = q.selected }; held = q.rest }) alike) h.owned
+asked_owned q c s client is asking h = owned_alike s.joined s.clients (to_client c (has_asked q) s).clients s.streams
+    (alike_change s.streams s.clients c (λ x. record x { about = record x.about { selected = q.selected }; held = q.rest }) alike) h.owned
   where
     alike : (x : Client) → s.clients c ≡ Some x → Alike s.streams c x (record x { about = record x.about { selected = q.selected }; held = q.rest })
     alike x e =
@@ -264,11 +271,15 @@ begins_owned (Join c) s w may h = record { rows = begins_drawn (Join c) s may h.
 begins_owned (Enter c port) s w may h =
     let b = begins_drawn (Enter c port) s may h.rows in
     (record { rows = b.0; owned = comes_owned true c s may.1 h }, record { rows = b.1; owned = vain_owned s h })
-begins_owned (Attach t kind serial) s w may h = record { rows = begins_drawn (Attach t kind serial) s may h.rows; owned = marks_owned s.joined s.clients s.streams h.owned }
-begins_owned (Read c bytes) s w may h = (h, λ client is asking. record {
-  rows = (begins_drawn (Read c bytes) s may h.rows).1 client is asking;
-  owned = asked_owned (asks_with s.devices s.forwards bytes (asked_before client)) c s client is asking h;
-})
+begins_owned (Attach t kind serial) s w may h =
+    record { rows = begins_drawn (Attach t kind serial) s may h.rows; owned = marks_owned s.joined s.clients s.streams h.owned }
+begins_owned (Read c bytes) s w may h = (
+  h,
+  λ client is asking. record {
+    rows = (begins_drawn (Read c bytes) s may h.rows).1 client is asking;
+    owned = asked_owned (asks_with s.devices s.forwards bytes (asked_before client)) c s client is asking h;
+  },
+)
 begins_owned (End c cause) s w may h = h
 begins_owned (Bound c port) s w may h = h
 begins_owned (Recv t bytes) s w may h = h

@@ -1,7 +1,8 @@
 -- Clients and streams keep each other through a change of either, or of both.
-use Rattle.std.proofs.Common.{◌≡◌, ◌≢◌, ℕ, ◌+◌, ◌<◌, ◌≤◌, zero, suc, Bool, true, false, cond, List, [], ◌∷◌, ◌++◌, length, Option, Some, None, refl, sym, ap, subst, ◌∙◌, arith, ◌⊎◌, inl, inr, eqb}
-use Rattle.std.specs.Prelude.{is_some, option_and_then, option_map}
-use Rattle.std.proofs.lemmas.Bool.{eqb-true, eqb-false, cases_eq}
+use Rattle.std.proofs.Common.{◌≡◌, ◌≢◌, ℕ, ◌≤◌, zero, suc, Bool, true, false, cond, length, Option, Some, None, refl, sym, ap, subst, ◌∙◌, arith, ◌⊎◌}
+use Rattle.std.proofs.Common.{inl, inr, eqb}
+use Rattle.std.specs.Prelude.{option_and_then}
+use Rattle.std.proofs.lemmas.Bool.{eqb-true, cases_eq}
 use Rattle.adb_outside.specs.Tables.{Rows, change_row}
 use Rattle.adb_stream.specs.declared.row.Stream.{Stream}
 use Rattle.adb_client.specs.declared.phase.Phase.{Phase}
@@ -61,8 +62,8 @@ pub owned_alike : (joined : ℕ) (old new : Rows (Option Client)) (streams : Row
     → ((c : ℕ) → AlikeAt streams c (old c) (new c)) → Owned joined old streams → Owned joined new streams
 owned_alike joined old new streams alike owned = record {
   stream = λ l x is.
-    let was = owned.stream l x is in
-    record { id = was.id; from = was.from; sound = was.sound; fresh = was.fresh; owner = owner_alike old new streams x.part.orphan l x alike was.owner };
+      let was = owned.stream l x is in
+      record { id = was.id; from = was.from; sound = was.sound; fresh = was.fresh; owner = owner_alike old new streams x.part.orphan l x alike was.owner };
   client = λ c y is. go c y (old c) (new c) refl is (alike c);
 }
   where
@@ -98,7 +99,8 @@ pub record AlikeStream (before after : Stream) : Type 0 where
   pub left : to_hand after.part.flow ≤ to_hand before.part.flow
   pub sound : IsSoundFlow before.part.flow → IsSoundFlow after.part.flow
 
-alike_owner : (clients : Rows (Option Client)) (orphan : Bool) (l : ℕ) (x y : Stream) → AlikeStream x y → OwnerIn orphan clients l x → OwnerIn orphan clients l y
+alike_owner : (clients : Rows (Option Client)) (orphan : Bool) (l : ℕ) (x y : Stream) → AlikeStream x y → OwnerIn orphan clients l x
+    → OwnerIn orphan clients l y
 alike_owner clients true l x y a owner = (a.remote ∙ owner.0, ap clients a.client ∙ owner.1)
 alike_owner clients false l x y a owner = record {
   client = owner.client;
@@ -114,8 +116,8 @@ pub owned_stream : (joined : ℕ) (clients : Rows (Option Client)) (streams : Ro
 owned_stream joined clients streams l f alike owned = record {
   stream = λ m y is. stream m y (eqb l m) refl (streams m) refl is;
   client = λ c x is.
-    let was = owned.client c x is in
-    record { number = was.number; mark = was.mark; holds = holds_map streams new x.about.phase c x (λ m h. own c m h) was.holds };
+      let was = owned.client c x is in
+      record { number = was.number; mark = was.mark; holds = holds_map streams new x.about.phase c x (λ m h. own c m h) was.holds };
 }
   where
     new : Rows (Option Stream)
@@ -137,7 +139,7 @@ owned_stream joined clients streams l f alike owned = record {
     stream m y true e (Some x) is g =
         let same : f x ≡ y = cc in
         subst (λ (k : Stream). StreamIn joined clients m k) same
-          (moved m x (f x) (alike x (ap streams (eqb-true l m e) ∙ is)) (owned.stream m x is))
+        (moved m x (f x) (alike x (ap streams (eqb-true l m e) ∙ is)) (owned.stream m x is))
 
     own : (c m : ℕ) → StreamOf streams c m → StreamOf (change_row l (option_and_then (λ x. Some (f x))) streams) c m
     own c m h = go (eqb l m) refl
@@ -217,4 +219,9 @@ module _ (old new : State) (c l : ℕ) (h : Changes old new c l) where
       client k y is (inl same) = subst (λ (n : ℕ). ClientIn new.streams n y) same (h.client y (ap new.clients same ∙ is))
       client k y is (inr apart) =
           let was = owned.client k y (sym (h.clients k apart) ∙ is) in
-          record { number = was.number; mark = was.mark; holds = holds_map old.streams new.streams y.about.phase k y (λ m own. others_own k m apart own) was.holds }
+          record {
+            number = was.number;
+            mark = was.mark;
+            holds = holds_map old.streams new.streams y.about.phase k y
+                (λ m own. others_own k m apart own) was.holds;
+          }

@@ -1,5 +1,6 @@
 -- What each move keeps, the packets of a device keep.
-use Rattle.std.proofs.Common.{◌≡◌, ◌≢◌, ℕ, ◌+◌, ◌≤◌, zero, suc, Bool, true, false, cond, not, ◌&&◌, ◌||◌, List, [], ◌∷◌, ◌++◌, length, min, Option, Some, None, refl, sym, ap, subst, ◌∙◌, arith, ◌⊎◌, inl, inr, eqb}
+use Rattle.std.proofs.Common.{◌≡◌, ◌≢◌, ℕ, Bool, true, false, cond, not, ◌||◌, List, [], ◌∷◌, ◌++◌, length, Option, Some, None, refl, ap, subst, ◌∙◌}
+use Rattle.std.proofs.Common.{arith, inl, inr, eqb}
 use Rattle.std.specs.Prelude.{codes, is_some, nat_eq, nat_lt}
 use Rattle.std.proofs.lemmas.Bool.{eqb-true, eqb-false}
 use Rattle.adb_outside.specs.Tables.{at}
@@ -18,16 +19,19 @@ use Rattle.adb_wire.specs.declared.format.PacketFormat.{PacketFormat}
 use Rattle.adb_stream.specs.declared.flow.Flow.{Flow}
 use Rattle.adb_stream.specs.declared.flow.Flow.TheVariants.{One, Credit}
 use Rattle.adb_stream.specs.declared.row.Stream.{Stream}
-use Rattle.adb_history.specs.Rows.{Client, Link, State, to_client, to_link, to_stream, none_kept, with_stream_part}
-use Rattle.adb_history.specs.Events.{Made, Event, quietly, then_also, peer_closed, out_of_turn, broken}
+use Rattle.adb_history.specs.Rows.{Client, Link, State, to_link, to_stream, with_stream_part}
+use Rattle.adb_history.specs.Events.{Made, Event, quietly, peer_closed, out_of_turn, broken}
 use Rattle.adb_history.specs.Links.{close_packet, okay_packet, credit_word, owe_link, is_connected}
 use Rattle.adb_history.specs.Clients.{owe_client}
 use Rattle.adb_history.specs.Streams.{ends_row, ends_telling}
 use Rattle.adb_history.specs.Flow.{with_flow}
 use Rattle.adb_history.specs.Losing.{link_ends}
-use Rattle.adb_history.specs.Packets.{least_version, least_maxdata, connects, cnxn, unauthorized_from, unauthorized, refuses_open, at_stream, hears_okay, opened, orphan_opened, acknowledged, okay_open, okay_first, takes_okay, is_out_of_turn, accepts_none, accepts, takes_write, takes_close, treat_open, treat_any, treat_on, treat, treat_all, faulty_on, faulty, with_rest, receives_cut, receives_on, receives}
-use Rattle.adb_history.specs.Moves.{After, Moves, IsOfStream, IsLike, open_now, connects_now}
-use Rattle.adb_history.proofs.Following.{after_quietly, after_then, after_if, changed_here}
+use Rattle.adb_history.specs.Packets.{least_version, least_maxdata, connects, cnxn, unauthorized_from, unauthorized, refuses_open, at_stream}
+use Rattle.adb_history.specs.Packets.{hears_okay, opened, orphan_opened, acknowledged, okay_open, okay_first, takes_okay, is_out_of_turn}
+use Rattle.adb_history.specs.Packets.{accepts_none, accepts, takes_write, takes_close, treat_open, treat_any, treat_on, treat, treat_all, faulty_on}
+use Rattle.adb_history.specs.Packets.{faulty, with_rest, receives_cut, receives_on, receives}
+use Rattle.adb_history.specs.Moves.{After, Moves, IsLike, open_now}
+use Rattle.adb_history.proofs.Following.{after_quietly, after_then, after_if}
 use Rattle.adb_history.proofs.StreamMoves.{owes_kept, ends_telling_kept}
 
 like_acknowledged : (word : Option ℕ) (flow : Flow) → IsLike flow (acknowledged word flow)
@@ -61,7 +65,7 @@ module _ {P : State → List Event → Type 0} (k : Moves P) where
   cnxn_kept : (t version maxdata : ℕ) (banner : List ℕ) (s : State) (w : List Event) → P s w → After P w (cnxn t version maxdata banner s)
   cnxn_kept t version maxdata banner s w h =
       after_if P w (nat_lt version least_version || nat_lt maxdata least_maxdata) (link_ends t broken s) (connects t version maxdata (identity_of banner) s)
-        (λ e. k.link_ends t broken s w h) (λ e. connects_kept t version maxdata (identity_of banner) s w h)
+      (λ e. k.link_ends t broken s w h) (λ e. connects_kept t version maxdata (identity_of banner) s w h)
 
   unauthorized_kept : (t : ℕ) (o : Option Row) (s : State) (w : List Event) → at t s.devices.rows ≡ o → P s w → After P w (unauthorized t o s)
   unauthorized_kept t None s w is h = after_quietly P w s h
@@ -81,7 +85,7 @@ module _ {P : State → List Event → Type 0} (k : Moves P) where
   refuses_kept : (t id : ℕ) (s : State) (w : List Event) → P s w → After P w (refuses_open t id s)
   refuses_kept t id s w h =
       after_if P w (eqb id 0) (quietly s) (owe_link t (close_packet 0 id) s) (λ e. after_quietly P w s h)
-        (λ e. owes_kept k t (close_packet 0 id) s w (inl refl) h)
+      (λ e. owes_kept k t (close_packet 0 id) s w (inl refl) h)
 
   at_stream_kept : (t l : ℕ) (o : Option Stream) (rule : Stream → State → Made) (s : State) (w : List Event) → s.streams l ≡ o
       → ((stream : Stream) → s.streams l ≡ Some stream → After P w (rule stream s)) → P s w → After P w (at_stream t o rule s)
@@ -100,8 +104,8 @@ module _ {P : State → List Event → Type 0} (k : Moves P) where
   opened_kept l remote word stream s w is new h =
       let heard : Made = hears_okay (s.clients stream.client) stream.client s in
       after_then P w heard (λ s. quietly (open_now l remote word stream s)) (hears_kept (s.clients stream.client) stream.client s w h)
-        (λ v now. after_quietly P v (open_now l remote word stream heard.state)
-          (k.opens l remote word stream heard.state v (ap (λ streams. streams l) (hears_streams (s.clients stream.client) stream.client s) ∙ is) new now))
+      (λ v now. after_quietly P v (open_now l remote word stream heard.state)
+      (k.opens l remote word stream heard.state v (ap (λ streams. streams l) (hears_streams (s.clients stream.client) stream.client s) ∙ is) new now))
 
   orphan_kept : (l remote : ℕ) (stream : Stream) (s : State) (w : List Event) → s.streams l ≡ Some stream → stream.part.orphan ≡ true
       → P s w → After P w (orphan_opened l remote stream s)
@@ -119,7 +123,8 @@ module _ {P : State → List Event → Type 0} (k : Moves P) where
       → P s w → After P w (okay_open l word stream s)
   okay_open_kept l word stream s w is h =
       let flow : Flow = acknowledged word stream.part.flow in
-      after_quietly P w (to_stream l (with_stream_part (with_flow flow stream.part)) s) (k.flows l stream flow s w is (like_acknowledged word stream.part.flow) h)
+      after_quietly P w (to_stream l (with_stream_part (with_flow flow stream.part)) s)
+      (k.flows l stream flow s w is (like_acknowledged word stream.part.flow) h)
 
   okay_kept : (l remote : ℕ) (word : Option ℕ) (stream : Stream) (s : State) (w : List Event) → s.streams l ≡ Some stream
       → P s w → After P w (takes_okay l remote word stream s)
@@ -128,9 +133,9 @@ module _ {P : State → List Event → Type 0} (k : Moves P) where
       let open_again : Made = okay_open l word stream s in
       let later : Made = cond (eqb remote stream.part.remote) open_again (quietly s) in
       after_if P w (eqb remote 0) (quietly s) (cond (eqb stream.part.remote 0) first later) (λ e. after_quietly P w s h)
-        (λ some. after_if P w (eqb stream.part.remote 0) first later
-          (λ e. first_kept stream.part.orphan l remote word stream s w is (eqb-true stream.part.remote 0 e, refl, eqb-false remote 0 some) h)
-          (λ e. after_if P w (eqb remote stream.part.remote) open_again (quietly s) (λ e. okay_open_kept l word stream s w is h) (λ e. after_quietly P w s h)))
+      (λ some. after_if P w (eqb stream.part.remote 0) first later
+      (λ e. first_kept stream.part.orphan l remote word stream s w is (eqb-true stream.part.remote 0 e, refl, eqb-false remote 0 some) h)
+      (λ e. after_if P w (eqb remote stream.part.remote) open_again (quietly s) (λ e. okay_open_kept l word stream s w is h) (λ e. after_quietly P w s h)))
 
   -- ---- WRTE
   accepts_none_kept : (flow : Flow) (l : ℕ) (stream : Stream) (s : State) (w : List Event) → s.streams l ≡ Some stream
@@ -150,24 +155,24 @@ module _ {P : State → List Event → Type 0} (k : Moves P) where
       let taken : Made = accepts l payload stream s in
       let out : Bool = is_out_of_turn stream.part.flow (length payload) in
       after_if P w (eqb remote 0 || not (eqb remote stream.part.remote)) (quietly s) (cond out late taken) (λ e. after_quietly P w s h)
-        (λ known. after_if P w out late taken (λ e. ends_telling_kept k l out_of_turn stream s w is h)
-          (λ turn. accepts_kept l payload stream s w is (written_to remote stream.part.remote known) turn h))
+      (λ known. after_if P w out late taken (λ e. ends_telling_kept k l out_of_turn stream s w is h)
+      (λ turn. accepts_kept l payload stream s w is (written_to remote stream.part.remote known) turn h))
 
   -- ---- CLSE
   close_kept : (l remote : ℕ) (stream : Stream) (s : State) (w : List Event) → s.streams l ≡ Some stream → P s w → After P w (takes_close l remote stream s)
   close_kept l remote stream s w is h =
       after_if P w (eqb remote 0 || eqb remote stream.part.remote) (ends_row l peer_closed stream s) (quietly s) (λ e. k.ends l peer_closed stream s w is h)
-        (λ e. after_quietly P w s h)
+      (λ e. after_quietly P w s h)
 
   -- ---- one packet
   treat_open_kept : (t : ℕ) (command : Command) (p : Packet) (s : State) (w : List Event) → P s w → After P w (treat_open t command p s)
   treat_open_kept t Open p s w h = refuses_kept t p.arg0 s w h
   treat_open_kept t Okay p s w h =
       at_stream_kept t p.arg1 (s.streams p.arg1) (takes_okay p.arg1 p.arg0 (credit_word p.payload)) s w refl
-        (λ stream is. okay_kept p.arg1 p.arg0 (credit_word p.payload) stream s w is h) h
+      (λ stream is. okay_kept p.arg1 p.arg0 (credit_word p.payload) stream s w is h) h
   treat_open_kept t Wrte p s w h =
       at_stream_kept t p.arg1 (s.streams p.arg1) (takes_write p.arg1 p.arg0 p.payload) s w refl
-        (λ stream is. write_kept p.arg1 p.arg0 p.payload stream s w is h) h
+      (λ stream is. write_kept p.arg1 p.arg0 p.payload stream s w is h) h
   treat_open_kept t Clse p s w h =
       at_stream_kept t p.arg1 (s.streams p.arg1) (takes_close p.arg1 p.arg0) s w refl (λ stream is. close_kept p.arg1 p.arg0 stream s w is h) h
   treat_open_kept t Cnxn p s w h = after_quietly P w s h
@@ -207,7 +212,7 @@ module _ {P : State → List Event → Type 0} (k : Moves P) where
   receives_cut_kept t c s w h =
       let taken : State = to_link t (with_rest c.rest) s in
       after_then P w (treat_all t c.given taken) (faulty t c.fault) (treat_all_kept t c.given taken w (k.links t (λ link. record link { rest = c.rest }) s w h))
-        (λ v now. faulty_kept ((treat_all t c.given taken).state.links t) t c.fault (treat_all t c.given taken).state v now)
+      (λ v now. faulty_kept ((treat_all t c.given taken).state.links t) t c.fault (treat_all t c.given taken).state v now)
 
   receives_on_kept : (o : Option Link) (t : ℕ) (bytes : List ℕ) (s : State) (w : List Event) → P s w → After P w (receives_on o t bytes s)
   receives_on_kept None t bytes s w h = after_quietly P w s h

@@ -1,12 +1,9 @@
 -- What each change of a row keeps, each move keeps.
-use Rattle.std.proofs.Common.{◌≡◌, ◌≢◌, ℕ, ◌+◌, zero, suc, Bool, true, false, cond, List, [], ◌∷◌, ◌++◌, Option, Some, None, refl, sym, ap, subst, ◌∙◌, append_assoc}
-use Rattle.std.specs.Prelude.{codes, option_and_then}
+use Rattle.std.proofs.Common.{◌≡◌, ℕ, zero, suc, Bool, true, false, cond, List, [], ◌∷◌, ◌++◌, Option, Some, None, sym, subst, append_assoc}
+use Rattle.std.specs.Prelude.{codes}
 use Rattle.std.proofs.lemmas.List.{append-nil}
-use Rattle.adb_outside.specs.Tables.{change_row}
 use Rattle.adb_outside.specs.declared.identity.Identity.{Identity}
-use Rattle.adb_outside.specs.declared.identity.State.TheVariants.{Offline}
-use Rattle.adb_registry.specs.Row.{online_row, unauthorized_row}
-use Rattle.adb_registry.specs.Registry.{changed, detached}
+use Rattle.adb_registry.specs.Registry.{detached}
 use Rattle.adb_registry.specs.declared.row.Row.{Row}
 use Rattle.adb_forward.specs.declared.row.ForwardRow.{ForwardRow}
 use Rattle.adb_wire.specs.declared.packets.Packet.{Packet}
@@ -15,20 +12,20 @@ use Rattle.adb_stream.specs.declared.row.Stream.{Stream}
 use Rattle.adb_client.specs.declared.phase.Phase.{Phase}
 use Rattle.adb_client.specs.declared.phase.Phase.TheVariants.{Asking, Opening, Streaming, Binding, Tracking, Closing, Gone}
 use Rattle.adb_reply.specs.Strings.{failed}
-use Rattle.adb_history.specs.Rows.{Client, Link, State, to_client, to_link, to_stream, none_kept, with_due, with_held, in_phase, with_link_due, with_stream_part}
-use Rattle.adb_history.specs.Events.{Made, Event, Ending, quietly, then_also, due_to_client, due_to_link, ended, lost, stopped}
+use Rattle.adb_history.specs.Rows.{Client, Link, State, to_client, to_link, to_stream, none_kept, with_due, with_held, with_link_due, with_stream_part}
+use Rattle.adb_history.specs.Events.{Made, Event, Ending, quietly, due_to_client, due_to_link, ended, lost, stopped}
 use Rattle.adb_history.specs.Links.{is_connected, is_credit}
-use Rattle.adb_history.specs.Clients.{owe_client, closes, closes_with, closing}
+use Rattle.adb_history.specs.Clients.{closes, closes_with, closing}
 use Rattle.adb_history.specs.Streams.{draw, loses, client_loses, tells_end, ends_row, all_end}
 use Rattle.adb_history.specs.Flow.{with_flow}
 use Rattle.adb_history.specs.Tracking.{mark_all}
 use Rattle.adb_history.specs.Forwarding.{forwards_without}
-use Rattle.adb_history.specs.Losing.{forgets, link_ends, orphaned, input_ended, tells_stop, all_stop, only_client, stops}
-use Rattle.adb_history.specs.Packets.{with_remote, first_credit, accepted, streams_end_first, goes_online, with_sums, unauthorized_from}
+use Rattle.adb_history.specs.Losing.{forgets, link_ends, input_ended, tells_stop, all_stop, only_client}
+use Rattle.adb_history.specs.Packets.{streams_end_first, goes_online}
 use Rattle.adb_history.specs.Reading.{tracks, awaits}
 use Rattle.adb_history.specs.Handing.{hands, unmarked}
 use Rattle.adb_history.specs.Moves.{After, Moves, IsOfStream, connects_now}
-use Rattle.adb_history.proofs.Following.{after_quietly, after_then, after_if}
+use Rattle.adb_history.proofs.Following.{after_quietly, after_then}
 use Rattle.adb_history.proofs.StreamMoves.{all_end_kept}
 
 -- what a kill leaves but the client that asked for it
@@ -90,21 +87,22 @@ module _ {P : State → List Event → Type 0} (k : Plain P) where
   tells_end_plain true l ending s w h = after_quietly P w s h
   tells_end_plain false l ending s w h = k.tells_end l ending s w h
 
-  ends_plain : (l : ℕ) (ending : Ending) (stream : Stream) (s : State) (w : List Event) → s.streams l ≡ Some stream → P s w → After P w (ends_row l ending stream s)
+  ends_plain : (l : ℕ) (ending : Ending) (stream : Stream) (s : State) (w : List Event) → s.streams l ≡ Some stream → P s w
+      → After P w (ends_row l ending stream s)
   ends_plain l ending stream s w is h =
       let gone : State = to_stream l none_kept s in
       let told : Made = tells_end stream.part.orphan l ending gone in
       after_then P w told (λ s. client_loses (s.clients stream.client) stream.client s)
-        (tells_end_plain stream.part.orphan l ending gone w (k.stream l none_kept s w h))
-        (λ v now. client_loses_plain (told.state.clients stream.client) stream.client told.state v now)
+      (tells_end_plain stream.part.orphan l ending gone w (k.stream l none_kept s w h))
+      (λ v now. client_loses_plain (told.state.clients stream.client) stream.client told.state v now)
 
   link_ends_plain : (t : ℕ) (ending : Ending) (s : State) (w : List Event) → P s w → After P w (link_ends t ending s)
   link_ends_plain t ending s w h =
       let forgot : State = forgets t s in
       let kept : P forgot w = k.link t none_kept (record s { devices = detached t s.devices; forwards = forwards_without t s.forwards }) w
-        (k.forwards (forwards_without t s.forwards) (record s { devices = detached t s.devices }) w (k.devices (detached t s.devices).rows s w h)) in
+      (k.forwards (forwards_without t s.forwards) (record s { devices = detached t s.devices }) w (k.devices (detached t s.devices).rows s w h)) in
       after_then P w (all_end t ending forgot) (λ s. quietly (mark_all s)) (all_end_kept ends_plain t ending forgot w kept)
-        (λ v now. after_quietly P v (mark_all (all_end t ending forgot).state) (k.marks (all_end t ending forgot).state v now))
+      (λ v now. after_quietly P v (mark_all (all_end t ending forgot).state) (k.marks (all_end t ending forgot).state v now))
 
   ends_first_plain : (b : Bool) (t : ℕ) (s : State) (w : List Event) → P s w → After P w (streams_end_first b t s)
   ends_first_plain true t s w h = all_end_kept ends_plain t lost s w h
@@ -114,13 +112,13 @@ module _ {P : State → List Event → Type 0} (k : Plain P) where
   online_plain t version maxdata identity s w h =
       let first : Made = streams_end_first (is_connected t s.devices) t s in
       after_then P w first (λ s. quietly (goes_online t version maxdata identity s)) (ends_first_plain (is_connected t s.devices) t s w h)
-        (λ v now. after_quietly P v (goes_online t version maxdata identity first.state) (k.marks _ v (k.link t _ _ v (k.devices _ first.state v now))))
+      (λ v now. after_quietly P v (goes_online t version maxdata identity first.state) (k.marks _ v (k.link t _ _ v (k.devices _ first.state v now))))
 
   all_stop_plain : (n : ℕ) (streams : ℕ → Option Stream) (s : State) (w : List Event) → P s w → P s (w ++ all_stop n streams)
   all_stop_plain zero streams s w h = subst (λ (v : List Event). P s v) (sym (append-nil w)) h
   all_stop_plain (suc n) streams s w h =
       subst (λ (v : List Event). P s v) (append_assoc w (all_stop n streams) (tells_stop (suc n) (streams (suc n))))
-        (one (streams (suc n)) (w ++ all_stop n streams) (all_stop_plain n streams s w h))
+      (one (streams (suc n)) (w ++ all_stop n streams) (all_stop_plain n streams s w h))
     where
       told : (b : Bool) (v : List Event) → P s v → P s (v ++ cond b [] (ended (suc n) stopped ∷ []))
       told true v now = subst (λ (u : List Event). P s u) (sym (append-nil v)) now
@@ -158,5 +156,5 @@ module _ {P : State → List Event → Type 0} (k : Plain P) where
     unauthorized = λ t row s w is offline h. k.marks _ w (k.devices _ s w h);
     forwards = λ forwards s w led h. k.forwards forwards s w h;
     stops = λ c client s w is asking h.
-      k.client c closing (stopped_state c s) (w ++ all_stop s.drawn s.streams) (k.kills c s _ (all_stop_plain s.drawn s.streams s w h));
+        k.client c closing (stopped_state c s) (w ++ all_stop s.drawn s.streams) (k.kills c s _ (all_stop_plain s.drawn s.streams s w h));
   }

@@ -1,6 +1,6 @@
 -- What each move keeps, the requests of clients keep, their ends, and the listeners that stand.
-use Rattle.std.proofs.Common.{◌≡◌, ◌≢◌, ℕ, ◌+◌, ◌≤◌, zero, suc, Bool, true, false, cond, not, ◌&&◌, ◌||◌, All, List, [], ◌∷◌, ◌++◌, length, min, Option, Some, None, refl, sym, ap, subst, ◌∙◌, arith, ◌⊎◌, inl, inr, eqb}
-use Rattle.std.specs.Prelude.{codes, decimal, is_some, is_none}
+use Rattle.std.proofs.Common.{◌≡◌, ℕ, Bool, true, false, cond, All, List, [], ◌∷◌, ◌++◌, length, Option, Some, None, refl, sym, ap, subst, ◌∙◌, inl, inr, eqb}
+use Rattle.std.specs.Prelude.{codes, is_some, is_none}
 use Rattle.std.proofs.lemmas.List.Elements.{All-nil}
 use Rattle.adb_outside.specs.Tables.{at, without}
 use Rattle.adb_outside.proofs.TableLaws.{All-put_at, All-without}
@@ -16,21 +16,21 @@ use Rattle.adb_stream.specs.declared.row.Stream.{Stream}
 use Rattle.adb_client.specs.declared.phase.Phase.{Phase}
 use Rattle.adb_client.specs.declared.phase.Phase.TheVariants.{Asking, Opening, Streaming, Binding, Tracking, Closing, Gone}
 use Rattle.adb_client.specs.declared.about.Want.{Want}
-use Rattle.adb_reply.specs.Strings.{string, failed}
+use Rattle.adb_reply.specs.Strings.{failed}
 use Rattle.adb_reply.specs.Refusals.{no_transport}
 use Rattle.adb_reply.specs.declared.answer.Next.{Next}
 use Rattle.adb_reply.specs.declared.answer.Next.TheVariants.{Close, Select, Track, Open, Bind, Rebind, Unbind, UnbindAll, Stop}
 use Rattle.adb_history.specs.Rows.{Client, State, to_client, to_stream, none_kept, with_due, with_held, with_stream_part}
-use Rattle.adb_history.specs.Events.{Made, Event, quietly, then_also, ended, client_failed}
+use Rattle.adb_history.specs.Events.{Made, Event, quietly, ended, client_failed}
 use Rattle.adb_history.specs.Links.{owe_link, close_packet}
 use Rattle.adb_history.specs.Clients.{owe_client, closes}
 use Rattle.adb_history.specs.Forwarding.{Binding as Bound, forwards_with, put_forward, told_port, is_unbound, bound_by}
 use Rattle.adb_history.specs.Asking.{Asked, asks_with}
-use Rattle.adb_history.specs.Losing.{stream_fails, stream_of, client_fails, input_ended, input_ends, client_ends, orphaned}
-use Rattle.adb_history.specs.Reading.{tracks, awaits, goes_on, asked_before, has_asked, asks, reads_in, reads_from, reads, bound_to, bound_for, bound_in, bound_at, bound}
-use Rattle.adb_history.specs.Moves.{After, Moves, IsFree, HasOne, IsLed, IsReady}
+use Rattle.adb_history.specs.Losing.{stream_fails, stream_of, input_ends, client_ends, orphaned}
+use Rattle.adb_history.specs.Reading.{tracks, awaits, goes_on, asked_before, has_asked, asks, reads_in, bound_for, bound_in, bound_at}
+use Rattle.adb_history.specs.Moves.{After, Moves, IsFree, HasOne, IsLed}
 use Rattle.adb_history.proofs.Following.{after_quietly, after_then, changed_here}
-use Rattle.adb_history.proofs.StreamMoves.{asks_free, asks_streamless, owes_kept, closes_with_kept, service_kept}
+use Rattle.adb_history.proofs.StreamMoves.{asks_free, owes_kept, closes_with_kept, service_kept}
 use Rattle.adb_history.proofs.Readiness.{IsAskedReady, asks_ready}
 
 -- ---- each forward leads to a device, after a change
@@ -44,7 +44,8 @@ led_put local transport remote devices forwards all = go (at transport devices.r
 
 led_bound : (want : Want) (port : ℕ) (devices : DeviceTable) (forwards : List (ℕ × ForwardRow))
     → All (IsLed devices) forwards → All (IsLed devices) (bound_by want port devices forwards).forwards
-led_bound want port devices forwards all = go (is_unbound want.local port forwards) (is_none (at want.transport devices.rows)) (eqb (length forwards) MAX_FORWARDS)
+led_bound want port devices forwards all =
+    go (is_unbound want.local port forwards) (is_none (at want.transport devices.rows)) (eqb (length forwards) MAX_FORWARDS)
   where
     go : (taken gone full : Bool) → All (IsLed devices)
         (cond {A = Bound} taken (record { reply = (failed (codes "cannot bind listener")).bytes; forwards = forwards })
@@ -77,15 +78,16 @@ module _ {P : State → List Event → Type 0} (k : Moves P) where
       let forwards : List (ℕ × ForwardRow) = put_forward local transport remote s.devices s.forwards in
       let now : State = record s { forwards = forwards } in
       after_quietly P w (closes c now) (k.closes c client now w is (asks_free client.about.phase asking)
-        (k.forwards forwards s w (led_put local transport remote s.devices s.forwards) h))
+      (k.forwards forwards s w (led_put local transport remote s.devices s.forwards) h))
   goes_on_kept (Some (Unbind local)) c client s w is asking ready h =
       let forwards : List (ℕ × ForwardRow) = without local s.forwards in
       let now : State = record s { forwards = forwards } in
       after_quietly P w (closes c now) (k.closes c client now w is (asks_free client.about.phase asking)
-        (k.forwards forwards s w (All-without (IsLed s.devices) local s.forwards) h))
+      (k.forwards forwards s w (All-without (IsLed s.devices) local s.forwards) h))
   goes_on_kept (Some UnbindAll) c client s w is asking ready h =
       let now : State = record s { forwards = [] } in
-      after_quietly P w (closes c now) (k.closes c client now w is (asks_free client.about.phase asking) (k.forwards [] s w (λ all. All-nil (IsLed s.devices)) h))
+      after_quietly P w (closes c now)
+      (k.closes c client now w is (asks_free client.about.phase asking) (k.forwards [] s w (λ all. All-nil (IsLed s.devices)) h))
   goes_on_kept (Some Stop) c client s w is asking ready h = k.stops c client s w is asking h
 
   pub asks_kept : (q : Asked) (c : ℕ) (client : Client) (s : State) (w : List Event) → s.clients c ≡ Some client
@@ -95,9 +97,9 @@ module _ {P : State → List Event → Type 0} (k : Moves P) where
       let taken : Client = record client { about = record client.about { selected = q.selected }; held = q.rest } in
       let owed : Made = owe_client c q.replies now in
       let here : owed.state.clients c ≡ Some (record taken { due = taken.due ++ q.replies }) =
-        changed_here c (with_due q.replies) now.clients taken (changed_here c (has_asked q) s.clients client is) in
+      changed_here c (with_due q.replies) now.clients taken (changed_here c (has_asked q) s.clients client is) in
       after_then P w owed (goes_on q.next c) (k.due c q.replies now w h)
-        (λ v kept. goes_on_kept q.next c (record taken { due = taken.due ++ q.replies }) owed.state v here asking ready kept)
+      (λ v kept. goes_on_kept q.next c (record taken { due = taken.due ++ q.replies }) owed.state v here asking ready kept)
 
   -- ---- read
   pub reads_in_kept : (phase : Phase) (c : ℕ) (bytes : List ℕ) (client : Client) (s : State) (w : List Event) → s.clients c ≡ Some client
@@ -123,7 +125,7 @@ module _ {P : State → List Event → Type 0} (k : Moves P) where
   bound_for_kept (Some want) c port client s w is waits h =
       let b : Bound = bound_by want port s.devices s.forwards in
       closes_with_kept k c b.reply client (record s { forwards = b.forwards }) w is (subst IsFree (sym waits) tt)
-        (k.forwards b.forwards s w (led_bound want port s.devices s.forwards) h)
+      (k.forwards b.forwards s w (led_bound want port s.devices s.forwards) h)
 
   bound_in_kept : (phase : Phase) (want : Option Want) (c port : ℕ) (client : Client) (s : State) (w : List Event) → s.clients c ≡ Some client
       → client.about.phase ≡ phase → P s w → After P w (bound_in phase want c port s)
@@ -152,8 +154,8 @@ module _ {P : State → List Event → Type 0} (k : Moves P) where
       let owed : Made = owe_link stream.link p s in
       let gone : Made = owe_link stream.link p (to_stream l none_kept (to_client c none_kept s)) in
       after_then P w gone (λ s. record { state = s; told = ended l (client_failed cause) ∷ [] })
-        (k.fails_open c l client stream owed.state (w ++ owed.told) is in_ at_l (owes_kept k stream.link p s w (inr (inl (ap is_some at_l))) h))
-        (λ v now. k.tells_end l (client_failed cause) gone.state v now)
+      (k.fails_open c l client stream owed.state (w ++ owed.told) is in_ at_l (owes_kept k stream.link p s w (inr (inl (ap is_some at_l))) h))
+      (λ v now. k.tells_end l (client_failed cause) gone.state v now)
 
   fails_asked_kept : (c l : ℕ) (cause : Cause) (client : Client) (o : Option Stream) (s : State) (w : List Event) → s.clients c ≡ Some client
       → client.about.phase ≡ Opening l → s.streams l ≡ o → P s w → After P w (stream_fails (Opening l) cause o (to_client c none_kept s))
@@ -182,7 +184,8 @@ module _ {P : State → List Event → Type 0} (k : Moves P) where
   input_kept Closing c client s w is in_ h = h
   input_kept Gone c client s w is in_ h = h
 
-  pub client_ends_kept : (c : ℕ) (cause : Cause) (o : Option Client) (s : State) (w : List Event) → s.clients c ≡ o → P s w → After P w (client_ends c cause o s)
+  pub client_ends_kept : (c : ℕ) (cause : Cause) (o : Option Client) (s : State) (w : List Event) → s.clients c ≡ o → P s w
+      → After P w (client_ends c cause o s)
   client_ends_kept c cause None s w is h = after_quietly P w s h
   client_ends_kept c Eof (Some client) s w is h =
       after_quietly P w (input_ends client.about.phase c s) (input_kept client.about.phase c client s w is refl h)

@@ -1,11 +1,11 @@
 -- What each move keeps, handing out keeps, and the rule of each entry with which nobody comes.
-use Rattle.std.proofs.Common.{◌≡◌, ◌≢◌, ℕ, ◌+◌, ◌-◌, ◌≤◌, ◌<◌, zero, suc, Bool, true, false, cond, not, ◌&&◌, ◌||◌, List, [], ◌∷◌, ◌++◌, length, drop, min, Option, Some, None, refl, sym, ap, subst, ◌∙◌, arith, ◌⊎◌, inl, inr, eqb}
+use Rattle.std.proofs.Common.{◌≡◌, ℕ, ◌+◌, ◌-◌, ◌≤◌, ◌<◌, zero, suc, Bool, true, false, cond, ◌||◌, List, [], ◌∷◌, length, drop, min, Option, Some}
+use Rattle.std.proofs.Common.{None, refl, sym, ap, subst, ◌∙◌, arith, inl, inr, eqb}
 use Rattle.std.specs.Prelude.{is_some, nat_eq, nat_le}
 use Rattle.std.proofs.lemmas.Bool.{eqb-true, eq-eqb}
 use Rattle.std.proofs.lemmas.Bool.Decides.{nat_tests}
-use Rattle.adb_wire.specs.declared.packets.Packet.{Packet}
-use Rattle.adb_stream.specs.Credit.{ByteCredit, IsWhole, given_back}
-use Rattle.adb_stream.specs.declared.credit.TheConstants.{CREDIT_WINDOW, CREDIT_STEP}
+use Rattle.adb_stream.specs.Credit.{given_back}
+use Rattle.adb_stream.specs.declared.credit.TheConstants.{CREDIT_STEP}
 use Rattle.adb_stream.specs.declared.flow.Flow.{Flow}
 use Rattle.adb_stream.specs.declared.flow.Flow.TheVariants.{One, Credit}
 use Rattle.adb_stream.specs.declared.row.Stream.{Stream}
@@ -15,17 +15,17 @@ use Rattle.adb_capture.specs.declared.entry.Entry.{Entry}
 use Rattle.adb_capture.specs.declared.entry.Entry.TheVariants.{Join, Enter, Read, End, Bound, Attach, Recv, Detach, Put, Send}
 use Rattle.adb_outside.specs.Tables.{at}
 use Rattle.adb_forward.specs.declared.row.ForwardRow.{ForwardRow}
-use Rattle.adb_history.specs.Rows.{new_client, Client, Link, State, to_client, to_link, to_stream, with_stream_part}
-use Rattle.adb_history.specs.Events.{Made, Event, quietly, then_also, lost}
-use Rattle.adb_history.specs.Links.{owe_link, okay_packet, credit_packet, server_cnxn, is_connected}
-use Rattle.adb_history.specs.Clients.{owe_client}
+use Rattle.adb_history.specs.Rows.{new_client, Client, Link, State, to_client, to_stream, with_stream_part}
+use Rattle.adb_history.specs.Events.{Made, Event, quietly, lost}
+use Rattle.adb_history.specs.Links.{okay_packet, credit_packet, server_cnxn, is_connected}
 use Rattle.adb_history.specs.Streams.{opens}
 use Rattle.adb_history.specs.Flow.{with_flow}
 use Rattle.adb_history.specs.Tracking.{offered}
-use Rattle.adb_history.specs.Handing.{unmarked, lists_first, hands, to_hand, credit_back, handed_to, tells_credit, tells_handed, stream_hands, stream_left, client_left, takes_of, puts_to, puts, link_hands, sends}
+use Rattle.adb_history.specs.Handing.{unmarked, lists_first, hands, to_hand, credit_back, handed_to, tells_credit, tells_handed, stream_left}
+use Rattle.adb_history.specs.Handing.{client_left, takes_of, puts_to, sends}
 use Rattle.adb_history.specs.Asking.{asks_with}
 use Rattle.adb_history.specs.Reading.{asked_before, has_asked, reads_from, comes, comes_in_vain, enters_by}
-use Rattle.adb_history.specs.Machine.{unplugs_on, unplugs, rule, ups, step}
+use Rattle.adb_history.specs.Machine.{unplugs_on, rule, ups, step}
 use Rattle.adb_history.specs.Moves.{After, Moves, IsLike, plugged_in}
 use Rattle.adb_history.proofs.Following.{after_quietly, after_then, after_if, changed_here}
 use Rattle.adb_history.proofs.StreamMoves.{owes_kept, service_kept, up_all_kept}
@@ -79,7 +79,8 @@ module _ {P : State → List Event → Type 0} (k : Moves P) where
   lists_first_kept c [] client s w h = k.due c (offered s.devices client) (to_client c unmarked s) w (k.unmarks c s w h)
   lists_first_kept c (b ∷ due) client s w h = after_quietly P w s h
 
-  tells_credit_kept : (back l : ℕ) (stream : Stream) (s : State) (w : List Event) → is_some (s.streams l) ≡ true → P s w → After P w (tells_credit back l stream s)
+  tells_credit_kept : (back l : ℕ) (stream : Stream) (s : State) (w : List Event) → is_some (s.streams l) ≡ true → P s w
+      → After P w (tells_credit back l stream s)
   tells_credit_kept zero l stream s w alive h = after_quietly P w s h
   tells_credit_kept (suc n) l stream s w alive h = owes_kept k stream.link (credit_packet l stream.part.remote (suc n)) s w (inr (inl alive)) h
 
@@ -98,7 +99,7 @@ module _ {P : State → List Event → Type 0} (k : Moves P) where
   less_kept : (c n l left : ℕ) (client : Client) (stream : Stream) (s : State) (w : List Event) → s.clients c ≡ Some client → client.about.phase ≡ Streaming l
       → s.streams l ≡ Some stream → (left ≤ to_hand stream.part.flow) × (left ≤ length (drop n client.due))
       → P s w → After P w (tells_handed stream.part.flow left l stream
-        (to_stream l (with_stream_part (with_flow (handed_to left stream.part.flow) stream.part)) (to_client c (hands n) s)))
+      (to_stream l (with_stream_part (with_flow (handed_to left stream.part.flow) stream.part)) (to_client c (hands n) s)))
   less_kept c n l left client stream s w is in_ at_l fits h =
       let flow : Flow = handed_to left stream.part.flow in
       let part = with_flow flow stream.part in
@@ -106,12 +107,12 @@ module _ {P : State → List Event → Type 0} (k : Moves P) where
       let here : less.streams l ≡ with_stream_part part stream = changed_here l (with_stream_part part) s.streams stream at_l in
       let now : P less w = k.flows l stream flow s w at_l (like_handed left stream.part.flow fits.0) h in
       tells_handed_kept stream.part.flow left l stream (to_client c (hands n) less) w (ap is_some here)
-        (k.hands c n client less w is (λ m other in_m at_m. within m other in_m at_m here) now)
+      (k.hands c n client less w is (λ m other in_m at_m. within m other in_m at_m here) now)
     where
       within : (m : ℕ) (other : Stream) → client.about.phase ≡ Streaming m
           → (to_stream l (with_stream_part (with_flow (handed_to left stream.part.flow) stream.part)) s).streams m ≡ Some other
           → (to_stream l (with_stream_part (with_flow (handed_to left stream.part.flow) stream.part)) s).streams l
-            ≡ with_stream_part (with_flow (handed_to left stream.part.flow) stream.part) stream
+          ≡ with_stream_part (with_flow (handed_to left stream.part.flow) stream.part) stream
           → to_hand other.part.flow ≤ length (drop n client.due)
       within m other in_m at_m here =
           let rows = (to_stream l (with_stream_part (with_flow (handed_to left stream.part.flow) stream.part)) s).streams in
@@ -135,10 +136,11 @@ module _ {P : State → List Event → Type 0} (k : Moves P) where
       let due : ℕ = length (drop n client.due) in
       let left : ℕ = min (to_hand stream.part.flow) due in
       let handed : State = to_client c (hands n) s in
-      let less : Made = tells_handed stream.part.flow left l stream (to_stream l (with_stream_part (with_flow (handed_to left stream.part.flow) stream.part)) handed) in
+      let less : Made = tells_handed stream.part.flow left l stream
+      (to_stream l (with_stream_part (with_flow (handed_to left stream.part.flow) stream.part)) handed) in
       after_if P w (nat_eq left (to_hand stream.part.flow)) (quietly handed) less
-        (λ e. hands_kept c n client s w is (λ m other in_m at_m. same m other in_m at_m (eqb-true left (to_hand stream.part.flow) e)) h)
-        (λ e. less_kept c n l left client stream s w is in_ at_l (omega arith, omega arith) h)
+      (λ e. hands_kept c n client s w is (λ m other in_m at_m. same m other in_m at_m (eqb-true left (to_hand stream.part.flow) e)) h)
+      (λ e. less_kept c n l left client stream s w is in_ at_l (omega arith, omega arith) h)
     where
       same : (m : ℕ) (other : Stream) → client.about.phase ≡ Streaming m → s.streams m ≡ Some other
           → min (to_hand stream.part.flow) (length (drop n client.due)) ≡ to_hand stream.part.flow → to_hand other.part.flow ≤ length (drop n client.due)
@@ -153,7 +155,8 @@ module _ {P : State → List Event → Type 0} (k : Moves P) where
       → client.about.phase ≡ phase → P s w → After P w (client_left phase (length (drop n client.due)) (to_client c (hands n) s))
   client_left_kept (Streaming l) c n client s w is in_ h = stream_left_kept c n l client (s.streams l) s w is in_ refl h
   client_left_kept Asking c n client s w is in_ h = hands_kept c n client s w is (λ l x e f. absurd (let g : Asking ≡ Streaming l = sym in_ ∙ e in cc)) h
-  client_left_kept (Opening m) c n client s w is in_ h = hands_kept c n client s w is (λ l x e f. absurd (let g : Opening m ≡ Streaming l = sym in_ ∙ e in cc)) h
+  client_left_kept (Opening m) c n client s w is in_ h =
+      hands_kept c n client s w is (λ l x e f. absurd (let g : Opening m ≡ Streaming l = sym in_ ∙ e in cc)) h
   client_left_kept Binding c n client s w is in_ h = hands_kept c n client s w is (λ l x e f. absurd (let g : Binding ≡ Streaming l = sym in_ ∙ e in cc)) h
   client_left_kept Tracking c n client s w is in_ h = hands_kept c n client s w is (λ l x e f. absurd (let g : Tracking ≡ Streaming l = sym in_ ∙ e in cc)) h
   client_left_kept Closing c n client s w is in_ h = hands_kept c n client s w is (λ l x e f. absurd (let g : Closing ≡ Streaming l = sym in_ ∙ e in cc)) h
@@ -168,7 +171,7 @@ module _ {P : State → List Event → Type 0} (k : Moves P) where
   puts_kept (Some client) c n s w h =
       let listed : Made = lists_first c client.due client s in
       after_then P w listed (λ s. takes_of c n (s.clients c) s) (lists_first_kept c client.due client s w h)
-        (λ v now. takes_kept c n (listed.state.clients c) listed.state v refl now)
+      (λ v now. takes_kept c n (listed.state.clients c) listed.state v refl now)
 
   -- ---- entries
   unplugs_kept : (o : Option Link) (t : ℕ) (s : State) (w : List Event) → P s w → After P w (unplugs_on o t s)
@@ -177,7 +180,7 @@ module _ {P : State → List Event → Type 0} (k : Moves P) where
 
   reads_kept : (o : Option Client) (c : ℕ) (bytes : List ℕ) (s : State) (w : List Event) → s.clients c ≡ o
       → ((client : Client) → s.clients c ≡ Some client → client.about.phase ≡ Asking
-        → P (to_client c (has_asked (asks_with s.devices s.forwards bytes (asked_before client))) s) w)
+      → P (to_client c (has_asked (asks_with s.devices s.forwards bytes (asked_before client))) s) w)
       → P s w → After P w (reads_from o c bytes s)
   reads_kept None c bytes s w is asked h = after_quietly P w s h
   reads_kept (Some client) c bytes s w is asked h =
@@ -190,7 +193,7 @@ module _ {P : State → List Event → Type 0} (k : Moves P) where
       let now : State = comes true c s in
       let is : now.clients c ≡ Some (new_client true c) = rw (eq-eqb c c refl) refl in
       after_if P w (is_connected row.transport s.devices) (opens true c row.transport row.remote now) (quietly (comes_in_vain s))
-        (λ e. service_kept k true c row.transport row.remote (new_client true c) now w is refl (inl e) here) (λ e. after_quietly P w (comes_in_vain s) vain)
+      (λ e. service_kept k true c row.transport row.remote (new_client true c) now w is refl (inl e) here) (λ e. after_quietly P w (comes_in_vain s) vain)
 
   -- What is to be shown before the rule of an entry: that it holds with who comes; of a client that asks, that it holds with what is read.
   abbrev pub Begins : Entry → State → List Event → Type 0

@@ -1,6 +1,7 @@
 -- What each move keeps, the rules of streams keep: they are asked for, they send, and they end.
-use Rattle.std.proofs.Common.{◌≡◌, ◌≢◌, ℕ, ◌+◌, ◌≤◌, zero, suc, Bool, true, false, cond, List, [], ◌∷◌, ◌++◌, length, drop, Option, Some, None, refl, sym, ap, subst, ◌∙◌, arith, ◌⊎◌, inl, inr, eqb}
-use Rattle.std.specs.Prelude.{codes, is_some, option_and_then, nat_eq}
+use Rattle.std.proofs.Common.{◌≡◌, ℕ, ◌+◌, zero, suc, Bool, true, false, List, [], ◌∷◌, ◌++◌, length, drop, Option, Some, None, refl, sym, ap, subst}
+use Rattle.std.proofs.Common.{◌∙◌, arith, inl, inr, eqb}
+use Rattle.std.specs.Prelude.{codes, is_some, nat_eq}
 use Rattle.std.proofs.lemmas.Bool.{eq-eqb}
 use Rattle.adb_wire.specs.declared.packets.Packet.{Packet}
 use Rattle.adb_stream.specs.declared.flow.Flow.{Flow}
@@ -9,12 +10,13 @@ use Rattle.adb_stream.specs.declared.row.Stream.{Stream}
 use Rattle.adb_client.specs.declared.phase.Phase.{Phase}
 use Rattle.adb_client.specs.declared.phase.Phase.TheVariants.{Asking, Opening, Streaming, Binding, Tracking, Closing, Gone}
 use Rattle.adb_reply.specs.Strings.{failed}
-use Rattle.adb_history.specs.Rows.{Client, State, to_client, to_stream, to_link, with_due, with_held, with_stream_part, none_kept}
-use Rattle.adb_history.specs.Events.{Made, Event, Ending, quietly, then_also, client_closed}
+use Rattle.adb_history.specs.Rows.{Client, State, to_client, to_stream, with_due, with_stream_part, none_kept}
+use Rattle.adb_history.specs.Events.{Made, Event, Ending, quietly, client_closed}
 use Rattle.adb_history.specs.Links.{owe_link, open_packet, close_packet, write_packet, check_on, wants_sums, is_credit, maxdata_of}
-use Rattle.adb_history.specs.Clients.{closes, closes_with}
+use Rattle.adb_history.specs.Clients.{closes_with}
 use Rattle.adb_history.specs.Streams.{stream_ids, asks_for, no_ids_left, opens, ends_row, ends_telling, ends_if_of, ends_of, all_end}
-use Rattle.adb_history.specs.Flow.{with_flow, wrote, flow_after, payloads, total, noted, goes_up, all_go_up, is_over, closes_if, sends_up, is_streaming, up_client, up_stream, up, up_all}
+use Rattle.adb_history.specs.Flow.{with_flow, wrote, flow_after, payloads, total, noted, goes_up, all_go_up, is_over, closes_if, sends_up}
+use Rattle.adb_history.specs.Flow.{is_streaming, up_client, up_stream, up, up_all}
 use Rattle.adb_history.specs.Losing.{stream_of}
 use Rattle.adb_history.specs.Moves.{After, Moves, IsOfStream, IsFree, HasOne, IsLike, IsReady, draws_now}
 use Rattle.adb_history.proofs.Following.{after_quietly, after_then, after_if, changed_here}
@@ -51,14 +53,15 @@ pub like_after : (payloads : List (List ℕ)) (flow : Flow) → IsLike flow (flo
 like_after [] flow = like_same flow
 like_after (payload ∷ payloads) flow =
     like_then flow (wrote (length payload) flow) (flow_after payloads (wrote (length payload) flow)) (like_wrote (length payload) flow)
-      (like_after payloads (wrote (length payload) flow))
+    (like_after payloads (wrote (length payload) flow))
 
 is_alive : (l : ℕ) (streams : ℕ → Option Stream) (stream : Stream) → streams l ≡ Some stream → is_some (streams l) ≡ true
 is_alive l streams stream is = ap is_some is
 
 -- what is to be shown of the end of one stream
 abbrev pub EndsKept : (State → List Event → Type 0) → Type 0
-EndsKept P = (l : ℕ) (ending : Ending) (stream : Stream) (s : State) (w : List Event) → s.streams l ≡ Some stream → P s w → After P w (ends_row l ending stream s)
+EndsKept P =
+    (l : ℕ) (ending : Ending) (stream : Stream) (s : State) (w : List Event) → s.streams l ≡ Some stream → P s w → After P w (ends_row l ending stream s)
 
 -- What the end of a stream keeps, the end of all streams of a link keeps.
 module _ {P : State → List Event → Type 0} (ends : EndsKept P) where
@@ -66,12 +69,13 @@ module _ {P : State → List Event → Type 0} (ends : EndsKept P) where
   ends_of_kept t zero ending s w h = after_quietly P w s h
   ends_of_kept t (suc n) ending s w h =
       after_then P w (ends_of t n ending s) (λ s. ends_if_of t (suc n) ending (s.streams (suc n)) s) (ends_of_kept t n ending s w h)
-        (λ v now. go (ends_of t n ending s).state v ((ends_of t n ending s).state.streams (suc n)) refl now)
+      (λ v now. go (ends_of t n ending s).state v ((ends_of t n ending s).state.streams (suc n)) refl now)
     where
       go : (s : State) (v : List Event) (o : Option Stream) → s.streams (suc n) ≡ o → P s v → After P v (ends_if_of t (suc n) ending o s)
       go s v None is h = after_quietly P v s h
       go s v (Some stream) is h =
-          after_if P v (nat_eq stream.link t) (ends_row (suc n) ending stream s) (quietly s) (λ e. ends (suc n) ending stream s v is h) (λ e. after_quietly P v s h)
+          after_if P v (nat_eq stream.link t) (ends_row (suc n) ending stream s) (quietly s) (λ e. ends (suc n) ending stream s v is h)
+          (λ e. after_quietly P v s h)
 
   pub all_end_kept : (t : ℕ) (ending : Ending) (s : State) (w : List Event) → P s w → After P w (all_end t ending s)
   all_end_kept t ending s w h = ends_of_kept t s.drawn ending s w h
@@ -85,7 +89,7 @@ module _ {P : State → List Event → Type 0} (k : Moves P) where
       → P s w → After P w (closes_with c bytes s)
   closes_with_kept c bytes client s w is free h =
       k.closes c (record client { due = client.due ++ bytes }) (to_client c (with_due bytes) s) (w ++ _ ∷ [])
-        (changed_here c (with_due bytes) s.clients client is) free (k.due c bytes s w h)
+      (changed_here c (with_due bytes) s.clients client is) free (k.due c bytes s w h)
 
   -- ---- service
   asks_for_kept : (c t : ℕ) (service : List ℕ) (client : Client) (s : State) (w : List Event) → s.clients c ≡ Some client → client.about.phase ≡ Asking
@@ -99,13 +103,14 @@ module _ {P : State → List Event → Type 0} (k : Moves P) where
       → P s w → After P w (no_ids_left forwarded c s)
   no_ids_kept true c client s w is asking h =
       after_quietly P w (to_client c none_kept s) (k.drops c client s w is (asks_streamless client.about.phase s.streams asking) h)
-  no_ids_kept false c client s w is asking h = closes_with_kept c (failed (codes "no stream ids left")).bytes client s w is (asks_free client.about.phase asking) h
+  no_ids_kept false c client s w is asking h =
+      closes_with_kept c (failed (codes "no stream ids left")).bytes client s w is (asks_free client.about.phase asking) h
 
   pub service_kept : (forwarded : Bool) (c t : ℕ) (service : List ℕ) (client : Client) (s : State) (w : List Event) → s.clients c ≡ Some client
       → client.about.phase ≡ Asking → IsReady t s.devices → P s w → After P w (opens forwarded c t service s)
   service_kept forwarded c t service client s w is asking ready h =
       after_if P w (eqb s.drawn stream_ids) (no_ids_left forwarded c s) (asks_for (s.drawn + 1) c t service s)
-        (λ e. no_ids_kept forwarded c client s w is asking h) (λ e. asks_for_kept c t service client s w is asking ready h)
+      (λ e. no_ids_kept forwarded c client s w is asking h) (λ e. asks_for_kept c t service client s w is asking ready h)
 
   -- ---- stream end
   pub ends_telling_kept : (l : ℕ) (ending : Ending) (stream : Stream) (s : State) (w : List Event) → s.streams l ≡ Some stream
@@ -113,7 +118,7 @@ module _ {P : State → List Event → Type 0} (k : Moves P) where
   ends_telling_kept l ending stream s w is h =
       let p : Packet = close_packet l stream.part.remote in
       after_then P w (owe_link stream.link p s) (ends_row l ending stream) (owes_kept stream.link p s w (inr (inl (is_alive l s.streams stream is))) h)
-        (λ v now. k.ends l ending stream (owe_link stream.link p s).state v is now)
+      (λ v now. k.ends l ending stream (owe_link stream.link p s).state v is now)
 
   -- ---- the up rule
   go_up_kept : (l : ℕ) (stream : Stream) (payloads : List (List ℕ)) (s : State) (w : List Event) → is_some (s.streams l) ≡ true
@@ -121,8 +126,8 @@ module _ {P : State → List Event → Type 0} (k : Moves P) where
   go_up_kept l stream [] s w alive h = after_quietly P w s h
   go_up_kept l stream (payload ∷ payloads) s w alive h =
       after_then P w (goes_up l stream payload s) (all_go_up l stream payloads)
-        (owes_kept stream.link (write_packet l stream.part.remote payload) s w (inr (inl alive)) h)
-        (λ v now. go_up_kept l stream payloads (goes_up l stream payload s).state v alive now)
+      (owes_kept stream.link (write_packet l stream.part.remote payload) s w (inr (inl alive)) h)
+      (λ v now. go_up_kept l stream payloads (goes_up l stream payload s).state v alive now)
 
   closes_if_kept : (over : Bool) (l : ℕ) (o : Option Stream) (s : State) (w : List Event) → s.streams l ≡ o → P s w → After P w (closes_if over l o s)
   closes_if_kept over l None s w is h = after_quietly P w s h
@@ -134,7 +139,7 @@ module _ {P : State → List Event → Type 0} (k : Moves P) where
   noted_kept l stream client payloads s w is here has h =
       let flow : Flow = flow_after payloads stream.part.flow in
       k.holds stream.client client (drop (total payloads) client.held) (to_stream l (with_stream_part (with_flow flow stream.part)) s) w here has
-        (k.flows l stream flow s w is (like_after payloads stream.part.flow) h)
+      (k.flows l stream flow s w is (like_after payloads stream.part.flow) h)
 
   sends_up_kept : (l : ℕ) (stream : Stream) (client : Client) (payloads : List (List ℕ)) (s : State) (w : List Event) → s.streams l ≡ Some stream
       → s.clients stream.client ≡ Some client → HasOne client.about.phase → P s w → After P w (sends_up l stream client payloads s)
@@ -144,8 +149,9 @@ module _ {P : State → List Event → Type 0} (k : Moves P) where
       let alive : is_some (now.streams l) ≡ true = ap is_some (changed_here l (with_stream_part part) s.streams stream is) in
       let sent : Made = all_go_up l stream payloads now in
       let over : Bool = is_over client.about.ended (drop (total payloads) client.held) (flow_after payloads stream.part.flow) in
-      after_then P w sent (λ s. closes_if over l (s.streams l) s) (go_up_kept l stream payloads now w alive (noted_kept l stream client payloads s w is here has h))
-        (λ v kept. closes_if_kept over l (sent.state.streams l) sent.state v refl kept)
+      after_then P w sent (λ s. closes_if over l (s.streams l) s)
+      (go_up_kept l stream payloads now w alive (noted_kept l stream client payloads s w is here has h))
+      (λ v kept. closes_if_kept over l (sent.state.streams l) sent.state v refl kept)
 
   up_client_kept : (l : ℕ) (stream : Stream) (o : Option Client) (s : State) (w : List Event) → s.streams l ≡ Some stream
       → s.clients stream.client ≡ o → P s w → After P w (up_client l stream o s)
@@ -153,7 +159,7 @@ module _ {P : State → List Event → Type 0} (k : Moves P) where
   up_client_kept l stream (Some client) s w is here h =
       let sent : List (List ℕ) = payloads stream.part.flow (maxdata_of stream.link s.devices) client.held in
       after_if P w (is_streaming l client.about.phase) (sends_up l stream client sent s) (quietly s)
-        (λ e. sends_up_kept l stream client sent s w is here (streaming_has l client.about.phase e) h) (λ e. after_quietly P w s h)
+      (λ e. sends_up_kept l stream client sent s w is here (streaming_has l client.about.phase e) h) (λ e. after_quietly P w s h)
 
   up_kept : (l : ℕ) (o : Option Stream) (s : State) (w : List Event) → s.streams l ≡ o → P s w → After P w (up_stream l o s)
   up_kept l None s w is h = after_quietly P w s h

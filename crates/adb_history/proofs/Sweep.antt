@@ -1,23 +1,19 @@
 -- The up rule leaves no stream that may send.
-use Rattle.std.proofs.Common.{◌≡◌, ◌≢◌, ℕ, ◌+◌, ◌-◌, ◌<◌, ◌≤◌, zero, suc, Bool, true, false, cond, ◌&&◌, List, [], ◌∷◌, ◌++◌, length, drop, Option, Some, None, refl, sym, ap, subst, ◌∙◌, arith, ◌⊎◌, inl, inr, eqb}
-use Rattle.std.specs.Prelude.{option_and_then, nat_eq}
-use Rattle.std.proofs.lemmas.Bool.{eqb-true, eq-eqb, ne_eqb, cases_eq}
-use Rattle.adb_outside.specs.Tables.{Rows, change_row}
-use Rattle.adb_registry.specs.Registry.{DeviceTable}
-use Rattle.adb_wire.specs.declared.packets.Packet.{Packet}
+use Rattle.std.proofs.Common.{◌≡◌, ℕ, Bool, true, false, cond, List, [], ◌∷◌, drop, Option, Some, None, refl, sym, ap, subst, ◌∙◌}
+use Rattle.adb_outside.specs.Tables.{Rows}
 use Rattle.adb_stream.specs.declared.row.Part.{Part}
 use Rattle.adb_stream.specs.declared.row.Stream.{Stream}
 use Rattle.adb_client.specs.declared.phase.Phase.{Phase}
 use Rattle.adb_client.specs.declared.phase.Phase.TheVariants.{Asking, Opening, Streaming, Binding, Tracking, Closing, Gone}
-use Rattle.adb_history.specs.Rows.{Client, Link, State, to_client, to_stream, none_kept, with_held, with_stream_part}
-use Rattle.adb_history.specs.Events.{Made, Event, Ending, quietly, then_also, client_closed}
+use Rattle.adb_history.specs.Rows.{Client, Link, State, to_stream, none_kept, with_held, with_stream_part}
+use Rattle.adb_history.specs.Events.{quietly, client_closed}
 use Rattle.adb_history.specs.Links.{maxdata_of, owe_link, close_packet}
-use Rattle.adb_history.specs.Clients.{closing, closing_with, closes}
-use Rattle.adb_history.specs.Streams.{loses, client_loses, ends_row, ends_telling}
-use Rattle.adb_history.specs.Flow.{payloads, total, flow_after, with_flow, goes_up, all_go_up, noted, is_over, closes_if, sends_up, is_streaming, up_client, up_stream, up, up_all}
-use Rattle.adb_history.proofs.Following.{changed_here, changed_other}
+use Rattle.adb_history.specs.Clients.{closes}
+use Rattle.adb_history.specs.Streams.{loses, client_loses, ends_telling}
+use Rattle.adb_history.specs.Flow.{payloads, total, flow_after, with_flow, goes_up, all_go_up, noted, is_over, closes_if, sends_up, is_streaming}
+use Rattle.adb_history.specs.Flow.{up_client, up_stream, up}
+use Rattle.adb_history.proofs.Following.{changed_here}
 use Rattle.adb_history.proofs.OwnedStep.{ends_state}
-use Rattle.adb_history.proofs.Writes.{payloads_done}
 
 -- a stream that its client has open
 pub record Sending (l : ℕ) (s : State) : Type 0 where
@@ -64,7 +60,7 @@ module _ (Q : State → Type 0) (l : ℕ) (s : State) (q : UpTo Q l s) where
   sends_case : (x : Sending l s) → Q (sends_up l x.stream x.client (sent l s x) s).state
   sends_case x =
       subst (λ (m : State). Q (closes_if (over l s x) l (m.streams l) m).state) (sym (go_up_frame l x.stream (sent l s x) (left l s x)))
-        (go (over l s x) refl (changed_here l (with_stream_part part) s.streams x.stream x.there))
+      (go (over l s x) refl (changed_here l (with_stream_part part) s.streams x.stream x.there))
     where
       part : Part
       part = with_flow (flow_after (sent l s x) x.stream.part.flow) x.stream.part
@@ -80,7 +76,7 @@ module _ (Q : State → Type 0) (l : ℕ) (s : State) (q : UpTo Q l s) where
       ends_of y same =
           let owed : State = (owe_link y.link (close_packet l y.part.remote) now).state in
           let here : owed.clients x.stream.client ≡ with_held (drop (total (sent l s x)) x.client.held) x.client =
-            changed_here x.stream.client (with_held (drop (total (sent l s x)) x.client.held)) s.clients x.client x.here in
+          changed_here x.stream.client (with_held (drop (total (sent l s x)) x.client.held)) s.clients x.client x.here in
           ends_state l client_closed y owed
           ∙ (ap (λ c. (client_loses (owed.clients c) c (to_stream l none_kept owed)).state) same
           ∙ (ap (λ o. (client_loses o x.stream.client (to_stream l none_kept owed)).state) here
@@ -91,7 +87,7 @@ module _ (Q : State → Type 0) (l : ℕ) (s : State) (q : UpTo Q l s) where
       go true e here =
           let y : Stream = record x.stream { part = part } in
           subst (λ (o : Option Stream). Q (closes_if true l o now).state) (sym here)
-            (subst Q (sym (ends_of y refl)) (q.ends x (owe_link y.link (close_packet l y.part.remote) now).state.links e))
+          (subst Q (sym (ends_of y refl)) (q.ends x (owe_link y.link (close_packet l y.part.remote) now).state.links e))
 
   pub up_to : Q (up l s).state
   up_to = at_stream (s.streams l) refl

@@ -28,7 +28,7 @@ abbrev pub lists_of : Bool → ℕ → History → List ℕ
 lists_of long c [] = []
 lists_of long c (Put n bytes ∷ older) =
     list_if (nat_eq n c && nat_eq (length (bytes_put c older)) (length ((asked c older).replies ++ lists_of long c older)))
-      (tracked_list (devices older) long) (lists_of long c older)
+    (tracked_list (devices older) long) (lists_of long c older)
 lists_of long c (_ ∷ older) = lists_of long c older
 
 -- the last list that was due to a tracker: that of its reply, or of a later moment

@@ -55,7 +55,7 @@ given_to l b h = CREDIT_WINDOW + credit_of (okays_of l (packets_of b.link h))
 abbrev pub writes_early : ℕ → Birth → Entry → History → Bool
 writes_early l b e older =
     writes_early_in b (remote_of l b older) l (length (joined (told_to l b older))) (length (handed_to l b older)) (given_to l b older)
-      (brings b.link e older)
+    (brings b.link e older)
 
 -- Its link is lost, or its device says anew who it is.
 abbrev pub detaches : ℕ → Entry → Bool

@@ -28,7 +28,7 @@ abbrev pub writes : ℕ → (maxdata credit : ℕ) → List ℕ → List (List �
 writes zero maxdata credit held = []
 writes (suc k) maxdata credit held =
     write_before (write_len maxdata credit held) held
-      (writes k maxdata (credit - write_len maxdata credit held) (drop (write_len maxdata credit held) held))
+    (writes k maxdata (credit - write_len maxdata credit held) (drop (write_len maxdata credit held) held))
 
 -- What a stream may write: one write at a time, and none while one is outstanding; or as many as there is credit for.
 abbrev pub payloads : Flow → ℕ → List ℕ → List (List ℕ)
@@ -70,7 +70,7 @@ flow_after (payload ∷ payloads) flow = flow_after payloads (wrote (length payl
 abbrev pub noted : ℕ → Stream → List ℕ → List (List ℕ) → State → State
 noted l stream held payloads s =
     to_client stream.client (with_held (drop (total payloads) held))
-      (to_stream l (with_stream_part (with_flow (flow_after payloads stream.part.flow) stream.part)) s)
+    (to_stream l (with_stream_part (with_flow (flow_after payloads stream.part.flow) stream.part)) s)
 
 -- whether a stream is over for its client: its input ended, nothing of it is held, and no write waits
 abbrev pub is_over : Bool → List ℕ → Flow → Bool
@@ -86,7 +86,7 @@ closes_if true l (Some stream) s = ends_telling l client_closed stream s
 abbrev pub sends_up : ℕ → Stream → Client → List (List ℕ) → State → Made
 sends_up l stream client payloads s =
     then_also (all_go_up l stream payloads (noted l stream client.held payloads s))
-      (λ s. closes_if (is_over client.about.ended (drop (total payloads) client.held) (flow_after payloads stream.part.flow)) l (s.streams l) s)
+    (λ s. closes_if (is_over client.about.ended (drop (total payloads) client.held) (flow_after payloads stream.part.flow)) l (s.streams l) s)
 
 -- a stream that its client has open
 abbrev pub is_streaming : ℕ → Phase → Bool

@@ -64,7 +64,7 @@ abbrev pub stream_hands : ℕ → ℕ → Stream → State → Made
 stream_hands left l stream s =
     if nat_eq left (to_hand stream.part.flow) then quietly s
     else tells_handed stream.part.flow left l stream
-      (to_stream l (with_stream_part (with_flow (handed_to left stream.part.flow) stream.part)) s)
+    (to_stream l (with_stream_part (with_flow (handed_to left stream.part.flow) stream.part)) s)
 
 abbrev pub stream_left : ℕ → ℕ → Option Stream → State → Made
 stream_left due l None s = quietly s

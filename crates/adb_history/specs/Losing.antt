@@ -34,7 +34,7 @@ orphaned part = record part { orphan = true }
 abbrev pub stream_fails : Phase → Cause → Option Stream → State → Made
 stream_fails (Streaming l) cause (Some stream) s =
     then_also (owe_link stream.link (close_packet l stream.part.remote) (to_stream l none_kept s))
-      (λ s. record { state = s; told = ended l (client_failed cause) ∷ [] })
+    (λ s. record { state = s; told = ended l (client_failed cause) ∷ [] })
 stream_fails (Opening l) cause (Some stream) s =
     record { state = to_stream l (with_stream_part (orphaned stream.part)) s; told = ended l (client_failed cause) ∷ [] }
 stream_fails _ cause stream s = quietly s

@@ -1,8 +1,7 @@
 -- The moves that the rules are made of. What each move keeps, each rule keeps.
-use Rattle.std.specs.Prelude.{ℕ, ◌+◌, ◌-◌, ◌≡◌, ◌≢◌, ◌≤◌, ◌<◌, ◌⊎◌, Bool, true, false, is_some, All, List, [], ◌∷◌, ◌++◌, length, drop, Option, Some, None}
+use Rattle.std.specs.Prelude.{ℕ, ◌+◌, ◌≡◌, ◌≢◌, ◌≤◌, ◌⊎◌, Bool, true, false, is_some, All, List, [], ◌∷◌, ◌++◌, length, drop, Option, Some, None}
 use Rattle.adb_outside.specs.Tables.{at, put_row}
 use Rattle.adb_outside.specs.declared.kinds.Kind.{Kind}
-use Rattle.adb_outside.specs.declared.kinds.Cause.{Cause}
 use Rattle.adb_outside.specs.declared.identity.Identity.{Identity}
 use Rattle.adb_outside.specs.declared.identity.State.TheVariants.{Offline}
 use Rattle.adb_registry.specs.Registry.{DeviceTable, attached}
@@ -11,17 +10,16 @@ use Rattle.adb_forward.specs.declared.row.ForwardRow.{ForwardRow}
 use Rattle.adb_wire.specs.declared.packets.Packet.{Packet}
 use Rattle.adb_wire.specs.declared.command.Command.TheVariants.{Cnxn}
 use Rattle.adb_wire.specs.Packet.{spelling}
-use Rattle.adb_stream.specs.Credit.{IsWhole}
 use Rattle.adb_stream.specs.declared.flow.Flow.{Flow}
-use Rattle.adb_stream.specs.declared.row.Part.{Part}
 use Rattle.adb_stream.specs.declared.row.Stream.{Stream}
 use Rattle.adb_client.specs.declared.phase.Phase.{Phase}
-use Rattle.adb_client.specs.declared.phase.Phase.TheVariants.{Asking, Opening, Streaming, Binding, Tracking, Closing, Gone}
+use Rattle.adb_client.specs.declared.phase.Phase.TheVariants.{Asking, Opening, Streaming, Binding, Tracking}
 use Rattle.adb_client.specs.declared.about.Want.{Want}
 use Rattle.adb_reply.specs.Laws.{TakesPayloads}
-use Rattle.adb_history.specs.Rows.{new_link, Client, Link, State, to_client, to_link, to_stream, none_kept, with_due, with_held, in_phase, with_link_due, with_stream_part}
+use Rattle.adb_history.specs.Rows.{new_link, Client, Link, State, to_client, to_link, to_stream, none_kept, with_due, with_held, in_phase}
+use Rattle.adb_history.specs.Rows.{with_link_due, with_stream_part}
 use Rattle.adb_history.specs.Events.{Made, Event, Ending, quietly, then_also, due_to_client, due_to_link, ended}
-use Rattle.adb_history.specs.Links.{is_connected, is_credit, maxdata_of}
+use Rattle.adb_history.specs.Links.{is_connected, is_credit}
 use Rattle.adb_history.specs.Clients.{closes}
 use Rattle.adb_history.specs.Streams.{draw, ends_row}
 use Rattle.adb_history.specs.Flow.{with_flow}
@@ -72,13 +70,13 @@ IsReady t devices = (is_connected t devices ≡ true) ⊎ TakesPayloads devices.
 abbrev pub open_now : (l remote : ℕ) → Option ℕ → Stream → State → State
 open_now l remote word stream s =
     to_client stream.client (in_phase (Streaming l))
-      (to_stream l (with_stream_part (with_remote remote (with_flow (first_credit word stream.part.flow) stream.part))) s)
+    (to_stream l (with_stream_part (with_remote remote (with_flow (first_credit word stream.part.flow) stream.part))) s)
 
 -- a stream accepts bytes, which become due to its client
 abbrev pub accepts_now : ℕ → List ℕ → Stream → State → State
 accepts_now l payload stream s =
     to_client stream.client (with_due payload)
-      (to_stream l (with_stream_part (with_flow (accepted (length payload) stream.part.flow) stream.part)) s)
+    (to_stream l (with_stream_part (with_flow (accepted (length payload) stream.part.flow) stream.part)) s)
 
 -- a stream is drawn for a client that asked for it
 abbrev pub draws_now : (c t : ℕ) → State → State

@@ -107,8 +107,8 @@ hears_okay (Some client) c s = if client.about.forwarded then quietly s else owe
 abbrev pub opened : (l remote : ℕ) → Option ℕ → Stream → State → Made
 opened l remote word stream s =
     then_also (hears_okay (s.clients stream.client) stream.client s)
-      (λ s. quietly (to_client stream.client (in_phase (Streaming l))
-        (to_stream l (with_stream_part (with_remote remote (with_flow (first_credit word stream.part.flow) stream.part))) s)))
+    (λ s. quietly (to_client stream.client (in_phase (Streaming l))
+    (to_stream l (with_stream_part (with_remote remote (with_flow (first_credit word stream.part.flow) stream.part))) s)))
 
 -- an orphan is closed as soon as the device has told its id
 abbrev pub orphan_opened : (l remote : ℕ) → Stream → State → Made
@@ -154,7 +154,7 @@ abbrev pub accepts : ℕ → List ℕ → Stream → State → Made
 accepts l [] stream s = accepts_none stream.part.flow l stream s
 accepts l (b ∷ payload) stream s =
     owe_client stream.client (b ∷ payload)
-      (to_stream l (with_stream_part (with_flow (accepted (length (b ∷ payload)) stream.part.flow) stream.part)) s)
+    (to_stream l (with_stream_part (with_flow (accepted (length (b ∷ payload)) stream.part.flow) stream.part)) s)
 
 -- WRTE
 abbrev pub takes_write : (l remote : ℕ) → List ℕ → Stream → State → Made
