@@ -204,7 +204,8 @@ owned_moves = record {
   fails_open = λ c l x stream s w is in_ at_l h. record {
     rows = rows.fails_open c l x stream s w is in_ at_l h.rows;
     owned =
-        fails_owned s c l x stream (together_at s c l x stream (subst (λ (p : Phase). HoldsIn p s.streams c x) in_ (h.owned.client c x is).holds) (is, at_l) h) h;
+        fails_owned s c l x stream
+        (together_at s c l x stream (subst (λ (p : Phase). HoldsIn p s.streams c x) in_ (h.owned.client c x is).holds) (is, at_l) h) h;
   };
   fails_asked = λ c l x stream s w is in_ at_l h. record {
     rows = rows.fails_asked c l x stream s w is in_ at_l h.rows;

@@ -81,93 +81,95 @@ module _ {P : State → List Event → Type 0} (ends : EndsKept P) where
   all_end_kept t ending s w h = ends_of_kept t s.drawn ending s w h
 
 module _ {P : State → List Event → Type 0} (k : Moves P) where
-  -- a packet of a stream that lives becomes due
-  pub owes_kept : (t : ℕ) (p : Packet) (s : State) (w : List Event) → IsOfStream s.streams p → P s w → After P w (owe_link t p s)
-  owes_kept t p s w of h = k.owes t p (check_on (wants_sums (s.links t)) p) s w of h
+  module _ (s : State) (w : List Event) (h : P s w) where
+    -- a packet of a stream that lives becomes due
+    pub owes_kept : (t : ℕ) (p : Packet) → IsOfStream s.streams p → After P w (owe_link t p s)
+    owes_kept t p of = k.owes t p (check_on (wants_sums (s.links t)) p) s w of h
 
-  pub closes_with_kept : (c : ℕ) (bytes : List ℕ) (client : Client) (s : State) (w : List Event) → s.clients c ≡ Some client → IsFree client.about.phase
-      → P s w → After P w (closes_with c bytes s)
-  closes_with_kept c bytes client s w is free h =
-      k.closes c (record client { due = client.due ++ bytes }) (to_client c (with_due bytes) s) (w ++ _ ∷ [])
-      (changed_here c (with_due bytes) s.clients client is) free (k.due c bytes s w h)
+    pub closes_with_kept : (c : ℕ) (bytes : List ℕ) (client : Client) → s.clients c ≡ Some client → IsFree client.about.phase
+        → After P w (closes_with c bytes s)
+    closes_with_kept c bytes client is free =
+        k.closes c (record client { due = client.due ++ bytes }) (to_client c (with_due bytes) s) (w ++ _ ∷ [])
+        (changed_here c (with_due bytes) s.clients client is) free (k.due c bytes s w h)
 
-  -- ---- service
-  asks_for_kept : (c t : ℕ) (service : List ℕ) (client : Client) (s : State) (w : List Event) → s.clients c ≡ Some client → client.about.phase ≡ Asking
-      → IsReady t s.devices → P s w → After P w (asks_for (s.drawn + 1) c t service s)
-  asks_for_kept c t service client s w is asking ready h =
-      let drawn : State = draws_now c t s in
-      let alive : is_some (drawn.streams (s.drawn + 1)) ≡ true = rw (eq-eqb (s.drawn + 1) (s.drawn + 1) refl) refl in
-      owes_kept t (open_packet (is_credit t s.devices) (s.drawn + 1) service) drawn w (inr (inl alive)) (k.draws c t client s w is asking ready h)
+  module _ (s : State) (w : List Event) (h : P s w) where
+    -- ---- service
+    asks_for_kept : (c t : ℕ) (service : List ℕ) (client : Client) → s.clients c ≡ Some client → client.about.phase ≡ Asking → IsReady t s.devices
+        → After P w (asks_for (s.drawn + 1) c t service s)
+    asks_for_kept c t service client is asking ready =
+        let drawn : State = draws_now c t s in
+        let alive : is_some (drawn.streams (s.drawn + 1)) ≡ true = rw (eq-eqb (s.drawn + 1) (s.drawn + 1) refl) refl in
+        owes_kept drawn w (k.draws c t client s w is asking ready h) t (open_packet (is_credit t s.devices) (s.drawn + 1) service) (inr (inl alive))
 
-  no_ids_kept : (forwarded : Bool) (c : ℕ) (client : Client) (s : State) (w : List Event) → s.clients c ≡ Some client → client.about.phase ≡ Asking
-      → P s w → After P w (no_ids_left forwarded c s)
-  no_ids_kept true c client s w is asking h =
-      after_quietly P w (to_client c none_kept s) (k.drops c client s w is (asks_streamless client.about.phase s.streams asking) h)
-  no_ids_kept false c client s w is asking h =
-      closes_with_kept c (failed (codes "no stream ids left")).bytes client s w is (asks_free client.about.phase asking) h
+    no_ids_kept : (forwarded : Bool) (c : ℕ) (client : Client) → s.clients c ≡ Some client → client.about.phase ≡ Asking → After P w (no_ids_left forwarded c s)
+    no_ids_kept true c client is asking =
+        after_quietly P w (to_client c none_kept s) (k.drops c client s w is (asks_streamless client.about.phase s.streams asking) h)
+    no_ids_kept false c client is asking =
+        closes_with_kept s w h c (failed (codes "no stream ids left")).bytes client is (asks_free client.about.phase asking)
 
-  pub service_kept : (forwarded : Bool) (c t : ℕ) (service : List ℕ) (client : Client) (s : State) (w : List Event) → s.clients c ≡ Some client
-      → client.about.phase ≡ Asking → IsReady t s.devices → P s w → After P w (opens forwarded c t service s)
-  service_kept forwarded c t service client s w is asking ready h =
-      after_if P w (eqb s.drawn stream_ids) (no_ids_left forwarded c s) (asks_for (s.drawn + 1) c t service s)
-      (λ e. no_ids_kept forwarded c client s w is asking h) (λ e. asks_for_kept c t service client s w is asking ready h)
+    pub service_kept : (forwarded : Bool) (c t : ℕ) (service : List ℕ) (client : Client) → s.clients c ≡ Some client → client.about.phase ≡ Asking
+        → IsReady t s.devices → After P w (opens forwarded c t service s)
+    service_kept forwarded c t service client is asking ready =
+        after_if P w (eqb s.drawn stream_ids) (no_ids_left forwarded c s) (asks_for (s.drawn + 1) c t service s)
+        (λ e. no_ids_kept forwarded c client is asking) (λ e. asks_for_kept c t service client is asking ready)
 
-  -- ---- stream end
-  pub ends_telling_kept : (l : ℕ) (ending : Ending) (stream : Stream) (s : State) (w : List Event) → s.streams l ≡ Some stream
-      → P s w → After P w (ends_telling l ending stream s)
-  ends_telling_kept l ending stream s w is h =
-      let p : Packet = close_packet l stream.part.remote in
-      after_then P w (owe_link stream.link p s) (ends_row l ending stream) (owes_kept stream.link p s w (inr (inl (is_alive l s.streams stream is))) h)
-      (λ v now. k.ends l ending stream (owe_link stream.link p s).state v is now)
+    -- ---- stream end
+    pub ends_telling_kept : (l : ℕ) (ending : Ending) (stream : Stream) → s.streams l ≡ Some stream → After P w (ends_telling l ending stream s)
+    ends_telling_kept l ending stream is =
+        let p : Packet = close_packet l stream.part.remote in
+        after_then P w (owe_link stream.link p s) (ends_row l ending stream) (owes_kept s w h stream.link p (inr (inl (is_alive l s.streams stream is))))
+        (λ v now. k.ends l ending stream (owe_link stream.link p s).state v is now)
 
   -- ---- the up rule
-  go_up_kept : (l : ℕ) (stream : Stream) (payloads : List (List ℕ)) (s : State) (w : List Event) → is_some (s.streams l) ≡ true
-      → P s w → After P w (all_go_up l stream payloads s)
-  go_up_kept l stream [] s w alive h = after_quietly P w s h
-  go_up_kept l stream (payload ∷ payloads) s w alive h =
+  go_up_kept : (s : State) (w : List Event) → P s w → (l : ℕ) (stream : Stream) (payloads : List (List ℕ)) → is_some (s.streams l) ≡ true
+      → After P w (all_go_up l stream payloads s)
+  go_up_kept s w h l stream [] alive = after_quietly P w s h
+  go_up_kept s w h l stream (payload ∷ payloads) alive =
       after_then P w (goes_up l stream payload s) (all_go_up l stream payloads)
-      (owes_kept stream.link (write_packet l stream.part.remote payload) s w (inr (inl alive)) h)
-      (λ v now. go_up_kept l stream payloads (goes_up l stream payload s).state v alive now)
+      (owes_kept s w h stream.link (write_packet l stream.part.remote payload) (inr (inl alive)))
+      (λ v now. go_up_kept (goes_up l stream payload s).state v now l stream payloads alive)
 
-  closes_if_kept : (over : Bool) (l : ℕ) (o : Option Stream) (s : State) (w : List Event) → s.streams l ≡ o → P s w → After P w (closes_if over l o s)
-  closes_if_kept over l None s w is h = after_quietly P w s h
-  closes_if_kept false l (Some stream) s w is h = after_quietly P w s h
-  closes_if_kept true l (Some stream) s w is h = ends_telling_kept l client_closed stream s w is h
+  module _ (s : State) (w : List Event) (h : P s w) where
+    closes_if_kept : (over : Bool) (l : ℕ) (o : Option Stream) → s.streams l ≡ o → After P w (closes_if over l o s)
+    closes_if_kept over l None is = after_quietly P w s h
+    closes_if_kept false l (Some stream) is = after_quietly P w s h
+    closes_if_kept true l (Some stream) is = ends_telling_kept s w h l client_closed stream is
 
-  noted_kept : (l : ℕ) (stream : Stream) (client : Client) (payloads : List (List ℕ)) (s : State) (w : List Event) → s.streams l ≡ Some stream
-      → s.clients stream.client ≡ Some client → HasOne client.about.phase → P s w → P (noted l stream client.held payloads s) w
-  noted_kept l stream client payloads s w is here has h =
-      let flow : Flow = flow_after payloads stream.part.flow in
-      k.holds stream.client client (drop (total payloads) client.held) (to_stream l (with_stream_part (with_flow flow stream.part)) s) w here has
-      (k.flows l stream flow s w is (like_after payloads stream.part.flow) h)
+    noted_kept : (l : ℕ) (stream : Stream) (client : Client) (payloads : List (List ℕ)) → s.streams l ≡ Some stream → s.clients stream.client ≡ Some client
+        → HasOne client.about.phase → P (noted l stream client.held payloads s) w
+    noted_kept l stream client payloads is here has =
+        let flow : Flow = flow_after payloads stream.part.flow in
+        k.holds stream.client client (drop (total payloads) client.held) (to_stream l (with_stream_part (with_flow flow stream.part)) s) w here has
+        (k.flows l stream flow s w is (like_after payloads stream.part.flow) h)
 
-  sends_up_kept : (l : ℕ) (stream : Stream) (client : Client) (payloads : List (List ℕ)) (s : State) (w : List Event) → s.streams l ≡ Some stream
-      → s.clients stream.client ≡ Some client → HasOne client.about.phase → P s w → After P w (sends_up l stream client payloads s)
-  sends_up_kept l stream client payloads s w is here has h =
-      let now : State = noted l stream client.held payloads s in
-      let part = with_flow (flow_after payloads stream.part.flow) stream.part in
-      let alive : is_some (now.streams l) ≡ true = ap is_some (changed_here l (with_stream_part part) s.streams stream is) in
-      let sent : Made = all_go_up l stream payloads now in
-      let over : Bool = is_over client.about.ended (drop (total payloads) client.held) (flow_after payloads stream.part.flow) in
-      after_then P w sent (λ s. closes_if over l (s.streams l) s)
-      (go_up_kept l stream payloads now w alive (noted_kept l stream client payloads s w is here has h))
-      (λ v kept. closes_if_kept over l (sent.state.streams l) sent.state v refl kept)
+  module _ (s : State) (w : List Event) (h : P s w) where
+    sends_up_kept : (l : ℕ) (stream : Stream) (client : Client) (payloads : List (List ℕ)) → s.streams l ≡ Some stream → s.clients stream.client ≡ Some client
+        → HasOne client.about.phase → After P w (sends_up l stream client payloads s)
+    sends_up_kept l stream client payloads is here has =
+        let now : State = noted l stream client.held payloads s in
+        let part = with_flow (flow_after payloads stream.part.flow) stream.part in
+        let alive : is_some (now.streams l) ≡ true = ap is_some (changed_here l (with_stream_part part) s.streams stream is) in
+        let sent : Made = all_go_up l stream payloads now in
+        let over : Bool = is_over client.about.ended (drop (total payloads) client.held) (flow_after payloads stream.part.flow) in
+        after_then P w sent (λ s. closes_if over l (s.streams l) s)
+        (go_up_kept now w (noted_kept s w h l stream client payloads is here has) l stream payloads alive)
+        (λ v kept. closes_if_kept sent.state v kept over l (sent.state.streams l) refl)
 
-  up_client_kept : (l : ℕ) (stream : Stream) (o : Option Client) (s : State) (w : List Event) → s.streams l ≡ Some stream
-      → s.clients stream.client ≡ o → P s w → After P w (up_client l stream o s)
-  up_client_kept l stream None s w is here h = after_quietly P w s h
-  up_client_kept l stream (Some client) s w is here h =
-      let sent : List (List ℕ) = payloads stream.part.flow (maxdata_of stream.link s.devices) client.held in
-      after_if P w (is_streaming l client.about.phase) (sends_up l stream client sent s) (quietly s)
-      (λ e. sends_up_kept l stream client sent s w is here (streaming_has l client.about.phase e) h) (λ e. after_quietly P w s h)
+    up_client_kept : (l : ℕ) (stream : Stream) (o : Option Client) → s.streams l ≡ Some stream → s.clients stream.client ≡ o
+        → After P w (up_client l stream o s)
+    up_client_kept l stream None is here = after_quietly P w s h
+    up_client_kept l stream (Some client) is here =
+        let sent : List (List ℕ) = payloads stream.part.flow (maxdata_of stream.link s.devices) client.held in
+        after_if P w (is_streaming l client.about.phase) (sends_up l stream client sent s) (quietly s)
+        (λ e. sends_up_kept l stream client sent is here (streaming_has l client.about.phase e)) (λ e. after_quietly P w s h)
 
-  up_kept : (l : ℕ) (o : Option Stream) (s : State) (w : List Event) → s.streams l ≡ o → P s w → After P w (up_stream l o s)
-  up_kept l None s w is h = after_quietly P w s h
-  up_kept l (Some stream) s w is h = up_client_kept l stream (s.clients stream.client) s w is refl h
+    up_kept : (l : ℕ) (o : Option Stream) → s.streams l ≡ o → After P w (up_stream l o s)
+    up_kept l None is = after_quietly P w s h
+    up_kept l (Some stream) is = up_client_kept l stream (s.clients stream.client) is refl
 
   -- the up rule, for every stream
-  pub up_all_kept : (n : ℕ) (s : State) (w : List Event) → P s w → After P w (up_all n s)
-  up_all_kept zero s w h = after_quietly P w s h
-  up_all_kept (suc n) s w h =
+  pub up_all_kept : (s : State) (w : List Event) → P s w → (n : ℕ) → After P w (up_all n s)
+  up_all_kept s w h zero = after_quietly P w s h
+  up_all_kept s w h (suc n) =
       let before : Made = up_all n s in
-      after_then P w before (up (suc n)) (up_all_kept n s w h) (λ v now. up_kept (suc n) (before.state.streams (suc n)) before.state v refl now)
+      after_then P w before (up (suc n)) (up_all_kept s w h n) (λ v now. up_kept before.state v now (suc n) (before.state.streams (suc n)) refl)

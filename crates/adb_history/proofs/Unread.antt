@@ -348,8 +348,8 @@ asks_unread q c client s is asked h = record { more = λ k y apart e asks. all k
     but = record { more = λ k y apart e asks. other k y apart (eqb c k) refl e asks }
 
     others : UnreadBut (λ k. c ≡ k) (goes_on q.next c (to_client c (with_due q.replies) (to_client c (has_asked q) s))).state.clients
-    others = goes_on_kept (unread_moves (λ k. c ≡ k)) q.next c now (to_client c (with_due q.replies) (to_client c (has_asked q) s)) [] here is.1 asked.0
-        (unread_due (λ k. c ≡ k) c q.replies (to_client c (has_asked q) s).clients but)
+    others = goes_on_kept (unread_moves (λ k. c ≡ k)) (to_client c (with_due q.replies) (to_client c (has_asked q) s)) []
+        (unread_due (λ k. c ≡ k) c q.replies (to_client c (has_asked q) s).clients but) q.next c now here is.1 asked.0
 
     at_c : (o : Option Next) → q.next ≡ o → (y : Client)
         → (goes_on o c (to_client c (with_due q.replies) (to_client c (has_asked q) s))).state.clients c ≡ Some y
@@ -413,4 +413,4 @@ pub all_unread : (h : History) → UnreadBut (λ _. ⊥) (state h).clients
 all_unread [] = record { more = λ k x apart is asks. absurd (let clash : None ≡ Some x = is in cc) }
 all_unread (e ∷ older) =
     let ruled : State = (rule e (state older)).state in
-    up_all_kept (unread_moves (λ _. ⊥)) ruled.drawn ruled [] (rule_unread e (state older) (all_unread older))
+    up_all_kept (unread_moves (λ _. ⊥)) ruled [] (rule_unread e (state older) (all_unread older)) ruled.drawn
