@@ -160,80 +160,80 @@ all_cleared t ending s rows =
 none_on : (t : ℕ) (devices : DeviceTable) (x : Stream) → is_connected t devices ≡ false → OnLink devices x → x.link ≢ t
 none_on t devices x off h same = let clash : true ≡ false = sym h.connected ∙ (ap (λ n. is_connected n devices) same ∙ off) in cc
 
--- ---- a link ends
-link_ends_linked : (t : ℕ) (ending : Ending) (s : State) → IsLinked s → IsLinked (link_ends t ending s).state
-link_ends_linked t ending s h = record {
-  owned = owned_moves.link_ends t ending s [] h.owned;
-  rows = subst (λ (l : Rows (Option Link)). DeviceRows now.devices l now.forwards) (sym left.links)
-      (subst (λ (f : List (ℕ × ForwardRow)). DeviceRows now.devices forgot.links f) (sym left.forwards)
-      (subst (λ (d : DeviceTable). DeviceRows d forgot.links forgot.forwards) (sym left.devices) (detached_rows s.devices s.links s.forwards t h.rows)));
-  on = subst (λ (d : DeviceTable). AllOn d now.streams) (sym left.devices)
-      (λ m x e. detached_on t s.devices x h.rows.rises (left.clear m x e) (h.on m x (left.same m x e)));
-}
-  where
-    forgot : State
-    forgot = forgets t s
+module _ (s : State) (h : IsLinked s) where
+  -- ---- a link ends
+  link_ends_linked : (t : ℕ) (ending : Ending) → IsLinked (link_ends t ending s).state
+  link_ends_linked t ending = record {
+    owned = owned_moves.link_ends t ending s [] h.owned;
+    rows = subst (λ (l : Rows (Option Link)). DeviceRows now.devices l now.forwards) (sym left.links)
+        (subst (λ (f : List (ℕ × ForwardRow)). DeviceRows now.devices forgot.links f) (sym left.forwards)
+        (subst (λ (d : DeviceTable). DeviceRows d forgot.links forgot.forwards) (sym left.devices) (detached_rows s.devices s.links s.forwards t h.rows)));
+    on = subst (λ (d : DeviceTable). AllOn d now.streams) (sym left.devices)
+        (λ m x e. detached_on t s.devices x h.rows.rises (left.clear m x e) (h.on m x (left.same m x e)));
+  }
+    where
+      forgot : State
+      forgot = forgets t s
 
-    now : State
-    now = (all_end t ending (forgets t s)).state
+      now : State
+      now = (all_end t ending (forgets t s)).state
 
-    left : IsCleared t (forgets t s) (all_end t ending (forgets t s)).state
-    left = all_cleared t ending (forgets t s) (record {
-      clients = h.owned.rows.clients;
-      links = (drawn_plain.link t none_kept s [] h.owned.rows).links;
-      streams = h.owned.rows.streams;
-    })
+      left : IsCleared t (forgets t s) (all_end t ending (forgets t s)).state
+      left = all_cleared t ending (forgets t s) (record {
+        clients = h.owned.rows.clients;
+        links = (drawn_plain.link t none_kept s [] h.owned.rows).links;
+        streams = h.owned.rows.streams;
+      })
 
--- ---- a device says who it is
-first_cleared : (b : Bool) (t : ℕ) (s : State) → is_connected t s.devices ≡ b → IsLinked s → IsCleared t s (streams_end_first b t s).state
-first_cleared true t s is h = all_cleared t lost s h.owned.rows
-first_cleared false t s is h =
-    record { devices = refl; links = refl; forwards = refl; same = λ m x e. e; clear = λ m x e. none_on t s.devices x is (h.on m x e) }
+  -- ---- a device says who it is
+  first_cleared : (b : Bool) (t : ℕ) → is_connected t s.devices ≡ b → IsCleared t s (streams_end_first b t s).state
+  first_cleared true t is = all_cleared t lost s h.owned.rows
+  first_cleared false t is =
+      record { devices = refl; links = refl; forwards = refl; same = λ m x e. e; clear = λ m x e. none_on t s.devices x is (h.on m x e) }
 
-online_linked : (t version maxdata : ℕ) (identity : Identity) (s : State) → IsLinked s → IsLinked (connects_now t version maxdata identity s).state
-online_linked t version maxdata identity s h = record {
-  owned = owned_moves.online t version maxdata identity s [] h.owned;
-  rows = subst (λ (d : DeviceTable). DeviceRows (changed t row d) (change_row t (option_and_then (with_sums (has_sums version))) now.links) now.forwards)
-      (sym left.devices)
-      (subst (λ (l : Rows (Option Link)). DeviceRows (changed t row s.devices) (change_row t (option_and_then (with_sums (has_sums version))) l) now.forwards)
-      (sym left.links)
-      (subst (λ (f : List (ℕ × ForwardRow)). DeviceRows (changed t row s.devices) (change_row t (option_and_then (with_sums (has_sums version))) s.links) f)
-      (sym left.forwards) rows));
-  on = subst (λ (d : DeviceTable). AllOn (changed t row d) now.streams) (sym left.devices)
-      (λ m x e. on_other s.devices (changed t row s.devices) x (changed_other_at t row s.devices h.rows.rises x.link (left.clear m x e))
-      (h.on m x (left.same m x e)));
-}
-  where
-    row : Row → Row
-    row = online_row identity (min version VERSION_WITHOUT_SUMS) (min maxdata MAX_PAYLOAD)
+  online_linked : (t version maxdata : ℕ) (identity : Identity) → IsLinked (connects_now t version maxdata identity s).state
+  online_linked t version maxdata identity = record {
+    owned = owned_moves.online t version maxdata identity s [] h.owned;
+    rows = subst (λ (d : DeviceTable). DeviceRows (changed t row d) (change_row t (option_and_then (with_sums (has_sums version))) now.links) now.forwards)
+        (sym left.devices)
+        (subst (λ (l : Rows (Option Link)). DeviceRows (changed t row s.devices) (change_row t (option_and_then (with_sums (has_sums version))) l) now.forwards)
+        (sym left.links)
+        (subst (λ (f : List (ℕ × ForwardRow)). DeviceRows (changed t row s.devices) (change_row t (option_and_then (with_sums (has_sums version))) s.links) f)
+        (sym left.forwards) rows));
+    on = subst (λ (d : DeviceTable). AllOn (changed t row d) now.streams) (sym left.devices)
+        (λ m x e. on_other s.devices (changed t row s.devices) x (changed_other_at t row s.devices h.rows.rises x.link (left.clear m x e))
+        (h.on m x (left.same m x e)));
+  }
+    where
+      row : Row → Row
+      row = online_row identity (min version VERSION_WITHOUT_SUMS) (min maxdata MAX_PAYLOAD)
 
-    now : State
-    now = (streams_end_first (is_connected t s.devices) t s).state
+      now : State
+      now = (streams_end_first (is_connected t s.devices) t s).state
 
-    left : IsCleared t s (streams_end_first (is_connected t s.devices) t s).state
-    left = first_cleared (is_connected t s.devices) t s refl h
+      left : IsCleared t s (streams_end_first (is_connected t s.devices) t s).state
+      left = first_cleared (is_connected t s.devices) t refl
 
-    rows : DeviceRows (changed t (online_row identity (min version VERSION_WITHOUT_SUMS) (min maxdata MAX_PAYLOAD)) s.devices)
-        (change_row t (option_and_then (with_sums (has_sums version))) s.links) s.forwards
-    rows = link_rows (changed t (online_row identity (min version VERSION_WITHOUT_SUMS) (min maxdata MAX_PAYLOAD)) s.devices) s.links s.forwards t
-        (λ link. record link { sums = has_sums version })
-        (changed_rows s.devices s.links s.forwards t (online_row identity (min version VERSION_WITHOUT_SUMS) (min maxdata MAX_PAYLOAD))
-        (λ r is. online_silent identity (min version VERSION_WITHOUT_SUMS) (min maxdata MAX_PAYLOAD) r) h.rows)
+      rows : DeviceRows (changed t (online_row identity (min version VERSION_WITHOUT_SUMS) (min maxdata MAX_PAYLOAD)) s.devices)
+          (change_row t (option_and_then (with_sums (has_sums version))) s.links) s.forwards
+      rows = link_rows (changed t (online_row identity (min version VERSION_WITHOUT_SUMS) (min maxdata MAX_PAYLOAD)) s.devices) s.links s.forwards t
+          (λ link. record link { sums = has_sums version })
+          (changed_rows s.devices s.links s.forwards t (online_row identity (min version VERSION_WITHOUT_SUMS) (min maxdata MAX_PAYLOAD))
+          (λ r is. online_silent identity (min version VERSION_WITHOUT_SUMS) (min maxdata MAX_PAYLOAD) r) h.rows)
 
-unauthorized_linked : (t : ℕ) (row : Row) (s : State) (w : List Event) → at t s.devices.rows ≡ Some row → row.state ≡ Offline → IsLinked s
-    → IsLinked (unauthorized_from t Offline s)
-unauthorized_linked t row s w is offline h = record {
-  owned = owned_moves.unauthorized t row s w is offline h.owned;
-  rows = changed_rows s.devices s.links s.forwards t unauthorized_row silent h.rows;
-  on = λ m x e. on_other s.devices (changed t unauthorized_row s.devices) x
-      (changed_other_at t unauthorized_row s.devices h.rows.rises x.link
-      (none_on t s.devices x (ap is_connected_row is ∙ ap is_connected_state offline) (h.on m x e))) (h.on m x e);
-}
-  where
-    silent : (r : Row) → at t s.devices.rows ≡ Some r → Silent (unauthorized_row r)
-    silent r e =
-        let same : row ≡ r = (let both : Some row ≡ Some r = sym is ∙ e in cc) in
-        unauthorized_silent r (ap (λ (x : Row). x.state) (sym same) ∙ offline) (h.rows.silent t r e)
+  unauthorized_linked : (t : ℕ) (row : Row) (w : List Event) → at t s.devices.rows ≡ Some row → row.state ≡ Offline → IsLinked (unauthorized_from t Offline s)
+  unauthorized_linked t row w is offline = record {
+    owned = owned_moves.unauthorized t row s w is offline h.owned;
+    rows = changed_rows s.devices s.links s.forwards t unauthorized_row silent h.rows;
+    on = λ m x e. on_other s.devices (changed t unauthorized_row s.devices) x
+        (changed_other_at t unauthorized_row s.devices h.rows.rises x.link
+        (none_on t s.devices x (ap is_connected_row is ∙ ap is_connected_state offline) (h.on m x e))) (h.on m x e);
+  }
+    where
+      silent : (r : Row) → at t s.devices.rows ≡ Some r → Silent (unauthorized_row r)
+      silent r e =
+          let same : row ≡ r = (let both : Some row ≡ Some r = sym is ∙ e in cc) in
+          unauthorized_silent r (ap (λ (x : Row). x.state) (sym same) ∙ offline) (h.rows.silent t r e)
 
 -- ---- streams change
 part_on : (devices : DeviceTable) (stream x y : Stream) (part : Part) → stream ≡ x → with_stream_part part x ≡ Some y
@@ -263,26 +263,26 @@ credit_accepted : (n : ℕ) (flow : Flow) → has_credit (accepted n flow) ≡ h
 credit_accepted n (One window) = refl
 credit_accepted n (Credit credit) = refl
 
-draws_on : (s : State) (c t : ℕ) → IsReady t s.devices → IsLinked s → AllOn s.devices (draws_now c t s).streams
-draws_on s c t ready h m y is = go (eqb (s.drawn + 1) m) is
-  where
-    drawn : OnLink s.devices (new_stream (s.drawn + 1) c t (new_flow (is_credit t s.devices)))
-    drawn = record { connected = ready_connected t s.devices s.links s.forwards h.rows ready; credit = credit_new (is_credit t s.devices) }
+module _ (s : State) (h : IsLinked s) where
+  draws_on : (c t : ℕ) → IsReady t s.devices → AllOn s.devices (draws_now c t s).streams
+  draws_on c t ready m y is = go (eqb (s.drawn + 1) m) is
+    where
+      drawn : OnLink s.devices (new_stream (s.drawn + 1) c t (new_flow (is_credit t s.devices)))
+      drawn = record { connected = ready_connected t s.devices s.links s.forwards h.rows ready; credit = credit_new (is_credit t s.devices) }
 
-    go : (b : Bool) → cond b (Some (new_stream (s.drawn + 1) c t (new_flow (is_credit t s.devices)))) (s.streams m) ≡ Some y → OnLink s.devices y
-    go true e = let row : new_stream (s.drawn + 1) c t (new_flow (is_credit t s.devices)) ≡ y = cc in subst (OnLink s.devices) row drawn
-    go false e = h.on m y e
+      go : (b : Bool) → cond b (Some (new_stream (s.drawn + 1) c t (new_flow (is_credit t s.devices)))) (s.streams m) ≡ Some y → OnLink s.devices y
+      go true e = let row : new_stream (s.drawn + 1) c t (new_flow (is_credit t s.devices)) ≡ y = cc in subst (OnLink s.devices) row drawn
+      go false e = h.on m y e
 
-ends_linked : (s : State) (l : ℕ) (ending : Ending) (stream : Stream) (w : List Event) → s.streams l ≡ Some stream → IsLinked s
-    → IsLinked (ends_row l ending stream s).state
-ends_linked s l ending stream w is h =
-    let gone : State = to_stream l none_kept s in
-    let frame = sym (ends_state l ending stream s ∙ client_loses_frame (s.clients stream.client) stream.client gone) in
-    record {
-      owned = owned_moves.ends l ending stream s w is h.owned;
-      rows = subst (λ (x : State). DeviceRows x.devices x.links x.forwards) frame h.rows;
-      on = subst (λ (x : State). AllOn x.devices x.streams) frame (gone_on s l h.on);
-    }
+  ends_linked : (l : ℕ) (ending : Ending) (stream : Stream) (w : List Event) → s.streams l ≡ Some stream → IsLinked (ends_row l ending stream s).state
+  ends_linked l ending stream w is =
+      let gone : State = to_stream l none_kept s in
+      let frame = sym (ends_state l ending stream s ∙ client_loses_frame (s.clients stream.client) stream.client gone) in
+      record {
+        owned = owned_moves.ends l ending stream s w is h.owned;
+        rows = subst (λ (x : State). DeviceRows x.devices x.links x.forwards) frame h.rows;
+        on = subst (λ (x : State). AllOn x.devices x.streams) frame (gone_on s l h.on);
+      }
 
 -- The link of a stream is connected, through each move.
 pub linked_moves : Moves (λ s w. IsLinked s)
@@ -302,7 +302,7 @@ linked_moves = record {
   unmarks = λ c s w h. record { owned = owned_moves.unmarks c s w h.owned; rows = h.rows; on = h.on };
   input_ended = λ c s w h. record { owned = owned_moves.input_ended c s w h.owned; rows = h.rows; on = h.on };
   hands = λ c n x s w is fits h. record { owned = owned_moves.hands c n x s w is fits h.owned; rows = h.rows; on = h.on };
-  draws = λ c t x s w is asking ready h. record { owned = owned_moves.draws c t x s w is asking ready h.owned; rows = h.rows; on = draws_on s c t ready h };
+  draws = λ c t x s w is asking ready h. record { owned = owned_moves.draws c t x s w is asking ready h.owned; rows = h.rows; on = draws_on s h c t ready };
   flows = λ l stream flow s w is like h. record {
     owned = owned_moves.flows l stream flow s w is like h.owned;
     rows = h.rows;
@@ -319,7 +319,7 @@ linked_moves = record {
     on = stream_on s l stream (with_remote remote (with_flow (first_credit word stream.part.flow) stream.part)) is (credit_first word stream.part.flow) h.on;
   };
   orphan_goes = λ l stream s w is orphan h. record { owned = owned_moves.orphan_goes l stream s w is orphan h.owned; rows = h.rows; on = gone_on s l h.on };
-  ends = λ l ending stream s w is h. ends_linked s l ending stream w is h;
+  ends = λ l ending stream s w is h. ends_linked s h l ending stream w is;
   fails_open =
       λ c l x stream s w is in_ at_l h. record { owned = owned_moves.fails_open c l x stream s w is in_ at_l h.owned; rows = h.rows; on = gone_on s l h.on };
   fails_asked = λ c l x stream s w is in_ at_l h. record {
@@ -328,9 +328,9 @@ linked_moves = record {
     on = stream_on s l stream (orphaned stream.part) at_l refl h.on;
   };
   links = λ t f s w h. record { owned = owned_moves.links t f s w h.owned; rows = link_rows s.devices s.links s.forwards t f h.rows; on = h.on };
-  link_ends = λ t ending s w h. link_ends_linked t ending s h;
-  online = λ t version maxdata identity s w h. online_linked t version maxdata identity s h;
-  unauthorized = λ t row s w is offline h. unauthorized_linked t row s w is offline h;
+  link_ends = λ t ending s w h. link_ends_linked s h t ending;
+  online = λ t version maxdata identity s w h. online_linked s h t version maxdata identity;
+  unauthorized = λ t row s w is offline h. unauthorized_linked s h t row w is offline;
   forwards = λ forwards s w led h. record {
     owned = owned_moves.forwards forwards s w led h.owned;
     rows = forward_rows s.devices s.links s.forwards forwards led h.rows;
@@ -343,39 +343,40 @@ linked_moves = record {
   };
 }
 
--- ---- who comes
-plugged_linked : (t : ℕ) (kind : Kind) (serial : List ℕ) (s : State) → t ≡ s.devices.drawn + 1 → IsLinked s
-    → DeviceRows (attached kind serial s.devices) (put_row t (Some new_link) s.links) s.forwards × AllOn (attached kind serial s.devices) s.streams
-plugged_linked t kind serial s next h = (
-  subst (λ (n : ℕ). DeviceRows (attached kind serial s.devices) (put_row n (Some new_link) s.links) s.forwards) (sym next)
-      (attached_rows s.devices s.links s.forwards kind serial new_link h.rows),
-  λ l x is. attached_on s.devices kind serial x none (h.on l x is),
-)
-  where
-    gone : (o : Option Row) → is_some o ≡ false → o ≡ None
-    gone None e = refl
-    gone (Some row) e = absurd (let clash : true ≡ false = e in cc)
+module _ (s : State) (h : IsLinked s) where
+  -- ---- who comes
+  plugged_linked : (t : ℕ) (kind : Kind) (serial : List ℕ) → t ≡ s.devices.drawn + 1
+      → DeviceRows (attached kind serial s.devices) (put_row t (Some new_link) s.links) s.forwards × AllOn (attached kind serial s.devices) s.streams
+  plugged_linked t kind serial next = (
+    subst (λ (n : ℕ). DeviceRows (attached kind serial s.devices) (put_row n (Some new_link) s.links) s.forwards) (sym next)
+        (attached_rows s.devices s.links s.forwards kind serial new_link h.rows),
+    λ l x is. attached_on s.devices kind serial x none (h.on l x is),
+  )
+    where
+      gone : (o : Option Row) → is_some o ≡ false → o ≡ None
+      gone None e = refl
+      gone (Some row) e = absurd (let clash : true ≡ false = e in cc)
 
-    none : at (s.devices.drawn + 1) s.devices.rows ≡ None
-    none = gone (at (s.devices.drawn + 1) s.devices.rows)
-        (sym (h.rows.linked (s.devices.drawn + 1)) ∙ ap is_some (h.owned.rows.links.above (s.devices.drawn + 1) (omega arith)))
+      none : at (s.devices.drawn + 1) s.devices.rows ≡ None
+      none = gone (at (s.devices.drawn + 1) s.devices.rows)
+          (sym (h.rows.linked (s.devices.drawn + 1)) ∙ ap is_some (h.owned.rows.links.above (s.devices.drawn + 1) (omega arith)))
 
-begins_linked : (e : Entry) (s : State) (w : List Event) → May s e → IsLinked s → Begins linked_moves e s w
-begins_linked (Join c) s w may h = record { owned = begins_owned (Join c) s w may h.owned; rows = h.rows; on = h.on }
-begins_linked (Enter c port) s w may h =
-    let b = begins_owned (Enter c port) s w may h.owned in
-    (record { owned = b.0; rows = h.rows; on = h.on }, record { owned = b.1; rows = h.rows; on = h.on })
-begins_linked (Attach t kind serial) s w may h =
-    let plugged = plugged_linked t kind serial s may.1 h in
-    record { owned = begins_owned (Attach t kind serial) s w may h.owned; rows = plugged.0; on = plugged.1 }
-begins_linked (Read c bytes) s w may h =
-    (h, λ client is asking. record { owned = (begins_owned (Read c bytes) s w may h.owned).1 client is asking; rows = h.rows; on = h.on })
-begins_linked (End c cause) s w may h = h
-begins_linked (Bound c port) s w may h = h
-begins_linked (Recv t bytes) s w may h = h
-begins_linked (Detach t cause) s w may h = h
-begins_linked (Put c bytes) s w may h = h
-begins_linked (Send t bytes) s w may h = h
+  begins_linked : (e : Entry) (w : List Event) → May s e → Begins linked_moves e s w
+  begins_linked (Join c) w may = record { owned = begins_owned s h.owned (Join c) w may; rows = h.rows; on = h.on }
+  begins_linked (Enter c port) w may =
+      let b = begins_owned s h.owned (Enter c port) w may in
+      (record { owned = b.0; rows = h.rows; on = h.on }, record { owned = b.1; rows = h.rows; on = h.on })
+  begins_linked (Attach t kind serial) w may =
+      let plugged = plugged_linked t kind serial may.1 in
+      record { owned = begins_owned s h.owned (Attach t kind serial) w may; rows = plugged.0; on = plugged.1 }
+  begins_linked (Read c bytes) w may =
+      (h, λ client is asking. record { owned = (begins_owned s h.owned (Read c bytes) w may).1 client is asking; rows = h.rows; on = h.on })
+  begins_linked (End c cause) w may = h
+  begins_linked (Bound c port) w may = h
+  begins_linked (Recv t bytes) w may = h
+  begins_linked (Detach t cause) w may = h
+  begins_linked (Put c bytes) w may = h
+  begins_linked (Send t bytes) w may = h
 
 -- In every state that a legal history leaves, links, devices, forwards and streams fit together.
 pub all_linked : (h : History) → IsLegal h → IsLinked (state h)
@@ -384,4 +385,4 @@ all_linked [] legal = record { owned = start_owned; rows = no_rows 0; on = λ l 
     none : (y : Stream) → None ≡ Some y → ⊥
     none y e = cc
 all_linked (e ∷ older) legal =
-    step_kept linked_moves e (state older) [] (begins_linked e (state older) [] legal.2 (all_linked older legal.0))
+    step_kept linked_moves e (state older) [] (begins_linked (state older) (all_linked older legal.0) e [] legal.2)

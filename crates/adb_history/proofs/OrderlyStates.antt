@@ -77,7 +77,7 @@ streaming_quiet : (s : State) (c l : ℕ) (client : Client) → IsOwned s → ((
     → (s.clients c ≡ Some client) × (client.about.phase ≡ Streaming l)
     → StreamOf s.streams c l → (x : Stream) → s.streams l ≡ Some x → IsQuiet s client x
 streaming_quiet s c l client h calm is own x there =
-    let t = together_at s c l client x own (is.0, there) h in
+    let t = together_at s h c l client x own (is.0, there) in
     let streaming : is_streaming l client.about.phase ≡ true = ap (is_streaming l) is.1 ∙ eq-eqb l l refl in
     let here : s.clients x.client ≡ Some client = ap s.clients t.of ∙ is.0 in
     let quiet : IsCalm s.devices client x = (calm l (some l x h.rows there)).calm
