@@ -183,7 +183,7 @@ module _ {P : State → List Event → Type 0} (k : Moves P) where
         (to_client c (has_asked (asks_with s.devices s.forwards bytes (asked_before client))) s) w) → After P w (reads_from o c bytes s)
     reads_kept None c bytes is asked = after_quietly P w s h
     reads_kept (Some client) c bytes is asked =
-        reads_in_kept k s w h client.about.phase c bytes client is refl (asked client is)
+        reads_in_kept k s w h client.about.phase c bytes (record { client = client; here = is; in_phase = refl }) (asked client is)
 
   -- ---- who comes
   enters_kept : (o : Option ForwardRow) (c : ℕ) (s : State) (w : List Event) → P (comes true c s) w → P (comes_in_vain s) w → After P w (enters_by c o s)
@@ -192,7 +192,8 @@ module _ {P : State → List Event → Type 0} (k : Moves P) where
       let now : State = comes true c s in
       let is : now.clients c ≡ Some (new_client true c) = rw (eq-eqb c c refl) refl in
       after_if P w (is_connected row.transport s.devices) (opens true c row.transport row.remote now) (quietly (comes_in_vain s))
-      (λ e. service_kept k now w here true c row.transport row.remote (new_client true c) is refl (inl e)) (λ e. after_quietly P w (comes_in_vain s) vain)
+      (λ e. service_kept k now w here true c row.transport row.remote
+        (record { client = new_client true c; here = is; in_phase = refl }) (inl e)) (λ e. after_quietly P w (comes_in_vain s) vain)
 
   -- What is to be shown before the rule of an entry: that it holds with who comes; of a client that asks, that it holds with what is read.
   abbrev pub Begins : Entry → State → List Event → Type 0

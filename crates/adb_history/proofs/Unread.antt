@@ -349,7 +349,7 @@ asks_unread q c client s is asked h = record { more = λ k y apart e asks. all k
 
     others : UnreadBut (λ k. c ≡ k) (goes_on q.next c (to_client c (with_due q.replies) (to_client c (has_asked q) s))).state.clients
     others = goes_on_kept (unread_moves (λ k. c ≡ k)) (to_client c (with_due q.replies) (to_client c (has_asked q) s)) []
-        (unread_due (λ k. c ≡ k) c q.replies (to_client c (has_asked q) s).clients but) q.next c now here is.1 asked.0
+        (unread_due (λ k. c ≡ k) c q.replies (to_client c (has_asked q) s).clients but) q.next c (record { client = now; here = here; in_phase = is.1 }) asked.0
 
     at_c : (o : Option Next) → q.next ≡ o → (y : Client)
         → (goes_on o c (to_client c (with_due q.replies) (to_client c (has_asked q) s))).state.clients c ≡ Some y

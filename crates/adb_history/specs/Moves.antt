@@ -25,7 +25,7 @@ use Rattle.adb_history.specs.Streams.{draw, ends_row}
 use Rattle.adb_history.specs.Flow.{with_flow}
 use Rattle.adb_history.specs.Tracking.{mark_all}
 use Rattle.adb_history.specs.Losing.{link_ends, orphaned, input_ended, stream_of, stops}
-use Rattle.adb_history.specs.Packets.{with_remote, first_credit, is_out_of_turn, accepted, streams_end_first, goes_online, unauthorized_from}
+use Rattle.adb_history.specs.Packets.{connects, with_remote, first_credit, is_out_of_turn, accepted, streams_end_first, goes_online, unauthorized_from}
 use Rattle.adb_history.specs.Reading.{tracks, awaits}
 use Rattle.adb_history.specs.Handing.{to_hand, hands, unmarked}
 use Rattle.adb_history.specs.Orderly.{IsSoundFlow}
@@ -51,6 +51,12 @@ abbrev pub HasOne : Phase → Type 0
 HasOne (Opening l) = Unit {0}
 HasOne (Streaming l) = Unit {0}
 HasOne _ = ⊥
+
+-- a client is there, and in this phase
+pub record IsClientIn (s : State) (c : ℕ) (phase : Phase) : Type 0 where
+  pub client : Client
+  pub here : s.clients c ≡ Some client
+  pub in_phase : client.about.phase ≡ phase
 
 -- a flow after a change that accepts no write
 pub record IsLike (before after : Flow) : Type 0 where
@@ -88,8 +94,7 @@ plugged_in t kind serial s = mark_all (record s { devices = attached kind serial
 
 -- a CNXN of a device that is taken
 abbrev pub connects_now : ℕ → (version maxdata : ℕ) → Identity → State → Made
-connects_now t version maxdata identity s =
-    then_also (streams_end_first (is_connected t s.devices) t s) (λ s. quietly (goes_online t version maxdata identity s))
+connects_now t version maxdata identity s = connects t version maxdata (Some identity) s
 
 -- What each move keeps, of a state and what was told until then.
 pub record Moves (P : State → List Event → Type 0) : Type 0 where
