@@ -1,7 +1,6 @@
 -- No packet is due of a stream that was not born.
-use Rattle.std.proofs.Common.{◌≡◌, ◌≢◌, ℕ, ◌+◌, ◌<◌, ◌≤◌, Bool, true, false, All, List, [], ◌∷◌, ◌++◌, Option, Some, None, refl, sym, ap, subst, ◌∙◌, arith, ◌⊎◌, inl, inr}
+use Rattle.std.proofs.Common.{◌≡◌, ◌≢◌, ℕ, ◌+◌, ◌<◌, ◌≤◌, true, false, All, List, [], ◌∷◌, ◌++◌, Option, sym, ap, ◌∙◌, arith, ◌⊎◌, inl, inr}
 use Rattle.std.specs.Prelude.{is_some}
-use Rattle.std.proofs.lemmas.List.{append-nil}
 use Rattle.std.proofs.lemmas.List.Elements.{All-nil, All-cons, All-weaker, All-append}
 use Rattle.adb_wire.specs.declared.command.Command.TheVariants.{Cnxn}
 use Rattle.adb_wire.specs.declared.packets.Packet.{Packet}
@@ -11,7 +10,7 @@ use Rattle.adb_capture.specs.declared.entry.Entry.TheVariants.{Join, Enter, Read
 use Rattle.adb_history.specs.Rows.{State}
 use Rattle.adb_history.specs.Events.{Event, due_to_client, due_to_link, ended}
 use Rattle.adb_history.specs.Moves.{IsOfStream}
-use Rattle.adb_history.specs.Machine.{History, state, told, step, May, IsLegal}
+use Rattle.adb_history.specs.Machine.{History, state, told, May, IsLegal}
 use Rattle.adb_history.specs.Owned.{AllDrawn}
 use Rattle.adb_history.specs.Order.{IsOfBorn, AreOfBorn}
 use Rattle.adb_history.specs.Orderly.{IsDrawnOnly}

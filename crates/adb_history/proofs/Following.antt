@@ -1,11 +1,10 @@
 -- Rules one after another, what stands at a changed row, and tests.
-use Rattle.std.proofs.Common.{◌≡◌, ◌≢◌, ℕ, Bool, true, false, cond, List, [], ◌∷◌, ◌++◌, Option, Some, None, refl, sym, ap, subst, ◌∙◌, eqb, append_assoc}
+use Rattle.std.proofs.Common.{◌≡◌, ◌≢◌, ℕ, Bool, true, false, cond, List, ◌++◌, Option, Some, None, refl, sym, ap, subst, append_assoc}
 use Rattle.std.proofs.lemmas.Bool.{eq-eqb, ne_eqb}
 use Rattle.std.proofs.lemmas.List.{append-nil}
 use Rattle.std.specs.Prelude.{option_and_then}
 use Rattle.adb_outside.specs.Tables.{Rows, change_row}
-use Rattle.adb_stream.specs.declared.row.Stream.{Stream}
-use Rattle.adb_history.specs.Rows.{Client, Link, State, to_client, to_link, to_stream}
+use Rattle.adb_history.specs.Rows.{State}
 use Rattle.adb_history.specs.Events.{Made, Event, quietly, then_also}
 use Rattle.adb_history.specs.Moves.{After}
 

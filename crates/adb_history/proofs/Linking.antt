@@ -1,25 +1,23 @@
 -- How a change of the devices, of a link or of a stream keeps them together.
-use Rattle.std.proofs.Common.{◌≡◌, ◌≢◌, ℕ, ◌+◌, ◌<◌, ◌≤◌, zero, suc, Bool, true, false, cond, not, All, List, [], ◌∷◌, ◌++◌, Option, Some, None, refl, sym, ap, subst, ◌∙◌, arith, ◌⊎◌, inl, inr, eqb}
-use Rattle.std.specs.Prelude.{is_some, option_and_then, option_map, unwrap_or, codes, bytes_eq, filter, ◌==◌}
+use Rattle.std.proofs.Common.{◌≡◌, ◌≢◌, ℕ, ◌+◌, Bool, true, false, cond, not, All, List, [], ◌∷◌, Option, Some, None, refl, sym, ap, subst, ◌∙◌}
+use Rattle.std.proofs.Common.{arith, ◌⊎◌, inl, inr, eqb}
+use Rattle.std.specs.Prelude.{is_some, option_and_then, option_map, codes, bytes_eq}
 use Rattle.std.specs.List.Sorted.{IsStrictlySortedBy}
 use Rattle.std.proofs.lemmas.Bool.{eqb-true, eqb-false, eq-eqb, ne_eqb, cases_eq}
 use Rattle.std.proofs.lemmas.List.Elements.{All-nil, All-cons, All-head, All-tail, All-weaker}
-use Rattle.adb_outside.specs.Tables.{Rows, at, IsRising, Puts, put_at, set_at, change_at, without, change_row, put_row}
+use Rattle.adb_outside.specs.Tables.{Rows, at, IsRising, Puts, change_row, put_row}
 use Rattle.adb_outside.proofs.TableLaws.{puts_put_at, put_at_rises, puts_without, without_rises, puts_set_at, set_at_rises}
 use Rattle.adb_outside.specs.Identity.{state_of_system}
 use Rattle.adb_outside.specs.declared.kinds.Kind.{Kind}
 use Rattle.adb_outside.specs.declared.identity.Identity.{Identity}
-use Rattle.adb_outside.specs.declared.identity.State.{State as DeviceState}
-use Rattle.adb_outside.specs.declared.identity.State.TheVariants.{Offline, Unauthorized, Device, Bootloader, Recovery, Sideload, Rescue, Host}
+use Rattle.adb_outside.specs.declared.identity.State.TheVariants.{Offline, Device, Bootloader, Recovery, Sideload, Rescue, Host}
 use Rattle.adb_registry.specs.Row.{new_row, online_row, unauthorized_row}
 use Rattle.adb_registry.specs.Registry.{DeviceTable, attached, changed, detached}
 use Rattle.adb_registry.specs.declared.row.Row.{Row}
 use Rattle.adb_forward.specs.declared.row.ForwardRow.{ForwardRow}
 use Rattle.adb_stream.specs.Flow.{new_flow}
-use Rattle.adb_stream.specs.declared.flow.Flow.{Flow}
 use Rattle.adb_stream.specs.declared.row.Stream.{Stream}
-use Rattle.adb_reply.specs.Laws.{TakesPayloads}
-use Rattle.adb_history.specs.Rows.{Link, State, none_kept}
+use Rattle.adb_history.specs.Rows.{Link, none_kept}
 use Rattle.adb_history.specs.Links.{is_connected, is_connected_state, is_connected_row, is_credit, is_credit_row}
 use Rattle.adb_history.specs.Forwarding.{forwards_without}
 use Rattle.adb_history.specs.Fifo.{has_credit}
@@ -42,7 +40,8 @@ pub on_gone : (devices : DeviceTable) (x y : Stream) → None ≡ Some y → OnL
 on_gone devices x y e h = absurd (let clash : None ≡ Some y = e in cc)
 
 -- a stream of the same link, with as much credit
-pub on_same : (devices : DeviceTable) (x y : Stream) → (y.link ≡ x.link) × (has_credit y.part.flow ≡ has_credit x.part.flow) → OnLink devices x → OnLink devices y
+pub on_same : (devices : DeviceTable) (x y : Stream) → (y.link ≡ x.link) × (has_credit y.part.flow ≡ has_credit x.part.flow) → OnLink devices x
+    → OnLink devices y
 on_same devices x y e h = record {
   connected = ap (λ t. is_connected t devices) e.0 ∙ h.connected;
   credit = e.1 ∙ (h.credit ∙ ap (λ t. is_credit t devices) (sym e.0));
@@ -61,7 +60,8 @@ connected_cases true = inl refl
 connected_cases false = inr refl
 
 -- a device that is ready is connected
-pub ready_connected : (t : ℕ) (devices : DeviceTable) (links : Rows (Option Link)) (forwards : List (ℕ × ForwardRow)) → DeviceRows devices links forwards → IsReady t devices
+pub ready_connected : (t : ℕ) (devices : DeviceTable) (links : Rows (Option Link)) (forwards : List (ℕ × ForwardRow)) → DeviceRows devices links forwards
+    → IsReady t devices
     → is_connected t devices ≡ true
 ready_connected t devices links forwards h (inl connected) = connected
 ready_connected t devices links forwards h (inr takes) = ap is_connected_row takes.is ∙ go (connected_cases (is_connected_state takes.row.state))
@@ -80,7 +80,8 @@ links_same t f links k = go (eqb t k) (links k)
     go true None = refl
     go true (Some x) = refl
 
-pub link_rows : (devices : DeviceTable) (links : Rows (Option Link)) (forwards : List (ℕ × ForwardRow)) (t : ℕ) (f : Link → Link) → DeviceRows devices links forwards
+pub link_rows : (devices : DeviceTable) (links : Rows (Option Link)) (forwards : List (ℕ × ForwardRow)) (t : ℕ) (f : Link → Link)
+    → DeviceRows devices links forwards
     → DeviceRows devices (change_row t (option_and_then (λ x. Some (f x))) links) forwards
 link_rows devices links forwards t f h =
     record { rises = h.rises; linked = λ k. links_same t f links k ∙ h.linked k; led = h.led; silent = h.silent }
@@ -94,17 +95,20 @@ is_some_map : (f : Row → Row) (o : Option Row) → is_some (option_map f o) �
 is_some_map f None = refl
 is_some_map f (Some row) = refl
 
-changed_some : (t : ℕ) (f : Row → Row) (devices : DeviceTable) → IsRising devices.rows → (q : ℕ) → is_some (at q (changed t f devices).rows) ≡ is_some (at q devices.rows)
+changed_some : (t : ℕ) (f : Row → Row) (devices : DeviceTable) → IsRising devices.rows → (q : ℕ)
+    → is_some (at q (changed t f devices).rows) ≡ is_some (at q devices.rows)
 changed_some t f devices rises q = go (cases_eq q t)
   where
     puts : Puts t (option_map f (at t devices.rows)) devices.rows (changed t f devices).rows
     puts = puts_set_at t (option_map f (at t devices.rows)) devices.rows rises
 
     go : (q ≡ t) ⊎ (q ≡ t → ⊥) → is_some (at q (changed t f devices).rows) ≡ is_some (at q devices.rows)
-    go (inl same) = subst (λ (n : ℕ). is_some (at n (changed t f devices).rows) ≡ is_some (at n devices.rows)) (sym same) (ap is_some puts.here ∙ is_some_map f (at t devices.rows))
+    go (inl same) = subst (λ (n : ℕ). is_some (at n (changed t f devices).rows) ≡ is_some (at n devices.rows)) (sym same)
+        (ap is_some puts.here ∙ is_some_map f (at t devices.rows))
     go (inr apart) = ap is_some (puts.others q apart)
 
-pub changed_other_at : (t : ℕ) (f : Row → Row) (devices : DeviceTable) → IsRising devices.rows → (q : ℕ) → q ≢ t → at q (changed t f devices).rows ≡ at q devices.rows
+pub changed_other_at : (t : ℕ) (f : Row → Row) (devices : DeviceTable) → IsRising devices.rows → (q : ℕ) → q ≢ t
+    → at q (changed t f devices).rows ≡ at q devices.rows
 changed_other_at t f devices rises q apart = (puts_set_at t (option_map f (at t devices.rows)) devices.rows rises).others q apart
 
 -- a row that says who it is, or takes no payload
@@ -143,7 +147,8 @@ pub online_silent : (identity : Identity) (version maxdata : ℕ) (row : Row) �
 online_silent identity version maxdata row e =
     let s : List ℕ = identity.system in
     let is : is_connected_state (state_of_system identity.system) ≡ true =
-    online_state (bytes_eq s (codes "device")) (bytes_eq s (codes "bootloader")) (bytes_eq s (codes "recovery")) (bytes_eq s (codes "sideload")) (bytes_eq s (codes "rescue")) in
+    online_state (bytes_eq s (codes "device")) (bytes_eq s (codes "bootloader")) (bytes_eq s (codes "recovery")) (bytes_eq s (codes "sideload"))
+    (bytes_eq s (codes "rescue")) in
     absurd (let clash : true ≡ false = sym is ∙ e in cc)
 
 pub unauthorized_silent : (row : Row) → row.state ≡ Offline → Silent row → Silent (unauthorized_row row)
@@ -194,7 +199,8 @@ detached_rows devices links forwards t h = record {
     silent q row is (inr apart) = h.silent q row (sym (puts.others q apart) ∙ is)
 
 -- ---- a device comes
-pub attached_rows : (devices : DeviceTable) (links : Rows (Option Link)) (forwards : List (ℕ × ForwardRow)) (kind : Kind) (serial : List ℕ) (link : Link) → DeviceRows devices links forwards
+pub attached_rows : (devices : DeviceTable) (links : Rows (Option Link)) (forwards : List (ℕ × ForwardRow)) (kind : Kind) (serial : List ℕ) (link : Link)
+    → DeviceRows devices links forwards
     → DeviceRows (attached kind serial devices) (put_row (devices.drawn + 1) (Some link) links) forwards
 attached_rows devices links forwards kind serial link h = record {
   rises = put_at_rises t row devices.rows h.rises;
@@ -226,7 +232,8 @@ attached_rows devices links forwards kind serial link h = record {
 
     silent : (q : ℕ) (y : Row) → at q (attached kind serial devices).rows ≡ Some y → (q ≡ devices.drawn + 1) ⊎ (q ≡ devices.drawn + 1 → ⊥) → Silent y
     silent q y is (inl same) =
-        let here : Some (new_row (devices.drawn + 1) kind serial) ≡ Some y = sym puts.here ∙ (ap (λ n. at n (attached kind serial devices).rows) (sym same) ∙ is) in
+        let here : Some (new_row (devices.drawn + 1) kind serial) ≡ Some y = sym puts.here ∙
+        (ap (λ n. at n (attached kind serial devices).rows) (sym same) ∙ is) in
         let row : new_row (devices.drawn + 1) kind serial ≡ y = cc in
         subst Silent row (λ e. refl)
     silent q y is (inr apart) = h.silent q y (sym (puts.others q apart) ∙ is)
@@ -238,12 +245,14 @@ attached_on devices kind serial x none h = go (cases_eq x.link (devices.drawn + 
     go : (x.link ≡ devices.drawn + 1) ⊎ (x.link ≡ devices.drawn + 1 → ⊥) → OnLink (attached kind serial devices) x
     go (inl same) = absurd (let clash : false ≡ true = sym (ap is_connected_row (ap (λ n. at n devices.rows) same ∙ none)) ∙ h.connected in cc)
     go (inr apart) =
-        on_other devices (attached kind serial devices) x ((puts_put_at (devices.drawn + 1) (new_row (devices.drawn + 1) kind serial) devices.rows).others x.link apart) h
+        on_other devices (attached kind serial devices) x
+        ((puts_put_at (devices.drawn + 1) (new_row (devices.drawn + 1) kind serial) devices.rows).others x.link apart) h
 
 -- ---- none is left
 pub no_rows : (drawn : ℕ) → DeviceRows (record { drawn = drawn; rows = [] }) (λ _. None) []
 unfolding IsStrictlySortedBy
-no_rows drawn = record { rises = tt; linked = λ t. refl; led = All-nil (IsLed (record { drawn = drawn; rows = [] })); silent = λ t row is. absurd (none row is) }
+no_rows drawn =
+    record { rises = tt; linked = λ t. refl; led = All-nil (IsLed (record { drawn = drawn; rows = [] })); silent = λ t row is. absurd (none row is) }
   where
     none : (row : Row) → None ≡ Some row → ⊥
     none row e = cc

@@ -1,13 +1,11 @@
 -- Numbers are drawn one after another, and nothing is kept under a number that was not drawn.
-use Rattle.std.proofs.Common.{◌≡◌, ◌≢◌, ℕ, ◌+◌, ◌<◌, ◌≤◌, zero, suc, Bool, true, false, cond, List, [], ◌∷◌, ◌++◌, Option, Some, None, refl, sym, ap, subst, ◌∙◌, arith, eqb}
+use Rattle.std.proofs.Common.{◌≡◌, ℕ, ◌+◌, Bool, true, false, cond, [], ◌∷◌, Option, Some, None, refl, sym, ap, subst, ◌∙◌, arith, eqb}
 use Rattle.std.specs.Prelude.{option_and_then, option_map}
 use Rattle.std.proofs.lemmas.Bool.{ne_eqb}
 use Rattle.adb_outside.specs.Tables.{Rows, change_row, put_row}
-use Rattle.adb_stream.specs.declared.row.Stream.{Stream}
 use Rattle.adb_capture.specs.declared.entry.Entry.{Entry}
 use Rattle.adb_capture.specs.declared.entry.Entry.TheVariants.{Join, Enter, Read, End, Bound, Attach, Recv, Detach, Put, Send}
-use Rattle.adb_history.specs.Rows.{Client, Link, State, start, new_client, new_link}
-use Rattle.adb_history.specs.Events.{Event}
+use Rattle.adb_history.specs.Rows.{Client, State, start, new_client, new_link}
 use Rattle.adb_history.specs.Tracking.{marked}
 use Rattle.adb_history.specs.Losing.{only_client}
 use Rattle.adb_history.specs.Machine.{History, state, step, May, IsLegal}
@@ -53,8 +51,14 @@ begins_counted : (e : Entry) (s : State) (j d : ℕ) → Counts j d s
     → Begins (plain_moves (counts_plain (came_with e j) (plugged_with e d))) e s []
 unfolding came_with plugged_with
 begins_counted (Join c) s j d h = record { joined_is = ap (λ n. n + 1) h.joined_is; plugged_is = h.plugged_is }
-begins_counted (Enter c port) s j d h =
-    (record { joined_is = ap (λ n. n + 1) h.joined_is; plugged_is = h.plugged_is }, record { joined_is = ap (λ n. n + 1) h.joined_is; plugged_is = h.plugged_is })
+begins_counted (Enter c port) s j d h = (
+  record { joined_is = ap (λ n. n + 1) h.joined_is; plugged_is = h.plugged_is },
+  record {
+    joined_is = ap
+        (λ n. n + 1) h.joined_is;
+    plugged_is = h.plugged_is;
+  },
+)
 begins_counted (Attach t kind serial) s j d h = record { joined_is = h.joined_is; plugged_is = ap (λ n. n + 1) h.plugged_is }
 begins_counted (Read c bytes) s j d h = (h, λ client is asking. record { joined_is = h.joined_is; plugged_is = h.plugged_is })
 begins_counted (End c cause) s j d h = h
@@ -119,7 +123,8 @@ next_number (Send t bytes) older may = tt
 
 -- ---- nothing is kept under a number that was not drawn
 module _ {A : Type 0} where
-  pub change_drawn : (drawn n : ℕ) (f : A → Option A) (rows : Rows (Option A)) → IsDrawnOnly drawn rows → IsDrawnOnly drawn (change_row n (option_and_then f) rows)
+  pub change_drawn : (drawn n : ℕ) (f : A → Option A) (rows : Rows (Option A)) → IsDrawnOnly drawn rows
+      → IsDrawnOnly drawn (change_row n (option_and_then f) rows)
   change_drawn drawn n f rows h = record { above = λ m above. go m (eqb n m) (h.above m above); zero = go 0 (eqb n 0) h.zero }
     where
       go : (m : ℕ) (b : Bool) → rows m ≡ None → cond b (option_and_then f (rows m)) (rows m) ≡ None
@@ -170,7 +175,8 @@ drawn_plain = record {
 
 -- a number is the next one
 pub begins_drawn : (e : Entry) (s : State) → May s e → AllDrawn s → Begins (plain_moves drawn_plain) e s []
-begins_drawn (Join c) s may h = record { clients = put_next s.joined c (Some (new_client false c)) s.clients may.1 h.clients; links = h.links; streams = h.streams }
+begins_drawn (Join c) s may h =
+    record { clients = put_next s.joined c (Some (new_client false c)) s.clients may.1 h.clients; links = h.links; streams = h.streams }
 begins_drawn (Enter c port) s may h = (
   record { clients = put_next s.joined c (Some (new_client true c)) s.clients may.1 h.clients; links = h.links; streams = h.streams },
   record { clients = more_drawn s.joined s.clients h.clients; links = h.links; streams = h.streams },

@@ -1,30 +1,28 @@
 -- Every state that a legal history leaves is orderly, and at rest.
-use Rattle.std.proofs.Common.{◌≡◌, ◌≢◌, ℕ, ◌+◌, ◌<◌, ◌≤◌, zero, suc, Bool, true, false, cond, All, List, [], ◌∷◌, ◌++◌, length, Option, Some, None, refl, sym, ap, subst, ◌∙◌, arith, ◌⊎◌, inl, inr, eqb}
+use Rattle.std.proofs.Common.{◌≡◌, ℕ, ◌<◌, ◌≤◌, zero, suc, Bool, true, false, cond, All, List, [], ◌∷◌, Some, None, refl, sym, ap, subst, ◌∙◌, arith}
+use Rattle.std.proofs.Common.{◌⊎◌, inl, inr}
 use Rattle.std.specs.Prelude.{is_some}
 use Rattle.std.specs.Ordering.{nat_cmp, is_eq}
 use Rattle.std.proofs.lemmas.Bool.{eq-eqb}
 use Rattle.std.proofs.lemmas.List.Elements.{All-head, All-tail}
 use Rattle.adb_outside.specs.Tables.{at}
 use Rattle.adb_registry.specs.Registry.{DeviceTable}
-use Rattle.adb_request.specs.Requests.{request_at}
-use Rattle.adb_request.specs.declared.cutting.Found.TheVariants.{More}
 use Rattle.adb_forward.specs.declared.row.ForwardRow.{ForwardRow}
 use Rattle.adb_stream.specs.declared.row.Stream.{Stream}
 use Rattle.adb_client.specs.declared.phase.Phase.{Phase}
 use Rattle.adb_client.specs.declared.phase.Phase.TheVariants.{Asking, Opening, Streaming, Binding, Tracking, Closing, Gone}
 use Rattle.adb_history.specs.Rows.{Client, State}
 use Rattle.adb_history.specs.Events.{Made, quietly}
-use Rattle.adb_history.specs.Flow.{is_streaming, up_all}
+use Rattle.adb_history.specs.Flow.{is_streaming}
 use Rattle.adb_history.specs.Machine.{History, state, rule, ups, IsLegal}
 use Rattle.adb_history.specs.Moves.{IsLed}
 use Rattle.adb_history.specs.Order.{IsSettled}
-use Rattle.adb_history.specs.Orderly.{HasClient, HasOwner, IsOrderlyStream, HasStream, IsQuiet, IsResting, IsOrderlyClient, IsOrderly}
-use Rattle.adb_history.specs.Owned.{StreamOf, ClientOf, OwnerIn, HoldsIn, IsOwned, AllDrawn}
+use Rattle.adb_history.specs.Orderly.{HasOwner, IsOrderlyStream, HasStream, IsQuiet, IsResting, IsOrderlyClient, IsOrderly}
+use Rattle.adb_history.specs.Owned.{StreamOf, OwnerIn, HoldsIn, IsOwned, AllDrawn}
 use Rattle.adb_history.specs.Linked.{IsLinked}
 use Rattle.adb_history.proofs.OwnedMoves.{together_at}
 use Rattle.adb_history.proofs.LinkMoves.{all_linked}
 use Rattle.adb_history.proofs.Unread.{UnreadBut, all_unread}
-use Rattle.adb_history.proofs.Sweep.{Sending}
 use Rattle.adb_history.proofs.Quiet.{IsCalm, IsCalmAt, up_all_calms, up_all_drawn, all_still}
 
 -- ---- at rest each stream is calm
@@ -44,7 +42,8 @@ rests_calm [] legal m some = record { calm = λ x. absurd (let clash : None ≡ 
 rests_calm (e ∷ older) legal m some =
     let ruled : State = (rule e (state older)).state in
     let drawn : (state (e ∷ older)).drawn ≡ ruled.drawn = up_all_drawn ruled.drawn ruled in
-    all_calm (state (e ∷ older)) (all_linked (e ∷ older) legal).owned.rows (λ m some within. up_all_calms ruled.drawn ruled m some (omega (arith, within, drawn))) m some
+    all_calm (state (e ∷ older)) (all_linked (e ∷ older) legal).owned.rows
+    (λ m some within. up_all_calms ruled.drawn ruled m some (omega (arith, within, drawn))) m some
 
 -- At rest the up rule changes nothing, and nothing becomes due by it.
 pub settled : (h : History) → IsLegal h → IsSettled (state h)
@@ -74,13 +73,15 @@ stream_orderly s h l x is =
 has_stream : (s : State) (c l : ℕ) → StreamOf s.streams c l → HasStream s c l
 has_stream s c l h = record { stream = h.stream; is = h.is; client = h.client; owned = h.owned }
 
-streaming_quiet : (s : State) (c l : ℕ) (client : Client) → IsOwned s → ((m : ℕ) → 0 < m → IsCalmAt m s) → (s.clients c ≡ Some client) × (client.about.phase ≡ Streaming l)
+streaming_quiet : (s : State) (c l : ℕ) (client : Client) → IsOwned s → ((m : ℕ) → 0 < m → IsCalmAt m s)
+    → (s.clients c ≡ Some client) × (client.about.phase ≡ Streaming l)
     → StreamOf s.streams c l → (x : Stream) → s.streams l ≡ Some x → IsQuiet s client x
 streaming_quiet s c l client h calm is own x there =
-    let t = together_at s c l client x own (is.0, there) h in
+    let t = together_at s h c l client x own (is.0, there) in
     let streaming : is_streaming l client.about.phase ≡ true = ap (is_streaming l) is.1 ∙ eq-eqb l l refl in
     let here : s.clients x.client ≡ Some client = ap s.clients t.of ∙ is.0 in
-    let quiet : IsCalm s.devices client x = (calm l (some l x h.rows there)).calm (record { stream = x; client = client; there = there; here = here; streaming = streaming }) in
+    let quiet : IsCalm s.devices client x = (calm l (some l x h.rows there)).calm
+    (record { stream = x; client = client; there = there; here = here; streaming = streaming }) in
     record { nothing = quiet.nothing; goes_on = quiet.goes_on; accepted = t.accepted }
   where
     some : (m : ℕ) (y : Stream) → AllDrawn s → s.streams m ≡ Some y → 0 < m
@@ -97,7 +98,8 @@ rests_orderly s c client h calm unread is Tracking e holds = holds
 rests_orderly s c client h calm unread is Closing e holds = holds
 rests_orderly s c client h calm unread is Gone e holds = holds
 
-client_orderly : (s : State) → IsOwned s → ((m : ℕ) → 0 < m → IsCalmAt m s) → UnreadBut (λ _. ⊥) s.clients → (c : ℕ) (client : Client) → s.clients c ≡ Some client
+client_orderly : (s : State) → IsOwned s → ((m : ℕ) → 0 < m → IsCalmAt m s) → UnreadBut (λ _. ⊥) s.clients → (c : ℕ) (client : Client)
+    → s.clients c ≡ Some client
     → IsOrderlyClient s c client
 client_orderly s h calm unread c client is =
     let own = h.owned.client c client is in
@@ -111,7 +113,8 @@ led_at devices (e ∷ es) all port row is = go (is_eq (nat_cmp port e.0)) (led_a
   where
     go : (b : Bool) → (at port es ≡ Some row → is_some (at row.transport devices.rows) ≡ true) → cond b (Some e.1) (at port es) ≡ Some row
         → is_some (at row.transport devices.rows) ≡ true
-    go true later here = let same : e.1 ≡ row = cc in subst (λ (x : ForwardRow). is_some (at x.transport devices.rows) ≡ true) same (All-head (IsLed devices) e es all)
+    go true later here =
+        let same : e.1 ≡ row = cc in subst (λ (x : ForwardRow). is_some (at x.transport devices.rows) ≡ true) same (All-head (IsLed devices) e es all)
     go false later here = later here
 
 -- Every state that a legal history leaves is orderly.

@@ -1,31 +1,24 @@
 -- Clients and streams keep each other through each move.
-use Rattle.std.proofs.Common.{◌≡◌, ◌≢◌, ℕ, ◌+◌, ◌-◌, ◌<◌, ◌≤◌, zero, suc, Bool, true, false, cond, List, [], ◌∷◌, ◌++◌, length, drop, Option, Some, None, refl, sym, ap, subst, ◌∙◌, arith, ◌⊎◌, inl, inr, eqb, length-append}
-use Rattle.std.specs.Prelude.{is_some, option_and_then, option_map, codes, nat_lt}
-use Rattle.std.proofs.lemmas.Bool.{eqb-true, eqb-false, eq-eqb, ne_eqb, cases_eq}
-use Rattle.std.proofs.lemmas.Bool.Decides.{nat_tests}
-use Rattle.adb_outside.specs.Tables.{Rows, change_row, put_row}
-use Rattle.adb_stream.specs.Stream.{new_stream}
-use Rattle.adb_stream.specs.Flow.{new_flow}
+use Rattle.std.proofs.Common.{◌≡◌, ◌≢◌, ℕ, ◌<◌, ◌≤◌, zero, suc, Bool, true, false, List, [], ◌∷◌, ◌++◌, length, Option, Some, None, refl, sym, ap}
+use Rattle.std.proofs.Common.{subst, ◌∙◌, arith, ◌⊎◌, inl, inr, length-append}
+use Rattle.std.specs.Prelude.{is_some, option_and_then, option_map}
+use Rattle.adb_outside.specs.Tables.{Rows, change_row}
 use Rattle.adb_stream.specs.declared.flow.Flow.{Flow}
-use Rattle.adb_stream.specs.declared.flow.Flow.TheVariants.{One, Credit}
 use Rattle.adb_stream.specs.declared.row.Stream.{Stream}
 use Rattle.adb_client.specs.declared.phase.Phase.{Phase}
 use Rattle.adb_client.specs.declared.phase.Phase.TheVariants.{Asking, Opening, Streaming, Binding, Tracking, Closing, Gone}
 use Rattle.adb_client.specs.declared.about.Want.{Want}
-use Rattle.adb_history.specs.Rows.{Client, Link, State, to_client, to_stream, none_kept, with_due, with_held, in_phase, with_stream_part}
+use Rattle.adb_history.specs.Rows.{Client, State, to_client, to_stream, none_kept, with_due, with_held, with_stream_part}
 use Rattle.adb_history.specs.Clients.{closing, closing_with, closes}
-use Rattle.adb_history.specs.Streams.{draw}
-use Rattle.adb_history.specs.Links.{is_credit}
 use Rattle.adb_history.specs.Flow.{with_flow}
 use Rattle.adb_history.specs.Tracking.{marked, marked_in}
-use Rattle.adb_history.specs.Losing.{stream_of, orphaned, input_ended}
-use Rattle.adb_history.specs.Packets.{with_remote, first_credit, accepted, is_out_of_turn}
+use Rattle.adb_history.specs.Losing.{stream_of, input_ended}
 use Rattle.adb_history.specs.Reading.{tracks, awaits}
-use Rattle.adb_history.specs.Handing.{to_hand, hands, left_in, unmarked}
-use Rattle.adb_history.specs.Orderly.{IsSoundFlow, IsDrawnOnly, phase_for}
+use Rattle.adb_history.specs.Handing.{to_hand, unmarked}
+use Rattle.adb_history.specs.Orderly.{phase_for}
 use Rattle.adb_history.specs.Moves.{IsFree, HasOne, IsLike}
 use Rattle.adb_history.specs.Owned.{StreamOf, ClientOf, OwnerIn, StreamIn, HoldsIn, ClientIn, Owned, IsOwned, AllDrawn}
-use Rattle.adb_history.proofs.Following.{changed_here, changed_none, changed_other}
+use Rattle.adb_history.proofs.Following.{changed_here, changed_other}
 use Rattle.adb_history.proofs.Owning.{Alike, AlikeAt, owned_alike, alike_change, AlikeStream, owned_stream, IsOnly, Changes, owned_changes}
 
 order : (a b : ℕ) → (a ≤ b) ⊎ (b < a)
@@ -48,65 +41,70 @@ free_only l (Streaming k) h = absurd h
 free_only l Closing h = tt
 free_only l Gone h = tt
 
--- ---- one client changes, which has no stream
-pub owned_client : (s : State) (c : ℕ) (f : Client → Option Client) (x : Client) → IsOwned s → (s.clients c ≡ Some x) × IsOnly 0 x.about.phase
-    → ((y : Client) → f x ≡ Some y → ClientIn s.streams c y) → Owned s.joined (change_row c (option_and_then f) s.clients) s.streams
-owned_client s c f x h is keeps = owned_changes s (to_client c f s) c 0 changes h.owned
-  where
-    none : (y : Stream) → s.streams 0 ≡ Some y → ⊥
-    none y e = let clash : None ≡ Some y = sym h.rows.streams.zero ∙ e in cc
+module _ (s : State) (h : IsOwned s) where
+  -- ---- one client changes, which has no stream
+  pub owned_client : (c : ℕ) (f : Client → Option Client) (x : Client) → (s.clients c ≡ Some x) × IsOnly 0 x.about.phase
+      → ((y : Client) → f x ≡ Some y → ClientIn s.streams c y) → Owned s.joined (change_row c (option_and_then f) s.clients) s.streams
+  owned_client c f x is keeps = owned_changes s (to_client c f s) c 0 changes h.owned
+    where
+      none : (y : Stream) → s.streams 0 ≡ Some y → ⊥
+      none y e = let clash : None ≡ Some y = sym h.rows.streams.zero ∙ e in cc
 
-    changes : Changes s (to_client c f s) c 0
-    changes = record {
-      joined = omega arith;
-      clients = λ k apart. changed_other c k f s.clients apart;
-      streams = λ m apart. refl;
-      gone = λ within e. absurd (let clash : None ≡ Some x = sym e ∙ is.0 in cc);
-      only = λ z e. let same : x ≡ z = (let both : Some x ≡ Some z = sym is.0 ∙ e in cc) in subst (λ (k : Client). IsOnly 0 k.about.phase) same is.1;
-      own = λ z e. absurd (none z e);
-      stream = λ y e. absurd (none y e);
-      client = λ y e. keeps y (sym (changed_here c f s.clients x is.0) ∙ e);
-    }
+      changes : Changes s (to_client c f s) c 0
+      changes = record {
+        joined = omega arith;
+        clients = λ k apart. changed_other c k f s.clients apart;
+        streams = λ m apart. refl;
+        gone = λ within e. absurd (let clash : None ≡ Some x = sym e ∙ is.0 in cc);
+        only = λ z e. let same : x ≡ z = (let both : Some x ≡ Some z = sym is.0 ∙ e in cc) in subst (λ (k : Client). IsOnly 0 k.about.phase) same is.1;
+        own = λ z e. absurd (none z e);
+        stream = λ y e. absurd (none y e);
+        client = λ y e. keeps y (sym (changed_here c f s.clients x is.0) ∙ e);
+      }
 
 -- what is left of a client that closes
-pub closing_in : (streams : Rows (Option Stream)) (c : ℕ) (due : List ℕ) (x y : Client) → x.about.number ≡ c → closing_with due x ≡ Some y → ClientIn streams c y
+pub closing_in : (streams : Rows (Option Stream)) (c : ℕ) (due : List ℕ) (x y : Client) → x.about.number ≡ c → closing_with due x ≡ Some y
+    → ClientIn streams c y
 closing_in streams c [] x y number e = absurd (let clash : None ≡ Some y = e in cc)
 closing_in streams c (b ∷ due) x y number e =
     let z : Client = record x { about = record x.about { phase = Closing; mark = false; want = None }; held = []; due = b ∷ due } in
     let same : z ≡ y = cc in
-    subst (λ (k : Client). ClientIn streams c k) same (record { number = number; mark = λ m. absurd (let clash : false ≡ true = m in cc); holds = (refl, λ nil. absurd (some nil)) })
+    subst (λ (k : Client). ClientIn streams c k) same
+    (record { number = number; mark = λ m. absurd (let clash : false ≡ true = m in cc); holds = (refl, λ nil. absurd (some nil)) })
   where
     some : b ∷ due ≡ [] → ⊥
     some nil = cc
 
-pub closes_owned : (s : State) (c : ℕ) (x : Client) → s.clients c ≡ Some x → IsOnly 0 x.about.phase → IsOwned s → Owned s.joined (closes c s).clients s.streams
-closes_owned s c x is only h = owned_client s c closing x h (is, only) (λ y e. closing_in s.streams c x.due x y (h.owned.client c x is).number e)
+module _ (s : State) (h : IsOwned s) where
+  pub closes_owned : (c : ℕ) (x : Client) → s.clients c ≡ Some x → IsOnly 0 x.about.phase → Owned s.joined (closes c s).clients s.streams
+  closes_owned c x is only = owned_client s h c closing x (is, only) (λ y e. closing_in s.streams c x.due x y (h.owned.client c x is).number e)
 
 -- a client that asked has no mark
 pub no_mark : (x : Client) → (x.about.mark ≡ true → x.about.phase ≡ Tracking) → x.about.phase ≡ Asking → x.about.mark ≡ true → ⊥
 no_mark x mark asking m = let clash : Asking ≡ Tracking = sym asking ∙ mark m in cc
 
-pub tracks_owned : (s : State) (c : ℕ) (x : Client) (long : Bool) → s.clients c ≡ Some x → x.about.phase ≡ Asking → IsOwned s
-    → Owned s.joined (to_client c (tracks long) s).clients s.streams
-tracks_owned s c x long is asking h = owned_client s c (tracks long) x h (is, subst (IsOnly 0) (sym asking) tt) keeps
-  where
-    keeps : (y : Client) → tracks long x ≡ Some y → ClientIn s.streams c y
-    keeps y e =
-        let z : Client = record x { about = record x.about { phase = Tracking; long = long; mark = false }; held = [] } in
-        let same : z ≡ y = cc in
-        subst (λ (k : Client). ClientIn s.streams c k) same (record { number = (h.owned.client c x is).number; mark = λ m. refl; holds = refl })
+module _ (s : State) (h : IsOwned s) where
+  pub tracks_owned : (c : ℕ) (x : Client) (long : Bool) → s.clients c ≡ Some x → x.about.phase ≡ Asking
+      → Owned s.joined (to_client c (tracks long) s).clients s.streams
+  tracks_owned c x long is asking = owned_client s h c (tracks long) x (is, subst (IsOnly 0) (sym asking) tt) keeps
+    where
+      keeps : (y : Client) → tracks long x ≡ Some y → ClientIn s.streams c y
+      keeps y e =
+          let z : Client = record x { about = record x.about { phase = Tracking; long = long; mark = false }; held = [] } in
+          let same : z ≡ y = cc in
+          subst (λ (k : Client). ClientIn s.streams c k) same (record { number = (h.owned.client c x is).number; mark = λ m. refl; holds = refl })
 
-pub awaits_owned : (s : State) (c : ℕ) (x : Client) (want : Want) → s.clients c ≡ Some x → x.about.phase ≡ Asking → IsOwned s
-    → Owned s.joined (to_client c (awaits want) s).clients s.streams
-awaits_owned s c x want is asking h = owned_client s c (awaits want) x h (is, subst (IsOnly 0) (sym asking) tt) keeps
-  where
-    keeps : (y : Client) → awaits want x ≡ Some y → ClientIn s.streams c y
-    keeps y e =
-        let z : Client = record x { about = record x.about { phase = Binding; want = Some want }; held = [] } in
-        let same : z ≡ y = cc in
-        let was = h.owned.client c x is in
-        subst (λ (k : Client). ClientIn s.streams c k) same
-        (record { number = was.number; mark = λ m. absurd (no_mark x was.mark asking m); holds = (refl, refl) })
+  pub awaits_owned : (c : ℕ) (x : Client) (want : Want) → s.clients c ≡ Some x → x.about.phase ≡ Asking
+      → Owned s.joined (to_client c (awaits want) s).clients s.streams
+  awaits_owned c x want is asking = owned_client s h c (awaits want) x (is, subst (IsOnly 0) (sym asking) tt) keeps
+    where
+      keeps : (y : Client) → awaits want x ≡ Some y → ClientIn s.streams c y
+      keeps y e =
+          let z : Client = record x { about = record x.about { phase = Binding; want = Some want }; held = [] } in
+          let same : z ≡ y = cc in
+          let was = h.owned.client c x is in
+          subst (λ (k : Client). ClientIn s.streams c k) same
+          (record { number = was.number; mark = λ m. absurd (no_mark x was.mark asking m); holds = (refl, refl) })
 
 streamless : (streams : Rows (Option Stream)) (c : ℕ) (x : Client) (phase : Phase) → HoldsIn phase streams c x → stream_of phase streams ≡ None → IsOnly 0 phase
 streamless streams c x Asking h e = tt
@@ -117,10 +115,12 @@ streamless streams c x Tracking h e = tt
 streamless streams c x Closing h e = tt
 streamless streams c x Gone h e = tt
 
-pub drops_owned : (s : State) (c : ℕ) (x : Client) → s.clients c ≡ Some x → stream_of x.about.phase s.streams ≡ None → IsOwned s
-    → Owned s.joined (to_client c none_kept s).clients s.streams
-drops_owned s c x is none h =
-    owned_client s c none_kept x h (is, streamless s.streams c x x.about.phase (h.owned.client c x is).holds none) (λ y e. absurd (let clash : None ≡ Some y = e in cc))
+module _ (s : State) (h : IsOwned s) where
+  pub drops_owned : (c : ℕ) (x : Client) → s.clients c ≡ Some x → stream_of x.about.phase s.streams ≡ None
+      → Owned s.joined (to_client c none_kept s).clients s.streams
+  drops_owned c x is none =
+      owned_client s h c none_kept x (is, streamless s.streams c x x.about.phase (h.owned.client c x is).holds none)
+      (λ y e. absurd (let clash : None ≡ Some y = e in cc))
 
 -- ---- clients that are alike
 holds_due : (streams : Rows (Option Stream)) (c : ℕ) (x : Client) (bytes : List ℕ) (phase : Phase) → HoldsIn phase streams c x
@@ -137,15 +137,17 @@ holds_due streams c x bytes Closing h = (h.0, go x.due h.1)
     go (b ∷ due) some nil = absurd (cc)
 holds_due streams c x bytes Gone h = h
 
-pub due_owned : (s : State) (c : ℕ) (bytes : List ℕ) → IsOwned s → Owned s.joined (to_client c (with_due bytes) s).clients s.streams
-due_owned s c bytes h = owned_alike s.joined s.clients (to_client c (with_due bytes) s).clients s.streams (alike_change s.streams s.clients c (λ x. record x { due = x.due ++ bytes }) alike) h.owned
-  where
-    alike : (x : Client) → s.clients c ≡ Some x → Alike s.streams c x (record x { due = x.due ++ bytes })
-    alike x is = record {
-      phase = refl;
-      due = omega (arith, length-append x.due bytes);
-      own = λ was. record { number = was.number; mark = was.mark; holds = holds_due s.streams c x bytes x.about.phase was.holds };
-    }
+module _ (s : State) (h : IsOwned s) where
+  pub due_owned : (c : ℕ) (bytes : List ℕ) → Owned s.joined (to_client c (with_due bytes) s).clients s.streams
+  due_owned c bytes = owned_alike s.joined s.clients (to_client c (with_due bytes) s).clients s.streams
+      (alike_change s.streams s.clients c (λ x. record x { due = x.due ++ bytes }) alike) h.owned
+    where
+      alike : (x : Client) → s.clients c ≡ Some x → Alike s.streams c x (record x { due = x.due ++ bytes })
+      alike x is = record {
+        phase = refl;
+        due = omega (arith, length-append x.due bytes);
+        own = λ was. record { number = was.number; mark = was.mark; holds = holds_due s.streams c x bytes x.about.phase was.holds };
+      }
 
 holds_held : (streams : Rows (Option Stream)) (c : ℕ) (x : Client) (bytes : List ℕ) (phase : Phase) → HasOne phase → HoldsIn phase streams c x
     → HoldsIn phase streams c (record x { held = bytes })
@@ -157,19 +159,21 @@ holds_held streams c x bytes Tracking one h = absurd one
 holds_held streams c x bytes Closing one h = absurd one
 holds_held streams c x bytes Gone one h = absurd one
 
-pub held_owned : (s : State) (c : ℕ) (bytes : List ℕ) (client : Client) → s.clients c ≡ Some client → HasOne client.about.phase → IsOwned s
-    → Owned s.joined (to_client c (with_held bytes) s).clients s.streams
-held_owned s c bytes client is has h = owned_alike s.joined s.clients (to_client c (with_held bytes) s).clients s.streams (alike_change s.streams s.clients c (λ x. record x { held = bytes }) alike) h.owned
-  where
-    alike : (x : Client) → s.clients c ≡ Some x → Alike s.streams c x (record x { held = bytes })
-    alike x e =
-        let same : client ≡ x = (let both : Some client ≡ Some x = sym is ∙ e in cc) in
-        let one : HasOne x.about.phase = subst (λ (k : Client). HasOne k.about.phase) same has in
-        record {
-          phase = refl;
-          due = omega arith;
-          own = λ was. record { number = was.number; mark = was.mark; holds = holds_held s.streams c x bytes x.about.phase one was.holds };
-        }
+module _ (s : State) (h : IsOwned s) where
+  pub held_owned : (c : ℕ) (bytes : List ℕ) (client : Client) → s.clients c ≡ Some client → HasOne client.about.phase
+      → Owned s.joined (to_client c (with_held bytes) s).clients s.streams
+  held_owned c bytes client is has = owned_alike s.joined s.clients (to_client c (with_held bytes) s).clients s.streams
+      (alike_change s.streams s.clients c (λ x. record x { held = bytes }) alike) h.owned
+    where
+      alike : (x : Client) → s.clients c ≡ Some x → Alike s.streams c x (record x { held = bytes })
+      alike x e =
+          let same : client ≡ x = (let both : Some client ≡ Some x = sym is ∙ e in cc) in
+          let one : HasOne x.about.phase = subst (λ (k : Client). HasOne k.about.phase) same has in
+          record {
+            phase = refl;
+            due = omega arith;
+            own = λ was. record { number = was.number; mark = was.mark; holds = holds_held s.streams c x bytes x.about.phase one was.holds };
+          }
 
 -- a client of which only what is told of it changes
 holds_about : (streams : Rows (Option Stream)) (c : ℕ) (x y : Client) (phase : Phase) → (y.held ≡ x.held) × (y.due ≡ x.due) × (y.about.want ≡ x.about.want)
@@ -182,33 +186,36 @@ holds_about streams c x y Tracking e h = e.0 ∙ h
 holds_about streams c x y Closing e h = (e.0 ∙ h.0, λ nil. h.1 (sym e.1 ∙ nil))
 holds_about streams c x y Gone e h = h
 
-pub unmark_owned : (s : State) (c : ℕ) → IsOwned s → Owned s.joined (to_client c unmarked s).clients s.streams
-unmark_owned s c h = owned_alike s.joined s.clients (to_client c unmarked s).clients s.streams (alike_change s.streams s.clients c (λ x. record x { about = record x.about { mark = false } }) alike) h.owned
-  where
-    alike : (x : Client) → s.clients c ≡ Some x → Alike s.streams c x (record x { about = record x.about { mark = false } })
-    alike x is = record {
-      phase = refl;
-      due = omega arith;
-      own = λ was. record {
-        number = was.number;
-        mark = λ m. absurd (let clash : false ≡ true = m in cc);
-        holds = holds_about s.streams c x (record x { about = record x.about { mark = false } }) x.about.phase (refl, refl, refl) was.holds;
-      };
-    }
+module _ (s : State) (h : IsOwned s) where
+  pub unmark_owned : (c : ℕ) → Owned s.joined (to_client c unmarked s).clients s.streams
+  unmark_owned c = owned_alike s.joined s.clients (to_client c unmarked s).clients s.streams
+      (alike_change s.streams s.clients c (λ x. record x { about = record x.about { mark = false } }) alike) h.owned
+    where
+      alike : (x : Client) → s.clients c ≡ Some x → Alike s.streams c x (record x { about = record x.about { mark = false } })
+      alike x is = record {
+        phase = refl;
+        due = omega arith;
+        own = λ was. record {
+          number = was.number;
+          mark = λ m. absurd (let clash : false ≡ true = m in cc);
+          holds = holds_about s.streams c x (record x { about = record x.about { mark = false } }) x.about.phase (refl, refl, refl) was.holds;
+        };
+      }
 
-pub ended_owned : (s : State) (c : ℕ) → IsOwned s → Owned s.joined (to_client c input_ended s).clients s.streams
-ended_owned s c h = owned_alike s.joined s.clients (to_client c input_ended s).clients s.streams (alike_change s.streams s.clients c (λ x. record x { about = record x.about { ended = true } }) alike) h.owned
-  where
-    alike : (x : Client) → s.clients c ≡ Some x → Alike s.streams c x (record x { about = record x.about { ended = true } })
-    alike x is = record {
-      phase = refl;
-      due = omega arith;
-      own = λ was. record {
-        number = was.number;
-        mark = was.mark;
-        holds = holds_about s.streams c x (record x { about = record x.about { ended = true } }) x.about.phase (refl, refl, refl) was.holds;
-      };
-    }
+  pub ended_owned : (c : ℕ) → Owned s.joined (to_client c input_ended s).clients s.streams
+  ended_owned c = owned_alike s.joined s.clients (to_client c input_ended s).clients s.streams
+      (alike_change s.streams s.clients c (λ x. record x { about = record x.about { ended = true } }) alike) h.owned
+    where
+      alike : (x : Client) → s.clients c ≡ Some x → Alike s.streams c x (record x { about = record x.about { ended = true } })
+      alike x is = record {
+        phase = refl;
+        due = omega arith;
+        own = λ was. record {
+          number = was.number;
+          mark = was.mark;
+          holds = holds_about s.streams c x (record x { about = record x.about { ended = true } }) x.about.phase (refl, refl, refl) was.holds;
+        };
+      }
 
 -- the clients of a changed registry
 pub marked_alike : (streams : Rows (Option Stream)) (c : ℕ) (x : Client) → Alike streams c x (marked x)
@@ -239,16 +246,17 @@ marks_owned joined clients streams owned = owned_alike joined clients (λ c. opt
     go c None = tt
     go c (Some x) = marked_alike streams c x
 
--- ---- streams
-pub flow_owned : (s : State) (l : ℕ) (stream : Stream) (flow : Flow) → s.streams l ≡ Some stream → IsLike stream.part.flow flow → IsOwned s
-    → Owned s.joined s.clients (to_stream l (with_stream_part (with_flow flow stream.part)) s).streams
-flow_owned s l stream flow is like h = owned_stream s.joined s.clients s.streams l (λ x. record x { part = with_flow flow stream.part }) alike h.owned
-  where
-    alike : (x : Stream) → s.streams l ≡ Some x → AlikeStream x (record x { part = with_flow flow stream.part })
-    alike x e =
-        let same : stream ≡ x = (let both : Some stream ≡ Some x = sym is ∙ e in cc) in
-        subst (λ (y : Stream). AlikeStream y (record y { part = with_flow flow stream.part })) same
-        (record { id = refl; client = refl; orphan = refl; remote = refl; left = like.left; sound = like.sound })
+module _ (s : State) (h : IsOwned s) where
+  -- ---- streams
+  pub flow_owned : (l : ℕ) (stream : Stream) (flow : Flow) → s.streams l ≡ Some stream → IsLike stream.part.flow flow
+      → Owned s.joined s.clients (to_stream l (with_stream_part (with_flow flow stream.part)) s).streams
+  flow_owned l stream flow is like = owned_stream s.joined s.clients s.streams l (λ x. record x { part = with_flow flow stream.part }) alike h.owned
+    where
+      alike : (x : Stream) → s.streams l ≡ Some x → AlikeStream x (record x { part = with_flow flow stream.part })
+      alike x e =
+          let same : stream ≡ x = (let both : Some stream ≡ Some x = sym is ∙ e in cc) in
+          subst (λ (y : Stream). AlikeStream y (record y { part = with_flow flow stream.part })) same
+          (record { id = refl; client = refl; orphan = refl; remote = refl; left = like.left; sound = like.sound })
 
 -- ---- a client and its stream
 pub record Together (s : State) (c l : ℕ) (client : Client) (stream : Stream) : Type 0 where
@@ -259,10 +267,12 @@ pub record Together (s : State) (c l : ℕ) (client : Client) (stream : Stream) 
   pub phase : client.about.phase ≡ phase_for l stream.part.remote
   pub accepted : to_hand stream.part.flow ≤ length client.due
 
-owner_of : (clients : Rows (Option Client)) (l : ℕ) (stream : Stream) → stream.part.orphan ≡ false → OwnerIn stream.part.orphan clients l stream → ClientOf clients l stream
+owner_of : (clients : Rows (Option Client)) (l : ℕ) (stream : Stream) → stream.part.orphan ≡ false → OwnerIn stream.part.orphan clients l stream
+    → ClientOf clients l stream
 owner_of clients l stream e h = subst (λ (b : Bool). OwnerIn b clients l stream) e h
 
-pub owner_to : (clients : Rows (Option Client)) (l : ℕ) (stream : Stream) → stream.part.orphan ≡ false → ClientOf clients l stream → OwnerIn stream.part.orphan clients l stream
+pub owner_to : (clients : Rows (Option Client)) (l : ℕ) (stream : Stream) → stream.part.orphan ≡ false → ClientOf clients l stream
+    → OwnerIn stream.part.orphan clients l stream
 owner_to clients l stream e h = subst (λ (b : Bool). OwnerIn b clients l stream) (sym e) h
 
 -- of a stream that is no orphan
@@ -275,25 +285,26 @@ together s l stream is owned h =
     let of = client_of s l stream is owned h in
     record { here = of.is; there = is; of = refl; owned = owned; phase = of.phase; accepted = of.accepted }
 
--- of a client that has a stream
-pub together_own : (s : State) (c l : ℕ) (client : Client) (own : StreamOf s.streams c l) → s.clients c ≡ Some client → IsOwned s → Together s c l client own.stream
-together_own s c l client own is h =
-    let of = client_of s l own.stream own.is own.owned h in
-    let same : of.client ≡ client = (let both : Some of.client ≡ Some client = sym of.is ∙ (ap s.clients own.client ∙ is) in cc) in
-    record {
-      here = is;
-      there = own.is;
-      of = own.client;
-      owned = own.owned;
-      phase = ap (λ (k : Client). k.about.phase) (sym same) ∙ of.phase;
-      accepted = omega (arith, of.accepted, ap (λ (k : Client). length k.due) same);
-    }
+module _ (s : State) (h : IsOwned s) where
+  -- of a client that has a stream
+  pub together_own : (c l : ℕ) (client : Client) (own : StreamOf s.streams c l) → s.clients c ≡ Some client → Together s c l client own.stream
+  together_own c l client own is =
+      let of = client_of s l own.stream own.is own.owned h in
+      let same : of.client ≡ client = (let both : Some of.client ≡ Some client = sym of.is ∙ (ap s.clients own.client ∙ is) in cc) in
+      record {
+        here = is;
+        there = own.is;
+        of = own.client;
+        owned = own.owned;
+        phase = ap (λ (k : Client). k.about.phase) (sym same) ∙ of.phase;
+        accepted = omega (arith, of.accepted, ap (λ (k : Client). length k.due) same);
+      }
 
-pub together_at : (s : State) (c l : ℕ) (client : Client) (stream : Stream) → StreamOf s.streams c l → (s.clients c ≡ Some client) × (s.streams l ≡ Some stream)
-    → IsOwned s → Together s c l client stream
-together_at s c l client stream own is h =
-    let same : own.stream ≡ stream = (let both : Some own.stream ≡ Some stream = sym own.is ∙ is.1 in cc) in
-    subst (λ (x : Stream). Together s c l client x) same (together_own s c l client own is.0 h)
+  pub together_at : (c l : ℕ) (client : Client) (stream : Stream) → StreamOf s.streams c l → (s.clients c ≡ Some client) × (s.streams l ≡ Some stream)
+      → Together s c l client stream
+  together_at c l client stream own is =
+      let same : own.stream ≡ stream = (let both : Some own.stream ≡ Some stream = sym own.is ∙ is.1 in cc) in
+      subst (λ (x : Stream). Together s c l client x) same (together_own c l client own is.0)
 
 only_own : (l remote : ℕ) → IsOnly l (phase_for l remote)
 only_own l zero = refl

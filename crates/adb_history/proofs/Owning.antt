@@ -1,7 +1,8 @@
 -- Clients and streams keep each other through a change of either, or of both.
-use Rattle.std.proofs.Common.{◌≡◌, ◌≢◌, ℕ, ◌+◌, ◌<◌, ◌≤◌, zero, suc, Bool, true, false, cond, List, [], ◌∷◌, ◌++◌, length, Option, Some, None, refl, sym, ap, subst, ◌∙◌, arith, ◌⊎◌, inl, inr, eqb}
-use Rattle.std.specs.Prelude.{is_some, option_and_then, option_map}
-use Rattle.std.proofs.lemmas.Bool.{eqb-true, eqb-false, cases_eq}
+use Rattle.std.proofs.Common.{◌≡◌, ◌≢◌, ℕ, ◌≤◌, zero, suc, Bool, true, false, cond, length, Option, Some, None, refl, sym, ap, subst, ◌∙◌, arith, ◌⊎◌}
+use Rattle.std.proofs.Common.{inl, inr, eqb}
+use Rattle.std.specs.Prelude.{option_and_then}
+use Rattle.std.proofs.lemmas.Bool.{eqb-true, cases_eq}
 use Rattle.adb_outside.specs.Tables.{Rows, change_row}
 use Rattle.adb_stream.specs.declared.row.Stream.{Stream}
 use Rattle.adb_client.specs.declared.phase.Phase.{Phase}
@@ -98,7 +99,8 @@ pub record AlikeStream (before after : Stream) : Type 0 where
   pub left : to_hand after.part.flow ≤ to_hand before.part.flow
   pub sound : IsSoundFlow before.part.flow → IsSoundFlow after.part.flow
 
-alike_owner : (clients : Rows (Option Client)) (orphan : Bool) (l : ℕ) (x y : Stream) → AlikeStream x y → OwnerIn orphan clients l x → OwnerIn orphan clients l y
+alike_owner : (clients : Rows (Option Client)) (orphan : Bool) (l : ℕ) (x y : Stream) → AlikeStream x y → OwnerIn orphan clients l x
+    → OwnerIn orphan clients l y
 alike_owner clients true l x y a owner = (a.remote ∙ owner.0, ap clients a.client ∙ owner.1)
 alike_owner clients false l x y a owner = record {
   client = owner.client;
@@ -217,4 +219,9 @@ module _ (old new : State) (c l : ℕ) (h : Changes old new c l) where
       client k y is (inl same) = subst (λ (n : ℕ). ClientIn new.streams n y) same (h.client y (ap new.clients same ∙ is))
       client k y is (inr apart) =
           let was = owned.client k y (sym (h.clients k apart) ∙ is) in
-          record { number = was.number; mark = was.mark; holds = holds_map old.streams new.streams y.about.phase k y (λ m own. others_own k m apart own) was.holds }
+          record {
+            number = was.number;
+            mark = was.mark;
+            holds = holds_map old.streams new.streams y.about.phase k y
+                (λ m own. others_own k m apart own) was.holds;
+          }

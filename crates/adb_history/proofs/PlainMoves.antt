@@ -1,12 +1,9 @@
 -- What each change of a row keeps, each move keeps.
-use Rattle.std.proofs.Common.{◌≡◌, ◌≢◌, ℕ, ◌+◌, zero, suc, Bool, true, false, cond, List, [], ◌∷◌, ◌++◌, Option, Some, None, refl, sym, ap, subst, ◌∙◌, append_assoc}
-use Rattle.std.specs.Prelude.{codes, option_and_then}
+use Rattle.std.proofs.Common.{◌≡◌, ℕ, zero, suc, Bool, true, false, cond, List, [], ◌∷◌, ◌++◌, Option, Some, None, sym, subst, append_assoc}
+use Rattle.std.specs.Prelude.{codes}
 use Rattle.std.proofs.lemmas.List.{append-nil}
-use Rattle.adb_outside.specs.Tables.{change_row}
 use Rattle.adb_outside.specs.declared.identity.Identity.{Identity}
-use Rattle.adb_outside.specs.declared.identity.State.TheVariants.{Offline}
-use Rattle.adb_registry.specs.Row.{online_row, unauthorized_row}
-use Rattle.adb_registry.specs.Registry.{changed, detached}
+use Rattle.adb_registry.specs.Registry.{detached}
 use Rattle.adb_registry.specs.declared.row.Row.{Row}
 use Rattle.adb_forward.specs.declared.row.ForwardRow.{ForwardRow}
 use Rattle.adb_wire.specs.declared.packets.Packet.{Packet}
@@ -15,20 +12,20 @@ use Rattle.adb_stream.specs.declared.row.Stream.{Stream}
 use Rattle.adb_client.specs.declared.phase.Phase.{Phase}
 use Rattle.adb_client.specs.declared.phase.Phase.TheVariants.{Asking, Opening, Streaming, Binding, Tracking, Closing, Gone}
 use Rattle.adb_reply.specs.Strings.{failed}
-use Rattle.adb_history.specs.Rows.{Client, Link, State, to_client, to_link, to_stream, none_kept, with_due, with_held, in_phase, with_link_due, with_stream_part}
-use Rattle.adb_history.specs.Events.{Made, Event, Ending, quietly, then_also, due_to_client, due_to_link, ended, lost, stopped}
+use Rattle.adb_history.specs.Rows.{Client, Link, State, to_client, to_link, to_stream, none_kept, with_due, with_held, with_link_due, with_stream_part}
+use Rattle.adb_history.specs.Events.{Made, Event, Ending, quietly, due_to_client, due_to_link, ended, lost, stopped}
 use Rattle.adb_history.specs.Links.{is_connected, is_credit}
-use Rattle.adb_history.specs.Clients.{owe_client, closes, closes_with, closing}
+use Rattle.adb_history.specs.Clients.{closes, closes_with, closing}
 use Rattle.adb_history.specs.Streams.{draw, loses, client_loses, tells_end, ends_row, all_end}
 use Rattle.adb_history.specs.Flow.{with_flow}
 use Rattle.adb_history.specs.Tracking.{mark_all}
 use Rattle.adb_history.specs.Forwarding.{forwards_without}
-use Rattle.adb_history.specs.Losing.{forgets, link_ends, orphaned, input_ended, tells_stop, all_stop, only_client, stops}
-use Rattle.adb_history.specs.Packets.{with_remote, first_credit, accepted, streams_end_first, goes_online, with_sums, unauthorized_from}
+use Rattle.adb_history.specs.Losing.{forgets, link_ends, input_ended, tells_stop, all_stop, only_client}
+use Rattle.adb_history.specs.Packets.{streams_end_first, goes_online}
 use Rattle.adb_history.specs.Reading.{tracks, awaits}
 use Rattle.adb_history.specs.Handing.{hands, unmarked}
 use Rattle.adb_history.specs.Moves.{After, Moves, IsOfStream, connects_now}
-use Rattle.adb_history.proofs.Following.{after_quietly, after_then, after_if}
+use Rattle.adb_history.proofs.Following.{after_quietly, after_then}
 use Rattle.adb_history.proofs.StreamMoves.{all_end_kept}
 
 -- what a kill leaves but the client that asked for it
@@ -90,7 +87,8 @@ module _ {P : State → List Event → Type 0} (k : Plain P) where
   tells_end_plain true l ending s w h = after_quietly P w s h
   tells_end_plain false l ending s w h = k.tells_end l ending s w h
 
-  ends_plain : (l : ℕ) (ending : Ending) (stream : Stream) (s : State) (w : List Event) → s.streams l ≡ Some stream → P s w → After P w (ends_row l ending stream s)
+  ends_plain : (l : ℕ) (ending : Ending) (stream : Stream) (s : State) (w : List Event) → s.streams l ≡ Some stream → P s w
+      → After P w (ends_row l ending stream s)
   ends_plain l ending stream s w is h =
       let gone : State = to_stream l none_kept s in
       let told : Made = tells_end stream.part.orphan l ending gone in

@@ -1,23 +1,22 @@
 -- At rest no stream may send, and the up rule changes nothing.
-use Rattle.std.proofs.Common.{◌≡◌, ◌≢◌, ℕ, ◌+◌, ◌-◌, ◌<◌, ◌≤◌, zero, suc, Bool, true, false, cond, List, [], ◌∷◌, ◌++◌, length, drop, Option, Some, None, refl, sym, ap, subst, ◌∙◌, arith, ◌⊎◌, inl, inr, eqb}
-use Rattle.std.specs.Prelude.{option_and_then, nat_eq}
-use Rattle.std.proofs.lemmas.Bool.{eqb-true, eqb-false, eq-eqb, ne_eqb, cases_eq}
+use Rattle.std.proofs.Common.{◌≡◌, ◌≢◌, ℕ, ◌<◌, ◌≤◌, zero, suc, Bool, true, false, cond, List, [], ◌∷◌, ◌++◌, drop, Option, Some, None, refl, sym, ap}
+use Rattle.std.proofs.Common.{subst, ◌∙◌, arith, ◌⊎◌, inl, inr, eqb}
+use Rattle.std.specs.Prelude.{option_and_then}
+use Rattle.std.proofs.lemmas.Bool.{eqb-true, cases_eq}
 use Rattle.adb_outside.specs.Tables.{Rows, change_row}
 use Rattle.adb_registry.specs.Registry.{DeviceTable}
 use Rattle.adb_stream.specs.declared.row.Part.{Part}
 use Rattle.adb_stream.specs.declared.row.Stream.{Stream}
 use Rattle.adb_client.specs.declared.phase.Phase.{Phase}
 use Rattle.adb_client.specs.declared.phase.Phase.TheVariants.{Asking, Opening, Streaming, Binding, Tracking, Closing, Gone}
-use Rattle.adb_history.specs.Rows.{Client, Link, State, to_client, to_stream, none_kept, with_held, with_stream_part}
-use Rattle.adb_history.specs.Events.{Made, Event, quietly, then_also}
+use Rattle.adb_history.specs.Rows.{Client, Link, State, to_stream, none_kept, with_held, with_stream_part}
+use Rattle.adb_history.specs.Events.{Made, quietly, then_also}
 use Rattle.adb_history.specs.Links.{maxdata_of}
 use Rattle.adb_history.specs.Clients.{closing, closing_with, closes}
-use Rattle.adb_history.specs.Flow.{payloads, total, flow_after, with_flow, all_go_up, noted, is_over, closes_if, sends_up, is_streaming, up_client, up_stream, up, up_all}
-use Rattle.adb_history.specs.Machine.{ups}
-use Rattle.adb_history.specs.Order.{IsSettled}
+use Rattle.adb_history.specs.Flow.{payloads, total, flow_after, with_flow, noted, is_over, closes_if, sends_up, is_streaming, up_client, up_stream, up, up_all}
 use Rattle.adb_history.proofs.Following.{changed_here, changed_other}
 use Rattle.adb_history.proofs.Writes.{payloads_done}
-use Rattle.adb_history.proofs.Sweep.{Sending, sent, left, over, UpTo, up_to}
+use Rattle.adb_history.proofs.Sweep.{Sending, sent, left, over, up_to}
 
 -- a stream may send nothing, and is not over
 pub record IsCalm (devices : DeviceTable) (client : Client) (stream : Stream) : Type 0 where
@@ -54,10 +53,12 @@ module _ (l : ℕ) (s : State) where
       calm : (y : Sending l (record (left l s x) { links = links })) → IsCalm s.devices y.client y.stream
       calm y =
           let same : stream ≡ y.stream = (let both : Some stream ≡ Some y.stream = sym there ∙ y.there in cc) in
-          let row : client ≡ y.client = (let both : Some client ≡ Some y.client = sym here ∙ (ap (λ (z : Stream). (left l s x).clients z.client) same ∙ y.here) in cc) in
+          let row : client ≡ y.client =
+          (let both : Some client ≡ Some y.client = sym here ∙ (ap (λ (z : Stream). (left l s x).clients z.client) same ∙ y.here) in cc) in
           subst (λ (z : Client). IsCalm s.devices z y.stream) row (subst (λ (z : Stream). IsCalm s.devices client z) same done)
 
-  ends_calm : (x : Sending l s) (links : Rows (Option Link)) → IsCalmAt l (record (closes x.stream.client (to_stream l none_kept (left l s x))) { links = links })
+  ends_calm : (x : Sending l s) (links : Rows (Option Link))
+      → IsCalmAt l (record (closes x.stream.client (to_stream l none_kept (left l s x))) { links = links })
   ends_calm x links = record { calm = λ y. absurd (none y) }
     where
       part : Part
@@ -114,7 +115,8 @@ module _ (l m : ℕ) (s : State) (apart : l ≢ m) (h : IsCalmAt m s) where
           → IsCalm s.devices y.client y.stream
       go y (inl same) =
           let row : record x.client { held = drop (total (sent l s x)) x.client.held } ≡ y.client =
-          (let both : Some (record x.client { held = drop (total (sent l s x)) x.client.held }) ≡ Some y.client = sym here ∙ (ap (left l s x).clients same ∙ y.here) in cc) in
+          (let both : Some (record x.client { held = drop (total (sent l s x)) x.client.held }) ≡ Some y.client = sym here ∙
+          (ap (left l s x).clients same ∙ y.here) in cc) in
           absurd (other_phase l m x.client.about.phase apart x.streaming (ap (λ (k : Client). is_streaming m k.about.phase) row ∙ y.streaming))
       go y (inr other) = h.calm (record {
         stream = y.stream;
@@ -124,7 +126,8 @@ module _ (l m : ℕ) (s : State) (apart : l ≢ m) (h : IsCalmAt m s) where
         streaming = y.streaming;
       })
 
-  ends_other : (x : Sending l s) (links : Rows (Option Link)) → IsCalmAt m (record (closes x.stream.client (to_stream l none_kept (left l s x))) { links = links })
+  ends_other : (x : Sending l s) (links : Rows (Option Link))
+      → IsCalmAt m (record (closes x.stream.client (to_stream l none_kept (left l s x))) { links = links })
   ends_other x links = record { calm = λ y. go y (cases_eq x.stream.client y.stream.client) }
     where
       part : Part
@@ -145,7 +148,8 @@ module _ (l m : ℕ) (s : State) (apart : l ≢ m) (h : IsCalmAt m s) where
       go : (y : Sending m (record (closes x.stream.client (to_stream l none_kept (left l s x))) { links = links }))
           → (x.stream.client ≡ y.stream.client) ⊎ (x.stream.client ≡ y.stream.client → ⊥) → IsCalm s.devices y.client y.stream
       go y (inl same) =
-          absurd (closing_idle client.due client y.client m (sym closed ∙ (ap (closes x.stream.client (to_stream l none_kept (left l s x))).clients same ∙ y.here)) y.streaming)
+          absurd (closing_idle client.due client y.client m
+          (sym closed ∙ (ap (closes x.stream.client (to_stream l none_kept (left l s x))).clients same ∙ y.here)) y.streaming)
       go y (inr other) = h.calm (record {
         stream = y.stream;
         client = y.client;
@@ -235,4 +239,5 @@ up_still l s h = at_stream (s.streams l) refl
 -- Where each stream is calm, the up rule changes nothing.
 pub all_still : (k : ℕ) (s : State) → ((m : ℕ) → 0 < m → IsCalmAt m s) → up_all k s ≡ quietly s
 all_still zero s calm = refl
-all_still (suc k) s calm = ap (λ (m : Made). then_also m (up (suc k))) (all_still k s calm) ∙ ap (λ (m : Made). then_also (quietly s) (λ t. m)) (up_still (suc k) s (calm (suc k) (omega arith)))
+all_still (suc k) s calm = ap (λ (m : Made). then_also m (up (suc k))) (all_still k s calm) ∙ ap (λ (m : Made). then_also (quietly s) (λ t. m))
+    (up_still (suc k) s (calm (suc k) (omega arith)))

@@ -1,5 +1,5 @@
 -- Of the requests that are read from a client, the last opens a stream only on a device that takes payloads.
-use Rattle.std.proofs.Common.{ℕ, zero, suc, ◌≡◌, ◌++◌, ◌+◌, ◌<◌, List, length, take, drop, Option, Some, None}
+use Rattle.std.proofs.Common.{ℕ, zero, suc, ◌++◌, ◌+◌, List, length, take, drop, Option, Some, None}
 use Rattle.adb_registry.specs.Registry.{DeviceTable}
 use Rattle.adb_forward.specs.declared.row.ForwardRow.{ForwardRow}
 use Rattle.adb_request.specs.Requests.{request_at}
@@ -13,7 +13,7 @@ use Rattle.adb_reply.specs.declared.answer.Answer.{Answer}
 use Rattle.adb_reply.specs.declared.answer.Next.{Next}
 use Rattle.adb_reply.specs.declared.answer.Next.TheVariants.{Close, Select, Track, Open, Bind, Rebind, Unbind, UnbindAll, Stop}
 use Rattle.adb_reply.proofs.Readiness.{answer_ready}
-use Rattle.adb_history.specs.Asking.{Asked, replied, after_next, after_answer, after_found, reads_on, asks_with}
+use Rattle.adb_history.specs.Asking.{Asked, replied, after_next, after_found, reads_on, asks_with}
 
 -- what follows the last request: no further one, and a stream only on a device that takes payloads
 abbrev pub IsAskedReady : DeviceTable → Option Next → Type 0

@@ -1,11 +1,11 @@
 -- What each move keeps, handing out keeps, and the rule of each entry with which nobody comes.
-use Rattle.std.proofs.Common.{◌≡◌, ◌≢◌, ℕ, ◌+◌, ◌-◌, ◌≤◌, ◌<◌, zero, suc, Bool, true, false, cond, not, ◌&&◌, ◌||◌, List, [], ◌∷◌, ◌++◌, length, drop, min, Option, Some, None, refl, sym, ap, subst, ◌∙◌, arith, ◌⊎◌, inl, inr, eqb}
+use Rattle.std.proofs.Common.{◌≡◌, ℕ, ◌+◌, ◌-◌, ◌≤◌, ◌<◌, zero, suc, Bool, true, false, cond, ◌||◌, List, [], ◌∷◌, length, drop, min, Option, Some}
+use Rattle.std.proofs.Common.{None, refl, sym, ap, subst, ◌∙◌, arith, inl, inr, eqb}
 use Rattle.std.specs.Prelude.{is_some, nat_eq, nat_le}
 use Rattle.std.proofs.lemmas.Bool.{eqb-true, eq-eqb}
 use Rattle.std.proofs.lemmas.Bool.Decides.{nat_tests}
-use Rattle.adb_wire.specs.declared.packets.Packet.{Packet}
-use Rattle.adb_stream.specs.Credit.{ByteCredit, IsWhole, given_back}
-use Rattle.adb_stream.specs.declared.credit.TheConstants.{CREDIT_WINDOW, CREDIT_STEP}
+use Rattle.adb_stream.specs.Credit.{given_back}
+use Rattle.adb_stream.specs.declared.credit.TheConstants.{CREDIT_STEP}
 use Rattle.adb_stream.specs.declared.flow.Flow.{Flow}
 use Rattle.adb_stream.specs.declared.flow.Flow.TheVariants.{One, Credit}
 use Rattle.adb_stream.specs.declared.row.Stream.{Stream}
@@ -15,17 +15,17 @@ use Rattle.adb_capture.specs.declared.entry.Entry.{Entry}
 use Rattle.adb_capture.specs.declared.entry.Entry.TheVariants.{Join, Enter, Read, End, Bound, Attach, Recv, Detach, Put, Send}
 use Rattle.adb_outside.specs.Tables.{at}
 use Rattle.adb_forward.specs.declared.row.ForwardRow.{ForwardRow}
-use Rattle.adb_history.specs.Rows.{new_client, Client, Link, State, to_client, to_link, to_stream, with_stream_part}
-use Rattle.adb_history.specs.Events.{Made, Event, quietly, then_also, lost}
-use Rattle.adb_history.specs.Links.{owe_link, okay_packet, credit_packet, server_cnxn, is_connected}
-use Rattle.adb_history.specs.Clients.{owe_client}
+use Rattle.adb_history.specs.Rows.{new_client, Client, Link, State, to_client, to_stream, with_stream_part}
+use Rattle.adb_history.specs.Events.{Made, Event, quietly, lost}
+use Rattle.adb_history.specs.Links.{okay_packet, credit_packet, server_cnxn, is_connected}
 use Rattle.adb_history.specs.Streams.{opens}
 use Rattle.adb_history.specs.Flow.{with_flow}
 use Rattle.adb_history.specs.Tracking.{offered}
-use Rattle.adb_history.specs.Handing.{unmarked, lists_first, hands, to_hand, credit_back, handed_to, tells_credit, tells_handed, stream_hands, stream_left, client_left, takes_of, puts_to, puts, link_hands, sends}
+use Rattle.adb_history.specs.Handing.{unmarked, lists_first, hands, to_hand, credit_back, handed_to, tells_credit, tells_handed, stream_left}
+use Rattle.adb_history.specs.Handing.{client_left, takes_of, puts_to, sends}
 use Rattle.adb_history.specs.Asking.{asks_with}
 use Rattle.adb_history.specs.Reading.{asked_before, has_asked, reads_from, comes, comes_in_vain, enters_by}
-use Rattle.adb_history.specs.Machine.{unplugs_on, unplugs, rule, ups, step}
+use Rattle.adb_history.specs.Machine.{unplugs_on, rule, ups, step}
 use Rattle.adb_history.specs.Moves.{After, Moves, IsLike, plugged_in}
 use Rattle.adb_history.proofs.Following.{after_quietly, after_then, after_if, changed_here}
 use Rattle.adb_history.proofs.StreamMoves.{owes_kept, service_kept, up_all_kept}
@@ -74,114 +74,116 @@ same_stream : (phase : Phase) (l m : ℕ) → phase ≡ Streaming l → phase �
 same_stream phase l m e f = let g : Streaming l ≡ Streaming m = sym e ∙ f in cc
 
 module _ {P : State → List Event → Type 0} (k : Moves P) where
-  -- ---- put
-  lists_first_kept : (c : ℕ) (due : List ℕ) (client : Client) (s : State) (w : List Event) → P s w → After P w (lists_first c due client s)
-  lists_first_kept c [] client s w h = k.due c (offered s.devices client) (to_client c unmarked s) w (k.unmarks c s w h)
-  lists_first_kept c (b ∷ due) client s w h = after_quietly P w s h
+  module _ (s : State) (w : List Event) (h : P s w) where
+    -- ---- put
+    lists_first_kept : (c : ℕ) (due : List ℕ) (client : Client) → After P w (lists_first c due client s)
+    lists_first_kept c [] client = k.due c (offered s.devices client) (to_client c unmarked s) w (k.unmarks c s w h)
+    lists_first_kept c (b ∷ due) client = after_quietly P w s h
 
-  tells_credit_kept : (back l : ℕ) (stream : Stream) (s : State) (w : List Event) → is_some (s.streams l) ≡ true → P s w → After P w (tells_credit back l stream s)
-  tells_credit_kept zero l stream s w alive h = after_quietly P w s h
-  tells_credit_kept (suc n) l stream s w alive h = owes_kept k stream.link (credit_packet l stream.part.remote (suc n)) s w (inr (inl alive)) h
+    tells_credit_kept : (back l : ℕ) (stream : Stream) → is_some (s.streams l) ≡ true → After P w (tells_credit back l stream s)
+    tells_credit_kept zero l stream alive = after_quietly P w s h
+    tells_credit_kept (suc n) l stream alive = owes_kept k s w h stream.link (credit_packet l stream.part.remote (suc n)) (inr (inl alive))
 
-  tells_handed_kept : (flow : Flow) (left l : ℕ) (stream : Stream) (s : State) (w : List Event) → is_some (s.streams l) ≡ true
-      → P s w → After P w (tells_handed flow left l stream s)
-  tells_handed_kept (One window) zero l stream s w alive h = owes_kept k stream.link (okay_packet l stream.part.remote) s w (inr (inl alive)) h
-  tells_handed_kept (One window) (suc left) l stream s w alive h = after_quietly P w s h
-  tells_handed_kept (Credit credit) left l stream s w alive h = tells_credit_kept (credit_back left credit) l stream s w alive h
+    tells_handed_kept : (flow : Flow) (left l : ℕ) (stream : Stream) → is_some (s.streams l) ≡ true → After P w (tells_handed flow left l stream s)
+    tells_handed_kept (One window) zero l stream alive = owes_kept k s w h stream.link (okay_packet l stream.part.remote) (inr (inl alive))
+    tells_handed_kept (One window) (suc left) l stream alive = after_quietly P w s h
+    tells_handed_kept (Credit credit) left l stream alive = tells_credit_kept (credit_back left credit) l stream alive
 
-  -- so many bytes are handed to a client, of whose stream so many are left
-  hands_kept : (c n : ℕ) (client : Client) (s : State) (w : List Event) → s.clients c ≡ Some client
-      → ((l : ℕ) (stream : Stream) → client.about.phase ≡ Streaming l → s.streams l ≡ Some stream → to_hand stream.part.flow ≤ length (drop n client.due))
-      → P s w → After P w (quietly (to_client c (hands n) s))
-  hands_kept c n client s w is fits h = after_quietly P w (to_client c (hands n) s) (k.hands c n client s w is fits h)
+    -- so many bytes are handed to a client, of whose stream so many are left
+    hands_kept : (c n : ℕ) (client : Client) → s.clients c ≡ Some client
+        → ((l : ℕ) (stream : Stream) → client.about.phase ≡ Streaming l → s.streams l ≡ Some stream → to_hand stream.part.flow ≤ length (drop n client.due))
+        → After P w (quietly (to_client c (hands n) s))
+    hands_kept c n client is fits = after_quietly P w (to_client c (hands n) s) (k.hands c n client s w is fits h)
 
-  less_kept : (c n l left : ℕ) (client : Client) (stream : Stream) (s : State) (w : List Event) → s.clients c ≡ Some client → client.about.phase ≡ Streaming l
-      → s.streams l ≡ Some stream → (left ≤ to_hand stream.part.flow) × (left ≤ length (drop n client.due))
-      → P s w → After P w (tells_handed stream.part.flow left l stream
-      (to_stream l (with_stream_part (with_flow (handed_to left stream.part.flow) stream.part)) (to_client c (hands n) s)))
-  less_kept c n l left client stream s w is in_ at_l fits h =
-      let flow : Flow = handed_to left stream.part.flow in
-      let part = with_flow flow stream.part in
-      let less : State = to_stream l (with_stream_part part) s in
-      let here : less.streams l ≡ with_stream_part part stream = changed_here l (with_stream_part part) s.streams stream at_l in
-      let now : P less w = k.flows l stream flow s w at_l (like_handed left stream.part.flow fits.0) h in
-      tells_handed_kept stream.part.flow left l stream (to_client c (hands n) less) w (ap is_some here)
-      (k.hands c n client less w is (λ m other in_m at_m. within m other in_m at_m here) now)
-    where
-      within : (m : ℕ) (other : Stream) → client.about.phase ≡ Streaming m
-          → (to_stream l (with_stream_part (with_flow (handed_to left stream.part.flow) stream.part)) s).streams m ≡ Some other
-          → (to_stream l (with_stream_part (with_flow (handed_to left stream.part.flow) stream.part)) s).streams l
-          ≡ with_stream_part (with_flow (handed_to left stream.part.flow) stream.part) stream
-          → to_hand other.part.flow ≤ length (drop n client.due)
-      within m other in_m at_m here =
-          let rows = (to_stream l (with_stream_part (with_flow (handed_to left stream.part.flow) stream.part)) s).streams in
-          let e : l ≡ m = same_stream client.about.phase l m in_ in_m in
-          let same : with_stream_part (with_flow (handed_to left stream.part.flow) stream.part) stream ≡ Some other = sym here ∙ (ap rows e ∙ at_m) in
-          let row : record stream { part = with_flow (handed_to left stream.part.flow) stream.part } ≡ other = cc in
-          let hand : to_hand (handed_to left stream.part.flow) ≡ to_hand other.part.flow = ap (λ (x : Stream). to_hand x.part.flow) row in
-          omega (arith, hand, left_now left stream.part.flow, fits.1)
+  module _ (s : State) (w : List Event) (h : P s w) where
+    less_kept : (c n l left : ℕ) (client : Client) (stream : Stream) → s.clients c ≡ Some client → client.about.phase ≡ Streaming l → s.streams l ≡ Some stream
+        → (left ≤ to_hand stream.part.flow) × (left ≤ length (drop n client.due)) → After P w (tells_handed stream.part.flow left l stream
+        (to_stream l (with_stream_part (with_flow (handed_to left stream.part.flow) stream.part)) (to_client c (hands n) s)))
+    less_kept c n l left client stream is in_ at_l fits =
+        let flow : Flow = handed_to left stream.part.flow in
+        let part = with_flow flow stream.part in
+        let less : State = to_stream l (with_stream_part part) s in
+        let here : less.streams l ≡ with_stream_part part stream = changed_here l (with_stream_part part) s.streams stream at_l in
+        let now : P less w = k.flows l stream flow s w at_l (like_handed left stream.part.flow fits.0) h in
+        tells_handed_kept (to_client c (hands n) less) w
+        (k.hands c n client less w is (λ m other in_m at_m. within m other in_m at_m here) now) stream.part.flow left l stream (ap is_some here)
+      where
+        within : (m : ℕ) (other : Stream) → client.about.phase ≡ Streaming m
+            → (to_stream l (with_stream_part (with_flow (handed_to left stream.part.flow) stream.part)) s).streams m ≡ Some other
+            → (to_stream l (with_stream_part (with_flow (handed_to left stream.part.flow) stream.part)) s).streams l
+            ≡ with_stream_part (with_flow (handed_to left stream.part.flow) stream.part) stream
+            → to_hand other.part.flow ≤ length (drop n client.due)
+        within m other in_m at_m here =
+            let rows = (to_stream l (with_stream_part (with_flow (handed_to left stream.part.flow) stream.part)) s).streams in
+            let e : l ≡ m = same_stream client.about.phase l m in_ in_m in
+            let same : with_stream_part (with_flow (handed_to left stream.part.flow) stream.part) stream ≡ Some other = sym here ∙ (ap rows e ∙ at_m) in
+            let row : record stream { part = with_flow (handed_to left stream.part.flow) stream.part } ≡ other = cc in
+            let hand : to_hand (handed_to left stream.part.flow) ≡ to_hand other.part.flow = ap (λ (x : Stream). to_hand x.part.flow) row in
+            omega (arith, hand, left_now left stream.part.flow, fits.1)
 
-  stream_left_kept : (c n l : ℕ) (client : Client) (o : Option Stream) (s : State) (w : List Event) → s.clients c ≡ Some client
-      → client.about.phase ≡ Streaming l → s.streams l ≡ o → P s w → After P w (stream_left (length (drop n client.due)) l o (to_client c (hands n) s))
-  stream_left_kept c n l client None s w is in_ at_l h =
-      hands_kept c n client s w is (λ m other in_m at_m. absurd (none m other in_m at_m)) h
-    where
-      none : (m : ℕ) (other : Stream) → client.about.phase ≡ Streaming m → s.streams m ≡ Some other → ⊥
-      none m other in_m at_m =
-          let e : l ≡ m = same_stream client.about.phase l m in_ in_m in
-          let clash : None ≡ Some other = sym at_l ∙ (ap s.streams e ∙ at_m) in
-          cc
-  stream_left_kept c n l client (Some stream) s w is in_ at_l h =
-      let due : ℕ = length (drop n client.due) in
-      let left : ℕ = min (to_hand stream.part.flow) due in
-      let handed : State = to_client c (hands n) s in
-      let less : Made = tells_handed stream.part.flow left l stream (to_stream l (with_stream_part (with_flow (handed_to left stream.part.flow) stream.part)) handed) in
-      after_if P w (nat_eq left (to_hand stream.part.flow)) (quietly handed) less
-      (λ e. hands_kept c n client s w is (λ m other in_m at_m. same m other in_m at_m (eqb-true left (to_hand stream.part.flow) e)) h)
-      (λ e. less_kept c n l left client stream s w is in_ at_l (omega arith, omega arith) h)
-    where
-      same : (m : ℕ) (other : Stream) → client.about.phase ≡ Streaming m → s.streams m ≡ Some other
-          → min (to_hand stream.part.flow) (length (drop n client.due)) ≡ to_hand stream.part.flow → to_hand other.part.flow ≤ length (drop n client.due)
-      same m other in_m at_m is_all =
-          let e : l ≡ m = same_stream client.about.phase l m in_ in_m in
-          let both : Some stream ≡ Some other = sym at_l ∙ (ap s.streams e ∙ at_m) in
-          let row : stream ≡ other = cc in
-          let hand : to_hand stream.part.flow ≡ to_hand other.part.flow = ap (λ (x : Stream). to_hand x.part.flow) row in
-          omega (arith, hand, is_all)
+    stream_left_kept : (c n l : ℕ) (client : Client) (o : Option Stream) → s.clients c ≡ Some client → client.about.phase ≡ Streaming l → s.streams l ≡ o
+        → After P w (stream_left (length (drop n client.due)) l o (to_client c (hands n) s))
+    stream_left_kept c n l client None is in_ at_l =
+        hands_kept s w h c n client is (λ m other in_m at_m. absurd (none m other in_m at_m))
+      where
+        none : (m : ℕ) (other : Stream) → client.about.phase ≡ Streaming m → s.streams m ≡ Some other → ⊥
+        none m other in_m at_m =
+            let e : l ≡ m = same_stream client.about.phase l m in_ in_m in
+            let clash : None ≡ Some other = sym at_l ∙ (ap s.streams e ∙ at_m) in
+            cc
+    stream_left_kept c n l client (Some stream) is in_ at_l =
+        let due : ℕ = length (drop n client.due) in
+        let left : ℕ = min (to_hand stream.part.flow) due in
+        let handed : State = to_client c (hands n) s in
+        let less : Made = tells_handed stream.part.flow left l stream
+        (to_stream l (with_stream_part (with_flow (handed_to left stream.part.flow) stream.part)) handed) in
+        after_if P w (nat_eq left (to_hand stream.part.flow)) (quietly handed) less
+        (λ e. hands_kept s w h c n client is (λ m other in_m at_m. same m other in_m at_m (eqb-true left (to_hand stream.part.flow) e)))
+        (λ e. less_kept c n l left client stream is in_ at_l (omega arith, omega arith))
+      where
+        same : (m : ℕ) (other : Stream) → client.about.phase ≡ Streaming m → s.streams m ≡ Some other
+            → min (to_hand stream.part.flow) (length (drop n client.due)) ≡ to_hand stream.part.flow → to_hand other.part.flow ≤ length (drop n client.due)
+        same m other in_m at_m is_all =
+            let e : l ≡ m = same_stream client.about.phase l m in_ in_m in
+            let both : Some stream ≡ Some other = sym at_l ∙ (ap s.streams e ∙ at_m) in
+            let row : stream ≡ other = cc in
+            let hand : to_hand stream.part.flow ≡ to_hand other.part.flow = ap (λ (x : Stream). to_hand x.part.flow) row in
+            omega (arith, hand, is_all)
 
-  client_left_kept : (phase : Phase) (c n : ℕ) (client : Client) (s : State) (w : List Event) → s.clients c ≡ Some client
-      → client.about.phase ≡ phase → P s w → After P w (client_left phase (length (drop n client.due)) (to_client c (hands n) s))
-  client_left_kept (Streaming l) c n client s w is in_ h = stream_left_kept c n l client (s.streams l) s w is in_ refl h
-  client_left_kept Asking c n client s w is in_ h = hands_kept c n client s w is (λ l x e f. absurd (let g : Asking ≡ Streaming l = sym in_ ∙ e in cc)) h
-  client_left_kept (Opening m) c n client s w is in_ h = hands_kept c n client s w is (λ l x e f. absurd (let g : Opening m ≡ Streaming l = sym in_ ∙ e in cc)) h
-  client_left_kept Binding c n client s w is in_ h = hands_kept c n client s w is (λ l x e f. absurd (let g : Binding ≡ Streaming l = sym in_ ∙ e in cc)) h
-  client_left_kept Tracking c n client s w is in_ h = hands_kept c n client s w is (λ l x e f. absurd (let g : Tracking ≡ Streaming l = sym in_ ∙ e in cc)) h
-  client_left_kept Closing c n client s w is in_ h = hands_kept c n client s w is (λ l x e f. absurd (let g : Closing ≡ Streaming l = sym in_ ∙ e in cc)) h
-  client_left_kept Gone c n client s w is in_ h = hands_kept c n client s w is (λ l x e f. absurd (let g : Gone ≡ Streaming l = sym in_ ∙ e in cc)) h
+    client_left_kept : (phase : Phase) (c n : ℕ) (client : Client) → s.clients c ≡ Some client → client.about.phase ≡ phase
+        → After P w (client_left phase (length (drop n client.due)) (to_client c (hands n) s))
+    client_left_kept (Streaming l) c n client is in_ = stream_left_kept c n l client (s.streams l) is in_ refl
+    client_left_kept Asking c n client is in_ = hands_kept s w h c n client is (λ l x e f. absurd (let g : Asking ≡ Streaming l = sym in_ ∙ e in cc))
+    client_left_kept (Opening m) c n client is in_ =
+        hands_kept s w h c n client is (λ l x e f. absurd (let g : Opening m ≡ Streaming l = sym in_ ∙ e in cc))
+    client_left_kept Binding c n client is in_ = hands_kept s w h c n client is (λ l x e f. absurd (let g : Binding ≡ Streaming l = sym in_ ∙ e in cc))
+    client_left_kept Tracking c n client is in_ = hands_kept s w h c n client is (λ l x e f. absurd (let g : Tracking ≡ Streaming l = sym in_ ∙ e in cc))
+    client_left_kept Closing c n client is in_ = hands_kept s w h c n client is (λ l x e f. absurd (let g : Closing ≡ Streaming l = sym in_ ∙ e in cc))
+    client_left_kept Gone c n client is in_ = hands_kept s w h c n client is (λ l x e f. absurd (let g : Gone ≡ Streaming l = sym in_ ∙ e in cc))
 
-  takes_kept : (c n : ℕ) (o : Option Client) (s : State) (w : List Event) → s.clients c ≡ o → P s w → After P w (takes_of c n o s)
-  takes_kept c n None s w is h = after_quietly P w s h
-  takes_kept c n (Some client) s w is h = client_left_kept client.about.phase c n client s w is refl h
+    takes_kept : (c n : ℕ) (o : Option Client) → s.clients c ≡ o → After P w (takes_of c n o s)
+    takes_kept c n None is = after_quietly P w s h
+    takes_kept c n (Some client) is = client_left_kept client.about.phase c n client is refl
 
-  puts_kept : (o : Option Client) (c n : ℕ) (s : State) (w : List Event) → P s w → After P w (puts_to o c n s)
-  puts_kept None c n s w h = after_quietly P w s h
-  puts_kept (Some client) c n s w h =
-      let listed : Made = lists_first c client.due client s in
-      after_then P w listed (λ s. takes_of c n (s.clients c) s) (lists_first_kept c client.due client s w h)
-      (λ v now. takes_kept c n (listed.state.clients c) listed.state v refl now)
+  module _ (s : State) (w : List Event) (h : P s w) where
+    puts_kept : (o : Option Client) (c n : ℕ) → After P w (puts_to o c n s)
+    puts_kept None c n = after_quietly P w s h
+    puts_kept (Some client) c n =
+        let listed : Made = lists_first c client.due client s in
+        after_then P w listed (λ s. takes_of c n (s.clients c) s) (lists_first_kept s w h c client.due client)
+        (λ v now. takes_kept listed.state v now c n (listed.state.clients c) refl)
 
-  -- ---- entries
-  unplugs_kept : (o : Option Link) (t : ℕ) (s : State) (w : List Event) → P s w → After P w (unplugs_on o t s)
-  unplugs_kept None t s w h = after_quietly P w s h
-  unplugs_kept (Some link) t s w h = k.link_ends t lost s w h
+    -- ---- entries
+    unplugs_kept : (o : Option Link) (t : ℕ) → After P w (unplugs_on o t s)
+    unplugs_kept None t = after_quietly P w s h
+    unplugs_kept (Some link) t = k.link_ends t lost s w h
 
-  reads_kept : (o : Option Client) (c : ℕ) (bytes : List ℕ) (s : State) (w : List Event) → s.clients c ≡ o
-      → ((client : Client) → s.clients c ≡ Some client → client.about.phase ≡ Asking
-      → P (to_client c (has_asked (asks_with s.devices s.forwards bytes (asked_before client))) s) w)
-      → P s w → After P w (reads_from o c bytes s)
-  reads_kept None c bytes s w is asked h = after_quietly P w s h
-  reads_kept (Some client) c bytes s w is asked h =
-      reads_in_kept k client.about.phase c bytes client s w is refl (asked client is) h
+    reads_kept : (o : Option Client) (c : ℕ)
+        (bytes : List ℕ) → s.clients c ≡ o → ((client : Client) → s.clients c ≡ Some client → client.about.phase ≡ Asking → P
+        (to_client c (has_asked (asks_with s.devices s.forwards bytes (asked_before client))) s) w) → After P w (reads_from o c bytes s)
+    reads_kept None c bytes is asked = after_quietly P w s h
+    reads_kept (Some client) c bytes is asked =
+        reads_in_kept k s w h client.about.phase c bytes (record { client = client; here = is; in_phase = refl }) (asked client is)
 
   -- ---- who comes
   enters_kept : (o : Option ForwardRow) (c : ℕ) (s : State) (w : List Event) → P (comes true c s) w → P (comes_in_vain s) w → After P w (enters_by c o s)
@@ -190,7 +192,8 @@ module _ {P : State → List Event → Type 0} (k : Moves P) where
       let now : State = comes true c s in
       let is : now.clients c ≡ Some (new_client true c) = rw (eq-eqb c c refl) refl in
       after_if P w (is_connected row.transport s.devices) (opens true c row.transport row.remote now) (quietly (comes_in_vain s))
-      (λ e. service_kept k true c row.transport row.remote (new_client true c) now w is refl (inl e) here) (λ e. after_quietly P w (comes_in_vain s) vain)
+      (λ e. service_kept k now w here true c row.transport row.remote
+        (record { client = new_client true c; here = is; in_phase = refl }) (inl e)) (λ e. after_quietly P w (comes_in_vain s) vain)
 
   -- What is to be shown before the rule of an entry: that it holds with who comes; of a client that asks, that it holds with what is read.
   abbrev pub Begins : Entry → State → List Event → Type 0
@@ -204,16 +207,16 @@ module _ {P : State → List Event → Type 0} (k : Moves P) where
   pub rule_kept : (e : Entry) (s : State) (w : List Event) → Begins e s w → After P w (rule e s)
   rule_kept (Join c) s w h = after_quietly P w (comes false c s) h
   rule_kept (Enter c port) s w h = enters_kept (at port s.forwards) c s w h.0 h.1
-  rule_kept (Attach t kind serial) s w h = owes_kept k t server_cnxn (plugged_in t kind serial s) w (inr (inr refl)) h
-  rule_kept (Read c bytes) s w h = reads_kept (s.clients c) c bytes s w refl h.1 h.0
-  rule_kept (End c cause) s w h = client_ends_kept k c cause (s.clients c) s w refl h
-  rule_kept (Bound c port) s w h = bound_kept k (s.clients c) c port s w refl h
-  rule_kept (Recv t bytes) s w h = receives_kept k t bytes s w h
-  rule_kept (Detach t cause) s w h = unplugs_kept (s.links t) t s w h
-  rule_kept (Put c bytes) s w h = puts_kept (s.clients c) c (length bytes) s w h
+  rule_kept (Attach t kind serial) s w h = owes_kept k (plugged_in t kind serial s) w h t server_cnxn (inr (inr refl))
+  rule_kept (Read c bytes) s w h = reads_kept s w h.0 (s.clients c) c bytes refl h.1
+  rule_kept (End c cause) s w h = client_ends_kept k s w h c cause (s.clients c) refl
+  rule_kept (Bound c port) s w h = bound_kept k s w h (s.clients c) c port refl
+  rule_kept (Recv t bytes) s w h = receives_kept k s w h t bytes
+  rule_kept (Detach t cause) s w h = unplugs_kept s w h (s.links t) t
+  rule_kept (Put c bytes) s w h = puts_kept s w h (s.clients c) c (length bytes)
   rule_kept (Send t bytes) s w h =
       after_quietly P w (sends t (length bytes) s) (k.links t (λ link. record link { due = drop (length bytes) link.due }) s w h)
 
   pub step_kept : (e : Entry) (s : State) (w : List Event) → Begins e s w → After P w (step s e)
   step_kept e s w h =
-      after_then P w (rule e s) ups (rule_kept e s w h) (λ v now. up_all_kept k (rule e s).state.drawn (rule e s).state v now)
+      after_then P w (rule e s) ups (rule_kept e s w h) (λ v now. up_all_kept k (rule e s).state v now (rule e s).state.drawn)

@@ -1,6 +1,7 @@
 -- What each move keeps, the rules of streams keep: they are asked for, they send, and they end.
-use Rattle.std.proofs.Common.{◌≡◌, ◌≢◌, ℕ, ◌+◌, ◌≤◌, zero, suc, Bool, true, false, cond, List, [], ◌∷◌, ◌++◌, length, drop, Option, Some, None, refl, sym, ap, subst, ◌∙◌, arith, ◌⊎◌, inl, inr, eqb}
-use Rattle.std.specs.Prelude.{codes, is_some, option_and_then, nat_eq}
+use Rattle.std.proofs.Common.{◌≡◌, ℕ, ◌+◌, zero, suc, Bool, true, false, List, [], ◌∷◌, ◌++◌, length, drop, Option, Some, None, refl, sym, ap, subst}
+use Rattle.std.proofs.Common.{◌∙◌, arith, inl, inr, eqb}
+use Rattle.std.specs.Prelude.{codes, is_some, nat_eq}
 use Rattle.std.proofs.lemmas.Bool.{eq-eqb}
 use Rattle.adb_wire.specs.declared.packets.Packet.{Packet}
 use Rattle.adb_stream.specs.declared.flow.Flow.{Flow}
@@ -9,14 +10,15 @@ use Rattle.adb_stream.specs.declared.row.Stream.{Stream}
 use Rattle.adb_client.specs.declared.phase.Phase.{Phase}
 use Rattle.adb_client.specs.declared.phase.Phase.TheVariants.{Asking, Opening, Streaming, Binding, Tracking, Closing, Gone}
 use Rattle.adb_reply.specs.Strings.{failed}
-use Rattle.adb_history.specs.Rows.{Client, State, to_client, to_stream, to_link, with_due, with_held, with_stream_part, none_kept}
-use Rattle.adb_history.specs.Events.{Made, Event, Ending, quietly, then_also, client_closed}
+use Rattle.adb_history.specs.Rows.{Client, State, to_client, to_stream, with_due, with_stream_part, none_kept}
+use Rattle.adb_history.specs.Events.{Made, Event, Ending, quietly, client_closed}
 use Rattle.adb_history.specs.Links.{owe_link, open_packet, close_packet, write_packet, check_on, wants_sums, is_credit, maxdata_of}
-use Rattle.adb_history.specs.Clients.{closes, closes_with}
+use Rattle.adb_history.specs.Clients.{closes_with}
 use Rattle.adb_history.specs.Streams.{stream_ids, asks_for, no_ids_left, opens, ends_row, ends_telling, ends_if_of, ends_of, all_end}
-use Rattle.adb_history.specs.Flow.{with_flow, wrote, flow_after, payloads, total, noted, goes_up, all_go_up, is_over, closes_if, sends_up, is_streaming, up_client, up_stream, up, up_all}
+use Rattle.adb_history.specs.Flow.{with_flow, wrote, flow_after, payloads, total, noted, goes_up, all_go_up, is_over, closes_if, sends_up}
+use Rattle.adb_history.specs.Flow.{is_streaming, up_client, up_stream, up, up_all}
 use Rattle.adb_history.specs.Losing.{stream_of}
-use Rattle.adb_history.specs.Moves.{After, Moves, IsOfStream, IsFree, HasOne, IsLike, IsReady, draws_now}
+use Rattle.adb_history.specs.Moves.{IsClientIn, After, Moves, IsOfStream, IsFree, HasOne, IsLike, IsReady, draws_now}
 use Rattle.adb_history.proofs.Following.{after_quietly, after_then, after_if, changed_here}
 
 -- a client that asks has no stream
@@ -58,7 +60,8 @@ is_alive l streams stream is = ap is_some is
 
 -- what is to be shown of the end of one stream
 abbrev pub EndsKept : (State → List Event → Type 0) → Type 0
-EndsKept P = (l : ℕ) (ending : Ending) (stream : Stream) (s : State) (w : List Event) → s.streams l ≡ Some stream → P s w → After P w (ends_row l ending stream s)
+EndsKept P =
+    (l : ℕ) (ending : Ending) (stream : Stream) (s : State) (w : List Event) → s.streams l ≡ Some stream → P s w → After P w (ends_row l ending stream s)
 
 -- What the end of a stream keeps, the end of all streams of a link keeps.
 module _ {P : State → List Event → Type 0} (ends : EndsKept P) where
@@ -71,97 +74,100 @@ module _ {P : State → List Event → Type 0} (ends : EndsKept P) where
       go : (s : State) (v : List Event) (o : Option Stream) → s.streams (suc n) ≡ o → P s v → After P v (ends_if_of t (suc n) ending o s)
       go s v None is h = after_quietly P v s h
       go s v (Some stream) is h =
-          after_if P v (nat_eq stream.link t) (ends_row (suc n) ending stream s) (quietly s) (λ e. ends (suc n) ending stream s v is h) (λ e. after_quietly P v s h)
+          after_if P v (nat_eq stream.link t) (ends_row (suc n) ending stream s) (quietly s) (λ e. ends (suc n) ending stream s v is h)
+          (λ e. after_quietly P v s h)
 
   pub all_end_kept : (t : ℕ) (ending : Ending) (s : State) (w : List Event) → P s w → After P w (all_end t ending s)
   all_end_kept t ending s w h = ends_of_kept t s.drawn ending s w h
 
 module _ {P : State → List Event → Type 0} (k : Moves P) where
-  -- a packet of a stream that lives becomes due
-  pub owes_kept : (t : ℕ) (p : Packet) (s : State) (w : List Event) → IsOfStream s.streams p → P s w → After P w (owe_link t p s)
-  owes_kept t p s w of h = k.owes t p (check_on (wants_sums (s.links t)) p) s w of h
+  module _ (s : State) (w : List Event) (h : P s w) where
+    -- a packet of a stream that lives becomes due
+    pub owes_kept : (t : ℕ) (p : Packet) → IsOfStream s.streams p → After P w (owe_link t p s)
+    owes_kept t p of = k.owes t p (check_on (wants_sums (s.links t)) p) s w of h
 
-  pub closes_with_kept : (c : ℕ) (bytes : List ℕ) (client : Client) (s : State) (w : List Event) → s.clients c ≡ Some client → IsFree client.about.phase
-      → P s w → After P w (closes_with c bytes s)
-  closes_with_kept c bytes client s w is free h =
-      k.closes c (record client { due = client.due ++ bytes }) (to_client c (with_due bytes) s) (w ++ _ ∷ [])
-      (changed_here c (with_due bytes) s.clients client is) free (k.due c bytes s w h)
+    pub closes_with_kept : (c : ℕ) (bytes : List ℕ) (client : Client) → s.clients c ≡ Some client → IsFree client.about.phase
+        → After P w (closes_with c bytes s)
+    closes_with_kept c bytes client is free =
+        k.closes c (record client { due = client.due ++ bytes }) (to_client c (with_due bytes) s) (w ++ _ ∷ [])
+        (changed_here c (with_due bytes) s.clients client is) free (k.due c bytes s w h)
 
-  -- ---- service
-  asks_for_kept : (c t : ℕ) (service : List ℕ) (client : Client) (s : State) (w : List Event) → s.clients c ≡ Some client → client.about.phase ≡ Asking
-      → IsReady t s.devices → P s w → After P w (asks_for (s.drawn + 1) c t service s)
-  asks_for_kept c t service client s w is asking ready h =
-      let drawn : State = draws_now c t s in
-      let alive : is_some (drawn.streams (s.drawn + 1)) ≡ true = rw (eq-eqb (s.drawn + 1) (s.drawn + 1) refl) refl in
-      owes_kept t (open_packet (is_credit t s.devices) (s.drawn + 1) service) drawn w (inr (inl alive)) (k.draws c t client s w is asking ready h)
+  module _ (s : State) (w : List Event) (h : P s w) where
+    -- ---- service
+    asks_for_kept : (c t : ℕ) (service : List ℕ) → IsClientIn s c Asking → IsReady t s.devices → After P w (asks_for (s.drawn + 1) c t service s)
+    asks_for_kept c t service x ready =
+        let drawn : State = draws_now c t s in
+        let alive : is_some (drawn.streams (s.drawn + 1)) ≡ true = rw (eq-eqb (s.drawn + 1) (s.drawn + 1) refl) refl in
+        owes_kept drawn w (k.draws c t x.client s w x.here x.in_phase ready h) t (open_packet (is_credit t s.devices) (s.drawn + 1) service) (inr (inl alive))
 
-  no_ids_kept : (forwarded : Bool) (c : ℕ) (client : Client) (s : State) (w : List Event) → s.clients c ≡ Some client → client.about.phase ≡ Asking
-      → P s w → After P w (no_ids_left forwarded c s)
-  no_ids_kept true c client s w is asking h =
-      after_quietly P w (to_client c none_kept s) (k.drops c client s w is (asks_streamless client.about.phase s.streams asking) h)
-  no_ids_kept false c client s w is asking h = closes_with_kept c (failed (codes "no stream ids left")).bytes client s w is (asks_free client.about.phase asking) h
+    no_ids_kept : (forwarded : Bool) (c : ℕ) → IsClientIn s c Asking → After P w (no_ids_left forwarded c s)
+    no_ids_kept true c x =
+        after_quietly P w (to_client c none_kept s) (k.drops c x.client s w x.here (asks_streamless x.client.about.phase s.streams x.in_phase) h)
+    no_ids_kept false c x =
+        closes_with_kept s w h c (failed (codes "no stream ids left")).bytes x.client x.here (asks_free x.client.about.phase x.in_phase)
 
-  pub service_kept : (forwarded : Bool) (c t : ℕ) (service : List ℕ) (client : Client) (s : State) (w : List Event) → s.clients c ≡ Some client
-      → client.about.phase ≡ Asking → IsReady t s.devices → P s w → After P w (opens forwarded c t service s)
-  service_kept forwarded c t service client s w is asking ready h =
-      after_if P w (eqb s.drawn stream_ids) (no_ids_left forwarded c s) (asks_for (s.drawn + 1) c t service s)
-      (λ e. no_ids_kept forwarded c client s w is asking h) (λ e. asks_for_kept c t service client s w is asking ready h)
+    pub service_kept : (forwarded : Bool) (c t : ℕ) (service : List ℕ) → IsClientIn s c Asking → IsReady t s.devices → After P w (opens forwarded c t service s)
+    service_kept forwarded c t service x ready =
+        after_if P w (eqb s.drawn stream_ids) (no_ids_left forwarded c s) (asks_for (s.drawn + 1) c t service s)
+        (λ e. no_ids_kept forwarded c x) (λ e. asks_for_kept c t service x ready)
 
-  -- ---- stream end
-  pub ends_telling_kept : (l : ℕ) (ending : Ending) (stream : Stream) (s : State) (w : List Event) → s.streams l ≡ Some stream
-      → P s w → After P w (ends_telling l ending stream s)
-  ends_telling_kept l ending stream s w is h =
-      let p : Packet = close_packet l stream.part.remote in
-      after_then P w (owe_link stream.link p s) (ends_row l ending stream) (owes_kept stream.link p s w (inr (inl (is_alive l s.streams stream is))) h)
-      (λ v now. k.ends l ending stream (owe_link stream.link p s).state v is now)
+    -- ---- stream end
+    pub ends_telling_kept : (l : ℕ) (ending : Ending) (stream : Stream) → s.streams l ≡ Some stream → After P w (ends_telling l ending stream s)
+    ends_telling_kept l ending stream is =
+        let p : Packet = close_packet l stream.part.remote in
+        after_then P w (owe_link stream.link p s) (ends_row l ending stream) (owes_kept s w h stream.link p (inr (inl (is_alive l s.streams stream is))))
+        (λ v now. k.ends l ending stream (owe_link stream.link p s).state v is now)
 
   -- ---- the up rule
-  go_up_kept : (l : ℕ) (stream : Stream) (payloads : List (List ℕ)) (s : State) (w : List Event) → is_some (s.streams l) ≡ true
-      → P s w → After P w (all_go_up l stream payloads s)
-  go_up_kept l stream [] s w alive h = after_quietly P w s h
-  go_up_kept l stream (payload ∷ payloads) s w alive h =
+  go_up_kept : (s : State) (w : List Event) → P s w → (l : ℕ) (stream : Stream) (payloads : List (List ℕ)) → is_some (s.streams l) ≡ true
+      → After P w (all_go_up l stream payloads s)
+  go_up_kept s w h l stream [] alive = after_quietly P w s h
+  go_up_kept s w h l stream (payload ∷ payloads) alive =
       after_then P w (goes_up l stream payload s) (all_go_up l stream payloads)
-      (owes_kept stream.link (write_packet l stream.part.remote payload) s w (inr (inl alive)) h)
-      (λ v now. go_up_kept l stream payloads (goes_up l stream payload s).state v alive now)
+      (owes_kept s w h stream.link (write_packet l stream.part.remote payload) (inr (inl alive)))
+      (λ v now. go_up_kept (goes_up l stream payload s).state v now l stream payloads alive)
 
-  closes_if_kept : (over : Bool) (l : ℕ) (o : Option Stream) (s : State) (w : List Event) → s.streams l ≡ o → P s w → After P w (closes_if over l o s)
-  closes_if_kept over l None s w is h = after_quietly P w s h
-  closes_if_kept false l (Some stream) s w is h = after_quietly P w s h
-  closes_if_kept true l (Some stream) s w is h = ends_telling_kept l client_closed stream s w is h
+  module _ (s : State) (w : List Event) (h : P s w) where
+    closes_if_kept : (over : Bool) (l : ℕ) (o : Option Stream) → s.streams l ≡ o → After P w (closes_if over l o s)
+    closes_if_kept over l None is = after_quietly P w s h
+    closes_if_kept false l (Some stream) is = after_quietly P w s h
+    closes_if_kept true l (Some stream) is = ends_telling_kept s w h l client_closed stream is
 
-  noted_kept : (l : ℕ) (stream : Stream) (client : Client) (payloads : List (List ℕ)) (s : State) (w : List Event) → s.streams l ≡ Some stream
-      → s.clients stream.client ≡ Some client → HasOne client.about.phase → P s w → P (noted l stream client.held payloads s) w
-  noted_kept l stream client payloads s w is here has h =
-      let flow : Flow = flow_after payloads stream.part.flow in
-      k.holds stream.client client (drop (total payloads) client.held) (to_stream l (with_stream_part (with_flow flow stream.part)) s) w here has
-      (k.flows l stream flow s w is (like_after payloads stream.part.flow) h)
+    noted_kept : (l : ℕ) (stream : Stream) (client : Client) (payloads : List (List ℕ)) → s.streams l ≡ Some stream → s.clients stream.client ≡ Some client
+        → HasOne client.about.phase → P (noted l stream client.held payloads s) w
+    noted_kept l stream client payloads is here has =
+        let flow : Flow = flow_after payloads stream.part.flow in
+        k.holds stream.client client (drop (total payloads) client.held) (to_stream l (with_stream_part (with_flow flow stream.part)) s) w here has
+        (k.flows l stream flow s w is (like_after payloads stream.part.flow) h)
 
-  sends_up_kept : (l : ℕ) (stream : Stream) (client : Client) (payloads : List (List ℕ)) (s : State) (w : List Event) → s.streams l ≡ Some stream
-      → s.clients stream.client ≡ Some client → HasOne client.about.phase → P s w → After P w (sends_up l stream client payloads s)
-  sends_up_kept l stream client payloads s w is here has h =
-      let now : State = noted l stream client.held payloads s in
-      let part = with_flow (flow_after payloads stream.part.flow) stream.part in
-      let alive : is_some (now.streams l) ≡ true = ap is_some (changed_here l (with_stream_part part) s.streams stream is) in
-      let sent : Made = all_go_up l stream payloads now in
-      let over : Bool = is_over client.about.ended (drop (total payloads) client.held) (flow_after payloads stream.part.flow) in
-      after_then P w sent (λ s. closes_if over l (s.streams l) s) (go_up_kept l stream payloads now w alive (noted_kept l stream client payloads s w is here has h))
-      (λ v kept. closes_if_kept over l (sent.state.streams l) sent.state v refl kept)
+  module _ (s : State) (w : List Event) (h : P s w) where
+    sends_up_kept : (l : ℕ) (stream : Stream) (client : Client) (payloads : List (List ℕ)) → s.streams l ≡ Some stream → s.clients stream.client ≡ Some client
+        → HasOne client.about.phase → After P w (sends_up l stream client payloads s)
+    sends_up_kept l stream client payloads is here has =
+        let now : State = noted l stream client.held payloads s in
+        let part = with_flow (flow_after payloads stream.part.flow) stream.part in
+        let alive : is_some (now.streams l) ≡ true = ap is_some (changed_here l (with_stream_part part) s.streams stream is) in
+        let sent : Made = all_go_up l stream payloads now in
+        let over : Bool = is_over client.about.ended (drop (total payloads) client.held) (flow_after payloads stream.part.flow) in
+        after_then P w sent (λ s. closes_if over l (s.streams l) s)
+        (go_up_kept now w (noted_kept s w h l stream client payloads is here has) l stream payloads alive)
+        (λ v kept. closes_if_kept sent.state v kept over l (sent.state.streams l) refl)
 
-  up_client_kept : (l : ℕ) (stream : Stream) (o : Option Client) (s : State) (w : List Event) → s.streams l ≡ Some stream
-      → s.clients stream.client ≡ o → P s w → After P w (up_client l stream o s)
-  up_client_kept l stream None s w is here h = after_quietly P w s h
-  up_client_kept l stream (Some client) s w is here h =
-      let sent : List (List ℕ) = payloads stream.part.flow (maxdata_of stream.link s.devices) client.held in
-      after_if P w (is_streaming l client.about.phase) (sends_up l stream client sent s) (quietly s)
-      (λ e. sends_up_kept l stream client sent s w is here (streaming_has l client.about.phase e) h) (λ e. after_quietly P w s h)
+    up_client_kept : (l : ℕ) (stream : Stream) (o : Option Client) → s.streams l ≡ Some stream → s.clients stream.client ≡ o
+        → After P w (up_client l stream o s)
+    up_client_kept l stream None is here = after_quietly P w s h
+    up_client_kept l stream (Some client) is here =
+        let sent : List (List ℕ) = payloads stream.part.flow (maxdata_of stream.link s.devices) client.held in
+        after_if P w (is_streaming l client.about.phase) (sends_up l stream client sent s) (quietly s)
+        (λ e. sends_up_kept l stream client sent is here (streaming_has l client.about.phase e)) (λ e. after_quietly P w s h)
 
-  up_kept : (l : ℕ) (o : Option Stream) (s : State) (w : List Event) → s.streams l ≡ o → P s w → After P w (up_stream l o s)
-  up_kept l None s w is h = after_quietly P w s h
-  up_kept l (Some stream) s w is h = up_client_kept l stream (s.clients stream.client) s w is refl h
+    up_kept : (l : ℕ) (o : Option Stream) → s.streams l ≡ o → After P w (up_stream l o s)
+    up_kept l None is = after_quietly P w s h
+    up_kept l (Some stream) is = up_client_kept l stream (s.clients stream.client) is refl
 
   -- the up rule, for every stream
-  pub up_all_kept : (n : ℕ) (s : State) (w : List Event) → P s w → After P w (up_all n s)
-  up_all_kept zero s w h = after_quietly P w s h
-  up_all_kept (suc n) s w h =
+  pub up_all_kept : (s : State) (w : List Event) → P s w → (n : ℕ) → After P w (up_all n s)
+  up_all_kept s w h zero = after_quietly P w s h
+  up_all_kept s w h (suc n) =
       let before : Made = up_all n s in
-      after_then P w before (up (suc n)) (up_all_kept n s w h) (λ v now. up_kept (suc n) (before.state.streams (suc n)) before.state v refl now)
+      after_then P w before (up (suc n)) (up_all_kept s w h n) (λ v now. up_kept before.state v now (suc n) (before.state.streams (suc n)) refl)

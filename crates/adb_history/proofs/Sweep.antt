@@ -1,23 +1,19 @@
 -- The up rule leaves no stream that may send.
-use Rattle.std.proofs.Common.{◌≡◌, ◌≢◌, ℕ, ◌+◌, ◌-◌, ◌<◌, ◌≤◌, zero, suc, Bool, true, false, cond, ◌&&◌, List, [], ◌∷◌, ◌++◌, length, drop, Option, Some, None, refl, sym, ap, subst, ◌∙◌, arith, ◌⊎◌, inl, inr, eqb}
-use Rattle.std.specs.Prelude.{option_and_then, nat_eq}
-use Rattle.std.proofs.lemmas.Bool.{eqb-true, eq-eqb, ne_eqb, cases_eq}
-use Rattle.adb_outside.specs.Tables.{Rows, change_row}
-use Rattle.adb_registry.specs.Registry.{DeviceTable}
-use Rattle.adb_wire.specs.declared.packets.Packet.{Packet}
+use Rattle.std.proofs.Common.{◌≡◌, ℕ, Bool, true, false, cond, List, [], ◌∷◌, drop, Option, Some, None, refl, sym, ap, subst, ◌∙◌}
+use Rattle.adb_outside.specs.Tables.{Rows}
 use Rattle.adb_stream.specs.declared.row.Part.{Part}
 use Rattle.adb_stream.specs.declared.row.Stream.{Stream}
 use Rattle.adb_client.specs.declared.phase.Phase.{Phase}
 use Rattle.adb_client.specs.declared.phase.Phase.TheVariants.{Asking, Opening, Streaming, Binding, Tracking, Closing, Gone}
-use Rattle.adb_history.specs.Rows.{Client, Link, State, to_client, to_stream, none_kept, with_held, with_stream_part}
-use Rattle.adb_history.specs.Events.{Made, Event, Ending, quietly, then_also, client_closed}
+use Rattle.adb_history.specs.Rows.{Client, Link, State, to_stream, none_kept, with_held, with_stream_part}
+use Rattle.adb_history.specs.Events.{quietly, client_closed}
 use Rattle.adb_history.specs.Links.{maxdata_of, owe_link, close_packet}
-use Rattle.adb_history.specs.Clients.{closing, closing_with, closes}
-use Rattle.adb_history.specs.Streams.{loses, client_loses, ends_row, ends_telling}
-use Rattle.adb_history.specs.Flow.{payloads, total, flow_after, with_flow, goes_up, all_go_up, noted, is_over, closes_if, sends_up, is_streaming, up_client, up_stream, up, up_all}
-use Rattle.adb_history.proofs.Following.{changed_here, changed_other}
+use Rattle.adb_history.specs.Clients.{closes}
+use Rattle.adb_history.specs.Streams.{loses, client_loses, ends_telling}
+use Rattle.adb_history.specs.Flow.{payloads, total, flow_after, with_flow, goes_up, all_go_up, noted, is_over, closes_if, sends_up, is_streaming}
+use Rattle.adb_history.specs.Flow.{up_client, up_stream, up}
+use Rattle.adb_history.proofs.Following.{changed_here}
 use Rattle.adb_history.proofs.OwnedStep.{ends_state}
-use Rattle.adb_history.proofs.Writes.{payloads_done}
 
 -- a stream that its client has open
 pub record Sending (l : ℕ) (s : State) : Type 0 where

@@ -1,9 +1,9 @@
 -- A client that asks keeps no whole request unread.
-use Rattle.std.proofs.Common.{◌≡◌, ◌≢◌, ℕ, ◌+◌, ◌<◌, ◌≤◌, zero, suc, Bool, true, false, cond, List, [], ◌∷◌, ◌++◌, length, take, drop, Option, Some, None, refl, sym, ap, subst, ◌∙◌, arith, ◌⊎◌, inl, inr, eqb, length-drop}
+use Rattle.std.proofs.Common.{◌≡◌, ℕ, ◌+◌, ◌≤◌, zero, suc, Bool, true, false, cond, List, [], ◌∷◌, ◌++◌, length, take, drop, Option, Some, None, refl}
+use Rattle.std.proofs.Common.{sym, ap, subst, ◌∙◌, arith, ◌⊎◌, inl, inr, eqb, length-drop}
 use Rattle.std.specs.Prelude.{option_and_then, option_map, codes}
-use Rattle.std.proofs.lemmas.Bool.{eqb-true, eq-eqb, ne_eqb, cases_eq}
-use Rattle.adb_outside.specs.Tables.{Rows, change_row, put_row, without}
-use Rattle.adb_outside.specs.declared.identity.Identity.{Identity}
+use Rattle.std.proofs.lemmas.Bool.{eqb-true, eq-eqb, cases_eq}
+use Rattle.adb_outside.specs.Tables.{Rows, change_row}
 use Rattle.adb_registry.specs.Registry.{DeviceTable}
 use Rattle.adb_forward.specs.declared.row.ForwardRow.{ForwardRow}
 use Rattle.adb_request.specs.Requests.{request_at}
@@ -21,25 +21,24 @@ use Rattle.adb_reply.specs.Strings.{failed}
 use Rattle.adb_reply.specs.declared.answer.Answer.{Answer}
 use Rattle.adb_reply.specs.declared.answer.Next.{Next}
 use Rattle.adb_reply.specs.declared.answer.Next.TheVariants.{Close, Select, Track, Open, Bind, Rebind, Unbind, UnbindAll, Stop}
-use Rattle.adb_history.specs.Rows.{Client, State, start, new_client, to_client, to_stream, none_kept, with_due, with_held, in_phase}
-use Rattle.adb_history.specs.Events.{Made, Event, Ending, quietly, then_also, lost}
-use Rattle.adb_history.specs.Links.{is_connected, is_credit}
-use Rattle.adb_history.specs.Clients.{owe_client, closing, closing_with, closes}
-use Rattle.adb_history.specs.Streams.{stream_ids, draw, asks_for, no_ids_left, opens, loses, client_loses, ends_row, all_end}
-use Rattle.adb_history.specs.Tracking.{marked, marked_in, mark_all}
-use Rattle.adb_history.specs.Losing.{forgets, link_ends, only_client, stops, input_ended}
+use Rattle.adb_history.specs.Rows.{Client, State, new_client, to_client, to_stream, none_kept, with_due, with_held, in_phase}
+use Rattle.adb_history.specs.Events.{Ending, lost}
+use Rattle.adb_history.specs.Links.{is_connected}
+use Rattle.adb_history.specs.Clients.{closing, closing_with}
+use Rattle.adb_history.specs.Streams.{stream_ids, asks_for, no_ids_left, opens, loses, client_loses, ends_row, all_end}
+use Rattle.adb_history.specs.Tracking.{marked, marked_in}
+use Rattle.adb_history.specs.Losing.{forgets, only_client, input_ended}
 use Rattle.adb_history.specs.Packets.{streams_end_first}
 use Rattle.adb_history.specs.Asking.{Asked, replied, after_next, after_found, reads_on, asks_with}
 use Rattle.adb_history.specs.Reading.{tracks, awaits, goes_on, asked_before, has_asked, asks, reads_in, reads_from, comes}
 use Rattle.adb_history.specs.Handing.{hands, left_in, unmarked}
-use Rattle.adb_history.specs.Machine.{History, state, step, rule, ups, May, IsLegal}
-use Rattle.adb_history.specs.Moves.{After, Moves, HasOne, connects_now}
-use Rattle.adb_history.proofs.Following.{changed_here, after_quietly}
+use Rattle.adb_history.specs.Machine.{History, state, rule}
+use Rattle.adb_history.specs.Moves.{Moves, HasOne}
+use Rattle.adb_history.proofs.Following.{changed_here}
 use Rattle.adb_history.proofs.StreamMoves.{all_end_kept, up_all_kept}
-use Rattle.adb_history.proofs.ReadMoves.{goes_on_kept, reads_in_kept}
-use Rattle.adb_history.proofs.RuleMoves.{Begins, rule_kept}
+use Rattle.adb_history.proofs.ReadMoves.{goes_on_kept}
+use Rattle.adb_history.proofs.RuleMoves.{rule_kept}
 use Rattle.adb_history.proofs.Readiness.{IsAskedReady, asks_ready}
-use Rattle.adb_history.proofs.PlainMoves.{stopped_state}
 use Rattle.adb_history.proofs.OwnedStep.{ends_state}
 
 -- each client that asks, but these, keeps no whole request
@@ -90,10 +89,12 @@ calm_due clients c bytes x y is e asks = calm_same x y (record x { due = x.due +
 calm_none : (clients : Rows (Option Client)) (c : ℕ) → Calm clients c none_kept
 calm_none clients c x y is e asks = absurd (let clash : None ≡ Some y = e in cc)
 
-calm_held : (clients : Rows (Option Client)) (c : ℕ) (bytes : List ℕ) (client : Client) → clients c ≡ Some client → HasOne client.about.phase → Calm clients c (with_held bytes)
+calm_held : (clients : Rows (Option Client)) (c : ℕ) (bytes : List ℕ) (client : Client) → clients c ≡ Some client → HasOne client.about.phase
+    → Calm clients c (with_held bytes)
 calm_held clients c bytes client here has x y is e asks =
     let same : client ≡ x = (let both : Some client ≡ Some x = sym here ∙ is in cc) in
-    calm_other x y (record x { held = bytes }) e (λ f. (let one : HasOne x.about.phase = subst (λ (k : Client). HasOne k.about.phase) same has in subst HasOne f one)) asks
+    calm_other x y (record x { held = bytes }) e
+    (λ f. (let one : HasOne x.about.phase = subst (λ (k : Client). HasOne k.about.phase) same has in subst HasOne f one)) asks
 
 calm_phase : (clients : Rows (Option Client)) (c : ℕ) (phase : Phase) → (phase ≡ Asking → ⊥) → Calm clients c (in_phase phase)
 calm_phase clients c phase other x y is e asks = calm_other x y (record x { about = record x.about { phase = phase } }) e other asks
@@ -128,10 +129,12 @@ calm_hands clients c n x y is e asks = go x.about.phase refl e
 unread_closes : (e : ℕ → Type 0) (c : ℕ) (clients : Rows (Option Client)) → UnreadBut e clients → UnreadBut e (change_row c (option_and_then closing) clients)
 unread_closes e c clients h = unread_change e c closing clients (calm_closing clients c) h
 
-unread_due : (e : ℕ → Type 0) (c : ℕ) (bytes : List ℕ) (clients : Rows (Option Client)) → UnreadBut e clients → UnreadBut e (change_row c (option_and_then (with_due bytes)) clients)
+unread_due : (e : ℕ → Type 0) (c : ℕ) (bytes : List ℕ) (clients : Rows (Option Client)) → UnreadBut e clients
+    → UnreadBut e (change_row c (option_and_then (with_due bytes)) clients)
 unread_due e c bytes clients h = unread_change e c (with_due bytes) clients (calm_due clients c bytes) h
 
-loses_unread : (e : ℕ → Type 0) (forwarded : Bool) (phase : Phase) (c : ℕ) (s : State) → UnreadBut e s.clients → UnreadBut e (loses forwarded phase c s).state.clients
+loses_unread : (e : ℕ → Type 0) (forwarded : Bool) (phase : Phase) (c : ℕ) (s : State) → UnreadBut e s.clients
+    → UnreadBut e (loses forwarded phase c s).state.clients
 loses_unread e forwarded (Streaming l) c s h = unread_closes e c s.clients h
 loses_unread e true (Opening l) c s h = unread_closes e c s.clients h
 loses_unread e false (Opening l) c s h =
@@ -151,7 +154,8 @@ client_loses_unread : (e : ℕ → Type 0) (o : Option Client) (c : ℕ) (s : St
 client_loses_unread e None c s h = h
 client_loses_unread e (Some client) c s h = loses_unread e client.about.forwarded client.about.phase c s h
 
-ends_unread : (e : ℕ → Type 0) (l : ℕ) (ending : Ending) (stream : Stream) (s : State) → UnreadBut e s.clients → UnreadBut e (ends_row l ending stream s).state.clients
+ends_unread : (e : ℕ → Type 0) (l : ℕ) (ending : Ending) (stream : Stream) (s : State) → UnreadBut e s.clients
+    → UnreadBut e (ends_row l ending stream s).state.clients
 ends_unread e l ending stream s h =
     subst (λ (x : State). UnreadBut e x.clients) (sym (ends_state l ending stream s))
     (client_loses_unread e (s.clients stream.client) stream.client (to_stream l none_kept s) h)
@@ -168,7 +172,8 @@ marks_unread e clients h = record { more = λ k y apart is asks. go k y apart (c
     one Closing x = (refl, refl)
     one Gone x = (refl, refl)
 
-    go : (k : ℕ) (y : Client) → (e k → ⊥) → (o : Option Client) → clients k ≡ o → option_map marked o ≡ Some y → y.about.phase ≡ Asking → request_at y.held ≡ More
+    go : (k : ℕ) (y : Client) → (e k → ⊥) → (o : Option Client) → clients k ≡ o → option_map marked o ≡ Some y → y.about.phase ≡ Asking
+        → request_at y.held ≡ More
     go k y apart None is f asks = absurd (let clash : None ≡ Some y = f in cc)
     go k y apart (Some x) is f asks =
         let was = calm_same x y (marked x) f (one x.about.phase x) asks in
@@ -207,7 +212,8 @@ unread_moves e = record {
   input_ended = λ c s w h. unread_change e c input_ended s.clients
       (λ x y is f asks. calm_same x y (record x { about = record x.about { ended = true } }) f (refl, refl) asks) h;
   hands = λ c n x s w is fits h. unread_change e c (hands n) s.clients (calm_hands s.clients c n) h;
-  draws = λ c t x s w is asking ready h. unread_change e c (in_phase (Opening (s.drawn + 1))) s.clients (calm_phase s.clients c (Opening (s.drawn + 1)) (no_opening (s.drawn + 1))) h;
+  draws = λ c t x s w is asking ready h. unread_change e c (in_phase (Opening (s.drawn + 1))) s.clients
+      (calm_phase s.clients c (Opening (s.drawn + 1)) (no_opening (s.drawn + 1))) h;
   flows = λ l stream flow s w is like h. h;
   accepts = λ l payload stream s w is known turn h. unread_due e stream.client payload s.clients h;
   opens = λ l remote word stream s w is new h.
@@ -236,7 +242,8 @@ module _ (devices : DeviceTable) (forwards : List (ℕ × ForwardRow)) where
 
   next_finished : (next : Next) (reply : List ℕ) (size n : ℕ) (others : Asked → Asked) (q : Asked)
       → ((q : Asked) → length q.rest ≤ n → q.next ≡ None → (others q).next ≡ None → request_at (others q).rest ≡ More)
-      → (length (drop size q.rest) ≤ n) × (q.next ≡ None) → (after_next next reply size others q).next ≡ None → request_at (after_next next reply size others q).rest ≡ More
+      → (length (drop size q.rest) ≤ n) × (q.next ≡ None) → (after_next next reply size others q).next ≡ None
+      → request_at (after_next next reply size others q).rest ≡ More
   next_finished (Select id) reply size n others q later h e = later (record (replied reply size q) { selected = Some id }) h.0 h.1 e
   next_finished Close reply size n others q later h e = absurd (let clash : Some Close ≡ None = e in cc)
   next_finished (Track long) reply size n others q later h e = absurd (let clash : Some (Track long) ≡ None = e in cc)
@@ -253,7 +260,8 @@ module _ (devices : DeviceTable) (forwards : List (ℕ × ForwardRow)) where
   reads_finished (suc n) q fits none e = go (request_at q.rest) refl (λ r g u v. reads_finished n r g u v) e
     where
       go : (f : Found) → request_at q.rest ≡ f
-          → ((r : Asked) → length r.rest ≤ n → r.next ≡ None → (reads_on devices forwards n r).next ≡ None → request_at (reads_on devices forwards n r).rest ≡ More)
+          → ((r : Asked) → length r.rest ≤ n → r.next ≡ None → (reads_on devices forwards n r).next ≡ None → request_at
+          (reads_on devices forwards n r).rest ≡ More)
           → (after_found devices forwards f (reads_on devices forwards n) q).next ≡ None
           → request_at (after_found devices forwards f (reads_on devices forwards n) q).rest ≡ More
       go More is later e = is
@@ -275,7 +283,8 @@ closes_not : (c : ℕ) (clients : Rows (Option Client)) (x : Client) → clients
     → (y : Client) → change_row c (option_and_then closing) clients c ≡ Some y → y.about.phase ≡ Asking → ⊥
 closes_not c clients x is y e asks = closing_asks x.due x y (sym (changed_here c closing clients x is) ∙ e) asks
 
-other_not : (c : ℕ) (f : Client → Option Client) (z : Client) (clients : Rows (Option Client)) (x : Client) → (clients c ≡ Some x) × (f x ≡ Some z) → (z.about.phase ≡ Asking → ⊥)
+other_not : (c : ℕ) (f : Client → Option Client) (z : Client) (clients : Rows (Option Client)) (x : Client) → (clients c ≡ Some x) × (f x ≡ Some z)
+    → (z.about.phase ≡ Asking → ⊥)
     → (y : Client) → change_row c (option_and_then f) clients c ≡ Some y → y.about.phase ≡ Asking → ⊥
 other_not c f z clients x is other y e asks =
     let same : z ≡ y = (let both : Some z ≡ Some y = sym is.1 ∙ (sym (changed_here c f clients x is.0) ∙ e) in cc) in
@@ -288,17 +297,21 @@ opens_not c t service s x is = go (eqb s.drawn stream_ids)
     reply : List ℕ
     reply = (failed (codes "no stream ids left")).bytes
 
-    go : (b : Bool) → (y : Client) → (cond b (no_ids_left false c s) (asks_for (s.drawn + 1) c t service s)).state.clients c ≡ Some y → y.about.phase ≡ Asking → ⊥
-    go true = closes_not c (to_client c (with_due (failed (codes "no stream ids left")).bytes) s).clients (record x { due = x.due ++ (failed (codes "no stream ids left")).bytes })
+    go : (b : Bool) → (y : Client) → (cond b (no_ids_left false c s) (asks_for (s.drawn + 1) c t service s)).state.clients c ≡ Some y → y.about.phase ≡ Asking
+        → ⊥
+    go true = closes_not c (to_client c (with_due (failed (codes "no stream ids left")).bytes) s).clients
+        (record x { due = x.due ++ (failed (codes "no stream ids left")).bytes })
         (changed_here c (with_due (failed (codes "no stream ids left")).bytes) s.clients x is)
-    go false = other_not c (in_phase (Opening (s.drawn + 1))) (record x { about = record x.about { phase = Opening (s.drawn + 1) } }) s.clients x (is, refl) (no_opening (s.drawn + 1))
+    go false = other_not c (in_phase (Opening (s.drawn + 1))) (record x { about = record x.about { phase = Opening (s.drawn + 1) } }) s.clients x (is, refl)
+        (no_opening (s.drawn + 1))
 
 goes_on_not : (devices : DeviceTable) (next : Next) (c : ℕ) (s : State) (x : Client) → s.clients c ≡ Some x → IsAskedReady devices (Some next)
     → (y : Client) → (goes_on (Some next) c s).state.clients c ≡ Some y → y.about.phase ≡ Asking → ⊥
 goes_on_not devices (Select id) c s x is ready = absurd ready
 goes_on_not devices Close c s x is ready = closes_not c s.clients x is
 goes_on_not devices (Track long) c s x is ready =
-    other_not c (tracks long) (record x { about = record x.about { phase = Tracking; long = long; mark = false }; held = [] }) s.clients x (is, refl) no_tracking
+    other_not c (tracks long) (record x { about = record x.about { phase = Tracking; long = long; mark = false }; held = [] }) s.clients x
+    (is, refl) no_tracking
 goes_on_not devices (Open t service) c s x is ready = opens_not c t service s x is
 goes_on_not devices (Bind t local remote chosen) c s x is ready =
     let want : Want = record { transport = t; local = local; remote = remote } in
@@ -335,21 +348,24 @@ asks_unread q c client s is asked h = record { more = λ k y apart e asks. all k
     but = record { more = λ k y apart e asks. other k y apart (eqb c k) refl e asks }
 
     others : UnreadBut (λ k. c ≡ k) (goes_on q.next c (to_client c (with_due q.replies) (to_client c (has_asked q) s))).state.clients
-    others = goes_on_kept (unread_moves (λ k. c ≡ k)) q.next c now (to_client c (with_due q.replies) (to_client c (has_asked q) s)) [] here is.1 asked.0
-        (unread_due (λ k. c ≡ k) c q.replies (to_client c (has_asked q) s).clients but)
+    others = goes_on_kept (unread_moves (λ k. c ≡ k)) (to_client c (with_due q.replies) (to_client c (has_asked q) s)) []
+        (unread_due (λ k. c ≡ k) c q.replies (to_client c (has_asked q) s).clients but) q.next c (record { client = now; here = here; in_phase = is.1 }) asked.0
 
-    at_c : (o : Option Next) → q.next ≡ o → (y : Client) → (goes_on o c (to_client c (with_due q.replies) (to_client c (has_asked q) s))).state.clients c ≡ Some y
+    at_c : (o : Option Next) → q.next ≡ o → (y : Client)
+        → (goes_on o c (to_client c (with_due q.replies) (to_client c (has_asked q) s))).state.clients c ≡ Some y
         → y.about.phase ≡ Asking → request_at y.held ≡ More
     at_c None f y e asks =
         let same : now ≡ y = (let both : Some now ≡ Some y = sym here ∙ e in cc) in
         ap (λ (k : Client). request_at k.held) (sym same) ∙ asked.1 f
     at_c (Some next) f y e asks =
-        absurd (goes_on_not s.devices next c (to_client c (with_due q.replies) (to_client c (has_asked q) s)) now here (subst (IsAskedReady s.devices) f asked.0) y e asks)
+        absurd (goes_on_not s.devices next c (to_client c (with_due q.replies) (to_client c (has_asked q) s)) now here
+        (subst (IsAskedReady s.devices) f asked.0) y e asks)
 
     all : (k : ℕ) (y : Client) → (goes_on q.next c (to_client c (with_due q.replies) (to_client c (has_asked q) s))).state.clients k ≡ Some y
         → y.about.phase ≡ Asking → (c ≡ k) ⊎ (c ≡ k → ⊥) → request_at y.held ≡ More
     all k y e asks (inr apart) = others.more k y apart e asks
-    all k y e asks (inl same) = at_c q.next refl y (ap (goes_on q.next c (to_client c (with_due q.replies) (to_client c (has_asked q) s))).state.clients same ∙ e) asks
+    all k y e asks (inl same) =
+        at_c q.next refl y (ap (goes_on q.next c (to_client c (with_due q.replies) (to_client c (has_asked q) s))).state.clients same ∙ e) asks
 
 reads_unread : (c : ℕ) (bytes : List ℕ) (s : State) → UnreadBut (λ _. ⊥) s.clients → UnreadBut (λ _. ⊥) (rule (Read c bytes) s).state.clients
 reads_unread c bytes s h = go (s.clients c) refl
@@ -397,4 +413,4 @@ pub all_unread : (h : History) → UnreadBut (λ _. ⊥) (state h).clients
 all_unread [] = record { more = λ k x apart is asks. absurd (let clash : None ≡ Some x = is in cc) }
 all_unread (e ∷ older) =
     let ruled : State = (rule e (state older)).state in
-    up_all_kept (unread_moves (λ _. ⊥)) ruled.drawn ruled [] (rule_unread e (state older) (all_unread older))
+    up_all_kept (unread_moves (λ _. ⊥)) ruled [] (rule_unread e (state older) (all_unread older)) ruled.drawn

@@ -1,11 +1,11 @@
 -- The writes of what is held leave nothing that may be written.
-use Rattle.std.proofs.Common.{◌≡◌, ◌≢◌, ℕ, ◌+◌, ◌-◌, ◌<◌, ◌≤◌, zero, suc, min, Bool, true, false, cond, List, [], ◌∷◌, ◌++◌, length, take, drop, refl, sym, ap, subst, ◌∙◌, arith, length-drop}
+use Rattle.std.proofs.Common.{◌≡◌, ℕ, ◌+◌, ◌-◌, ◌≤◌, zero, suc, true, cond, List, [], ◌∷◌, length, take, drop, refl, sym, ap, subst, ◌∙◌, arith, length-drop}
 use Rattle.std.proofs.lemmas.List.{length-take, drop-drop}
 use Rattle.adb_stream.specs.Window.{OneWrite}
 use Rattle.adb_stream.specs.Credit.{ByteCredit}
 use Rattle.adb_stream.specs.declared.flow.Flow.{Flow}
 use Rattle.adb_stream.specs.declared.flow.Flow.TheVariants.{One, Credit}
-use Rattle.adb_history.specs.Flow.{write_len, write_before, writes, payloads, total, wrote, flow_after}
+use Rattle.adb_history.specs.Flow.{write_len, write_before, writes, payloads, total, flow_after}
 
 none_written : (k maxdata credit : ℕ) (held : List ℕ) → write_len maxdata credit held ≡ 0 → writes k maxdata credit held ≡ []
 none_written zero maxdata credit held e = refl
@@ -29,7 +29,8 @@ writes_done (suc fuel) k maxdata credit held fits = go (write_len maxdata credit
         → ((n : ℕ) → length (drop n held) ≤ fuel → IsDone k maxdata (credit - n) (drop n held) (writes fuel maxdata (credit - n) (drop n held)))
         → IsDone k maxdata credit held (write_before (write_len maxdata credit held) held
         (writes fuel maxdata (credit - write_len maxdata credit held) (drop (write_len maxdata credit held) held)))
-    go zero e ih = subst (λ (n : ℕ). IsDone k maxdata credit held (write_before n held (writes fuel maxdata (credit - n) (drop n held)))) (sym e) (done_none k maxdata credit held e)
+    go zero e ih = subst (λ (n : ℕ). IsDone k maxdata credit held (write_before n held (writes fuel maxdata (credit - n) (drop n held)))) (sym e)
+        (done_none k maxdata credit held e)
     go (suc n) e ih = subst (λ (n : ℕ). IsDone k maxdata credit held (write_before n held (writes fuel maxdata (credit - n) (drop n held)))) (sym e) more
       where
         later : List (List ℕ)
@@ -64,7 +65,8 @@ after_credit (payload ∷ sent) credit =
     ∙ ap (λ n. Credit (record credit { to_send = n })) (omega arith)
 
 -- a write that is outstanding stays so
-waits : (sent : List (List ℕ)) (window : OneWrite) (maxdata : ℕ) (held : List ℕ) → window.outstanding ≡ true → payloads (flow_after sent (One window)) maxdata held ≡ []
+waits : (sent : List (List ℕ)) (window : OneWrite) (maxdata : ℕ) (held : List ℕ) → window.outstanding ≡ true
+    → payloads (flow_after sent (One window)) maxdata held ≡ []
 waits [] window maxdata held e = ap (λ b. cond b [] (writes 1 maxdata maxdata held)) e
 waits (payload ∷ sent) window maxdata held e = waits sent (record window { outstanding = true }) maxdata held refl
 

@@ -1,5 +1,5 @@
 -- Links, devices, forwards and streams: what holds at each time, also between the parts of a rule.
-use Rattle.std.specs.Prelude.{ℕ, ◌≡◌, Bool, true, false, is_some, All, List, Option, Some, None}
+use Rattle.std.specs.Prelude.{ℕ, ◌≡◌, true, false, is_some, All, List, Option, Some}
 use Rattle.adb_outside.specs.Tables.{Rows, at, IsRising}
 use Rattle.adb_registry.specs.Registry.{DeviceTable}
 use Rattle.adb_registry.specs.declared.row.Row.{Row}

@@ -1,8 +1,7 @@
 -- The moves that the rules are made of. What each move keeps, each rule keeps.
-use Rattle.std.specs.Prelude.{ℕ, ◌+◌, ◌-◌, ◌≡◌, ◌≢◌, ◌≤◌, ◌<◌, ◌⊎◌, Bool, true, false, is_some, All, List, [], ◌∷◌, ◌++◌, length, drop, Option, Some, None}
+use Rattle.std.specs.Prelude.{ℕ, ◌+◌, ◌≡◌, ◌≢◌, ◌≤◌, ◌⊎◌, Bool, true, false, is_some, All, List, [], ◌∷◌, ◌++◌, length, drop, Option, Some, None}
 use Rattle.adb_outside.specs.Tables.{at, put_row}
 use Rattle.adb_outside.specs.declared.kinds.Kind.{Kind}
-use Rattle.adb_outside.specs.declared.kinds.Cause.{Cause}
 use Rattle.adb_outside.specs.declared.identity.Identity.{Identity}
 use Rattle.adb_outside.specs.declared.identity.State.TheVariants.{Offline}
 use Rattle.adb_registry.specs.Registry.{DeviceTable, attached}
@@ -11,23 +10,22 @@ use Rattle.adb_forward.specs.declared.row.ForwardRow.{ForwardRow}
 use Rattle.adb_wire.specs.declared.packets.Packet.{Packet}
 use Rattle.adb_wire.specs.declared.command.Command.TheVariants.{Cnxn}
 use Rattle.adb_wire.specs.Packet.{spelling}
-use Rattle.adb_stream.specs.Credit.{IsWhole}
 use Rattle.adb_stream.specs.declared.flow.Flow.{Flow}
-use Rattle.adb_stream.specs.declared.row.Part.{Part}
 use Rattle.adb_stream.specs.declared.row.Stream.{Stream}
 use Rattle.adb_client.specs.declared.phase.Phase.{Phase}
-use Rattle.adb_client.specs.declared.phase.Phase.TheVariants.{Asking, Opening, Streaming, Binding, Tracking, Closing, Gone}
+use Rattle.adb_client.specs.declared.phase.Phase.TheVariants.{Asking, Opening, Streaming, Binding, Tracking}
 use Rattle.adb_client.specs.declared.about.Want.{Want}
 use Rattle.adb_reply.specs.Laws.{TakesPayloads}
-use Rattle.adb_history.specs.Rows.{new_link, Client, Link, State, to_client, to_link, to_stream, none_kept, with_due, with_held, in_phase, with_link_due, with_stream_part}
+use Rattle.adb_history.specs.Rows.{new_link, Client, Link, State, to_client, to_link, to_stream, none_kept, with_due, with_held, in_phase}
+use Rattle.adb_history.specs.Rows.{with_link_due, with_stream_part}
 use Rattle.adb_history.specs.Events.{Made, Event, Ending, quietly, then_also, due_to_client, due_to_link, ended}
-use Rattle.adb_history.specs.Links.{is_connected, is_credit, maxdata_of}
+use Rattle.adb_history.specs.Links.{is_connected, is_credit}
 use Rattle.adb_history.specs.Clients.{closes}
 use Rattle.adb_history.specs.Streams.{draw, ends_row}
 use Rattle.adb_history.specs.Flow.{with_flow}
 use Rattle.adb_history.specs.Tracking.{mark_all}
 use Rattle.adb_history.specs.Losing.{link_ends, orphaned, input_ended, stream_of, stops}
-use Rattle.adb_history.specs.Packets.{with_remote, first_credit, is_out_of_turn, accepted, streams_end_first, goes_online, unauthorized_from}
+use Rattle.adb_history.specs.Packets.{connects, with_remote, first_credit, is_out_of_turn, accepted, streams_end_first, goes_online, unauthorized_from}
 use Rattle.adb_history.specs.Reading.{tracks, awaits}
 use Rattle.adb_history.specs.Handing.{to_hand, hands, unmarked}
 use Rattle.adb_history.specs.Orderly.{IsSoundFlow}
@@ -53,6 +51,12 @@ abbrev pub HasOne : Phase → Type 0
 HasOne (Opening l) = Unit {0}
 HasOne (Streaming l) = Unit {0}
 HasOne _ = ⊥
+
+-- a client is there, and in this phase
+pub record IsClientIn (s : State) (c : ℕ) (phase : Phase) : Type 0 where
+  pub client : Client
+  pub here : s.clients c ≡ Some client
+  pub in_phase : client.about.phase ≡ phase
 
 -- a flow after a change that accepts no write
 pub record IsLike (before after : Flow) : Type 0 where
@@ -90,8 +94,7 @@ plugged_in t kind serial s = mark_all (record s { devices = attached kind serial
 
 -- a CNXN of a device that is taken
 abbrev pub connects_now : ℕ → (version maxdata : ℕ) → Identity → State → Made
-connects_now t version maxdata identity s =
-    then_also (streams_end_first (is_connected t s.devices) t s) (λ s. quietly (goes_online t version maxdata identity s))
+connects_now t version maxdata identity s = connects t version maxdata (Some identity) s
 
 -- What each move keeps, of a state and what was told until then.
 pub record Moves (P : State → List Event → Type 0) : Type 0 where

@@ -1,9 +1,8 @@
 -- What every reader expects of a legal history: its numbers, and its packets.
-use Rattle.std.specs.Prelude.{ℕ, ◌≡◌, ◌≢◌, ◌≤◌, ◌+◌, ⊤, All, List, []}
+use Rattle.std.specs.Prelude.{ℕ, ◌≡◌, ◌≢◌, ◌≤◌, ◌+◌, ⊤, All, []}
 use Rattle.adb_capture.specs.declared.entry.Entry.{Entry}
 use Rattle.adb_capture.specs.declared.entry.Entry.TheVariants.{Join, Enter, Attach}
 use Rattle.adb_wire.specs.declared.command.Command.TheVariants.{Cnxn}
-use Rattle.adb_wire.specs.declared.packets.Packet.{Packet}
 use Rattle.adb_history.specs.Rows.{State}
 use Rattle.adb_history.specs.Events.{Event, due_to_client, due_to_link, ended}
 use Rattle.adb_history.specs.Machine.{History, state, told, ups}

@@ -1,5 +1,5 @@
 -- What holds of every state that a legal history leaves.
-use Rattle.std.specs.Prelude.{ℕ, ◌≡◌, ◌≢◌, ◌≤◌, ◌<◌, Bool, true, false, is_some, zero, suc, List, [], length, Option, Some, None}
+use Rattle.std.specs.Prelude.{ℕ, ◌≡◌, ◌≢◌, ◌≤◌, ◌<◌, Bool, true, false, is_some, zero, suc, [], length, Option, Some, None}
 use Rattle.adb_outside.specs.Tables.{at, IsRising}
 use Rattle.adb_registry.specs.declared.row.Row.{Row}
 use Rattle.adb_forward.specs.declared.row.ForwardRow.{ForwardRow}
@@ -11,7 +11,7 @@ use Rattle.adb_stream.specs.declared.flow.Flow.TheVariants as flow
 use Rattle.adb_stream.specs.declared.row.Stream.{Stream}
 use Rattle.adb_client.specs.declared.phase.Phase.{Phase}
 use Rattle.adb_client.specs.declared.phase.Phase.TheVariants.{Asking, Opening, Streaming, Binding, Tracking, Closing, Gone}
-use Rattle.adb_history.specs.Rows.{Client, Link, State}
+use Rattle.adb_history.specs.Rows.{Client, State}
 use Rattle.adb_history.specs.Links.{is_connected, is_connected_state, is_credit, maxdata_of}
 use Rattle.adb_history.specs.Flow.{payloads, is_over}
 use Rattle.adb_history.specs.Handing.{to_hand}
