@@ -5,6 +5,8 @@
 
 mod hand_out;
 mod refusal;
+mod ties;
 
 pub use hand_out::HAND_OUT;
 pub use refusal::{Reason, Refusal};
+pub use ties::{due_is_past_put, due_is_past_sent};
