@@ -6,3 +6,4 @@ pub mod LinkChanges
 pub mod AnswersWithin
 pub mod ReadChanges
 pub mod Outputs
+pub mod Received

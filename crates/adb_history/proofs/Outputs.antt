@@ -38,7 +38,8 @@ use Rattle.adb_history.specs.Handing.{unmarked, lists_first, left_in, hands, cli
 use Rattle.adb_history.specs.Machine.{unplugs_on, unplugs, rule, ups, step, History, state, told_at, told, IsSomeOf, MayPut, MaySend, May, IsLegal}
 use Rattle.adb_history.specs.Bytes.{bytes_put, bytes_sent}
 use Rattle.adb_history.specs.Lives.{output_of}
-use Rattle.adb_history.specs.Tied.{DueIsPastPut, DueIsPastSent}
+use Rattle.adb_history.specs.Tied.{DueIsPastPut, DueIsPastSent, came_count}
+use Rattle.adb_history.specs.Book.{plugged_count}
 use Rattle.adb_history.proofs.Quiet.{RowStep, row_none, ClientStays, LinkStays, ClientOwes, LinkOwes, IsToldWithin, IsWithin, AreWithin, owed_append, spelled_append, both_none, told_then, client_owes_then, link_owes_then, Keeps, keeps_all, keeps_over, keeps_owe_link}
 use Rattle.adb_history.proofs.QuietRules.{keeps_up_all, keeps_client_ends, keeps_opens, same_client}
 use Rattle.adb_history.proofs.QuietPackets.{keeps_mark_all, keeps_lists_first, keeps_client_left}
@@ -235,8 +236,16 @@ rows_above plugged next devices le h = record { rises = h.rises; above = λ t lt
 nothing_due : (output out : List ℕ) → output ≡ [] → out ≡ [] → output ≡ out ++ []
 nothing_due output out e f = e ∙ (sym f ∙ sym (append-nil out))
 
+-- a row that is there has a number that was drawn
+pub row_below : {X : Type 0} (limit n : ℕ) (o : Option X) (x : X) → (limit < n → o ≡ None) → o ≡ Some x → n ≤ limit
+row_below {X} limit n o x none is = go (cases_lt limit n)
+  where
+    go : (limit < n) ⊎ (n ≤ limit) → n ≤ limit
+    go (inl lt) = let clash : None ≡ Some x = sym (none lt) ∙ is in cc
+    go (inr le) = le
+
 -- a device that is connected is there
-connected_is : (o : Option Row) → is_connected_row o ≡ true → is_some o ≡ true
+pub connected_is : (o : Option Row) → is_connected_row o ≡ true → is_some o ≡ true
 connected_is None e = e
 connected_is (Some row) e = refl
 
@@ -343,13 +352,6 @@ module _ (came plugged : ℕ) (put sent : ℕ → List ℕ) (s : State) (events 
   sent_with : ℕ → List ℕ → ℕ → List ℕ
   sent_with n bytes t = cond (eqb n t) (sent t ++ bytes) (sent t)
 
-  not_above : {X : Type 0} (limit n : ℕ) (o : Option X) (x : X) → (limit < n → o ≡ None) → o ≡ Some x → n ≤ limit
-  not_above {X} limit n o x none is = go (cases_lt limit n)
-    where
-      go : (limit < n) ⊎ (n ≤ limit) → n ≤ limit
-      go (inl lt) = let clash : None ≡ Some x = sym (none lt) ∙ is in cc
-      go (inr le) = le
-
   tie_left_closing : (due : List ℕ) (c : Client) (output out : List ℕ) → output ≡ out ++ due → ClientTie (closing_with due (record c { due = due })) output out
   tie_left_closing [] c output out e = tt
   tie_left_closing (b ∷ due) c output out e = e
@@ -382,7 +384,7 @@ module _ (came plugged : ℕ) (put sent : ℕ → List ℕ) (s : State) (events 
   }
     where
       below : n ≤ came
-      below = not_above came n (s.clients n) client (h.unborn n) is
+      below = row_below came n (s.clients n) client (h.unborn n) is
 
       none : (same : Bool) (o : Option Client) → o ≡ None → cond same (option_and_then (hands (length bytes)) o) o ≡ None
       none true o e = ap (option_and_then (hands (length bytes))) e
@@ -419,7 +421,7 @@ module _ (came plugged : ℕ) (put sent : ℕ → List ℕ) (s : State) (events 
   }
     where
       below : n ≤ plugged
-      below = not_above plugged n (s.links n) link (h.unplugged n) is
+      below = row_below plugged n (s.links n) link (h.unplugged n) is
 
       none : (same : Bool) (o : Option Link) → o ≡ None → cond same (option_and_then (link_hands (length bytes)) o) o ≡ None
       none true o e = ap (option_and_then (link_hands (length bytes))) e
@@ -487,7 +489,7 @@ module _ (came plugged : ℕ) (put sent : ℕ → List ℕ) where
       (λ k. cond (eqb c k) (put k ++ bytes) (put k)) sent
   tie_puts_to c bytes None s events is may h = absurd may
   tie_puts_to c bytes (Some client) s events is may h =
-      let below = not_above came plugged put sent s events h came c (s.clients c) client (h.unborn c) is in
+      let below = row_below came c (s.clients c) client (h.unborn c) is in
       let m = lists_first c client.due client s in
       let listed = tie_keeps came plugged put sent s events m h (keeps_lists_first came plugged c client.due client s below) in
       let m2 = takes_of c (length bytes) (m.state.clients c) m.state in
@@ -505,75 +507,43 @@ module _ (came plugged : ℕ) (put sent : ℕ → List ℕ) where
 
 -- ---- all histories
 -- the state that a history leaves is tied to what it told and handed out
-pub record IsTied (h : History) : Type 0 where
-  pub came : ℕ
-  pub plugged : ℕ
-  pub tie : Tie came plugged (state h) (told h) (λ c. bytes_put c h) (λ t. bytes_sent t h)
+abbrev pub IsTied : History → Type 0
+IsTied h = Tie (came_count h) (plugged_count h) (state h) (told h) (λ c. bytes_put c h) (λ t. bytes_sent t h)
 
-tied_inner : (e : Entry) (older : History) → May (state older) e → IsInner e → (t : IsTied older)
-    → Tie t.came t.plugged (state (e ∷ older)) (told (e ∷ older)) (λ c. bytes_put c older) (λ k. bytes_sent k older)
-tied_inner e older may inner t =
-    let put = λ (c : ℕ). bytes_put c older in
-    let sent = λ (k : ℕ). bytes_sent k older in
-    tie_step t.came t.plugged put sent (state older) (told older) e
-    (tie_inner t.came t.plugged put sent e (state older) (told older) may t.tie inner)
+-- after the rule of an entry
+abbrev pub IsTiedAfter : Entry → History → Type 0
+IsTiedAfter e older =
+    Tie (came_count (e ∷ older)) (plugged_count (e ∷ older)) (rule e (state older)).state (told older ++ (rule e (state older)).told)
+    (λ c. bytes_put c (e ∷ older)) (λ t. bytes_sent t (e ∷ older))
 
-tied_join : (c : ℕ) (older : History) → May (state older) (Join c) → IsTied older → IsTied (Join c ∷ older)
-tied_join c older may t =
-    let put = λ (c : ℕ). bytes_put c older in
-    let sent = λ (k : ℕ). bytes_sent k older in
-    record {
-      came = t.came + 1;
-      plugged = t.plugged;
-      tie = tie_step (t.came + 1) t.plugged put sent (state older) (told older) (Join c)
-          (subst (λ (x : List Event). Tie (t.came + 1) t.plugged (comes false c (state older)) x put sent) (sym (append-nil (told older)))
-          (tie_comes t.came t.plugged put sent (state older) (told older) t.tie false c may.1));
-    }
+module _ (older : History) (t : IsTied older) where
+  abbrev put_before : ℕ → List ℕ
+  put_before c = bytes_put c older
 
-tied_enter : (c port : ℕ) (older : History) → May (state older) (Enter c port) → IsTied older → IsTied (Enter c port ∷ older)
-tied_enter c port older may t =
-    let put = λ (c : ℕ). bytes_put c older in
-    let sent = λ (k : ℕ). bytes_sent k older in
-    record {
-      came = t.came + 1;
-      plugged = t.plugged;
-      tie = tie_step (t.came + 1) t.plugged put sent (state older) (told older) (Enter c port)
-          (tie_enters t.came t.plugged put sent (state older) (told older) t.tie c port may.1);
-    }
+  abbrev sent_before : ℕ → List ℕ
+  sent_before t = bytes_sent t older
 
-tied_attach : (n : ℕ) (kind : Kind) (serial : List ℕ) (older : History) → May (state older) (Attach n kind serial) → IsTied older
-    → IsTied (Attach n kind serial ∷ older)
-tied_attach n kind serial older may t =
-    let put = λ (c : ℕ). bytes_put c older in
-    let sent = λ (k : ℕ). bytes_sent k older in
-    record {
-      came = t.came;
-      plugged = t.plugged + 1;
-      tie = tie_step t.came (t.plugged + 1) put sent (state older) (told older) (Attach n kind serial)
-          (tie_plugs_in t.came t.plugged put sent (state older) (told older) t.tie n kind serial may.1);
-    }
+  tied_inner : (e : Entry) → May (state older) e → IsInner e
+      → Tie (came_count older) (plugged_count older) (rule e (state older)).state (told older ++ (rule e (state older)).told) put_before sent_before
+  tied_inner e may inner = tie_inner (came_count older) (plugged_count older) put_before sent_before e (state older) (told older) may t inner
 
-tied_put : (c : ℕ) (bytes : List ℕ) (older : History) → May (state older) (Put c bytes) → IsTied older → IsTied (Put c bytes ∷ older)
-tied_put c bytes older may t =
-    let put = λ (c : ℕ). bytes_put c older in
-    let sent = λ (k : ℕ). bytes_sent k older in
-    record {
-      came = t.came;
-      plugged = t.plugged;
-      tie = tie_step t.came t.plugged (λ k. bytes_put k (Put c bytes ∷ older)) sent (state older) (told older) (Put c bytes)
-          (tie_puts_to t.came t.plugged put sent c bytes ((state older).clients c) (state older) (told older) refl may t.tie);
-    }
-
-tied_send : (n : ℕ) (bytes : List ℕ) (older : History) → May (state older) (Send n bytes) → IsTied older → IsTied (Send n bytes ∷ older)
-tied_send n bytes older may t =
-    let put = λ (c : ℕ). bytes_put c older in
-    let sent = λ (k : ℕ). bytes_sent k older in
-    record {
-      came = t.came;
-      plugged = t.plugged;
-      tie = tie_step t.came t.plugged put (λ k. bytes_sent k (Send n bytes ∷ older)) (state older) (told older) (Send n bytes)
-          (tie_sends_to t.came t.plugged put sent n bytes ((state older).links n) (state older) (told older) refl may t.tie);
-    }
+  pub tied_rule : (e : Entry) → May (state older) e → IsTiedAfter e older
+  tied_rule (Join c) may =
+      subst (λ (x : List Event). Tie (came_count older + 1) (plugged_count older) (comes false c (state older)) x put_before sent_before)
+      (sym (append-nil (told older))) (tie_comes (came_count older) (plugged_count older) put_before sent_before (state older) (told older) t false c may.1)
+  tied_rule (Enter c port) may =
+      tie_enters (came_count older) (plugged_count older) put_before sent_before (state older) (told older) t c port may.1
+  tied_rule (Attach n kind serial) may =
+      tie_plugs_in (came_count older) (plugged_count older) put_before sent_before (state older) (told older) t n kind serial may.1
+  tied_rule (Put c bytes) may =
+      tie_puts_to (came_count older) (plugged_count older) put_before sent_before c bytes ((state older).clients c) (state older) (told older) refl may t
+  tied_rule (Send n bytes) may =
+      tie_sends_to (came_count older) (plugged_count older) put_before sent_before n bytes ((state older).links n) (state older) (told older) refl may t
+  tied_rule (Read c bytes) may = tied_inner (Read c bytes) may tt
+  tied_rule (End c cause) may = tied_inner (End c cause) may tt
+  tied_rule (Bound c port) may = tied_inner (Bound c port) may tt
+  tied_rule (Recv n bytes) may = tied_inner (Recv n bytes) may tt
+  tied_rule (Detach n cause) may = tied_inner (Detach n cause) may tt
 
 none_rise : IsRising (let rows : List (ℕ × Row) = [] in rows)
 unfolding IsStrictlySortedBy
@@ -581,41 +551,28 @@ none_rise = tt
 
 tied_start : IsTied []
 tied_start = record {
-  came = 0;
-  plugged = 0;
-  tie = record {
-    clients = λ c. tt;
-    links = λ t. tt;
-    told = record { clients = λ c lt. refl; links = λ t lt. refl };
-    unborn = λ c lt. refl;
-    unplugged = λ t lt. refl;
-    unput = λ c lt. refl;
-    unsent = λ t lt. refl;
-    streams = λ l. tt;
-    rows = record { rises = none_rise; above = λ t lt. refl };
-    joined = refl;
-    drawn = refl;
-  };
+  clients = λ c. tt;
+  links = λ t. tt;
+  told = record { clients = λ c lt. refl; links = λ t lt. refl };
+  unborn = λ c lt. refl;
+  unplugged = λ t lt. refl;
+  unput = λ c lt. refl;
+  unsent = λ t lt. refl;
+  streams = λ l. tt;
+  rows = record { rises = none_rise; above = λ t lt. refl };
+  joined = refl;
+  drawn = refl;
 }
 
 -- Every legal history's state is tied to its entries.
 pub tied : (h : History) → IsLegal h → IsTied h
 tied [] l = tied_start
-tied (Join c ∷ older) l = tied_join c older l.2 (tied older l.0)
-tied (Enter c port ∷ older) l = tied_enter c port older l.2 (tied older l.0)
-tied (Read c bytes ∷ older) l = let t = tied older l.0 in record { came = t.came; plugged = t.plugged; tie = tied_inner (Read c bytes) older l.2 tt t }
-tied (End c cause ∷ older) l = let t = tied older l.0 in record { came = t.came; plugged = t.plugged; tie = tied_inner (End c cause) older l.2 tt t }
-tied (Bound c port ∷ older) l = let t = tied older l.0 in record { came = t.came; plugged = t.plugged; tie = tied_inner (Bound c port) older l.2 tt t }
-tied (Attach n kind serial ∷ older) l = tied_attach n kind serial older l.2 (tied older l.0)
-tied (Recv n bytes ∷ older) l = let t = tied older l.0 in record { came = t.came; plugged = t.plugged; tie = tied_inner (Recv n bytes) older l.2 tt t }
-tied (Detach n cause ∷ older) l = let t = tied older l.0 in record { came = t.came; plugged = t.plugged; tie = tied_inner (Detach n cause) older l.2 tt t }
-tied (Put c bytes ∷ older) l = tied_put c bytes older l.2 (tied older l.0)
-tied (Send n bytes ∷ older) l = tied_send n bytes older l.2 (tied older l.0)
+tied (e ∷ older) l =
+    tie_step (came_count (e ∷ older)) (plugged_count (e ∷ older)) (λ c. bytes_put c (e ∷ older)) (λ t. bytes_sent t (e ∷ older)) (state older) (told older) e
+    (tied_rule older (tied older l.0) e l.2)
 
 pub all_due_past_put : (h : History) → IsLegal h → DueIsPastPut h
-all_due_past_put h l c client is =
-    subst (λ (o : Option Client). ClientTie o (output_of c h) (bytes_put c h)) is ((tied h l).tie.clients c)
+all_due_past_put h l c client is = subst (λ (o : Option Client). ClientTie o (output_of c h) (bytes_put c h)) is ((tied h l).clients c)
 
 pub all_due_past_sent : (h : History) → IsLegal h → DueIsPastSent h
-all_due_past_sent h l t link is =
-    subst (λ (o : Option Link). LinkTie o (spelled_to t (told h)) (bytes_sent t h)) is ((tied h l).tie.links t)
+all_due_past_sent h l t link is = subst (λ (o : Option Link). LinkTie o (spelled_to t (told h)) (bytes_sent t h)) is ((tied h l).links t)
