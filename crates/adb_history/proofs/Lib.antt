@@ -7,3 +7,5 @@ pub mod AnswersWithin
 pub mod ReadChanges
 pub mod Outputs
 pub mod Received
+pub mod DeviceRows
+pub mod DeviceTurns

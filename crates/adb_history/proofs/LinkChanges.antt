@@ -30,7 +30,7 @@ use Rattle.adb_history.specs.Losing.{forgets, link_ends}
 use Rattle.adb_history.specs.Packets.{least_version, least_maxdata, with_sums, goes_online, streams_end_first, connects, cnxn, unauthorized_from, unauthorized}
 use Rattle.adb_history.specs.Packets.{treat_open, treat_any, treat_on, treat, treat_all, faulty_on, faulty, with_rest, receives_cut, receives_on, receives}
 use Rattle.adb_history.proofs.Quiet.{RowStep, row_same, row_goes, row_none, row_weaker, row_at, either_none, ClientStays, client_same, LinkStays, link_same, AreWithin}
-use Rattle.adb_history.proofs.Quiet.{Keeps, keeps_all, keeps_to_link, keeps_over}
+use Rattle.adb_history.proofs.Quiet.{Keeps, keeps_all, keeps_over}
 use Rattle.adb_history.proofs.QuietRules.{keeps_all_end}
 use Rattle.adb_history.proofs.QuietPackets.{keeps_treat_open, keeps_mark_all}
 use Rattle.adb_history.proofs.Changes.{within_changed, within_detached, Fate, Follows, Stay, LinkStay, stay_then}
@@ -64,12 +64,28 @@ HearsAllOn t packets k a b told = HearsAll (eqb t k) packets a b told
 
 module _ (came plugged : ℕ) where
   -- ---- a link ends
+  no_link : (t : ℕ) (s : State) → Changes came plugged Stay LinkStay s (quietly (to_link t none_kept s))
+  no_link t s = record {
+    clients = λ c. row_same ClientStays client_same (s.clients c);
+    links = λ k. go (eqb t k) (s.links k);
+    told = record { clients = λ c lt. refl; links = λ t lt. refl };
+    streams = λ h. h;
+    rows = λ h. h;
+    joined = refl;
+    drawn = refl;
+  }
+    where
+      go : (here : Bool) (o : Option Link) → RowStep LinkStays o (cond here (option_and_then none_kept o) o) []
+      go true None = tt
+      go true (Some a) = tt
+      go false o = row_same LinkStays link_same o
+
   changes_forgets : (t : ℕ) (s : State) → Changes came plugged Stay LinkStay s (quietly (forgets t s))
   changes_forgets t s =
       let tables = record s { devices = detached t s.devices; forwards = forwards_without t s.forwards } in
       stays_then came plugged s (quietly tables) (λ s. quietly (to_link t none_kept s))
       (changes_tables came plugged (detached t s.devices) (forwards_without t s.forwards) s.stopped s refl (within_detached plugged t s.devices))
-      (changes_keeps came plugged tables (quietly (forgets t s)) (keeps_to_link came plugged t none_kept tables (λ a e. tt)))
+      (no_link t tables)
 
   pub changes_link_ends : (t : ℕ) (ending : Ending) (s : State) → AreWithin came plugged s.streams
       → Changes came plugged Stay LinkStay s (link_ends t ending s)
@@ -229,7 +245,7 @@ module _ (came plugged : ℕ) where
   hears_any t Wrte p s le all = hears_open t Wrte p s refl le all
   hears_any t Clse p s le all = hears_open t Clse p s refl le all
 
-  hears_on : (o : Option Link) (t : ℕ) (p : Packet) (s : State) → s.links t ≡ o → t ≤ plugged → AreWithin came plugged s.streams
+  pub hears_on : (o : Option Link) (t : ℕ) (p : Packet) (s : State) → s.links t ≡ o → t ≤ plugged → AreWithin came plugged s.streams
       → Changes came plugged Stay (HearsOn t p.command p.arg0) s (treat_on o t p s)
   hears_on None t p s e le all = hears_gone t p.command p.arg0 s (quietly s) e (changes_keeps came plugged s (quietly s) (keeps_all came plugged s))
   hears_on (Some link) t p s e le all = hears_any t p.command p s le all

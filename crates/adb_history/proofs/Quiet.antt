@@ -1,5 +1,5 @@
 -- What a rule does to the rows of clients and links, and what it tells: a row may go, but none comes, and what is due grows by what is told.
-use Rattle.std.proofs.Common.{ℕ, ◌≡◌, ◌≢◌, ◌≤◌, ◌<◌, Bool, true, false, cond, List, [], ◌∷◌, ◌++◌, Option, Some, None, refl, sym, ◌∙◌, ap, subst, arith, append_assoc, eqb}
+use Rattle.std.proofs.Common.{ℕ, ◌≡◌, ◌≢◌, ◌≤◌, ◌<◌, Bool, true, false, cond, List, [], ◌∷◌, ◌++◌, Option, Some, None, is_some, refl, sym, ◌∙◌, ap, subst, arith, append_assoc, eqb}
 use Rattle.std.proofs.lemmas.Bool.{eqb-true, ne_eqb}
 use Rattle.std.proofs.lemmas.List.{append-nil}
 use Rattle.std.specs.Prelude.{option_and_then, nat_eq}
@@ -172,6 +172,7 @@ module _ (came plugged : ℕ) where
     pub devices : m.state.devices ≡ s.devices
     pub forwards : m.state.forwards ≡ s.forwards
     pub stopped : m.state.stopped ≡ s.stopped
+    pub linked : (t : ℕ) → is_some (m.state.links t) ≡ is_some (s.links t)
 
   nothing_told : IsToldWithin came plugged []
   nothing_told = record { clients = λ c above. refl; links = λ t above. refl }
@@ -186,6 +187,7 @@ module _ (came plugged : ℕ) where
     devices = refl;
     forwards = refl;
     stopped = refl;
+    linked = λ t. refl;
   }
 
   pub keeps_then : (s : State) (m : Made) (rule : State → Made) → Keeps s m → Keeps m.state (rule m.state) → Keeps s (then_also m rule)
@@ -204,6 +206,7 @@ module _ (came plugged : ℕ) where
     devices = i.devices ∙ h.devices;
     forwards = i.forwards ∙ h.forwards;
     stopped = i.stopped ∙ h.stopped;
+    linked = λ t. i.linked t ∙ h.linked t;
   }
 
   pub keeps_over : (s next : State) (m : Made) → Keeps s (quietly next) → Keeps next m → Keeps s m
@@ -236,20 +239,7 @@ module _ (came plugged : ℕ) where
     devices = refl;
     forwards = refl;
     stopped = refl;
-  }
-
-  pub keeps_to_link : (t : ℕ) (f : Link → Option Link) (s : State)
-      → ((a : Link) → s.links t ≡ Some a → RowStep LinkStays (Some a) (f a) []) → Keeps s (quietly (to_link t f s))
-  keeps_to_link t f s at = record {
-    clients = λ c. row_same ClientStays client_same (s.clients c);
-    links = λ k. subst (λ (x : List ℕ). RowStep LinkStays (s.links k) ((to_link t f s).links k) x) (either_none (eqb t k) [] refl)
-        (row_at LinkStays link_same s.links f [] t at k);
-    told = nothing_told;
-    streams = λ h. h;
-    joined = refl;
-    devices = refl;
-    forwards = refl;
-    stopped = refl;
+    linked = λ t. refl;
   }
 
   at_told : (b : Bool) (x : List ℕ) → cond b x [] ≡ cond b x [] ++ []
@@ -270,6 +260,7 @@ module _ (came plugged : ℕ) where
     devices = refl;
     forwards = refl;
     stopped = refl;
+    linked = λ t. refl;
   }
 
   -- ---- a packet becomes due to a link
@@ -280,6 +271,11 @@ module _ (came plugged : ℕ) where
   pub keeps_owe_link : (t : ℕ) (p : Packet) (s : State) → t ≤ plugged → Keeps s (owe_link t p s)
   keeps_owe_link t p s le = go (check_on (wants_sums (s.links t)) p)
     where
+      there : (bytes : List ℕ) (here : Bool) (o : Option Link) → is_some (cond here (option_and_then (with_link_due bytes) o) o) ≡ is_some o
+      there bytes true None = refl
+      there bytes true (Some link) = refl
+      there bytes false o = refl
+
       go : (check : ℕ) → Keeps s (owe_checked t p check s)
       go check = record {
         clients = λ c. row_same ClientStays client_same (s.clients c);
@@ -296,6 +292,7 @@ module _ (came plugged : ℕ) where
         devices = refl;
         forwards = refl;
         stopped = refl;
+        linked = λ k. there (spelling p check) (eqb t k) (s.links k);
       }
 
   -- ---- a stream's row changes
@@ -319,6 +316,7 @@ module _ (came plugged : ℕ) where
     devices = refl;
     forwards = refl;
     stopped = refl;
+    linked = λ t. refl;
   }
 
   pub keeps_part : (l : ℕ) (part : Part) (s : State) → Keeps s (quietly (to_stream l (with_stream_part part) s))
@@ -346,4 +344,5 @@ module _ (came plugged : ℕ) where
     devices = refl;
     forwards = refl;
     stopped = refl;
+    linked = λ t. refl;
   }

@@ -159,6 +159,7 @@ module _ (came plugged : ℕ) where
     devices = refl;
     forwards = refl;
     stopped = refl;
+    linked = λ t. refl;
   }
     where
       go : (o : Option Client) → RowStep ClientStays o (option_map marked o) []

@@ -75,6 +75,7 @@ module _ (came plugged : ℕ) where
     devices = refl;
     forwards = refl;
     stopped = refl;
+    linked = λ t. refl;
   }
     where
       go : (here : Bool) (o : Option Stream) → IsWithin came plugged o
