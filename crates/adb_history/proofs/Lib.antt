@@ -9,3 +9,5 @@ pub mod Outputs
 pub mod Received
 pub mod DeviceRows
 pub mod DeviceTurns
+pub mod Tables
+pub mod Devices
