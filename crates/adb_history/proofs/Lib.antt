@@ -11,3 +11,4 @@ pub mod DeviceRows
 pub mod DeviceTurns
 pub mod Tables
 pub mod Devices
+pub mod Waiting
