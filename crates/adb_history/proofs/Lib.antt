@@ -12,3 +12,4 @@ pub mod DeviceTurns
 pub mod Tables
 pub mod Devices
 pub mod Waiting
+pub mod Asked
