@@ -36,6 +36,12 @@ abbrev pub behind : Asked → Asked → Asked
 behind before q =
     record { replies = before.replies ++ q.replies; used = before.used + q.used; rest = q.rest; selected = q.selected; next = q.next }
 
+-- a request that selects a device is not the last
+abbrev pub EndsReading : Option Next → Type 0
+EndsReading None = Unit {0}
+EndsReading (Some (Select id)) = ⊥
+EndsReading (Some _) = Unit {0}
+
 module _ (devices : DeviceTable) (forwards : List (ℕ × ForwardRow)) where
   abbrev reads : ℕ → Asked → Asked
   reads k q = reads_on devices forwards k q
@@ -129,12 +135,6 @@ module _ (devices : DeviceTable) (forwards : List (ℕ × ForwardRow)) where
   })
 
   -- ---- what comes last
-  -- a request that selects a device is not the last
-  abbrev pub EndsReading : Option Next → Type 0
-  EndsReading None = Unit {0}
-  EndsReading (Some (Select id)) = ⊥
-  EndsReading (Some _) = Unit {0}
-
   next_ends : (next : Next) (reply : List ℕ) (size : ℕ) (others : Asked → Asked) (q : Asked) → EndsReading q.next
       → ((x : Asked) → EndsReading x.next → EndsReading (others x).next) → EndsReading (after_next next reply size others q).next
   next_ends (Select id) reply size others q h rest = rest (record (replied reply size q) { selected = Some id }) h

@@ -13,3 +13,4 @@ pub mod Tables
 pub mod Devices
 pub mod Waiting
 pub mod Asked
+pub mod Owning
