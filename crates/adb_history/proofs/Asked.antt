@@ -36,6 +36,12 @@ abbrev pub behind : Asked → Asked → Asked
 behind before q =
     record { replies = before.replies ++ q.replies; used = before.used + q.used; rest = q.rest; selected = q.selected; next = q.next }
 
+-- ---- the bytes past the requests
+pub record Unused (input : List ℕ) (q : Asked) : Type 0 where
+  pub within : q.used ≤ length input
+  pub rest : q.rest ≡ drop q.used input
+
+-- ---- what comes last
 -- a request that selects a device is not the last
 abbrev pub EndsReading : Option Next → Type 0
 EndsReading None = Unit {0}
@@ -87,11 +93,6 @@ module _ (devices : DeviceTable) (forwards : List (ℕ × ForwardRow)) where
     pub asks_behind : (bytes : List ℕ) (q : Asked) → asks_with devices forwards bytes (behind before q) ≡ behind before (asks_with devices forwards bytes q)
     asks_behind bytes q = reads_behind (length (q.rest ++ bytes)) (record q { rest = q.rest ++ bytes })
 
-  -- ---- the bytes past the requests
-  pub record Unused (input : List ℕ) (q : Asked) : Type 0 where
-    pub within : q.used ≤ length input
-    pub rest : q.rest ≡ drop q.used input
-
   replied_unused : (input reply : List ℕ) (size : ℕ) (q : Asked) → size ≤ length q.rest → Unused input q → Unused input (replied reply size q)
   replied_unused input reply size q le h = record {
     within = omega (arith, le, ap length h.rest, length-drop q.used input, h.within);
@@ -134,7 +135,6 @@ module _ (devices : DeviceTable) (forwards : List (ℕ × ForwardRow)) where
     rest = ap (λ x. x ++ bytes) h.rest ∙ sym (drop-append-le q.used input bytes h.within);
   })
 
-  -- ---- what comes last
   next_ends : (next : Next) (reply : List ℕ) (size : ℕ) (others : Asked → Asked) (q : Asked) → EndsReading q.next
       → ((x : Asked) → EndsReading x.next → EndsReading (others x).next) → EndsReading (after_next next reply size others q).next
   next_ends (Select id) reply size others q h rest = rest (record (replied reply size q) { selected = Some id }) h

@@ -14,3 +14,5 @@ pub mod Devices
 pub mod Waiting
 pub mod Asked
 pub mod Owning
+pub mod ForwardTurns
+pub mod Booked
