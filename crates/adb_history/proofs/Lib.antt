@@ -16,3 +16,7 @@ pub mod Asked
 pub mod Owning
 pub mod ForwardTurns
 pub mod Booked
+pub mod BookReads
+pub mod BookTurns
+pub mod BookEntries
+pub mod BookRead

@@ -83,10 +83,10 @@ module _ (c : ℕ) where
   pub own_row : (f : Client → Option Client) (rows : ℕ → Option Client) → change_row c (option_and_then f) rows c ≡ option_and_then f (rows c)
   own_row f rows = ap (λ (b : Bool). cond b (option_and_then f (rows c)) (rows c)) (eq-eqb c c refl)
 
-  none_none : NoneWaits None
+  pub none_none : NoneWaits None
   none_none a e = let clash : None ≡ Some a = e in cc
 
-  none_of : (o : Option Client) (b : Client) → o ≡ Some b → is_waiting b.about.phase ≡ false → NoneWaits o
+  pub none_of : (o : Option Client) (b : Client) → o ≡ Some b → is_waiting b.about.phase ≡ false → NoneWaits o
   none_of o b is none a e =
       let same : b ≡ a = let both : Some b ≡ Some a = sym is ∙ e in cc in
       subst (λ (x : Client). is_waiting x.about.phase ≡ false) same none
