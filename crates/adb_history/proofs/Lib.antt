@@ -20,3 +20,4 @@ pub mod BookReads
 pub mod BookTurns
 pub mod BookEntries
 pub mod BookRead
+pub mod Books
