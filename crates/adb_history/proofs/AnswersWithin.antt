@@ -1,9 +1,8 @@
 -- A request opens a service of a device whose number was drawn.
-use Rattle.std.proofs.Common.{ℕ, ◌+◌, ◌≡◌, ◌≤◌, ◌<◌, ◌++◌, Bool, true, false, List, [], length, Option, Some, None, is_some, refl, sym, ◌∙◌, zero, suc, take, drop, inl, inr, ◌⊎◌, ap}
+use Rattle.std.proofs.Common.{ℕ, ◌+◌, ◌≡◌, ◌≤◌, ◌<◌, ◌++◌, true, false, List, length, Option, Some, None, is_some, sym, ◌∙◌, zero, suc, take, drop, inl, inr, ◌⊎◌, ap}
 use Rattle.std.proofs.lemmas.Bool.{cases_lt}
 use Rattle.adb_outside.specs.Tables.{at}
 use Rattle.adb_registry.specs.Registry.{DeviceTable}
-use Rattle.adb_registry.specs.declared.row.Row.{Row}
 use Rattle.adb_forward.specs.declared.row.ForwardRow.{ForwardRow}
 use Rattle.adb_request.specs.Requests.{request_at}
 use Rattle.adb_request.specs.Meaning.{meaning}
@@ -32,7 +31,6 @@ row_within plugged id devices h e = go (cases_lt plugged id)
     go : (plugged < id) ⊎ (id ≤ plugged) → id ≤ plugged
     go (inl lt) = let clash : false ≡ true = sym (ap is_some (h.above id lt)) ∙ e in cc
     go (inr le) = le
-
 
 module _ (plugged : ℕ) (devices : DeviceTable) (within : HasRowsWithin plugged devices) where
   opens_within : (next : Next) → OpensThere devices.rows next → OpensWithin plugged next

@@ -1,6 +1,6 @@
 -- What follows from reading requests: on what was asked before, on the bytes past them, and on what comes last.
-use Rattle.std.proofs.Common.{ℕ, ◌+◌, ◌≡◌, ◌≢◌, ◌≤◌, ◌<◌, Bool, true, false, cond, List, [], ◌∷◌, ◌++◌, length, take, drop, Option, Some, None, refl, sym, ◌∙◌, ap, subst, append_assoc, arith, zero, suc, ltb}
-use Rattle.std.proofs.lemmas.List.{append-nil, length-append, length-drop, drop-drop, drop-append-le}
+use Rattle.std.proofs.Common.{ℕ, ◌+◌, ◌≡◌, ◌≤◌, cond, List, [], ◌∷◌, ◌++◌, length, take, drop, Option, Some, None, refl, sym, ◌∙◌, ap, append_assoc, arith, zero, suc, ltb}
+use Rattle.std.proofs.lemmas.List.{length-append, length-drop, drop-drop, drop-append-le}
 use Rattle.std.proofs.lemmas.Bool.Decides.{nat_tests}
 use Rattle.adb_registry.specs.Registry.{DeviceTable}
 use Rattle.adb_forward.specs.declared.row.ForwardRow.{ForwardRow}
@@ -9,10 +9,9 @@ use Rattle.adb_request.specs.Meaning.{meaning}
 use Rattle.adb_request.specs.declared.cutting.Found.{Found}
 use Rattle.adb_request.specs.declared.cutting.Found.TheVariants.{More, Malformed, Whole}
 use Rattle.adb_reply.specs.Answer.{answer}
-use Rattle.adb_reply.specs.declared.answer.Answer.{Answer}
 use Rattle.adb_reply.specs.declared.answer.Next.{Next}
 use Rattle.adb_reply.specs.declared.answer.Next.TheVariants.{Close, Select, Track, Open, Bind, Rebind, Unbind, UnbindAll, Stop}
-use Rattle.adb_history.specs.Asking.{Asked, replied, after_next, after_answer, after_found, reads_on, asks_with}
+use Rattle.adb_history.specs.Asking.{Asked, replied, after_next, after_found, reads_on, asks_with}
 
 -- ---- a request lies within the bytes
 fits_test : (m k len : ℕ) → cond (ltb m (suc k)) More (Whole (suc k)) ≡ Whole len → len ≤ m

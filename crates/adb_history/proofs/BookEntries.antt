@@ -1,9 +1,8 @@
 -- What each entry makes of a state is what it says of a history.
-use Rattle.std.proofs.Common.{ℕ, ◌+◌, ◌≡◌, ◌≢◌, ◌≤◌, ◌<◌, Bool, true, false, cond, List, [], ◌∷◌, ◌++◌, length, drop, All, Option, Some, None, is_some, refl, sym, ◌∙◌, ap, subst, arith, eqb, inl, inr, ◌⊎◌}
-use Rattle.std.proofs.lemmas.Bool.{eqb-true, eqb-false, eq-eqb, ne_eqb, cases_eq}
-use Rattle.std.proofs.lemmas.List.Elements.{All-weaker, All-nil}
-use Rattle.std.specs.Prelude.{◌&&◌, ◌||◌, not, is_none, option_and_then}
-use Rattle.adb_outside.specs.Framing.{Cut}
+use Rattle.std.proofs.Common.{ℕ, ◌+◌, ◌≡◌, ◌≢◌, ◌≤◌, ◌<◌, Bool, true, false, cond, List, [], ◌∷◌, ◌++◌, length, drop, Option, Some, None, is_some, refl, sym, ◌∙◌, ap, subst, arith, eqb, inl, inr, ◌⊎◌}
+use Rattle.std.proofs.lemmas.Bool.{eqb-true, eq-eqb, ne_eqb, cases_eq}
+use Rattle.std.proofs.lemmas.List.Elements.{All-weaker}
+use Rattle.std.specs.Prelude.{◌&&◌, ◌||◌, not, is_none}
 use Rattle.adb_outside.specs.Tables.{at, put_row, put_at}
 use Rattle.adb_outside.specs.declared.kinds.Cause.{Cause}
 use Rattle.adb_outside.specs.declared.kinds.Kind.{Kind}
@@ -17,50 +16,47 @@ use Rattle.adb_stream.specs.declared.row.Stream.{Stream}
 use Rattle.adb_client.specs.declared.phase.Phase.{Phase}
 use Rattle.adb_client.specs.declared.phase.Phase.TheVariants.{Asking, Opening, Streaming, Binding, Tracking, Closing, Gone}
 use Rattle.adb_client.specs.declared.about.Want.{Want}
-use Rattle.adb_reply.specs.declared.answer.Next.{Next}
-use Rattle.adb_reply.specs.declared.answer.Next.TheVariants as what
 use Rattle.adb_capture.specs.declared.entry.Entry.{Entry}
-use Rattle.adb_capture.specs.declared.entry.Entry.TheVariants.{Join, Enter, Read, End, Bound, Attach, Recv, Detach, Put, Send}
-use Rattle.adb_history.specs.Rows.{Client, Link, State, start, new_client, new_link, to_client, with_held}
+use Rattle.adb_capture.specs.declared.entry.Entry.TheVariants.{Join, Enter, End, Bound, Attach, Recv, Detach, Put, Send}
+use Rattle.adb_history.specs.Rows.{Client, Link, State, new_client, new_link, to_client}
 use Rattle.adb_history.specs.Events as ending
 use Rattle.adb_history.specs.Events.{Made, Event, quietly, then_also, owed_to}
 use Rattle.adb_history.specs.Links.{server_cnxn, is_connected}
-use Rattle.adb_history.specs.Clients.{closes, closes_with}
 use Rattle.adb_history.specs.Streams.{opens}
 use Rattle.adb_history.specs.Tracking.{mark_all}
 use Rattle.adb_history.specs.Forwarding.{Binding as Bound_to, bound_by, is_unbound, put_forward}
-use Rattle.adb_history.specs.Asking.{Asked, nothing_asked, asks_with}
-use Rattle.adb_history.specs.Losing.{link_ends, client_ends, stops}
-use Rattle.adb_history.specs.Packets.{receives_cut, receives_on, receives}
-use Rattle.adb_history.specs.Reading.{comes, comes_in_vain, enters_by, enters, plugs_in, goes_on, asked_before, asks, reads_in, reads_from, reads, bound_to, bound_for, bound_in, bound_at, bound}
-use Rattle.adb_history.specs.Handing.{lists_first, hands, client_left, takes_of, puts_to, puts, sends}
-use Rattle.adb_history.specs.Machine.{unplugs_on, unplugs, rule, ups, step, History, state, May, MayPut, IsLegal}
+use Rattle.adb_history.specs.Asking.{Asked, nothing_asked}
+use Rattle.adb_history.specs.Losing.{link_ends, client_ends}
+use Rattle.adb_history.specs.Packets.{receives_on, receives}
+use Rattle.adb_history.specs.Reading.{comes, comes_in_vain, enters_by, enters, plugs_in, bound_to, bound_for, bound_in, bound_at, bound}
+use Rattle.adb_history.specs.Handing.{lists_first, hands, takes_of, puts_to, puts, sends}
+use Rattle.adb_history.specs.Machine.{unplugs_on, unplugs, rule, History, state, May, MayPut, IsLegal}
 use Rattle.adb_history.specs.Bytes.{has_joined, has_ended}
-use Rattle.adb_history.specs.Book.{plugged_count, devices_if, book, asked, still_asks, newly, forwards_by, kills, wanted_by, asked_with, led_by, read_turn, reads_turn, bound_turn, bound_with, turn, is_killed}
-use Rattle.adb_history.specs.Tied.{bytes_asked, came_count, IsAskedAs, UnreadIsPastUsed, IsBookOf}
-use Rattle.adb_history.proofs.Quiet.{RowStep, IsWithin, AreWithin, Keeps, keeps_over, keeps_owe_link}
+use Rattle.adb_history.specs.Book.{plugged_count, devices_if, book, asked, still_asks, led_by, bound_turn, bound_with}
+use Rattle.adb_history.specs.Tied.{bytes_asked, came_count}
+use Rattle.adb_history.proofs.Quiet.{RowStep, IsWithin, AreWithin, keeps_over, keeps_owe_link}
 use Rattle.adb_history.proofs.QuietRules.{keeps_up_all, keeps_client_ends, keeps_opens, keeps_closes_with}
 use Rattle.adb_history.proofs.QuietPackets.{keeps_mark_all, keeps_lists_first, keeps_client_left}
 use Rattle.adb_history.proofs.LinkChanges.{changes_link_ends}
-use Rattle.adb_history.proofs.AnswersWithin.{NextWithin, asks_within, row_within}
-use Rattle.adb_history.proofs.Outputs.{IsTied, IsTiedAfter, tied_rule, tied, row_below, connected_is}
-use Rattle.adb_history.proofs.Received.{IsReceived, received}
-use Rattle.adb_history.proofs.DeviceTurns.{AreLinked, Turns, IsGood, turns_link_ends, turns_cut}
-use Rattle.adb_history.proofs.Tables.{StaysTables, IsStopped, tables_keep, AskTables, asks_kill, reads_in_tables, asks_tables, bound_tables, puts_tables, enters_tables}
+use Rattle.adb_history.proofs.AnswersWithin.{row_within}
+use Rattle.adb_history.proofs.Outputs.{IsTied, tied_rule, tied, row_below, connected_is}
+use Rattle.adb_history.proofs.Received.{received}
+use Rattle.adb_history.proofs.DeviceTurns.{IsGood, turns_link_ends, turns_cut}
+use Rattle.adb_history.proofs.Tables.{puts_tables}
 use Rattle.adb_history.proofs.Devices.{ShowsDevices, shows_devices, shows_rule, all_devices}
-use Rattle.adb_history.proofs.Waiting.{is_waiting, WaitStep, NoneWaits, AreFree, Leaves, leaves_all, leaves_over, leaves_up_all, leaves_mark_all, leaves_receives, leaves_link_ends, leaves_puts, free_after, none_waits_after}
+use Rattle.adb_history.proofs.Waiting.{NoneWaits, AreFree, Leaves, leaves_all, leaves_over, leaves_mark_all, leaves_receives, leaves_link_ends, leaves_puts, free_after, none_waits_after}
 use Rattle.adb_history.proofs.Asked.{Unused}
-use Rattle.adb_history.proofs.Owning.{Owns, owns_then, owns_over, owns_all, owns_free, own_row, none_of, none_none, owns_to_client, owns_opens, opened_row, owns_closes_with, closed_with_row, owns_ends, ended_waits}
+use Rattle.adb_history.proofs.Owning.{Owns, owns_over, owns_all, owns_free, owns_opens, opened_row, owns_closes_with, closed_with_row, owns_ends, ended_waits}
 use Rattle.adb_history.proofs.ForwardTurns.{AreLed, Leads, leads_link_ends, leads_cut, led_after, led_filter}
 use Rattle.adb_history.proofs.Booked.{Said, said, asks_in, asks_now, wants_in, wants_now, SameAsked, IsAs, Holds, holds, holds_same, idle_is, idle_says, is_stays, holds_receives, holds_puts}
-use Rattle.adb_history.proofs.BookReads.{led_put, led_next, goes_on_forwards, none_next, newly_same, and_false, and_parts, now_asked, asked_all, replied_state, owns_asks, asks_is, stopped_idle}
+use Rattle.adb_history.proofs.BookReads.{led_put}
 use Rattle.std.specs.Prelude.{codes, ◌==◌}
 use Rattle.adb_forward.specs.declared.table.TheConstants.{MAX_FORWARDS}
 use Rattle.adb_reply.specs.Strings.{failed}
 use Rattle.adb_reply.specs.Refusals.{no_transport}
 use Rattle.adb_history.specs.Forwarding.{told_port}
 use Rattle.adb_history.specs.Book.{Book}
-use Rattle.adb_history.proofs.BookTurns.{IsUnheard, all_unheard, IsBooked, Still, booked_still, still_keeps}
+use Rattle.adb_history.proofs.BookTurns.{IsUnheard, all_unheard, IsBooked, booked_still, still_keeps}
 
 -- an entry that says nothing of clients
 same_said : (c : ℕ) (e : Entry) (older : History) → Said
@@ -165,7 +161,7 @@ module _ (older : History) (legal : IsLegal older) (b : IsBooked (state older) o
       let next = record s { devices = attached kind serial s.devices; links = put_row n (Some new_link) s.links } in
       let m = plugs_in n kind serial s in
       let keeps = keeps_over came (links + 1) next (mark_all next) m (keeps_mark_all came (links + 1) next)
-          (keeps_owe_link came (links + 1) n server_cnxn (mark_all next) (omega (arith, may.1, tie.drawn))) in
+      (keeps_owe_link came (links + 1) n server_cnxn (mark_all next) (omega (arith, may.1, tie.drawn))) in
       booked_still next m (Attach n kind serial ∷ older) (Attach n kind serial ∷ older)
       (booked_still s (quietly next) older (Attach n kind serial ∷ older) b (record {
         stopped = refl;
@@ -197,7 +193,7 @@ module _ (older : History) (legal : IsLegal older) (b : IsBooked (state older) o
       let after = (shows_rule older tie (received older legal) shows e l.2).linked in
       let led = led_after t s m shows.linked after others (b.led on) leads in
       let devices : m.state.devices ≡ devices_if (book older).killed (e ∷ older) =
-          rule_devices e l ∙ ap (λ (x : Bool). devices_if x (e ∷ older)) (stopped ∙ b.killed) in
+      rule_devices e l ∙ ap (λ (x : Bool). devices_if x (e ∷ older)) (stopped ∙ b.killed) in
       record {
         killed = stopped ∙ (b.killed ∙ sym killed);
         forwards = led ∙ (ap (λ (d : DeviceTable). led_by d s.forwards) devices
@@ -318,7 +314,7 @@ module _ (older : History) (legal : IsLegal older) (b : IsBooked (state older) o
       let next = comes true n s in
       let m = opens true n row.transport row.remote next in
       let keeps = keeps_opens (came + 1) links true n row.transport row.remote next (omega (arith, may.1, tie.joined))
-          (row_within links row.transport s.devices tie.rows (connected_is (at row.transport s.devices.rows) connected)) in
+      (row_within links row.transport s.devices tie.rows (connected_is (at row.transport s.devices.rows) connected)) in
       let owns = owns_opens n true row.transport row.remote next in
       record {
         killed = keeps.stopped ∙ b.killed;
@@ -424,7 +420,7 @@ module _ (older : History) (legal : IsLegal older) (b : IsBooked (state older) o
   bound_none : (n port : ℕ) → May s (Bound n port) → wants_now (s.clients n) ≡ None → IsBooked s (Bound n port ∷ older)
   bound_none n port may none =
       let same : book (Bound n port ∷ older) ≡ book older =
-          ap (λ (o : Option Want). bound_turn n port (devices_if (book older).killed older) o (book older)) (sym (b.clients may.0 n).waits ∙ none) in
+      ap (λ (o : Option Want). bound_turn n port (devices_if (book older).killed older) o (book older)) (sym (b.clients may.0 n).waits ∙ none) in
       record {
         killed = b.killed ∙ sym (ap (λ (x : Book). x.killed) same);
         forwards = b.forwards ∙ sym (ap (λ (x : Book). x.forwards) same);
@@ -443,12 +439,12 @@ module _ (older : History) (legal : IsLegal older) (b : IsBooked (state older) o
       let keeps = keeps_closes_with came links n binding.reply next (omega (arith, may.1.1, tie.joined)) in
       let before = b.clients may.0 n in
       let waits : (book older).waits n ≡ Some want =
-          sym before.waits ∙ (ap wants_now is ∙ (ap (λ (p : Phase). wants_in p client.about.want) phase ∙ wanted)) in
+      sym before.waits ∙ (ap wants_now is ∙ (ap (λ (p : Phase). wants_in p client.about.want) phase ∙ wanted)) in
       let idle : (said n older).asking ≡ false = sym before.asks ∙ (ap asks_now is ∙ ap asks_in phase) in
       let same : book (Bound n port ∷ older) ≡ bound_with n binding (book older) =
-          ap (λ (o : Option Want). bound_turn n port (devices_if (book older).killed older) o (book older)) waits
-          ∙ (ap (λ (d : DeviceTable). bound_with n (bound_by want port d (book older).forwards) (book older)) (sym devices_now)
-          ∙ ap (λ (f : List (ℕ × ForwardRow)). bound_with n (bound_by want port s.devices f) (book older)) (sym b.forwards)) in
+      ap (λ (o : Option Want). bound_turn n port (devices_if (book older).killed older) o (book older)) waits
+      ∙ (ap (λ (d : DeviceTable). bound_with n (bound_by want port d (book older).forwards) (book older)) (sym devices_now)
+      ∙ ap (λ (f : List (ℕ × ForwardRow)). bound_with n (bound_by want port s.devices f) (book older)) (sym b.forwards)) in
       booked_owns n m (Bound n port ∷ older) may.0 keeps.stopped keeps.devices
       (owns_over n s next m (owns_all n s (quietly next) refl refl) (owns_closes_with n binding.reply next))
       (ap (λ (x : Book). x.killed) same) (keeps.forwards ∙ sym (ap (λ (x : Book). x.forwards) same))

@@ -1,66 +1,36 @@
 -- Bytes that are read from a client: the server keeps what the entries say.
-use Rattle.std.proofs.Common.{ℕ, ◌+◌, ◌≡◌, ◌≢◌, ◌≤◌, ◌<◌, Bool, true, false, cond, List, [], ◌∷◌, ◌++◌, length, drop, All, Option, Some, None, is_some, refl, sym, ◌∙◌, ap, subst, arith, eqb, inl, inr, ◌⊎◌}
-use Rattle.std.proofs.lemmas.Bool.{eqb-true, eqb-false, eq-eqb, ne_eqb, cases_eq}
-use Rattle.std.proofs.lemmas.List.Elements.{All-weaker, All-nil}
-use Rattle.std.specs.Prelude.{◌&&◌, ◌||◌, not, is_none, option_and_then}
-use Rattle.adb_outside.specs.Framing.{Cut}
-use Rattle.adb_outside.specs.Tables.{at, put_row, put_at}
-use Rattle.adb_outside.specs.declared.kinds.Cause.{Cause}
-use Rattle.adb_outside.specs.declared.kinds.Kind.{Kind}
-use Rattle.adb_outside.proofs.TableLaws.{puts_put_at}
-use Rattle.adb_registry.specs.Registry.{DeviceTable, attached}
-use Rattle.adb_registry.specs.Row.{new_row}
-use Rattle.adb_registry.specs.declared.row.Row.{Row}
+use Rattle.std.proofs.Common.{ℕ, ◌≡◌, ◌≤◌, ◌<◌, Bool, true, false, cond, List, ◌∷◌, ◌++◌, Option, Some, None, refl, sym, ◌∙◌, ap, subst, arith, eqb}
+use Rattle.std.proofs.lemmas.Bool.{eq-eqb}
+use Rattle.std.specs.Prelude.{◌&&◌, ◌||◌, not, option_and_then}
+use Rattle.adb_registry.specs.Registry.{DeviceTable}
 use Rattle.adb_forward.specs.declared.row.ForwardRow.{ForwardRow}
-use Rattle.adb_wire.specs.Cutting.{cut_packets}
-use Rattle.adb_stream.specs.declared.row.Stream.{Stream}
 use Rattle.adb_client.specs.declared.phase.Phase.{Phase}
 use Rattle.adb_client.specs.declared.phase.Phase.TheVariants.{Asking, Opening, Streaming, Binding, Tracking, Closing, Gone}
 use Rattle.adb_client.specs.declared.about.Want.{Want}
 use Rattle.adb_reply.specs.declared.answer.Next.{Next}
 use Rattle.adb_reply.specs.declared.answer.Next.TheVariants as what
-use Rattle.adb_capture.specs.declared.entry.Entry.{Entry}
-use Rattle.adb_capture.specs.declared.entry.Entry.TheVariants.{Join, Enter, Read, End, Bound, Attach, Recv, Detach, Put, Send}
-use Rattle.adb_history.specs.Rows.{Client, Link, State, start, new_client, new_link, to_client, with_held}
-use Rattle.adb_history.specs.Events as ending
-use Rattle.adb_history.specs.Events.{Made, Event, quietly, then_also, owed_to}
-use Rattle.adb_history.specs.Links.{server_cnxn, is_connected}
-use Rattle.adb_history.specs.Clients.{closes, closes_with}
-use Rattle.adb_history.specs.Streams.{opens}
-use Rattle.adb_history.specs.Tracking.{mark_all}
-use Rattle.adb_history.specs.Forwarding.{Binding as Bound_to, bound_by, is_unbound, put_forward}
-use Rattle.adb_history.specs.Asking.{Asked, nothing_asked, asks_with}
-use Rattle.adb_history.specs.Losing.{link_ends, client_ends, stops}
-use Rattle.adb_history.specs.Packets.{receives_cut, receives_on, receives}
-use Rattle.adb_history.specs.Reading.{comes, comes_in_vain, enters_by, enters, plugs_in, goes_on, asked_before, asks, reads_in, reads_from, reads, bound_to, bound_for, bound_in, bound_at, bound}
-use Rattle.adb_history.specs.Handing.{lists_first, hands, client_left, takes_of, puts_to, puts, sends}
-use Rattle.adb_history.specs.Machine.{unplugs_on, unplugs, rule, ups, step, History, state, May, MayPut, IsLegal}
+use Rattle.adb_capture.specs.declared.entry.Entry.TheVariants.{Read}
+use Rattle.adb_history.specs.Rows.{Client, State, to_client, with_held}
+use Rattle.adb_history.specs.Events.{Made, quietly}
+use Rattle.adb_history.specs.Asking.{Asked, asks_with}
+use Rattle.adb_history.specs.Losing.{stops}
+use Rattle.adb_history.specs.Reading.{goes_on, asked_before, asks, reads_in, reads_from, reads}
+use Rattle.adb_history.specs.Machine.{History, state, May, IsLegal}
 use Rattle.adb_history.specs.Bytes.{has_joined, has_ended}
-use Rattle.adb_history.specs.Book.{plugged_count, devices_if, book, asked, still_asks, newly, forwards_by, kills, wanted_by, asked_with, led_by, read_turn, reads_turn, bound_turn, bound_with, turn, is_killed}
-use Rattle.adb_history.specs.Tied.{bytes_asked, came_count, IsAskedAs, UnreadIsPastUsed, IsBookOf}
-use Rattle.adb_history.proofs.Quiet.{RowStep, IsWithin, AreWithin, Keeps, keeps_over, keeps_owe_link}
-use Rattle.adb_history.proofs.QuietRules.{keeps_up_all, keeps_client_ends, keeps_opens, keeps_closes_with}
-use Rattle.adb_history.proofs.QuietPackets.{keeps_mark_all, keeps_lists_first, keeps_client_left}
-use Rattle.adb_history.proofs.LinkChanges.{changes_link_ends}
-use Rattle.adb_history.proofs.AnswersWithin.{NextWithin, asks_within, row_within}
-use Rattle.adb_history.proofs.Outputs.{IsTied, IsTiedAfter, tied_rule, tied, row_below, connected_is}
-use Rattle.adb_history.proofs.Received.{IsReceived, received}
-use Rattle.adb_history.proofs.DeviceTurns.{AreLinked, Turns, IsGood, turns_link_ends, turns_cut}
-use Rattle.adb_history.proofs.Tables.{StaysTables, IsStopped, tables_keep, tables_same, AskTables, asks_kill, reads_in_tables, asks_tables, bound_tables, puts_tables, enters_tables}
-use Rattle.adb_history.proofs.Devices.{ShowsDevices, shows_devices, shows_rule, all_devices}
-use Rattle.adb_history.proofs.Waiting.{is_waiting, WaitStep, NoneWaits, AreFree, Leaves, leaves_all, leaves_over, leaves_up_all, leaves_mark_all, leaves_receives, leaves_link_ends, leaves_puts, free_after, none_waits_after}
-use Rattle.adb_history.proofs.Asked.{Unused, behind}
-use Rattle.adb_history.proofs.Owning.{Owns, owns_then, owns_over, owns_all, owns_free, own_row, none_of, none_none, owns_to_client, owns_opens, opened_row, owns_closes_with, closed_with_row, owns_ends, ended_waits}
-use Rattle.adb_history.proofs.ForwardTurns.{AreLed, Leads, leads_link_ends, leads_cut, led_after, led_filter}
-use Rattle.adb_history.proofs.Booked.{Said, said, asks_in, asks_now, wants_in, wants_now, SameAsked, IsAs, Holds, holds, holds_same, idle_is, idle_says, is_stays, holds_receives, holds_puts}
-use Rattle.adb_history.proofs.BookReads.{led_put, led_next, goes_on_forwards, none_next, newly_same, and_false, and_parts, now_asked, asked_all, replied_state, owns_asks, asks_is, stopped_idle}
-use Rattle.std.specs.Prelude.{codes, ◌==◌}
-use Rattle.adb_forward.specs.declared.table.TheConstants.{MAX_FORWARDS}
-use Rattle.adb_reply.specs.Strings.{failed}
-use Rattle.adb_reply.specs.Refusals.{no_transport}
-use Rattle.adb_history.specs.Forwarding.{told_port}
+use Rattle.adb_history.specs.Book.{plugged_count, devices_if, book, asked, still_asks, newly, forwards_by, kills, wanted_by, asked_with, read_turn, reads_turn}
+use Rattle.adb_history.specs.Tied.{bytes_asked, came_count}
+use Rattle.adb_history.proofs.AnswersWithin.{NextWithin, asks_within}
+use Rattle.adb_history.proofs.Outputs.{IsTied, tied}
+use Rattle.adb_history.proofs.Tables.{StaysTables, IsStopped, tables_same, AskTables, asks_tables}
+use Rattle.adb_history.proofs.Devices.{ShowsDevices, shows_devices}
+use Rattle.adb_history.proofs.Waiting.{NoneWaits}
+use Rattle.adb_history.proofs.Asked.{behind}
+use Rattle.adb_history.proofs.Owning.{Owns, owns_all, own_row, none_of, owns_to_client}
+use Rattle.adb_history.proofs.ForwardTurns.{AreLed}
+use Rattle.adb_history.proofs.Booked.{Said, said, asks_in, asks_now, wants_in, SameAsked, IsAs}
+use Rattle.adb_history.proofs.BookReads.{led_next, goes_on_forwards, none_next, newly_same, and_parts, asked_all, replied_state, owns_asks, asks_is, stopped_idle}
 use Rattle.adb_history.specs.Book.{Book}
-use Rattle.adb_history.proofs.BookTurns.{IsUnheard, all_unheard, IsBooked, Still, booked_still, still_keeps}
+use Rattle.adb_history.proofs.BookTurns.{IsUnheard, all_unheard, IsBooked}
 use Rattle.adb_history.proofs.BookEntries.{is_other, booked_owns, devices_now}
 
 or_false : (x : Bool) → (x || false) ≡ x
@@ -194,7 +164,7 @@ module _ (older : History) (legal : IsLegal older) (b : IsBooked (state older) o
           ∙ (ap (λ (d : DeviceTable). reads_turn n d (asks_with d (book older).forwards bytes (asked n older)) (book older)) (sym (devices_now older legal b))
           ∙ (ap (λ (f : List (ℕ × ForwardRow)). reads_turn n s.devices (asks_with s.devices f bytes (asked n older)) (book older)) (sym b.forwards)
           ∙ ap (λ (x : Option Next). read_turn n s.devices q x (book older))
-            (ap (λ (x : Option Next). newly x q.next) open_next ∙ ap (λ (x : Asked). x.next) all)))
+          (ap (λ (x : Option Next). newly x q.next) open_next ∙ ap (λ (x : Asked). x.next) all)))
 
       within : NextWithin links p.next
       within = asks_within links s.devices tie.rows s.forwards bytes (asked_before client) tt
@@ -239,7 +209,7 @@ module _ (older : History) (legal : IsLegal older) (b : IsBooked (state older) o
           let m = asks p n s in
           let tables : StaysTables s m = subst (λ (x : Bool). AskTables x s m) on (asks_tables came links n p s le within) in
           let forwards : m.state.forwards ≡ forwards_by p.next s.devices s.forwards =
-              goes_on_forwards came links n p.next (replied_state n bytes client s (asked n older) is asking same_asked.rest same_asked.selected open_next) le within in
+          goes_on_forwards came links n p.next (replied_state n bytes client s (asked n older) is asking same_asked.rest same_asked.selected open_next) le within in
           booked_owns older legal b n m (Read n bytes ∷ older) may.0 tables.stopped tables.devices
           (owns_asks n bytes client s (asked n older) is asking same_asked.rest same_asked.selected open_next on)
           (ap (λ (x : Book). x.killed) same ∙ (ap (λ (x : Bool). (book older).killed || x) on ∙ or_false (book older).killed))
@@ -291,7 +261,7 @@ module _ (older : History) (legal : IsLegal older) (b : IsBooked (state older) o
         held client is none =
             let next = to_client n (with_held (client.held ++ bytes)) s in
             let row : next.clients n ≡ Some (record client { held = client.held ++ bytes }) =
-                own_row n (with_held (client.held ++ bytes)) s.clients ∙ ap (option_and_then (with_held (client.held ++ bytes))) is in
+            own_row n (with_held (client.held ++ bytes)) s.clients ∙ ap (option_and_then (with_held (client.held ++ bytes))) is in
             read_other (quietly next)
             (owns_to_client n (with_held (client.held ++ bytes)) s
             (λ idle a e. none_of n (with_held (client.held ++ bytes) a) (record a { held = client.held ++ bytes }) refl (idle a e)))

@@ -1,35 +1,33 @@
 -- Bytes that are read from a client that asks: what the server makes of them is what the entries say.
-use Rattle.std.proofs.Common.{ℕ, ◌+◌, ◌≡◌, ◌≢◌, ◌≤◌, ◌<◌, Bool, true, false, cond, List, [], ◌∷◌, ◌++◌, length, drop, All, Option, Some, None, is_some, refl, sym, ◌∙◌, ap, subst, arith, eqb, inl, inr, ◌⊎◌}
-use Rattle.std.proofs.lemmas.Bool.{eqb-true, eqb-false, eq-eqb, ne_eqb}
+use Rattle.std.proofs.Common.{ℕ, ◌+◌, ◌≡◌, ◌≤◌, Bool, true, false, cond, List, [], ◌++◌, Option, Some, None, is_some, refl, sym, ◌∙◌, ap, subst, arith, eqb}
+use Rattle.std.proofs.lemmas.Bool.{eqb-true}
 use Rattle.std.proofs.lemmas.List.{append-nil}
 use Rattle.std.proofs.lemmas.List.Elements.{All-nil}
-use Rattle.std.specs.Prelude.{◌&&◌, ◌||◌, not, is_none, option_and_then}
-use Rattle.adb_outside.specs.Tables.{at, put_at, without}
+use Rattle.std.specs.Prelude.{◌&&◌, is_none, option_and_then}
+use Rattle.adb_outside.specs.Tables.{at}
 use Rattle.adb_outside.proofs.TableLaws.{All-put_at, All-without}
 use Rattle.adb_registry.specs.Registry.{DeviceTable}
 use Rattle.adb_registry.specs.declared.row.Row.{Row}
 use Rattle.adb_forward.specs.Forwards.{forward_row}
 use Rattle.adb_forward.specs.declared.row.ForwardRow.{ForwardRow}
 use Rattle.adb_client.specs.declared.phase.Phase.{Phase}
-use Rattle.adb_client.specs.declared.phase.Phase.TheVariants.{Asking, Opening, Streaming, Binding, Tracking, Closing, Gone}
+use Rattle.adb_client.specs.declared.phase.Phase.TheVariants.{Asking, Binding}
 use Rattle.adb_client.specs.declared.about.Want.{Want}
 use Rattle.adb_reply.specs.declared.answer.Next.{Next}
 use Rattle.adb_reply.specs.declared.answer.Next.TheVariants as what
-use Rattle.adb_history.specs.Rows.{Client, Link, State, to_client, with_due, with_held}
-use Rattle.adb_history.specs.Events.{Made, Event, quietly, then_also}
-use Rattle.adb_history.specs.Clients.{owe_client, closing, closes, closes_with}
-use Rattle.adb_history.specs.Streams.{opens}
+use Rattle.adb_history.specs.Rows.{Client, State, to_client, with_due}
+use Rattle.adb_history.specs.Events.{quietly}
+use Rattle.adb_history.specs.Clients.{owe_client, closing, closes}
 use Rattle.adb_history.specs.Forwarding.{forwards_with, put_forward}
 use Rattle.adb_history.specs.Asking.{Asked, asks_with}
 use Rattle.adb_history.specs.Losing.{only_client, stops}
 use Rattle.adb_history.specs.Reading.{awaits, goes_on, asked_before, has_asked, asks}
 use Rattle.adb_history.specs.Book.{still_asks, newly, forwards_by, kills, wanted_by}
-use Rattle.adb_history.proofs.Quiet.{AreWithin, Keeps}
 use Rattle.adb_history.proofs.QuietRules.{keeps_opens}
 use Rattle.adb_history.proofs.AnswersWithin.{NextWithin}
 use Rattle.adb_history.proofs.Asked.{behind, Unused, EndsReading, asks_behind, asks_unused, asks_ends}
-use Rattle.adb_history.proofs.Waiting.{is_waiting, NoneWaits, AreFree}
-use Rattle.adb_history.proofs.Owning.{Owns, owns_then, owns_free, own_row, none_of, owns_to_client, owns_owe_client, owns_goes_on, LeftRow, closed_row}
+use Rattle.adb_history.proofs.Waiting.{NoneWaits}
+use Rattle.adb_history.proofs.Owning.{Owns, owns_then, own_row, none_of, owns_to_client, owns_owe_client, owns_goes_on, LeftRow, closed_row}
 use Rattle.adb_history.proofs.ForwardTurns.{AreLed}
 use Rattle.adb_history.proofs.Booked.{Said, asks_now, wants_now, SameAsked, IsAs, idle_is}
 
@@ -103,9 +101,9 @@ module _ (c : ℕ) (bytes : List ℕ) (client : Client) (s : State) (before : As
   pub asked_all : asks_with s.devices s.forwards bytes before ≡ behind before now_asked
   asked_all =
       let same : before ≡ behind before (asked_before client) =
-          let replies : before.replies ≡ before.replies ++ [] = sym (append-nil before.replies) in
-          let used : before.used ≡ before.used + 0 = omega arith in
-          λ i. record { replies = replies i; used = used i; rest = sym rest i; selected = sym selected i; next = open_next i } in
+      let replies : before.replies ≡ before.replies ++ [] = sym (append-nil before.replies) in
+      let used : before.used ≡ before.used + 0 = omega arith in
+      λ i. record { replies = replies i; used = used i; rest = sym rest i; selected = sym selected i; next = open_next i } in
       ap (asks_with s.devices s.forwards bytes) same ∙ asks_behind s.devices s.forwards before bytes (asked_before client)
 
   -- its row, and the state, when the replies are due
@@ -123,7 +121,7 @@ module _ (c : ℕ) (bytes : List ℕ) (client : Client) (s : State) (before : As
   replied_is =
       own_row c (with_due now_asked.replies) (to_client c (has_asked now_asked) s).clients
       ∙ ap (option_and_then (with_due now_asked.replies))
-        (own_row c (has_asked now_asked) s.clients ∙ ap (option_and_then (has_asked now_asked)) is)
+      (own_row c (has_asked now_asked) s.clients ∙ ap (option_and_then (has_asked now_asked)) is)
 
   owns_replied : Owns c s (owe_client c now_asked.replies (to_client c (has_asked now_asked) s))
   owns_replied = owns_then c s (quietly (to_client c (has_asked now_asked) s)) (λ x. owe_client c now_asked.replies x)
@@ -158,7 +156,7 @@ module _ (c : ℕ) (bytes : List ℕ) (client : Client) (s : State) (before : As
     same = λ a e f.
         let want : Want = record { transport = transport; local = local; remote = remote } in
         let row : record replied_row { about = record replied_row.about { phase = Binding; want = Some want }; held = [] } ≡ a =
-            let both : awaits want replied_row ≡ Some a = sym left ∙ e in cc in
+        let both : awaits want replied_row ≡ Some a = sym left ∙ e in cc in
         let clash : Binding ≡ Asking = ap (λ (x : Client). x.about.phase) row ∙ f in cc;
   }
   is_left (Some what.Close) r o on end asks next same waits left = idle_is o r left (asks ∙ ap is_none next) waits

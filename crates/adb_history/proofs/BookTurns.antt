@@ -1,59 +1,24 @@
 -- The server keeps what the entries say: whether a kill stands, the forwards, what clients asked, and which wait for a listener.
-use Rattle.std.proofs.Common.{ℕ, ◌+◌, ◌≡◌, ◌≢◌, ◌≤◌, ◌<◌, Bool, true, false, cond, List, [], ◌∷◌, ◌++◌, length, drop, All, Option, Some, None, is_some, refl, sym, ◌∙◌, ap, subst, arith, eqb, inl, inr, ◌⊎◌}
-use Rattle.std.proofs.lemmas.Bool.{eqb-true, eqb-false, eq-eqb, ne_eqb}
-use Rattle.std.proofs.lemmas.List.Elements.{All-weaker, All-nil}
-use Rattle.std.specs.Prelude.{◌&&◌, ◌||◌, not, is_none, option_and_then}
-use Rattle.adb_outside.specs.Framing.{Cut}
-use Rattle.adb_outside.specs.Tables.{at, put_row, put_at}
-use Rattle.adb_outside.specs.declared.kinds.Cause.{Cause}
-use Rattle.adb_outside.specs.declared.kinds.Kind.{Kind}
-use Rattle.adb_outside.proofs.TableLaws.{puts_put_at}
-use Rattle.adb_registry.specs.Registry.{DeviceTable, attached}
-use Rattle.adb_registry.specs.Row.{new_row}
-use Rattle.adb_registry.specs.declared.row.Row.{Row}
+use Rattle.std.proofs.Common.{ℕ, ◌≡◌, ◌≤◌, ◌<◌, Bool, true, false, cond, List, [], ◌∷◌, ◌++◌, Option, Some, None, refl, sym, ◌∙◌, ap, subst, arith, eqb}
+use Rattle.std.proofs.lemmas.Bool.{ne_eqb}
+use Rattle.std.specs.Prelude.{◌&&◌, ◌||◌, not}
+use Rattle.adb_registry.specs.Registry.{DeviceTable}
 use Rattle.adb_forward.specs.declared.row.ForwardRow.{ForwardRow}
-use Rattle.adb_wire.specs.Cutting.{cut_packets}
-use Rattle.adb_stream.specs.declared.row.Stream.{Stream}
-use Rattle.adb_client.specs.declared.phase.Phase.{Phase}
-use Rattle.adb_client.specs.declared.phase.Phase.TheVariants.{Asking, Opening, Streaming, Binding, Tracking, Closing, Gone}
 use Rattle.adb_client.specs.declared.about.Want.{Want}
-use Rattle.adb_reply.specs.declared.answer.Next.{Next}
-use Rattle.adb_reply.specs.declared.answer.Next.TheVariants as what
 use Rattle.adb_capture.specs.declared.entry.Entry.{Entry}
 use Rattle.adb_capture.specs.declared.entry.Entry.TheVariants.{Join, Enter, Read, End, Bound, Attach, Recv, Detach, Put, Send}
-use Rattle.adb_history.specs.Rows.{Client, Link, State, start, new_client, new_link, to_client, with_held}
-use Rattle.adb_history.specs.Events as ending
-use Rattle.adb_history.specs.Events.{Made, Event, quietly, then_also, owed_to}
-use Rattle.adb_history.specs.Links.{server_cnxn, is_connected}
-use Rattle.adb_history.specs.Clients.{closes, closes_with}
-use Rattle.adb_history.specs.Streams.{opens}
-use Rattle.adb_history.specs.Tracking.{mark_all}
-use Rattle.adb_history.specs.Forwarding.{Binding as Bound_to, bound_by, is_unbound, put_forward}
-use Rattle.adb_history.specs.Asking.{Asked, nothing_asked, asks_with}
-use Rattle.adb_history.specs.Losing.{link_ends, client_ends, stops}
-use Rattle.adb_history.specs.Packets.{receives_cut, receives_on, receives}
-use Rattle.adb_history.specs.Reading.{comes, comes_in_vain, enters_by, enters, plugs_in, goes_on, asked_before, asks, reads_in, reads_from, reads, bound_to, bound_for, bound_in, bound_at, bound}
-use Rattle.adb_history.specs.Handing.{lists_first, hands, client_left, takes_of, puts_to, puts, sends}
-use Rattle.adb_history.specs.Machine.{unplugs_on, unplugs, rule, ups, step, History, state, May, MayPut, IsLegal}
+use Rattle.adb_history.specs.Rows.{State}
+use Rattle.adb_history.specs.Events.{Made, owed_to}
+use Rattle.adb_history.specs.Asking.{nothing_asked}
+use Rattle.adb_history.specs.Machine.{History, state, May, IsLegal}
 use Rattle.adb_history.specs.Bytes.{has_joined, has_ended}
-use Rattle.adb_history.specs.Book.{plugged_count, devices_if, book, asked, still_asks, newly, forwards_by, kills, wanted_by, asked_with, led_by, read_turn, reads_turn, bound_turn, bound_with, turn, is_killed}
-use Rattle.adb_history.specs.Tied.{bytes_asked, came_count, IsAskedAs, UnreadIsPastUsed, IsBookOf}
-use Rattle.adb_history.proofs.Quiet.{RowStep, AreWithin, Keeps, keeps_over, keeps_owe_link}
-use Rattle.adb_history.proofs.QuietRules.{keeps_up_all, keeps_client_ends, keeps_opens, keeps_closes_with}
-use Rattle.adb_history.proofs.QuietPackets.{keeps_mark_all, keeps_lists_first, keeps_client_left}
-use Rattle.adb_history.proofs.LinkChanges.{changes_link_ends}
-use Rattle.adb_history.proofs.AnswersWithin.{NextWithin, asks_within, row_within}
-use Rattle.adb_history.proofs.Outputs.{IsTied, IsTiedAfter, tied_rule, tied, row_below, connected_is}
-use Rattle.adb_history.proofs.Received.{IsReceived, received}
-use Rattle.adb_history.proofs.DeviceTurns.{AreLinked, Turns, IsGood, turns_link_ends, turns_cut}
-use Rattle.adb_history.proofs.Tables.{StaysTables, IsStopped, tables_keep, AskTables, asks_kill, reads_in_tables, asks_tables, bound_tables, puts_tables, enters_tables}
-use Rattle.adb_history.proofs.Devices.{ShowsDevices, shows_devices, shows_rule, all_devices}
-use Rattle.adb_history.proofs.Waiting.{is_waiting, WaitStep, NoneWaits, AreFree, Leaves, leaves_all, leaves_over, leaves_up_all, leaves_mark_all, leaves_receives, leaves_link_ends, leaves_puts, free_after, none_waits_after}
-use Rattle.adb_history.proofs.Asked.{Unused}
-use Rattle.adb_history.proofs.Owning.{Owns, owns_then, owns_over, owns_all, owns_free, own_row, none_of, none_none, owns_to_client, owns_opens, opened_row, owns_closes_with, closed_with_row, owns_ends, ended_waits}
-use Rattle.adb_history.proofs.ForwardTurns.{AreLed, Leads, leads_link_ends, leads_cut, led_after, led_filter}
-use Rattle.adb_history.proofs.Booked.{Said, said, asks_in, asks_now, wants_in, wants_now, SameAsked, IsAs, Holds, holds, holds_same, idle_is, idle_says, is_stays, holds_receives, holds_puts}
-use Rattle.adb_history.proofs.BookReads.{led_put, led_next, goes_on_forwards, none_next, newly_same, and_false, and_parts, now_asked, asked_all, replied_state, owns_asks, asks_is, stopped_idle}
+use Rattle.adb_history.specs.Book.{devices_if, book, asked, still_asks, newly, wanted_by, asked_with, bound_turn}
+use Rattle.adb_history.specs.Tied.{bytes_asked, came_count}
+use Rattle.adb_history.proofs.Quiet.{RowStep, Keeps}
+use Rattle.adb_history.proofs.Outputs.{IsTied, tied}
+use Rattle.adb_history.proofs.Waiting.{NoneWaits, AreFree, Leaves, free_after, none_waits_after}
+use Rattle.adb_history.proofs.ForwardTurns.{AreLed}
+use Rattle.adb_history.proofs.Booked.{Said, said, IsAs, Holds, holds, is_stays}
 
 -- ---- who did not come yet
 pub record IsUnheard (h : History) (c : ℕ) : Type 0 where

@@ -1,7 +1,6 @@
 -- What a client's row has to do with what the entries say of it.
-use Rattle.std.proofs.Common.{ℕ, ◌+◌, ◌≡◌, ◌≢◌, ◌≤◌, ◌<◌, Bool, true, false, cond, List, [], ◌∷◌, ◌++◌, length, drop, Option, Some, None, refl, sym, ◌∙◌, ap, subst, eqb, inl, inr, ◌⊎◌}
-use Rattle.std.proofs.lemmas.Bool.{eqb-true, eqb-false, eq-eqb, ne_eqb}
-use Rattle.std.specs.Prelude.{◌&&◌, ◌||◌, not, option_and_then}
+use Rattle.std.proofs.Common.{ℕ, ◌≡◌, ◌≤◌, Bool, true, false, cond, List, [], ◌∷◌, ◌++◌, length, drop, Option, Some, None, refl, sym, ◌∙◌, ap, subst, eqb, inl, inr}
+use Rattle.std.specs.Prelude.{◌&&◌, not, option_and_then}
 use Rattle.adb_outside.specs.Framing.{Cut}
 use Rattle.adb_wire.specs.Cutting.{cut_packets}
 use Rattle.adb_wire.specs.declared.packets.Packet.{Packet}
@@ -11,16 +10,16 @@ use Rattle.adb_client.specs.declared.phase.Phase.{Phase}
 use Rattle.adb_client.specs.declared.phase.Phase.TheVariants.{Asking, Opening, Streaming, Binding, Tracking, Closing, Gone}
 use Rattle.adb_client.specs.declared.about.Want.{Want}
 use Rattle.adb_history.specs.Rows.{Client, Link, State, to_client, to_link}
-use Rattle.adb_history.specs.Events.{Made, Event, quietly, then_also, owed_to}
+use Rattle.adb_history.specs.Events.{owed_to}
 use Rattle.adb_history.specs.Clients.{closing_with}
-use Rattle.adb_history.specs.Asking.{Asked, nothing_asked}
+use Rattle.adb_history.specs.Asking.{Asked}
 use Rattle.adb_history.specs.Handing.{lists_first, left_in, hands, client_left, takes_of, puts_to}
-use Rattle.adb_history.specs.Packets.{treat_all, faulty, faulty_on, with_rest, receives_cut, receives_on}
+use Rattle.adb_history.specs.Packets.{treat_all, faulty, with_rest, receives_cut, receives_on}
 use Rattle.adb_history.specs.Machine.{History}
 use Rattle.adb_history.specs.Bytes.{has_joined, has_ended}
 use Rattle.adb_history.specs.Book.{book, asked, still_asks}
 use Rattle.adb_history.specs.Tied.{bytes_asked}
-use Rattle.adb_history.proofs.Quiet.{RowStep, row_then, ClientStays, StaysAsking, StaysBinding, AreWithin, Keeps}
+use Rattle.adb_history.proofs.Quiet.{RowStep, row_then, ClientStays, StaysAsking, StaysBinding, AreWithin}
 use Rattle.adb_history.proofs.QuietPackets.{keeps_lists_first, keeps_client_left}
 use Rattle.adb_history.proofs.LinkChanges.{hears_all, changes_faulty}
 use Rattle.adb_history.proofs.Asked.{Unused}

@@ -1,16 +1,14 @@
 -- Every legal history's state keeps what its entries say.
-use Rattle.std.proofs.Common.{ℕ, ◌≡◌, Bool, true, false, List, [], ◌∷◌, All, Option, Some, None, refl, sym, ◌∙◌, ap, subst}
+use Rattle.std.proofs.Common.{ℕ, ◌≡◌, Bool, true, false, [], ◌∷◌, Some, None, refl, sym, ◌∙◌, ap}
 use Rattle.std.proofs.lemmas.List.Elements.{All-nil}
-use Rattle.std.specs.Prelude.{◌&&◌, not, is_none, is_some}
+use Rattle.std.specs.Prelude.{not, is_some}
 use Rattle.adb_outside.specs.Tables.{at}
-use Rattle.adb_registry.specs.Registry.{DeviceTable}
 use Rattle.adb_forward.specs.declared.row.ForwardRow.{ForwardRow}
 use Rattle.adb_client.specs.declared.phase.Phase.{Phase}
 use Rattle.adb_client.specs.declared.phase.Phase.TheVariants.{Asking, Binding}
-use Rattle.adb_client.specs.declared.about.Want.{Want}
 use Rattle.adb_capture.specs.declared.entry.Entry.{Entry}
 use Rattle.adb_capture.specs.declared.entry.Entry.TheVariants.{Join, Enter, Read, End, Bound, Attach, Recv, Detach, Put, Send}
-use Rattle.adb_history.specs.Rows.{Client, State}
+use Rattle.adb_history.specs.Rows.{Client}
 use Rattle.adb_history.specs.Machine.{rule, ups, History, state, IsLegal}
 use Rattle.adb_history.specs.Bytes.{has_joined, has_ended}
 use Rattle.adb_history.specs.Book.{plugged_count, devices_if, book, asked, still_asks}
@@ -19,8 +17,7 @@ use Rattle.adb_history.proofs.QuietRules.{keeps_up_all}
 use Rattle.adb_history.proofs.Outputs.{tied_rule, tied}
 use Rattle.adb_history.proofs.Devices.{all_devices}
 use Rattle.adb_history.proofs.Waiting.{is_waiting, leaves_up_all}
-use Rattle.adb_history.proofs.Asked.{Unused}
-use Rattle.adb_history.proofs.Booked.{Said, said, asks_in, asks_now, wants_in, wants_now, SameAsked, IsAs}
+use Rattle.adb_history.proofs.Booked.{said, asks_in, asks_now, wants_in, wants_now}
 use Rattle.adb_history.proofs.BookReads.{none_next, and_parts}
 use Rattle.adb_history.proofs.BookTurns.{IsBooked, booked_still, still_keeps}
 use Rattle.adb_history.proofs.BookEntries.{booked_put, booked_send, booked_attach, booked_recv, booked_detach, booked_join, booked_enter, booked_end, booked_bound}

@@ -1,5 +1,5 @@
 -- What a rule that changes tables does to the rows of clients and links.
-use Rattle.std.proofs.Common.{ℕ, ◌+◌, ◌≡◌, ◌≤◌, ◌<◌, Bool, List, [], ◌∷◌, ◌++◌, Option, Some, None, refl, sym, ◌∙◌, ap, subst, arith, ◌⊎◌, inl, inr}
+use Rattle.std.proofs.Common.{ℕ, ◌≡◌, ◌<◌, Bool, List, ◌++◌, Option, None, refl, sym, ◌∙◌, ap, subst, arith, ◌⊎◌, inl, inr}
 use Rattle.std.specs.Prelude.{option_map}
 use Rattle.std.proofs.lemmas.Bool.{cases_eq}
 use Rattle.adb_outside.specs.Tables.{at, IsRising, Puts, set_at}
@@ -8,7 +8,7 @@ use Rattle.adb_registry.specs.Registry.{DeviceTable, changed, detached}
 use Rattle.adb_registry.specs.declared.row.Row.{Row}
 use Rattle.adb_forward.specs.declared.row.ForwardRow.{ForwardRow}
 use Rattle.adb_history.specs.Rows.{Client, Link, State}
-use Rattle.adb_history.specs.Events.{Made, Event, quietly, then_also, owed_to, spelled_to}
+use Rattle.adb_history.specs.Events.{Made, quietly, then_also, owed_to, spelled_to}
 use Rattle.adb_history.proofs.Quiet.{RowStep, row_then, row_same, row_weaker, ClientStays, client_same, LinkStays, link_same, client_then, link_then}
 use Rattle.adb_history.proofs.Quiet.{owed_append, spelled_append, IsToldWithin, told_then, AreWithin, Keeps}
 

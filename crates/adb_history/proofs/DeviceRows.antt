@@ -1,5 +1,5 @@
 -- What the packets of a link make of its device, one after another, is what they say of it all together.
-use Rattle.std.proofs.Common.{ℕ, ◌+◌, ◌≡◌, ◌≢◌, ◌≤◌, ◌<◌, Bool, true, false, cond, List, [], ◌∷◌, ◌++◌, reverse, Option, Some, None, is_some, refl, sym, ◌∙◌, ap, subst, append_assoc}
+use Rattle.std.proofs.Common.{ℕ, ◌≡◌, Bool, true, false, cond, List, [], ◌∷◌, ◌++◌, Option, Some, None, is_some, refl, sym, ◌∙◌, ap, subst, append_assoc}
 use Rattle.std.proofs.lemmas.List.{append-nil, reverse-append}
 use Rattle.std.proofs.lemmas.List.Folds.{list_any-append}
 use Rattle.std.specs.Prelude.{nat_lt, ◌||◌, ◌&&◌, min, is_none, find, bytes_eq, codes}
@@ -192,7 +192,7 @@ module _ (row : Row) (offline : row.state ≡ device.Offline) (ps : List Packet)
         ∙ (ap (row_after p) known.same
         ∙ (one_more (list_any is_refused ps) known.who
         ∙ (sym (ap (λ (b : Bool). cond b None (Some (row_by (cond (is_cnxn p.command) (Some p) (last_cnxn ps)) (ps ++ p ∷ []) row)))
-          (any_more is_refused ps p))
+        (any_more is_refused ps p))
         ∙ sym (ap (λ (o : Option Packet). cond (list_any is_refused (ps ++ p ∷ [])) None (Some (row_by o (ps ++ p ∷ []) row))) (last_more ps p)))));
     who = λ e.
         let none = either_false (list_any is_refused ps) (is_refused p) (sym (any_more is_refused ps p) ∙ e) in

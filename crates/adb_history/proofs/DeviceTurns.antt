@@ -1,6 +1,6 @@
 -- What the packets of a link make of the devices: the row of its device changes as they say, and all others stay.
-use Rattle.std.proofs.Common.{ℕ, ◌+◌, ◌≡◌, ◌≢◌, ◌≤◌, ◌<◌, Bool, true, false, cond, List, [], ◌∷◌, ◌++◌, Option, Some, None, is_some, refl, sym, ◌∙◌, ap, subst, arith, eqb, inl, inr, ◌⊎◌}
-use Rattle.std.proofs.lemmas.Bool.{eqb-true, eqb-false, eq-eqb, ne_eqb, cases_eq}
+use Rattle.std.proofs.Common.{ℕ, ◌≡◌, ◌≢◌, ◌≤◌, Bool, true, false, cond, List, [], ◌∷◌, Option, Some, None, is_some, refl, sym, ◌∙◌, ap, subst, eqb, inl, inr, ◌⊎◌}
+use Rattle.std.proofs.lemmas.Bool.{eqb-false, eq-eqb, ne_eqb, cases_eq}
 use Rattle.std.specs.Prelude.{nat_lt, ◌||◌, option_and_then, option_map, min}
 use Rattle.adb_outside.specs.Tables.{at, Puts, set_at}
 use Rattle.adb_outside.proofs.TableLaws.{puts_set_at}
@@ -10,9 +10,9 @@ use Rattle.adb_outside.specs.declared.identity.State.{State as DeviceState}
 use Rattle.adb_outside.specs.declared.identity.State.TheVariants as device
 use Rattle.adb_banner.specs.Banner.{identity_of}
 use Rattle.adb_registry.specs.Row.{online_row, unauthorized_row}
-use Rattle.adb_registry.specs.Registry.{DeviceTable, changed, detached}
+use Rattle.adb_registry.specs.Registry.{DeviceTable}
 use Rattle.adb_registry.specs.declared.row.Row.{Row}
-use Rattle.adb_wire.specs.Format.{is_cnxn, has_sums}
+use Rattle.adb_wire.specs.Format.{has_sums}
 use Rattle.adb_wire.specs.declared.command.Command.{Command}
 use Rattle.adb_wire.specs.declared.command.Command.TheVariants.{Cnxn, Open, Okay, Wrte, Clse, Auth, Stls}
 use Rattle.adb_wire.specs.declared.packets.Packet.{Packet}
@@ -20,20 +20,20 @@ use Rattle.adb_wire.specs.declared.format.PacketFault.{PacketFault}
 use Rattle.adb_wire.specs.declared.format.PacketFormat.{PacketFormat}
 use Rattle.adb_wire.specs.declared.format.TheConstants.{VERSION_WITHOUT_SUMS}
 use Rattle.adb_wire.specs.declared.headers.TheConstants.{MAX_PAYLOAD}
-use Rattle.adb_history.specs.Rows.{Client, Link, State, to_link, none_kept}
-use Rattle.adb_history.specs.Events.{Made, Event, Ending, quietly, then_also, lost, broken}
+use Rattle.adb_history.specs.Rows.{Link, State, to_link, none_kept}
+use Rattle.adb_history.specs.Events.{Made, Ending, quietly, then_also, lost, broken}
 use Rattle.adb_history.specs.Links.{is_connected}
 use Rattle.adb_history.specs.Streams.{all_end}
 use Rattle.adb_history.specs.Tracking.{mark_all}
 use Rattle.adb_history.specs.Losing.{forgets, link_ends}
 use Rattle.adb_history.specs.Packets.{least_version, least_maxdata, with_sums, goes_online, streams_end_first, connects, cnxn, unauthorized_from, unauthorized}
-use Rattle.adb_history.specs.Packets.{treat_open, treat_any, treat_on, treat, treat_all, faulty_on, faulty, with_rest, receives_cut, receives_on, receives}
+use Rattle.adb_history.specs.Packets.{treat_open, treat_any, treat_on, treat, treat_all, faulty_on, with_rest, receives_cut}
 use Rattle.adb_history.proofs.Quiet.{AreWithin, Keeps, keeps_all}
 use Rattle.adb_history.proofs.QuietRules.{keeps_all_end}
 use Rattle.adb_history.proofs.QuietPackets.{keeps_treat_open, keeps_mark_all}
-use Rattle.adb_history.proofs.Changes.{HasRowsWithin, Stay, LinkStay, Changes}
-use Rattle.adb_history.proofs.LinkChanges.{changes_link_ends, HearsAllOn, HearsOn, hears_all, hears_on}
-use Rattle.adb_history.proofs.DeviceRows.{row_waiting, row_connected, row_cnxn, row_hears, row_after, rows_after, rows_none}
+use Rattle.adb_history.proofs.Changes.{HasRowsWithin}
+use Rattle.adb_history.proofs.LinkChanges.{hears_all, hears_on}
+use Rattle.adb_history.proofs.DeviceRows.{row_waiting, row_connected, row_cnxn, row_hears, row_after, rows_after}
 
 -- a link lives exactly where its device has a row
 abbrev pub AreLinked : State → Type 0
@@ -265,7 +265,7 @@ module _ (came plugged t : ℕ) where
       let first = turns_all c.given rested (record { streams = good.streams; rows = good.rows; linked = linked }) le in
       let changes = hears_all came plugged t c.given rested le good.streams in
       let second = turns_faulty (m.state.links t) c.fault m.state refl
-          (record { streams = changes.streams good.streams; rows = changes.rows good.rows; linked = first.linked }) in
+      (record { streams = changes.streams good.streams; rows = changes.rows good.rows; linked = first.linked }) in
       record {
         here = second.here ∙ ap (cond (is_some c.fault) None) first.here;
         others = λ k apart. second.others k apart ∙ first.others k apart;

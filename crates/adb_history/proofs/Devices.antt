@@ -1,8 +1,8 @@
 -- The devices that the server knows are those that the bytes of the links tell.
-use Rattle.std.proofs.Common.{ℕ, ◌+◌, ◌≡◌, ◌≢◌, ◌≤◌, ◌<◌, Bool, true, false, cond, List, [], ◌∷◌, ◌++◌, length, Option, Some, None, is_some, refl, sym, ◌∙◌, ap, subst, arith, eqb, inl, inr, ◌⊎◌}
+use Rattle.std.proofs.Common.{ℕ, ◌+◌, ◌≡◌, ◌≤◌, Bool, true, false, cond, List, [], ◌∷◌, ◌++◌, length, Option, Some, None, is_some, refl, sym, ◌∙◌, ap, subst, arith, eqb, inl, inr, ◌⊎◌}
 use Rattle.std.proofs.lemmas.Bool.{eqb-true, eqb-false, eq-eqb, ne_eqb, cases_eq}
 use Rattle.std.proofs.lemmas.List.Folds.{list_any-append}
-use Rattle.std.specs.Prelude.{◌||◌, ◌&&◌, not, option_and_then, option_map}
+use Rattle.std.specs.Prelude.{◌||◌, ◌&&◌, not, option_map}
 use Rattle.std.specs.List.{list_any}
 use Rattle.adb_outside.specs.Tables.{at, listed, put_row, Puts, put_at}
 use Rattle.adb_outside.specs.Framing.{Cut, joined}
@@ -20,27 +20,25 @@ use Rattle.adb_wire.specs.FormatLaws.{packets_are_framed}
 use Rattle.adb_wire.specs.declared.packets.Packet.{Packet}
 use Rattle.adb_wire.specs.declared.format.PacketFault.{PacketFault}
 use Rattle.adb_wire.specs.declared.format.PacketFormat.{PacketFormat}
-use Rattle.adb_client.specs.declared.phase.Phase.{Phase}
 use Rattle.adb_capture.specs.declared.entry.Entry.{Entry}
 use Rattle.adb_capture.specs.declared.entry.Entry.TheVariants.{Join, Enter, Read, End, Bound, Attach, Recv, Detach, Put, Send}
-use Rattle.adb_history.specs.Rows.{Client, Link, State, start, new_link}
+use Rattle.adb_history.specs.Rows.{Client, Link, State, new_link}
 use Rattle.adb_history.specs.Events as ending
 use Rattle.adb_history.specs.Events.{Made, Event, quietly, then_also}
 use Rattle.adb_history.specs.Links.{server_cnxn}
 use Rattle.adb_history.specs.Tracking.{mark_all}
 use Rattle.adb_history.specs.Losing.{link_ends, client_ends}
-use Rattle.adb_history.specs.Packets.{receives_cut, receives_on, receives}
-use Rattle.adb_history.specs.Reading.{comes, enters_by, enters, plugs_in, reads_from, reads, bound}
-use Rattle.adb_history.specs.Handing.{puts_to, puts, sends}
-use Rattle.adb_history.specs.Machine.{unplugs_on, unplugs, rule, ups, step, History, state, May, MayPut, IsLegal}
+use Rattle.adb_history.specs.Packets.{receives_cut, receives_on}
+use Rattle.adb_history.specs.Reading.{comes, enters, plugs_in, reads_from, reads, bound}
+use Rattle.adb_history.specs.Handing.{puts, sends}
+use Rattle.adb_history.specs.Machine.{unplugs_on, rule, ups, History, state, May, MayPut, IsLegal}
 use Rattle.adb_history.specs.Bytes.{is_lost, bytes_received}
 use Rattle.adb_history.specs.Book.{plugged, plugged_count, is_refused, last_cnxn, row_by, device_of, devices_if}
 use Rattle.adb_history.specs.Tied.{came_count}
-use Rattle.adb_history.proofs.Quiet.{AreWithin, Keeps, keeps_over, keeps_owe_link}
+use Rattle.adb_history.proofs.Quiet.{Keeps, keeps_over, keeps_owe_link}
 use Rattle.adb_history.proofs.QuietRules.{keeps_up_all, keeps_client_ends}
 use Rattle.adb_history.proofs.QuietPackets.{keeps_mark_all}
-use Rattle.adb_history.proofs.Changes.{HasRowsWithin}
-use Rattle.adb_history.proofs.Outputs.{IsTied, IsTiedAfter, tied_rule, tied, row_below}
+use Rattle.adb_history.proofs.Outputs.{IsTied, tied_rule, tied, row_below}
 use Rattle.adb_history.proofs.Received.{ReadsAs, ReadTie, framed_piece, IsReceived, received}
 use Rattle.adb_history.proofs.DeviceRows.{rows_after, rows_append, device_by, device_rows}
 use Rattle.adb_history.proofs.DeviceTurns.{AreLinked, Turns, IsGood, turns_link_ends, turns_cut}
@@ -74,7 +72,7 @@ broken_stays received bytes (Some row) e = go (framed received).fault refl e
         → cond refused None (Some (row_by (last_cnxn c.given) c.given row)) ≡ None → device_from false (joined c.given more) (Some row) ≡ None
     by_packets true c more is sound e =
         let all : list_any is_refused (c.given ++ more.given) ≡ true =
-            list_any-append is_refused c.given more.given ∙ ap (λ (b : Bool). b || list_any is_refused more.given) is in
+        list_any-append is_refused c.given more.given ∙ ap (λ (b : Bool). b || list_any is_refused more.given) is in
         either (is_some more.fault) (list_any is_refused (c.given ++ more.given)) all
       where
         either : (a b : Bool) → b ≡ true
@@ -88,7 +86,7 @@ broken_stays received bytes (Some row) e = go (framed received).fault refl e
         → device_from false (framed (received ++ bytes)) (Some row) ≡ None
     go (Some fault) is e =
         let stays = fault_stays front_of (λ _ frame. packet_of frame) (λ format frame. format_after format (packet_of frame)) packets_are_framed
-            (length received) (record { sums = false }) received bytes fault (omega arith) is in
+        (length received) (record { sums = false }) received bytes fault (omega arith) is in
         at_fault (framed (received ++ bytes)) fault stays.1
     go None is e =
         let link : Link = record { rest = (framed received).rest; sums = (framed received).reading.sums; due = [] } in
@@ -102,7 +100,7 @@ broken_stays received bytes (Some row) e = go (framed received).fault refl e
 -- what more packets make of a link that is sound
 sound_more : (received bytes : List ℕ) (link : Link) (row : Row) → ReadsAs received link → row.state ≡ device.Offline
     → cond (is_some (cut_packets (record { sums = link.sums }) (link.rest ++ bytes)).fault) None
-      (rows_after (cut_packets (record { sums = link.sums }) (link.rest ++ bytes)).given (device_from false (framed received) (Some row)))
+    (rows_after (cut_packets (record { sums = link.sums }) (link.rest ++ bytes)).given (device_from false (framed received) (Some row)))
     ≡ device_from false (framed (received ++ bytes)) (Some row)
 sound_more received bytes link row t offline =
     ap (λ (o : Option Row). cond (is_some c.fault) None (rows_after c.given o)) (before ∙ sym (device_rows row offline (framed received).given))
@@ -118,7 +116,7 @@ sound_more received bytes link row t offline =
 
     both : (fault : Bool) → cond fault None (device_by ((framed received).given ++ c.given) row)
         ≡ cond (fault || list_any is_refused ((framed received).given ++ c.given)) None
-          (Some (row_by (last_cnxn ((framed received).given ++ c.given)) ((framed received).given ++ c.given) row))
+        (Some (row_by (last_cnxn ((framed received).given ++ c.given)) ((framed received).given ++ c.given) row))
     both true = refl
     both false = refl
 
@@ -256,7 +254,7 @@ module _ (older : History) (tie : IsTied older) (got : IsReceived older) (shows 
   recv_live : (n : ℕ) (bytes : List ℕ) (link : Link) (gone : Bool) (o : Option Row) → plugged n older ≡ o → gone ≡ false
       → ReadsAs (bytes_received n older) link → is_some o ≡ true
       → cond (is_some (cut_packets (record { sums = link.sums }) (link.rest ++ bytes)).fault) None
-        (rows_after (cut_packets (record { sums = link.sums }) (link.rest ++ bytes)).given (device_from gone (framed (bytes_received n older)) o))
+      (rows_after (cut_packets (record { sums = link.sums }) (link.rest ++ bytes)).given (device_from gone (framed (bytes_received n older)) o))
       ≡ device_from gone (framed (cond (not gone) (bytes_received n older ++ bytes) (bytes_received n older))) o
   recv_live n bytes link gone None is on reads some = let clash : false ≡ true = some in cc
   recv_live n bytes link true (Some row) is on reads some = let clash : true ≡ false = on in cc
@@ -278,7 +276,7 @@ module _ (older : History) (tie : IsTied older) (got : IsReceived older) (shows 
       let c = cut_packets (record { sums = link.sums }) (link.rest ++ bytes) in
       let read = subst (λ (o : Option Link). ReadTie (is_lost n older) o (bytes_received n older)) is (got.links n) in
       let some : is_some (plugged n older) ≡ true = plugged_row (is_lost n older) (framed (bytes_received n older)) (plugged n older)
-          (sym (ap is_some (shows.rows may.0 n)) ∙ (sym (shows.linked n) ∙ ap is_some is)) in
+      (sym (ap is_some (shows.rows may.0 n)) ∙ (sym (shows.linked n) ∙ ap is_some is)) in
       turned n (cond (is_some c.fault) None (rows_after c.given (at n s.devices.rows))) (receives_cut n c s) (Recv n bytes ∷ older)
       (turns_cut (came_count older) (plugged_count older) n c s good (omega (arith, may.1.1, tie.drawn))) may.0
       (ap (λ (o : Option Row). cond (is_some c.fault) None (rows_after c.given o)) (shows.rows may.0 n)
@@ -375,5 +373,5 @@ all_devices h l = go (state h).stopped refl
         (same_table (state h).devices.rows (λ t. device_of t h) (plugged_count h) tie.rows.rises
         (ap (λ (o : Option Row). device_from (is_lost 0 h) (framed (bytes_received 0 h)) o) (plugged_zero h l)
         ∙ no_row (is_lost 0 h || (is_some (framed (bytes_received 0 h)).fault || list_any is_refused (framed (bytes_received 0 h)).given))
-          (row_by (last_cnxn (framed (bytes_received 0 h)).given) (framed (bytes_received 0 h)).given))
+        (row_by (last_cnxn (framed (bytes_received 0 h)).given) (framed (bytes_received 0 h)).given))
         (λ n lt. sym (shows.rows on n) ∙ tie.rows.above n lt) (shows.rows on))

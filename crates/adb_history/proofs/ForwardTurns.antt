@@ -1,7 +1,7 @@
 -- What the packets of a link make of the forwards: they stay, or those that led to the link go with it.
-use Rattle.std.proofs.Common.{ℕ, ◌+◌, ◌≡◌, ◌≢◌, ◌≤◌, ◌<◌, Bool, true, false, cond, List, [], ◌∷◌, ◌++◌, All, Option, Some, None, is_some, refl, sym, ◌∙◌, ap, subst, eqb, inl, inr, ◌⊎◌}
-use Rattle.std.proofs.lemmas.Bool.{eqb-true, eqb-false, eq-eqb, ne_eqb, cases_eq}
-use Rattle.std.proofs.lemmas.List.Elements.{All-head, All-tail, All-weaker, All-filter, filter_passes}
+use Rattle.std.proofs.Common.{ℕ, ◌≡◌, ◌≢◌, ◌≤◌, Bool, true, false, cond, List, [], ◌∷◌, All, Option, Some, None, is_some, refl, sym, ◌∙◌, ap, eqb, inl, inr, ◌⊎◌}
+use Rattle.std.proofs.lemmas.Bool.{eq-eqb, ne_eqb, cases_eq}
+use Rattle.std.proofs.lemmas.List.Elements.{All-head, All-tail, All-weaker, filter_passes}
 use Rattle.std.specs.Prelude.{nat_lt, ◌||◌, ◌==◌, not, option_and_then, filter}
 use Rattle.adb_outside.specs.Tables.{at}
 use Rattle.adb_outside.specs.Framing.{Cut}
@@ -18,17 +18,16 @@ use Rattle.adb_wire.specs.declared.command.Command.TheVariants.{Cnxn, Open, Okay
 use Rattle.adb_wire.specs.declared.packets.Packet.{Packet}
 use Rattle.adb_wire.specs.declared.format.PacketFault.{PacketFault}
 use Rattle.adb_wire.specs.declared.format.PacketFormat.{PacketFormat}
-use Rattle.adb_history.specs.Rows.{Client, Link, State, to_link}
-use Rattle.adb_history.specs.Events.{Made, Event, Ending, quietly, then_also, lost, broken}
+use Rattle.adb_history.specs.Rows.{Link, State, to_link}
+use Rattle.adb_history.specs.Events.{Made, Ending, quietly, then_also, lost, broken}
 use Rattle.adb_history.specs.Links.{is_connected}
 use Rattle.adb_history.specs.Streams.{all_end}
-use Rattle.adb_history.specs.Tracking.{mark_all}
 use Rattle.adb_history.specs.Forwarding.{forwards_without}
 use Rattle.adb_history.specs.Losing.{forgets, link_ends}
 use Rattle.adb_history.specs.Packets.{least_version, least_maxdata, with_sums, goes_online, streams_end_first, connects, cnxn, unauthorized_from, unauthorized}
-use Rattle.adb_history.specs.Packets.{treat_open, treat_any, treat_on, treat, treat_all, faulty_on, faulty, with_rest, receives_cut, receives_on}
+use Rattle.adb_history.specs.Packets.{treat_open, treat_any, treat_on, treat, treat_all, faulty_on, faulty, with_rest, receives_cut}
 use Rattle.adb_history.specs.Book.{led_by}
-use Rattle.adb_history.proofs.Quiet.{AreWithin, Keeps, keeps_all}
+use Rattle.adb_history.proofs.Quiet.{AreWithin, Keeps}
 use Rattle.adb_history.proofs.QuietRules.{keeps_all_end}
 use Rattle.adb_history.proofs.QuietPackets.{keeps_treat_open}
 use Rattle.adb_history.proofs.LinkChanges.{hears_on, hears_all, link_ends_gone}

@@ -1,10 +1,9 @@
 -- What the packets of a link make of the rows: the link is gone, or keeps what it has and wants check words by its last CNXN.
-use Rattle.std.proofs.Common.{ℕ, ◌≡◌, ◌≢◌, ◌≤◌, ◌<◌, Bool, true, false, cond, List, [], ◌∷◌, ◌++◌, Option, Some, None, refl, sym, ◌∙◌, ap, subst, arith, append_assoc, eqb}
+use Rattle.std.proofs.Common.{ℕ, ◌≡◌, ◌≤◌, Bool, true, false, cond, List, [], ◌∷◌, ◌++◌, Option, Some, None, refl, sym, ◌∙◌, ap, subst, append_assoc, eqb}
 use Rattle.std.proofs.lemmas.Bool.{eqb-true, eq-eqb}
 use Rattle.std.proofs.lemmas.List.{append-nil}
 use Rattle.std.specs.Prelude.{nat_lt, ◌||◌, option_and_then, min}
 use Rattle.adb_outside.specs.Tables.{at}
-use Rattle.adb_outside.specs.Framing.{Cut}
 use Rattle.adb_outside.specs.declared.identity.Identity.{Identity}
 use Rattle.adb_outside.specs.declared.identity.State.{State as DeviceState}
 use Rattle.adb_outside.specs.declared.identity.State.TheVariants as device
@@ -17,23 +16,22 @@ use Rattle.adb_wire.specs.declared.command.Command.{Command}
 use Rattle.adb_wire.specs.declared.command.Command.TheVariants.{Cnxn, Open, Okay, Wrte, Clse, Auth, Stls}
 use Rattle.adb_wire.specs.declared.packets.Packet.{Packet}
 use Rattle.adb_wire.specs.declared.format.PacketFault.{PacketFault}
-use Rattle.adb_wire.specs.declared.format.PacketFormat.{PacketFormat}
 use Rattle.adb_wire.specs.declared.format.TheConstants.{VERSION_WITHOUT_SUMS}
 use Rattle.adb_wire.specs.declared.headers.TheConstants.{MAX_PAYLOAD}
-use Rattle.adb_history.specs.Rows.{Client, Link, State, to_link, none_kept}
-use Rattle.adb_history.specs.Events.{Made, Event, Ending, quietly, then_also, lost, broken, owed_to, spelled_to}
+use Rattle.adb_history.specs.Rows.{Link, State, to_link, none_kept}
+use Rattle.adb_history.specs.Events.{Made, Ending, quietly, lost, broken, spelled_to}
 use Rattle.adb_history.specs.Links.{is_connected}
 use Rattle.adb_history.specs.Streams.{all_end}
 use Rattle.adb_history.specs.Tracking.{mark_all}
 use Rattle.adb_history.specs.Forwarding.{forwards_without}
 use Rattle.adb_history.specs.Losing.{forgets, link_ends}
 use Rattle.adb_history.specs.Packets.{least_version, least_maxdata, with_sums, goes_online, streams_end_first, connects, cnxn, unauthorized_from, unauthorized}
-use Rattle.adb_history.specs.Packets.{treat_open, treat_any, treat_on, treat, treat_all, faulty_on, faulty, with_rest, receives_cut, receives_on, receives}
-use Rattle.adb_history.proofs.Quiet.{RowStep, row_same, row_goes, row_none, row_weaker, row_at, either_none, ClientStays, client_same, LinkStays, link_same, AreWithin}
-use Rattle.adb_history.proofs.Quiet.{Keeps, keeps_all, keeps_over}
+use Rattle.adb_history.specs.Packets.{treat_open, treat_any, treat_on, treat, treat_all, faulty_on}
+use Rattle.adb_history.proofs.Quiet.{RowStep, row_same, row_goes, row_none, row_weaker, ClientStays, client_same, LinkStays, link_same, AreWithin}
+use Rattle.adb_history.proofs.Quiet.{keeps_all}
 use Rattle.adb_history.proofs.QuietRules.{keeps_all_end}
 use Rattle.adb_history.proofs.QuietPackets.{keeps_treat_open, keeps_mark_all}
-use Rattle.adb_history.proofs.Changes.{within_changed, within_detached, Fate, Follows, Stay, LinkStay, stay_then}
+use Rattle.adb_history.proofs.Changes.{within_changed, within_detached, Fate, Stay, LinkStay, stay_then}
 use Rattle.adb_history.proofs.Changes.{Changes, changes_then, changes_weaker, changes_keeps, stays_then, changes_tables}
 
 -- whether check words are wanted after a packet
@@ -149,13 +147,19 @@ module _ (came plugged : ℕ) where
       → Changes came plugged Stay (HearsOn t Cnxn version) s (quietly (goes_online t version maxdata identity s))
   hears_online t version maxdata identity s =
       changes_then came plugged Stay Stay Stay LinkStay (HearsOn t Cnxn version) (HearsOn t Cnxn version) stay_then
-      (λ n a b c u v h i. record { due = i.due ∙ (ap (λ x. x ++ v) h.due ∙ append_assoc a.due u v); rest = i.rest ∙ h.rest;
-      sums = i.sums ∙ ap (λ (x : Bool). cond (eqb t n) (has_sums version) x) h.sums }) s (quietly tables)
+      (λ n a b c u v h i. record {
+        due = i.due ∙ (ap (λ x. x ++ v) h.due ∙ append_assoc a.due u v);
+        rest = i.rest ∙ h.rest;
+        sums = i.sums ∙ ap (λ (x : Bool). cond (eqb t n) (has_sums version) x) h.sums;
+      }) s (quietly tables)
       (λ x. quietly (mark_all (to_link t (with_sums (has_sums version)) x)))
       (changes_tables came plugged devices s.forwards s.stopped s refl (within_changed plugged t row s.devices))
       (changes_then came plugged Stay Stay Stay (HearsOn t Cnxn version) LinkStay (HearsOn t Cnxn version) stay_then
-      (λ n a b c u v h i. record { due = i.due ∙ (ap (λ x. x ++ v) h.due ∙ append_assoc a.due u v); rest = i.rest ∙ h.rest;
-      sums = i.sums ∙ h.sums }) tables (quietly heard) (λ x. quietly (mark_all x)) hears
+      (λ n a b c u v h i. record {
+        due = i.due ∙ (ap (λ x. x ++ v) h.due ∙ append_assoc a.due u v);
+        rest = i.rest ∙ h.rest;
+        sums = i.sums ∙ h.sums;
+      }) tables (quietly heard) (λ x. quietly (mark_all x)) hears
       (changes_keeps came plugged heard (quietly (mark_all heard)) (keeps_mark_all came plugged heard)))
     where
       row : Row → Row
@@ -194,8 +198,11 @@ module _ (came plugged : ℕ) where
       hears_gone t Cnxn version s (link_ends t broken s) (link_ends_gone t broken s all) (changes_link_ends t broken s all)
   hears_connects t version maxdata (Some identity) s all =
       changes_then came plugged Stay Stay Stay LinkStay (HearsOn t Cnxn version) (HearsOn t Cnxn version) stay_then
-      (λ n a b c u v h i. record { due = i.due ∙ (ap (λ x. x ++ v) h.due ∙ append_assoc a.due u v); rest = i.rest ∙ h.rest;
-      sums = i.sums ∙ ap (λ (x : Bool). cond (eqb t n) (has_sums version) x) h.sums }) s ended
+      (λ n a b c u v h i. record {
+        due = i.due ∙ (ap (λ x. x ++ v) h.due ∙ append_assoc a.due u v);
+        rest = i.rest ∙ h.rest;
+        sums = i.sums ∙ ap (λ (x : Bool). cond (eqb t n) (has_sums version) x) h.sums;
+      }) s ended
       (λ x. quietly (goes_online t version maxdata identity x)) (first (is_connected t s.devices)) (hears_online t version maxdata identity ended.state)
     where
       ended : Made
@@ -266,8 +273,11 @@ module _ (came plugged : ℕ) where
   hears_all t (p ∷ packets) s le all =
       let first = hears_on (s.links t) t p s refl le all in
       changes_then came plugged Stay Stay Stay (HearsOn t p.command p.arg0) (HearsAllOn t packets) (HearsAllOn t (p ∷ packets)) stay_then
-      (λ n a b c u v h i. record { due = i.due ∙ (ap (λ x. x ++ v) h.due ∙ append_assoc a.due u v); rest = i.rest ∙ h.rest;
-      sums = then_sums (eqb t n) a.sums b.sums c.sums h.sums i.sums }) s (treat t p s) (treat_all t packets) first
+      (λ n a b c u v h i. record {
+        due = i.due ∙ (ap (λ x. x ++ v) h.due ∙ append_assoc a.due u v);
+        rest = i.rest ∙ h.rest;
+        sums = then_sums (eqb t n) a.sums b.sums c.sums h.sums i.sums;
+      }) s (treat t p s) (treat_all t packets) first
       (hears_all t packets (treat t p s).state le (first.streams all))
     where
       then_sums : (here x y z : Bool) → y ≡ cond here (sums_by p.command p.arg0 x) x → z ≡ cond here (sums_after packets y) y

@@ -1,13 +1,12 @@
 -- What is due is what ever became due, past what was handed out.
-use Rattle.std.proofs.Common.{ℕ, ◌+◌, ◌≡◌, ◌≢◌, ◌≤◌, ◌<◌, Bool, true, false, cond, List, [], ◌∷◌, ◌++◌, length, drop, Option, Some, None, is_some, refl, sym, ◌∙◌, ap, subst, arith, append_assoc, eqb, zero, suc, inl, inr, ◌⊎◌}
+use Rattle.std.proofs.Common.{ℕ, ◌+◌, ◌≡◌, ◌≤◌, ◌<◌, Bool, true, false, cond, List, [], ◌∷◌, ◌++◌, length, drop, Option, Some, None, is_some, refl, sym, ◌∙◌, ap, subst, arith, append_assoc, eqb, inl, inr, ◌⊎◌}
 use Rattle.std.proofs.Math.Seq.{drop-append_seam}
-use Rattle.std.proofs.lemmas.Bool.{eqb-true, ne_eqb, eq-eqb, cases_eq, cases_lt}
+use Rattle.std.proofs.lemmas.Bool.{eqb-true, ne_eqb, eq-eqb, cases_lt}
 use Rattle.std.proofs.lemmas.List.{append-nil}
 use Rattle.std.specs.Prelude.{option_and_then}
 use Rattle.std.specs.List.Sorted.{IsStrictlySortedBy}
 use Rattle.adb_outside.specs.Bytes.{IsPrefixOf}
 use Rattle.adb_outside.specs.Tables.{at, IsRising, put_row, change_row}
-use Rattle.adb_outside.specs.declared.kinds.Cause.{Cause}
 use Rattle.adb_outside.specs.declared.kinds.Kind.{Kind}
 use Rattle.adb_outside.proofs.TableLaws.{puts_put_at, put_at_rises}
 use Rattle.adb_registry.specs.Registry.{DeviceTable, attached}
@@ -24,23 +23,22 @@ use Rattle.adb_wire.specs.Cutting.{cut_packets}
 use Rattle.adb_wire.specs.declared.packets.Packet.{Packet}
 use Rattle.adb_wire.specs.declared.format.PacketFault.{PacketFault}
 use Rattle.adb_wire.specs.declared.format.PacketFormat.{PacketFormat}
-use Rattle.adb_history.specs.Rows.{Client, Link, State, start, new_client, new_link, to_client, to_link, with_due}
+use Rattle.adb_history.specs.Rows.{Client, Link, State, new_client, new_link, to_client, to_link, with_due}
 use Rattle.adb_history.specs.Events.{Made, Event, quietly, then_also, lost, owed_to, spelled_to}
-use Rattle.adb_history.specs.Links.{server_cnxn, owe_link, is_connected, is_connected_row}
+use Rattle.adb_history.specs.Links.{server_cnxn, is_connected, is_connected_row}
 use Rattle.adb_history.specs.Clients.{closing_with}
-use Rattle.adb_history.specs.Flow.{up_all}
 use Rattle.adb_history.specs.Tracking.{mark_all, offered}
 use Rattle.adb_history.specs.Streams.{opens}
 use Rattle.adb_history.specs.Losing.{link_ends, client_ends}
-use Rattle.adb_history.specs.Packets.{treat_all, faulty, faulty_on, with_rest, receives_cut, receives_on, receives}
+use Rattle.adb_history.specs.Packets.{treat_all, faulty, with_rest, receives_cut, receives_on, receives}
 use Rattle.adb_history.specs.Reading.{comes, comes_in_vain, enters_by, enters, plugs_in, reads, bound}
-use Rattle.adb_history.specs.Handing.{unmarked, lists_first, left_in, hands, client_left, takes_of, puts_to, puts, link_hands, sends}
-use Rattle.adb_history.specs.Machine.{unplugs_on, unplugs, rule, ups, step, History, state, told_at, told, IsSomeOf, MayPut, MaySend, May, IsLegal}
+use Rattle.adb_history.specs.Handing.{unmarked, lists_first, left_in, hands, client_left, takes_of, puts_to, link_hands, sends}
+use Rattle.adb_history.specs.Machine.{unplugs_on, unplugs, rule, ups, step, History, state, told, MayPut, MaySend, May, IsLegal}
 use Rattle.adb_history.specs.Bytes.{bytes_put, bytes_sent}
 use Rattle.adb_history.specs.Lives.{output_of}
 use Rattle.adb_history.specs.Tied.{DueIsPastPut, DueIsPastSent, came_count}
 use Rattle.adb_history.specs.Book.{plugged_count}
-use Rattle.adb_history.proofs.Quiet.{RowStep, row_none, ClientStays, LinkStays, ClientOwes, LinkOwes, IsToldWithin, IsWithin, AreWithin, owed_append, spelled_append, both_none, told_then, client_owes_then, link_owes_then, Keeps, keeps_all, keeps_over, keeps_owe_link}
+use Rattle.adb_history.proofs.Quiet.{RowStep, row_none, ClientOwes, LinkOwes, IsToldWithin, IsWithin, AreWithin, owed_append, spelled_append, told_then, client_owes_then, link_owes_then, Keeps, keeps_all, keeps_over, keeps_owe_link}
 use Rattle.adb_history.proofs.QuietRules.{keeps_up_all, keeps_client_ends, keeps_opens, same_client}
 use Rattle.adb_history.proofs.QuietPackets.{keeps_mark_all, keeps_lists_first, keeps_client_left}
 use Rattle.adb_history.proofs.Changes.{HasRowsWithin, Fate, Stay, LinkStay, Changes, changes_then, changes_weaker, changes_keeps}
@@ -476,7 +474,7 @@ module _ (came plugged : ℕ) (put sent : ℕ → List ℕ) where
   tie_takes c bytes (Some client) due s events is there front h =
       let same : there.client ≡ client = let both : Some client ≡ Some there.client = there.is in cc in
       let fits : IsPrefixOf bytes client.due =
-          subst (λ (x : Client). IsPrefixOf bytes x.due) same (subst (λ (x : List ℕ). IsPrefixOf bytes x) (sym there.due) front) in
+      subst (λ (x : Client). IsPrefixOf bytes x.due) same (subst (λ (x : List ℕ). IsPrefixOf bytes x) (sym there.due) front) in
       let handed = tie_hands came plugged put sent s events h c bytes client is fits in
       let next = to_client c (hands (length bytes)) s in
       let left = length (drop (length bytes) client.due) in

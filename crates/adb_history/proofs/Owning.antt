@@ -1,12 +1,11 @@
 -- What the entries of one client make: they change its row alone, and a stream that they begin is its own.
-use Rattle.std.proofs.Common.{ℕ, ◌+◌, ◌≡◌, ◌≢◌, ◌≤◌, ◌<◌, Bool, true, false, cond, List, [], ◌∷◌, ◌++◌, Option, Some, None, refl, sym, ◌∙◌, ap, subst, eqb, codes, inl, inr, ◌⊎◌}
-use Rattle.std.proofs.lemmas.Bool.{eqb-true, eqb-false, ne_eqb, eq-eqb, cases_eq}
+use Rattle.std.proofs.Common.{ℕ, ◌+◌, ◌≡◌, Bool, true, false, cond, List, [], ◌∷◌, ◌++◌, Option, Some, None, refl, sym, ◌∙◌, ap, subst, eqb, codes, inl, inr, ◌⊎◌}
+use Rattle.std.proofs.lemmas.Bool.{eqb-true, eq-eqb}
 use Rattle.std.specs.Prelude.{option_and_then, ◌==◌}
 use Rattle.adb_outside.specs.Tables.{without, change_row}
 use Rattle.adb_outside.specs.declared.kinds.Cause.{Cause}
 use Rattle.adb_outside.specs.declared.kinds.Cause.TheVariants.{Eof, Fault, Starved, NoThread}
 use Rattle.adb_forward.specs.declared.row.ForwardRow.{ForwardRow}
-use Rattle.adb_wire.specs.declared.packets.Packet.{Packet}
 use Rattle.adb_stream.specs.Flow.{new_flow}
 use Rattle.adb_stream.specs.Stream.{new_stream}
 use Rattle.adb_stream.specs.declared.row.Stream.{Stream}
@@ -16,15 +15,14 @@ use Rattle.adb_client.specs.declared.about.Want.{Want}
 use Rattle.adb_reply.specs.Strings.{failed}
 use Rattle.adb_reply.specs.declared.answer.Next.{Next}
 use Rattle.adb_reply.specs.declared.answer.Next.TheVariants as what
-use Rattle.adb_history.specs.Rows.{Client, Link, State, to_client, to_link, to_stream, none_kept, with_due, with_held, in_phase, with_stream_part}
-use Rattle.adb_history.specs.Events.{Made, Event, quietly, then_also, ended, client_failed}
-use Rattle.adb_history.specs.Links.{close_packet, open_packet, owe_link, is_credit}
+use Rattle.adb_history.specs.Rows.{Client, State, to_client, none_kept, with_due, in_phase, with_stream_part}
+use Rattle.adb_history.specs.Events.{Made, quietly, then_also}
+use Rattle.adb_history.specs.Links.{is_credit}
 use Rattle.adb_history.specs.Clients.{owe_client, closing_with, closing, closes, closes_with}
 use Rattle.adb_history.specs.Streams.{stream_ids, draw, asks_for, no_ids_left, opens}
-use Rattle.adb_history.specs.Forwarding.{Binding as Bound, bound_by, put_forward}
-use Rattle.adb_history.specs.Asking.{Asked}
+use Rattle.adb_history.specs.Forwarding.{put_forward}
 use Rattle.adb_history.specs.Losing.{orphaned, stream_fails, stream_of, client_fails, input_ended, input_ends, client_ends}
-use Rattle.adb_history.specs.Reading.{tracks, awaits, goes_on, has_asked, asks, bound_to}
+use Rattle.adb_history.specs.Reading.{tracks, awaits, goes_on}
 use Rattle.adb_history.specs.Book.{kills}
 use Rattle.adb_history.proofs.Asked.{EndsReading}
 use Rattle.adb_history.proofs.Waiting.{is_waiting, NoneWaits, AreFree}
@@ -149,7 +147,7 @@ module _ (c : ℕ) where
           → OwnStream c s (asks_for l c t service s) n stream
       go n true stream e =
           let same : new_stream (s.drawn + 1) c t (new_flow (is_credit t s.devices)) ≡ stream =
-              let both : Some (new_stream (s.drawn + 1) c t (new_flow (is_credit t s.devices))) ≡ Some stream = e in cc in
+          let both : Some (new_stream (s.drawn + 1) c t (new_flow (is_credit t s.devices))) ≡ Some stream = e in cc in
           inr (sym (ap (λ (x : Stream). x.client) same), opening_row l (draw (is_credit t s.devices) c t s))
       go n false stream e = inl (stream, e, refl)
 
@@ -291,21 +289,24 @@ module _ (c : ℕ) where
   owns_goes_on None a s is asking ends on = (owns_all s (quietly s) refl refl, is)
   owns_goes_on (Some what.Close) a s is asking ends on = (owns_closes s, closed_row s)
   owns_goes_on (Some (what.Select id)) a s is asking ends on = absurd ends
-  owns_goes_on (Some (what.Track long)) a s is asking ends on =
-      (owns_to_client (tracks long) s (λ none b e. tracking b),
-      subst NoneWaits (sym (own_row (tracks long) s.clients ∙ ap (option_and_then (tracks long)) is)) (tracking a))
+  owns_goes_on (Some (what.Track long)) a s is asking ends on = (
+    owns_to_client (tracks long) s (λ none b e. tracking b),
+    subst NoneWaits (sym (own_row (tracks long) s.clients ∙ ap (option_and_then (tracks long)) is)) (tracking a),
+  )
     where
       tracking : (b : Client) → NoneWaits (tracks long b)
       tracking b = none_of (tracks long b) (record b { about = record b.about { phase = Tracking; long = long; mark = false }; held = [] }) refl refl
   owns_goes_on (Some (what.Open transport service)) a s is asking ends on =
       (owns_opens false transport service s, opened_row false transport service s)
   owns_goes_on (Some (what.Bind transport local remote chosen)) a s is asking ends on =
-      let want : Want = record { transport = transport; local = local; remote = remote } in
-      (owns_to_client (awaits want) s (λ none b e. waiting_clash s a is asking none),
-      own_row (awaits want) s.clients ∙ ap (option_and_then (awaits want)) is)
-  owns_goes_on (Some (what.Rebind transport local remote)) a s is asking ends on =
-      (owns_forwards (put_forward local transport remote s.devices s.forwards) s,
-      closed_row (record s { forwards = put_forward local transport remote s.devices s.forwards }))
+      let want : Want = record { transport = transport; local = local; remote = remote } in (
+        owns_to_client (awaits want) s (λ none b e. waiting_clash s a is asking none),
+        own_row (awaits want) s.clients ∙ ap (option_and_then (awaits want)) is,
+      )
+  owns_goes_on (Some (what.Rebind transport local remote)) a s is asking ends on = (
+    owns_forwards (put_forward local transport remote s.devices s.forwards) s,
+    closed_row (record s { forwards = put_forward local transport remote s.devices s.forwards }),
+  )
   owns_goes_on (Some (what.Unbind local)) a s is asking ends on =
       (owns_forwards (without local s.forwards) s, closed_row (record s { forwards = without local s.forwards }))
   owns_goes_on (Some what.UnbindAll) a s is asking ends on = (owns_forwards [] s, closed_row (record s { forwards = [] }))

@@ -1,18 +1,17 @@
 -- What the packets of a connected device make, and what is told of bytes that were handed out, brings no client or link, and leaves the tables.
-use Rattle.std.proofs.Common.{ℕ, ◌+◌, ◌-◌, ◌≡◌, ◌≢◌, ◌≤◌, ◌<◌, Bool, true, false, cond, List, [], ◌∷◌, ◌++◌, length, drop, min, Option, Some, None, refl, sym, ◌∙◌, ap, subst, arith, zero, suc, eqb, codes}
+use Rattle.std.proofs.Common.{ℕ, ◌≡◌, ◌≤◌, Bool, true, false, cond, List, [], ◌∷◌, length, min, Option, Some, None, refl, sym, ◌∙◌, zero, suc, eqb, codes}
 use Rattle.std.proofs.lemmas.List.{append-nil}
-use Rattle.std.specs.Prelude.{option_and_then, option_map, nat_eq, nat_lt, ◌==◌, ◌&&◌, ◌||◌, not}
+use Rattle.std.specs.Prelude.{option_map, ◌==◌, ◌||◌, not}
 use Rattle.adb_wire.specs.declared.command.Command.{Command}
 use Rattle.adb_wire.specs.declared.command.Command.TheVariants.{Cnxn, Open, Okay, Wrte, Clse, Auth, Stls}
 use Rattle.adb_wire.specs.declared.packets.Packet.{Packet}
 use Rattle.adb_stream.specs.declared.row.Stream.{Stream}
-use Rattle.adb_stream.specs.declared.row.Part.{Part}
 use Rattle.adb_stream.specs.declared.flow.Flow.{Flow}
 use Rattle.adb_stream.specs.declared.flow.Flow.TheVariants.{One, Credit}
 use Rattle.adb_client.specs.declared.phase.Phase.{Phase}
 use Rattle.adb_client.specs.declared.phase.Phase.TheVariants.{Asking, Opening, Streaming, Binding, Tracking, Closing, Gone}
-use Rattle.adb_history.specs.Rows.{Client, Link, State, to_client, to_link, to_stream, none_kept, with_due, in_phase, with_stream_part}
-use Rattle.adb_history.specs.Events.{Made, Event, Ending, quietly, then_also, peer_closed, out_of_turn}
+use Rattle.adb_history.specs.Rows.{Client, State, to_client, to_stream, none_kept, in_phase, with_stream_part}
+use Rattle.adb_history.specs.Events.{Made, quietly, peer_closed, out_of_turn}
 use Rattle.adb_history.specs.Links.{close_packet, okay_packet, credit_packet, credit_word, owe_link}
 use Rattle.adb_history.specs.Clients.{owe_client}
 use Rattle.adb_history.specs.Streams.{ends_row, ends_telling}
@@ -21,8 +20,8 @@ use Rattle.adb_history.specs.Tracking.{marked_in, marked, mark_all, offered}
 use Rattle.adb_history.specs.Packets.{refuses_open, at_stream, with_remote, first_credit, hears_okay, opened, orphan_opened, acknowledged, okay_open, okay_first, takes_okay}
 use Rattle.adb_history.specs.Packets.{is_out_of_turn, accepted, accepts_none, accepts, takes_write, takes_close, treat_open}
 use Rattle.adb_history.specs.Handing.{unmarked, lists_first, to_hand, credit_back, handed_to, tells_credit, tells_handed, stream_hands, stream_left, client_left}
-use Rattle.adb_history.proofs.Quiet.{RowStep, row_same, ClientStays, StaysAsking, StaysBinding, client_same, LinkStays, link_same, IsToldWithin, IsWithin, AreWithin}
-use Rattle.adb_history.proofs.Quiet.{Keeps, keeps_all, keeps_then, keeps_over, keeps_to_client, keeps_owe_client, keeps_owe_link, keeps_part, keeps_no_stream, keeps_told_end}
+use Rattle.adb_history.proofs.Quiet.{RowStep, row_same, ClientStays, client_same, LinkStays, link_same, IsWithin, AreWithin}
+use Rattle.adb_history.proofs.Quiet.{Keeps, keeps_all, keeps_then, keeps_over, keeps_to_client, keeps_owe_client, keeps_owe_link, keeps_part, keeps_no_stream}
 use Rattle.adb_history.proofs.QuietRules.{keeps_phase, keeps_ends_row, keeps_ends_telling}
 
 module _ (came plugged : ℕ) where

@@ -1,28 +1,23 @@
 -- The rules that bring no client or link, and leave the tables: how clients close, streams begin and end, and what they hold goes up.
-use Rattle.std.proofs.Common.{ℕ, ◌+◌, ◌-◌, ◌≡◌, ◌≢◌, ◌≤◌, ◌<◌, Bool, true, false, cond, List, [], ◌∷◌, ◌++◌, length, drop, Option, Some, None, refl, sym, ◌∙◌, ap, subst, arith, zero, suc, eqb, codes}
-use Rattle.std.proofs.lemmas.Bool.{eqb-true, ne_eqb}
+use Rattle.std.proofs.Common.{ℕ, ◌+◌, ◌≡◌, ◌≢◌, ◌≤◌, Bool, true, false, cond, List, [], ◌∷◌, drop, Option, Some, None, refl, sym, ◌∙◌, subst, zero, suc, eqb, codes}
 use Rattle.std.proofs.lemmas.List.{append-nil}
-use Rattle.std.specs.Prelude.{option_and_then, nat_eq, nat_lt, ◌==◌, ◌&&◌, ◌||◌, not}
+use Rattle.std.specs.Prelude.{◌==◌}
 use Rattle.adb_outside.specs.declared.kinds.Cause.{Cause}
 use Rattle.adb_outside.specs.declared.kinds.Cause.TheVariants.{Eof, Fault, Starved, NoThread}
-use Rattle.adb_wire.specs.declared.packets.Packet.{Packet}
 use Rattle.adb_stream.specs.declared.row.Stream.{Stream}
-use Rattle.adb_stream.specs.declared.row.Part.{Part}
-use Rattle.adb_stream.specs.declared.flow.Flow.{Flow}
-use Rattle.adb_stream.specs.declared.flow.Flow.TheVariants.{One, Credit}
 use Rattle.adb_stream.specs.Flow.{new_flow}
 use Rattle.adb_stream.specs.Stream.{new_stream}
 use Rattle.adb_client.specs.declared.phase.Phase.{Phase}
 use Rattle.adb_client.specs.declared.phase.Phase.TheVariants.{Asking, Opening, Streaming, Binding, Tracking, Closing, Gone}
 use Rattle.adb_reply.specs.Strings.{failed}
-use Rattle.adb_history.specs.Rows.{Client, Link, State, to_client, to_link, to_stream, none_kept, with_due, with_held, in_phase, with_stream_part}
-use Rattle.adb_history.specs.Events.{Made, Event, Ending, ended, quietly, then_also, owed_to, spelled_to, client_closed, client_failed}
+use Rattle.adb_history.specs.Rows.{Client, State, to_client, to_stream, none_kept, with_held, in_phase, with_stream_part}
+use Rattle.adb_history.specs.Events.{Made, Ending, ended, quietly, client_closed, client_failed}
 use Rattle.adb_history.specs.Links.{open_packet, close_packet, write_packet, owe_link, is_credit, maxdata_of}
 use Rattle.adb_history.specs.Clients.{owe_client, closing_with, closing, closes, closes_with}
 use Rattle.adb_history.specs.Streams.{stream_ids, draw, asks_for, no_ids_left, opens, loses, client_loses, tells_end, ends_row, ends_telling, ends_if_of, ends_of, all_end}
 use Rattle.adb_history.specs.Flow.{payloads, total, with_flow, goes_up, all_go_up, flow_after, noted, is_over, closes_if, sends_up, is_streaming, up_client, up_stream, up, up_all}
 use Rattle.adb_history.specs.Losing.{orphaned, stream_fails, stream_of, client_fails, input_ended, input_ends, client_ends}
-use Rattle.adb_history.proofs.Quiet.{RowStep, row_same, row_goes, ClientStays, StaysAsking, StaysBinding, client_same, LinkStays, link_same, IsToldWithin, IsWithin, AreWithin}
+use Rattle.adb_history.proofs.Quiet.{RowStep, row_same, ClientStays, client_same, LinkStays, link_same, IsWithin, AreWithin}
 use Rattle.adb_history.proofs.Quiet.{Keeps, keeps_all, keeps_then, keeps_over, keeps_to_client, keeps_owe_client, keeps_owe_link, keeps_part, keeps_no_stream, keeps_told_end}
 
 -- a client that neither asks nor waits for a listener afterwards
@@ -187,7 +182,7 @@ module _ (came plugged : ℕ) where
       let m = all_go_up l stream payloads next in
       let over = is_over client.about.ended (drop (total payloads) client.held) (flow_after payloads stream.part.flow) in
       let first : Keeps came plugged s m = keeps_over came plugged s next m (keeps_noted l stream client.held payloads s at)
-          (keeps_all_go_up l stream payloads next within.1) in
+      (keeps_all_go_up l stream payloads next within.1) in
       keeps_then came plugged s m (λ s. closes_if over l (s.streams l) s) first (keeps_closes_if over l (m.state.streams l) m.state (first.streams all l))
 
   streaming_only : (l : ℕ) (phase : Phase) → is_streaming l phase ≡ true → (phase ≢ Asking) × (phase ≢ Binding)

@@ -1,10 +1,9 @@
 -- What becomes of the rows when bytes are read from a client: those of other clients stay, and what is due grows by what is told.
-use Rattle.std.proofs.Common.{ℕ, ◌+◌, ◌≡◌, ◌≢◌, ◌≤◌, ◌<◌, Bool, true, false, cond, List, [], ◌∷◌, ◌++◌, Option, Some, None, refl, sym, ◌∙◌, ap, subst, arith, append_assoc, eqb, zero, suc}
+use Rattle.std.proofs.Common.{ℕ, ◌≡◌, ◌≤◌, Bool, true, false, cond, List, [], ◌∷◌, ◌++◌, Option, Some, None, refl, sym, ◌∙◌, ap, subst, append_assoc, eqb, zero, suc}
 use Rattle.std.proofs.lemmas.List.{append-nil}
 use Rattle.std.specs.Prelude.{option_and_then}
 use Rattle.std.specs.List.Sorted.{IsStrictlySortedBy}
 use Rattle.adb_outside.specs.Tables.{IsRising, without, Rows}
-use Rattle.adb_registry.specs.Registry.{DeviceTable}
 use Rattle.adb_registry.specs.declared.row.Row.{Row}
 use Rattle.adb_forward.specs.declared.row.ForwardRow.{ForwardRow}
 use Rattle.adb_stream.specs.declared.row.Stream.{Stream}
@@ -13,7 +12,7 @@ use Rattle.adb_client.specs.declared.phase.Phase.TheVariants.{Asking, Opening, S
 use Rattle.adb_client.specs.declared.about.Want.{Want}
 use Rattle.adb_reply.specs.declared.answer.Next.{Next}
 use Rattle.adb_reply.specs.declared.answer.Next.TheVariants as what
-use Rattle.adb_history.specs.Rows.{Client, Link, State, to_client, with_held}
+use Rattle.adb_history.specs.Rows.{Client, State, to_client, with_held}
 use Rattle.adb_history.specs.Events.{Made, Event, quietly, then_also, owed_to, spelled_to, ended, stopped}
 use Rattle.adb_history.specs.Clients.{owe_client, closes, closes_with}
 use Rattle.adb_history.specs.Streams.{opens}
@@ -21,9 +20,9 @@ use Rattle.adb_history.specs.Forwarding.{Binding as Bound, bound_by, put_forward
 use Rattle.adb_history.specs.Asking.{Asked, asks_with}
 use Rattle.adb_history.specs.Losing.{tells_stop, all_stop, only_client, stops}
 use Rattle.adb_history.specs.Reading.{tracks, awaits, goes_on, asked_before, has_asked, asks, reads_in, reads_from, bound_to, bound_for, bound_in, bound_at}
-use Rattle.adb_history.proofs.Quiet.{RowStep, row_same, row_goes, ClientStays, client_same, LinkStays, link_same, ClientOwes, client_then, IsToldWithin, AreWithin, told_then, owed_append, spelled_append, both_none}
-use Rattle.adb_history.proofs.Quiet.{Keeps, keeps_all, keeps_owe_client, keeps_over}
-use Rattle.adb_history.proofs.QuietRules.{keeps_closes, keeps_closes_with, keeps_opens, keeps_held, same_client}
+use Rattle.adb_history.proofs.Quiet.{RowStep, row_same, row_goes, ClientStays, client_same, LinkStays, link_same, ClientOwes, client_then, owed_append, spelled_append, both_none}
+use Rattle.adb_history.proofs.Quiet.{Keeps, keeps_all, keeps_owe_client}
+use Rattle.adb_history.proofs.QuietRules.{keeps_closes, keeps_closes_with, keeps_opens}
 use Rattle.adb_history.proofs.Changes.{HasRowsWithin, Fate, Follows, Stay, LinkStay, link_stay_then, Changes, changes_then, changes_weaker, changes_keeps, stays_then, changes_tables}
 use Rattle.adb_history.proofs.AnswersWithin.{NextWithin, asks_within}
 
@@ -81,11 +80,12 @@ module _ (came plugged c : ℕ) where
   stops_told zero streams = (λ n. refl, λ t. refl)
   stops_told (suc k) streams =
       let before = stops_told k streams in
-      let last = one (streams (suc k)) in
-      (λ n. both_none (owed_to n (all_stop k streams)) (owed_to n (tells_stop (suc k) (streams (suc k)))) (owed_to n (all_stop (suc k) streams))
-      (owed_append n (all_stop k streams) (tells_stop (suc k) (streams (suc k)))) (before.0 n) (last.0 n),
-      λ t. both_none (spelled_to t (all_stop k streams)) (spelled_to t (tells_stop (suc k) (streams (suc k)))) (spelled_to t (all_stop (suc k) streams))
-      (spelled_append t (all_stop k streams) (tells_stop (suc k) (streams (suc k)))) (before.1 t) (last.1 t))
+      let last = one (streams (suc k)) in (
+        λ n. both_none (owed_to n (all_stop k streams)) (owed_to n (tells_stop (suc k) (streams (suc k)))) (owed_to n (all_stop (suc k) streams))
+            (owed_append n (all_stop k streams) (tells_stop (suc k) (streams (suc k)))) (before.0 n) (last.0 n),
+        λ t. both_none (spelled_to t (all_stop k streams)) (spelled_to t (tells_stop (suc k) (streams (suc k)))) (spelled_to t (all_stop (suc k) streams))
+            (spelled_append t (all_stop k streams) (tells_stop (suc k) (streams (suc k)))) (before.1 t) (last.1 t),
+      )
     where
       one : (o : Option Stream) → ((n : ℕ) → owed_to n (tells_stop (suc k) o) ≡ []) × ((t : ℕ) → spelled_to t (tells_stop (suc k) o) ≡ [])
       one None = (λ n. refl, λ t. refl)

@@ -1,9 +1,8 @@
 -- What a link that lives keeps of its input is what the cutting of all its bytes leaves.
-use Rattle.std.proofs.Common.{ℕ, ◌+◌, ◌≡◌, ◌≢◌, ◌≤◌, ◌<◌, Bool, true, false, cond, List, [], ◌∷◌, ◌++◌, length, take, drop, Option, Some, None, refl, sym, ◌∙◌, ap, subst, arith, append_assoc, eqb, zero, suc}
+use Rattle.std.proofs.Common.{ℕ, ◌+◌, ◌≡◌, ◌≤◌, ◌<◌, Bool, true, false, cond, List, [], ◌∷◌, ◌++◌, length, take, drop, Option, Some, None, refl, sym, ◌∙◌, ap, subst, arith, eqb, zero, suc}
 use Rattle.std.proofs.lemmas.Bool.{eqb-true, ne_eqb, eq-eqb}
-use Rattle.std.proofs.lemmas.List.{append-nil}
 use Rattle.std.specs.Prelude.{option_and_then, ◌&&◌, ◌||◌, not}
-use Rattle.adb_outside.specs.Framing.{Cut, uncut, joined, cut_by, cut_at, cut}
+use Rattle.adb_outside.specs.Framing.{Cut, joined, cut_by, cut_at}
 use Rattle.adb_outside.specs.declared.framer.Front.{Front}
 use Rattle.adb_outside.specs.declared.framer.Front.TheVariants.{More, Bad, Whole}
 use Rattle.adb_outside.proofs.FramingLaws.{cut_piece}
@@ -18,12 +17,12 @@ use Rattle.adb_outside.specs.declared.kinds.Kind.{Kind}
 use Rattle.adb_registry.specs.Registry.{attached}
 use Rattle.adb_capture.specs.declared.entry.Entry.{Entry}
 use Rattle.adb_capture.specs.declared.entry.Entry.TheVariants.{Join, Enter, Read, End, Bound, Attach, Recv, Detach, Put, Send}
-use Rattle.adb_history.specs.Rows.{Client, Link, State, start, new_client, new_link, to_client, to_link}
+use Rattle.adb_history.specs.Rows.{Client, Link, State, new_link, to_client, to_link}
 use Rattle.adb_history.specs.Events.{Made, Event, quietly, then_also, owed_to, spelled_to}
-use Rattle.adb_history.specs.Packets.{treat_all, faulty, faulty_on, with_rest, receives_cut, receives_on, receives}
-use Rattle.adb_history.specs.Machine.{rule, ups, step, History, state, May, IsLegal}
+use Rattle.adb_history.specs.Packets.{treat_all, faulty, with_rest, receives_cut, receives_on, receives}
+use Rattle.adb_history.specs.Machine.{rule, ups, History, state, May, IsLegal}
 use Rattle.adb_history.specs.Bytes.{is_lost, bytes_received}
-use Rattle.adb_history.specs.Tied.{IsReadAs, RestIsPastPackets}
+use Rattle.adb_history.specs.Tied.{RestIsPastPackets}
 use Rattle.adb_outside.specs.declared.kinds.Cause.{Cause}
 use Rattle.adb_outside.specs.Tables.{at}
 use Rattle.adb_forward.specs.declared.row.ForwardRow.{ForwardRow}
@@ -34,7 +33,7 @@ use Rattle.adb_history.specs.Tracking.{mark_all}
 use Rattle.adb_history.specs.Losing.{link_ends, client_ends}
 use Rattle.adb_history.specs.Reading.{comes, comes_in_vain, enters_by, enters, plugs_in, reads, bound}
 use Rattle.adb_history.specs.Handing.{lists_first, hands, client_left, takes_of, puts_to, puts, link_hands, sends}
-use Rattle.adb_history.specs.Machine.{unplugs_on, unplugs, MayPut}
+use Rattle.adb_history.specs.Machine.{unplugs_on, MayPut}
 use Rattle.adb_history.specs.Book.{plugged_count}
 use Rattle.adb_history.specs.Tied.{came_count}
 use Rattle.adb_history.proofs.Quiet.{RowStep, row_then, LinkStays, AreWithin, Keeps, keeps_over, keeps_owe_link}
@@ -43,7 +42,7 @@ use Rattle.adb_history.proofs.QuietPackets.{keeps_mark_all, keeps_lists_first, k
 use Rattle.adb_history.proofs.Changes.{HasRowsWithin, Stay, Changes}
 use Rattle.adb_history.proofs.AnswersWithin.{row_within}
 use Rattle.adb_history.proofs.ReadChanges.{read_from, changes_bound}
-use Rattle.adb_history.proofs.Outputs.{IsTied, IsTiedAfter, tied_rule, tied, connected_is, row_below}
+use Rattle.adb_history.proofs.Outputs.{IsTied, tied_rule, tied, connected_is, row_below}
 use Rattle.adb_history.proofs.LinkChanges.{sums_by, sums_after, HearsAll, HearsAllOn, hears_all, changes_faulty, faulty_gone, changes_link_ends, link_ends_gone}
 
 abbrev Cutting : Type 0
@@ -127,14 +126,16 @@ module _ (came plugged t : ℕ) (received bytes : List ℕ) where
   treated_tie link c None told is t sound h = tt
   treated_tie link c (Some b) told is t sound h =
       let whole : framed (received ++ bytes) ≡ joined (framed received).given c =
-          framed_piece received bytes link t ∙ ap (joined (framed received).given) (sym is) in
+      framed_piece received bytes link t ∙ ap (joined (framed received).given) (sym is) in
       let read : c.reading.sums ≡ sums_after c.given link.sums =
-          subst (λ (x : Cutting). x.reading.sums ≡ sums_after x.given link.sums) (sym is) (reading_is (record { sums = link.sums }) (link.rest ++ bytes)) in
-      (record {
-        rest = ap (λ (x : Cutting). x.rest) whole ∙ sym h.rest;
-        sums = ap (λ (x : Cutting). x.reading.sums) whole ∙ (read ∙ sym h.sums);
-        sound = ap (λ (x : Cutting). x.fault) whole ∙ sound;
-      }, refl)
+      subst (λ (x : Cutting). x.reading.sums ≡ sums_after x.given link.sums) (sym is) (reading_is (record { sums = link.sums }) (link.rest ++ bytes)) in (
+        record {
+          rest = ap (λ (x : Cutting). x.rest) whole ∙ sym h.rest;
+          sums = ap (λ (x : Cutting). x.reading.sums) whole ∙ (read ∙ sym h.sums);
+          sound = ap (λ (x : Cutting). x.fault) whole ∙ sound;
+        },
+        refl,
+      )
 
   -- and then their fault
   faulty_tie : (fault : Option PacketFault) (s : State) → AreWithin came plugged s.streams → (fault ≡ None → ReadTie false (s.links t) (received ++ bytes))
@@ -153,11 +154,11 @@ module _ (came plugged t : ℕ) (received bytes : List ℕ) where
       let treated = treat_all t c.given rested in
       let hears = hears_all came plugged t c.given rested le all in
       let row : rested.links t ≡ Some (record link { rest = c.rest }) =
-          ap (λ (b : Bool). cond b (option_and_then (with_rest c.rest) (s.links t)) (s.links t)) (eq-eqb t t refl)
-          ∙ ap (option_and_then (with_rest c.rest)) is in
+      ap (λ (b : Bool). cond b (option_and_then (with_rest c.rest) (s.links t)) (s.links t)) (eq-eqb t t refl)
+      ∙ ap (option_and_then (with_rest c.rest)) is in
       let step : RowStep (HearsAll true c.given) (Some (record link { rest = c.rest })) (treated.state.links t) (spelled_to t treated.told) =
-          subst (λ (o : Option Link). RowStep (HearsAll true c.given) o (treated.state.links t) (spelled_to t treated.told)) row
-          (subst (λ (b : Bool). RowStep (HearsAll b c.given) (rested.links t) (treated.state.links t) (spelled_to t treated.told)) (eq-eqb t t refl) (hears.links t)) in
+      subst (λ (o : Option Link). RowStep (HearsAll true c.given) o (treated.state.links t) (spelled_to t treated.told)) row
+      (subst (λ (b : Bool). RowStep (HearsAll b c.given) (rested.links t) (treated.state.links t) (spelled_to t treated.told)) (eq-eqb t t refl) (hears.links t)) in
       faulty_tie c.fault treated.state (hears.streams all)
       (λ sound. treated_tie link c (treated.state.links t) (spelled_to t treated.told) refl tie sound step)
 
@@ -278,7 +279,7 @@ module _ (older : History) (tie : IsTied older) (h : IsReceived older) where
       let m = plugs_in n kind serial s in
       let next = record s { devices = attached kind serial s.devices; links = put_row n (Some new_link) s.links } in
       let keeps = keeps_over (came_count older) (plugged_count older + 1) next (mark_all next) m (keeps_mark_all (came_count older) (plugged_count older + 1) next)
-          (keeps_owe_link (came_count older) (plugged_count older + 1) n server_cnxn (mark_all next) (omega (arith, may.1, tie.drawn))) in
+      (keeps_owe_link (came_count older) (plugged_count older + 1) n server_cnxn (mark_all next) (omega (arith, may.1, tie.drawn))) in
       tie_holds (is_lost t older) (next.links t) (m.state.links t) (bytes_received t older) (here (eqb n t) refl)
       (holds (next.links t) (m.state.links t) (spelled_to t m.told) (keeps.links t))
     where
@@ -315,7 +316,7 @@ module _ (older : History) (tie : IsTied older) (h : IsReceived older) where
       go true e None is = subst (λ (o : Option Link). ReadTie true o (bytes_received t older)) (sym (ap s.links (sym (eqb-true n t e)) ∙ is)) tt
       go true e (Some link) is =
           let gone : (link_ends n ending.lost s).state.links t ≡ None =
-              ap (link_ends n ending.lost s).state.links (sym (eqb-true n t e)) ∙ link_ends_gone (came_count older) (plugged_count older) n ending.lost s tie.streams in
+          ap (link_ends n ending.lost s).state.links (sym (eqb-true n t e)) ∙ link_ends_gone (came_count older) (plugged_count older) n ending.lost s tie.streams in
           subst (λ (o : Option Link). ReadTie true o (bytes_received t older)) (sym gone) tt
 
   below_came : (c : ℕ) (o : Option Client) (bytes : List ℕ) → s.clients c ≡ o → MayPut s o bytes → c ≤ came_count older
@@ -351,9 +352,11 @@ module _ (older : History) (tie : IsTied older) (h : IsReceived older) where
   fresh_rule (Bound c port) may t lt = h.fresh t lt
   fresh_rule (Attach n kind serial) may t lt = h.fresh t (omega (arith, lt))
   fresh_rule (Recv n bytes) may t lt =
-      let before = h.fresh t lt in
-      (before.0, ap (λ (b : Bool). cond (b && not (is_lost t older)) (bytes_received t older ++ bytes) (bytes_received t older))
-      (ne_eqb n t (λ e. omega (arith, lt, e, may.1.1, tie.drawn))) ∙ before.1)
+      let before = h.fresh t lt in (
+        before.0,
+        ap (λ (b : Bool). cond (b && not (is_lost t older)) (bytes_received t older ++ bytes) (bytes_received t older))
+            (ne_eqb n t (λ e. omega (arith, lt, e, may.1.1, tie.drawn))) ∙ before.1,
+      )
   fresh_rule (Detach n cause) may t lt =
       let before = h.fresh t lt in
       (ap (λ (b : Bool). b || is_lost t older) (ne_eqb n t (λ e. omega (arith, lt, e, may.1.1, tie.drawn))) ∙ before.0, before.1)

@@ -1,29 +1,26 @@
 -- Which rules leave the devices, the links and the stop as they are.
-use Rattle.std.proofs.Common.{ℕ, ◌+◌, ◌≡◌, ◌≢◌, ◌≤◌, ◌<◌, Bool, true, false, cond, List, [], ◌∷◌, ◌++◌, length, drop, Option, Some, None, is_some, refl, sym, ◌∙◌, ap, subst, arith, eqb}
+use Rattle.std.proofs.Common.{ℕ, ◌≡◌, ◌≤◌, Bool, true, false, cond, List, [], ◌++◌, length, drop, Option, Some, None, is_some, refl, sym, ◌∙◌, ap, eqb}
 use Rattle.std.specs.Prelude.{option_and_then}
 use Rattle.adb_outside.specs.Tables.{at, without}
-use Rattle.adb_outside.specs.declared.kinds.Cause.{Cause}
 use Rattle.adb_registry.specs.Registry.{DeviceTable}
-use Rattle.adb_registry.specs.declared.row.Row.{Row}
 use Rattle.adb_forward.specs.declared.row.ForwardRow.{ForwardRow}
 use Rattle.adb_client.specs.declared.phase.Phase.{Phase}
 use Rattle.adb_client.specs.declared.phase.Phase.TheVariants.{Asking, Opening, Streaming, Binding, Tracking, Closing, Gone}
 use Rattle.adb_client.specs.declared.about.Want.{Want}
 use Rattle.adb_reply.specs.declared.answer.Next.{Next}
 use Rattle.adb_reply.specs.declared.answer.Next.TheVariants as what
-use Rattle.adb_history.specs.Rows.{Client, Link, State, to_client, to_link, with_held}
-use Rattle.adb_history.specs.Events.{Made, Event, quietly, then_also}
+use Rattle.adb_history.specs.Rows.{Client, Link, State, to_client, with_held}
+use Rattle.adb_history.specs.Events.{Made, quietly}
 use Rattle.adb_history.specs.Links.{is_connected}
 use Rattle.adb_history.specs.Clients.{owe_client, closes, closes_with}
 use Rattle.adb_history.specs.Streams.{opens}
 use Rattle.adb_history.specs.Forwarding.{Binding as Bound, bound_by, put_forward}
 use Rattle.adb_history.specs.Asking.{Asked, asks_with}
-use Rattle.adb_history.specs.Losing.{stops, client_ends}
-use Rattle.adb_history.specs.Reading.{comes, comes_in_vain, enters_by, tracks, awaits, goes_on, asked_before, has_asked, asks, reads_in, reads_from, bound_to, bound_for, bound_in, bound_at}
-use Rattle.adb_history.specs.Handing.{lists_first, hands, client_left, takes_of, puts_to, puts, link_hands, sends}
+use Rattle.adb_history.specs.Reading.{comes, comes_in_vain, enters_by, tracks, awaits, goes_on, asked_before, has_asked, asks, reads_in, bound_to, bound_for, bound_in, bound_at}
+use Rattle.adb_history.specs.Handing.{lists_first, hands, client_left, takes_of, puts_to, link_hands, sends}
 use Rattle.adb_history.specs.Book.{kills}
-use Rattle.adb_history.proofs.Quiet.{AreWithin, Keeps, keeps_all}
-use Rattle.adb_history.proofs.QuietRules.{keeps_closes, keeps_closes_with, keeps_opens, keeps_client_ends}
+use Rattle.adb_history.proofs.Quiet.{AreWithin, Keeps}
+use Rattle.adb_history.proofs.QuietRules.{keeps_closes, keeps_closes_with, keeps_opens}
 use Rattle.adb_history.proofs.QuietPackets.{keeps_lists_first, keeps_client_left}
 use Rattle.adb_history.proofs.Changes.{HasRowsWithin}
 use Rattle.adb_history.proofs.AnswersWithin.{NextWithin, asks_within, row_within}

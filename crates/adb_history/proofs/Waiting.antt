@@ -1,7 +1,7 @@
 -- What rules leave of clients that wait, which ask or wait for a listener: a stream has none of them.
-use Rattle.std.proofs.Common.{ℕ, ◌+◌, ◌≡◌, ◌≢◌, ◌≤◌, ◌<◌, Bool, true, false, cond, List, [], ◌∷◌, ◌++◌, length, drop, min, Option, Some, None, refl, sym, ◌∙◌, ap, subst, eqb, zero, suc, codes, inl, inr, ◌⊎◌}
-use Rattle.std.proofs.lemmas.Bool.{eqb-true, ne_eqb}
-use Rattle.std.specs.Prelude.{option_and_then, option_map, nat_lt, ◌==◌, ◌&&◌, ◌||◌, not}
+use Rattle.std.proofs.Common.{ℕ, ◌≡◌, Bool, true, false, cond, List, [], ◌∷◌, ◌++◌, length, drop, min, Option, Some, None, refl, sym, ◌∙◌, ap, subst, eqb, zero, suc, codes, inl, inr, ◌⊎◌}
+use Rattle.std.proofs.lemmas.Bool.{eqb-true}
+use Rattle.std.specs.Prelude.{option_and_then, option_map, nat_lt, ◌==◌, ◌||◌, not}
 use Rattle.adb_outside.specs.Tables.{at}
 use Rattle.adb_outside.specs.Framing.{Cut}
 use Rattle.adb_outside.specs.declared.identity.Identity.{Identity}
@@ -23,17 +23,17 @@ use Rattle.adb_client.specs.declared.phase.Phase.{Phase}
 use Rattle.adb_client.specs.declared.phase.Phase.TheVariants.{Asking, Opening, Streaming, Binding, Tracking, Closing, Gone}
 use Rattle.adb_reply.specs.Strings.{failed}
 use Rattle.adb_history.specs.Rows.{Client, Link, State, to_client, to_link, to_stream, none_kept, with_due, with_held, in_phase, with_stream_part}
-use Rattle.adb_history.specs.Events.{Made, Event, Ending, quietly, then_also, peer_closed, out_of_turn, client_closed, lost, broken}
+use Rattle.adb_history.specs.Events.{Made, Ending, quietly, then_also, peer_closed, out_of_turn, client_closed, lost, broken}
 use Rattle.adb_history.specs.Links.{close_packet, okay_packet, credit_packet, credit_word, write_packet, owe_link, is_connected, maxdata_of}
 use Rattle.adb_history.specs.Clients.{owe_client, closing_with, closing, closes, closes_with}
 use Rattle.adb_history.specs.Streams.{loses, client_loses, tells_end, ends_row, ends_telling, ends_if_of, ends_of, all_end}
 use Rattle.adb_history.specs.Flow.{payloads, total, with_flow, goes_up, all_go_up, flow_after, noted, is_over, closes_if, sends_up, is_streaming, up_client, up_stream, up, up_all}
 use Rattle.adb_history.specs.Tracking.{marked_in, marked, mark_all, offered}
 use Rattle.adb_history.specs.Losing.{forgets, link_ends}
-use Rattle.adb_history.specs.Packets.{refuses_open, at_stream, with_remote, first_credit, hears_okay, opened, orphan_opened, acknowledged, okay_open, okay_first, takes_okay}
+use Rattle.adb_history.specs.Packets.{refuses_open, at_stream, with_remote, first_credit, hears_okay, opened, acknowledged, okay_open, okay_first, takes_okay}
 use Rattle.adb_history.specs.Packets.{is_out_of_turn, accepted, accepts_none, accepts, takes_write, takes_close, treat_open, least_version, least_maxdata, goes_online}
 use Rattle.adb_history.specs.Packets.{streams_end_first, connects, cnxn, unauthorized_from, unauthorized, treat_any, treat_on, treat, treat_all, faulty_on, faulty, with_rest, receives_cut, receives_on}
-use Rattle.adb_history.specs.Handing.{unmarked, lists_first, left_in, hands, to_hand, credit_back, handed_to, tells_credit, tells_handed, stream_hands, stream_left, client_left, takes_of, puts_to}
+use Rattle.adb_history.specs.Handing.{unmarked, lists_first, left_in, hands, to_hand, credit_back, handed_to, tells_credit, tells_handed, stream_left, client_left, takes_of, puts_to}
 
 -- a client that asks, or waits for the listener of a forward
 abbrev pub is_waiting : Phase → Bool
@@ -215,7 +215,7 @@ leaves_client_loses : (o : Option Client) (c : ℕ) (s : State) → s.clients c 
 leaves_client_loses None c s is = leaves_same s
 leaves_client_loses (Some client) c s is = leaves_loses client.about.forwarded client.about.phase c s
     (λ none a e. let same : client ≡ a = let both : Some client ≡ Some a = sym is ∙ e in cc in
-      subst (λ (x : Client). is_waiting x.about.phase ≡ false) same none)
+    subst (λ (x : Client). is_waiting x.about.phase ≡ false) same none)
 
 leaves_tells_end : (orphan : Bool) (l : ℕ) (ending : Ending) (s : State) → Leaves s (tells_end orphan l ending s)
 leaves_tells_end true l ending s = leaves_same s
