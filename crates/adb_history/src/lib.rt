@@ -8,8 +8,12 @@ mod draining;
 mod hand_out;
 pub mod order;
 mod refusal;
+mod ties;
 
 pub use broken::{answers_can_be_broken, causes_can_be_broken, fifo_can_be_broken};
 pub use draining::draining_ends;
 pub use hand_out::HAND_OUT;
 pub use refusal::{Reason, Refusal};
+pub use ties::{
+    due_is_past_put, due_is_past_sent, rest_is_past_packets, state_is_as_told, unread_is_past_used,
+};
