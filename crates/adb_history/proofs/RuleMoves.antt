@@ -193,7 +193,7 @@ module _ {P : State → List Event → Type 0} (k : Moves P) where
       let is : now.clients c ≡ Some (new_client true c) = rw (eq-eqb c c refl) refl in
       after_if P w (is_connected row.transport s.devices) (opens true c row.transport row.remote now) (quietly (comes_in_vain s))
       (λ e. service_kept k now w here true c row.transport row.remote
-        (record { client = new_client true c; here = is; in_phase = refl }) (inl e)) (λ e. after_quietly P w (comes_in_vain s) vain)
+      (record { client = new_client true c; here = is; in_phase = refl }) (inl e)) (λ e. after_quietly P w (comes_in_vain s) vain)
 
   -- What is to be shown before the rule of an entry: that it holds with who comes; of a client that asks, that it holds with what is read.
   abbrev pub Begins : Entry → State → List Event → Type 0
