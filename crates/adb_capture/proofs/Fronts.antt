@@ -122,7 +122,8 @@ number_before i x y h = ap (λ b. little_number 4 b) (drop-append-le i x y (omeg
 pub data_before : (x y : List ℕ) → HEADER_LEN + size_in x ≤ length x → data_in (x ++ y) ≡ data_in x
 data_before x y h =
     ap (λ k. take k (drop HEADER_LEN (x ++ y))) (number_before 5 x y (omega arith))
-    ∙ (ap (λ b. take (size_in x) b) (drop-append-le HEADER_LEN x y (omega arith)) ∙ take-append-le (size_in x) (drop HEADER_LEN x) y (omega (arith, length-drop HEADER_LEN x)))
+    ∙ (ap (λ b. take (size_in x) b) (drop-append-le HEADER_LEN x y (omega arith))
+    ∙ take-append-le (size_in x) (drop HEADER_LEN x) y (omega (arith, length-drop HEADER_LEN x)))
 
 pub entry_before : (x y : List ℕ) → HEADER_LEN + size_in x ≤ length x → entry_of (x ++ y) ≡ entry_of x
 entry_before x y h =

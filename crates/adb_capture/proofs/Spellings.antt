@@ -324,10 +324,12 @@ pub whole_header : (offset : ℕ) (x : List ℕ) → record_at offset x ≡ Whol
 whole_header offset x w = let t = whole_tells offset x (length x) w in omega (arith, t.size)
 
 whole_data : (offset : ℕ) (x : List ℕ) → record_at offset x ≡ Whole (length x) → data_in x ≡ take (length x - HEADER_LEN) (drop HEADER_LEN x)
-whole_data offset x w = let t = whole_tells offset x (length x) w in let e : size_in x ≡ length x - HEADER_LEN = omega (arith, t.size) in ap (λ n. take n (drop HEADER_LEN x)) e
+whole_data offset x w = let t = whole_tells offset x (length x) w in let e : size_in x
+    ≡ length x - HEADER_LEN = omega (arith, t.size) in ap (λ n. take n (drop HEADER_LEN x)) e
 
 -- it has an entry
-pub whole_read : (offset : ℕ) (x : List ℕ) → record_at offset x ≡ Whole (length x) → None ≡ entry_at (kind_in x) (owner_in x) (take (length x - HEADER_LEN) (drop HEADER_LEN x))
+pub whole_read : (offset : ℕ) (x : List ℕ) → record_at offset x ≡ Whole (length x)
+    → None ≡ entry_at (kind_in x) (owner_in x) (take (length x - HEADER_LEN) (drop HEADER_LEN x))
     → ⊥
 whole_read offset x w none =
     let t = whole_tells offset x (length x) w in

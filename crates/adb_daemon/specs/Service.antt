@@ -102,7 +102,8 @@ Takes came old new left =
     → TakesOne kind first past taken came new left
 
 -- Memory ran out at a payload: a front of the answer was given.
-pub record TakesFrontOfOne (kind : Kind) (first : List Entry) (past : List Came) (taken : List ℕ) (came : Came) (new : Service) (left : List Entry) : Type 0 where
+pub record TakesFrontOfOne (kind : Kind) (first : List Entry) (past : List Came) (taken : List ℕ) (came : Came) (new : Service)
+    (left : List Entry) : Type 0 where
   pub answer : StartsWith (service_answer kind first (came ∷ past)).bytes (taken ++ out_of new)
   pub files : HasFrontOfFiles kind past came left
 

@@ -68,7 +68,8 @@ takes_forwards came plugged c n None s all = refl
 takes_forwards came plugged c n (Some client) s all =
     (keeps_client_left came plugged client.about.phase (length (drop n client.due)) (to_client c (hands n) s) all).forwards
 
-puts_forwards : (came plugged c n : ℕ) (o : Option Client) (s : State) → c ≤ came → AreWithin came plugged s.streams → (puts_to o c n s).state.forwards ≡ s.forwards
+puts_forwards : (came plugged c n : ℕ) (o : Option Client) (s : State) → c ≤ came → AreWithin came plugged s.streams
+    → (puts_to o c n s).state.forwards ≡ s.forwards
 puts_forwards came plugged c n None s le all = refl
 puts_forwards came plugged c n (Some client) s le all =
     let m = lists_first c client.due client s in
@@ -452,7 +453,8 @@ module _ (older : History) (legal : IsLegal older) (b : IsBooked (state older) o
       (subst (λ (r : Said). IsAs (m.state.clients n) r)
       (sym (ap (said_by n) same ∙ ap (λ (x : Bool). said_by n (record (bound_with n binding (book older)) { waits = λ k. cond x None ((book older).waits k) }))
       (eq-eqb n n refl)))
-      (idle_is (m.state.clients n) (said_by n (record (bound_with n binding (book older)) { waits = λ k. None })) (closed_with_row n binding.reply next) idle refl))
+      (idle_is (m.state.clients n) (said_by n (record (bound_with n binding (book older)) { waits = λ k. None }))
+      (closed_with_row n binding.reply next) idle refl))
       (λ c e. ap (said_by c) same ∙ ap (λ (x : Bool). record (said c older) { waits = cond x None ((book older).waits c) }) e)
 
   pub booked_bound : (n port : ℕ) → May s (Bound n port) → IsBooked (bound n port s).state (Bound n port ∷ older)

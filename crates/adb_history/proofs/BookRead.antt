@@ -110,7 +110,8 @@ module _ (older : History) (legal : IsLegal older) (b : IsBooked (state older) o
         booked_owns older legal b n m (Read n bytes ∷ older) may.0 tables.stopped tables.devices owns
         (ap (λ (x : Book). x.killed) same ∙ or_false (book older).killed) (forwards ∙ (b.forwards ∙ sym (ap (λ (x : Book). x.forwards) same)))
         (subst (λ (f : List (ℕ × ForwardRow)). AreLed s.devices f) (sym forwards) (b.led may.0))
-        (is_other (m.state.clients n) (said n older) (said n (Read n bytes ∷ older)) none (ap (λ (r : Said). r.asking) here) (ap (λ (r : Said). r.waits) here) is)
+        (is_other (m.state.clients n) (said n older) (said n (Read n bytes ∷ older)) none (ap (λ (r : Said). r.asking) here)
+        (ap (λ (r : Said). r.waits) here) is)
         (apart_said (read_turn n d (asked n older) None (book older)) (asked n older) None d refl same)
       where
         d : DeviceTable
@@ -209,7 +210,8 @@ module _ (older : History) (legal : IsLegal older) (b : IsBooked (state older) o
           let m = asks p n s in
           let tables : StaysTables s m = subst (λ (x : Bool). AskTables x s m) on (asks_tables came links n p s le within) in
           let forwards : m.state.forwards ≡ forwards_by p.next s.devices s.forwards =
-          goes_on_forwards came links n p.next (replied_state n bytes client s (asked n older) is asking same_asked.rest same_asked.selected open_next) le within in
+          goes_on_forwards came links n p.next
+          (replied_state n bytes client s (asked n older) is asking same_asked.rest same_asked.selected open_next) le within in
           booked_owns older legal b n m (Read n bytes ∷ older) may.0 tables.stopped tables.devices
           (owns_asks n bytes client s (asked n older) is asking same_asked.rest same_asked.selected open_next on)
           (ap (λ (x : Book). x.killed) same ∙ (ap (λ (x : Bool). (book older).killed || x) on ∙ or_false (book older).killed))

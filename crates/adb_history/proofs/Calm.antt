@@ -70,7 +70,8 @@ sends_none l stream client s is here calm =
 
     over : is_over client.about.ended client.held stream.part.flow ≡ false → sends_up l stream client [] s ≡ quietly (noted l stream client.held [] s)
     over goes_on =
-        let same : closes_if (is_over client.about.ended client.held stream.part.flow) l ((noted l stream client.held [] s).streams l) (noted l stream client.held [] s)
+        let same : closes_if (is_over client.about.ended client.held stream.part.flow) l ((noted l stream client.held [] s).streams l)
+        (noted l stream client.held [] s)
         ≡ quietly (noted l stream client.held [] s) =
         ap (λ b. closes_if b l ((noted l stream client.held [] s).streams l) (noted l stream client.held [] s)) goes_on
         ∙ closes_nothing l ((noted l stream client.held [] s).streams l) (noted l stream client.held [] s) in
@@ -95,7 +96,8 @@ calm_up l s calm = by_stream (s.streams l) refl
 -- the up rule makes nothing
 pub calm_ups : (k : ℕ) (s : State) → IsCalm s → up_all k s ≡ quietly s
 calm_ups zero s calm = refl
-calm_ups (suc k) s calm = ap (λ (m : Made). then_also m (up (suc k))) (calm_ups k s calm) ∙ ap (λ (m : Made). record { state = m.state; told = m.told }) (calm_up (suc k) s calm)
+calm_ups (suc k) s calm = ap (λ (m : Made). then_also m (up (suc k))) (calm_ups k s calm)
+    ∙ ap (λ (m : Made). record { state = m.state; told = m.told }) (calm_up (suc k) s calm)
 
 -- ---- hand-outs
 -- a client that changed and has its stream open has as before what is sent of it
@@ -164,8 +166,10 @@ calm_to_stream l stream flow s is same calm k new client there here streaming = 
     by_row : WasChanged (with_stream_part (with_flow flow stream.part)) (s.streams k) new → l ≡ k → SendsNothing s.devices new client
     by_row was equal =
         let old_is : was.old ≡ stream = (let both : Some was.old ≡ Some stream = sym was.is ∙ (ap s.streams (sym equal) ∙ is) in cc) in
-        let made : new ≡ record was.old { part = with_flow flow stream.part } = (let both : Some new ≡ Some (record was.old { part = with_flow flow stream.part }) = sym was.to in cc) in
-        let shaped : new ≡ record stream { part = with_flow flow stream.part } = made ∙ ap (λ (x : Stream). record x { part = with_flow flow stream.part }) old_is in
+        let made : new ≡ record was.old { part = with_flow flow stream.part } =
+        (let both : Some new ≡ Some (record was.old { part = with_flow flow stream.part }) = sym was.to in cc) in
+        let shaped : new ≡ record stream { part = with_flow flow stream.part } = made
+        ∙ ap (λ (x : Stream). record x { part = with_flow flow stream.part }) old_is in
         let row : s.clients stream.client ≡ Some client = ap (λ (x : Stream). s.clients x.client) (sym shaped) ∙ here in
         let old = calm l stream client is row (ap (λ n. is_streaming n client.about.phase) equal ∙ streaming) in
         subst (λ (x : Stream). SendsNothing s.devices x client) (sym shaped) (record {

@@ -147,7 +147,8 @@ module _ (came plugged t : ℕ) where
           → Turns t (row_connected (Some identity) version maxdata row) s (then_also m (λ s. quietly (goes_online t version maxdata identity s)))
       after m keeps =
           let first = turns_keeps s m good.linked keeps in
-          turns_then t (at t s.devices.rows) (row_connected (Some identity) version maxdata row) s m (λ s. quietly (goes_online t version maxdata identity s)) first
+          turns_then t (at t s.devices.rows) (row_connected (Some identity) version maxdata row) s m
+          (λ s. quietly (goes_online t version maxdata identity s)) first
           (turns_online version maxdata identity row m.state (record {
             streams = keeps.streams good.streams;
             rows = subst (λ (d : DeviceTable). HasRowsWithin plugged d) (sym keeps.devices) good.rows;

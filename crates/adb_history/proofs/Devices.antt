@@ -57,7 +57,8 @@ no_row true f = refl
 no_row false f = refl
 
 -- a link that is broken, or was not plugged in, stays so
-broken_stays : (received bytes : List ℕ) (o : Option Row) → device_from false (framed received) o ≡ None → device_from false (framed (received ++ bytes)) o ≡ None
+broken_stays : (received bytes : List ℕ) (o : Option Row) → device_from false (framed received) o ≡ None
+    → device_from false (framed (received ++ bytes)) o ≡ None
 broken_stays received bytes None e = no_row (is_some (framed (received ++ bytes)).fault || list_any is_refused (framed (received ++ bytes)).given)
     (row_by (last_cnxn (framed (received ++ bytes)).given) (framed (received ++ bytes)).given)
 broken_stays received bytes (Some row) e = go (framed received).fault refl e
@@ -66,7 +67,8 @@ broken_stays received bytes (Some row) e = go (framed received).fault refl e
     item _ frame = packet_of frame
 
     at_fault : (c : Cutting) (fault : PacketFault) → c.fault ≡ Some fault → device_from false c (Some row) ≡ None
-    at_fault c fault is = ap (λ (o : Option PacketFault). cond (is_some o || list_any is_refused c.given) None (Some (row_by (last_cnxn c.given) c.given row))) is
+    at_fault c fault is = ap
+        (λ (o : Option PacketFault). cond (is_some o || list_any is_refused c.given) None (Some (row_by (last_cnxn c.given) c.given row))) is
 
     by_packets : (refused : Bool) (c : Cutting) (more : Cutting) → list_any is_refused c.given ≡ refused → c.fault ≡ None
         → cond refused None (Some (row_by (last_cnxn c.given) c.given row)) ≡ None → device_from false (joined c.given more) (Some row) ≡ None
@@ -104,7 +106,8 @@ sound_more : (received bytes : List ℕ) (link : Link) (row : Row) → ReadsAs r
     ≡ device_from false (framed (received ++ bytes)) (Some row)
 sound_more received bytes link row t offline =
     ap (λ (o : Option Row). cond (is_some c.fault) None (rows_after c.given o)) (before ∙ sym (device_rows row offline (framed received).given))
-    ∙ (ap (cond (is_some c.fault) None) (sym (rows_append (framed received).given c.given (Some row)) ∙ device_rows row offline ((framed received).given ++ c.given))
+    ∙ (ap (cond (is_some c.fault) None)
+    (sym (rows_append (framed received).given c.given (Some row)) ∙ device_rows row offline ((framed received).given ++ c.given))
     ∙ (both (is_some c.fault) ∙ ap (λ (x : Cutting). device_from false x (Some row)) (sym (framed_piece received bytes link t))))
   where
     c : Cutting

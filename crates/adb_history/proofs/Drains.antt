@@ -86,7 +86,8 @@ drain_all_step h e calm is = go (owed (state h)) refl
 
     go : (k : ℕ) → owed (state h) ≡ k → drain k h ≡ drain_all (e ∷ h)
     go zero same = absurd (omega (arith, out.less))
-    go (suc k) same = ap (λ o. or_stay o h (λ x. drain k (x ∷ h))) is ∙ drained_enough k (owed (state (e ∷ h))) (e ∷ h) out.calm (omega (arith, out.less, same)) (omega arith)
+    go (suc k) same = ap (λ o. or_stay o h (λ x. drain k (x ∷ h))) is
+        ∙ drained_enough k (owed (state (e ∷ h))) (e ∷ h) out.calm (omega (arith, out.less, same)) (omega arith)
 
 -- nothing is due: no turn
 pub drain_all_over : (h : History) → next_out (state h) ≡ None → drain_all h ≡ h

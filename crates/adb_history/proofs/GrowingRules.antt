@@ -54,7 +54,8 @@ module _ (came plugged : ℕ) where
 
   -- what a client holds changes that does not ask
   pub keeps_held : (held : List ℕ) (c : ℕ) (s : State)
-      → ((a : Client) → s.clients c ≡ Some a → (a.about.phase ≢ Asking) × (a.about.phase ≢ Binding)) → Keeps came plugged s (quietly (to_client c (with_held held) s))
+      → ((a : Client) → s.clients c ≡ Some a → (a.about.phase ≢ Asking) × (a.about.phase ≢ Binding))
+      → Keeps came plugged s (quietly (to_client c (with_held held) s))
   keeps_held held c s at =
       keeps_to_client came plugged c (with_held held) s
       (λ a e. let phase = at a e in stays_other a (record a { held = held }) refl phase.0 phase.1)
@@ -266,7 +267,12 @@ module _ (came plugged : ℕ) where
 
   keeps_input_ended : (c : ℕ) (s : State) → Keeps came plugged s (quietly (to_client c input_ended s))
   keeps_input_ended c s = keeps_to_client came plugged c input_ended s
-      (λ a e. record { due = sym (append-nil a.due); asks = λ e. record { phase = e; held = refl; selected = refl }; binds = λ e. record { phase = e; want = refl } })
+      (λ a e. record {
+        due = sym
+            (append-nil a.due);
+        asks = λ e. record { phase = e; held = refl; selected = refl };
+        binds = λ e. record { phase = e; want = refl };
+      })
 
   keeps_input_ends : (phase : Phase) (c : ℕ) (s : State) → Keeps came plugged s (quietly (input_ends phase c s))
   keeps_input_ends Asking c s = keeps_closes c s

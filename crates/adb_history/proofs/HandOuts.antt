@@ -187,7 +187,8 @@ takes_some c n s client is some =
       others = λ q other. ap (λ rows. rows q) adds.clients ∙ changed_elsewhere s.clients c q (option_and_then (hands n)) other;
       here = subst (λ (row : Option Client). owed_client s.devices row + n ≤ owed_client s.devices (s.clients c))
           (sym (ap (λ rows. rows c) adds.clients ∙ at_row))
-          (subst (λ (row : Option Client). owed_client s.devices (left_in client.about.phase (drop n client.due) client) + n ≤ owed_client s.devices row) (sym is)
+          (subst (λ (row : Option Client). owed_client s.devices (left_in client.about.phase (drop n client.due) client) + n ≤ owed_client s.devices row)
+          (sym is)
           (hands_less s.devices client.about.phase n client some));
       links = adds.links;
     })

@@ -295,7 +295,8 @@ module _ (came plugged : ℕ) (put sent : ℕ → List ℕ) (s : State) (events 
           → Tie (came + 1) plugged (cond connected (opens true c row.transport row.remote (comes true c s)) (quietly (comes_in_vain s))).state
           (events ++ (cond connected (opens true c row.transport row.remote (comes true c s)) (quietly (comes_in_vain s))).told) put sent
       by row false e = in_vain
-      by row true e = tie_keeps (came + 1) plugged put sent (comes true c s) events (opens true c row.transport row.remote (comes true c s)) (tie_comes true c is)
+      by row true e = tie_keeps (came + 1) plugged put sent (comes true c s) events (opens true c row.transport row.remote (comes true c s))
+          (tie_comes true c is)
           (keeps_opens (came + 1) plugged true c row.transport row.remote (comes true c s) (omega (arith, is, h.joined))
           (row_within plugged row.transport s.devices h.rows (connected_is (at row.transport s.devices.rows) e)))
 
@@ -433,7 +434,8 @@ module _ (came plugged : ℕ) (put sent : ℕ → List ℕ) (s : State) (events 
           handed_off output out a.due bytes i (subst (λ (x : Link). IsPrefixOf bytes x.due) same front)
 
       here : (t : ℕ) (same : Bool) → eqb n t ≡ same
-          → LinkTie (cond same (option_and_then (link_hands (length bytes)) (s.links t)) (s.links t)) (spelled_to t events) (cond same (sent t ++ bytes) (sent t))
+          → LinkTie (cond same (option_and_then (link_hands (length bytes)) (s.links t)) (s.links t)) (spelled_to t events)
+          (cond same (sent t ++ bytes) (sent t))
       here t true e = at_link (s.links t) (spelled_to t events) (sent t) (ap s.links (sym (eqb-true n t e)) ∙ is) (h.links t)
       here t false e = h.links t
 
@@ -492,7 +494,8 @@ module _ (came plugged : ℕ) (put sent : ℕ → List ℕ) where
       let listed = tie_keeps came plugged put sent s events m h (keeps_lists_first came plugged c client.due client s below) in
       let m2 = takes_of c (length bytes) (m.state.clients c) m.state in
       subst (λ (x : List Event). Tie came plugged m2.state x (λ k. cond (eqb c k) (put k ++ bytes) (put k)) sent) (append_assoc events m.told m2.told)
-      (tie_takes c bytes (m.state.clients c) (offered s.devices client) m.state (events ++ m.told) refl (lists_row c client.due client s refl is) may.front listed)
+      (tie_takes c bytes (m.state.clients c) (offered s.devices client) m.state (events ++ m.told) refl
+      (lists_row c client.due client s refl is) may.front listed)
 
   tie_sends_to : (t : ℕ) (bytes : List ℕ) (o : Option Link) (s : State) (events : List Event) → s.links t ≡ o → MaySend o bytes
       → Tie came plugged s events put sent

@@ -184,13 +184,15 @@ module _ (came plugged c : ℕ) where
       (read_goes_on q.next told.state le within)
 
   -- ---- read
-  read_held : (bytes : List ℕ) (client : Client) (s : State) → Changes came plugged (ReadOn c) LinkStay s (quietly (to_client c (with_held (client.held ++ bytes)) s))
+  read_held : (bytes : List ℕ) (client : Client) (s : State)
+      → Changes came plugged (ReadOn c) LinkStay s (quietly (to_client c (with_held (client.held ++ bytes)) s))
   read_held bytes client s = read_to_client (with_held (client.held ++ bytes)) s (λ a. sym (append-nil a.due))
 
   read_in : (phase : Phase) (bytes : List ℕ) (client : Client) (s : State) → c ≤ came → HasRowsWithin plugged s.devices
       → Changes came plugged (ReadOn c) LinkStay s (reads_in phase c bytes client s)
   read_in Asking bytes client s le within =
-      read_asks (asks_with s.devices s.forwards bytes (asked_before client)) s le (asks_within plugged s.devices within s.forwards bytes (asked_before client) tt)
+      read_asks (asks_with s.devices s.forwards bytes (asked_before client)) s le
+      (asks_within plugged s.devices within s.forwards bytes (asked_before client) tt)
   read_in (Opening l) bytes client s le within = read_held bytes client s
   read_in (Streaming l) bytes client s le within = read_held bytes client s
   read_in Binding bytes client s le within = read_keeps s (quietly s) (keeps_all came plugged s)

@@ -116,7 +116,8 @@ module _ (came plugged c : ℕ) where
   pub reads_in_tables : (phase : Phase) (bytes : List ℕ) (client : Client) (s : State) → c ≤ came → HasRowsWithin plugged s.devices
       → AskTables (asks_kill phase bytes client s) s (reads_in phase c bytes client s)
   reads_in_tables Asking bytes client s le within =
-      asks_tables (asks_with s.devices s.forwards bytes (asked_before client)) s le (asks_within plugged s.devices within s.forwards bytes (asked_before client) tt)
+      asks_tables (asks_with s.devices s.forwards bytes (asked_before client)) s le
+      (asks_within plugged s.devices within s.forwards bytes (asked_before client) tt)
   reads_in_tables (Opening l) bytes client s le within = tables_same s (to_client c (with_held (client.held ++ bytes)) s) refl refl refl
   reads_in_tables (Streaming l) bytes client s le within = tables_same s (to_client c (with_held (client.held ++ bytes)) s) refl refl refl
   reads_in_tables Binding bytes client s le within = tables_same s s refl refl refl

@@ -109,7 +109,8 @@ pub record Leaves (s : State) (m : Made) : Type 0 where
 pub leaves_all : (s : State) (m : Made) → m.state.clients ≡ s.clients → m.state.streams ≡ s.streams → Leaves s m
 leaves_all s m clients streams = record {
   clients = λ c. subst (λ (o : Option Client). WaitStep (s.clients c) o) (sym (ap (λ (rows : ℕ → Option Client). rows c) clients)) (wait_same (s.clients c));
-  streams = λ l. subst (λ (o : Option Stream). StreamStep (s.streams l) o) (sym (ap (λ (rows : ℕ → Option Stream). rows l) streams)) (stream_same (s.streams l));
+  streams = λ l. subst (λ (o : Option Stream). StreamStep (s.streams l) o) (sym (ap (λ (rows : ℕ → Option Stream). rows l) streams))
+      (stream_same (s.streams l));
 }
 
 pub leaves_same : (s : State) → Leaves s (quietly s)

@@ -105,7 +105,8 @@ grows fed piece sound =
 -- where input goes on, no fault is in it
 sound_input : (ps : List ShellPacket) (f : Option ShellFault) → (input_answer ps f).ended ≡ false → f ≡ None
 sound_input ps None on = refl
-sound_input ps (Some f) on = absurd (true≢false (sym (bool_or_true (input_answer ps None).ended) ∙ (sym (ap (λ (a : Answer). a.ended) (with_fault ps (Some f))) ∙ on)))
+sound_input ps (Some f) on = absurd
+    (true≢false (sym (bool_or_true (input_answer ps None).ended) ∙ (sym (ap (λ (a : Answer). a.ended) (with_fault ps (Some f))) ∙ on)))
   where
     bool_or_true : (b : Bool) → (b || true) ≡ true
     bool_or_true true = refl
@@ -119,7 +120,8 @@ pub answer_command : (opening : Opening) (fed : List ℕ) → reads_input openin
 answer_command opening fed reads = ap (λ t. cond t (input_answer (packets_in fed) (fault_in fed)) (command_answer opening)) reads
 
 -- a service that has ended answers no more
-pub ended_stays : (opening : Opening) (fed piece : List ℕ) → (shell_answer opening fed).ended ≡ true → shell_answer opening (fed ++ piece) ≡ shell_answer opening fed
+pub ended_stays : (opening : Opening) (fed piece : List ℕ) → (shell_answer opening fed).ended ≡ true
+    → shell_answer opening (fed ++ piece) ≡ shell_answer opening fed
 ended_stays opening fed piece over = go (reads_input opening) refl
   where
     by_fault : (f : Option ShellFault) → fault_in fed ≡ f → reads_input opening ≡ true
@@ -156,7 +158,11 @@ goes_on opening fed is =
 further_answer : {reading : Reading} (opening : Opening) (fed piece : List ℕ) (qs : List ShellPacket) → IsReading opening fed reading
     → packets_in (fed ++ piece) ≡ packets_in fed ++ qs
     → shell_answer opening (fed ++ piece)
-    ≡ record { bytes = (shell_answer opening fed).bytes ++ (input_answer qs None).bytes; ended = (input_answer qs None).ended || is_some (fault_in (fed ++ piece)) }
+    ≡ record {
+      bytes = (shell_answer opening fed).bytes ++ (input_answer qs None).bytes;
+      ended = (input_answer qs None).ended || is_some
+          (fault_in (fed ++ piece));
+    }
 further_answer opening fed piece qs is packets =
     let on = goes_on opening fed is in
     let f = fault_in (fed ++ piece) in
@@ -203,7 +209,8 @@ answering_step {first} {now} {left} {out} {out1} out2 packet all is on push =
       told = record {
         said = all.told.said ++ bytes;
         behind = push ∙ (ap (λ (o : List ℕ). o ++ bytes) all.told.behind ∙ append_assoc out all.told.said bytes);
-        within = all.told.within ∙ (ap (λ (a : Answer). all.told.said ++ a.bytes) next ∙ sym (append_assoc all.told.said bytes (input_answer left.given None).bytes));
+        within = all.told.within
+            ∙ (ap (λ (a : Answer). all.told.said ++ a.bytes) next ∙ sym (append_assoc all.told.said bytes (input_answer left.given None).bytes));
       };
       ends = all.ends ∙ ap (λ (a : Answer). a.ended) next;
       same = same_left now left packet is ∙ ap (λ (r : Reading). record r { given = left.given }) all.same;

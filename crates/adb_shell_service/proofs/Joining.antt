@@ -22,6 +22,7 @@ pub joined_words : (words : List (Bor (List ℕ))) (d : Bor (List ℕ)) (n : ℕ
 joined_words [] d n begin text some all begins told = absurd (omega arith)
 joined_words (first ∷ more) d n begin text some all begins told =
     let rest : take (length (first ∷ more) - 1) (drop 1 (first ∷ more)) ≡ more = take_rest (first ∷ more) 1 in
-    told ∙ (ap (λ (b : List ℕ). b ++ flat_map (λ (word : Bor (List ℕ)). 32 ∷ word.now) (take n (take (length (first ∷ more) - 1) (drop 1 (first ∷ more))))) begins
+    told ∙ (ap (λ (b : List ℕ). b ++ flat_map (λ (word : Bor (List ℕ)). 32 ∷ word.now)
+    (take n (take (length (first ∷ more) - 1) (drop 1 (first ∷ more))))) begins
     ∙ (ap (λ (ws : List (Bor (List ℕ))). first.now ++ flat_map (λ (word : Bor (List ℕ)). 32 ∷ word.now) ws)
     (ap (take n) rest ∙ take_all n more (omega (arith, all))) ∙ spaced_lent first.now more))

@@ -177,7 +177,8 @@ accept_on false h e others = (refl, refl)
 
 -- A record was replayed.
 pub replaying_on : (first : Moment) (t : Turn) (holds holds_new : Kept) → IsGiven t → t.new.reader.failed ≡ None
-    → t.new.reader.opened ≡ true → ((h : History) → IsDrained holds h → ReplaysEntry (Ok tt) t.offset t.entry h t.now.out t.new.out holds_new) → Replaying first t.now holds
+    → t.new.reader.opened ≡ true → ((h : History) → IsDrained holds h → ReplaysEntry (Ok tt) t.offset t.entry h t.now.out t.new.out holds_new)
+    → Replaying first t.now holds
     → Replaying first t.new holds_new
 replaying_on first t holds holds_new gives sound opened entry r = record {
   done = x.whole;
@@ -393,7 +394,8 @@ reached_front first t holds gives r whole (inr on) before was =
 
 -- A record was not replayed to its end.
 pub replaying_lost : (first : Moment) (t : Turn) (holds last : Kept) (why : Stop) → IsGiven t
-    → ((h : History) → IsDrained holds h → ReplaysEntry (Err why) t.offset t.entry h t.now.out t.new.out last) → Replaying first t.now holds → Replays first t.new (Err why)
+    → ((h : History) → IsDrained holds h → ReplaysEntry (Err why) t.offset t.entry h t.now.out t.new.out last) → Replaying first t.now holds
+    → Replays first t.new (Err why)
 replaying_lost first t holds last why gives entry r = record {
   whole = x.whole;
   on = goes_on (Err why) [] r.done x.whole first.out t.now.out t.new.out r.kept x.on;
@@ -408,13 +410,15 @@ replaying_lost first t holds last why gives entry r = record {
     all : List ℕ → Accepted
     all before = accept_records first.reader.offset before []
 
-    reaches : (w : Stop) → EntryGives (Err w) t.offset t.entry r.done x.whole last → (before : List ℕ) → IsAhead first before → Reaches (Err w) x.whole (all before)
+    reaches : (w : Stop) → EntryGives (Err w) t.offset t.entry r.done x.whole last → (before : List ℕ) → IsAhead first before
+        → Reaches (Err w) x.whole (all before)
     reaches ReadFault g before was = absurd g
     reaches WriteFault g before was = reached_front first t holds gives r x.whole g before was
     reaches OutOfMemory g before was = reached_front first t holds gives r x.whole g before was
     reaches (Refused named) g before was =
         let c = came_on t r.done (all before) gives r.sound (comes first t.now holds r before was) in
-        c.inputs ∙ (ap (λ w. drained_from r.done (accept_by w (is_input t.entry) r.done t.entry (accept_records t.new.reader.offset c.others)).inputs) g.0 ∙ sym g.1)
+        c.inputs ∙ (ap (λ w. drained_from r.done (accept_by w (is_input t.entry) r.done t.entry (accept_records t.new.reader.offset c.others)).inputs) g.0
+        ∙ sym g.1)
 
     consumes : (w : Stop) → EntryGives (Err w) t.offset t.entry r.done x.whole last → ◌≡◌ {A = Result (Unit {0}) Stop} (Err w) (Err ReadFault)
         → (before : List ℕ) → IsAhead first before → Consumes first t.new x.whole before
@@ -423,7 +427,8 @@ replaying_lost first t holds last why gives entry r = record {
     consumes OutOfMemory g fault before was = cc
     consumes (Refused named) g fault before was = cc
 
-    ends : (w : Stop) → EntryGives (Err w) t.offset t.entry r.done x.whole last → (before : List ℕ) → IsAhead first before → EndsAs (Err w) (all before) t.new.left
+    ends : (w : Stop) → EntryGives (Err w) t.offset t.entry r.done x.whole last → (before : List ℕ) → IsAhead first before
+        → EndsAs (Err w) (all before) t.new.left
     ends ReadFault g before was = tt
     ends WriteFault g before was = tt
     ends OutOfMemory g before was = tt

@@ -23,7 +23,8 @@ unreachable-requires c = whole_read c.args.offset c.args.bytes.now c.requires (c
 
 pub returns-clause-entry : goal.returns-clause-entry
 returns-clause-entry c = entry_read c.args.offset c.args.bytes.now c.in_ok-entry-in-Some.field-0 c.requires
-    (ap Some (c.in_ok-entry-in-Some.ensures ∙ ap (λ n. entry_by c.in-Some.form n (take (length c.args.bytes.now - HEADER_LEN) (drop HEADER_LEN c.args.bytes.now)))
+    (ap Some (c.in_ok-entry-in-Some.ensures
+    ∙ ap (λ n. entry_by c.in-Some.form n (take (length c.args.bytes.now - HEADER_LEN) (drop HEADER_LEN c.args.bytes.now)))
     c.owner.ensures) ∙ c.in-Some.ensures (owner_in c.args.bytes.now))
 
 pub returns-clause-form : goal.returns-clause-form

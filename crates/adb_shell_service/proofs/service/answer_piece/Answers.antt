@@ -8,7 +8,8 @@ use Rattle.adb_shell_service.proofs.service.answer_piece.Goals as goal
 
 pub returns-in_err-faulty-clause-front : goal.returns-in_err-faulty-clause-front
 returns-in_err-faulty-clause-front c = on_err_always c.from_residual.result (λ opening fed taken is told.
-    subst (StartsWith (shell_answer opening (fed ++ c.args.piece.now)).bytes) (sym told) (answer_grows opening fed c.args.piece.now (Some c.args.reader.now) is))
+    subst (StartsWith (shell_answer opening (fed ++ c.args.piece.now)).bytes) (sym told)
+    (answer_grows opening fed c.args.piece.now (Some c.args.reader.now) is))
 
 pub returns-in_err-closed-clause-front : goal.returns-in_err-closed-clause-front
 returns-in_err-closed-clause-front c = on_err_always c.from_residual-in_err-closed.result (λ opening fed taken is told.

@@ -40,7 +40,8 @@ returns-in_err-replay_entry-clause-replays g c =
     let new : Moment = moment c.next.new.self (g.S.Source.left c.next.new.source) (g.K.Sink.written c.replay_entry.new.sink, c.replay_entry.new.output) in
     let turn : Turn = record { now = now; new = new; offset = c.in-Some.offset; entry = c.in-Some.entry } in
     let gives = given_as now new c.in_ok-offset.field-0 (Some (c.in-Some.offset, c.in-Some.entry)) c.in-Some.is c.in_ok-offset.ensures.answers in
-    rw (passed.1, passed.2) (replaying_lost _ turn c.loop-machine.machine c.replay_entry.new.machine c.in_err-replay_entry.field-0.0 gives c.in_err-replay_entry.ensures.replays
+    rw (passed.1, passed.2)
+    (replaying_lost _ turn c.loop-machine.machine c.replay_entry.new.machine c.in_err-replay_entry.field-0.0 gives c.in_err-replay_entry.ensures.replays
     c.loop-machine.invariant.replaying)
 
 pub returns-clause-replays : goal.returns-clause-replays
