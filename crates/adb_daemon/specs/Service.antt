@@ -78,7 +78,7 @@ Holds (Shells packets command) first past taken (services.Shell service) =
     shell.HasAnswered (record { packets = packets; command = command; files = first }) (bytes_in past) taken service
 Holds _ _ _ _ _ = ⊥
 
--- A service was opened over some files, these payloads came, and these bytes of its answer were taken: the taken ones and those that are left are its answer to all
+-- A service was opened over some files, these payloads came, and these bytes of its answer were taken: the taken ones and those left are its answer to all
 -- that came, and it has ended where that ends it.
 pub record HasAnswered (kind : Kind) (first : List Entry) (past : List Came) (taken : List ℕ) (service : Service) : Type 0 where
   pub holds : Holds kind first past taken service

@@ -397,10 +397,14 @@ module _ (older : History) (legal : IsLegal older) (b : IsBooked (state older) o
   led_bound : (want : Want) (port : ℕ) → s.stopped ≡ false → AreLed s.devices (bound_by want port s.devices s.forwards).forwards
   led_bound want port on = go (is_unbound want.local port s.forwards) (is_none (at want.transport s.devices.rows)) (length s.forwards == MAX_FORWARDS)
     where
-      go : (unbound none full : Bool) → AreLed s.devices (cond {A = Bound_to} unbound (record { reply = (failed (codes "cannot bind listener")).bytes; forwards = s.forwards })
+      go : (unbound none full : Bool)
+          → AreLed s.devices (cond {A = Bound_to} unbound (record { reply = (failed (codes "cannot bind listener")).bytes; forwards = s.forwards })
           (cond {A = Bound_to} none (record { reply = (failed no_transport).bytes; forwards = s.forwards })
           (cond {A = Bound_to} full (record { reply = (failed (codes "too many forwards")).bytes; forwards = s.forwards })
-          (record { reply = codes "OKAYOKAY" ++ told_port want.local port; forwards = put_forward port want.transport want.remote s.devices s.forwards })))).forwards
+          (record {
+            reply = codes "OKAYOKAY" ++ told_port want.local port;
+            forwards = put_forward port want.transport want.remote s.devices s.forwards;
+          })))).forwards
       go true none full = b.led on
       go false true full = b.led on
       go false false true = b.led on

@@ -132,10 +132,10 @@ module _ {A : Type 0} where
       go m false none = none
 
   -- the next number is drawn
-  pub put_drawn : (drawn : ℕ) (row : Option A) (rows : Rows (Option A)) → IsDrawnOnly drawn rows → IsDrawnOnly (drawn + 1) (put_row (drawn + 1) row rows)
-  put_drawn drawn row rows h = record {
-    above = λ m above. ap (λ b. cond b row (rows m)) (ne_eqb (drawn + 1) m (λ e. omega (arith, above, e))) ∙ h.above m (omega (arith, above));
-    zero = ap (λ b. cond b row (rows 0)) (ne_eqb (drawn + 1) 0 (λ e. omega (arith, e))) ∙ h.zero;
+  pub put_drawn : (drawn : ℕ) (row : Option A) (kept : Rows (Option A)) → IsDrawnOnly drawn kept → IsDrawnOnly (drawn + 1) (put_row (drawn + 1) row kept)
+  put_drawn drawn row kept h = record {
+    above = λ m above. ap (λ b. cond b row (kept m)) (ne_eqb (drawn + 1) m (λ e. omega (arith, above, e))) ∙ h.above m (omega (arith, above));
+    zero = ap (λ b. cond b row (kept 0)) (ne_eqb (drawn + 1) 0 (λ e. omega (arith, e))) ∙ h.zero;
   }
 
   pub put_next : (drawn n : ℕ) (row : Option A) (rows : Rows (Option A)) → n ≡ drawn + 1 → IsDrawnOnly drawn rows

@@ -17,7 +17,8 @@ use Rattle.adb_history.specs.Examples.{lent_comes, lent_open}
 
 -- ---- a window of one write
 shell_stream_up_to_close :
-    drained (plugs (pixel 4096) ++ asks 1 shell_requests ++ Recv 1 (sends (okay_packet 7 1 ∷ write_packet 7 1 (codes "hi" ++ 10 ∷ []) ∷ close_packet 7 1 ∷ [])) ∷ [])
+    drained (plugs (pixel 4096) ++ asks 1 shell_requests
+    ++ Recv 1 (sends (okay_packet 7 1 ∷ write_packet 7 1 (codes "hi" ++ 10 ∷ []) ∷ close_packet 7 1 ∷ [])) ∷ [])
     ≡ plugged (pixel 4096) ++ asks 1 shell_requests ++ opens_shell
     ++ Recv 1 (sends (okay_packet 7 1 ∷ write_packet 7 1 (codes "hi" ++ 10 ∷ []) ∷ close_packet 7 1 ∷ []))
     ∷ Put 1 (codes "OKAYhi" ++ 10 ∷ []) ∷ []
@@ -98,7 +99,8 @@ abbrev open_with_sum : List ℕ
 open_with_sum = spelling (open_packet false 1 (codes "shell:echo hi")) 1250
 
 sum_wanted_on_old_link :
-    drained (plugs old_pixel ++ asks 1 shell_requests ++ Recv 1 (sends (okay_packet 7 1 ∷ [])) ∷ Recv 1 (spelling (write_packet 7 1 (codes "hi" ++ 10 ∷ [])) 0xda) ∷ [])
+    drained (plugs old_pixel ++ asks 1 shell_requests ++ Recv 1 (sends (okay_packet 7 1 ∷ []))
+    ∷ Recv 1 (spelling (write_packet 7 1 (codes "hi" ++ 10 ∷ [])) 0xda) ∷ [])
     ≡ plugged old_pixel ++ asks 1 shell_requests ++ Send 1 open_with_sum ∷ Put 1 (codes "OKAY") ∷ Recv 1 (sends (okay_packet 7 1 ∷ []))
     ∷ Put 1 (codes "OKAY") ∷ Recv 1 (spelling (write_packet 7 1 (codes "hi" ++ 10 ∷ [])) 0xda) ∷ []
 unfolding meaning word_at identity_of last_value

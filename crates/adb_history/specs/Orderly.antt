@@ -19,9 +19,9 @@ use Rattle.adb_history.specs.Fifo.{has_credit}
 
 -- ---- numbers
 -- Nothing is kept under a number that was not drawn, nor under 0.
-pub record IsDrawnOnly {A : Type 0} (drawn : ℕ) (rows : ℕ → Option A) : Type 0 where
-  pub above : (n : ℕ) → drawn < n → rows n ≡ None
-  pub zero : rows 0 ≡ None
+pub record IsDrawnOnly {A : Type 0} (drawn : ℕ) (kept : ℕ → Option A) : Type 0 where
+  pub above : (n : ℕ) → drawn < n → kept n ≡ None
+  pub zero : kept 0 ≡ None
 
 -- ---- streams
 -- the client of a stream that its device has not opened, or has

@@ -80,8 +80,8 @@ pub record Answers (opening : Opening) (fed taken : List ℕ) (reading : Reading
   pub given_out : taken ++ out ≡ (shell_answer opening fed).bytes
   pub ends : ended ≡ (shell_answer opening fed).ended
 
--- The packets that a reader gives were answered, up to the end of the input: their answer stands behind what was there, and where no end came the reader has none
--- left.
+-- The packets that a reader gives were answered, up to the end of the input: their answer stands behind what was there, and where no end came the
+-- reader has none left.
 pub record AnswersGiven (old new : Reading) (out out' : List ℕ) (closed : Bool) : Type 0 where
   pub answer : out' ≡ out ++ (input_answer old.given None).bytes
   pub ends : closed ≡ (input_answer old.given None).ended
