@@ -1,5 +1,5 @@
 -- How what is held of a client is kept.
-use Rattle.std.specs.Prelude.{ℕ, ◌≡◌, ◌≤◌, ◌<◌, ◌++◌, List, length, All, vec_len}
+use Rattle.std.specs.Prelude.{◌≤◌, ◌<◌, ◌++◌, length, All, vec_len}
 use Rattle.adb_client.specs.Input.{Incoming, EndsWith}
 use Rattle.adb_client.specs.declared.input.Input.TheInside.{Inside}
 

@@ -1,6 +1,5 @@
 -- What a client sent that is held.
-use Rattle.std.specs.Prelude.{ℕ, ◌≡◌, ◌≤◌, ◌<◌, ◌++◌, List, length, All, vec_len}
-use Rattle.adb_client.specs.declared.input.Input.TheInside.{Inside}
+use Rattle.std.specs.Prelude.{ℕ, ◌≡◌, ◌++◌, List}
 
 -- the bytes in order; how many of the first can be cut off without memory, and in how many pieces
 pub record Incoming : Type 0 where

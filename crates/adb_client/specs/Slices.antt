@@ -1,5 +1,5 @@
 -- How what is due to a client is kept.
-use Rattle.std.specs.Prelude.{ℕ, ◌≡◌, ◌≤◌, ◌<◌, ◌^◌, ◌++◌, List, length, All}
+use Rattle.std.specs.Prelude.{◌≡◌, ◌≤◌, ◌<◌, ◌^◌, ◌++◌, length, All}
 use Rattle.std.specs.List.{concat}
 use Rattle.adb_client.specs.Output.{Outgoing}
 use Rattle.adb_client.specs.declared.output.Output.TheInside.{Inside}

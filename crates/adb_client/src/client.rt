@@ -1,6 +1,6 @@
 //! A client.
 
-ghost use Rattle.std.specs.Prelude.{◌≡◌, ◌<◌, ◌≤◌, ◌+◌, ◌-◌, ◌++◌, [], length, take, drop, max, IfOk, OnOk, OnErr};
+ghost use Rattle.std.specs.Prelude.{◌≡◌, ◌<◌, ◌≤◌, ◌+◌, ◌-◌, ◌++◌, [], length, take, drop, max, IsOk, IfOk, OnOk, OnErr};
 ghost use Rattle.bytes.specs.Unread.{IsChunkOf};
 ghost use Rattle.adb_client.specs.Ask.{asked_in};
 ghost use Rattle.adb_client.specs.Client.{new_about};
@@ -170,6 +170,7 @@ impl Client {
           cuts = max cuts self.old.cuts;
         }) }
         ensures err { OnErr result (self.new ≡ self.old) }
+        ensures is_ready { n ≤ self.old.ready → cuts ≤ self.old.cuts → IsOk result }
     {
         self.input.prepare_cuts(n, cuts)
     }
@@ -210,6 +211,7 @@ impl Client {
     pub fn reserve(&mut self, n: usize) -> Result<(), AllocError>
         ensures ok { OnOk result (self.new ≡ record self.old { spare = max n self.old.spare }) }
         ensures err { OnErr result (self.new ≡ self.old) }
+        ensures has_room { n ≤ self.old.spare → IsOk result }
     {
         self.output.reserve(n)
     }

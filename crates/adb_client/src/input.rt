@@ -1,6 +1,6 @@
 //! What a client sent that is held.
 
-ghost use Rattle.std.specs.Prelude.{◌≡◌, ◌<◌, ◌≤◌, ◌+◌, ◌-◌, ◌++◌, ◌==◌, [], List, ℕ, length, take, drop, max, vec_len, All, IfOk, OnOk, OnErr};
+ghost use Rattle.std.specs.Prelude.{◌≡◌, ◌<◌, ◌≤◌, ◌+◌, ◌-◌, ◌++◌, ◌==◌, [], List, ℕ, length, take, drop, max, vec_len, All, IsOk, IfOk, OnOk, OnErr};
 ghost use Rattle.adb_client.specs.Ask.{asked_in};
 ghost use Rattle.adb_client.specs.Input.{EndsWith};
 
@@ -142,6 +142,7 @@ impl Input {
           cuts = max cuts self.old.cuts;
         }) }
         ensures err { OnErr result (self.new ≡ self.old) }
+        ensures is_ready { n ≤ self.old.ready → cuts ≤ self.old.cuts → IsOk result }
     {
         if n <= self.ready && cuts <= self.cuts {
             return Ok(());

@@ -1,6 +1,6 @@
 //! What is due to a client.
 
-ghost use Rattle.std.specs.Prelude.{◌≡◌, ◌<◌, ◌≤◌, ◌+◌, ◌-◌, ◌++◌, [], List, ℕ, length, take, drop, max, All, IfOk, OnOk, OnErr};
+ghost use Rattle.std.specs.Prelude.{◌≡◌, ◌<◌, ◌≤◌, ◌+◌, ◌-◌, ◌++◌, [], List, ℕ, length, take, drop, max, All, IsOk, IfOk, OnOk, OnErr};
 ghost use Rattle.std.specs.List.{concat};
 ghost use Rattle.std.specs.VecDeque.{deque_len, deque_capacity};
 ghost use Rattle.bytes.specs.Unread.{IsChunkOf};
@@ -70,6 +70,7 @@ impl Output {
     pub(crate) fn reserve(&mut self, n: usize) -> Result<(), AllocError>
         ensures ok { OnOk result (self.new ≡ record self.old { spare = max n self.old.spare }) }
         ensures err { OnErr result (self.new ≡ self.old) }
+        ensures has_room { n ≤ self.old.spare → IsOk result }
     {
         self.tail.reserve(n)?;
         self.spare = self.spare.max(n);

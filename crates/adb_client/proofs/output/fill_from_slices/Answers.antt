@@ -1,4 +1,4 @@
-use Rattle.std.proofs.Common.{◌≡◌, ◌<◌, ◌-◌, ◌++◌, ◌∙◌, ap, List, ℕ, take, rules, length}
+use Rattle.std.proofs.Common.{◌<◌, ◌-◌, ◌++◌, ◌∙◌, ap, List, ℕ, take, rules, length}
 use Rattle.adb_client.proofs.Seams.{filled_more, filled_up}
 use Rattle.adb_client.proofs.output.fill_from_slices.Goals as goal
 

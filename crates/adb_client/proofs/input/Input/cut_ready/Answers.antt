@@ -1,5 +1,5 @@
-use Rattle.std.proofs.Common.{◌≡◌, ◌-◌, ◌≤◌, ◌<◌, ◌++◌, List, [], ℕ, All, None, subst, ap, sym, ◌∙◌, take, drop, length, length-drop, rules, arith}
-use Rattle.std.specs.Prelude.{unwrap_or, option_to_list}
+use Rattle.std.proofs.Common.{◌≡◌, ◌-◌, ◌≤◌, List, [], ℕ, All, None, subst, ap, sym, ◌∙◌, take, length, length-drop, rules, arith}
+use Rattle.std.specs.Prelude.{unwrap_or}
 use Rattle.std.proofs.lemmas.List.{take-append-le}
 use Rattle.std.proofs.lemmas.List.Elements.{All-pop}
 use Rattle.adb_client.specs.Input.{Incoming, EndsWith}

@@ -1,4 +1,4 @@
-use Rattle.std.proofs.Common.{◌≡◌, ◌-◌, ◌≤◌, ◌++◌, List, ℕ, ap, sym, ◌∙◌, take, drop, length, rules, arith}
+use Rattle.std.proofs.Common.{◌≡◌, ◌-◌, ◌≤◌, ◌++◌, ap, take, drop, length, rules, arith}
 use Rattle.adb_client.specs.Input.{Incoming}
 use Rattle.adb_client.proofs.Seams.{take_drop}
 use Rattle.adb_client.proofs.input.Input.hold_cuts.Goals as goal

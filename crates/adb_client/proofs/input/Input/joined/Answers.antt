@@ -1,4 +1,4 @@
-use Rattle.std.proofs.Common.{◌≡◌, ◌-◌, ◌++◌, [], ap, ◌∙◌, take, min, length, rules, arith}
+use Rattle.std.proofs.Common.{◌≡◌, ◌-◌, ◌++◌, ap, ◌∙◌, take, min, length, rules}
 use Rattle.adb_client.specs.Input.{Incoming}
 use Rattle.adb_client.proofs.Seams.{take_some}
 use Rattle.adb_client.proofs.input.Input.joined.Goals as goal

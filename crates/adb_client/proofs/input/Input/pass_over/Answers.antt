@@ -1,4 +1,4 @@
-use Rattle.std.proofs.Common.{◌≡◌, ◌-◌, ◌++◌, ◌≤◌, List, ℕ, All, subst, sym, ap, ◌∙◌, take, drop, min, length, length-drop, rules, arith}
+use Rattle.std.proofs.Common.{◌≡◌, ◌-◌, ◌++◌, List, ℕ, All, subst, sym, ap, ◌∙◌, min, length, length-drop, rules, arith}
 use Rattle.adb_client.specs.Input.{Incoming, EndsWith}
 use Rattle.adb_client.proofs.Seams.{drop_some}
 use Rattle.adb_client.proofs.Ends.{ends_shorter}

@@ -1,4 +1,4 @@
-use Rattle.std.proofs.Common.{◌≡◌, ◌-◌, ◌++◌, List, ℕ, ap, sym, ◌∙◌, take, length, length-append, rules, arith}
+use Rattle.std.proofs.Common.{◌≡◌, ◌-◌, ◌++◌, ℕ, ap, length, rules}
 use Rattle.adb_client.specs.Input.{Incoming}
 use Rattle.adb_client.proofs.Seams.{take_both}
 use Rattle.adb_client.proofs.input.Input.take_back.Goals as goal
