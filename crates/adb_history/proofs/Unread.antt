@@ -237,7 +237,7 @@ none_left [] fits = refl
 none_left (b ∷ rest) fits = absurd (omega (arith, fits))
 
 module _ (devices : DeviceTable) (forwards : List (ℕ × ForwardRow)) where
-  Finishes : (Asked → Asked) → ℕ → Type 0
+  abbrev Finishes : (Asked → Asked) → ℕ → Type 0
   Finishes others n = (q : Asked) → length q.rest ≤ n → q.next ≡ None → (others q).next ≡ None → request_at (others q).rest ≡ More
 
   next_finished : (next : Next) (reply : List ℕ) (size n : ℕ) (others : Asked → Asked) (q : Asked)
@@ -276,50 +276,42 @@ module _ (devices : DeviceTable) (forwards : List (ℕ × ForwardRow)) where
   asks_finished bytes q none e = reads_finished (length (q.rest ++ bytes)) (record q { rest = q.rest ++ bytes }) (omega arith) none e
 
 -- ---- what follows a request, the client asks no more
-NotAsking : ℕ → Rows (Option Client) → Type 0
+abbrev NotAsking : ℕ → Rows (Option Client) → Type 0
 NotAsking c clients = (y : Client) → clients c ≡ Some y → y.about.phase ≡ Asking → ⊥
 
-closes_not : (c : ℕ) (clients : Rows (Option Client)) (x : Client) → clients c ≡ Some x
-    → (y : Client) → change_row c (option_and_then closing) clients c ≡ Some y → y.about.phase ≡ Asking → ⊥
-closes_not c clients x is y e asks = closing_asks x.due x y (sym (changed_here c closing clients x is) ∙ e) asks
+module _ (c : ℕ) (clients : Rows (Option Client)) (x : Client) (is : clients c ≡ Some x) where
+  closes_not : NotAsking c (change_row c (option_and_then closing) clients)
+  closes_not y e asks = closing_asks x.due x y (sym (changed_here c closing clients x is) ∙ e) asks
 
-other_not : (c : ℕ) (f : Client → Option Client) (z : Client) (clients : Rows (Option Client)) (x : Client) → (clients c ≡ Some x) × (f x ≡ Some z)
-    → (z.about.phase ≡ Asking → ⊥)
-    → (y : Client) → change_row c (option_and_then f) clients c ≡ Some y → y.about.phase ≡ Asking → ⊥
-other_not c f z clients x is other y e asks =
-    let same : z ≡ y = (let both : Some z ≡ Some y = sym is.1 ∙ (sym (changed_here c f clients x is.0) ∙ e) in cc) in
-    other (ap (λ (k : Client). k.about.phase) same ∙ asks)
+  other_not : (f : Client → Option Client) (z : Client) → f x ≡ Some z → (z.about.phase ≡ Asking → ⊥) → NotAsking c (change_row c (option_and_then f) clients)
+  other_not f z now other y e asks =
+      let same : z ≡ y = (let both : Some z ≡ Some y = sym now ∙ (sym (changed_here c f clients x is) ∙ e) in cc) in
+      other (ap (λ (k : Client). k.about.phase) same ∙ asks)
 
-opens_not : (c t : ℕ) (service : List ℕ) (s : State) (x : Client) → s.clients c ≡ Some x
-    → (y : Client) → (opens false c t service s).state.clients c ≡ Some y → y.about.phase ≡ Asking → ⊥
-opens_not c t service s x is = go (eqb s.drawn stream_ids)
-  where
-    reply : List ℕ
-    reply = (failed (codes "no stream ids left")).bytes
+module _ (c : ℕ) (s : State) (x : Client) (is : s.clients c ≡ Some x) where
+  opens_not : (t : ℕ) (service : List ℕ) → NotAsking c (opens false c t service s).state.clients
+  opens_not t service = go (eqb s.drawn stream_ids)
+    where
+      go : (b : Bool) → NotAsking c (cond b (no_ids_left false c s) (asks_for (s.drawn + 1) c t service s)).state.clients
+      go true = closes_not c (to_client c (with_due (failed (codes "no stream ids left")).bytes) s).clients
+          (record x { due = x.due ++ (failed (codes "no stream ids left")).bytes })
+          (changed_here c (with_due (failed (codes "no stream ids left")).bytes) s.clients x is)
+      go false = other_not c s.clients x is (in_phase (Opening (s.drawn + 1))) (record x { about = record x.about { phase = Opening (s.drawn + 1) } }) refl
+          (no_opening (s.drawn + 1))
 
-    go : (b : Bool) → (y : Client) → (cond b (no_ids_left false c s) (asks_for (s.drawn + 1) c t service s)).state.clients c ≡ Some y → y.about.phase ≡ Asking
-        → ⊥
-    go true = closes_not c (to_client c (with_due (failed (codes "no stream ids left")).bytes) s).clients
-        (record x { due = x.due ++ (failed (codes "no stream ids left")).bytes })
-        (changed_here c (with_due (failed (codes "no stream ids left")).bytes) s.clients x is)
-    go false = other_not c (in_phase (Opening (s.drawn + 1))) (record x { about = record x.about { phase = Opening (s.drawn + 1) } }) s.clients x (is, refl)
-        (no_opening (s.drawn + 1))
-
-goes_on_not : (devices : DeviceTable) (next : Next) (c : ℕ) (s : State) (x : Client) → s.clients c ≡ Some x → IsAskedReady devices (Some next)
-    → (y : Client) → (goes_on (Some next) c s).state.clients c ≡ Some y → y.about.phase ≡ Asking → ⊥
-goes_on_not devices (Select id) c s x is ready = absurd ready
-goes_on_not devices Close c s x is ready = closes_not c s.clients x is
-goes_on_not devices (Track long) c s x is ready =
-    other_not c (tracks long) (record x { about = record x.about { phase = Tracking; long = long; mark = false }; held = [] }) s.clients x
-    (is, refl) no_tracking
-goes_on_not devices (Open t service) c s x is ready = opens_not c t service s x is
-goes_on_not devices (Bind t local remote chosen) c s x is ready =
-    let want : Want = record { transport = t; local = local; remote = remote } in
-    other_not c (awaits want) (record x { about = record x.about { phase = Binding; want = Some want }; held = [] }) s.clients x (is, refl) no_binding
-goes_on_not devices (Rebind t local remote) c s x is ready = closes_not c s.clients x is
-goes_on_not devices (Unbind local) c s x is ready = closes_not c s.clients x is
-goes_on_not devices UnbindAll c s x is ready = closes_not c s.clients x is
-goes_on_not devices Stop c s x is ready = closes_not c (only_client c s.clients) x (rw (eq-eqb c c refl) is)
+  goes_on_not : (devices : DeviceTable) (next : Next) → IsAskedReady devices (Some next) → NotAsking c (goes_on (Some next) c s).state.clients
+  goes_on_not devices (Select id) ready = absurd ready
+  goes_on_not devices Close ready = closes_not c s.clients x is
+  goes_on_not devices (Track long) ready =
+      other_not c s.clients x is (tracks long) (record x { about = record x.about { phase = Tracking; long = long; mark = false }; held = [] }) refl no_tracking
+  goes_on_not devices (Open t service) ready = opens_not t service
+  goes_on_not devices (Bind t local remote chosen) ready =
+      let want : Want = record { transport = t; local = local; remote = remote } in
+      other_not c s.clients x is (awaits want) (record x { about = record x.about { phase = Binding; want = Some want }; held = [] }) refl no_binding
+  goes_on_not devices (Rebind t local remote) ready = closes_not c s.clients x is
+  goes_on_not devices (Unbind local) ready = closes_not c s.clients x is
+  goes_on_not devices UnbindAll ready = closes_not c s.clients x is
+  goes_on_not devices Stop ready = closes_not c (only_client c s.clients) x (rw (eq-eqb c c refl) is)
 
 -- ---- read
 -- a client asked: each client that asks keeps no whole request then
@@ -358,8 +350,8 @@ asks_unread q c client s is asked h = record { more = λ k y apart e asks. all k
         let same : now ≡ y = (let both : Some now ≡ Some y = sym here ∙ e in cc) in
         ap (λ (k : Client). request_at k.held) (sym same) ∙ asked.1 f
     at_c (Some next) f y e asks =
-        absurd (goes_on_not s.devices next c (to_client c (with_due q.replies) (to_client c (has_asked q) s)) now here
-        (subst (IsAskedReady s.devices) f asked.0) y e asks)
+        absurd (goes_on_not c (to_client c (with_due q.replies) (to_client c (has_asked q) s)) now here s.devices next
+          (subst (IsAskedReady s.devices) f asked.0) y e asks)
 
     all : (k : ℕ) (y : Client) → (goes_on q.next c (to_client c (with_due q.replies) (to_client c (has_asked q) s))).state.clients k ≡ Some y
         → y.about.phase ≡ Asking → (c ≡ k) ⊎ (c ≡ k → ⊥) → request_at y.held ≡ More
