@@ -18,7 +18,7 @@ use Rattle.adb_history.specs.Machine.{History, state, rule, ups, IsLegal}
 use Rattle.adb_history.specs.Moves.{IsClientIn, IsLed}
 use Rattle.adb_history.specs.Order.{IsSettled}
 use Rattle.adb_history.specs.Orderly.{HasOwner, IsOrderlyStream, HasStream, IsQuiet, IsResting, IsOrderlyClient, IsOrderly}
-use Rattle.adb_history.specs.Owned.{StreamOf, OwnerIn, HoldsIn, IsOwned, AllDrawn}
+use Rattle.adb_history.specs.Owned.{StreamOf, OwnerIn, HoldsIn, AllDrawn}
 use Rattle.adb_history.specs.Linked.{IsLinked}
 use Rattle.adb_history.proofs.OwnedMoves.{together_at}
 use Rattle.adb_history.proofs.LinkMoves.{all_linked}

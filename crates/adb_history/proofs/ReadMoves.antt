@@ -97,10 +97,10 @@ module _ {P : State → List Event → Type 0} (k : Moves P) where
         let taken : Client = record x.client { about = record x.client.about { selected = q.selected }; held = q.rest } in
         let owed : Made = owe_client c q.replies now in
         let here : owed.state.clients c ≡ Some (record taken { due = taken.due ++ q.replies }) =
-          changed_here c (with_due q.replies) now.clients taken (changed_here c (has_asked q) s.clients x.client x.here) in
+        changed_here c (with_due q.replies) now.clients taken (changed_here c (has_asked q) s.clients x.client x.here) in
         after_then P w owed (goes_on q.next c) (k.due c q.replies now w h)
-          (λ v kept. goes_on_kept owed.state v kept q.next c
-            (record { client = record taken { due = taken.due ++ q.replies }; here = here; in_phase = x.in_phase }) ready)
+        (λ v kept. goes_on_kept owed.state v kept q.next c
+        (record { client = record taken { due = taken.due ++ q.replies }; here = here; in_phase = x.in_phase }) ready)
 
   module _ (s : State) (w : List Event) (h : P s w) where
     -- ---- read
@@ -112,10 +112,10 @@ module _ {P : State → List Event → Type 0} (k : Moves P) where
         asks_kept s w q c x (asks_ready s.devices s.forwards bytes (asked_before x.client) tt) (asked x.in_phase)
     reads_in_kept (Opening l) c bytes x asked =
         after_quietly P w (to_client c (with_held (x.client.held ++ bytes)) s)
-          (k.holds c x.client (x.client.held ++ bytes) s w x.here (subst HasOne (sym x.in_phase) tt) h)
+        (k.holds c x.client (x.client.held ++ bytes) s w x.here (subst HasOne (sym x.in_phase) tt) h)
     reads_in_kept (Streaming l) c bytes x asked =
         after_quietly P w (to_client c (with_held (x.client.held ++ bytes)) s)
-          (k.holds c x.client (x.client.held ++ bytes) s w x.here (subst HasOne (sym x.in_phase) tt) h)
+        (k.holds c x.client (x.client.held ++ bytes) s w x.here (subst HasOne (sym x.in_phase) tt) h)
     reads_in_kept Binding c bytes x asked = after_quietly P w s h
     reads_in_kept Tracking c bytes x asked = after_quietly P w s h
     reads_in_kept Closing c bytes x asked = after_quietly P w s h
@@ -127,7 +127,7 @@ module _ {P : State → List Event → Type 0} (k : Moves P) where
     bound_for_kept (Some want) c port x =
         let b : Bound = bound_by want port s.devices s.forwards in
         closes_with_kept k (record s { forwards = b.forwards }) w
-            (k.forwards b.forwards s w (led_bound want port s.devices s.forwards) h) c b.reply x.client x.here
+        (k.forwards b.forwards s w (led_bound want port s.devices s.forwards) h) c b.reply x.client x.here
         (subst IsFree (sym x.in_phase) tt)
 
     bound_in_kept : (phase : Phase) (want : Option Want) (c port : ℕ) → IsClientIn s c phase → After P w (bound_in phase want c port s)

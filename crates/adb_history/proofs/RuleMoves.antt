@@ -136,7 +136,7 @@ module _ {P : State → List Event → Type 0} (k : Moves P) where
         let left : ℕ = min (to_hand stream.part.flow) due in
         let handed : State = to_client c (hands n) s in
         let less : Made = tells_handed stream.part.flow left l stream
-          (to_stream l (with_stream_part (with_flow (handed_to left stream.part.flow) stream.part)) handed) in
+        (to_stream l (with_stream_part (with_flow (handed_to left stream.part.flow) stream.part)) handed) in
         after_if P w (nat_eq left (to_hand stream.part.flow)) (quietly handed) less
         (λ e. hands_kept s w h c n x.client x.here (λ m other in_m at_m. same m other in_m at_m (eqb-true left (to_hand stream.part.flow) e)))
         (λ e. less_kept left stream at_l (omega arith, omega arith))
@@ -199,7 +199,7 @@ module _ {P : State → List Event → Type 0} (k : Moves P) where
       let is : now.clients c ≡ Some (new_client true c) = rw (eq-eqb c c refl) refl in
       after_if P w (is_connected row.transport s.devices) (opens true c row.transport row.remote now) (quietly (comes_in_vain s))
       (λ e. service_kept k now w here true c row.transport row.remote
-        (record { client = new_client true c; here = is; in_phase = refl }) (inl e)) (λ e. after_quietly P w (comes_in_vain s) vain)
+      (record { client = new_client true c; here = is; in_phase = refl }) (inl e)) (λ e. after_quietly P w (comes_in_vain s) vain)
 
   -- What is to be shown before the rule of an entry: that it holds with who comes; of a client that asks, that it holds with what is read.
   abbrev pub Begins : Entry → State → List Event → Type 0

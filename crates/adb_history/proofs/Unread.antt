@@ -351,7 +351,7 @@ asks_unread q c client s is asked h = record { more = λ k y apart e asks. all k
         ap (λ (k : Client). request_at k.held) (sym same) ∙ asked.1 f
     at_c (Some next) f y e asks =
         absurd (goes_on_not c (to_client c (with_due q.replies) (to_client c (has_asked q) s)) now here s.devices next
-          (subst (IsAskedReady s.devices) f asked.0) y e asks)
+        (subst (IsAskedReady s.devices) f asked.0) y e asks)
 
     all : (k : ℕ) (y : Client) → (goes_on q.next c (to_client c (with_due q.replies) (to_client c (has_asked q) s))).state.clients k ≡ Some y
         → y.about.phase ≡ Asking → (c ≡ k) ⊎ (c ≡ k → ⊥) → request_at y.held ≡ More
