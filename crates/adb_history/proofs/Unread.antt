@@ -240,19 +240,18 @@ module _ (devices : DeviceTable) (forwards : List (ℕ × ForwardRow)) where
   abbrev Finishes : (Asked → Asked) → ℕ → Type 0
   Finishes others n = (q : Asked) → length q.rest ≤ n → q.next ≡ None → (others q).next ≡ None → request_at (others q).rest ≡ More
 
-  next_finished : (next : Next) (reply : List ℕ) (size n : ℕ) (others : Asked → Asked) (q : Asked)
-      → ((q : Asked) → length q.rest ≤ n → q.next ≡ None → (others q).next ≡ None → request_at (others q).rest ≡ More)
-      → (length (drop size q.rest) ≤ n) × (q.next ≡ None) → (after_next next reply size others q).next ≡ None
-      → request_at (after_next next reply size others q).rest ≡ More
-  next_finished (Select id) reply size n others q later h e = later (record (replied reply size q) { selected = Some id }) h.0 h.1 e
-  next_finished Close reply size n others q later h e = absurd (let clash : Some Close ≡ None = e in cc)
-  next_finished (Track long) reply size n others q later h e = absurd (let clash : Some (Track long) ≡ None = e in cc)
-  next_finished (Open t service) reply size n others q later h e = absurd (let clash : Some (Open t service) ≡ None = e in cc)
-  next_finished (Bind t local remote chosen) reply size n others q later h e = absurd (let clash : Some (Bind t local remote chosen) ≡ None = e in cc)
-  next_finished (Rebind t local remote) reply size n others q later h e = absurd (let clash : Some (Rebind t local remote) ≡ None = e in cc)
-  next_finished (Unbind local) reply size n others q later h e = absurd (let clash : Some (Unbind local) ≡ None = e in cc)
-  next_finished UnbindAll reply size n others q later h e = absurd (let clash : Some UnbindAll ≡ None = e in cc)
-  next_finished Stop reply size n others q later h e = absurd (let clash : Some Stop ≡ None = e in cc)
+  module _ (reply : List ℕ) (size n : ℕ) (others : Asked → Asked) (later : Finishes others n) where
+    next_finished : (next : Next) (q : Asked) → (length (drop size q.rest) ≤ n) × (q.next ≡ None) → (after_next next reply size others q).next ≡ None
+        → request_at (after_next next reply size others q).rest ≡ More
+    next_finished (Select id) q h e = later (record (replied reply size q) { selected = Some id }) h.0 h.1 e
+    next_finished Close q h e = absurd (let clash : Some Close ≡ None = e in cc)
+    next_finished (Track long) q h e = absurd (let clash : Some (Track long) ≡ None = e in cc)
+    next_finished (Open t service) q h e = absurd (let clash : Some (Open t service) ≡ None = e in cc)
+    next_finished (Bind t local remote chosen) q h e = absurd (let clash : Some (Bind t local remote chosen) ≡ None = e in cc)
+    next_finished (Rebind t local remote) q h e = absurd (let clash : Some (Rebind t local remote) ≡ None = e in cc)
+    next_finished (Unbind local) q h e = absurd (let clash : Some (Unbind local) ≡ None = e in cc)
+    next_finished UnbindAll q h e = absurd (let clash : Some UnbindAll ≡ None = e in cc)
+    next_finished Stop q h e = absurd (let clash : Some Stop ≡ None = e in cc)
 
   reads_finished : (n : ℕ) (q : Asked) → length q.rest ≤ n → q.next ≡ None → (reads_on devices forwards n q).next ≡ None
       → request_at (reads_on devices forwards n q).rest ≡ More
@@ -269,7 +268,7 @@ module _ (devices : DeviceTable) (forwards : List (ℕ × ForwardRow)) where
       go (Whole len) is later e =
           let a : Answer = answer devices.rows forwards q.selected (meaning (take len (drop 4 q.rest))) in
           let shorter : length (drop (4 + len) q.rest) ≤ n = omega (arith, length-drop (4 + len) q.rest, fits) in
-          next_finished a.next a.bytes (4 + len) n (reads_on devices forwards n) q later (shorter, none) e
+          next_finished a.bytes (4 + len) n (reads_on devices forwards n) later a.next q (shorter, none) e
 
   pub asks_finished : (bytes : List ℕ) (q : Asked) → q.next ≡ None → (asks_with devices forwards bytes q).next ≡ None
       → request_at (asks_with devices forwards bytes q).rest ≡ More
