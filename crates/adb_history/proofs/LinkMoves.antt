@@ -236,21 +236,22 @@ module _ (s : State) (h : IsLinked s) where
           unauthorized_silent r (ap (λ (x : Row). x.state) (sym same) ∙ offline) (h.rows.silent t r e)
 
 -- ---- streams change
-part_on : (devices : DeviceTable) (stream x y : Stream) (part : Part) → stream ≡ x → with_stream_part part x ≡ Some y
-    → has_credit part.flow ≡ has_credit stream.part.flow
-    → OnLink devices x → OnLink devices y
-part_on devices stream x y part same e credit h =
-    let z : Stream = record x { part = part } in
-    let row : z ≡ y = cc in
-    subst (OnLink devices) row (on_same devices x z (refl, credit ∙ ap (λ (k : Stream). has_credit k.part.flow) same) h)
+module _ (s : State) (part : Part) where
+  part_on : (x y : Stream) → with_stream_part part x ≡ Some y → has_credit part.flow ≡ has_credit x.part.flow → OnLink s.devices x → OnLink s.devices y
+  part_on x y e credit h =
+      let z : Stream = record x { part = part } in
+      let row : z ≡ y = cc in
+      subst (OnLink s.devices) row (on_same s.devices x z (refl, credit) h)
 
-stream_on : (s : State) (l : ℕ) (stream : Stream) (part : Part) → s.streams l ≡ Some stream → has_credit part.flow ≡ has_credit stream.part.flow
-    → AllOn s.devices s.streams → AllOn s.devices (to_stream l (with_stream_part part) s).streams
-stream_on s l stream part is credit on =
-    on_change s.devices l (with_stream_part part) s.streams (λ x y there e h. part_on s.devices stream x y part (same x there) e credit h) on
-  where
-    same : (x : Stream) → s.streams l ≡ Some x → stream ≡ x
-    same x there = let both : Some stream ≡ Some x = sym is ∙ there in cc
+  stream_on : (l : ℕ) (stream : Stream) → s.streams l ≡ Some stream → has_credit part.flow ≡ has_credit stream.part.flow
+      → AllOn s.devices s.streams → AllOn s.devices (to_stream l (with_stream_part part) s).streams
+  stream_on l stream is credit on =
+      on_change s.devices l (with_stream_part part) s.streams (λ x y there e h. part_on x y e (same x there) h) on
+    where
+      same : (x : Stream) → s.streams l ≡ Some x → has_credit part.flow ≡ has_credit x.part.flow
+      same x there =
+          let row : stream ≡ x = (let both : Some stream ≡ Some x = sym is ∙ there in cc) in
+          credit ∙ ap (λ (y : Stream). has_credit y.part.flow) row
 
 gone_on : (s : State) (l : ℕ) → AllOn s.devices s.streams → AllOn s.devices (to_stream l none_kept s).streams
 gone_on s l on = on_change s.devices l none_kept s.streams (λ x y there e h. on_gone s.devices x y e h) on
@@ -306,17 +307,17 @@ linked_moves = record {
   flows = λ l stream flow s w is like h. record {
     owned = owned_moves.flows l stream flow s w is like h.owned;
     rows = h.rows;
-    on = stream_on s l stream (with_flow flow stream.part) is like.credit h.on;
+    on = stream_on s (with_flow flow stream.part) l stream is like.credit h.on;
   };
   accepts = λ l payload stream s w is known turn h. record {
     owned = owned_moves.accepts l payload stream s w is known turn h.owned;
     rows = h.rows;
-    on = stream_on s l stream (with_flow (accepted (length payload) stream.part.flow) stream.part) is (credit_accepted (length payload) stream.part.flow) h.on;
+    on = stream_on s (with_flow (accepted (length payload) stream.part.flow) stream.part) l stream is (credit_accepted (length payload) stream.part.flow) h.on;
   };
   opens = λ l remote word stream s w is new h. record {
     owned = owned_moves.opens l remote word stream s w is new h.owned;
     rows = h.rows;
-    on = stream_on s l stream (with_remote remote (with_flow (first_credit word stream.part.flow) stream.part)) is (credit_first word stream.part.flow) h.on;
+    on = stream_on s (with_remote remote (with_flow (first_credit word stream.part.flow) stream.part)) l stream is (credit_first word stream.part.flow) h.on;
   };
   orphan_goes = λ l stream s w is orphan h. record { owned = owned_moves.orphan_goes l stream s w is orphan h.owned; rows = h.rows; on = gone_on s l h.on };
   ends = λ l ending stream s w is h. ends_linked s h l ending stream w is;
@@ -325,7 +326,7 @@ linked_moves = record {
   fails_asked = λ c l x stream s w is in_ at_l h. record {
     owned = owned_moves.fails_asked c l x stream s w is in_ at_l h.owned;
     rows = h.rows;
-    on = stream_on s l stream (orphaned stream.part) at_l refl h.on;
+    on = stream_on s (orphaned stream.part) l stream at_l refl h.on;
   };
   links = λ t f s w h. record { owned = owned_moves.links t f s w h.owned; rows = link_rows s.devices s.links s.forwards t f h.rows; on = h.on };
   link_ends = λ t ending s w h. link_ends_linked s h t ending;

@@ -15,14 +15,15 @@ use Rattle.adb_history.specs.Rows.{Client, State}
 use Rattle.adb_history.specs.Events.{Made, quietly}
 use Rattle.adb_history.specs.Flow.{is_streaming}
 use Rattle.adb_history.specs.Machine.{History, state, rule, ups, IsLegal}
-use Rattle.adb_history.specs.Moves.{IsLed}
+use Rattle.adb_history.specs.Moves.{IsClientIn, IsLed}
 use Rattle.adb_history.specs.Order.{IsSettled}
 use Rattle.adb_history.specs.Orderly.{HasOwner, IsOrderlyStream, HasStream, IsQuiet, IsResting, IsOrderlyClient, IsOrderly}
-use Rattle.adb_history.specs.Owned.{StreamOf, OwnerIn, HoldsIn, IsOwned, AllDrawn}
+use Rattle.adb_history.specs.Owned.{StreamOf, OwnerIn, HoldsIn, AllDrawn}
 use Rattle.adb_history.specs.Linked.{IsLinked}
 use Rattle.adb_history.proofs.OwnedMoves.{together_at}
 use Rattle.adb_history.proofs.LinkMoves.{all_linked}
 use Rattle.adb_history.proofs.Unread.{UnreadBut, all_unread}
+use Rattle.adb_history.proofs.Sweep.{Sending}
 use Rattle.adb_history.proofs.Quiet.{IsCalm, IsCalmAt, up_all_calms, up_all_drawn, all_still}
 
 -- ---- at rest each stream is calm
@@ -51,59 +52,64 @@ settled h legal =
     let still : ups (state h) ≡ quietly (state h) = all_still (state h).drawn (state h) (rests_calm h legal) in
     record { state = ap (λ (m : Made). m.state) still; told = ap (λ (m : Made). m.told) still }
 
--- ---- streams
-owner_orderly : (s : State) (orphan : Bool) (l : ℕ) (x : Stream) → OwnerIn orphan s.clients l x → HasOwner orphan s l x
-owner_orderly s true l x h = h
-owner_orderly s false l x h = record { client = h.client; is = h.is; phase = h.phase }
+-- ---- streams and clients
+-- what is known of a state at rest
+record AtRest (s : State) : Type 0 where
+  fits : IsLinked s
+  calm : (m : ℕ) → 0 < m → IsCalmAt m s
+  unread : UnreadBut (λ _. ⊥) s.clients
 
-stream_orderly : (s : State) → IsLinked s → (l : ℕ) (x : Stream) → s.streams l ≡ Some x → IsOrderlyStream s l x
-stream_orderly s h l x is =
-    let own = h.owned.owned.stream l x is in
-    let on = h.on l x is in
-    record {
-      id = own.id;
-      connected = on.connected;
-      credit = on.credit;
-      sound = own.sound;
-      fresh = own.fresh;
-      owner = owner_orderly s x.part.orphan l x own.owner;
-    }
+module _ (s : State) (h : AtRest s) where
+  owner_orderly : (orphan : Bool) (l : ℕ) (x : Stream) → OwnerIn orphan s.clients l x → HasOwner orphan s l x
+  owner_orderly true l x owner = owner
+  owner_orderly false l x owner = record { client = owner.client; is = owner.is; phase = owner.phase }
 
--- ---- clients
-has_stream : (s : State) (c l : ℕ) → StreamOf s.streams c l → HasStream s c l
-has_stream s c l h = record { stream = h.stream; is = h.is; client = h.client; owned = h.owned }
+  stream_orderly : (l : ℕ) (x : Stream) → s.streams l ≡ Some x → IsOrderlyStream s l x
+  stream_orderly l x is =
+      let own = h.fits.owned.owned.stream l x is in
+      let on = h.fits.on l x is in
+      record {
+        id = own.id;
+        connected = on.connected;
+        credit = on.credit;
+        sound = own.sound;
+        fresh = own.fresh;
+        owner = owner_orderly x.part.orphan l x own.owner;
+      }
 
-streaming_quiet : (s : State) (c l : ℕ) (client : Client) → IsOwned s → ((m : ℕ) → 0 < m → IsCalmAt m s)
-    → (s.clients c ≡ Some client) × (client.about.phase ≡ Streaming l)
-    → StreamOf s.streams c l → (x : Stream) → s.streams l ≡ Some x → IsQuiet s client x
-streaming_quiet s c l client h calm is own x there =
-    let t = together_at s h c l client x own (is.0, there) in
-    let streaming : is_streaming l client.about.phase ≡ true = ap (is_streaming l) is.1 ∙ eq-eqb l l refl in
-    let here : s.clients x.client ≡ Some client = ap s.clients t.of ∙ is.0 in
-    let quiet : IsCalm s.devices client x = (calm l (some l x h.rows there)).calm
-    (record { stream = x; client = client; there = there; here = here; streaming = streaming }) in
-    record { nothing = quiet.nothing; goes_on = quiet.goes_on; accepted = t.accepted }
-  where
-    some : (m : ℕ) (y : Stream) → AllDrawn s → s.streams m ≡ Some y → 0 < m
-    some zero y rows e = absurd (let clash : None ≡ Some y = sym rows.streams.zero ∙ e in cc)
-    some (suc m) y rows e = omega arith
+  has_stream : (c l : ℕ) → StreamOf s.streams c l → HasStream s c l
+  has_stream c l own = record { stream = own.stream; is = own.is; client = own.client; owned = own.owned }
 
-rests_orderly : (s : State) (c : ℕ) (client : Client) → IsOwned s → ((m : ℕ) → 0 < m → IsCalmAt m s) → UnreadBut (λ _. ⊥) s.clients → s.clients c ≡ Some client
-    → (phase : Phase) → client.about.phase ≡ phase → HoldsIn phase s.streams c client → IsResting phase s c client
-rests_orderly s c client h calm unread is Asking e holds = unread.more c client (λ b. b) is e
-rests_orderly s c client h calm unread is (Opening l) e holds = has_stream s c l holds
-rests_orderly s c client h calm unread is (Streaming l) e holds = (has_stream s c l holds, streaming_quiet s c l client h calm (is, e) holds)
-rests_orderly s c client h calm unread is Binding e holds = holds
-rests_orderly s c client h calm unread is Tracking e holds = holds
-rests_orderly s c client h calm unread is Closing e holds = holds
-rests_orderly s c client h calm unread is Gone e holds = holds
+  streaming_quiet : (c l : ℕ) (x : IsClientIn s c (Streaming l)) → StreamOf s.streams c l → (y : Stream) → s.streams l ≡ Some y → IsQuiet s x.client y
+  streaming_quiet c l x own y there =
+      let t = together_at s h.fits.owned c l x.client y own (x.here, there) in
+      let streaming : is_streaming l x.client.about.phase ≡ true = ap (is_streaming l) x.in_phase ∙ eq-eqb l l refl in
+      let here : s.clients y.client ≡ Some x.client = ap s.clients t.of ∙ x.here in
+      let sending : Sending l s = record { stream = y; client = x.client; there = there; here = here; streaming = streaming } in
+      let quiet : IsCalm s.devices x.client y = (h.calm l (some l y there)).calm sending in
+      record { nothing = quiet.nothing; goes_on = quiet.goes_on; accepted = t.accepted }
+    where
+      some : (m : ℕ) (z : Stream) → s.streams m ≡ Some z → 0 < m
+      some zero z e = absurd (let clash : None ≡ Some z = sym h.fits.owned.rows.streams.zero ∙ e in cc)
+      some (suc m) z e = omega arith
 
-client_orderly : (s : State) → IsOwned s → ((m : ℕ) → 0 < m → IsCalmAt m s) → UnreadBut (λ _. ⊥) s.clients → (c : ℕ) (client : Client)
-    → s.clients c ≡ Some client
-    → IsOrderlyClient s c client
-client_orderly s h calm unread c client is =
-    let own = h.owned.client c client is in
-    record { number = own.number; mark = own.mark; rests = rests_orderly s c client h calm unread is client.about.phase refl own.holds }
+  rests_orderly : (phase : Phase) (c : ℕ) (x : IsClientIn s c phase) → HoldsIn phase s.streams c x.client → IsResting phase s c x.client
+  rests_orderly Asking c x holds = h.unread.more c x.client (λ b. b) x.here x.in_phase
+  rests_orderly (Opening l) c x holds = has_stream c l holds
+  rests_orderly (Streaming l) c x holds = (has_stream c l holds, streaming_quiet c l x holds)
+  rests_orderly Binding c x holds = holds
+  rests_orderly Tracking c x holds = holds
+  rests_orderly Closing c x holds = holds
+  rests_orderly Gone c x holds = holds
+
+  client_orderly : (c : ℕ) (client : Client) → s.clients c ≡ Some client → IsOrderlyClient s c client
+  client_orderly c client is =
+      let own = h.fits.owned.owned.client c client is in
+      record {
+        number = own.number;
+        mark = own.mark;
+        rests = rests_orderly client.about.phase c (record { client = client; here = is; in_phase = refl }) own.holds;
+      }
 
 -- ---- forwards
 led_at : (devices : DeviceTable) (forwards : List (ℕ × ForwardRow)) → All (IsLed devices) forwards → (port : ℕ) (row : ForwardRow) → at port forwards ≡ Some row
@@ -121,6 +127,7 @@ led_at devices (e ∷ es) all port row is = go (is_eq (nat_cmp port e.0)) (led_a
 pub orderly : (h : History) → IsLegal h → IsOrderly (state h)
 orderly h legal =
     let fits : IsLinked (state h) = all_linked h legal in
+    let rest : AtRest (state h) = record { fits = fits; calm = rests_calm h legal; unread = all_unread h } in
     record {
       clients = fits.owned.rows.clients;
       links = fits.owned.rows.links;
@@ -128,7 +135,7 @@ orderly h legal =
       rises = fits.rows.rises;
       linked = fits.rows.linked;
       silent = fits.rows.silent;
-      stream = stream_orderly (state h) fits;
-      client = client_orderly (state h) fits.owned (rests_calm h legal) (all_unread h);
+      stream = stream_orderly (state h) rest;
+      client = client_orderly (state h) rest;
       forward = led_at (state h).devices (state h).forwards fits.rows.led;
     }

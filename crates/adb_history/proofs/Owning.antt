@@ -34,28 +34,28 @@ AlikeAt streams c None None = Unit {0}
 AlikeAt streams c (Some before) (Some after) = Alike streams c before after
 AlikeAt streams c _ _ = ⊥
 
-owner_alike : (old new : Rows (Option Client)) (streams : Rows (Option Stream)) (orphan : Bool) (l : ℕ) (x : Stream)
-    → ((c : ℕ) → AlikeAt streams c (old c) (new c)) → OwnerIn orphan old l x → OwnerIn orphan new l x
-owner_alike old new streams true l x alike owner = (owner.0, go (old x.client) (new x.client) owner.1 (alike x.client))
-  where
-    go : (o n : Option Client) → o ≡ None → AlikeAt streams x.client o n → n ≡ None
-    go None None e a = refl
-    go None (Some y) e a = absurd a
-    go (Some y) None e a = absurd a
-    go (Some y) (Some z) e a = absurd (cc)
-owner_alike old new streams false l x alike owner = go (old x.client) (new x.client) owner.is refl (alike x.client)
-  where
-    go : (o n : Option Client) → o ≡ Some owner.client → new x.client ≡ n → AlikeAt streams x.client o n → ClientOf new l x
-    go None n e f a = absurd (let clash : None ≡ Some owner.client = e in cc)
-    go (Some y) None e f a = absurd a
-    go (Some y) (Some z) e f a =
-        let same : y ≡ owner.client = cc in
-        record {
-          client = z;
-          is = f;
-          phase = a.phase ∙ (ap (λ (k : Client). k.about.phase) same ∙ owner.phase);
-          accepted = omega (arith, owner.accepted, a.due, ap (λ (k : Client). length k.due) same);
-        }
+module _ (old new : Rows (Option Client)) (streams : Rows (Option Stream)) (alike : (c : ℕ) → AlikeAt streams c (old c) (new c)) where
+  owner_alike : (orphan : Bool) (l : ℕ) (x : Stream) → OwnerIn orphan old l x → OwnerIn orphan new l x
+  owner_alike true l x owner = (owner.0, go (old x.client) (new x.client) owner.1 (alike x.client))
+    where
+      go : (o n : Option Client) → o ≡ None → AlikeAt streams x.client o n → n ≡ None
+      go None None e a = refl
+      go None (Some y) e a = absurd a
+      go (Some y) None e a = absurd a
+      go (Some y) (Some z) e a = absurd (cc)
+  owner_alike false l x owner = go (old x.client) (new x.client) owner.is refl (alike x.client)
+    where
+      go : (o n : Option Client) → o ≡ Some owner.client → new x.client ≡ n → AlikeAt streams x.client o n → ClientOf new l x
+      go None n e f a = absurd (let clash : None ≡ Some owner.client = e in cc)
+      go (Some y) None e f a = absurd a
+      go (Some y) (Some z) e f a =
+          let same : y ≡ owner.client = cc in
+          record {
+            client = z;
+            is = f;
+            phase = a.phase ∙ (ap (λ (k : Client). k.about.phase) same ∙ owner.phase);
+            accepted = omega (arith, owner.accepted, a.due, ap (λ (k : Client). length k.due) same);
+          }
 
 -- Where each client is alike, all is owned as before.
 pub owned_alike : (joined : ℕ) (old new : Rows (Option Client)) (streams : Rows (Option Stream))
@@ -63,7 +63,7 @@ pub owned_alike : (joined : ℕ) (old new : Rows (Option Client)) (streams : Row
 owned_alike joined old new streams alike owned = record {
   stream = λ l x is.
       let was = owned.stream l x is in
-      record { id = was.id; from = was.from; sound = was.sound; fresh = was.fresh; owner = owner_alike old new streams x.part.orphan l x alike was.owner };
+      record { id = was.id; from = was.from; sound = was.sound; fresh = was.fresh; owner = owner_alike old new streams alike x.part.orphan l x was.owner };
   client = λ c y is. go c y (old c) (new c) refl is (alike c);
 }
   where

@@ -22,18 +22,18 @@ IsAskedReady devices (Some (Select id)) = ⊥
 IsAskedReady devices (Some next) = OpensReady devices.rows next
 
 module _ (devices : DeviceTable) where
-  next_ready : (next : Next) (reply : List ℕ) (size : ℕ) (others : Asked → Asked) (q : Asked) → OpensReady devices.rows next
-      → ((q : Asked) → IsAskedReady devices q.next → IsAskedReady devices (others q).next) → IsAskedReady devices q.next
-      → IsAskedReady devices (after_next next reply size others q).next
-  next_ready (Select id) reply size others q right later h = later (record (replied reply size q) { selected = Some id }) h
-  next_ready Close reply size others q right later h = right
-  next_ready (Track long) reply size others q right later h = right
-  next_ready (Open t service) reply size others q right later h = right
-  next_ready (Bind transport local remote chosen) reply size others q right later h = right
-  next_ready (Rebind transport local remote) reply size others q right later h = right
-  next_ready (Unbind local) reply size others q right later h = right
-  next_ready UnbindAll reply size others q right later h = right
-  next_ready Stop reply size others q right later h = right
+  module _ (reply : List ℕ) (size : ℕ) (others : Asked → Asked) (later : (q : Asked) → IsAskedReady devices q.next → IsAskedReady devices (others q).next) where
+    next_ready : (next : Next) (q : Asked) → OpensReady devices.rows next → IsAskedReady devices q.next → IsAskedReady devices
+        (after_next next reply size others q).next
+    next_ready (Select id) q right h = later (record (replied reply size q) { selected = Some id }) h
+    next_ready Close q right h = right
+    next_ready (Track long) q right h = right
+    next_ready (Open t service) q right h = right
+    next_ready (Bind transport local remote chosen) q right h = right
+    next_ready (Rebind transport local remote) q right h = right
+    next_ready (Unbind local) q right h = right
+    next_ready UnbindAll q right h = right
+    next_ready Stop q right h = right
 
   found_ready : (forwards : List (ℕ × ForwardRow)) (f : Found) (others : Asked → Asked) (q : Asked)
       → ((q : Asked) → IsAskedReady devices q.next → IsAskedReady devices (others q).next) → IsAskedReady devices q.next
@@ -43,7 +43,7 @@ module _ (devices : DeviceTable) where
   found_ready forwards (Whole len) others q later h =
       let request : Request = meaning (take len (drop 4 q.rest)) in
       let a : Answer = answer devices.rows forwards q.selected request in
-      next_ready a.next a.bytes (4 + len) others q (answer_ready devices.rows forwards q.selected request) later h
+      next_ready a.bytes (4 + len) others later a.next q (answer_ready devices.rows forwards q.selected request) h
 
   reads_ready : (forwards : List (ℕ × ForwardRow)) (n : ℕ) (q : Asked) → IsAskedReady devices q.next → IsAskedReady devices (reads_on devices forwards n q).next
   reads_ready forwards zero q h = h

@@ -26,7 +26,7 @@ use Rattle.adb_history.specs.Handing.{client_left, takes_of, puts_to, sends}
 use Rattle.adb_history.specs.Asking.{asks_with}
 use Rattle.adb_history.specs.Reading.{asked_before, has_asked, reads_from, comes, comes_in_vain, enters_by}
 use Rattle.adb_history.specs.Machine.{unplugs_on, rule, ups, step}
-use Rattle.adb_history.specs.Moves.{After, Moves, IsLike, plugged_in}
+use Rattle.adb_history.specs.Moves.{IsClientIn, After, Moves, IsLike, plugged_in}
 use Rattle.adb_history.proofs.Following.{after_quietly, after_then, after_if, changed_here}
 use Rattle.adb_history.proofs.StreamMoves.{owes_kept, service_kept, up_all_kept}
 use Rattle.adb_history.proofs.PacketMoves.{receives_kept}
@@ -95,75 +95,81 @@ module _ {P : State → List Event → Type 0} (k : Moves P) where
         → After P w (quietly (to_client c (hands n) s))
     hands_kept c n client is fits = after_quietly P w (to_client c (hands n) s) (k.hands c n client s w is fits h)
 
-  module _ (s : State) (w : List Event) (h : P s w) where
-    less_kept : (c n l left : ℕ) (client : Client) (stream : Stream) → s.clients c ≡ Some client → client.about.phase ≡ Streaming l → s.streams l ≡ Some stream
-        → (left ≤ to_hand stream.part.flow) × (left ≤ length (drop n client.due)) → After P w (tells_handed stream.part.flow left l stream
+  -- so many bytes are handed to the client of a stream
+  module _ (s : State) (w : List Event) (h : P s w) (c n l : ℕ) (x : IsClientIn s c (Streaming l)) where
+    less_kept : (left : ℕ) (stream : Stream) → s.streams l ≡ Some stream → (left ≤ to_hand stream.part.flow) × (left ≤ length (drop n x.client.due))
+        → After P w (tells_handed stream.part.flow left l stream
         (to_stream l (with_stream_part (with_flow (handed_to left stream.part.flow) stream.part)) (to_client c (hands n) s)))
-    less_kept c n l left client stream is in_ at_l fits =
+    less_kept left stream at_l fits =
         let flow : Flow = handed_to left stream.part.flow in
         let part = with_flow flow stream.part in
         let less : State = to_stream l (with_stream_part part) s in
         let here : less.streams l ≡ with_stream_part part stream = changed_here l (with_stream_part part) s.streams stream at_l in
         let now : P less w = k.flows l stream flow s w at_l (like_handed left stream.part.flow fits.0) h in
         tells_handed_kept (to_client c (hands n) less) w
-        (k.hands c n client less w is (λ m other in_m at_m. within m other in_m at_m here) now) stream.part.flow left l stream (ap is_some here)
+        (k.hands c n x.client less w x.here (λ m other in_m at_m. within m other in_m at_m here) now) stream.part.flow left l stream (ap is_some here)
       where
-        within : (m : ℕ) (other : Stream) → client.about.phase ≡ Streaming m
+        within : (m : ℕ) (other : Stream) → x.client.about.phase ≡ Streaming m
             → (to_stream l (with_stream_part (with_flow (handed_to left stream.part.flow) stream.part)) s).streams m ≡ Some other
             → (to_stream l (with_stream_part (with_flow (handed_to left stream.part.flow) stream.part)) s).streams l
             ≡ with_stream_part (with_flow (handed_to left stream.part.flow) stream.part) stream
-            → to_hand other.part.flow ≤ length (drop n client.due)
+            → to_hand other.part.flow ≤ length (drop n x.client.due)
         within m other in_m at_m here =
             let rows = (to_stream l (with_stream_part (with_flow (handed_to left stream.part.flow) stream.part)) s).streams in
-            let e : l ≡ m = same_stream client.about.phase l m in_ in_m in
+            let e : l ≡ m = same_stream x.client.about.phase l m x.in_phase in_m in
             let same : with_stream_part (with_flow (handed_to left stream.part.flow) stream.part) stream ≡ Some other = sym here ∙ (ap rows e ∙ at_m) in
             let row : record stream { part = with_flow (handed_to left stream.part.flow) stream.part } ≡ other = cc in
-            let hand : to_hand (handed_to left stream.part.flow) ≡ to_hand other.part.flow = ap (λ (x : Stream). to_hand x.part.flow) row in
+            let hand : to_hand (handed_to left stream.part.flow) ≡ to_hand other.part.flow = ap (λ (y : Stream). to_hand y.part.flow) row in
             omega (arith, hand, left_now left stream.part.flow, fits.1)
 
-    stream_left_kept : (c n l : ℕ) (client : Client) (o : Option Stream) → s.clients c ≡ Some client → client.about.phase ≡ Streaming l → s.streams l ≡ o
-        → After P w (stream_left (length (drop n client.due)) l o (to_client c (hands n) s))
-    stream_left_kept c n l client None is in_ at_l =
-        hands_kept s w h c n client is (λ m other in_m at_m. absurd (none m other in_m at_m))
+    stream_left_kept : (o : Option Stream) → s.streams l ≡ o → After P w (stream_left (length (drop n x.client.due)) l o (to_client c (hands n) s))
+    stream_left_kept None at_l =
+        hands_kept s w h c n x.client x.here (λ m other in_m at_m. absurd (none m other in_m at_m))
       where
-        none : (m : ℕ) (other : Stream) → client.about.phase ≡ Streaming m → s.streams m ≡ Some other → ⊥
+        none : (m : ℕ) (other : Stream) → x.client.about.phase ≡ Streaming m → s.streams m ≡ Some other → ⊥
         none m other in_m at_m =
-            let e : l ≡ m = same_stream client.about.phase l m in_ in_m in
+            let e : l ≡ m = same_stream x.client.about.phase l m x.in_phase in_m in
             let clash : None ≡ Some other = sym at_l ∙ (ap s.streams e ∙ at_m) in
             cc
-    stream_left_kept c n l client (Some stream) is in_ at_l =
-        let due : ℕ = length (drop n client.due) in
+    stream_left_kept (Some stream) at_l =
+        let due : ℕ = length (drop n x.client.due) in
         let left : ℕ = min (to_hand stream.part.flow) due in
         let handed : State = to_client c (hands n) s in
         let less : Made = tells_handed stream.part.flow left l stream
         (to_stream l (with_stream_part (with_flow (handed_to left stream.part.flow) stream.part)) handed) in
         after_if P w (nat_eq left (to_hand stream.part.flow)) (quietly handed) less
-        (λ e. hands_kept s w h c n client is (λ m other in_m at_m. same m other in_m at_m (eqb-true left (to_hand stream.part.flow) e)))
-        (λ e. less_kept c n l left client stream is in_ at_l (omega arith, omega arith))
+        (λ e. hands_kept s w h c n x.client x.here (λ m other in_m at_m. same m other in_m at_m (eqb-true left (to_hand stream.part.flow) e)))
+        (λ e. less_kept left stream at_l (omega arith, omega arith))
       where
-        same : (m : ℕ) (other : Stream) → client.about.phase ≡ Streaming m → s.streams m ≡ Some other
-            → min (to_hand stream.part.flow) (length (drop n client.due)) ≡ to_hand stream.part.flow → to_hand other.part.flow ≤ length (drop n client.due)
+        same : (m : ℕ) (other : Stream) → x.client.about.phase ≡ Streaming m → s.streams m ≡ Some other
+            → min (to_hand stream.part.flow) (length (drop n x.client.due)) ≡ to_hand stream.part.flow → to_hand other.part.flow ≤ length (drop n x.client.due)
         same m other in_m at_m is_all =
-            let e : l ≡ m = same_stream client.about.phase l m in_ in_m in
+            let e : l ≡ m = same_stream x.client.about.phase l m x.in_phase in_m in
             let both : Some stream ≡ Some other = sym at_l ∙ (ap s.streams e ∙ at_m) in
             let row : stream ≡ other = cc in
-            let hand : to_hand stream.part.flow ≡ to_hand other.part.flow = ap (λ (x : Stream). to_hand x.part.flow) row in
+            let hand : to_hand stream.part.flow ≡ to_hand other.part.flow = ap (λ (y : Stream). to_hand y.part.flow) row in
             omega (arith, hand, is_all)
 
-    client_left_kept : (phase : Phase) (c n : ℕ) (client : Client) → s.clients c ≡ Some client → client.about.phase ≡ phase
-        → After P w (client_left phase (length (drop n client.due)) (to_client c (hands n) s))
-    client_left_kept (Streaming l) c n client is in_ = stream_left_kept c n l client (s.streams l) is in_ refl
-    client_left_kept Asking c n client is in_ = hands_kept s w h c n client is (λ l x e f. absurd (let g : Asking ≡ Streaming l = sym in_ ∙ e in cc))
-    client_left_kept (Opening m) c n client is in_ =
-        hands_kept s w h c n client is (λ l x e f. absurd (let g : Opening m ≡ Streaming l = sym in_ ∙ e in cc))
-    client_left_kept Binding c n client is in_ = hands_kept s w h c n client is (λ l x e f. absurd (let g : Binding ≡ Streaming l = sym in_ ∙ e in cc))
-    client_left_kept Tracking c n client is in_ = hands_kept s w h c n client is (λ l x e f. absurd (let g : Tracking ≡ Streaming l = sym in_ ∙ e in cc))
-    client_left_kept Closing c n client is in_ = hands_kept s w h c n client is (λ l x e f. absurd (let g : Closing ≡ Streaming l = sym in_ ∙ e in cc))
-    client_left_kept Gone c n client is in_ = hands_kept s w h c n client is (λ l x e f. absurd (let g : Gone ≡ Streaming l = sym in_ ∙ e in cc))
+  module _ (s : State) (w : List Event) (h : P s w) where
+    client_left_kept : (phase : Phase) (c n : ℕ) (x : IsClientIn s c phase)
+        → After P w (client_left phase (length (drop n x.client.due)) (to_client c (hands n) s))
+    client_left_kept (Streaming l) c n x = stream_left_kept s w h c n l x (s.streams l) refl
+    client_left_kept Asking c n x =
+        hands_kept s w h c n x.client x.here (λ l y e f. absurd (let g : Asking ≡ Streaming l = sym x.in_phase ∙ e in cc))
+    client_left_kept (Opening m) c n x =
+        hands_kept s w h c n x.client x.here (λ l y e f. absurd (let g : Opening m ≡ Streaming l = sym x.in_phase ∙ e in cc))
+    client_left_kept Binding c n x =
+        hands_kept s w h c n x.client x.here (λ l y e f. absurd (let g : Binding ≡ Streaming l = sym x.in_phase ∙ e in cc))
+    client_left_kept Tracking c n x =
+        hands_kept s w h c n x.client x.here (λ l y e f. absurd (let g : Tracking ≡ Streaming l = sym x.in_phase ∙ e in cc))
+    client_left_kept Closing c n x =
+        hands_kept s w h c n x.client x.here (λ l y e f. absurd (let g : Closing ≡ Streaming l = sym x.in_phase ∙ e in cc))
+    client_left_kept Gone c n x =
+        hands_kept s w h c n x.client x.here (λ l y e f. absurd (let g : Gone ≡ Streaming l = sym x.in_phase ∙ e in cc))
 
     takes_kept : (c n : ℕ) (o : Option Client) → s.clients c ≡ o → After P w (takes_of c n o s)
     takes_kept c n None is = after_quietly P w s h
-    takes_kept c n (Some client) is = client_left_kept client.about.phase c n client is refl
+    takes_kept c n (Some client) is = client_left_kept client.about.phase c n (record { client = client; here = is; in_phase = refl })
 
   module _ (s : State) (w : List Event) (h : P s w) where
     puts_kept : (o : Option Client) (c n : ℕ) → After P w (puts_to o c n s)

@@ -237,22 +237,21 @@ none_left [] fits = refl
 none_left (b ∷ rest) fits = absurd (omega (arith, fits))
 
 module _ (devices : DeviceTable) (forwards : List (ℕ × ForwardRow)) where
-  Finishes : (Asked → Asked) → ℕ → Type 0
+  abbrev Finishes : (Asked → Asked) → ℕ → Type 0
   Finishes others n = (q : Asked) → length q.rest ≤ n → q.next ≡ None → (others q).next ≡ None → request_at (others q).rest ≡ More
 
-  next_finished : (next : Next) (reply : List ℕ) (size n : ℕ) (others : Asked → Asked) (q : Asked)
-      → ((q : Asked) → length q.rest ≤ n → q.next ≡ None → (others q).next ≡ None → request_at (others q).rest ≡ More)
-      → (length (drop size q.rest) ≤ n) × (q.next ≡ None) → (after_next next reply size others q).next ≡ None
-      → request_at (after_next next reply size others q).rest ≡ More
-  next_finished (Select id) reply size n others q later h e = later (record (replied reply size q) { selected = Some id }) h.0 h.1 e
-  next_finished Close reply size n others q later h e = absurd (let clash : Some Close ≡ None = e in cc)
-  next_finished (Track long) reply size n others q later h e = absurd (let clash : Some (Track long) ≡ None = e in cc)
-  next_finished (Open t service) reply size n others q later h e = absurd (let clash : Some (Open t service) ≡ None = e in cc)
-  next_finished (Bind t local remote chosen) reply size n others q later h e = absurd (let clash : Some (Bind t local remote chosen) ≡ None = e in cc)
-  next_finished (Rebind t local remote) reply size n others q later h e = absurd (let clash : Some (Rebind t local remote) ≡ None = e in cc)
-  next_finished (Unbind local) reply size n others q later h e = absurd (let clash : Some (Unbind local) ≡ None = e in cc)
-  next_finished UnbindAll reply size n others q later h e = absurd (let clash : Some UnbindAll ≡ None = e in cc)
-  next_finished Stop reply size n others q later h e = absurd (let clash : Some Stop ≡ None = e in cc)
+  module _ (reply : List ℕ) (size n : ℕ) (others : Asked → Asked) (later : Finishes others n) where
+    next_finished : (next : Next) (q : Asked) → (length (drop size q.rest) ≤ n) × (q.next ≡ None) → (after_next next reply size others q).next ≡ None
+        → request_at (after_next next reply size others q).rest ≡ More
+    next_finished (Select id) q h e = later (record (replied reply size q) { selected = Some id }) h.0 h.1 e
+    next_finished Close q h e = absurd (let clash : Some Close ≡ None = e in cc)
+    next_finished (Track long) q h e = absurd (let clash : Some (Track long) ≡ None = e in cc)
+    next_finished (Open t service) q h e = absurd (let clash : Some (Open t service) ≡ None = e in cc)
+    next_finished (Bind t local remote chosen) q h e = absurd (let clash : Some (Bind t local remote chosen) ≡ None = e in cc)
+    next_finished (Rebind t local remote) q h e = absurd (let clash : Some (Rebind t local remote) ≡ None = e in cc)
+    next_finished (Unbind local) q h e = absurd (let clash : Some (Unbind local) ≡ None = e in cc)
+    next_finished UnbindAll q h e = absurd (let clash : Some UnbindAll ≡ None = e in cc)
+    next_finished Stop q h e = absurd (let clash : Some Stop ≡ None = e in cc)
 
   reads_finished : (n : ℕ) (q : Asked) → length q.rest ≤ n → q.next ≡ None → (reads_on devices forwards n q).next ≡ None
       → request_at (reads_on devices forwards n q).rest ≡ More
@@ -269,57 +268,49 @@ module _ (devices : DeviceTable) (forwards : List (ℕ × ForwardRow)) where
       go (Whole len) is later e =
           let a : Answer = answer devices.rows forwards q.selected (meaning (take len (drop 4 q.rest))) in
           let shorter : length (drop (4 + len) q.rest) ≤ n = omega (arith, length-drop (4 + len) q.rest, fits) in
-          next_finished a.next a.bytes (4 + len) n (reads_on devices forwards n) q later (shorter, none) e
+          next_finished a.bytes (4 + len) n (reads_on devices forwards n) later a.next q (shorter, none) e
 
   pub asks_finished : (bytes : List ℕ) (q : Asked) → q.next ≡ None → (asks_with devices forwards bytes q).next ≡ None
       → request_at (asks_with devices forwards bytes q).rest ≡ More
   asks_finished bytes q none e = reads_finished (length (q.rest ++ bytes)) (record q { rest = q.rest ++ bytes }) (omega arith) none e
 
 -- ---- what follows a request, the client asks no more
-NotAsking : ℕ → Rows (Option Client) → Type 0
+abbrev NotAsking : ℕ → Rows (Option Client) → Type 0
 NotAsking c clients = (y : Client) → clients c ≡ Some y → y.about.phase ≡ Asking → ⊥
 
-closes_not : (c : ℕ) (clients : Rows (Option Client)) (x : Client) → clients c ≡ Some x
-    → (y : Client) → change_row c (option_and_then closing) clients c ≡ Some y → y.about.phase ≡ Asking → ⊥
-closes_not c clients x is y e asks = closing_asks x.due x y (sym (changed_here c closing clients x is) ∙ e) asks
+module _ (c : ℕ) (clients : Rows (Option Client)) (x : Client) (is : clients c ≡ Some x) where
+  closes_not : NotAsking c (change_row c (option_and_then closing) clients)
+  closes_not y e asks = closing_asks x.due x y (sym (changed_here c closing clients x is) ∙ e) asks
 
-other_not : (c : ℕ) (f : Client → Option Client) (z : Client) (clients : Rows (Option Client)) (x : Client) → (clients c ≡ Some x) × (f x ≡ Some z)
-    → (z.about.phase ≡ Asking → ⊥)
-    → (y : Client) → change_row c (option_and_then f) clients c ≡ Some y → y.about.phase ≡ Asking → ⊥
-other_not c f z clients x is other y e asks =
-    let same : z ≡ y = (let both : Some z ≡ Some y = sym is.1 ∙ (sym (changed_here c f clients x is.0) ∙ e) in cc) in
-    other (ap (λ (k : Client). k.about.phase) same ∙ asks)
+  other_not : (f : Client → Option Client) (z : Client) → f x ≡ Some z → (z.about.phase ≡ Asking → ⊥) → NotAsking c (change_row c (option_and_then f) clients)
+  other_not f z now other y e asks =
+      let same : z ≡ y = (let both : Some z ≡ Some y = sym now ∙ (sym (changed_here c f clients x is) ∙ e) in cc) in
+      other (ap (λ (k : Client). k.about.phase) same ∙ asks)
 
-opens_not : (c t : ℕ) (service : List ℕ) (s : State) (x : Client) → s.clients c ≡ Some x
-    → (y : Client) → (opens false c t service s).state.clients c ≡ Some y → y.about.phase ≡ Asking → ⊥
-opens_not c t service s x is = go (eqb s.drawn stream_ids)
-  where
-    reply : List ℕ
-    reply = (failed (codes "no stream ids left")).bytes
+module _ (c : ℕ) (s : State) (x : Client) (is : s.clients c ≡ Some x) where
+  opens_not : (t : ℕ) (service : List ℕ) → NotAsking c (opens false c t service s).state.clients
+  opens_not t service = go (eqb s.drawn stream_ids)
+    where
+      go : (b : Bool) → NotAsking c (cond b (no_ids_left false c s) (asks_for (s.drawn + 1) c t service s)).state.clients
+      go true = closes_not c (to_client c (with_due (failed (codes "no stream ids left")).bytes) s).clients
+          (record x { due = x.due ++ (failed (codes "no stream ids left")).bytes })
+          (changed_here c (with_due (failed (codes "no stream ids left")).bytes) s.clients x is)
+      go false = other_not c s.clients x is (in_phase (Opening (s.drawn + 1))) (record x { about = record x.about { phase = Opening (s.drawn + 1) } }) refl
+          (no_opening (s.drawn + 1))
 
-    go : (b : Bool) → (y : Client) → (cond b (no_ids_left false c s) (asks_for (s.drawn + 1) c t service s)).state.clients c ≡ Some y → y.about.phase ≡ Asking
-        → ⊥
-    go true = closes_not c (to_client c (with_due (failed (codes "no stream ids left")).bytes) s).clients
-        (record x { due = x.due ++ (failed (codes "no stream ids left")).bytes })
-        (changed_here c (with_due (failed (codes "no stream ids left")).bytes) s.clients x is)
-    go false = other_not c (in_phase (Opening (s.drawn + 1))) (record x { about = record x.about { phase = Opening (s.drawn + 1) } }) s.clients x (is, refl)
-        (no_opening (s.drawn + 1))
-
-goes_on_not : (devices : DeviceTable) (next : Next) (c : ℕ) (s : State) (x : Client) → s.clients c ≡ Some x → IsAskedReady devices (Some next)
-    → (y : Client) → (goes_on (Some next) c s).state.clients c ≡ Some y → y.about.phase ≡ Asking → ⊥
-goes_on_not devices (Select id) c s x is ready = absurd ready
-goes_on_not devices Close c s x is ready = closes_not c s.clients x is
-goes_on_not devices (Track long) c s x is ready =
-    other_not c (tracks long) (record x { about = record x.about { phase = Tracking; long = long; mark = false }; held = [] }) s.clients x
-    (is, refl) no_tracking
-goes_on_not devices (Open t service) c s x is ready = opens_not c t service s x is
-goes_on_not devices (Bind t local remote chosen) c s x is ready =
-    let want : Want = record { transport = t; local = local; remote = remote } in
-    other_not c (awaits want) (record x { about = record x.about { phase = Binding; want = Some want }; held = [] }) s.clients x (is, refl) no_binding
-goes_on_not devices (Rebind t local remote) c s x is ready = closes_not c s.clients x is
-goes_on_not devices (Unbind local) c s x is ready = closes_not c s.clients x is
-goes_on_not devices UnbindAll c s x is ready = closes_not c s.clients x is
-goes_on_not devices Stop c s x is ready = closes_not c (only_client c s.clients) x (rw (eq-eqb c c refl) is)
+  goes_on_not : (devices : DeviceTable) (next : Next) → IsAskedReady devices (Some next) → NotAsking c (goes_on (Some next) c s).state.clients
+  goes_on_not devices (Select id) ready = absurd ready
+  goes_on_not devices Close ready = closes_not c s.clients x is
+  goes_on_not devices (Track long) ready =
+      other_not c s.clients x is (tracks long) (record x { about = record x.about { phase = Tracking; long = long; mark = false }; held = [] }) refl no_tracking
+  goes_on_not devices (Open t service) ready = opens_not t service
+  goes_on_not devices (Bind t local remote chosen) ready =
+      let want : Want = record { transport = t; local = local; remote = remote } in
+      other_not c s.clients x is (awaits want) (record x { about = record x.about { phase = Binding; want = Some want }; held = [] }) refl no_binding
+  goes_on_not devices (Rebind t local remote) ready = closes_not c s.clients x is
+  goes_on_not devices (Unbind local) ready = closes_not c s.clients x is
+  goes_on_not devices UnbindAll ready = closes_not c s.clients x is
+  goes_on_not devices Stop ready = closes_not c (only_client c s.clients) x (rw (eq-eqb c c refl) is)
 
 -- ---- read
 -- a client asked: each client that asks keeps no whole request then
@@ -358,7 +349,7 @@ asks_unread q c client s is asked h = record { more = λ k y apart e asks. all k
         let same : now ≡ y = (let both : Some now ≡ Some y = sym here ∙ e in cc) in
         ap (λ (k : Client). request_at k.held) (sym same) ∙ asked.1 f
     at_c (Some next) f y e asks =
-        absurd (goes_on_not s.devices next c (to_client c (with_due q.replies) (to_client c (has_asked q) s)) now here
+        absurd (goes_on_not c (to_client c (with_due q.replies) (to_client c (has_asked q) s)) now here s.devices next
         (subst (IsAskedReady s.devices) f asked.0) y e asks)
 
     all : (k : ℕ) (y : Client) → (goes_on q.next c (to_client c (with_due q.replies) (to_client c (has_asked q) s))).state.clients k ≡ Some y

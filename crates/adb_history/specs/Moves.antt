@@ -18,14 +18,14 @@ use Rattle.adb_client.specs.declared.about.Want.{Want}
 use Rattle.adb_reply.specs.Laws.{TakesPayloads}
 use Rattle.adb_history.specs.Rows.{new_link, Client, Link, State, to_client, to_link, to_stream, none_kept, with_due, with_held, in_phase}
 use Rattle.adb_history.specs.Rows.{with_link_due, with_stream_part}
-use Rattle.adb_history.specs.Events.{Made, Event, Ending, quietly, then_also, due_to_client, due_to_link, ended}
+use Rattle.adb_history.specs.Events.{Made, Event, Ending, due_to_client, due_to_link, ended}
 use Rattle.adb_history.specs.Links.{is_connected, is_credit}
 use Rattle.adb_history.specs.Clients.{closes}
 use Rattle.adb_history.specs.Streams.{draw, ends_row}
 use Rattle.adb_history.specs.Flow.{with_flow}
 use Rattle.adb_history.specs.Tracking.{mark_all}
 use Rattle.adb_history.specs.Losing.{link_ends, orphaned, input_ended, stream_of, stops}
-use Rattle.adb_history.specs.Packets.{connects, with_remote, first_credit, is_out_of_turn, accepted, streams_end_first, goes_online, unauthorized_from}
+use Rattle.adb_history.specs.Packets.{connects, with_remote, first_credit, is_out_of_turn, accepted, unauthorized_from}
 use Rattle.adb_history.specs.Reading.{tracks, awaits}
 use Rattle.adb_history.specs.Handing.{to_hand, hands, unmarked}
 use Rattle.adb_history.specs.Orderly.{IsSoundFlow}
