@@ -1,5 +1,6 @@
 -- What each entry makes of a state is what it says of a history.
-use Rattle.std.proofs.Common.{ℕ, ◌+◌, ◌≡◌, ◌≢◌, ◌≤◌, ◌<◌, Bool, true, false, cond, List, [], ◌∷◌, ◌++◌, length, drop, Option, Some, None, is_some, refl, sym, ◌∙◌, ap, subst, arith, eqb, inl, inr, ◌⊎◌}
+use Rattle.std.proofs.Common.{ℕ, ◌+◌, ◌≡◌, ◌≢◌, ◌≤◌, ◌<◌, Bool, true, false, cond, List, [], ◌∷◌, ◌++◌, length, drop, Option, Some, None, is_some}
+use Rattle.std.proofs.Common.{refl, sym, ◌∙◌, ap, subst, arith, eqb, inl, inr, ◌⊎◌}
 use Rattle.std.proofs.lemmas.Bool.{eqb-true, eq-eqb, ne_eqb, cases_eq}
 use Rattle.std.proofs.lemmas.List.Elements.{All-weaker}
 use Rattle.std.specs.Prelude.{◌&&◌, ◌||◌, not, is_none}
@@ -39,16 +40,18 @@ use Rattle.adb_history.proofs.QuietRules.{keeps_up_all, keeps_client_ends, keeps
 use Rattle.adb_history.proofs.QuietPackets.{keeps_mark_all, keeps_lists_first, keeps_client_left}
 use Rattle.adb_history.proofs.LinkChanges.{changes_link_ends}
 use Rattle.adb_history.proofs.AnswersWithin.{row_within}
-use Rattle.adb_history.proofs.Outputs.{IsTied, tied_rule, tied, row_below, connected_is}
+use Rattle.adb_history.proofs.OutputEntries.{IsTied, tied_rule, tied, row_below, connected_is}
 use Rattle.adb_history.proofs.Received.{received}
 use Rattle.adb_history.proofs.DeviceTurns.{IsGood, turns_link_ends, turns_cut}
-use Rattle.adb_history.proofs.Tables.{puts_tables}
+use Rattle.adb_history.proofs.TableStays.{puts_tables}
 use Rattle.adb_history.proofs.Devices.{ShowsDevices, shows_devices, shows_rule, all_devices}
-use Rattle.adb_history.proofs.Waiting.{NoneWaits, AreFree, Leaves, leaves_all, leaves_over, leaves_mark_all, leaves_receives, leaves_link_ends, leaves_puts, free_after, none_waits_after}
+use Rattle.adb_history.proofs.Waiting.{NoneWaits, AreFree, Leaves, leaves_all, leaves_over, free_after, none_waits_after}
+use Rattle.adb_history.proofs.WaitingPackets.{leaves_mark_all, leaves_receives, leaves_link_ends, leaves_puts}
 use Rattle.adb_history.proofs.Asked.{Unused}
 use Rattle.adb_history.proofs.Owning.{Owns, owns_over, owns_all, owns_free, owns_opens, opened_row, owns_closes_with, closed_with_row, owns_ends, ended_waits}
 use Rattle.adb_history.proofs.ForwardTurns.{AreLed, Leads, leads_link_ends, leads_cut, led_after, led_filter}
-use Rattle.adb_history.proofs.Booked.{Said, said, asks_in, asks_now, wants_in, wants_now, SameAsked, IsAs, Holds, holds, holds_same, idle_is, idle_says, is_stays, holds_receives, holds_puts}
+use Rattle.adb_history.proofs.Booked.{Said, said, asks_in, asks_now, wants_in, wants_now, SameAsked, IsAs, Holds, holds, holds_same, idle_is}
+use Rattle.adb_history.proofs.Booked.{idle_says, is_stays, holds_receives, holds_puts}
 use Rattle.adb_history.proofs.BookReads.{led_put}
 use Rattle.std.specs.Prelude.{codes, ◌==◌}
 use Rattle.adb_forward.specs.declared.table.TheConstants.{MAX_FORWARDS}
@@ -68,7 +71,8 @@ takes_forwards came plugged c n None s all = refl
 takes_forwards came plugged c n (Some client) s all =
     (keeps_client_left came plugged client.about.phase (length (drop n client.due)) (to_client c (hands n) s) all).forwards
 
-puts_forwards : (came plugged c n : ℕ) (o : Option Client) (s : State) → c ≤ came → AreWithin came plugged s.streams → (puts_to o c n s).state.forwards ≡ s.forwards
+puts_forwards : (came plugged c n : ℕ) (o : Option Client) (s : State) → c ≤ came → AreWithin came plugged s.streams
+    → (puts_to o c n s).state.forwards ≡ s.forwards
 puts_forwards came plugged c n None s le all = refl
 puts_forwards came plugged c n (Some client) s le all =
     let m = lists_first c client.due client s in
@@ -396,7 +400,8 @@ module _ (older : History) (legal : IsLegal older) (b : IsBooked (state older) o
   led_bound : (want : Want) (port : ℕ) → s.stopped ≡ false → AreLed s.devices (bound_by want port s.devices s.forwards).forwards
   led_bound want port on = go (is_unbound want.local port s.forwards) (is_none (at want.transport s.devices.rows)) (length s.forwards == MAX_FORWARDS)
     where
-      go : (unbound none full : Bool) → AreLed s.devices (cond {A = Bound_to} unbound (record { reply = (failed (codes "cannot bind listener")).bytes; forwards = s.forwards })
+      go : (unbound none full : Bool) → AreLed s.devices (cond {A = Bound_to} unbound
+          (record { reply = (failed (codes "cannot bind listener")).bytes; forwards = s.forwards })
           (cond {A = Bound_to} none (record { reply = (failed no_transport).bytes; forwards = s.forwards })
           (cond {A = Bound_to} full (record { reply = (failed (codes "too many forwards")).bytes; forwards = s.forwards })
           (record { reply = codes "OKAYOKAY" ++ told_port want.local port; forwards = put_forward port want.transport want.remote s.devices s.forwards })))).forwards
@@ -452,7 +457,8 @@ module _ (older : History) (legal : IsLegal older) (b : IsBooked (state older) o
       (subst (λ (r : Said). IsAs (m.state.clients n) r)
       (sym (ap (said_by n) same ∙ ap (λ (x : Bool). said_by n (record (bound_with n binding (book older)) { waits = λ k. cond x None ((book older).waits k) }))
       (eq-eqb n n refl)))
-      (idle_is (m.state.clients n) (said_by n (record (bound_with n binding (book older)) { waits = λ k. None })) (closed_with_row n binding.reply next) idle refl))
+      (idle_is (m.state.clients n) (said_by n (record (bound_with n binding (book older)) { waits = λ k. None }))
+      (closed_with_row n binding.reply next) idle refl))
       (λ c e. ap (said_by c) same ∙ ap (λ (x : Bool). record (said c older) { waits = cond x None ((book older).waits c) }) e)
 
   pub booked_bound : (n port : ℕ) → May s (Bound n port) → IsBooked (bound n port s).state (Bound n port ∷ older)

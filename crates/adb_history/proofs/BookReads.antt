@@ -126,14 +126,16 @@ module _ (c : ℕ) (bytes : List ℕ) (client : Client) (s : State) (before : As
   owns_replied : Owns c s (owe_client c now_asked.replies (to_client c (has_asked now_asked) s))
   owns_replied = owns_then c s (quietly (to_client c (has_asked now_asked) s)) (λ x. owe_client c now_asked.replies x)
       (owns_to_client c (has_asked now_asked) s
-      (λ none a e. none_of c (has_asked now_asked a) (record a { about = record a.about { selected = now_asked.selected }; held = now_asked.rest }) refl (none a e)))
+      (λ none a e. none_of c (has_asked now_asked a) (record a { about = record a.about { selected = now_asked.selected }; held = now_asked.rest }) refl
+      (none a e)))
       (owns_owe_client c now_asked.replies (to_client c (has_asked now_asked) s))
 
   ends : EndsReading now_asked.next
   ends = asks_ends s.devices s.forwards bytes (asked_before client) tt
 
   went_on : kills now_asked.next ≡ false
-      → Owns c replied_state (goes_on now_asked.next c replied_state) × LeftRow c now_asked.next replied_row ((goes_on now_asked.next c replied_state).state.clients c)
+      → Owns c replied_state (goes_on now_asked.next c replied_state)
+      × LeftRow c now_asked.next replied_row ((goes_on now_asked.next c replied_state).state.clients c)
   went_on on = owns_goes_on c now_asked.next replied_row replied_state replied_is asking ends on
 
   pub owns_asks : kills now_asked.next ≡ false → Owns c s (asks now_asked c s)
@@ -145,7 +147,8 @@ module _ (c : ℕ) (bytes : List ℕ) (client : Client) (s : State) (before : As
   is_left None r o on end asks next same waits left = record {
     asks = ap asks_now left ∙ (ap (λ (p : Phase). asks_now (Some (record replied_row { about = record replied_row.about { phase = p } }))) asking
         ∙ sym (asks ∙ ap is_none next));
-    waits = ap wants_now left ∙ (ap (λ (p : Phase). wants_now (Some (record replied_row { about = record replied_row.about { phase = p } }))) asking ∙ sym waits);
+    waits = ap wants_now left ∙ (ap (λ (p : Phase). wants_now
+        (Some (record replied_row { about = record replied_row.about { phase = p } }))) asking ∙ sym waits);
     same = λ a e f.
         let row : replied_row ≡ a = let both : Some replied_row ≡ Some a = sym left ∙ e in cc in
         subst (λ (x : Client). SameAsked r x) row (same refl);

@@ -1,5 +1,6 @@
 -- What the packets of a link make of the devices: the row of its device changes as they say, and all others stay.
-use Rattle.std.proofs.Common.{ℕ, ◌≡◌, ◌≢◌, ◌≤◌, Bool, true, false, cond, List, [], ◌∷◌, Option, Some, None, is_some, refl, sym, ◌∙◌, ap, subst, eqb, inl, inr, ◌⊎◌}
+use Rattle.std.proofs.Common.{ℕ, ◌≡◌, ◌≢◌, ◌≤◌, Bool, true, false, cond, List, [], ◌∷◌, Option, Some, None, is_some, refl, sym, ◌∙◌, ap, subst, eqb}
+use Rattle.std.proofs.Common.{inl, inr, ◌⊎◌}
 use Rattle.std.proofs.lemmas.Bool.{eqb-false, eq-eqb, ne_eqb, cases_eq}
 use Rattle.std.specs.Prelude.{nat_lt, ◌||◌, option_and_then, option_map, min}
 use Rattle.adb_outside.specs.Tables.{at, Puts, set_at}
@@ -147,7 +148,8 @@ module _ (came plugged t : ℕ) where
           → Turns t (row_connected (Some identity) version maxdata row) s (then_also m (λ s. quietly (goes_online t version maxdata identity s)))
       after m keeps =
           let first = turns_keeps s m good.linked keeps in
-          turns_then t (at t s.devices.rows) (row_connected (Some identity) version maxdata row) s m (λ s. quietly (goes_online t version maxdata identity s)) first
+          turns_then t (at t s.devices.rows) (row_connected (Some identity) version maxdata row) s m
+          (λ s. quietly (goes_online t version maxdata identity s)) first
           (turns_online version maxdata identity row m.state (record {
             streams = keeps.streams good.streams;
             rows = subst (λ (d : DeviceTable). HasRowsWithin plugged d) (sym keeps.devices) good.rows;

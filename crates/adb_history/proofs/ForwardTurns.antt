@@ -1,5 +1,6 @@
 -- What the packets of a link make of the forwards: they stay, or those that led to the link go with it.
-use Rattle.std.proofs.Common.{ℕ, ◌≡◌, ◌≢◌, ◌≤◌, Bool, true, false, cond, List, [], ◌∷◌, All, Option, Some, None, is_some, refl, sym, ◌∙◌, ap, eqb, inl, inr, ◌⊎◌}
+use Rattle.std.proofs.Common.{ℕ, ◌≡◌, ◌≢◌, ◌≤◌, Bool, true, false, cond, List, [], ◌∷◌, All, Option, Some, None, is_some, refl, sym, ◌∙◌, ap, eqb}
+use Rattle.std.proofs.Common.{inl, inr, ◌⊎◌}
 use Rattle.std.proofs.lemmas.Bool.{eq-eqb, ne_eqb, cases_eq}
 use Rattle.std.proofs.lemmas.List.Elements.{All-head, All-tail, All-weaker, filter_passes}
 use Rattle.std.specs.Prelude.{nat_lt, ◌||◌, ◌==◌, not, option_and_then, filter}
@@ -88,7 +89,8 @@ module _ (came plugged t : ℕ) where
   leads_connects version maxdata None s all = leads_link_ends broken s all
   leads_connects version maxdata (Some identity) s all =
       let m = streams_end_first (is_connected t s.devices) t s in
-      leads_then s m (λ x. quietly (goes_online t version maxdata identity x)) (first (is_connected t s.devices)) (leads_online version maxdata identity m.state)
+      leads_then s m (λ x. quietly (goes_online t version maxdata identity x)) (first (is_connected t s.devices))
+      (leads_online version maxdata identity m.state)
     where
       first : (connected : Bool) → Leads t s (streams_end_first connected t s)
       first true = leads_keeps s (all_end t lost s) (keeps_all_end came plugged t lost s all)
@@ -182,7 +184,8 @@ led_after t s m linked after others led (inl h) =
         ∙ (sym (after t) ∙ (h.1 ∙ (linked t ∙ sym (ap (λ (n : ℕ). is_some (at n s.devices.rows)) is))))
     same k (inr apart) = ap is_some (others k apart)
 led_after t s m linked after others led (inr h) =
-    h.0 ∙ filter_same (λ (entry : ℕ × ForwardRow). not (entry.1.transport == t)) (λ (entry : ℕ × ForwardRow). is_some (at entry.1.transport m.state.devices.rows))
+    h.0 ∙ filter_same (λ (entry : ℕ × ForwardRow). not (entry.1.transport == t))
+    (λ (entry : ℕ × ForwardRow). is_some (at entry.1.transport m.state.devices.rows))
     s.forwards (All-weaker (λ (entry : ℕ × ForwardRow). is_some (at entry.1.transport s.devices.rows) ≡ true)
     (λ (entry : ℕ × ForwardRow). not (entry.1.transport == t) ≡ is_some (at entry.1.transport m.state.devices.rows))
     (λ entry e. same entry.1.transport e (cases_eq entry.1.transport t)) s.forwards led)

@@ -6,12 +6,14 @@ pub mod LinkChanges
 pub mod AnswersWithin
 pub mod ReadChanges
 pub mod Outputs
+pub mod OutputEntries
 pub mod Received
 pub mod DeviceRows
 pub mod DeviceTurns
-pub mod Tables
+pub mod TableStays
 pub mod Devices
 pub mod Waiting
+pub mod WaitingPackets
 pub mod Asked
 pub mod Owning
 pub mod ForwardTurns

@@ -1,5 +1,6 @@
 -- What a link that lives keeps of its input is what the cutting of all its bytes leaves.
-use Rattle.std.proofs.Common.{ℕ, ◌+◌, ◌≡◌, ◌≤◌, ◌<◌, Bool, true, false, cond, List, [], ◌∷◌, ◌++◌, length, take, drop, Option, Some, None, refl, sym, ◌∙◌, ap, subst, arith, eqb, zero, suc}
+use Rattle.std.proofs.Common.{ℕ, ◌+◌, ◌≡◌, ◌≤◌, ◌<◌, Bool, true, false, cond, List, [], ◌∷◌, ◌++◌, length, take, drop, Option, Some, None, refl, sym}
+use Rattle.std.proofs.Common.{◌∙◌, ap, subst, arith, eqb, zero, suc}
 use Rattle.std.proofs.lemmas.Bool.{eqb-true, ne_eqb, eq-eqb}
 use Rattle.std.specs.Prelude.{option_and_then, ◌&&◌, ◌||◌, not}
 use Rattle.adb_outside.specs.Framing.{Cut, joined, cut_by, cut_at}
@@ -42,7 +43,7 @@ use Rattle.adb_history.proofs.QuietPackets.{keeps_mark_all, keeps_lists_first, k
 use Rattle.adb_history.proofs.Changes.{HasRowsWithin, Stay, Changes}
 use Rattle.adb_history.proofs.AnswersWithin.{row_within}
 use Rattle.adb_history.proofs.ReadChanges.{read_from, changes_bound}
-use Rattle.adb_history.proofs.Outputs.{IsTied, tied_rule, tied, connected_is, row_below}
+use Rattle.adb_history.proofs.OutputEntries.{IsTied, tied_rule, tied, connected_is, row_below}
 use Rattle.adb_history.proofs.LinkChanges.{sums_by, sums_after, HearsAll, HearsAllOn, hears_all, changes_faulty, faulty_gone, changes_link_ends, link_ends_gone}
 
 abbrev Cutting : Type 0
@@ -67,7 +68,8 @@ reading_at (suc k) format bytes = go (front_of format bytes) (λ f b. reading_at
 
     go : (front : Front PacketFault) → ((f : PacketFormat) (b : List ℕ) → (others f b).reading.sums ≡ sums_after (others f b).given f.sums)
         → (cut_by front_of (λ _ frame. packet_of frame) (λ format frame. format_after format (packet_of frame)) format bytes front others).reading.sums
-        ≡ sums_after (cut_by front_of (λ _ frame. packet_of frame) (λ format frame. format_after format (packet_of frame)) format bytes front others).given format.sums
+        ≡ sums_after (cut_by front_of (λ _ frame. packet_of frame)
+        (λ format frame. format_after format (packet_of frame)) format bytes front others).given format.sums
     go More rest = refl
     go (Bad fault) rest = refl
     go (Whole n) rest =
@@ -158,7 +160,8 @@ module _ (came plugged t : ℕ) (received bytes : List ℕ) where
       ∙ ap (option_and_then (with_rest c.rest)) is in
       let step : RowStep (HearsAll true c.given) (Some (record link { rest = c.rest })) (treated.state.links t) (spelled_to t treated.told) =
       subst (λ (o : Option Link). RowStep (HearsAll true c.given) o (treated.state.links t) (spelled_to t treated.told)) row
-      (subst (λ (b : Bool). RowStep (HearsAll b c.given) (rested.links t) (treated.state.links t) (spelled_to t treated.told)) (eq-eqb t t refl) (hears.links t)) in
+      (subst (λ (b : Bool). RowStep (HearsAll b c.given) (rested.links t) (treated.state.links t) (spelled_to t treated.told)) (eq-eqb t t refl)
+      (hears.links t)) in
       faulty_tie c.fault treated.state (hears.streams all)
       (λ sound. treated_tie link c (treated.state.links t) (spelled_to t treated.told) refl tie sound step)
 
@@ -187,7 +190,8 @@ module _ (came plugged : ℕ) (s : State) (all : AreWithin came plugged s.stream
   holds_puts c n (Some client) le t =
       let m = lists_first c client.due client s in
       let first = keeps_lists_first came plugged c client.due client s le in
-      holds_then (s.links t) (m.state.links t) ((takes_of c n (m.state.clients c) m.state).state.links t) (kept m first t) (takes (m.state.clients c) m.state (first.streams all))
+      holds_then (s.links t) (m.state.links t) ((takes_of c n (m.state.clients c) m.state).state.links t) (kept m first t)
+      (takes (m.state.clients c) m.state (first.streams all))
     where
       takes : (o : Option Client) (x : State) → AreWithin came plugged x.streams → RowStep Holds (x.links t) ((takes_of c n o x).state.links t) []
       takes None x within = unheard (x.links t)
@@ -211,7 +215,8 @@ module _ (came plugged : ℕ) (s : State) (all : AreWithin came plugged s.stream
   holds_others n bytes None le t apart = unheard (s.links t)
   holds_others n bytes (Some link) le t apart =
       holds_then (s.links t) (treated.state.links t) ((faulty n c.fault treated.state).state.links t)
-      (holds_then (s.links t) (rested.links t) (treated.state.links t) (first (eqb n t) apart (s.links t)) (second (eqb n t) apart (rested.links t) (treated.state.links t)
+      (holds_then (s.links t) (rested.links t) (treated.state.links t) (first (eqb n t) apart (s.links t))
+      (second (eqb n t) apart (rested.links t) (treated.state.links t)
       (spelled_to t treated.told) (hears.links t)))
       (holds (treated.state.links t) ((faulty n c.fault treated.state).state.links t) (spelled_to t (faulty n c.fault treated.state).told)
       ((changes_faulty came plugged (treated.state.links n) n c.fault treated.state (hears.streams all)).links t))
@@ -252,7 +257,8 @@ module _ (older : History) (tie : IsTied older) (h : IsReceived older) where
   abbrev s : State
   s = state older
 
-  same_tie : (m : Made) → ((t : ℕ) → RowStep Holds (s.links t) (m.state.links t) []) → (t : ℕ) → ReadTie (is_lost t older) (m.state.links t) (bytes_received t older)
+  same_tie : (m : Made) → ((t : ℕ) → RowStep Holds (s.links t) (m.state.links t) []) → (t : ℕ)
+      → ReadTie (is_lost t older) (m.state.links t) (bytes_received t older)
   same_tie m holds t = tie_holds (is_lost t older) (s.links t) (m.state.links t) (bytes_received t older) (h.links t) (holds t)
 
   quiet_tie : (m : Made) → Keeps (came_count older) (plugged_count older) s m → (t : ℕ) → ReadTie (is_lost t older) (m.state.links t) (bytes_received t older)
@@ -278,7 +284,8 @@ module _ (older : History) (tie : IsTied older) (h : IsReceived older) where
   attach_tie n kind serial may t =
       let m = plugs_in n kind serial s in
       let next = record s { devices = attached kind serial s.devices; links = put_row n (Some new_link) s.links } in
-      let keeps = keeps_over (came_count older) (plugged_count older + 1) next (mark_all next) m (keeps_mark_all (came_count older) (plugged_count older + 1) next)
+      let keeps = keeps_over (came_count older) (plugged_count older + 1) next (mark_all next) m
+      (keeps_mark_all (came_count older) (plugged_count older + 1) next)
       (keeps_owe_link (came_count older) (plugged_count older + 1) n server_cnxn (mark_all next) (omega (arith, may.1, tie.drawn))) in
       tie_holds (is_lost t older) (next.links t) (m.state.links t) (bytes_received t older) (here (eqb n t) refl)
       (holds (next.links t) (m.state.links t) (spelled_to t m.told) (keeps.links t))
@@ -302,7 +309,8 @@ module _ (older : History) (tie : IsTied older) (h : IsReceived older) where
       go true e =
           subst (λ (k : ℕ). ReadTie (is_lost k older) ((receives n bytes s).state.links k)
           (cond (not (is_lost k older)) (bytes_received k older ++ bytes) (bytes_received k older))) (eqb-true n t e)
-          (receives_tie (came_count older) (plugged_count older) n (bytes_received n older) bytes (is_lost n older) (s.links n) s refl (h.links n) below tie.streams)
+          (receives_tie (came_count older) (plugged_count older) n (bytes_received n older) bytes (is_lost n older) (s.links n) s refl
+          (h.links n) below tie.streams)
 
   detach_tie : (n : ℕ) (cause : Cause) → (t : ℕ) → ReceivedAfter (Detach n cause) older t
   detach_tie n cause t = go (eqb n t) refl (s.links n) refl
@@ -316,7 +324,8 @@ module _ (older : History) (tie : IsTied older) (h : IsReceived older) where
       go true e None is = subst (λ (o : Option Link). ReadTie true o (bytes_received t older)) (sym (ap s.links (sym (eqb-true n t e)) ∙ is)) tt
       go true e (Some link) is =
           let gone : (link_ends n ending.lost s).state.links t ≡ None =
-          ap (link_ends n ending.lost s).state.links (sym (eqb-true n t e)) ∙ link_ends_gone (came_count older) (plugged_count older) n ending.lost s tie.streams in
+          ap (link_ends n ending.lost s).state.links (sym (eqb-true n t e))
+          ∙ link_ends_gone (came_count older) (plugged_count older) n ending.lost s tie.streams in
           subst (λ (o : Option Link). ReadTie true o (bytes_received t older)) (sym gone) tt
 
   below_came : (c : ℕ) (o : Option Client) (bytes : List ℕ) → s.clients c ≡ o → MayPut s o bytes → c ≤ came_count older
@@ -338,7 +347,8 @@ module _ (older : History) (tie : IsTied older) (h : IsReceived older) where
   received_rule (Recv n bytes) may t = recv_tie n bytes may t
   received_rule (Detach n cause) may t = detach_tie n cause t
   received_rule (Put c bytes) may t = same_tie (puts c (length bytes) s)
-      (λ t. holds_puts (came_count older) (plugged_count older) s tie.streams tie.rows c (length bytes) (s.clients c) (below_came c (s.clients c) bytes refl may) t) t
+      (λ t. holds_puts (came_count older) (plugged_count older) s tie.streams tie.rows c (length bytes) (s.clients c)
+      (below_came c (s.clients c) bytes refl may) t) t
   received_rule (Send n bytes) may t = same_tie (quietly (sends n (length bytes) s))
       (λ t. holds_sends (came_count older) (plugged_count older) s tie.streams tie.rows n (length bytes) t) t
 

@@ -16,7 +16,8 @@ use Rattle.adb_history.specs.Clients.{owe_client, closes, closes_with}
 use Rattle.adb_history.specs.Streams.{opens}
 use Rattle.adb_history.specs.Forwarding.{Binding as Bound, bound_by, put_forward}
 use Rattle.adb_history.specs.Asking.{Asked, asks_with}
-use Rattle.adb_history.specs.Reading.{comes, comes_in_vain, enters_by, tracks, awaits, goes_on, asked_before, has_asked, asks, reads_in, bound_to, bound_for, bound_in, bound_at}
+use Rattle.adb_history.specs.Reading.{comes, comes_in_vain, enters_by, tracks, awaits, goes_on, asked_before, has_asked, asks, reads_in, bound_to}
+use Rattle.adb_history.specs.Reading.{bound_for, bound_in, bound_at}
 use Rattle.adb_history.specs.Handing.{lists_first, hands, client_left, takes_of, puts_to, link_hands, sends}
 use Rattle.adb_history.specs.Book.{kills}
 use Rattle.adb_history.proofs.Quiet.{AreWithin, Keeps}
@@ -24,7 +25,7 @@ use Rattle.adb_history.proofs.QuietRules.{keeps_closes, keeps_closes_with, keeps
 use Rattle.adb_history.proofs.QuietPackets.{keeps_lists_first, keeps_client_left}
 use Rattle.adb_history.proofs.Changes.{HasRowsWithin}
 use Rattle.adb_history.proofs.AnswersWithin.{NextWithin, asks_within, row_within}
-use Rattle.adb_history.proofs.Outputs.{connected_is}
+use Rattle.adb_history.proofs.OutputEntries.{connected_is}
 
 -- The devices stay, and the links that live.
 pub record StaysTables (s : State) (m : Made) : Type 0 where
@@ -116,7 +117,8 @@ module _ (came plugged c : ℕ) where
   pub reads_in_tables : (phase : Phase) (bytes : List ℕ) (client : Client) (s : State) → c ≤ came → HasRowsWithin plugged s.devices
       → AskTables (asks_kill phase bytes client s) s (reads_in phase c bytes client s)
   reads_in_tables Asking bytes client s le within =
-      asks_tables (asks_with s.devices s.forwards bytes (asked_before client)) s le (asks_within plugged s.devices within s.forwards bytes (asked_before client) tt)
+      asks_tables (asks_with s.devices s.forwards bytes (asked_before client)) s le
+      (asks_within plugged s.devices within s.forwards bytes (asked_before client) tt)
   reads_in_tables (Opening l) bytes client s le within = tables_same s (to_client c (with_held (client.held ++ bytes)) s) refl refl refl
   reads_in_tables (Streaming l) bytes client s le within = tables_same s (to_client c (with_held (client.held ++ bytes)) s) refl refl refl
   reads_in_tables Binding bytes client s le within = tables_same s s refl refl refl
