@@ -23,3 +23,4 @@ pub mod BookTurns
 pub mod BookEntries
 pub mod BookRead
 pub mod Books
+pub mod Pieces

@@ -25,3 +25,4 @@ pub mod Accepted
 pub mod Kept
 pub mod Orderly
 pub mod Tied
+pub mod Pieces
