@@ -1,5 +1,6 @@
 -- A request opens a service of a device whose number was drawn.
-use Rattle.std.proofs.Common.{ℕ, ◌+◌, ◌≡◌, ◌≤◌, ◌<◌, ◌++◌, true, false, List, length, Option, Some, None, is_some, sym, ◌∙◌, zero, suc, take, drop, inl, inr, ◌⊎◌, ap}
+use Rattle.std.proofs.Common.{ℕ, ◌+◌, ◌≡◌, ◌≤◌, ◌<◌, ◌++◌, true, false, List, length, Option, Some, None, is_some, sym, ◌∙◌, zero, suc, take, drop}
+use Rattle.std.proofs.Common.{inl, inr, ◌⊎◌, ap}
 use Rattle.std.proofs.lemmas.Bool.{cases_lt}
 use Rattle.adb_outside.specs.Tables.{at}
 use Rattle.adb_registry.specs.Registry.{DeviceTable}

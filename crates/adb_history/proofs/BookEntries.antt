@@ -1,5 +1,6 @@
 -- What each entry makes of a state is what it says of a history.
-use Rattle.std.proofs.Common.{ℕ, ◌+◌, ◌≡◌, ◌≢◌, ◌≤◌, ◌<◌, Bool, true, false, cond, List, [], ◌∷◌, ◌++◌, length, drop, Option, Some, None, is_some, refl, sym, ◌∙◌, ap, subst, arith, eqb, inl, inr, ◌⊎◌}
+use Rattle.std.proofs.Common.{ℕ, ◌+◌, ◌≡◌, ◌≢◌, ◌≤◌, ◌<◌, Bool, true, false, cond, List, [], ◌∷◌, ◌++◌, length, drop, Option, Some, None, is_some}
+use Rattle.std.proofs.Common.{refl, sym, ◌∙◌, ap, subst, arith, eqb, inl, inr, ◌⊎◌}
 use Rattle.std.proofs.lemmas.Bool.{eqb-true, eq-eqb, ne_eqb, cases_eq}
 use Rattle.std.proofs.lemmas.List.Elements.{All-weaker}
 use Rattle.std.specs.Prelude.{◌&&◌, ◌||◌, not, is_none}
@@ -39,16 +40,18 @@ use Rattle.adb_history.proofs.GrowingRules.{keeps_up_all, keeps_client_ends, kee
 use Rattle.adb_history.proofs.GrowingPackets.{keeps_mark_all, keeps_lists_first, keeps_client_left}
 use Rattle.adb_history.proofs.LinkChanges.{changes_link_ends}
 use Rattle.adb_history.proofs.AnswersWithin.{row_within}
-use Rattle.adb_history.proofs.Outputs.{IsTied, tied_rule, tied, row_below, connected_is}
+use Rattle.adb_history.proofs.OutputEntries.{IsTied, tied_rule, tied, row_below, connected_is}
 use Rattle.adb_history.proofs.Received.{received}
 use Rattle.adb_history.proofs.DeviceTurns.{IsGood, turns_link_ends, turns_cut}
-use Rattle.adb_history.proofs.Tables.{puts_tables}
+use Rattle.adb_history.proofs.TableStays.{puts_tables}
 use Rattle.adb_history.proofs.Devices.{ShowsDevices, shows_devices, shows_rule, all_devices}
-use Rattle.adb_history.proofs.Waiting.{NoneWaits, AreFree, Leaves, leaves_all, leaves_over, leaves_mark_all, leaves_receives, leaves_link_ends, leaves_puts, free_after, none_waits_after}
+use Rattle.adb_history.proofs.Waiting.{NoneWaits, AreFree, Leaves, leaves_all, leaves_over, free_after, none_waits_after}
+use Rattle.adb_history.proofs.WaitingPackets.{leaves_mark_all, leaves_receives, leaves_link_ends, leaves_puts}
 use Rattle.adb_history.proofs.Asked.{Unused}
 use Rattle.adb_history.proofs.OwnEntries.{Owns, owns_over, owns_all, owns_free, owns_opens, opened_row, owns_closes_with, closed_with_row, owns_ends, ended_waits}
 use Rattle.adb_history.proofs.ForwardTurns.{AreLed, Leads, leads_link_ends, leads_cut, led_after, led_filter}
-use Rattle.adb_history.proofs.Booked.{Said, said, asks_in, asks_now, wants_in, wants_now, SameAsked, IsAs, Holds, holds, holds_same, idle_is, idle_says, is_stays, holds_receives, holds_puts}
+use Rattle.adb_history.proofs.Booked.{Said, said, asks_in, asks_now, wants_in, wants_now, SameAsked, IsAs, Holds, holds, holds_same, idle_is}
+use Rattle.adb_history.proofs.Booked.{idle_says, is_stays, holds_receives, holds_puts}
 use Rattle.adb_history.proofs.BookReads.{led_put}
 use Rattle.std.specs.Prelude.{codes, ◌==◌}
 use Rattle.adb_forward.specs.declared.table.TheConstants.{MAX_FORWARDS}
@@ -397,14 +400,12 @@ module _ (older : History) (legal : IsLegal older) (b : IsBooked (state older) o
   led_bound : (want : Want) (port : ℕ) → s.stopped ≡ false → AreLed s.devices (bound_by want port s.devices s.forwards).forwards
   led_bound want port on = go (is_unbound want.local port s.forwards) (is_none (at want.transport s.devices.rows)) (length s.forwards == MAX_FORWARDS)
     where
-      go : (unbound none full : Bool)
-          → AreLed s.devices (cond {A = Bound_to} unbound (record { reply = (failed (codes "cannot bind listener")).bytes; forwards = s.forwards })
+      go : (unbound none full : Bool) → AreLed s.devices (cond {A = Bound_to} unbound
+          (record { reply = (failed (codes "cannot bind listener")).bytes; forwards = s.forwards })
           (cond {A = Bound_to} none (record { reply = (failed no_transport).bytes; forwards = s.forwards })
           (cond {A = Bound_to} full (record { reply = (failed (codes "too many forwards")).bytes; forwards = s.forwards })
-          (record {
-            reply = codes "OKAYOKAY" ++ told_port want.local port;
-            forwards = put_forward port want.transport want.remote s.devices s.forwards;
-          })))).forwards
+          (record { reply = codes "OKAYOKAY" ++ told_port want.local port;
+              forwards = put_forward port want.transport want.remote s.devices s.forwards })))).forwards
       go true none full = b.led on
       go false true full = b.led on
       go false false true = b.led on

@@ -20,15 +20,16 @@ use Rattle.adb_history.specs.Bytes.{has_joined, has_ended}
 use Rattle.adb_history.specs.Book.{plugged_count, devices_if, book, asked, still_asks, newly, forwards_by, kills, wanted_by, asked_with, read_turn, reads_turn}
 use Rattle.adb_history.specs.Tied.{bytes_asked, came_count}
 use Rattle.adb_history.proofs.AnswersWithin.{NextWithin, asks_within}
-use Rattle.adb_history.proofs.Outputs.{IsTied, tied}
-use Rattle.adb_history.proofs.Tables.{StaysTables, IsStopped, tables_same, AskTables, asks_tables}
+use Rattle.adb_history.proofs.OutputEntries.{IsTied, tied}
+use Rattle.adb_history.proofs.TableStays.{StaysTables, IsStopped, tables_same, AskTables, asks_tables}
 use Rattle.adb_history.proofs.Devices.{ShowsDevices, shows_devices}
 use Rattle.adb_history.proofs.Waiting.{NoneWaits}
 use Rattle.adb_history.proofs.Asked.{behind}
 use Rattle.adb_history.proofs.OwnEntries.{Owns, owns_all, own_row, none_of, owns_to_client}
 use Rattle.adb_history.proofs.ForwardTurns.{AreLed}
 use Rattle.adb_history.proofs.Booked.{Said, said, asks_in, asks_now, wants_in, SameAsked, IsAs}
-use Rattle.adb_history.proofs.BookReads.{led_next, goes_on_forwards, none_next, newly_same, and_parts, asked_all, replied_state, owns_asks, asks_is, stopped_idle}
+use Rattle.adb_history.proofs.BookReads.{led_next, goes_on_forwards, none_next, newly_same, and_parts, asked_all, replied_state, owns_asks, asks_is}
+use Rattle.adb_history.proofs.BookReads.{stopped_idle}
 use Rattle.adb_history.specs.Book.{Book}
 use Rattle.adb_history.proofs.BookTurns.{IsUnheard, all_unheard, IsBooked}
 use Rattle.adb_history.proofs.BookEntries.{is_other, booked_owns, devices_now}
@@ -210,8 +211,8 @@ module _ (older : History) (legal : IsLegal older) (b : IsBooked (state older) o
           let m = asks p n s in
           let tables : StaysTables s m = subst (λ (x : Bool). AskTables x s m) on (asks_tables came links n p s le within) in
           let forwards : m.state.forwards ≡ forwards_by p.next s.devices s.forwards =
-          goes_on_forwards came links n p.next
-          (replied_state n bytes client s (asked n older) is asking same_asked.rest same_asked.selected open_next) le within in
+          goes_on_forwards came links n p.next (replied_state n bytes client s
+          (asked n older) is asking same_asked.rest same_asked.selected open_next) le within in
           booked_owns older legal b n m (Read n bytes ∷ older) may.0 tables.stopped tables.devices
           (owns_asks n bytes client s (asked n older) is asking same_asked.rest same_asked.selected open_next on)
           (ap (λ (x : Book). x.killed) same ∙ (ap (λ (x : Bool). (book older).killed || x) on ∙ or_false (book older).killed))

@@ -134,8 +134,8 @@ module _ (c : ℕ) (bytes : List ℕ) (client : Client) (s : State) (before : As
   ends = asks_ends s.devices s.forwards bytes (asked_before client) tt
 
   went_on : kills now_asked.next ≡ false
-      → Owns c replied_state (goes_on now_asked.next c replied_state) × LeftRow c now_asked.next replied_row
-      ((goes_on now_asked.next c replied_state).state.clients c)
+      → Owns c replied_state (goes_on now_asked.next c replied_state)
+      × LeftRow c now_asked.next replied_row ((goes_on now_asked.next c replied_state).state.clients c)
   went_on on = owns_goes_on c now_asked.next replied_row replied_state replied_is asking ends on
 
   pub owns_asks : kills now_asked.next ≡ false → Owns c s (asks now_asked c s)
@@ -147,8 +147,8 @@ module _ (c : ℕ) (bytes : List ℕ) (client : Client) (s : State) (before : As
   is_left None r o on end asks next same waits left = record {
     asks = ap asks_now left ∙ (ap (λ (p : Phase). asks_now (Some (record replied_row { about = record replied_row.about { phase = p } }))) asking
         ∙ sym (asks ∙ ap is_none next));
-    waits = ap wants_now left
-        ∙ (ap (λ (p : Phase). wants_now (Some (record replied_row { about = record replied_row.about { phase = p } }))) asking ∙ sym waits);
+    waits = ap wants_now left ∙ (ap (λ (p : Phase). wants_now
+        (Some (record replied_row { about = record replied_row.about { phase = p } }))) asking ∙ sym waits);
     same = λ a e f.
         let row : replied_row ≡ a = let both : Some replied_row ≡ Some a = sym left ∙ e in cc in
         subst (λ (x : Client). SameAsked r x) row (same refl);

@@ -15,7 +15,7 @@ use Rattle.adb_history.specs.Bytes.{has_joined, has_ended}
 use Rattle.adb_history.specs.Book.{devices_if, book, asked, still_asks, newly, wanted_by, asked_with, bound_turn}
 use Rattle.adb_history.specs.Tied.{bytes_asked, came_count}
 use Rattle.adb_history.proofs.Growing.{RowStep, Keeps}
-use Rattle.adb_history.proofs.Outputs.{IsTied, tied}
+use Rattle.adb_history.proofs.OutputEntries.{IsTied, tied}
 use Rattle.adb_history.proofs.Waiting.{NoneWaits, AreFree, Leaves, free_after, none_waits_after}
 use Rattle.adb_history.proofs.ForwardTurns.{AreLed}
 use Rattle.adb_history.proofs.Booked.{Said, said, IsAs, Holds, holds, is_stays}

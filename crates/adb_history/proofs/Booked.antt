@@ -1,5 +1,6 @@
 -- What a client's row has to do with what the entries say of it.
-use Rattle.std.proofs.Common.{ℕ, ◌≡◌, ◌≤◌, Bool, true, false, cond, List, [], ◌∷◌, ◌++◌, length, drop, Option, Some, None, refl, sym, ◌∙◌, ap, subst, eqb, inl, inr}
+use Rattle.std.proofs.Common.{ℕ, ◌≡◌, ◌≤◌, Bool, true, false, cond, List, [], ◌∷◌, ◌++◌, length, drop, Option, Some, None, refl, sym, ◌∙◌, ap, subst}
+use Rattle.std.proofs.Common.{eqb, inl, inr}
 use Rattle.std.specs.Prelude.{◌&&◌, not, option_and_then}
 use Rattle.adb_outside.specs.Framing.{Cut}
 use Rattle.adb_wire.specs.Cutting.{cut_packets}

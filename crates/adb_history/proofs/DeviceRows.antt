@@ -79,8 +79,8 @@ never_offline system row is = go (bytes_eq system (codes "device")) (bytes_eq sy
     other : (s : DeviceState) → row.state ≡ s → row_waiting s row ≡ row → row_waiting row.state row ≡ row
     other s e h = ap (λ (x : DeviceState). row_waiting x row) e ∙ h
 
-    go : (a b c d e : Bool)
-        → row.state ≡ cond a device.Device (cond b device.Bootloader (cond c device.Recovery (cond d device.Sideload (cond e device.Rescue device.Host))))
+    go : (a b c d e : Bool) → row.state ≡ cond a device.Device
+        (cond b device.Bootloader (cond c device.Recovery (cond d device.Sideload (cond e device.Rescue device.Host))))
         → row_waiting row.state row ≡ row
     go true b c d e is = other device.Device is refl
     go false true c d e is = other device.Bootloader is refl

@@ -1,5 +1,6 @@
 -- The devices that the server knows are those that the bytes of the links tell.
-use Rattle.std.proofs.Common.{ℕ, ◌+◌, ◌≡◌, ◌≤◌, Bool, true, false, cond, List, [], ◌∷◌, ◌++◌, length, Option, Some, None, is_some, refl, sym, ◌∙◌, ap, subst, arith, eqb, inl, inr, ◌⊎◌}
+use Rattle.std.proofs.Common.{ℕ, ◌+◌, ◌≡◌, ◌≤◌, Bool, true, false, cond, List, [], ◌∷◌, ◌++◌, length, Option, Some, None, is_some, refl, sym, ◌∙◌, ap}
+use Rattle.std.proofs.Common.{subst, arith, eqb, inl, inr, ◌⊎◌}
 use Rattle.std.proofs.lemmas.Bool.{eqb-true, eqb-false, eq-eqb, ne_eqb, cases_eq}
 use Rattle.std.proofs.lemmas.List.Folds.{list_any-append}
 use Rattle.std.specs.Prelude.{◌||◌, ◌&&◌, not, option_map}
@@ -38,11 +39,12 @@ use Rattle.adb_history.specs.Tied.{came_count}
 use Rattle.adb_history.proofs.Growing.{Keeps, keeps_over, keeps_owe_link}
 use Rattle.adb_history.proofs.GrowingRules.{keeps_up_all, keeps_client_ends}
 use Rattle.adb_history.proofs.GrowingPackets.{keeps_mark_all}
-use Rattle.adb_history.proofs.Outputs.{IsTied, tied_rule, tied, row_below}
+use Rattle.adb_history.proofs.OutputEntries.{IsTied, tied_rule, tied, row_below}
 use Rattle.adb_history.proofs.Received.{ReadsAs, ReadTie, framed_piece, IsReceived, received}
 use Rattle.adb_history.proofs.DeviceRows.{rows_after, rows_append, device_by, device_rows}
 use Rattle.adb_history.proofs.DeviceTurns.{AreLinked, Turns, IsGood, turns_link_ends, turns_cut}
-use Rattle.adb_history.proofs.Tables.{StaysTables, IsStopped, tables_keep, tables_same, AskTables, asks_kill, reads_in_tables, bound_tables, puts_tables, sends_tables, enters_tables}
+use Rattle.adb_history.proofs.TableStays.{StaysTables, IsStopped, tables_keep, tables_same, AskTables, asks_kill, reads_in_tables, bound_tables}
+use Rattle.adb_history.proofs.TableStays.{puts_tables, sends_tables, enters_tables}
 
 abbrev Cutting : Type 0
 Cutting = Cut PacketFormat Packet PacketFault
@@ -67,8 +69,8 @@ broken_stays received bytes (Some row) e = go (framed received).fault refl e
     item _ frame = packet_of frame
 
     at_fault : (c : Cutting) (fault : PacketFault) → c.fault ≡ Some fault → device_from false c (Some row) ≡ None
-    at_fault c fault is = ap
-        (λ (o : Option PacketFault). cond (is_some o || list_any is_refused c.given) None (Some (row_by (last_cnxn c.given) c.given row))) is
+    at_fault c fault is = ap (λ (o : Option PacketFault). cond (is_some o || list_any is_refused c.given) None
+        (Some (row_by (last_cnxn c.given) c.given row))) is
 
     by_packets : (refused : Bool) (c : Cutting) (more : Cutting) → list_any is_refused c.given ≡ refused → c.fault ≡ None
         → cond refused None (Some (row_by (last_cnxn c.given) c.given row)) ≡ None → device_from false (joined c.given more) (Some row) ≡ None
@@ -106,8 +108,8 @@ sound_more : (received bytes : List ℕ) (link : Link) (row : Row) → ReadsAs r
     ≡ device_from false (framed (received ++ bytes)) (Some row)
 sound_more received bytes link row t offline =
     ap (λ (o : Option Row). cond (is_some c.fault) None (rows_after c.given o)) (before ∙ sym (device_rows row offline (framed received).given))
-    ∙ (ap (cond (is_some c.fault) None)
-    (sym (rows_append (framed received).given c.given (Some row)) ∙ device_rows row offline ((framed received).given ++ c.given))
+    ∙ (ap (cond (is_some c.fault) None) (sym (rows_append (framed received).given c.given (Some row)) ∙ device_rows row offline
+    ((framed received).given ++ c.given))
     ∙ (both (is_some c.fault) ∙ ap (λ (x : Cutting). device_from false x (Some row)) (sym (framed_piece received bytes link t))))
   where
     c : Cutting

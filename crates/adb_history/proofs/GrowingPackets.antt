@@ -17,9 +17,11 @@ use Rattle.adb_history.specs.Clients.{owe_client}
 use Rattle.adb_history.specs.Streams.{ends_row, ends_telling}
 use Rattle.adb_history.specs.Flow.{with_flow}
 use Rattle.adb_history.specs.Tracking.{marked_in, marked, mark_all, offered}
-use Rattle.adb_history.specs.Packets.{refuses_open, at_stream, with_remote, first_credit, hears_okay, opened, orphan_opened, acknowledged, okay_open, okay_first, takes_okay}
+use Rattle.adb_history.specs.Packets.{refuses_open, at_stream, with_remote, first_credit, hears_okay, opened, orphan_opened, acknowledged, okay_open}
+use Rattle.adb_history.specs.Packets.{okay_first, takes_okay}
 use Rattle.adb_history.specs.Packets.{is_out_of_turn, accepted, accepts_none, accepts, takes_write, takes_close, treat_open}
-use Rattle.adb_history.specs.Handing.{unmarked, lists_first, to_hand, credit_back, handed_to, tells_credit, tells_handed, stream_hands, stream_left, client_left}
+use Rattle.adb_history.specs.Handing.{unmarked, lists_first, to_hand, credit_back, handed_to, tells_credit, tells_handed, stream_hands, stream_left}
+use Rattle.adb_history.specs.Handing.{client_left}
 use Rattle.adb_history.proofs.Growing.{RowStep, row_same, ClientStays, client_same, LinkStays, link_same, IsWithin, AreWithin}
 use Rattle.adb_history.proofs.Growing.{Keeps, keeps_all, keeps_then, keeps_over, keeps_to_client, keeps_owe_client, keeps_owe_link, keeps_part, keeps_no_stream}
 use Rattle.adb_history.proofs.GrowingRules.{keeps_phase, keeps_ends_row, keeps_ends_telling}
@@ -171,12 +173,8 @@ module _ (came plugged : ℕ) where
       let next = to_client c unmarked s in
       keeps_over came plugged s next (owe_client c (offered s.devices client) next)
       (keeps_to_client came plugged c unmarked s
-      (λ a e. record {
-        due = sym
-            (append-nil a.due);
-        asks = λ e. record { phase = e; held = refl; selected = refl };
-        binds = λ e. record { phase = e; want = refl };
-      }))
+      (λ a e. record { due = sym (append-nil a.due); asks = λ e. record { phase = e; held = refl; selected = refl };
+          binds = λ e. record { phase = e; want = refl } }))
       (keeps_owe_client came plugged c (offered s.devices client) next le)
   keeps_lists_first c (b ∷ due) client s le = keeps_all came plugged s
 

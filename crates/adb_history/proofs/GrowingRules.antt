@@ -1,5 +1,6 @@
 -- The rules that bring no client or link, and leave the tables: how clients close, streams begin and end, and what they hold goes up.
-use Rattle.std.proofs.Common.{ℕ, ◌+◌, ◌≡◌, ◌≢◌, ◌≤◌, Bool, true, false, cond, List, [], ◌∷◌, drop, Option, Some, None, refl, sym, ◌∙◌, subst, zero, suc, eqb, codes}
+use Rattle.std.proofs.Common.{ℕ, ◌+◌, ◌≡◌, ◌≢◌, ◌≤◌, Bool, true, false, cond, List, [], ◌∷◌, drop, Option, Some, None, refl, sym, ◌∙◌, subst, zero}
+use Rattle.std.proofs.Common.{suc, eqb, codes}
 use Rattle.std.proofs.lemmas.List.{append-nil}
 use Rattle.std.specs.Prelude.{◌==◌}
 use Rattle.adb_outside.specs.declared.kinds.Cause.{Cause}
@@ -14,11 +15,14 @@ use Rattle.adb_history.specs.Rows.{Client, State, to_client, to_stream, none_kep
 use Rattle.adb_history.specs.Events.{Made, Ending, ended, quietly, client_closed, client_failed}
 use Rattle.adb_history.specs.Links.{open_packet, close_packet, write_packet, owe_link, is_credit, maxdata_of}
 use Rattle.adb_history.specs.Clients.{owe_client, closing_with, closing, closes, closes_with}
-use Rattle.adb_history.specs.Streams.{stream_ids, draw, asks_for, no_ids_left, opens, loses, client_loses, tells_end, ends_row, ends_telling, ends_if_of, ends_of, all_end}
-use Rattle.adb_history.specs.Flow.{payloads, total, with_flow, goes_up, all_go_up, flow_after, noted, is_over, closes_if, sends_up, is_streaming, up_client, up_stream, up, up_all}
+use Rattle.adb_history.specs.Streams.{stream_ids, draw, asks_for, no_ids_left, opens, loses, client_loses, tells_end, ends_row, ends_telling}
+use Rattle.adb_history.specs.Streams.{ends_if_of, ends_of, all_end}
+use Rattle.adb_history.specs.Flow.{payloads, total, with_flow, goes_up, all_go_up, flow_after, noted, is_over, closes_if, sends_up, is_streaming}
+use Rattle.adb_history.specs.Flow.{up_client, up_stream, up, up_all}
 use Rattle.adb_history.specs.Losing.{orphaned, stream_fails, stream_of, client_fails, input_ended, input_ends, client_ends}
 use Rattle.adb_history.proofs.Growing.{RowStep, row_same, ClientStays, client_same, LinkStays, link_same, IsWithin, AreWithin}
-use Rattle.adb_history.proofs.Growing.{Keeps, keeps_all, keeps_then, keeps_over, keeps_to_client, keeps_owe_client, keeps_owe_link, keeps_part, keeps_no_stream, keeps_told_end}
+use Rattle.adb_history.proofs.Growing.{Keeps, keeps_all, keeps_then, keeps_over, keeps_to_client, keeps_owe_client, keeps_owe_link, keeps_part}
+use Rattle.adb_history.proofs.Growing.{keeps_no_stream, keeps_told_end}
 
 -- a client that neither asks nor waits for a listener afterwards
 pub stays_other : (a b : Client) → b.due ≡ a.due → b.about.phase ≢ Asking → b.about.phase ≢ Binding → ClientStays a b []
@@ -267,12 +271,8 @@ module _ (came plugged : ℕ) where
 
   keeps_input_ended : (c : ℕ) (s : State) → Keeps came plugged s (quietly (to_client c input_ended s))
   keeps_input_ended c s = keeps_to_client came plugged c input_ended s
-      (λ a e. record {
-        due = sym
-            (append-nil a.due);
-        asks = λ e. record { phase = e; held = refl; selected = refl };
-        binds = λ e. record { phase = e; want = refl };
-      })
+      (λ a e. record { due = sym (append-nil a.due); asks = λ e. record { phase = e; held = refl; selected = refl };
+          binds = λ e. record { phase = e; want = refl } })
 
   keeps_input_ends : (phase : Phase) (c : ℕ) (s : State) → Keeps came plugged s (quietly (input_ends phase c s))
   keeps_input_ends Asking c s = keeps_closes c s

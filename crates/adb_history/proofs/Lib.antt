@@ -37,12 +37,14 @@ pub mod LinkChanges
 pub mod AnswersWithin
 pub mod ReadChanges
 pub mod Outputs
+pub mod OutputEntries
 pub mod Received
 pub mod DeviceRows
 pub mod DeviceTurns
-pub mod Tables
+pub mod TableStays
 pub mod Devices
 pub mod Waiting
+pub mod WaitingPackets
 pub mod Asked
 pub mod OwnEntries
 pub mod ForwardTurns
@@ -52,3 +54,4 @@ pub mod BookTurns
 pub mod BookEntries
 pub mod BookRead
 pub mod Books
+pub mod Pieces

@@ -1,5 +1,6 @@
 -- What the entries of one client make: they change its row alone, and a stream that they begin is its own.
-use Rattle.std.proofs.Common.{ℕ, ◌+◌, ◌≡◌, Bool, true, false, cond, List, [], ◌∷◌, ◌++◌, Option, Some, None, refl, sym, ◌∙◌, ap, subst, eqb, codes, inl, inr, ◌⊎◌}
+use Rattle.std.proofs.Common.{ℕ, ◌+◌, ◌≡◌, Bool, true, false, cond, List, [], ◌∷◌, ◌++◌, Option, Some, None, refl, sym, ◌∙◌, ap, subst, eqb, codes}
+use Rattle.std.proofs.Common.{inl, inr, ◌⊎◌}
 use Rattle.std.proofs.lemmas.Bool.{eqb-true, eq-eqb}
 use Rattle.std.specs.Prelude.{option_and_then, ◌==◌}
 use Rattle.adb_outside.specs.Tables.{without, change_row}
@@ -178,8 +179,12 @@ module _ (c : ℕ) where
 
   -- ---- its input ends
   pub owns_stream_fails : (phase : Phase) (cause : Cause) (o : Option Stream) (s : State) → Owns c s (stream_fails phase cause o s)
-  owns_stream_fails (Streaming l) cause
-      (Some stream) s = record { others = λ k e. refl; streams = λ n x e. go n (eqb l n) (s.streams n) x refl e; own = λ none. none }
+  owns_stream_fails (Streaming l) cause (Some stream) s = record {
+    others = λ k e. refl;
+    streams = λ n x e. go n (eqb l n)
+        (s.streams n) x refl e;
+    own = λ none. none;
+  }
     where
       go : (n : ℕ) (here : Bool) (o : Option Stream) (x : Stream) → s.streams n ≡ o → cond here (option_and_then none_kept o) o ≡ Some x
           → OwnStream c s (stream_fails (Streaming l) cause (Some stream) s) n x
@@ -187,8 +192,12 @@ module _ (c : ℕ) where
       go n true (Some a) x was e = let clash : None ≡ Some x = e in cc
       go n false o x was e = inl (x, was ∙ e, refl)
   owns_stream_fails (Streaming l) cause None s = owns_all s (quietly s) refl refl
-  owns_stream_fails (Opening l) cause
-      (Some stream) s = record { others = λ k e. refl; streams = λ n x e. go n (eqb l n) (s.streams n) x refl e; own = λ none. none }
+  owns_stream_fails (Opening l) cause (Some stream) s = record {
+    others = λ k e. refl;
+    streams = λ n x e. go n (eqb l n)
+        (s.streams n) x refl e;
+    own = λ none. none;
+  }
     where
       go : (n : ℕ) (here : Bool) (o : Option Stream) (x : Stream) → s.streams n ≡ o
           → cond here (option_and_then (with_stream_part (orphaned stream.part)) o) o ≡ Some x

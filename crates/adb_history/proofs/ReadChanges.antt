@@ -1,5 +1,6 @@
 -- What becomes of the rows when bytes are read from a client: those of other clients stay, and what is due grows by what is told.
-use Rattle.std.proofs.Common.{ℕ, ◌≡◌, ◌≤◌, Bool, true, false, cond, List, [], ◌∷◌, ◌++◌, Option, Some, None, refl, sym, ◌∙◌, ap, subst, append_assoc, eqb, zero, suc}
+use Rattle.std.proofs.Common.{ℕ, ◌≡◌, ◌≤◌, Bool, true, false, cond, List, [], ◌∷◌, ◌++◌, Option, Some, None, refl, sym, ◌∙◌, ap, subst, append_assoc}
+use Rattle.std.proofs.Common.{eqb, zero, suc}
 use Rattle.std.proofs.lemmas.List.{append-nil}
 use Rattle.std.specs.Prelude.{option_and_then}
 use Rattle.std.specs.List.Sorted.{IsStrictlySortedBy}
@@ -20,10 +21,12 @@ use Rattle.adb_history.specs.Forwarding.{Binding as Bound, bound_by, put_forward
 use Rattle.adb_history.specs.Asking.{Asked, asks_with}
 use Rattle.adb_history.specs.Losing.{tells_stop, all_stop, only_client, stops}
 use Rattle.adb_history.specs.Reading.{tracks, awaits, goes_on, asked_before, has_asked, asks, reads_in, reads_from, bound_to, bound_for, bound_in, bound_at}
-use Rattle.adb_history.proofs.Growing.{RowStep, row_same, row_goes, ClientStays, client_same, LinkStays, link_same, ClientOwes, client_then, owed_append, spelled_append, both_none}
+use Rattle.adb_history.proofs.Growing.{RowStep, row_same, row_goes, ClientStays, client_same, LinkStays, link_same, ClientOwes, client_then}
+use Rattle.adb_history.proofs.Growing.{owed_append, spelled_append, both_none}
 use Rattle.adb_history.proofs.Growing.{Keeps, keeps_all, keeps_owe_client}
 use Rattle.adb_history.proofs.GrowingRules.{keeps_closes, keeps_closes_with, keeps_opens}
-use Rattle.adb_history.proofs.Changes.{HasRowsWithin, Fate, Follows, Stay, LinkStay, link_stay_then, Changes, changes_then, changes_weaker, changes_keeps, stays_then, changes_tables}
+use Rattle.adb_history.proofs.Changes.{HasRowsWithin, Fate, Follows, Stay, LinkStay, link_stay_then, Changes, changes_then, changes_weaker}
+use Rattle.adb_history.proofs.Changes.{changes_keeps, stays_then, changes_tables}
 use Rattle.adb_history.proofs.AnswersWithin.{NextWithin, asks_within}
 
 -- A client that was read from is owed what is told; another one stays.

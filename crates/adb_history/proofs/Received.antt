@@ -1,5 +1,6 @@
 -- What a link that lives keeps of its input is what the cutting of all its bytes leaves.
-use Rattle.std.proofs.Common.{ℕ, ◌+◌, ◌≡◌, ◌≤◌, ◌<◌, Bool, true, false, cond, List, [], ◌∷◌, ◌++◌, length, take, drop, Option, Some, None, refl, sym, ◌∙◌, ap, subst, arith, eqb, zero, suc}
+use Rattle.std.proofs.Common.{ℕ, ◌+◌, ◌≡◌, ◌≤◌, ◌<◌, Bool, true, false, cond, List, [], ◌∷◌, ◌++◌, length, take, drop, Option, Some, None, refl, sym}
+use Rattle.std.proofs.Common.{◌∙◌, ap, subst, arith, eqb, zero, suc}
 use Rattle.std.proofs.lemmas.Bool.{eqb-true, ne_eqb, eq-eqb}
 use Rattle.std.specs.Prelude.{option_and_then, ◌&&◌, ◌||◌, not}
 use Rattle.adb_outside.specs.Framing.{Cut, joined, cut_by, cut_at}
@@ -42,7 +43,7 @@ use Rattle.adb_history.proofs.GrowingPackets.{keeps_mark_all, keeps_lists_first,
 use Rattle.adb_history.proofs.Changes.{HasRowsWithin, Stay, Changes}
 use Rattle.adb_history.proofs.AnswersWithin.{row_within}
 use Rattle.adb_history.proofs.ReadChanges.{read_from, changes_bound}
-use Rattle.adb_history.proofs.Outputs.{IsTied, tied_rule, tied, connected_is, row_below}
+use Rattle.adb_history.proofs.OutputEntries.{IsTied, tied_rule, tied, connected_is, row_below}
 use Rattle.adb_history.proofs.LinkChanges.{sums_by, sums_after, HearsAll, HearsAllOn, hears_all, changes_faulty, faulty_gone, changes_link_ends, link_ends_gone}
 
 abbrev Cutting : Type 0

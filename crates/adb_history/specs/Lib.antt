@@ -32,3 +32,4 @@ pub mod Tied
 pub mod Examples
 pub mod Broken
 pub mod Settling
+pub mod Pieces

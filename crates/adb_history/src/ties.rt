@@ -1,9 +1,12 @@
 //! What a history leaves, in the words of its entries alone, as laws: each is the contract of a function that does
 //! nothing.
 
-ghost use Rattle.std.specs.Prelude.{List};
+ghost use Rattle.std.specs.Prelude.{ℕ, List};
+ghost use Rattle.adb_registry.specs.Registry.{DeviceTable};
+ghost use Rattle.adb_forward.specs.declared.row.ForwardRow.{ForwardRow};
 ghost use Rattle.adb_capture.specs.declared.entry.Entry.{Entry};
 ghost use Rattle.adb_history.specs.Machine.{IsLegal};
+ghost use Rattle.adb_history.specs.Pieces.{AreReadAtOnce};
 ghost use Rattle.adb_history.specs.Tied.{DueIsPastPut, DueIsPastSent, RestIsPastPackets, IsBookOf, UnreadIsPastUsed};
 
 /// In every legal history what is due to a client that lives is what ever became due to it, past
@@ -34,4 +37,10 @@ pub fn state_is_as_told()
 /// whole requests, and it selected what these say.
 pub fn unread_is_past_used()
     ensures { (history : List Entry) → IsLegal history → UnreadIsPastUsed history }
+{}
+
+/// Requests that come in pieces are those that come at once, over the same devices and forwards.
+pub fn pieces_are_read_at_once()
+    ensures { (devices : DeviceTable) (forwards : List (ℕ × ForwardRow))
+        → AreReadAtOnce devices forwards }
 {}

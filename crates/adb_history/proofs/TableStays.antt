@@ -16,7 +16,8 @@ use Rattle.adb_history.specs.Clients.{owe_client, closes, closes_with}
 use Rattle.adb_history.specs.Streams.{opens}
 use Rattle.adb_history.specs.Forwarding.{Binding as Bound, bound_by, put_forward}
 use Rattle.adb_history.specs.Asking.{Asked, asks_with}
-use Rattle.adb_history.specs.Reading.{comes, comes_in_vain, enters_by, tracks, awaits, goes_on, asked_before, has_asked, asks, reads_in, bound_to, bound_for, bound_in, bound_at}
+use Rattle.adb_history.specs.Reading.{comes, comes_in_vain, enters_by, tracks, awaits, goes_on, asked_before, has_asked, asks, reads_in, bound_to}
+use Rattle.adb_history.specs.Reading.{bound_for, bound_in, bound_at}
 use Rattle.adb_history.specs.Handing.{lists_first, hands, client_left, takes_of, puts_to, link_hands, sends}
 use Rattle.adb_history.specs.Book.{kills}
 use Rattle.adb_history.proofs.Growing.{AreWithin, Keeps}
@@ -24,7 +25,7 @@ use Rattle.adb_history.proofs.GrowingRules.{keeps_closes, keeps_closes_with, kee
 use Rattle.adb_history.proofs.GrowingPackets.{keeps_lists_first, keeps_client_left}
 use Rattle.adb_history.proofs.Changes.{HasRowsWithin}
 use Rattle.adb_history.proofs.AnswersWithin.{NextWithin, asks_within, row_within}
-use Rattle.adb_history.proofs.Outputs.{connected_is}
+use Rattle.adb_history.proofs.OutputEntries.{connected_is}
 
 -- The devices stay, and the links that live.
 pub record StaysTables (s : State) (m : Made) : Type 0 where
