@@ -99,8 +99,8 @@ module _ (devices : DeviceTable) (forwards : List (ℕ × ForwardRow)) where
 
   next_more : (next : Next) (reply : List ℕ) (size : ℕ) (bytes : List ℕ) (q : Asked) → size ≤ length q.rest
       → ((id : ℕ) → (all (record (replied reply size q) { selected = Some id })).next ≡ None
-        → all (more bytes (all (record (replied reply size q) { selected = Some id })))
-        ≡ all (more bytes (record (replied reply size q) { selected = Some id })))
+      → all (more bytes (all (record (replied reply size q) { selected = Some id })))
+      ≡ all (more bytes (record (replied reply size q) { selected = Some id })))
       → (after_next next reply size all q).next ≡ None
       → all (more bytes (after_next next reply size all q)) ≡ after_next next reply size all (more bytes q)
   next_more (Select id) reply size bytes q le rest on =
@@ -127,7 +127,7 @@ module _ (devices : DeviceTable) (forwards : List (ℕ × ForwardRow)) where
       go More is others = ap (λ (x : Asked). all (more bytes x)) (all_first q ∙ ap (λ (f : Found). after_found devices forwards f all q) is)
       go Malformed is others =
           let clash : Some Close ≡ None =
-              sym (ap (λ (x : Asked). x.next) (all_first q ∙ ap (λ (f : Found). after_found devices forwards f all q) is)) ∙ on in cc
+          sym (ap (λ (x : Asked). x.next) (all_first q ∙ ap (λ (f : Found). after_found devices forwards f all q) is)) ∙ on in cc
       go (Whole len) is others =
           let request = take len (drop 4 q.rest) in
           let a = answer devices.rows forwards q.selected (meaning request) in
@@ -135,13 +135,14 @@ module _ (devices : DeviceTable) (forwards : List (ℕ × ForwardRow)) where
           let shorter : length (drop (4 + len) q.rest) + (4 + len) ≡ length q.rest = omega (arith, fits, length-drop (4 + len) q.rest) in
           let one : all q ≡ after_next a.next a.bytes (4 + len) all q = all_first q ∙ ap (λ (f : Found). after_found devices forwards f all q) is in
           let text : take len (drop 4 (q.rest ++ bytes)) ≡ request =
-              ap (take len) (drop-append-le 4 q.rest bytes (omega (arith, fits)))
-              ∙ take-append-le len (drop 4 q.rest) bytes (omega (arith, fits, length-drop 4 q.rest)) in
+          ap (take len) (drop-append-le 4 q.rest bytes (omega (arith, fits)))
+          ∙ take-append-le len (drop 4 q.rest) bytes (omega (arith, fits, length-drop 4 q.rest)) in
           let both : all (more bytes q) ≡ after_next a.next a.bytes (4 + len) all (more bytes q) =
-              all_first (more bytes q)
-              ∙ (ap (λ (f : Found). after_found devices forwards f all (more bytes q)) (whole_front q.rest bytes len is)
-              ∙ ap (λ (x : List ℕ). after_next (answer devices.rows forwards q.selected (meaning x)).next (answer devices.rows forwards q.selected (meaning x)).bytes
-              (4 + len) all (more bytes q)) text) in
+          all_first (more bytes q)
+          ∙ (ap (λ (f : Found). after_found devices forwards f all (more bytes q)) (whole_front q.rest bytes len is)
+          ∙ ap (λ (x : List ℕ). after_next (answer devices.rows forwards q.selected (meaning x)).next
+          (answer devices.rows forwards q.selected (meaning x)).bytes
+          (4 + len) all (more bytes q)) text) in
           ap (λ (x : Asked). all (more bytes x)) one
           ∙ (next_more a.next a.bytes (4 + len) bytes q fits
           (λ id last. others (record (replied a.bytes (4 + len) q) { selected = Some id }) (omega (arith, shorter, h)) last)

@@ -73,7 +73,7 @@ module _ (rows : List (ℕ × Row)) where
       → OpensThere rows (forwards_to forwards norebind transport local remote).next
   forwarding_to forwards norebind transport local remote =
       exists (is_some (at local forwards)) (is_some (at local forwards) && norebind)
-          (not (is_some (at local forwards)) && nat_eq (length forwards) MAX_FORWARDS)
+      (not (is_some (at local forwards)) && nat_eq (length forwards) MAX_FORWARDS)
     where
       exists : (there again full : Bool)
           → OpensThere rows (cond again (failed (codes "cannot rebind existing socket"))
