@@ -404,8 +404,10 @@ module _ (older : History) (legal : IsLegal older) (b : IsBooked (state older) o
           (record { reply = (failed (codes "cannot bind listener")).bytes; forwards = s.forwards })
           (cond {A = Bound_to} none (record { reply = (failed no_transport).bytes; forwards = s.forwards })
           (cond {A = Bound_to} full (record { reply = (failed (codes "too many forwards")).bytes; forwards = s.forwards })
-          (record { reply = codes "OKAYOKAY" ++ told_port want.local port;
-              forwards = put_forward port want.transport want.remote s.devices s.forwards })))).forwards
+          (record {
+            reply = codes "OKAYOKAY" ++ told_port want.local port;
+            forwards = put_forward port want.transport want.remote s.devices s.forwards;
+          })))).forwards
       go true none full = b.led on
       go false true full = b.led on
       go false false true = b.led on

@@ -1,7 +1,7 @@
 -- Requests that are read piece by piece are those that are read at once.
-use Rattle.std.proofs.Common.{ℕ, ◌+◌, ◌≡◌, ◌≢◌, ◌≤◌, ◌<◌, Bool, true, false, cond, List, [], ◌∷◌, ◌++◌, length, take, drop, Option, Some, None, refl, sym, ◌∙◌}
-use Rattle.std.proofs.Common.{ap, subst, append_assoc, arith, zero, suc, ltb}
-use Rattle.std.proofs.lemmas.List.{append-nil, length-append, length-drop, drop-append-le, take-append-le}
+use Rattle.std.proofs.Common.{ℕ, ◌+◌, ◌≡◌, ◌≤◌, cond, List, [], ◌∷◌, ◌++◌, length, take, drop, Option, Some, None, refl, sym, ◌∙◌}
+use Rattle.std.proofs.Common.{ap, append_assoc, arith, zero, suc, ltb}
+use Rattle.std.proofs.lemmas.List.{length-append, length-drop, drop-append-le, take-append-le}
 use Rattle.std.proofs.lemmas.Bool.Decides.{nat_tests}
 use Rattle.adb_registry.specs.Registry.{DeviceTable}
 use Rattle.adb_forward.specs.declared.row.ForwardRow.{ForwardRow}
@@ -12,7 +12,7 @@ use Rattle.adb_request.specs.declared.cutting.Found.TheVariants.{More, Malformed
 use Rattle.adb_reply.specs.Answer.{answer}
 use Rattle.adb_reply.specs.declared.answer.Next.{Next}
 use Rattle.adb_reply.specs.declared.answer.Next.TheVariants.{Close, Select, Track, Open, Bind, Rebind, Unbind, UnbindAll, Stop}
-use Rattle.adb_history.specs.Asking.{Asked, replied, after_next, after_found, reads_on, asks_with}
+use Rattle.adb_history.specs.Asking.{Asked, replied, after_next, after_found, reads_on}
 use Rattle.adb_history.specs.Pieces.{AreReadAtOnce}
 use Rattle.adb_history.proofs.Asked.{request_fits}
 
@@ -99,8 +99,8 @@ module _ (devices : DeviceTable) (forwards : List (ℕ × ForwardRow)) where
 
   next_more : (next : Next) (reply : List ℕ) (size : ℕ) (bytes : List ℕ) (q : Asked) → size ≤ length q.rest
       → ((id : ℕ) → (all (record (replied reply size q) { selected = Some id })).next ≡ None
-        → all (more bytes (all (record (replied reply size q) { selected = Some id })))
-        ≡ all (more bytes (record (replied reply size q) { selected = Some id })))
+      → all (more bytes (all (record (replied reply size q) { selected = Some id })))
+      ≡ all (more bytes (record (replied reply size q) { selected = Some id })))
       → (after_next next reply size all q).next ≡ None
       → all (more bytes (after_next next reply size all q)) ≡ after_next next reply size all (more bytes q)
   next_more (Select id) reply size bytes q le rest on =
@@ -127,7 +127,7 @@ module _ (devices : DeviceTable) (forwards : List (ℕ × ForwardRow)) where
       go More is others = ap (λ (x : Asked). all (more bytes x)) (all_first q ∙ ap (λ (f : Found). after_found devices forwards f all q) is)
       go Malformed is others =
           let clash : Some Close ≡ None =
-              sym (ap (λ (x : Asked). x.next) (all_first q ∙ ap (λ (f : Found). after_found devices forwards f all q) is)) ∙ on in cc
+          sym (ap (λ (x : Asked). x.next) (all_first q ∙ ap (λ (f : Found). after_found devices forwards f all q) is)) ∙ on in cc
       go (Whole len) is others =
           let request = take len (drop 4 q.rest) in
           let a = answer devices.rows forwards q.selected (meaning request) in
@@ -135,13 +135,14 @@ module _ (devices : DeviceTable) (forwards : List (ℕ × ForwardRow)) where
           let shorter : length (drop (4 + len) q.rest) + (4 + len) ≡ length q.rest = omega (arith, fits, length-drop (4 + len) q.rest) in
           let one : all q ≡ after_next a.next a.bytes (4 + len) all q = all_first q ∙ ap (λ (f : Found). after_found devices forwards f all q) is in
           let text : take len (drop 4 (q.rest ++ bytes)) ≡ request =
-              ap (take len) (drop-append-le 4 q.rest bytes (omega (arith, fits)))
-              ∙ take-append-le len (drop 4 q.rest) bytes (omega (arith, fits, length-drop 4 q.rest)) in
+          ap (take len) (drop-append-le 4 q.rest bytes (omega (arith, fits)))
+          ∙ take-append-le len (drop 4 q.rest) bytes (omega (arith, fits, length-drop 4 q.rest)) in
           let both : all (more bytes q) ≡ after_next a.next a.bytes (4 + len) all (more bytes q) =
-              all_first (more bytes q)
-              ∙ (ap (λ (f : Found). after_found devices forwards f all (more bytes q)) (whole_front q.rest bytes len is)
-              ∙ ap (λ (x : List ℕ). after_next (answer devices.rows forwards q.selected (meaning x)).next (answer devices.rows forwards q.selected (meaning x)).bytes
-              (4 + len) all (more bytes q)) text) in
+          all_first (more bytes q)
+          ∙ (ap (λ (f : Found). after_found devices forwards f all (more bytes q)) (whole_front q.rest bytes len is)
+          ∙ ap (λ (x : List ℕ). after_next (answer devices.rows forwards q.selected (meaning x)).next
+          (answer devices.rows forwards q.selected (meaning x)).bytes
+          (4 + len) all (more bytes q)) text) in
           ap (λ (x : Asked). all (more bytes x)) one
           ∙ (next_more a.next a.bytes (4 + len) bytes q fits
           (λ id last. others (record (replied a.bytes (4 + len) q) { selected = Some id }) (omega (arith, shorter, h)) last)

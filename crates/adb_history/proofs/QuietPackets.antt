@@ -173,8 +173,11 @@ module _ (came plugged : ℕ) where
       let next = to_client c unmarked s in
       keeps_over came plugged s next (owe_client c (offered s.devices client) next)
       (keeps_to_client came plugged c unmarked s
-      (λ a e. record { due = sym (append-nil a.due); asks = λ e. record { phase = e; held = refl; selected = refl };
-          binds = λ e. record { phase = e; want = refl } }))
+      (λ a e. record {
+        due = sym (append-nil a.due);
+        asks = λ e. record { phase = e; held = refl; selected = refl };
+        binds = λ e. record { phase = e; want = refl };
+      }))
       (keeps_owe_client came plugged c (offered s.devices client) next le)
   keeps_lists_first c (b ∷ due) client s le = keeps_all came plugged s
 

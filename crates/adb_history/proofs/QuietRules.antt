@@ -271,8 +271,11 @@ module _ (came plugged : ℕ) where
 
   keeps_input_ended : (c : ℕ) (s : State) → Keeps came plugged s (quietly (to_client c input_ended s))
   keeps_input_ended c s = keeps_to_client came plugged c input_ended s
-      (λ a e. record { due = sym (append-nil a.due); asks = λ e. record { phase = e; held = refl; selected = refl };
-          binds = λ e. record { phase = e; want = refl } })
+      (λ a e. record {
+        due = sym (append-nil a.due);
+        asks = λ e. record { phase = e; held = refl; selected = refl };
+        binds = λ e. record { phase = e; want = refl };
+      })
 
   keeps_input_ends : (phase : Phase) (c : ℕ) (s : State) → Keeps came plugged s (quietly (input_ends phase c s))
   keeps_input_ends Asking c s = keeps_closes c s

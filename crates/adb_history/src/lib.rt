@@ -10,6 +10,6 @@ mod ties;
 pub use hand_out::HAND_OUT;
 pub use refusal::{Reason, Refusal};
 pub use ties::{
-    due_is_past_put, due_is_past_sent, pieces_are_read_at_once, rest_is_past_packets, state_is_as_told,
-    unread_is_past_used,
+    due_is_past_put, due_is_past_sent, pieces_are_read_at_once, rest_is_past_packets,
+    state_is_as_told, unread_is_past_used,
 };
