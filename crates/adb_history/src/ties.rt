@@ -1,5 +1,5 @@
-//! What a history leaves, in the words of its entries alone, as laws: each is the contract of a function that does
-//! nothing.
+//! What a history leaves, in the words of its entries alone, as laws: each is the contract of a
+//! function that does nothing.
 
 ghost use Rattle.std.specs.Prelude.{ℕ, List};
 ghost use Rattle.adb_registry.specs.Registry.{DeviceTable};
@@ -7,7 +7,8 @@ ghost use Rattle.adb_forward.specs.declared.row.ForwardRow.{ForwardRow};
 ghost use Rattle.adb_capture.specs.declared.entry.Entry.{Entry};
 ghost use Rattle.adb_history.specs.Machine.{IsLegal};
 ghost use Rattle.adb_history.specs.Pieces.{AreReadAtOnce};
-ghost use Rattle.adb_history.specs.Tied.{DueIsPastPut, DueIsPastSent, RestIsPastPackets, IsBookOf, UnreadIsPastUsed};
+ghost use Rattle.adb_history.specs.Tied.{DueIsPastPut, DueIsPastSent, RestIsPastPackets};
+ghost use Rattle.adb_history.specs.Tied.{IsBookOf, UnreadIsPastUsed};
 
 /// In every legal history what is due to a client that lives is what ever became due to it, past
 /// what was put to it.
