@@ -43,17 +43,22 @@ filled xs ys text max is =
     ap (λ (m : ℕ). text ++ take m ys) room ∙ (ap (λ (l : List ℕ). l ++ take (max - length xs) ys) is ∙ sym (take_both xs ys max))
 
 -- the same over slices, of which one more was looked at
-pub filled_more : (slices : List (List ℕ)) (i : ℕ) (slice text : List ℕ) (max : ℕ) → i < length slices → slice ≡ get_or slices i slice → text ≡ take max (concat (take i slices))
+pub filled_more : (slices : List (List ℕ)) (i : ℕ) (slice text : List ℕ) (max : ℕ) → i < length slices → slice ≡ get_or slices i slice
+    → text ≡ take max (concat (take i slices))
     → text ++ take (max - length text) slice ≡ take max (concat (take (i + 1) slices))
 filled_more slices i slice text max here is before =
     let more : concat (take (i + 1) slices) ≡ concat (take i slices) ++ slice =
-    ap concat (take_more slices i slice here) ∙ (concat_push (take i slices) (get_or slices i slice) ∙ ap (λ (l : List ℕ). concat (take i slices) ++ l) (sym is))
+    ap concat (take_more slices i slice here)
+    ∙ (concat_push (take i slices) (get_or slices i slice) ∙ ap (λ (l : List ℕ). concat (take i slices) ++ l) (sym is))
     in
     filled (concat (take i slices)) slice text max before ∙ ap (take max) (sym more)
 
 -- a text that is full of the first slices has all that it takes
-pub filled_up : (slices : List (List ℕ)) (i : ℕ) (text : List ℕ) (max : ℕ) → max ≤ length text → text ≡ take max (concat (take i slices)) → text ≡ take max (concat slices)
+pub filled_up : (slices : List (List ℕ)) (i : ℕ) (text : List ℕ) (max : ℕ) → max ≤ length text → text ≡ take max (concat (take i slices))
+    → text ≡ take max (concat slices)
 filled_up slices i text max full is =
-    let split : concat slices ≡ concat (take i slices) ++ concat (drop i slices) = ap concat (sym (take-append-drop i slices)) ∙ concat-append (take i slices) (drop i slices) in
+    let split : concat slices ≡ concat (take i slices) ++ concat (drop i slices) =
+    ap concat (sym (take-append-drop i slices)) ∙ concat-append (take i slices) (drop i slices)
+    in
     let within : max ≤ length (concat (take i slices)) = omega (arith, full, ap length is, length-take max (concat (take i slices))) in
     is ∙ (sym (take-append-le max (concat (take i slices)) (concat (drop i slices)) within) ∙ ap (take max) (sym split))

@@ -15,7 +15,16 @@ pub record SeenClient : Type 0 where
 
 -- what is plain of a client that came: it asks, selected nothing and tracks nothing
 abbrev pub new_about : ℕ → Bool → About
-new_about number forwarded = record { number = number; forwarded = forwarded; phase = Asking; selected = None; ended = false; mark = false; long = false; want = None }
+new_about number forwarded = record {
+  number = number;
+  forwarded = forwarded;
+  phase = Asking;
+  selected = None;
+  ended = false;
+  mark = false;
+  long = false;
+  want = None;
+}
 
 -- a client of which something else is plain
 abbrev pub with_about : SeenClient → About → SeenClient
