@@ -57,7 +57,8 @@ filled_more slices i slice text max here is before =
 pub filled_up : (slices : List (List ℕ)) (i : ℕ) (text : List ℕ) (max : ℕ) → max ≤ length text → text ≡ take max (concat (take i slices))
     → text ≡ take max (concat slices)
 filled_up slices i text max full is =
-    let split : concat slices ≡ concat (take i slices) ++ concat (drop i slices) = ap concat (sym (take-append-drop i slices))
-    ∙ concat-append (take i slices) (drop i slices) in
+    let split : concat slices ≡ concat (take i slices) ++ concat (drop i slices) =
+    ap concat (sym (take-append-drop i slices)) ∙ concat-append (take i slices) (drop i slices)
+    in
     let within : max ≤ length (concat (take i slices)) = omega (arith, full, ap length is, length-take max (concat (take i slices))) in
     is ∙ (sym (take-append-le max (concat (take i slices)) (concat (drop i slices)) within) ∙ ap (take max) (sym split))

@@ -15,11 +15,11 @@ use bytes::Bytes;
 use std::alloc::{AllocError, Global};
 use std::marker::Model;
 
-/// A client: what is plain of it, what it sent that is held, and what is due to it. What is held was
-/// not read yet while the client asks; from then on it is to be sent up. Contracts see both as lists
-/// of bytes, and three numbers beside them: how many of the first bytes held are ready to be cut off
-/// without memory, in how many pieces, and how many places are reserved for bytes that become due
-/// without memory. After want of memory the client is as before.
+/// A client: what is plain of it, what it sent that is held, and what is due to it. What is held
+/// was not read yet while the client asks; from then on it is to be sent up. Contracts see both as
+/// lists of bytes, and three numbers beside them: how many of the first bytes held are ready to be
+/// cut off without memory, in how many pieces, and how many places are reserved for bytes that
+/// become due without memory. After want of memory the client is as before.
 #[derive(Drop)]
 pub struct Client {
     about: About,
@@ -41,8 +41,8 @@ impl Client {
     ghost use Rattle.std.specs.Borrow.{sem};
     ghost use Rattle.adb_client.specs.Lending.{LendsAbout};
 
-    /// A client that asks and sent nothing yet, by its number, and whether it came through a forward.
-    /// It takes no memory.
+    /// A client that asks and sent nothing yet, by its number, and whether it came through a
+    /// forward. It takes no memory.
     pub fn new(alloc: Global, number: u32, forwarded: bool) -> Client
         ensures { result ≡ record {
           about = new_about number forwarded;
@@ -86,7 +86,9 @@ impl Client {
 
     /// A piece came, and is held behind what was.
     pub fn take_in(&mut self, piece: &[u8]) -> Result<(), AllocError>
-        ensures ok { OnOk result (self.new ≡ record self.old { held = self.old.held ++ piece.now }) }
+        ensures ok { OnOk result (self.new ≡ record self.old {
+          held = self.old.held ++ piece.now;
+        }) }
         ensures err { OnErr result (self.new ≡ self.old) }
     {
         self.input.take_in(piece)
@@ -160,9 +162,9 @@ impl Client {
         self.input.cut_up(n)
     }
 
-    /// Makes at least the first `n` bytes held ready to be cut off, in at least `cuts` pieces, whose
-    /// lengths need not be known yet. They are copied only where bytes that were made ready before
-    /// were not cut off.
+    /// Makes at least the first `n` bytes held ready to be cut off, in at least `cuts` pieces,
+    /// whose lengths need not be known yet. They are copied only where bytes that were made ready
+    /// before were not cut off.
     pub fn prepare_cuts(&mut self, n: usize, cuts: usize) -> Result<(), AllocError>
         requires { n ≤ length self.old.held }
         ensures ok { OnOk result (self.new ≡ record self.old {
@@ -272,8 +274,8 @@ impl Client {
         self.output.clear();
     }
 
-    /// Another client that holds the same, with the same spare, and of which nothing is ready. Slices
-    /// that are due are shared.
+    /// Another client that holds the same, with the same spare, and of which nothing is ready.
+    /// Slices that are due are shared.
     pub fn copy(&self) -> Result<Client, AllocError>
         ensures { IfOk result (λ client. client ≡ record self.now { ready = 0; cuts = 0 }) }
     {

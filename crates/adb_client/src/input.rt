@@ -10,8 +10,9 @@ use bytes::{Bytes, BytesMut};
 use std::alloc::{AllocError, Global};
 use std::marker::Model;
 
-/// The bytes that are held, one after another. Of a front that was cut ahead there are handles, made
-/// in advance: each becomes a part of it by leaving off bytes at both ends, which takes no memory.
+/// The bytes that are held, one after another. Of a front that was cut ahead there are handles,
+/// made in advance: each becomes a part of it by leaving off bytes at both ends, which takes no
+/// memory.
 #[derive(Drop)]
 pub(crate) struct Input {
     alloc: Global,
@@ -59,7 +60,9 @@ impl Input {
 
     /// Bytes came.
     pub(crate) fn take_in(&mut self, piece: &[u8]) -> Result<(), AllocError>
-        ensures ok { OnOk result (self.new ≡ record self.old { held = self.old.held ++ piece.now }) }
+        ensures ok { OnOk result (self.new ≡ record self.old {
+          held = self.old.held ++ piece.now;
+        }) }
         ensures err { OnErr result (self.new ≡ self.old) }
     {
         self.rest.extend_from_slice(piece)
@@ -241,7 +244,8 @@ impl Input {
 
     /// Another that holds the same bytes, of which none are ready.
     pub(crate) fn copy(&self) -> Result<Input, AllocError>
-        ensures { IfOk result (λ input. input ≡ record { held = self.now.held; ready = 0; cuts = 0 }) }
+        ensures { IfOk result (λ input.
+            input ≡ record { held = self.now.held; ready = 0; cuts = 0 }) }
     {
         let mut copy = Input::new(self.alloc);
         copy.take_in(self.front.as_slice())?;

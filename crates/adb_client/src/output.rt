@@ -20,8 +20,8 @@ const FEW_BYTES: usize = 16 * 1024;
 
 const FEW_SLICES: usize = 64;
 
-/// The bytes that are due: slices, which are shared, and behind them bytes of its own, with the places
-/// that are reserved. What was handed out of the first slice is cut off.
+/// The bytes that are due: slices, which are shared, and behind them bytes of its own, with the
+/// places that are reserved. What was handed out of the first slice is cut off.
 #[derive(Drop)]
 pub(crate) struct Output {
     alloc: Global,
@@ -214,7 +214,8 @@ impl Output {
 fn push(slices: &mut VecDeque<Bytes>, slice: Bytes)
     requires { deque_len slices.old < deque_capacity slices.old }
     ensures bytes { concat slices.new.items ≡ concat slices.old.items ++ slice }
-    ensures some { All (λ s. 0 < length s) slices.old.items → All (λ s. 0 < length s) slices.new.items }
+    ensures some { All (λ s. 0 < length s) slices.old.items
+        → All (λ s. 0 < length s) slices.new.items }
     ensures len { deque_len slices.new ≤ deque_len slices.old + 1 }
     ensures capacity { deque_capacity slices.new ≡ deque_capacity slices.old }
 {

@@ -18,8 +18,8 @@ invariant_of-self c =
 
 pub returns-clause-piece : goal.returns-clause-piece
 returns-clause-piece c =
-    let handles = c.self.inside.handles.items in
-    let ends = (All-pop (EndsWith c.self.inside.front) handles c.pop.new.self.items c.pop.result c.pop.ensures.items c.self.invariant.ends).1 in
+    let front = c.self.inside.front in
+    let ends = (All-pop (EndsWith front) c.self.inside.handles.items c.pop.new.self.items c.pop.result c.pop.ensures.items c.self.invariant.ends).1 in
     let ready : c.self.inside.ready ≡ c.args.self.now.ready = ap (λ (i : Incoming). i.ready) c.self.view_is in
     let cuts : c.self.inside.cuts ≡ c.args.self.now.cuts = ap (λ (i : Incoming). i.cuts) c.self.view_is in
     let within : c.args.n ≤ length c.self.inside.front = omega (arith, c.self.invariant.ready) in

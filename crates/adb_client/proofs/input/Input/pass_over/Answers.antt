@@ -6,8 +6,9 @@ use Rattle.adb_client.proofs.input.Input.pass_over.Goals as goal
 
 pub invariant_of-self : goal.invariant_of-self
 invariant_of-self c =
-    let shorter : length c.advance.new.self ≡ length c.self.inside.front - c.min-some.result = ap length c.advance.ensures
-    ∙ length-drop c.min-some.result c.self.inside.front in
+    let shorter : length c.advance.new.self ≡ length c.self.inside.front - c.min-some.result =
+    ap length c.advance.ensures ∙ length-drop c.min-some.result c.self.inside.front
+    in
     record {
       ends = subst (λ (l : List ℕ). All (EndsWith l) c.self.inside.handles.items) (sym c.advance.ensures)
           (ends_shorter c.min-some.result c.self.inside.front c.self.inside.handles.items c.self.invariant.ends);
