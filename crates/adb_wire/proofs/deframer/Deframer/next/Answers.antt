@@ -1,4 +1,4 @@
-use Rattle.std.proofs.Common.{IfSome, subst, sym}
+use Rattle.std.proofs.Common.{subst}
 use Rattle.adb_outside.specs.Framing as framing
 use Rattle.adb_wire.specs.Format.{front_of}
 use Rattle.adb_wire.proofs.CuttingLaws.{item, after, gives}
