@@ -1,5 +1,5 @@
 -- The writes that a window lets go.
-use Rattle.std.specs.Prelude.{ℕ, ◌+◌, ◌-◌, ◌≡◌, ◌≢◌, ◌≤◌, ◌<◌, ◌==◌, cond, Some, None, Bool, true, false, List, [], ◌∷◌, ◌++◌, length, take, drop, refl, zero, suc}
+use Rattle.std.specs.Prelude.{ℕ, ◌-◌, ◌≡◌, ◌≢◌, ◌≤◌, ◌<◌, ◌==◌, cond, Some, None, Bool, true, false, List, [], ◌∷◌, ◌++◌, length, refl, zero, suc}
 use Rattle.std.proofs.Common.{◌∙◌, ap, sym, subst, arith}
 use borrow.Author.Tests.{false-eqb}
 use Rattle.std.proofs.lemmas.Bool.{eq-eqb, ne_eqb}

@@ -8,8 +8,8 @@ use Rattle.byteorder.specs.Endian.{little_bytes}
 use Rattle.adb_stream.specs.declared.credit.TheConstants.{CREDIT_WINDOW}
 use Rattle.adb_stream.specs.declared.flow.Flow.{Flow}
 use Rattle.adb_stream.specs.declared.flow.Flow.TheVariants as flows
-use Rattle.adb_stream.specs.Window.{OneWrite, new_window}
-use Rattle.adb_stream.specs.Credit.{ByteCredit, new_credit}
+use Rattle.adb_stream.specs.Window.{new_window}
+use Rattle.adb_stream.specs.Credit.{new_credit}
 use Rattle.adb_files.specs.Entries.{Entry}
 use Rattle.adb_daemon.specs.Asked.{Kind}
 use Rattle.adb_daemon.specs.Service.{Came, TakesFrontOfOne, HasAnswered, files_fed, out_of, service_answer}
