@@ -1,3 +1,4 @@
 pub mod Asked
 pub mod Service
 pub mod Stream
+pub mod Link

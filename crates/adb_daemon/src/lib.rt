@@ -4,6 +4,7 @@
 mod answers;
 mod asked;
 mod due;
+mod link;
 mod service;
 mod stream;
 #[cfg(test)]
@@ -12,6 +13,7 @@ mod writes;
 
 pub use answers::{answer_okay, answer_open, answer_write};
 pub use asked::{Asked, read_service, service_name};
+pub use link::{Link, credit_word_in, read_cnxn};
 pub use service::Service;
 pub use stream::Stream;
 pub use writes::Outgoing;
