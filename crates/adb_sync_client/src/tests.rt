@@ -106,17 +106,28 @@ fn values(rt: HostRuntime) -> Result<(), Fail> {
     Ok(())
 }
 
+/// Takes the first bytes that a push has left.
+fn take_front(push: &mut Push, sent: &mut Text) -> Result<(), AllocError> {
+    let front = push.out();
+    let size = front.len();
+    sent.push_slice(front)?;
+    push.taken(size);
+    Ok(())
+}
+
 #[test]
 fn requests(rt: HostRuntime) -> Result<(), Fail> {
     let alloc = rt.alloc();
     let mut push = Push::new(alloc, b"/n", 420, 5, b"abc")?;
     let mut sent = Text::new(alloc);
-    for _ in 0..40 {
-        let size = push.out().len().min(3);
-        sent.push_slice(&push.out()[..size])?;
-        push.taken(size);
+    for _ in 0..5 {
+        take_front(&mut push, &mut sent)?;
     }
     let want: &[u8] = b"SEND\x06\0\0\0/n,420DATA\x03\0\0\0abcDONE\x05\0\0\0";
     assert!(rt; sent.as_slice() == want);
+    let mut pull = Pull::new(alloc, b"/n")?;
+    pull.taken(0);
+    let want: &[u8] = b"RECV\x02\0\0\0/n";
+    assert!(rt; pull.out() == want);
     Ok(())
 }
