@@ -1,5 +1,5 @@
 -- Captures worked by hand: what is replayed of them, and why one is refused, are computed from the definitions.
-use Rattle.std.specs.Prelude.{ℕ, ◌≡◌, List, [], ◌∷◌, ◌++◌, None, codes, flat_map, replicate}
+use Rattle.std.specs.Prelude.{ℕ, ◌≡◌, List, [], ◌∷◌, ◌++◌, None, codes, zero, suc}
 use Rattle.std.proofs.Common.{refl}
 use Rattle.adb_request.specs.Meaning.{meaning}
 use Rattle.adb_capture.specs.Records.{record_at}
@@ -60,3 +60,12 @@ nothing_is_read_after_a_kill = refl
 a_kill_ends_well : (accepted (kill ++ codes "abcde")).refused ≡ None
 unfolding record_at meaning
 a_kill_ends_well = refl
+
+-- so many devices are plugged in, each with the serial `e`
+abbrev plugs : ℕ → List ℕ
+plugs zero = []
+plugs (suc k) = plugs k ++ recorded 65 (suc k) 2 (codes "ue")
+
+one_device_too_many : (accepted (begins ++ plugs 129)).refused ≡ refused_at 1416 TooManyDevices
+unfolding record_at
+one_device_too_many = refl
