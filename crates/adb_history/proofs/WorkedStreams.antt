@@ -11,8 +11,7 @@ use Rattle.adb_banner.specs.Banner.{identity_of, last_value}
 use Rattle.adb_capture.specs.declared.entry.Entry.{Entry}
 use Rattle.adb_capture.specs.declared.entry.Entry.TheVariants.{Join, Enter, Read, End, Bound, Attach, Recv, Detach, Put, Send}
 use Rattle.adb_history.specs.Links.{open_packet, okay_packet, credit_packet, write_packet, close_packet}
-use Rattle.adb_history.specs.Lives.{ending_of}
-use Rattle.adb_history.specs.Drained.{drained, drained_from}
+use Rattle.adb_history.specs.Drained.{drained}
 use Rattle.adb_history.specs.Examples.{sends, hears, connect, pixel, hello, plugs, plugged, asks, shell_requests, opens_shell, shell_comes, shell_open}
 use Rattle.adb_history.specs.Examples.{lent_comes, lent_open}
 
@@ -124,11 +123,16 @@ credit_two_writes :
 unfolding meaning word_at identity_of last_value
 credit_two_writes = refl
 
--- a device may write a whole window of credit, and not a byte more
-fills_the_window :
-    ending_of 1 (drained_from [] (lent_comes (credit_packet 7 1 8000) ++ Recv 1 (sends (write_packet 7 1 (replicate 262144 98) ∷ [])) ∷ [])) ≡ None
+-- a device may write a whole window of credit, which it is given back as its client takes it, and not a byte more
+abbrev takes_a_quarter : List Entry
+takes_a_quarter = Put 1 (replicate 65536 98) ∷ Send 1 (hears (credit_packet 1 7 65536 ∷ [])) ∷ []
+
+whole_window :
+    drained (lent_comes (credit_packet 7 1 8000) ++ Recv 1 (sends (write_packet 7 1 (replicate 262144 98) ∷ [])) ∷ [])
+    ≡ lent_open (credit_packet 7 1 8000) ++ Recv 1 (sends (write_packet 7 1 (replicate 262144 98) ∷ []))
+    ∷ takes_a_quarter ++ takes_a_quarter ++ takes_a_quarter ++ takes_a_quarter
 unfolding meaning word_at identity_of last_value
-fills_the_window = refl
+whole_window = refl
 
 past_the_window :
     drained (lent_comes (credit_packet 7 1 8000) ++ Recv 1 (sends (write_packet 7 1 (replicate 262145 98) ∷ [])) ∷ [])
