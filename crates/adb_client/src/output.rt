@@ -133,8 +133,8 @@ impl Output {
     pub(crate) fn copy_front(&self, max: usize) -> Result<Text, AllocError>
         ensures { IfOk result (λ text. text ≡ take max self.now.due) }
     {
-        let mut text = Text::new(self.alloc);
-        text.reserve(max.min(self.owed()))?;
+        let room = Vec::with_capacity(self.alloc, max.min(self.owed()))?;
+        let mut text = Text::from_vec(room);
         fill_from_slices(&mut text, &self.slices, max)?;
         fill(&mut text, self.tail.as_slice(), max)?;
         Ok(text)
