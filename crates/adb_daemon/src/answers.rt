@@ -1,6 +1,6 @@
 //! What the host's packets make due on a stream.
 
-ghost use Rattle.std.specs.Prelude.{◌≡◌, ◌≤◌, ◌++◌, [], List, ℕ, length, IfOk, OnOk, OnErr};
+ghost use Rattle.std.specs.Prelude.{◌≡◌, ◌≤◌, ◌⊎◌, ◌++◌, [], List, ℕ, length, IfOk, OnOk, OnErr};
 ghost use Rattle.byteorder.specs.Endian.{little_bytes};
 ghost use Rattle.adb_daemon.specs.Asked.{kind_of};
 ghost use Rattle.adb_daemon.specs.Service.{came_over, files_opened, files_fed};
@@ -35,6 +35,8 @@ pub fn answer_open(
         (due.old.bytes ++ packet_bytes outgoing.sums
         (okay outgoing.own host (opening_word credit))) due.new.bytes opening.1) }
     ensures files { OnOk result (files.new ≡ files_opened (kind_of asked.entry) files.old) }
+    ensures err { OnErr result ((files.new ≡ files.old)
+        ⊎ (files.new ≡ files_opened (kind_of asked.entry) files.old)) }
 {
     let mut stream = Stream::open(alloc, files, host, asked, credit)?;
     push_opening(alloc, outgoing, host, credit, due)?;
