@@ -1,5 +1,5 @@
 -- Where no stream may send, the up rule makes nothing, and hand-outs leave it so.
-use Rattle.std.proofs.Common.{ℕ, ◌+◌, ◌++◌, ◌&&◌, ◌≡◌, ◌≢◌, Bool, true, false, cond, List, [], ◌∷◌, length, drop, min, Option, Some, None, refl, sym, ◌∙◌, ap, subst, zero, suc, eqb, ◌⊎◌, inl, inr}
+use Rattle.std.proofs.Common.{ℕ, ◌++◌, ◌&&◌, ◌≡◌, ◌≢◌, Bool, true, false, cond, List, [], ◌∷◌, length, drop, min, Option, Some, None, refl, sym, ◌∙◌, ap, subst, zero, suc, eqb, ◌⊎◌, inl, inr}
 use Rattle.std.specs.Prelude.{option_and_then}
 use Rattle.std.proofs.lemmas.Bool.{ne_eqb, eq-eqb, cases_eq}
 use Rattle.adb_outside.specs.Tables.{Rows, change_row}
@@ -7,15 +7,12 @@ use Rattle.adb_registry.specs.Registry.{DeviceTable}
 use Rattle.adb_stream.specs.declared.flow.Flow.{Flow}
 use Rattle.adb_stream.specs.declared.flow.Flow.TheVariants.{One, Credit}
 use Rattle.adb_stream.specs.declared.row.Stream.{Stream}
-use Rattle.adb_stream.specs.declared.row.Part.{Part}
 use Rattle.adb_client.specs.declared.phase.Phase.{Phase}
 use Rattle.adb_client.specs.declared.phase.Phase.TheVariants.{Asking, Opening, Streaming, Binding, Tracking, Closing, Gone}
-use Rattle.adb_history.specs.Rows.{Client, Link, State, to_client, to_stream, with_held, with_due, with_stream_part}
+use Rattle.adb_history.specs.Rows.{Client, State, to_client, to_stream, with_held, with_due, with_stream_part}
 use Rattle.adb_history.specs.Events.{Made, quietly, then_also}
 use Rattle.adb_history.specs.Links.{maxdata_of}
-use Rattle.adb_capture.specs.declared.entry.Entry.{Entry}
-use Rattle.adb_history.specs.Links.{owe_link, okay_packet, credit_packet}
-use Rattle.adb_history.specs.Clients.{closing, closing_with}
+use Rattle.adb_history.specs.Clients.{closing_with}
 use Rattle.adb_history.specs.Handing.{unmarked, lists_first, left_in, hands, to_hand, credit_back, handed_to, tells_credit, tells_handed, stream_hands, stream_left, client_left, takes_of, puts_to, puts, sends}
 use Rattle.adb_history.specs.Tracking.{offered}
 use Rattle.adb_history.specs.Flow.{payloads, is_over, is_idle, is_streaming, noted, sends_up, up_client, up_stream, up, up_all, closes_if, with_flow}

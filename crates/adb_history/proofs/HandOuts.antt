@@ -1,5 +1,5 @@
 -- A hand-out takes more of what is due than it makes due.
-use Rattle.std.proofs.Common.{ℕ, ◌+◌, ◌*◌, ◌-◌, ◌≡◌, ◌≢◌, ◌≤◌, ◌<◌, Bool, true, false, cond, List, [], ◌∷◌, ◌++◌, length, take, drop, min, Option, Some, None, refl, sym}
+use Rattle.std.proofs.Common.{ℕ, ◌+◌, ◌≡◌, ◌≢◌, ◌≤◌, ◌<◌, Bool, true, false, cond, List, [], ◌∷◌, ◌++◌, length, take, drop, min, Option, Some, None, refl, sym}
 use Rattle.std.proofs.Common.{◌∙◌, ap, subst, arith, zero, suc, eqb, ◌⊎◌, inl, inr}
 use Rattle.std.specs.Option.{option_or}
 use Rattle.std.specs.Prelude.{option_and_then}
@@ -19,13 +19,13 @@ use Rattle.adb_client.specs.declared.phase.Phase.TheVariants.{Asking, Opening, S
 use Rattle.adb_capture.specs.declared.entry.Entry.{Entry}
 use Rattle.adb_capture.specs.declared.entry.Entry.TheVariants.{Put, Send}
 use Rattle.adb_history.specs.declared.hand_out.TheConstants.{HAND_OUT}
-use Rattle.adb_history.specs.Rows.{Client, Link, State, to_link, to_client, to_stream, with_link_due, with_due, with_stream_part}
+use Rattle.adb_history.specs.Rows.{Client, Link, State, to_client, to_stream, with_link_due, with_due, with_stream_part}
 use Rattle.adb_history.specs.Flow.{with_flow}
 use Rattle.adb_history.specs.Clients.{closing_with}
-use Rattle.adb_history.specs.Events.{Made, quietly}
+use Rattle.adb_history.specs.Events.{quietly}
 use Rattle.adb_history.specs.Links.{okay_packet, credit_packet, owe_link, check_on, wants_sums}
-use Rattle.adb_history.specs.Tracking.{offered, tracked_list, list_if_stale, due_or}
-use Rattle.adb_history.specs.Handing.{credit_back, tells_credit, tells_handed, stream_hands, stream_left, client_left, takes_of, puts_to, puts, hands, lists_first, to_hand, handed_to, sends, link_hands, left_in, unmarked}
+use Rattle.adb_history.specs.Tracking.{offered, list_if_stale, due_or}
+use Rattle.adb_history.specs.Handing.{credit_back, tells_credit, tells_handed, stream_hands, stream_left, client_left, takes_of, puts_to, puts, hands, lists_first, to_hand, handed_to, link_hands, left_in, unmarked}
 use Rattle.adb_history.specs.Machine.{rule}
 use Rattle.adb_history.specs.Drained.{owed_link, owed_list, owed_client, owed_by, owed_links, owed_clients, owed, answer_len, send_of, send_on, first_send, put_of, put_to, first_put, next_out}
 

@@ -1,6 +1,6 @@
 -- Each promise of the streams is broken by a history.
-use Rattle.std.specs.Prelude.{ℕ, ◌+◌, ◌≡◌, ◌≢◌, ◌≤◌, ◌⊎◌, Bool, true, false, if◌then◌else◌, List, [], ◌∷◌, ◌++◌, Option, Some, None, zero, suc, codes, slice_index, length, All, eqb, nat_lt, is_some, ◌<◌}
-use Rattle.std.proofs.Common.{refl, sym, ◌∙◌, ap, inl, inr, arith}
+use Rattle.std.specs.Prelude.{ℕ, ◌≡◌, ◌≤◌, true, false, List, [], ◌++◌, Option, Some, None, codes, slice_index, length, eqb, nat_lt, is_some, ◌<◌}
+use Rattle.std.proofs.Common.{refl, sym, ◌∙◌, ap, arith}
 use Rattle.std.proofs.lemmas.Bool.{eq-eqb, le-ltb}
 use Rattle.adb_wire.specs.Cutting.{framed}
 use Rattle.adb_history.specs.Links.{server_cnxn}
@@ -8,7 +8,6 @@ use Rattle.adb_history.specs.Bytes.{bytes_sent}
 use Rattle.adb_request.specs.Meaning.{meaning}
 use Rattle.adb_wire.specs.Header.{word_at}
 use Rattle.adb_banner.specs.Banner.{identity_of, last_value}
-use Rattle.adb_outside.specs.Bytes.{IsPrefixOf}
 use Rattle.adb_history.specs.Births.{Birth}
 use Rattle.adb_history.specs.Fifo.{SendsPackets, HasBirths, CarriesRest, CarriesWholeRest, HandsTold, HandsWholeTold, KeepsUpWindow, KeepsDownWindow, HasNoCrossing}
 use Rattle.adb_history.specs.Broken.{sends_no_packet, draws_a_number_twice, skips_a_byte, closes_with_a_byte_unsent, hands_a_byte_twice, drops_at_close}

@@ -1,20 +1,18 @@
 -- Each promise of answers is broken by a history.
-use Rattle.std.specs.Prelude.{ℕ, ◌+◌, ◌≡◌, ◌≢◌, ◌≤◌, ◌<◌, ◌⊎◌, Bool, true, false, if◌then◌else◌, List, [], ◌∷◌, ◌++◌, Option, Some, None, codes, is_some, slice_get, zero, suc, nat_lt, length}
+use Rattle.std.specs.Prelude.{ℕ, ◌≡◌, Bool, true, false, if◌then◌else◌, List, [], ◌∷◌, ◌++◌, Option, Some, None, codes, is_some, slice_get, zero, suc, nat_lt}
 use Rattle.std.specs.Fmt.{digits}
 use Rattle.std.proofs.Common.{refl, sym, ◌∙◌, ap, subst, inl, inr}
 use Rattle.adb_request.specs.Meaning.{meaning}
 use Rattle.adb_wire.specs.Header.{word_at}
 use Rattle.adb_banner.specs.Banner.{identity_of, last_value}
-use Rattle.adb_outside.specs.Bytes.{IsPrefixOf}
 use Rattle.adb_history.specs.Births.{Birth, born, births, told_to, joined}
 use Rattle.adb_history.specs.Machine.{History}
 use Rattle.adb_history.specs.Streams.{stream_ids}
 use Rattle.adb_history.specs.Lives.{output_of}
-use Rattle.adb_history.specs.Book.{asked}
-use Rattle.adb_history.specs.Answered.{RepliesFirst, RepliesWhenBound, RepliesOfStream, ListsTracked, HasPresentList, SaysNothingMore, HasStreamAlone, IsStreamOf}
+use Rattle.adb_history.specs.Answered.{RepliesFirst, RepliesWhenBound, RepliesOfStream, ListsTracked, HasPresentList, SaysNothingMore, HasStreamAlone}
 use Rattle.adb_history.specs.Broken.{stale_device_list, keeps_a_listener_secret, refuses_a_device, lists_too_early, misses_a_list, answers_after_close}
 use Rattle.adb_history.specs.Broken.{hands_what_was_not_written}
-use Rattle.adb_history.proofs.Refuted.{apart, differ_at, differ_in_length}
+use Rattle.adb_history.proofs.Refuted.{differ_at, differ_in_length}
 
 pub replies_refuted : RepliesFirst stale_device_list 1 → ⊥
 unfolding meaning word_at identity_of last_value

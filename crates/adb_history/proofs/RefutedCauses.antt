@@ -1,21 +1,18 @@
 -- Each promise of causes is broken by a history.
-use Rattle.std.specs.Prelude.{ℕ, ◌+◌, ◌≡◌, ◌≢◌, ◌≤◌, Bool, true, false, List, [], ◌∷◌, ◌++◌, Option, Some, None, codes, is_some, reverse}
+use Rattle.std.specs.Prelude.{◌≡◌, Bool, true, false, [], ◌∷◌, Option, Some, None, codes, is_some}
 use Rattle.std.proofs.Common.{refl, sym, ◌∙◌, ap, subst}
 use Rattle.adb_request.specs.Meaning.{meaning}
 use Rattle.adb_wire.specs.Header.{word_at}
 use Rattle.adb_banner.specs.Banner.{identity_of, last_value}
-use Rattle.adb_outside.specs.declared.kinds.Cause.{Cause}
-use Rattle.adb_outside.specs.declared.kinds.Cause.TheVariants.{Eof, Fault}
+use Rattle.adb_outside.specs.declared.kinds.Cause.TheVariants.{Fault}
 use Rattle.adb_capture.specs.declared.entry.Entry.{Entry}
-use Rattle.adb_capture.specs.declared.entry.Entry.TheVariants.{Join, Enter, Read, End, Bound, Attach, Recv, Detach, Put, Send}
-use Rattle.adb_history.specs.Links.{okay_packet, close_packet}
+use Rattle.adb_capture.specs.declared.entry.Entry.TheVariants.{Join}
 use Rattle.adb_history.specs.Machine.{History}
 use Rattle.adb_history.specs.Births.{Birth, born}
-use Rattle.adb_history.specs.Causes.{EndsByClient, EndsByPeer, EndsOutOfTurn, EndsByLoss, EndsByBreak, EndsByFailure, EndsByStop, HasNoOtherCause, IsClosedByClient}
-use Rattle.adb_history.specs.Causes.{peer_closes, writes_early, loses_link, breaks_link, IsDone, IsMoment}
-use Rattle.adb_history.specs.Broken.{so_far, in_shell, torn, torn_at_first, writes, ends_with_a_write_outstanding, ends_without_a_close, ends_in_turn}
+use Rattle.adb_history.specs.Causes.{EndsByClient, EndsByPeer, EndsOutOfTurn, EndsByLoss, EndsByBreak, EndsByFailure, EndsByStop, HasNoOtherCause}
+use Rattle.adb_history.specs.Causes.{peer_closes, writes_early, loses_link, breaks_link, IsDone}
+use Rattle.adb_history.specs.Broken.{ends_with_a_write_outstanding, ends_without_a_close, ends_in_turn}
 use Rattle.adb_history.specs.Broken.{ends_with_a_link_that_stays, ends_with_a_link_unbroken, ends_unborn_with_its_client, ends_unborn_with_the_server, outlives_its_client}
-use Rattle.adb_history.specs.Examples.{sends, connect, pixel, asks, shell_requests}
 use Rattle.adb_history.proofs.Refuted.{not_below}
 
 -- the stream of the open shell

@@ -1,13 +1,13 @@
 -- From every legal history on draining ends.
-use Rattle.std.proofs.Common.{ℕ, ◌≡◌, ◌≤◌, Bool, true, false, List, ◌∷◌, Option, Some, None, sym, ◌∙◌, ap, subst, arith}
+use Rattle.std.proofs.Common.{ℕ, ◌≡◌, true, false, Some, ◌∙◌, ap, arith}
 use Rattle.std.proofs.lemmas.Bool.{eqb-true}
 use Rattle.adb_stream.specs.declared.row.Stream.{Stream}
 use Rattle.adb_client.specs.declared.phase.Phase.{Phase}
 use Rattle.adb_client.specs.declared.phase.Phase.TheVariants.{Asking, Opening, Streaming, Binding, Tracking, Closing, Gone}
 use Rattle.adb_history.specs.Rows.{Client, State}
 use Rattle.adb_history.specs.Flow.{is_streaming}
-use Rattle.adb_history.specs.Machine.{History, state, IsLegal}
-use Rattle.adb_history.specs.Orderly.{IsOrderly, IsOrderlyClient, IsResting, IsQuiet}
+use Rattle.adb_history.specs.Machine.{History, state}
+use Rattle.adb_history.specs.Orderly.{IsOrderly, IsResting}
 use Rattle.adb_history.specs.Drained.{owed}
 use Rattle.adb_history.specs.Settling.{IsDrainedFrom}
 use Rattle.adb_history.proofs.Calm.{IsCalm, SendsNothing}

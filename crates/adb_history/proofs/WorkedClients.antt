@@ -10,10 +10,10 @@ use Rattle.adb_wire.specs.Packet.{spelling}
 use Rattle.adb_wire.specs.declared.packets.Packet.{Packet}
 use Rattle.adb_wire.specs.declared.command.Command.TheVariants.{Open, Auth}
 use Rattle.adb_banner.specs.Banner.{identity_of, last_value}
-use Rattle.adb_capture.specs.declared.entry.Entry.TheVariants.{Join, Enter, Read, End, Bound, Attach, Recv, Detach, Put, Send}
+use Rattle.adb_capture.specs.declared.entry.Entry.TheVariants.{Join, Enter, Read, Bound, Attach, Recv, Detach, Put, Send}
 use Rattle.adb_history.specs.Links.{open_packet, close_packet}
 use Rattle.adb_history.specs.Drained.{drained}
-use Rattle.adb_history.specs.Examples.{sends, hears, connect, pixel, hello, plugs, plugged, asks}
+use Rattle.adb_history.specs.Examples.{sends, hears, pixel, hello, plugs, plugged, asks}
 
 empty_history : drained [] ≡ []
 empty_history = refl

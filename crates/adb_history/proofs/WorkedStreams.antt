@@ -1,7 +1,7 @@
 -- Streams, worked by hand: what is drained is computed from the definitions.
-use Rattle.std.specs.Prelude.{ℕ, ◌≡◌, List, [], ◌∷◌, ◌++◌, codes, take, replicate, false, Option, Some, None}
+use Rattle.std.specs.Prelude.{ℕ, ◌≡◌, List, [], ◌∷◌, ◌++◌, codes, take, replicate, false}
 use Rattle.std.proofs.Common.{refl}
-use Rattle.adb_outside.specs.declared.kinds.Kind.TheVariants.{Usb, Local}
+use Rattle.adb_outside.specs.declared.kinds.Kind.TheVariants.{Usb}
 use Rattle.adb_outside.specs.declared.kinds.Cause.TheVariants.{Eof, Fault}
 use Rattle.adb_request.specs.Meaning.{meaning}
 use Rattle.adb_wire.specs.Header.{word_at}
@@ -9,7 +9,7 @@ use Rattle.adb_wire.specs.Packet.{spelling}
 use Rattle.adb_wire.specs.declared.packets.Packet.{Packet}
 use Rattle.adb_banner.specs.Banner.{identity_of, last_value}
 use Rattle.adb_capture.specs.declared.entry.Entry.{Entry}
-use Rattle.adb_capture.specs.declared.entry.Entry.TheVariants.{Join, Enter, Read, End, Bound, Attach, Recv, Detach, Put, Send}
+use Rattle.adb_capture.specs.declared.entry.Entry.TheVariants.{Read, End, Attach, Recv, Detach, Put, Send}
 use Rattle.adb_history.specs.Links.{open_packet, okay_packet, credit_packet, write_packet, close_packet}
 use Rattle.adb_history.specs.Drained.{drained}
 use Rattle.adb_history.specs.Examples.{sends, hears, connect, pixel, hello, plugs, plugged, asks, shell_requests, opens_shell, shell_comes, shell_open}

@@ -1,28 +1,26 @@
 -- What the entries of worked histories say by themselves, computed from the definitions.
-use Rattle.std.specs.Prelude.{ℕ, ◌≡◌, ◌++◌, Bool, true, false, List, [], ◌∷◌, length, codes, Option, Some, None, reverse}
+use Rattle.std.specs.Prelude.{◌≡◌, ◌++◌, true, false, List, [], ◌∷◌, codes, Some, None}
 use Rattle.std.specs.Fmt.{digits}
 use Rattle.std.proofs.Common.{refl}
 use Rattle.adb_outside.specs.declared.kinds.Cause.TheVariants.{Eof}
 use Rattle.adb_request.specs.Meaning.{meaning}
 use Rattle.adb_wire.specs.Header.{word_at}
-use Rattle.adb_wire.specs.Packet.{spelling}
 use Rattle.adb_banner.specs.Banner.{identity_of, last_value}
 use Rattle.adb_reply.specs.declared.answer.Next.TheVariants.{Open}
 use Rattle.std.specs.Map.{values_of}
 use Rattle.adb_registry.specs.Lists.{short_list}
 use Rattle.adb_forward.specs.Forwards.{forward_row}
 use Rattle.adb_capture.specs.declared.entry.Entry.{Entry}
-use Rattle.adb_capture.specs.declared.entry.Entry.TheVariants.{Join, Enter, Read, End, Bound, Attach, Recv, Detach, Put, Send}
-use Rattle.adb_history.specs.Rows.{State}
+use Rattle.adb_capture.specs.declared.entry.Entry.TheVariants.{Enter, Read, End, Bound, Recv, Detach}
 use Rattle.adb_history.specs.Events.{client_closed, peer_closed, out_of_turn, lost, stopped}
 use Rattle.adb_history.specs.Links.{server_cnxn, open_packet, okay_packet, write_packet, close_packet}
 use Rattle.adb_history.specs.Machine.{History, state}
-use Rattle.adb_history.specs.Bytes.{bytes_read, bytes_put, sent, brought}
-use Rattle.adb_history.specs.Book.{Book, asked, devices, forwards, is_killed}
-use Rattle.adb_history.specs.Births.{Birth, births, born, opening_of, remote_of, told_to, told_before_close, handed_to}
+use Rattle.adb_history.specs.Bytes.{bytes_put, sent}
+use Rattle.adb_history.specs.Book.{asked, devices, forwards, is_killed}
+use Rattle.adb_history.specs.Births.{Birth, births, remote_of, told_to, told_before_close, handed_to}
 use Rattle.adb_history.specs.Lives.{output_of, ending_of, rest_of, carried_of}
 use Rattle.adb_history.specs.Drained.{drained_from}
-use Rattle.adb_history.specs.Examples.{sends, pixel, plugs, asks, shell_requests, shell_comes}
+use Rattle.adb_history.specs.Examples.{sends, pixel, plugs, asks, shell_comes}
 
 -- a shell to which its client wrote, whose device wrote twice and closed
 abbrev shell : History

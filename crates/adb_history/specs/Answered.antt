@@ -1,20 +1,18 @@
 -- The third promise: each whole request of a client is answered from what the server knew at its own entry, and nothing else is said.
-use Rattle.std.specs.Prelude.{ℕ, ◌≡◌, ◌≢◌, ◌⊎◌, Bool, true, false, if◌then◌else◌, ◌&&◌, ◌||◌, not, nat_eq, nat_lt, List, [], ◌∷◌, ◌++◌, length, Option, Some, None, codes}
+use Rattle.std.specs.Prelude.{ℕ, ◌≡◌, ◌⊎◌, Bool, true, false, if◌then◌else◌, ◌&&◌, ◌||◌, not, nat_eq, List, [], ◌∷◌, ◌++◌, length, Option, Some, None, codes}
 use Rattle.std.specs.Prelude.{is_some}
 use Rattle.adb_outside.specs.Bytes.{IsPrefixOf}
-use Rattle.adb_client.specs.declared.phase.Phase.{Phase}
 use Rattle.adb_client.specs.declared.phase.Phase.TheVariants.{Tracking}
 use Rattle.adb_reply.specs.Strings.{okay, failed}
 use Rattle.adb_reply.specs.declared.answer.Next.{Next}
-use Rattle.adb_reply.specs.declared.answer.Next.TheVariants.{Close, Select, Track, Open, Bind, Rebind, Unbind, UnbindAll, Stop}
-use Rattle.adb_capture.specs.declared.entry.Entry.{Entry}
-use Rattle.adb_capture.specs.declared.entry.Entry.TheVariants.{Join, Enter, Read, End, Bound, Attach, Recv, Detach, Put, Send}
+use Rattle.adb_reply.specs.declared.answer.Next.TheVariants.{Track, Open, Bind}
+use Rattle.adb_capture.specs.declared.entry.Entry.TheVariants.{Read, Put}
 use Rattle.adb_history.specs.Rows.{Client}
 use Rattle.adb_history.specs.Events.{Ending, peer_closed, lost, broken}
 use Rattle.adb_history.specs.Tracking.{tracked_list}
 use Rattle.adb_history.specs.Machine.{History, state}
 use Rattle.adb_history.specs.Bytes.{has_joined, has_failed, bytes_put}
-use Rattle.adb_history.specs.Book.{Book, asked, newly, devices, bound_reply}
+use Rattle.adb_history.specs.Book.{asked, newly, devices, bound_reply}
 use Rattle.adb_history.specs.Births.{Birth, born, opening_of, told_to, joined}
 use Rattle.adb_history.specs.Lives.{output_of, ending_of}
 

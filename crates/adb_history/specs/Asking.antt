@@ -1,5 +1,5 @@
 -- What the bytes of a client ask, request after request from their front, and the replies (OVERVIEW.TXT, "Protocol details").
-use Rattle.std.specs.Prelude.{ℕ, ◌+◌, List, [], ◌∷◌, ◌++◌, length, take, drop, Option, Some, None, zero, suc}
+use Rattle.std.specs.Prelude.{ℕ, ◌+◌, List, [], ◌++◌, length, take, drop, Option, Some, None, zero, suc}
 use Rattle.adb_registry.specs.Registry.{DeviceTable}
 use Rattle.adb_forward.specs.declared.row.ForwardRow.{ForwardRow}
 use Rattle.adb_request.specs.Requests.{request_at}

@@ -1,8 +1,7 @@
 -- The streams of a history, from its entries alone: when each was born, and what of it was told, carried and handed (protocol.txt).
-use Rattle.std.specs.Prelude.{ℕ, ◌+◌, ◌-◌, ◌==◌, Bool, true, false, if◌then◌else◌, ◌&&◌, ◌||◌, not, nat_eq, nat_lt, nat_le, List, [], ◌∷◌, ◌++◌, length, drop, Option, Some, None}
-use Rattle.std.specs.Prelude.{zero, suc, unwrap_or, option_map, slice_get, is_some}
+use Rattle.std.specs.Prelude.{ℕ, ◌+◌, ◌==◌, Bool, true, false, if◌then◌else◌, ◌&&◌, ◌||◌, not, nat_eq, nat_lt, List, [], ◌∷◌, ◌++◌, length, drop, Option, Some, None}
+use Rattle.std.specs.Prelude.{zero, suc, slice_get, is_some}
 use Rattle.adb_outside.specs.Tables.{at}
-use Rattle.adb_registry.specs.Registry.{DeviceTable}
 use Rattle.adb_forward.specs.declared.row.ForwardRow.{ForwardRow}
 use Rattle.adb_wire.specs.declared.command.Command.{Command}
 use Rattle.adb_wire.specs.declared.command.Command.TheVariants.{Cnxn, Open, Okay, Wrte, Clse}
@@ -10,10 +9,9 @@ use Rattle.adb_wire.specs.declared.packets.Packet.{Packet}
 use Rattle.adb_reply.specs.declared.answer.Next.{Next}
 use Rattle.adb_reply.specs.declared.answer.Next.TheVariants as what
 use Rattle.adb_capture.specs.declared.entry.Entry.{Entry}
-use Rattle.adb_capture.specs.declared.entry.Entry.TheVariants.{Join, Enter, Read, End, Bound, Attach, Recv, Detach, Put, Send}
+use Rattle.adb_capture.specs.declared.entry.Entry.TheVariants.{Enter, Read}
 use Rattle.adb_history.specs.Links.{credit_word, is_connected, is_credit}
 use Rattle.adb_history.specs.Streams.{stream_ids}
-use Rattle.adb_history.specs.Flow.{total}
 use Rattle.adb_history.specs.Machine.{History}
 use Rattle.adb_history.specs.Bytes.{bytes_put, brought}
 use Rattle.adb_history.specs.Book.{asked, newly, devices, forwards}

@@ -1,15 +1,14 @@
 -- Histories that break one promise each: what a wrong server would do, or a world in which numbers are not drawn once. None of them is legal.
-use Rattle.std.specs.Prelude.{ℕ, List, [], ◌∷◌, ◌++◌, codes, reverse, replicate, false}
-use Rattle.adb_outside.specs.declared.kinds.Kind.TheVariants.{Usb, Local}
+use Rattle.std.specs.Prelude.{ℕ, List, [], ◌∷◌, ◌++◌, codes, reverse, replicate}
+use Rattle.adb_outside.specs.declared.kinds.Kind.TheVariants.{Usb}
 use Rattle.adb_outside.specs.declared.kinds.Cause.TheVariants.{Eof, Fault}
 use Rattle.adb_wire.specs.Header.{header_bytes}
-use Rattle.adb_wire.specs.declared.headers.Head.{Head}
 use Rattle.adb_wire.specs.declared.command.Command.TheVariants.{Wrte}
 use Rattle.adb_capture.specs.declared.entry.Entry.{Entry}
 use Rattle.adb_capture.specs.declared.entry.Entry.TheVariants.{Join, Enter, Read, End, Bound, Attach, Recv, Detach, Put, Send}
-use Rattle.adb_history.specs.Links.{open_packet, okay_packet, write_packet, close_packet}
+use Rattle.adb_history.specs.Links.{okay_packet, write_packet, close_packet}
 use Rattle.adb_history.specs.Machine.{History}
-use Rattle.adb_history.specs.Examples.{sends, hears, connect, pixel, hello, plugs, plugged, asks, shell_requests, opens_shell, shell_comes, shell_open}
+use Rattle.adb_history.specs.Examples.{sends, hears, connect, pixel, hello, plugged, asks, shell_requests, shell_open}
 
 -- a history told with its oldest entry first
 abbrev pub so_far : List Entry → History

@@ -4,8 +4,7 @@ use Rattle.adb_outside.specs.declared.kinds.Cause.{Cause}
 use Rattle.adb_outside.specs.declared.kinds.Cause.TheVariants.{Eof, Fault, Starved, NoThread}
 use Rattle.adb_wire.specs.Cutting.{framed}
 use Rattle.adb_wire.specs.declared.packets.Packet.{Packet}
-use Rattle.adb_capture.specs.declared.entry.Entry.{Entry}
-use Rattle.adb_capture.specs.declared.entry.Entry.TheVariants.{Join, Enter, Read, End, Bound, Attach, Recv, Detach, Put, Send}
+use Rattle.adb_capture.specs.declared.entry.Entry.TheVariants.{Join, Read, End, Recv, Detach, Put, Send}
 use Rattle.adb_history.specs.Machine.{History}
 
 -- ---- clients

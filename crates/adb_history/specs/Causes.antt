@@ -1,20 +1,19 @@
 -- The second promise: a stream ends only for a cause that the history has, at the very entry by which it ends.
-use Rattle.std.specs.Prelude.{ℕ, ◌+◌, ◌≡◌, ◌≤◌, ◌⊎◌, Bool, true, false, if◌then◌else◌, ◌&&◌, ◌||◌, not, nat_eq, nat_lt, List, [], ◌∷◌, ◌++◌, length, drop, Option, Some, None}
-use Rattle.std.specs.Prelude.{is_some, unwrap_or}
+use Rattle.std.specs.Prelude.{ℕ, ◌+◌, ◌≡◌, ◌≤◌, Bool, true, false, if◌then◌else◌, ◌&&◌, ◌||◌, not, nat_eq, nat_lt, List, [], ◌∷◌, ◌++◌, length, drop, Option, Some, None}
+use Rattle.std.specs.Prelude.{is_some}
 use Rattle.std.specs.List.{list_any}
 use Rattle.adb_outside.specs.declared.kinds.Cause.{Cause}
-use Rattle.adb_outside.specs.declared.kinds.Cause.TheVariants.{Eof}
 use Rattle.adb_wire.specs.Cutting.{framed}
 use Rattle.adb_wire.specs.Format.{is_cnxn}
 use Rattle.adb_wire.specs.declared.packets.Packet.{Packet}
 use Rattle.adb_stream.specs.declared.credit.TheConstants.{CREDIT_WINDOW}
 use Rattle.adb_capture.specs.declared.entry.Entry.{Entry}
-use Rattle.adb_capture.specs.declared.entry.Entry.TheVariants.{Join, Enter, Read, End, Bound, Attach, Recv, Detach, Put, Send}
+use Rattle.adb_capture.specs.declared.entry.Entry.TheVariants.{End, Recv, Detach}
 use Rattle.adb_history.specs.Events.{Ending, client_closed, peer_closed, out_of_turn, lost, broken, client_failed, stopped, ending_in}
-use Rattle.adb_history.specs.Machine.{History, told_at, told}
+use Rattle.adb_history.specs.Machine.{History, told_at}
 use Rattle.adb_history.specs.Bytes.{is_orderly, has_ended, bytes_received, brought}
 use Rattle.adb_history.specs.Book.{is_refused, is_killed}
-use Rattle.adb_history.specs.Births.{Birth, born, Opening, opening_of, remote_of, is_between, is_okay, is_wrte, is_clse, is_close_of, told_to, joined, handed_to, carried_in, count_from}
+use Rattle.adb_history.specs.Births.{Birth, born, Opening, opening_of, remote_of, is_between, is_okay, is_wrte, is_close_of, told_to, joined, handed_to, carried_in, count_from}
 use Rattle.adb_history.specs.Fifo.{okays_in, okays_of, credit_of}
 use Rattle.adb_history.specs.Lives.{packets_of, ending_of, rest_of}
 

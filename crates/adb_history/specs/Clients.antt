@@ -1,7 +1,6 @@
 -- Clients: what becomes due to them, and how they close.
-use Rattle.std.specs.Prelude.{ℕ, Bool, true, false, List, [], ◌∷◌, ◌++◌, Option, Some, None, codes}
-use Rattle.adb_client.specs.declared.phase.Phase.{Phase}
-use Rattle.adb_client.specs.declared.phase.Phase.TheVariants.{Asking, Opening, Streaming, Binding, Tracking, Closing, Gone}
+use Rattle.std.specs.Prelude.{ℕ, false, List, [], ◌∷◌, Option, Some, None}
+use Rattle.adb_client.specs.declared.phase.Phase.TheVariants.{Closing}
 use Rattle.adb_history.specs.Rows.{Client, State, to_client, with_due}
 use Rattle.adb_history.specs.Events.{Made, quietly, then_also, due_to_client}
 

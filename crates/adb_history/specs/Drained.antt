@@ -1,5 +1,5 @@
 -- Handing out all that is due, after each entry that came: first to the links, and then to the clients.
-use Rattle.std.specs.Prelude.{ℕ, ◌+◌, ◌*◌, Bool, true, false, if◌then◌else◌, List, [], ◌∷◌, ◌++◌, length, take, Option, Some, None, zero, suc, reverse}
+use Rattle.std.specs.Prelude.{ℕ, ◌+◌, ◌*◌, Bool, if◌then◌else◌, List, [], ◌∷◌, length, take, Option, Some, None, zero, suc, reverse}
 use Rattle.std.specs.Option.{option_or}
 use Rattle.adb_outside.specs.Tables.{Rows}
 use Rattle.adb_registry.specs.Registry.{DeviceTable}

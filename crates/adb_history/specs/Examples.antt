@@ -1,9 +1,9 @@
 -- The words that worked histories are told in.
-use Rattle.std.specs.Prelude.{ℕ, ◌+◌, Bool, true, false, List, [], ◌∷◌, ◌++◌, replicate, codes}
-use Rattle.adb_outside.specs.declared.kinds.Kind.TheVariants.{Usb, Local}
-use Rattle.adb_wire.specs.Packet.{spelling, check_of}
+use Rattle.std.specs.Prelude.{ℕ, true, false, List, [], ◌∷◌, ◌++◌, codes}
+use Rattle.adb_outside.specs.declared.kinds.Kind.TheVariants.{Usb}
+use Rattle.adb_wire.specs.Packet.{spelling}
 use Rattle.adb_wire.specs.declared.packets.Packet.{Packet}
-use Rattle.adb_wire.specs.declared.command.Command.TheVariants.{Cnxn, Open, Auth}
+use Rattle.adb_wire.specs.declared.command.Command.TheVariants.{Cnxn}
 use Rattle.adb_capture.specs.declared.entry.Entry.{Entry}
 use Rattle.adb_capture.specs.declared.entry.Entry.TheVariants.{Join, Read, Attach, Recv, Put, Send}
 use Rattle.adb_history.specs.Links.{server_cnxn, open_packet, okay_packet}

@@ -1,12 +1,11 @@
 -- The first promise: what each stream handed to either end is what its other end wrote, in order and once.
-use Rattle.std.specs.Prelude.{ℕ, ◌+◌, ◌-◌, ◌≡◌, ◌≢◌, ◌≤◌, ◌⊎◌, Bool, true, false, if◌then◌else◌, ◌&&◌, nat_eq, nat_le, not, List, [], ◌∷◌, ◌++◌, length, min, All, Contains, Option, Some, None}
+use Rattle.std.specs.Prelude.{ℕ, ◌+◌, ◌-◌, ◌≡◌, ◌≢◌, ◌≤◌, ◌⊎◌, Bool, true, false, if◌then◌else◌, ◌&&◌, nat_eq, nat_le, List, [], ◌∷◌, length, min, All, Contains, Option, Some, None}
 use Rattle.std.specs.Prelude.{unwrap_or}
 use Rattle.adb_outside.specs.Bytes.{IsPrefixOf}
 use Rattle.adb_wire.specs.Cutting.{framed}
 use Rattle.adb_wire.specs.declared.command.Command.{Command}
 use Rattle.adb_wire.specs.declared.command.Command.TheVariants.{Cnxn, Open, Okay, Wrte, Clse, Auth, Stls}
 use Rattle.adb_wire.specs.declared.packets.Packet.{Packet}
-use Rattle.adb_stream.specs.declared.credit.TheConstants.{CREDIT_WINDOW}
 use Rattle.adb_stream.specs.declared.flow.Flow.{Flow}
 use Rattle.adb_stream.specs.declared.flow.Flow.TheVariants as flow
 use Rattle.adb_stream.specs.declared.row.Stream.{Stream}

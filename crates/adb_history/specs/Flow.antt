@@ -1,13 +1,11 @@
 -- What a stream may send up, by its window or its credit (protocol.txt, WRITE and READY).
-use Rattle.std.specs.Prelude.{ℕ, ◌+◌, ◌-◌, ◌==◌, Bool, true, false, if◌then◌else◌, ◌&&◌, not, nat_eq, nat_le, List, [], ◌∷◌, ◌++◌, length, take, drop, min, Option, Some, None, zero, suc}
+use Rattle.std.specs.Prelude.{ℕ, ◌+◌, ◌-◌, Bool, true, false, if◌then◌else◌, ◌&&◌, not, nat_eq, List, [], ◌∷◌, length, take, drop, min, Option, Some, None, zero, suc}
 use Rattle.adb_stream.specs.declared.flow.Flow.{Flow}
 use Rattle.adb_stream.specs.declared.flow.Flow.TheVariants.{One, Credit}
-use Rattle.adb_stream.specs.Window.{OneWrite}
-use Rattle.adb_stream.specs.Credit.{ByteCredit}
 use Rattle.adb_stream.specs.declared.row.Part.{Part}
 use Rattle.adb_stream.specs.declared.row.Stream.{Stream}
 use Rattle.adb_client.specs.declared.phase.Phase.{Phase}
-use Rattle.adb_client.specs.declared.phase.Phase.TheVariants.{Asking, Opening, Streaming, Binding, Tracking, Closing, Gone}
+use Rattle.adb_client.specs.declared.phase.Phase.TheVariants.{Streaming}
 use Rattle.adb_history.specs.Rows.{Client, State, to_client, to_stream, with_held, with_stream_part}
 use Rattle.adb_history.specs.Events.{Made, quietly, then_also, client_closed}
 use Rattle.adb_history.specs.Links.{write_packet, owe_link, maxdata_of}

@@ -1,6 +1,6 @@
 -- Forwards of local ports, and the listeners that wait for theirs (SERVICES.TXT, `<host-prefix>:forward`).
-use Rattle.std.specs.Prelude.{ℕ, ◌==◌, Bool, true, false, if◌then◌else◌, ◌&&◌, ◌||◌, not, List, [], ◌∷◌, ◌++◌, length, Option, Some, None, codes, decimal, is_some, is_none, filter}
-use Rattle.adb_outside.specs.Tables.{at, put_at, without}
+use Rattle.std.specs.Prelude.{ℕ, ◌==◌, Bool, if◌then◌else◌, ◌&&◌, ◌||◌, not, List, [], ◌++◌, length, Option, Some, None, codes, decimal, is_some, is_none, filter}
+use Rattle.adb_outside.specs.Tables.{at, put_at}
 use Rattle.adb_registry.specs.Registry.{DeviceTable}
 use Rattle.adb_registry.specs.declared.row.Row.{Row}
 use Rattle.adb_forward.specs.Forwards.{forward_row}

@@ -1,12 +1,11 @@
 -- Handing out what is due (protocol.txt, READY).
-use Rattle.std.specs.Prelude.{ℕ, ◌+◌, ◌-◌, ◌==◌, Bool, true, false, if◌then◌else◌, nat_eq, List, [], ◌∷◌, ◌++◌, length, drop, min, Option, Some, None, zero, suc}
-use Rattle.adb_stream.specs.Window.{OneWrite}
+use Rattle.std.specs.Prelude.{ℕ, ◌+◌, ◌-◌, false, if◌then◌else◌, nat_eq, List, [], ◌∷◌, length, drop, min, Option, Some, None, zero, suc}
 use Rattle.adb_stream.specs.Credit.{ByteCredit, given_back}
 use Rattle.adb_stream.specs.declared.flow.Flow.{Flow}
 use Rattle.adb_stream.specs.declared.flow.Flow.TheVariants.{One, Credit}
 use Rattle.adb_stream.specs.declared.row.Stream.{Stream}
 use Rattle.adb_client.specs.declared.phase.Phase.{Phase}
-use Rattle.adb_client.specs.declared.phase.Phase.TheVariants.{Asking, Opening, Streaming, Binding, Tracking, Closing, Gone}
+use Rattle.adb_client.specs.declared.phase.Phase.TheVariants.{Streaming, Closing}
 use Rattle.adb_history.specs.Rows.{Client, Link, State, to_client, to_link, to_stream, with_stream_part}
 use Rattle.adb_history.specs.Events.{Made, quietly, then_also}
 use Rattle.adb_history.specs.Links.{okay_packet, credit_packet, owe_link}

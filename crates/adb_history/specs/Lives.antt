@@ -1,5 +1,5 @@
 -- How a stream's life goes on in a history: what became due for it, and how it ended.
-use Rattle.std.specs.Prelude.{ℕ, Bool, true, false, if◌then◌else◌, List, [], ◌∷◌, ◌++◌, drop, Option, Some, None, is_some}
+use Rattle.std.specs.Prelude.{ℕ, if◌then◌else◌, List, [], ◌∷◌, drop, Option, is_some}
 use Rattle.adb_wire.specs.declared.packets.Packet.{Packet}
 use Rattle.adb_history.specs.Events.{Ending, owed_to, packets_to, ending_in}
 use Rattle.adb_history.specs.Machine.{History, told_at, told}

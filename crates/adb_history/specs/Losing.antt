@@ -1,6 +1,6 @@
 -- How links are lost and broken, how clients fail, and how the server stops.
-use Rattle.std.specs.Prelude.{ℕ, Bool, true, false, if◌then◌else◌, nat_eq, List, [], ◌∷◌, ◌++◌, Option, Some, None, zero, suc}
-use Rattle.adb_outside.specs.Tables.{Rows, put_row}
+use Rattle.std.specs.Prelude.{ℕ, true, if◌then◌else◌, nat_eq, List, [], ◌∷◌, ◌++◌, Option, Some, None, zero, suc}
+use Rattle.adb_outside.specs.Tables.{Rows}
 use Rattle.adb_outside.specs.declared.kinds.Cause.{Cause}
 use Rattle.adb_outside.specs.declared.kinds.Cause.TheVariants.{Eof, Fault, Starved, NoThread}
 use Rattle.adb_registry.specs.Registry.{detached}
@@ -11,7 +11,7 @@ use Rattle.adb_client.specs.declared.phase.Phase.TheVariants.{Asking, Opening, S
 use Rattle.adb_history.specs.Rows.{Client, State, to_client, to_link, to_stream, none_kept, with_stream_part}
 use Rattle.adb_history.specs.Events.{Made, Event, Ending, quietly, then_also, ended, client_failed, stopped}
 use Rattle.adb_history.specs.Links.{close_packet, owe_link}
-use Rattle.adb_history.specs.Clients.{closes, closing}
+use Rattle.adb_history.specs.Clients.{closes}
 use Rattle.adb_history.specs.Streams.{all_end}
 use Rattle.adb_history.specs.Tracking.{mark_all}
 use Rattle.adb_history.specs.Forwarding.{forwards_without}

@@ -1,7 +1,6 @@
 -- The machine: what each entry of a history makes, and which histories are legal.
-use Rattle.std.specs.Prelude.{ℕ, ◌+◌, ◌^◌, ◌≡◌, ◌≢◌, ◌≤◌, ◌<◌, Bool, false, List, [], ◌∷◌, ◌++◌, length, All, Option, Some, None}
+use Rattle.std.specs.Prelude.{ℕ, ◌+◌, ◌^◌, ◌≡◌, ◌≢◌, ◌≤◌, ◌<◌, false, List, [], ◌∷◌, ◌++◌, length, All, Option, Some, None}
 use Rattle.adb_outside.specs.Bytes.{IsPrefixOf}
-use Rattle.adb_outside.specs.declared.kinds.Cause.{Cause}
 use Rattle.adb_registry.specs.Registry.{attach_refusal}
 use Rattle.adb_capture.specs.Records.{number_of, data_of, HasPort}
 use Rattle.adb_capture.specs.declared.entry.Entry.{Entry}

@@ -1,6 +1,6 @@
 -- What the packets of a device make (protocol.txt).
-use Rattle.std.specs.Prelude.{ℕ, ◌+◌, ◌-◌, ◌^◌, ◌==◌, Bool, true, false, if◌then◌else◌, ◌&&◌, ◌||◌, not, nat_eq, nat_lt, List, [], ◌∷◌, ◌++◌, length, min, Option, Some, None, codes}
-use Rattle.std.specs.Prelude.{unwrap_or, is_some}
+use Rattle.std.specs.Prelude.{ℕ, ◌+◌, ◌-◌, ◌^◌, ◌==◌, Bool, true, false, if◌then◌else◌, ◌||◌, not, nat_eq, nat_lt, List, [], ◌∷◌, ◌++◌, length, min, Option, Some, None, codes}
+use Rattle.std.specs.Prelude.{unwrap_or}
 use Rattle.adb_outside.specs.Tables.{at}
 use Rattle.adb_outside.specs.Framing.{Cut}
 use Rattle.adb_outside.specs.declared.identity.Identity.{Identity}
@@ -19,8 +19,6 @@ use Rattle.adb_wire.specs.declared.format.PacketFault.{PacketFault}
 use Rattle.adb_wire.specs.declared.format.PacketFormat.{PacketFormat}
 use Rattle.adb_wire.specs.declared.format.TheConstants.{VERSION_WITHOUT_SUMS}
 use Rattle.adb_wire.specs.declared.headers.TheConstants.{MAX_PAYLOAD}
-use Rattle.adb_stream.specs.Window.{OneWrite}
-use Rattle.adb_stream.specs.Credit.{ByteCredit}
 use Rattle.adb_stream.specs.declared.flow.Flow.{Flow}
 use Rattle.adb_stream.specs.declared.flow.Flow.TheVariants.{One, Credit}
 use Rattle.adb_stream.specs.declared.row.Stream.{Stream}
@@ -28,7 +26,7 @@ use Rattle.adb_stream.specs.declared.row.Part.{Part}
 use Rattle.adb_client.specs.declared.phase.Phase.TheVariants.{Streaming}
 use Rattle.adb_history.specs.Rows.{Client, Link, State, to_client, to_link, to_stream, none_kept, in_phase, with_stream_part}
 use Rattle.adb_history.specs.Events.{Made, quietly, then_also, peer_closed, out_of_turn, lost, broken}
-use Rattle.adb_history.specs.Links.{close_packet, okay_packet, credit_word, owe_link, is_connected, is_connected_row}
+use Rattle.adb_history.specs.Links.{close_packet, okay_packet, credit_word, owe_link, is_connected}
 use Rattle.adb_history.specs.Clients.{owe_client}
 use Rattle.adb_history.specs.Streams.{ends_row, ends_telling, all_end}
 use Rattle.adb_history.specs.Flow.{with_flow}

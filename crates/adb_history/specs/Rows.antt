@@ -1,6 +1,6 @@
 -- What the server keeps: clients, links and streams by their numbers, none where nothing is kept; the devices, and the forwards.
-use Rattle.std.specs.Prelude.{ℕ, Bool, true, false, List, [], ◌∷◌, ◌++◌, Option, Some, None, option_and_then}
-use Rattle.adb_outside.specs.Tables.{Rows, change_row, put_row}
+use Rattle.std.specs.Prelude.{ℕ, Bool, false, List, [], ◌++◌, Option, Some, None, option_and_then}
+use Rattle.adb_outside.specs.Tables.{Rows, change_row}
 use Rattle.adb_registry.specs.Registry.{DeviceTable}
 use Rattle.adb_forward.specs.declared.row.ForwardRow.{ForwardRow}
 use Rattle.adb_stream.specs.declared.row.Stream.{Stream}

@@ -5,12 +5,12 @@ use Rattle.adb_stream.specs.Flow.{new_flow}
 use Rattle.adb_stream.specs.Stream.{new_stream}
 use Rattle.adb_stream.specs.declared.row.Stream.{Stream}
 use Rattle.adb_client.specs.declared.phase.Phase.{Phase}
-use Rattle.adb_client.specs.declared.phase.Phase.TheVariants.{Asking, Opening, Streaming, Binding, Tracking, Closing, Gone}
+use Rattle.adb_client.specs.declared.phase.Phase.TheVariants.{Opening, Streaming}
 use Rattle.adb_reply.specs.Strings.{failed}
 use Rattle.adb_history.specs.Rows.{Client, State, to_client, to_stream, none_kept, in_phase}
 use Rattle.adb_history.specs.Events.{Made, Ending, quietly, then_also, ended}
 use Rattle.adb_history.specs.Links.{open_packet, close_packet, owe_link, is_credit}
-use Rattle.adb_history.specs.Clients.{owe_client, closes, closes_with}
+use Rattle.adb_history.specs.Clients.{closes, closes_with}
 
 -- how many stream ids there are
 abbrev pub stream_ids : ℕ

@@ -1,13 +1,12 @@
 -- What a history leaves, in the words of its entries alone.
-use Rattle.std.specs.Prelude.{ℕ, ◌+◌, ◌≡◌, ◌≢◌, Bool, true, false, nat_eq, if◌then◌else◌, not, ◌&&◌, List, [], ◌∷◌, ◌++◌, length, drop, Option, Some, None}
+use Rattle.std.specs.Prelude.{ℕ, ◌+◌, ◌≡◌, nat_eq, if◌then◌else◌, not, ◌&&◌, List, [], ◌∷◌, ◌++◌, drop, Some, None}
 use Rattle.adb_client.specs.declared.phase.Phase.TheVariants.{Asking, Binding}
 use Rattle.adb_wire.specs.Cutting.{framed}
-use Rattle.adb_capture.specs.declared.entry.Entry.{Entry}
-use Rattle.adb_capture.specs.declared.entry.Entry.TheVariants.{Join, Enter, Read, End, Bound, Attach, Recv, Detach, Put, Send}
-use Rattle.adb_history.specs.Rows.{Client, Link, State}
+use Rattle.adb_capture.specs.declared.entry.Entry.TheVariants.{Join, Enter, Read}
+use Rattle.adb_history.specs.Rows.{Client, Link}
 use Rattle.adb_history.specs.Events.{spelled_to}
 use Rattle.adb_history.specs.Machine.{History, state, told}
-use Rattle.adb_history.specs.Bytes.{has_joined, has_ended, bytes_read, bytes_put, bytes_received, bytes_sent}
+use Rattle.adb_history.specs.Bytes.{has_ended, bytes_put, bytes_received, bytes_sent}
 use Rattle.adb_history.specs.Book.{book, devices, forwards, asked, is_killed}
 use Rattle.adb_history.specs.Lives.{output_of}
 

@@ -1,12 +1,11 @@
 -- Clients that track the list of the devices (SERVICES.TXT, `host:track-devices`).
-use Rattle.std.specs.Prelude.{ℕ, Bool, true, false, if◌then◌else◌, ◌&&◌, List, [], ◌∷◌, ◌++◌, Option, Some, None, option_map}
+use Rattle.std.specs.Prelude.{ℕ, Bool, true, if◌then◌else◌, List, [], ◌∷◌, option_map}
 use Rattle.adb_reply.specs.Strings.{string}
 use Rattle.adb_reply.specs.Answer.{device_list}
 use Rattle.adb_registry.specs.Registry.{DeviceTable}
 use Rattle.adb_client.specs.declared.phase.Phase.{Phase}
 use Rattle.adb_client.specs.declared.phase.Phase.TheVariants.{Tracking}
-use Rattle.adb_history.specs.Rows.{Client, State, to_client}
-use Rattle.adb_history.specs.Events.{Made, quietly, due_to_client}
+use Rattle.adb_history.specs.Rows.{Client, State}
 
 -- the list that a tracker is handed, behind its length
 abbrev pub tracked_list : DeviceTable → Bool → List ℕ
