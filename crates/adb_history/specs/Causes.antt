@@ -11,7 +11,7 @@ use Rattle.adb_capture.specs.declared.entry.Entry.{Entry}
 use Rattle.adb_capture.specs.declared.entry.Entry.TheVariants.{End, Recv, Detach}
 use Rattle.adb_history.specs.Events.{Ending, client_closed, peer_closed, out_of_turn, lost, broken, client_failed, stopped, ending_in}
 use Rattle.adb_history.specs.Machine.{History, told_at}
-use Rattle.adb_history.specs.Bytes.{is_orderly, has_ended, bytes_received, brought}
+use Rattle.adb_history.specs.Bytes.{is_orderly, bytes_received, brought}
 use Rattle.adb_history.specs.Book.{is_refused, is_killed}
 use Rattle.adb_history.specs.Births.{Birth, born, Opening, opening_of, remote_of, is_between, is_okay, is_wrte, is_close_of, told_to, joined, handed_to, carried_in, count_from}
 use Rattle.adb_history.specs.Fifo.{okays_in, okays_of, credit_of}
@@ -94,21 +94,30 @@ okays_behind l (Some o) = okays_in o.remote l o.later
 abbrev pub okays_after : ℕ → Birth → History → ℕ
 okays_after l b h = okays_behind l (opening_of l b h)
 
+-- the orderly end of a client's input
+abbrev pub is_close_by : ℕ → Entry → Bool
+is_close_by c (End n cause) = nat_eq n c && is_orderly cause
+is_close_by c _ = false
+
+-- whether a client closed when a stream had been born
+abbrev pub has_closed_since : (l c : ℕ) → History → Bool
+has_closed_since l c [] = false
+has_closed_since l c (e ∷ older) = (is_some (born l older) && is_close_by c e) || has_closed_since l c older
+
 -- an entry by which a client that ended may be done: its end, or what its device sends
 abbrev pub may_finish : Birth → Entry → Bool
-may_finish b (End n cause) = nat_eq n b.client && is_orderly cause
 may_finish b (Recv n bytes) = nat_eq n b.link
-may_finish b _ = false
+may_finish b e = is_close_by b.client e
 
 -- all writes were answered; or with credit, all bytes were written
 abbrev pub IsDone : Bool → ℕ → Birth → History → Type 0
 IsDone false l b h = count_from is_wrte l (packets_of b.link h) ≤ okays_after l b h
 IsDone true l b h = carried_in l (packets_of b.link h) ≡ rest_of l b h
 
--- Its client ended in order, and all that it wrote went up.
+-- Its client closed after the birth, and all that it wrote went up.
 pub record IsClosedByClient (l : ℕ) (b : Birth) (e : Entry) (older : History) : Type 0 where
   pub entry : may_finish b e ≡ true
-  pub ended : has_ended b.client (e ∷ older) ≡ true
+  pub closed : has_closed_since l b.client (e ∷ older) ≡ true
   pub done : IsDone b.credit l b (e ∷ older)
 
 -- ---- causes
