@@ -113,6 +113,14 @@ impl Streams {
         self.shelf.remove(id)
     }
 
+    /// All streams end. The ids that were drawn stay drawn. It takes no memory.
+    pub fn clear(&mut self)
+        ensures after { self.new ≡ record self.old { streams = [] } }
+        ensures sound { IsSound self.new }
+    {
+        self.shelf.clear();
+    }
+
     /// The least id of a stream of this link that lives.
     pub fn first_of(&self, link: u32) -> Option<u32>
         ensures first { MatchOption result
