@@ -41,19 +41,21 @@ pub held_first : (held whole : List ℕ) (after : Option (List ℕ)) → option_
 held_first held whole None h = let e : None ≡ Some whole = h in cc
 held_first held whole (Some rest) h = let e : Some (held ++ rest) ≡ Some whole = h in (rest, refl, cc)
 
--- A record at the front of what was held was given: the offset behind it, and what is held then.
-pub record Gave (offset : ℕ) (held : List ℕ) (given : ℕ × Entry) (next : ℕ) (left : List ℕ) : Type 0 where
+-- A record at the front of what was held at an offset was given: the offset behind it, and what is held then.
+pub record Gave (offset : ℕ) (held : List ℕ) : Type 0 where
   pub size : ℕ
   pub whole : record_at offset held ≡ Whole size
+  pub given : ℕ × Entry
   pub is : given ≡ entry_in offset (take size held)
+  pub left : List ℕ
   pub dropped : left ≡ drop size held
+  pub next : ℕ
   pub place : next ≡ offset + size
 
 -- it is the first of all that is ahead
-pub gives_record : {offset next : ℕ} {left : List ℕ} {given : ℕ × Entry} → (held bytes : List ℕ) (after : Option (List ℕ))
-    → option_map (λ rest. held ++ rest) after ≡ Some bytes → Gave offset held given next left
-    → GivesRecord offset bytes given next (option_map (λ rest. left ++ rest) after)
-gives_record {offset} {next} {left} {given} held bytes after h g =
+pub gives_record : (offset : ℕ) (held bytes : List ℕ) (after : Option (List ℕ)) → option_map (λ rest. held ++ rest) after ≡ Some bytes
+    → (g : Gave offset held) → GivesRecord offset bytes g.given g.next (option_map (λ rest. g.left ++ rest) after)
+gives_record offset held bytes after h g =
     let f = held_first held bytes after h in
     let fits = whole_fits offset held g.size g.whole in
     let same : take g.size bytes ≡ take g.size held = ap (take g.size) f.2 ∙ take-append-le g.size held f.0 fits.0 in
@@ -62,7 +64,7 @@ gives_record {offset} {next} {left} {given} held bytes after h g =
       whole = ap (record_at offset) f.2 ∙ whole_stays offset held f.0 g.size g.whole;
       is = g.is ∙ ap (entry_in offset) (sym same);
       next_offset_is = g.place ∙ ap (λ n. offset + n) (sym (ap length same ∙ length-take-le g.size held fits.0));
-      rest = ap (λ (a : Option (List ℕ)). option_map (λ (r : List ℕ). left ++ r) a) f.1
+      rest = ap (λ (a : Option (List ℕ)). option_map (λ (r : List ℕ). g.left ++ r) a) f.1
           ∙ ap Some (ap (λ b. b ++ f.0) g.dropped ∙ (sym (drop-append-le g.size held f.0 fits.0) ∙ ap (drop g.size) (sym f.2)));
     }
 

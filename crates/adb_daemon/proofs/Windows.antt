@@ -6,6 +6,7 @@ use Rattle.std.proofs.lemmas.Bool.{eq-eqb, ne_eqb}
 use Rattle.std.proofs.lemmas.List.{append-nil, append_assoc, length-append, length-drop, length-take}
 use Rattle.adb_daemon.specs.Service.{service_answer}
 use Rattle.adb_daemon.specs.declared.stream.Stream.{Stream}
+use Rattle.adb_daemon.specs.declared.writes.Outgoing.{Outgoing}
 use Rattle.adb_daemon.specs.Stream.{Row, StandsFor, MakesWrite, Writes, room_of, unsent, next_payload, row_past, writes_at, writes, row_past_all, row_written, wrte, packet_bytes, writes_bytes}
 
 -- the writes where there is a payload, and where there is none
@@ -62,45 +63,55 @@ writes_none most row none =
     enough (length (unsent row)) (suc (length (unsent row))) most row (omega arith) (omega arith)
     ∙ ap (with_more (length (unsent row)) most row) (eq-eqb (length (next_payload most row)) 0 (ap length none))
 
--- Some of the writes of a stream were made: this is the stream past them, and the others are still to be made.
-pub record Writing (sums : Bool) (own most : ℕ) (first : Row) (now : Stream) (due due' : List ℕ) : Type 0 where
-  pub row : Row
-  pub stands : StandsFor row now
-  pub host : row.host ≡ first.host
-  pub rest : due' ++ writes_bytes sums own first.host (writes most row) ≡ due ++ writes_bytes sums own first.host (writes most first)
-  pub last : row_written most row ≡ row_written most first
+-- ---- the loop that makes them
+-- A moment of it: the stream, and what is due.
+pub record Moment : Type 0 where
+  pub stream : Stream
+  pub due : List ℕ
 
-pub writing_none : (sums : Bool) (own most : ℕ) (first : Row) (now : Stream) (due : List ℕ) → StandsFor first now → Writing sums own most first now due due
-writing_none sums own most first now due stands = record { row = first; stands = stands; host = refl; rest = refl; last = refl }
+module _ (outgoing : Outgoing) (first : Row) where
+  -- the bytes of writes
+  abbrev pub bytes_of : List (List ℕ) → List ℕ
+  bytes_of payloads = writes_bytes outgoing.sums outgoing.own first.host payloads
 
--- one more was made
-pub writing_step : {now next : Stream} {due due1 : List ℕ} (sums : Bool) (own most : ℕ) (first : Row) (due2 payload : List ℕ)
-    → (all : Writing sums own most first now due due1) → MakesWrite most all.row next (Some payload)
-    → due2 ≡ due1 ++ packet_bytes sums (wrte own next.host payload) → Writing sums own most first next due due2
-writing_step {now} {next} {due} {due1} sums own most first due2 payload all makes push =
-    let more = writes_more most all.row payload makes.0 makes.1 in
-    let row2 = row_past payload all.row in
-    let packet = packet_bytes sums (wrte own first.host payload) in
-    let pushed : due2 ≡ due1 ++ packet = push ∙ ap (λ (h : ℕ). due1 ++ packet_bytes sums (wrte own h payload)) (makes.2.host ∙ all.host) in
-    record {
-      row = row2;
-      stands = makes.2;
-      host = all.host;
-      rest =
-          ap (λ (d : List ℕ). d ++ writes_bytes sums own first.host (writes most row2)) pushed
-          ∙ (append_assoc due1 packet (writes_bytes sums own first.host (writes most row2))
-          ∙ (ap (λ (ps : List (List ℕ)). due1 ++ writes_bytes sums own first.host ps) (sym more) ∙ all.rest));
-      last = ap (λ (ps : List (List ℕ)). row_past_all ps all.row) (sym more) ∙ all.last;
-    }
+  -- Some of the writes of a stream were made: this is the stream past them, and the others are still to be made.
+  pub record Writing (due : List ℕ) (now : Moment) : Type 0 where
+    pub row : Row
+    pub stands : StandsFor row now.stream
+    pub host : row.host ≡ first.host
+    pub rest : now.due ++ bytes_of (writes outgoing.most row) ≡ due ++ bytes_of (writes outgoing.most first)
+    pub last : row_written outgoing.most row ≡ row_written outgoing.most first
 
--- all were made
-pub writing_done : {now next : Stream} {due due1 : List ℕ} (sums : Bool) (own most : ℕ) (first : Row)
-    → (all : Writing sums own most first now due due1) → MakesWrite most all.row next None → Writes sums own most first next due due1
-writing_done {now} {next} {due} {due1} sums own most first all makes =
-    let none = writes_none most all.row makes.0 in
-    record {
-      stands = subst (λ (r : Row). StandsFor r next) (sym (ap (λ (ps : List (List ℕ)). row_past_all ps all.row) none) ∙ all.last) makes.1;
-      written =
-          sym (append-nil due1)
-          ∙ (ap (λ (ps : List (List ℕ)). due1 ++ writes_bytes sums own first.host ps) (sym none) ∙ all.rest);
-    }
+  pub writing_none : (start : Moment) → StandsFor first start.stream → Writing start.due start
+  writing_none start stands = record { row = first; stands = stands; host = refl; rest = refl; last = refl }
+
+  -- one more was made
+  pub writing_step : {due : List ℕ} {now next : Moment} (payload : List ℕ) → (all : Writing due now)
+      → MakesWrite outgoing.most all.row next.stream (Some payload)
+      → next.due ≡ now.due ++ packet_bytes outgoing.sums (wrte outgoing.own next.stream.host payload) → Writing due next
+  writing_step {due} {now} {next} payload all makes push =
+      let more = writes_more outgoing.most all.row payload makes.0 makes.1 in
+      let row = row_past payload all.row in
+      let packet = packet_bytes outgoing.sums (wrte outgoing.own first.host payload) in
+      let pushed : next.due ≡ now.due ++ packet = push
+      ∙ ap (λ (h : ℕ). now.due ++ packet_bytes outgoing.sums (wrte outgoing.own h payload)) (makes.2.host ∙ all.host) in
+      record {
+        row = row;
+        stands = makes.2;
+        host = all.host;
+        rest =
+            ap (λ (d : List ℕ). d ++ bytes_of (writes outgoing.most row)) pushed
+            ∙ (append_assoc now.due packet (bytes_of (writes outgoing.most row))
+            ∙ (ap (λ (ps : List (List ℕ)). now.due ++ bytes_of ps) (sym more) ∙ all.rest));
+        last = ap (λ (ps : List (List ℕ)). row_past_all ps all.row) (sym more) ∙ all.last;
+      }
+
+  -- all were made
+  pub writing_done : {due : List ℕ} {now : Moment} (next : Stream) → (all : Writing due now) → MakesWrite outgoing.most all.row next None
+      → Writes outgoing.sums outgoing.own outgoing.most first next due now.due
+  writing_done {due} {now} next all makes =
+      let none = writes_none outgoing.most all.row makes.0 in
+      record {
+        stands = subst (λ (r : Row). StandsFor r next) (sym (ap (λ (ps : List (List ℕ)). row_past_all ps all.row) none) ∙ all.last) makes.1;
+        written = sym (append-nil now.due) ∙ (ap (λ (ps : List (List ℕ)). now.due ++ bytes_of ps) (sym none) ∙ all.rest);
+      }

@@ -69,20 +69,32 @@ names_short directory files ok = go (is_path directory)
         (recursion_from_All (λ (e : Entry). length e.path < 2 ^ 32) files ok.short) tt))
     go false = All-nil (λ (d : Dirent). length d.name < 2 ^ 32)
 
--- A loop tells a list entry by entry: nothing yet, and one more.
+-- A loop tells a list entry by entry: nothing yet.
 pub list_none : (answer out : List ℕ) → TellsUpTo answer answer out out
 list_none answer out = record { said = []; behind = sym (append-nil out); within = refl }
 
-pub list_step : {answer out0 out1 out2 : List ℕ} (entry : Dirent) (rest left : List Dirent) → TellsUpTo answer (list_bytes rest) out0 out1 → rest ≡ entry ∷ left
-    → out2 ≡ out1 ++ dent_bytes entry → TellsUpTo answer (list_bytes left) out0 out2
-list_step {answer} {out0} {out1} {out2} entry rest left told all is = record {
-  said = told.said ++ dent_bytes entry;
-  behind = is ∙ (ap (λ (o : List ℕ). o ++ dent_bytes entry) told.behind ∙ append_assoc out0 told.said (dent_bytes entry));
-  within = told.within
-      ∙ (ap (λ (ds : List Dirent). told.said ++ list_bytes ds) all
-      ∙ (ap (λ (o : List ℕ). told.said ++ o) (append_assoc (dent_bytes entry) (flat_map dent_bytes left) (answer_bytes answers.ListEnd))
-      ∙ sym (append_assoc told.said (dent_bytes entry) (list_bytes left))));
-}
+-- One more entry is told: the entries that were left and are left, and what was told before and is told now.
+pub record Turn : Type 0 where
+  pub entry : Dirent
+  pub rest : List Dirent
+  pub left : List Dirent
+  pub all : rest ≡ entry ∷ left
+  pub before : List ℕ
+  pub now : List ℕ
+  pub is : now ≡ before ++ dent_bytes entry
+
+pub list_step : {answer out : List ℕ} (turn : Turn) → TellsUpTo answer (list_bytes turn.rest) out turn.before
+    → TellsUpTo answer (list_bytes turn.left) out turn.now
+list_step {answer} {out} turn told =
+    let bytes = dent_bytes turn.entry in
+    record {
+      said = told.said ++ bytes;
+      behind = turn.is ∙ (ap (λ (o : List ℕ). o ++ bytes) told.behind ∙ append_assoc out told.said bytes);
+      within = told.within
+          ∙ (ap (λ (ds : List Dirent). told.said ++ list_bytes ds) turn.all
+          ∙ (ap (λ (o : List ℕ). told.said ++ o) (append_assoc bytes (flat_map dent_bytes turn.left) (answer_bytes answers.ListEnd))
+          ∙ sym (append_assoc told.said bytes (list_bytes turn.left))));
+    }
 
 -- nothing more was told
 pub list_same : {answer unsaid out0 out1 out2 : List ℕ} → TellsUpTo answer unsaid out0 out1 → out2 ≡ out1 → TellsFront answer out0 out2

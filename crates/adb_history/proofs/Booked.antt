@@ -88,12 +88,16 @@ holds_same None = tt
 holds_same (Some a) = record { asks = λ e. record { phase = e; held = refl; selected = refl }; binds = λ e. record { phase = e; want = refl } }
 
 pub holds_then : (o p q : Option Client) → RowStep Holds o p [] → RowStep Holds p q [] → RowStep Holds o q []
-holds_then o p q h i = row_then Holds Holds Holds
-    (λ a b c t u h i. record {
-      asks = λ e. let later = i.asks e in let before = h.asks later.phase in
-          record { phase = before.phase; held = later.held ∙ before.held; selected = later.selected ∙ before.selected };
-      binds = λ e. let later = i.binds e in let before = h.binds later.phase in record { phase = before.phase; want = later.want ∙ before.want };
-    }) o p q [] [] h i
+holds_then o p q h i = row_then (record {
+  first = Holds;
+  next = Holds;
+  both = Holds;
+  follows = λ a b c t u h i. record {
+    asks = λ e. let later = i.asks e in let before = h.asks later.phase in
+        record { phase = before.phase; held = later.held ∙ before.held; selected = later.selected ∙ before.selected };
+    binds = λ e. let later = i.binds e in let before = h.binds later.phase in record { phase = before.phase; want = later.want ∙ before.want };
+  };
+}) o p q [] [] h i
 
 asks_not : (phase : Phase) → is_waiting phase ≡ false → asks_in phase ≡ false
 asks_not Asking e = e

@@ -1,5 +1,5 @@
 -- What a rule that changes tables does to the rows of clients and links.
-use Rattle.std.proofs.Common.{ℕ, ◌≡◌, ◌<◌, Bool, List, ◌++◌, Option, None, refl, sym, ◌∙◌, ap, subst, arith, ◌⊎◌, inl, inr}
+use Rattle.std.proofs.Common.{ℕ, ◌≡◌, ◌<◌, Bool, List, Option, None, refl, sym, ◌∙◌, ap, subst, arith, ◌⊎◌, inl, inr}
 use Rattle.std.specs.Prelude.{option_map}
 use Rattle.std.proofs.lemmas.Bool.{cases_eq}
 use Rattle.adb_outside.specs.Tables.{at, IsRising, Puts, set_at}
@@ -9,7 +9,7 @@ use Rattle.adb_registry.specs.declared.row.Row.{Row}
 use Rattle.adb_forward.specs.declared.row.ForwardRow.{ForwardRow}
 use Rattle.adb_history.specs.Rows.{Client, Link, State}
 use Rattle.adb_history.specs.Events.{Made, quietly, then_also, owed_to, spelled_to}
-use Rattle.adb_history.proofs.Growing.{RowStep, row_then, row_same, row_weaker, ClientStays, client_same, LinkStays, link_same, client_then, link_then}
+use Rattle.adb_history.proofs.Growing.{RowStep, Chain, row_then, row_same, row_weaker, ClientStays, client_same, LinkStays, link_same, client_stays, link_stays}
 use Rattle.adb_history.proofs.Growing.{owed_append, spelled_append, IsToldWithin, told_then, AreWithin, Keeps}
 
 -- ---- the devices
@@ -41,10 +41,6 @@ within_detached plugged t devices h = within_set plugged t devices.drawn None de
 abbrev pub Fate : Type 0 → Type 1
 Fate X = ℕ → X → X → List ℕ → Type 0
 
--- one change after another
-abbrev pub Follows : {X : Type 0} → Fate X → Fate X → Fate X → Type 0
-Follows {X} P Q R = (n : ℕ) (a b c : X) (t u : List ℕ) → P n a b t → Q n b c u → R n a c (t ++ u)
-
 abbrev pub Weaker : {X : Type 0} → Fate X → Fate X → Type 0
 Weaker {X} P Q = (n : ℕ) (a b : X) (t : List ℕ) → P n a b t → Q n a b t
 
@@ -54,11 +50,11 @@ Stay c a b told = ClientStays a b told
 abbrev pub LinkStay : Fate Link
 LinkStay t a b told = LinkStays a b told
 
-pub stay_then : Follows Stay Stay Stay
-stay_then n a b c t u h i = client_then a b c t u h i
+abbrev pub stay_on : ℕ → Chain Client
+stay_on c = client_stays
 
-pub link_stay_then : Follows LinkStay LinkStay LinkStay
-link_stay_then n a b c t u h i = link_then a b c t u h i
+abbrev pub link_stay_on : ℕ → Chain Link
+link_stay_on t = link_stays
 
 module _ (came plugged : ℕ) where
   pub record Changes (C : Fate Client) (L : Fate Link) (s : State) (m : Made) : Type 0 where
@@ -70,16 +66,18 @@ module _ (came plugged : ℕ) where
     pub joined : m.state.joined ≡ s.joined
     pub drawn : m.state.devices.drawn ≡ s.devices.drawn
 
-  pub changes_then : (B C D : Fate Client) (K L M : Fate Link) → Follows B C D → Follows K L M → (s : State) (m : Made) (rule : State → Made)
-      → Changes B K s m → Changes C L m.state (rule m.state) → Changes D M s (then_also m rule)
-  changes_then B C D K L M follows links_follow s m rule h i = record {
-    clients = λ c. subst (λ (x : List ℕ). RowStep (D c) (s.clients c) ((rule m.state).state.clients c) x)
+  -- a rule after another
+  pub changes_then : (clients : ℕ → Chain Client) (links : ℕ → Chain Link) (s : State) (m : Made) (rule : State → Made)
+      → Changes (λ c. (clients c).first) (λ t. (links t).first) s m → Changes (λ c. (clients c).next) (λ t. (links t).next) m.state (rule m.state)
+      → Changes (λ c. (clients c).both) (λ t. (links t).both) s (then_also m rule)
+  changes_then clients links s m rule h i = record {
+    clients = λ c. subst (λ (x : List ℕ). RowStep (clients c).both (s.clients c) ((rule m.state).state.clients c) x)
         (sym (owed_append c m.told (rule m.state).told))
-        (row_then (B c) (C c) (D c) (follows c) (s.clients c) (m.state.clients c) ((rule m.state).state.clients c) (owed_to c m.told)
+        (row_then (clients c) (s.clients c) (m.state.clients c) ((rule m.state).state.clients c) (owed_to c m.told)
         (owed_to c (rule m.state).told) (h.clients c) (i.clients c));
-    links = λ t. subst (λ (x : List ℕ). RowStep (M t) (s.links t) ((rule m.state).state.links t) x)
+    links = λ t. subst (λ (x : List ℕ). RowStep (links t).both (s.links t) ((rule m.state).state.links t) x)
         (sym (spelled_append t m.told (rule m.state).told))
-        (row_then (K t) (L t) (M t) (links_follow t) (s.links t) (m.state.links t) ((rule m.state).state.links t) (spelled_to t m.told)
+        (row_then (links t) (s.links t) (m.state.links t) ((rule m.state).state.links t) (spelled_to t m.told)
         (spelled_to t (rule m.state).told) (h.links t) (i.links t));
     told = told_then came plugged m.told (rule m.state).told h.told i.told;
     streams = λ within. i.streams (h.streams within);
@@ -114,7 +112,7 @@ module _ (came plugged : ℕ) where
   -- a rule after another, where each lets the rows stay
   pub stays_then : (s : State) (m : Made) (rule : State → Made) → Changes Stay LinkStay s m → Changes Stay LinkStay m.state (rule m.state)
       → Changes Stay LinkStay s (then_also m rule)
-  stays_then s m rule h i = changes_then Stay Stay Stay LinkStay LinkStay LinkStay stay_then link_stay_then s m rule h i
+  stays_then s m rule h i = changes_then stay_on link_stay_on s m rule h i
 
   -- the tables are others
   pub changes_tables : (devices : DeviceTable) (forwards : List (ℕ × ForwardRow)) (stopped : Bool) (s : State) → devices.drawn ≡ s.devices.drawn

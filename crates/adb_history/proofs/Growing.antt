@@ -22,15 +22,22 @@ RowStep R None (Some after) told = ⊥
 RowStep R (Some before) None told = Unit {0}
 RowStep R (Some before) (Some after) told = R before after told
 
-pub row_then : {X : Type 0} (P Q R : X → X → List ℕ → Type 0) → ((a b c : X) (t u : List ℕ) → P a b t → Q b c u → R a c (t ++ u))
-    → (o p q : Option X) (t u : List ℕ) → RowStep P o p t → RowStep Q p q u → RowStep R o q (t ++ u)
-row_then P Q R follows None None None t u h i = tt
-row_then P Q R follows None None (Some c) t u h i = absurd i
-row_then P Q R follows None (Some b) q t u h i = absurd h
-row_then P Q R follows (Some a) None None t u h i = tt
-row_then P Q R follows (Some a) None (Some c) t u h i = absurd i
-row_then P Q R follows (Some a) (Some b) None t u h i = tt
-row_then P Q R follows (Some a) (Some b) (Some c) t u h i = follows a b c t u h i
+-- A change of a row, the next one, and what both are together.
+pub record Chain (X : Type 0) : Type 1 where
+  pub first : X → X → List ℕ → Type 0
+  pub next : X → X → List ℕ → Type 0
+  pub both : X → X → List ℕ → Type 0
+  pub follows : (a b c : X) (t u : List ℕ) → first a b t → next b c u → both a c (t ++ u)
+
+module _ {X : Type 0} (chain : Chain X) where
+  pub row_then : (o p q : Option X) (t u : List ℕ) → RowStep chain.first o p t → RowStep chain.next p q u → RowStep chain.both o q (t ++ u)
+  row_then None None None t u h i = tt
+  row_then None None (Some c) t u h i = absurd i
+  row_then None (Some b) q t u h i = absurd h
+  row_then (Some a) None None t u h i = tt
+  row_then (Some a) None (Some c) t u h i = absurd i
+  row_then (Some a) (Some b) None t u h i = tt
+  row_then (Some a) (Some b) (Some c) t u h i = chain.follows a b c t u h i
 
 pub row_same : {X : Type 0} (R : X → X → List ℕ → Type 0) → ((a : X) → R a a []) → (o : Option X) → RowStep R o o []
 row_same R same None = tt
@@ -94,7 +101,7 @@ pub link_same : (a : Link) → LinkStays a a []
 link_same a = record { due = sym (append-nil a.due); rest = refl; sums = refl }
 
 -- ---- one after another
-joins_due : (x y z t u : List ℕ) → y ≡ x ++ t → z ≡ y ++ u → z ≡ x ++ (t ++ u)
+pub joins_due : (x y z t u : List ℕ) → y ≡ x ++ t → z ≡ y ++ u → z ≡ x ++ (t ++ u)
 joins_due x y z t u e f = f ∙ (ap (λ w. w ++ u) e ∙ append_assoc x t u)
 
 pub client_owes_then : (a b c : Client) (t u : List ℕ) → ClientOwes a b t → ClientOwes b c u → ClientOwes a c (t ++ u)
@@ -119,6 +126,12 @@ client_then a b c t u h i = record {
 pub link_then : (a b c : Link) (t u : List ℕ) → LinkStays a b t → LinkStays b c u → LinkStays a c (t ++ u)
 link_then a b c t u h i =
     record { due = joins_due a.due b.due c.due t u h.due i.due; rest = i.rest ∙ h.rest; sums = i.sums ∙ h.sums }
+
+abbrev pub client_stays : Chain Client
+client_stays = record { first = ClientStays; next = ClientStays; both = ClientStays; follows = client_then }
+
+abbrev pub link_stays : Chain Link
+link_stays = record { first = LinkStays; next = LinkStays; both = LinkStays; follows = link_then }
 
 -- ---- what is told
 pub owed_append : (c : ℕ) (es fs : List Event) → owed_to c (es ++ fs) ≡ owed_to c es ++ owed_to c fs
@@ -161,6 +174,24 @@ IsWithin came plugged (Some stream) = (stream.client ≤ came) × (stream.link �
 abbrev pub AreWithin : (came plugged : ℕ) → (ℕ → Option Stream) → Type 0
 AreWithin came plugged streams = (l : ℕ) → IsWithin came plugged (streams l)
 
+-- ---- the row of one number
+-- The row of one number becomes another, or goes, while some bytes are told to it.
+pub record Change (X : Type 0) : Type 0 where
+  pub number : ℕ
+  pub row : X → Option X
+  pub told : List ℕ
+
+pub row_at : {X : Type 0} (R : X → X → List ℕ → Type 0) → ((a : X) → R a a []) → (rows : ℕ → Option X) (change : Change X)
+    → ((a : X) → rows change.number ≡ Some a → RowStep R (Some a) (change.row a) change.told) → (k : ℕ)
+    → RowStep R (rows k) (change_row change.number (option_and_then change.row) rows k) (cond (eqb change.number k) change.told [])
+row_at {X} R same rows change at k = go (eqb change.number k) refl (rows k) refl
+  where
+    go : (here : Bool) → eqb change.number k ≡ here → (o : Option X) → rows k ≡ o
+        → RowStep R o (cond here (option_and_then change.row o) o) (cond here change.told [])
+    go true e None is = tt
+    go true e (Some a) is = at a (ap rows (eqb-true change.number k e) ∙ is)
+    go false e o is = row_same R same o
+
 -- ---- a quiet rule
 module _ (came plugged : ℕ) where
   -- All rows that stay are tied to those before, what is told goes to numbers that were drawn, and the tables stay.
@@ -195,11 +226,11 @@ module _ (came plugged : ℕ) where
   keeps_then s m rule h i = record {
     clients = λ c. subst (λ (x : List ℕ). RowStep ClientStays (s.clients c) ((rule m.state).state.clients c) x)
         (sym (owed_append c m.told (rule m.state).told))
-        (row_then ClientStays ClientStays ClientStays client_then (s.clients c) (m.state.clients c) ((rule m.state).state.clients c) (owed_to c m.told)
+        (row_then client_stays (s.clients c) (m.state.clients c) ((rule m.state).state.clients c) (owed_to c m.told)
         (owed_to c (rule m.state).told) (h.clients c) (i.clients c));
     links = λ t. subst (λ (x : List ℕ). RowStep LinkStays (s.links t) ((rule m.state).state.links t) x)
         (sym (spelled_append t m.told (rule m.state).told))
-        (row_then LinkStays LinkStays LinkStays link_then (s.links t) (m.state.links t) ((rule m.state).state.links t) (spelled_to t m.told)
+        (row_then link_stays (s.links t) (m.state.links t) ((rule m.state).state.links t) (spelled_to t m.told)
         (spelled_to t (rule m.state).told) (h.links t) (i.links t));
     told = told_then came plugged m.told (rule m.state).told h.told i.told;
     streams = λ within. i.streams (h.streams within);
@@ -214,16 +245,6 @@ module _ (came plugged : ℕ) where
   keeps_over s next m h i = keeps_then s (quietly next) (λ _. m) h i
 
   -- ---- a client's row changes
-  pub row_at : {X : Type 0} (R : X → X → List ℕ → Type 0) → ((a : X) → R a a []) → (rows : ℕ → Option X) (f : X → Option X) (told : List ℕ) (n : ℕ)
-      → ((a : X) → rows n ≡ Some a → RowStep R (Some a) (f a) told) → (k : ℕ)
-      → RowStep R (rows k) (change_row n (option_and_then f) rows k) (cond (eqb n k) told [])
-  row_at {X} R same rows f told n at k = go (eqb n k) refl (rows k) refl
-    where
-      go : (here : Bool) → eqb n k ≡ here → (o : Option X) → rows k ≡ o → RowStep R o (cond here (option_and_then f o) o) (cond here told [])
-      go true e None is = tt
-      go true e (Some a) is = at a (ap rows (eqb-true n k e) ∙ is)
-      go false e o is = row_same R same o
-
   pub either_none : (b : Bool) (x : List ℕ) → x ≡ [] → cond b x [] ≡ []
   either_none true x e = e
   either_none false x e = refl
@@ -232,7 +253,7 @@ module _ (came plugged : ℕ) where
       → ((a : Client) → s.clients c ≡ Some a → RowStep ClientStays (Some a) (f a) []) → Keeps s (quietly (to_client c f s))
   keeps_to_client c f s at = record {
     clients = λ k. subst (λ (x : List ℕ). RowStep ClientStays (s.clients k) ((to_client c f s).clients k) x) (either_none (eqb c k) [] refl)
-        (row_at ClientStays client_same s.clients f [] c at k);
+        (row_at ClientStays client_same s.clients (record { number = c; row = f; told = [] }) at k);
     links = λ t. row_same LinkStays link_same (s.links t);
     told = nothing_told;
     streams = λ h. h;
@@ -252,7 +273,7 @@ module _ (came plugged : ℕ) where
   pub keeps_owe_client : (c : ℕ) (bytes : List ℕ) (s : State) → c ≤ came → Keeps s (owe_client c bytes s)
   keeps_owe_client c bytes s le = record {
     clients = λ k. subst (λ (x : List ℕ). RowStep ClientStays (s.clients k) ((to_client c (with_due bytes) s).clients k) x) (at_told (eqb c k) bytes)
-        (row_at ClientStays client_same s.clients (with_due bytes) bytes c
+        (row_at ClientStays client_same s.clients (record { number = c; row = with_due bytes; told = bytes })
         (λ a e. record { due = refl; asks = λ e. record { phase = e; held = refl; selected = refl }; binds = λ e. record { phase = e; want = refl } }) k);
     links = λ t. row_same LinkStays link_same (s.links t);
     told = record { clients = λ k lt. sym (at_told (eqb c k) bytes) ∙ above_only c k came bytes le lt; links = λ t lt. refl };
@@ -282,7 +303,7 @@ module _ (came plugged : ℕ) where
         clients = λ c. row_same ClientStays client_same (s.clients c);
         links = λ k. subst (λ (x : List ℕ). RowStep LinkStays (s.links k) ((to_link t (with_link_due (spelling p check)) s).links k) x)
             (spelled_one (eqb t k) (spelling p check))
-            (row_at LinkStays link_same s.links (with_link_due (spelling p check)) (spelling p check) t
+            (row_at LinkStays link_same s.links (record { number = t; row = with_link_due (spelling p check); told = spelling p check })
             (λ a e. record { due = refl; rest = refl; sums = refl }) k);
         told = record {
           clients = λ c lt. refl;

@@ -1,5 +1,5 @@
 -- What the packets of a link make of the rows: the link is gone, or keeps what it has and wants check words by its last CNXN.
-use Rattle.std.proofs.Common.{ℕ, ◌≡◌, ◌≤◌, Bool, true, false, cond, List, [], ◌∷◌, ◌++◌, Option, Some, None, refl, sym, ◌∙◌, ap, subst, append_assoc, eqb}
+use Rattle.std.proofs.Common.{ℕ, ◌≡◌, ◌≤◌, Bool, true, false, cond, List, [], ◌∷◌, ◌++◌, Option, Some, None, refl, sym, ◌∙◌, ap, subst, eqb}
 use Rattle.std.proofs.lemmas.Bool.{eqb-true, eq-eqb}
 use Rattle.std.proofs.lemmas.List.{append-nil}
 use Rattle.std.specs.Prelude.{nat_lt, ◌||◌, option_and_then, min}
@@ -28,10 +28,10 @@ use Rattle.adb_history.specs.Losing.{forgets, link_ends}
 use Rattle.adb_history.specs.Packets.{least_version, least_maxdata, with_sums, goes_online, streams_end_first, connects, cnxn, unauthorized_from, unauthorized}
 use Rattle.adb_history.specs.Packets.{treat_open, treat_any, treat_on, treat, treat_all, faulty_on}
 use Rattle.adb_history.proofs.Growing.{RowStep, row_same, row_goes, row_none, row_weaker, ClientStays, client_same, LinkStays, link_same, AreWithin}
-use Rattle.adb_history.proofs.Growing.{keeps_all}
+use Rattle.adb_history.proofs.Growing.{Chain, joins_due, keeps_all}
 use Rattle.adb_history.proofs.GrowingRules.{keeps_all_end}
 use Rattle.adb_history.proofs.GrowingPackets.{keeps_treat_open, keeps_mark_all}
-use Rattle.adb_history.proofs.Changes.{within_changed, within_detached, Fate, Stay, LinkStay, stay_then}
+use Rattle.adb_history.proofs.Changes.{within_changed, within_detached, Fate, Stay, LinkStay, stay_on}
 use Rattle.adb_history.proofs.Changes.{Changes, changes_then, changes_weaker, changes_keeps, stays_then, changes_tables}
 
 -- whether check words are wanted after a packet
@@ -59,6 +59,31 @@ HearsOn t command version k a b told = Hears (eqb t k) command version a b told
 
 abbrev pub HearsAllOn : ℕ → List Packet → Fate Link
 HearsAllOn t packets k a b told = HearsAll (eqb t k) packets a b told
+
+-- a CNXN is heard behind what leaves the links, and before it
+abbrev stays_and_hears : (t version : ℕ) → ℕ → Chain Link
+stays_and_hears t version n = record {
+  first = LinkStay n;
+  next = HearsOn t Cnxn version n;
+  both = HearsOn t Cnxn version n;
+  follows = λ a b c u v h i. record {
+    due = joins_due a.due b.due c.due u v h.due i.due;
+    rest = i.rest ∙ h.rest;
+    sums = i.sums ∙ ap (λ (x : Bool). cond (eqb t n) (has_sums version) x) h.sums;
+  };
+}
+
+abbrev hears_and_stays : (t version : ℕ) → ℕ → Chain Link
+hears_and_stays t version n = record {
+  first = HearsOn t Cnxn version n;
+  next = LinkStay n;
+  both = HearsOn t Cnxn version n;
+  follows = λ a b c u v h i. record {
+    due = joins_due a.due b.due c.due u v h.due i.due;
+    rest = i.rest ∙ h.rest;
+    sums = i.sums ∙ h.sums;
+  };
+}
 
 module _ (came plugged : ℕ) where
   -- ---- a link ends
@@ -146,20 +171,10 @@ module _ (came plugged : ℕ) where
   hears_online : (t version maxdata : ℕ) (identity : Identity) (s : State)
       → Changes came plugged Stay (HearsOn t Cnxn version) s (quietly (goes_online t version maxdata identity s))
   hears_online t version maxdata identity s =
-      changes_then came plugged Stay Stay Stay LinkStay (HearsOn t Cnxn version) (HearsOn t Cnxn version) stay_then
-      (λ n a b c u v h i. record {
-        due = i.due ∙ (ap (λ x. x ++ v) h.due ∙ append_assoc a.due u v);
-        rest = i.rest ∙ h.rest;
-        sums = i.sums ∙ ap (λ (x : Bool). cond (eqb t n) (has_sums version) x) h.sums;
-      }) s (quietly tables)
+      changes_then came plugged stay_on (stays_and_hears t version) s (quietly tables)
       (λ x. quietly (mark_all (to_link t (with_sums (has_sums version)) x)))
       (changes_tables came plugged devices s.forwards s.stopped s refl (within_changed plugged t row s.devices))
-      (changes_then came plugged Stay Stay Stay (HearsOn t Cnxn version) LinkStay (HearsOn t Cnxn version) stay_then
-      (λ n a b c u v h i. record {
-        due = i.due ∙ (ap (λ x. x ++ v) h.due ∙ append_assoc a.due u v);
-        rest = i.rest ∙ h.rest;
-        sums = i.sums ∙ h.sums;
-      }) tables (quietly heard) (λ x. quietly (mark_all x)) hears
+      (changes_then came plugged stay_on (hears_and_stays t version) tables (quietly heard) (λ x. quietly (mark_all x)) hears
       (changes_keeps came plugged heard (quietly (mark_all heard)) (keeps_mark_all came plugged heard)))
     where
       row : Row → Row
@@ -197,12 +212,7 @@ module _ (came plugged : ℕ) where
   hears_connects t version maxdata None s all =
       hears_gone t Cnxn version s (link_ends t broken s) (link_ends_gone t broken s all) (changes_link_ends t broken s all)
   hears_connects t version maxdata (Some identity) s all =
-      changes_then came plugged Stay Stay Stay LinkStay (HearsOn t Cnxn version) (HearsOn t Cnxn version) stay_then
-      (λ n a b c u v h i. record {
-        due = i.due ∙ (ap (λ x. x ++ v) h.due ∙ append_assoc a.due u v);
-        rest = i.rest ∙ h.rest;
-        sums = i.sums ∙ ap (λ (x : Bool). cond (eqb t n) (has_sums version) x) h.sums;
-      }) s ended
+      changes_then came plugged stay_on (stays_and_hears t version) s ended
       (λ x. quietly (goes_online t version maxdata identity x)) (first (is_connected t s.devices)) (hears_online t version maxdata identity ended.state)
     where
       ended : Made
@@ -272,11 +282,15 @@ module _ (came plugged : ℕ) where
   hears_all t [] s le all = hears_none t s
   hears_all t (p ∷ packets) s le all =
       let first = hears_on (s.links t) t p s refl le all in
-      changes_then came plugged Stay Stay Stay (HearsOn t p.command p.arg0) (HearsAllOn t packets) (HearsAllOn t (p ∷ packets)) stay_then
-      (λ n a b c u v h i. record {
-        due = i.due ∙ (ap (λ x. x ++ v) h.due ∙ append_assoc a.due u v);
-        rest = i.rest ∙ h.rest;
-        sums = then_sums (eqb t n) a.sums b.sums c.sums h.sums i.sums;
+      changes_then came plugged stay_on (λ n. record {
+        first = HearsOn t p.command p.arg0 n;
+        next = HearsAllOn t packets n;
+        both = HearsAllOn t (p ∷ packets) n;
+        follows = λ a b c u v h i. record {
+          due = joins_due a.due b.due c.due u v h.due i.due;
+          rest = i.rest ∙ h.rest;
+          sums = then_sums (eqb t n) a.sums b.sums c.sums h.sums i.sums;
+        };
       }) s (treat t p s) (treat_all t packets) first
       (hears_all t packets (treat t p s).state le (first.streams all))
     where

@@ -124,8 +124,9 @@ module _ (came plugged : ℕ) (put sent : ℕ → List ℕ) where
   -- ---- receive
   owed_then : (s : State) (m : Made) (next : State → Made) → Changes came plugged Owed LinkOwed s m → Changes came plugged Owed LinkOwed m.state (next m.state)
       → Changes came plugged Owed LinkOwed s (then_also m next)
-  owed_then s m next h i = changes_then came plugged Owed Owed Owed LinkOwed LinkOwed LinkOwed (λ n a b c t u h i. client_owes_then a b c t u h i)
-      (λ n a b c t u h i. link_owes_then a b c t u h i) s m next h i
+  owed_then s m next h i = changes_then came plugged
+      (λ n. record { first = ClientOwes; next = ClientOwes; both = ClientOwes; follows = client_owes_then })
+      (λ n. record { first = LinkOwes; next = LinkOwes; both = LinkOwes; follows = link_owes_then }) s m next h i
 
   owes_rest : (t : ℕ) (rest : List ℕ) (s : State) → Changes came plugged Owed LinkOwed s (quietly (to_link t (with_rest rest) s))
   owes_rest t rest s = record {

@@ -1,5 +1,5 @@
 -- What becomes of the rows when bytes are read from a client: those of other clients stay, and what is due grows by what is told.
-use Rattle.std.proofs.Common.{ℕ, ◌≡◌, ◌≤◌, Bool, true, false, cond, List, [], ◌∷◌, ◌++◌, Option, Some, None, refl, sym, ◌∙◌, ap, subst, append_assoc}
+use Rattle.std.proofs.Common.{ℕ, ◌≡◌, ◌≤◌, Bool, true, false, cond, List, [], ◌∷◌, ◌++◌, Option, Some, None, refl, sym, subst}
 use Rattle.std.proofs.Common.{eqb, zero, suc}
 use Rattle.std.proofs.lemmas.List.{append-nil}
 use Rattle.std.specs.Prelude.{option_and_then}
@@ -22,10 +22,10 @@ use Rattle.adb_history.specs.Asking.{Asked, asks_with}
 use Rattle.adb_history.specs.Losing.{tells_stop, all_stop, only_client, stops}
 use Rattle.adb_history.specs.Reading.{tracks, awaits, goes_on, asked_before, has_asked, asks, reads_in, reads_from, bound_to, bound_for, bound_in, bound_at}
 use Rattle.adb_history.proofs.Growing.{RowStep, row_same, row_goes, ClientStays, client_same, LinkStays, link_same, ClientOwes, client_then}
-use Rattle.adb_history.proofs.Growing.{owed_append, spelled_append, both_none}
+use Rattle.adb_history.proofs.Growing.{Chain, joins_due, owed_append, spelled_append, both_none}
 use Rattle.adb_history.proofs.Growing.{Keeps, keeps_all, keeps_owe_client}
 use Rattle.adb_history.proofs.GrowingRules.{keeps_closes, keeps_closes_with, keeps_opens}
-use Rattle.adb_history.proofs.Changes.{HasRowsWithin, Fate, Follows, Stay, LinkStay, link_stay_then, Changes, changes_then, changes_weaker}
+use Rattle.adb_history.proofs.Changes.{HasRowsWithin, Fate, Stay, LinkStay, link_stay_on, Changes, changes_then, changes_weaker}
 use Rattle.adb_history.proofs.Changes.{changes_keeps, stays_then, changes_tables}
 use Rattle.adb_history.proofs.AnswersWithin.{NextWithin, asks_within}
 
@@ -38,16 +38,21 @@ abbrev pub ReadOn : ℕ → Fate Client
 ReadOn c k a b told = ReadBy (eqb c k) a b told
 
 module _ (came plugged c : ℕ) where
-  read_then : Follows (ReadOn c) (ReadOn c) (ReadOn c)
-  read_then n x y z t u h i = record {
-    due = i.due ∙ (ap (λ w. w ++ u) h.due ∙ append_assoc x.due t u);
-    others = λ e. client_then x y z t u (h.others e) (i.others e);
+  abbrev reads_on : ℕ → Chain Client
+  reads_on n = record {
+    first = ReadOn c n;
+    next = ReadOn c n;
+    both = ReadOn c n;
+    follows = λ x y z t u h i. record {
+      due = joins_due x.due y.due z.due t u h.due i.due;
+      others = λ e. client_then x y z t u (h.others e) (i.others e);
+    };
   }
 
   pub reads_then : (s : State) (m : Made) (rule : State → Made) → Changes came plugged (ReadOn c) LinkStay s m
       → Changes came plugged (ReadOn c) LinkStay m.state (rule m.state) → Changes came plugged (ReadOn c) LinkStay s (then_also m rule)
   reads_then s m rule h i =
-      changes_then came plugged (ReadOn c) (ReadOn c) (ReadOn c) LinkStay LinkStay LinkStay read_then link_stay_then s m rule h i
+      changes_then came plugged reads_on link_stay_on s m rule h i
 
   read_stays : (s : State) (m : Made) → Changes came plugged Stay LinkStay s m → Changes came plugged (ReadOn c) LinkStay s m
   read_stays s m h = changes_weaker came plugged Stay (ReadOn c) LinkStay LinkStay (λ n a b t i. record { due = i.due; others = λ e. i }) (λ n a b t i. i) s m h

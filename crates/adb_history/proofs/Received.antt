@@ -179,7 +179,12 @@ unheard None = tt
 unheard (Some a) = record { rest = refl; sums = refl }
 
 holds_then : (o p q : Option Link) → RowStep Holds o p [] → RowStep Holds p q [] → RowStep Holds o q []
-holds_then o p q h i = row_then Holds Holds Holds (λ a b c t u h i. record { rest = i.rest ∙ h.rest; sums = i.sums ∙ h.sums }) o p q [] [] h i
+holds_then o p q h i = row_then (record {
+  first = Holds;
+  next = Holds;
+  both = Holds;
+  follows = λ a b c t u h i. record { rest = i.rest ∙ h.rest; sums = i.sums ∙ h.sums };
+}) o p q [] [] h i
 
 module _ (came plugged : ℕ) (s : State) (all : AreWithin came plugged s.streams) (rows : HasRowsWithin plugged s.devices) where
   kept : (m : Made) → Keeps came plugged s m → (t : ℕ) → RowStep Holds (s.links t) (m.state.links t) []

@@ -64,14 +64,23 @@ box_push packets owed spare used places packet b place some fits = record {
   countable = omega (arith, b.countable, place, fits);
 }
 
--- the first one went
-pub box_popped : (packets : List (List ℕ)) (owed spare used places : ℕ) (packet : List ℕ) (rest : List (List ℕ)) → IsBox packets owed spare used places
-    → packets ≡ packet ∷ rest → (left less : ℕ) → left ≡ owed - length packet → less + 1 ≡ used → IsBox rest left spare less places
-box_popped packets owed spare used places packet rest b is left less gone fewer =
-    let size = b.counted ∙ (ap (λ ps. length (concat ps)) is ∙ length-append packet (concat rest)) in
+-- The first one went: the packets, the bytes and the used places that are left.
+pub record Popped (packets : List (List ℕ)) (owed used : ℕ) : Type 0 where
+  pub packet : List ℕ
+  pub rest : List (List ℕ)
+  pub is : packets ≡ packet ∷ rest
+  pub left : ℕ
+  pub gone : left ≡ owed - length packet
+  pub less : ℕ
+  pub fewer : less + 1 ≡ used
+
+pub box_popped : (packets : List (List ℕ)) (owed spare used places : ℕ) → IsBox packets owed spare used places
+    → (popped : Popped packets owed used) → IsBox popped.rest popped.left spare popped.less places
+box_popped packets owed spare used places b popped =
+    let size = b.counted ∙ (ap (λ ps. length (concat ps)) popped.is ∙ length-append popped.packet (concat popped.rest)) in
     record {
-      some = All-rest (λ p. 0 < length p) packet rest packets is b.some;
-      counted = omega (arith, gone, size);
-      placed = omega (arith, b.placed, fewer);
-      countable = omega (arith, b.countable, gone);
+      some = All-rest (λ p. 0 < length p) popped.packet popped.rest packets popped.is b.some;
+      counted = omega (arith, popped.gone, size);
+      placed = omega (arith, b.placed, popped.fewer);
+      countable = omega (arith, b.countable, popped.gone);
     }

@@ -1,5 +1,5 @@
 -- The loop of a framer: how far it has come.
-use Rattle.std.proofs.Common.{ℕ, ◌+◌, ◌-◌, ◌≡◌, ◌≤◌, List, [], ◌∷◌, ◌++◌, length, take, drop, Option, None, refl, sym, ◌∙◌, ap, subst, arith}
+use Rattle.std.proofs.Common.{ℕ, ◌+◌, ◌-◌, ◌≡◌, ◌≤◌, List, [], ◌∷◌, ◌++◌, length, take, drop, Option, refl, sym, ◌∙◌, ap, subst, arith}
 use Rattle.std.proofs.lemmas.List.{length-drop, length-take, take-append-le, drop-drop, append_assoc, append-nil}
 use Rattle.std.proofs.Math.Seq.{take-length}
 use Rattle.adb_outside.specs.declared.framer.Front.{Front}
@@ -11,14 +11,48 @@ use Rattle.adb_outside.proofs.FramingLaws.{cut_first}
 pub from_place : (i : ℕ) (xs : List ℕ) → take (length xs - i) (drop i xs) ≡ drop i xs
 from_place i xs = ap (λ k. take k (drop i xs)) (sym (length-drop i xs)) ∙ take-length (drop i xs)
 
+-- A moment of the loop: what was held at first, what is held now, how the bytes at the place are read, and what they begin with.
+pub record Moment (S V F : Type 0) : Type 0 where
+  pub start : Cut S V F
+  pub now : Cut S V F
+  pub reading : S
+  pub place : ℕ
+  pub front : Front F
+
 module _ {S V F : Type 0} (find : S → List ℕ → Front F) (item : S → List ℕ → V) (after : S → List ℕ → S) where
-  -- From what was held at first the frames up to a place were cut: they stand behind those that were ready.
-  pub record Cutting (start now : Cut S V F) (reading : S) (place : ℕ) (front : Front F) : Type 0 where
-    pub within : place ≤ length start.rest
-    pub found : front ≡ find reading (drop place start.rest)
-    pub frames : joined start.given (cut find item after start.reading start.rest) ≡ joined now.given (cut find item after reading (drop place start.rest))
-    pub kept : now ≡ record start { given = now.given }
-    pub front_of : take (length start.given) now.given ≡ start.given
+  -- From what was held at first the frames up to the place were cut: they stand behind those that were ready.
+  pub record Cutting (m : Moment S V F) : Type 0 where
+    pub within : m.place ≤ length m.start.rest
+    pub found : m.front ≡ find m.reading (drop m.place m.start.rest)
+    pub frames : joined m.start.given (cut find item after m.start.reading m.start.rest)
+        ≡ joined m.now.given (cut find item after m.reading (drop m.place m.start.rest))
+    pub kept : m.now ≡ record m.start { given = m.now.given }
+    pub front_of : take (length m.start.given) m.now.given ≡ m.start.given
+
+  -- A turn of the loop at a moment: the frame that was read there, and what it leaves.
+  pub record Turn (m : Moment S V F) : Type 0 where
+    pub size : ℕ
+    pub whole : m.front ≡ Whole size
+    pub bytes : List ℕ
+    pub held : bytes ≡ m.now.rest
+    pub value : V
+    pub holds : value ≡ item m.reading (take ((m.place + size) - m.place) (drop m.place bytes))
+    pub given : List V
+    pub more : given ≡ m.now.given ++ value ∷ []
+    pub reading : S
+    pub past : reading ≡ after m.reading (take ((m.place + size) - m.place) (drop m.place bytes))
+    pub rest : List ℕ
+    pub still : rest ≡ m.now.rest
+    pub front : Front F
+    pub found : front ≡ find reading (take (length rest - (m.place + size)) (drop (m.place + size) rest))
+
+  -- The loop ends at a moment: no frame is there, the bytes up to the place are dropped, and the fault is that of the front.
+  pub record End (m : Moment S V F) : Type 0 where
+    pub none : (n : ℕ) → m.front ≡ Whole n → ⊥
+    pub rest : List ℕ
+    pub dropped : rest ≡ drop m.place m.now.rest
+    pub fault : Option F
+    pub told : fault ≡ fault_of m.front
 
   module _ (laws : IsFraming find item after) where
     -- a whole frame within the bytes is what the format may read
@@ -32,75 +66,75 @@ module _ {S V F : Type 0} (find : S → List ℕ → Front F) (item : S → List
         (laws.alone reading (drop place bytes) n e ∙ ap Whole (sym len))
 
     -- the frame at the place is what the format may read
-    pub may_read : (start now : Cut S V F) (reading : S) (place : ℕ) (front : Front F) → Cutting start now reading place front
-        → (n : ℕ) → front ≡ Whole n → (bytes : List ℕ) → bytes ≡ now.rest
-        → find reading (take ((place + n) - place) (drop place bytes)) ≡ Whole (length (take ((place + n) - place) (drop place bytes)))
-    may_read start now reading place front h n is bytes here =
-        let old : bytes ≡ start.rest = here ∙ ap (λ (k : Cut S V F). k.rest) h.kept in
-        frame_alone reading bytes place n (ap (λ b. find reading (drop place b)) old ∙ (sym h.found ∙ is))
+    pub may_read : (m : Moment S V F) → Cutting m → (n : ℕ) → m.front ≡ Whole n → (bytes : List ℕ) → bytes ≡ m.now.rest
+        → find m.reading (take ((m.place + n) - m.place) (drop m.place bytes))
+        ≡ Whole (length (take ((m.place + n) - m.place) (drop m.place bytes)))
+    may_read m h n is bytes here =
+        let old : bytes ≡ m.start.rest = here ∙ ap (λ (k : Cut S V F). k.rest) h.kept in
+        frame_alone m.reading bytes m.place n (ap (λ b. find m.reading (drop m.place b)) old ∙ (sym h.found ∙ is))
 
     -- the frame at the place is cut
-    pub goes_on : (start now : Cut S V F) (reading : S) (place : ℕ) (front : Front F) → Cutting start now reading place front
-        → (n : ℕ) → front ≡ Whole n → (bytes : List ℕ) → bytes ≡ now.rest
-        → (v : V) → v ≡ item reading (take ((place + n) - place) (drop place bytes))
-        → (given : List V) → given ≡ now.given ++ v ∷ []
-        → (then : S) → then ≡ after reading (take ((place + n) - place) (drop place bytes))
-        → (rest : List ℕ) → rest ≡ now.rest → (next : Front F) → next ≡ find then (take (length rest - (place + n)) (drop (place + n) rest))
-        → Cutting start (record { given = given; reading = now.reading; rest = now.rest; fault = now.fault }) then (place + n) next
-    goes_on start now reading place front h n is bytes here v holds given more then past rest still next found =
-        let at : find reading (drop place start.rest) ≡ Whole n = sym h.found ∙ is in
-        let fits = laws.fits reading (drop place start.rest) n at in
-        let same : (place + n) - place ≡ n = omega arith in
-        let old : now.rest ≡ start.rest = ap (λ (k : Cut S V F). k.rest) h.kept in
-        let frame : take ((place + n) - place) (drop place bytes) ≡ take n (drop place start.rest) =
-        ap (λ k. take k (drop place bytes)) same ∙ ap (λ b. take n (drop place b)) (here ∙ old) in
-        let tail : drop n (drop place start.rest) ≡ drop (place + n) start.rest = drop-drop n place start.rest in
-        let value : item reading (take n (drop place start.rest)) ≡ v = sym (holds ∙ ap (item reading) frame) in
-        let state : after reading (take n (drop place start.rest)) ≡ then = sym (past ∙ ap (after reading) frame) in
-        let turn : cut find item after reading (drop place start.rest) ≡ joined (v ∷ []) (cut find item after then (drop (place + n) start.rest)) =
-        cut_first find item after laws reading (drop place start.rest)
-        ∙ (ap (λ f. cut_by find item after reading (drop place start.rest) f (cut find item after)) at
-        ∙ (ap (λ w. joined (w ∷ []) (cut find item after (after reading (take n (drop place start.rest))) (drop n (drop place start.rest)))) value
-        ∙ (ap (λ s. joined (v ∷ []) (cut find item after s (drop n (drop place start.rest)))) state
-        ∙ ap (λ b. joined (v ∷ []) (cut find item after then b)) tail))) in
+    pub goes_on : (m : Moment S V F) → Cutting m → (turn : Turn m)
+        → Cutting (record {
+          start = m.start;
+          now = record { given = turn.given; reading = m.now.reading; rest = m.now.rest; fault = m.now.fault };
+          reading = turn.reading;
+          place = m.place + turn.size;
+          front = turn.front;
+        })
+    goes_on m h turn =
+        let here = drop m.place m.start.rest in
+        let next = m.place + turn.size in
+        let at : find m.reading here ≡ Whole turn.size = sym h.found ∙ turn.whole in
+        let fits = laws.fits m.reading here turn.size at in
+        let same : next - m.place ≡ turn.size = omega arith in
+        let old : m.now.rest ≡ m.start.rest = ap (λ (k : Cut S V F). k.rest) h.kept in
+        let frame : take (next - m.place) (drop m.place turn.bytes) ≡ take turn.size here =
+        ap (λ k. take k (drop m.place turn.bytes)) same ∙ ap (λ b. take turn.size (drop m.place b)) (turn.held ∙ old) in
+        let tail : drop turn.size here ≡ drop next m.start.rest = drop-drop turn.size m.place m.start.rest in
+        let value : item m.reading (take turn.size here) ≡ turn.value = sym (turn.holds ∙ ap (item m.reading) frame) in
+        let state : after m.reading (take turn.size here) ≡ turn.reading = sym (turn.past ∙ ap (after m.reading) frame) in
+        let others = cut find item after turn.reading (drop next m.start.rest) in
+        let first : cut find item after m.reading here ≡ joined (turn.value ∷ []) others =
+        cut_first find item after laws m.reading here
+        ∙ (ap (λ f. cut_by find item after m.reading here f (cut find item after)) at
+        ∙ (ap (λ w. joined (w ∷ []) (cut find item after (after m.reading (take turn.size here)) (drop turn.size here))) value
+        ∙ (ap (λ s. joined (turn.value ∷ []) (cut find item after s (drop turn.size here))) state
+        ∙ ap (λ b. joined (turn.value ∷ []) (cut find item after turn.reading b)) tail))) in
         record {
-          within = omega (arith, fits, h.within, length-drop place start.rest);
-          found = found ∙ ap (find then) (from_place (place + n) rest ∙ ap (drop (place + n)) (still ∙ old));
-          frames = h.frames ∙ (ap (joined now.given) turn
-              ∙ ap (λ vs. record {
-                given = vs;
-                reading = (cut find item after then (drop (place + n) start.rest)).reading;
-                rest =
-                    (cut find item after then (drop (place + n) start.rest)).rest;
-                fault = (cut find item after then (drop (place + n) start.rest)).fault;
-              })
-              (sym (append_assoc now.given (v ∷ []) (cut find item after then (drop (place + n) start.rest)).given)
-              ∙ ap (λ vs. vs ++ (cut find item after then (drop (place + n) start.rest)).given) (sym more)));
-          kept = ap (λ (k : Cut S V F). record { given = given; reading = k.reading; rest = k.rest; fault = k.fault }) h.kept;
+          within = omega (arith, fits, h.within, length-drop m.place m.start.rest);
+          found = turn.found ∙ ap (find turn.reading) (from_place next turn.rest ∙ ap (drop next) (turn.still ∙ old));
+          frames = h.frames ∙ (ap (joined m.now.given) first
+              ∙ ap (λ vs. record { given = vs; reading = others.reading; rest = others.rest; fault = others.fault })
+              (sym (append_assoc m.now.given (turn.value ∷ []) others.given) ∙ ap (λ vs. vs ++ others.given) (sym turn.more)));
+          kept = ap (λ (k : Cut S V F). record { given = turn.given; reading = k.reading; rest = k.rest; fault = k.fault }) h.kept;
           front_of =
-              let room : length start.given ≤ length now.given = omega (arith, ap (length {A = V}) h.front_of, length-take (length start.given) now.given) in
-              ap (take (length start.given)) more ∙ (take-append-le (length start.given) now.given (v ∷ []) room ∙ h.front_of);
+              let room : length m.start.given ≤ length m.now.given =
+              omega (arith, ap (length {A = V}) h.front_of, length-take (length m.start.given) m.now.given) in
+              ap (take (length m.start.given)) turn.more
+              ∙ (take-append-le (length m.start.given) m.now.given (turn.value ∷ []) room ∙ h.front_of);
         }
 
     -- no frame is at the place: all are cut, and the bytes up to it are dropped
-    pub is_over : (start now : Cut S V F) (reading : S) (place : ℕ) (front : Front F) → Cutting start now reading place front
-        → ((n : ℕ) → front ≡ Whole n → ⊥) → start.fault ≡ None
-        → (rest : List ℕ) → rest ≡ drop place now.rest → (fault : Option F) → fault ≡ fault_of front
-        → record { given = now.given; reading = reading; rest = rest; fault = fault } ≡ joined start.given (cut find item after start.reading start.rest)
-    is_over start now reading place front h none sound rest is fault told =
-        let old : now.rest ≡ start.rest = ap (λ (k : Cut S V F). k.rest) h.kept in
-        let turn : cut find item after reading (drop place start.rest) ≡ uncut reading (drop place start.rest) (fault_of front) =
-        cut_first find item after laws reading (drop place start.rest)
-        ∙ (ap (λ f. cut_by find item after reading (drop place start.rest) f (cut find item after)) (sym h.found) ∙ stops front none) in
-        let all : joined start.given (cut find item after start.reading start.rest) ≡ joined now.given
-        (uncut reading (drop place start.rest) (fault_of front)) = h.frames ∙ ap (joined now.given) turn in
-        ap (λ b. record { given = now.given; reading = reading; rest = b; fault = fault }) is
-        ∙ (ap (λ f. record { given = now.given; reading = reading; rest = drop place now.rest; fault = f }) told
-        ∙ (ap (λ vs. record { given = vs; reading = reading; rest = drop place now.rest; fault = fault_of front }) (sym (append-nil now.given))
-        ∙ (ap (λ b. record { given = now.given ++ []; reading = reading; rest = drop place b; fault = fault_of front }) old ∙ sym all)))
+    pub is_over : (m : Moment S V F) → Cutting m → (end : End m)
+        → record { given = m.now.given; reading = m.reading; rest = end.rest; fault = end.fault }
+        ≡ joined m.start.given (cut find item after m.start.reading m.start.rest)
+    is_over m h end =
+        let here = drop m.place m.start.rest in
+        let old : m.now.rest ≡ m.start.rest = ap (λ (k : Cut S V F). k.rest) h.kept in
+        let first : cut find item after m.reading here ≡ uncut m.reading here (fault_of m.front) =
+        cut_first find item after laws m.reading here
+        ∙ (ap (λ f. cut_by find item after m.reading here f (cut find item after)) (sym h.found) ∙ stops m.front end.none) in
+        let all : joined m.start.given (cut find item after m.start.reading m.start.rest)
+        ≡ joined m.now.given (uncut m.reading here (fault_of m.front)) = h.frames ∙ ap (joined m.now.given) first in
+        ap (λ b. record { given = m.now.given; reading = m.reading; rest = b; fault = end.fault }) end.dropped
+        ∙ (ap (λ f. record { given = m.now.given; reading = m.reading; rest = drop m.place m.now.rest; fault = f }) end.told
+        ∙ (ap (λ vs. record { given = vs; reading = m.reading; rest = drop m.place m.now.rest; fault = fault_of m.front }) (sym (append-nil m.now.given))
+        ∙ (ap (λ b. record { given = m.now.given ++ []; reading = m.reading; rest = drop m.place b; fault = fault_of m.front }) old ∙ sym all)))
       where
         stops : (f : Front F) → ((n : ℕ) → f ≡ Whole n → ⊥)
-            → cut_by find item after reading (drop place start.rest) f (cut find item after) ≡ uncut reading (drop place start.rest) (fault_of f)
+            → cut_by find item after m.reading (drop m.place m.start.rest) f (cut find item after)
+            ≡ uncut m.reading (drop m.place m.start.rest) (fault_of f)
         stops More apart = refl
         stops (Bad fault) apart = refl
         stops (Whole n) apart = absurd (apart n refl)

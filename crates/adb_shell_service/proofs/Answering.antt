@@ -183,97 +183,122 @@ answer_grows opening fed piece (Some reading) is =
     starts_with_of_append (shell_answer opening (fed ++ piece)).bytes (shell_answer opening fed).bytes (input_answer more.further None).bytes
     (ap (λ (a : Answer). a.bytes) (further_answer opening fed piece more.further is more.is))
 
--- Of the packets that a reader gave these are left, and the others were answered.
-pub record Answering (first now : Reading) (out out' : List ℕ) : Type 0 where
-  pub told : TellsUpTo (input_answer first.given None).bytes (input_answer now.given None).bytes out out'
-  pub ends : (input_answer first.given None).ended ≡ (input_answer now.given None).ended
-  pub same : now ≡ record first { given = now.given }
+-- A moment of the loop: the packets that the reader still has, and the answer that is held.
+pub record Moment : Type 0 where
+  pub reader : Reading
+  pub out : List ℕ
 
-pub answering_none : (first : Reading) (out : List ℕ) → Answering first first out out
-answering_none first out = record { told = record { said = []; behind = sym (append-nil out); within = refl }; ends = refl; same = refl }
+-- Of the packets that a reader gave these are left, and the others were answered.
+pub record Answering (first now : Moment) : Type 0 where
+  pub told : TellsUpTo (input_answer first.reader.given None).bytes (input_answer now.reader.given None).bytes first.out now.out
+  pub ends : (input_answer first.reader.given None).ended ≡ (input_answer now.reader.given None).ended
+  pub same : now.reader ≡ record first.reader { given = now.reader.given }
+
+pub answering_none : (first : Moment) → Answering first first
+answering_none first = record { told = record { said = []; behind = sym (append-nil first.out); within = refl }; ends = refl; same = refl }
 
 -- a packet is taken, and what is left is the same reader without it
 pub same_left : (now left : Reading) (packet : ShellPacket) → now ≡ record left { given = packet ∷ left.given } → left ≡ record now { given = left.given }
 same_left now left packet is = sym (ap (λ (r : Reading). record r { given = left.given }) is)
 
--- a packet is answered, and the service goes on
-pub answering_step : {first now left : Reading} {out out1 : List ℕ} (out2 : List ℕ) (packet : ShellPacket) → Answering first now out out1
-    → now ≡ record left { given = packet ∷ left.given } → (packet.id == CLOSE_STDIN) ≡ false → out2 ≡ out1 ++ (packet_answer packet).bytes
-    → Answering first left out out2
-answering_step {first} {now} {left} {out} {out1} out2 packet all is on push =
-    let given : now.given ≡ packet ∷ left.given = ap (λ (r : Reading). r.given) is in
-    let next = ap (λ (ps : List ShellPacket). input_answer ps None) given
+-- the next packet is taken and answered
+pub record Turn (now next : Moment) (packet : ShellPacket) : Type 0 where
+  pub is : now.reader ≡ record next.reader { given = packet ∷ next.reader.given }
+  pub push : next.out ≡ now.out ++ (packet_answer packet).bytes
+
+-- and the service goes on
+pub answering_step : {first now next : Moment} (packet : ShellPacket) → Answering first now → Turn now next packet
+    → (packet.id == CLOSE_STDIN) ≡ false → Answering first next
+answering_step {first} {now} {next} packet all turn on =
+    let left = next.reader in
+    let given : now.reader.given ≡ packet ∷ left.given = ap (λ (r : Reading). r.given) turn.is in
+    let further = ap (λ (ps : List ShellPacket). input_answer ps None) given
     ∙ then_open (packet_answer packet) (input_answer left.given None) (packet_goes_on packet on) in
     let bytes = (packet_answer packet).bytes in
     record {
       told = record {
         said = all.told.said ++ bytes;
-        behind = push ∙ (ap (λ (o : List ℕ). o ++ bytes) all.told.behind ∙ append_assoc out all.told.said bytes);
+        behind = turn.push ∙ (ap (λ (o : List ℕ). o ++ bytes) all.told.behind ∙ append_assoc first.out all.told.said bytes);
         within = all.told.within
-            ∙ (ap (λ (a : Answer). all.told.said ++ a.bytes) next ∙ sym (append_assoc all.told.said bytes (input_answer left.given None).bytes));
+            ∙ (ap (λ (a : Answer). all.told.said ++ a.bytes) further ∙ sym (append_assoc all.told.said bytes (input_answer left.given None).bytes));
       };
-      ends = all.ends ∙ ap (λ (a : Answer). a.ended) next;
-      same = same_left now left packet is ∙ ap (λ (r : Reading). record r { given = left.given }) all.same;
+      ends = all.ends ∙ ap (λ (a : Answer). a.ended) further;
+      same = same_left now.reader left packet turn.is ∙ ap (λ (r : Reading). record r { given = left.given }) all.same;
     }
 
--- the end of the input is answered
-pub answering_closed : {first now left : Reading} {out out1 : List ℕ} (out2 : List ℕ) (packet : ShellPacket) → Answering first now out out1
-    → now ≡ record left { given = packet ∷ left.given } → (packet.id == CLOSE_STDIN) ≡ true → out2 ≡ out1 ++ (packet_answer packet).bytes
-    → AnswersGiven first left out out2 true
-answering_closed {first} {now} {left} {out} {out1} out2 packet all is over push =
-    let given : now.given ≡ packet ∷ left.given = ap (λ (r : Reading). r.given) is in
-    let next = ap (λ (ps : List ShellPacket). input_answer ps None) given
+-- it was the end of the input
+pub answering_closed : {first now next : Moment} (packet : ShellPacket) → Answering first now → Turn now next packet
+    → (packet.id == CLOSE_STDIN) ≡ true → AnswersGiven first.reader next.reader first.out next.out true
+answering_closed {first} {now} {next} packet all turn over =
+    let left = next.reader in
+    let given : now.reader.given ≡ packet ∷ left.given = ap (λ (r : Reading). r.given) turn.is in
+    let further = ap (λ (ps : List ShellPacket). input_answer ps None) given
     ∙ then_over (packet_answer packet) (input_answer left.given None) (packet_closes packet over) in
     let bytes = (packet_answer packet).bytes in
     record {
-      answer = push ∙ (ap (λ (o : List ℕ). o ++ bytes) all.told.behind ∙ (append_assoc out all.told.said bytes
-          ∙ ap (λ (o : List ℕ). out ++ o) (sym (all.told.within ∙ ap (λ (a : Answer). all.told.said ++ a.bytes) next))));
-      ends = sym (all.ends ∙ (ap (λ (a : Answer). a.ended) next ∙ packet_closes packet over));
+      answer = turn.push ∙ (ap (λ (o : List ℕ). o ++ bytes) all.told.behind ∙ (append_assoc first.out all.told.said bytes
+          ∙ ap (λ (o : List ℕ). first.out ++ o) (sym (all.told.within ∙ ap (λ (a : Answer). all.told.said ++ a.bytes) further))));
+      ends = sym (all.ends ∙ (ap (λ (a : Answer). a.ended) further ∙ packet_closes packet over));
       empty = λ open_. absurd (true≢false open_);
     }
 
 -- no packet is left
-pub answering_done : {first now left : Reading} {out out1 : List ℕ} → Answering first now out out1 → now.given ≡ [] → left ≡ now
-    → AnswersGiven first left out out1 false
-answering_done {first} {now} {left} {out} {out1} all none same =
+pub answering_done : {first now : Moment} {left : Reading} → Answering first now → now.reader.given ≡ [] → left ≡ now.reader
+    → AnswersGiven first.reader left first.out now.out false
+answering_done {first} {now} {left} all none same =
     let next = ap (λ (ps : List ShellPacket). input_answer ps None) none in
     record {
-      answer = all.told.behind ∙ ap (λ (o : List ℕ). out ++ o) (sym (all.told.within
+      answer = all.told.behind ∙ ap (λ (o : List ℕ). first.out ++ o) (sym (all.told.within
           ∙ (ap (λ (a : Answer). all.told.said ++ a.bytes) next ∙ append-nil all.told.said)));
       ends = sym (all.ends ∙ ap (λ (a : Answer). a.ended) next);
-      empty = λ open_. same ∙ (all.same ∙ ap (λ (ps : List ShellPacket). record first { given = ps }) none);
+      empty = λ open_. same ∙ (all.same ∙ ap (λ (ps : List ShellPacket). record first.reader { given = ps }) none);
     }
 
 -- memory ran out: what was told stays
-pub answering_front : {first now : Reading} {out out1 : List ℕ} (out2 : List ℕ) → Answering first now out out1 → out2 ≡ out1
-    → TellsFront (input_answer first.given None).bytes out out2
-answering_front {now = now} out2 all same =
-    ((input_answer now.given None).bytes, record { said = all.told.said; behind = same ∙ all.told.behind; within = all.told.within })
+pub answering_front : {first now : Moment} (out : List ℕ) → Answering first now → out ≡ now.out
+    → TellsFront (input_answer first.reader.given None).bytes first.out out
+answering_front {now = now} out all same =
+    ((input_answer now.reader.given None).bytes, record { said = all.told.said; behind = same ∙ all.told.behind; within = all.told.within })
 
--- a piece was answered
-pub piece_answered : {read new : Reading} {out out' : List ℕ} {closed : Bool} (opening : Opening) (fed piece taken : List ℕ) (old : Reading)
-    → IsReading opening fed old → Takes front packet_of past old piece read → AnswersGiven read new out out' closed
-    → taken ++ out ≡ (shell_answer opening fed).bytes → Answers opening (fed ++ piece) taken new out' (closed || is_some read.fault)
-piece_answered {read} {new} {out} {out'} {closed} opening fed piece taken old is takes given told =
-    let stands = takes.stands start fed (packets_in fed) is.stands in
-    let answer = further_answer opening fed piece read.given is stands.frames in
-    let bytes = (input_answer read.given None).bytes in
-    let ends : (closed || is_some read.fault) ≡ (shell_answer opening (fed ++ piece)).ended =
+-- A piece came to a service that goes on: how it was opened, what it was fed and what was taken of its answer before, the answer that it held, and
+-- its reader before and behind the piece.
+pub record Came : Type 0 where
+  pub opening : Opening
+  pub fed : List ℕ
+  pub piece : List ℕ
+  pub taken : List ℕ
+  pub out : List ℕ
+  pub old : Reading
+  pub read : Reading
+  pub is : IsReading opening fed old
+  pub takes : Takes front packet_of past old piece read
+  pub told : taken ++ out ≡ (shell_answer opening fed).bytes
+
+-- it was answered
+pub piece_answered : {new : Reading} {out : List ℕ} {closed : Bool} (came : Came) → AnswersGiven came.read new came.out out closed
+    → Answers came.opening (came.fed ++ came.piece) came.taken new out (closed || is_some came.read.fault)
+piece_answered {new} {out} {closed} came given =
+    let fed = came.fed ++ came.piece in
+    let stands = came.takes.stands start came.fed (packets_in came.fed) came.is.stands in
+    let answer = further_answer came.opening came.fed came.piece came.read.given came.is stands.frames in
+    let bytes = (input_answer came.read.given None).bytes in
+    let ends : (closed || is_some came.read.fault) ≡ (shell_answer came.opening fed).ended =
     sym (ap (λ (a : Answer). a.ended) answer
-    ∙ (ap (λ t. t || is_some (fault_in (fed ++ piece))) (sym given.ends) ∙ ap (λ (f : Option ShellFault). closed || is_some f) stands.fault)) in
+    ∙ (ap (λ t. t || is_some (fault_in fed)) (sym given.ends) ∙ ap (λ (f : Option ShellFault). closed || is_some f) stands.fault)) in
     record {
       reads = λ on. record {
-        input = is.input;
+        input = came.is.input;
         goes_on = sym ends ∙ on;
-        stands = subst (StandsFor (fed ++ piece) (packets_in (fed ++ piece))) (sym (given.empty (left_false closed (is_some read.fault) on))) (record {
-          frames = sym (append-nil (packets_in (fed ++ piece)));
+        stands = subst (StandsFor fed (packets_in fed)) (sym (given.empty (left_false closed (is_some came.read.fault) on))) (record {
+          frames = sym (append-nil (packets_in fed));
           fault = stands.fault;
           open_rest = stands.open_rest;
         });
       };
       given_out =
-          ap (λ (o : List ℕ). taken ++ o) given.answer
-          ∙ (sym (append_assoc taken out bytes) ∙ (ap (λ (o : List ℕ). o ++ bytes) told ∙ sym (ap (λ (a : Answer). a.bytes) answer)));
+          ap (λ (o : List ℕ). came.taken ++ o) given.answer
+          ∙ (sym (append_assoc came.taken came.out bytes)
+          ∙ (ap (λ (o : List ℕ). o ++ bytes) came.told ∙ sym (ap (λ (a : Answer). a.bytes) answer)));
       ends = ends;
     }
   where
@@ -281,20 +306,20 @@ piece_answered {read} {new} {out} {out'} {closed} opening fed piece taken old is
     left_false true b e = e
     left_false false b e = refl
 
--- memory ran out at a piece
-pub piece_front : {read : Reading} {out out' : List ℕ} (opening : Opening) (fed piece taken : List ℕ) (old : Reading)
-    → IsReading opening fed old → Takes front packet_of past old piece read → TellsFront (input_answer read.given None).bytes out out'
-    → taken ++ out ≡ (shell_answer opening fed).bytes → StartsWith (shell_answer opening (fed ++ piece)).bytes (taken ++ out')
-piece_front {read} {out} {out'} opening fed piece taken old is takes front_told told =
-    let stands = takes.stands start fed (packets_in fed) is.stands in
-    let answer = further_answer opening fed piece read.given is stands.frames in
+-- memory ran out at it
+pub piece_front : {out : List ℕ} (came : Came) → TellsFront (input_answer came.read.given None).bytes came.out out
+    → StartsWith (shell_answer came.opening (came.fed ++ came.piece)).bytes (came.taken ++ out)
+piece_front {out} came front_told =
+    let old = (shell_answer came.opening came.fed).bytes in
+    let stands = came.takes.stands start came.fed (packets_in came.fed) came.is.stands in
+    let answer = further_answer came.opening came.fed came.piece came.read.given came.is stands.frames in
     let said = front_told.1.said in
-    let behind : taken ++ out' ≡ (shell_answer opening fed).bytes ++ said =
-    ap (λ (o : List ℕ). taken ++ o) front_told.1.behind ∙ (sym (append_assoc taken out said) ∙ ap (λ (o : List ℕ). o ++ said) told) in
-    starts_with_of_append (shell_answer opening (fed ++ piece)).bytes (taken ++ out') front_told.0
+    let behind : came.taken ++ out ≡ old ++ said = ap (λ (o : List ℕ). came.taken ++ o) front_told.1.behind
+    ∙ (sym (append_assoc came.taken came.out said) ∙ ap (λ (o : List ℕ). o ++ said) came.told) in
+    starts_with_of_append (shell_answer came.opening (came.fed ++ came.piece)).bytes (came.taken ++ out) front_told.0
     (ap (λ (a : Answer). a.bytes) answer
-    ∙ (ap (λ (o : List ℕ). (shell_answer opening fed).bytes ++ o) front_told.1.within
-    ∙ (sym (append_assoc (shell_answer opening fed).bytes said front_told.0) ∙ ap (λ (o : List ℕ). o ++ front_told.0) (sym behind))))
+    ∙ (ap (λ (o : List ℕ). old ++ o) front_told.1.within
+    ∙ (sym (append_assoc old said front_told.0) ∙ ap (λ (o : List ℕ). o ++ front_told.0) (sym behind))))
 
 -- what a service that goes on holds of a piece
 pub goes_on_with : {reading : Reading} {out : List ℕ} (opening : Opening) (fed taken : List ℕ) (spent : Bool) → Answers opening fed taken reading out false

@@ -1,7 +1,6 @@
 -- An answer that ended stays so, whatever follows.
-use Rattle.std.proofs.Common.{ℕ, ◌≡◌, ◌≢◌, List, [], ◌∷◌, ◌++◌, Bool, false, Option, Some, None, sym, refl, ◌∙◌}
+use Rattle.std.proofs.Common.{ℕ, ◌≡◌, ◌≢◌, List, [], ◌∷◌, ◌++◌, false, Option, Some, None, sym, refl, ◌∙◌}
 use Rattle.adb_sync.specs.declared.answer.SyncAnswer.{SyncAnswer}
-use Rattle.adb_sync_client.specs.declared.expected.Expected.{Expected}
 use Rattle.adb_sync_client.specs.declared.kind.AnswerKind.{AnswerKind}
 use Rattle.adb_sync_client.specs.declared.step.Step.TheVariants.{More}
 use Rattle.adb_sync_client.specs.declared.told.Next.{Next}
@@ -26,17 +25,19 @@ ended_stays said (answer ∷ given) further fault some = go (next_of answer) som
     go (Refused text) some others = refl
 
 -- the same of what is held
-held_stays : (said : Said) (given : List SyncAnswer) (reading : Expected) (rest : List ℕ) (fault : Option ℕ) (next : Next) (spent : Bool) (more : List ℕ)
-    → let r : Read = record { cut = record { given = given; reading = reading; rest = rest; fault = fault }; said = said; next = next; spent = spent } in
-    meaning r ≢ More → meaning_with r more ≡ meaning r
-held_stays said given reading rest fault Done spent more some = refl
-held_stays said given reading rest fault (Refused text) spent more some = refl
-held_stays said given reading rest (Some fault) GoesOn spent more some = refl
-held_stays said given reading rest None GoesOn spent more some = ended_stays said given _ _ some
+held_stays : (r : Read) (more : List ℕ) → meaning r ≢ More → meaning_with r more ≡ meaning r
+held_stays r more = go r.next r.cut.fault
+  where
+    go : (next : Next) (fault : Option ℕ)
+        → let now : Read = record r { cut = record r.cut { fault = fault }; next = next } in meaning now ≢ More → meaning_with now more ≡ meaning now
+    go Done fault some = refl
+    go (Refused text) fault some = refl
+    go GoesOn (Some fault) some = refl
+    go GoesOn None some = ended_stays r.said r.cut.given _ _ some
 
 pub value_stays : (kind : AnswerKind) (bytes more : List ℕ) → answer_value kind bytes ≢ More → answer_value kind (bytes ++ more) ≡ answer_value kind bytes
 value_stays kind bytes more some =
     let nothing : Held = record { given = []; reading = expected_start kind; rest = []; fault = None } in
     let start : Read = record { cut = nothing; said = told_nothing; next = GoesOn; spent = false } in
     let r = with_more start bytes in
-    sym (more_on start bytes more) ∙ held_stays r.said r.cut.given r.cut.reading r.cut.rest r.cut.fault r.next r.spent more some
+    sym (more_on start bytes more) ∙ held_stays r more some

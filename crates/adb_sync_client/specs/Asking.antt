@@ -1,5 +1,5 @@
 -- What a machine that asks one request is seen as, and what its calls do.
-use Rattle.std.specs.Prelude.{ℕ, ◌≡◌, true, false, List, [], ◌++◌, Result, Ok, Err, IfOk, OnOk, OnErr, IsErr}
+use Rattle.std.specs.Prelude.{ℕ, ◌≡◌, true, false, List, [], ◌++◌, Result, IfOk, OnOk, OnErr, IsErr}
 use Rattle.adb_sync_client.specs.declared.kind.AnswerKind.{AnswerKind}
 use Rattle.adb_sync_client.specs.declared.step.Step.{Step}
 use Rattle.adb_sync_client.specs.Reading.{Read, StandsFor}

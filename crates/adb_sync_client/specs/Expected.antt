@@ -4,7 +4,6 @@ use Rattle.adb_outside.specs.declared.framer.Front.{Front}
 use Rattle.adb_outside.specs.declared.framer.Front.TheVariants.{More, Bad, Whole}
 use Rattle.adb_outside.specs.Framing.{offset_past}
 use Rattle.adb_sync.specs.declared.answer.SyncAnswer.{SyncAnswer}
-use Rattle.adb_sync.specs.declared.answer_format.AnswerFormat.{AnswerFormat}
 use Rattle.adb_sync.specs.declared.error.SyncFault.{SyncFault}
 use Rattle.adb_sync.specs.Messages.{number_at}
 use Rattle.adb_sync.specs.Answers.{answer_front, answer_of_bytes, past_answer, answers_start}

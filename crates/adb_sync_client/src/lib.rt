@@ -2,6 +2,7 @@
 //! gives the request's bytes as they are taken and tells what the answer bytes mean.
 #![tactic(auto)]
 
+mod asking;
 mod entries;
 mod expected;
 mod kind;
@@ -18,6 +19,7 @@ mod step;
 mod tests;
 mod told;
 
+pub use asking::{PathAsk, PathValue};
 pub use entries::Entries;
 pub use kind::AnswerKind;
 pub use laws::{ended_answers_stay, first_bad_byte_is_told};

@@ -1,92 +1,42 @@
 //! Listing a directory.
 
-ghost use Rattle.std.specs.Prelude.{◌≡◌, ◌≤◌, ◌++◌, List as Bytes, ℕ, length, take, drop, IfOk};
-ghost use Rattle.adb_sync_client.specs.Asking.{Asks, Feeds, Gives};
-ghost use Rattle.adb_sync_client.specs.Texts.{list_text};
-ghost use Rattle.adb_sync_client.specs.Values.{list_value};
-ghost use Rattle.adb_sync_client.specs.Reading.{with_said};
-ghost use Rattle.adb_sync_client.specs.Values.{step_map};
-
+use crate::asking::{PathAsk, PathValue};
 use crate::entries::Entries;
 use crate::kind::AnswerKind;
-use crate::reading::Reading;
-use crate::request::{MAX_PATH, spelled};
-use crate::step::Step;
+use crate::request::spelled;
 use crate::told::Told;
 use adb_outside::{ByteQueue, Text};
 use adb_sync::SyncAsk;
 use std::alloc::{AllocError, Global};
-use std::marker::Model;
 
 /// LIST of a path: its value is the entries of the directory.
-#[derive(Drop)]
-pub struct List {
-    out: ByteQueue,
-    reading: Reading,
-}
+pub type List = PathAsk<Entries>;
 
-impl Model for List {
-    ghost use Rattle.adb_sync_client.specs.Asking.{Asking};
+impl PathValue for Entries {
+    ghost use Rattle.std.specs.Prelude.{refl};
+    ghost use Rattle.adb_sync_client.specs.declared.kind.AnswerKind.TheVariants as kinds;
+    ghost use Rattle.adb_sync_client.specs.Texts.{list_text};
+    ghost use Rattle.adb_sync_client.specs.Values.{list_value};
 
-    ghost Value = { Asking };
+    ghost kind = { kinds.List };
 
-    ghost view = { λ m. record { left = m.out.bytes; read = m.reading } };
-}
+    ghost text = { list_text };
 
-impl List {
-    /// Asks for the entries of a directory.
-    pub fn new(alloc: Global, path: &[u8]) -> Result<List, AllocError>
-        requires { length path.now ≤ MAX_PATH }
-        ensures { IfOk result (λ new. Asks AnswerKind.List (list_text path.now) new) }
-    {
-        let ask = SyncAsk::List(Text::from_slice(alloc, path)?);
-        Ok(List {
-            out: spelled(alloc, &ask)?,
-            reading: Reading::new(alloc, AnswerKind::List),
-        })
+    ghost part = { λ said. said.entries };
+
+    ghost value = { list_value };
+
+    ghost is_part = { λ bytes. refl };
+
+    fn kind() -> AnswerKind {
+        AnswerKind::List
     }
 
-    /// The bytes of the request that were not taken yet.
-    pub fn out(&self) -> &[u8]
-        ensures { result.now ≡ self.now.left }
-    {
-        self.out.as_slice()
+    fn request(alloc: Global, path: &[u8]) -> Result<ByteQueue, AllocError> {
+        spelled(alloc, &SyncAsk::List(Text::from_slice(alloc, path)?))
     }
 
-    /// The first `n` bytes of the request that are left were taken. It takes no memory.
-    pub fn taken(&mut self, n: usize)
-        requires { n ≤ length self.old.left }
-        ensures left { self.new ≡ record self.old { left = drop n self.old.left } }
-        ensures whole { (text gone : Bytes ℕ) → Gives text gone self.old.left
-            → Gives text (gone ++ take n self.old.left) self.new.left }
-    {
-        self.out.take(n);
+    fn of(told: &Told) -> Result<Entries, AllocError> {
+        Entries::copy_of(*told.entries.allocator(), told.entries.as_slice())
     }
-
-    /// Takes the next piece of the answer bytes, of any length, and gives what all of them mean, as
-    /// often as it is called. The entries are copies. After want of memory the machine is spent:
-    /// every call answers it.
-    pub fn feed(&mut self, piece: &[u8]) -> Result<Step<Entries>, AllocError>
-        ensures { Feeds AnswerKind.List list_value self.old piece.now result self.new }
-    {
-        let step = self.reading.feed(piece)?;
-        let step = listed(step, &self.reading.told);
-        self.reading.spend_on(step)
-    }
-}
-
-/// A step with the entries of the list.
-fn listed(step: Step<()>, told: &Told) -> Result<Step<Entries>, AllocError>
-    ensures { IfOk result (λ given.
-        given ≡ step_map (λ said. said.entries) (with_said told.now step)) }
-{
-    Ok(match step {
-        Step::More => Step::More,
-        Step::Done(()) => Step::Done(Entries::copy_of(
-            *told.entries.allocator(),
-            told.entries.as_slice(),
-        )?),
-        Step::Refused(text) => Step::Refused(text),
-        Step::BadAnswer { offset } => Step::BadAnswer { offset },
-    })
 }

@@ -6,12 +6,12 @@ use Rattle.adb_daemon.proofs.writes.push_writes.Goals as goal
 pub loop-payload-preserved : goal.loop-payload-preserved
 loop-payload-preserved c = λ row stands.
     let all = c.loop-payload.invariant row stands in
-    writing_step c.args.outgoing.sums c.args.outgoing.own c.args.outgoing.most row c.push_write.new.due.bytes c.in-Some.payload all
+    writing_step c.args.outgoing row c.in-Some.payload all
     (subst (MakesWrite c.args.outgoing.most all.row c.next_write.new.self) c.in-Some.is (c.in_ok-payload.ensures.write all.row all.stands))
     c.in_ok-push_write.ensures.ok
 
 pub returns : goal.returns
 returns c = λ row stands.
     let all = c.loop-payload.invariant row stands in
-    writing_done c.args.outgoing.sums c.args.outgoing.own c.args.outgoing.most row all
+    writing_done c.args.outgoing row c.next_write.new.self all
     (subst (MakesWrite c.args.outgoing.most all.row c.next_write.new.self) c.in_default.is (c.in_ok-payload.ensures.write all.row all.stands))

@@ -6,7 +6,7 @@ use Rattle.adb_daemon.proofs.writes.push_writes.Given as goal
 
 abbrev pub invariant-loop-payload : goal.invariant-loop-payload
 invariant-loop-payload l = (row : Row) → StandsFor row l.initial.stream
-    → Writing l.outgoing.sums l.outgoing.own l.outgoing.most row l.stream l.initial.due.bytes l.due.bytes
+    → Writing l.outgoing row l.initial.due.bytes (record { stream = l.stream; due = l.due.bytes })
 
 abbrev pub decreases-loop-payload : goal.decreases-loop-payload
 decreases-loop-payload l = length (out_of l.stream.service)

@@ -14,8 +14,15 @@ loop-entry-preserved-in_ok-push c = record {
   finite = tt;
   names = All-rest (λ (d : Dirent). length d.name < 2 ^ 32) c.in-Some.entry (into_iter_items c.next.new.self)
       (into_iter_items c.loop-entry.entry-iterator) c.in-Some.ensures.steps.0 c.loop-entry.invariant.names;
-  told = list_step c.in-Some.entry (into_iter_items c.loop-entry.entry-iterator)
-      (into_iter_items c.next.new.self) c.loop-entry.invariant.told c.in-Some.ensures.steps.0 c.in_ok-push.ensures.ok;
+  told = list_step (record {
+    entry = c.in-Some.entry;
+    rest = into_iter_items c.loop-entry.entry-iterator;
+    left = into_iter_items c.next.new.self;
+    all = c.in-Some.ensures.steps.0;
+    before = _;
+    now = _;
+    is = c.in_ok-push.ensures.ok;
+  }) c.loop-entry.invariant.told;
 }
 
 pub returns-in_err-entry-items-clause-err : goal.returns-in_err-entry-items-clause-err

@@ -31,10 +31,14 @@ returns-in-Ok-clause-records g c = λ coming told.
     let now = c.in-Ok.ensures.ok in
     record_given c.self.inside.offset c.args.self.now.offset c.give.new.self.offset (c.args.self.now.held ++ coming) c.in-Ok.given _
     (ap (λ r. r.offset) c.self.view_is)
-    (gives_record c.await_record.new.held (c.args.self.now.held ++ coming) _ (c.await_record.ensures.bytes coming told ∙ ap Some first) (record {
+    (gives_record c.self.inside.offset c.await_record.new.held (c.args.self.now.held ++ coming) _
+    (c.await_record.ensures.bytes coming told ∙ ap Some first) (record {
       size = c.in-Some.size;
       whole = whole;
+      given = c.in-Ok.given;
       is = c.in-Ok.ensures.given;
+      left = c.give.new.self.held;
       dropped = ap (λ r. r.held) now;
+      next = c.give.new.self.offset;
       place = ap (λ r. r.offset) now;
     }))

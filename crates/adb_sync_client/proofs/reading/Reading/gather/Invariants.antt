@@ -1,5 +1,5 @@
 use Rattle.std.proofs.Common.{◌≡◌, length}
-use Rattle.adb_sync_client.specs.Reading.{Read, MeansSame}
+use Rattle.adb_sync_client.specs.Reading.{MeansSame}
 use Rattle.adb_sync_client.proofs.reading.Reading.gather.Given as goal
 
 abbrev pub invariant-loop-self : goal.invariant-loop-self

@@ -1,0 +1,121 @@
+//! Asking about a path.
+
+ghost use Rattle.std.specs.Prelude.{◌≡◌, ◌≤◌, ◌++◌, List, ℕ, length, take, drop, IfOk};
+ghost use Rattle.adb_sync_client.specs.Asking.{Asks, Feeds, Gives};
+ghost use Rattle.adb_sync_client.specs.Reading.{with_said};
+ghost use Rattle.adb_sync_client.specs.Values.{step_map};
+
+use crate::kind::AnswerKind;
+use crate::reading::Reading;
+use crate::request::MAX_PATH;
+use crate::step::Step;
+use crate::told::Told;
+use adb_outside::ByteQueue;
+use std::alloc::{AllocError, Global};
+use std::marker::{Model, PhantomData};
+
+/// What a request about a path is answered with.
+pub trait PathValue: Drop + Sized {
+    ghost use Rattle.std.specs.Prelude.{◌≡◌, ◌≤◌, List, ℕ, length, IfOk};
+    ghost use Rattle.adb_sync_client.specs.declared.kind.AnswerKind.{AnswerKind};
+    ghost use Rattle.adb_sync_client.specs.declared.step.Step.{Step};
+    ghost use Rattle.adb_sync_client.specs.Values.{Said, answer_value, step_map};
+
+    /// The kind of the answer.
+    ghost kind: { AnswerKind };
+
+    /// The bytes of the request.
+    ghost text: { List ℕ → List ℕ };
+
+    /// What it is of what the answers said.
+    ghost part: { Said → Self };
+
+    /// What answer bytes mean.
+    ghost value: { List ℕ → Step Self };
+
+    /// The kind of the answer.
+    fn kind() -> AnswerKind
+        ensures { result ≡ kind };
+
+    /// The bytes of the request, to be taken from the front.
+    fn request(alloc: Global, path: &[u8]) -> Result<ByteQueue, AllocError>
+        requires { length path.now ≤ MAX_PATH }
+        ensures { IfOk result (λ queue. queue.bytes ≡ text path.now) };
+
+    /// A copy of what the answers said.
+    fn of(told: &Told) -> Result<Self, AllocError>
+        ensures { IfOk result (λ copy. copy ≡ part told.now) };
+
+    /// The value of answer bytes is that part of what they said.
+    ghost is_part: { (bytes : List ℕ) → value bytes ≡ step_map part (answer_value kind bytes) };
+}
+
+/// A machine that asks one request about a path, whose answer is a `V`.
+#[derive(Drop)]
+pub struct PathAsk<V: PathValue> {
+    out: ByteQueue,
+    reading: Reading,
+    value: PhantomData<V>,
+}
+
+impl<V: PathValue> Model for PathAsk<V> {
+    ghost use Rattle.adb_sync_client.specs.Asking.{Asking};
+
+    ghost Value = { Asking };
+
+    ghost view = { λ m. record { left = m.out.bytes; read = m.reading } };
+}
+
+impl<V: PathValue> PathAsk<V> {
+    /// Asks about a path.
+    pub fn new(alloc: Global, path: &[u8]) -> Result<PathAsk<V>, AllocError>
+        requires { length path.now ≤ MAX_PATH }
+        ensures { IfOk result (λ new. Asks V.kind (V.text path.now) new) }
+    {
+        Ok(PathAsk {
+            out: V::request(alloc, path)?,
+            reading: Reading::new(alloc, V::kind()),
+            value: PhantomData,
+        })
+    }
+
+    /// The bytes of the request that were not taken yet.
+    pub fn out(&self) -> &[u8]
+        ensures { result.now ≡ self.now.left }
+    {
+        self.out.as_slice()
+    }
+
+    /// The first `n` bytes of the request that are left were taken. It takes no memory.
+    pub fn taken(&mut self, n: usize)
+        requires { n ≤ length self.old.left }
+        ensures left { self.new ≡ record self.old { left = drop n self.old.left } }
+        ensures whole { (text gone : List ℕ) → Gives text gone self.old.left
+            → Gives text (gone ++ take n self.old.left) self.new.left }
+    {
+        self.out.take(n);
+    }
+
+    /// Takes the next piece of the answer bytes, of any length, and gives what all of them mean, as
+    /// often as it is called. The value is a copy. After want of memory the machine is spent: every
+    /// call answers it.
+    pub fn feed(&mut self, piece: &[u8]) -> Result<Step<V>, AllocError>
+        ensures { Feeds V.kind V.value self.old piece.now result self.new }
+    {
+        let step = self.reading.feed(piece)?;
+        let step = valued(step, &self.reading.told);
+        self.reading.spend_on(step)
+    }
+}
+
+/// A step with the value of what was said.
+fn valued<V: PathValue>(step: Step<()>, told: &Told) -> Result<Step<V>, AllocError>
+    ensures { IfOk result (λ given. given ≡ step_map V.part (with_said told.now step)) }
+{
+    Ok(match step {
+        Step::More => Step::More,
+        Step::Done(()) => Step::Done(V::of(told)?),
+        Step::Refused(text) => Step::Refused(text),
+        Step::BadAnswer { offset } => Step::BadAnswer { offset },
+    })
+}
