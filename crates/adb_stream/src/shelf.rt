@@ -120,6 +120,14 @@ impl Shelf {
         self.index.clear();
     }
 
+    /// The stream of an id.
+    pub(crate) fn get(&self, id: u32) -> Option<&Stream>
+        ensures { option_copied result ≡ stream_of (slots_of self.now) (keys_of self.now id) }
+    {
+        let key = self.keys.get(&id)?;
+        self.rows.get(*key)
+    }
+
     /// The stream of a link and an id.
     pub(crate) fn find(&self, link: u32, id: u32) -> Option<&Stream>
         ensures { option_copied result ≡ stream_of (slots_of self.now) (index_of self.now link id) }
