@@ -1,5 +1,6 @@
 -- What the simple command of a load makes of words.
-use Rattle.std.proofs.Common.{ℕ, ◌≡◌, ◌≢◌, ◌^◌, ◌-◌, ◌==◌, ◌&&◌, ◌⊎◌, inl, inr, Bool, true, false, not, nat_lt, nat_le, List, [], ◌∷◌, length, codes, Option, Some, None, Result, Ok, Err, IfOk, refl, sym, ◌∙◌, ap, ap₂, subst, true≢false, eqb-true}
+use Rattle.std.proofs.Common.{ℕ, ◌≡◌, ◌≢◌, ◌^◌, ◌-◌, ◌==◌, ◌&&◌, ◌⊎◌, inl, inr, Bool, true, false, not, nat_lt, nat_le, List, [], ◌∷◌, length, codes}
+use Rattle.std.proofs.Common.{Option, Some, None, Result, Ok, Err, IfOk, refl, sym, ◌∙◌, ap, ap₂, subst, true≢false, eqb-true}
 use Rattle.std.specs.Prelude.{if◌then◌else◌, option_and_then, IsOkAnd, String}
 use Rattle.std.specs.List.{list_all}
 use Rattle.clap.specs.Walk.{Held, Rule, Text, Walk, nothing_held, positional_held, arg_by_index, walk, walked, first_of, finished}

@@ -1,5 +1,6 @@
 -- A word that is no option, in the parse of a simple command.
-use Rattle.std.proofs.Common.{ℕ, ◌≡◌, ◌≢◌, ◌==◌, ◌&&◌, ◌⊎◌, inl, inr, Bool, true, false, not, cond, List, [], ◌∷◌, drop, Option, Some, None, Result, Err, String, refl, sym, ◌∙◌, ap, true≢false}
+use Rattle.std.proofs.Common.{ℕ, ◌≡◌, ◌≢◌, ◌==◌, ◌&&◌, ◌⊎◌, inl, inr, Bool, true, false, not, cond, List, [], ◌∷◌, drop, Option, Some, None, Result}
+use Rattle.std.proofs.Common.{Err, String, refl, sym, ◌∙◌, ap, true≢false}
 use Rattle.std.specs.Prelude.{string_bytes, option_and_then, bytes_eq, ok_or, if◌then◌else◌}
 use Rattle.std.specs.List.{list_all}
 use Rattle.std.specs.Option.{option_map_or}
@@ -7,7 +8,8 @@ use Rattle.clap.specs.Lexer.{long_of, long_of_rest, short_of, short_of_rest, str
 use Rattle.clap.specs.Walk.{Held, Rule, Text, Step, Walk, idle, value, trailing, word_met, walked, long_or_other, short_or_plain, to_positional}
 use Rattle.clap.specs.Walk.{after_step, arg_by_index, nothing_held, walk, settled, finished}
 use Rattle.clap.specs.Simple.{App, Shape, built, argument_words}
-use Rattle.clap.specs.Faults.{fault_of, level_fault, walk_fault, settle_fault, defaults_fault, check_fault, turn_fault, word_fault, step_fault, flag_word_fault, bundle_fault}
+use Rattle.clap.specs.Faults.{fault_of, level_fault, walk_fault, settle_fault, defaults_fault, check_fault, turn_fault, word_fault, step_fault}
+use Rattle.clap.specs.Faults.{flag_word_fault, bundle_fault}
 use Rattle.clap.specs.Kinds.{Kinds, or_else}
 use Rattle.clap.specs.declared.error.kind.ErrorKind.{ErrorKind}
 use Rattle.clap.proofs.FaultLemmas.{leaf_fault}
