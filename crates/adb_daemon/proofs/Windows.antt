@@ -7,7 +7,8 @@ use Rattle.std.proofs.lemmas.List.{append-nil, append_assoc, length-append, leng
 use Rattle.adb_daemon.specs.Service.{service_answer}
 use Rattle.adb_daemon.specs.declared.stream.Stream.{Stream}
 use Rattle.adb_daemon.specs.declared.writes.Outgoing.{Outgoing}
-use Rattle.adb_daemon.specs.Stream.{Row, StandsFor, MakesWrite, Writes, room_of, unsent, next_payload, row_past, writes_at, writes, row_past_all, row_written, wrte, packet_bytes, writes_bytes}
+use Rattle.adb_daemon.specs.Stream.{Row, StandsFor, MakesWrite, Writes, room_of, unsent, next_payload, row_past, writes_at, writes, row_past_all}
+use Rattle.adb_daemon.specs.Stream.{row_written, wrte, packet_bytes, writes_bytes}
 
 -- the writes where there is a payload, and where there is none
 with_more : ℕ → ℕ → Row → Bool → List (List ℕ)

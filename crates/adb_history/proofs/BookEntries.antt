@@ -186,33 +186,47 @@ module _ (older : History) (legal : IsLegal older) (b : IsBooked (state older) o
       let keeps = keeps_up_all (came_count (e ∷ older)) (plugged_count (e ∷ older)) m.state.drawn m.state after.streams in
       sym keeps.devices ∙ (all_devices (e ∷ older) l ∙ ap (λ (x : Bool). devices_if x (e ∷ older)) keeps.stopped)
 
-  booked_link : (t : ℕ) (e : Entry) → IsLegal (e ∷ older) → s.stopped ≡ false → (rule e s).state.stopped ≡ s.stopped
-      → ((k : ℕ) → k ≢ t → at k (rule e s).state.devices.rows ≡ at k s.devices.rows) → Leads t s (rule e s)
-      → ((k : ℕ) → RowStep Holds (s.clients k) ((rule e s).state.clients k) []) → Leaves s (rule e s)
-      → (book (e ∷ older)).killed ≡ (book older).killed
-      → (book (e ∷ older)).forwards ≡ led_by (devices_if (book older).killed (e ∷ older)) (book older).forwards
-      → ((k : ℕ) → said k (e ∷ older) ≡ said k older) → IsBooked (rule e s).state (e ∷ older)
-  booked_link t e l on stopped others leads holds leaves killed forwards same =
+  -- What the rule of an entry of a link leaves, and what the book says behind it.
+  record LinkTurn (t : ℕ) (e : Entry) : Type 0 where
+    stopped : (rule e s).state.stopped ≡ s.stopped
+    others : (k : ℕ) → k ≢ t → at k (rule e s).state.devices.rows ≡ at k s.devices.rows
+    leads : Leads t s (rule e s)
+    holds : (k : ℕ) → RowStep Holds (s.clients k) ((rule e s).state.clients k) []
+    leaves : Leaves s (rule e s)
+    killed : (book (e ∷ older)).killed ≡ (book older).killed
+    forwards : (book (e ∷ older)).forwards ≡ led_by (devices_if (book older).killed (e ∷ older)) (book older).forwards
+    same : (k : ℕ) → said k (e ∷ older) ≡ said k older
+
+  booked_link : (t : ℕ) (e : Entry) → IsLegal (e ∷ older) → s.stopped ≡ false → LinkTurn t e → IsBooked (rule e s).state (e ∷ older)
+  booked_link t e l on turn =
       let m = rule e s in
       let after = (shows_rule older tie (received older legal) shows e l.2).linked in
-      let led = led_after t s m shows.linked after others (b.led on) leads in
+      let led = led_after t s m shows.linked after turn.others (b.led on) turn.leads in
       let devices : m.state.devices ≡ devices_if (book older).killed (e ∷ older) =
-      rule_devices e l ∙ ap (λ (x : Bool). devices_if x (e ∷ older)) (stopped ∙ b.killed) in
+      rule_devices e l ∙ ap (λ (x : Bool). devices_if x (e ∷ older)) (turn.stopped ∙ b.killed) in
       record {
-        killed = stopped ∙ (b.killed ∙ sym killed);
+        killed = turn.stopped ∙ (b.killed ∙ sym turn.killed);
         forwards = led ∙ (ap (λ (d : DeviceTable). led_by d s.forwards) devices
-            ∙ (ap (led_by (devices_if (book older).killed (e ∷ older))) b.forwards ∙ sym forwards));
+            ∙ (ap (led_by (devices_if (book older).killed (e ∷ older))) b.forwards ∙ sym turn.forwards));
         led = λ still. subst (λ (f : List (ℕ × ForwardRow)). AreLed m.state.devices f) (sym led) (led_filter m.state.devices s.forwards);
-        clients = λ still c. subst (λ (r : Said). IsAs (m.state.clients c) r) (sym (same c))
-            (is_stays (s.clients c) (m.state.clients c) (said c older) (leaves.clients c) (holds c) (b.clients on c));
-        idle = λ off c. none_waits_after (s.clients c) (m.state.clients c) (leaves.clients c) (b.idle (sym stopped ∙ off) c);
-        free = free_after s m leaves b.free;
+        clients = λ still c. subst (λ (r : Said). IsAs (m.state.clients c) r) (sym (turn.same c))
+            (is_stays (s.clients c) (m.state.clients c) (said c older) (turn.leaves.clients c) (turn.holds c) (b.clients on c));
+        idle = λ off c. none_waits_after (s.clients c) (m.state.clients c) (turn.leaves.clients c) (b.idle (sym turn.stopped ∙ off) c);
+        free = free_after s m turn.leaves b.free;
       }
 
   pub booked_recv : (t : ℕ) (bytes : List ℕ) → IsLegal (Recv t bytes ∷ older) → IsBooked (receives t bytes s).state (Recv t bytes ∷ older)
   booked_recv t bytes l =
-      booked_link t (Recv t bytes) l l.2.0 (stopped (s.links t)) (others (s.links t)) (leads (s.links t))
-      (holds_receives came links (s.links t) t bytes s le tie.streams) (leaves_receives (s.links t) t bytes s b.free) refl refl (λ k. refl)
+      booked_link t (Recv t bytes) l l.2.0 (record {
+        stopped = stopped (s.links t);
+        others = others (s.links t);
+        leads = leads (s.links t);
+        holds = holds_receives came links (s.links t) t bytes s le tie.streams;
+        leaves = leaves_receives (s.links t) t bytes s b.free;
+        killed = refl;
+        forwards = refl;
+        same = λ k. refl;
+      })
     where
       le : t ≤ links
       le = omega (arith, l.2.1.1, tie.drawn)
@@ -234,8 +248,16 @@ module _ (older : History) (legal : IsLegal older) (b : IsBooked (state older) o
 
   pub booked_detach : (t : ℕ) (cause : Cause) → IsLegal (Detach t cause ∷ older) → IsBooked (unplugs t s).state (Detach t cause ∷ older)
   booked_detach t cause l =
-      booked_link t (Detach t cause) l l.2.0 (stopped (s.links t)) (others (s.links t)) (leads (s.links t)) (held (s.links t)) (leaves (s.links t))
-      refl refl (λ k. refl)
+      booked_link t (Detach t cause) l l.2.0 (record {
+        stopped = stopped (s.links t);
+        others = others (s.links t);
+        leads = leads (s.links t);
+        holds = held (s.links t);
+        leaves = leaves (s.links t);
+        killed = refl;
+        forwards = refl;
+        same = λ k. refl;
+      })
     where
       good : IsGood came links s
       good = record { streams = tie.streams; rows = tie.rows; linked = shows.linked }
@@ -355,23 +377,31 @@ module _ (older : History) (legal : IsLegal older) (b : IsBooked (state older) o
       go (Some row) = by row (is_connected row.transport s.devices) refl
 
   -- ---- one client
-  -- a rule of one client, by what becomes of it
-  pub booked_owns : (n : ℕ) (m : Made) (next : History) → s.stopped ≡ false → m.state.stopped ≡ s.stopped → m.state.devices ≡ s.devices → Owns n s m
-      → (book next).killed ≡ (book older).killed → m.state.forwards ≡ (book next).forwards → AreLed s.devices m.state.forwards
-      → IsAs (m.state.clients n) (said n next) → ((c : ℕ) → eqb n c ≡ false → said c next ≡ said c older) → IsBooked m.state next
-  booked_owns n m next on stopped devices owns killed forwards led here others = record {
-    killed = stopped ∙ (b.killed ∙ sym killed);
-    forwards = forwards;
-    led = λ still. subst (λ (d : DeviceTable). AreLed d m.state.forwards) (sym devices) led;
+  -- What a rule of one client leaves, and what the book says behind it.
+  pub record OwnTurn (n : ℕ) (m : Made) (next : History) : Type 0 where
+    pub stopped : m.state.stopped ≡ s.stopped
+    pub devices : m.state.devices ≡ s.devices
+    pub owns : Owns n s m
+    pub killed : (book next).killed ≡ (book older).killed
+    pub forwards : m.state.forwards ≡ (book next).forwards
+    pub led : AreLed s.devices m.state.forwards
+    pub here : IsAs (m.state.clients n) (said n next)
+    pub others : (c : ℕ) → eqb n c ≡ false → said c next ≡ said c older
+
+  pub booked_owns : (n : ℕ) (m : Made) (next : History) → s.stopped ≡ false → OwnTurn n m next → IsBooked m.state next
+  booked_owns n m next on turn = record {
+    killed = turn.stopped ∙ (b.killed ∙ sym turn.killed);
+    forwards = turn.forwards;
+    led = λ still. subst (λ (d : DeviceTable). AreLed d m.state.forwards) (sym turn.devices) turn.led;
     clients = λ still c. go c (eqb n c) refl;
-    idle = λ off c. let clash : true ≡ false = sym off ∙ (stopped ∙ on) in cc;
-    free = owns_free n s m owns b.free;
+    idle = λ off c. let clash : true ≡ false = sym off ∙ (turn.stopped ∙ on) in cc;
+    free = owns_free n s m turn.owns b.free;
   }
     where
       go : (c : ℕ) (same : Bool) → eqb n c ≡ same → IsAs (m.state.clients c) (said c next)
-      go c true e = subst (λ (k : ℕ). IsAs (m.state.clients k) (said k next)) (eqb-true n c e) here
-      go c false e = subst (λ (r : Said). IsAs (m.state.clients c) r) (sym (others c e))
-          (subst (λ (o : Option Client). IsAs o (said c older)) (sym (owns.others c e)) (b.clients on c))
+      go c true e = subst (λ (k : ℕ). IsAs (m.state.clients k) (said k next)) (eqb-true n c e) turn.here
+      go c false e = subst (λ (r : Said). IsAs (m.state.clients c) r) (sym (turn.others c e))
+          (subst (λ (o : Option Client). IsAs o (said c older)) (sym (turn.owns.others c e)) (b.clients on c))
 
   -- ---- end
   abbrev said_ended : ℕ → Bool → Said
@@ -386,11 +416,17 @@ module _ (older : History) (legal : IsLegal older) (b : IsBooked (state older) o
   booked_end n cause may =
       let m = client_ends n cause (s.clients n) s in
       let keeps = keeps_client_ends came links n cause (s.clients n) s tie.streams in
-      booked_owns n m (End n cause ∷ older) may.0 keeps.stopped keeps.devices (owns_ends n cause (s.clients n) s) refl (keeps.forwards ∙ b.forwards)
-      (subst (λ (f : List (ℕ × ForwardRow)). AreLed s.devices f) (sym keeps.forwards) (b.led may.0))
-      (subst (λ (r : Said). IsAs (m.state.clients n) r) (sym (ap (said_ended n) (eq-eqb n n refl)))
-      (idle_is (m.state.clients n) (said_ended n true) (ended_waits n cause (s.clients n) s refl) (over (has_joined n older)) refl))
-      (λ c e. ap (said_ended c) e)
+      booked_owns n m (End n cause ∷ older) may.0 (record {
+        stopped = keeps.stopped;
+        devices = keeps.devices;
+        owns = owns_ends n cause (s.clients n) s;
+        killed = refl;
+        forwards = keeps.forwards ∙ b.forwards;
+        led = subst (λ (f : List (ℕ × ForwardRow)). AreLed s.devices f) (sym keeps.forwards) (b.led may.0);
+        here = subst (λ (r : Said). IsAs (m.state.clients n) r) (sym (ap (said_ended n) (eq-eqb n n refl)))
+            (idle_is (m.state.clients n) (said_ended n true) (ended_waits n cause (s.clients n) s refl) (over (has_joined n older)) refl);
+        others = λ c e. ap (said_ended c) e;
+      })
     where
       over : (x : Bool) → (x && false && still_asks (asked n older)) ≡ false
       over true = refl
@@ -453,16 +489,20 @@ module _ (older : History) (legal : IsLegal older) (b : IsBooked (state older) o
       ap (λ (o : Option Want). bound_turn n port (devices_if (book older).killed older) o (book older)) waits
       ∙ (ap (λ (d : DeviceTable). bound_with n (bound_by want port d (book older).forwards) (book older)) (sym devices_now)
       ∙ ap (λ (f : List (ℕ × ForwardRow)). bound_with n (bound_by want port s.devices f) (book older)) (sym b.forwards)) in
-      booked_owns n m (Bound n port ∷ older) may.0 keeps.stopped keeps.devices
-      (owns_over n s next m (owns_all n s (quietly next) refl refl) (owns_closes_with n binding.reply next))
-      (ap (λ (x : Book). x.killed) same) (keeps.forwards ∙ sym (ap (λ (x : Book). x.forwards) same))
-      (subst (λ (f : List (ℕ × ForwardRow)). AreLed s.devices f) (sym keeps.forwards) (led_bound want port may.0))
-      (subst (λ (r : Said). IsAs (m.state.clients n) r)
-      (sym (ap (said_by n) same ∙ ap (λ (x : Bool). said_by n (record (bound_with n binding (book older)) { waits = λ k. cond x None ((book older).waits k) }))
-      (eq-eqb n n refl)))
-      (idle_is (m.state.clients n) (said_by n (record (bound_with n binding (book older)) { waits = λ k. None }))
-      (closed_with_row n binding.reply next) idle refl))
-      (λ c e. ap (said_by c) same ∙ ap (λ (x : Bool). record (said c older) { waits = cond x None ((book older).waits c) }) e)
+      booked_owns n m (Bound n port ∷ older) may.0 (record {
+        stopped = keeps.stopped;
+        devices = keeps.devices;
+        owns = owns_over n s next m (owns_all n s (quietly next) refl refl) (owns_closes_with n binding.reply next);
+        killed = ap (λ (x : Book). x.killed) same;
+        forwards = keeps.forwards ∙ sym (ap (λ (x : Book). x.forwards) same);
+        led = subst (λ (f : List (ℕ × ForwardRow)). AreLed s.devices f) (sym keeps.forwards) (led_bound want port may.0);
+        here = subst (λ (r : Said). IsAs (m.state.clients n) r)
+            (sym (ap (said_by n) same ∙ ap (λ (x : Bool). said_by n (record (bound_with n binding (book older)) { waits = λ k. cond x None ((book older).waits k) }))
+            (eq-eqb n n refl)))
+            (idle_is (m.state.clients n) (said_by n (record (bound_with n binding (book older)) { waits = λ k. None }))
+            (closed_with_row n binding.reply next) idle refl);
+        others = λ c e. ap (said_by c) same ∙ ap (λ (x : Bool). record (said c older) { waits = cond x None ((book older).waits c) }) e;
+      })
 
   pub booked_bound : (n port : ℕ) → May s (Bound n port) → IsBooked (bound n port s).state (Bound n port ∷ older)
   booked_bound n port may = go (s.clients n) refl

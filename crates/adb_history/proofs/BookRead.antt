@@ -108,12 +108,17 @@ module _ (older : History) (legal : IsLegal older) (b : IsBooked (state older) o
     read_other : (m : Made) → Owns n s m → StaysTables s m → m.state.forwards ≡ s.forwards → asks_now (m.state.clients n) ≡ false
         → (said n older).asking ≡ false → IsAs (m.state.clients n) (said n older) → IsBooked m.state (Read n bytes ∷ older)
     read_other m owns tables forwards none idle is =
-        booked_owns older legal b n m (Read n bytes ∷ older) may.0 tables.stopped tables.devices owns
-        (ap (λ (x : Book). x.killed) same ∙ or_false (book older).killed) (forwards ∙ (b.forwards ∙ sym (ap (λ (x : Book). x.forwards) same)))
-        (subst (λ (f : List (ℕ × ForwardRow)). AreLed s.devices f) (sym forwards) (b.led may.0))
-        (is_other (m.state.clients n) (said n older) (said n (Read n bytes ∷ older)) none (ap (λ (r : Said). r.asking) here)
-        (ap (λ (r : Said). r.waits) here) is)
-        (apart_said (read_turn n d (asked n older) None (book older)) (asked n older) None d refl same)
+        booked_owns older legal b n m (Read n bytes ∷ older) may.0 (record {
+          stopped = tables.stopped;
+          devices = tables.devices;
+          owns = owns;
+          killed = ap (λ (x : Book). x.killed) same ∙ or_false (book older).killed;
+          forwards = forwards ∙ (b.forwards ∙ sym (ap (λ (x : Book). x.forwards) same));
+          led = subst (λ (f : List (ℕ × ForwardRow)). AreLed s.devices f) (sym forwards) (b.led may.0);
+          here = is_other (m.state.clients n) (said n older) (said n (Read n bytes ∷ older)) none (ap (λ (r : Said). r.asking) here)
+              (ap (λ (r : Said). r.waits) here) is;
+          others = apart_said (read_turn n d (asked n older) None (book older)) (asked n older) None d refl same;
+        })
       where
         d : DeviceTable
         d = devices_if (book older).killed older
@@ -213,16 +218,19 @@ module _ (older : History) (legal : IsLegal older) (b : IsBooked (state older) o
           let forwards : m.state.forwards ≡ forwards_by p.next s.devices s.forwards =
           goes_on_forwards came links n p.next (replied_state n bytes client s
           (asked n older) is asking same_asked.rest same_asked.selected open_next) le within in
-          booked_owns older legal b n m (Read n bytes ∷ older) may.0 tables.stopped tables.devices
-          (owns_asks n bytes client s (asked n older) is asking same_asked.rest same_asked.selected open_next on)
-          (ap (λ (x : Book). x.killed) same ∙ (ap (λ (x : Bool). (book older).killed || x) on ∙ or_false (book older).killed))
-          (forwards ∙ (ap (forwards_by p.next s.devices) b.forwards ∙ sym (ap (λ (x : Book). x.forwards) same)))
-          (subst (λ (f : List (ℕ × ForwardRow)). AreLed s.devices f) (sym forwards) (led_next p.next s.devices s.forwards (b.led may.0)))
-          (subst (λ (r : Said). IsAs (m.state.clients n) r) (sym here)
-          (asks_is n bytes client s (asked n older) is asking same_asked.rest same_asked.selected open_next
-          (record { asking = still_asks q; asked = q; input = bytes_asked n older ++ bytes; waits = wanted_by p.next None })
-          (bytes_asked n older) on same_asked.unused refl refl refl refl))
-          (apart_said (read_turn n s.devices q p.next (book older)) q p.next s.devices refl same)
+          booked_owns older legal b n m (Read n bytes ∷ older) may.0 (record {
+            stopped = tables.stopped;
+            devices = tables.devices;
+            owns = owns_asks n bytes client s (asked n older) is asking same_asked.rest same_asked.selected open_next on;
+            killed = ap (λ (x : Book). x.killed) same ∙ (ap (λ (x : Bool). (book older).killed || x) on ∙ or_false (book older).killed);
+            forwards = forwards ∙ (ap (forwards_by p.next s.devices) b.forwards ∙ sym (ap (λ (x : Book). x.forwards) same));
+            led = subst (λ (f : List (ℕ × ForwardRow)). AreLed s.devices f) (sym forwards) (led_next p.next s.devices s.forwards (b.led may.0));
+            here = subst (λ (r : Said). IsAs (m.state.clients n) r) (sym here)
+                (asks_is n bytes client s (asked n older) is asking same_asked.rest same_asked.selected open_next
+                (record { asking = still_asks q; asked = q; input = bytes_asked n older ++ bytes; waits = wanted_by p.next None })
+                (bytes_asked n older) on same_asked.unused refl refl refl refl);
+            others = apart_said (read_turn n s.devices q p.next (book older)) q p.next s.devices refl same;
+          })
 
       read_kill : kills p.next ≡ true → IsBooked (asks p n s).state (Read n bytes ∷ older)
       read_kill off =

@@ -1,100 +1,32 @@
 -- Where no stream may send, the up rule makes nothing, and hand-outs leave it so.
-use Rattle.std.proofs.Common.{ℕ, ◌++◌, ◌&&◌, ◌≡◌, ◌≢◌, Bool, true, false, cond, List, [], ◌∷◌, length, drop, min, Option, Some, None, refl, sym, ◌∙◌, ap, subst, zero, suc, eqb, ◌⊎◌, inl, inr}
+use Rattle.std.proofs.Common.{ℕ, ◌++◌, ◌&&◌, ◌≡◌, ◌≢◌, Bool, true, false, cond, List, [], ◌∷◌, length, drop, min, Option, Some, None, refl, sym, ◌∙◌}
+use Rattle.std.proofs.Common.{ap, subst, zero, suc, eqb, ◌⊎◌, inl, inr}
 use Rattle.std.specs.Prelude.{option_and_then}
 use Rattle.std.proofs.lemmas.Bool.{ne_eqb, eq-eqb, cases_eq}
 use Rattle.adb_outside.specs.Tables.{Rows, change_row}
-use Rattle.adb_registry.specs.Registry.{DeviceTable}
 use Rattle.adb_stream.specs.declared.flow.Flow.{Flow}
 use Rattle.adb_stream.specs.declared.flow.Flow.TheVariants.{One, Credit}
 use Rattle.adb_stream.specs.declared.row.Stream.{Stream}
 use Rattle.adb_client.specs.declared.phase.Phase.{Phase}
 use Rattle.adb_client.specs.declared.phase.Phase.TheVariants.{Asking, Opening, Streaming, Binding, Tracking, Closing, Gone}
-use Rattle.adb_history.specs.Rows.{Client, State, to_client, to_stream, with_held, with_due, with_stream_part}
-use Rattle.adb_history.specs.Events.{Made, quietly, then_also}
+use Rattle.adb_history.specs.Rows.{Client, State, to_client, to_stream, with_due, with_stream_part}
+use Rattle.adb_history.specs.Events.{quietly}
 use Rattle.adb_history.specs.Links.{maxdata_of}
 use Rattle.adb_history.specs.Clients.{closing_with}
-use Rattle.adb_history.specs.Handing.{unmarked, lists_first, left_in, hands, to_hand, credit_back, handed_to, tells_credit, tells_handed, stream_hands, stream_left, client_left, takes_of, puts_to, puts, sends}
+use Rattle.adb_history.specs.Handing.{unmarked, lists_first, left_in, hands, to_hand, credit_back, handed_to, tells_credit, tells_handed}
+use Rattle.adb_history.specs.Handing.{stream_hands, stream_left, client_left, takes_of, puts_to, puts, sends}
 use Rattle.adb_history.specs.Tracking.{offered}
-use Rattle.adb_history.specs.Flow.{payloads, is_over, is_idle, is_streaming, noted, sends_up, up_client, up_stream, up, up_all, closes_if, with_flow}
-
--- what a stream that is open may send: nothing, nor its end
-pub record SendsNothing (devices : DeviceTable) (stream : Stream) (client : Client) : Type 0 where
-  pub nothing : payloads stream.part.flow (maxdata_of stream.link devices) client.held ≡ []
-  pub goes_on : is_over client.about.ended client.held stream.part.flow ≡ false
+use Rattle.adb_history.specs.Flow.{payloads, is_over, is_idle, is_streaming, up_all, with_flow}
+use Rattle.adb_history.proofs.Quiet.{SendsNothing, all_still}
 
 -- no stream may send
 abbrev pub IsCalm : State → Type 0
 IsCalm s = (l : ℕ) (stream : Stream) (client : Client) → s.streams l ≡ Some stream → s.clients stream.client ≡ Some client
-    → is_streaming l client.about.phase ≡ true → SendsNothing s.devices stream client
-
--- a row that is changed to itself
-same_rows : {A : Type 0} (rows : Rows (Option A)) (n : ℕ) (f : A → Option A) (row : A) → rows n ≡ Some row → f row ≡ Some row
-    → change_row n (option_and_then f) rows ≡ rows
-same_rows rows n f row is same i q = at_place q i
-  where
-    at_place : (q : ℕ) → change_row n (option_and_then f) rows q ≡ rows q
-    at_place q = by_place (cases_eq n q)
-      where
-        by_place : ◌⊎◌ (n ≡ q) (n ≢ q) → change_row n (option_and_then f) rows q ≡ rows q
-        by_place (inl here) =
-            let there : rows q ≡ Some row = ap rows (sym here) ∙ is in
-            ap (λ b. cond b (option_and_then f (rows q)) (rows q)) (eq-eqb n q here) ∙ (ap (option_and_then f) there ∙ (same ∙ sym there))
-        by_place (inr other) = ap (λ b. cond b (option_and_then f (rows q)) (rows q)) (ne_eqb n q other)
-
-noted_nothing : (l : ℕ) (stream : Stream) (client : Client) (s : State) → s.streams l ≡ Some stream → s.clients stream.client ≡ Some client
-    → noted l stream client.held [] s ≡ s
-noted_nothing l stream client s is here =
-    let streams : change_row l (option_and_then (with_stream_part (with_flow stream.part.flow stream.part))) s.streams ≡ s.streams =
-    same_rows s.streams l (with_stream_part (with_flow stream.part.flow stream.part)) stream is refl in
-    let clients : change_row stream.client (option_and_then (with_held client.held)) s.clients ≡ s.clients =
-    same_rows s.clients stream.client (with_held client.held) client here refl in
-    ap (λ (rows : Rows (Option Stream)). record s {
-      clients = change_row stream.client (option_and_then (with_held client.held)) s.clients;
-      streams = rows;
-    }) streams ∙ ap (λ (rows : Rows (Option Client)). record s { clients = rows }) clients
-
-closes_nothing : (l : ℕ) (o : Option Stream) (s : State) → closes_if false l o s ≡ quietly s
-closes_nothing l None s = refl
-closes_nothing l (Some stream) s = refl
-
-sends_none : (l : ℕ) (stream : Stream) (client : Client) (s : State) → s.streams l ≡ Some stream → s.clients stream.client ≡ Some client
-    → SendsNothing s.devices stream client → sends_up l stream client (payloads stream.part.flow (maxdata_of stream.link s.devices) client.held) s ≡ quietly s
-sends_none l stream client s is here calm =
-    ap (λ (ps : List (List ℕ)). sends_up l stream client ps s) calm.nothing ∙ (over calm.goes_on ∙ ap quietly (noted_nothing l stream client s is here))
-  where
-    left : State
-    left = noted l stream client.held [] s
-
-    over : is_over client.about.ended client.held stream.part.flow ≡ false → sends_up l stream client [] s ≡ quietly (noted l stream client.held [] s)
-    over goes_on =
-        let same : closes_if (is_over client.about.ended client.held stream.part.flow) l ((noted l stream client.held [] s).streams l)
-        (noted l stream client.held [] s)
-        ≡ quietly (noted l stream client.held [] s) =
-        ap (λ b. closes_if b l ((noted l stream client.held [] s).streams l) (noted l stream client.held [] s)) goes_on
-        ∙ closes_nothing l ((noted l stream client.held [] s).streams l) (noted l stream client.held [] s) in
-        ap (λ (m : Made). record { state = m.state; told = m.told }) same
-
-calm_up : (l : ℕ) (s : State) → IsCalm s → up l s ≡ quietly s
-calm_up l s calm = by_stream (s.streams l) refl
-  where
-    by_client : (stream : Stream) → s.streams l ≡ Some stream → (o : Option Client) → s.clients stream.client ≡ o → up_client l stream o s ≡ quietly s
-    by_client stream is None none = refl
-    by_client stream is (Some client) here = by_phase (is_streaming l client.about.phase) refl
-      where
-        by_phase : (b : Bool) → is_streaming l client.about.phase ≡ b
-            → cond b (sends_up l stream client (payloads stream.part.flow (maxdata_of stream.link s.devices) client.held) s) (quietly s) ≡ quietly s
-        by_phase true open_now = sends_none l stream client s is here (calm l stream client is here open_now)
-        by_phase false closed = refl
-
-    by_stream : (o : Option Stream) → s.streams l ≡ o → up_stream l o s ≡ quietly s
-    by_stream None none = refl
-    by_stream (Some stream) is = by_client stream is (s.clients stream.client) refl
+    → is_streaming l client.about.phase ≡ true → SendsNothing s.devices client stream
 
 -- the up rule makes nothing
 pub calm_ups : (k : ℕ) (s : State) → IsCalm s → up_all k s ≡ quietly s
-calm_ups zero s calm = refl
-calm_ups (suc k) s calm = ap (λ (m : Made). then_also m (up (suc k))) (calm_ups k s calm)
-    ∙ ap (λ (m : Made). record { state = m.state; told = m.told }) (calm_up (suc k) s calm)
+calm_ups k s calm = all_still k s (λ m some. record { calm = λ x. calm m x.stream x.client x.there x.here x.streaming })
 
 -- ---- hand-outs
 -- a client that changed and has its stream open has as before what is sent of it
@@ -127,7 +59,7 @@ pub calm_to_client : (c : ℕ) (f : Client → Option Client) (s : State)
     → IsCalm s → IsCalm (to_client c f s)
 calm_to_client c f s keeps calm l stream client is here streaming = by_place (cases_eq c stream.client)
   where
-    by_row : WasChanged f (s.clients stream.client) client → SendsNothing s.devices stream client
+    by_row : WasChanged f (s.clients stream.client) client → SendsNothing s.devices client stream
     by_row was =
         let same = keeps l was.old client was.to streaming in
         let old = calm l stream was.old is was.is same.streaming in
@@ -137,7 +69,7 @@ calm_to_client c f s keeps calm l stream client is here streaming = by_place (ca
               ∙ (ap (λ ended. is_over ended was.old.held stream.part.flow) same.ended ∙ old.goes_on);
         }
 
-    by_place : ◌⊎◌ (c ≡ stream.client) (c ≢ stream.client) → SendsNothing s.devices stream client
+    by_place : ◌⊎◌ (c ≡ stream.client) (c ≢ stream.client) → SendsNothing s.devices client stream
     by_place (inl same) = by_row (was_changed f (s.clients stream.client) client
         (sym (ap (λ b. cond b (option_and_then f (s.clients stream.client)) (s.clients stream.client)) (eq-eqb c stream.client same)) ∙ here))
     by_place (inr other) = calm l stream client is
@@ -160,7 +92,7 @@ pub calm_to_stream : (l : ℕ) (stream : Stream) (flow : Flow) (s : State) → s
     → IsCalm s → IsCalm (to_stream l (with_stream_part (with_flow flow stream.part)) s)
 calm_to_stream l stream flow s is same calm k new client there here streaming = by_place (cases_eq l k)
   where
-    by_row : WasChanged (with_stream_part (with_flow flow stream.part)) (s.streams k) new → l ≡ k → SendsNothing s.devices new client
+    by_row : WasChanged (with_stream_part (with_flow flow stream.part)) (s.streams k) new → l ≡ k → SendsNothing s.devices client new
     by_row was equal =
         let old_is : was.old ≡ stream = (let both : Some was.old ≡ Some stream = sym was.is ∙ (ap s.streams (sym equal) ∙ is) in cc) in
         let made : new ≡ record was.old { part = with_flow flow stream.part } =
@@ -169,12 +101,12 @@ calm_to_stream l stream flow s is same calm k new client there here streaming = 
         ∙ ap (λ (x : Stream). record x { part = with_flow flow stream.part }) old_is in
         let row : s.clients stream.client ≡ Some client = ap (λ (x : Stream). s.clients x.client) (sym shaped) ∙ here in
         let old = calm l stream client is row (ap (λ n. is_streaming n client.about.phase) equal ∙ streaming) in
-        subst (λ (x : Stream). SendsNothing s.devices x client) (sym shaped) (record {
+        subst (λ (x : Stream). SendsNothing s.devices client x) (sym shaped) (record {
           nothing = same.payloads (maxdata_of stream.link s.devices) client.held ∙ old.nothing;
           goes_on = same.over client.about.ended client.held ∙ old.goes_on;
         })
 
-    by_place : ◌⊎◌ (l ≡ k) (l ≢ k) → SendsNothing s.devices new client
+    by_place : ◌⊎◌ (l ≡ k) (l ≢ k) → SendsNothing s.devices client new
     by_place (inl equal) = by_row (was_changed (with_stream_part (with_flow flow stream.part)) (s.streams k) new
         (sym (ap (λ b. cond b (option_and_then (with_stream_part (with_flow flow stream.part)) (s.streams k)) (s.streams k)) (eq-eqb l k equal)) ∙ there)) equal
     by_place (inr other) = calm k new client

@@ -51,6 +51,20 @@ pub record IsLeft (t k : ℕ) (before after : State) : Type 0 where
   pub same : (m : ℕ) (x : Stream) → after.streams m ≡ Some x → before.streams m ≡ Some x
   pub done : (m : ℕ) (x : Stream) → 0 < m → m ≤ k → after.streams m ≡ Some x → x.link ≢ t
 
+-- one stream more was looked at, and is none of the link
+looked_on : (t k : ℕ) (s now : State) → IsLeft t k s now → ((x : Stream) → now.streams (suc k) ≡ Some x → x.link ≢ t) → IsLeft t (suc k) s now
+looked_on t k s now h other = record {
+  devices = h.devices;
+  links = h.links;
+  forwards = h.forwards;
+  same = h.same;
+  done = λ m x some within e. done m x some within e (cases_eq m (suc k));
+}
+  where
+    done : (m : ℕ) (x : Stream) → 0 < m → m ≤ suc k → now.streams m ≡ Some x → (m ≡ suc k) ⊎ (m ≡ suc k → ⊥) → x.link ≢ t
+    done m x some within e (inl same) = other x (ap now.streams (sym same) ∙ e)
+    done m x some within e (inr apart) = h.done m x some (omega (arith, within, apart)) e
+
 ends_left : (t : ℕ) (ending : Ending) (s : State) (k : ℕ) → IsLeft t k s (ends_of t k ending s).state
 ends_left t ending s zero = record {
   devices = refl;
@@ -62,19 +76,7 @@ ends_left t ending s zero = record {
 ends_left t ending s (suc k) = go (ends_of t k ending s).state (ends_left t ending s k) ((ends_of t k ending s).state.streams (suc k)) refl
   where
     go : (now : State) → IsLeft t k s now → (o : Option Stream) → now.streams (suc k) ≡ o → IsLeft t (suc k) s (ends_if_of t (suc k) ending o now).state
-    go now h None is =
-        record {
-          devices = h.devices;
-          links = h.links;
-          forwards = h.forwards;
-          same = h.same;
-          done = λ m x some within e. done m x some within e
-              (cases_eq m (suc k));
-        }
-      where
-        done : (m : ℕ) (x : Stream) → 0 < m → m ≤ suc k → now.streams m ≡ Some x → (m ≡ suc k) ⊎ (m ≡ suc k → ⊥) → x.link ≢ t
-        done m x some within e (inl same) = absurd (let clash : None ≡ Some x = sym is ∙ (ap now.streams (sym same) ∙ e) in cc)
-        done m x some within e (inr apart) = h.done m x some (omega (arith, within, apart)) e
+    go now h None is = looked_on t k s now h (λ x e. absurd (let clash : None ≡ Some x = sym is ∙ e in cc))
     go now h (Some stream) is = test (nat_eq stream.link t) refl
       where
         gone : State
@@ -103,21 +105,9 @@ ends_left t ending s (suc k) = go (ends_of t k ending s).state (ends_left t endi
             })
 
         stays : stream.link ≢ t → IsLeft t (suc k) s now
-        stays other =
-            record {
-              devices = h.devices;
-              links = h.links;
-              forwards = h.forwards;
-              same = h.same;
-              done = λ m x some within e. done m x some within e
-                  (cases_eq m (suc k));
-            }
-          where
-            done : (m : ℕ) (x : Stream) → 0 < m → m ≤ suc k → now.streams m ≡ Some x → (m ≡ suc k) ⊎ (m ≡ suc k → ⊥) → x.link ≢ t
-            done m x some within e (inl same) =
-                let row : stream ≡ x = (let both : Some stream ≡ Some x = sym is ∙ (ap now.streams (sym same) ∙ e) in cc) in
-                λ f. other (ap (λ (y : Stream). y.link) row ∙ f)
-            done m x some within e (inr apart) = h.done m x some (omega (arith, within, apart)) e
+        stays other = looked_on t k s now h (λ x e.
+            let row : stream ≡ x = (let both : Some stream ≡ Some x = sym is ∙ e in cc) in
+            λ f. other (ap (λ (y : Stream). y.link) row ∙ f))
 
         test : (b : Bool) → nat_eq stream.link t ≡ b → IsLeft t (suc k) s (cond b (ends_row (suc k) ending stream now) (quietly now)).state
         test true e = ended

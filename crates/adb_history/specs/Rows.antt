@@ -8,7 +8,7 @@ use Rattle.adb_stream.specs.declared.row.Part.{Part}
 use Rattle.adb_stream.specs.Stream.{with_part}
 use Rattle.adb_client.specs.declared.about.About.{About}
 use Rattle.adb_client.specs.declared.phase.Phase.{Phase}
-use Rattle.adb_client.specs.declared.phase.Phase.TheVariants.{Asking}
+use Rattle.adb_client.specs.Client.{new_about}
 
 -- A client. held: what came from it and is not used yet, which is unread while it asks, and is to be sent up from the moment that it asked for a
 -- service; due: what is still to be handed out to it.
@@ -50,20 +50,7 @@ start = record {
 
 -- a client that came just now, through a forward or not
 abbrev pub new_client : Bool → ℕ → Client
-new_client forwarded number = record {
-  about = record {
-    number = number;
-    forwarded = forwarded;
-    phase = Asking;
-    selected = None;
-    ended = false;
-    mark = false;
-    long = false;
-    want = None;
-  };
-  held = [];
-  due = [];
-}
+new_client forwarded number = record { about = new_about number forwarded; held = []; due = [] }
 
 -- a link that came just now
 abbrev pub new_link : Link

@@ -1,5 +1,6 @@
 -- The fault of answer bytes is their first byte after which no answer can follow.
-use Rattle.std.proofs.Common.{ℕ, zero, suc, ◌+◌, ◌^◌, ◌≡◌, ◌<◌, ◌≤◌, Bool, true, false, List, [], ◌∷◌, ◌++◌, length, take, drop, Option, Some, None, sym, refl, ◌∙◌, ap, subst, arith}
+use Rattle.std.proofs.Common.{ℕ, zero, suc, ◌+◌, ◌^◌, ◌≡◌, ◌<◌, ◌≤◌, Bool, true, false, List, [], ◌∷◌, ◌++◌, length, take, drop, Option, Some, None}
+use Rattle.std.proofs.Common.{sym, refl, ◌∙◌, ap, subst, arith}
 use Rattle.std.specs.Prelude.{if◌then◌else◌}
 use Rattle.std.proofs.Math.Seq.{take-append-add}
 use Rattle.std.proofs.lemmas.List.{length-append, length-take, length-drop, take-take, take_all, take-append-drop}
@@ -18,7 +19,8 @@ use Rattle.adb_sync_client.specs.declared.step.Step.{Step}
 use Rattle.adb_sync_client.specs.declared.step.Step.TheVariants as steps
 use Rattle.adb_sync_client.specs.declared.told.Next.{Next}
 use Rattle.adb_sync_client.specs.declared.told.Next.TheVariants.{GoesOn, Done, Refused}
-use Rattle.adb_sync_client.specs.Expected.{may_begin, stray_behind, stray_in, whole_front, or_stray, expected_front, expected_answer, past_expected, expected_start}
+use Rattle.adb_sync_client.specs.Expected.{may_begin, stray_behind, stray_in, whole_front, or_stray, expected_front, expected_answer, past_expected}
+use Rattle.adb_sync_client.specs.Expected.{expected_start}
 use Rattle.adb_sync_client.specs.Framed.{answer_is_long, expected_are_framed}
 use Rattle.adb_sync_client.specs.Values.{Said, told_nothing, told_by, next_of, ended_or, meant, answer_value}
 

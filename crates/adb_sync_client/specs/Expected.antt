@@ -1,5 +1,6 @@
 -- What a request is answered with (SYNC.TXT), byte by byte.
-use Rattle.std.specs.Prelude.{ℕ, nat_le, ◌||◌, ◌&&◌, min, if◌then◌else◌, Bool, true, false, List, [], ◌∷◌, ◌++◌, length, take, Option, Some, None, codes, bytes_eq}
+use Rattle.std.specs.Prelude.{ℕ, nat_le, ◌||◌, ◌&&◌, min, if◌then◌else◌, Bool, true, false, List, [], ◌∷◌, ◌++◌, length, take, Option, Some, None}
+use Rattle.std.specs.Prelude.{codes, bytes_eq}
 use Rattle.adb_outside.specs.declared.framer.Front.{Front}
 use Rattle.adb_outside.specs.declared.framer.Front.TheVariants.{More, Bad, Whole}
 use Rattle.adb_outside.specs.Framing.{offset_past}

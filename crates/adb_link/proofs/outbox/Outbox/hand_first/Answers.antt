@@ -11,15 +11,8 @@ invariant_of-self-else-taken-len c =
     let gone : left ≡ i.owed - length c.in-Some.packet = omega (arith, c.min-taken.ensures, c.if-taken-len.false, c.len-len.ensures) in
     let fewer : deque_len rest + 1 ≡ deque_len i.packets = omega (arith, c.in-Some.ensures.cases) in
     subst (λ places. IsBox rest.items left i.spare (deque_len rest) places) (sym c.in-Some.ensures.capacity)
-    (box_popped i.packets.items i.owed i.spare (deque_len i.packets) (deque_capacity i.packets) c.self.invariant (record {
-      packet = c.in-Some.packet;
-      rest = rest.items;
-      is = c.in-Some.ensures.items;
-      left = left;
-      gone = gone;
-      less = deque_len rest;
-      fewer = fewer;
-    }))
+    (box_popped i.packets.items i.owed i.spare (deque_len i.packets) (deque_capacity i.packets) c.self.invariant
+    (record { packet = _; rest = _; is = c.in-Some.ensures.items; left = left; gone = gone; less = _; fewer = fewer }))
 
 pub invariant_of-self-else-taken-len-2 : goal.invariant_of-self-else-taken-len-2
 invariant_of-self-else-taken-len-2 c =
@@ -29,12 +22,5 @@ invariant_of-self-else-taken-len-2 c =
     let gone : left ≡ i.owed - length c.in-Some.packet = omega (arith, c.min-taken.ensures, c.if-taken-len.false, c.len-len.ensures) in
     let fewer : deque_len rest + 1 ≡ deque_len i.packets = omega (arith, c.in-Some.ensures.cases) in
     subst (λ places. IsBox rest.items left i.spare (deque_len rest) places) (sym c.in-Some.ensures.capacity)
-    (box_popped i.packets.items i.owed i.spare (deque_len i.packets) (deque_capacity i.packets) c.self.invariant (record {
-      packet = c.in-Some.packet;
-      rest = rest.items;
-      is = c.in-Some.ensures.items;
-      left = left;
-      gone = gone;
-      less = deque_len rest;
-      fewer = fewer;
-    }))
+    (box_popped i.packets.items i.owed i.spare (deque_len i.packets) (deque_capacity i.packets) c.self.invariant
+    (record { packet = _; rest = _; is = c.in-Some.ensures.items; left = left; gone = gone; less = _; fewer = fewer }))

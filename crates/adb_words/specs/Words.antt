@@ -1,0 +1,50 @@
+-- Which words are a command, and which one.
+use Rattle.std.specs.Prelude.{ℕ, ◌^◌, ◌-◌, ◌==◌, ◌&&◌, Bool, true, not, nat_le, if◌then◌else◌, List, [], ◌∷◌, map, String}
+use Rattle.std.specs.Prelude.{string_bytes, codes, bytes_eq, Option, Some, None, option_and_then}
+use Rattle.std.specs.List.{list_all}
+use Rattle.adb_outside.specs.Decimal.{number_in}
+use Rattle.adb_words.specs.declared.command.Command.{Command}
+use Rattle.adb_words.specs.declared.command.Command.TheVariants.{Replay, Gen}
+use Rattle.adb_words.specs.declared.command.TheConstants.{MAX_STREAMS, MAX_DIGITS}
+
+-- the bytes of words
+abbrev pub texts : {A : Type 0} → List (String A) → List (List ℕ)
+texts words = map string_bytes words
+
+-- the number of 1 to 20 decimal digits that a text is, between these
+abbrev pub number_within : ℕ → ℕ → List ℕ → Option ℕ
+number_within least most text =
+    option_and_then (λ n. if nat_le least n && nat_le n most then Some n else None) (number_in MAX_DIGITS text)
+
+-- `replay` has no words behind it
+abbrev pub replay_of : List (List ℕ) → Option Command
+replay_of [] = Some Replay
+replay_of (word ∷ words) = None
+
+-- a load, where both numbers are there
+abbrev pub load_of : Option ℕ → Option ℕ → Option Command
+load_of (Some seed) (Some streams) = Some (Gen seed streams)
+load_of _ _ = None
+
+-- `gen` has a seed of 64 bits and the number of streams, at least 1
+abbrev pub gen_of : List (List ℕ) → Option Command
+gen_of (seed ∷ streams ∷ []) = load_of (number_within 0 (2 ^ 64 - 1) seed) (number_within 1 MAX_STREAMS streams)
+gen_of _ = None
+
+-- the command of a name, with the words behind it
+abbrev pub command_named : List ℕ → List (List ℕ) → Option Command
+command_named name words =
+    if bytes_eq name (codes "replay") then replay_of words else (if bytes_eq name (codes "gen") then gen_of words else None)
+
+-- the command that words are
+abbrev pub command_of : List (List ℕ) → Option Command
+command_of [] = None
+command_of (name ∷ words) = command_named name words
+
+-- a word that begins with a hyphen is an option, or nothing
+abbrev pub is_operand : List ℕ → Bool
+is_operand [] = true
+is_operand (byte ∷ bytes) = not (byte == 45)
+
+abbrev pub are_operands : {A : Type 0} → List (String A) → Bool
+are_operands words = list_all (λ word. is_operand (string_bytes word)) words

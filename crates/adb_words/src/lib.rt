@@ -1,0 +1,12 @@
+//! The words of a command line: the command that they are.
+#![tactic(auto)]
+
+mod command;
+mod load;
+mod operands;
+#[cfg(test)]
+mod tests;
+mod words;
+
+pub use command::{Command, WordsError};
+pub use words::read_words;

@@ -1,0 +1,56 @@
+//! Words without options, read by a simple command.
+
+ghost use Rattle.std.specs.Prelude.{◌≡◌, ◌≢◌, ◌⊎◌, [], true, false, Err, IfOk};
+ghost use Rattle.adb_words.specs.Words.{are_operands, is_operand, texts};
+ghost use Rattle.clap.specs.Words.{HasMatchesOf, app_of, fault_of, is_simple_and_free, kind_of};
+
+use crate::command::WordsError;
+use clap::error::ErrorKind;
+use clap::{ArgMatches, Command, Error};
+
+/// What a command that has no options makes of words. A word that begins with a hyphen is refused,
+/// `--` among them, which the command itself would take.
+pub fn operands_of<'a>(
+    command: Command<'a>,
+    words: &'a [String],
+) -> Result<ArgMatches<'a>, WordsError>
+    requires { is_simple_and_free (app_of command) ≡ true }
+    ensures found { IfOk result (HasMatchesOf (app_of command.entry) (texts words.entry.now)) }
+    ensures taken { IfOk result (λ _. (are_operands words.entry.now ≡ true)
+        × (fault_of (app_of command.entry) (texts words.entry.now) ≡ [])) }
+    ensures refused { result ≡ Err WordsError.Usage
+        → (are_operands words.entry.now ≡ false)
+        ⊎ (fault_of (app_of command.entry) (texts words.entry.now) ≢ []) }
+{
+    if !are_operands(words) {
+        return Err(WordsError::Usage);
+    }
+    match command.try_get_matches_from(words) {
+        Ok(matches) => Ok(matches),
+        Err(error) => Err(error_of(error)),
+    }
+}
+
+/// Whether no word begins with a hyphen.
+fn are_operands(words: &[String]) -> bool
+    ensures { result ≡ are_operands words.now }
+{
+    words.iter().all(|word| is_operand(word.as_str()))
+}
+
+/// Whether a word does not begin with a hyphen.
+fn is_operand(word: &str) -> bool
+    ensures { result ≡ is_operand word.now }
+{
+    word.as_bytes().first() != Some(&b'-')
+}
+
+/// Why a command refused words.
+fn error_of(error: Error) -> WordsError
+    ensures usage { result ≡ WordsError.Usage → kind_of error ≢ ErrorKind.OutOfMemory }
+{
+    match error.kind() {
+        ErrorKind::OutOfMemory => WordsError::OutOfMemory,
+        _ => WordsError::Usage,
+    }
+}
