@@ -1,0 +1,6 @@
+pub mod Going
+pub mod Openings
+pub mod Hearing
+pub mod Drawing
+pub mod Births
+pub mod Born
