@@ -1,25 +1,33 @@
 -- The streams of every legal history are its births.
-use Rattle.std.proofs.Common.{◌≡◌, ◌≢◌, ℕ, ◌+◌, ◌≤◌, suc, Bool, true, false, cond, List, [], ◌∷◌, ◌++◌, length, drop, Option, Some, None, refl, sym, ap, subst, ◌∙◌, inl, inr, eqb, arith}
+use Rattle.std.proofs.Common.{◌≡◌, ◌≢◌, ℕ, ◌+◌, ◌≤◌, suc, Bool, true, false, cond, List, [], ◌∷◌, ◌++◌, length, drop, Option, Some, None, refl, sym, ap}
+use Rattle.std.proofs.Common.{subst, ◌∙◌, inl, inr, eqb, arith}
 use Rattle.std.specs.Prelude.{min}
 use Rattle.std.proofs.lemmas.Bool.{eqb-true, eqb-false}
 use Rattle.std.proofs.lemmas.List.{append-nil, length-append, drop-append-le}
 use Rattle.std.proofs.Math.Seq.{drop-length}
 use Rattle.adb_outside.specs.Tables.{Rows}
 use Rattle.adb_outside.specs.declared.kinds.Kind.{Kind}
+use Rattle.adb_registry.specs.Registry.{DeviceTable}
+use Rattle.adb_wire.specs.declared.headers.TheConstants.{MAX_PAYLOAD}
 use Rattle.adb_wire.specs.declared.packets.Packet.{Packet}
 use Rattle.adb_stream.specs.Flow.{new_flow}
 use Rattle.adb_stream.specs.Stream.{new_stream}
 use Rattle.adb_stream.specs.declared.row.Stream.{Stream}
 use Rattle.adb_capture.specs.declared.entry.Entry.{Entry}
 use Rattle.adb_capture.specs.declared.entry.Entry.TheVariants.{Join, Enter, Read, End, Bound, Attach, Recv, Detach, Put, Send}
+use Rattle.adb_history.specs.Events.{Made}
 use Rattle.adb_history.specs.Rows.{Link, State}
 use Rattle.adb_history.specs.Streams.{stream_ids}
 use Rattle.adb_history.specs.Packets.{receives_on}
-use Rattle.adb_history.specs.Machine.{History, state, rule, ups, step, May, IsLegal}
+use Rattle.adb_history.specs.Machine.{History, state, rule, ups, step, IsLegal}
 use Rattle.adb_history.specs.Bytes.{brought}
 use Rattle.adb_history.specs.Births.{Birth, births_at, births, born}
 use Rattle.adb_history.specs.Fifo.{IsKeptAs, HasBirths}
-use Rattle.adb_history.specs.Owned.{IsOwned}
+use Rattle.adb_history.specs.Links.{maxdata_of}
+use Rattle.adb_history.specs.Book.{plugged_count}
+use Rattle.adb_history.specs.Tied.{came_count}
+use Rattle.adb_history.proofs.GrowingRules.{keeps_up_all}
+use Rattle.adb_history.proofs.OutputEntries.{tied_rule, tied}
 use Rattle.adb_history.proofs.RuleMoves.{rule_kept}
 use Rattle.adb_history.proofs.OwnedStep.{owned_moves, begins_owned, all_owned}
 use Rattle.adb_history.proofs.Linking.{credit_new}
@@ -30,7 +38,8 @@ use Rattle.adb_births.specs.Drawing.{with_drawn, Opens, Makes}
 use Rattle.adb_births.specs.Births.{born_stays, born_next, birth_place}
 use Rattle.adb_births.specs.Born.{IsBornAs, AllBornAs, all_brought, AreBorn}
 use Rattle.adb_births.proofs.Going.{go_on_same, go_on_then}
-use Rattle.adb_births.proofs.GoingRules.{goes_up_all, goes_puts, goes_client_ends, goes_bound, goes_unplugs}
+use Rattle.adb_births.proofs.GoingRules.{CanRise, goes_up_all, goes_puts, goes_client_ends, goes_bound, goes_unplugs}
+use Rattle.adb_births.proofs.Small.{all_small}
 use Rattle.adb_births.proofs.Drawing.{goes_as, makes_goes, reads_make, enters_make}
 use Rattle.adb_births.proofs.Receiving.{cut_now, brought_other, brought_more, none_on, hears_cut, cut_drawn, hear_on}
 
@@ -63,6 +72,22 @@ one_later e older l stream k same = record {
   before = subst (λ (ps : List Packet). k.birth.packets_before ≤ length ps) (sym same) k.before;
   heard_of = subst (λ (ps : List Packet). IsHeard l stream.part.remote (drop k.birth.packets_before ps)) (sym same) k.heard_of;
 }
+
+-- a birth is one of the history with one more entry
+pub born_later : (e : Entry) (older : History) (heard : ℕ → List Packet) (streams : Rows (Option Stream)) → AllBornAs older heard streams
+    → AllBornAs (e ∷ older) heard streams
+born_later e older heard streams all l stream is =
+    let k = all l stream is in
+    record {
+      birth = k.birth;
+      is = born_stays l e older k.birth k.is;
+      id = k.id;
+      client = k.client;
+      link = k.link;
+      credit = k.credit;
+      before = k.before;
+      heard_of = k.heard_of;
+    }
 
 -- packets of its link
 pub hears_born : (h : History) (t : ℕ) (ps : List Packet) (old new : ℕ → List Packet) (x y : Rows (Option Stream)) → AllHear t ps x y
@@ -109,7 +134,7 @@ module _ (e : Entry) (older : History) (b : AreBorn older) where
   s = state older
 
   module _ (same : (t : ℕ) → brought t (e ∷ older) ≡ brought t older) where
-    kept_later : AllBornAs (e ∷ older) (all_brought (e ∷ older)) s.streams
+    pub kept_later : AllBornAs (e ∷ older) (all_brought (e ∷ older)) s.streams
     kept_later l stream is = let k = b.kept l stream is in one_later e older l stream k (same k.birth.link)
 
     -- no stream is born
@@ -124,16 +149,21 @@ module _ (e : Entry) (older : History) (b : AreBorn older) where
       count : length (births (e ∷ older)) ≡ length (births older) + 1
       count = ap (λ (bs : List Birth). length (births older ++ bs)) is ∙ length-append (births older) (x ∷ [])
 
+      -- the birth of the stream that is drawn
+      pub birth_drawn : s.drawn ≢ stream_ids → born (s.drawn + 1) (e ∷ older) ≡ Some x
+      birth_drawn room =
+          let number : length (births older) ≡ s.drawn = omega (arith, b.drawn, room) in
+          let next : s.drawn + 1 ≡ suc (length (births older)) = omega (arith, number) in
+          ap (λ (n : ℕ). born n (e ∷ older)) next ∙ born_next e older x is (omega (arith, b.drawn, room))
+
       -- the stream that is drawn
       drawn_born : s.drawn ≢ stream_ids → IsBornAs (e ∷ older) (all_brought (e ∷ older)) (s.drawn + 1)
           (new_stream (s.drawn + 1) x.client x.link (new_flow x.credit))
       drawn_born room =
-          let number : length (births older) ≡ s.drawn = omega (arith, b.drawn, room) in
-          let next : s.drawn + 1 ≡ suc (length (births older)) = omega (arith, number) in
           let place : x.packets_before ≡ length (brought x.link (e ∷ older)) = birth_place e older x is ∙ ap length (sym (same x.link)) in
           record {
             birth = x;
-            is = ap (λ (n : ℕ). born n (e ∷ older)) next ∙ born_next e older x is (omega (arith, b.drawn, room));
+            is = birth_drawn room;
             id = refl;
             client = refl;
             link = refl;
@@ -143,7 +173,7 @@ module _ (e : Entry) (older : History) (b : AreBorn older) where
                 (sym (ap (λ (n : ℕ). drop n (brought x.link (e ∷ older))) place ∙ drop-length (brought x.link (e ∷ older)))) (λ later. refl);
           }
 
-      rows_born : s.drawn ≢ stream_ids → AllBornAs (e ∷ older) (all_brought (e ∷ older)) (with_drawn s.drawn x s.streams)
+      pub rows_born : s.drawn ≢ stream_ids → AllBornAs (e ∷ older) (all_brought (e ∷ older)) (with_drawn s.drawn x s.streams)
       rows_born room l stream here = go (eqb (s.drawn + 1) l) refl here
         where
           go : (c : Bool) → eqb (s.drawn + 1) l ≡ c → cond c (Some (new_stream (s.drawn + 1) x.client x.link (new_flow x.credit))) (s.streams l) ≡ Some stream
@@ -171,34 +201,56 @@ module _ (e : Entry) (older : History) (b : AreBorn older) where
     makes_born (x ∷ y ∷ bs) is h = absurd h
 
 -- ---- all entries
-module _ (older : History) (legal : IsLegal older) (b : AreBorn older) where
-  owned_rule : (e : Entry) → May (state older) e → IsOwned (rule e (state older)).state
-  owned_rule e may = rule_kept owned_moves e (state older) [] (begins_owned (state older) (all_owned older legal) e [] may)
+module _ (older : History) (legal : IsLegal older) where
+  -- the up rule after an entry
+  pub rises : (e : Entry) → IsLegal (e ∷ older) → CanRise (rule e (state older)).state
+  rises e l =
+      let m : Made = rule e (state older) in
+      let came : ℕ = came_count (e ∷ older) in
+      let plugged : ℕ = plugged_count (e ∷ older) in
+      let within = (tied_rule older (tied older legal) e l.2).streams in
+      record {
+        owned = rule_kept owned_moves e (state older) [] (begins_owned (state older) (all_owned older legal) e [] l.2);
+        came = came;
+        plugged = plugged;
+        within = within;
+        small = subst (λ (d : DeviceTable). (t : ℕ) → maxdata_of t d ≤ MAX_PAYLOAD)
+            (keeps_up_all came plugged m.state.drawn m.state within).devices (all_small (e ∷ older) l);
+      }
 
-  -- the up rule
-  goes_ups : (e : Entry) → May (state older) e
+  pub goes_ups : (e : Entry) → IsLegal (e ∷ older)
       → Goes (rule e (state older)).state.streams (rule e (state older)).state.drawn (ups (rule e (state older)).state)
-  goes_ups e may = goes_up_all (rule e (state older)).state.drawn (rule e (state older)).state (owned_rule e may)
+  goes_ups e l = goes_up_all (rule e (state older)).state.drawn (rule e (state older)).state (rises e l)
 
-  rule_born : (e : Entry) → May (state older) e → ((t : ℕ) → brought t (e ∷ older) ≡ brought t older)
+module _ (older : History) (legal : IsLegal older) (b : AreBorn older) where
+  rule_born : (e : Entry) → IsLegal (e ∷ older) → ((t : ℕ) → brought t (e ∷ older) ≡ brought t older)
       → Makes (state older).streams (state older).drawn (births_at e older) (rule e (state older)) → AreBorn (e ∷ older)
   rule_born e may same h = makes_born e older b same (births_at e older) refl
-      (makes_goes (state older).streams (state older).drawn (births_at e older) (rule e (state older)) ups h (goes_ups e may))
+      (makes_goes (state older).streams (state older).drawn (births_at e older) (rule e (state older)) ups h (goes_ups older legal e may))
+
+  -- bytes of a link that is gone
+  pub gone_kept : (t : ℕ) (bytes : List ℕ) → (state older).links t ≡ None
+      → AllBornAs (Recv t bytes ∷ older) (all_brought (Recv t bytes ∷ older)) (state older).streams
+  gone_kept t bytes is l stream here =
+      let k = b.kept l stream here in
+      one_later (Recv t bytes) older l stream k
+      (brought_other older legal t bytes k.birth.link (λ same. none_on older legal t bytes is l stream here (k.link ∙ sym same)))
 
   -- packets of a link
-  recv_born : (t : ℕ) (bytes : List ℕ) → May (state older) (Recv t bytes) → (o : Option Link) → (state older).links t ≡ o → AreBorn (Recv t bytes ∷ older)
+  recv_born : (t : ℕ) (bytes : List ℕ) → IsLegal (Recv t bytes ∷ older) → (o : Option Link) → (state older).links t ≡ o → AreBorn (Recv t bytes ∷ older)
   recv_born t bytes may None is = record {
-    drawn = rises.drawn_is ∙ (quiet_drawn ∙ (b.drawn ∙ counts));
+    drawn = up_goes.drawn_is ∙ (quiet_drawn ∙ (b.drawn ∙ counts));
     kept = stays_born (Recv t bytes ∷ older) (all_brought (Recv t bytes ∷ older)) (state older).streams (state (Recv t bytes ∷ older)).streams
-        (go_on_then (state older).streams (rule (Recv t bytes) (state older)).state.streams (state (Recv t bytes ∷ older)).streams quiet_rows rises.rows)
+        (go_on_then (state older).streams (rule (Recv t bytes) (state older)).state.streams (state (Recv t bytes ∷ older)).streams quiet_rows up_goes.rows)
         (λ l stream here.
         let k = b.kept l stream here in
         one_later (Recv t bytes) older l stream k
         (brought_other older legal t bytes k.birth.link (λ same. none_on older legal t bytes is l stream here (k.link ∙ sym same))));
   }
     where
-      rises : Goes (rule (Recv t bytes) (state older)).state.streams (rule (Recv t bytes) (state older)).state.drawn (ups (rule (Recv t bytes) (state older)).state)
-      rises = goes_ups (Recv t bytes) may
+      up_goes : Goes (rule (Recv t bytes) (state older)).state.streams (rule (Recv t bytes) (state older)).state.drawn
+          (ups (rule (Recv t bytes) (state older)).state)
+      up_goes = goes_ups older legal (Recv t bytes) may
 
       counts : min (length (births older)) stream_ids ≡ min (length (births (Recv t bytes ∷ older))) stream_ids
       counts = ap (λ (bs : List Birth). min (length bs) stream_ids) (sym (append-nil (births older)))
@@ -210,51 +262,39 @@ module _ (older : History) (legal : IsLegal older) (b : AreBorn older) where
       quiet_rows = subst (λ (o : Option Link). GoOn (state older).streams (receives_on o t bytes (state older)).state.streams) (sym is)
           (go_on_same (state older).streams)
   recv_born t bytes may (Some link) is = record {
-    drawn = rises.drawn_is ∙ (ap (λ (o : Option Link). (receives_on o t bytes (state older)).state.drawn) is
+    drawn = up_goes.drawn_is ∙ (ap (λ (o : Option Link). (receives_on o t bytes (state older)).state.drawn) is
         ∙ (cut_drawn older legal t bytes link ∙ (b.drawn ∙ counts)));
     kept = hears_born (Recv t bytes ∷ older) t given (all_brought older) (all_brought (Recv t bytes ∷ older)) (state older).streams
         (state (Recv t bytes ∷ older)).streams hear
         (λ k apart. brought_other older legal t bytes k apart, brought_more older legal t bytes link is)
-        (λ l stream here. let k = b.kept l stream here in later l stream k);
+        (born_later (Recv t bytes) older (all_brought older) (state older).streams b.kept);
   }
     where
       given : List Packet
       given = (cut_now older legal t bytes link).given
 
-      rises : Goes (rule (Recv t bytes) (state older)).state.streams (rule (Recv t bytes) (state older)).state.drawn (ups (rule (Recv t bytes) (state older)).state)
-      rises = goes_ups (Recv t bytes) may
+      up_goes : Goes (rule (Recv t bytes) (state older)).state.streams (rule (Recv t bytes) (state older)).state.drawn
+          (ups (rule (Recv t bytes) (state older)).state)
+      up_goes = goes_ups older legal (Recv t bytes) may
 
       counts : min (length (births older)) stream_ids ≡ min (length (births (Recv t bytes ∷ older))) stream_ids
       counts = ap (λ (bs : List Birth). min (length bs) stream_ids) (sym (append-nil (births older)))
 
-      -- the birth is one of the history with this entry
-      later : (l : ℕ) (stream : Stream) → IsBornAs older (all_brought older) l stream → IsBornAs (Recv t bytes ∷ older) (all_brought older) l stream
-      later l stream k = record {
-        birth = k.birth;
-        is = born_stays l (Recv t bytes) older k.birth k.is;
-        id = k.id;
-        client = k.client;
-        link = k.link;
-        credit = k.credit;
-        before = k.before;
-        heard_of = k.heard_of;
-      }
-
       hear : AllHear t (cut_now older legal t bytes link).given (state older).streams (state (Recv t bytes ∷ older)).streams
       hear = hear_on t given (state older).streams (rule (Recv t bytes) (state older)).state.streams (state (Recv t bytes ∷ older)).streams
           (subst (λ (o : Option Link). AllHear t given (state older).streams (receives_on o t bytes (state older)).state.streams) (sym is)
-          (hears_cut older legal t bytes link)) rises.rows
+          (hears_cut older legal t bytes link)) up_goes.rows
 
   -- a device is plugged in
-  attach_born : (t : ℕ) (kind : Kind) (serial : List ℕ) → May (state older) (Attach t kind serial) → AreBorn (Attach t kind serial ∷ older)
+  attach_born : (t : ℕ) (kind : Kind) (serial : List ℕ) → IsLegal (Attach t kind serial ∷ older) → AreBorn (Attach t kind serial ∷ older)
   attach_born t kind serial may =
-      let ups = goes_ups (Attach t kind serial) may in
+      let ups = goes_ups older legal (Attach t kind serial) may in
       goes_born (Attach t kind serial) older b (λ k. refl) refl ups.drawn_is ups.rows
 
-  entry_born : (e : Entry) → May (state older) e → AreBorn (e ∷ older)
+  entry_born : (e : Entry) → IsLegal (e ∷ older) → AreBorn (e ∷ older)
   entry_born (Join c) may = rule_born (Join c) may (λ t. refl) (goes_as (state older) _ refl refl)
   entry_born (Enter c port) may = rule_born (Enter c port) may (λ t. refl) (enters_make older legal c port)
-  entry_born (Read c bytes) may = rule_born (Read c bytes) may (λ t. refl) (reads_make older legal c bytes may ((state older).clients c) refl)
+  entry_born (Read c bytes) may = rule_born (Read c bytes) may (λ t. refl) (reads_make older legal c bytes may.2 ((state older).clients c) refl)
   entry_born (End c cause) may = rule_born (End c cause) may (λ t. refl)
       (goes_client_ends c cause ((state older).clients c) (state older) (all_owned older legal) refl)
   entry_born (Bound c port) may = rule_born (Bound c port) may (λ t. refl) (goes_bound ((state older).clients c) c port (state older))
@@ -268,7 +308,7 @@ module _ (older : History) (legal : IsLegal older) (b : AreBorn older) where
 -- In every legal history the streams are the births.
 pub all_born : (h : History) → IsLegal h → AreBorn h
 all_born [] legal = record { drawn = omega arith; kept = λ l stream is. absurd (let clash : None ≡ Some stream = is in cc) }
-all_born (e ∷ older) legal = entry_born older legal.0 (all_born older legal.0) e legal.2
+all_born (e ∷ older) legal = entry_born older legal.0 (all_born older legal.0) e legal
 
 -- ---- the promise
 kept_as : (h : History) (l : ℕ) (stream : Stream) → IsBornAs h (all_brought h) l stream → IsKeptAs h l stream

@@ -1,5 +1,6 @@
 -- Requests and clients that come through a forward: which stream is born by them.
-use Rattle.std.proofs.Common.{◌≡◌, ℕ, ◌+◌, zero, suc, Bool, true, false, cond, All, List, [], ◌∷◌, ◌++◌, Option, Some, None, refl, sym, ap, subst, ◌∙◌, inl, inr, eqb, append_assoc}
+use Rattle.std.proofs.Common.{◌≡◌, ℕ, ◌+◌, zero, suc, Bool, true, false, cond, All, List, [], ◌∷◌, ◌++◌, Option, Some, None, refl, sym, ap, subst, ◌∙◌, inl}
+use Rattle.std.proofs.Common.{inr, eqb, append_assoc}
 use Rattle.std.specs.Prelude.{not, length}
 use Rattle.std.proofs.lemmas.Bool.{eqb-true, eqb-false, eq-eqb}
 use Rattle.std.proofs.lemmas.List.Elements.{All-nil, All-weaker, All-append}
@@ -16,7 +17,7 @@ use Rattle.std.specs.Prelude.{codes}
 use Rattle.adb_capture.specs.declared.entry.Entry.TheVariants.{Enter, Read}
 use Rattle.adb_history.specs.Rows.{Client, State, to_client, with_held}
 use Rattle.adb_history.specs.Events.{Made, Event, quietly, then_also, due_to_client, ended, stopped}
-use Rattle.adb_history.specs.Links.{is_connected, is_credit}
+use Rattle.adb_history.specs.Links.{wants_sums, check_on, open_packet, is_connected, is_credit}
 use Rattle.adb_history.specs.Clients.{owe_client}
 use Rattle.adb_history.specs.Streams.{stream_ids, no_ids_left, asks_for, opens}
 use Rattle.adb_history.specs.Losing.{tells_stop, all_stop, stops}
@@ -33,7 +34,7 @@ use Rattle.adb_history.proofs.BookReads.{none_next, newly_same, and_parts, asked
 use Rattle.adb_history.proofs.Books.{booked, all_books}
 use Rattle.adb_births.specs.Going.{GoOn, IsFrom, Goes}
 use Rattle.adb_births.specs.Drawing.{with_drawn, Draws, Opens, Makes}
-use Rattle.adb_births.proofs.Going.{go_on_same, go_on_then, goes_quiet, goes_then, from_before, one_from}
+use Rattle.adb_births.proofs.Going.{go_on_same, go_on_then, goes_quiet, goes_then, from_before, check_short, one_from}
 use Rattle.adb_births.proofs.GoingEnds.{goes_closes_with}
 
 -- ---- one rule after another
@@ -50,6 +51,7 @@ draws_after streams drawn b told m from h = record {
   drawn_is = h.drawn_is;
   first = told ++ h.first;
   check = h.check;
+  word = h.word;
   last = h.last;
   told_is = ap (λ (x : List Event). told ++ x) h.told_is ∙ sym (append_assoc told h.first _);
   before = All-append (IsFrom streams) told h.first from h.before;
@@ -71,6 +73,7 @@ draws_goes streams drawn b m rule h k = record {
   drawn_is = k.drawn_is ∙ h.drawn_is;
   first = h.first;
   check = h.check;
+  word = h.word;
   last = h.last ++ (rule m.state).told;
   told_is = ap (λ (x : List Event). x ++ (rule m.state).told) h.told_is ∙ append_assoc h.first (_ ∷ h.last) (rule m.state).told;
   before = h.before;
@@ -98,7 +101,8 @@ draws_asks b s credit =
       rows = go_on_same (asks_for (s.drawn + 1) b.client b.link b.service s).state.streams;
       drawn_is = refl;
       first = [];
-      check = _;
+      check = check_on (wants_sums (s.links b.link)) (open_packet (is_credit b.link s.devices) (s.drawn + 1) b.service);
+      word = check_short (wants_sums (s.links b.link)) (open_packet (is_credit b.link s.devices) (s.drawn + 1) b.service);
       last = [];
       told_is = refl;
       before = All-nil (IsFrom s.streams);
@@ -175,7 +179,8 @@ module _ (older : History) (legal : IsLegal older) where
     asked_now : (asking : Bool) → (said c older).asking ≡ asking
         → asked c (Read c bytes ∷ older) ≡ asked_with asking s.devices s.forwards bytes (asked c older)
     asked_now asking is =
-        ap (λ (b : Bool). cond b (asked_with (is_asking c older (book older)) (devices older) (forwards older) bytes (asked c older)) (asked c older)) (eq-eqb c c refl)
+        ap (λ (b : Bool). cond b (asked_with (is_asking c older (book older)) (devices older) (forwards older) bytes (asked c older)) (asked c older))
+        (eq-eqb c c refl)
         ∙ (ap (λ (b : Bool). asked_with b (devices older) (forwards older) bytes (asked c older)) is
         ∙ (ap (λ (d : DeviceTable). asked_with asking d (forwards older) bytes (asked c older)) (sym books.devices)
         ∙ ap (λ (f : List (ℕ × ForwardRow)). asked_with asking s.devices f bytes (asked c older)) (sym books.forwards)))
@@ -219,7 +224,8 @@ module _ (older : History) (legal : IsLegal older) where
         let q : Asked = asks_with s.devices s.forwards bytes (asked_before client) in
         let owed : Made = owe_client c q.replies (to_client c (has_asked q) s) in
         subst (λ (n : Option Next). Makes s.streams s.drawn (birth_by c used older n) (asks q c s)) (sym (asking_next client is asking))
-        (makes_after s.streams s.drawn (birth_by c used older q.next) owed.told (goes_on q.next c owed.state) (one_from s.streams (due_to_client c q.replies) tt)
+        (makes_after s.streams s.drawn (birth_by c used older q.next) owed.told (goes_on q.next c owed.state)
+        (one_from s.streams (due_to_client c q.replies) tt)
         (goes_on_makes q.next c used older owed.state (sym books.devices)))
 
     reads_in_makes : (phase : Phase) (client : Client) → s.clients c ≡ Some client → client.about.phase ≡ phase
@@ -258,7 +264,8 @@ module _ (older : History) (legal : IsLegal older) where
       (go (is_connected row.transport (devices older)) refl)
     where
       go : (b : Bool) → is_connected row.transport (devices older) ≡ b
-          → Makes s.streams s.drawn (cond b (through c row ∷ []) []) (cond b (opens true c row.transport row.remote (comes true c s)) (quietly (comes_in_vain s)))
+          → Makes s.streams s.drawn (cond b (through c row ∷ []) [])
+          (cond b (opens true c row.transport row.remote (comes true c s)) (quietly (comes_in_vain s)))
       go true e = opens_makes (through c row) (comes true c s) (ap (is_credit row.transport) (sym books.devices))
       go false e = goes_as s (comes_in_vain s) refl refl
 

@@ -1,16 +1,20 @@
 -- Rules one after another, and changes of one row: the streams go on.
-use Rattle.std.proofs.Common.{◌≡◌, ◌≢◌, ℕ, Bool, true, false, cond, All, List, [], ◌∷◌, Option, Some, None, refl, sym, ap, subst, ◌∙◌, eqb}
-use Rattle.std.specs.Prelude.{option_and_then}
+use Rattle.std.proofs.Common.{◌≡◌, ◌≢◌, ℕ, Bool, true, false, cond, All, List, [], ◌∷◌, Option, Some, None, refl, sym, ap, subst, ◌∙◌, eqb, arith}
+use Rattle.std.specs.Prelude.{option_and_then, ◌^◌, ◌≤◌, ◌<◌, length, sum}
+use Rattle.std.proofs.Math.Nat.{mod-lt}
 use Rattle.std.proofs.lemmas.Bool.{eqb-true}
 use Rattle.std.proofs.lemmas.List.Elements.{All-nil, All-cons, All-weaker, All-append}
 use Rattle.adb_outside.specs.Tables.{Rows, change_row}
+use Rattle.adb_wire.specs.Packet.{check_of}
+use Rattle.adb_wire.specs.Format.{is_cnxn}
+use Rattle.adb_wire.specs.declared.headers.TheConstants.{MAX_PAYLOAD}
 use Rattle.adb_wire.specs.declared.packets.Packet.{Packet}
 use Rattle.adb_stream.specs.Stream.{with_part}
 use Rattle.adb_stream.specs.declared.row.Part.{Part}
 use Rattle.adb_stream.specs.declared.row.Stream.{Stream}
 use Rattle.adb_history.specs.Rows.{State, none_kept, with_stream_part}
 use Rattle.adb_history.specs.Events.{Made, Event, quietly, then_also, due_to_client, due_to_link, ended}
-use Rattle.adb_history.specs.Links.{owe_link}
+use Rattle.adb_history.specs.Links.{owe_link, wants_sums}
 use Rattle.adb_history.specs.Clients.{owe_client}
 use Rattle.adb_history.specs.Fifo.{has_credit}
 use Rattle.adb_births.specs.Going.{IsSame, Was, GoOn, IsOfOpen, IsOfRow, IsFrom, Goes}
@@ -68,10 +72,9 @@ go_on_gone rows l = go_on_change rows l none_kept (λ a b there e. absurd (let c
 pub goes_quiet : (s : State) → Goes s.streams s.drawn (quietly s)
 goes_quiet s = record { rows = go_on_same s.streams; drawn_is = refl; told = All-nil (IsFrom s.streams) }
 
-pub from_before : (x y : Rows (Option Stream)) → GoOn x y → (e : Event) → IsFrom y e → IsFrom x e
-from_before x y go (due_to_client client bytes) h = tt
-from_before x y go (due_to_link link packet check) h =
-    let was = go packet.arg0 h.stream h.is in
+pub of_before : (x y : Rows (Option Stream)) (t : ℕ) (p : Packet) → GoOn x y → IsOfRow y t p → IsOfRow x t p
+of_before x y t p go h =
+    let was = go p.arg0 h.stream h.is in
     record {
       stream = was.stream;
       is = was.is;
@@ -80,6 +83,10 @@ from_before x y go (due_to_link link packet check) h =
       remote = h.remote ∙ was.same.remote;
       of = h.of;
     }
+
+pub from_before : (x y : Rows (Option Stream)) → GoOn x y → (e : Event) → IsFrom y e → IsFrom x e
+from_before x y go (due_to_client client bytes) h = tt
+from_before x y go (due_to_link link packet check) h = (of_before x y link packet go h.0, h.1)
 from_before x y go (ended stream ending) h = tt
 
 module _ (streams : Rows (Option Stream)) (drawn : ℕ) where
@@ -117,6 +124,12 @@ pub record IsPacketOf (l : ℕ) (stream : Stream) (p : Packet) : Type 0 where
   pub from : p.arg0 ≡ l
   pub to : p.arg1 ≡ stream.part.remote
   pub of : IsOfOpen p.command
+  pub size : length p.payload ≤ MAX_PAYLOAD
+
+-- the check word of a packet is a word
+pub check_short : (b : Bool) (p : Packet) → check_of b p < 2 ^ 32
+check_short true p = mod-lt (sum p.payload) (omega arith)
+check_short false p = omega arith
 
 pub of_row : (streams : Rows (Option Stream)) (l : ℕ) (stream : Stream) (p : Packet) → IsOpenAt streams l stream → IsPacketOf l stream p
     → IsOfRow streams stream.link p
@@ -134,5 +147,6 @@ pub goes_owe_link : (l : ℕ) (stream : Stream) (p : Packet) (s : State) → IsO
 goes_owe_link l stream p s at q = record {
   rows = go_on_same s.streams;
   drawn_is = refl;
-  told = one_from s.streams (due_to_link stream.link p _) (of_row s.streams l stream p at q);
+  told = one_from s.streams (due_to_link stream.link p _)
+      (of_row s.streams l stream p at q, record { size = q.size; word = check_short (cond (is_cnxn p.command) true (wants_sums (s.links stream.link))) p });
 }

@@ -1,5 +1,5 @@
 -- Streams that end: those that are left go on.
-use Rattle.std.proofs.Common.{◌≡◌, ◌≢◌, ℕ, zero, suc, Bool, true, false, cond, List, Option, Some, None, refl, sym, ap, ◌∙◌}
+use Rattle.std.proofs.Common.{◌≡◌, ◌≢◌, ℕ, zero, suc, Bool, true, false, cond, List, Option, Some, None, refl, sym, ap, ◌∙◌, arith}
 use Rattle.std.specs.Prelude.{codes, nat_eq, option_and_then}
 use Rattle.std.proofs.lemmas.Bool.{eq-eqb}
 use Rattle.std.proofs.lemmas.List.Elements.{All-nil}
@@ -78,7 +78,7 @@ goes_ends_telling l ending stream s is known =
     let told : Made = owe_link stream.link (close_packet l stream.part.remote) s in
     goes_then s.streams s.drawn told (ends_row l ending stream)
     (goes_owe_link l stream (close_packet l stream.part.remote) s (record { row = stream; is = is; link = refl; remote = refl; known = known })
-    (record { from = refl; to = refl; of = tt }))
+    (record { from = refl; to = refl; of = tt; size = omega arith }))
     (goes_ends_row l ending stream told.state)
 
 -- ---- all streams of a link end

@@ -1,8 +1,12 @@
 -- The up rule, hand-outs, and what clients and links do that are there: the streams that are left go on.
-use Rattle.std.proofs.Common.{◌≡◌, ◌≢◌, ℕ, zero, suc, Bool, true, false, List, [], ◌∷◌, length, drop, Option, Some, None, refl, sym, ap, subst, ◌∙◌}
+use Rattle.std.proofs.Common.{◌≡◌, ◌≢◌, ℕ, zero, suc, Bool, true, false, List, [], ◌∷◌, length, drop, Option, Some, None, refl, sym, ap, subst, ◌∙◌, arith}
+use Rattle.std.proofs.Common.{◌≤◌, ◌-◌, cond}
 use Rattle.std.specs.Prelude.{nat_eq, min, option_and_then}
 use Rattle.std.proofs.lemmas.Bool.{eqb-true}
+use Rattle.std.proofs.lemmas.List.{length-take}
 use Rattle.std.proofs.lemmas.List.Elements.{All-nil}
+use Rattle.adb_registry.specs.Registry.{DeviceTable}
+use Rattle.adb_wire.specs.declared.headers.TheConstants.{MAX_PAYLOAD}
 use Rattle.adb_outside.specs.Tables.{Rows, change_row}
 use Rattle.adb_outside.specs.declared.kinds.Cause.{Cause}
 use Rattle.adb_outside.specs.declared.kinds.Cause.TheVariants.{Eof, Fault, Starved, NoThread}
@@ -18,7 +22,8 @@ use Rattle.adb_client.specs.declared.phase.Phase.{Phase}
 use Rattle.adb_client.specs.declared.phase.Phase.TheVariants.{Asking, Opening, Streaming, Binding, Tracking, Closing, Gone}
 use Rattle.adb_history.specs.Rows.{Client, Link, State, to_client, to_stream, none_kept, with_stream_part}
 use Rattle.adb_history.specs.Events.{Made, quietly, due_to_client, due_to_link, ended, client_closed, client_failed, lost, broken}
-use Rattle.adb_history.specs.Links.{owe_link, write_packet, close_packet, okay_packet, credit_packet, maxdata_of}
+use Rattle.adb_history.specs.Links.{wants_sums, owe_link, write_packet, close_packet, okay_packet, credit_packet, maxdata_of}
+use Rattle.adb_history.specs.Flow.{write_len, write_before, writes}
 use Rattle.adb_history.specs.Flow.{with_flow, flow_after, payloads, total, noted, goes_up, all_go_up, is_over, closes_if, sends_up}
 use Rattle.adb_history.specs.Flow.{is_streaming, up_client, up_stream, up, up_all}
 use Rattle.adb_history.specs.Tracking.{offered}
@@ -33,10 +38,13 @@ use Rattle.adb_history.specs.Owned.{OwnerIn, StreamOf, HoldsIn, IsOwned}
 use Rattle.adb_history.specs.Orderly.{phase_for}
 use Rattle.adb_history.specs.Fifo.{has_credit}
 use Rattle.adb_history.proofs.Following.{changed_here}
+use Rattle.adb_history.proofs.Growing.{AreWithin}
+use Rattle.adb_history.proofs.GrowingRules.{keeps_up_all}
 use Rattle.adb_history.proofs.StreamMoves.{like_after, up_all_kept}
 use Rattle.adb_history.proofs.OwnedStep.{owned_moves}
 use Rattle.adb_births.specs.Going.{IsFrom, Goes, GoOn}
-use Rattle.adb_births.proofs.Going.{go_on_same, go_on_gone, go_on_part, goes_quiet, goes_then, goes_if, one_from, IsOpenAt, of_row, goes_owe_client, goes_owe_link}
+use Rattle.adb_births.proofs.Going.{go_on_same, go_on_gone, go_on_part, goes_quiet, goes_then, goes_if, one_from, check_short, IsOpenAt, of_row}
+use Rattle.adb_births.proofs.Going.{goes_owe_client, goes_owe_link}
 use Rattle.adb_births.proofs.GoingEnds.{goes_ends_telling, goes_link_ends}
 
 -- ---- the stream of a client
@@ -82,13 +90,36 @@ open_part rows l stream flow is known = record {
 }
 
 -- ---- the up rule
-go_up_goes : (l : ℕ) (stream : Stream) (payloads : List (List ℕ)) (s : State) → IsOpenAt s.streams l stream
+-- writes that are not too long
+abbrev AreShort : List (List ℕ) → Type 0
+AreShort [] = Unit {0}
+AreShort (payload ∷ payloads) = (length payload ≤ MAX_PAYLOAD) × AreShort payloads
+
+writes_short : (k maxdata credit : ℕ) (held : List ℕ) → maxdata ≤ MAX_PAYLOAD → AreShort (writes k maxdata credit held)
+writes_short zero maxdata credit held small = tt
+writes_short (suc k) maxdata credit held small =
+    let n : ℕ = write_len maxdata credit held in
+    go n (omega arith) (writes k maxdata (credit - n) (drop n held)) (writes_short k maxdata (credit - n) (drop n held) small)
+  where
+    go : (n : ℕ) → n ≤ maxdata → (others : List (List ℕ)) → AreShort others → AreShort (write_before n held others)
+    go zero within others short = tt
+    go (suc n) within others short = (omega (arith, length-take (suc n) held, within, small), short)
+
+payloads_short : (flow : Flow) (maxdata : ℕ) (held : List ℕ) → maxdata ≤ MAX_PAYLOAD → AreShort (payloads flow maxdata held)
+payloads_short (One window) maxdata held small = go window.outstanding
+  where
+    go : (b : Bool) → AreShort (cond b [] (writes 1 maxdata maxdata held))
+    go true = tt
+    go false = writes_short 1 maxdata maxdata held small
+payloads_short (Credit credit) maxdata held small = writes_short (length held) maxdata credit.to_send held small
+
+go_up_goes : (l : ℕ) (stream : Stream) (payloads : List (List ℕ)) (s : State) → AreShort payloads → IsOpenAt s.streams l stream
     → Goes s.streams s.drawn (all_go_up l stream payloads s)
-go_up_goes l stream [] s at = goes_quiet s
-go_up_goes l stream (payload ∷ payloads) s at =
+go_up_goes l stream [] s short at = goes_quiet s
+go_up_goes l stream (payload ∷ payloads) s short at =
     goes_then s.streams s.drawn (goes_up l stream payload s) (all_go_up l stream payloads)
-    (goes_owe_link l stream (write_packet l stream.part.remote payload) s at (record { from = refl; to = refl; of = tt }))
-    (go_up_goes l stream payloads (goes_up l stream payload s).state at)
+    (goes_owe_link l stream (write_packet l stream.part.remote payload) s at (record { from = refl; to = refl; of = tt; size = short.0 }))
+    (go_up_goes l stream payloads (goes_up l stream payload s).state short.1 at)
 
 goes_closes_if : (over : Bool) (l : ℕ) (o : Option Stream) (s : State) → s.streams l ≡ o
     → ((stream : Stream) → s.streams l ≡ Some stream → stream.part.remote ≢ 0) → Goes s.streams s.drawn (closes_if over l o s)
@@ -97,14 +128,14 @@ goes_closes_if false l (Some stream) s is known = goes_quiet s
 goes_closes_if true l (Some stream) s is known = goes_ends_telling l client_closed stream s is (known stream is)
 
 goes_sends_up : (l : ℕ) (stream : Stream) (client : Client) (payloads : List (List ℕ)) (s : State) → s.streams l ≡ Some stream
-    → stream.part.remote ≢ 0 → Goes s.streams s.drawn (sends_up l stream client payloads s)
+    → (stream.part.remote ≢ 0) × AreShort payloads → Goes s.streams s.drawn (sends_up l stream client payloads s)
 goes_sends_up l stream client payloads s is known =
     let flow : Flow = flow_after payloads stream.part.flow in
     let now : State = noted l stream client.held payloads s in
     let sent : Made = all_go_up l stream payloads now in
     let over : Bool = is_over client.about.ended (drop (total payloads) client.held) flow in
-    let at : IsOpenAt now.streams l stream = open_part s.streams l stream flow is known in
-    let up : Goes now.streams now.drawn sent = go_up_goes l stream payloads now at in
+    let at : IsOpenAt now.streams l stream = open_part s.streams l stream flow is known.0 in
+    let up : Goes now.streams now.drawn sent = go_up_goes l stream payloads now known.1 at in
     let rows : GoOn s.streams now.streams =
     go_on_part s.streams l stream (with_flow flow stream.part) is (refl, (like_after payloads stream.part.flow).credit) in
     let first : Goes s.streams s.drawn (quietly now) = record { rows = rows; drawn_is = refl; told = All-nil (IsFrom s.streams) } in
@@ -120,36 +151,53 @@ goes_sends_up l stream client payloads s is known =
         let same : at.row ≡ was.stream = (let both : Some at.row ≡ Some was.stream = sym at.is ∙ was.is in cc) in
         at.known (sym at.remote ∙ (ap (λ (y : Stream). y.part.remote) same ∙ (sym was.same.remote ∙ none)))
 
-goes_up_client : (l : ℕ) (stream : Stream) (o : Option Client) (s : State) → IsOwned s → s.streams l ≡ Some stream → s.clients stream.client ≡ o
-    → Goes s.streams s.drawn (up_client l stream o s)
+-- what the up rule finds: clients and streams keep each other, and no device takes more than a packet has
+pub record CanRise (s : State) : Type 0 where
+  pub owned : IsOwned s
+  pub came : ℕ
+  pub plugged : ℕ
+  pub within : AreWithin came plugged s.streams
+  pub small : (t : ℕ) → maxdata_of t s.devices ≤ MAX_PAYLOAD
+
+abbrev AllSmall : DeviceTable → Type 0
+AllSmall devices = (t : ℕ) → maxdata_of t devices ≤ MAX_PAYLOAD
+
+goes_up_client : (l : ℕ) (stream : Stream) (o : Option Client) (s : State) → IsOwned s × AllSmall s.devices → s.streams l ≡ Some stream
+    → s.clients stream.client ≡ o → Goes s.streams s.drawn (up_client l stream o s)
 goes_up_client l stream None s h is here = goes_quiet s
 goes_up_client l stream (Some client) s h is here =
-    let sent : List (List ℕ) = payloads stream.part.flow (maxdata_of stream.link s.devices) client.held in
+    let maxdata : ℕ = maxdata_of stream.link s.devices in
+    let sent : List (List ℕ) = payloads stream.part.flow maxdata client.held in
     goes_if s.streams s.drawn (is_streaming l client.about.phase) (sends_up l stream client sent s) (quietly s)
-    (λ e. goes_sends_up l stream client sent s is (open_known s h stream.client l client stream here (streaming_is l client.about.phase e) is))
+    (λ e. goes_sends_up l stream client sent s is (
+      open_known s h.0 stream.client l client stream here (streaming_is l client.about.phase e) is,
+      payloads_short stream.part.flow maxdata client.held (h.1 stream.link),
+    ))
     (λ e. goes_quiet s)
 
-goes_up_stream : (l : ℕ) (o : Option Stream) (s : State) → IsOwned s → s.streams l ≡ o → Goes s.streams s.drawn (up_stream l o s)
+goes_up_stream : (l : ℕ) (o : Option Stream) (s : State) → IsOwned s × AllSmall s.devices → s.streams l ≡ o → Goes s.streams s.drawn (up_stream l o s)
 goes_up_stream l None s h is = goes_quiet s
 goes_up_stream l (Some stream) s h is = goes_up_client l stream (s.clients stream.client) s h is refl
 
-pub goes_up_all : (n : ℕ) (s : State) → IsOwned s → Goes s.streams s.drawn (up_all n s)
+pub goes_up_all : (n : ℕ) (s : State) → CanRise s → Goes s.streams s.drawn (up_all n s)
 goes_up_all zero s h = goes_quiet s
 goes_up_all (suc n) s h =
     let before : Made = up_all n s in
+    let same : before.state.devices ≡ s.devices = (keeps_up_all h.came h.plugged n s h.within).devices in
     goes_then s.streams s.drawn before (up (suc n)) (goes_up_all n s h)
-    (goes_up_stream (suc n) (before.state.streams (suc n)) before.state (up_all_kept owned_moves s [] h n) refl)
+    (goes_up_stream (suc n) (before.state.streams (suc n)) before.state
+    (up_all_kept owned_moves s [] h.owned n, subst AllSmall (sym same) h.small) refl)
 
 -- ---- put
 goes_tells_credit : (back l : ℕ) (stream : Stream) (s : State) → IsOpenAt s.streams l stream → Goes s.streams s.drawn (tells_credit back l stream s)
 goes_tells_credit zero l stream s at = goes_quiet s
 goes_tells_credit (suc n) l stream s at =
-    goes_owe_link l stream (credit_packet l stream.part.remote (suc n)) s at (record { from = refl; to = refl; of = tt })
+    goes_owe_link l stream (credit_packet l stream.part.remote (suc n)) s at (record { from = refl; to = refl; of = tt; size = omega arith })
 
 goes_tells_handed : (flow : Flow) (left l : ℕ) (stream : Stream) (s : State) → IsOpenAt s.streams l stream
     → Goes s.streams s.drawn (tells_handed flow left l stream s)
 goes_tells_handed (One window) zero l stream s at =
-    goes_owe_link l stream (okay_packet l stream.part.remote) s at (record { from = refl; to = refl; of = tt })
+    goes_owe_link l stream (okay_packet l stream.part.remote) s at (record { from = refl; to = refl; of = tt; size = omega arith })
 goes_tells_handed (One window) (suc left) l stream s at = goes_quiet s
 goes_tells_handed (Credit credit) left l stream s at = goes_tells_credit (credit_back left credit) l stream s at
 
@@ -220,8 +268,11 @@ goes_fails_open l cause stream s is known =
     (record {
       rows = go_on_gone s.streams l;
       drawn_is = refl;
-      told = one_from s.streams (due_to_link stream.link p _) (of_row s.streams l stream p
-          (record { row = stream; is = is; link = refl; remote = refl; known = known }) (record { from = refl; to = refl; of = tt }));
+      told = one_from s.streams (due_to_link stream.link p _) (
+        of_row s.streams l stream p
+            (record { row = stream; is = is; link = refl; remote = refl; known = known }) (record { from = refl; to = refl; of = tt; size = omega arith }),
+        record { size = omega arith; word = check_short (wants_sums (s.links stream.link)) p },
+      );
     })
     (record { rows = go_on_same told.state.streams; drawn_is = refl; told = one_from told.state.streams (ended l (client_failed cause)) tt })
 

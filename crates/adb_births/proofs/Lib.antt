@@ -4,4 +4,12 @@ pub mod GoingRules
 pub mod Treating
 pub mod Drawing
 pub mod Receiving
+pub mod Small
 pub mod Born
+pub mod Sending
+pub mod Owing
+pub mod Services
+pub mod Framed
+pub mod Sent
+pub mod Once
+pub mod Crossing

@@ -1,5 +1,6 @@
 -- One packet of a link: what it makes of the streams.
-use Rattle.std.proofs.Common.{◌≡◌, ◌≢◌, ℕ, zero, suc, Bool, true, false, cond, List, [], ◌∷◌, ◌++◌, Option, Some, None, refl, sym, ap, subst, ◌∙◌, ◌⊎◌, inl, inr, eqb}
+use Rattle.std.proofs.Common.{◌≡◌, ◌≢◌, ℕ, zero, suc, Bool, true, false, cond, List, [], ◌∷◌, ◌++◌, Option, Some, None, refl, sym, ap, subst, ◌∙◌, ◌⊎◌, inl}
+use Rattle.std.proofs.Common.{inr, eqb, arith}
 use Rattle.std.specs.Prelude.{codes, nat_eq, nat_lt, not, ◌||◌, ◌&&◌, ◌==◌, length, is_some, option_and_then}
 use Rattle.std.proofs.lemmas.Bool.{eqb-true, eqb-false, ne_eqb}
 use Rattle.std.proofs.lemmas.List.Elements.{All-nil, All-cons, All-weaker, All-append}
@@ -19,12 +20,13 @@ use Rattle.adb_stream.specs.declared.row.Part.{Part}
 use Rattle.adb_stream.specs.declared.row.Stream.{Stream}
 use Rattle.adb_history.specs.Rows.{Client, Link, State, to_stream, none_kept, with_stream_part}
 use Rattle.adb_history.specs.Events.{Made, Event, Ending, quietly, due_to_client, due_to_link, ended, peer_closed, out_of_turn, lost, broken}
-use Rattle.adb_history.specs.Links.{owe_link, close_packet, okay_packet, credit_word, is_connected}
+use Rattle.adb_history.specs.Links.{wants_sums, check_on, owe_link, close_packet, okay_packet, credit_word, is_connected}
 use Rattle.adb_history.specs.Clients.{owe_client}
 use Rattle.adb_history.specs.Streams.{ends_row, ends_telling}
 use Rattle.adb_history.specs.Flow.{with_flow}
 use Rattle.adb_history.specs.Losing.{forgets, link_ends}
-use Rattle.adb_history.specs.Packets.{least_version, least_maxdata, streams_end_first, goes_online, connects, cnxn, unauthorized_from, unauthorized, refuses_open}
+use Rattle.adb_history.specs.Packets.{least_version, least_maxdata, streams_end_first, goes_online, connects, cnxn, unauthorized_from, unauthorized}
+use Rattle.adb_history.specs.Packets.{refuses_open}
 use Rattle.adb_history.specs.Packets.{at_stream, with_remote, first_credit, hears_okay, opened, orphan_opened, acknowledged, okay_open, okay_first, takes_okay}
 use Rattle.adb_history.specs.Packets.{is_out_of_turn, accepted, accepts_none, accepts, takes_write, takes_close, treat_any, treat_on, treat}
 use Rattle.adb_history.specs.Births.{Opening, is_between, opening_by}
@@ -34,10 +36,10 @@ use Rattle.adb_history.proofs.PacketMoves.{hears_streams}
 use Rattle.adb_history.proofs.Numbers.{drawn_plain}
 use Rattle.adb_history.proofs.OutputEntries.{connected_is}
 use Rattle.adb_history.proofs.LinkMoves.{all_cleared, first_cleared}
-use Rattle.adb_births.specs.Going.{Was, GoOn, IsFrom, Goes}
+use Rattle.adb_births.specs.Going.{Was, GoOn, IsShort, IsFrom, Goes}
 use Rattle.adb_births.specs.Openings.{Skips, Hears, hears_nothing, hears_then, hears_open, hears_other, hears_opening}
-use Rattle.adb_births.specs.Hearing.{Heard, AllHear, IsAnswer, Treats}
-use Rattle.adb_births.proofs.Going.{go_on_same, go_on_gone, go_on_part, goes_quiet, goes_then, goes_if, one_from, goes_owe_client, goes_owe_link}
+use Rattle.adb_births.specs.Hearing.{Heard, AllHear, ClosesLate, IsAnswer, Treats}
+use Rattle.adb_births.proofs.Going.{go_on_same, go_on_gone, go_on_part, goes_quiet, goes_then, goes_if, one_from, check_short, goes_owe_client, goes_owe_link}
 use Rattle.adb_births.proofs.GoingEnds.{gone_not, ends_row_gone, goes_ends_row, goes_ends_telling, goes_all_end, goes_link_ends}
 
 -- ---- streams and packets
@@ -94,9 +96,13 @@ pub hear_skipping : (t : ℕ) (p : Packet) (x y : Rows (Option Stream)) → GoOn
     → ((l : ℕ) (b : Stream) → y l ≡ Some b → b.link ≡ t → Skips l p ⊎ (b.part.remote ≢ 0)) → AllHear t (p ∷ []) x y
 hear_skipping t p x y go skips l b is = heard_skipping t p l (x l) b (go l b is) (skips l b is)
 
+-- a CLSE is short
+short_close : (l remote : ℕ) (sums : Bool) → IsShort (close_packet l remote) (check_on sums (close_packet l remote))
+short_close l remote sums = record { size = omega arith; word = check_short sums (close_packet l remote) }
+
 answers : (streams : Rows (Option Stream)) (t : ℕ) (p : Packet) (e : Event) → IsFrom streams e → IsAnswer streams t p e
 answers streams t p (due_to_client client bytes) h = tt
-answers streams t p (due_to_link link q check) h = inl h
+answers streams t p (due_to_link link q check) h = (inl h.0, h.1)
 answers streams t p (ended stream ending) h = tt
 
 treats_goes : (t : ℕ) (p : Packet) (streams : Rows (Option Stream)) (drawn : ℕ) (m : Made) → Goes streams drawn m
@@ -174,7 +180,11 @@ module _ (t : ℕ) (p : Packet) (s : State) (h : IsLinked s) where
   -- ---- AUTH, STLS and OPEN
   treats_same : (next : State) → next.streams ≡ s.streams → next.drawn ≡ s.drawn → ((l : ℕ) → Skips l p) → Treats t p s.streams s.drawn (quietly next)
   treats_same next same drawn skips = treats_goes t p s.streams s.drawn (quietly next)
-      (record { rows = subst (λ (x : Rows (Option Stream)). GoOn s.streams x) (sym same) (go_on_same s.streams); drawn_is = drawn; told = All-nil (IsFrom s.streams) })
+      (record {
+        rows = subst (λ (x : Rows (Option Stream)). GoOn s.streams x) (sym same) (go_on_same s.streams);
+        drawn_is = drawn;
+        told = All-nil (IsFrom s.streams);
+      })
       (λ l b is on. inl (skips l))
 
   treats_quiet : ((l : ℕ) (b : Stream) → s.streams l ≡ Some b → b.link ≡ t → Skips l p ⊎ (b.part.remote ≢ 0)) → Treats t p s.streams s.drawn (quietly s)
@@ -206,7 +216,7 @@ module _ (t : ℕ) (p : Packet) (s : State) (h : IsLinked s) where
         hear = hear_skipping t p s.streams s.streams (go_on_same s.streams) (λ l b there on. inl (skips l));
         drawn_is = refl;
         told = All-cons (IsAnswer s.streams t p) (due_to_link t (close_packet 0 p.arg0) _) []
-            (inr (inl (record { on = refl; asks = is; packet = refl }))) (All-nil (IsAnswer s.streams t p));
+            (inr (inl (record { on = refl; asks = is; packet = refl })), short_close 0 p.arg0 (wants_sums (s.links t))) (All-nil (IsAnswer s.streams t p));
       }
 
   -- ---- what concerns one stream of the link
@@ -241,7 +251,7 @@ module _ (t : ℕ) (p : Packet) (s : State) (h : IsLinked s) where
     goes_accepts_none : (flow : Flow) → stream.part.remote ≢ 0 → Goes s.streams s.drawn (accepts_none flow p.arg1 stream s)
     goes_accepts_none (One window) known =
         goes_owe_link p.arg1 stream (okay_packet p.arg1 stream.part.remote) s
-        (record { row = stream; is = is; link = refl; remote = refl; known = known }) (record { from = refl; to = refl; of = tt })
+        (record { row = stream; is = is; link = refl; remote = refl; known = known }) (record { from = refl; to = refl; of = tt; size = omega arith })
     goes_accepts_none (Credit credit) known = goes_quiet s
 
     credit_accepted : (n : ℕ) (flow : Flow) → has_credit (accepted n flow) ≡ has_credit flow
@@ -296,21 +306,17 @@ module _ (t : ℕ) (p : Packet) (s : State) (h : IsLinked s) where
         go false false e = treats_goes_at (quietly s) (goes_quiet s) (skips e)
 
     -- ---- OKAY
+    closes_late : p.command ≡ Okay → p.arg0 ≢ 0 → stream.part.remote ≡ 0 → ClosesLate s.streams t p stream.link (close_packet p.arg1 p.arg0)
+    closes_late okay known fresh =
+        record { stream = stream; is = is; own = on_t; on = on_t; fresh = fresh; okay = okay; known = known; packet = refl }
+
     fresh_orphan : p.command ≡ Okay → p.arg0 ≢ 0 → stream.part.remote ≡ 0 → Treats t p s.streams s.drawn (orphan_opened p.arg1 p.arg0 stream s)
     fresh_orphan okay known fresh = record {
       hear = hear_skipping t p s.streams (to_stream p.arg1 none_kept s).streams (go_on_gone s.streams p.arg1)
           (λ l b there on. inl (okay_apart l p okay (gone_not s.streams p.arg1 l b there)));
       drawn_is = refl;
-      told = All-cons (IsAnswer s.streams t p) (due_to_link stream.link (close_packet p.arg1 p.arg0) _) [] (inr (inr (record {
-        stream = stream;
-        is = is;
-        own = on_t;
-        on = on_t;
-        fresh = fresh;
-        okay = okay;
-        known = known;
-        packet = refl;
-      }))) (All-nil (IsAnswer s.streams t p));
+      told = All-cons (IsAnswer s.streams t p) (due_to_link stream.link (close_packet p.arg1 p.arg0) _) []
+          (inr (inr (closes_late okay known fresh)), short_close p.arg1 p.arg0 (wants_sums (s.links stream.link))) (All-nil (IsAnswer s.streams t p));
     }
 
     credit_first : (word : Option ℕ) (flow : Flow) → has_credit (first_credit word flow) ≡ has_credit flow

@@ -41,7 +41,8 @@ born_next e older b is room =
     ∙ (ap (λ (bs : List Birth). slice_get (births older ++ bs) (length (births older))) is ∙ slice_next (births older) b)
 
 -- ---- where a birth stands
-through_place : (c : ℕ) (older : History) (o : Option ForwardRow) (b : Birth) → birth_through c older o ≡ b ∷ [] → b.packets_before ≡ length (brought b.link older)
+through_place : (c : ℕ) (older : History) (o : Option ForwardRow) (b : Birth) → birth_through c older o ≡ b ∷ []
+    → b.packets_before ≡ length (brought b.link older)
 through_place c older None b is = absurd (let clash : [] ≡ b ∷ [] = is in cc)
 through_place c older (Some row) b is = go (is_connected row.transport (devices older)) is
   where

@@ -1,5 +1,5 @@
 -- What an entry makes of the streams by which one may be born.
-use Rattle.std.specs.Prelude.{ℕ, ◌+◌, ◌≡◌, ◌≢◌, ◌⊎◌, All, List, [], ◌∷◌, ◌++◌, Option, Some}
+use Rattle.std.specs.Prelude.{ℕ, ◌+◌, ◌^◌, ◌≡◌, ◌≢◌, ◌<◌, ◌⊎◌, All, List, [], ◌∷◌, ◌++◌, Option, Some}
 use Rattle.adb_outside.specs.Tables.{Rows, put_row}
 use Rattle.adb_stream.specs.Flow.{new_flow}
 use Rattle.adb_stream.specs.Stream.{new_stream}
@@ -20,6 +20,7 @@ pub record Draws (streams : Rows (Option Stream)) (drawn : ℕ) (b : Birth) (m :
   pub drawn_is : m.state.drawn ≡ drawn + 1
   pub first : List Event
   pub check : ℕ
+  pub word : check < 2 ^ 32
   pub last : List Event
   pub told_is : m.told ≡ first ++ due_to_link b.link (open_packet b.credit (drawn + 1) b.service) check ∷ last
   pub before : All (IsFrom streams) first

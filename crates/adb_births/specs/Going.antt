@@ -1,8 +1,9 @@
 -- What a rule makes of the streams that live, and of which of them the packets are that it tells.
-use Rattle.std.specs.Prelude.{ℕ, ◌≡◌, ◌≢◌, All, Option, Some}
+use Rattle.std.specs.Prelude.{ℕ, ◌^◌, ◌≡◌, ◌≢◌, ◌≤◌, ◌<◌, length, All, Option, Some}
 use Rattle.adb_outside.specs.Tables.{Rows}
 use Rattle.adb_wire.specs.declared.command.Command.{Command}
 use Rattle.adb_wire.specs.declared.command.Command.TheVariants.{Okay, Wrte, Clse}
+use Rattle.adb_wire.specs.declared.headers.TheConstants.{MAX_PAYLOAD}
 use Rattle.adb_wire.specs.declared.packets.Packet.{Packet}
 use Rattle.adb_stream.specs.declared.row.Stream.{Stream}
 use Rattle.adb_history.specs.Events.{Made, Event, due_to_client, due_to_link, ended}
@@ -42,9 +43,14 @@ pub record IsOfRow (streams : Rows (Option Stream)) (t : ℕ) (p : Packet) : Typ
   pub remote : p.arg1 ≡ stream.part.remote
   pub of : IsOfOpen p.command
 
+-- a packet that is not too long, and a check word that is a word
+pub record IsShort (p : Packet) (check : ℕ) : Type 0 where
+  pub size : length p.payload ≤ MAX_PAYLOAD
+  pub word : check < 2 ^ 32
+
 abbrev pub IsFrom : Rows (Option Stream) → Event → Type 0
 IsFrom streams (due_to_client client bytes) = Unit {0}
-IsFrom streams (due_to_link link packet check) = IsOfRow streams link packet
+IsFrom streams (due_to_link link packet check) = IsOfRow streams link packet × IsShort packet check
 IsFrom streams (ended stream ending) = Unit {0}
 
 -- What a rule makes of these streams: none is drawn, each that is left goes on as it is, and the packets told are those of open streams.

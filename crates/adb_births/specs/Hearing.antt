@@ -7,7 +7,7 @@ use Rattle.adb_stream.specs.declared.row.Stream.{Stream}
 use Rattle.adb_history.specs.Events.{Made, Event, due_to_client, due_to_link, ended}
 use Rattle.adb_history.specs.Links.{close_packet}
 use Rattle.adb_history.specs.Fifo.{has_credit}
-use Rattle.adb_births.specs.Going.{IsOfRow}
+use Rattle.adb_births.specs.Going.{IsOfRow, IsShort}
 use Rattle.adb_births.specs.Openings.{Hears}
 
 -- A stream was there before these packets of a link, and has heard them where it is one of the link.
@@ -44,7 +44,7 @@ pub record ClosesLate (streams : Rows (Option Stream)) (t : ℕ) (p : Packet) (l
 -- what becomes due by a packet
 abbrev pub IsAnswer : Rows (Option Stream) → ℕ → Packet → Event → Type 0
 IsAnswer streams t p (due_to_client client bytes) = Unit {0}
-IsAnswer streams t p (due_to_link link q check) = IsOfRow streams link q ⊎ (Refuses t p link q ⊎ ClosesLate streams t p link q)
+IsAnswer streams t p (due_to_link link q check) = (IsOfRow streams link q ⊎ (Refuses t p link q ⊎ ClosesLate streams t p link q)) × IsShort q check
 IsAnswer streams t p (ended stream ending) = Unit {0}
 
 -- What a packet of a link makes of these streams.

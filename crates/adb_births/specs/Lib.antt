@@ -4,3 +4,5 @@ pub mod Hearing
 pub mod Drawing
 pub mod Births
 pub mod Born
+pub mod Brought
+pub mod Sending
