@@ -13,3 +13,7 @@ pub mod Framed
 pub mod Sent
 pub mod Once
 pub mod Crossing
+pub mod Ending
+pub mod EndingRules
+pub mod Endings
+pub mod Laws

@@ -207,7 +207,7 @@ module _ (older : History) (legal : IsLegal older) where
       All-append AsksNone treated.told left.told (treated_none t c.given taken (rested_linked older legal t bytes link))
       (goes_none treated.state.streams treated.state.drawn left (goes_faulty (treated.state.links t) t c.fault treated.state))
 
-  recv_same : (t : ℕ) (bytes : List ℕ) (o : Option Link) → (receives_on o t bytes s).state.drawn ≡ s.drawn
+  pub recv_same : (t : ℕ) (bytes : List ℕ) (o : Option Link) → (receives_on o t bytes s).state.drawn ≡ s.drawn
   recv_same t bytes None = refl
   recv_same t bytes (Some link) = cut_drawn older legal t bytes link
 

@@ -44,19 +44,20 @@ use Rattle.adb_births.proofs.GoingEnds.{gone_not, ends_row_gone, goes_ends_row, 
 
 -- ---- streams and packets
 -- packets that a stream has heard already change nothing
+pub heard_still : (t l : ℕ) (before : Option Stream) (b : Stream) → Was before b → Heard t [] l before b
+heard_still t l before b was = record {
+  stream = was.stream;
+  is = was.is;
+  id = was.same.id;
+  client = was.same.client;
+  link = was.same.link;
+  credit = was.same.credit;
+  here = λ on. subst (λ (n : ℕ). Hears l [] was.stream.part.remote n) (sym was.same.remote) (hears_nothing l was.stream.part.remote);
+  other = λ off. was.same.remote;
+}
+
 pub hear_going : (t : ℕ) (x y : Rows (Option Stream)) → GoOn x y → AllHear t [] x y
-hear_going t x y go l b is =
-    let was = go l b is in
-    record {
-      stream = was.stream;
-      is = was.is;
-      id = was.same.id;
-      client = was.same.client;
-      link = was.same.link;
-      credit = was.same.credit;
-      here = λ on. subst (λ (n : ℕ). Hears l [] was.stream.part.remote n) (sym was.same.remote) (hears_nothing l was.stream.part.remote);
-      other = λ off. was.same.remote;
-    }
+hear_going t x y go l b is = heard_still t l (x l) b (go l b is)
 
 pub hear_then : (t : ℕ) (ps qs : List Packet) (x y z : Rows (Option Stream)) → AllHear t ps x y → AllHear t qs y z → AllHear t (ps ++ qs) x z
 hear_then t ps qs x y z h k l b is =

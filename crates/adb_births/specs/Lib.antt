@@ -6,3 +6,5 @@ pub mod Births
 pub mod Born
 pub mod Brought
 pub mod Sending
+pub mod Ending
+pub mod Laws
