@@ -17,3 +17,5 @@ pub mod Ending
 pub mod EndingRules
 pub mod Endings
 pub mod Laws
+pub mod Single
+pub mod Forwarded

@@ -8,3 +8,4 @@ pub mod Brought
 pub mod Sending
 pub mod Ending
 pub mod Laws
+pub mod Single

@@ -14,8 +14,8 @@ pub fn streams_are_born()
     ensures { (history : List Entry) → IsLegal history → HasBirths history }
 {}
 
-/// And each that lives has heard what its link brought since: nothing of an opening, while the id of
-/// its device is not known, and else its opening.
+/// And each that lives has heard what its link brought since: nothing of an opening while the id
+/// of its device is not known, and else its opening.
 pub fn streams_hear_their_links()
     ensures { (history : List Entry) → IsLegal history → AreBorn history }
 {}
