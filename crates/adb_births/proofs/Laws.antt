@@ -3,8 +3,10 @@ use Rattle.std.proofs.Common.{◌≡◌, ◌≢◌, ℕ, ◌+◌, Bool, true, fa
 use Rattle.std.proofs.Common.{inl, inr, eqb, arith}
 use Rattle.std.proofs.lemmas.Bool.{eqb-true, eqb-false}
 use Rattle.std.proofs.lemmas.List.{append-nil}
+use Rattle.std.specs.Option.{option_or}
 use Rattle.adb_outside.specs.Framing.{Cut}
 use Rattle.adb_outside.specs.declared.kinds.Kind.{Kind}
+use Rattle.adb_wire.specs.Cutting.{framed}
 use Rattle.adb_wire.specs.declared.packets.Packet.{Packet}
 use Rattle.adb_wire.specs.declared.format.PacketFault.{PacketFault}
 use Rattle.adb_wire.specs.declared.format.PacketFormat.{PacketFormat}
@@ -14,9 +16,10 @@ use Rattle.adb_stream.specs.declared.row.Stream.{Stream}
 use Rattle.adb_capture.specs.declared.entry.Entry.{Entry}
 use Rattle.adb_capture.specs.declared.entry.Entry.TheVariants.{Join, Enter, Read, End, Bound, Attach, Recv, Detach, Put, Send}
 use Rattle.adb_history.specs.Rows.{Link, State}
+use Rattle.adb_history.specs.Events.{Ending, ending_in}
 use Rattle.adb_history.specs.Packets.{receives_on}
-use Rattle.adb_history.specs.Machine.{History, state, rule, ups, step, IsLegal}
-use Rattle.adb_history.specs.Bytes.{brought}
+use Rattle.adb_history.specs.Machine.{History, state, told, told_at, rule, ups, step, IsLegal}
+use Rattle.adb_history.specs.Bytes.{bytes_sent, brought, sent}
 use Rattle.adb_history.specs.Births.{Birth, births_at}
 use Rattle.adb_history.specs.Fifo.{has_credit}
 use Rattle.adb_history.proofs.OwnedStep.{all_owned}
@@ -26,7 +29,7 @@ use Rattle.adb_births.specs.Hearing.{Heard, AllHear}
 use Rattle.adb_births.specs.Drawing.{with_drawn, Draws, Opens, Makes}
 use Rattle.adb_births.specs.Births.{born_stays}
 use Rattle.adb_births.specs.Born.{AreBorn}
-use Rattle.adb_births.specs.Brought.{brought_grows, opening_grows, remote_grows}
+use Rattle.adb_births.specs.Brought.{ComeFirst, come_first_same, framed_front, brought_grows, opening_grows, remote_grows}
 use Rattle.adb_births.specs.Laws.{DrawsBy, CameFrom, CameNow, DrawsAtMostOne, BringsCut, SendsFirst, GoesOn}
 use Rattle.adb_births.proofs.Going.{go_on_same, go_on_then}
 use Rattle.adb_births.proofs.GoingRules.{goes_puts, goes_client_ends, goes_bound, goes_unplugs}
@@ -34,7 +37,8 @@ use Rattle.adb_births.proofs.Treating.{heard_still}
 use Rattle.adb_births.proofs.Drawing.{goes_as, makes_goes, reads_make, enters_make}
 use Rattle.adb_births.proofs.Receiving.{cut_now, brought_other, brought_more, none_on, hears_cut, hear_on}
 use Rattle.adb_births.proofs.Born.{goes_ups, all_born}
-use Rattle.adb_births.proofs.Once.{recv_same}
+use Rattle.adb_births.proofs.Ending.{ending_append}
+use Rattle.adb_births.proofs.Once.{packets_append, recv_same}
 use Rattle.adb_births.proofs.Sent.{framed_told, sent_first, sent_packets_first}
 
 -- ---- what a link brings
@@ -234,10 +238,30 @@ draws_at_most_one (Put c bytes) older l =
 draws_at_most_one (Send t bytes) older l = rule_draws older l.0 (Send t bytes) l (λ k. refl) (goes_as (state older) _ refl refl)
 
 -- ---- more comes
+-- What was sent to a link comes first in what was sent to it later.
+sent_grows : (t : ℕ) (e : Entry) (older : History) → ComeFirst (sent t older) (sent t (e ∷ older))
+sent_grows t (Send n bytes) older = go (eqb n t)
+  where
+    go : (b : Bool) → ComeFirst (sent t older) (framed (cond b (bytes_sent t older ++ bytes) (bytes_sent t older))).given
+    go true = framed_front (bytes_sent t older) bytes
+    go false = come_first_same (sent t older)
+sent_grows t (Join c) older = come_first_same (sent t older)
+sent_grows t (Enter c port) older = come_first_same (sent t older)
+sent_grows t (Read c bytes) older = come_first_same (sent t older)
+sent_grows t (End c cause) older = come_first_same (sent t older)
+sent_grows t (Bound c port) older = come_first_same (sent t older)
+sent_grows t (Attach n kind serial) older = come_first_same (sent t older)
+sent_grows t (Recv n bytes) older = come_first_same (sent t older)
+sent_grows t (Detach n cause) older = come_first_same (sent t older)
+sent_grows t (Put c bytes) older = come_first_same (sent t older)
+
 pub goes_on_so : (e : Entry) (older : History) → GoesOn e older
 goes_on_so e older = record {
   births = λ l b is. born_stays l e older b is;
   brings = λ t. brought_grows t e older;
   opening = λ l b o is. opening_grows l b e older o is;
   remote = λ l b known. remote_grows l b e older known;
+  ending = λ l x is. ending_append l (told older) (told_at e older) ∙ ap (λ (o : Option Ending). option_or o (ending_in l (told_at e older))) is;
+  owes = λ t. packets_append t (told older) (told_at e older);
+  sends = λ t. sent_grows t e older;
 }

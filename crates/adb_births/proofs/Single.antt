@@ -23,7 +23,7 @@ use Rattle.adb_history.specs.Tied.{came_count}
 use Rattle.adb_history.proofs.BookReads.{and_parts}
 use Rattle.adb_history.proofs.BookTurns.{all_unheard}
 use Rattle.adb_history.proofs.Numbers.{counted, next_number}
-use Rattle.adb_births.specs.Single.{ByClient, IsBirthOf, HasOneStreamEach}
+use Rattle.adb_births.specs.Single.{ByClient, head_by, IsBirthOf, HasOneStreamEach}
 use Rattle.adb_births.specs.Laws.{DrawsBy}
 use Rattle.adb_births.proofs.Laws.{draws_at_most_one}
 
@@ -96,10 +96,18 @@ came_more (Put n bytes) older = omega arith
 came_more (Send t bytes) older = omega arith
 
 birth_stays : (e : Entry) (older : History) (b : Birth) → IsLegal (e ∷ older) → IsBirthOf older b → IsBirthOf (e ∷ older) b
-birth_stays e older b legal h = record { came = omega (arith, h.came, came_more e older); client = go b.forwarded h.client }
+birth_stays e older b legal h = record {
+  came = omega (arith, h.came, came_more e older);
+  client = go b.forwarded h.client;
+  head = h.head ∙ sym (same_head b.forwarded h.client);
+}
   where
     joined : has_joined b.client (e ∷ older) ≡ has_joined b.client older
     joined = joined_stays b.client e older legal h.came
+
+    same_head : (forwarded : Bool) → ByClient forwarded b.client older → head_by forwarded b.client (e ∷ older) ≡ head_by forwarded b.client older
+    same_head true none = refl
+    same_head false by = ap (λ (q : Asked). q.used) (asked_stays b.client e older by.1)
 
     go : (forwarded : Bool) → ByClient forwarded b.client older → ByClient forwarded b.client (e ∷ older)
     go true none = joined ∙ none
@@ -139,12 +147,15 @@ module _ (c : ℕ) (bytes : List ℕ) (older : History) (legal : IsLegal (Read c
     joined : has_joined c older ≡ true
     joined = (and_parts (has_joined c older) (not (has_ended c older)) (still_asks (asked c older)) asking).0
 
-    read_first : (b : Birth) → b.client ≡ c → b.forwarded ≡ false → IsFirstOf (Read c bytes) older b
-    read_first b client forwarded = record {
+    read_first : (b : Birth) → (b.client ≡ c) × (b.forwarded ≡ false) × (b.head ≡ (asked c (Read c bytes ∷ older)).used)
+        → IsFirstOf (Read c bytes) older b
+    read_first b (client, forwarded, head) = record {
       is = record {
         came = omega (arith, client, legal.2.1.1, (counted older).joined);
         client = subst (λ (f : Bool). ByClient f b.client (Read c bytes ∷ older)) (sym forwarded)
             (subst (λ (k : ℕ). ByClient false k (Read c bytes ∷ older)) (sym client) (joined, parts.1));
+        head = subst (λ (f : Bool). b.head ≡ head_by f b.client (Read c bytes ∷ older)) (sym forwarded)
+            (subst (λ (k : ℕ). b.head ≡ (asked k (Read c bytes ∷ older)).used) (sym client) head);
       };
       first = λ x of same. clashes x.forwarded (same ∙ client) of.client;
     }
@@ -154,31 +165,32 @@ module _ (c : ℕ) (bytes : List ℕ) (older : History) (legal : IsLegal (Read c
         clashes false {k} same by =
             let clash : true ≡ false = sym by.1 ∙ (ap (λ (n : ℕ). is_some (asked n older).next) same ∙ ap is_some parts.0) in cc
 
-  by_first : (head : ℕ) (next : Option Next) (b : Birth)
+  by_first : (next : Option Next) (b : Birth)
       → (is_some next ≡ true → is_some (newly (asked c older).next (asked c (Read c bytes ∷ older)).next) ≡ true)
-      → birth_by c head older next ≡ b ∷ [] → IsFirstOf (Read c bytes) older b
-  by_first head (Some (what.Open t service)) b new is =
+      → birth_by c (asked c (Read c bytes ∷ older)).used older next ≡ b ∷ [] → IsFirstOf (Read c bytes) older b
+  by_first (Some (what.Open t service)) b new is =
       let here : Birth = record {
         client = c;
         link = t;
         credit = is_credit t (devices older);
         forwarded = false;
         service = service;
-        head = head;
+        head = (asked c (Read c bytes ∷ older)).used;
         packets_before = length (brought t older);
       } in
       let both : here ∷ [] ≡ b ∷ [] = is in
       let same : here ≡ b = cc in
-      read_first (new refl) b (ap (λ (x : Birth). x.client) (sym same)) (ap (λ (x : Birth). x.forwarded) (sym same))
-  by_first head None b new is = absurd (let clash : [] ≡ b ∷ [] = is in cc)
-  by_first head (Some what.Close) b new is = absurd (let clash : [] ≡ b ∷ [] = is in cc)
-  by_first head (Some (what.Select id)) b new is = absurd (let clash : [] ≡ b ∷ [] = is in cc)
-  by_first head (Some (what.Track long)) b new is = absurd (let clash : [] ≡ b ∷ [] = is in cc)
-  by_first head (Some (what.Bind t local remote chosen)) b new is = absurd (let clash : [] ≡ b ∷ [] = is in cc)
-  by_first head (Some (what.Rebind t local remote)) b new is = absurd (let clash : [] ≡ b ∷ [] = is in cc)
-  by_first head (Some (what.Unbind local)) b new is = absurd (let clash : [] ≡ b ∷ [] = is in cc)
-  by_first head (Some what.UnbindAll) b new is = absurd (let clash : [] ≡ b ∷ [] = is in cc)
-  by_first head (Some what.Stop) b new is = absurd (let clash : [] ≡ b ∷ [] = is in cc)
+      read_first (new refl) b
+      (ap (λ (x : Birth). x.client) (sym same), ap (λ (x : Birth). x.forwarded) (sym same), ap (λ (x : Birth). x.head) (sym same))
+  by_first None b new is = absurd (let clash : [] ≡ b ∷ [] = is in cc)
+  by_first (Some what.Close) b new is = absurd (let clash : [] ≡ b ∷ [] = is in cc)
+  by_first (Some (what.Select id)) b new is = absurd (let clash : [] ≡ b ∷ [] = is in cc)
+  by_first (Some (what.Track long)) b new is = absurd (let clash : [] ≡ b ∷ [] = is in cc)
+  by_first (Some (what.Bind t local remote chosen)) b new is = absurd (let clash : [] ≡ b ∷ [] = is in cc)
+  by_first (Some (what.Rebind t local remote)) b new is = absurd (let clash : [] ≡ b ∷ [] = is in cc)
+  by_first (Some (what.Unbind local)) b new is = absurd (let clash : [] ≡ b ∷ [] = is in cc)
+  by_first (Some what.UnbindAll) b new is = absurd (let clash : [] ≡ b ∷ [] = is in cc)
+  by_first (Some what.Stop) b new is = absurd (let clash : [] ≡ b ∷ [] = is in cc)
 
 through_first : (c port : ℕ) (older : History) (o : Option ForwardRow) (b : Birth) → IsLegal (Enter c port ∷ older) → birth_through c older o ≡ b ∷ []
     → IsFirstOf (Enter c port) older b
@@ -201,7 +213,7 @@ through_first c port older (Some row) b legal is = go (is_connected row.transpor
 
     mine : IsFirstOf (Enter c port) older here
     mine = record {
-      is = record { came = omega (arith, number); client = (all_unheard older legal.0 c (omega (arith, number))).joined };
+      is = record { came = omega (arith, number); client = (all_unheard older legal.0 c (omega (arith, number))).joined; head = refl };
       first = λ x of same. omega (arith, of.came, same, number);
     }
 
@@ -211,7 +223,7 @@ through_first c port older (Some row) b legal is = go (is_connected row.transpor
 
 entry_first : (e : Entry) (older : History) (b : Birth) → IsLegal (e ∷ older) → births_at e older ≡ b ∷ [] → IsFirstOf e older b
 entry_first (Read c bytes) older b legal is =
-    by_first c bytes older legal (asked c (Read c bytes ∷ older)).used (newly (asked c older).next (asked c (Read c bytes ∷ older)).next) b (λ some. some) is
+    by_first c bytes older legal (newly (asked c older).next (asked c (Read c bytes ∷ older)).next) b (λ some. some) is
 entry_first (Enter c port) older b legal is = through_first c port older (at port (forwards older)) b legal is
 entry_first (Join c) older b legal is = absurd (let clash : [] ≡ b ∷ [] = is in cc)
 entry_first (End c cause) older b legal is = absurd (let clash : [] ≡ b ∷ [] = is in cc)

@@ -6,12 +6,12 @@ use Rattle.adb_stream.specs.declared.row.Stream.{Stream}
 use Rattle.adb_capture.specs.declared.entry.Entry.{Entry}
 use Rattle.adb_capture.specs.declared.entry.Entry.TheVariants.{Recv}
 use Rattle.adb_history.specs.Rows.{Link}
-use Rattle.adb_history.specs.Events.{spelled_to}
+use Rattle.adb_history.specs.Events.{Ending, packets_to, spelled_to}
 use Rattle.adb_history.specs.Streams.{stream_ids}
-use Rattle.adb_history.specs.Machine.{History, state, told}
+use Rattle.adb_history.specs.Machine.{History, state, told, told_at}
 use Rattle.adb_history.specs.Bytes.{bytes_sent, brought, sent}
 use Rattle.adb_history.specs.Births.{Birth, births_at, born, Opening, opening_of, remote_of}
-use Rattle.adb_history.specs.Lives.{packets_of}
+use Rattle.adb_history.specs.Lives.{packets_of, ending_of}
 use Rattle.adb_history.specs.Fifo.{has_credit}
 use Rattle.adb_births.specs.Hearing.{Heard}
 use Rattle.adb_births.specs.Brought.{ComeFirst}
@@ -71,10 +71,13 @@ pub record SendsFirst (h : History) (t : ℕ) : Type 0 where
   pub first : ComeFirst (sent t h) (packets_of t h)
 
 -- ---- more comes
--- What an entry adds stays behind what was: births, what links brought, and openings.
+-- What an entry adds comes behind what was: births, what links brought and were sent, openings and endings stay.
 pub record GoesOn (e : Entry) (older : History) : Type 0 where
   pub births : (l : ℕ) (b : Birth) → born l older ≡ Some b → born l (e ∷ older) ≡ Some b
   pub brings : (t : ℕ) → ComeFirst (brought t older) (brought t (e ∷ older))
   pub opening : (l : ℕ) (b : Birth) (o : Opening) → opening_of l b older ≡ Some o
       → (more : List Packet) × (opening_of l b (e ∷ older) ≡ Some (opened_with more o))
   pub remote : (l : ℕ) (b : Birth) → remote_of l b older ≢ 0 → remote_of l b (e ∷ older) ≡ remote_of l b older
+  pub ending : (l : ℕ) (x : Ending) → ending_of l older ≡ Some x → ending_of l (e ∷ older) ≡ Some x
+  pub owes : (t : ℕ) → packets_of t (e ∷ older) ≡ packets_of t older ++ packets_to t (told_at e older)
+  pub sends : (t : ℕ) → ComeFirst (sent t older) (sent t (e ∷ older))

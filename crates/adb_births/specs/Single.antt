@@ -12,10 +12,16 @@ abbrev pub ByClient : Bool → ℕ → History → Type 0
 ByClient false c h = (has_joined c h ≡ true) × (is_some (asked c h).next ≡ true)
 ByClient true c h = has_joined c h ≡ false
 
--- a birth is of a client that came
+-- how many bytes of a client come before those of its stream: those of its requests
+abbrev pub head_by : Bool → ℕ → History → ℕ
+head_by false c h = (asked c h).used
+head_by true c h = 0
+
+-- a birth is of a client that came, and its stream begins past the requests
 pub record IsBirthOf (h : History) (b : Birth) : Type 0 where
   pub came : b.client ≤ came_count h
   pub client : ByClient b.forwarded b.client h
+  pub head : b.head ≡ head_by b.forwarded b.client h
 
 abbrev pub AreOfClients : History → Type 0
 AreOfClients h = (l : ℕ) (b : Birth) → born l h ≡ Some b → IsBirthOf h b
