@@ -249,7 +249,8 @@ module _ (l : ℕ) (b : Birth) (older : History) (h : IsCarried l b older) where
 
           begins : Begins (rises_climbs l b.link b.client (rest_of l b older ++ bytes)) (Read b.client bytes) (state older) (told older)
           begins = subst
-              (λ (o : Option Client). ReadsOf (rises_climbs l b.link b.client (rest_of l b older ++ bytes)) (state older) (told older) o b.client bytes) (sym here) (by_phase x.about.phase of)
+              (λ (o : Option Client). ReadsOf (rises_climbs l b.link b.client (rest_of l b older ++ bytes)) (state older) (told older) o b.client bytes)
+              (sym here) (by_phase x.about.phase of)
 
           rule_is : (phase : Phase) → IsOf l phase
               → reads_in phase b.client bytes x (state older) ≡ quietly (to_client b.client (with_held (x.held ++ bytes)) (state older))

@@ -1,13 +1,21 @@
 -- What is sent of a stream is a front of what was told of it.
-use Rattle.std.proofs.Common.{◌≡◌, ℕ, List, ◌++◌, sym, ap, ◌∙◌, append_assoc}
+use Rattle.std.proofs.Common.{◌≡◌, ℕ, ◌<◌, zero, suc, true, List, [], ◌∷◌, ◌++◌, length, get_or, refl, sym, ap, subst, ◌∙◌, append_assoc, arith, eqb}
+use Rattle.std.specs.Prelude.{◌&&◌, Contains}
+use Rattle.std.proofs.lemmas.Bool.{eq-eqb}
+use Rattle.std.proofs.lemmas.List.{append-nil}
 use Rattle.adb_outside.specs.Bytes.{IsPrefixOf}
+use Rattle.adb_wire.specs.declared.packets.Packet.{Packet}
+use Rattle.adb_history.specs.Links.{close_packet}
 use Rattle.adb_history.specs.Machine.{History, IsLegal}
 use Rattle.adb_history.specs.Bytes.{sent}
-use Rattle.adb_history.specs.Births.{carried_in}
+use Rattle.adb_history.specs.Births.{carried_in, is_clse, remote_of}
 use Rattle.adb_history.specs.Lives.{packets_of, rest_of, carried_of}
-use Rattle.adb_history.specs.Fifo.{CarriesRest}
+use Rattle.adb_history.specs.Fifo.{CarriesRest, CarriesWholeRest}
 use Rattle.adb_fifo_up.specs.Carrying.{AllHaveBirths, SendsFront}
 use Rattle.adb_fifo_up.proofs.Seeing.{carried_in_append}
+use Rattle.adb_fifo_up.proofs.BirthSteps.{born_drawn}
+use Rattle.adb_fifo_up.proofs.Shutting.{has_close, IsLast, last_split, or_left, or_right}
+use Rattle.adb_fifo_up.proofs.Shuts.{all_shut}
 use Rattle.adb_fifo_up.proofs.Carried.{all_carried}
 
 -- a front of a front
@@ -20,3 +28,26 @@ up births h legal front l b is =
     let sent_front = front b.link in
     front_then (carried_of l b h) (carried_in l sent_front.0) (carried_in l (packets_of b.link h)) rises.front.0 (rest_of l b h)
     (sym (carried_in_append l (sent b.link h) sent_front.0) ∙ ap (carried_in l) sent_front.1) rises.front.1
+
+-- ---- all of it, where the client closed
+-- a packet that closes a stream closes it wherever it stands
+close_at : (l k : ℕ) (ps : List Packet) (p : Packet) → is_clse p.command ≡ true → p.arg0 ≡ l → k < length ps → get_or ps k p ≡ p → has_close l ps ≡ true
+close_at l k [] p closes own within is = absurd (omega (arith, within))
+close_at l zero (q ∷ ps) p closes own within is = or_left (is_clse q.command && eqb q.arg0 l) (has_close l ps)
+    (rw (ap (λ (r : Packet). is_clse r.command) is ∙ closes) (eq-eqb q.arg0 l (ap (λ (r : Packet). r.arg0) is ∙ own)))
+close_at l (suc k) (q ∷ ps) p closes own within is =
+    or_right (is_clse q.command && eqb q.arg0 l) (has_close l ps) (close_at l k ps p closes own (omega (arith, within)) is)
+
+close_in : (l : ℕ) (ps : List Packet) (p : Packet) → is_clse p.command ≡ true → p.arg0 ≡ l → Contains ps p → has_close l ps ≡ true
+close_in l ps p closes own has = close_at l has.0 ps p closes own has.1 has.2
+
+pub up_whole : AllHaveBirths → (h : History) → IsLegal h → SendsFront h → CarriesWholeRest h
+up_whole births h legal front l b is ends closed =
+    let rises = (all_carried births h legal l b is).rises in
+    let drawn = born_drawn l b h (births h legal) is in
+    let sent_front = front b.link in
+    let last : IsLast l (sent b.link h ++ sent_front.0) = subst (IsLast l) (sym sent_front.1) ((all_shut l drawn.0 h legal).last b.link) in
+    let none : carried_in l sent_front.0 ≡ [] =
+    last_split l (sent b.link h) sent_front.0 last (close_in l (sent b.link h) (close_packet l (remote_of l b h)) refl refl closed) in
+    sym (append-nil (carried_of l b h)) ∙ (ap (λ y. carried_of l b h ++ y) (sym none)
+    ∙ (sym (carried_in_append l (sent b.link h) sent_front.0) ∙ (ap (carried_in l) sent_front.1 ∙ rises.whole ends)))

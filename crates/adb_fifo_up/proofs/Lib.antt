@@ -1,5 +1,6 @@
 pub mod Seeing
 pub mod Asides
+pub mod Shutting
 pub mod Ends
 pub mod OwnedPackets
 pub mod StreamClimbs
@@ -17,3 +18,4 @@ pub mod Lasts
 pub mod Born
 pub mod Carried
 pub mod Fifo
+pub mod Shuts

@@ -130,7 +130,7 @@ silent_apart l (ended stream ending ∷ u) h =
     let rest = silent_apart l u h.1 in
     record { carries = rest.carries; lives = ap (λ (b : Bool). cond b (Some ending) (ending_in l u)) h.0 ∙ rest.lives }
 
-aside_apart : (l : ℕ) (e : Event) → IsAside e → IsApart l e
+pub aside_apart : (l : ℕ) (e : Event) → IsAside e → IsApart l e
 aside_apart l (due_to_client client bytes) h = tt
 aside_apart l (due_to_link link packet check) h = and_false (is_wrte packet.command) (eqb packet.arg0 l) h.0
 aside_apart l (ended stream ending) h = absurd h
@@ -139,7 +139,7 @@ pub silent_aside : (l : ℕ) (u : List Event) → Are IsAside u → Silent l u
 silent_aside l u h = silent_apart l u (are_weaker IsAside (IsApart l) (aside_apart l) u h)
 
 module _ (Such : Ending → Type 0) (k : ℕ) where
-  end_apart : (l : ℕ) → l ≢ k → (e : Event) → IsEndOf Such k e → IsApart l e
+  pub end_apart : (l : ℕ) → l ≢ k → (e : Event) → IsEndOf Such k e → IsApart l e
   end_apart l apart (due_to_client client bytes) h = tt
   end_apart l apart (due_to_link link packet check) h = and_false (is_wrte packet.command) (eqb packet.arg0 l) h.0
   end_apart l apart (ended stream ending) h = ne_eqb stream l (λ e. apart (sym e ∙ h.0))
@@ -166,7 +166,7 @@ module _ (Such : Ending → Type 0) (k : ℕ) where
       go true f later = subst Such (let both : Some first ≡ Some ending = f in cc) h.0.1
       go false f later = later f
 
-up_apart : (k l : ℕ) → l ≢ k → (e : Event) → IsUpOf k e → IsApart l e
+pub up_apart : (k l : ℕ) → l ≢ k → (e : Event) → IsUpOf k e → IsApart l e
 up_apart k l apart (due_to_client client bytes) h = tt
 up_apart k l apart (due_to_link link packet check) h = go (is_wrte packet.command) refl
   where

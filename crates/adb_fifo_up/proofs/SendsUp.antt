@@ -20,8 +20,9 @@ use Rattle.adb_history.specs.Births.{joined, carried_in}
 use Rattle.adb_history.proofs.Following.{changed_here, changed_other}
 use Rattle.adb_history.proofs.Sweep.{Sending, sent, left, over}
 use Rattle.adb_fifo_up.specs.Seen.{Seen, Sees, IsOf}
-use Rattle.adb_fifo_up.specs.Climbing.{carried, IsEndOf, IsUpOf, Are, Goes}
+use Rattle.adb_fifo_up.specs.Climbing.{carried, IsEndOf, IsUpOf, Are, is_shut, Goes}
 use Rattle.adb_fifo_up.proofs.Seeing.{seen_phase, are_append, are_weaker, carried_append, end_carries}
+use Rattle.adb_fifo_up.proofs.Shutting.{IsLast, IsDry, end_dry, last_dry, shut_cases}
 use Rattle.adb_fifo_up.proofs.Ends.{telling_goes, telling_left}
 
 -- ---- the writes are what is held, in order
@@ -79,6 +80,20 @@ module _ (k : ℕ) (stream : Stream) where
       go true e = rw (eq-eqb k k refl) (ap (λ x. p ++ x) e)
       go false e = e
 
+  go_up_last : (t : ℕ) (ps : List (List ℕ)) (s : State) → IsLast k (packets_to t (all_go_up k stream ps s).told)
+  go_up_last t [] s = tt
+  go_up_last t (p ∷ ps) s = go (eqb stream.link t) (go_up_last t ps (goes_up k stream p s).state)
+    where
+      go : (b : Bool) → IsLast k (packets_to t (all_go_up k stream ps (goes_up k stream p s).state).told)
+          → IsLast k (cond b (write_packet k stream.part.remote p ∷ packets_to t (all_go_up k stream ps (goes_up k stream p s).state).told)
+          (packets_to t (all_go_up k stream ps (goes_up k stream p s).state).told))
+      go true rest = (λ e. absurd (let clash : false ≡ true = e in cc), rest)
+      go false rest = rest
+
+  go_up_open : (ps : List (List ℕ)) (s : State) → is_shut k (all_go_up k stream ps s).told ≡ false
+  go_up_open [] s = refl
+  go_up_open (p ∷ ps) s = go_up_open ps (goes_up k stream p s).state
+
 -- ---- all that it makes
 pub streaming_is : (k : ℕ) (phase : Phase) → is_streaming k phase ≡ true → phase ≡ Streaming k
 streaming_is k (Streaming n) e = ap Streaming (eqb-true n k e)
@@ -107,6 +122,8 @@ pub record Sends (k : ℕ) (s : State) (x : Sending k s) (m : Made) : Type 0 whe
   pub told : Are (IsUpOf k) m.told
   pub carries : (t : ℕ) → carried t k m.told ≡ cond (eqb x.stream.link t) (joined (sent k s x)) []
   pub fate : IsLeft k s x m
+  pub last : (t : ℕ) → IsLast k (packets_to t m.told)
+  pub shut : is_shut k m.told ≡ true → m.state.streams k ≡ None
 
 abbrev Any : Ending → Type 0
 Any ending = Unit {0}
@@ -163,6 +180,11 @@ module _ (k : ℕ) (s : State) (x : Sending k s) where
     clients = clients_now;
     told = are_append (IsUpOf k) up.told [] (go_up_told k x.stream (sent k s x) (left k s x)) tt;
     carries = λ t. ap (carried t k) (append-nil up.told) ∙ go_up_carries k x.stream t (sent k s x) (left k s x);
+    last = λ t. subst (λ (w : List Event). IsLast k (packets_to t w)) (sym (append-nil up.told)) (go_up_last k x.stream t (sent k s x) (left k s x));
+    shut = λ e. (
+        let clash : false ≡ true = sym (ap (is_shut k) (append-nil up.told) ∙ go_up_open k x.stream (sent k s x) (left k s x)) ∙ e in
+        cc
+        );
     fate = inl (ap (ending_in k) (append-nil up.told) ∙ go_up_lives k x.stream k (sent k s x) (left k s x), λ v see. (own_now v see).1);
   }
 
@@ -187,11 +209,20 @@ module _ (k : ℕ) (s : State) (x : Sending k s) where
         carries = λ t. carried_append t k up.told m.told
             ∙ (ap (λ y. carried t k up.told ++ y) (end_carries Any k t m.told g.told)
             ∙ (append-nil (carried t k up.told) ∙ go_up_carries k x.stream t (sent k s x) (left k s x)));
+        last = λ t. last_dry t k up.told m.told (go_up_last k x.stream t (sent k s x) (left k s x))
+            (are_weaker (IsEndOf Any k) (IsDry k) (end_dry Any k k) m.told g.told);
+        shut = λ f. closed g (shut_cases k up.told m.told f);
         fate = inr (
           over_holds_none x.client.about.ended held_now (flow_after (sent k s x) x.stream.part.flow) e,
           λ v see of. telling_left k k client_closed row_now now v see of,
         );
       }
+    where
+      closed : Goes Any k (record (left k s x) { links = links }) (ends_telling k client_closed row_now (record (left k s x) { links = links }))
+          → (is_shut k up.told ≡ true) ⊎ (is_shut k (ends_telling k client_closed row_now (record (left k s x) { links = links })).told ≡ true)
+          → (ends_telling k client_closed row_now (record (left k s x) { links = links })).state.streams k ≡ None
+      closed g (inl f) = let clash : false ≡ true = sym (go_up_open k x.stream (sent k s x) (left k s x)) ∙ f in cc
+      closed g (inr f) = g.shut f
 
   pub sends_made : Sends k s x (sends_up k x.stream x.client (sent k s x) s)
   sends_made =

@@ -10,7 +10,8 @@ use Rattle.adb_history.specs.Events.{Event, due_to_client, due_to_link, ended, e
 use Rattle.adb_history.specs.Clients.{closing}
 use Rattle.adb_history.specs.Losing.{tells_stop, all_stop, stops}
 use Rattle.adb_fifo_up.specs.Seen.{Seen, Sees}
-use Rattle.adb_fifo_up.specs.Climbing.{carried, Are}
+use Rattle.adb_fifo_up.specs.Climbing.{carried, Are, is_shut}
+use Rattle.adb_fifo_up.proofs.Shutting.{IsDry}
 use Rattle.adb_fifo_up.proofs.Seeing.{none_unseen, closing_unseen, are_append, are_weaker}
 
 -- the end of one of the streams 1 to n by a kill
@@ -64,7 +65,24 @@ not_stopped l n (due_to_link link packet check ∷ u) above h = absurd h.0
 not_stopped l n (ended stream ending ∷ u) above h =
     ap (λ (b : Bool). cond b (Some ending) (ending_in l u)) (ne_eqb stream l (λ e. omega (arith, e, above, h.0.0))) ∙ not_stopped l n u above h.1
 
+stops_are_dry : (l n : ℕ) (e : Event) → IsStop n e → IsDry l e
+stops_are_dry l n (due_to_client client bytes) h = tt
+stops_are_dry l n (due_to_link link packet check) h = absurd h
+stops_are_dry l n (ended stream ending) h = tt
+
+none_shut : (l n : ℕ) (u : List Event) → Are (IsStop n) u → is_shut l u ≡ false
+none_shut l n [] h = refl
+none_shut l n (due_to_client client bytes ∷ u) h = absurd h.0
+none_shut l n (due_to_link link packet check ∷ u) h = absurd h.0
+none_shut l n (ended stream ending ∷ u) h = none_shut l n u h.1
+
 module _ (c : ℕ) (s : State) where
+  pub stops_dry : (l : ℕ) → Are (IsDry l) (stops c s).told
+  stops_dry l = are_weaker (IsStop s.drawn) (IsDry l) (stops_are_dry l s.drawn) (all_stop s.drawn s.streams) (are_stops s.drawn s.streams)
+
+  pub stops_not_shut : (l : ℕ) → is_shut l (stops c s).told ≡ false
+  stops_not_shut l = none_shut l s.drawn (all_stop s.drawn s.streams) (are_stops s.drawn s.streams)
+
   pub stops_carries : (t l : ℕ) → carried t l (stops c s).told ≡ []
   stops_carries t l = carries_nothing t l s.drawn (all_stop s.drawn s.streams) (are_stops s.drawn s.streams)
 

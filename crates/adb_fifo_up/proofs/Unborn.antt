@@ -29,7 +29,7 @@ silent_then l u w h i = record {
   lives = ending_append l u w ∙ (ap (λ e. ending_or e (ending_in l w)) h.lives ∙ i.lives);
 }
 
-abbrev Heard : State → ℕ → Type 0
+abbrev pub Heard : State → ℕ → Type 0
 Heard s k = Unit {0}
 
 -- a stream that lives is not this one

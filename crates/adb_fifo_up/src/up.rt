@@ -3,7 +3,7 @@
 ghost use Rattle.std.specs.Prelude.{List};
 ghost use Rattle.adb_capture.specs.declared.entry.Entry.{Entry};
 ghost use Rattle.adb_history.specs.Machine.{IsLegal};
-ghost use Rattle.adb_history.specs.Fifo.{CarriesRest, OfEachStream};
+ghost use Rattle.adb_history.specs.Fifo.{CarriesRest, CarriesWholeRest, OfEachStream};
 ghost use Rattle.adb_fifo_up.specs.Carrying.{AllHaveBirths, IsCarried, SendsFront};
 
 /// In every legal history what became due of each stream and what its client holds are, in order
@@ -18,4 +18,10 @@ pub fn each_stream_is_carried()
 pub fn carries_rest()
     ensures { AllHaveBirths → (history : List Entry) → IsLegal history → SendsFront history
         → CarriesRest history }
+{}
+
+/// And all of it, where the client closed and the device was told so.
+pub fn carries_whole_rest()
+    ensures { AllHaveBirths → (history : List Entry) → IsLegal history → SendsFront history
+        → CarriesWholeRest history }
 {}
