@@ -1,5 +1,5 @@
 -- The streams of a history are those of the one before it, and perhaps one more.
-use Rattle.std.proofs.Common.{◌≡◌, ℕ, ◌<◌, ◌≤◌, zero, suc, Bool, true, false, cond, List, [], ◌∷◌, ◌++◌, length, Option, Some, None, refl, sym}
+use Rattle.std.proofs.Common.{◌≡◌, ℕ, ◌<◌, ◌≤◌, zero, suc, Bool, true, false, cond, List, [], ◌∷◌, ◌++◌, length, Option, Some, None, refl, sym, subst}
 use Rattle.std.proofs.Common.{ap, arith, ◌⊎◌, inl, inr}
 use Rattle.std.specs.Prelude.{slice_get, nat_lt}
 use Rattle.std.proofs.lemmas.Option.{slice_get_within}
@@ -79,8 +79,9 @@ new_above l b e older has new = omega (arith, new.above, has.drawn)
 -- ---- by which entry
 -- who comes or reads is the client of the stream, and what it read before is not the stream's
 abbrev pub IsBornBy : Entry → History → Birth → Type 0
-IsBornBy (Enter c port) older b = (b.client ≡ c) × (b.head ≡ 0)
-IsBornBy (Read c bytes) older b = (b.client ≡ c) × (b.head ≡ (asked c (Read c bytes ∷ older)).used)
+IsBornBy (Enter c port) older b = (b.client ≡ c) × (b.head ≡ 0) × (b.packets_before ≡ length (brought b.link older))
+IsBornBy (Read c bytes) older b =
+    (b.client ≡ c) × (b.head ≡ (asked c (Read c bytes ∷ older)).used) × (b.packets_before ≡ length (brought b.link older))
 IsBornBy _ older b = ⊥
 
 pub none_in : {X : Type 0} (x : X) → Has [] x → ⊥
@@ -93,10 +94,15 @@ one_in {X} y x h = go h.0 h.1
     go zero e = cc
     go (suc i) e = let clash : None ≡ Some x = e in cc
 
-by_read : (c head : ℕ) (older : History) (next : Option Next) (b : Birth) → Has (birth_by c head older next) b → (b.client ≡ c) × (b.head ≡ head)
+before_of : (older : History) (a b : Birth) → a ≡ b → a.packets_before ≡ length (brought a.link older) → b.packets_before ≡ length (brought b.link older)
+before_of older a b same is = subst (λ (x : Birth). x.packets_before ≡ length (brought x.link older)) same is
+
+by_read : (c head : ℕ) (older : History) (next : Option Next) (b : Birth) → Has (birth_by c head older next) b
+    → (b.client ≡ c) × (b.head ≡ head) × (b.packets_before ≡ length (brought b.link older))
 by_read c head older None b h = absurd (none_in b h)
 by_read c head older (Some (what.Open transport service)) b h =
-    let same = one_in _ b h in (sym (ap (λ (x : Birth). x.client) same), sym (ap (λ (x : Birth). x.head) same))
+    let same = one_in _ b h in
+    (sym (ap (λ (x : Birth). x.client) same), sym (ap (λ (x : Birth). x.head) same), before_of older _ b same refl)
 by_read c head older (Some what.Close) b h = absurd (none_in b h)
 by_read c head older (Some (what.Select id)) b h = absurd (none_in b h)
 by_read c head older (Some (what.Track long)) b h = absurd (none_in b h)
@@ -106,7 +112,8 @@ by_read c head older (Some (what.Unbind local)) b h = absurd (none_in b h)
 by_read c head older (Some what.UnbindAll) b h = absurd (none_in b h)
 by_read c head older (Some what.Stop) b h = absurd (none_in b h)
 
-by_enter : (c : ℕ) (older : History) (o : Option ForwardRow) (b : Birth) → Has (birth_through c older o) b → (b.client ≡ c) × (b.head ≡ 0)
+by_enter : (c : ℕ) (older : History) (o : Option ForwardRow) (b : Birth) → Has (birth_through c older o) b
+    → (b.client ≡ c) × (b.head ≡ 0) × (b.packets_before ≡ length (brought b.link older))
 by_enter c older None b h = absurd (none_in b h)
 by_enter c older (Some row) b h = go (is_connected row.transport (devices older)) h
   where
@@ -118,8 +125,9 @@ by_enter c older (Some row) b h = go (is_connected row.transport (devices older)
       service = row.remote;
       head = 0;
       packets_before = length (brought row.transport older);
-    } ∷ []) []) b → (b.client ≡ c) × (b.head ≡ 0)
-    go true g = let same = one_in _ b g in (sym (ap (λ (y : Birth). y.client) same), sym (ap (λ (y : Birth). y.head) same))
+    } ∷ []) []) b → (b.client ≡ c) × (b.head ≡ 0) × (b.packets_before ≡ length (brought b.link older))
+    go true g = let same = one_in _ b g in
+        (sym (ap (λ (y : Birth). y.client) same), sym (ap (λ (y : Birth). y.head) same), before_of older _ b same refl)
     go false g = absurd (none_in b g)
 
 pub born_by : (e : Entry) (older : History) (b : Birth) → Has (births_at e older) b → IsBornBy e older b

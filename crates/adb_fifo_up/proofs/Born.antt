@@ -78,6 +78,7 @@ module _ (l c : ℕ) (rest : List ℕ) (older : History) (legal : IsLegal older)
       let un = all_unborn older legal l in
       record {
         quiet = (un.silent above).carries;
+        dry = un.dry above;
         not_closed = λ e. (let clash : None ≡ Some client_closed = sym (un.silent above).lives ∙ e in cc);
         none = λ _. un.none above;
         lives = λ _. (un.silent above).lives;

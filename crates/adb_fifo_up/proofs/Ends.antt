@@ -143,7 +143,7 @@ module _ (Such : Ending → Type 0) where
     shut = λ e. row;
   }
 
-  no_row_of : (k : ℕ) (ending : Ending) (stream : Stream) (s : State) → s.streams k ≡ Some stream → (ends_row k ending stream s).state.streams k ≡ None
+  pub no_row_of : (k : ℕ) (ending : Ending) (stream : Stream) (s : State) → s.streams k ≡ Some stream → (ends_row k ending stream s).state.streams k ≡ None
   no_row_of k ending stream s is = go stream.part.orphan
     where
       go : (b : Bool)
@@ -207,8 +207,12 @@ module _ (k c : ℕ) (cause : Cause) (x : Client) (stream : Stream) (s : State) 
     row = λ y e.
         let same : record stream { part = orphaned stream.part } ≡ y =
         (let both : Some (record stream { part = orphaned stream.part }) ≡ Some y =
-        sym (changed_here k (with_stream_part (orphaned stream.part)) s.streams stream there) ∙ e in cc) in
-        (ap (λ (z : Stream). z.link) (sym same), ap (λ (z : Stream). z.client) (sym same));
+        sym (changed_here k (with_stream_part (orphaned stream.part)) s.streams stream there) ∙ e in cc) in (
+          ap (λ (z : Stream). z.link) (sym same),
+          ap (λ (z : Stream). z.client) (sym same),
+          ap (λ (z : Stream). z.part.flow) (sym same),
+          ap (λ (z : Stream). z.part.remote) (sym same),
+        );
     client = c;
     his = inr (record { phase = Opening k; held = x.held }, ap seen here ∙ ap (λ (p : Phase). seen_in p x.held) asked, refl);
     clients = seen_before;

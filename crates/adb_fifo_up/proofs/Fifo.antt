@@ -1,21 +1,25 @@
 -- What is sent of a stream is a front of what was told of it.
-use Rattle.std.proofs.Common.{◌≡◌, ℕ, ◌<◌, zero, suc, true, List, [], ◌∷◌, ◌++◌, length, get_or, refl, sym, ap, subst, ◌∙◌, append_assoc, arith, eqb}
+use Rattle.std.proofs.Common.{◌≡◌, ℕ, ◌<◌, ◌≤◌, zero, suc, Bool, true, false, List, [], ◌∷◌, ◌++◌, length, get_or, refl, sym, ap, subst, ◌∙◌}
+use Rattle.std.proofs.Common.{append_assoc, arith, eqb}
 use Rattle.std.specs.Prelude.{◌&&◌, Contains}
 use Rattle.std.proofs.lemmas.Bool.{eq-eqb}
-use Rattle.std.proofs.lemmas.List.{append-nil}
+use Rattle.std.proofs.lemmas.List.{append-nil, length-append}
 use Rattle.adb_outside.specs.Bytes.{IsPrefixOf}
 use Rattle.adb_wire.specs.declared.packets.Packet.{Packet}
 use Rattle.adb_history.specs.Links.{close_packet}
-use Rattle.adb_history.specs.Machine.{History, IsLegal}
+use Rattle.adb_history.specs.Machine.{History, told, IsLegal}
 use Rattle.adb_history.specs.Bytes.{sent}
-use Rattle.adb_history.specs.Births.{carried_in, is_clse, remote_of}
+use Rattle.adb_history.specs.Births.{Birth, carried_in, count_from, is_clse, is_wrte, opening_of, remote_of}
 use Rattle.adb_history.specs.Lives.{packets_of, rest_of, carried_of}
-use Rattle.adb_history.specs.Fifo.{CarriesRest, CarriesWholeRest}
+use Rattle.adb_history.specs.Fifo.{CarriesRest, CarriesWholeRest, KeepsUpWindow, IsWithinUp}
 use Rattle.adb_fifo_up.specs.Carrying.{AllHaveBirths, SendsFront}
 use Rattle.adb_fifo_up.proofs.Seeing.{carried_in_append}
 use Rattle.adb_fifo_up.proofs.BirthSteps.{born_drawn}
-use Rattle.adb_fifo_up.proofs.Shutting.{has_close, IsLast, last_split, or_left, or_right}
+use Rattle.adb_fifo_up.proofs.Shutting.{count_append, has_close, IsLast, last_split, or_left, or_right}
 use Rattle.adb_fifo_up.proofs.Shuts.{all_shut}
+use Rattle.adb_fifo_up.proofs.Openings.{allowed}
+use Rattle.adb_fifo_up.proofs.Fits.{used}
+use Rattle.adb_fifo_up.proofs.Windowed.{all_fit}
 use Rattle.adb_fifo_up.proofs.Carried.{all_carried}
 
 -- a front of a front
@@ -51,3 +55,21 @@ up_whole births h legal front l b is ends closed =
     last_split l (sent b.link h) sent_front.0 last (close_in l (sent b.link h) (close_packet l (remote_of l b h)) refl refl closed) in
     sym (append-nil (carried_of l b h)) ∙ (ap (λ y. carried_of l b h ++ y) (sym none)
     ∙ (sym (carried_in_append l (sent b.link h) sent_front.0) ∙ (ap (carried_in l) sent_front.1 ∙ rises.whole ends)))
+
+-- ---- within what the device allowed
+count_front : (l : ℕ) (ps qs all : List Packet) → ps ++ qs ≡ all → count_from is_wrte l ps ≤ count_from is_wrte l all
+count_front l ps qs all e = omega (arith, sym (ap (count_from is_wrte l) e), count_append is_wrte l ps qs)
+
+carried_front : (l : ℕ) (ps qs all : List Packet) → ps ++ qs ≡ all → length (carried_in l ps) ≤ length (carried_in l all)
+carried_front l ps qs all e =
+    omega (arith, sym (ap (λ xs. length (carried_in l xs)) e), ap length (carried_in_append l ps qs), length-append (carried_in l ps) (carried_in l qs))
+
+within_up : (credit : Bool) (l : ℕ) (b : Birth) (h : History) → SendsFront h → used credit b.link l (told h) ≤ allowed credit l (opening_of l b h)
+    → IsWithinUp credit l b h
+within_up false l b h front fits =
+    let f = front b.link in omega (arith, fits, count_front l (sent b.link h) f.0 (packets_of b.link h) f.1)
+within_up true l b h front fits =
+    let f = front b.link in omega (arith, fits, carried_front l (sent b.link h) f.0 (packets_of b.link h) f.1)
+
+pub up_window : AllHaveBirths → (h : History) → IsLegal h → SendsFront h → KeepsUpWindow h
+up_window births h legal front l b is = within_up b.credit l b h front (all_fit births h legal l b is).fits.within

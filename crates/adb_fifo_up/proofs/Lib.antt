@@ -19,3 +19,8 @@ pub mod Born
 pub mod Carried
 pub mod Fifo
 pub mod Shuts
+pub mod Openings
+pub mod Fits
+pub mod Treated
+pub mod FitsPackets
+pub mod Windowed

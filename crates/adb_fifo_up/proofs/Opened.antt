@@ -117,3 +117,14 @@ opens_made k remote word stream s is = record {
         go (inr here) =
             let before = hears_held (s.clients stream.client) stream.client s here.1.client here.1.was in
             inr (here.0, record { client = before.0; was = before.1; phase_now = here.1.phase_now; held = here.1.held ∙ sym before.2 })
+
+-- its row then
+pub opened_row : (k remote : ℕ) (word : Option ℕ) (stream : Stream) (s : State) (y : Stream) → s.streams k ≡ Some stream
+    → (opened k remote word stream s).state.streams k ≡ Some y
+    → (y.link ≡ stream.link) × (y.part ≡ with_remote remote (with_flow (first_credit word stream.part.flow) stream.part))
+opened_row k remote word stream s y is e =
+    let part : Part = with_remote remote (with_flow (first_credit word stream.part.flow) stream.part) in
+    let off : Aside s (hears_okay (s.clients stream.client) stream.client s) = aside_hears (s.clients stream.client) stream.client s in
+    let row : record stream { part = part } ≡ y = (let both : Some (record stream { part = part }) ≡ Some y =
+    sym (changed_here k (with_stream_part part) (hears_okay (s.clients stream.client) stream.client s).state.streams stream (off.streams k ∙ is)) ∙ e in cc) in
+    (ap (λ (z : Stream). z.link) (sym row), ap (λ (z : Stream). z.part) (sym row))

@@ -27,6 +27,8 @@ use Rattle.adb_history.specs.Packets.{hears_okay, opened, orphan_opened, acknowl
 use Rattle.adb_history.specs.Packets.{accepts_none, accepts, takes_write, takes_close, treat_open, treat_any, treat_on, treat}
 use Rattle.adb_history.specs.Moves.{After, Moves, IsLike, open_now}
 use Rattle.adb_history.specs.Owned.{IsOwned}
+use Rattle.adb_history.specs.Linked.{IsLinked}
+use Rattle.adb_history.proofs.LinkMoves.{linked_moves}
 use Rattle.adb_history.proofs.OwnedStep.{owned_moves}
 use Rattle.adb_history.proofs.Following.{after_quietly, after_then, after_if}
 use Rattle.adb_history.proofs.StreamMoves.{owes_kept, ends_telling_kept}
@@ -193,3 +195,6 @@ module _ {P : State → List Event → Type 0} (k : Moves P) where
 
 pub treat_owned : (t : ℕ) (p : Packet) (s : State) → IsOwned s → IsOwned (treat t p s).state
 treat_owned t p s owned = treat_kept owned_moves s [] owned t p
+
+pub treat_linked : (t : ℕ) (p : Packet) (s : State) → IsLinked s → IsLinked (treat t p s).state
+treat_linked t p s linked = treat_kept linked_moves s [] linked t p

@@ -16,13 +16,13 @@ use Rattle.adb_history.specs.Flow.{write_len, write_before, writes, payloads, to
 use Rattle.adb_history.specs.Flow.{is_streaming}
 use Rattle.adb_history.specs.Links.{write_packet}
 use Rattle.adb_history.specs.Streams.{ends_telling}
-use Rattle.adb_history.specs.Births.{joined, carried_in}
+use Rattle.adb_history.specs.Births.{joined, carried_in, count_from, is_wrte}
 use Rattle.adb_history.proofs.Following.{changed_here, changed_other}
 use Rattle.adb_history.proofs.Sweep.{Sending, sent, left, over}
 use Rattle.adb_fifo_up.specs.Seen.{Seen, Sees, IsOf}
-use Rattle.adb_fifo_up.specs.Climbing.{carried, IsEndOf, IsUpOf, Are, is_shut, Goes}
+use Rattle.adb_fifo_up.specs.Climbing.{IsRowOf, carried, IsEndOf, IsUpOf, Are, is_shut, Goes}
 use Rattle.adb_fifo_up.proofs.Seeing.{seen_phase, are_append, are_weaker, carried_append, end_carries}
-use Rattle.adb_fifo_up.proofs.Shutting.{IsLast, IsDry, end_dry, last_dry, shut_cases}
+use Rattle.adb_fifo_up.proofs.Shutting.{count_dry, IsLast, IsDry, end_dry, last_dry, shut_cases}
 use Rattle.adb_fifo_up.proofs.Ends.{telling_goes, telling_left}
 
 -- ---- the writes are what is held, in order
@@ -53,6 +53,9 @@ payloads_join (One window) maxdata held = go window.outstanding
 payloads_join (Credit credit) maxdata held = writes_join (length held) maxdata credit.to_send held
 
 -- ---- the writes that become due
+one_more : {a b : ℕ} → a ≡ b → 1 + a ≡ suc b
+one_more {a} {b} e = omega (arith, e)
+
 module _ (k : ℕ) (stream : Stream) where
   pub go_up_frame : (ps : List (List ℕ)) (s : State) → (all_go_up k stream ps s).state ≡ record s { links = (all_go_up k stream ps s).state.links }
   go_up_frame [] s = refl
@@ -90,6 +93,21 @@ module _ (k : ℕ) (stream : Stream) where
       go true rest = (λ e. absurd (let clash : false ≡ true = e in cc), rest)
       go false rest = rest
 
+  go_up_counts : (t : ℕ) (ps : List (List ℕ)) (s : State)
+      → count_from is_wrte k (packets_to t (all_go_up k stream ps s).told) ≡ cond (eqb stream.link t) (length ps) 0
+  go_up_counts t [] s = go (eqb stream.link t)
+    where
+      go : (b : Bool) → ◌≡◌ {A = ℕ} 0 (cond b 0 0)
+      go true = refl
+      go false = refl
+  go_up_counts t (p ∷ ps) s = go (eqb stream.link t) (go_up_counts t ps (goes_up k stream p s).state)
+    where
+      go : (b : Bool) → count_from is_wrte k (packets_to t (all_go_up k stream ps (goes_up k stream p s).state).told) ≡ cond b (length ps) 0
+          → count_from is_wrte k (cond b (write_packet k stream.part.remote p ∷ packets_to t (all_go_up k stream ps (goes_up k stream p s).state).told)
+          (packets_to t (all_go_up k stream ps (goes_up k stream p s).state).told)) ≡ cond b (suc (length ps)) 0
+      go true e = rw (eq-eqb k k refl) (one_more e)
+      go false e = e
+
   go_up_open : (ps : List (List ℕ)) (s : State) → is_shut k (all_go_up k stream ps s).told ≡ false
   go_up_open [] s = refl
   go_up_open (p ∷ ps) s = go_up_open ps (goes_up k stream p s).state
@@ -108,6 +126,10 @@ over_holds_none : (closed : Bool) (held : List ℕ) (flow : Flow) → is_over cl
 over_holds_none closed [] flow e = refl
 over_holds_none closed (b ∷ held) flow e = let clash : false ≡ true = e in cc
 
+-- its row after the writes
+abbrev pub row_after : (k : ℕ) (s : State) → Sending k s → Stream
+row_after k s x = record x.stream { part = with_flow (flow_after (sent k s x) x.stream.part.flow) x.stream.part }
+
 -- what is left to its client, which has it still, or no more
 abbrev pub IsLeft : (k : ℕ) (s : State) → Sending k s → Made → Type 0
 IsLeft k s x m =
@@ -117,13 +139,14 @@ IsLeft k s x m =
 pub record Sends (k : ℕ) (s : State) (x : Sending k s) (m : Made) : Type 0 where
   pub drawn : m.state.drawn ≡ s.drawn
   pub others : (l : ℕ) → l ≢ k → m.state.streams l ≡ s.streams l
-  pub row : (y : Stream) → m.state.streams k ≡ Some y → (y.link ≡ x.stream.link) × (y.client ≡ x.stream.client)
+  pub row : (y : Stream) → m.state.streams k ≡ Some y → IsRowOf (row_after k s x) y
   pub clients : (c : ℕ) (v : Seen) → Sees (m.state.clients c) v → Sees (s.clients c) v ⊎ ((c ≡ x.stream.client) × (v.phase ≡ Streaming k))
   pub told : Are (IsUpOf k) m.told
   pub carries : (t : ℕ) → carried t k m.told ≡ cond (eqb x.stream.link t) (joined (sent k s x)) []
   pub fate : IsLeft k s x m
   pub last : (t : ℕ) → IsLast k (packets_to t m.told)
   pub shut : is_shut k m.told ≡ true → m.state.streams k ≡ None
+  pub counts : (t : ℕ) → count_from is_wrte k (packets_to t m.told) ≡ cond (eqb x.stream.link t) (length (sent k s x)) 0
 
 abbrev Any : Ending → Type 0
 Any ending = Unit {0}
@@ -164,10 +187,14 @@ module _ (k : ℕ) (s : State) (x : Sending k s) where
       go (inl same) = inr (sym same, (own_now v (subst (λ (n : ℕ). Sees ((left k s x).clients n) v) (sym same) see)).0)
       go (inr apart) = inl (subst (λ (o : Option Client). Sees o v) (changed_other x.stream.client c (with_held held_now) s.clients apart) see)
 
-  row_same : (y : Stream) → (left k s x).streams k ≡ Some y → (y.link ≡ x.stream.link) × (y.client ≡ x.stream.client)
+  row_same : (y : Stream) → (left k s x).streams k ≡ Some y → IsRowOf row_now y
   row_same y e =
-      let same : row_now ≡ y = (let both : Some row_now ≡ Some y = sym there_now ∙ e in cc) in
-      (ap (λ (z : Stream). z.link) (sym same), ap (λ (z : Stream). z.client) (sym same))
+      let same : row_now ≡ y = (let both : Some row_now ≡ Some y = sym there_now ∙ e in cc) in (
+        ap (λ (z : Stream). z.link) (sym same),
+        ap (λ (z : Stream). z.client) (sym same),
+        ap (λ (z : Stream). z.part.flow) (sym same),
+        ap (λ (z : Stream). z.part.remote) (sym same),
+      )
 
   others_now : (l : ℕ) → l ≢ k → (left k s x).streams l ≡ s.streams l
   others_now l apart = changed_other k l (with_stream_part part) s.streams (λ e. apart (sym e))
@@ -180,6 +207,8 @@ module _ (k : ℕ) (s : State) (x : Sending k s) where
     clients = clients_now;
     told = are_append (IsUpOf k) up.told [] (go_up_told k x.stream (sent k s x) (left k s x)) tt;
     carries = λ t. ap (carried t k) (append-nil up.told) ∙ go_up_carries k x.stream t (sent k s x) (left k s x);
+    counts = λ t. ap (λ (w : List Event). count_from is_wrte k (packets_to t w)) (append-nil up.told)
+        ∙ go_up_counts k x.stream t (sent k s x) (left k s x);
     last = λ t. subst (λ (w : List Event). IsLast k (packets_to t w)) (sym (append-nil up.told)) (go_up_last k x.stream t (sent k s x) (left k s x));
     shut = λ e. (
         let clash : false ≡ true = sym (ap (is_shut k) (append-nil up.told) ∙ go_up_open k x.stream (sent k s x) (left k s x)) ∙ e in
@@ -202,13 +231,15 @@ module _ (k : ℕ) (s : State) (x : Sending k s) where
       record {
         drawn = g.drawn;
         others = λ l apart. g.others l apart ∙ others_now l apart;
-        row = λ y f. ((g.row y f).0 ∙ ap (λ (z : Stream). z.link) row, (g.row y f).1 ∙ ap (λ (z : Stream). z.client) row);
+        row = λ y f. subst (λ (z : Stream). IsRowOf z y) row (g.row y f);
         clients = λ c v see. clients_now c v (g.clients c v see);
         told = are_append (IsUpOf k) up.told m.told (go_up_told k x.stream (sent k s x) (left k s x))
             (are_weaker (IsEndOf Any k) (IsUpOf k) (end_up k) m.told g.told);
         carries = λ t. carried_append t k up.told m.told
             ∙ (ap (λ y. carried t k up.told ++ y) (end_carries Any k t m.told g.told)
             ∙ (append-nil (carried t k up.told) ∙ go_up_carries k x.stream t (sent k s x) (left k s x)));
+        counts = λ t. count_dry t k up.told m.told (are_weaker (IsEndOf Any k) (IsDry k) (end_dry Any k k) m.told g.told)
+            ∙ go_up_counts k x.stream t (sent k s x) (left k s x);
         last = λ t. last_dry t k up.told m.told (go_up_last k x.stream t (sent k s x) (left k s x))
             (are_weaker (IsEndOf Any k) (IsDry k) (end_dry Any k k) m.told g.told);
         shut = λ f. closed g (shut_cases k up.told m.told f);

@@ -142,7 +142,7 @@ module _ (l : ℕ) (some : 0 < l) where
       (λ above. o.others l apart ∙ h.none (omega (arith, above, o.drawn)))
       (are_weaker (IsUpOf k) (IsDry l) (λ e a. apart_dry l e (up_apart k l apart e a)) m.told o.told, up_not_shut l some k apart m.told o.told) h
 
-  shuts_climbs : Climbs Heard (Shuts l)
+  pub shuts_climbs : Climbs Heard (Shuts l)
   shuts_climbs = record {
     aside = λ s m w off h. still s m.state w m.told (omega (arith, off.drawn)) (λ none within. off.streams l ∙ none)
         (λ above. off.streams l ∙ h.none (omega (arith, above, off.drawn)))

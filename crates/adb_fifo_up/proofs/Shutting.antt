@@ -1,12 +1,13 @@
 -- Packets behind the CLSE of a stream: none of them carries anything of it.
-use Rattle.std.proofs.Common.{◌≡◌, ◌≢◌, ℕ, ◌<◌, Bool, true, false, cond, List, [], ◌∷◌, ◌++◌, refl, sym, ap, subst, ◌∙◌, arith, ◌⊎◌, inl, inr, eqb}
+use Rattle.std.proofs.Common.{◌≡◌, ◌≢◌, ℕ, ◌+◌, ◌<◌, Bool, true, false, cond, List, [], ◌∷◌, ◌++◌, refl, sym, ap, subst, ◌∙◌, arith, ◌⊎◌, inl, inr, eqb}
 use Rattle.std.specs.Prelude.{◌&&◌, ◌||◌}
 use Rattle.std.proofs.lemmas.Bool.{ne_eqb}
 use Rattle.adb_wire.specs.declared.packets.Packet.{Packet}
+use Rattle.adb_wire.specs.declared.command.Command.{Command}
 use Rattle.adb_history.specs.Events.{Event, Ending, due_to_client, due_to_link, ended, packets_to}
-use Rattle.adb_history.specs.Births.{carried_in, is_wrte, is_clse}
-use Rattle.adb_fifo_up.specs.Climbing.{IsAside, IsEndOf, IsUpOf, Are, is_shut}
-use Rattle.adb_fifo_up.proofs.Seeing.{IsApart, are_weaker, carried_in_append, packets_append}
+use Rattle.adb_history.specs.Births.{carried_in, count_from, is_wrte, is_clse}
+use Rattle.adb_fifo_up.specs.Climbing.{carried, IsAside, IsEndOf, IsUpOf, Are, is_shut}
+use Rattle.adb_fifo_up.proofs.Seeing.{aside_apart, up_apart, carried_none, IsApart, are_weaker, carried_in_append, packets_append}
 
 -- whether packets close a stream
 abbrev pub has_close : ℕ → List Packet → Bool
@@ -87,6 +88,22 @@ none_up t l (due_to_link link packet check ∷ u) h = go (eqb link t) (none_up t
     go true rest = (h.0, rest)
     go false rest = rest
 none_up t l (ended stream ending ∷ u) h = none_up t l u h.1
+
+-- how many writes there are of a stream
+pub count_append : (is_such : Command → Bool) (l : ℕ) (ps qs : List Packet)
+    → count_from is_such l (ps ++ qs) ≡ count_from is_such l ps + count_from is_such l qs
+count_append is_such l [] qs = omega arith
+count_append is_such l (p ∷ ps) qs = go (is_such p.command && eqb p.arg0 l) (count_append is_such l ps qs)
+  where
+    go : (b : Bool) → count_from is_such l (ps ++ qs) ≡ count_from is_such l ps + count_from is_such l qs
+        → cond b (1 + count_from is_such l (ps ++ qs)) (count_from is_such l (ps ++ qs))
+        ≡ cond b (1 + count_from is_such l ps) (count_from is_such l ps) + count_from is_such l qs
+    go true e = omega (arith, e)
+    go false e = e
+
+none_counted : (l : ℕ) (ps : List Packet) → NoneUp l ps → count_from is_wrte l ps ≡ 0
+none_counted l [] h = refl
+none_counted l (p ∷ ps) h = ap (λ (b : Bool). cond b (1 + count_from is_wrte l ps) (count_from is_wrte l ps)) h.0 ∙ none_counted l ps h.1
 
 -- ---- events
 pub close_shut : (t l : ℕ) (w : List Event) → has_close l (packets_to t w) ≡ true → is_shut l w ≡ true
@@ -181,3 +198,24 @@ last_dry t l w u h none =
     let free = none_up t l u none in
     subst (IsLast l) (sym (packets_append t w u)) (last_append l (packets_to t w) (packets_to t u) h (none_last l (packets_to t u) free)
     (λ e. none_carried l (packets_to t u) free))
+
+pub count_dry : (t l : ℕ) (w u : List Event) → Are (IsDry l) u → count_from is_wrte l (packets_to t (w ++ u)) ≡ count_from is_wrte l (packets_to t w)
+count_dry t l w u none =
+    let none_of : count_from is_wrte l (packets_to t u) ≡ 0 = none_counted l (packets_to t u) (none_up t l u none) in
+    ap (count_from is_wrte l) (packets_append t w u) ∙ (count_append is_wrte l (packets_to t w) (packets_to t u) ∙ omega (arith, none_of))
+
+pub carried_dry : (t l : ℕ) (w u : List Event) → Are (IsDry l) u → carried t l (w ++ u) ≡ carried t l w
+carried_dry t l w u none = carried_none t l w u (none_carried l (packets_to t u) (none_up t l u none))
+
+pub no_writes : (t l : ℕ) (w : List Event) → Are (IsDry l) w → (count_from is_wrte l (packets_to t w) ≡ 0) × (carried t l w ≡ [])
+no_writes t l w none = (none_counted l (packets_to t w) (none_up t l w none), none_carried l (packets_to t w) (none_up t l w none))
+
+-- ---- all of them
+pub aside_are_dry : (l : ℕ) (u : List Event) → Are IsAside u → Are (IsDry l) u
+aside_are_dry l u h = are_weaker IsAside (IsDry l) (λ e a. apart_dry l e (aside_apart l e a)) u h
+
+pub end_are_dry : (Such : Ending → Type 0) (k l : ℕ) (u : List Event) → Are (IsEndOf Such k) u → Are (IsDry l) u
+end_are_dry Such k l u h = are_weaker (IsEndOf Such k) (IsDry l) (end_dry Such k l) u h
+
+pub up_are_dry : (k l : ℕ) → l ≢ k → (u : List Event) → Are (IsUpOf k) u → Are (IsDry l) u
+up_are_dry k l apart u h = are_weaker (IsUpOf k) (IsDry l) (λ e a. apart_dry l e (up_apart k l apart e a)) u h

@@ -16,14 +16,16 @@ use Rattle.adb_history.specs.Losing.{stops}
 use Rattle.adb_history.specs.Moves.{After, draws_now}
 use Rattle.adb_history.proofs.Sweep.{Sending, sent}
 use Rattle.adb_fifo_up.specs.Seen.{Seen, seen, seen_in, Sees, IsOf}
-use Rattle.adb_fifo_up.specs.Climbing.{carried, Silent, IsOther, Goes, Climbs}
-use Rattle.adb_fifo_up.proofs.Seeing.{silent_aside, silent_end, silent_up, end_carries, end_such, ending_split, ending_none, carried_none}
+use Rattle.adb_fifo_up.specs.Climbing.{carried, Are, Silent, IsOther, Goes, Climbs}
+use Rattle.adb_fifo_up.proofs.Seeing.{are_append, silent_aside, silent_end, silent_up, end_carries, end_such, ending_split, ending_none, carried_none}
+use Rattle.adb_fifo_up.proofs.Shutting.{IsDry, aside_are_dry, end_are_dry, up_are_dry}
 use Rattle.adb_fifo_up.proofs.Opened.{NowIn, phase_seen, draws_other, part_row}
 use Rattle.adb_fifo_up.proofs.SendsUp.{streaming_is, Sends, sends_made}
-use Rattle.adb_fifo_up.proofs.Stops.{stops_carries, stops_other, stops_above, stops_unseen}
+use Rattle.adb_fifo_up.proofs.Stops.{stops_dry, stops_carries, stops_other, stops_above, stops_unseen}
 
 pub record Starts (l c : ℕ) (rest : List ℕ) (s : State) (w : List Event) : Type 0 where
   pub quiet : (t : ℕ) → carried t l w ≡ []
+  pub dry : Are (IsDry l) w
   pub not_closed : ending_in l w ≡ Some client_closed → ⊥
   pub none : s.drawn < l → s.streams l ≡ None
   pub lives : s.drawn < l → ending_in l w ≡ None
@@ -47,6 +49,7 @@ module _ (l c : ℕ) (rest : List ℕ) where
       → ((n : ℕ) (v : Seen) → Sees (next.clients n) v → Awaits l v.phase → Sees (s.clients n) v) → Starts l c rest s w → Starts l c rest next w
   view s next w drawn row before h = record {
     quiet = h.quiet;
+    dry = h.dry;
     not_closed = h.not_closed;
     none = λ above. none (h.none (omega (arith, above, drawn))) (next.streams l) refl;
     lives = λ above. h.lives (omega (arith, above, drawn));
@@ -64,9 +67,10 @@ module _ (l c : ℕ) (rest : List ℕ) where
       awaits v (inl asks) = inr asks
       awaits v (inr opening) = inl (subst (IsOf l) (sym opening) refl)
 
-  told_aside : (s : State) (w u : List Event) → Silent l u → Starts l c rest s w → Starts l c rest s (w ++ u)
-  told_aside s w u silent h = record {
+  told_aside : (s : State) (w u : List Event) → Silent l u → Are (IsDry l) u → Starts l c rest s w → Starts l c rest s (w ++ u)
+  told_aside s w u silent dry h = record {
     quiet = λ t. carried_none t l w u (silent.carries t) ∙ h.quiet t;
+    dry = are_append (IsDry l) w u h.dry dry;
     not_closed = λ e. closed (ending_split l w u client_closed e);
     none = h.none;
     lives = λ above. ending_none l w u (h.lives above) silent.lives;
@@ -90,6 +94,7 @@ module _ (l c : ℕ) (rest : List ℕ) where
       → Starts l c rest (draws_now n t s) w
   draws_starts n t x s w here asks h = record {
     quiet = h.quiet;
+    dry = h.dry;
     not_closed = h.not_closed;
     none = λ above. draws_other l n t s (λ e. omega (arith, above, e)) ∙ h.none (omega (arith, above));
     lives = λ above. h.lives (omega (arith, above));
@@ -144,6 +149,7 @@ module _ (l c : ℕ) (rest : List ℕ) where
   gone_starts : (s : State) (m : Made) (w : List Event) → Goes IsOther l s m → Starts l c rest s w → Starts l c rest m.state (w ++ m.told)
   gone_starts s m w g h = record {
     quiet = λ t. carried_none t l w m.told (end_carries IsOther l t m.told g.told) ∙ h.quiet t;
+    dry = are_append (IsDry l) w m.told h.dry (end_are_dry IsOther l l m.told g.told);
     not_closed = λ e. closed (ending_split l w m.told client_closed e);
     none = λ above. absurd (drawn above);
     lives = λ above. absurd (drawn above);
@@ -174,14 +180,14 @@ module _ (l c : ℕ) (rest : List ℕ) where
   other_starts : (k : ℕ) (s : State) (m : Made) (w : List Event) → l ≢ k → Goes IsOther k s m → Starts l c rest s w
       → Starts l c rest m.state (w ++ m.told)
   other_starts k s m w apart g h =
-      told_aside m.state w m.told (silent_end IsOther k l apart m.told g.told)
+      told_aside m.state w m.told (silent_end IsOther k l apart m.told g.told) (end_are_dry IsOther k l m.told g.told)
       (view s m.state w g.drawn (λ y e. (y, sym (g.others l apart) ∙ e, refl)) (λ n v see of. g.clients n v see) h)
 
   -- ---- sends
   unsent_starts : (k : ℕ) (s : State) (x : Sending k s) (m : Made) (w : List Event) → l ≢ k → Sends k s x m → Starts l c rest s w
       → Starts l c rest m.state (w ++ m.told)
   unsent_starts k s x m w apart o h =
-      told_aside m.state w m.told (silent_up k l apart m.told o.told)
+      told_aside m.state w m.told (silent_up k l apart m.told o.told) (up_are_dry k l apart m.told o.told)
       (view s m.state w o.drawn (λ y e. (y, sym (o.others l apart) ∙ e, refl)) (λ n v see of. before n v of (o.clients n v see)) h)
     where
       not_asking : Streaming k ≡ Asking → ⊥
@@ -204,7 +210,7 @@ module _ (l c : ℕ) (rest : List ℕ) where
   -- ---- all moves
   pub starts_climbs : Climbs Deaf (Starts l c rest)
   starts_climbs = record {
-    aside = λ s m w off h. told_aside m.state w m.told (silent_aside l m.told off.told)
+    aside = λ s m w off h. told_aside m.state w m.told (silent_aside l m.told off.told) (aside_are_dry l m.told off.told)
         (view s m.state w off.drawn (λ y e. (y, sym (off.streams l) ∙ e, refl)) (λ n v see of. off.clients n v see) h);
     draws = λ n t x s w here asks h. draws_starts n t x s w here asks h;
     parts = λ k stream part s w is level h. part_starts k stream part s w is h;
@@ -213,6 +219,7 @@ module _ (l c : ℕ) (rest : List ℕ) where
     goes = λ k s m w g h. goes k s m w g h (cases_eq k l);
     stops = λ n s w h. record {
       quiet = λ t. carried_none t l w _ (stops_carries n s t l) ∙ h.quiet t;
+      dry = are_append (IsDry l) w _ h.dry (stops_dry n s l);
       not_closed = λ e. stopped n s w h (ending_split l w _ client_closed e);
       none = λ above. refl;
       lives = λ above. ending_none l w _ (h.lives above) (stops_above n s l above);

@@ -12,16 +12,18 @@ use Rattle.adb_history.specs.Machine.{History, state, told, IsLegal}
 use Rattle.adb_history.specs.Owned.{IsOwned}
 use Rattle.adb_history.proofs.Following.{changed_other}
 use Rattle.adb_history.proofs.OwnedStep.{all_owned}
-use Rattle.adb_fifo_up.specs.Climbing.{carried, Silent, Climbs}
-use Rattle.adb_fifo_up.proofs.Seeing.{carried_append, ending_or, ending_append, silent_aside, silent_end, silent_up}
+use Rattle.adb_fifo_up.specs.Climbing.{carried, Are, Silent, Climbs}
+use Rattle.adb_fifo_up.proofs.Seeing.{are_append, carried_append, ending_or, ending_append, silent_aside, silent_end, silent_up}
+use Rattle.adb_fifo_up.proofs.Shutting.{IsDry, aside_are_dry, end_are_dry, up_are_dry}
 use Rattle.adb_fifo_up.proofs.Opened.{draws_other, opens_made}
 use Rattle.adb_fifo_up.proofs.SendsUp.{sends_made}
-use Rattle.adb_fifo_up.proofs.Stops.{stops_carries, stops_above}
+use Rattle.adb_fifo_up.proofs.Stops.{stops_carries, stops_above, stops_dry}
 use Rattle.adb_fifo_up.proofs.RuleClimbs.{ReadsIn, ReadsOf, Begins, step_climbs}
 
 pub record Unborn (l : ℕ) (s : State) (w : List Event) : Type 0 where
   pub none : s.drawn < l → s.streams l ≡ None
   pub silent : s.drawn < l → Silent l w
+  pub dry : s.drawn < l → Are (IsDry l) w
 
 pub silent_then : (l : ℕ) (u w : List Event) → Silent l u → Silent l w → Silent l (u ++ w)
 silent_then l u w h i = record {
@@ -41,6 +43,7 @@ row_unborn : (l k : ℕ) (stream : Stream) (part : Part) (s : State) (w : List E
 row_unborn l k stream part s w is h = record {
   none = λ above. changed_other k l (with_stream_part part) s.streams (λ e. apart_row k l stream s.streams (h.none above) is (sym e)) ∙ h.none above;
   silent = h.silent;
+  dry = h.dry;
 }
 
 unborn_climbs : (l : ℕ) → Climbs Heard (Unborn l)
@@ -48,10 +51,12 @@ unborn_climbs l = record {
   aside = λ s m w off h. record {
     none = λ above. off.streams l ∙ h.none (omega (arith, above, off.drawn));
     silent = λ above. silent_then l w m.told (h.silent (omega (arith, above, off.drawn))) (silent_aside l m.told off.told);
+    dry = λ above. are_append (IsDry l) w m.told (h.dry (omega (arith, above, off.drawn))) (aside_are_dry l m.told off.told);
   };
   draws = λ c t x s w here asks h. record {
     none = λ above. draws_other l c t s (λ e. omega (arith, above, e)) ∙ h.none (omega (arith, above));
     silent = λ above. h.silent (omega (arith, above));
+    dry = λ above. h.dry (omega (arith, above));
   };
   parts = λ k stream part s w is level h. row_unborn l k stream part s w is h;
   acks = λ k word stream s w is hears h. row_unborn l k stream _ s w is h;
@@ -60,16 +65,19 @@ unborn_climbs l = record {
       record {
         none = λ above. m.others l (apart_row k l stream s.streams (h.none (omega (arith, above, m.drawn))) is) ∙ h.none (omega (arith, above, m.drawn));
         silent = λ above. silent_then l w _ (h.silent (omega (arith, above, m.drawn))) (silent_aside l _ m.told);
+        dry = λ above. are_append (IsDry l) w _ (h.dry (omega (arith, above, m.drawn))) (aside_are_dry l _ m.told);
       };
   goes = λ k s m w g h. record {
     none = λ above.
         g.others l (apart_row k l g.stream s.streams (h.none (omega (arith, above, g.drawn))) g.is) ∙ h.none (omega (arith, above, g.drawn));
     silent = λ above. silent_then l w m.told (h.silent (omega (arith, above, g.drawn)))
         (silent_end _ k l (apart_row k l g.stream s.streams (h.none (omega (arith, above, g.drawn))) g.is) m.told g.told);
+    dry = λ above. are_append (IsDry l) w m.told (h.dry (omega (arith, above, g.drawn))) (end_are_dry _ k l m.told g.told);
   };
   stops = λ c s w h. record {
     none = λ above. refl;
     silent = λ above. silent_then l w _ (h.silent above) (record { carries = λ t. stops_carries c s t l; lives = stops_above c s l above });
+    dry = λ above. are_append (IsDry l) w _ (h.dry above) (stops_dry c s l);
   };
   sends = λ k s w x h.
       let m = sends_made k s x in
@@ -77,14 +85,16 @@ unborn_climbs l = record {
         none = λ above. m.others l (apart_row k l x.stream s.streams (h.none (omega (arith, above, m.drawn))) x.there) ∙ h.none (omega (arith, above, m.drawn));
         silent = λ above. silent_then l w _ (h.silent (omega (arith, above, m.drawn)))
             (silent_up k l (apart_row k l x.stream s.streams (h.none (omega (arith, above, m.drawn))) x.there) _ m.told);
+        dry = λ above. are_append (IsDry l) w _ (h.dry (omega (arith, above, m.drawn)))
+            (up_are_dry k l (apart_row k l x.stream s.streams (h.none (omega (arith, above, m.drawn))) x.there) _ m.told);
       };
 }
 
 module _ (l : ℕ) (s : State) (w : List Event) (h : Unborn l s w) where
   reads_in : (phase : Phase) (c : ℕ) (bytes : List ℕ) (x : Client) → ReadsIn (unborn_climbs l) s w phase c bytes x
-  reads_in Asking c bytes x = record { none = h.none; silent = h.silent }
-  reads_in (Opening k) c bytes x = record { none = h.none; silent = h.silent }
-  reads_in (Streaming k) c bytes x = record { none = h.none; silent = h.silent }
+  reads_in Asking c bytes x = record { none = h.none; silent = h.silent; dry = h.dry }
+  reads_in (Opening k) c bytes x = record { none = h.none; silent = h.silent; dry = h.dry }
+  reads_in (Streaming k) c bytes x = record { none = h.none; silent = h.silent; dry = h.dry }
   reads_in Binding c bytes x = h
   reads_in Tracking c bytes x = h
   reads_in Closing c bytes x = h
@@ -95,8 +105,8 @@ module _ (l : ℕ) (s : State) (w : List Event) (h : Unborn l s w) where
   reads_of (Some x) c bytes = reads_in x.about.phase c bytes x
 
   begins : (e : Entry) → IsOwned s → Begins (unborn_climbs l) e s w
-  begins (Join c) owned = record { none = h.none; silent = h.silent }
-  begins (Enter c port) owned = (record { none = h.none; silent = h.silent }, record { none = h.none; silent = h.silent })
+  begins (Join c) owned = record { none = h.none; silent = h.silent; dry = h.dry }
+  begins (Enter c port) owned = (record { none = h.none; silent = h.silent; dry = h.dry }, record { none = h.none; silent = h.silent; dry = h.dry })
   begins (Attach t kind serial) owned = h
   begins (Read c bytes) owned = reads_of (s.clients c) c bytes
   begins (End c cause) owned = h
@@ -107,7 +117,7 @@ module _ (l : ℕ) (s : State) (w : List Event) (h : Unborn l s w) where
   begins (Send t bytes) owned = h
 
 pub all_unborn : (h : History) → IsLegal h → (l : ℕ) → Unborn l (state h) (told h)
-all_unborn [] legal l = record { none = λ above. refl; silent = λ above. record { carries = λ t. refl; lives = refl } }
+all_unborn [] legal l = record { none = λ above. refl; silent = λ above. record { carries = λ t. refl; lives = refl }; dry = λ above. tt }
 all_unborn (e ∷ older) legal l =
     step_climbs (unborn_climbs l) e (state older) (told older)
     (begins l (state older) (told older) (all_unborn older legal.0 l) e (all_owned older legal.0))

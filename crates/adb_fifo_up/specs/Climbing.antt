@@ -79,13 +79,18 @@ pub record Aside (s : State) (m : Made) : Type 0 where
 abbrev pub IsHis : State → ℕ → Stream → ℕ → Type 0
 IsHis s k stream c = (c ≡ stream.client) ⊎ ((v : Seen) × Sees (s.clients c) v × IsOf k v.phase)
 
+-- a row of the same stream, which may send as much as before
+abbrev pub IsRowOf : Stream → Stream → Type 0
+IsRowOf before after =
+    (after.link ≡ before.link) × (after.client ≡ before.client) × (after.part.flow ≡ before.part.flow) × (after.part.remote ≡ before.part.remote)
+
 -- A stream goes by such an ending, or is an orphan from now on; where that is told, its client has it no more.
 pub record Goes (Such : Ending → Type 0) (k : ℕ) (s : State) (m : Made) : Type 0 where
   pub stream : Stream
   pub is : s.streams k ≡ Some stream
   pub drawn : m.state.drawn ≡ s.drawn
   pub others : (l : ℕ) → l ≢ k → m.state.streams l ≡ s.streams l
-  pub row : (y : Stream) → m.state.streams k ≡ Some y → (y.link ≡ stream.link) × (y.client ≡ stream.client)
+  pub row : (y : Stream) → m.state.streams k ≡ Some y → IsRowOf stream y
   pub client : ℕ
   pub his : IsHis s k stream client
   pub clients : (c : ℕ) (v : Seen) → Sees (m.state.clients c) v → Sees (s.clients c) v

@@ -4,4 +4,4 @@
 
 mod up;
 
-pub use up::{carries_rest, carries_whole_rest, each_stream_is_carried};
+pub use up::{carries_rest, carries_whole_rest, each_stream_is_carried, keeps_up_window};

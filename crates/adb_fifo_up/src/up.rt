@@ -3,7 +3,8 @@
 ghost use Rattle.std.specs.Prelude.{List};
 ghost use Rattle.adb_capture.specs.declared.entry.Entry.{Entry};
 ghost use Rattle.adb_history.specs.Machine.{IsLegal};
-ghost use Rattle.adb_history.specs.Fifo.{CarriesRest, CarriesWholeRest, OfEachStream};
+ghost use Rattle.adb_history.specs.Fifo.{CarriesRest, CarriesWholeRest, KeepsUpWindow};
+ghost use Rattle.adb_history.specs.Fifo.{OfEachStream};
 ghost use Rattle.adb_fifo_up.specs.Carrying.{AllHaveBirths, IsCarried, SendsFront};
 
 /// In every legal history what became due of each stream and what its client holds are, in order
@@ -24,4 +25,11 @@ pub fn carries_rest()
 pub fn carries_whole_rest()
     ensures { AllHaveBirths → (history : List Entry) → IsLegal history → SendsFront history
         → CarriesWholeRest history }
+{}
+
+/// In every legal history a device is written no more than it allowed: one write by its opening and
+/// by each OKAY after it, or as many bytes as its credit words say.
+pub fn keeps_up_window()
+    ensures { AllHaveBirths → (history : List Entry) → IsLegal history → SendsFront history
+        → KeepsUpWindow history }
 {}
