@@ -6,3 +6,7 @@ pub mod Goings
 pub mod Fresh
 pub mod Lives
 pub mod Endings
+pub mod Frames
+pub mod Turns
+pub mod Turning
+pub mod TurnsOfPackets

@@ -93,7 +93,7 @@ module _ (l : ℕ) (Why : Reason) where
   all_end_fate t ending s why = ends_of_fate t s.drawn ending s why
 
 -- the row of a stream that ended
-gone_here : (l n : ℕ) (ending : Ending) (x : Stream) (s : State) → s.streams n ≡ Some x → n ≡ l → (ends_row n ending x s).state.streams l ≡ None
+pub gone_here : (l n : ℕ) (ending : Ending) (x : Stream) (s : State) → s.streams n ≡ Some x → n ≡ l → (ends_row n ending x s).state.streams l ≡ None
 gone_here l n ending x s is same =
     let gone = to_stream n none_kept s in
     ap (λ (r : State). r.streams l) (ends_state n ending x s ∙ client_loses_frame (s.clients x.client) x.client gone)
