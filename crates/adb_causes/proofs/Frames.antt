@@ -1,5 +1,5 @@
 -- What the packets to a stream leave as it was: the devices, the links that are there, and the other streams.
-use Rattle.std.proofs.Common.{◌≡◌, ◌≢◌, ℕ, zero, suc, Bool, true, false, cond, not, ◌||◌, List, [], ◌∷◌, length, Option, Some, None, refl, sym, ap, subst, ◌∙◌, eqb}
+use Rattle.std.proofs.Common.{◌≡◌, ◌≢◌, ℕ, Bool, true, false, cond, not, ◌||◌, List, [], ◌∷◌, length, Option, Some, None, refl, ap, ◌∙◌, eqb}
 use Rattle.std.specs.Prelude.{codes, is_some, option_and_then}
 use Rattle.adb_outside.specs.Tables.{Rows}
 use Rattle.adb_wire.specs.declared.packets.Packet.{Packet}
@@ -11,7 +11,7 @@ use Rattle.adb_history.specs.Rows.{Client, Link, State, to_stream, none_kept, wi
 use Rattle.adb_history.specs.Events.{Made, Ending, quietly, then_also, peer_closed, out_of_turn}
 use Rattle.adb_history.specs.Links.{close_packet, owe_link, check_on, wants_sums}
 use Rattle.adb_history.specs.Clients.{owe_client}
-use Rattle.adb_history.specs.Streams.{client_loses, ends_row, ends_telling}
+use Rattle.adb_history.specs.Streams.{ends_row, ends_telling}
 use Rattle.adb_history.specs.Flow.{with_flow}
 use Rattle.adb_history.specs.Packets.{with_remote, first_credit, hears_okay, opened, orphan_opened, acknowledged, okay_open, okay_first, takes_okay}
 use Rattle.adb_history.specs.Packets.{is_out_of_turn, accepted, accepts_none, accepts, takes_write, takes_close}

@@ -10,3 +10,6 @@ pub mod Frames
 pub mod Turns
 pub mod Turning
 pub mod TurnsOfPackets
+pub mod Runs
+pub mod Receiving
+pub mod LinkEnds

@@ -19,13 +19,12 @@ use Rattle.adb_history.specs.Book.{asked, newly, devices, forwards}
 use Rattle.adb_history.specs.Births.{Birth, birth_by, birth_through, births_at, births}
 use Rattle.adb_history.specs.Lives.{ending_of}
 use Rattle.adb_history.specs.Fifo.{HasBirths}
-use Rattle.adb_history.specs.Orderly.{IsDrawnOnly}
 use Rattle.adb_history.proofs.LinkMoves.{all_linked}
 use Rattle.adb_history.proofs.Quiet.{up_all_drawn}
 use Rattle.adb_causes.specs.Times.{AtEachTime}
 use Rattle.adb_causes.proofs.Fates.{lives, Reason, Fate, FateOf, then_fate, ending_append, or_none, none_some, row_lives}
 use Rattle.adb_causes.proofs.StreamFates.{up_all_fate}
-use Rattle.adb_causes.proofs.RuleFates.{WhyBy, draws, rule_fate}
+use Rattle.adb_causes.proofs.RuleFates.{WhyBy, draws, drawn_row, rule_fate}
 use Rattle.adb_causes.proofs.Goings.{goes_fate}
 use Rattle.adb_causes.proofs.Fresh.{rule_fresh}
 
@@ -184,9 +183,6 @@ module _ (l : ℕ) (e : Entry) (older : History) (legal : IsLegal (e ∷ older))
       fate : FateOf l (WhyStep e ((rule e (state older)).state.stopped ≡ true)) (state older) (step (state older) e)
       fate = step_fate l e older legal other
 
-      order : (a b : ℕ) → (a ≤ b) ⊎ (b < a)
-      order a b = grind arith
-
       drawn_before : (b : Bool) → draws e ≡ b → l ≤ (state (e ∷ older)).drawn → l ≤ (state older).drawn
       drawn_before true f within =
           let few = subst (λ (b : Bool). (state (e ∷ older)).drawn ≤ (state older).drawn + cond b 1 0) f drawn.few in
@@ -195,16 +191,6 @@ module _ (l : ℕ) (e : Entry) (older : History) (legal : IsLegal (e ∷ older))
       drawn_before false f within =
           let few = subst (λ (b : Bool). (state (e ∷ older)).drawn ≤ (state older).drawn + cond b 1 0) f drawn.few in
           omega (arith, few, within)
-
-      row_drawn : (x : Stream) → (state older).streams l ≡ Some x → l ≤ (state older).drawn
-      row_drawn x is = go (order l (state older).drawn)
-        where
-          rows : IsDrawnOnly (state older).drawn (state older).streams
-          rows = (all_linked older legal.0).owned.rows.streams
-
-          go : (l ≤ (state older).drawn) ⊎ ((state older).drawn < l) → l ≤ (state older).drawn
-          go (inl within) = within
-          go (inr above) = absurd (let clash : None ≡ Some x = sym (rows.above l above) ∙ is in cc)
 
       dead : lives ((state older).streams l) ≡ false → (o : Option Ending) → ending_in l (told_at e older) ≡ o → lives ((state (e ∷ older)).streams l) ≡ false
       dead gone None f = fate.stays f ∙ gone
@@ -219,7 +205,7 @@ module _ (l : ℕ) (e : Entry) (older : History) (legal : IsLegal (e ∷ older))
           (dead was.0 (ending_in l (told_at e older)) refl, omega (arith, was.1, drawn.grows))
       over y None f g =
           let x = fate.ends y g in
-          let le = row_drawn x.row x.is in
+          let le = (drawn_row (state older).drawn l (state older).streams (all_linked older legal.0).owned.rows.streams x.row x.is).1 in
           (x.over, omega (arith, le, drawn.grows))
 
 pub lived : (h : History) → IsLegal h → AtEachTime HasBirths h → (l : ℕ) → IsLived h l

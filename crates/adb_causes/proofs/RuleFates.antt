@@ -55,6 +55,21 @@ draws (Enter c port) = true
 draws (Read c bytes) = true
 draws _ = false
 
+-- a stream that is there was drawn
+pub drawn_row : (drawn l : ℕ) (streams : Rows (Option Stream)) → IsDrawnOnly drawn streams → (x : Stream) → streams l ≡ Some x → (0 < l) × (l ≤ drawn)
+drawn_row drawn l streams rows x is = (some (cases_eq 0 l), below (order l drawn))
+  where
+    order : (a b : ℕ) → (a ≤ b) ⊎ (b < a)
+    order a b = grind arith
+
+    some : (0 ≡ l) ⊎ (0 ≡ l → ⊥) → 0 < l
+    some (inl same) = absurd (let clash : None ≡ Some x = sym rows.zero ∙ (ap streams same ∙ is) in cc)
+    some (inr apart) = omega (arith, apart)
+
+    below : (l ≤ drawn) ⊎ (drawn < l) → l ≤ drawn
+    below (inl in_) = in_
+    below (inr above) = absurd (let clash : None ≡ Some x = sym (rows.above l above) ∙ is in cc)
+
 -- ---- kill
 -- the streams that live are told to stop
 module _ (l : ℕ) (streams : Rows (Option Stream)) where
@@ -121,25 +136,11 @@ module _ (l : ℕ) (Why : Reason) where
         record { row = x.row; is = x.is; alive = x.alive; over = refl; why = subst (Why x.row.client x.row.link) (sym h.0) (why x.row.client x.row.link) };
   }
     where
-      order : (a b : ℕ) → (a ≤ b) ⊎ (b < a)
-      order a b = grind arith
-
-      within : (x : Stream) → s.streams l ≡ Some x → (0 < l) × (l ≤ s.drawn)
-      within x is = (above0 (cases_eq 0 l), below (order l s.drawn))
-        where
-          above0 : (0 ≡ l) ⊎ (0 ≡ l → ⊥) → 0 < l
-          above0 (inl same) = absurd (let clash : None ≡ Some x = sym rows.zero ∙ (ap s.streams same ∙ is) in cc)
-          above0 (inr apart) = omega (arith, apart)
-
-          below : (l ≤ s.drawn) ⊎ (s.drawn < l) → l ≤ s.drawn
-          below (inl in_) = in_
-          below (inr above) = absurd (let clash : None ≡ Some x = sym (rows.above l above) ∙ is in cc)
-
       dead : ending_in l (all_stop s.drawn s.streams) ≡ None → (b : Bool) → lives (s.streams l) ≡ b → lives (s.streams l) ≡ false
       dead e false f = f
       dead e true f =
           let x = live_row (s.streams l) f in
-          stops_none l s.streams s.drawn (within x.row x.is) e
+          stops_none l s.streams s.drawn (drawn_row s.drawn l s.streams rows x.row x.is) e
 
   -- ---- service
   drawn_fate : (c t : ℕ) (service : List ℕ) (s : State) → l ≢ s.drawn + 1 → FateOf l Why s (asks_for (s.drawn + 1) c t service s)

@@ -1,43 +1,24 @@
 -- What one packet of its link makes of a stream that lives: it goes on, or it ends for what the packet says.
-use Rattle.std.proofs.Common.{◌≡◌, ◌≢◌, ◌≤◌, ◌<◌, ◌+◌, ◌-◌, ℕ, zero, suc, Bool, true, false, cond, not, ◌||◌, ◌&&◌, List, [], ◌∷◌, ◌++◌, length, Option, Some, None, refl, sym, ap, subst, ◌∙◌, eqb}
-use Rattle.std.proofs.Common.{arith, ◌⊎◌, inl, inr}
-use Rattle.std.specs.Prelude.{nat_eq, nat_lt, is_some, is_none, option_and_then}
-use Rattle.std.specs.Option.{option_or}
-use Rattle.std.proofs.lemmas.Bool.{eqb-true, eqb-false, eq-eqb, ne_eqb, cases_eq}
+use Rattle.std.proofs.Common.{◌≡◌, ◌≢◌, ◌≤◌, ◌<◌, ◌+◌, ℕ, Bool, true, false, cond, not, ◌||◌, ◌&&◌, length, Option, Some, None, refl, sym, ap, ◌∙◌}
+use Rattle.std.proofs.Common.{arith}
+use Rattle.std.specs.Prelude.{nat_eq, nat_lt, is_some}
+use Rattle.std.proofs.lemmas.Bool.{ne_eqb}
 use Rattle.std.proofs.lemmas.Bool.Decides.{nat_tests}
-use Rattle.adb_outside.specs.Tables.{at}
-use Rattle.adb_outside.specs.declared.identity.Identity.{Identity}
-use Rattle.adb_outside.specs.declared.identity.State.{State as DeviceState}
-use Rattle.adb_outside.specs.declared.identity.State.TheVariants.{Offline, Unauthorized, Device, Bootloader, Recovery, Sideload, Rescue, Host}
-use Rattle.adb_banner.specs.Banner.{identity_of}
-use Rattle.adb_registry.specs.declared.row.Row.{Row}
 use Rattle.adb_wire.specs.Format.{is_cnxn}
-use Rattle.adb_wire.specs.declared.command.Command.{Command}
-use Rattle.adb_wire.specs.declared.command.Command.TheVariants.{Cnxn, Open, Okay, Wrte, Clse, Auth, Stls}
 use Rattle.adb_wire.specs.declared.packets.Packet.{Packet}
 use Rattle.adb_stream.specs.declared.flow.Flow.{Flow}
 use Rattle.adb_stream.specs.declared.flow.Flow.TheVariants.{One, Credit}
-use Rattle.adb_stream.specs.declared.row.Part.{Part}
 use Rattle.adb_stream.specs.declared.row.Stream.{Stream}
-use Rattle.adb_history.specs.Rows.{Client, Link, State, to_stream, with_stream_part}
-use Rattle.adb_history.specs.Events.{Made, Ending, client_closed, peer_closed, out_of_turn, lost, broken, client_failed, stopped, quietly, then_also, ending_in}
-use Rattle.adb_history.specs.Links.{close_packet, credit_word, owe_link, is_connected, is_connected_row, is_connected_state}
-use Rattle.adb_history.specs.Streams.{ends_row, ends_telling, all_end}
-use Rattle.adb_history.specs.Flow.{with_flow}
-use Rattle.adb_history.specs.Losing.{forgets, link_ends}
-use Rattle.adb_history.specs.Packets.{least_version, least_maxdata, streams_end_first, connects, cnxn, unauthorized_from, unauthorized, refuses_open}
-use Rattle.adb_history.specs.Packets.{at_stream, with_remote, first_credit, hears_okay, opened, acknowledged, okay_open, okay_first, takes_okay, is_out_of_turn}
-use Rattle.adb_history.specs.Packets.{accepted, accepts_none, accepts, takes_write, takes_close, treat_open, treat_any, treat_on, treat}
-use Rattle.adb_history.specs.Moves.{open_now}
+use Rattle.adb_history.specs.Rows.{State}
+use Rattle.adb_history.specs.Events.{Made, Ending, peer_closed, out_of_turn, lost, broken, ending_in}
+use Rattle.adb_history.specs.Links.{is_connected}
+use Rattle.adb_history.specs.Packets.{cnxn}
+use Rattle.adb_history.specs.Packets.{first_credit, acknowledged, is_out_of_turn}
+use Rattle.adb_history.specs.Packets.{accepted}
 use Rattle.adb_history.specs.Book.{is_refused}
 use Rattle.adb_history.specs.Births.{is_between, is_okay, is_wrte, is_clse, is_close_of}
 use Rattle.adb_history.specs.Causes.{remote_after, is_early}
-use Rattle.adb_history.proofs.Following.{changed_here}
 use Rattle.adb_causes.specs.Flows.{FlowIs}
-use Rattle.adb_causes.proofs.Fates.{lives, Reason, FateOf, ending_append, row_lives}
-use Rattle.adb_causes.proofs.StreamFates.{all_end_ends, ends_fate, telling_fate, gone_here}
-use Rattle.adb_causes.proofs.PacketFates.{OfLink, treat_fate, hears_streams}
-use Rattle.adb_causes.proofs.Frames.{Frame, frame_owe, frame_okay, frame_write, frame_close}
 
 -- ---- what a packet says to a stream
 -- whether a packet is a write to a stream that its device has opened

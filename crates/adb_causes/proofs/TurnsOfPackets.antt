@@ -1,10 +1,9 @@
 -- Each packet of its link, and a stream that lives: the stream goes on, or it ends for what the packet says.
-use Rattle.std.proofs.Common.{◌≡◌, ◌≢◌, ◌≤◌, ◌<◌, ◌+◌, ◌-◌, ℕ, zero, suc, Bool, true, false, cond, not, ◌||◌, ◌&&◌, List, [], ◌∷◌, ◌++◌, length, Option, Some, None, refl, sym, ap, subst, ◌∙◌, eqb}
+use Rattle.std.proofs.Common.{◌≡◌, ◌≢◌, ℕ, Bool, true, false, cond, not, ◌||◌, ◌&&◌, [], ◌++◌, Option, Some, None, refl, sym, ap, subst, ◌∙◌, eqb}
 use Rattle.std.proofs.Common.{arith, ◌⊎◌, inl, inr}
-use Rattle.std.specs.Prelude.{nat_eq, nat_lt, is_some, is_none, option_and_then}
+use Rattle.std.specs.Prelude.{nat_eq, nat_lt, is_some, is_none}
 use Rattle.std.specs.Option.{option_or}
-use Rattle.std.proofs.lemmas.Bool.{eqb-true, eqb-false, eq-eqb, ne_eqb, cases_eq}
-use Rattle.std.proofs.lemmas.Bool.Decides.{nat_tests}
+use Rattle.std.proofs.lemmas.Bool.{cases_eq}
 use Rattle.adb_outside.specs.Tables.{at}
 use Rattle.adb_outside.specs.declared.identity.Identity.{Identity}
 use Rattle.adb_outside.specs.declared.identity.State.{State as DeviceState}
@@ -15,47 +14,38 @@ use Rattle.adb_wire.specs.Format.{is_cnxn}
 use Rattle.adb_wire.specs.declared.command.Command.{Command}
 use Rattle.adb_wire.specs.declared.command.Command.TheVariants.{Cnxn, Open, Okay, Wrte, Clse, Auth, Stls}
 use Rattle.adb_wire.specs.declared.packets.Packet.{Packet}
-use Rattle.adb_stream.specs.declared.flow.Flow.{Flow}
-use Rattle.adb_stream.specs.declared.flow.Flow.TheVariants.{One, Credit}
-use Rattle.adb_stream.specs.declared.row.Part.{Part}
 use Rattle.adb_stream.specs.declared.row.Stream.{Stream}
-use Rattle.adb_history.specs.Rows.{Client, Link, State, to_stream, with_stream_part}
-use Rattle.adb_history.specs.Events.{Made, Ending, client_closed, peer_closed, out_of_turn, lost, broken, client_failed, stopped, quietly, then_also, ending_in}
+use Rattle.adb_history.specs.Rows.{Link, State}
+use Rattle.adb_history.specs.Events.{Made, Ending, lost, broken, quietly, ending_in}
 use Rattle.adb_history.specs.Links.{close_packet, credit_word, owe_link, is_connected, is_connected_row, is_connected_state}
-use Rattle.adb_history.specs.Streams.{ends_row, ends_telling, all_end}
-use Rattle.adb_history.specs.Flow.{with_flow}
+use Rattle.adb_history.specs.Streams.{all_end}
 use Rattle.adb_history.specs.Losing.{forgets, link_ends}
 use Rattle.adb_history.specs.Packets.{least_version, least_maxdata, streams_end_first, connects, cnxn, unauthorized_from, unauthorized, refuses_open}
-use Rattle.adb_history.specs.Packets.{at_stream, with_remote, first_credit, hears_okay, opened, acknowledged, okay_open, okay_first, takes_okay, is_out_of_turn}
-use Rattle.adb_history.specs.Packets.{accepted, accepts_none, accepts, takes_write, takes_close, treat_open, treat_any, treat_on, treat}
-use Rattle.adb_history.specs.Moves.{open_now}
+use Rattle.adb_history.specs.Packets.{at_stream, takes_okay}
+use Rattle.adb_history.specs.Packets.{takes_write, takes_close, treat_open, treat_any, treat_on, treat}
 use Rattle.adb_history.specs.Book.{is_refused}
-use Rattle.adb_history.specs.Births.{is_between, is_okay, is_wrte, is_clse, is_close_of}
-use Rattle.adb_history.specs.Causes.{remote_after, is_early}
-use Rattle.adb_history.proofs.Following.{changed_here}
-use Rattle.adb_causes.specs.Flows.{FlowIs}
-use Rattle.adb_causes.proofs.Fates.{lives, Reason, FateOf, ending_append, row_lives}
-use Rattle.adb_causes.proofs.StreamFates.{all_end_ends, ends_fate, telling_fate, gone_here}
-use Rattle.adb_causes.proofs.PacketFates.{OfLink, treat_fate, hears_streams}
+use Rattle.adb_history.specs.Births.{is_okay, is_wrte, is_clse}
+use Rattle.adb_causes.proofs.Fates.{ending_append}
+use Rattle.adb_causes.proofs.StreamFates.{all_end_ends}
 use Rattle.adb_causes.proofs.Frames.{Frame, frame_owe, frame_okay, frame_write, frame_close}
-use Rattle.adb_causes.proofs.Turns.{counts, written_after, Next, OnLive, Passes, Strikes, Falls, no_and, and_no, Ignores, other_kind, other_stream}
-use Rattle.adb_causes.proofs.Turns.{turn_is, flow_first, flow_okay, flow_none, flow_accepts}
-use Rattle.adb_causes.proofs.Frames.{frame_quiet, frame_stream, frame_opened, frame_accepts, frame_none}
+use Rattle.adb_causes.proofs.Turns.{Ignores, other_kind, other_stream}
+use Rattle.adb_causes.proofs.Frames.{frame_quiet}
 use Rattle.adb_causes.proofs.Turning.{Here, Turn, live_frame, ignored, own_rule, okay_turn, write_turn, close_turn}
 
 -- ---- the link ends, or its device says anew who it is
-module _ (t l : ℕ) (x : Stream) (p : Packet) (s : State) (h : Here t l x s) where
+module _ (t l : ℕ) (x : Stream) (s : State) (h : Here t l x s) where
   all_end_told : (ending : Ending) (r : State) → r.streams ≡ s.streams → r.drawn ≡ s.drawn → ending_in l (all_end t ending r).told ≡ Some ending
   all_end_told ending r same drawn =
       all_end_ends l t ending r x (ap (λ streams. streams l) same ∙ h.is, h.alive, h.on) (h.live.within.0, omega (arith, h.live.within.1, drawn))
 
-  link_ends_told : (ending : Ending) → ending_in l (link_ends t ending s).told ≡ Some ending
+  pub link_ends_told : (ending : Ending) → ending_in l (link_ends t ending s).told ≡ Some ending
   link_ends_told ending =
       let r = forgets t s in
       ending_append l (all_end t ending r).told [] ∙ ap (λ o. option_or o None) (all_end_told ending r refl refl)
 
+module _ (t l : ℕ) (x : Stream) (p : Packet) (s : State) (h : Here t l x s) where
   breaks : is_refused p ≡ true → Turn t l x p (link_ends t broken s)
-  breaks refused = inr (record { ending = broken; told = link_ends_told broken; why = refused })
+  breaks refused = inr (record { ending = broken; told = link_ends_told t l x s h broken; why = refused })
 
   connects_turn : (who : Option Identity) → p.command ≡ Cnxn → identity_of p.payload ≡ who
       → (nat_lt p.arg0 least_version || nat_lt p.arg1 least_maxdata) ≡ false → Turn t l x p (connects t p.arg0 p.arg1 who s)
@@ -69,7 +59,7 @@ module _ (t l : ℕ) (x : Stream) (p : Packet) (s : State) (h : Here t l x s) wh
       inr (record {
         ending = lost;
         told = subst (λ (b : Bool). ending_in l ((streams_end_first b t s).told ++ []) ≡ Some lost) (sym h.live.connected)
-            (ending_append l (all_end t lost s).told [] ∙ ap (λ o. option_or o None) (all_end_told lost s refl refl));
+            (ending_append l (all_end t lost s).told [] ∙ ap (λ o. option_or o None) (all_end_told t l x s h lost s refl refl));
         why = ap (λ k. is_cnxn k && not (is_refused p)) c ∙ ap not accepted_now;
       })
 

@@ -5,8 +5,29 @@ ghost use Rattle.std.specs.Prelude.{List};
 ghost use Rattle.adb_capture.specs.declared.entry.Entry.{Entry};
 ghost use Rattle.adb_history.specs.Machine.{IsLegal};
 ghost use Rattle.adb_history.specs.Fifo.{HasBirths};
+ghost use Rattle.adb_history.specs.Causes.{EndsByPeer, EndsByLoss, EndsByBreak};
 ghost use Rattle.adb_history.specs.Causes.{EndsByFailure, EndsByStop};
 ghost use Rattle.adb_causes.specs.Times.{AtEachTime};
+
+/// A stream ends by its device only where that closed it, in the very bytes that came.
+pub fn ends_by_peer()
+    ensures { (history : List Entry) → IsLegal history → AtEachTime HasBirths history
+        → EndsByPeer history }
+{}
+
+/// A stream ends with a link that is lost only where that is detached, or its device says anew who
+/// it is.
+pub fn ends_by_loss()
+    ensures { (history : List Entry) → IsLegal history → AtEachTime HasBirths history
+        → EndsByLoss history }
+{}
+
+/// A stream ends with a broken link only where its bytes have a fault from then on, or a CNXN with
+/// which no device is taken.
+pub fn ends_by_break()
+    ensures { (history : List Entry) → IsLegal history → AtEachTime HasBirths history
+        → EndsByBreak history }
+{}
 
 /// A stream ends with its client's connection only where that fails, and for that cause.
 pub fn ends_by_failure()
