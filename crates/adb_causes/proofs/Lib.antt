@@ -13,3 +13,5 @@ pub mod TurnsOfPackets
 pub mod Runs
 pub mod Receiving
 pub mod LinkEnds
+pub mod Others
+pub mod OtherCauses

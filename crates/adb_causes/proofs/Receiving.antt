@@ -33,7 +33,7 @@ pub record Brought (t : ℕ) (bytes : List ℕ) (older : History) (link : Link) 
   pub fault : (framed (bytes_received t (Recv t bytes ∷ older))).fault ≡ c.fault
   pub sound : (framed (bytes_received t older)).fault ≡ None
 
-brought_cut : (t : ℕ) (bytes : List ℕ) (older : History) (link : Link) → IsLegal older → (state older).links t ≡ Some link
+pub brought_cut : (t : ℕ) (bytes : List ℕ) (older : History) (link : Link) → IsLegal older → (state older).links t ≡ Some link
     → Brought t bytes older link (cut_packets (record { sums = link.sums }) (link.rest ++ bytes))
 brought_cut t bytes older link legal is =
     let tie = subst (λ (o : Option Link). ReadTie (is_lost t older) o (bytes_received t older)) is ((received older legal).links t) in
