@@ -15,3 +15,7 @@ pub mod Receiving
 pub mod LinkEnds
 pub mod Others
 pub mod OtherCauses
+pub mod Silent
+pub mod Untouched
+pub mod UntouchedRules
+pub mod UntouchedEntries

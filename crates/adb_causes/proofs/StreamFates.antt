@@ -82,7 +82,7 @@ module _ (l : ℕ) (Why : Reason) where
       if_fate s (nat_eq x.link t) (ends_row n ending x s) (quietly s)
       (λ e. ends_fate n ending x s is (λ same. subst (λ (k : ℕ). Why x.client k ending) (sym (eqb-true x.link t e)) (why x.client))) (λ e. quiet s)
 
-  ends_of_fate : (t k : ℕ) (ending : Ending) (s : State) → ((c : ℕ) → Why c t ending) → FateOf l Why s (ends_of t k ending s)
+  pub ends_of_fate : (t k : ℕ) (ending : Ending) (s : State) → ((c : ℕ) → Why c t ending) → FateOf l Why s (ends_of t k ending s)
   ends_of_fate t zero ending s why = quiet s
   ends_of_fate t (suc k) ending s why =
       let m = ends_of t k ending s in
@@ -99,7 +99,7 @@ gone_here l n ending x s is same =
     ap (λ (r : State). r.streams l) (ends_state n ending x s ∙ client_loses_frame (s.clients x.client) x.client gone)
     ∙ (ap gone.streams (sym same) ∙ changed_here n none_kept s.streams x is)
 
-abbrev Any : Reason
+abbrev pub Any : Reason
 Any = λ c k y. Unit {0}
 
 module _ (l : ℕ) where
