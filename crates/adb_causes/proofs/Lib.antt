@@ -19,3 +19,5 @@ pub mod Silent
 pub mod Untouched
 pub mod UntouchedRules
 pub mod UntouchedEntries
+pub mod Effects
+pub mod PacketEffects

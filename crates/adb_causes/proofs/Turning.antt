@@ -180,7 +180,7 @@ module _ (t : ℕ) (x : Stream) (p : Packet) (s : State) (h : Here t p.arg1 x s)
 
 -- ---- WRTE
 -- the test of a write and what counts as one
-no_write : (remote own : ℕ) → (eqb remote 0 || not (eqb remote own)) ≡ true → (true && not (nat_eq own 0) && (nat_eq remote own && true)) ≡ false
+pub no_write : (remote own : ℕ) → (eqb remote 0 || not (eqb remote own)) ≡ true → (true && not (nat_eq own 0) && (nat_eq remote own && true)) ≡ false
 no_write remote own e = go (eqb remote 0) (eqb remote own) refl refl e
   where
     nil : (b : Bool) → nat_eq own 0 ≡ b → own ≡ 0 → (true && not b && (true && true)) ≡ false
@@ -192,7 +192,7 @@ no_write remote own e = go (eqb remote 0) (eqb remote own) refl refl e
     go true true f g h = nil (nat_eq own 0) refl (sym (eqb-true remote own g) ∙ eqb-true remote 0 f)
     go false true f g h = absurd (let clash : false ≡ true = h in cc)
 
-a_write : (remote own : ℕ) → (eqb remote 0 || not (eqb remote own)) ≡ false → (true && not (nat_eq own 0) && (nat_eq remote own && true)) ≡ true
+pub a_write : (remote own : ℕ) → (eqb remote 0 || not (eqb remote own)) ≡ false → (true && not (nat_eq own 0) && (nat_eq remote own && true)) ≡ true
 a_write remote own e = go (eqb remote 0) (eqb remote own) refl refl e
   where
     some : (b : Bool) → nat_eq own 0 ≡ b → (own ≡ 0 → ⊥) → (true && not b && (true && true)) ≡ true
@@ -210,7 +210,7 @@ none_streams (Credit credit) l x s = refl
 
 module _ (t : ℕ) (x : Stream) (p : Packet) (s : State) (h : Here t p.arg1 x s) where
   -- what counts, of a write
-  write_counts : p.command ≡ Wrte
+  pub write_counts : p.command ≡ Wrte
       → counts x.part.remote p.arg1 p ≡ (true && not (nat_eq x.part.remote 0) && (nat_eq p.arg0 x.part.remote && true))
   write_counts c =
       ap (λ k. is_wrte k && not (nat_eq x.part.remote 0) && (nat_eq p.arg0 x.part.remote && nat_eq p.arg1 p.arg1)) c

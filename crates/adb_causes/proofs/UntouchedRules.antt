@@ -84,7 +84,7 @@ module _ (l c t : ℕ) where
       u_if l c s (nat_lt version least_version || nat_lt maxdata least_maxdata) (link_ends t broken s) (connects t version maxdata (identity_of banner) s)
       (λ e. u_link_ends l c t broken s (h.apart, h.link)) (λ e. far_connects version maxdata (identity_of banner) s h)
 
-  far_unauthorized : (o : Option Row) (s : State) → Untouched l c s (unauthorized t o s)
+  pub far_unauthorized : (o : Option Row) (s : State) → Untouched l c s (unauthorized t o s)
   far_unauthorized None s = u_quiet l c s
   far_unauthorized (Some row) s = go row.state
     where
@@ -98,7 +98,7 @@ module _ (l c t : ℕ) where
       go Rescue = u_quiet l c s
       go Host = u_quiet l c s
 
-  far_refuses : (id : ℕ) (s : State) → Untouched l c s (refuses_open t id s)
+  pub far_refuses : (id : ℕ) (s : State) → Untouched l c s (refuses_open t id s)
   far_refuses id s = u_if l c s (eqb id 0) (quietly s) (owe_link t (close_packet 0 id) s) (λ e. u_quiet l c s)
       (λ e. u_owe l c t (close_packet 0 id) s (record { write = refl; credit = refl }))
 
