@@ -21,3 +21,4 @@ pub mod UntouchedRules
 pub mod UntouchedEntries
 pub mod Effects
 pub mod PacketEffects
+pub mod RunEffects
