@@ -22,3 +22,4 @@ pub mod UntouchedEntries
 pub mod Effects
 pub mod PacketEffects
 pub mod RunEffects
+pub mod Sayings
