@@ -23,3 +23,5 @@ pub mod Effects
 pub mod PacketEffects
 pub mod RunEffects
 pub mod Sayings
+pub mod UpEffects
+pub mod UpRuns

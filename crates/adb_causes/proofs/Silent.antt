@@ -1,5 +1,5 @@
 -- Packets that are no writes of a stream and give it no credit.
-use Rattle.std.proofs.Common.{◌≡◌, ◌≢◌, ◌+◌, ℕ, Bool, true, false, cond, ◌&&◌, List, [], ◌∷◌, ◌++◌, Option, Some, None, refl, sym, ap, ◌∙◌, eqb, arith}
+use Rattle.std.proofs.Common.{◌≡◌, ◌≢◌, ◌+◌, ℕ, Bool, true, false, cond, ◌&&◌, List, [], ◌∷◌, ◌++◌, Option, Some, None, refl, sym, ap, ◌∙◌, eqb, arith, append_assoc}
 use Rattle.std.specs.Prelude.{nat_eq, unwrap_or}
 use Rattle.std.proofs.lemmas.Bool.{ne_eqb}
 use Rattle.adb_wire.specs.declared.packets.Packet.{Packet}
@@ -79,3 +79,66 @@ module _ (l t : ℕ) where
       go : (b : Bool) → credit_of (okays_of l (packets_to t w)) ≡ 0 → credit_of (okays_of l (cond b (p ∷ packets_to t w) (packets_to t w))) ≡ 0
       go true rest = one (is_okay p.command && nat_eq p.arg0 l) h.0.credit rest
       go false rest = rest
+
+-- ---- what events tell of a stream to a link: the bytes and the writes that go up, and the credit that is given back
+pub record Tally (l t : ℕ) (w : List Event) (carried : List ℕ) (writes credits : ℕ) : Type 0 where
+  pub bytes : carried_in l (packets_to t w) ≡ carried
+  pub count : count_from is_wrte l (packets_to t w) ≡ writes
+  pub given : credit_of (okays_of l (packets_to t w)) ≡ credits
+
+pub tally_silent : (l t : ℕ) (w : List Event) → AreSilent l w → Tally l t w [] 0 0
+tally_silent l t w h = record { bytes = silent_carried l t w h; count = silent_writes l t w h; given = silent_credits l t w h }
+
+packets_append : (t : ℕ) (a b : List Event) → packets_to t (a ++ b) ≡ packets_to t a ++ packets_to t b
+packets_append t [] b = refl
+packets_append t (due_to_client client bytes ∷ a) b = packets_append t a b
+packets_append t (ended stream ending ∷ a) b = packets_append t a b
+packets_append t (due_to_link link p check ∷ a) b = go (eqb link t) (packets_append t a b)
+  where
+    go : (c : Bool) → packets_to t (a ++ b) ≡ packets_to t a ++ packets_to t b
+        → cond c (p ∷ packets_to t (a ++ b)) (packets_to t (a ++ b)) ≡ cond c (p ∷ packets_to t a) (packets_to t a) ++ packets_to t b
+    go true e = ap (λ (ps : List Packet). p ∷ ps) e
+    go false e = e
+
+module _ (l : ℕ) where
+  carried_append : (a b : List Packet) → carried_in l (a ++ b) ≡ carried_in l a ++ carried_in l b
+  carried_append [] b = refl
+  carried_append (p ∷ a) b = go (is_wrte p.command && nat_eq p.arg0 l) (carried_append a b)
+    where
+      go : (c : Bool) → carried_in l (a ++ b) ≡ carried_in l a ++ carried_in l b
+          → cond c (p.payload ++ carried_in l (a ++ b)) (carried_in l (a ++ b)) ≡ cond c (p.payload ++ carried_in l a) (carried_in l a) ++ carried_in l b
+      go true e = ap (λ bytes. p.payload ++ bytes) e ∙ sym (append_assoc p.payload (carried_in l a) (carried_in l b))
+      go false e = e
+
+  count_append : (a b : List Packet) → count_from is_wrte l (a ++ b) ≡ count_from is_wrte l a + count_from is_wrte l b
+  count_append [] b = omega arith
+  count_append (p ∷ a) b = go (is_wrte p.command && nat_eq p.arg0 l) (count_append a b)
+    where
+      go : (c : Bool) → count_from is_wrte l (a ++ b) ≡ count_from is_wrte l a + count_from is_wrte l b
+          → cond c (1 + count_from is_wrte l (a ++ b)) (count_from is_wrte l (a ++ b))
+          ≡ cond c (1 + count_from is_wrte l a) (count_from is_wrte l a) + count_from is_wrte l b
+      go true e = omega (arith, e)
+      go false e = e
+
+  credits_append : (a b : List Packet) → credit_of (okays_of l (a ++ b)) ≡ credit_of (okays_of l a) + credit_of (okays_of l b)
+  credits_append [] b = omega arith
+  credits_append (p ∷ a) b = go (is_okay p.command && nat_eq p.arg0 l) (credits_append a b)
+    where
+      go : (c : Bool) → credit_of (okays_of l (a ++ b)) ≡ credit_of (okays_of l a) + credit_of (okays_of l b)
+          → credit_of (cond c (p ∷ okays_of l (a ++ b)) (okays_of l (a ++ b))) ≡ credit_of (cond c (p ∷ okays_of l a) (okays_of l a)) + credit_of (okays_of l b)
+      go true e = omega (arith, e)
+      go false e = e
+
+pub tally_append : (l t : ℕ) (a b : List Event) (c d : List ℕ) (m n i j : ℕ) → Tally l t a c m i → Tally l t b d n j → Tally l t (a ++ b) (c ++ d) (m + n) (i + j)
+tally_append l t a b c d m n i j h k = record {
+  bytes = ap (carried_in l) (packets_append t a b) ∙ (carried_append l (packets_to t a) (packets_to t b)
+      ∙ (ap (λ x. x ++ carried_in l (packets_to t b)) h.bytes ∙ ap (λ x. c ++ x) k.bytes));
+  count =
+      let both : count_from is_wrte l (packets_to t (a ++ b)) ≡ count_from is_wrte l (packets_to t a) + count_from is_wrte l (packets_to t b) =
+      ap (count_from is_wrte l) (packets_append t a b) ∙ count_append l (packets_to t a) (packets_to t b) in
+      omega (arith, both, h.count, k.count);
+  given =
+      let both : credit_of (okays_of l (packets_to t (a ++ b))) ≡ credit_of (okays_of l (packets_to t a)) + credit_of (okays_of l (packets_to t b)) =
+      ap (λ ps. credit_of (okays_of l ps)) (packets_append t a b) ∙ credits_append l (packets_to t a) (packets_to t b) in
+      omega (arith, both, h.given, k.given);
+}
