@@ -25,3 +25,4 @@ pub mod RunEffects
 pub mod Sayings
 pub mod UpEffects
 pub mod UpRuns
+pub mod PutEffects
