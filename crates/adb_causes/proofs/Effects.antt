@@ -28,6 +28,7 @@ use Rattle.adb_history.specs.Orderly.{phase_for}
 use Rattle.adb_history.specs.Births.{is_between, is_okay, is_wrte, is_clse}
 use Rattle.adb_history.specs.Causes.{remote_after}
 use Rattle.adb_history.proofs.Following.{changed_here}
+use Rattle.adb_causes.specs.Flows.{waiting, hears}
 use Rattle.adb_causes.proofs.PacketFates.{hears_streams}
 use Rattle.adb_causes.proofs.StreamFates.{gone_here}
 use Rattle.adb_causes.proofs.Turns.{counts, written_after, no_and}
@@ -36,22 +37,12 @@ use Rattle.adb_history.proofs.Growing.{owed_append}
 use Rattle.adb_causes.proofs.Untouched.{Untouched, Apart, u_owe, u_quiet}
 use Rattle.adb_causes.proofs.UntouchedEntries.{Pair, has_stream}
 
--- how many writes of a flow wait for their OKAY
-abbrev pub waiting : Flow → ℕ
-waiting (One window) = cond window.outstanding 1 0
-waiting (Credit credit) = 0
-
 -- whether a packet is an OKAY of an open stream
 abbrev pub is_again : (remote l : ℕ) → Packet → Bool
 is_again remote l p = is_okay p.command && not (nat_eq remote 0) && is_between remote l p
 
 abbrev pub okays_after_one : (remote l : ℕ) → Packet → ℕ → ℕ
 okays_after_one remote l p n = cond (is_again remote l p) (1 + n) n
-
--- how many bytes became due to a client for its stream: an `OKAY`, if it came by itself, and what its device wrote
-abbrev pub hears : (remote : ℕ) → Bool → (written : ℕ) → ℕ
-hears zero forwarded written = 0
-hears (suc n) forwarded written = cond forwarded 0 4 + written
 
 -- a client as before, but for its phase and what is due to it
 pub record SameClient (k k' : Client) : Type 0 where

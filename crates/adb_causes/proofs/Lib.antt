@@ -26,3 +26,4 @@ pub mod Sayings
 pub mod UpEffects
 pub mod UpRuns
 pub mod PutEffects
+pub mod Middle

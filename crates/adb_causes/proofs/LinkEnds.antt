@@ -16,7 +16,8 @@ use Rattle.adb_history.specs.Causes.{brings, closes_in, peer_closes, writes_earl
 use Rattle.adb_history.specs.Causes.{EndsByPeer, EndsOutOfTurn, EndsByLoss, EndsByBreak}
 use Rattle.adb_history.specs.Fifo.{HasBirths}
 use Rattle.adb_causes.specs.Times.{AtEachTime}
-use Rattle.adb_causes.specs.Flows.{HasFlows}
+use Rattle.adb_causes.specs.Flows.{HasFlows, HoldsAsTold}
+use Rattle.adb_causes.proofs.Middle.{times_map, holds_flows}
 use Rattle.adb_causes.proofs.Runs.{says_anew, StruckBy, Cutting}
 use Rattle.adb_causes.proofs.Lives.{now, WhyStep}
 use Rattle.adb_causes.proofs.Endings.{IsTime, time_of, times_at, EndsAt, ends_at, ends_for}
@@ -107,8 +108,9 @@ turn_cause l (Put n bytes) older x at (inl why) = absurd why
 turn_cause l (Send t bytes) older x at (inl why) = absurd why
 turn_cause l e older x at (inr why) = absurd (let clash : out_of_turn ≡ client_closed = why in cc)
 
-pub all_out_of_turn : (h : History) → IsLegal h → AtEachTime HasBirths h → AtEachTime HasFlows h → EndsOutOfTurn h
-all_out_of_turn h legal births flows l e older moment told =
+pub all_out_of_turn : (h : History) → IsLegal h → AtEachTime HasBirths h → AtEachTime HoldsAsTold h → EndsOutOfTurn h
+all_out_of_turn h legal births holds l e older moment told =
+    let flows = times_map HoldsAsTold HasFlows holds_flows h legal holds in
     let time = time_of h legal births e older moment in
     let x = ends_at l e older out_of_turn time told in
     let before = times_at HasFlows moment.0 (e ∷ older) (subst (AtEachTime HasFlows) (sym moment.1) flows) in

@@ -36,7 +36,8 @@ use Rattle.adb_history.proofs.Books.{all_books}
 use Rattle.adb_history.proofs.LinkMoves.{all_linked}
 use Rattle.adb_history.proofs.OwnedMoves.{client_of}
 use Rattle.adb_causes.specs.Times.{AtEachTime}
-use Rattle.adb_causes.specs.Flows.{HasFlows}
+use Rattle.adb_causes.specs.Flows.{HasFlows, HoldsAsTold}
+use Rattle.adb_causes.proofs.Middle.{times_map, holds_flows}
 use Rattle.adb_causes.proofs.Fates.{lives, ending_append, or_none, none_some, row_lives}
 use Rattle.adb_causes.proofs.RuleFates.{drawn_row, rule_fate}
 use Rattle.adb_causes.proofs.Runs.{says_anew}
@@ -193,8 +194,9 @@ not_struck l b e older at none =
       stopped = not_stopped l b older a e at.0 none.1;
     })
 
-pub all_other : (h : History) → IsLegal h → AtEachTime HasBirths h → AtEachTime HasFlows h → HasNoOtherCause h
-all_other h legal births flows l b e older moment is none =
+pub all_other : (h : History) → IsLegal h → AtEachTime HasBirths h → AtEachTime HoldsAsTold h → HasNoOtherCause h
+all_other h legal births holds l b e older moment is none =
+    let flows = times_map HoldsAsTold HasFlows holds_flows h legal holds in
     let time = time_of h legal births e older moment in
     let before = times_at HasFlows moment.0 (e ∷ older) (subst (AtEachTime HasFlows) (sym moment.1) flows) in
     not_struck l b e older (time, now HasFlows older before.1, is)

@@ -42,7 +42,8 @@ use Rattle.adb_causes.proofs.Turns.{other_kind, other_stream}
 use Rattle.adb_causes.proofs.Turning.{no_write, a_write, Here}
 use Rattle.adb_causes.proofs.Untouched.{u_okay, u_write, u_close}
 use Rattle.adb_causes.proofs.UntouchedRules.{far_unauthorized, far_refuses}
-use Rattle.adb_causes.proofs.Effects.{is_again, hears, SameClient, Effect, EffectOr, nothing_done, opened_effect, again_effect, takes_effect}
+use Rattle.adb_causes.specs.Flows.{waiting, hears}
+use Rattle.adb_causes.proofs.Effects.{is_again, SameClient, Effect, EffectOr, nothing_done, opened_effect, again_effect, takes_effect}
 
 -- a write that counts is of a stream that is open
 counts_open : (own remote : ℕ) → (true && not (nat_eq own 0) && (nat_eq remote own && true)) ≡ true → eqb own 0 ≡ false

@@ -32,7 +32,7 @@ use Rattle.adb_history.proofs.Following.{changed_here}
 use Rattle.adb_causes.specs.Flows.{FlowIs}
 use Rattle.adb_causes.proofs.Silent.{Tally, tally_silent, okay_silent, AreSilent}
 use Rattle.adb_causes.proofs.UntouchedEntries.{Pair, has_stream}
-use Rattle.adb_causes.proofs.Effects.{waiting}
+use Rattle.adb_causes.specs.Flows.{waiting}
 
 -- so much of a client's bytes is handed out, of which so many are left
 pub record PutEffect (l : ℕ) (x : Stream) (k : Client) (n : ℕ) (m : Made) : Type 0 where

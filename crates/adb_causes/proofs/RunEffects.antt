@@ -41,7 +41,8 @@ use Rattle.adb_causes.proofs.Turns.{other_kind, other_stream}
 use Rattle.adb_causes.proofs.Turning.{no_write, a_write, Here}
 use Rattle.adb_causes.proofs.Untouched.{u_okay, u_write, u_close}
 use Rattle.adb_causes.proofs.UntouchedRules.{far_unauthorized, far_refuses}
-use Rattle.adb_causes.proofs.Effects.{is_again, hears, SameClient, Effect, EffectOr, nothing_done, opened_effect, again_effect, takes_effect}
+use Rattle.adb_causes.specs.Flows.{waiting, hears}
+use Rattle.adb_causes.proofs.Effects.{is_again, SameClient, Effect, EffectOr, nothing_done, opened_effect, again_effect, takes_effect}
 use Rattle.std.specs.Option.{option_or}
 use Rattle.adb_history.specs.Events.{ending_in}
 use Rattle.adb_history.specs.Packets.{treat_all}
@@ -52,7 +53,7 @@ use Rattle.adb_causes.proofs.Turns.{Next, Passes, Falls}
 use Rattle.adb_causes.proofs.Turning.{Turn}
 use Rattle.adb_causes.proofs.TurnsOfPackets.{treat_turn}
 use Rattle.adb_causes.proofs.Untouched.{apart_fate}
-use Rattle.adb_causes.proofs.Effects.{waiting, okays_after_one, same_client}
+use Rattle.adb_causes.proofs.Effects.{okays_after_one, same_client}
 use Rattle.adb_causes.proofs.PacketEffects.{treat_effect}
 
 -- ---- what packets say to a stream, one after another

@@ -30,7 +30,7 @@ use Rattle.adb_causes.proofs.StreamFates.{up_fate, up_all_fate}
 use Rattle.adb_causes.proofs.Silent.{AreSilent, silent_append, write_silent, silent_carried, silent_writes, silent_credits}
 use Rattle.adb_causes.proofs.Untouched.{Untouched, Apart, apart_fate, u_then, u_if, u_quiet, u_owe, u_stream, u_client, u_telling}
 use Rattle.adb_causes.proofs.UntouchedEntries.{Pair, has_stream}
-use Rattle.adb_causes.proofs.Effects.{waiting}
+use Rattle.adb_causes.specs.Flows.{waiting}
 
 -- ---- the writes
 joined_writes : (k maxdata credit : ℕ) (held : List ℕ) → joined (writes k maxdata credit held) ≡ take (total (writes k maxdata credit held)) held

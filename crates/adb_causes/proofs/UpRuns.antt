@@ -30,7 +30,7 @@ use Rattle.adb_causes.proofs.StreamFates.{up_fate, up_all_fate}
 use Rattle.adb_causes.proofs.Silent.{AreSilent, silent_append, write_silent, silent_carried, silent_writes, silent_credits}
 use Rattle.adb_causes.proofs.Untouched.{Untouched, Apart, apart_fate, u_then, u_if, u_quiet, u_owe, u_stream, u_client, u_telling}
 use Rattle.adb_causes.proofs.UntouchedEntries.{Pair, has_stream}
-use Rattle.adb_causes.proofs.Effects.{waiting}
+use Rattle.adb_causes.specs.Flows.{waiting}
 use Rattle.adb_history.specs.Streams.{loses, client_loses, ends_row, tells_end}
 use Rattle.adb_history.specs.Links.{close_packet, check_on, wants_sums}
 use Rattle.adb_history.specs.Events.{due_to_link, ended}

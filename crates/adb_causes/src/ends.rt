@@ -9,7 +9,7 @@ ghost use Rattle.adb_history.specs.Causes.{EndsByPeer, EndsByLoss, EndsByBreak};
 ghost use Rattle.adb_history.specs.Causes.{EndsByFailure, EndsByStop};
 ghost use Rattle.adb_history.specs.Causes.{EndsOutOfTurn, HasNoOtherCause};
 ghost use Rattle.adb_causes.specs.Times.{AtEachTime};
-ghost use Rattle.adb_causes.specs.Flows.{HasFlows};
+ghost use Rattle.adb_causes.specs.Flows.{HoldsAsTold};
 
 /// A stream ends by its device only where that closed it, in the very bytes that came.
 pub fn ends_by_peer()
@@ -21,7 +21,7 @@ pub fn ends_by_peer()
 /// to be handed out, or past the credit that it was given.
 pub fn ends_out_of_turn()
     ensures { (history : List Entry) → IsLegal history → AtEachTime HasBirths history
-        → AtEachTime HasFlows history → EndsOutOfTurn history }
+        → AtEachTime HoldsAsTold history → EndsOutOfTurn history }
 {}
 
 /// A stream ends with a link that is lost only where that is detached, or its device says anew who
@@ -53,5 +53,5 @@ pub fn ends_by_stop()
 /// At an entry that leaves a stream alive nothing stands that ends one, but its client's orderly end.
 pub fn outlives_no_cause()
     ensures { (history : List Entry) → IsLegal history → AtEachTime HasBirths history
-        → AtEachTime HasFlows history → HasNoOtherCause history }
+        → AtEachTime HoldsAsTold history → HasNoOtherCause history }
 {}
