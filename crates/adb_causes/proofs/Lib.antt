@@ -27,3 +27,4 @@ pub mod UpEffects
 pub mod UpRuns
 pub mod PutEffects
 pub mod Middle
+pub mod Unchanged
