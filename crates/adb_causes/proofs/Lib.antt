@@ -28,3 +28,4 @@ pub mod UpRuns
 pub mod PutEffects
 pub mod Middle
 pub mod Unchanged
+pub mod RuleSteps
