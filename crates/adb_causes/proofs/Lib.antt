@@ -29,3 +29,4 @@ pub mod PutEffects
 pub mod Middle
 pub mod Unchanged
 pub mod RuleSteps
+pub mod RecvSteps

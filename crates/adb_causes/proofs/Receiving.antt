@@ -30,6 +30,7 @@ use Rattle.adb_causes.proofs.Runs.{alive_told, Cutting, StruckBy, CutRun, cut_ru
 pub record Brought (t : ℕ) (bytes : List ℕ) (older : History) (link : Link) (c : Cutting) : Type 0 where
   pub is : c ≡ cut_packets (record { sums = link.sums }) (link.rest ++ bytes)
   pub given : brings t (Recv t bytes) older ≡ c.given
+  pub all : brought t (Recv t bytes ∷ older) ≡ brought t older ++ c.given
   pub fault : (framed (bytes_received t (Recv t bytes ∷ older))).fault ≡ c.fault
   pub sound : (framed (bytes_received t older)).fault ≡ None
 
@@ -42,6 +43,7 @@ brought_cut t bytes older link legal is =
     record {
       is = refl;
       given = ap (λ (d : Cutting). drop (length (brought t older)) d.given) whole ∙ drop-append_seam (brought t older) c.given;
+      all = ap (λ (d : Cutting). d.given) whole;
       fault = ap (λ (d : Cutting). d.fault) whole;
       sound = tie.0.sound;
     }

@@ -203,7 +203,7 @@ abbrev pub CutRun : (t l : ℕ) → Stream → Cutting → Made → Type 0
 CutRun t l x c m = (RunsOn t l x c.given m × (c.fault ≡ None)) ⊎ CutFell l x c m
 
 module _ (t l : ℕ) (x : Stream) (s : State) (h : Here t l x s) (c : Cutting) where
-  rested_here : Here t l x (to_link t (with_rest c.rest) s)
+  pub rested_here : Here t l x (to_link t (with_rest c.rest) s)
   rested_here = record {
     is = h.is;
     alive = h.alive;

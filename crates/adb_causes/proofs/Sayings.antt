@@ -112,6 +112,7 @@ opening_more l (p ∷ a) b o is = go p.command is (opening_more l a b o)
 pub record Said (l : ℕ) (packets : List Packet) : Type 0 where
   pub told : length (joined (told_after l (opening_in l packets))) ≡ written_all 0 l packets 0
   pub okays : okays_behind l (opening_in l packets) ≡ okays_all 0 l packets 0
+  pub remote : remote_in (opening_in l packets) ≡ remote_all 0 l packets
   pub waits : remote_all 0 l packets ≡ 0 → (more : List Packet) → opening_in l (packets ++ more) ≡ opening_in l more
 
 -- one packet that opens it, or says nothing to it
@@ -140,6 +141,7 @@ module _ (l : ℕ) (p : Packet) (packets : List Packet) where
             ap (λ n. okays_all n l packets (okays_after_one 0 l p 0)) after
             ∙ (ap (λ w. okays_all p.arg0 l packets w) not_again ∙ okays_known p.arg0 l at.2 packets 0) in
             omega (arith, one, two);
+        remote = ap remote_in now ∙ sym (ap (λ n. remote_all n l packets) after ∙ remote_known p.arg0 l at.2 packets);
         waits = λ e more. absurd (eqb-false p.arg0 0 at.2
             (sym (remote_known p.arg0 l at.2 packets) ∙ (ap (λ n. remote_all n l packets) (sym after) ∙ e)));
       }
@@ -157,6 +159,7 @@ module _ (l : ℕ) (p : Packet) (packets : List Packet) where
         ∙ (s.told ∙ sym (ap (λ i. written_all i l packets (written_after 0 l p 0)) n.after ∙ ap (λ w. written_all 0 l packets w) n.written));
     okays = ap (okays_behind l) (n.opening packets (opening_in l packets))
         ∙ (s.okays ∙ sym (ap (λ i. okays_all i l packets (okays_after_one 0 l p 0)) n.after ∙ ap (λ w. okays_all 0 l packets w) n.again));
+    remote = ap remote_in (n.opening packets (opening_in l packets)) ∙ (s.remote ∙ ap (λ i. remote_all i l packets) (sym n.after));
     waits = λ e more. n.opening (packets ++ more) (opening_in l (packets ++ more)) ∙ s.waits (ap (λ i. remote_all i l packets) (sym n.after) ∙ e) more;
   }
 
@@ -208,12 +211,12 @@ module _ (l : ℕ) (p : Packet) (packets : List Packet) where
       open_still false g = g
 
 -- what one of two tests says where neither passes
-neither : (a b : Bool) → (a || b) ≡ false → (a ≡ false) × (b ≡ false)
+pub neither : (a b : Bool) → (a || b) ≡ false → (a ≡ false) × (b ≡ false)
 neither true b e = absurd (let clash : true ≡ false = e in cc)
 neither false b e = (refl, e)
 
 pub all_said : (l : ℕ) (packets : List Packet) → closes_in 0 l packets ≡ false → list_any (λ p. is_cnxn p.command) packets ≡ false → Said l packets
-all_said l [] shut cnxn = record { told = refl; okays = refl; waits = λ e more. refl }
+all_said l [] shut cnxn = record { told = refl; okays = refl; remote = refl; waits = λ e more. refl }
 all_said l (p ∷ packets) shut cnxn =
     let first = neither (is_close_of 0 l p) (closes_in (remote_after 0 l p) l packets) shut in
     let kinds = neither (is_cnxn p.command) (list_any (λ p. is_cnxn p.command) packets) cnxn in
@@ -232,6 +235,7 @@ okays_behind_in l packets = okays_behind l (opening_in l packets)
 pub record SaidMore (l r : ℕ) (packets more : List Packet) : Type 0 where
   pub told : written_in l (packets ++ more) ≡ written_all r l more (written_in l packets)
   pub okays : okays_behind_in l (packets ++ more) ≡ okays_all r l more (okays_behind_in l packets)
+  pub remote : remote_in (opening_in l (packets ++ more)) ≡ remote_all r l more
   pub waits : remote_all r l more ≡ 0 → (last : List Packet) → opening_in l ((packets ++ more) ++ last) ≡ opening_in l last
 
 module _ (l r : ℕ) (packets more : List Packet) (known : remote_in (opening_in l packets) ≡ r) where
@@ -262,6 +266,7 @@ module _ (l r : ℕ) (packets more : List Packet) (known : remote_in (opening_in
             okays_known r l some more (okays_behind_in l packets) in
             let same : okays_in o.remote l more ≡ okays_in r l more = ap (λ n. okays_in n l more) own in
             omega (arith, before, after, parts, all, same);
+        remote = ap remote_in now ∙ (own ∙ sym (remote_known r l some more));
         waits = λ e last. absurd (eqb-false r 0 some (sym (remote_known r l some more) ∙ e));
       }
 
@@ -274,6 +279,7 @@ module _ (l r : ℕ) (packets more : List Packet) (known : remote_in (opening_in
             ∙ (s.told ∙ (ap (λ n. written_all n l more 0) (sym nil) ∙ ap (λ w. written_all r l more w) (sym (ap (λ o. length (joined (told_after l o))) none))));
         okays = ap (okays_behind l) (waits more)
             ∙ (s.okays ∙ (ap (λ n. okays_all n l more 0) (sym nil) ∙ ap (λ w. okays_all r l more w) (sym (ap (okays_behind l) none))));
+        remote = ap remote_in (waits more) ∙ (s.remote ∙ ap (λ n. remote_all n l more) (sym nil));
         waits = λ e last. ap (opening_in l) (append_assoc packets more last)
             ∙ (waits (more ++ last) ∙ s.waits (ap (λ n. remote_all n l more) (sym nil) ∙ e) last);
       }

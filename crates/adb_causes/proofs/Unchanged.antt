@@ -36,7 +36,7 @@ use Rattle.adb_causes.proofs.UntouchedEntries.{Pair, IsFar}
 use Rattle.adb_causes.proofs.Middle.{AfterRule}
 
 -- ---- the opening
-opened_some : (l : ℕ) (packets : List Packet) (o : FirstOkay) → opening_in l packets ≡ Some o → nat_eq o.remote 0 ≡ false
+pub opened_some : (l : ℕ) (packets : List Packet) (o : FirstOkay) → opening_in l packets ≡ Some o → nat_eq o.remote 0 ≡ false
 opened_some l [] o is = absurd (let clash : None ≡ Some o = is in cc)
 opened_some l (p ∷ packets) o is = go p.command is (opened_some l packets o)
   where
