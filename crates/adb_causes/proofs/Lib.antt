@@ -30,3 +30,4 @@ pub mod Middle
 pub mod Unchanged
 pub mod RuleSteps
 pub mod RecvSteps
+pub mod NotOver

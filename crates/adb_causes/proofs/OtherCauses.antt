@@ -94,7 +94,7 @@ module _ (l : ℕ) (b : Birth) (older : History) (a : Alive l b older) (legal : 
 -- ---- the server was not stopped
 -- a kill is made with all streams, or not at all
 module _ (l : ℕ) where
-  abbrev Kills : State → Made → Type 0
+  abbrev pub Kills : State → Made → Type 0
   Kills s m = (m.state.stopped ≡ s.stopped) ⊎ (m.state.streams l ≡ None)
 
   opens_kills : (forwarded : Bool) (c t : ℕ) (service : List ℕ) (s : State) → Kills s (opens forwarded c t service s)
@@ -131,12 +131,12 @@ module _ (l : ℕ) where
   reads_in_kills Closing c bytes client s = inl refl
   reads_in_kills Gone c bytes client s = inl refl
 
-  reads_kills : (o : Option Client) (c : ℕ) (bytes : List ℕ) (s : State) → Kills s (reads_from o c bytes s)
+  pub reads_kills : (o : Option Client) (c : ℕ) (bytes : List ℕ) (s : State) → Kills s (reads_from o c bytes s)
   reads_kills None c bytes s = inl refl
   reads_kills (Some client) c bytes s = reads_in_kills client.about.phase c bytes client s
 
 -- a listener makes no kill
-bound_killed : (c port : ℕ) (older : History) (o : Option Want)
+pub bound_killed : (c port : ℕ) (older : History) (o : Option Want)
     → (bound_turn c port (devices_if (book older).killed older) o (book older)).killed ≡ (book older).killed
 bound_killed c port older None = refl
 bound_killed c port older (Some want) = refl
