@@ -1,0 +1,6 @@
+pub mod TurnStreams
+pub mod TurnPackets
+pub mod TurnReads
+pub mod TurnRules
+pub mod HeardMoves
+pub mod HeardRules

@@ -1,0 +1,2 @@
+//! The third promise, that each client is answered: every legal history keeps it.
+#![tactic(auto)]
