@@ -4,3 +4,5 @@ pub mod TurnReads
 pub mod TurnRules
 pub mod HeardMoves
 pub mod HeardRules
+pub mod HeardEntries
+pub mod HeardAsks
