@@ -6,3 +6,6 @@ pub mod HeardMoves
 pub mod HeardRules
 pub mod HeardEntries
 pub mod HeardAsks
+pub mod HeardBound
+pub mod HeardPuts
+pub mod HeardHistories
