@@ -1,7 +1,7 @@
 -- A client that asks reads: what it is answered is what the entries say.
 use Rattle.std.proofs.Common.{◌≡◌, ℕ, ◌+◌, Bool, true, false, cond, List, [], ◌∷◌, ◌++◌, Option, Some, None, refl, sym, ap, subst, ◌∙◌}
 use Rattle.std.proofs.Common.{append_assoc, arith, eqb}
-use Rattle.std.specs.Prelude.{codes, not, ◌&&◌, ◌==◌, option_and_then}
+use Rattle.std.specs.Prelude.{codes, not, ◌==◌, option_and_then}
 use Rattle.std.proofs.lemmas.Bool.{eq-eqb}
 use Rattle.std.proofs.lemmas.List.{append-nil}
 use Rattle.adb_outside.specs.Bytes.{IsPrefixOf}
@@ -16,17 +16,16 @@ use Rattle.adb_reply.specs.declared.answer.Next.{Next}
 use Rattle.adb_reply.specs.declared.answer.Next.TheVariants as what
 use Rattle.adb_capture.specs.declared.entry.Entry.TheVariants.{Read}
 use Rattle.adb_history.specs.Rows.{Client, State, to_client, with_due, with_held, in_phase}
-use Rattle.adb_history.specs.Events.{Made, Event, due_to_client, owed_to}
+use Rattle.adb_history.specs.Events.{Made, Event, owed_to}
 use Rattle.adb_history.specs.Clients.{closing, closes_with}
-use Rattle.adb_history.specs.Streams.{stream_ids, asks_for, opens, draw}
-use Rattle.adb_history.specs.Links.{is_credit}
+use Rattle.adb_history.specs.Streams.{stream_ids, asks_for, opens}
 use Rattle.adb_history.specs.Tracking.{tracked_list}
 use Rattle.adb_history.specs.Asking.{Asked, asks_with}
-use Rattle.adb_history.specs.Losing.{only_client, stops, all_stop}
-use Rattle.adb_history.specs.Reading.{tracks, awaits, goes_on, asked_before, has_asked, asks, reads_in, reads_from}
+use Rattle.adb_history.specs.Losing.{only_client, stops}
+use Rattle.adb_history.specs.Reading.{tracks, awaits, goes_on, asked_before, asks, reads_in, reads_from}
 use Rattle.adb_history.specs.Machine.{History, state, told, rule, May, IsLegal}
 use Rattle.adb_history.specs.Bytes.{has_joined, has_ended}
-use Rattle.adb_history.specs.Book.{book, asked, devices_if, newly, asked_with, is_asking, still_asks}
+use Rattle.adb_history.specs.Book.{book, asked, devices_if, newly, asked_with, still_asks}
 use Rattle.adb_history.specs.Answered.{lists_of, last_list, reply_list}
 use Rattle.adb_history.specs.Moves.{After, HasOne}
 use Rattle.adb_history.specs.Owned.{IsOwned}
@@ -42,7 +41,7 @@ use Rattle.adb_history.proofs.BookReads.{none_next, newly_same, and_parts, asked
 use Rattle.adb_history.proofs.Books.{booked}
 use Rattle.adb_answered.specs.Turns.{Turns}
 use Rattle.adb_answered.specs.Heard.{Heard, heard, after_replies, asks_stream, asks_bind, IsUnanswered, PhaseSays, RowSays, RowsSay, Owes, Answers}
-use Rattle.adb_answered.proofs.HeardMoves.{prefix_more, says_closing}
+use Rattle.adb_answered.proofs.HeardMoves.{says_closing}
 use Rattle.adb_answered.proofs.HeardRules.{all_stop_owed, answers_turns}
 
 -- ---- its own row

@@ -1,11 +1,8 @@
 -- A client that waits for a listener hears of it: what it is answered is what the entries say.
-use Rattle.std.proofs.Common.{◌≡◌, ◌≢◌, ℕ, ◌+◌, ◌≤◌, ◌<◌, zero, suc, Bool, true, false, cond, List, [], ◌∷◌, ◌++◌, length, Option, Some, None, refl, sym, ap, subst, ◌∙◌}
-use Rattle.std.proofs.Common.{append_assoc, arith, eqb}
-use Rattle.std.specs.Prelude.{nat_eq, is_some, ◌&&◌, option_and_then}
-use Rattle.std.proofs.lemmas.Bool.{eq-eqb, ne_eqb}
-use Rattle.std.proofs.lemmas.List.{append-nil, length-append}
-use Rattle.adb_outside.specs.Bytes.{IsPrefixOf}
-use Rattle.adb_outside.specs.Tables.{Rows, change_row}
+use Rattle.std.proofs.Common.{◌≡◌, ℕ, Bool, true, false, cond, List, [], ◌∷◌, ◌++◌, Option, Some, None, refl, sym, ap, subst, ◌∙◌}
+use Rattle.std.proofs.Common.{eqb}
+use Rattle.std.proofs.lemmas.Bool.{eq-eqb}
+use Rattle.std.proofs.lemmas.List.{append-nil}
 use Rattle.adb_registry.specs.Registry.{DeviceTable}
 use Rattle.adb_forward.specs.declared.row.ForwardRow.{ForwardRow}
 use Rattle.adb_client.specs.declared.phase.Phase.{Phase}
@@ -13,35 +10,27 @@ use Rattle.adb_client.specs.declared.phase.Phase.TheVariants.{Asking, Opening, S
 use Rattle.adb_client.specs.declared.about.Want.{Want}
 use Rattle.adb_reply.specs.declared.answer.Next.{Next}
 use Rattle.adb_reply.specs.declared.answer.Next.TheVariants as what
-use Rattle.adb_capture.specs.declared.entry.Entry.TheVariants.{Bound, Put}
+use Rattle.adb_capture.specs.declared.entry.Entry.TheVariants.{Bound}
 use Rattle.adb_history.specs.Rows.{Client, State, to_client, with_due}
-use Rattle.adb_history.specs.Events.{Made, Event, quietly, then_also, due_to_client, owed_to}
-use Rattle.adb_history.specs.Clients.{closing}
-use Rattle.adb_history.specs.Tracking.{tracked_list, list_if_stale, due_or, offered}
+use Rattle.adb_history.specs.Events.{Made, Event, quietly, owed_to}
 use Rattle.adb_history.specs.Forwarding.{Binding as Bound_to, bound_by}
-use Rattle.adb_history.specs.Reading.{bound_to, bound_for, bound_in, bound_at, bound}
-use Rattle.adb_history.specs.Handing.{unmarked, lists_first, takes_of, puts_to, puts}
-use Rattle.adb_history.specs.Machine.{History, state, told, rule, May, MayPut, IsLegal}
-use Rattle.adb_history.specs.Bytes.{bytes_put}
-use Rattle.adb_history.specs.Book.{book, asked, devices_if, devices, bound_turn, bound_with}
-use Rattle.adb_history.specs.Answered.{list_if, lists_of, last_list}
+use Rattle.adb_history.specs.Reading.{bound_to, bound_for, bound_in, bound_at}
+use Rattle.adb_history.specs.Machine.{History, state, told, rule, May, IsLegal}
+use Rattle.adb_history.specs.Book.{book, devices_if, bound_turn}
+use Rattle.adb_history.specs.Answered.{lists_of, last_list}
 use Rattle.adb_history.specs.Moves.{After}
 use Rattle.adb_history.specs.Owned.{IsOwned}
 use Rattle.adb_history.proofs.Following.{after_quietly}
 use Rattle.adb_history.proofs.RuleMoves as moves
 use Rattle.adb_history.proofs.Growing.{owed_append}
-use Rattle.adb_history.proofs.OutputEntries.{all_due_past_put}
 use Rattle.adb_history.proofs.OwnedStep.{owned_moves, begins_owned}
-use Rattle.adb_history.proofs.Booked.{said, wants_in, wants_now}
+use Rattle.adb_history.proofs.Booked.{wants_in, wants_now}
 use Rattle.adb_history.proofs.BookTurns.{IsBooked}
 use Rattle.adb_history.proofs.BookEntries.{devices_now}
 use Rattle.adb_history.proofs.Books.{booked}
-use Rattle.adb_answered.specs.Turns.{Turns}
-use Rattle.adb_answered.specs.Heard.{Heard, heard, after_replies, asks_stream, asks_bind, IsUnbound, IsTold, PhaseSays, RowSays, RowsSay, Owes, Answers}
-use Rattle.adb_answered.proofs.TurnRules.{takes_kept}
+use Rattle.adb_answered.specs.Heard.{Heard, heard, after_replies, asks_stream, asks_bind, IsUnbound, PhaseSays, Owes, Answers}
 use Rattle.adb_answered.proofs.HeardMoves.{prefix_more}
-use Rattle.adb_answered.proofs.HeardRules.{answers_turns}
-use Rattle.adb_answered.proofs.HeardAsks.{rows_own, rows_closed}
+use Rattle.adb_answered.proofs.HeardAsks.{rows_closed}
 
 -- ---- a client that waits for a listener
 bind_streams : (next : Option Next) → asks_bind next ≡ true → asks_stream next ≡ false

@@ -1,29 +1,25 @@
 -- What a client is answered is what the entries say, through each entry of another client, of a link, and through its end.
-use Rattle.std.proofs.Common.{◌≡◌, ◌≢◌, ℕ, ◌+◌, ◌≤◌, ◌<◌, Bool, true, false, cond, List, [], ◌∷◌, ◌++◌, length, Option, Some, None, refl, sym, ap, subst, ◌∙◌}
+use Rattle.std.proofs.Common.{◌≡◌, ◌≢◌, ℕ, ◌+◌, ◌≤◌, ◌<◌, Bool, true, false, cond, List, ◌∷◌, ◌++◌, length, Option, Some, None, refl, sym, ap, ◌∙◌}
 use Rattle.std.proofs.Common.{arith, eqb, inl, inr, ◌⊎◌}
-use Rattle.std.specs.Prelude.{nat_eq, ◌&&◌, option_and_then}
-use Rattle.std.proofs.lemmas.Bool.{eqb-true, ne_eqb, eqb-false, cases_lt}
-use Rattle.adb_outside.specs.Tables.{Rows, at, put_row}
+use Rattle.std.specs.Prelude.{nat_eq, ◌&&◌}
+use Rattle.std.proofs.lemmas.Bool.{ne_eqb, cases_lt}
 use Rattle.adb_outside.specs.declared.kinds.Cause.{Cause}
 use Rattle.adb_outside.specs.declared.kinds.Kind.{Kind}
 use Rattle.adb_registry.specs.Registry.{DeviceTable, attached}
 use Rattle.adb_client.specs.declared.about.Want.{Want}
-use Rattle.adb_client.specs.declared.phase.Phase.TheVariants.{Asking}
-use Rattle.adb_capture.specs.declared.entry.Entry.{Entry}
 use Rattle.adb_capture.specs.declared.entry.Entry.TheVariants.{Join, Enter, Read, End, Bound, Attach, Recv, Detach, Put, Send}
-use Rattle.adb_history.specs.Rows.{Client, State, new_client, to_client}
+use Rattle.adb_history.specs.Rows.{State, new_client}
 use Rattle.adb_history.specs.Events.{Event}
 use Rattle.adb_history.specs.Forwarding.{bound_by}
 use Rattle.adb_history.specs.Tracking.{tracked_list}
 use Rattle.adb_history.specs.Asking.{Asked, asks_with}
-use Rattle.adb_history.specs.Reading.{comes, comes_in_vain, has_asked, asked_before}
-use Rattle.adb_history.specs.Machine.{History, state, told, rule, step, ups, May, IsLegal}
+use Rattle.adb_history.specs.Reading.{comes, has_asked, asked_before}
+use Rattle.adb_history.specs.Machine.{History, state, told, rule, ups, May, IsLegal}
 use Rattle.adb_history.specs.Bytes.{has_joined, bytes_put}
-use Rattle.adb_history.specs.Book.{Book, book, asked, devices_if, newly, asked_with, is_asking, bound_turn, devices}
+use Rattle.adb_history.specs.Book.{book, asked, devices_if, newly, asked_with, is_asking, bound_turn, devices}
 use Rattle.adb_history.specs.Tied.{came_count}
-use Rattle.adb_history.specs.Moves.{After, plugged_in}
+use Rattle.adb_history.specs.Moves.{After}
 use Rattle.adb_history.specs.Answered.{list_if, lists_of, reply_list, last_list}
-use Rattle.adb_history.specs.Owned.{IsOwned}
 use Rattle.adb_history.proofs.Numbers.{counted}
 use Rattle.adb_history.proofs.OwnedStep.{begins_owned}
 use Rattle.adb_history.proofs.BookTurns.{all_unheard}
@@ -122,11 +118,14 @@ module _ (c : ℕ) (older : History) (legal : IsLegal older) (came : has_joined 
 
       pub read_answers : (bytes : List ℕ) → May s (Read n bytes) → After P w (rule (Read n bytes) s)
       read_answers bytes may =
-          rule_kept (answers_turns n c (heard c older) apart) (Read n bytes) s w refl (h, λ client is asking. record {
-            owned = (begins_owned s h.owned (Read n bytes) w may).1 client is asking;
-            row = rows_apart c (heard c older) s.devices n (has_asked (asks_with s.devices s.forwards bytes (asked_before client))) s.clients apart h.row;
-            owes = h.owes;
-          })
+          rule_kept (answers_turns n c (heard c older) apart) (Read n bytes) s w refl (
+            h,
+            λ client is asking. record {
+              owned = (begins_owned s h.owned (Read n bytes) w may).1 client is asking;
+              row = rows_apart c (heard c older) s.devices n (has_asked (asks_with s.devices s.forwards bytes (asked_before client))) s.clients apart h.row;
+              owes = h.owes;
+            },
+          )
 
       pub bound_answers : (port : ℕ) → After P w (rule (Bound n port) s)
       bound_answers port = rule_kept (answers_turns n c (heard c older) apart) (Bound n port) s w refl h

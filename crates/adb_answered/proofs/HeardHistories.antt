@@ -1,21 +1,18 @@
 -- In every legal history what a client that came by itself is answered is what the entries say.
-use Rattle.std.proofs.Common.{◌≡◌, ◌≢◌, ℕ, ◌+◌, ◌≤◌, ◌<◌, Bool, true, false, cond, ◌||◌, List, [], ◌∷◌, ◌++◌, length, Option, Some, None, refl, sym, ap, subst, ◌∙◌}
-use Rattle.std.proofs.Common.{arith, eqb, inl, inr, ◌⊎◌}
+use Rattle.std.proofs.Common.{◌≡◌, ◌≢◌, ℕ, ◌≤◌, ◌<◌, Bool, true, false, cond, ◌||◌, List, [], ◌∷◌, ◌++◌, length, Option, Some, None, refl, sym, ap, subst, ◌∙◌}
+use Rattle.std.proofs.Common.{arith, eqb}
 use Rattle.std.specs.Prelude.{nat_eq, ◌&&◌}
 use Rattle.std.proofs.lemmas.Bool.{eqb-true, eqb-false, ne_eqb, eq-eqb}
-use Rattle.std.proofs.lemmas.List.{append-nil}
-use Rattle.adb_outside.specs.Bytes.{IsPrefixOf}
-use Rattle.adb_registry.specs.Registry.{DeviceTable}
 use Rattle.adb_client.specs.declared.about.Want.{Want}
 use Rattle.adb_capture.specs.declared.entry.Entry.{Entry}
 use Rattle.adb_capture.specs.declared.entry.Entry.TheVariants.{Join, Enter, Read, End, Bound, Attach, Recv, Detach, Put, Send}
-use Rattle.adb_history.specs.Rows.{Client, State, new_client}
-use Rattle.adb_history.specs.Events.{Made, Event, owed_to}
+use Rattle.adb_history.specs.Rows.{Client, new_client}
+use Rattle.adb_history.specs.Events.{owed_to}
 use Rattle.adb_history.specs.Tracking.{tracked_list}
 use Rattle.adb_history.specs.Forwarding.{bound_by}
 use Rattle.adb_history.specs.Asking.{Asked}
 use Rattle.adb_history.specs.Reading.{comes}
-use Rattle.adb_history.specs.Machine.{History, state, told, rule, step, ups, May, MayPut, IsLegal}
+use Rattle.adb_history.specs.Machine.{History, state, told, rule, ups, May, MayPut, IsLegal}
 use Rattle.adb_history.specs.Bytes.{has_joined, bytes_put}
 use Rattle.adb_history.specs.Book.{book, asked, bound_reply, devices_if, bound_turn, devices}
 use Rattle.adb_history.specs.Tied.{came_count}
@@ -27,7 +24,7 @@ use Rattle.adb_history.proofs.OwnedMoves.{joined_client}
 use Rattle.adb_history.proofs.OwnedStep.{begins_owned, all_owned}
 use Rattle.adb_history.proofs.OutputEntries.{tied}
 use Rattle.adb_history.proofs.BookTurns.{IsUnheard, all_unheard}
-use Rattle.adb_answered.specs.Heard.{Heard, heard, after_replies, asks_stream, RowSays, Owes, Answers}
+use Rattle.adb_answered.specs.Heard.{Heard, heard, after_replies, RowSays, Owes, Answers}
 use Rattle.adb_answered.proofs.HeardEntries.{joined_below, heard_read, heard_bound, heard_put, join_answers, enter_answers, read_answers, bound_answers}
 use Rattle.adb_answered.proofs.HeardEntries.{put_answers, attach_answers, end_answers, recv_answers, detach_answers, send_answers, ups_answers}
 use Rattle.adb_answered.proofs.HeardAsks.{own_read_answers}

@@ -1,38 +1,21 @@
 -- What a client is answered is what the entries say, through each move of another client, of a stream and of a link.
-use Rattle.std.proofs.Common.{◌≡◌, ◌≢◌, ℕ, ◌+◌, zero, suc, Bool, true, false, cond, List, [], ◌∷◌, ◌++◌, Option, Some, None, refl, sym, ap, subst, ◌∙◌}
-use Rattle.std.proofs.Common.{append_assoc, eqb, inl, inr, ◌⊎◌}
-use Rattle.std.specs.Prelude.{codes, drop, option_and_then, option_map}
-use Rattle.std.proofs.lemmas.Bool.{eqb-true, ne_eqb}
+use Rattle.std.proofs.Common.{◌≡◌, ◌≢◌, ℕ, Bool, true, false, cond, List, [], ◌∷◌, ◌++◌, Option, Some, None, refl, sym, ap, subst, ◌∙◌}
+use Rattle.std.proofs.Common.{append_assoc, eqb}
+use Rattle.std.specs.Prelude.{drop, option_and_then, option_map}
+use Rattle.std.proofs.lemmas.Bool.{eqb-true}
 use Rattle.std.proofs.lemmas.List.{append-nil}
 use Rattle.adb_outside.specs.Bytes.{IsPrefixOf}
 use Rattle.adb_outside.specs.Tables.{Rows, change_row}
-use Rattle.adb_outside.specs.declared.identity.Identity.{Identity}
 use Rattle.adb_registry.specs.Registry.{DeviceTable}
-use Rattle.adb_stream.specs.declared.row.Stream.{Stream}
 use Rattle.adb_client.specs.declared.phase.Phase.{Phase}
 use Rattle.adb_client.specs.declared.phase.Phase.TheVariants.{Asking, Opening, Streaming, Binding, Tracking, Closing, Gone}
-use Rattle.adb_reply.specs.Strings.{failed}
-use Rattle.adb_reply.specs.declared.answer.Next.{Next}
-use Rattle.adb_history.specs.Rows.{Client, State, to_client, to_link, to_stream, none_kept, with_due, in_phase}
-use Rattle.adb_history.specs.Events.{Made, Event, Ending, quietly, ended, lost, stopped, owed_to}
-use Rattle.adb_history.specs.Clients.{closing_with, closing, owe_client, closes}
-use Rattle.adb_history.specs.Streams.{loses, client_loses, tells_end, ends_row, all_end}
-use Rattle.adb_history.specs.Tracking.{marked_in, marked, mark_all}
-use Rattle.adb_history.specs.Losing.{forgets, link_ends, tells_stop, all_stop, only_client, stops}
-use Rattle.adb_history.specs.Links.{is_connected}
-use Rattle.adb_history.specs.Packets.{streams_end_first, hears_okay, opened}
+use Rattle.adb_history.specs.Rows.{Client, none_kept, with_due}
+use Rattle.adb_history.specs.Events.{Event, owed_to}
+use Rattle.adb_history.specs.Clients.{closing_with, closing}
+use Rattle.adb_history.specs.Tracking.{marked_in, marked}
 use Rattle.adb_history.specs.Handing.{left_in, hands}
-use Rattle.adb_history.specs.Orderly.{phase_for}
-use Rattle.adb_history.specs.Moves.{After, connects_now, open_now}
-use Rattle.adb_history.specs.Owned.{OwnerIn, IsOwned}
-use Rattle.adb_history.proofs.Following.{after_then, changed_here}
 use Rattle.adb_history.proofs.Growing.{owed_append}
-use Rattle.adb_history.proofs.StreamMoves.{all_end_kept}
-use Rattle.adb_history.proofs.Numbers.{drawn_plain}
-use Rattle.adb_history.proofs.OwnedMoves.{client_of}
-use Rattle.adb_history.proofs.OwnedStep.{owned_moves, ends_state, client_loses_frame}
-use Rattle.adb_answered.specs.Turns.{IsOpenedBy, Turns}
-use Rattle.adb_answered.specs.Heard.{Heard, asks_stream, PhaseSays, RowSays, RowsSay, Owes, Answers}
+use Rattle.adb_answered.specs.Heard.{Heard, asks_stream, PhaseSays, RowSays, RowsSay, Owes}
 
 -- ---- what became due
 -- a front of what is due stays one

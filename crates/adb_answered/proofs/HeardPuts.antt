@@ -1,7 +1,7 @@
 -- A client is handed what is due to it: what it is answered is what the entries say.
-use Rattle.std.proofs.Common.{◌≡◌, ◌≢◌, ℕ, ◌+◌, ◌≤◌, ◌<◌, zero, suc, Bool, true, false, cond, List, [], ◌∷◌, ◌++◌, length, Option, Some, None, refl, sym, ap, subst, ◌∙◌}
-use Rattle.std.proofs.Common.{append_assoc, arith, eqb}
-use Rattle.std.specs.Prelude.{nat_eq, ◌&&◌, option_and_then}
+use Rattle.std.proofs.Common.{◌≡◌, ℕ, ◌+◌, Bool, true, false, cond, List, [], ◌∷◌, ◌++◌, length, Option, Some, None, refl, sym, ap, subst, ◌∙◌}
+use Rattle.std.proofs.Common.{append_assoc, arith}
+use Rattle.std.specs.Prelude.{nat_eq, ◌&&◌}
 use Rattle.std.proofs.lemmas.Bool.{eq-eqb, ne_eqb}
 use Rattle.std.proofs.lemmas.List.{append-nil, length-append}
 use Rattle.adb_outside.specs.Bytes.{IsPrefixOf}
@@ -12,8 +12,7 @@ use Rattle.adb_reply.specs.declared.answer.Next.{Next}
 use Rattle.adb_reply.specs.declared.answer.Next.TheVariants as what
 use Rattle.adb_capture.specs.declared.entry.Entry.TheVariants.{Put}
 use Rattle.adb_history.specs.Rows.{Client, State, to_client, with_due}
-use Rattle.adb_history.specs.Events.{Made, Event, quietly, then_also, due_to_client, owed_to}
-use Rattle.adb_history.specs.Clients.{owe_client}
+use Rattle.adb_history.specs.Events.{Made, Event, due_to_client, owed_to}
 use Rattle.adb_history.specs.Tracking.{tracked_list, list_if_stale, due_or, offered}
 use Rattle.adb_history.specs.Handing.{unmarked, lists_first, takes_of, puts_to}
 use Rattle.adb_history.specs.Machine.{History, state, told, rule, May, MayPut, IsSomeOf, IsLegal}
@@ -28,11 +27,10 @@ use Rattle.adb_history.proofs.OwnedStep.{owned_moves}
 use Rattle.adb_history.proofs.BookEntries.{devices_now}
 use Rattle.adb_history.proofs.Books.{booked}
 use Rattle.adb_answered.specs.Turns.{Turns}
-use Rattle.adb_answered.specs.Heard.{Heard, heard, after_replies, asks_stream, IsTold, PhaseSays, RowSays, RowsSay, Owes, Answers}
+use Rattle.adb_answered.specs.Heard.{Heard, heard, after_replies, asks_stream, IsTold, PhaseSays, RowSays, Owes, Answers}
 use Rattle.adb_answered.proofs.TurnRules.{takes_kept}
 use Rattle.adb_answered.proofs.HeardMoves.{prefix_more}
 use Rattle.adb_answered.proofs.HeardRules.{answers_turns}
-use Rattle.adb_answered.proofs.HeardAsks.{rows_own}
 
 -- ---- what the entries say with other lists
 -- the lists that matter stay

@@ -1,6 +1,6 @@
 -- What a client is answered is what the entries say, through each rule of another client, of a stream and of a link.
 use Rattle.std.proofs.Common.{◌≡◌, ◌≢◌, ℕ, ◌+◌, zero, suc, Bool, true, false, cond, List, [], ◌∷◌, ◌++◌, Option, Some, None, refl, sym, ap, subst, ◌∙◌}
-use Rattle.std.proofs.Common.{append_assoc, eqb, inl, inr, ◌⊎◌}
+use Rattle.std.proofs.Common.{eqb}
 use Rattle.std.specs.Prelude.{codes, option_and_then}
 use Rattle.std.proofs.lemmas.Bool.{eqb-true, ne_eqb}
 use Rattle.std.proofs.lemmas.List.{append-nil}
@@ -12,20 +12,20 @@ use Rattle.adb_stream.specs.declared.row.Stream.{Stream}
 use Rattle.adb_client.specs.declared.phase.Phase.{Phase}
 use Rattle.adb_client.specs.declared.phase.Phase.TheVariants.{Asking, Opening, Streaming, Binding, Tracking, Closing, Gone}
 use Rattle.adb_reply.specs.Strings.{failed}
-use Rattle.adb_history.specs.Rows.{Client, State, to_stream, none_kept, with_due, with_held, in_phase}
+use Rattle.adb_history.specs.Rows.{Client, State, to_stream, none_kept, in_phase}
 use Rattle.adb_history.specs.Events.{Made, Event, Ending, quietly, then_also, due_to_client, due_to_link, ended, lost, client_failed, stopped, owed_to}
-use Rattle.adb_history.specs.Clients.{closing, owe_client, closes}
+use Rattle.adb_history.specs.Clients.{closing, owe_client}
 use Rattle.adb_history.specs.Streams.{loses, client_loses, tells_end, ends_row, all_end}
 use Rattle.adb_history.specs.Tracking.{mark_all}
-use Rattle.adb_history.specs.Losing.{forgets, link_ends, tells_stop, all_stop, only_client, stops, input_ended}
+use Rattle.adb_history.specs.Losing.{forgets, link_ends, tells_stop, all_stop, only_client}
 use Rattle.adb_history.specs.Links.{is_connected}
 use Rattle.adb_history.specs.Packets.{streams_end_first, hears_okay, opened, unauthorized_from}
 use Rattle.adb_history.specs.Reading.{tracks, awaits}
 use Rattle.adb_history.specs.Handing.{unmarked}
 use Rattle.adb_history.specs.Orderly.{phase_for}
-use Rattle.adb_history.specs.Moves.{After, connects_now, open_now, draws_now}
+use Rattle.adb_history.specs.Moves.{After, connects_now, open_now}
 use Rattle.adb_history.specs.Owned.{OwnerIn, IsOwned}
-use Rattle.adb_history.proofs.Following.{after_quietly, after_then}
+use Rattle.adb_history.proofs.Following.{after_quietly}
 use Rattle.adb_history.proofs.Growing.{owed_append}
 use Rattle.adb_history.proofs.StreamMoves.{all_end_kept}
 use Rattle.adb_history.proofs.Numbers.{drawn_plain}

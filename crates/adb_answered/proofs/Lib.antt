@@ -9,3 +9,4 @@ pub mod HeardAsks
 pub mod HeardBound
 pub mod HeardPuts
 pub mod HeardHistories
+pub mod HeardLaws

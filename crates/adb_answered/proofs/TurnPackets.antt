@@ -1,7 +1,7 @@
 -- What each move keeps, the packets of a device keep, where one client alone is answered.
-use Rattle.std.proofs.Common.{◌≡◌, ◌≢◌, ℕ, Bool, true, false, cond, not, ◌||◌, List, [], ◌∷◌, ◌++◌, length, Option, Some, None, refl, ap, subst, ◌∙◌}
+use Rattle.std.proofs.Common.{◌≡◌, ◌≢◌, ℕ, Bool, true, false, cond, not, ◌||◌, List, [], ◌∷◌, ◌++◌, length, Option, Some, None, refl, ap, subst}
 use Rattle.std.proofs.Common.{arith, inl, inr, eqb}
-use Rattle.std.specs.Prelude.{codes, is_some, nat_eq, nat_lt}
+use Rattle.std.specs.Prelude.{is_some, nat_eq, nat_lt}
 use Rattle.std.proofs.lemmas.Bool.{eqb-true, eqb-false}
 use Rattle.adb_outside.specs.Tables.{at}
 use Rattle.adb_outside.specs.Framing.{Cut}
@@ -19,20 +19,19 @@ use Rattle.adb_wire.specs.declared.format.PacketFormat.{PacketFormat}
 use Rattle.adb_stream.specs.declared.flow.Flow.{Flow}
 use Rattle.adb_stream.specs.declared.flow.Flow.TheVariants.{One, Credit}
 use Rattle.adb_stream.specs.declared.row.Stream.{Stream}
-use Rattle.adb_history.specs.Rows.{Client, Link, State, to_link, to_stream, with_stream_part}
+use Rattle.adb_history.specs.Rows.{Link, State, to_link, to_stream, with_stream_part}
 use Rattle.adb_history.specs.Events.{Made, Event, quietly, peer_closed, out_of_turn, broken}
 use Rattle.adb_history.specs.Links.{close_packet, okay_packet, credit_word, owe_link, is_connected}
-use Rattle.adb_history.specs.Clients.{owe_client}
 use Rattle.adb_history.specs.Streams.{ends_row, ends_telling}
 use Rattle.adb_history.specs.Flow.{with_flow}
 use Rattle.adb_history.specs.Losing.{link_ends}
 use Rattle.adb_history.specs.Packets.{least_version, least_maxdata, connects, cnxn, unauthorized_from, unauthorized, refuses_open, at_stream}
-use Rattle.adb_history.specs.Packets.{hears_okay, opened, orphan_opened, acknowledged, okay_open, okay_first, takes_okay, is_out_of_turn}
+use Rattle.adb_history.specs.Packets.{orphan_opened, acknowledged, okay_open, okay_first, takes_okay, is_out_of_turn}
 use Rattle.adb_history.specs.Packets.{accepts_none, accepts, takes_write, takes_close, treat_open, treat_any, treat_on, treat, treat_all, faulty_on}
 use Rattle.adb_history.specs.Packets.{faulty, with_rest, receives_cut, receives_on, receives}
 use Rattle.adb_history.specs.Moves.{After, IsLike}
 use Rattle.adb_history.proofs.Following.{after_quietly, after_then, after_if}
-use Rattle.adb_answered.specs.Turns.{IsOpenedBy, Turns}
+use Rattle.adb_answered.specs.Turns.{Turns}
 use Rattle.adb_answered.proofs.TurnStreams.{owes_kept, ends_telling_kept}
 
 like_acknowledged : (word : Option ℕ) (flow : Flow) → IsLike flow (acknowledged word flow)

@@ -11,6 +11,7 @@ use Rattle.adb_history.specs.Rows.{Client, State}
 use Rattle.adb_history.specs.Events.{Event, owed_to}
 use Rattle.adb_history.specs.Tracking.{tracked_list}
 use Rattle.adb_history.specs.Machine.{History}
+use Rattle.adb_history.specs.Bytes.{has_joined}
 use Rattle.adb_history.specs.Book.{asked, bound_reply}
 use Rattle.adb_history.specs.Answered.{lists_of, last_list}
 use Rattle.adb_history.specs.Owned.{IsOwned}
@@ -89,3 +90,7 @@ pub record Answers (c : ℕ) (r : Heard) (devices : DeviceTable) (s : State) (ev
   pub owned : IsOwned s
   pub row : RowsSay c r devices s.clients
   pub owes : Owes r (owed_to c events)
+
+-- of each client that came by itself
+abbrev pub OfWhoJoined : (History → ℕ → Type 0) → History → Type 0
+OfWhoJoined Holds h = (c : ℕ) → has_joined c h ≡ true → Holds h c

@@ -1,2 +1,10 @@
-//! The third promise, that each client is answered: every legal history keeps it.
+//! The third promise: each whole request of a client is answered from what the server knew then, and
+//! nothing else is said. Each function does nothing: its contract is a law of every legal history.
 #![tactic(auto)]
+
+mod answered;
+
+pub use answered::{
+    listeners_are_told, nothing_more_is_said, replies_come_first, trackers_are_handed_lists,
+    trackers_have_the_present_list,
+};
