@@ -42,7 +42,8 @@ use Rattle.adb_history.proofs.Books.{booked}
 use Rattle.adb_answered.specs.Turns.{Turns}
 use Rattle.adb_answered.specs.Heard.{Heard, heard, after_replies, asks_stream, asks_bind, IsUnanswered, PhaseSays, RowSays, RowsSay, Owes, Answers}
 use Rattle.adb_answered.proofs.HeardMoves.{says_closing}
-use Rattle.adb_answered.proofs.HeardRules.{all_stop_owed, answers_turns}
+use Rattle.adb_answered.proofs.ToldOthers.{all_stop_owed}
+use Rattle.adb_answered.proofs.HeardRules.{answers_turns}
 
 -- ---- its own row
 module _ (c : ℕ) (r : Heard) (d : DeviceTable) where

@@ -35,10 +35,6 @@ module _ (c : ℕ) (r : Heard) where
   owes_none w es none h =
       subst (λ (x : List ℕ). Owes r x) (sym (owed_append c w es ∙ (ap (λ x. owed_to c w ++ x) none ∙ append-nil (owed_to c w)))) h
 
-  -- what becomes due to another client
-  pub owed_other : (n : ℕ) (bytes : List ℕ) → eqb n c ≡ false → cond (eqb n c) bytes [] ++ [] ≡ []
-  owed_other n bytes e = ap (λ (b : Bool). cond b bytes [] ++ []) e
-
 -- ---- one row
 -- a client in the same phase, with the same list
 pub record IsLikewise (x y : Client) : Type 0 where

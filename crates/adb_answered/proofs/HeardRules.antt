@@ -33,35 +33,13 @@ use Rattle.adb_history.proofs.OwnedMoves.{client_of}
 use Rattle.adb_history.proofs.OwnedStep.{owned_moves, ends_state, client_loses_frame}
 use Rattle.adb_answered.specs.Turns.{IsOpenedBy, Turns}
 use Rattle.adb_answered.specs.Heard.{Heard, asks_stream, PhaseSays, RowSays, RowsSay, Owes, Answers}
-use Rattle.adb_answered.proofs.HeardMoves.{owes_more, owes_none, owed_other, rows_change, rows_likewise, rows_apart, rows_none, rows_closing, rows_due}
+use Rattle.adb_answered.proofs.ToldOthers.{quiet_after, owed_other, client_loses_owed, hears_owed, all_stop_owed, stopped_none, owned_opened, forgets_owned, opened_devices}
+use Rattle.adb_answered.proofs.ToldOthers.{ends_devices}
+use Rattle.adb_answered.proofs.HeardMoves.{owes_more, owes_none, rows_change, rows_likewise, rows_apart, rows_none, rows_closing, rows_due}
 use Rattle.adb_answered.proofs.HeardMoves.{rows_marked, rows_hands}
-
--- nothing is told at the end
-quiet_after : (P : State → List Event → Type 0) (w told : List Event) (s : State) → P s (w ++ told) → P s (w ++ (told ++ []))
-quiet_after P w told s h = subst (λ (x : List Event). P s (w ++ x)) (sym (append-nil told)) h
 
 -- ---- a client loses its stream
 module _ (c : ℕ) where
-  loses_owed : (forwarded : Bool) (p : Phase) (n : ℕ) (s : State) → eqb n c ≡ false → owed_to c (loses forwarded p n s).told ≡ []
-  loses_owed true (Streaming l) n s e = refl
-  loses_owed false (Streaming l) n s e = refl
-  loses_owed true (Opening l) n s e = refl
-  loses_owed false (Opening l) n s e = ap (λ (b : Bool). cond b (failed (codes "closed")).bytes [] ++ []) e
-  loses_owed true Asking n s e = refl
-  loses_owed false Asking n s e = refl
-  loses_owed true Binding n s e = refl
-  loses_owed false Binding n s e = refl
-  loses_owed true Tracking n s e = refl
-  loses_owed false Tracking n s e = refl
-  loses_owed true Closing n s e = refl
-  loses_owed false Closing n s e = refl
-  loses_owed true Gone n s e = refl
-  loses_owed false Gone n s e = refl
-
-  pub client_loses_owed : (o : Option Client) (n : ℕ) (s : State) → eqb n c ≡ false → owed_to c (client_loses o n s).told ≡ []
-  client_loses_owed None n s e = refl
-  client_loses_owed (Some x) n s e = loses_owed x.about.forwarded x.about.phase n s e
-
   module _ (r : Heard) (d : DeviceTable) where
     loses_rows : (forwarded : Bool) (p : Phase) (n : ℕ) (s : State) → RowsSay c r d s.clients → RowsSay c r d (loses forwarded p n s).state.clients
     loses_rows true (Streaming l) n s h = rows_closing c r d n s.clients h
@@ -138,12 +116,6 @@ module _ (c : ℕ) (r : Heard) (d : DeviceTable) where
     owes = h.owes;
   }
 
-  forgets_owned : (t : ℕ) (s : State) → IsOwned s → IsOwned (forgets t s)
-  forgets_owned t s h = record {
-    rows = record { clients = h.rows.clients; links = (drawn_plain.link t none_kept s [] h.rows).links; streams = h.rows.streams };
-    owned = h.owned;
-  }
-
   pub link_ends_answers : (new : DeviceTable) (t : ℕ) (ending : Ending) (s : State) (w : List Event) → Answers c r d s w
       → Answers c r new (link_ends t ending s).state (w ++ (link_ends t ending s).told)
   link_ends_answers new t ending s w h =
@@ -172,14 +144,6 @@ module _ (c : ℕ) (r : Heard) (d : DeviceTable) where
       })
 
   -- ---- OKAY
-  hears_owed : (o : Option Client) (n : ℕ) (s : State) → eqb n c ≡ false → owed_to c (hears_okay o n s).told ≡ []
-  hears_owed None n s e = refl
-  hears_owed (Some x) n s e = go x.about.forwarded
-    where
-      go : (b : Bool) → owed_to c (cond b (quietly s) (owe_client n (codes "OKAY") s)).told ≡ []
-      go true = refl
-      go false = owed_other c r n (codes "OKAY") e
-
   hears_rows : (o : Option Client) (n : ℕ) (s : State) → RowsSay c r d s.clients → RowsSay c r d (hears_okay o n s).state.clients
   hears_rows None n s h = h
   hears_rows (Some x) n s h = go x.about.forwarded
@@ -209,62 +173,7 @@ module _ (c : ℕ) (r : Heard) (d : DeviceTable) where
       go : (here : Bool) → eqb stream.client c ≡ here → Owes r (owed_to c (w ++ (hears_okay (s.clients stream.client) stream.client s).told))
       go true e = owes_more c r w (hears_okay (s.clients stream.client) stream.client s).told
           (stream_asked l stream s is by.owned (eqb-true stream.client c e) h.owned h.row) h.owes
-      go false e = owes_none c r w (hears_okay (s.clients stream.client) stream.client s).told (hears_owed (s.clients stream.client) stream.client s e) h.owes
-
--- clients and streams keep each other when a stream opens
-owned_opened : (l remote : ℕ) (word : Option ℕ) (stream : Stream) (s : State) → s.streams l ≡ Some stream → IsOpenedBy remote stream → IsOwned s
-    → IsOwned (opened l remote word stream s).state
-owned_opened l remote word stream s is by h = go (s.clients stream.client)
-  where
-    due : (b : Bool) → IsOwned (open_now l remote word stream (cond b (quietly s) (owe_client stream.client (codes "OKAY") s)).state)
-    due true = owned_moves.opens l remote word stream s [] is (by.new, by.owned, by.by) h
-    due false =
-        owned_moves.opens l remote word stream (owe_client stream.client (codes "OKAY") s).state [] is (by.new, by.owned, by.by)
-        (owned_moves.due stream.client (codes "OKAY") s [] h)
-
-    go : (o : Option Client) → IsOwned (open_now l remote word stream (hears_okay o stream.client s).state)
-    go None = owned_moves.opens l remote word stream s [] is (by.new, by.owned, by.by) h
-    go (Some x) = due x.about.forwarded
-
--- ---- kill
-pub all_stop_owed : (c n : ℕ) (streams : Rows (Option Stream)) → owed_to c (all_stop n streams) ≡ []
-all_stop_owed c zero streams = refl
-all_stop_owed c (suc n) streams =
-    owed_append c (all_stop n streams) (tells_stop (suc n) (streams (suc n)))
-    ∙ (ap (λ x. x ++ owed_to c (tells_stop (suc n) (streams (suc n)))) (all_stop_owed c n streams) ∙ one (streams (suc n)))
-  where
-    told : (b : Bool) → owed_to c (cond b [] (ended (suc n) stopped ∷ [])) ≡ []
-    told true = refl
-    told false = refl
-
-    one : (o : Option Stream) → owed_to c (tells_stop (suc n) o) ≡ []
-    one None = refl
-    one (Some stream) = told stream.part.orphan
-
--- of other clients nothing is kept
-stopped_none : (asker c : ℕ) (clients : Rows (Option Client)) → eqb asker c ≡ false
-    → change_row asker (option_and_then closing) (only_client asker clients) c ≡ None
-stopped_none asker c clients e = go (eqb asker c) e
-  where
-    go : (b : Bool) → b ≡ false → cond b (option_and_then closing (cond b (clients c) None)) (cond b (clients c) None) ≡ None
-    go true e = let clash : true ≡ false = e in cc
-    go false e = refl
-
--- ---- the devices stay
-opened_devices : (l remote : ℕ) (word : Option ℕ) (stream : Stream) (s : State) → (opened l remote word stream s).state.devices ≡ s.devices
-opened_devices l remote word stream s = go (s.clients stream.client)
-  where
-    due : (b : Bool) → (cond b (quietly s) (owe_client stream.client (codes "OKAY") s)).state.devices ≡ s.devices
-    due true = refl
-    due false = refl
-
-    go : (o : Option Client) → (hears_okay o stream.client s).state.devices ≡ s.devices
-    go None = refl
-    go (Some x) = due x.about.forwarded
-
-ends_devices : (l : ℕ) (ending : Ending) (stream : Stream) (s : State) → (ends_row l ending stream s).state.devices ≡ s.devices
-ends_devices l ending stream s =
-    ap (λ (x : State). x.devices) (ends_state l ending stream s ∙ client_loses_frame (s.clients stream.client) stream.client (to_stream l none_kept s))
+      go false e = owes_none c r w (hears_okay (s.clients stream.client) stream.client s).told (hears_owed c (s.clients stream.client) stream.client s e) h.owes
 
 -- ---- all moves of another client
 module _ (asker c : ℕ) (r : Heard) (apart : asker ≢ c) where
@@ -284,7 +193,7 @@ module _ (asker c : ℕ) (r : Heard) (apart : asker ≢ c) where
       go false e true same =
           owes_more c r w (due_to_client stream.client payload ∷ [])
           (stream_asked c r s.devices l stream s is e (eqb-true stream.client c same) h.owned h.row) h.owes
-      go false e false same = owes_none c r w (due_to_client stream.client payload ∷ []) (owed_other c r stream.client payload same) h.owes
+      go false e false same = owes_none c r w (due_to_client stream.client payload ∷ []) (owed_other c stream.client payload same) h.owes
 
   -- What a client is answered is what the entries say, through each move in which it asks nothing.
   pub answers_turns : Turns asker (λ s w. Answers c r s.devices s w)
@@ -294,9 +203,9 @@ module _ (asker c : ℕ) (r : Heard) (apart : asker ≢ c) where
     replies = λ bytes s w h. record {
       owned = owned_moves.due asker bytes s w h.owned;
       row = rows_due c r s.devices asker bytes s.clients h.row;
-      owes = owes_none c r w (due_to_client asker bytes ∷ []) (owed_other c r asker bytes not_here) h.owes;
+      owes = owes_none c r w (due_to_client asker bytes ∷ []) (owed_other c asker bytes not_here) h.owes;
     };
-    fails = λ l cause s w h. record { owned = h.owned; row = h.row; owes = owes_none c r w (ended l (client_failed cause) ∷ []) refl h.owes };
+    fails = λ l cause s w left h. record { owned = h.owned; row = h.row; owes = owes_none c r w (ended l (client_failed cause) ∷ []) refl h.owes };
     tracks = λ x long s w is asking h. record {
       owned = owned_moves.tracks asker x long s w is asking h.owned;
       row = rows_apart c r s.devices asker (tracks long) s.clients apart h.row;

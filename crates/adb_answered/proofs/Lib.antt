@@ -2,6 +2,8 @@ pub mod TurnStreams
 pub mod TurnPackets
 pub mod TurnReads
 pub mod TurnRules
+pub mod ToldOthers
+pub mod SteadyRows
 pub mod HeardMoves
 pub mod HeardRules
 pub mod HeardEntries

@@ -32,6 +32,10 @@ HasOpen clients c l = (client : Client) × (clients c ≡ Some client) × (clien
 abbrev pub EndsSo : Rows (Option Client) → ℕ → Ending → Stream → Type 0
 EndsSo clients l ending stream = (tells_closed (Some ending) ≡ true) ⊎ ((stream.part.remote ≢ 0) ⊎ HasOpen clients stream.client l)
 
+-- a stream whose client is gone
+abbrev pub IsForsaken : Rows (Option Stream) → ℕ → Type 0
+IsForsaken streams l = (stream : Stream) → streams l ≡ Some stream → stream.part.orphan ≡ true
+
 -- a stream that its device opens
 pub record IsOpenedBy (remote : ℕ) (stream : Stream) : Type 0 where
   pub new : stream.part.remote ≡ 0
@@ -44,7 +48,7 @@ pub record Turns (asker : ℕ) (P : State → List Event → Type 0) : Type 0 wh
   pub owes : (t : ℕ) (p : Packet) (check : ℕ) (s : State) (w : List Event) → IsOfStream s.streams p → P s w
       → P (to_link t (with_link_due (spelling p check)) s) (w ++ due_to_link t p check ∷ [])
   pub replies : (bytes : List ℕ) (s : State) (w : List Event) → P s w → P (to_client asker (with_due bytes) s) (w ++ due_to_client asker bytes ∷ [])
-  pub fails : (l : ℕ) (cause : Cause) (s : State) (w : List Event) → P s w → P s (w ++ ended l (client_failed cause) ∷ [])
+  pub fails : (l : ℕ) (cause : Cause) (s : State) (w : List Event) → IsForsaken s.streams l → P s w → P s (w ++ ended l (client_failed cause) ∷ [])
   -- the asker
   pub tracks : (client : Client) (long : Bool) (s : State) (w : List Event) → s.clients asker ≡ Some client → client.about.phase ≡ Asking
       → P s w → P (to_client asker (tracks long) s) w

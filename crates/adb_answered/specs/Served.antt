@@ -1,0 +1,41 @@
+-- What a client is handed whose last request was for a stream, against its row and that of the stream.
+use Rattle.std.specs.Prelude.{ℕ, ◌≡◌, ◌≤◌, Bool, true, false, List, ◌++◌, Option, Some, None}
+use Rattle.adb_stream.specs.declared.row.Stream.{Stream}
+use Rattle.adb_client.specs.declared.phase.Phase.{Phase}
+use Rattle.adb_client.specs.declared.phase.Phase.TheVariants.{Opening, Streaming, Closing}
+use Rattle.adb_reply.specs.Strings.{okay}
+use Rattle.adb_history.specs.Rows.{Client, State}
+use Rattle.adb_history.specs.Events.{Event, Ending, owed_to, ending_in}
+use Rattle.adb_history.specs.Answered.{tells_closed, closed_reply}
+use Rattle.adb_history.specs.Owned.{IsOwned}
+
+-- A client that is closing or gone, to which so much became due, and no more will.
+pub record IsDone (c : ℕ) (out : List ℕ) (s : State) (events : List Event) : Type 0 where
+  pub owned : IsOwned s
+  pub row : (client : Client) → s.clients c ≡ Some client → client.about.phase ≡ Closing
+  pub told : owed_to c events ≡ out
+
+-- the phase of the client of a stream, by whether it heard that it is open
+abbrev pub PhaseFor : Phase → ℕ → Bool → Type 0
+PhaseFor (Opening k) l heard = (k ≡ l) × (heard ≡ false)
+PhaseFor (Streaming k) l heard = (k ≡ l) × (heard ≡ true)
+PhaseFor Closing l heard = Unit {0}
+PhaseFor _ l heard = ⊥
+
+pub record RowServed (l : ℕ) (heard : Bool) (client : Client) : Type 0 where
+  pub alone : client.about.forwarded ≡ false
+  pub phase : PhaseFor client.about.phase l heard
+
+-- what became due: the replies, and why the stream was not opened; or `OKAY` and some bytes
+abbrev pub OutBy : Bool → (replies out : List ℕ) → Option Ending → Type 0
+OutBy false replies out ending = out ≡ replies ++ closed_reply (tells_closed ending)
+OutBy true replies out ending = (bytes : List ℕ) × (out ≡ replies ++ (okay ++ bytes))
+
+-- A client that came by itself and asked for this stream, by whether it heard that the stream is open.
+pub record IsServed (heard : Bool) (c l : ℕ) (replies : List ℕ) (s : State) (events : List Event) : Type 0 where
+  pub owned : IsOwned s
+  pub row : (client : Client) → s.clients c ≡ Some client → RowServed l heard client
+  pub stream : (stream : Stream) → s.streams l ≡ Some stream → stream.client ≡ c
+  pub drawn : l ≤ s.drawn
+  pub alive : heard ≡ false → (stream : Stream) → s.streams l ≡ Some stream → stream.part.orphan ≡ false → ending_in l events ≡ None
+  pub out : OutBy heard replies (owed_to c events) (ending_in l events)
