@@ -12,3 +12,6 @@ pub mod HeardBound
 pub mod HeardPuts
 pub mod HeardHistories
 pub mod HeardLaws
+pub mod DoneMoves
+pub mod Endings
+pub mod ServedMoves

@@ -31,11 +31,15 @@ abbrev pub OutBy : Bool → (replies out : List ℕ) → Option Ending → Type 
 OutBy false replies out ending = out ≡ replies ++ closed_reply (tells_closed ending)
 OutBy true replies out ending = (bytes : List ℕ) × (out ≡ replies ++ (okay ++ bytes))
 
+-- the stream of a client, and what holds while the client waits for it or has it open
+pub record IsItsOwn (c : ℕ) (Live : Type 0) (stream : Stream) : Type 0 where
+  pub client : stream.client ≡ c
+  pub live : stream.part.orphan ≡ false → Live
+
 -- A client that came by itself and asked for this stream, by whether it heard that the stream is open.
 pub record IsServed (heard : Bool) (c l : ℕ) (replies : List ℕ) (s : State) (events : List Event) : Type 0 where
   pub owned : IsOwned s
   pub row : (client : Client) → s.clients c ≡ Some client → RowServed l heard client
-  pub stream : (stream : Stream) → s.streams l ≡ Some stream → stream.client ≡ c
+  pub own : (stream : Stream) → s.streams l ≡ Some stream → IsItsOwn c (heard ≡ false → ending_in l events ≡ None) stream
   pub drawn : l ≤ s.drawn
-  pub alive : heard ≡ false → (stream : Stream) → s.streams l ≡ Some stream → stream.part.orphan ≡ false → ending_in l events ≡ None
   pub out : OutBy heard replies (owed_to c events) (ending_in l events)
