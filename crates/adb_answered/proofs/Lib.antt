@@ -15,3 +15,4 @@ pub mod HeardLaws
 pub mod DoneMoves
 pub mod Endings
 pub mod ServedMoves
+pub mod ServedRules

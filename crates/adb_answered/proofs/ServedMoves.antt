@@ -35,7 +35,7 @@ use Rattle.adb_answered.proofs.ToldOthers.{quiet_after, owed_other, client_loses
 use Rattle.adb_answered.proofs.SteadyRows.{IsSteady, at_change, at_like, at_apart, at_none, at_closing, at_due, at_hands, at_marked, at_client_loses}
 use Rattle.adb_answered.proofs.Endings.{first_of, ending_append, quiet_ending, none_first, client_loses_ending, hears_ending, all_stop_ending, all_end_by}
 
-steady : (l : ℕ) (heard : Bool) → IsSteady (RowServed l heard)
+pub steady : (l : ℕ) (heard : Bool) → IsSteady (RowServed l heard)
 steady l heard = record {
   closing = λ x y phase forwarded h. record { alone = forwarded ∙ h.alone; phase = subst (λ (p : Phase). PhaseFor p l heard) (sym phase) tt };
   like = λ x y phase forwarded h. record { alone = forwarded ∙ h.alone; phase = subst (λ (p : Phase). PhaseFor p l heard) (sym phase) h.phase };
@@ -52,13 +52,13 @@ module _ (l : ℕ) (R : Stream → Type 0) where
       go true e None here is = absurd (let clash : None ≡ Some y = is in cc)
       go true e (Some x) here is = keeps x y here (eqb-true n l e) is (h x here)
 
-  own_none : (n : ℕ) (streams : Rows (Option Stream)) → ((x : Stream) → streams l ≡ Some x → R x)
+  pub own_none : (n : ℕ) (streams : Rows (Option Stream)) → ((x : Stream) → streams l ≡ Some x → R x)
       → (y : Stream) → change_row n (option_and_then none_kept) streams l ≡ Some y → R y
   own_none n streams h = own_change n none_kept streams (λ x y here same e was. absurd (let clash : None ≡ Some y = e in cc)) h
 
 module _ (l c : ℕ) (Live : Type 0) where
   -- a part changes that stays as much an orphan
-  own_part : (n : ℕ) (stream : Stream) (part : Part) (streams : Rows (Option Stream)) → streams n ≡ Some stream → part.orphan ≡ stream.part.orphan
+  pub own_part : (n : ℕ) (stream : Stream) (part : Part) (streams : Rows (Option Stream)) → streams n ≡ Some stream → part.orphan ≡ stream.part.orphan
       → ((x : Stream) → streams l ≡ Some x → IsItsOwn c Live x)
       → (y : Stream) → change_row n (option_and_then (with_stream_part part)) streams l ≡ Some y → IsItsOwn c Live y
   own_part n stream part streams is orphan h =
@@ -75,7 +75,7 @@ module _ (l c : ℕ) (Live : Type 0) where
           })
 
   -- a part changes of an orphan
-  own_orphan : (n : ℕ) (part : Part) (streams : Rows (Option Stream)) → part.orphan ≡ true → ((x : Stream) → streams l ≡ Some x → IsItsOwn c Live x)
+  pub own_orphan : (n : ℕ) (part : Part) (streams : Rows (Option Stream)) → part.orphan ≡ true → ((x : Stream) → streams l ≡ Some x → IsItsOwn c Live x)
       → (y : Stream) → change_row n (option_and_then (with_stream_part part)) streams l ≡ Some y → IsItsOwn c Live y
   own_orphan n part streams orphan h =
       own_change l (IsItsOwn c Live) n (with_stream_part part) streams (λ x y here same e was. (let row : record x { part = part } ≡ y = cc in
@@ -87,7 +87,7 @@ module _ (l c : ℕ) (Live : Type 0) where
 -- ---- what became due
 module _ (c l : ℕ) (replies : List ℕ) where
   -- nothing becomes due, and no end is told of that its client hears
-  out_quiet : (heard : Bool) (w es : List Event) → owed_to c es ≡ [] → tells_closed (ending_in l es) ≡ false
+  pub out_quiet : (heard : Bool) (w es : List Event) → owed_to c es ≡ [] → tells_closed (ending_in l es) ≡ false
       → OutBy heard replies (owed_to c w) (ending_in l w) → OutBy heard replies (owed_to c (w ++ es)) (ending_in l (w ++ es))
   out_quiet true w es none quiet (bytes, is) = (bytes, owed_append c w es ∙ (ap (λ x. owed_to c w ++ x) none ∙ (append-nil (owed_to c w) ∙ is)))
   out_quiet false w es none quiet is =
@@ -96,25 +96,25 @@ module _ (c l : ℕ) (replies : List ℕ) where
       (sym (ap tells_closed (ending_append l w es) ∙ quiet_ending (ending_in l w) (ending_in l es) quiet)))))
 
   -- whatever becomes due to a client that heard that its stream is open
-  out_heard : (w es : List Event) → OutBy true replies (owed_to c w) (ending_in l w) → OutBy true replies (owed_to c (w ++ es)) (ending_in l (w ++ es))
+  pub out_heard : (w es : List Event) → OutBy true replies (owed_to c w) (ending_in l w) → OutBy true replies (owed_to c (w ++ es)) (ending_in l (w ++ es))
   out_heard w es (bytes, is) =
       (bytes ++ owed_to c es, owed_append c w es ∙ (ap (λ x. x ++ owed_to c es) is
       ∙ (append_assoc replies (okay ++ bytes) (owed_to c es) ∙ ap (λ x. replies ++ x) (append_assoc okay bytes (owed_to c es)))))
 
-  still_alive : (heard : Bool) (w es : List Event) → ending_in l es ≡ None → (heard ≡ false → ending_in l w ≡ None)
+  pub still_alive : (heard : Bool) (w es : List Event) → ending_in l es ≡ None → (heard ≡ false → ending_in l w ≡ None)
       → heard ≡ false → ending_in l (w ++ es) ≡ None
   still_alive heard w es none alive e = ending_append l w es ∙ none_first (ending_in l w) (ending_in l es) (alive e) none
 
 -- ---- the phase of its client
-phase_of_own : (k l remote : ℕ) (heard : Bool) → PhaseFor (phase_for k remote) l heard → k ≡ l
+pub phase_of_own : (k l remote : ℕ) (heard : Bool) → PhaseFor (phase_for k remote) l heard → k ≡ l
 phase_of_own k l zero heard h = h.0
 phase_of_own k l (suc remote) heard h = h.0
 
-phase_waiting : (k l remote : ℕ) → PhaseFor (phase_for k remote) l false → remote ≡ 0
+pub phase_waiting : (k l remote : ℕ) → PhaseFor (phase_for k remote) l false → remote ≡ 0
 phase_waiting k l zero h = refl
 phase_waiting k l (suc remote) h = absurd (let clash : false ≡ true = h.1 in cc)
 
-phase_open : (k l remote : ℕ) → PhaseFor (phase_for k remote) l true → remote ≢ 0
+pub phase_open : (k l remote : ℕ) → PhaseFor (phase_for k remote) l true → remote ≢ 0
 phase_open k l zero h e = let clash : true ≡ false = h.1 in cc
 phase_open k l (suc remote) h e = cc
 
@@ -151,11 +151,11 @@ module _ (c l : ℕ) (replies : List ℕ) where
           ∙ (ap (λ (b : Bool). tells_closed (cond b (Some ending) (ending_in l (client_loses (Some client) c s).told))) (eq-eqb l l refl) ∙ so waits))
 
 module _ (heard : Bool) (c l : ℕ) (replies : List ℕ) where
-  abbrev S : State → List Event → Type 0
+  abbrev pub S : State → List Event → Type 0
   S s w = IsServed heard c l replies s w
 
   -- a stream of the client is this one
-  its_client : (k : ℕ) (stream : Stream) (s : State) (w : List Event) → s.streams k ≡ Some stream → stream.part.orphan ≡ false → stream.client ≡ c → S s w
+  pub its_client : (k : ℕ) (stream : Stream) (s : State) (w : List Event) → s.streams k ≡ Some stream → stream.part.orphan ≡ false → stream.client ≡ c → S s w
       → PhaseFor (phase_for k stream.part.remote) l heard
   its_client k stream s w is owned same h =
       let of = client_of s k stream is owned h.owned in
