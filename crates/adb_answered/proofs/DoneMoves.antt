@@ -149,8 +149,6 @@ module _ (c : ℕ) (out : List ℕ) where
         row = at_due steady c asker bytes s.clients h.row;
         told = none_told w (due_to_client asker bytes ∷ []) (owed_other c asker bytes not_here) h.told;
       };
-      fails = λ l cause s w left h.
-          record { owned = h.owned; row = h.row; told = none_told w (ended l (client_failed cause) ∷ []) refl h.told };
       tracks = λ x long s w is asking h. record {
         owned = owned_moves.tracks asker x long s w is asking h.owned;
         row = at_apart steady c asker (tracks long) s.clients apart h.row;
@@ -201,15 +199,15 @@ module _ (c : ℕ) (out : List ℕ) where
       opened = λ l remote word stream s w is by h. opened_done l remote word stream s w is by h;
       orphan_goes = λ l stream s w is orphan h. record { owned = owned_moves.orphan_goes l stream s w is orphan h.owned; row = h.row; told = h.told };
       ends = λ l ending stream s w is so h. ends_done l ending stream s w is h;
-      fails_open = λ n l x stream s w is in_ at_l h. record {
-        owned = owned_moves.fails_open n l x stream s w is in_ at_l h.owned;
+      fails_open = λ n l cause x stream s w at h. record {
+        owned = owned_moves.fails_open n l x stream s w at.0 at.1 at.2 h.owned;
         row = at_none steady c n s.clients h.row;
-        told = h.told;
+        told = none_told w (ended l (client_failed cause) ∷ []) refl h.told;
       };
-      fails_asked = λ n l x stream s w is in_ at_l h. record {
-        owned = owned_moves.fails_asked n l x stream s w is in_ at_l h.owned;
+      fails_asked = λ n l cause x stream s w at h. record {
+        owned = owned_moves.fails_asked n l x stream s w at.0 at.1 at.2 h.owned;
         row = at_none steady c n s.clients h.row;
-        told = h.told;
+        told = none_told w (ended l (client_failed cause) ∷ []) refl h.told;
       };
       links = λ t f s w h. record { owned = owned_moves.links t f s w h.owned; row = h.row; told = h.told };
       link_ends = λ t ending s w so h. link_ends_done t ending s w h;

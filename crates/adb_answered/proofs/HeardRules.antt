@@ -205,7 +205,6 @@ module _ (asker c : ℕ) (r : Heard) (apart : asker ≢ c) where
       row = rows_due c r s.devices asker bytes s.clients h.row;
       owes = owes_none c r w (due_to_client asker bytes ∷ []) (owed_other c asker bytes not_here) h.owes;
     };
-    fails = λ l cause s w left h. record { owned = h.owned; row = h.row; owes = owes_none c r w (ended l (client_failed cause) ∷ []) refl h.owes };
     tracks = λ x long s w is asking h. record {
       owned = owned_moves.tracks asker x long s w is asking h.owned;
       row = rows_apart c r s.devices asker (tracks long) s.clients apart h.row;
@@ -263,15 +262,15 @@ module _ (asker c : ℕ) (r : Heard) (apart : asker ≢ c) where
         let made : Made = ends_row l ending stream s in
         subst (λ (d : DeviceTable). Answers c r d made.state (w ++ made.told)) (sym (ends_devices l ending stream s))
         (ends_answers c r s.devices l ending stream s w is h);
-    fails_open = λ n l x stream s w is in_ at_l h. record {
-      owned = owned_moves.fails_open n l x stream s w is in_ at_l h.owned;
+    fails_open = λ n l cause x stream s w at h. record {
+      owned = owned_moves.fails_open n l x stream s w at.0 at.1 at.2 h.owned;
       row = rows_none c r s.devices n s.clients h.row;
-      owes = h.owes;
+      owes = owes_none c r w (ended l (client_failed cause) ∷ []) refl h.owes;
     };
-    fails_asked = λ n l x stream s w is in_ at_l h. record {
-      owned = owned_moves.fails_asked n l x stream s w is in_ at_l h.owned;
+    fails_asked = λ n l cause x stream s w at h. record {
+      owned = owned_moves.fails_asked n l x stream s w at.0 at.1 at.2 h.owned;
       row = rows_none c r s.devices n s.clients h.row;
-      owes = h.owes;
+      owes = owes_none c r w (ended l (client_failed cause) ∷ []) refl h.owes;
     };
     links = λ t f s w h. record { owned = owned_moves.links t f s w h.owned; row = h.row; owes = h.owes };
     link_ends = λ t ending s w so h. link_ends_answers c r s.devices (link_ends t ending s).state.devices t ending s w h;

@@ -29,7 +29,7 @@ use Rattle.adb_history.proofs.Following.{after_quietly}
 use Rattle.adb_history.proofs.Growing.{owed_append}
 use Rattle.adb_history.proofs.OwnedMoves.{client_of}
 use Rattle.adb_history.proofs.OwnedStep.{owned_moves, ends_state, client_loses_frame}
-use Rattle.adb_answered.specs.Turns.{EndsSo, IsForsaken, IsOpenedBy, Turns}
+use Rattle.adb_answered.specs.Turns.{EndsSo, IsOpenedBy, Turns}
 use Rattle.adb_answered.specs.Served.{PhaseFor, RowServed, OutBy, IsItsOwn, IsServed}
 use Rattle.adb_answered.proofs.ToldOthers.{quiet_after, owed_other, client_loses_owed, hears_owed, all_stop_owed, stopped_none, owned_opened, forgets_owned}
 use Rattle.adb_answered.proofs.SteadyRows.{IsSteady, at_change, at_like, at_apart, at_none, at_closing, at_due, at_hands, at_marked, at_client_loses}

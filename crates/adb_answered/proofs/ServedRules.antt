@@ -33,7 +33,7 @@ use Rattle.adb_history.proofs.Following.{after_quietly}
 use Rattle.adb_history.proofs.Growing.{owed_append}
 use Rattle.adb_history.proofs.OwnedMoves.{client_of}
 use Rattle.adb_history.proofs.OwnedStep.{owned_moves}
-use Rattle.adb_answered.specs.Turns.{IsForsaken, IsOpenedBy, Turns}
+use Rattle.adb_answered.specs.Turns.{IsOpenedBy, Turns}
 use Rattle.adb_answered.specs.Served.{PhaseFor, RowServed, OutBy, IsItsOwn, IsServed}
 use Rattle.adb_answered.proofs.ToldOthers.{quiet_after, owed_other, hears_owed, all_stop_owed, stopped_none, owned_opened, forgets_owned}
 use Rattle.adb_answered.proofs.SteadyRows.{at_change, at_like, at_apart, at_none, at_closing, at_due, at_hands, at_marked}
@@ -245,24 +245,27 @@ module _ (c l : ℕ) (replies : List ℕ) where
         go true = refl
         go false = refl
 
-    fails_own : (heard : Bool) (k : ℕ) (cause : Cause) (s : State) (w : List Event) → IsForsaken s.streams k → IsServed heard c l replies s w
-        → (y : Stream) → s.streams l ≡ Some y
-        → IsItsOwn c (heard ≡ false → ending_in l (w ++ ended k (client_failed cause) ∷ []) ≡ None) y
-    fails_own heard k cause s w left h y at_l = go (eqb k l) refl
-      where
-        was : IsItsOwn c (heard ≡ false → ending_in l w ≡ None) y
-        was = h.own y at_l
+    orphan_of : (stream x y : Stream) → with_stream_part (orphaned stream.part) x ≡ Some y → (y.client ≡ x.client) × (y.part.orphan ≡ true)
+    orphan_of stream x y e =
+        let row : record x { part = orphaned stream.part } ≡ y = cc in
+        (ap (λ (z : Stream). z.client) (sym row), ap (λ (z : Stream). z.part.orphan) (sym row))
 
-        go : (b : Bool) → eqb k l ≡ b → IsItsOwn c (heard ≡ false → ending_in l (w ++ ended k (client_failed cause) ∷ []) ≡ None) y
-        go true e = record {
-          client = was.client;
-          live = λ o. absurd (let clash : true ≡ false = sym (left y (ap s.streams (eqb-true k l e) ∙ at_l)) ∙ o in cc);
-        }
-        go false e = record {
-          client = was.client;
-          live = λ o. still_alive c l replies heard w (ended k (client_failed cause) ∷ []) (ap (λ (b : Bool). cond b (Some (client_failed cause)) None) e)
-              (was.live o);
-        }
+    -- its client is gone: its row goes, or it is an orphan
+    fails_own : (b : Bool) (k : ℕ) (cause : Cause) (f : Stream → Option Stream) (s : State) (w : List Event)
+        → ((x y : Stream) → f x ≡ Some y → (y.client ≡ x.client) × (y.part.orphan ≡ true)) → IsServed b c l replies s w
+        → (y : Stream) → change_row k (option_and_then f) s.streams l ≡ Some y
+        → IsItsOwn c (b ≡ false → ending_in l (w ++ ended k (client_failed cause) ∷ []) ≡ None) y
+    fails_own b k cause f s w gone h y at_l = go (eqb k l) refl (s.streams l) refl at_l
+      where
+        go : (here : Bool) → eqb k l ≡ here → (o : Option Stream) → s.streams l ≡ o → cond here (option_and_then f o) o ≡ Some y
+            → IsItsOwn c (b ≡ false → ending_in l (w ++ ended k (client_failed cause) ∷ []) ≡ None) y
+        go true e None is at = absurd (let clash : None ≡ Some y = at in cc)
+        go true e (Some x) is at =
+            let left = gone x y at in
+            record { client = left.0 ∙ (h.own x is).client; live = λ o. absurd (let clash : true ≡ false = sym left.1 ∙ o in cc) }
+        go false e o is at =
+            like_own b s.streams w h.own (ended k (client_failed cause) ∷ [])
+            (ap (λ (b : Bool). cond b (Some (client_failed cause)) None) e) y (is ∙ at)
 
     -- What a client is handed that asked for a stream, through each move in which it asks nothing.
     pub served_turns : Turns asker (λ s w. IsServedSo c l replies s w)
@@ -280,13 +283,6 @@ module _ (c l : ℕ) (replies : List ℕ) where
         own = λ y at_l. like_own b s.streams w h.own (due_to_client asker bytes ∷ []) refl y at_l;
         drawn = h.drawn;
         out = out_quiet c l replies b w (due_to_client asker bytes ∷ []) (owed_other c asker bytes not_here) refl h.out;
-      });
-      fails = λ k cause s w left (b, h). (b, record {
-        owned = h.owned;
-        row = h.row;
-        own = fails_own b k cause s w left h;
-        drawn = h.drawn;
-        out = out_quiet c l replies b w (ended k (client_failed cause) ∷ []) refl (fails_quiet k cause) h.out;
       });
       tracks = λ x long s w is asking (b, h). (b, record {
         owned = owned_moves.tracks asker x long s w is asking h.owned;
@@ -383,19 +379,19 @@ module _ (c l : ℕ) (replies : List ℕ) where
         out = h.out;
       });
       ends = λ k ending stream s w is so (b, h). (b, ends_served b c l replies k ending stream s w is h so);
-      fails_open = λ n k x stream s w is in_ at_k (b, h). (b, record {
-        owned = owned_moves.fails_open n k x stream s w is in_ at_k h.owned;
+      fails_open = λ n k cause x stream s w at (b, h). (b, record {
+        owned = owned_moves.fails_open n k x stream s w at.0 at.1 at.2 h.owned;
         row = at_none (steady l b) c n s.clients h.row;
-        own = own_none l (IsItsOwn c (b ≡ false → ending_in l w ≡ None)) k s.streams h.own;
+        own = fails_own b k cause none_kept s w (λ z y e. absurd (let clash : None ≡ Some y = e in cc)) h;
         drawn = h.drawn;
-        out = h.out;
+        out = out_quiet c l replies b w (ended k (client_failed cause) ∷ []) refl (fails_quiet k cause) h.out;
       });
-      fails_asked = λ n k x stream s w is in_ at_k (b, h). (b, record {
-        owned = owned_moves.fails_asked n k x stream s w is in_ at_k h.owned;
+      fails_asked = λ n k cause x stream s w at (b, h). (b, record {
+        owned = owned_moves.fails_asked n k x stream s w at.0 at.1 at.2 h.owned;
         row = at_none (steady l b) c n s.clients h.row;
-        own = own_orphan l c (b ≡ false → ending_in l w ≡ None) k (orphaned stream.part) s.streams refl h.own;
+        own = fails_own b k cause (with_stream_part (orphaned stream.part)) s w (λ z y e. orphan_of stream z y e) h;
         drawn = h.drawn;
-        out = h.out;
+        out = out_quiet c l replies b w (ended k (client_failed cause) ∷ []) refl (fails_quiet k cause) h.out;
       });
       links = λ t f s w (b, h). (b, record { owned = owned_moves.links t f s w h.owned; row = h.row; own = h.own; drawn = h.drawn; out = h.out });
       link_ends = λ t ending s w told (b, h). (b, link_ends_served b c l replies t ending s w told h);

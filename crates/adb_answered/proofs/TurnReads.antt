@@ -1,5 +1,5 @@
 -- What each move keeps, the requests of the client keep that alone is answered, the listeners that stand for it, and the ends of all.
-use Rattle.std.proofs.Common.{◌≡◌, ℕ, Bool, true, false, cond, All, List, [], ◌∷◌, ◌++◌, length, Option, Some, None, refl, sym, ap, subst, ◌∙◌, inl, inr, eqb}
+use Rattle.std.proofs.Common.{append_assoc, ◌≡◌, ℕ, Bool, true, false, cond, All, List, [], ◌∷◌, ◌++◌, length, Option, Some, None, refl, sym, ap, subst, ◌∙◌, inl, inr, eqb}
 use Rattle.std.specs.Prelude.{codes, is_some, is_none, option_and_then}
 use Rattle.std.proofs.lemmas.List.Elements.{All-nil}
 use Rattle.adb_outside.specs.Tables.{at, change_row, without}
@@ -157,28 +157,14 @@ module _ {asker : ℕ} {P : State → List Event → Type 0} (k : Turns asker P)
         let p : Packet = close_packet l stream.part.remote in
         let owed : Made = owe_link stream.link p s in
         let gone : Made = owe_link stream.link p (to_stream l none_kept (to_client c none_kept s)) in
-        after_then P w gone (λ s. record { state = s; told = ended l (client_failed cause) ∷ [] })
-        (k.fails_open c l x.client stream owed.state (w ++ owed.told) x.here x.in_phase at_l (owes_kept k s w h stream.link p (inr (inl (ap is_some at_l)))))
-        (λ v now. k.fails l cause gone.state v (λ y e. absurd (nothing y e (changed_here l none_kept s.streams stream at_l))) now)
-      where
-        nothing : (y : Stream) → change_row l (option_and_then none_kept) s.streams l ≡ Some y → change_row l (option_and_then none_kept) s.streams l ≡ None → ⊥
-        nothing y e none = let clash : None ≡ Some y = sym none ∙ e in cc
+        subst (λ (v : List Event). P gone.state v) (append_assoc w owed.told (ended l (client_failed cause) ∷ []))
+        (k.fails_open c l cause x.client stream owed.state (w ++ owed.told) (x.here, x.in_phase, at_l)
+        (owes_kept k s w h stream.link p (inr (inl (ap is_some at_l)))))
 
     fails_asked_kept : (c l : ℕ) (cause : Cause) (o : Option Stream) → IsClientIn s c (Opening l) → s.streams l ≡ o
         → After P w (stream_fails (Opening l) cause o (to_client c none_kept s))
     fails_asked_kept c l cause None x at_l = drops_kept c x.client x.here (ap (λ p. stream_of p s.streams) x.in_phase ∙ at_l)
-    fails_asked_kept c l cause (Some stream) x at_l =
-        let now : State = to_stream l (with_stream_part (orphaned stream.part)) (to_client c none_kept s) in
-        k.fails l cause now w (λ y e. orphan y e (changed_here l (with_stream_part (orphaned stream.part)) s.streams stream at_l))
-        (k.fails_asked c l x.client stream s w x.here x.in_phase at_l h)
-      where
-        orphan : (y : Stream) → change_row l (option_and_then (with_stream_part (orphaned stream.part))) s.streams l ≡ Some y
-            → change_row l (option_and_then (with_stream_part (orphaned stream.part))) s.streams l ≡ with_stream_part (orphaned stream.part) stream
-            → y.part.orphan ≡ true
-        orphan y e is =
-            let both : Some (record stream { part = orphaned stream.part }) ≡ Some y = sym is ∙ e in
-            let same : record stream { part = orphaned stream.part } ≡ y = cc in
-            ap (λ (z : Stream). z.part.orphan) (sym same)
+    fails_asked_kept c l cause (Some stream) x at_l = k.fails_asked c l cause x.client stream s w (x.here, x.in_phase, at_l) h
 
     fails_in_kept : (phase : Phase) (c : ℕ) (cause : Cause) → IsClientIn s c phase
         → After P w (stream_fails phase cause (stream_of phase s.streams) (to_client c none_kept s))

@@ -32,10 +32,6 @@ HasOpen clients c l = (client : Client) × (clients c ≡ Some client) × (clien
 abbrev pub EndsSo : Rows (Option Client) → ℕ → Ending → Stream → Type 0
 EndsSo clients l ending stream = (tells_closed (Some ending) ≡ true) ⊎ ((stream.part.remote ≢ 0) ⊎ HasOpen clients stream.client l)
 
--- a stream whose client is gone
-abbrev pub IsForsaken : Rows (Option Stream) → ℕ → Type 0
-IsForsaken streams l = (stream : Stream) → streams l ≡ Some stream → stream.part.orphan ≡ true
-
 -- a stream that its device opens
 pub record IsOpenedBy (remote : ℕ) (stream : Stream) : Type 0 where
   pub new : stream.part.remote ≡ 0
@@ -48,7 +44,6 @@ pub record Turns (asker : ℕ) (P : State → List Event → Type 0) : Type 0 wh
   pub owes : (t : ℕ) (p : Packet) (check : ℕ) (s : State) (w : List Event) → IsOfStream s.streams p → P s w
       → P (to_link t (with_link_due (spelling p check)) s) (w ++ due_to_link t p check ∷ [])
   pub replies : (bytes : List ℕ) (s : State) (w : List Event) → P s w → P (to_client asker (with_due bytes) s) (w ++ due_to_client asker bytes ∷ [])
-  pub fails : (l : ℕ) (cause : Cause) (s : State) (w : List Event) → IsForsaken s.streams l → P s w → P s (w ++ ended l (client_failed cause) ∷ [])
   -- the asker
   pub tracks : (client : Client) (long : Bool) (s : State) (w : List Event) → s.clients asker ≡ Some client → client.about.phase ≡ Asking
       → P s w → P (to_client asker (tracks long) s) w
@@ -81,11 +76,12 @@ pub record Turns (asker : ℕ) (P : State → List Event → Type 0) : Type 0 wh
       → P s w → P (to_stream l none_kept s) w
   pub ends : (l : ℕ) (ending : Ending) (stream : Stream) (s : State) (w : List Event) → s.streams l ≡ Some stream → EndsSo s.clients l ending stream
       → P s w → After P w (ends_row l ending stream s)
-  pub fails_open : (c l : ℕ) (client : Client) (stream : Stream) (s : State) (w : List Event) → s.clients c ≡ Some client
-      → client.about.phase ≡ Streaming l → s.streams l ≡ Some stream → P s w → P (to_stream l none_kept (to_client c none_kept s)) w
-  pub fails_asked : (c l : ℕ) (client : Client) (stream : Stream) (s : State) (w : List Event) → s.clients c ≡ Some client
-      → client.about.phase ≡ Opening l → s.streams l ≡ Some stream
-      → P s w → P (to_stream l (with_stream_part (orphaned stream.part)) (to_client c none_kept s)) w
+  pub fails_open : (c l : ℕ) (cause : Cause) (client : Client) (stream : Stream) (s : State) (w : List Event)
+      → (s.clients c ≡ Some client) × (client.about.phase ≡ Streaming l) × (s.streams l ≡ Some stream)
+      → P s w → P (to_stream l none_kept (to_client c none_kept s)) (w ++ ended l (client_failed cause) ∷ [])
+  pub fails_asked : (c l : ℕ) (cause : Cause) (client : Client) (stream : Stream) (s : State) (w : List Event)
+      → (s.clients c ≡ Some client) × (client.about.phase ≡ Opening l) × (s.streams l ≡ Some stream)
+      → P s w → P (to_stream l (with_stream_part (orphaned stream.part)) (to_client c none_kept s)) (w ++ ended l (client_failed cause) ∷ [])
   -- links, devices and forwards
   pub links : (t : ℕ) (f : Link → Link) (s : State) (w : List Event) → P s w → P (to_link t (λ link. Some (f link)) s) w
   pub link_ends : (t : ℕ) (ending : Ending) (s : State) (w : List Event) → tells_closed (Some ending) ≡ true → P s w → After P w (link_ends t ending s)
