@@ -12,6 +12,7 @@ pub mod HeardBound
 pub mod HeardPuts
 pub mod HeardHistories
 pub mod HeardLaws
+pub mod FreshMoves
 pub mod DoneMoves
 pub mod Endings
 pub mod ServedMoves

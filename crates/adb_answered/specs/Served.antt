@@ -1,5 +1,5 @@
 -- What a client is handed whose last request was for a stream, against its row and that of the stream.
-use Rattle.std.specs.Prelude.{ℕ, ◌≡◌, ◌≤◌, Bool, true, false, List, ◌++◌, Option, Some, None}
+use Rattle.std.specs.Prelude.{ℕ, ◌≡◌, ◌≤◌, ◌<◌, not, Bool, true, false, List, ◌++◌, Option, Some, None}
 use Rattle.adb_stream.specs.declared.row.Stream.{Stream}
 use Rattle.adb_client.specs.declared.phase.Phase.{Phase}
 use Rattle.adb_client.specs.declared.phase.Phase.TheVariants.{Opening, Streaming, Closing}
@@ -8,6 +8,12 @@ use Rattle.adb_history.specs.Rows.{Client, State}
 use Rattle.adb_history.specs.Events.{Event, Ending, owed_to, ending_in}
 use Rattle.adb_history.specs.Answered.{tells_closed, closed_reply}
 use Rattle.adb_history.specs.Owned.{IsOwned}
+
+-- Who came through a forward is known, and no stream has ended that was not drawn.
+pub record IsFresh (joined : ℕ → Bool) (s : State) (events : List Event) : Type 0 where
+  pub owned : IsOwned s
+  pub alone : (n : ℕ) (client : Client) → s.clients n ≡ Some client → client.about.forwarded ≡ not (joined n)
+  pub unended : (l : ℕ) → s.drawn < l → ending_in l events ≡ None
 
 -- A client that is closing or gone, to which so much became due, and no more will.
 pub record IsDone (c : ℕ) (out : List ℕ) (s : State) (events : List Event) : Type 0 where
