@@ -12,6 +12,7 @@ pub mod HeardBound
 pub mod HeardPuts
 pub mod HeardHistories
 pub mod HeardLaws
+pub mod BornLaws
 pub mod FreshMoves
 pub mod DoneMoves
 pub mod Endings
