@@ -30,10 +30,10 @@ use Rattle.adb_answered.specs.Served.{IsDone}
 use Rattle.adb_answered.proofs.ToldOthers.{quiet_after, owed_other, client_loses_owed, hears_owed, all_stop_owed, stopped_none, owned_opened, forgets_owned}
 use Rattle.adb_answered.proofs.SteadyRows.{IsSteady, at_change, at_like, at_apart, at_none, at_closing, at_due, at_hands, at_marked, at_client_loses}
 
-abbrev IsClosing : Client → Type 0
+abbrev pub IsClosing : Client → Type 0
 IsClosing x = x.about.phase ≡ Closing
 
-steady : IsSteady IsClosing
+pub steady : IsSteady IsClosing
 steady = record { closing = λ x y phase forwarded h. phase; like = λ x y phase forwarded h. phase ∙ h }
 
 never_closing : (l remote : ℕ) → Closing ≡ phase_for l remote → ⊥

@@ -18,3 +18,5 @@ pub mod DoneMoves
 pub mod Endings
 pub mod ServedMoves
 pub mod ServedRules
+pub mod ClientTurns
+pub mod ServedClients
