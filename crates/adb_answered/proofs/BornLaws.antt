@@ -17,6 +17,7 @@ use Rattle.adb_history.specs.Book.{asked, newly, devices, forwards}
 use Rattle.adb_history.specs.Births.{Birth, birth_by, birth_through, births_at, births, born}
 use Rattle.adb_history.specs.Tied.{came_count}
 use Rattle.adb_history.proofs.Numbers.{counted}
+use Rattle.adb_answered.specs.Served.{HasNoStream}
 
 -- ---- places in a list
 pub get_front : {X : Type 0} (xs ys : List X) (k : ℕ) (x : X) → slice_get xs k ≡ Some x → slice_get (xs ++ ys) k ≡ Some x
@@ -186,10 +187,6 @@ born_either (suc k) b e older is = go (nat_lt k stream_ids) refl is
     go false e is = absurd (let clash : None ≡ Some b = is in cc)
 
 -- ---- clients without a stream
--- no stream of a client was born
-abbrev pub HasNoStream : ℕ → History → Type 0
-HasNoStream c h = (l : ℕ) (b : Birth) → born l h ≡ Some b → b.client ≢ c
-
 -- an entry that bears no stream of this client
 pub still_none : (c : ℕ) (e : Entry) (older : History) → ((l : ℕ) (b : Birth) → IsBornNow l b e older → b.client ≢ c) → HasNoStream c older
     → HasNoStream c (e ∷ older)

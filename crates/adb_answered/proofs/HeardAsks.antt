@@ -209,7 +209,7 @@ module _ (c : ℕ) (older : History) (legal : IsLegal older) (bytes : List ℕ) 
     asks_on : (said c older).asking ≡ true
     asks_on = sym as_before.asks ∙ ap asks_in asking
 
-    open_next : (asked c older).next ≡ None
+    pub open_next : (asked c older).next ≡ None
     open_next = none_next (asked c older).next (and_parts (has_joined c older) (not (has_ended c older)) (still_asks (asked c older)) asks_on).2
 
     same_asked : SameAsked (said c older) client
@@ -240,7 +240,7 @@ module _ (c : ℕ) (older : History) (legal : IsLegal older) (bytes : List ℕ) 
       last = λ long. reply_list c (newly before q.next) older (last_list long c older);
     }
 
-    heard_now : heard c (Read c bytes ∷ older) ≡ now
+    pub heard_now : heard c (Read c bytes ∷ older) ≡ now
     unfolding said_so
     heard_now =
         ap (λ (x : Bool). said_so (asked_with x (devices_if (book older).killed older) (book older).forwards bytes (asked c older)) (eqb c c)) asks_on
@@ -248,6 +248,9 @@ module _ (c : ℕ) (older : History) (legal : IsLegal older) (bytes : List ℕ) 
         ∙ (ap (λ (f : List (ℕ × ForwardRow)). said_so (asks_with s.devices f bytes (asked c older)) (eqb c c)) (sym books.forwards)
         ∙ (ap (λ (here : Bool). said_so (asks_with s.devices s.forwards bytes (asked c older)) here) (eq-eqb c c refl)
         ∙ (ap (behind_so (asked c older).next) all ∙ ap (λ (o : Option Next). behind_so o (behind (asked c older) p)) open_next))))
+
+    pub made_is : rule (Read c bytes) s ≡ asks p c s
+    made_is = ap (λ (o : Option Client). reads_from o c bytes s) is ∙ ap (λ (x : Phase). reads_in x c bytes client s) asking
 
     module _ (h : Answers c (heard c older) s.devices s w) where
       before : IsUnanswered (heard c older)
@@ -270,9 +273,6 @@ module _ (c : ℕ) (older : History) (legal : IsLegal older) (bytes : List ℕ) 
 
       went : Made
       went = goes_on p.next c (replied_state c bytes client s (asked c older) is asking same_asked.rest same_asked.selected open_next)
-
-      made_is : rule (Read c bytes) s ≡ asks p c s
-      made_is = ap (λ (o : Option Client). reads_from o c bytes s) is ∙ ap (λ (x : Phase). reads_in x c bytes client s) asking
 
       out_is : owed_to c (w ++ (asks p c s).told) ≡ owed_to c w ++ (p.replies ++ owed_to c went.told)
       unfolding went

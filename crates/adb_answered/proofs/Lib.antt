@@ -20,3 +20,4 @@ pub mod ServedMoves
 pub mod ServedRules
 pub mod ClientTurns
 pub mod ServedClients
+pub mod ServedAsks

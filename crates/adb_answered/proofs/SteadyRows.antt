@@ -19,7 +19,7 @@ pub record IsSteady (Q : Client → Type 0) : Type 0 where
   pub like : (x y : Client) → y.about.phase ≡ x.about.phase → y.about.forwarded ≡ x.about.forwarded → Q x → Q y
 
 -- ---- what is left of a row
-closed_about : (due : List ℕ) (x y : Client) → closing_with due x ≡ Some y → (y.about.phase ≡ Closing) × (y.about.forwarded ≡ x.about.forwarded)
+pub closed_about : (due : List ℕ) (x y : Client) → closing_with due x ≡ Some y → (y.about.phase ≡ Closing) × (y.about.forwarded ≡ x.about.forwarded)
 closed_about [] x y e = absurd (let clash : None ≡ Some y = e in cc)
 closed_about (b ∷ due) x y e = (ap phase_of (sym e), ap forwarded_of (sym e))
   where

@@ -1,11 +1,13 @@
 -- What a client is handed whose last request was for a stream, against its row and that of the stream.
-use Rattle.std.specs.Prelude.{ℕ, ◌≡◌, ◌≤◌, ◌<◌, not, Bool, true, false, List, ◌++◌, Option, Some, None}
+use Rattle.std.specs.Prelude.{ℕ, ◌≡◌, ◌≢◌, ◌≤◌, ◌<◌, not, codes, Bool, true, false, List, ◌++◌, Option, Some, None}
 use Rattle.adb_stream.specs.declared.row.Stream.{Stream}
 use Rattle.adb_client.specs.declared.phase.Phase.{Phase}
 use Rattle.adb_client.specs.declared.phase.Phase.TheVariants.{Opening, Streaming, Closing}
-use Rattle.adb_reply.specs.Strings.{okay}
+use Rattle.adb_reply.specs.Strings.{okay, failed}
 use Rattle.adb_history.specs.Rows.{Client, State}
 use Rattle.adb_history.specs.Events.{Event, Ending, owed_to, ending_in}
+use Rattle.adb_history.specs.Machine.{History}
+use Rattle.adb_history.specs.Births.{Birth, born}
 use Rattle.adb_history.specs.Answered.{tells_closed, closed_reply}
 use Rattle.adb_history.specs.Owned.{IsOwned}
 
@@ -49,3 +51,26 @@ pub record IsServed (heard : Bool) (c l : ℕ) (replies : List ℕ) (s : State) 
   pub own : (stream : Stream) → s.streams l ≡ Some stream → IsItsOwn c (heard ≡ false → ending_in l events ≡ None) stream
   pub drawn : l ≤ s.drawn
   pub out : OutBy heard replies (owed_to c events) (ending_in l events)
+
+-- what a client is told that asks for a stream when no id is left
+abbrev pub no_ids_reply : List ℕ
+no_ids_reply = (failed (codes "no stream ids left")).bytes
+
+-- no stream of a client was born
+abbrev pub HasNoStream : ℕ → History → Type 0
+HasNoStream c h = (l : ℕ) (b : Birth) → born l h ≡ Some b → b.client ≢ c
+
+-- A client that came by itself and asked for a stream, which was born.
+pub record IsGiven (c : ℕ) (h : History) (replies : List ℕ) (s : State) (events : List Event) : Type 0 where
+  pub stream : ℕ
+  pub birth : Birth
+  pub born : born stream h ≡ Some birth
+  pub client : birth.client ≡ c
+  pub alone : birth.forwarded ≡ false
+  pub heard : Bool
+  pub served : IsServed heard c stream replies s events
+
+-- A client that came by itself and asked for a stream when no id was left.
+pub record IsRefused (c : ℕ) (h : History) (replies : List ℕ) (s : State) (events : List Event) : Type 0 where
+  pub none : HasNoStream c h
+  pub done : IsDone c (replies ++ no_ids_reply) s events
