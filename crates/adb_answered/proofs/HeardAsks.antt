@@ -159,7 +159,7 @@ module _ (r next : Heard) (out replies more : List ℕ) where
       so_far = replied ∙ ap (λ x. x ++ replies) (sym before)
 
 -- a phase in which a client asks
-asks_asking : (phase : Phase) → asks_in phase ≡ true → phase ≡ Asking
+pub asks_asking : (phase : Phase) → asks_in phase ≡ true → phase ≡ Asking
 asks_asking Asking e = refl
 asks_asking (Opening l) e = absurd (let clash : false ≡ true = e in cc)
 asks_asking (Streaming l) e = absurd (let clash : false ≡ true = e in cc)

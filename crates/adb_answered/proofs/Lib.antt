@@ -21,3 +21,4 @@ pub mod ServedRules
 pub mod ClientTurns
 pub mod ServedClients
 pub mod ServedAsks
+pub mod ServedHistories

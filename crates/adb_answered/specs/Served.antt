@@ -1,12 +1,13 @@
 -- What a client is handed whose last request was for a stream, against its row and that of the stream.
-use Rattle.std.specs.Prelude.{ℕ, ◌≡◌, ◌≢◌, ◌≤◌, ◌<◌, not, codes, Bool, true, false, List, ◌++◌, Option, Some, None}
+use Rattle.std.specs.Prelude.{ℕ, ◌≡◌, ◌≢◌, ◌≤◌, ◌<◌, ◌⊎◌, not, codes, Bool, true, false, List, ◌++◌, Option, Some, None}
 use Rattle.adb_stream.specs.declared.row.Stream.{Stream}
 use Rattle.adb_client.specs.declared.phase.Phase.{Phase}
 use Rattle.adb_client.specs.declared.phase.Phase.TheVariants.{Opening, Streaming, Closing}
 use Rattle.adb_reply.specs.Strings.{okay, failed}
 use Rattle.adb_history.specs.Rows.{Client, State}
 use Rattle.adb_history.specs.Events.{Event, Ending, owed_to, ending_in}
-use Rattle.adb_history.specs.Machine.{History}
+use Rattle.adb_history.specs.Machine.{History, state, told}
+use Rattle.adb_history.specs.Book.{asked}
 use Rattle.adb_history.specs.Births.{Birth, born}
 use Rattle.adb_history.specs.Answered.{tells_closed, closed_reply}
 use Rattle.adb_history.specs.Owned.{IsOwned}
@@ -74,3 +75,12 @@ pub record IsGiven (c : ℕ) (h : History) (replies : List ℕ) (s : State) (eve
 pub record IsRefused (c : ℕ) (h : History) (replies : List ℕ) (s : State) (events : List Event) : Type 0 where
   pub none : HasNoStream c h
   pub done : IsDone c (replies ++ no_ids_reply) s events
+
+-- what is served of a client that came by itself, by whether its last request was for a stream
+abbrev pub ServedIn : Bool → ℕ → History → Type 0
+ServedIn false c h = HasNoStream c h
+ServedIn true c h = IsGiven c h (asked c h).replies (state h) (told h) ⊎ IsRefused c h (asked c h).replies (state h) (told h)
+
+-- what held at each time of a history
+abbrev pub AtEachFront : (History → Type 0) → History → Type 0
+AtEachFront Holds h = (newer older : History) → newer ++ older ≡ h → Holds older
