@@ -41,27 +41,41 @@ pub record IsOfClient (c : ℕ) (P : State → List Event → Type 0) : Type 0 w
   pub marks : (s next : State) (w : List Event) → IsOwned next → next.clients c ≡ option_map marked (s.clients c) → next.streams ≡ s.streams
       → next.drawn ≡ s.drawn → P s w → P next w
 
+-- an entry by which another comes, if any
+abbrev pub IsAnother : ℕ → Entry → Type 0
+IsAnother c (Join n) = n ≢ c
+IsAnother c (Enter n port) = n ≢ c
+IsAnother c _ = Unit {0}
+
+-- who comes has a number that was not drawn
+pub another_comes : (c : ℕ) (s : State) (e : Entry) → c ≤ s.joined → May s e → IsAnother c e
+another_comes c s (Join n) below may = λ same. omega (arith, same, below, may.1)
+another_comes c s (Enter n port) below may = λ same. omega (arith, same, below, may.1)
+another_comes c s (Read n bytes) below may = tt
+another_comes c s (End n cause) below may = tt
+another_comes c s (Bound n port) below may = tt
+another_comes c s (Attach t kind serial) below may = tt
+another_comes c s (Recv t bytes) below may = tt
+another_comes c s (Detach t cause) below may = tt
+another_comes c s (Put n bytes) below may = tt
+another_comes c s (Send t bytes) below may = tt
+
 module _ {c : ℕ} {P : State → List Event → Type 0} (k : IsOfClient c P) where
   other : c + 1 ≢ c
   other e = omega (arith, e)
 
-  module _ (s : State) (w : List Event) (below : c ≤ s.joined) (h : P s w) where
+  module _ (s : State) (w : List Event) (h : P s w) where
     -- ---- an entry of another
     came_same : (forwarded : Bool) (n : ℕ) → n ≢ c → (comes forwarded n s).clients c ≡ s.clients c
     came_same forwarded n apart = ap (λ (b : Bool). cond b (Some (new_client forwarded n)) (s.clients c)) (ne_eqb n c apart)
 
-    next_apart : (n : ℕ) → n ≡ s.joined + 1 → n ≢ c
-    next_apart n is same = omega (arith, is, same, below)
-
-    join_kept : (n : ℕ) → May s (Join n) → After P w (rule (Join n) s)
-    join_kept n may =
-        let apart = next_apart n may.1 in
+    join_kept : (n : ℕ) → n ≢ c → May s (Join n) → After P w (rule (Join n) s)
+    join_kept n apart may =
         rule_kept (k.turns (c + 1) other) (Join n) s w tt
         (k.stays s (comes false n s) w (begins_owned s (k.owned s w h) (Join n) w may) (came_same false n apart) refl refl h)
 
-    enter_kept : (n port : ℕ) → May s (Enter n port) → After P w (rule (Enter n port) s)
-    enter_kept n port may =
-        let apart = next_apart n may.1 in
+    enter_kept : (n port : ℕ) → n ≢ c → May s (Enter n port) → After P w (rule (Enter n port) s)
+    enter_kept n port apart may =
         let owned = begins_owned s (k.owned s w h) (Enter n port) w may in
         rule_kept (k.turns n apart) (Enter n port) s w refl
         (k.stays s (comes true n s) w owned.0 (came_same true n apart) refl refl h, k.stays s _ w owned.1 refl refl refl h)
@@ -156,22 +170,22 @@ module _ {c : ℕ} {P : State → List Event → Type 0} (k : IsOfClient c P) wh
         subst (λ (m : ℕ). After P w (rule (Put m bytes) s)) (sym (eqb-true n c e))
         (own_put bytes (s.clients c) refl (subst (λ (m : ℕ). MayPut s (s.clients m) bytes) (eqb-true n c e) may))
 
-    client_rule : (e : Entry) → May s e → After P w (rule e s)
-    client_rule (Join n) may = join_kept n may
-    client_rule (Enter n port) may = enter_kept n port may
-    client_rule (Read n bytes) may = read_either n bytes may (eqb n c) refl
-    client_rule (Bound n port) may = bound_either n port (eqb n c) refl
-    client_rule (Put n bytes) may = put_either n bytes may (eqb n c) refl
-    client_rule (Attach t kind serial) may = attach_kept t kind serial may
-    client_rule (End n cause) may = rule_kept own_turns (End n cause) s w tt h
-    client_rule (Recv t bytes) may = rule_kept own_turns (Recv t bytes) s w tt h
-    client_rule (Detach t cause) may = rule_kept own_turns (Detach t cause) s w tt h
-    client_rule (Send t bytes) may = rule_kept own_turns (Send t bytes) s w tt h
+    client_rule : (e : Entry) → IsAnother c e → May s e → After P w (rule e s)
+    client_rule (Join n) another may = join_kept n another may
+    client_rule (Enter n port) another may = enter_kept n port another may
+    client_rule (Read n bytes) another may = read_either n bytes may (eqb n c) refl
+    client_rule (Bound n port) another may = bound_either n port (eqb n c) refl
+    client_rule (Put n bytes) another may = put_either n bytes may (eqb n c) refl
+    client_rule (Attach t kind serial) another may = attach_kept t kind serial may
+    client_rule (End n cause) another may = rule_kept own_turns (End n cause) s w tt h
+    client_rule (Recv t bytes) another may = rule_kept own_turns (Recv t bytes) s w tt h
+    client_rule (Detach t cause) another may = rule_kept own_turns (Detach t cause) s w tt h
+    client_rule (Send t bytes) another may = rule_kept own_turns (Send t bytes) s w tt h
 
   -- What holds of a client that asks no more, each entry keeps.
-  pub client_kept : (s : State) (w : List Event) (e : Entry) → c ≤ s.joined → May s e → P s w → After P w (step s e)
-  client_kept s w e below may h =
-      after_then P w (rule e s) ups (client_rule s w below h e may)
+  pub client_kept : (s : State) (w : List Event) (e : Entry) → IsAnother c e → May s e → P s w → After P w (step s e)
+  client_kept s w e another may h =
+      after_then P w (rule e s) ups (client_rule s w h e another may)
       (λ v now. up_all_kept (k.turns (c + 1) other) (rule e s).state v now (rule e s).state.drawn)
 
   -- and the up rule

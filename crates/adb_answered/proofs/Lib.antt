@@ -22,3 +22,4 @@ pub mod ClientTurns
 pub mod ServedClients
 pub mod ServedAsks
 pub mod ServedHistories
+pub mod Entered

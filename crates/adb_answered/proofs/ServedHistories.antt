@@ -33,7 +33,7 @@ use Rattle.adb_answered.proofs.HeardAsks.{asks_asking, open_next, heard_now, hea
 use Rattle.adb_answered.proofs.HeardHistories.{all_answers}
 use Rattle.adb_answered.proofs.FreshMoves.{all_fresh}
 use Rattle.adb_answered.proofs.BornLaws.{IsBirthOf, birth_of, born_more, IsBornNow, still_none, none_unborn}
-use Rattle.adb_answered.proofs.ClientTurns.{client_kept, client_ups}
+use Rattle.adb_answered.proofs.ClientTurns.{another_comes, client_kept, client_ups}
 use Rattle.adb_answered.proofs.ServedClients.{done_client, served_client}
 use Rattle.adb_answered.proofs.ServedAsks.{asks_stream_now}
 
@@ -124,7 +124,7 @@ module _ (c : ℕ) (older : History) (legal : IsLegal older) (came : has_joined 
   silent_served : (e : Entry) → May (state older) e → IsSilent c e older → (b : Bool) → ServedIn b c older → ServedIn b c (e ∷ older)
   silent_served e may silent false none = still_none c e older silent.none none
   silent_served e may silent true (inl g) =
-      let kept = client_kept (served_client c g.stream (asked c older).replies) (state older) (told older) e below may (g.heard, g.served) in
+      let kept = client_kept (served_client c g.stream (asked c older).replies) (state older) (told older) e (another_comes c (state older) e below may) may (g.heard, g.served) in
       inl (record {
         stream = g.stream;
         birth = g.birth;
@@ -138,7 +138,7 @@ module _ (c : ℕ) (older : History) (legal : IsLegal older) (came : has_joined 
       inr (record {
         none = still_none c e older silent.none r.none;
         done = subst (λ (x : List ℕ). IsDone c (x ++ no_ids_reply) (state (e ∷ older)) (told (e ∷ older))) (sym silent.replies)
-            (client_kept (done_client c ((asked c older).replies ++ no_ids_reply)) (state older) (told older) e below may r.done);
+            (client_kept (done_client c ((asked c older).replies ++ no_ids_reply)) (state older) (told older) e (another_comes c (state older) e below may) may r.done);
       })
 
   abbrev Before : Type 0
@@ -253,10 +253,10 @@ new_served c older legal may =
     subst (λ (q : Asked). ServedIn (asks_stream q.next) c (Join c ∷ older)) (sym (all_unheard older legal c above).asked)
     (still_none c (Join c) older (apart_births c (Join c) older (λ m of. absurd of)) (none_unborn older legal c above))
 
-front_births : (e : Entry) (older : History) → AtEachFront HasBirths (e ∷ older) → HasBirths older
+pub front_births : (e : Entry) (older : History) → AtEachFront HasBirths (e ∷ older) → HasBirths older
 front_births e older births = births (e ∷ []) older refl
 
-front_older : (e : Entry) (older : History) → AtEachFront HasBirths (e ∷ older) → AtEachFront HasBirths older
+pub front_older : (e : Entry) (older : History) → AtEachFront HasBirths (e ∷ older) → AtEachFront HasBirths older
 front_older e older births newer oldest is = births (e ∷ newer) oldest (ap (λ (x : History). e ∷ x) is)
 
 -- In every legal history a client that came by itself and asked for a stream is served by it.

@@ -1,5 +1,6 @@
 -- What a client is handed whose last request was for a stream, against its row and that of the stream.
 use Rattle.std.specs.Prelude.{ℕ, ◌≡◌, ◌≢◌, ◌≤◌, ◌<◌, ◌⊎◌, not, codes, Bool, true, false, List, ◌++◌, Option, Some, None}
+use Rattle.adb_outside.specs.Bytes.{IsPrefixOf}
 use Rattle.adb_stream.specs.declared.row.Stream.{Stream}
 use Rattle.adb_client.specs.declared.phase.Phase.{Phase}
 use Rattle.adb_client.specs.declared.phase.Phase.TheVariants.{Opening, Streaming, Closing}
@@ -8,8 +9,10 @@ use Rattle.adb_history.specs.Rows.{Client, State}
 use Rattle.adb_history.specs.Events.{Event, Ending, owed_to, ending_in}
 use Rattle.adb_history.specs.Machine.{History, state, told}
 use Rattle.adb_history.specs.Book.{asked}
-use Rattle.adb_history.specs.Births.{Birth, born}
-use Rattle.adb_history.specs.Answered.{tells_closed, closed_reply}
+use Rattle.adb_history.specs.Births.{Birth, born, told_to, joined}
+use Rattle.adb_history.specs.Lives.{output_of}
+use Rattle.adb_history.specs.Fifo.{OfEachStream}
+use Rattle.adb_history.specs.Answered.{tells_closed, closed_reply, is_heard}
 use Rattle.adb_history.specs.Owned.{IsOwned}
 
 -- Who came through a forward is known, and no stream has ended that was not drawn.
@@ -84,3 +87,24 @@ ServedIn true c h = IsGiven c h (asked c h).replies (state h) (told h) ⊎ IsRef
 -- what held at each time of a history
 abbrev pub AtEachFront : (History → Type 0) → History → Type 0
 AtEachFront Holds h = (newer older : History) → newer ++ older ≡ h → Holds older
+
+-- A client that came through a forward, and its stream, which was born.
+pub record IsEntered (c : ℕ) (h : History) : Type 0 where
+  pub stream : ℕ
+  pub birth : Birth
+  pub born : born stream h ≡ Some birth
+  pub client : birth.client ≡ c
+  pub forwarded : birth.forwarded ≡ true
+
+-- ---- what a client is handed of its stream
+-- What became due to the client of a stream is what its device told: behind `OKAY`, where the client heard that it is open; and alone, where the client
+-- came through a forward.
+pub record IsHeardAsTold (h : History) (l : ℕ) (b : Birth) : Type 0 where
+  pub opened : b.forwarded ≡ false → is_heard l b h ≡ true → (bytes : List ℕ)
+      × (output_of b.client h ≡ (asked b.client h).replies ++ (okay ++ bytes)) × IsPrefixOf bytes (joined (told_to l b h))
+  pub unopened : b.forwarded ≡ false → is_heard l b h ≡ false → (bytes : List ℕ)
+      → output_of b.client h ≢ (asked b.client h).replies ++ (okay ++ bytes)
+  pub forwarded : b.forwarded ≡ true → IsPrefixOf (output_of b.client h) (joined (told_to l b h))
+
+abbrev pub HearsAsTold : History → Type 0
+HearsAsTold h = OfEachStream h (λ l b. IsHeardAsTold h l b)
