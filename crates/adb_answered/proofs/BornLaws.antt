@@ -1,7 +1,7 @@
 -- The births of a history, in their order: which stays, which is new, and whose they are.
-use Rattle.std.proofs.Common.{◌≡◌, ◌≢◌, ℕ, ◌+◌, ◌≤◌, ◌<◌, zero, suc, Bool, true, false, cond, List, [], ◌∷◌, ◌++◌, length, Option, Some, None, refl, sym, ap, subst, ◌∙◌}
-use Rattle.std.proofs.Common.{arith, eqb, inl, inr, ◌⊎◌}
-use Rattle.std.proofs.lemmas.Bool.{cases_lt, lt-ltb, ltb-true}
+use Rattle.std.proofs.Common.{◌≡◌, ◌≢◌, ℕ, ◌+◌, ◌≤◌, ◌<◌, zero, suc, Bool, true, false, cond, List, [], ◌∷◌, ◌++◌, length, Option, Some, None, refl, sym, ap, ◌∙◌}
+use Rattle.std.proofs.Common.{arith, inl, inr, ◌⊎◌}
+use Rattle.std.proofs.lemmas.Bool.{lt-ltb, ltb-true}
 use Rattle.std.specs.Prelude.{slice_get, nat_lt}
 use Rattle.adb_outside.specs.Tables.{at}
 use Rattle.adb_forward.specs.declared.row.ForwardRow.{ForwardRow}
@@ -81,14 +81,14 @@ through_client c older (Some row) k b e = go (is_connected row.transport (device
     client_of (Some b) = b.client
 
     go : (connected : Bool) (k : ℕ) → slice_get (cond connected (record {
-          client = c;
-          link = row.transport;
-          credit = is_credit row.transport (devices older);
-          forwarded = true;
-          service = row.remote;
-          head = 0;
-          packets_before = length (brought row.transport older);
-        } ∷ []) []) k ≡ Some b → b.client ≡ c
+      client = c;
+      link = row.transport;
+      credit = is_credit row.transport (devices older);
+      forwarded = true;
+      service = row.remote;
+      head = 0;
+      packets_before = length (brought row.transport older);
+    } ∷ []) []) k ≡ Some b → b.client ≡ c
     go true zero e = ap client_of (sym e)
     go true (suc zero) e = absurd (let clash : None ≡ Some b = e in cc)
     go true (suc (suc k)) e = absurd (let clash : None ≡ Some b = e in cc)

@@ -4,13 +4,12 @@ use Rattle.std.specs.Prelude.{option_and_then, option_map}
 use Rattle.std.proofs.lemmas.Bool.{ne_eqb, eqb-true, eqb-false}
 use Rattle.adb_outside.specs.Bytes.{IsPrefixOf}
 use Rattle.adb_outside.specs.declared.kinds.Kind.{Kind}
-use Rattle.adb_stream.specs.declared.row.Stream.{Stream}
 use Rattle.adb_client.specs.declared.phase.Phase.{Phase}
 use Rattle.adb_client.specs.declared.phase.Phase.TheVariants.{Asking, Opening, Streaming, Binding, Tracking, Closing, Gone}
 use Rattle.adb_capture.specs.declared.entry.Entry.{Entry}
 use Rattle.adb_capture.specs.declared.entry.Entry.TheVariants.{Join, Enter, Read, End, Bound, Attach, Recv, Detach, Put, Send}
 use Rattle.adb_history.specs.Rows.{Client, State, new_client, to_client, with_held}
-use Rattle.adb_history.specs.Events.{Made, Event, quietly}
+use Rattle.adb_history.specs.Events.{Made, Event}
 use Rattle.adb_history.specs.Tracking.{marked, list_if_stale, due_or, offered}
 use Rattle.adb_history.specs.Asking.{asks_with}
 use Rattle.adb_history.specs.Reading.{comes, has_asked, asked_before, reads_in, reads_from, bound_in, bound_at}
@@ -85,11 +84,14 @@ module _ {c : ℕ} {P : State → List Event → Type 0} (k : IsOfClient c P) wh
         (k.marks s (plugged_in t kind serial s) w (begins_owned s (k.owned s w h) (Attach t kind serial) w may) refl refl refl h)
 
     read_kept : (n : ℕ) (bytes : List ℕ) → n ≢ c → May s (Read n bytes) → After P w (rule (Read n bytes) s)
-    read_kept n bytes apart may = rule_kept (k.turns n apart) (Read n bytes) s w refl (h, λ client is asking.
-        k.stays s (to_client n (has_asked (asks_with s.devices s.forwards bytes (asked_before client))) s) w
-        ((begins_owned s (k.owned s w h) (Read n bytes) w may).1 client is asking)
-        (ap (λ (b : Bool). cond b (option_and_then (has_asked (asks_with s.devices s.forwards bytes (asked_before client))) (s.clients c)) (s.clients c))
-        (ne_eqb n c apart)) refl refl h)
+    read_kept n bytes apart may = rule_kept (k.turns n apart) (Read n bytes) s w refl (
+      h,
+      λ client is asking.
+          k.stays s (to_client n (has_asked (asks_with s.devices s.forwards bytes (asked_before client))) s) w
+          ((begins_owned s (k.owned s w h) (Read n bytes) w may).1 client is asking)
+          (ap (λ (b : Bool). cond b (option_and_then (has_asked (asks_with s.devices s.forwards bytes (asked_before client))) (s.clients c)) (s.clients c))
+          (ne_eqb n c apart)) refl refl h,
+    )
 
     -- ---- its own
     own_turns : Turns (c + 1) P

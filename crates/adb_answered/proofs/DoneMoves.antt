@@ -5,7 +5,6 @@ use Rattle.std.proofs.lemmas.List.{append-nil}
 use Rattle.std.specs.Prelude.{codes}
 use Rattle.adb_outside.specs.declared.identity.Identity.{Identity}
 use Rattle.adb_stream.specs.declared.row.Stream.{Stream}
-use Rattle.adb_client.specs.declared.phase.Phase.{Phase}
 use Rattle.adb_client.specs.declared.phase.Phase.TheVariants.{Opening, Streaming, Closing}
 use Rattle.adb_history.specs.Rows.{Client, State, to_stream, none_kept, in_phase}
 use Rattle.adb_history.specs.Events.{Made, Event, Ending, quietly, then_also, due_to_client, due_to_link, ended, lost, client_failed, owed_to}
@@ -19,7 +18,7 @@ use Rattle.adb_history.specs.Reading.{tracks, awaits}
 use Rattle.adb_history.specs.Handing.{unmarked}
 use Rattle.adb_history.specs.Orderly.{phase_for}
 use Rattle.adb_history.specs.Moves.{After, connects_now, open_now}
-use Rattle.adb_history.specs.Owned.{OwnerIn, IsOwned}
+use Rattle.adb_history.specs.Owned.{OwnerIn}
 use Rattle.adb_history.proofs.Following.{after_quietly}
 use Rattle.adb_history.proofs.Growing.{owed_append}
 use Rattle.adb_history.proofs.StreamMoves.{all_end_kept}
@@ -28,7 +27,7 @@ use Rattle.adb_history.proofs.OwnedStep.{owned_moves, ends_state}
 use Rattle.adb_answered.specs.Turns.{IsOpenedBy, Turns}
 use Rattle.adb_answered.specs.Served.{IsDone}
 use Rattle.adb_answered.proofs.ToldOthers.{quiet_after, owed_other, client_loses_owed, hears_owed, all_stop_owed, stopped_none, owned_opened, forgets_owned}
-use Rattle.adb_answered.proofs.SteadyRows.{IsSteady, at_change, at_like, at_apart, at_none, at_closing, at_due, at_hands, at_marked, at_client_loses}
+use Rattle.adb_answered.proofs.SteadyRows.{IsSteady, at_like, at_apart, at_none, at_closing, at_due, at_hands, at_marked, at_client_loses}
 
 abbrev pub IsClosing : Client → Type 0
 IsClosing x = x.about.phase ≡ Closing

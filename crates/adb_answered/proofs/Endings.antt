@@ -1,12 +1,12 @@
 -- How streams end in what was told, and all streams of a link for one cause.
-use Rattle.std.proofs.Common.{◌≡◌, ℕ, zero, suc, Bool, true, false, cond, List, [], ◌∷◌, ◌++◌, Option, Some, None, refl, sym, ap, ◌∙◌, eqb}
+use Rattle.std.proofs.Common.{◌≡◌, ℕ, zero, suc, Bool, true, false, cond, List, [], ◌∷◌, ◌++◌, Option, Some, None, refl, ap, ◌∙◌, eqb}
 use Rattle.std.specs.Prelude.{codes, nat_eq}
 use Rattle.adb_outside.specs.Tables.{Rows}
 use Rattle.adb_stream.specs.declared.row.Stream.{Stream}
 use Rattle.adb_client.specs.declared.phase.Phase.{Phase}
 use Rattle.adb_client.specs.declared.phase.Phase.TheVariants.{Asking, Opening, Streaming, Binding, Tracking, Closing, Gone}
 use Rattle.adb_history.specs.Rows.{Client, State}
-use Rattle.adb_history.specs.Events.{Made, Event, Ending, quietly, due_to_client, due_to_link, ended, stopped, ending_in}
+use Rattle.adb_history.specs.Events.{Event, Ending, quietly, due_to_client, due_to_link, ended, stopped, ending_in}
 use Rattle.adb_history.specs.Clients.{owe_client}
 use Rattle.adb_history.specs.Streams.{loses, client_loses, ends_row, ends_if_of, ends_of, all_end}
 use Rattle.adb_history.specs.Losing.{tells_stop, all_stop}

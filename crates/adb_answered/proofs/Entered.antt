@@ -1,7 +1,7 @@
 -- In every legal history a client that did not come by itself is told nothing, or came through a forward and has a stream.
-use Rattle.std.proofs.Common.{◌≡◌, ◌≢◌, ℕ, ◌+◌, ◌≤◌, ◌<◌, min, Bool, true, false, cond, ◌||◌, List, [], ◌∷◌, ◌++◌, length, Option, Some, None, refl, sym, ap, subst, ◌∙◌}
+use Rattle.std.proofs.Common.{◌≡◌, ◌≢◌, ℕ, ◌+◌, Bool, true, false, cond, ◌||◌, List, [], ◌∷◌, ◌++◌, length, Option, Some, None, refl, sym, ap, subst, ◌∙◌}
 use Rattle.std.proofs.Common.{append_assoc, arith, eqb, inl, inr, ◌⊎◌, suc}
-use Rattle.std.proofs.lemmas.Bool.{ne_eqb, eqb-true, eqb-false, eq-eqb}
+use Rattle.std.proofs.lemmas.Bool.{eqb-true, eqb-false, eq-eqb}
 use Rattle.std.proofs.lemmas.List.{append-nil}
 use Rattle.std.specs.Prelude.{option_and_then}
 use Rattle.adb_outside.specs.Tables.{at}
@@ -15,16 +15,15 @@ use Rattle.adb_history.specs.Events.{Made, Event, quietly, owed_to}
 use Rattle.adb_history.specs.Links.{is_connected, is_credit}
 use Rattle.adb_history.specs.Streams.{stream_ids, asks_for, no_ids_left, opens}
 use Rattle.adb_history.specs.Reading.{comes, comes_in_vain, enters_by}
-use Rattle.adb_history.specs.Machine.{History, state, told, rule, ups, step, May, IsLegal}
+use Rattle.adb_history.specs.Machine.{History, state, told, rule, ups, May, IsLegal}
 use Rattle.adb_history.specs.Bytes.{has_joined, brought}
 use Rattle.adb_history.specs.Book.{devices, forwards}
-use Rattle.adb_history.specs.Births.{Birth, birth_through, births_at, births, born}
+use Rattle.adb_history.specs.Births.{Birth, birth_through, births_at, births}
 use Rattle.adb_history.specs.Fifo.{HasBirths}
 use Rattle.adb_history.specs.Owned.{IsOwned}
-use Rattle.adb_history.proofs.Following.{after_quietly}
 use Rattle.adb_history.proofs.RuleMoves as moves
 use Rattle.adb_history.proofs.OwnedStep.{owned_moves, begins_owned, start_owned}
-use Rattle.adb_history.proofs.Books.{booked, all_books}
+use Rattle.adb_history.proofs.Books.{all_books}
 use Rattle.adb_answered.specs.Served.{IsDone, IsEntered, AtEachFront}
 use Rattle.adb_answered.proofs.BornLaws.{born_more, born_now}
 use Rattle.adb_answered.proofs.ClientTurns.{IsAnother, client_kept, client_ups}

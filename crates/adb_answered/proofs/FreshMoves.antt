@@ -1,10 +1,9 @@
 -- In every legal history who came through a forward is known, and no stream has ended that was not drawn.
-use Rattle.std.proofs.Common.{◌≡◌, ◌≢◌, ℕ, ◌+◌, ◌≤◌, ◌<◌, zero, suc, Bool, true, false, cond, not, ◌||◌, List, [], ◌∷◌, ◌++◌, Option, Some, None, refl, sym, ap, subst, ◌∙◌, eqb}
+use Rattle.std.proofs.Common.{◌≡◌, ℕ, ◌+◌, ◌≤◌, ◌<◌, zero, suc, Bool, true, false, cond, not, ◌||◌, List, [], ◌∷◌, ◌++◌, Option, Some, None, refl, sym, ap, subst, ◌∙◌, eqb}
 use Rattle.std.proofs.Common.{arith, inl, inr, ◌⊎◌}
 use Rattle.std.proofs.lemmas.Bool.{ne_eqb, eqb-true, eq-eqb, cases_lt}
 use Rattle.std.specs.Prelude.{codes, option_and_then}
 use Rattle.adb_outside.specs.Tables.{Rows, change_row}
-use Rattle.adb_outside.specs.declared.kinds.Cause.{Cause}
 use Rattle.adb_outside.specs.declared.identity.Identity.{Identity}
 use Rattle.adb_stream.specs.declared.row.Stream.{Stream}
 use Rattle.adb_client.specs.declared.phase.Phase.{Phase}
@@ -33,7 +32,7 @@ use Rattle.adb_history.proofs.OwnedStep.{owned_moves, begins_owned, start_owned,
 use Rattle.adb_history.proofs.BookTurns.{all_unheard}
 use Rattle.adb_answered.specs.Turns.{IsOpenedBy, Turns}
 use Rattle.adb_answered.specs.Served.{IsFresh}
-use Rattle.adb_answered.proofs.TurnRules.{IsBy, Begins, step_kept}
+use Rattle.adb_answered.proofs.TurnRules.{step_kept}
 use Rattle.adb_answered.proofs.ToldOthers.{quiet_after, owned_opened, forgets_owned}
 use Rattle.adb_answered.proofs.SteadyRows.{IsSteady, at_change, at_like, at_none, at_closing, at_due, at_hands, at_marked, at_client_loses}
 use Rattle.adb_answered.proofs.Endings.{ending_append, none_first, client_loses_ending, hears_ending}

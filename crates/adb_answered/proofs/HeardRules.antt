@@ -3,7 +3,6 @@ use Rattle.std.proofs.Common.{◌≡◌, ◌≢◌, ℕ, ◌+◌, zero, suc, Boo
 use Rattle.std.proofs.Common.{eqb}
 use Rattle.std.specs.Prelude.{codes, option_and_then}
 use Rattle.std.proofs.lemmas.Bool.{eqb-true, ne_eqb}
-use Rattle.std.proofs.lemmas.List.{append-nil}
 use Rattle.adb_outside.specs.Tables.{Rows, change_row}
 use Rattle.adb_outside.specs.declared.identity.Identity.{Identity}
 use Rattle.adb_outside.specs.declared.identity.State.TheVariants.{Offline}
@@ -13,11 +12,11 @@ use Rattle.adb_client.specs.declared.phase.Phase.{Phase}
 use Rattle.adb_client.specs.declared.phase.Phase.TheVariants.{Asking, Opening, Streaming, Binding, Tracking, Closing, Gone}
 use Rattle.adb_reply.specs.Strings.{failed}
 use Rattle.adb_history.specs.Rows.{Client, State, to_stream, none_kept, in_phase}
-use Rattle.adb_history.specs.Events.{Made, Event, Ending, quietly, then_also, due_to_client, due_to_link, ended, lost, client_failed, stopped, owed_to}
-use Rattle.adb_history.specs.Clients.{closing, owe_client}
+use Rattle.adb_history.specs.Events.{Made, Event, Ending, quietly, then_also, due_to_client, due_to_link, ended, lost, client_failed, owed_to}
+use Rattle.adb_history.specs.Clients.{owe_client}
 use Rattle.adb_history.specs.Streams.{loses, client_loses, tells_end, ends_row, all_end}
 use Rattle.adb_history.specs.Tracking.{mark_all}
-use Rattle.adb_history.specs.Losing.{forgets, link_ends, tells_stop, all_stop, only_client}
+use Rattle.adb_history.specs.Losing.{forgets, link_ends, all_stop}
 use Rattle.adb_history.specs.Links.{is_connected}
 use Rattle.adb_history.specs.Packets.{streams_end_first, hears_okay, opened, unauthorized_from}
 use Rattle.adb_history.specs.Reading.{tracks, awaits}
@@ -26,11 +25,9 @@ use Rattle.adb_history.specs.Orderly.{phase_for}
 use Rattle.adb_history.specs.Moves.{After, connects_now, open_now}
 use Rattle.adb_history.specs.Owned.{OwnerIn, IsOwned}
 use Rattle.adb_history.proofs.Following.{after_quietly}
-use Rattle.adb_history.proofs.Growing.{owed_append}
 use Rattle.adb_history.proofs.StreamMoves.{all_end_kept}
-use Rattle.adb_history.proofs.Numbers.{drawn_plain}
 use Rattle.adb_history.proofs.OwnedMoves.{client_of}
-use Rattle.adb_history.proofs.OwnedStep.{owned_moves, ends_state, client_loses_frame}
+use Rattle.adb_history.proofs.OwnedStep.{owned_moves, ends_state}
 use Rattle.adb_answered.specs.Turns.{IsOpenedBy, Turns}
 use Rattle.adb_answered.specs.Heard.{Heard, asks_stream, PhaseSays, RowSays, RowsSay, Owes, Answers}
 use Rattle.adb_answered.proofs.ToldOthers.{quiet_after, owed_other, client_loses_owed, hears_owed, all_stop_owed, stopped_none, owned_opened, forgets_owned, opened_devices}

@@ -23,3 +23,4 @@ pub mod ServedClients
 pub mod ServedAsks
 pub mod ServedHistories
 pub mod Entered
+pub mod ServedLaws

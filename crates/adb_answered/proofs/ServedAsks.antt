@@ -1,10 +1,10 @@
 -- A client asks for a stream: it is born, and the client waits for it; or no id is left.
-use Rattle.std.proofs.Common.{◌≡◌, ◌≢◌, ℕ, ◌+◌, ◌≤◌, ◌<◌, zero, suc, min, Bool, true, false, cond, not, List, [], ◌∷◌, ◌++◌, length, Option, Some, None, refl, sym, ap, subst, ◌∙◌}
+use Rattle.std.proofs.Common.{◌≡◌, ◌≢◌, ℕ, ◌+◌, suc, min, Bool, true, false, cond, not, List, [], ◌∷◌, ◌++◌, length, Option, Some, None, refl, sym, ap, subst, ◌∙◌}
 use Rattle.std.proofs.Common.{append_assoc, arith, eqb, inl, inr, ◌⊎◌}
 use Rattle.std.proofs.lemmas.Bool.{eq-eqb, eqb-true, eqb-false}
 use Rattle.std.proofs.lemmas.List.{append-nil}
-use Rattle.std.specs.Prelude.{codes, slice_get, option_and_then}
-use Rattle.adb_outside.specs.Tables.{Rows, change_row, put_row}
+use Rattle.std.specs.Prelude.{option_and_then}
+use Rattle.adb_outside.specs.Tables.{Rows, change_row}
 use Rattle.adb_stream.specs.Flow.{new_flow}
 use Rattle.adb_stream.specs.Stream.{new_stream}
 use Rattle.adb_stream.specs.declared.row.Stream.{Stream}
@@ -13,12 +13,12 @@ use Rattle.adb_reply.specs.declared.answer.Next.{Next}
 use Rattle.adb_reply.specs.declared.answer.Next.TheVariants as what
 use Rattle.adb_capture.specs.declared.entry.Entry.TheVariants.{Read}
 use Rattle.adb_history.specs.Rows.{Client, State, to_client, with_due, in_phase}
-use Rattle.adb_history.specs.Events.{Made, Event, Ending, then_also, due_to_client, owed_to, ending_in}
+use Rattle.adb_history.specs.Events.{Made, Event, then_also, due_to_client, owed_to, ending_in}
 use Rattle.adb_history.specs.Clients.{closing, owe_client}
 use Rattle.adb_history.specs.Links.{is_credit}
-use Rattle.adb_history.specs.Streams.{stream_ids, draw, asks_for, no_ids_left, opens}
+use Rattle.adb_history.specs.Streams.{stream_ids, asks_for, no_ids_left, opens}
 use Rattle.adb_history.specs.Asking.{Asked, asks_with}
-use Rattle.adb_history.specs.Reading.{goes_on, asked_before, has_asked, asks}
+use Rattle.adb_history.specs.Reading.{goes_on, asked_before, has_asked}
 use Rattle.adb_history.specs.Machine.{History, state, told, rule, May, IsLegal}
 use Rattle.adb_history.specs.Bytes.{has_joined, brought}
 use Rattle.adb_history.specs.Book.{asked, newly, devices}
@@ -34,7 +34,7 @@ use Rattle.adb_answered.specs.Served.{IsFresh, IsDone, RowServed, IsItsOwn, IsSe
 use Rattle.adb_answered.proofs.SteadyRows.{closed_about}
 use Rattle.adb_answered.proofs.HeardAsks.{open_next, heard_now, made_is}
 use Rattle.adb_answered.proofs.Endings.{ending_append, none_first}
-use Rattle.adb_answered.proofs.BornLaws.{born_now, IsBornNow, still_none}
+use Rattle.adb_answered.proofs.BornLaws.{born_now, still_none}
 
 module _ (c : ℕ) (older : History) (legal : IsLegal older) (bytes : List ℕ) (may : May (state older) (Read c bytes)) where
   abbrev s : State

@@ -1,14 +1,9 @@
 -- A client that is done, or asked for a stream, is one that asks no more.
-use Rattle.std.proofs.Common.{◌≡◌, ◌≢◌, ℕ, ◌≤◌, Bool, true, false, List, Option, Some, None, refl, sym, ap, subst, ◌∙◌}
-use Rattle.std.specs.Prelude.{option_map}
+use Rattle.std.proofs.Common.{ℕ, ◌≤◌, Bool, List, Option, sym, ap, subst, ◌∙◌}
 use Rattle.adb_stream.specs.declared.row.Stream.{Stream}
 use Rattle.adb_client.specs.declared.phase.Phase.{Phase}
 use Rattle.adb_client.specs.declared.phase.Phase.TheVariants.{Asking, Opening, Streaming, Binding, Tracking, Closing, Gone}
-use Rattle.adb_history.specs.Rows.{Client, State}
-use Rattle.adb_history.specs.Events.{Event}
-use Rattle.adb_history.specs.Tracking.{marked}
-use Rattle.adb_history.specs.Owned.{IsOwned}
-use Rattle.adb_answered.specs.Served.{PhaseFor, RowServed, IsServed, IsDone}
+use Rattle.adb_answered.specs.Served.{PhaseFor, IsDone}
 use Rattle.adb_answered.proofs.SteadyRows.{at_marked}
 use Rattle.adb_answered.proofs.ClientTurns.{IsBusy, IsOfClient}
 use Rattle.adb_answered.proofs.DoneMoves as done
@@ -46,18 +41,24 @@ served_client c l replies = record {
   turns = λ asker apart. served_turns c l replies asker apart;
   owned = λ s w (b, h). h.owned;
   busy = λ s w client (b, h) is. served_busy client.about.phase l b (h.row client is).phase;
-  stays = λ s next w owned clients streams drawn (b, h). (b, record {
-    owned = owned;
-    row = λ client is. h.row client (sym clients ∙ is);
-    own = λ y at_l. h.own y (sym (ap (λ (f : ℕ → Option Stream). f l) streams) ∙ at_l);
-    drawn = subst (λ (n : ℕ). l ≤ n) (sym drawn) h.drawn;
-    out = h.out;
-  });
-  marks = λ s next w owned clients streams drawn (b, h). (b, record {
-    owned = owned;
-    row = λ client is. at_marked (served.steady l b) c s.clients h.row client (sym clients ∙ is);
-    own = λ y at_l. h.own y (sym (ap (λ (f : ℕ → Option Stream). f l) streams) ∙ at_l);
-    drawn = subst (λ (n : ℕ). l ≤ n) (sym drawn) h.drawn;
-    out = h.out;
-  });
+  stays = λ s next w owned clients streams drawn (b, h). (
+    b,
+    record {
+      owned = owned;
+      row = λ client is. h.row client (sym clients ∙ is);
+      own = λ y at_l. h.own y (sym (ap (λ (f : ℕ → Option Stream). f l) streams) ∙ at_l);
+      drawn = subst (λ (n : ℕ). l ≤ n) (sym drawn) h.drawn;
+      out = h.out;
+    },
+  );
+  marks = λ s next w owned clients streams drawn (b, h). (
+    b,
+    record {
+      owned = owned;
+      row = λ client is. at_marked (served.steady l b) c s.clients h.row client (sym clients ∙ is);
+      own = λ y at_l. h.own y (sym (ap (λ (f : ℕ → Option Stream). f l) streams) ∙ at_l);
+      drawn = subst (λ (n : ℕ). l ≤ n) (sym drawn) h.drawn;
+      out = h.out;
+    },
+  );
 }

@@ -1,24 +1,23 @@
 -- In every legal history a client that came by itself and asked for a stream is served by it.
-use Rattle.std.proofs.Common.{◌≡◌, ◌≢◌, ℕ, ◌+◌, ◌≤◌, ◌<◌, zero, suc, min, Bool, true, false, cond, ◌||◌, List, [], ◌∷◌, ◌++◌, length, Option, Some, None, refl, sym, ap, subst, ◌∙◌}
+use Rattle.std.proofs.Common.{◌≡◌, ◌≢◌, ℕ, ◌≤◌, ◌<◌, zero, suc, min, Bool, true, false, ◌||◌, List, [], ◌∷◌, ◌++◌, length, Option, Some, None, refl, sym, ap, subst, ◌∙◌}
 use Rattle.std.proofs.Common.{append_assoc, arith, eqb, inl, inr, ◌⊎◌}
-use Rattle.std.proofs.lemmas.Bool.{ne_eqb, eqb-true, eqb-false}
+use Rattle.std.proofs.lemmas.Bool.{eqb-true, eqb-false}
 use Rattle.std.specs.Prelude.{slice_get}
 use Rattle.adb_client.specs.declared.about.Want.{Want}
-use Rattle.adb_client.specs.declared.phase.Phase.{Phase}
 use Rattle.adb_client.specs.declared.phase.Phase.TheVariants.{Asking}
 use Rattle.adb_reply.specs.declared.answer.Next.{Next}
 use Rattle.adb_reply.specs.declared.answer.Next.TheVariants as what
 use Rattle.adb_capture.specs.declared.entry.Entry.{Entry}
 use Rattle.adb_capture.specs.declared.entry.Entry.TheVariants.{Join, Enter, Read, End, Bound, Attach, Recv, Detach, Put, Send}
-use Rattle.adb_history.specs.Rows.{Client, State}
+use Rattle.adb_history.specs.Rows.{Client}
 use Rattle.adb_history.specs.Events.{Made, Event}
 use Rattle.adb_history.specs.Streams.{stream_ids}
 use Rattle.adb_history.specs.Asking.{Asked, asks_with}
 use Rattle.adb_history.specs.Reading.{asked_before}
-use Rattle.adb_history.specs.Machine.{History, state, told, told_at, rule, ups, step, May, IsLegal}
+use Rattle.adb_history.specs.Machine.{History, state, told, rule, ups, May, IsLegal}
 use Rattle.adb_history.specs.Bytes.{has_joined}
 use Rattle.adb_history.specs.Book.{asked, newly, book, devices_if, bound_turn}
-use Rattle.adb_history.specs.Births.{Birth, birth_by, births_at, births, born}
+use Rattle.adb_history.specs.Births.{Birth, birth_by, births_at, births}
 use Rattle.adb_history.specs.Fifo.{HasBirths}
 use Rattle.adb_history.specs.Tied.{came_count}
 use Rattle.adb_history.proofs.Numbers.{counted}
@@ -26,7 +25,7 @@ use Rattle.adb_history.proofs.Booked.{said, asks_in, asks_now}
 use Rattle.adb_history.proofs.BookTurns.{all_unheard}
 use Rattle.adb_history.proofs.BookReads.{newly_same}
 use Rattle.adb_history.proofs.Books.{booked}
-use Rattle.adb_answered.specs.Heard.{Heard, heard, asks_stream, Answers}
+use Rattle.adb_answered.specs.Heard.{Heard, asks_stream}
 use Rattle.adb_answered.specs.Served.{IsDone, IsServed, no_ids_reply, HasNoStream, IsGiven, IsRefused, ServedIn, AtEachFront}
 use Rattle.adb_answered.proofs.HeardEntries.{joined_below, heard_read}
 use Rattle.adb_answered.proofs.HeardAsks.{asks_asking, open_next, heard_now, heard_idle}

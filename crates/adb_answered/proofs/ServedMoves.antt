@@ -1,39 +1,29 @@
 -- What a client is handed that asked for a stream, through each move of another client, of a stream and of a link.
-use Rattle.std.proofs.Common.{◌≡◌, ◌≢◌, ℕ, ◌+◌, ◌≤◌, zero, suc, Bool, true, false, cond, List, [], ◌∷◌, ◌++◌, Option, Some, None, refl, sym, ap, subst, ◌∙◌, eqb}
-use Rattle.std.proofs.Common.{append_assoc, arith, inl, inr, ◌⊎◌}
+use Rattle.std.proofs.Common.{◌≡◌, ◌≢◌, ℕ, ◌≤◌, zero, suc, Bool, true, false, cond, List, [], ◌∷◌, ◌++◌, Option, Some, None, refl, sym, ap, subst, ◌∙◌, eqb}
+use Rattle.std.proofs.Common.{append_assoc, inl, inr}
 use Rattle.std.proofs.lemmas.Bool.{ne_eqb, eqb-true, eqb-false, eq-eqb}
 use Rattle.std.proofs.lemmas.List.{append-nil}
 use Rattle.std.specs.Prelude.{codes, option_and_then}
 use Rattle.adb_outside.specs.Tables.{Rows, change_row}
-use Rattle.adb_outside.specs.declared.identity.Identity.{Identity}
 use Rattle.adb_stream.specs.declared.row.Part.{Part}
 use Rattle.adb_stream.specs.declared.row.Stream.{Stream}
 use Rattle.adb_client.specs.declared.phase.Phase.{Phase}
-use Rattle.adb_client.specs.declared.phase.Phase.TheVariants.{Opening, Streaming, Closing}
+use Rattle.adb_client.specs.declared.phase.Phase.TheVariants.{Opening, Streaming}
 use Rattle.adb_reply.specs.Strings.{okay, failed}
-use Rattle.adb_history.specs.Rows.{Client, State, to_stream, none_kept, in_phase, with_stream_part}
-use Rattle.adb_history.specs.Events.{Made, Event, Ending, quietly, then_also, due_to_client, due_to_link, ended, lost, client_failed, owed_to, ending_in}
-use Rattle.adb_history.specs.Clients.{owe_client}
-use Rattle.adb_history.specs.Links.{is_connected}
-use Rattle.adb_history.specs.Streams.{loses, client_loses, tells_end, ends_row, all_end}
-use Rattle.adb_history.specs.Tracking.{mark_all}
-use Rattle.adb_history.specs.Losing.{forgets, link_ends, all_stop}
-use Rattle.adb_history.specs.Packets.{streams_end_first, hears_okay, opened}
-use Rattle.adb_history.specs.Reading.{tracks, awaits}
-use Rattle.adb_history.specs.Handing.{unmarked}
+use Rattle.adb_history.specs.Rows.{Client, State, to_stream, none_kept, with_stream_part}
+use Rattle.adb_history.specs.Events.{Made, Event, Ending, then_also, ended, owed_to, ending_in}
+use Rattle.adb_history.specs.Streams.{loses, client_loses, tells_end, ends_row}
 use Rattle.adb_history.specs.Orderly.{phase_for}
 use Rattle.adb_history.specs.Answered.{tells_closed, closed_reply}
-use Rattle.adb_history.specs.Moves.{After, connects_now, open_now}
-use Rattle.adb_history.specs.Owned.{OwnerIn, ClientOf, IsOwned}
-use Rattle.adb_history.proofs.Following.{after_quietly}
+use Rattle.adb_history.specs.Owned.{OwnerIn}
 use Rattle.adb_history.proofs.Growing.{owed_append}
 use Rattle.adb_history.proofs.OwnedMoves.{client_of}
 use Rattle.adb_history.proofs.OwnedStep.{owned_moves, ends_state, client_loses_frame}
-use Rattle.adb_answered.specs.Turns.{EndsSo, IsOpenedBy, Turns}
+use Rattle.adb_answered.specs.Turns.{EndsSo}
 use Rattle.adb_answered.specs.Served.{PhaseFor, RowServed, OutBy, IsItsOwn, IsServed}
-use Rattle.adb_answered.proofs.ToldOthers.{quiet_after, owed_other, client_loses_owed, hears_owed, all_stop_owed, stopped_none, owned_opened, forgets_owned}
-use Rattle.adb_answered.proofs.SteadyRows.{IsSteady, at_change, at_like, at_apart, at_none, at_closing, at_due, at_hands, at_marked, at_client_loses}
-use Rattle.adb_answered.proofs.Endings.{first_of, ending_append, quiet_ending, none_first, client_loses_ending, hears_ending, all_stop_ending, all_end_by}
+use Rattle.adb_answered.proofs.ToldOthers.{client_loses_owed}
+use Rattle.adb_answered.proofs.SteadyRows.{IsSteady, at_client_loses}
+use Rattle.adb_answered.proofs.Endings.{first_of, ending_append, quiet_ending, none_first, client_loses_ending}
 
 pub steady : (l : ℕ) (heard : Bool) → IsSteady (RowServed l heard)
 steady l heard = record {
@@ -97,9 +87,11 @@ module _ (c l : ℕ) (replies : List ℕ) where
 
   -- whatever becomes due to a client that heard that its stream is open
   pub out_heard : (w es : List Event) → OutBy true replies (owed_to c w) (ending_in l w) → OutBy true replies (owed_to c (w ++ es)) (ending_in l (w ++ es))
-  out_heard w es (bytes, is) =
-      (bytes ++ owed_to c es, owed_append c w es ∙ (ap (λ x. x ++ owed_to c es) is
-      ∙ (append_assoc replies (okay ++ bytes) (owed_to c es) ∙ ap (λ x. replies ++ x) (append_assoc okay bytes (owed_to c es)))))
+  out_heard w es (bytes, is) = (
+    bytes ++ owed_to c es,
+    owed_append c w es ∙ (ap (λ x. x ++ owed_to c es) is
+        ∙ (append_assoc replies (okay ++ bytes) (owed_to c es) ∙ ap (λ x. replies ++ x) (append_assoc okay bytes (owed_to c es)))),
+  )
 
   pub still_alive : (heard : Bool) (w es : List Event) → ending_in l es ≡ None → (heard ≡ false → ending_in l w ≡ None)
       → heard ≡ false → ending_in l (w ++ es) ≡ None

@@ -1,20 +1,19 @@
 -- What a client is handed that asked for a stream, through each rule in which it asks nothing.
-use Rattle.std.proofs.Common.{◌≡◌, ◌≢◌, ℕ, ◌+◌, ◌≤◌, zero, suc, Bool, true, false, cond, List, [], ◌∷◌, ◌++◌, length, Option, Some, None, refl, sym, ap, subst, ◌∙◌, eqb}
-use Rattle.std.proofs.Common.{append_assoc, arith, inl, inr, ◌⊎◌}
+use Rattle.std.proofs.Common.{◌≡◌, ◌≢◌, ℕ, ◌+◌, ◌≤◌, Bool, true, false, cond, List, [], ◌∷◌, ◌++◌, length, Option, Some, None, refl, sym, ap, subst, ◌∙◌, eqb}
+use Rattle.std.proofs.Common.{arith, inl}
 use Rattle.std.proofs.lemmas.Bool.{ne_eqb, eqb-true, eqb-false, eq-eqb}
 use Rattle.std.proofs.lemmas.List.{append-nil}
 use Rattle.std.specs.Prelude.{codes, option_and_then}
-use Rattle.adb_outside.specs.Tables.{Rows, change_row, put_row}
+use Rattle.adb_outside.specs.Tables.{Rows, change_row}
 use Rattle.adb_outside.specs.declared.identity.Identity.{Identity}
 use Rattle.adb_outside.specs.declared.kinds.Cause.{Cause}
 use Rattle.adb_stream.specs.Flow.{new_flow}
 use Rattle.adb_stream.specs.Stream.{new_stream}
 use Rattle.adb_stream.specs.declared.row.Part.{Part}
 use Rattle.adb_stream.specs.declared.row.Stream.{Stream}
-use Rattle.adb_client.specs.declared.phase.Phase.{Phase}
-use Rattle.adb_client.specs.declared.phase.Phase.TheVariants.{Opening, Streaming, Closing}
+use Rattle.adb_client.specs.declared.phase.Phase.TheVariants.{Opening, Streaming}
 use Rattle.adb_reply.specs.Strings.{okay}
-use Rattle.adb_history.specs.Rows.{Client, State, to_stream, none_kept, in_phase, with_stream_part}
+use Rattle.adb_history.specs.Rows.{Client, State, none_kept, in_phase, with_stream_part}
 use Rattle.adb_history.specs.Events.{Made, Event, Ending, quietly, due_to_client, due_to_link, ended, lost, client_failed, owed_to, ending_in}
 use Rattle.adb_history.specs.Clients.{owe_client}
 use Rattle.adb_history.specs.Links.{is_connected, is_credit}
@@ -28,7 +27,7 @@ use Rattle.adb_history.specs.Handing.{unmarked}
 use Rattle.adb_history.specs.Orderly.{phase_for}
 use Rattle.adb_history.specs.Answered.{tells_closed, closed_reply}
 use Rattle.adb_history.specs.Moves.{After, connects_now, open_now}
-use Rattle.adb_history.specs.Owned.{OwnerIn, IsOwned}
+use Rattle.adb_history.specs.Owned.{OwnerIn}
 use Rattle.adb_history.proofs.Following.{after_quietly}
 use Rattle.adb_history.proofs.Growing.{owed_append}
 use Rattle.adb_history.proofs.OwnedMoves.{client_of}
@@ -36,9 +35,9 @@ use Rattle.adb_history.proofs.OwnedStep.{owned_moves}
 use Rattle.adb_answered.specs.Turns.{IsOpenedBy, Turns}
 use Rattle.adb_answered.specs.Served.{PhaseFor, RowServed, OutBy, IsItsOwn, IsServed}
 use Rattle.adb_answered.proofs.ToldOthers.{quiet_after, owed_other, hears_owed, all_stop_owed, stopped_none, owned_opened, forgets_owned}
-use Rattle.adb_answered.proofs.SteadyRows.{at_change, at_like, at_apart, at_none, at_closing, at_due, at_hands, at_marked}
+use Rattle.adb_answered.proofs.SteadyRows.{at_like, at_apart, at_none, at_closing, at_due, at_hands, at_marked}
 use Rattle.adb_answered.proofs.Endings.{hears_ending, all_stop_ending, all_end_by}
-use Rattle.adb_answered.proofs.ServedMoves.{steady, own_part, own_orphan, own_none, out_quiet, out_heard, still_alive, its_client, ends_served, phase_waiting, phase_open}
+use Rattle.adb_answered.proofs.ServedMoves.{steady, own_part, own_none, out_quiet, out_heard, still_alive, its_client, ends_served, phase_waiting, phase_open}
 
 -- ---- links
 module _ (heard : Bool) (c l : ℕ) (replies : List ℕ) where
@@ -270,139 +269,193 @@ module _ (c l : ℕ) (replies : List ℕ) where
     -- What a client is handed that asked for a stream, through each move in which it asks nothing.
     pub served_turns : Turns asker (λ s w. IsServedSo c l replies s w)
     served_turns = record {
-      owes = λ t p check s w of (b, h). (b, record {
-        owned = owned_moves.owes t p check s w of h.owned;
-        row = h.row;
-        own = λ y at_l. like_own b s.streams w h.own (due_to_link t p check ∷ []) refl y at_l;
-        drawn = h.drawn;
-        out = out_quiet c l replies b w (due_to_link t p check ∷ []) refl refl h.out;
-      });
-      replies = λ bytes s w (b, h). (b, record {
-        owned = owned_moves.due asker bytes s w h.owned;
-        row = at_due (steady l b) c asker bytes s.clients h.row;
-        own = λ y at_l. like_own b s.streams w h.own (due_to_client asker bytes ∷ []) refl y at_l;
-        drawn = h.drawn;
-        out = out_quiet c l replies b w (due_to_client asker bytes ∷ []) (owed_other c asker bytes not_here) refl h.out;
-      });
-      tracks = λ x long s w is asking (b, h). (b, record {
-        owned = owned_moves.tracks asker x long s w is asking h.owned;
-        row = at_apart (steady l b) c asker (tracks long) s.clients apart h.row;
-        own = h.own;
-        drawn = h.drawn;
-        out = h.out;
-      });
-      awaits = λ x want s w is asking (b, h). (b, record {
-        owned = owned_moves.awaits asker x want s w is asking h.owned;
-        row = at_apart (steady l b) c asker (awaits want) s.clients apart h.row;
-        own = h.own;
-        drawn = h.drawn;
-        out = h.out;
-      });
-      unmarks = λ s w (b, h). (b, record {
-        owned = owned_moves.unmarks asker s w h.owned;
-        row = at_apart (steady l b) c asker unmarked s.clients apart h.row;
-        own = h.own;
-        drawn = h.drawn;
-        out = h.out;
-      });
-      draws = λ t x s w is asking ready (b, h). (b, record {
-        owned = owned_moves.draws asker t x s w is asking ready h.owned;
-        row = at_apart (steady l b) c asker (in_phase (Opening (s.drawn + 1))) s.clients apart h.row;
-        own = next_own b (is_credit t s.devices) t s w h;
-        drawn = omega (arith, h.drawn);
-        out = h.out;
-      });
-      stops = λ x s w is asking (b, h). (b, record {
-        owned = owned_moves.stops asker x s w is asking h.owned;
-        row = λ y e. absurd (let clash : None ≡ Some y = sym (stopped_none asker c s.clients not_here) ∙ e in cc);
-        own = λ y e. absurd (let clash : None ≡ Some y = e in cc);
-        drawn = h.drawn;
-        out = out_quiet c l replies b w (all_stop s.drawn s.streams) (all_stop_owed c s.drawn s.streams) (all_stop_ending l s.drawn s.streams) h.out;
-      });
-      closes = λ n x s w is free (b, h). (b, record {
-        owned = owned_moves.closes n x s w is free h.owned;
-        row = at_closing (steady l b) c n s.clients h.row;
-        own = h.own;
-        drawn = h.drawn;
-        out = h.out;
-      });
-      drops = λ n x s w is none (b, h). (b, record {
-        owned = owned_moves.drops n x s w is none h.owned;
-        row = at_none (steady l b) c n s.clients h.row;
-        own = h.own;
-        drawn = h.drawn;
-        out = h.out;
-      });
-      holds = λ n x bytes s w is has (b, h). (b, record {
-        owned = owned_moves.holds n x bytes s w is has h.owned;
-        row = at_like (steady l b) c n (λ y. record y { held = bytes }) s.clients (λ y. refl) (λ y. refl) h.row;
-        own = h.own;
-        drawn = h.drawn;
-        out = h.out;
-      });
-      input_ended = λ n s w (b, h). (b, record {
-        owned = owned_moves.input_ended n s w h.owned;
-        row = at_like (steady l b) c n (λ y. record y { about = record y.about { ended = true } }) s.clients (λ y. refl) (λ y. refl) h.row;
-        own = h.own;
-        drawn = h.drawn;
-        out = h.out;
-      });
-      hands = λ n k x s w is fits (b, h). (b, record {
-        owned = owned_moves.hands n k x s w is fits h.owned;
-        row = at_hands (steady l b) c n k s.clients h.row;
-        own = h.own;
-        drawn = h.drawn;
-        out = h.out;
-      });
-      flows = λ k stream flow s w is like (b, h). (b, record {
-        owned = owned_moves.flows k stream flow s w is like h.owned;
-        row = h.row;
-        own = own_part l c (b ≡ false → ending_in l w ≡ None) k stream (with_flow flow stream.part) s.streams is refl h.own;
-        drawn = h.drawn;
-        out = h.out;
-      });
-      accepts = λ k payload stream s w is known turn (b, h). (b, record {
-        owned = owned_moves.accepts k payload stream s w is known turn h.owned;
-        row = at_due (steady l b) c stream.client payload s.clients h.row;
-        own = own_part l c (b ≡ false → ending_in l (w ++ due_to_client stream.client payload ∷ []) ≡ None) k stream
-            (with_flow (accepted (length payload) stream.part.flow) stream.part) s.streams is refl
-            (λ y at_l. like_own b s.streams w h.own (due_to_client stream.client payload ∷ []) refl y at_l);
-        drawn = h.drawn;
-        out = accepts_served b k payload stream s w is known h;
-      });
+      owes = λ t p check s w of (b, h). (
+        b,
+        record {
+          owned = owned_moves.owes t p check s w of h.owned;
+          row = h.row;
+          own = λ y at_l. like_own b s.streams w h.own (due_to_link t p check ∷ []) refl y at_l;
+          drawn = h.drawn;
+          out = out_quiet c l replies b w (due_to_link t p check ∷ []) refl refl h.out;
+        },
+      );
+      replies = λ bytes s w (b, h). (
+        b,
+        record {
+          owned = owned_moves.due asker bytes s w h.owned;
+          row = at_due (steady l b) c asker bytes s.clients h.row;
+          own = λ y at_l. like_own b s.streams w h.own (due_to_client asker bytes ∷ []) refl y at_l;
+          drawn = h.drawn;
+          out = out_quiet c l replies b w (due_to_client asker bytes ∷ []) (owed_other c asker bytes not_here) refl h.out;
+        },
+      );
+      tracks = λ x long s w is asking (b, h). (
+        b,
+        record {
+          owned = owned_moves.tracks asker x long s w is asking h.owned;
+          row = at_apart (steady l b) c asker (tracks long) s.clients apart h.row;
+          own = h.own;
+          drawn = h.drawn;
+          out = h.out;
+        },
+      );
+      awaits = λ x want s w is asking (b, h). (
+        b,
+        record {
+          owned = owned_moves.awaits asker x want s w is asking h.owned;
+          row = at_apart (steady l b) c asker (awaits want) s.clients apart h.row;
+          own = h.own;
+          drawn = h.drawn;
+          out = h.out;
+        },
+      );
+      unmarks = λ s w (b, h). (
+        b,
+        record {
+          owned = owned_moves.unmarks asker s w h.owned;
+          row = at_apart (steady l b) c asker unmarked s.clients apart h.row;
+          own = h.own;
+          drawn = h.drawn;
+          out = h.out;
+        },
+      );
+      draws = λ t x s w is asking ready (b, h). (
+        b,
+        record {
+          owned = owned_moves.draws asker t x s w is asking ready h.owned;
+          row = at_apart (steady l b) c asker (in_phase (Opening (s.drawn + 1))) s.clients apart h.row;
+          own = next_own b (is_credit t s.devices) t s w h;
+          drawn = omega (arith, h.drawn);
+          out = h.out;
+        },
+      );
+      stops = λ x s w is asking (b, h). (
+        b,
+        record {
+          owned = owned_moves.stops asker x s w is asking h.owned;
+          row = λ y e. absurd (let clash : None ≡ Some y = sym (stopped_none asker c s.clients not_here) ∙ e in cc);
+          own = λ y e. absurd (let clash : None ≡ Some y = e in cc);
+          drawn = h.drawn;
+          out = out_quiet c l replies b w (all_stop s.drawn s.streams) (all_stop_owed c s.drawn s.streams) (all_stop_ending l s.drawn s.streams) h.out;
+        },
+      );
+      closes = λ n x s w is free (b, h). (
+        b,
+        record {
+          owned = owned_moves.closes n x s w is free h.owned;
+          row = at_closing (steady l b) c n s.clients h.row;
+          own = h.own;
+          drawn = h.drawn;
+          out = h.out;
+        },
+      );
+      drops = λ n x s w is none (b, h). (
+        b,
+        record {
+          owned = owned_moves.drops n x s w is none h.owned;
+          row = at_none (steady l b) c n s.clients h.row;
+          own = h.own;
+          drawn = h.drawn;
+          out = h.out;
+        },
+      );
+      holds = λ n x bytes s w is has (b, h). (
+        b,
+        record {
+          owned = owned_moves.holds n x bytes s w is has h.owned;
+          row = at_like (steady l b) c n (λ y. record y { held = bytes }) s.clients (λ y. refl) (λ y. refl) h.row;
+          own = h.own;
+          drawn = h.drawn;
+          out = h.out;
+        },
+      );
+      input_ended = λ n s w (b, h). (
+        b,
+        record {
+          owned = owned_moves.input_ended n s w h.owned;
+          row = at_like (steady l b) c n (λ y. record y { about = record y.about { ended = true } }) s.clients (λ y. refl) (λ y. refl) h.row;
+          own = h.own;
+          drawn = h.drawn;
+          out = h.out;
+        },
+      );
+      hands = λ n k x s w is fits (b, h). (
+        b,
+        record {
+          owned = owned_moves.hands n k x s w is fits h.owned;
+          row = at_hands (steady l b) c n k s.clients h.row;
+          own = h.own;
+          drawn = h.drawn;
+          out = h.out;
+        },
+      );
+      flows = λ k stream flow s w is like (b, h). (
+        b,
+        record {
+          owned = owned_moves.flows k stream flow s w is like h.owned;
+          row = h.row;
+          own = own_part l c (b ≡ false → ending_in l w ≡ None) k stream (with_flow flow stream.part) s.streams is refl h.own;
+          drawn = h.drawn;
+          out = h.out;
+        },
+      );
+      accepts = λ k payload stream s w is known turn (b, h). (
+        b,
+        record {
+          owned = owned_moves.accepts k payload stream s w is known turn h.owned;
+          row = at_due (steady l b) c stream.client payload s.clients h.row;
+          own = own_part l c (b ≡ false → ending_in l (w ++ due_to_client stream.client payload ∷ []) ≡ None) k stream
+              (with_flow (accepted (length payload) stream.part.flow) stream.part) s.streams is refl
+              (λ y at_l. like_own b s.streams w h.own (due_to_client stream.client payload ∷ []) refl y at_l);
+          drawn = h.drawn;
+          out = accepts_served b k payload stream s w is known h;
+        },
+      );
       opened = λ k remote word stream s w is by h. opened_served k remote word stream s w is by h;
-      orphan_goes = λ k stream s w is orphan (b, h). (b, record {
-        owned = owned_moves.orphan_goes k stream s w is orphan h.owned;
-        row = h.row;
-        own = own_none l (IsItsOwn c (b ≡ false → ending_in l w ≡ None)) k s.streams h.own;
-        drawn = h.drawn;
-        out = h.out;
-      });
+      orphan_goes = λ k stream s w is orphan (b, h). (
+        b,
+        record {
+          owned = owned_moves.orphan_goes k stream s w is orphan h.owned;
+          row = h.row;
+          own = own_none l (IsItsOwn c (b ≡ false → ending_in l w ≡ None)) k s.streams h.own;
+          drawn = h.drawn;
+          out = h.out;
+        },
+      );
       ends = λ k ending stream s w is so (b, h). (b, ends_served b c l replies k ending stream s w is h so);
-      fails_open = λ n k cause x stream s w at (b, h). (b, record {
-        owned = owned_moves.fails_open n k x stream s w at.0 at.1 at.2 h.owned;
-        row = at_none (steady l b) c n s.clients h.row;
-        own = fails_own b k cause none_kept s w (λ z y e. absurd (let clash : None ≡ Some y = e in cc)) h;
-        drawn = h.drawn;
-        out = out_quiet c l replies b w (ended k (client_failed cause) ∷ []) refl (fails_quiet k cause) h.out;
-      });
-      fails_asked = λ n k cause x stream s w at (b, h). (b, record {
-        owned = owned_moves.fails_asked n k x stream s w at.0 at.1 at.2 h.owned;
-        row = at_none (steady l b) c n s.clients h.row;
-        own = fails_own b k cause (with_stream_part (orphaned stream.part)) s w (λ z y e. orphan_of stream z y e) h;
-        drawn = h.drawn;
-        out = out_quiet c l replies b w (ended k (client_failed cause) ∷ []) refl (fails_quiet k cause) h.out;
-      });
+      fails_open = λ n k cause x stream s w at (b, h). (
+        b,
+        record {
+          owned = owned_moves.fails_open n k x stream s w at.0 at.1 at.2 h.owned;
+          row = at_none (steady l b) c n s.clients h.row;
+          own = fails_own b k cause none_kept s w (λ z y e. absurd (let clash : None ≡ Some y = e in cc)) h;
+          drawn = h.drawn;
+          out = out_quiet c l replies b w (ended k (client_failed cause) ∷ []) refl (fails_quiet k cause) h.out;
+        },
+      );
+      fails_asked = λ n k cause x stream s w at (b, h). (
+        b,
+        record {
+          owned = owned_moves.fails_asked n k x stream s w at.0 at.1 at.2 h.owned;
+          row = at_none (steady l b) c n s.clients h.row;
+          own = fails_own b k cause (with_stream_part (orphaned stream.part)) s w (λ z y e. orphan_of stream z y e) h;
+          drawn = h.drawn;
+          out = out_quiet c l replies b w (ended k (client_failed cause) ∷ []) refl (fails_quiet k cause) h.out;
+        },
+      );
       links = λ t f s w (b, h). (b, record { owned = owned_moves.links t f s w h.owned; row = h.row; own = h.own; drawn = h.drawn; out = h.out });
       link_ends = λ t ending s w told (b, h). (b, link_ends_served b c l replies t ending s w told h);
       online = λ t version maxdata identity s w (b, h). (b, online_served b c l replies t version maxdata identity s w h);
-      unauthorized = λ t row s w is offline (b, h). (b, record {
-        owned = owned_moves.unauthorized t row s w is offline h.owned;
-        row = at_marked (steady l b) c s.clients h.row;
-        own = h.own;
-        drawn = h.drawn;
-        out = h.out;
-      });
+      unauthorized = λ t row s w is offline (b, h). (
+        b,
+        record {
+          owned = owned_moves.unauthorized t row s w is offline h.owned;
+          row = at_marked (steady l b) c s.clients h.row;
+          own = h.own;
+          drawn = h.drawn;
+          out = h.out;
+        },
+      );
       forwards = λ forwards s w led (b, h).
           (b, record { owned = owned_moves.forwards forwards s w led h.owned; row = h.row; own = h.own; drawn = h.drawn; out = h.out });
     }

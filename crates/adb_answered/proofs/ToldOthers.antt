@@ -8,7 +8,7 @@ use Rattle.adb_client.specs.declared.phase.Phase.{Phase}
 use Rattle.adb_client.specs.declared.phase.Phase.TheVariants.{Asking, Opening, Streaming, Binding, Tracking, Closing, Gone}
 use Rattle.adb_reply.specs.Strings.{failed}
 use Rattle.adb_history.specs.Rows.{Client, State, to_stream, none_kept}
-use Rattle.adb_history.specs.Events.{Made, Event, Ending, quietly, ended, stopped, owed_to}
+use Rattle.adb_history.specs.Events.{Event, Ending, quietly, ended, stopped, owed_to}
 use Rattle.adb_history.specs.Clients.{closing, owe_client}
 use Rattle.adb_history.specs.Streams.{loses, client_loses, ends_row}
 use Rattle.adb_history.specs.Losing.{forgets, tells_stop, all_stop, only_client}

@@ -1,8 +1,8 @@
 -- What each move keeps, the requests of the client keep that alone is answered, the listeners that stand for it, and the ends of all.
 use Rattle.std.proofs.Common.{append_assoc, ◌≡◌, ℕ, Bool, true, false, cond, All, List, [], ◌∷◌, ◌++◌, length, Option, Some, None, refl, sym, ap, subst, ◌∙◌, inl, inr, eqb}
-use Rattle.std.specs.Prelude.{codes, is_some, is_none, option_and_then}
+use Rattle.std.specs.Prelude.{codes, is_some, is_none}
 use Rattle.std.proofs.lemmas.List.Elements.{All-nil}
-use Rattle.adb_outside.specs.Tables.{at, change_row, without}
+use Rattle.adb_outside.specs.Tables.{at, without}
 use Rattle.adb_outside.proofs.TableLaws.{All-put_at, All-without}
 use Rattle.adb_outside.specs.declared.kinds.Cause.{Cause}
 use Rattle.adb_outside.specs.declared.kinds.Cause.TheVariants.{Eof, Fault, Starved, NoThread}
@@ -20,13 +20,13 @@ use Rattle.adb_reply.specs.Strings.{failed}
 use Rattle.adb_reply.specs.Refusals.{no_transport}
 use Rattle.adb_reply.specs.declared.answer.Next.{Next}
 use Rattle.adb_reply.specs.declared.answer.Next.TheVariants.{Close, Select, Track, Open, Bind, Rebind, Unbind, UnbindAll, Stop}
-use Rattle.adb_history.specs.Rows.{Client, State, to_client, to_stream, none_kept, with_due, with_held, with_stream_part}
+use Rattle.adb_history.specs.Rows.{Client, State, to_client, to_stream, none_kept, with_due, with_held}
 use Rattle.adb_history.specs.Events.{Made, Event, quietly, ended, client_failed}
 use Rattle.adb_history.specs.Links.{owe_link, close_packet}
 use Rattle.adb_history.specs.Clients.{owe_client, closes}
 use Rattle.adb_history.specs.Forwarding.{Binding as Bound, forwards_with, put_forward, told_port, is_unbound, bound_by}
 use Rattle.adb_history.specs.Asking.{Asked, asks_with}
-use Rattle.adb_history.specs.Losing.{stream_fails, stream_of, input_ends, client_ends, orphaned}
+use Rattle.adb_history.specs.Losing.{stream_fails, stream_of, input_ends, client_ends}
 use Rattle.adb_history.specs.Reading.{tracks, awaits, goes_on, asked_before, has_asked, asks, reads_in, bound_for, bound_in, bound_at}
 use Rattle.adb_history.specs.Moves.{IsClientIn, After, IsFree, HasOne, IsLed}
 use Rattle.adb_history.proofs.Following.{after_quietly, after_then, changed_here}

@@ -94,3 +94,7 @@ pub record Answers (c : ℕ) (r : Heard) (devices : DeviceTable) (s : State) (ev
 -- of each client that came by itself
 abbrev pub OfWhoJoined : (History → ℕ → Type 0) → History → Type 0
 OfWhoJoined Holds h = (c : ℕ) → has_joined c h ≡ true → Holds h c
+
+-- and of each number of which none came by itself
+abbrev pub OfOthers : (History → ℕ → Type 0) → History → Type 0
+OfOthers Holds h = (c : ℕ) → has_joined c h ≡ false → Holds h c
