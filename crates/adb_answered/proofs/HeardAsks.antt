@@ -82,7 +82,8 @@ module _ (c : ℕ) (r : Heard) (left : State) where
       id : ℕ
       id = left.drawn + 1
 
-      row : (b : Bool) → RowsSay c r (cond b (closes_with c (failed (codes "no stream ids left")).bytes left) (asks_for (left.drawn + 1) c t service left)).state.devices
+      row : (b : Bool)
+          → RowsSay c r (cond b (closes_with c (failed (codes "no stream ids left")).bytes left) (asks_for (left.drawn + 1) c t service left)).state.devices
           (cond b (closes_with c (failed (codes "no stream ids left")).bytes left) (asks_for (left.drawn + 1) c t service left)).state.clients
       row true = rows_closed c r left.devices (to_client c (with_due (failed (codes "no stream ids left")).bytes) left).clients
       row false = rows_own c r left.devices (in_phase (Opening (left.drawn + 1))) left.clients
@@ -149,7 +150,8 @@ module _ (r next : Heard) (out replies more : List ℕ) where
   owes_replies d h none replied new quiet = record {
     begins = subst (λ (x : List ℕ). IsPrefixOf x (out ++ (replies ++ more))) (sym so_far) (more, append_assoc out replies more);
     all = λ other. ap (λ x. out ++ (replies ++ x)) (quiet other)
-        ∙ (ap (λ x. out ++ x) (append-nil replies) ∙ (sym so_far ∙ (sym (append-nil next.replies) ∙ ap (λ x. next.replies ++ x) (sym (after_none next next.next d new)))));
+        ∙ (ap (λ x. out ++ x) (append-nil replies)
+        ∙ (sym so_far ∙ (sym (append-nil next.replies) ∙ ap (λ x. next.replies ++ x) (sym (after_none next next.next d new)))));
   }
     where
       before : out ≡ r.replies

@@ -130,7 +130,8 @@ module _ (c : ℕ) (older : History) (legal : IsLegal older) (port : ℕ) (may :
         heard_is : heard c (Bound c port ∷ older) ≡ now
         heard_is = ap (heard_turn (devices_if (book older).killed older)) waits
             ∙ (ap (λ (d : DeviceTable). heard_turn d (Some want)) (sym (devices_now older legal books))
-            ∙ (ap (λ (f : List (ℕ × ForwardRow)). record (heard c older) { bound = cond (eqb c c) (bound_by want port s.devices f).reply ((book older).bound c) })
+            ∙ (ap (λ (f : List (ℕ × ForwardRow)).
+            record (heard c older) { bound = cond (eqb c c) (bound_by want port s.devices f).reply ((book older).bound c) })
             (sym books.forwards)
             ∙ ap (λ (b : Bool). record (heard c older) { bound = cond b by.reply ((book older).bound c) }) (eq-eqb c c refl)))
 

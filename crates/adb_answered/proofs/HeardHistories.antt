@@ -112,7 +112,8 @@ module _ (c : ℕ) (older : History) (legal : IsLegal older) (may : May (state o
 abbrev IsAnsweredAfter : ℕ → Entry → History → Type 0
 IsAnsweredAfter c e older = After (λ s w. Answers c (heard c (e ∷ older)) s.devices s w) (told older) (rule e (state older))
 
-module _ (c : ℕ) (older : History) (legal : IsLegal older) (before : has_joined c older ≡ true → Answers c (heard c older) (state older).devices (state older) (told older)) where
+module _ (c : ℕ) (older : History) (legal : IsLegal older)
+    (before : has_joined c older ≡ true → Answers c (heard c older) (state older).devices (state older) (told older)) where
   answers_join : (n : ℕ) (here : Bool) → eqb n c ≡ here → May (state older) (Join n) → (here || has_joined c older) ≡ true → IsAnsweredAfter c (Join n) older
   answers_join n true e may came =
       subst (λ (k : ℕ). IsAnsweredAfter c (Join k) older) (sym (eqb-true n c e))

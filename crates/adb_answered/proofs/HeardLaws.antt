@@ -68,7 +68,8 @@ module _ (older : History) (legal : IsLegal older) (c : ℕ) (bytes : List ℕ) 
 grows : (c : ℕ) (e : Entry) (older : History) → output_of c (e ∷ older) ≡ output_of c older ++ owed_to c (told_at e older)
 grows c e older = owed_append c (told older) (told_at e older)
 
-stays_front : (c : ℕ) (e : Entry) (older : History) → IsPrefixOf (bytes_put c older) (output_of c older) → IsPrefixOf (bytes_put c older) (output_of c (e ∷ older))
+stays_front : (c : ℕ) (e : Entry) (older : History) → IsPrefixOf (bytes_put c older) (output_of c older)
+    → IsPrefixOf (bytes_put c older) (output_of c (e ∷ older))
 stays_front c e older h = subst (λ (x : List ℕ). IsPrefixOf (bytes_put c older) x) (sym (grows c e older))
     (prefix_more (bytes_put c older) (output_of c older) (owed_to c (told_at e older)) h)
 

@@ -186,7 +186,8 @@ module _ (c : ℕ) (older : History) (legal : IsLegal older) (bytes : List ℕ) 
       row = record client { about = record client.about { mark = false }; due = client.due ++ offered s.devices client }
 
       row_is : listed.state.clients c ≡ Some row
-      row_is = changed_here c (with_due (offered s.devices client)) (to_client c unmarked s).clients (record client { about = record client.about { mark = false } })
+      row_is = changed_here c (with_due (offered s.devices client)) (to_client c unmarked s).clients
+          (record client { about = record client.about { mark = false } })
           (changed_here c unmarked s.clients client is)
 
       says_row : RowSays (said_put through) s.devices row
@@ -241,7 +242,8 @@ module _ (c : ℕ) (older : History) (legal : IsLegal older) (bytes : List ℕ) 
   own_put_answers h may =
       subst (λ (r : Heard). After (λ x v. Answers c r x.devices x v) w (rule (Put c bytes) s)) (sym heard_put_own) (go (s.clients c) refl may)
     where
-      go : (o : Option Client) → s.clients c ≡ o → MayPut s o bytes → After (λ x v. Answers c (said_put through) x.devices x v) w (puts_to (s.clients c) c (length bytes) s)
+      go : (o : Option Client) → s.clients c ≡ o → MayPut s o bytes
+          → After (λ x v. Answers c (said_put through) x.devices x v) w (puts_to (s.clients c) c (length bytes) s)
       go None is may = absurd may
       go (Some client) is may =
           subst (λ (m : Made). After (λ x v. Answers c (said_put through) x.devices x v) w m)

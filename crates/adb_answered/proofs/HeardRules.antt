@@ -30,7 +30,8 @@ use Rattle.adb_history.proofs.OwnedMoves.{client_of}
 use Rattle.adb_history.proofs.OwnedStep.{owned_moves, ends_state}
 use Rattle.adb_answered.specs.Turns.{IsOpenedBy, Turns}
 use Rattle.adb_answered.specs.Heard.{Heard, asks_stream, PhaseSays, RowSays, RowsSay, Owes, Answers}
-use Rattle.adb_answered.proofs.ToldOthers.{quiet_after, owed_other, client_loses_owed, hears_owed, all_stop_owed, stopped_none, owned_opened, forgets_owned, opened_devices}
+use Rattle.adb_answered.proofs.ToldOthers.{quiet_after, owed_other, client_loses_owed, hears_owed, all_stop_owed, stopped_none, owned_opened, forgets_owned}
+use Rattle.adb_answered.proofs.ToldOthers.{opened_devices}
 use Rattle.adb_answered.proofs.ToldOthers.{ends_devices}
 use Rattle.adb_answered.proofs.HeardMoves.{owes_more, owes_none, rows_change, rows_likewise, rows_apart, rows_none, rows_closing, rows_due}
 use Rattle.adb_answered.proofs.HeardMoves.{rows_marked, rows_hands}
@@ -101,7 +102,8 @@ module _ (c : ℕ) (r : Heard) (d : DeviceTable) where
 
   all_end_answers : (t : ℕ) (ending : Ending) (s : State) (w : List Event) → Answers c r d s w
       → After (λ s w. Answers c r d s w) w (all_end t ending s)
-  all_end_answers t ending s w h = all_end_kept {P = λ s w. Answers c r d s w} (λ l ending stream s w is h. ends_answers l ending stream s w is h) t ending s w h
+  all_end_answers t ending s w h =
+      all_end_kept {P = λ s w. Answers c r d s w} (λ l ending stream s w is h. ends_answers l ending stream s w is h) t ending s w h
 
   -- ---- a link, or its device, changes
   -- with other devices each list is stale

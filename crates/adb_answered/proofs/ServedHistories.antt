@@ -1,5 +1,6 @@
 -- In every legal history a client that came by itself and asked for a stream is served by it.
-use Rattle.std.proofs.Common.{◌≡◌, ◌≢◌, ℕ, ◌≤◌, ◌<◌, zero, suc, min, Bool, true, false, ◌||◌, List, [], ◌∷◌, ◌++◌, length, Option, Some, None, refl, sym, ap, subst, ◌∙◌}
+use Rattle.std.proofs.Common.{◌≡◌, ◌≢◌, ℕ, ◌≤◌, ◌<◌, zero, suc, min, Bool, true, false, ◌||◌, List, [], ◌∷◌, ◌++◌, length, Option, Some, None, refl, sym, ap}
+use Rattle.std.proofs.Common.{subst, ◌∙◌}
 use Rattle.std.proofs.Common.{append_assoc, arith, eqb, inl, inr, ◌⊎◌}
 use Rattle.std.proofs.lemmas.Bool.{eqb-true, eqb-false}
 use Rattle.std.specs.Prelude.{slice_get}
@@ -84,8 +85,8 @@ pub record IsSilent (c : ℕ) (e : Entry) (older : History) : Type 0 where
 apart_births : (c : ℕ) (e : Entry) (older : History) → ((n : ℕ) → IsBirthOf e n → n ≢ c) → (l : ℕ) (b : Birth) → IsBornNow l b e older → b.client ≢ c
 apart_births c e older apart l b new = apart b.client (birth_of e older new.place b new.is)
 
-silent_same : (c : ℕ) (e : Entry) (older : History) → (asked c (e ∷ older)).next ≡ (asked c older).next → (asked c (e ∷ older)).replies ≡ (asked c older).replies
-    → ((n : ℕ) → IsBirthOf e n → n ≢ c) → IsSilent c e older
+silent_same : (c : ℕ) (e : Entry) (older : History) → (asked c (e ∷ older)).next ≡ (asked c older).next
+    → (asked c (e ∷ older)).replies ≡ (asked c older).replies → ((n : ℕ) → IsBirthOf e n → n ≢ c) → IsSilent c e older
 silent_same c e older next replies apart = record { next = next; replies = replies; none = apart_births c e older apart }
 
 silent_bound : (c n port : ℕ) (older : History) → IsSilent c (Bound n port) older
@@ -123,7 +124,8 @@ module _ (c : ℕ) (older : History) (legal : IsLegal older) (came : has_joined 
   silent_served : (e : Entry) → May (state older) e → IsSilent c e older → (b : Bool) → ServedIn b c older → ServedIn b c (e ∷ older)
   silent_served e may silent false none = still_none c e older silent.none none
   silent_served e may silent true (inl g) =
-      let kept = client_kept (served_client c g.stream (asked c older).replies) (state older) (told older) e (another_comes c (state older) e below may) may (g.heard, g.served) in
+      let kept = client_kept (served_client c g.stream (asked c older).replies) (state older) (told older) e
+      (another_comes c (state older) e below may) may (g.heard, g.served) in
       inl (record {
         stream = g.stream;
         birth = g.birth;
@@ -137,7 +139,8 @@ module _ (c : ℕ) (older : History) (legal : IsLegal older) (came : has_joined 
       inr (record {
         none = still_none c e older silent.none r.none;
         done = subst (λ (x : List ℕ). IsDone c (x ++ no_ids_reply) (state (e ∷ older)) (told (e ∷ older))) (sym silent.replies)
-            (client_kept (done_client c ((asked c older).replies ++ no_ids_reply)) (state older) (told older) e (another_comes c (state older) e below may) may r.done);
+            (client_kept (done_client c ((asked c older).replies ++ no_ids_reply)) (state older) (told older) e
+            (another_comes c (state older) e below may) may r.done);
       })
 
   abbrev Before : Type 0
@@ -197,8 +200,8 @@ module _ (c : ℕ) (older : History) (legal : IsLegal older) (came : has_joined 
         request = stream_open (asks_with (state older).devices (state older).forwards bytes (asked_before client)).next
             (ap (λ (r : Heard). asks_stream r.next) (sym (heard_now c older legal bytes may client is asking)) ∙ e)
 
-        go : IsGiven c now (asked c now).replies ruled.state (told older ++ ruled.told) ⊎ IsRefused c now (asked c now).replies ruled.state (told older ++ ruled.told)
-            → ServedIn true c now
+        go : IsGiven c now (asked c now).replies ruled.state (told older ++ ruled.told)
+            ⊎ IsRefused c now (asked c now).replies ruled.state (told older ++ ruled.told) → ServedIn true c now
         go (inl g) = inl (given_up g)
         go (inr r) = inr (refused_up r)
 
@@ -271,21 +274,30 @@ all_served (Join n ∷ older) legal births c came =
         subst (λ (k : ℕ). ServedIn (asks_stream (asked c (Join k ∷ older)).next) c (Join k ∷ older)) (sym (eqb-true n c e))
         (new_served c older legal.0 (subst (λ (k : ℕ). May (state older) (Join k)) (eqb-true n c e) legal.2))
     go false e came before = served_entry c older legal.0 came (Join n) legal.2 (front_births (Join n) older births) (before came)
-all_served (Enter n port ∷ older) legal births c came = served_entry c older legal.0 came (Enter n port) legal.2 (front_births (Enter n port) older births)
+all_served (Enter n port ∷ older) legal births c came =
+    served_entry c older legal.0 came (Enter n port) legal.2 (front_births (Enter n port) older births)
     (all_served older legal.0 (front_older (Enter n port) older births) c came)
-all_served (Read n bytes ∷ older) legal births c came = served_entry c older legal.0 came (Read n bytes) legal.2 (front_births (Read n bytes) older births)
+all_served (Read n bytes ∷ older) legal births c came =
+    served_entry c older legal.0 came (Read n bytes) legal.2 (front_births (Read n bytes) older births)
     (all_served older legal.0 (front_older (Read n bytes) older births) c came)
-all_served (End n cause ∷ older) legal births c came = served_entry c older legal.0 came (End n cause) legal.2 (front_births (End n cause) older births)
+all_served (End n cause ∷ older) legal births c came =
+    served_entry c older legal.0 came (End n cause) legal.2 (front_births (End n cause) older births)
     (all_served older legal.0 (front_older (End n cause) older births) c came)
-all_served (Bound n port ∷ older) legal births c came = served_entry c older legal.0 came (Bound n port) legal.2 (front_births (Bound n port) older births)
+all_served (Bound n port ∷ older) legal births c came =
+    served_entry c older legal.0 came (Bound n port) legal.2 (front_births (Bound n port) older births)
     (all_served older legal.0 (front_older (Bound n port) older births) c came)
-all_served (Attach t kind serial ∷ older) legal births c came = served_entry c older legal.0 came (Attach t kind serial) legal.2 (front_births (Attach t kind serial) older births)
+all_served (Attach t kind serial ∷ older) legal births c came =
+    served_entry c older legal.0 came (Attach t kind serial) legal.2 (front_births (Attach t kind serial) older births)
     (all_served older legal.0 (front_older (Attach t kind serial) older births) c came)
-all_served (Recv t bytes ∷ older) legal births c came = served_entry c older legal.0 came (Recv t bytes) legal.2 (front_births (Recv t bytes) older births)
+all_served (Recv t bytes ∷ older) legal births c came =
+    served_entry c older legal.0 came (Recv t bytes) legal.2 (front_births (Recv t bytes) older births)
     (all_served older legal.0 (front_older (Recv t bytes) older births) c came)
-all_served (Detach t cause ∷ older) legal births c came = served_entry c older legal.0 came (Detach t cause) legal.2 (front_births (Detach t cause) older births)
+all_served (Detach t cause ∷ older) legal births c came =
+    served_entry c older legal.0 came (Detach t cause) legal.2 (front_births (Detach t cause) older births)
     (all_served older legal.0 (front_older (Detach t cause) older births) c came)
-all_served (Put n bytes ∷ older) legal births c came = served_entry c older legal.0 came (Put n bytes) legal.2 (front_births (Put n bytes) older births)
+all_served (Put n bytes ∷ older) legal births c came =
+    served_entry c older legal.0 came (Put n bytes) legal.2 (front_births (Put n bytes) older births)
     (all_served older legal.0 (front_older (Put n bytes) older births) c came)
-all_served (Send t bytes ∷ older) legal births c came = served_entry c older legal.0 came (Send t bytes) legal.2 (front_births (Send t bytes) older births)
+all_served (Send t bytes ∷ older) legal births c came =
+    served_entry c older legal.0 came (Send t bytes) legal.2 (front_births (Send t bytes) older births)
     (all_served older legal.0 (front_older (Send t bytes) older births) c came)

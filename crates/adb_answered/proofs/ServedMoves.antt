@@ -129,7 +129,8 @@ module _ (c l : ℕ) (replies : List ℕ) where
   end_out false ending remote client s w row phase so alive out =
       owed_append c w (ended l ending ∷ told)
       ∙ (ap (λ x. x ++ owed_to c told) (out ∙ (ap (λ (o : Option Ending). replies ++ closed_reply (tells_closed o)) (alive refl) ∙ append-nil replies))
-      ∙ (ap (λ x. replies ++ x) (closed_told c l client s row.alone (phase ∙ ap (phase_for l) waits)) ∙ ap (λ (b : Bool). replies ++ closed_reply b) (sym tells)))
+      ∙ (ap (λ x. replies ++ x) (closed_told c l client s row.alone (phase ∙ ap (phase_for l) waits))
+      ∙ ap (λ (b : Bool). replies ++ closed_reply b) (sym tells)))
     where
       told : List Event
       told = (client_loses (Some client) c s).told

@@ -166,7 +166,8 @@ module _ (c l k remote : ℕ) (word : Option ℕ) (stream : Stream) where
     row_own : (clients : Rows (Option Client)) → ((x : Client) → clients c ≡ Some x → RowServed l false x)
         → (y : Client) → change_row stream.client (option_and_then (in_phase (Streaming k))) clients c ≡ Some y → RowServed l true y
     row_own clients was y at_c =
-        go (clients c) refl (sym (ap (λ (b : Bool). cond b (option_and_then (in_phase (Streaming k)) (clients c)) (clients c)) (eq-eqb stream.client c same)) ∙ at_c)
+        go (clients c) refl
+        (sym (ap (λ (b : Bool). cond b (option_and_then (in_phase (Streaming k)) (clients c)) (clients c)) (eq-eqb stream.client c same)) ∙ at_c)
       where
         go : (o : Option Client) → clients c ≡ o → option_and_then (in_phase (Streaming k)) o ≡ Some y → RowServed l true y
         go None here e = absurd (let clash : None ≡ Some y = e in cc)

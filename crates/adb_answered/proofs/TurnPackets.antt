@@ -137,7 +137,8 @@ module _ {asker : ℕ} {P : State → List Event → Type 0} (k : Turns asker P)
     -- ---- CLSE
     close_kept : (l remote : ℕ) (stream : Stream) → s.streams l ≡ Some stream → After P w (takes_close l remote stream s)
     close_kept l remote stream is =
-        after_if P w (eqb remote 0 || eqb remote stream.part.remote) (ends_row l peer_closed stream s) (quietly s) (λ e. k.ends l peer_closed stream s w is (inl refl) h)
+        after_if P w (eqb remote 0 || eqb remote stream.part.remote) (ends_row l peer_closed stream s) (quietly s)
+        (λ e. k.ends l peer_closed stream s w is (inl refl) h)
         (λ e. after_quietly P w s h)
 
     -- ---- one packet

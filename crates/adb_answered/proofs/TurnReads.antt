@@ -1,5 +1,6 @@
 -- What each move keeps, the requests of the client keep that alone is answered, the listeners that stand for it, and the ends of all.
-use Rattle.std.proofs.Common.{append_assoc, ◌≡◌, ℕ, Bool, true, false, cond, All, List, [], ◌∷◌, ◌++◌, length, Option, Some, None, refl, sym, ap, subst, ◌∙◌, inl, inr, eqb}
+use Rattle.std.proofs.Common.{append_assoc, ◌≡◌, ℕ, Bool, true, false, cond, All, List, [], ◌∷◌, ◌++◌, length, Option, Some, None, refl, sym, ap, subst, ◌∙◌}
+use Rattle.std.proofs.Common.{inl, inr, eqb}
 use Rattle.std.specs.Prelude.{codes, is_some, is_none}
 use Rattle.std.proofs.lemmas.List.Elements.{All-nil}
 use Rattle.adb_outside.specs.Tables.{at, without}
