@@ -20,7 +20,7 @@ use Rattle.adb_history.specs.Moves.{After, HasOne, plugged_in}
 use Rattle.adb_history.specs.Owned.{IsOwned}
 use Rattle.adb_history.proofs.Following.{after_quietly, after_then}
 use Rattle.adb_history.proofs.OwnedStep.{begins_owned}
-use Rattle.adb_answered.specs.Turns.{Turns}
+use Rattle.adb_answered.specs.Turns.{everywhere, Turns}
 use Rattle.adb_answered.proofs.TurnStreams.{up_all_kept}
 use Rattle.adb_answered.proofs.TurnRules.{rule_kept, takes_kept}
 
@@ -33,7 +33,7 @@ IsBusy _ = ⊥
 
 -- What holds of a client that asks no more, by its row, the streams and what was told.
 pub record IsOfClient (c : ℕ) (P : State → List Event → Type 0) : Type 0 where
-  pub turns : (asker : ℕ) → asker ≢ c → Turns asker P
+  pub turns : (asker : ℕ) → asker ≢ c → Turns everywhere asker P
   pub owned : (s : State) (w : List Event) → P s w → IsOwned s
   pub busy : (s : State) (w : List Event) (client : Client) → P s w → s.clients c ≡ Some client → IsBusy client.about.phase
   pub stays : (s next : State) (w : List Event) → IsOwned next → next.clients c ≡ s.clients c → next.streams ≡ s.streams → next.drawn ≡ s.drawn
@@ -95,7 +95,7 @@ module _ {c : ℕ} {P : State → List Event → Type 0} (k : IsOfClient c P) wh
     )
 
     -- ---- its own
-    own_turns : Turns (c + 1) P
+    own_turns : Turns everywhere (c + 1) P
     own_turns = k.turns (c + 1) other
 
     own_reads_in : (bytes : List ℕ) (client : Client) → s.clients c ≡ Some client → (p : Phase) → client.about.phase ≡ p → IsBusy p
@@ -181,7 +181,7 @@ module _ {c : ℕ} {P : State → List Event → Type 0} (k : IsOfClient c P) wh
     client_rule (Put n bytes) another may = put_either n bytes may (eqb n c) refl
     client_rule (Attach t kind serial) another may = attach_kept t kind serial may
     client_rule (End n cause) another may = rule_kept own_turns (End n cause) s w tt h
-    client_rule (Recv t bytes) another may = rule_kept own_turns (Recv t bytes) s w tt h
+    client_rule (Recv t bytes) another may = rule_kept own_turns (Recv t bytes) s w (λ p. record { reaches = tt; renews = tt }) h
     client_rule (Detach t cause) another may = rule_kept own_turns (Detach t cause) s w tt h
     client_rule (Send t bytes) another may = rule_kept own_turns (Send t bytes) s w tt h
 

@@ -24,7 +24,7 @@ use Rattle.adb_history.proofs.Growing.{owed_append}
 use Rattle.adb_history.proofs.StreamMoves.{all_end_kept}
 use Rattle.adb_history.proofs.OwnedMoves.{client_of}
 use Rattle.adb_history.proofs.OwnedStep.{owned_moves, ends_state}
-use Rattle.adb_answered.specs.Turns.{IsOpenedBy, Turns}
+use Rattle.adb_answered.specs.Turns.{everywhere, IsOpenedBy, Turns}
 use Rattle.adb_answered.specs.Served.{IsDone}
 use Rattle.adb_answered.proofs.ToldOthers.{quiet_after, owed_other, client_loses_owed, hears_owed, all_stop_owed, stopped_none, owned_opened, forgets_owned}
 use Rattle.adb_answered.proofs.SteadyRows.{IsSteady, at_like, at_apart, at_none, at_closing, at_due, at_hands, at_marked, at_client_loses}
@@ -139,7 +139,7 @@ module _ (c : ℕ) (out : List ℕ) where
         go false e = ne_eqb stream.client c (no_stream l stream s w is e h)
 
     -- A client that is closing or gone is told nothing more, through each move in which it asks nothing.
-    pub done_turns : Turns asker (λ s w. IsDone c out s w)
+    pub done_turns : Turns everywhere asker (λ s w. IsDone c out s w)
     done_turns = record {
       owes = λ t p check s w of h.
           record { owned = owned_moves.owes t p check s w of h.owned; row = h.row; told = none_told w (due_to_link t p check ∷ []) refl h.told };
@@ -195,7 +195,7 @@ module _ (c : ℕ) (out : List ℕ) where
         row = at_due steady c stream.client payload s.clients h.row;
         told = none_told w (due_to_client stream.client payload ∷ []) (owed_other c stream.client payload (accepts_apart l stream s w is known h)) h.told;
       };
-      opened = λ l remote word stream s w is by h. opened_done l remote word stream s w is by h;
+      opened = λ l remote word stream s w is by may h. opened_done l remote word stream s w is by h;
       orphan_goes = λ l stream s w is orphan h. record { owned = owned_moves.orphan_goes l stream s w is orphan h.owned; row = h.row; told = h.told };
       ends = λ l ending stream s w is so h. ends_done l ending stream s w is h;
       fails_open = λ n l cause x stream s w at h. record {
@@ -203,14 +203,14 @@ module _ (c : ℕ) (out : List ℕ) where
         row = at_none steady c n s.clients h.row;
         told = none_told w (ended l (client_failed cause) ∷ []) refl h.told;
       };
-      fails_asked = λ n l cause x stream s w at h. record {
+      fails_asked = λ n l cause x stream s w may at h. record {
         owned = owned_moves.fails_asked n l x stream s w at.0 at.1 at.2 h.owned;
         row = at_none steady c n s.clients h.row;
         told = none_told w (ended l (client_failed cause) ∷ []) refl h.told;
       };
       links = λ t f s w h. record { owned = owned_moves.links t f s w h.owned; row = h.row; told = h.told };
       link_ends = λ t ending s w so h. link_ends_done t ending s w h;
-      online = λ t version maxdata identity s w h. online_done t version maxdata identity s w h;
+      online = λ t version maxdata identity s w may h. online_done t version maxdata identity s w h;
       unauthorized = λ t row s w is offline h. record {
         owned = owned_moves.unauthorized t row s w is offline h.owned;
         row = at_marked steady c s.clients h.row;

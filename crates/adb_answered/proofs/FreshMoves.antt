@@ -31,7 +31,7 @@ use Rattle.adb_history.proofs.StreamMoves.{all_end_kept}
 use Rattle.adb_history.proofs.Numbers.{counted}
 use Rattle.adb_history.proofs.OwnedStep.{owned_moves, begins_owned, start_owned, ends_state, client_loses_frame}
 use Rattle.adb_history.proofs.BookTurns.{all_unheard}
-use Rattle.adb_answered.specs.Turns.{IsOpenedBy, Turns}
+use Rattle.adb_answered.specs.Turns.{everywhere, IsOpenedBy, Turns}
 use Rattle.adb_answered.specs.Served.{IsFresh}
 use Rattle.adb_answered.proofs.TurnRules.{step_kept}
 use Rattle.adb_answered.proofs.ToldOthers.{quiet_after, owned_opened, forgets_owned}
@@ -181,7 +181,7 @@ module _ (joined : ℕ → Bool) where
       → ((x : Client) → s.clients n ≡ Some x → CameBy (joined n) x) → (y : Client) → (to_client c f s).clients n ≡ Some y → CameBy (joined n) y
   about_alone n c f s same h = at_change (steady (joined n)) n c f s.clients (λ x y here e was. same x y e ∙ was) h
 
-  pub fresh_turns : (asker : ℕ) → Turns asker (λ s w. IsFresh joined s w)
+  pub fresh_turns : (asker : ℕ) → Turns everywhere asker (λ s w. IsFresh joined s w)
   fresh_turns asker = record {
     owes = λ t p check s w of h. record {
       owned = owned_moves.owes t p check s w of h.owned;
@@ -250,7 +250,7 @@ module _ (joined : ℕ → Bool) where
       alone = λ n. at_due (steady (joined n)) n stream.client payload s.clients (h.alone n);
       unended = λ l lt. more_unended l w (due_to_client stream.client payload ∷ []) (h.unended l lt) refl;
     };
-    opened = λ k remote word stream s w is by h. opened_fresh k remote word stream s w is by h;
+    opened = λ k remote word stream s w is by may h. opened_fresh k remote word stream s w is by h;
     orphan_goes = λ l stream s w is orphan h.
         record { owned = owned_moves.orphan_goes l stream s w is orphan h.owned; alone = h.alone; unended = h.unended };
     ends = λ k ending stream s w is so h. ends_fresh k ending stream s w is h;
@@ -260,7 +260,7 @@ module _ (joined : ℕ → Bool) where
       unended = λ l lt. more_unended l w (ended k (client_failed cause) ∷ []) (h.unended l lt)
           (one_unended k l s.drawn (client_failed cause) None (drawn_stream k stream s h.owned at.2) lt refl);
     };
-    fails_asked = λ c k cause x stream s w at h. record {
+    fails_asked = λ c k cause x stream s w may at h. record {
       owned = owned_moves.fails_asked c k x stream s w at.0 at.1 at.2 h.owned;
       alone = λ n. at_none (steady (joined n)) n c s.clients (h.alone n);
       unended = λ l lt. more_unended l w (ended k (client_failed cause) ∷ []) (h.unended l lt)
@@ -268,7 +268,7 @@ module _ (joined : ℕ → Bool) where
     };
     links = λ t f s w h. record { owned = owned_moves.links t f s w h.owned; alone = h.alone; unended = h.unended };
     link_ends = λ t ending s w told h. link_ends_fresh t ending s w h;
-    online = λ t version maxdata identity s w h. online_fresh t version maxdata identity s w h;
+    online = λ t version maxdata identity s w may h. online_fresh t version maxdata identity s w h;
     unauthorized = λ t row s w is offline h. record {
       owned = owned_moves.unauthorized t row s w is offline h.owned;
       alone = λ n. at_marked (steady (joined n)) n s.clients (h.alone n);
@@ -334,7 +334,7 @@ module _ (older : History) (legal : IsLegal older) (h : IsFresh (λ n. has_joine
     alone = λ k. at_marked (steady (has_joined k older)) k s.clients (h.alone k);
     unended = h.unended;
   })
-  fresh_step (Recv t bytes) may = step_kept (fresh_turns (λ k. has_joined k older) 0) (Recv t bytes) s w tt h
+  fresh_step (Recv t bytes) may = step_kept (fresh_turns (λ k. has_joined k older) 0) (Recv t bytes) s w (λ p. record { reaches = tt; renews = tt }) h
   fresh_step (Detach t cause) may = step_kept (fresh_turns (λ k. has_joined k older) 0) (Detach t cause) s w tt h
   fresh_step (Send t bytes) may = step_kept (fresh_turns (λ k. has_joined k older) 0) (Send t bytes) s w tt h
 

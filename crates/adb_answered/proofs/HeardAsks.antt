@@ -39,7 +39,7 @@ use Rattle.adb_history.proofs.BookTurns.{IsBooked}
 use Rattle.adb_history.proofs.BookEntries.{devices_now}
 use Rattle.adb_history.proofs.BookReads.{none_next, newly_same, and_parts, asked_all, replied_state, replied_row, replied_is}
 use Rattle.adb_history.proofs.Books.{booked}
-use Rattle.adb_answered.specs.Turns.{Turns}
+use Rattle.adb_answered.specs.Turns.{everywhere, Turns}
 use Rattle.adb_answered.specs.Heard.{Heard, heard, after_replies, asks_stream, asks_bind, IsUnanswered, PhaseSays, RowSays, RowsSay, Owes, Answers}
 use Rattle.adb_answered.proofs.HeardMoves.{says_closing}
 use Rattle.adb_answered.proofs.ToldOthers.{all_stop_owed}
@@ -297,7 +297,7 @@ module _ (c : ℕ) (older : History) (legal : IsLegal older) (bytes : List ℕ) 
           (subst (λ (r : Heard). Answers c r (asks p c s).state.devices (asks p c s).state (w ++ (asks p c s).told)) (sym heard_now) asks_answers)
 
   -- ---- a client that does not ask, or is gone
-  turns : Turns (c + 1) (λ x v. Answers c (heard c older) x.devices x v)
+  turns : Turns everywhere (c + 1) (λ x v. Answers c (heard c older) x.devices x v)
   turns = answers_turns (c + 1) c (heard c older) (λ e. omega (arith, e))
 
   module _ (h : Answers c (heard c older) s.devices s w) where

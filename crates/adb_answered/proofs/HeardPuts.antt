@@ -26,7 +26,7 @@ use Rattle.adb_history.proofs.OutputEntries.{all_due_past_put}
 use Rattle.adb_history.proofs.OwnedStep.{owned_moves}
 use Rattle.adb_history.proofs.BookEntries.{devices_now}
 use Rattle.adb_history.proofs.Books.{booked}
-use Rattle.adb_answered.specs.Turns.{Turns}
+use Rattle.adb_answered.specs.Turns.{everywhere, Turns}
 use Rattle.adb_answered.specs.Heard.{Heard, heard, after_replies, asks_stream, IsTold, PhaseSays, RowSays, Owes, Answers}
 use Rattle.adb_answered.proofs.TurnRules.{takes_kept}
 use Rattle.adb_answered.proofs.HeardMoves.{prefix_more}
@@ -224,7 +224,7 @@ module _ (c : ℕ) (older : History) (legal : IsLegal older) (bytes : List ℕ) 
               ∙ ap (λ x. owed_to c w ++ x)
               (ap (λ (b : Bool). cond b (offered s.devices client) [] ++ []) (eq-eqb c c refl) ∙ append-nil (offered s.devices client))
 
-    turns : Turns (c + 1) (λ x v. Answers c (said_put through) x.devices x v)
+    turns : Turns everywhere (c + 1) (λ x v. Answers c (said_put through) x.devices x v)
     turns = answers_turns (c + 1) c (said_put through) (λ e. omega (arith, e))
 
     first : (due : List ℕ) → client.due ≡ due → After (λ x v. Answers c (said_put through) x.devices x v) w (lists_first c due client s)

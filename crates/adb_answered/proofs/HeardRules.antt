@@ -28,7 +28,7 @@ use Rattle.adb_history.proofs.Following.{after_quietly}
 use Rattle.adb_history.proofs.StreamMoves.{all_end_kept}
 use Rattle.adb_history.proofs.OwnedMoves.{client_of}
 use Rattle.adb_history.proofs.OwnedStep.{owned_moves, ends_state}
-use Rattle.adb_answered.specs.Turns.{IsOpenedBy, Turns}
+use Rattle.adb_answered.specs.Turns.{everywhere, IsOpenedBy, Turns}
 use Rattle.adb_answered.specs.Heard.{Heard, asks_stream, PhaseSays, RowSays, RowsSay, Owes, Answers}
 use Rattle.adb_answered.proofs.ToldOthers.{quiet_after, owed_other, client_loses_owed, hears_owed, all_stop_owed, stopped_none, owned_opened, forgets_owned}
 use Rattle.adb_answered.proofs.ToldOthers.{opened_devices}
@@ -195,7 +195,7 @@ module _ (asker c : ℕ) (r : Heard) (apart : asker ≢ c) where
       go false e false same = owes_none c r w (due_to_client stream.client payload ∷ []) (owed_other c stream.client payload same) h.owes
 
   -- What a client is answered is what the entries say, through each move in which it asks nothing.
-  pub answers_turns : Turns asker (λ s w. Answers c r s.devices s w)
+  pub answers_turns : Turns everywhere asker (λ s w. Answers c r s.devices s w)
   answers_turns = record {
     owes = λ t p check s w of h.
         record { owned = owned_moves.owes t p check s w of h.owned; row = h.row; owes = owes_none c r w (due_to_link t p check ∷ []) refl h.owes };
@@ -252,7 +252,7 @@ module _ (asker c : ℕ) (r : Heard) (apart : asker ≢ c) where
       row = rows_due c r s.devices stream.client payload s.clients h.row;
       owes = accepts_owes l payload stream s w is known h;
     };
-    opened = λ l remote word stream s w is by h.
+    opened = λ l remote word stream s w is by may h.
         let made : Made = opened l remote word stream s in
         subst (λ (d : DeviceTable). Answers c r d made.state (w ++ made.told)) (sym (opened_devices l remote word stream s))
         (opened_answers c r s.devices l remote word stream s w is by (owned_opened l remote word stream s is by h.owned) h);
@@ -266,14 +266,14 @@ module _ (asker c : ℕ) (r : Heard) (apart : asker ≢ c) where
       row = rows_none c r s.devices n s.clients h.row;
       owes = owes_none c r w (ended l (client_failed cause) ∷ []) refl h.owes;
     };
-    fails_asked = λ n l cause x stream s w at h. record {
+    fails_asked = λ n l cause x stream s w may at h. record {
       owned = owned_moves.fails_asked n l x stream s w at.0 at.1 at.2 h.owned;
       row = rows_none c r s.devices n s.clients h.row;
       owes = owes_none c r w (ended l (client_failed cause) ∷ []) refl h.owes;
     };
     links = λ t f s w h. record { owned = owned_moves.links t f s w h.owned; row = h.row; owes = h.owes };
     link_ends = λ t ending s w so h. link_ends_answers c r s.devices (link_ends t ending s).state.devices t ending s w h;
-    online = λ t version maxdata identity s w h.
+    online = λ t version maxdata identity s w may h.
         online_answers c r s.devices (connects_now t version maxdata identity s).state.devices t version maxdata identity s w h;
     unauthorized = λ t row s w is offline h. record {
       owned = owned_moves.unauthorized t row s w is offline h.owned;

@@ -188,9 +188,9 @@ module _ (heard : Bool) (c l : ℕ) (replies : List ℕ) where
             let was = h.own y at in
             record { client = was.client; live = λ o. still_alive c l replies heard w (ends_made b).told (told_ending b e) (was.live o) }
 
-    closes_so : EndsSo s.clients k ending stream → stream.client ≡ c → k ≡ l → stream.part.remote ≡ 0 → stream.part.orphan ≡ false
+    closes_so : EndsSo (λ l. Unit {0}) s.clients k ending stream → stream.client ≡ c → k ≡ l → stream.part.remote ≡ 0 → stream.part.orphan ≡ false
         → tells_closed (Some ending) ≡ true
-    closes_so (inl told) same here none owned = told
+    closes_so (inl (told, may)) same here none owned = told
     closes_so (inr (inl some)) same here none owned = absurd (some none)
     closes_so (inr (inr (client, there, streaming))) same here none owned =
         let of = client_of s k stream is owned h.owned in
@@ -199,7 +199,7 @@ module _ (heard : Bool) (c l : ℕ) (replies : List ℕ) where
         let clash : Opening k ≡ Streaming k = sym (of.phase ∙ ap (phase_for k) none) ∙ (ap (λ (x : Client). x.about.phase) row ∙ streaming) in
         absurd (cc)
 
-    ends_out : (b : Bool) → stream.part.orphan ≡ b → (same : Bool) → eqb stream.client c ≡ same → EndsSo s.clients k ending stream
+    ends_out : (b : Bool) → stream.part.orphan ≡ b → (same : Bool) → eqb stream.client c ≡ same → EndsSo (λ l. Unit {0}) s.clients k ending stream
         → OutBy heard replies (owed_to c (w ++ (ends_made b).told)) (ending_in l (w ++ (ends_made b).told))
     unfolding gone ends_made
     ends_out true e same f so =
@@ -227,7 +227,7 @@ module _ (heard : Bool) (c l : ℕ) (replies : List ℕ) where
         ≡ record (to_stream k none_kept s) { clients = (client_loses (s.clients stream.client) stream.client (to_stream k none_kept s)).state.clients }
     left_state = ends_state k ending stream s ∙ client_loses_frame (s.clients stream.client) stream.client (to_stream k none_kept s)
 
-    pub ends_served : EndsSo s.clients k ending stream → S (ends_row k ending stream s).state (w ++ (ends_row k ending stream s).told)
+    pub ends_served : EndsSo (λ l. Unit {0}) s.clients k ending stream → S (ends_row k ending stream s).state (w ++ (ends_row k ending stream s).told)
     unfolding gone ends_made
     ends_served so = record {
       owned = owned_moves.ends k ending stream s w is h.owned;

@@ -32,7 +32,7 @@ use Rattle.adb_history.proofs.Following.{after_quietly}
 use Rattle.adb_history.proofs.Growing.{owed_append}
 use Rattle.adb_history.proofs.OwnedMoves.{client_of}
 use Rattle.adb_history.proofs.OwnedStep.{owned_moves}
-use Rattle.adb_answered.specs.Turns.{IsOpenedBy, Turns}
+use Rattle.adb_answered.specs.Turns.{everywhere, IsOpenedBy, Turns}
 use Rattle.adb_answered.specs.Served.{PhaseFor, RowServed, OutBy, IsItsOwn, IsServed}
 use Rattle.adb_answered.proofs.ToldOthers.{quiet_after, owed_other, hears_owed, all_stop_owed, stopped_none, owned_opened, forgets_owned}
 use Rattle.adb_answered.proofs.SteadyRows.{at_like, at_apart, at_none, at_closing, at_due, at_hands, at_marked}
@@ -48,7 +48,7 @@ module _ (heard : Bool) (c l : ℕ) (replies : List ℕ) where
       → After (λ s w. IsServed heard c l replies s w) w (all_end t ending s)
   all_end_served t ending s w told h =
       all_end_by {P = λ s w. IsServed heard c l replies s w} ending
-      (λ k stream s w is h. ends_served heard c l replies k ending stream s w is h (inl told)) t s w h
+      (λ k stream s w is h. ends_served heard c l replies k ending stream s w is h (inl (told, tt))) t s w h
 
   pub link_ends_served : (t : ℕ) (ending : Ending) (s : State) (w : List Event) → tells_closed (Some ending) ≡ true → S s w
       → After (λ s w. IsServed heard c l replies s w) w (link_ends t ending s)
@@ -268,7 +268,7 @@ module _ (c l : ℕ) (replies : List ℕ) where
             (ap (λ (b : Bool). cond b (Some (client_failed cause)) None) e) y (is ∙ at)
 
     -- What a client is handed that asked for a stream, through each move in which it asks nothing.
-    pub served_turns : Turns asker (λ s w. IsServedSo c l replies s w)
+    pub served_turns : Turns everywhere asker (λ s w. IsServedSo c l replies s w)
     served_turns = record {
       owes = λ t p check s w of (b, h). (
         b,
@@ -412,7 +412,7 @@ module _ (c l : ℕ) (replies : List ℕ) where
           out = accepts_served b k payload stream s w is known h;
         },
       );
-      opened = λ k remote word stream s w is by h. opened_served k remote word stream s w is by h;
+      opened = λ k remote word stream s w is by may h. opened_served k remote word stream s w is by h;
       orphan_goes = λ k stream s w is orphan (b, h). (
         b,
         record {
@@ -434,7 +434,7 @@ module _ (c l : ℕ) (replies : List ℕ) where
           out = out_quiet c l replies b w (ended k (client_failed cause) ∷ []) refl (fails_quiet k cause) h.out;
         },
       );
-      fails_asked = λ n k cause x stream s w at (b, h). (
+      fails_asked = λ n k cause x stream s w may at (b, h). (
         b,
         record {
           owned = owned_moves.fails_asked n k x stream s w at.0 at.1 at.2 h.owned;
@@ -446,7 +446,7 @@ module _ (c l : ℕ) (replies : List ℕ) where
       );
       links = λ t f s w (b, h). (b, record { owned = owned_moves.links t f s w h.owned; row = h.row; own = h.own; drawn = h.drawn; out = h.out });
       link_ends = λ t ending s w told (b, h). (b, link_ends_served b c l replies t ending s w told h);
-      online = λ t version maxdata identity s w (b, h). (b, online_served b c l replies t version maxdata identity s w h);
+      online = λ t version maxdata identity s w may (b, h). (b, online_served b c l replies t version maxdata identity s w h);
       unauthorized = λ t row s w is offline (b, h). (
         b,
         record {

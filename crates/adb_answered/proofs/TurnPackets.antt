@@ -31,7 +31,7 @@ use Rattle.adb_history.specs.Packets.{accepts_none, accepts, takes_write, takes_
 use Rattle.adb_history.specs.Packets.{faulty, with_rest, receives_cut, receives_on, receives}
 use Rattle.adb_history.specs.Moves.{After, IsLike}
 use Rattle.adb_history.proofs.Following.{after_quietly, after_then, after_if}
-use Rattle.adb_answered.specs.Turns.{Turns}
+use Rattle.adb_answered.specs.Turns.{Scope, Allows, Turns}
 use Rattle.adb_answered.proofs.TurnStreams.{owes_kept, ends_telling_kept}
 
 like_acknowledged : (word : Option ℕ) (flow : Flow) → IsLike flow (acknowledged word flow)
@@ -48,17 +48,17 @@ always false e = cc
 written_to : (remote own : ℕ) → (eqb remote 0 || not (eqb remote own)) ≡ false → own ≢ 0
 written_to remote own e is = always (eqb remote 0) (subst (λ (n : ℕ). (eqb remote 0 || not (eqb remote n)) ≡ false) is e)
 
-module _ {asker : ℕ} {P : State → List Event → Type 0} (k : Turns asker P) where
+module _ {scope : Scope} {asker : ℕ} {P : State → List Event → Type 0} (k : Turns scope asker P) where
   module _ (s : State) (w : List Event) (h : P s w) where
     -- ---- CNXN, AUTH and STLS
-    connects_kept : (t version maxdata : ℕ) (who : Option Identity) → After P w (connects t version maxdata who s)
-    connects_kept t version maxdata None = k.link_ends t broken s w refl h
-    connects_kept t version maxdata (Some identity) = k.online t version maxdata identity s w h
+    connects_kept : (t version maxdata : ℕ) (who : Option Identity) → scope.renews t → After P w (connects t version maxdata who s)
+    connects_kept t version maxdata None may = k.link_ends t broken s w refl h
+    connects_kept t version maxdata (Some identity) may = k.online t version maxdata identity s w may h
 
-    cnxn_kept : (t version maxdata : ℕ) (banner : List ℕ) → After P w (cnxn t version maxdata banner s)
-    cnxn_kept t version maxdata banner =
+    cnxn_kept : (t version maxdata : ℕ) (banner : List ℕ) → scope.renews t → After P w (cnxn t version maxdata banner s)
+    cnxn_kept t version maxdata banner may =
         after_if P w (nat_lt version least_version || nat_lt maxdata least_maxdata) (link_ends t broken s) (connects t version maxdata (identity_of banner) s)
-        (λ e. k.link_ends t broken s w refl h) (λ e. connects_kept t version maxdata (identity_of banner))
+        (λ e. k.link_ends t broken s w refl h) (λ e. connects_kept t version maxdata (identity_of banner) may)
 
     unauthorized_kept : (t : ℕ) (o : Option Row) → at t s.devices.rows ≡ o → After P w (unauthorized t o s)
     unauthorized_kept t None is = after_quietly P w s h
@@ -93,11 +93,11 @@ module _ {asker : ℕ} {P : State → List Event → Type 0} (k : Turns asker P)
         let owed : Made = owe_link stream.link p s in
         k.orphan_goes l stream owed.state (w ++ owed.told) is orphan (owes_kept k s w h stream.link p (inr (inl (ap is_some is))))
 
-    first_kept : (orphan : Bool) (l remote : ℕ) (word : Option ℕ) (stream : Stream) → s.streams l ≡ Some stream
+    first_kept : (orphan : Bool) (l remote : ℕ) (word : Option ℕ) (stream : Stream) → s.streams l ≡ Some stream → scope.reaches l
         → (stream.part.remote ≡ 0) × (stream.part.orphan ≡ orphan) × (remote ≢ 0) → After P w (okay_first orphan l remote word stream s)
-    first_kept true l remote word stream is new = orphan_kept l remote stream is new.1
-    first_kept false l remote word stream is new =
-        k.opened l remote word stream s w is (record { new = new.0; owned = new.1; by = new.2 }) h
+    first_kept true l remote word stream is may new = orphan_kept l remote stream is new.1
+    first_kept false l remote word stream is may new =
+        k.opened l remote word stream s w is (record { new = new.0; owned = new.1; by = new.2 }) may h
 
     okay_open_kept : (l : ℕ) (word : Option ℕ) (stream : Stream) → s.streams l ≡ Some stream → After P w (okay_open l word stream s)
     okay_open_kept l word stream is =
@@ -105,14 +105,14 @@ module _ {asker : ℕ} {P : State → List Event → Type 0} (k : Turns asker P)
         after_quietly P w (to_stream l (with_stream_part (with_flow flow stream.part)) s)
         (k.flows l stream flow s w is (like_acknowledged word stream.part.flow) h)
 
-    okay_kept : (l remote : ℕ) (word : Option ℕ) (stream : Stream) → s.streams l ≡ Some stream → After P w (takes_okay l remote word stream s)
-    okay_kept l remote word stream is =
+    okay_kept : (l remote : ℕ) (word : Option ℕ) (stream : Stream) → s.streams l ≡ Some stream → scope.reaches l → After P w (takes_okay l remote word stream s)
+    okay_kept l remote word stream is may =
         let first : Made = okay_first stream.part.orphan l remote word stream s in
         let open_again : Made = okay_open l word stream s in
         let later : Made = cond (eqb remote stream.part.remote) open_again (quietly s) in
         after_if P w (eqb remote 0) (quietly s) (cond (eqb stream.part.remote 0) first later) (λ e. after_quietly P w s h)
         (λ some. after_if P w (eqb stream.part.remote 0) first later
-        (λ e. first_kept stream.part.orphan l remote word stream is (eqb-true stream.part.remote 0 e, refl, eqb-false remote 0 some))
+        (λ e. first_kept stream.part.orphan l remote word stream is may (eqb-true stream.part.remote 0 e, refl, eqb-false remote 0 some))
         (λ e. after_if P w (eqb remote stream.part.remote) open_again (quietly s) (λ e. okay_open_kept l word stream is) (λ e. after_quietly P w s h)))
 
     -- ---- WRTE
@@ -135,67 +135,67 @@ module _ {asker : ℕ} {P : State → List Event → Type 0} (k : Turns asker P)
         (λ turn. accepts_kept l payload stream is (written_to remote stream.part.remote known) turn))
 
     -- ---- CLSE
-    close_kept : (l remote : ℕ) (stream : Stream) → s.streams l ≡ Some stream → After P w (takes_close l remote stream s)
-    close_kept l remote stream is =
+    close_kept : (l remote : ℕ) (stream : Stream) → s.streams l ≡ Some stream → scope.reaches l → After P w (takes_close l remote stream s)
+    close_kept l remote stream is may =
         after_if P w (eqb remote 0 || eqb remote stream.part.remote) (ends_row l peer_closed stream s) (quietly s)
-        (λ e. k.ends l peer_closed stream s w is (inl refl) h)
+        (λ e. k.ends l peer_closed stream s w is (inl (refl, may)) h)
         (λ e. after_quietly P w s h)
 
     -- ---- one packet
-    treat_open_kept : (t : ℕ) (command : Command) (p : Packet) → After P w (treat_open t command p s)
-    treat_open_kept t Open p = refuses_kept t p.arg0
-    treat_open_kept t Okay p =
+    treat_open_kept : (t : ℕ) (command : Command) (p : Packet) → scope.reaches p.arg1 → After P w (treat_open t command p s)
+    treat_open_kept t Open p may = refuses_kept t p.arg0
+    treat_open_kept t Okay p may =
         at_stream_kept t p.arg1 (s.streams p.arg1) (takes_okay p.arg1 p.arg0 (credit_word p.payload)) refl
-        (λ stream is. okay_kept p.arg1 p.arg0 (credit_word p.payload) stream is)
-    treat_open_kept t Wrte p =
+        (λ stream is. okay_kept p.arg1 p.arg0 (credit_word p.payload) stream is may)
+    treat_open_kept t Wrte p may =
         at_stream_kept t p.arg1 (s.streams p.arg1) (takes_write p.arg1 p.arg0 p.payload) refl (λ stream is. write_kept p.arg1 p.arg0 p.payload stream is)
-    treat_open_kept t Clse p =
-        at_stream_kept t p.arg1 (s.streams p.arg1) (takes_close p.arg1 p.arg0) refl (λ stream is. close_kept p.arg1 p.arg0 stream is)
-    treat_open_kept t Cnxn p = after_quietly P w s h
-    treat_open_kept t Auth p = after_quietly P w s h
-    treat_open_kept t Stls p = after_quietly P w s h
+    treat_open_kept t Clse p may =
+        at_stream_kept t p.arg1 (s.streams p.arg1) (takes_close p.arg1 p.arg0) refl (λ stream is. close_kept p.arg1 p.arg0 stream is may)
+    treat_open_kept t Cnxn p may = after_quietly P w s h
+    treat_open_kept t Auth p may = after_quietly P w s h
+    treat_open_kept t Stls p may = after_quietly P w s h
 
-    if_connected_kept : (t : ℕ) (command : Command) (p : Packet) → After P w (cond (is_connected t s.devices) (treat_open t command p s) (quietly s))
-    if_connected_kept t command p =
-        after_if P w (is_connected t s.devices) (treat_open t command p s) (quietly s) (λ e. treat_open_kept t command p) (λ e. after_quietly P w s h)
+    if_connected_kept : (t : ℕ) (command : Command) (p : Packet) → scope.reaches p.arg1 → After P w (cond (is_connected t s.devices) (treat_open t command p s) (quietly s))
+    if_connected_kept t command p may =
+        after_if P w (is_connected t s.devices) (treat_open t command p s) (quietly s) (λ e. treat_open_kept t command p may) (λ e. after_quietly P w s h)
 
-    treat_any_kept : (t : ℕ) (command : Command) (p : Packet) → After P w (treat_any t command p s)
-    treat_any_kept t Cnxn p = cnxn_kept t p.arg0 p.arg1 p.payload
-    treat_any_kept t Auth p = unauthorized_kept t (at t s.devices.rows) refl
-    treat_any_kept t Stls p = unauthorized_kept t (at t s.devices.rows) refl
-    treat_any_kept t Open p = if_connected_kept t Open p
-    treat_any_kept t Okay p = if_connected_kept t Okay p
-    treat_any_kept t Wrte p = if_connected_kept t Wrte p
-    treat_any_kept t Clse p = if_connected_kept t Clse p
+    treat_any_kept : (t : ℕ) (command : Command) (p : Packet) → Allows scope t p → After P w (treat_any t command p s)
+    treat_any_kept t Cnxn p may = cnxn_kept t p.arg0 p.arg1 p.payload may.renews
+    treat_any_kept t Auth p may = unauthorized_kept t (at t s.devices.rows) refl
+    treat_any_kept t Stls p may = unauthorized_kept t (at t s.devices.rows) refl
+    treat_any_kept t Open p may = if_connected_kept t Open p may.reaches
+    treat_any_kept t Okay p may = if_connected_kept t Okay p may.reaches
+    treat_any_kept t Wrte p may = if_connected_kept t Wrte p may.reaches
+    treat_any_kept t Clse p may = if_connected_kept t Clse p may.reaches
 
-    treat_on_kept : (o : Option Link) (t : ℕ) (p : Packet) → After P w (treat_on o t p s)
-    treat_on_kept None t p = after_quietly P w s h
-    treat_on_kept (Some link) t p = treat_any_kept t p.command p
+    pub treat_on_kept : (o : Option Link) (t : ℕ) (p : Packet) → Allows scope t p → After P w (treat_on o t p s)
+    treat_on_kept None t p may = after_quietly P w s h
+    treat_on_kept (Some link) t p may = treat_any_kept t p.command p may
 
-  treat_all_kept : (s : State) (w : List Event) → P s w → (t : ℕ) (packets : List Packet) → After P w (treat_all t packets s)
-  treat_all_kept s w h t [] = after_quietly P w s h
-  treat_all_kept s w h t (p ∷ packets) =
-      after_then P w (treat t p s) (treat_all t packets) (treat_on_kept s w h (s.links t) t p) (λ v now. treat_all_kept (treat t p s).state v now t packets)
+  treat_all_kept : (s : State) (w : List Event) → P s w → (t : ℕ) (packets : List Packet) → ((p : Packet) → Allows scope t p) → After P w (treat_all t packets s)
+  treat_all_kept s w h t [] may = after_quietly P w s h
+  treat_all_kept s w h t (p ∷ packets) may =
+      after_then P w (treat t p s) (treat_all t packets) (treat_on_kept s w h (s.links t) t p (may p)) (λ v now. treat_all_kept (treat t p s).state v now t packets may)
 
   module _ (s : State) (w : List Event) (h : P s w) where
     -- ---- receive
-    faulty_kept : (o : Option Link) (t : ℕ) (fault : Option PacketFault) → After P w (faulty_on o t fault s)
+    pub faulty_kept : (o : Option Link) (t : ℕ) (fault : Option PacketFault) → After P w (faulty_on o t fault s)
     faulty_kept None t fault = after_quietly P w s h
     faulty_kept (Some link) t None = after_quietly P w s h
     faulty_kept (Some link) t (Some fault) = k.link_ends t broken s w refl h
 
   module _ (s : State) (w : List Event) (h : P s w) where
-    receives_cut_kept : (t : ℕ) (c : Cut PacketFormat Packet PacketFault) → After P w (receives_cut t c s)
-    receives_cut_kept t c =
+    receives_cut_kept : (t : ℕ) (c : Cut PacketFormat Packet PacketFault) → ((p : Packet) → Allows scope t p) → After P w (receives_cut t c s)
+    receives_cut_kept t c may =
         let taken : State = to_link t (with_rest c.rest) s in
         after_then P w (treat_all t c.given taken) (faulty t c.fault)
-        (treat_all_kept taken w (k.links t (λ link. record link { rest = c.rest }) s w h) t c.given)
+        (treat_all_kept taken w (k.links t (λ link. record link { rest = c.rest }) s w h) t c.given may)
         (λ v now. faulty_kept (treat_all t c.given taken).state v now ((treat_all t c.given taken).state.links t) t c.fault)
 
-    receives_on_kept : (o : Option Link) (t : ℕ) (bytes : List ℕ) → After P w (receives_on o t bytes s)
-    receives_on_kept None t bytes = after_quietly P w s h
-    receives_on_kept (Some link) t bytes =
-        receives_cut_kept t (cut_packets (record { sums = link.sums }) (link.rest ++ bytes))
+    receives_on_kept : (o : Option Link) (t : ℕ) (bytes : List ℕ) → ((p : Packet) → Allows scope t p) → After P w (receives_on o t bytes s)
+    receives_on_kept None t bytes may = after_quietly P w s h
+    receives_on_kept (Some link) t bytes may =
+        receives_cut_kept t (cut_packets (record { sums = link.sums }) (link.rest ++ bytes)) may
 
-    pub receives_kept : (t : ℕ) (bytes : List ℕ) → After P w (receives t bytes s)
-    receives_kept t bytes = receives_on_kept (s.links t) t bytes
+    pub receives_kept : (t : ℕ) (bytes : List ℕ) → ((p : Packet) → Allows scope t p) → After P w (receives t bytes s)
+    receives_kept t bytes may = receives_on_kept (s.links t) t bytes may

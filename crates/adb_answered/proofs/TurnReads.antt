@@ -33,7 +33,7 @@ use Rattle.adb_history.specs.Moves.{IsClientIn, After, IsFree, HasOne, IsLed}
 use Rattle.adb_history.proofs.Following.{after_quietly, after_then, changed_here}
 use Rattle.adb_history.proofs.StreamMoves.{asks_free}
 use Rattle.adb_history.proofs.Readiness.{IsAskedReady, asks_ready}
-use Rattle.adb_answered.specs.Turns.{Turns}
+use Rattle.adb_answered.specs.Turns.{Scope, Turns}
 use Rattle.adb_answered.proofs.TurnStreams.{owes_kept, closes_with_kept, service_kept}
 
 -- ---- each forward leads to a device, after a change
@@ -63,7 +63,7 @@ led_bound want port devices forwards all =
     go false false true = all
     go false false false = led_put port want.transport want.remote devices forwards all
 
-module _ {asker : ℕ} {P : State → List Event → Type 0} (k : Turns asker P) where
+module _ {scope : Scope} {asker : ℕ} {P : State → List Event → Type 0} (k : Turns scope asker P) where
   module _ (s : State) (w : List Event) (h : P s w) where
     -- ---- what follows a request
     pub goes_on_kept : (next : Option Next) → IsClientIn s asker Asking → IsAskedReady s.devices next → After P w (goes_on next asker s)
@@ -162,20 +162,20 @@ module _ {asker : ℕ} {P : State → List Event → Type 0} (k : Turns asker P)
         (k.fails_open c l cause x.client stream owed.state (w ++ owed.told) (x.here, x.in_phase, at_l)
         (owes_kept k s w h stream.link p (inr (inl (ap is_some at_l)))))
 
-    fails_asked_kept : (c l : ℕ) (cause : Cause) (o : Option Stream) → IsClientIn s c (Opening l) → s.streams l ≡ o
+    fails_asked_kept : (c l : ℕ) (cause : Cause) (o : Option Stream) → scope.fails c → IsClientIn s c (Opening l) → s.streams l ≡ o
         → After P w (stream_fails (Opening l) cause o (to_client c none_kept s))
-    fails_asked_kept c l cause None x at_l = drops_kept c x.client x.here (ap (λ p. stream_of p s.streams) x.in_phase ∙ at_l)
-    fails_asked_kept c l cause (Some stream) x at_l = k.fails_asked c l cause x.client stream s w (x.here, x.in_phase, at_l) h
+    fails_asked_kept c l cause None may x at_l = drops_kept c x.client x.here (ap (λ p. stream_of p s.streams) x.in_phase ∙ at_l)
+    fails_asked_kept c l cause (Some stream) may x at_l = k.fails_asked c l cause x.client stream s w may (x.here, x.in_phase, at_l) h
 
-    fails_in_kept : (phase : Phase) (c : ℕ) (cause : Cause) → IsClientIn s c phase
+    fails_in_kept : (phase : Phase) (c : ℕ) (cause : Cause) → scope.fails c → IsClientIn s c phase
         → After P w (stream_fails phase cause (stream_of phase s.streams) (to_client c none_kept s))
-    fails_in_kept (Streaming l) c cause x = fails_open_kept c l cause (s.streams l) x refl
-    fails_in_kept (Opening l) c cause x = fails_asked_kept c l cause (s.streams l) x refl
-    fails_in_kept Asking c cause x = drops_kept c x.client x.here (ap (λ p. stream_of p s.streams) x.in_phase)
-    fails_in_kept Binding c cause x = drops_kept c x.client x.here (ap (λ p. stream_of p s.streams) x.in_phase)
-    fails_in_kept Tracking c cause x = drops_kept c x.client x.here (ap (λ p. stream_of p s.streams) x.in_phase)
-    fails_in_kept Closing c cause x = drops_kept c x.client x.here (ap (λ p. stream_of p s.streams) x.in_phase)
-    fails_in_kept Gone c cause x = drops_kept c x.client x.here (ap (λ p. stream_of p s.streams) x.in_phase)
+    fails_in_kept (Streaming l) c cause may x = fails_open_kept c l cause (s.streams l) x refl
+    fails_in_kept (Opening l) c cause may x = fails_asked_kept c l cause (s.streams l) may x refl
+    fails_in_kept Asking c cause may x = drops_kept c x.client x.here (ap (λ p. stream_of p s.streams) x.in_phase)
+    fails_in_kept Binding c cause may x = drops_kept c x.client x.here (ap (λ p. stream_of p s.streams) x.in_phase)
+    fails_in_kept Tracking c cause may x = drops_kept c x.client x.here (ap (λ p. stream_of p s.streams) x.in_phase)
+    fails_in_kept Closing c cause may x = drops_kept c x.client x.here (ap (λ p. stream_of p s.streams) x.in_phase)
+    fails_in_kept Gone c cause may x = drops_kept c x.client x.here (ap (λ p. stream_of p s.streams) x.in_phase)
 
     input_kept : (phase : Phase) (c : ℕ) → IsClientIn s c phase → P (input_ends phase c s) w
     input_kept Asking c x = k.closes c x.client s w x.here (subst IsFree (sym x.in_phase) tt) h
@@ -186,10 +186,10 @@ module _ {asker : ℕ} {P : State → List Event → Type 0} (k : Turns asker P)
     input_kept Closing c x = h
     input_kept Gone c x = h
 
-    pub client_ends_kept : (c : ℕ) (cause : Cause) (o : Option Client) → s.clients c ≡ o → After P w (client_ends c cause o s)
-    client_ends_kept c cause None is = after_quietly P w s h
-    client_ends_kept c Eof (Some client) is =
+    pub client_ends_kept : (c : ℕ) (cause : Cause) (o : Option Client) → scope.fails c → s.clients c ≡ o → After P w (client_ends c cause o s)
+    client_ends_kept c cause None may is = after_quietly P w s h
+    client_ends_kept c Eof (Some client) may is =
         after_quietly P w (input_ends client.about.phase c s) (input_kept client.about.phase c (record { client = client; here = is; in_phase = refl }))
-    client_ends_kept c Fault (Some client) is = fails_in_kept client.about.phase c Fault (record { client = client; here = is; in_phase = refl })
-    client_ends_kept c Starved (Some client) is = fails_in_kept client.about.phase c Starved (record { client = client; here = is; in_phase = refl })
-    client_ends_kept c NoThread (Some client) is = fails_in_kept client.about.phase c NoThread (record { client = client; here = is; in_phase = refl })
+    client_ends_kept c Fault (Some client) may is = fails_in_kept client.about.phase c Fault may (record { client = client; here = is; in_phase = refl })
+    client_ends_kept c Starved (Some client) may is = fails_in_kept client.about.phase c Starved may (record { client = client; here = is; in_phase = refl })
+    client_ends_kept c NoThread (Some client) may is = fails_in_kept client.about.phase c NoThread may (record { client = client; here = is; in_phase = refl })

@@ -4,6 +4,7 @@ use Rattle.std.proofs.Common.{None, refl, sym, ap, subst, ◌∙◌, arith, inl,
 use Rattle.std.specs.Prelude.{is_some, nat_eq, nat_le}
 use Rattle.std.proofs.lemmas.Bool.{eqb-true, eq-eqb}
 use Rattle.std.proofs.lemmas.Bool.Decides.{nat_tests}
+use Rattle.adb_wire.specs.declared.packets.Packet.{Packet}
 use Rattle.adb_stream.specs.Credit.{given_back}
 use Rattle.adb_stream.specs.declared.credit.TheConstants.{CREDIT_STEP}
 use Rattle.adb_stream.specs.declared.flow.Flow.{Flow}
@@ -28,7 +29,7 @@ use Rattle.adb_history.specs.Reading.{asked_before, has_asked, reads_from, comes
 use Rattle.adb_history.specs.Machine.{unplugs_on, rule, ups, step}
 use Rattle.adb_history.specs.Moves.{IsClientIn, After, IsLike, plugged_in}
 use Rattle.adb_history.proofs.Following.{after_quietly, after_then, after_if, changed_here}
-use Rattle.adb_answered.specs.Turns.{Turns}
+use Rattle.adb_answered.specs.Turns.{Scope, Allows, Turns}
 use Rattle.adb_answered.proofs.TurnStreams.{owes_kept, service_kept, up_all_kept}
 use Rattle.adb_answered.proofs.TurnPackets.{receives_kept}
 use Rattle.adb_answered.proofs.TurnReads.{reads_in_kept, bound_kept, client_ends_kept}
@@ -74,7 +75,7 @@ left_now left (Credit credit) = refl
 same_stream : (phase : Phase) (l m : ℕ) → phase ≡ Streaming l → phase ≡ Streaming m → l ≡ m
 same_stream phase l m e f = let g : Streaming l ≡ Streaming m = sym e ∙ f in cc
 
-module _ {asker : ℕ} {P : State → List Event → Type 0} (k : Turns asker P) where
+module _ {scope : Scope} {asker : ℕ} {P : State → List Event → Type 0} (k : Turns scope asker P) where
   module _ (s : State) (w : List Event) (h : P s w) where
     -- ---- put
     lists_first_kept : (due : List ℕ) (client : Client) → After P w (lists_first asker due client s)
@@ -210,6 +211,8 @@ module _ {asker : ℕ} {P : State → List Event → Type 0} (k : Turns asker P)
   IsBy (Read c bytes) = c ≡ asker
   IsBy (Bound c port) = c ≡ asker
   IsBy (Put c bytes) = c ≡ asker
+  IsBy (End c cause) = scope.fails c
+  IsBy (Recv t bytes) = (p : Packet) → Allows scope t p
   IsBy _ = Unit {0}
 
   -- What is to be shown before the rule of an entry: that it holds with who comes; of a client that asks, that it holds with what is read.
@@ -230,10 +233,10 @@ module _ {asker : ℕ} {P : State → List Event → Type 0} (k : Turns asker P)
   rule_kept (Read c bytes) s w by h =
       subst (λ (n : ℕ). Begins (Read n bytes) s w → After P w (rule (Read n bytes) s)) (sym by)
       (λ h. reads_kept s w h.0 (s.clients asker) bytes refl h.1) h
-  rule_kept (End c cause) s w by h = client_ends_kept k s w h c cause (s.clients c) refl
+  rule_kept (End c cause) s w by h = client_ends_kept k s w h c cause (s.clients c) by refl
   rule_kept (Bound c port) s w by h =
       subst (λ (n : ℕ). After P w (rule (Bound n port) s)) (sym by) (bound_kept k s w h (s.clients asker) port refl)
-  rule_kept (Recv t bytes) s w by h = receives_kept k s w h t bytes
+  rule_kept (Recv t bytes) s w by h = receives_kept k s w h t bytes by
   rule_kept (Detach t cause) s w by h = unplugs_kept s w h (s.links t) t
   rule_kept (Put c bytes) s w by h =
       subst (λ (n : ℕ). After P w (rule (Put n bytes) s)) (sym by) (puts_kept s w h (s.clients asker) (length bytes))

@@ -19,7 +19,7 @@ use Rattle.adb_history.specs.Flow.{is_streaming, up_client, up_stream, up, up_al
 use Rattle.adb_history.specs.Moves.{IsClientIn, After, IsOfStream, IsFree, HasOne, IsReady, draws_now}
 use Rattle.adb_history.proofs.Following.{after_quietly, after_then, after_if, changed_here}
 use Rattle.adb_history.proofs.StreamMoves.{asks_free, asks_streamless, like_after}
-use Rattle.adb_answered.specs.Turns.{HasOpen, EndsSo, Turns}
+use Rattle.adb_answered.specs.Turns.{HasOpen, Scope, EndsSo, Turns}
 
 -- a client that has a stream open
 streaming_at : (l : ℕ) (phase : Phase) → is_streaming l phase ≡ true → phase ≡ Streaming l
@@ -40,7 +40,7 @@ go_up_streams : (l : ℕ) (stream : Stream) (payloads : List (List ℕ)) (s : St
 go_up_streams l stream [] s = refl
 go_up_streams l stream (payload ∷ payloads) s = go_up_streams l stream payloads (goes_up l stream payload s).state
 
-module _ {asker : ℕ} {P : State → List Event → Type 0} (k : Turns asker P) where
+module _ {scope : Scope} {asker : ℕ} {P : State → List Event → Type 0} (k : Turns scope asker P) where
   module _ (s : State) (w : List Event) (h : P s w) where
     -- a packet of a stream that lives becomes due
     pub owes_kept : (t : ℕ) (p : Packet) → IsOfStream s.streams p → After P w (owe_link t p s)
@@ -74,7 +74,7 @@ module _ {asker : ℕ} {P : State → List Event → Type 0} (k : Turns asker P)
         (λ e. no_ids_kept forwarded x) (λ e. asks_for_kept t service x ready)
 
     -- ---- stream end
-    pub ends_telling_kept : (l : ℕ) (ending : Ending) (stream : Stream) → s.streams l ≡ Some stream → EndsSo s.clients l ending stream
+    pub ends_telling_kept : (l : ℕ) (ending : Ending) (stream : Stream) → s.streams l ≡ Some stream → EndsSo scope.reaches s.clients l ending stream
         → After P w (ends_telling l ending stream s)
     ends_telling_kept l ending stream is so =
         let p : Packet = close_packet l stream.part.remote in

@@ -28,9 +28,25 @@ use Rattle.adb_history.specs.Answered.{tells_closed}
 abbrev pub HasOpen : Rows (Option Client) → (c l : ℕ) → Type 0
 HasOpen clients c l = (client : Client) × (clients c ≡ Some client) × (client.about.phase ≡ Streaming l)
 
+-- What a rule may touch: which streams its packets name, which links say anew who they are, and which clients fail.
+pub record Scope : Type 1 where
+  pub reaches : ℕ → Type 0
+  pub renews : ℕ → Type 0
+  pub fails : ℕ → Type 0
+
+-- all of them
+abbrev pub everywhere : Scope
+everywhere = record { reaches = λ l. Unit {0}; renews = λ t. Unit {0}; fails = λ c. Unit {0} }
+
+-- what a packet names, and who brings it
+pub record Allows (scope : Scope) (t : ℕ) (p : Packet) : Type 0 where
+  pub reaches : scope.reaches p.arg1
+  pub renews : scope.renews t
+
 -- A stream may end so: its client hears why it was not opened, or it is open.
-abbrev pub EndsSo : Rows (Option Client) → ℕ → Ending → Stream → Type 0
-EndsSo clients l ending stream = (tells_closed (Some ending) ≡ true) ⊎ ((stream.part.remote ≢ 0) ⊎ HasOpen clients stream.client l)
+abbrev pub EndsSo : (ℕ → Type 0) → Rows (Option Client) → ℕ → Ending → Stream → Type 0
+EndsSo Reaches clients l ending stream =
+    ((tells_closed (Some ending) ≡ true) × Reaches l) ⊎ ((stream.part.remote ≢ 0) ⊎ HasOpen clients stream.client l)
 
 -- a stream that its device opens
 pub record IsOpenedBy (remote : ℕ) (stream : Stream) : Type 0 where
@@ -39,7 +55,7 @@ pub record IsOpenedBy (remote : ℕ) (stream : Stream) : Type 0 where
   pub by : remote ≢ 0
 
 -- What each move keeps, of a state and what was told until then. Of the clients the asker alone is answered.
-pub record Turns (asker : ℕ) (P : State → List Event → Type 0) : Type 0 where
+pub record Turns (scope : Scope) (asker : ℕ) (P : State → List Event → Type 0) : Type 0 where
   -- something becomes due, or is told
   pub owes : (t : ℕ) (p : Packet) (check : ℕ) (s : State) (w : List Event) → IsOfStream s.streams p → P s w
       → P (to_link t (with_link_due (spelling p check)) s) (w ++ due_to_link t p check ∷ [])
@@ -70,22 +86,22 @@ pub record Turns (asker : ℕ) (P : State → List Event → Type 0) : Type 0 wh
   pub accepts : (l : ℕ) (payload : List ℕ) (stream : Stream) (s : State) (w : List Event) → s.streams l ≡ Some stream
       → stream.part.remote ≢ 0 → is_out_of_turn stream.part.flow (length payload) ≡ false
       → P s w → P (accepts_now l payload stream s) (w ++ due_to_client stream.client payload ∷ [])
-  pub opened : (l remote : ℕ) (word : Option ℕ) (stream : Stream) (s : State) (w : List Event) → s.streams l ≡ Some stream → IsOpenedBy remote stream
+  pub opened : (l remote : ℕ) (word : Option ℕ) (stream : Stream) (s : State) (w : List Event) → s.streams l ≡ Some stream → IsOpenedBy remote stream → scope.reaches l
       → P s w → After P w (opened l remote word stream s)
   pub orphan_goes : (l : ℕ) (stream : Stream) (s : State) (w : List Event) → s.streams l ≡ Some stream → stream.part.orphan ≡ true
       → P s w → P (to_stream l none_kept s) w
-  pub ends : (l : ℕ) (ending : Ending) (stream : Stream) (s : State) (w : List Event) → s.streams l ≡ Some stream → EndsSo s.clients l ending stream
+  pub ends : (l : ℕ) (ending : Ending) (stream : Stream) (s : State) (w : List Event) → s.streams l ≡ Some stream → EndsSo scope.reaches s.clients l ending stream
       → P s w → After P w (ends_row l ending stream s)
   pub fails_open : (c l : ℕ) (cause : Cause) (client : Client) (stream : Stream) (s : State) (w : List Event)
       → (s.clients c ≡ Some client) × (client.about.phase ≡ Streaming l) × (s.streams l ≡ Some stream)
       → P s w → P (to_stream l none_kept (to_client c none_kept s)) (w ++ ended l (client_failed cause) ∷ [])
-  pub fails_asked : (c l : ℕ) (cause : Cause) (client : Client) (stream : Stream) (s : State) (w : List Event)
+  pub fails_asked : (c l : ℕ) (cause : Cause) (client : Client) (stream : Stream) (s : State) (w : List Event) → scope.fails c
       → (s.clients c ≡ Some client) × (client.about.phase ≡ Opening l) × (s.streams l ≡ Some stream)
       → P s w → P (to_stream l (with_stream_part (orphaned stream.part)) (to_client c none_kept s)) (w ++ ended l (client_failed cause) ∷ [])
   -- links, devices and forwards
   pub links : (t : ℕ) (f : Link → Link) (s : State) (w : List Event) → P s w → P (to_link t (λ link. Some (f link)) s) w
   pub link_ends : (t : ℕ) (ending : Ending) (s : State) (w : List Event) → tells_closed (Some ending) ≡ true → P s w → After P w (link_ends t ending s)
-  pub online : (t version maxdata : ℕ) (identity : Identity) (s : State) (w : List Event) → P s w → After P w (connects_now t version maxdata identity s)
+  pub online : (t version maxdata : ℕ) (identity : Identity) (s : State) (w : List Event) → scope.renews t → P s w → After P w (connects_now t version maxdata identity s)
   pub unauthorized : (t : ℕ) (row : Row) (s : State) (w : List Event) → at t s.devices.rows ≡ Some row → row.state ≡ Offline
       → P s w → P (unauthorized_from t Offline s) w
   pub forwards : (forwards : List (ℕ × ForwardRow)) (s : State) (w : List Event) → (All (IsLed s.devices) s.forwards → All (IsLed s.devices) forwards)
