@@ -24,3 +24,4 @@ pub mod ServedAsks
 pub mod ServedHistories
 pub mod Entered
 pub mod ServedLaws
+pub mod Openings
