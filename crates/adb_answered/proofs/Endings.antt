@@ -1,6 +1,7 @@
 -- How streams end in what was told, and all streams of a link for one cause.
 use Rattle.std.proofs.Common.{◌≡◌, ℕ, zero, suc, Bool, true, false, cond, List, [], ◌∷◌, ◌++◌, Option, Some, None, refl, ap, ◌∙◌, eqb}
 use Rattle.std.specs.Prelude.{codes, nat_eq}
+use Rattle.std.proofs.lemmas.Bool.{eqb-true}
 use Rattle.adb_outside.specs.Tables.{Rows}
 use Rattle.adb_stream.specs.declared.row.Stream.{Stream}
 use Rattle.adb_client.specs.declared.phase.Phase.{Phase}
@@ -90,19 +91,21 @@ module _ (l : ℕ) where
       one (Some stream) = told stream.part.orphan
 
 -- ---- all streams of a link
-module _ {P : State → List Event → Type 0} (ending : Ending)
-    (ends : (l : ℕ) (stream : Stream) (s : State) (w : List Event) → s.streams l ≡ Some stream → P s w → After P w (ends_row l ending stream s)) where
-  ends_of_by : (t n : ℕ) (s : State) (w : List Event) → P s w → After P w (ends_of t n ending s)
-  ends_of_by t zero s w h = after_quietly P w s h
-  ends_of_by t (suc n) s w h =
-      after_then P w (ends_of t n ending s) (λ s. ends_if_of t (suc n) ending (s.streams (suc n)) s) (ends_of_by t n s w h)
+module _ {P : State → List Event → Type 0} (t : ℕ) (ending : Ending)
+    (ends : (l : ℕ) (stream : Stream) (s : State) (w : List Event) → (s.streams l ≡ Some stream) × (stream.link ≡ t) → P s w
+    → After P w (ends_row l ending stream s)) where
+  ends_of_by : (n : ℕ) (s : State) (w : List Event) → P s w → After P w (ends_of t n ending s)
+  ends_of_by zero s w h = after_quietly P w s h
+  ends_of_by (suc n) s w h =
+      after_then P w (ends_of t n ending s) (λ s. ends_if_of t (suc n) ending (s.streams (suc n)) s) (ends_of_by n s w h)
       (λ v now. go (ends_of t n ending s).state v ((ends_of t n ending s).state.streams (suc n)) refl now)
     where
       go : (s : State) (v : List Event) (o : Option Stream) → s.streams (suc n) ≡ o → P s v → After P v (ends_if_of t (suc n) ending o s)
       go s v None is h = after_quietly P v s h
       go s v (Some stream) is h =
-          after_if P v (nat_eq stream.link t) (ends_row (suc n) ending stream s) (quietly s) (λ e. ends (suc n) stream s v is h) (λ e. after_quietly P v s h)
+          after_if P v (nat_eq stream.link t) (ends_row (suc n) ending stream s) (quietly s)
+          (λ e. ends (suc n) stream s v (is, eqb-true stream.link t e) h) (λ e. after_quietly P v s h)
 
-  -- What the end of a stream keeps for one cause, the end of all streams of a link keeps for that cause.
-  pub all_end_by : (t : ℕ) (s : State) (w : List Event) → P s w → After P w (all_end t ending s)
-  all_end_by t s w h = ends_of_by t s.drawn s w h
+  -- What the end of a stream of a link keeps for one cause, the end of all streams of the link keeps for that cause.
+  pub all_end_by : (s : State) (w : List Event) → P s w → After P w (all_end t ending s)
+  all_end_by s w h = ends_of_by s.drawn s w h

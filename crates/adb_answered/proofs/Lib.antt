@@ -25,3 +25,4 @@ pub mod ServedHistories
 pub mod Entered
 pub mod ServedLaws
 pub mod Openings
+pub mod ShownMoves

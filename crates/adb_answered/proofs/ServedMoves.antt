@@ -33,7 +33,7 @@ steady l heard = record {
 
 -- ---- the row of its stream
 module _ (l : ℕ) (R : Stream → Type 0) where
-  own_change : (n : ℕ) (f : Stream → Option Stream) (streams : Rows (Option Stream)) → ((x y : Stream) → streams l ≡ Some x → n ≡ l → f x ≡ Some y → R x → R y)
+  pub own_change : (n : ℕ) (f : Stream → Option Stream) (streams : Rows (Option Stream)) → ((x y : Stream) → streams l ≡ Some x → n ≡ l → f x ≡ Some y → R x → R y)
       → ((x : Stream) → streams l ≡ Some x → R x) → (y : Stream) → change_row n (option_and_then f) streams l ≡ Some y → R y
   own_change n f streams keeps h y is = go (eqb n l) refl (streams l) refl is
     where
@@ -111,7 +111,7 @@ phase_open k l zero h e = let clash : true ≡ false = h.1 in cc
 phase_open k l (suc remote) h e = cc
 
 -- what a client that waits hears when its stream ends for a cause that it is told
-closed_told : (c l : ℕ) (client : Client) (s : State) → client.about.forwarded ≡ false → client.about.phase ≡ Opening l
+pub closed_told : (c l : ℕ) (client : Client) (s : State) → client.about.forwarded ≡ false → client.about.phase ≡ Opening l
     → owed_to c (client_loses (Some client) c s).told ≡ (failed (codes "closed")).bytes
 closed_told c l client s alone waits =
     ap (λ (b : Bool). owed_to c (loses b client.about.phase c s).told) alone

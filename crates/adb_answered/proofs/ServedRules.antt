@@ -47,8 +47,8 @@ module _ (heard : Bool) (c l : ℕ) (replies : List ℕ) where
   all_end_served : (t : ℕ) (ending : Ending) (s : State) (w : List Event) → tells_closed (Some ending) ≡ true → S s w
       → After (λ s w. IsServed heard c l replies s w) w (all_end t ending s)
   all_end_served t ending s w told h =
-      all_end_by {P = λ s w. IsServed heard c l replies s w} ending
-      (λ k stream s w is h. ends_served heard c l replies k ending stream s w is h (inl (told, tt))) t s w h
+      all_end_by {P = λ s w. IsServed heard c l replies s w} t ending
+      (λ k stream s w at h. ends_served heard c l replies k ending stream s w at.0 h (inl (told, tt))) s w h
 
   pub link_ends_served : (t : ℕ) (ending : Ending) (s : State) (w : List Event) → tells_closed (Some ending) ≡ true → S s w
       → After (λ s w. IsServed heard c l replies s w) w (link_ends t ending s)
