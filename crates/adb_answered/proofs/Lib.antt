@@ -26,3 +26,4 @@ pub mod Entered
 pub mod ServedLaws
 pub mod Openings
 pub mod ShownMoves
+pub mod ShownRules

@@ -15,12 +15,10 @@ use Rattle.adb_history.specs.Events.{Made, Event, Ending, then_also, ended, owed
 use Rattle.adb_history.specs.Streams.{client_loses, tells_end, ends_row}
 use Rattle.adb_history.specs.Orderly.{phase_for}
 use Rattle.adb_history.specs.Answered.{closed_reply}
-use Rattle.adb_history.specs.Owned.{OwnerIn}
-use Rattle.adb_history.specs.Linked.{IsLinked}
+use Rattle.adb_history.specs.Owned.{OwnerIn, IsOwned}
 use Rattle.adb_history.proofs.Growing.{owed_append}
 use Rattle.adb_history.proofs.OwnedMoves.{client_of}
-use Rattle.adb_history.proofs.OwnedStep.{ends_state, client_loses_frame}
-use Rattle.adb_history.proofs.LinkMoves.{linked_moves}
+use Rattle.adb_history.proofs.OwnedStep.{owned_moves, ends_state, client_loses_frame}
 use Rattle.adb_answered.specs.Served.{PhaseFor, RowServed}
 use Rattle.adb_answered.specs.Shown.{Seen, Subject, IsShownRow, IsGone, WillNotOpen, IsUnopened, IsOpened, ShownOut, IsShown}
 use Rattle.adb_answered.proofs.ToldOthers.{client_loses_owed}
@@ -162,14 +160,14 @@ module _ (heard : Bool) (x : Subject) (seen : Seen) where
   abbrev V : State → List Event → Type 0
   V s w = IsShown heard x seen s w
 
-  none_more : (w es : List Event) → owed_to x.client es ≡ [] → owed_to x.client (w ++ es) ≡ owed_to x.client w
+  pub none_more : (w es : List Event) → owed_to x.client es ≡ [] → owed_to x.client (w ++ es) ≡ owed_to x.client w
   none_more w es none = owed_append x.client w es ∙ (ap (λ v. owed_to x.client w ++ v) none ∙ append-nil (owed_to x.client w))
 
   -- a stream of the client is this one
   pub shown_client : (k : ℕ) (stream : Stream) (s : State) (w : List Event) → s.streams k ≡ Some stream → stream.part.orphan ≡ false
       → stream.client ≡ x.client → V s w → PhaseFor (phase_for k stream.part.remote) x.stream heard
   shown_client k stream s w is owned same h =
-      let of = client_of s k stream is owned h.linked.owned in
+      let of = client_of s k stream is owned h.owned in
       subst (λ (p : Phase). PhaseFor p x.stream heard) of.phase
       (h.row of.client (subst (λ (n : ℕ). s.clients n ≡ Some of.client) same of.is)).phase
 
@@ -179,11 +177,11 @@ module _ (heard : Bool) (x : Subject) (seen : Seen) where
       apart (phase_of_own k x.stream stream.part.remote heard (shown_client k stream s w is owned same h)))
 
   -- A change that does not concern the stream, by which nothing becomes due to its client.
-  pub shown_steps : (s next : State) (w es : List Event) → Steps x s next → IsLinked next
+  pub shown_steps : (s next : State) (w es : List Event) → Steps x s next → IsOwned next
       → ((client : Client) → next.clients x.client ≡ Some client → RowServed x.stream heard client) → (s.drawn ≤ next.drawn) × (owed_to x.client es ≡ [])
       → V s w → V next (w ++ es)
-  shown_steps s next w es steps linked row less h = record {
-    linked = linked;
+  shown_steps s next w es steps owned row less h = record {
+    owned = owned;
     row = row;
     own = own_steps x seen s next steps h.own;
     drawn = omega (arith, h.drawn, less.0);
@@ -191,10 +189,10 @@ module _ (heard : Bool) (x : Subject) (seen : Seen) where
   }
 
   -- and where nothing is told
-  pub shown_quietly : (s next : State) (w : List Event) → Steps x s next → IsLinked next
+  pub shown_quietly : (s next : State) (w : List Event) → Steps x s next → IsOwned next
       → ((client : Client) → next.clients x.client ≡ Some client → RowServed x.stream heard client) → s.drawn ≤ next.drawn → V s w → V next w
-  shown_quietly s next w steps linked row less h = record {
-    linked = linked;
+  shown_quietly s next w steps owned row less h = record {
+    owned = owned;
     row = row;
     own = own_steps x seen s next steps h.own;
     drawn = omega (arith, h.drawn, less);
@@ -202,11 +200,11 @@ module _ (heard : Bool) (x : Subject) (seen : Seen) where
   }
 
   -- its row goes
-  pub shown_gone : (s next : State) (w es : List Event) → IsLinked next
+  pub shown_gone : (s next : State) (w es : List Event) → IsOwned next
       → ((client : Client) → next.clients x.client ≡ Some client → RowServed x.stream heard client) → next.streams x.stream ≡ None
       → (heard ≡ false → WillNotOpen x seen.sealed next) → (s.drawn ≤ next.drawn) × (owed_to x.client es ≡ []) → V s w → V next (w ++ es)
-  shown_gone s next w es linked row none reason less h = record {
-    linked = linked;
+  shown_gone s next w es owned row none reason less h = record {
+    owned = owned;
     row = row;
     own = λ y is. absurd (nothing y is);
     drawn = omega (arith, h.drawn, less.0);

@@ -9,7 +9,7 @@ use Rattle.adb_history.specs.Rows.{Client, State}
 use Rattle.adb_history.specs.Events.{Event, owed_to}
 use Rattle.adb_history.specs.Births.{is_between, opening_in, remote_in}
 use Rattle.adb_history.specs.Answered.{closed_reply}
-use Rattle.adb_history.specs.Linked.{IsLinked}
+use Rattle.adb_history.specs.Owned.{IsOwned}
 use Rattle.adb_answered.specs.Turns.{Scope}
 use Rattle.adb_answered.specs.Served.{RowServed}
 
@@ -80,7 +80,7 @@ ShownOut true x seen s out = IsOpened x seen.remote out
 
 -- A stream and its client are as the packets of its link say.
 pub record IsShown (heard : Bool) (x : Subject) (seen : Seen) (s : State) (events : List Event) : Type 0 where
-  pub linked : IsLinked s
+  pub owned : IsOwned s
   pub row : (client : Client) → s.clients x.client ≡ Some client → RowServed x.stream heard client
   pub own : (stream : Stream) → s.streams x.stream ≡ Some stream → IsShownRow x seen stream
   pub drawn : x.stream ≤ s.drawn
