@@ -12,29 +12,33 @@ use Rattle.adb_stream.specs.declared.row.Stream.{Stream}
 use Rattle.adb_client.specs.declared.phase.Phase.{Phase}
 use Rattle.adb_client.specs.declared.phase.Phase.TheVariants.{Opening, Streaming}
 use Rattle.adb_reply.specs.Strings.{failed}
-use Rattle.adb_history.specs.Rows.{Client, Link, State, to_client, to_link, to_stream, none_kept, with_stream_part}
+use Rattle.adb_history.specs.Rows.{Client, Link, State, to_client, to_link, to_stream, none_kept, in_phase, with_stream_part}
 use Rattle.adb_history.specs.Events.{Made, Event, Ending, quietly, then_also, ended, due_to_client, owed_to, lost}
 use Rattle.adb_history.specs.Links.{is_connected}
 use Rattle.adb_history.specs.Streams.{client_loses, tells_end, ends_row, all_end}
 use Rattle.adb_history.specs.Tracking.{mark_all}
 use Rattle.adb_history.specs.Losing.{forgets, link_ends}
-use Rattle.adb_history.specs.Packets.{streams_end_first}
+use Rattle.adb_wire.specs.Format.{has_sums}
+use Rattle.adb_history.specs.Clients.{owe_client}
+use Rattle.adb_history.specs.Flow.{with_flow}
+use Rattle.adb_history.specs.Packets.{with_sums, streams_end_first, with_remote, first_credit, hears_okay, opened, is_out_of_turn, accepted}
 use Rattle.adb_history.specs.Orderly.{phase_for}
 use Rattle.adb_history.specs.Answered.{tells_closed, closed_reply}
-use Rattle.adb_history.specs.Moves.{After, connects_now}
-use Rattle.adb_history.specs.Owned.{OwnerIn, IsOwned}
+use Rattle.adb_history.specs.Moves.{After, connects_now, open_now, accepts_now}
+use Rattle.adb_history.specs.Owned.{StreamOf, OwnerIn, IsOwned}
 use Rattle.adb_history.proofs.Following.{after_quietly}
 use Rattle.adb_history.proofs.Growing.{owed_append}
 use Rattle.adb_history.proofs.OwnedMoves.{client_of}
 use Rattle.adb_history.proofs.OwnedStep.{owned_moves, ends_state, client_loses_frame}
-use Rattle.adb_answered.specs.Turns.{HasOpen, EndsSo}
+use Rattle.adb_answered.specs.Turns.{HasOpen, IsOpenedBy, EndsSo}
 use Rattle.adb_answered.specs.Served.{PhaseFor, RowServed}
 use Rattle.adb_answered.specs.Shown.{Seen, Subject, IsShownRow, IsGone, WillNotOpen, IsUnopened, IsOpened, ShownOut, IsShown}
-use Rattle.adb_answered.proofs.ToldOthers.{quiet_after, client_loses_owed, forgets_owned}
-use Rattle.adb_answered.proofs.SteadyRows.{at_client_loses, at_marked}
+use Rattle.adb_answered.proofs.ToldOthers.{quiet_after, owed_other, client_loses_owed, owned_opened, forgets_owned}
+use Rattle.adb_answered.proofs.SteadyRows.{at_client_loses, at_marked, at_due, at_apart}
 use Rattle.adb_answered.proofs.Endings.{all_end_by}
 use Rattle.adb_answered.proofs.ServedMoves.{steady, closed_told, phase_of_own, phase_waiting}
-use Rattle.adb_answered.proofs.ShownMoves.{Steps, steps_same, shown_quietly, own_steps, out_steps, out_more, shown_client, other_client, none_more}
+use Rattle.adb_answered.proofs.ShownMoves.{Steps, steps_same, steps_part, shown_quietly, shown_steps, shown_gone, own_steps, out_steps, out_more, shown_client}
+use Rattle.adb_answered.proofs.ShownMoves.{other_client, none_more}
 
 module _ (heard : Bool) (x : Subject) (seen : Seen) where
   abbrev V : State → List Event → Type 0
@@ -246,3 +250,108 @@ module _ (heard : Bool) (x : Subject) (seen : Seen) where
             (marked_shown all.state all.state (w ++ all.told) (owned_moves.link_ends t ending s w h.owned) refl refl refl (λ e. e) kept.0),
         kept.1,
       )
+
+  -- a device says anew who it is: its streams end
+  pub online_shown : (t version maxdata : ℕ) (identity : Identity) (s : State) (w : List Event) → (t ≡ x.link → x.failed ≡ true) → W s w
+      → W (connects_now t version maxdata identity s).state (w ++ (connects_now t version maxdata identity s).told)
+  online_shown t version maxdata identity s w reason h =
+      let first : Made = streams_end_first (is_connected t s.devices) t s in
+      let whole : Made = connects_now t version maxdata identity s in
+      let kept = ends_first (is_connected t s.devices) in
+      quiet_after (λ s w. IsShown heard x seen s w) w first.told whole.state
+      (shown_quietly heard x seen first.state whole.state (w ++ first.told)
+      (steps_same x first.state whole.state refl (λ e. link_stays t x.link (with_sums (has_sums version)) first.state.links e))
+      (owned_moves.online t version maxdata identity s w h.owned)
+      (at_marked (steady x.stream heard) x.client first.state.clients kept.row) (omega arith) kept)
+    where
+      ends_first : (b : Bool) → W (streams_end_first b t s).state (w ++ (streams_end_first b t s).told)
+      ends_first false = after_quietly (λ s w. IsShown heard x seen s w) w s h
+      ends_first true = all_end_by {P = λ s w. IsShown heard x seen s w} t lost
+          (λ k stream s w at h. ends_shown heard x seen k lost stream s w at.0 h
+          (λ here quiet owned. inr (inr (reason (sym at.1 ∙ (h.own stream (ap s.streams (sym here) ∙ at.0)).link))))) s w h
+
+  -- ---- OKAY of another stream
+  hears_shown : (k : ℕ) (stream : Stream) (s : State) (w : List Event) → s.streams k ≡ Some stream → stream.part.orphan ≡ false → k ≢ x.stream → W s w
+      → W (hears_okay (s.clients stream.client) stream.client s).state (w ++ (hears_okay (s.clients stream.client) stream.client s).told)
+  hears_shown k stream s w is owned apart h = go (s.clients stream.client)
+    where
+      here : eqb stream.client x.client ≡ false
+      here = other_client heard x seen k stream s w is owned apart h
+
+      due : (b : Bool) → W (cond b (quietly s) (owe_client stream.client (codes "OKAY") s)).state
+          (w ++ (cond b (quietly s) (owe_client stream.client (codes "OKAY") s)).told)
+      due true = after_quietly (λ s w. IsShown heard x seen s w) w s h
+      due false = shown_steps heard x seen s (owe_client stream.client (codes "OKAY") s).state w (due_to_client stream.client (codes "OKAY") ∷ [])
+          (steps_same x s (owe_client stream.client (codes "OKAY") s).state refl (λ e. e))
+          (owned_moves.due stream.client (codes "OKAY") s w h.owned)
+          (at_due (steady x.stream heard) x.client stream.client (codes "OKAY") s.clients h.row)
+          (omega arith, owed_other x.client stream.client (codes "OKAY") here) h
+
+      go : (o : Option Client) → W (hears_okay o stream.client s).state (w ++ (hears_okay o stream.client s).told)
+      go None = after_quietly (λ s w. IsShown heard x seen s w) w s h
+      go (Some y) = due y.about.forwarded
+
+  opened_apart : (k remote : ℕ) (word : Option ℕ) (stream : Stream) (s : State) (w : List Event) → s.streams k ≡ Some stream → IsOpenedBy remote stream
+      → k ≢ x.stream → W s w → W (opened k remote word stream s).state (w ++ (opened k remote word stream s).told)
+  opened_apart k remote word stream s w is by apart h =
+      let heard_made : Made = hears_okay (s.clients stream.client) stream.client s in
+      let kept = hears_shown k stream s w is by.owned apart h in
+      quiet_after (λ s w. IsShown heard x seen s w) w heard_made.told (open_now k remote word stream heard_made.state)
+      (shown_quietly heard x seen heard_made.state (open_now k remote word stream heard_made.state) (w ++ heard_made.told)
+      (steps_same x heard_made.state (open_now k remote word stream heard_made.state)
+      (ap (λ (b : Bool). cond b (option_and_then (with_stream_part (with_remote remote (with_flow (first_credit word stream.part.flow) stream.part)))
+      (heard_made.state.streams x.stream)) (heard_made.state.streams x.stream)) (ne_eqb k x.stream apart)) (λ e. e))
+      (owned_opened k remote word stream s is by h.owned)
+      (at_apart (steady x.stream heard) x.client stream.client (in_phase (Streaming k)) heard_made.state.clients
+      (eqb-false stream.client x.client (other_client heard x seen k stream s w is by.owned apart h)) kept.row) (omega arith) kept)
+
+  -- ---- WRTE
+  pub accepts_shown : (k : ℕ) (payload : List ℕ) (stream : Stream) (s : State) (w : List Event) → s.streams k ≡ Some stream → stream.part.remote ≢ 0
+      → is_out_of_turn stream.part.flow (length payload) ≡ false → W s w → W (accepts_now k payload stream s) (w ++ due_to_client stream.client payload ∷ [])
+  accepts_shown k payload stream s w is known turn h =
+      let next : State = accepts_now k payload stream s in
+      let steps : Steps x s next = steps_part x s next k stream (with_flow (accepted (length payload) stream.part.flow) stream.part) is (refl, refl) refl (λ e. e) in
+      record {
+        owned = owned_moves.accepts k payload stream s w is known turn h.owned;
+        row = at_due (steady x.stream heard) x.client stream.client payload s.clients h.row;
+        own = own_steps x seen s next steps h.own;
+        drawn = h.drawn;
+        out = out heard refl next steps h.out;
+      }
+    where
+      told : List Event
+      told = due_to_client stream.client payload ∷ []
+
+      apart : (b : Bool) → stream.part.orphan ≡ b → heard ≡ false → eqb stream.client x.client ≡ false
+      apart true e quiet = absurd (known (subst (λ (b : Bool). OwnerIn b s.clients k stream) e (h.owned.owned.stream k stream is).owner).0)
+      apart false e quiet = ne_eqb stream.client x.client (λ same.
+          known (phase_waiting k x.stream stream.part.remote
+          (subst (λ (b : Bool). PhaseFor (phase_for k stream.part.remote) x.stream b) quiet (shown_client heard x seen k stream s w is e same h))))
+
+      out : (b : Bool) → heard ≡ b → (next : State) → Steps x s next → ShownOut b x seen s (owed_to x.client w)
+          → ShownOut b x seen next (owed_to x.client (w ++ due_to_client stream.client payload ∷ []))
+      out true e next steps h =
+          let more = out_more x seen s (owed_to x.client w) (owed_to x.client (due_to_client stream.client payload ∷ [])) h in
+          record { bytes = more.bytes; out_is = owed_append x.client w (due_to_client stream.client payload ∷ []) ∙ more.out_is; may = more.may; told = more.told }
+      out false e next steps h = out_steps x seen false s next (owed_to x.client w) (owed_to x.client (w ++ due_to_client stream.client payload ∷ [])) steps
+          (none_more false x seen w (due_to_client stream.client payload ∷ []) (owed_other x.client stream.client payload (apart stream.part.orphan refl e))) h
+
+  -- ---- a client fails
+  none_row : (k : ℕ) (streams : Rows (Option Stream)) → k ≡ x.stream → change_row k (option_and_then none_kept) streams x.stream ≡ None
+  none_row k streams here = ap (λ (b : Bool). cond b (option_and_then none_kept (streams x.stream)) (streams x.stream)) (eq-eqb k x.stream here) ∙ go (streams x.stream)
+    where
+      go : (o : Option Stream) → option_and_then none_kept o ≡ None
+      go None = refl
+      go (Some y) = refl
+
+  other_row : (k : ℕ) (f : Stream → Option Stream) (streams : Rows (Option Stream)) → k ≢ x.stream
+      → change_row k (option_and_then f) streams x.stream ≡ streams x.stream
+  other_row k f streams apart = ap (λ (b : Bool). cond b (option_and_then f (streams x.stream)) (streams x.stream)) (ne_eqb k x.stream apart)
+
+  -- the client of a stream that is this one
+  fails_client : (n k : ℕ) (client : Client) (stream : Stream) (s : State) (w : List Event) → s.clients n ≡ Some client
+      → StreamOf s.streams n k → s.streams k ≡ Some stream → k ≡ x.stream → W s w → n ≡ x.client
+  fails_client n k client stream s w here own at_k same h =
+      let both : Some own.stream ≡ Some stream = sym own.is ∙ at_k in
+      let row : own.stream ≡ stream = cc in
+      sym own.client ∙ (ap (λ (y : Stream). y.client) row ∙ (h.own stream (ap s.streams (sym same) ∙ at_k)).client)
