@@ -12,29 +12,35 @@ use Rattle.adb_stream.specs.declared.row.Stream.{Stream}
 use Rattle.adb_client.specs.declared.phase.Phase.{Phase}
 use Rattle.adb_client.specs.declared.phase.Phase.TheVariants.{Opening, Streaming}
 use Rattle.adb_reply.specs.Strings.{failed}
-use Rattle.adb_history.specs.Rows.{Client, Link, State, to_client, to_link, to_stream, none_kept, in_phase, with_stream_part}
-use Rattle.adb_history.specs.Events.{Made, Event, Ending, quietly, then_also, ended, due_to_client, owed_to, lost}
-use Rattle.adb_history.specs.Links.{is_connected}
+use Rattle.adb_history.specs.Rows.{Client, Link, State, to_client, to_link, to_stream, none_kept, in_phase, with_due, with_held, with_link_due, with_stream_part}
+use Rattle.adb_history.specs.Events.{Made, Event, Ending, quietly, then_also, ended, due_to_client, due_to_link, owed_to, lost, client_failed}
+use Rattle.adb_history.specs.Links.{is_connected, is_credit}
 use Rattle.adb_history.specs.Streams.{client_loses, tells_end, ends_row, all_end}
 use Rattle.adb_history.specs.Tracking.{mark_all}
-use Rattle.adb_history.specs.Losing.{forgets, link_ends}
+use Rattle.adb_history.specs.Losing.{forgets, link_ends, all_stop, stops, orphaned, input_ended}
+use Rattle.adb_history.specs.Reading.{tracks, awaits}
+use Rattle.adb_history.specs.Handing.{unmarked, hands}
+use Rattle.adb_wire.specs.Packet.{spelling}
+use Rattle.adb_stream.specs.Flow.{new_flow}
+use Rattle.adb_stream.specs.Stream.{new_stream}
+use Rattle.adb_outside.specs.declared.identity.State.TheVariants.{Offline}
 use Rattle.adb_wire.specs.Format.{has_sums}
-use Rattle.adb_history.specs.Clients.{owe_client}
+use Rattle.adb_history.specs.Clients.{closes, owe_client}
 use Rattle.adb_history.specs.Flow.{with_flow}
-use Rattle.adb_history.specs.Packets.{with_sums, streams_end_first, with_remote, first_credit, hears_okay, opened, is_out_of_turn, accepted}
+use Rattle.adb_history.specs.Packets.{with_sums, streams_end_first, with_remote, first_credit, hears_okay, opened, is_out_of_turn, accepted, unauthorized_from}
 use Rattle.adb_history.specs.Orderly.{phase_for}
 use Rattle.adb_history.specs.Answered.{tells_closed, closed_reply}
-use Rattle.adb_history.specs.Moves.{After, connects_now, open_now, accepts_now}
-use Rattle.adb_history.specs.Owned.{StreamOf, OwnerIn, IsOwned}
+use Rattle.adb_history.specs.Moves.{After, connects_now, open_now, accepts_now, draws_now}
+use Rattle.adb_history.specs.Owned.{StreamOf, OwnerIn, HoldsIn, IsOwned}
 use Rattle.adb_history.proofs.Following.{after_quietly}
 use Rattle.adb_history.proofs.Growing.{owed_append}
 use Rattle.adb_history.proofs.OwnedMoves.{client_of}
 use Rattle.adb_history.proofs.OwnedStep.{owned_moves, ends_state, client_loses_frame}
-use Rattle.adb_answered.specs.Turns.{HasOpen, IsOpenedBy, EndsSo}
+use Rattle.adb_answered.specs.Turns.{HasOpen, IsOpenedBy, EndsSo, Turns}
 use Rattle.adb_answered.specs.Served.{PhaseFor, RowServed}
-use Rattle.adb_answered.specs.Shown.{Seen, Subject, IsShownRow, IsGone, WillNotOpen, IsUnopened, IsOpened, ShownOut, IsShown}
-use Rattle.adb_answered.proofs.ToldOthers.{quiet_after, owed_other, client_loses_owed, owned_opened, forgets_owned}
-use Rattle.adb_answered.proofs.SteadyRows.{at_client_loses, at_marked, at_due, at_apart}
+use Rattle.adb_answered.specs.Shown.{aside, Seen, Subject, IsShownRow, IsGone, WillNotOpen, IsUnopened, IsOpened, ShownOut, IsShown}
+use Rattle.adb_answered.proofs.ToldOthers.{quiet_after, all_stop_owed, stopped_none, owed_other, client_loses_owed, owned_opened, forgets_owned}
+use Rattle.adb_answered.proofs.SteadyRows.{at_client_loses, at_marked, at_due, at_apart, at_none, at_closing, at_like, at_hands}
 use Rattle.adb_answered.proofs.Endings.{all_end_by}
 use Rattle.adb_answered.proofs.ServedMoves.{steady, closed_told, phase_of_own, phase_waiting}
 use Rattle.adb_answered.proofs.ShownMoves.{Steps, steps_same, steps_part, shown_quietly, shown_steps, shown_gone, own_steps, out_steps, out_more, shown_client}
@@ -355,3 +361,183 @@ module _ (heard : Bool) (x : Subject) (seen : Seen) where
       let both : Some own.stream ≡ Some stream = sym own.is ∙ at_k in
       let row : own.stream ≡ stream = cc in
       sym own.client ∙ (ap (λ (y : Stream). y.client) row ∙ (h.own stream (ap s.streams (sym same) ∙ at_k)).client)
+
+  -- ---- an orphan goes
+  orphan_shown : (k : ℕ) (stream : Stream) (s : State) (w : List Event) → s.streams k ≡ Some stream → stream.part.orphan ≡ true → W s w
+      → W (to_stream k none_kept s) w
+  orphan_shown k stream s w is orphan h = go (eqb k x.stream) refl
+    where
+      owned : IsOwned (to_stream k none_kept s)
+      owned = owned_moves.orphan_goes k stream s w is orphan h.owned
+
+      go : (b : Bool) → eqb k x.stream ≡ b → W (to_stream k none_kept s) w
+      go false e = shown_quietly heard x seen s (to_stream k none_kept s) w
+          (steps_same x s (to_stream k none_kept s) (other_row k none_kept s.streams (eqb-false k x.stream e)) (λ e. e)) owned h.row (omega arith) h
+      go true e =
+          let same : k ≡ x.stream = eqb-true k x.stream e in
+          subst (λ (v : List Event). W (to_stream k none_kept s) v) (append-nil w)
+          (shown_gone heard x seen s (to_stream k none_kept s) w [] owned h.row (none_row k s.streams same)
+          (λ quiet. inr (inr ((h.own stream (ap s.streams (sym same) ∙ is)).orphan orphan))) (omega arith, refl) h)
+
+  -- ---- all moves
+  module _ (asker : ℕ) (apart : asker ≢ x.client) where
+    not_here : eqb asker x.client ≡ false
+    not_here = ne_eqb asker x.client apart
+
+    fails_shown : (n k : ℕ) (cause : Cause) (client : Client) (stream : Stream) (s : State) (w : List Event)
+        → (s.clients n ≡ Some client) × (client.about.phase ≡ Streaming k) × (s.streams k ≡ Some stream) → W s w
+        → W (to_stream k none_kept (to_client n none_kept s)) (w ++ ended k (client_failed cause) ∷ [])
+    fails_shown n k cause client stream s w at h = go (eqb k x.stream) refl
+      where
+        next : State
+        next = to_stream k none_kept (to_client n none_kept s)
+
+        owned : IsOwned (to_stream k none_kept (to_client n none_kept s))
+        owned = owned_moves.fails_open n k client stream s w at.0 at.1 at.2 h.owned
+
+        row : (y : Client) → (to_client n none_kept s).clients x.client ≡ Some y → RowServed x.stream heard y
+        row = at_none (steady x.stream heard) x.client n s.clients h.row
+
+        hears : k ≡ x.stream → heard ≡ true
+        hears same =
+            let own : StreamOf s.streams n k = subst (λ (p : Phase). HoldsIn p s.streams n client) at.1 (h.owned.owned.client n client at.0).holds in
+            let who : n ≡ x.client = fails_client n k client stream s w at.0 own at.2 same h in
+            let served = h.row client (subst (λ (m : ℕ). s.clients m ≡ Some client) who at.0) in
+            let phase : PhaseFor (Streaming k) x.stream heard = subst (λ (p : Phase). PhaseFor p x.stream heard) at.1 served.phase in
+            phase.1
+
+        go : (b : Bool) → eqb k x.stream ≡ b → W (to_stream k none_kept (to_client n none_kept s)) (w ++ ended k (client_failed cause) ∷ [])
+        go false e = shown_steps heard x seen s (to_stream k none_kept (to_client n none_kept s)) w (ended k (client_failed cause) ∷ [])
+            (steps_same x s (to_stream k none_kept (to_client n none_kept s)) (other_row k none_kept s.streams (eqb-false k x.stream e)) (λ e. e)) owned row
+            (omega arith, refl) h
+        go true e = shown_gone heard x seen s (to_stream k none_kept (to_client n none_kept s)) w (ended k (client_failed cause) ∷ []) owned row
+            (none_row k s.streams (eqb-true k x.stream e))
+            (λ quiet. absurd (let clash : true ≡ false = sym (hears (eqb-true k x.stream e)) ∙ quiet in cc)) (omega arith, refl) h
+
+    asked_shown : (n k : ℕ) (cause : Cause) (client : Client) (stream : Stream) (s : State) (w : List Event) → (n ≡ x.client → x.failed ≡ true)
+        → (s.clients n ≡ Some client) × (client.about.phase ≡ Opening k) × (s.streams k ≡ Some stream) → W s w
+        → W (to_stream k (with_stream_part (orphaned stream.part)) (to_client n none_kept s)) (w ++ ended k (client_failed cause) ∷ [])
+    asked_shown n k cause client stream s w may at h = go (eqb k x.stream) refl
+      where
+        next : State
+        next = to_stream k (with_stream_part (orphaned stream.part)) (to_client n none_kept s)
+
+        owned : IsOwned (to_stream k (with_stream_part (orphaned stream.part)) (to_client n none_kept s))
+        owned = owned_moves.fails_asked n k client stream s w at.0 at.1 at.2 h.owned
+
+        row : (y : Client) → (to_client n none_kept s).clients x.client ≡ Some y → RowServed x.stream heard y
+        row = at_none (steady x.stream heard) x.client n s.clients h.row
+
+        fails : k ≡ x.stream → x.failed ≡ true
+        fails same =
+            let own : StreamOf s.streams n k = subst (λ (p : Phase). HoldsIn p s.streams n client) at.1 (h.owned.owned.client n client at.0).holds in
+            may (fails_client n k client stream s w at.0 own at.2 same h)
+
+        orphan_row : k ≡ x.stream → change_row k (option_and_then (with_stream_part (orphaned stream.part))) s.streams x.stream
+            ≡ Some (record stream { part = orphaned stream.part })
+        orphan_row same =
+            ap (λ (b : Bool). cond b (option_and_then (with_stream_part (orphaned stream.part)) (s.streams x.stream)) (s.streams x.stream))
+            (eq-eqb k x.stream same)
+            ∙ ap (option_and_then (with_stream_part (orphaned stream.part))) (ap s.streams (sym same) ∙ at.2)
+
+        orphan_is : k ≡ x.stream → (y : Stream) → (to_stream k (with_stream_part (orphaned stream.part)) (to_client n none_kept s)).streams x.stream ≡ Some y
+            → record stream { part = orphaned stream.part } ≡ y
+        orphan_is same y is =
+            let both : Some (record stream { part = orphaned stream.part }) ≡ Some y = sym (orphan_row same) ∙ is in cc
+
+        out_orphan : k ≡ x.stream → (b : Bool) → ShownOut b x seen s (owed_to x.client w)
+            → ShownOut b x seen (to_stream k (with_stream_part (orphaned stream.part)) (to_client n none_kept s))
+            (owed_to x.client (w ++ ended k (client_failed cause) ∷ []))
+        out_orphan same true h =
+            record { bytes = h.bytes; out_is = none_more true x seen w (ended k (client_failed cause) ∷ []) refl ∙ h.out_is; may = h.may; told = h.told }
+        out_orphan same false h = record {
+          closed = h.closed;
+          out_is = none_more false x seen w (ended k (client_failed cause) ∷ []) refl ∙ h.out_is;
+          waits = λ y is o. absurd (let clash : true ≡ false = ap (λ (z : Stream). z.part.orphan) (orphan_is same y is) ∙ o in cc);
+          gone = λ gone. inr (inr (fails same));
+        }
+
+        go : (b : Bool) → eqb k x.stream ≡ b
+            → W (to_stream k (with_stream_part (orphaned stream.part)) (to_client n none_kept s)) (w ++ ended k (client_failed cause) ∷ [])
+        go false e = shown_steps heard x seen s (to_stream k (with_stream_part (orphaned stream.part)) (to_client n none_kept s)) w
+            (ended k (client_failed cause) ∷ [])
+            (steps_same x s (to_stream k (with_stream_part (orphaned stream.part)) (to_client n none_kept s))
+            (other_row k (with_stream_part (orphaned stream.part)) s.streams (eqb-false k x.stream e)) (λ e. e)) owned row (omega arith, refl) h
+        go true e =
+            let same : k ≡ x.stream = eqb-true k x.stream e in
+            let was = h.own stream (ap s.streams (sym same) ∙ at.2) in
+            record {
+              owned = owned;
+              row = row;
+              own = λ y is. (let it = orphan_is same y is in record {
+                client = ap (λ (z : Stream). z.client) (sym it) ∙ was.client;
+                link = ap (λ (z : Stream). z.link) (sym it) ∙ was.link;
+                remote = ap (λ (z : Stream). z.part.remote) (sym it) ∙ was.remote;
+                pending = was.pending;
+                may = λ o. absurd (let clash : true ≡ false = ap (λ (z : Stream). z.part.orphan) it ∙ o in cc);
+                orphan = λ o. fails same;
+              });
+              drawn = h.drawn;
+              out = out_orphan same heard h.out;
+            }
+
+    -- A stream and its client are as the packets of its link say, through each move that does not concern them.
+    pub shown_turns : Turns (aside x) asker (λ s w. IsShown heard x seen s w)
+    shown_turns = record {
+      owes = λ t p check s w of h. shown_steps heard x seen s (to_link t (with_link_due (spelling p check)) s) w (due_to_link t p check ∷ [])
+          (steps_same x s (to_link t (with_link_due (spelling p check)) s) refl (λ e. link_stays t x.link (with_link_due (spelling p check)) s.links e))
+          (owned_moves.owes t p check s w of h.owned) h.row (omega arith, refl) h;
+      replies = λ bytes s w h. shown_steps heard x seen s (to_client asker (with_due bytes) s) w (due_to_client asker bytes ∷ [])
+          (steps_same x s (to_client asker (with_due bytes) s) refl (λ e. e)) (owned_moves.due asker bytes s w h.owned)
+          (at_due (steady x.stream heard) x.client asker bytes s.clients h.row) (omega arith, owed_other x.client asker bytes not_here) h;
+      tracks = λ y long s w is asking h. shown_quietly heard x seen s (to_client asker (tracks long) s) w
+          (steps_same x s (to_client asker (tracks long) s) refl (λ e. e)) (owned_moves.tracks asker y long s w is asking h.owned)
+          (at_apart (steady x.stream heard) x.client asker (tracks long) s.clients apart h.row) (omega arith) h;
+      awaits = λ y want s w is asking h. shown_quietly heard x seen s (to_client asker (awaits want) s) w
+          (steps_same x s (to_client asker (awaits want) s) refl (λ e. e)) (owned_moves.awaits asker y want s w is asking h.owned)
+          (at_apart (steady x.stream heard) x.client asker (awaits want) s.clients apart h.row) (omega arith) h;
+      unmarks = λ s w h. shown_quietly heard x seen s (to_client asker unmarked s) w
+          (steps_same x s (to_client asker unmarked s) refl (λ e. e)) (owned_moves.unmarks asker s w h.owned)
+          (at_apart (steady x.stream heard) x.client asker unmarked s.clients apart h.row) (omega arith) h;
+      draws = λ t y s w is asking ready h. shown_quietly heard x seen s (draws_now asker t s) w
+          (steps_same x s (draws_now asker t s)
+          (ap (λ (b : Bool). cond b (Some (new_stream (s.drawn + 1) asker t (new_flow (is_credit t s.devices)))) (s.streams x.stream))
+          (ne_eqb (s.drawn + 1) x.stream (λ e. omega (arith, e, h.drawn)))) (λ e. e)) (owned_moves.draws asker t y s w is asking ready h.owned)
+          (at_apart (steady x.stream heard) x.client asker (in_phase (Opening (s.drawn + 1))) s.clients apart h.row) (omega arith) h;
+      stops = λ y s w is asking h. shown_gone heard x seen s (stops asker s).state w (all_stop s.drawn s.streams)
+          (owned_moves.stops asker y s w is asking h.owned)
+          (λ client e. absurd (let clash : None ≡ Some client = sym (stopped_none asker x.client s.clients not_here) ∙ e in cc)) refl
+          (λ quiet. inr (inl refl)) (omega arith, all_stop_owed x.client s.drawn s.streams) h;
+      closes = λ n y s w is free h. shown_quietly heard x seen s (closes n s) w (steps_same x s (closes n s) refl (λ e. e))
+          (owned_moves.closes n y s w is free h.owned) (at_closing (steady x.stream heard) x.client n s.clients h.row) (omega arith) h;
+      drops = λ n y s w is none h. shown_quietly heard x seen s (to_client n none_kept s) w (steps_same x s (to_client n none_kept s) refl (λ e. e))
+          (owned_moves.drops n y s w is none h.owned) (at_none (steady x.stream heard) x.client n s.clients h.row) (omega arith) h;
+      holds = λ n y bytes s w is has h. shown_quietly heard x seen s (to_client n (with_held bytes) s) w
+          (steps_same x s (to_client n (with_held bytes) s) refl (λ e. e)) (owned_moves.holds n y bytes s w is has h.owned)
+          (at_like (steady x.stream heard) x.client n (λ z. record z { held = bytes }) s.clients (λ z. refl) (λ z. refl) h.row) (omega arith) h;
+      input_ended = λ n s w h. shown_quietly heard x seen s (to_client n input_ended s) w (steps_same x s (to_client n input_ended s) refl (λ e. e))
+          (owned_moves.input_ended n s w h.owned)
+          (at_like (steady x.stream heard) x.client n (λ z. record z { about = record z.about { ended = true } }) s.clients (λ z. refl) (λ z. refl) h.row)
+          (omega arith) h;
+      hands = λ n k y s w is fits h. shown_quietly heard x seen s (to_client n (hands k) s) w (steps_same x s (to_client n (hands k) s) refl (λ e. e))
+          (owned_moves.hands n k y s w is fits h.owned) (at_hands (steady x.stream heard) x.client n k s.clients h.row) (omega arith) h;
+      flows = λ k stream flow s w is like h. shown_quietly heard x seen s (to_stream k (with_stream_part (with_flow flow stream.part)) s) w
+          (steps_part x s (to_stream k (with_stream_part (with_flow flow stream.part)) s) k stream (with_flow flow stream.part) is (refl, refl) refl (λ e. e))
+          (owned_moves.flows k stream flow s w is like h.owned) h.row (omega arith) h;
+      accepts = λ k payload stream s w is known turn h. accepts_shown k payload stream s w is known turn h;
+      opened = λ k remote word stream s w is by may h. opened_apart k remote word stream s w is by may h;
+      orphan_goes = λ k stream s w is orphan h. orphan_shown k stream s w is orphan h;
+      ends = λ k ending stream s w is so h. ends_so_shown heard x seen k ending stream s w is so h;
+      fails_open = λ n k cause client stream s w at h. fails_shown n k cause client stream s w at h;
+      fails_asked = λ n k cause client stream s w may at h. asked_shown n k cause client stream s w may at h;
+      links = λ t f s w h. shown_quietly heard x seen s (to_link t (λ link. Some (f link)) s) w
+          (steps_same x s (to_link t (λ link. Some (f link)) s) refl (λ e. link_stays t x.link (λ link. Some (f link)) s.links e))
+          (owned_moves.links t f s w h.owned) h.row (omega arith) h;
+      link_ends = λ t ending s w told h. (link_ends_cut t ending s w h).0;
+      online = λ t version maxdata identity s w may h. online_shown t version maxdata identity s w (λ same. absurd (may same)) h;
+      unauthorized = λ t row s w is offline h. shown_quietly heard x seen s (unauthorized_from t Offline s) w
+          (steps_same x s (unauthorized_from t Offline s) refl (λ e. e)) (owned_moves.unauthorized t row s w is offline h.owned)
+          (at_marked (steady x.stream heard) x.client s.clients h.row) (omega arith) h;
+      forwards = λ forwards s w led h. shown_quietly heard x seen s (record s { forwards = forwards }) w
+          (steps_same x s (record s { forwards = forwards }) refl (λ e. e)) (owned_moves.forwards forwards s w led h.owned) h.row (omega arith) h;
+    }
