@@ -181,7 +181,7 @@ module _ {c : ℕ} {P : State → List Event → Type 0} (k : IsOfClient c P) wh
     client_rule (Put n bytes) another may = put_either n bytes may (eqb n c) refl
     client_rule (Attach t kind serial) another may = attach_kept t kind serial may
     client_rule (End n cause) another may = rule_kept own_turns (End n cause) s w tt h
-    client_rule (Recv t bytes) another may = rule_kept own_turns (Recv t bytes) s w (λ p. record { reaches = tt; renews = tt }) h
+    client_rule (Recv t bytes) another may = rule_kept own_turns (Recv t bytes) s w (λ p. record { reaches = λ e. tt; renews = λ e. tt }) h
     client_rule (Detach t cause) another may = rule_kept own_turns (Detach t cause) s w tt h
     client_rule (Send t bytes) another may = rule_kept own_turns (Send t bytes) s w tt h
 

@@ -24,6 +24,7 @@ pub mod ServedAsks
 pub mod ServedHistories
 pub mod Entered
 pub mod ServedLaws
+pub mod AllMoves
 pub mod Openings
 pub mod ShownMoves
 pub mod ShownRules

@@ -225,11 +225,11 @@ module _ (l : ℕ) where
       go false e = inl (eqb-false (remote_in (opening_in l ps)) 0 e)
 
   -- a packet that says nothing of the stream
-  pub seen_nothing : (ps : List Packet) (p : Packet) → SaysNothing p.command l p → IsSeenOn (seen l ps) (seen l (ps ++ p ∷ []))
-  seen_nothing ps p says = record {
+  pub seen_one : (ps : List Packet) (p : Packet) → (opening_in l (p ∷ []) ≡ None) × (sealed_in l (p ∷ []) ≡ false) → IsSeenOn (seen l ps) (seen l (ps ++ p ∷ []))
+  seen_one ps p none_said = record {
     remote = go (seen_cases ps) (sealed_in l ps) refl;
     sealed = sealed_stays ps (p ∷ []);
-    pending = λ e f. ap (λ (s : Seen). s.sealed) (seen_pending ps (p ∷ []) e f) ∙ (nothing_one p.command p says).1;
+    pending = λ e f. ap (λ (s : Seen). s.sealed) (seen_pending ps (p ∷ []) e f) ∙ none_said.1;
   }
     where
       go : (remote_in (opening_in l ps) ≢ 0) ⊎ (remote_in (opening_in l ps) ≡ 0) → (b : Bool) → sealed_in l ps ≡ b
@@ -237,4 +237,11 @@ module _ (l : ℕ) where
       go (inl some) b e = remote_stays ps (p ∷ []) some
       go (inr none) true e = remote_sealed ps (p ∷ []) e ∙ sym none
       go (inr none) false e =
-          ap (λ (s : Seen). s.remote) (seen_pending ps (p ∷ []) none e) ∙ (ap remote_in (nothing_one p.command p says).0 ∙ sym none)
+          ap (λ (s : Seen). s.remote) (seen_pending ps (p ∷ []) none e) ∙ (ap remote_in none_said.0 ∙ sym none)
+
+  pub seen_nothing : (ps : List Packet) (p : Packet) → SaysNothing p.command l p → IsSeenOn (seen l ps) (seen l (ps ++ p ∷ []))
+  seen_nothing ps p says = seen_one ps p (nothing_one p.command p says)
+
+  -- what was told stays
+  pub seen_told : (ps qs : List Packet) → remote_in (opening_in l ps) ≢ 0 → IsSeenOn (seen l ps) (seen l (ps ++ qs))
+  seen_told ps qs some = record { remote = remote_stays ps qs some; sealed = sealed_stays ps qs; pending = λ e f. absurd (some e) }

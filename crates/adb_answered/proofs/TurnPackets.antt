@@ -31,7 +31,7 @@ use Rattle.adb_history.specs.Packets.{accepts_none, accepts, takes_write, takes_
 use Rattle.adb_history.specs.Packets.{faulty, with_rest, receives_cut, receives_on, receives}
 use Rattle.adb_history.specs.Moves.{After, IsLike}
 use Rattle.adb_history.proofs.Following.{after_quietly, after_then, after_if}
-use Rattle.adb_answered.specs.Turns.{Scope, Allows, Turns}
+use Rattle.adb_answered.specs.Turns.{Scope, names_stream, Allows, Turns}
 use Rattle.adb_answered.proofs.TurnStreams.{owes_kept, ends_telling_kept}
 
 like_acknowledged : (word : Option ℕ) (flow : Flow) → IsLike flow (acknowledged word flow)
@@ -87,7 +87,7 @@ module _ {scope : Scope} {asker : ℕ} {P : State → List Event → Type 0} (k 
         after_if P w (nat_eq stream.link t) (rule stream s) (quietly s) (λ e. keeps stream is) (λ e. after_quietly P w s h)
 
     -- ---- OKAY
-    orphan_kept : (l remote : ℕ) (stream : Stream) → s.streams l ≡ Some stream → stream.part.orphan ≡ true → After P w (orphan_opened l remote stream s)
+    pub orphan_kept : (l remote : ℕ) (stream : Stream) → s.streams l ≡ Some stream → stream.part.orphan ≡ true → After P w (orphan_opened l remote stream s)
     orphan_kept l remote stream is orphan =
         let p : Packet = close_packet l remote in
         let owed : Made = owe_link stream.link p s in
@@ -99,7 +99,7 @@ module _ {scope : Scope} {asker : ℕ} {P : State → List Event → Type 0} (k 
     first_kept false l remote word stream is may new =
         k.opened l remote word stream s w is (record { new = new.0; owned = new.1; by = new.2 }) may h
 
-    okay_open_kept : (l : ℕ) (word : Option ℕ) (stream : Stream) → s.streams l ≡ Some stream → After P w (okay_open l word stream s)
+    pub okay_open_kept : (l : ℕ) (word : Option ℕ) (stream : Stream) → s.streams l ≡ Some stream → After P w (okay_open l word stream s)
     okay_open_kept l word stream is =
         let flow : Flow = acknowledged word stream.part.flow in
         after_quietly P w (to_stream l (with_stream_part (with_flow flow stream.part)) s)
@@ -142,25 +142,25 @@ module _ {scope : Scope} {asker : ℕ} {P : State → List Event → Type 0} (k 
         (λ e. after_quietly P w s h)
 
     -- ---- one packet
-    treat_open_kept : (t : ℕ) (command : Command) (p : Packet) → scope.reaches p.arg1 → After P w (treat_open t command p s)
+    treat_open_kept : (t : ℕ) (command : Command) (p : Packet) → (names_stream command ≡ true → scope.reaches p.arg1) → After P w (treat_open t command p s)
     treat_open_kept t Open p may = refuses_kept t p.arg0
     treat_open_kept t Okay p may =
         at_stream_kept t p.arg1 (s.streams p.arg1) (takes_okay p.arg1 p.arg0 (credit_word p.payload)) refl
-        (λ stream is. okay_kept p.arg1 p.arg0 (credit_word p.payload) stream is may)
+        (λ stream is. okay_kept p.arg1 p.arg0 (credit_word p.payload) stream is (may refl))
     treat_open_kept t Wrte p may =
         at_stream_kept t p.arg1 (s.streams p.arg1) (takes_write p.arg1 p.arg0 p.payload) refl (λ stream is. write_kept p.arg1 p.arg0 p.payload stream is)
     treat_open_kept t Clse p may =
-        at_stream_kept t p.arg1 (s.streams p.arg1) (takes_close p.arg1 p.arg0) refl (λ stream is. close_kept p.arg1 p.arg0 stream is may)
+        at_stream_kept t p.arg1 (s.streams p.arg1) (takes_close p.arg1 p.arg0) refl (λ stream is. close_kept p.arg1 p.arg0 stream is (may refl))
     treat_open_kept t Cnxn p may = after_quietly P w s h
     treat_open_kept t Auth p may = after_quietly P w s h
     treat_open_kept t Stls p may = after_quietly P w s h
 
-    if_connected_kept : (t : ℕ) (command : Command) (p : Packet) → scope.reaches p.arg1 → After P w (cond (is_connected t s.devices) (treat_open t command p s) (quietly s))
+    if_connected_kept : (t : ℕ) (command : Command) (p : Packet) → (names_stream command ≡ true → scope.reaches p.arg1) → After P w (cond (is_connected t s.devices) (treat_open t command p s) (quietly s))
     if_connected_kept t command p may =
         after_if P w (is_connected t s.devices) (treat_open t command p s) (quietly s) (λ e. treat_open_kept t command p may) (λ e. after_quietly P w s h)
 
-    treat_any_kept : (t : ℕ) (command : Command) (p : Packet) → Allows scope t p → After P w (treat_any t command p s)
-    treat_any_kept t Cnxn p may = cnxn_kept t p.arg0 p.arg1 p.payload may.renews
+    treat_any_kept : (t : ℕ) (command : Command) (p : Packet) → Allows scope t command p → After P w (treat_any t command p s)
+    treat_any_kept t Cnxn p may = cnxn_kept t p.arg0 p.arg1 p.payload (may.renews refl)
     treat_any_kept t Auth p may = unauthorized_kept t (at t s.devices.rows) refl
     treat_any_kept t Stls p may = unauthorized_kept t (at t s.devices.rows) refl
     treat_any_kept t Open p may = if_connected_kept t Open p may.reaches
@@ -168,11 +168,11 @@ module _ {scope : Scope} {asker : ℕ} {P : State → List Event → Type 0} (k 
     treat_any_kept t Wrte p may = if_connected_kept t Wrte p may.reaches
     treat_any_kept t Clse p may = if_connected_kept t Clse p may.reaches
 
-    pub treat_on_kept : (o : Option Link) (t : ℕ) (p : Packet) → Allows scope t p → After P w (treat_on o t p s)
+    pub treat_on_kept : (o : Option Link) (t : ℕ) (p : Packet) → Allows scope t p.command p → After P w (treat_on o t p s)
     treat_on_kept None t p may = after_quietly P w s h
     treat_on_kept (Some link) t p may = treat_any_kept t p.command p may
 
-  treat_all_kept : (s : State) (w : List Event) → P s w → (t : ℕ) (packets : List Packet) → ((p : Packet) → Allows scope t p) → After P w (treat_all t packets s)
+  treat_all_kept : (s : State) (w : List Event) → P s w → (t : ℕ) (packets : List Packet) → ((p : Packet) → Allows scope t p.command p) → After P w (treat_all t packets s)
   treat_all_kept s w h t [] may = after_quietly P w s h
   treat_all_kept s w h t (p ∷ packets) may =
       after_then P w (treat t p s) (treat_all t packets) (treat_on_kept s w h (s.links t) t p (may p)) (λ v now. treat_all_kept (treat t p s).state v now t packets may)
@@ -185,17 +185,17 @@ module _ {scope : Scope} {asker : ℕ} {P : State → List Event → Type 0} (k 
     faulty_kept (Some link) t (Some fault) = k.link_ends t broken s w refl h
 
   module _ (s : State) (w : List Event) (h : P s w) where
-    receives_cut_kept : (t : ℕ) (c : Cut PacketFormat Packet PacketFault) → ((p : Packet) → Allows scope t p) → After P w (receives_cut t c s)
+    receives_cut_kept : (t : ℕ) (c : Cut PacketFormat Packet PacketFault) → ((p : Packet) → Allows scope t p.command p) → After P w (receives_cut t c s)
     receives_cut_kept t c may =
         let taken : State = to_link t (with_rest c.rest) s in
         after_then P w (treat_all t c.given taken) (faulty t c.fault)
         (treat_all_kept taken w (k.links t (λ link. record link { rest = c.rest }) s w h) t c.given may)
         (λ v now. faulty_kept (treat_all t c.given taken).state v now ((treat_all t c.given taken).state.links t) t c.fault)
 
-    receives_on_kept : (o : Option Link) (t : ℕ) (bytes : List ℕ) → ((p : Packet) → Allows scope t p) → After P w (receives_on o t bytes s)
+    receives_on_kept : (o : Option Link) (t : ℕ) (bytes : List ℕ) → ((p : Packet) → Allows scope t p.command p) → After P w (receives_on o t bytes s)
     receives_on_kept None t bytes may = after_quietly P w s h
     receives_on_kept (Some link) t bytes may =
         receives_cut_kept t (cut_packets (record { sums = link.sums }) (link.rest ++ bytes)) may
 
-    pub receives_kept : (t : ℕ) (bytes : List ℕ) → ((p : Packet) → Allows scope t p) → After P w (receives t bytes s)
+    pub receives_kept : (t : ℕ) (bytes : List ℕ) → ((p : Packet) → Allows scope t p.command p) → After P w (receives t bytes s)
     receives_kept t bytes may = receives_on_kept (s.links t) t bytes may

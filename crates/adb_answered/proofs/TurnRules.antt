@@ -212,7 +212,7 @@ module _ {scope : Scope} {asker : ℕ} {P : State → List Event → Type 0} (k 
   IsBy (Bound c port) = c ≡ asker
   IsBy (Put c bytes) = c ≡ asker
   IsBy (End c cause) = scope.fails c
-  IsBy (Recv t bytes) = (p : Packet) → Allows scope t p
+  IsBy (Recv t bytes) = (p : Packet) → Allows scope t p.command p
   IsBy _ = Unit {0}
 
   -- What is to be shown before the rule of an entry: that it holds with who comes; of a client that asks, that it holds with what is read.

@@ -6,7 +6,10 @@ use Rattle.adb_outside.specs.declared.identity.Identity.{Identity}
 use Rattle.adb_outside.specs.declared.identity.State.TheVariants.{Offline}
 use Rattle.adb_registry.specs.declared.row.Row.{Row}
 use Rattle.adb_forward.specs.declared.row.ForwardRow.{ForwardRow}
+use Rattle.adb_wire.specs.declared.command.Command.{Command}
+use Rattle.adb_wire.specs.declared.command.Command.TheVariants.{Okay, Clse}
 use Rattle.adb_wire.specs.declared.packets.Packet.{Packet}
+use Rattle.adb_wire.specs.Format.{is_cnxn}
 use Rattle.adb_wire.specs.Packet.{spelling}
 use Rattle.adb_stream.specs.declared.flow.Flow.{Flow}
 use Rattle.adb_stream.specs.declared.row.Stream.{Stream}
@@ -38,10 +41,16 @@ pub record Scope : Type 1 where
 abbrev pub everywhere : Scope
 everywhere = record { reaches = λ l. Unit {0}; renews = λ t. Unit {0}; fails = λ c. Unit {0} }
 
+-- whether a packet opens or closes a stream that it names
+abbrev pub names_stream : Command → Bool
+names_stream Okay = true
+names_stream Clse = true
+names_stream _ = false
+
 -- what a packet names, and who brings it
-pub record Allows (scope : Scope) (t : ℕ) (p : Packet) : Type 0 where
-  pub reaches : scope.reaches p.arg1
-  pub renews : scope.renews t
+pub record Allows (scope : Scope) (t : ℕ) (command : Command) (p : Packet) : Type 0 where
+  pub reaches : names_stream command ≡ true → scope.reaches p.arg1
+  pub renews : is_cnxn command ≡ true → scope.renews t
 
 -- A stream may end so: its client hears why it was not opened, or it is open.
 abbrev pub EndsSo : (ℕ → Type 0) → Rows (Option Client) → ℕ → Ending → Stream → Type 0
