@@ -25,6 +25,7 @@ pub mod ServedHistories
 pub mod Entered
 pub mod ServedLaws
 pub mod AllMoves
+pub mod Clearing
 pub mod Openings
 pub mod ShownMoves
 pub mod ShownRules
