@@ -1,0 +1,6 @@
+mod Shown
+mod Others
+mod OtherPackets
+mod Own
+mod OwnPackets
+mod Ups
