@@ -4,3 +4,5 @@ mod OtherPackets
 mod Own
 mod OwnPackets
 mod Ups
+mod OwnTurns
+mod OwnHands

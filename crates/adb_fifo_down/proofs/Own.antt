@@ -117,7 +117,7 @@ module _ (b : Line) where
   own_told_end v ending s w h = (h.0, view_told b s w (ended b.id ending) ∙ (ap (tells b (ended b.id ending)) h.1 ∙ told_ended ending v))
 
   -- ---- it ends
-  closing_is : (due : List ℕ) (a : Client) → option_map seen_client (closing_with due a) ≡ closing_seen due (seen_client a)
+  pub closing_is : (due : List ℕ) (a : Client) → option_map seen_client (closing_with due a) ≡ closing_seen due (seen_client a)
   closing_is [] a = refl
   closing_is (x ∷ due) a = refl
 
