@@ -6,3 +6,5 @@ mod OwnPackets
 mod Ups
 mod OwnTurns
 mod OwnHands
+mod OtherTurns
+mod Rules

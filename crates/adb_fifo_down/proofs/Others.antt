@@ -49,10 +49,11 @@ part_keeps part x y e =
 pub none_keeps : (x y : Stream) → none_kept x ≡ Some y → (y.client ≡ x.client) × (y.link ≡ x.link)
 none_keeps x y e = absurd (let clash : None ≡ Some y = e in cc)
 
-module _ (b : Line) (v : View) where
-  abbrev P : State → List Event → Type 0
-  P s w = Shows b v s w
+-- a client whose stream is another
+pub record IsElse (b : Line) (a : Client) : Type 0 where
+  pub stream : (l : ℕ) → (a.about.phase ≡ Opening l) ⊎ (a.about.phase ≡ Streaming l) → l ≢ b.id
 
+module _ (b : Line) (v : View) where
   module _ (s : State) (w : List Event) (h : Shows b v s w) where
     -- ---- a client that is another
     shows_closes_with : (n : ℕ) (bytes : List ℕ) → n ≢ b.client → After (Shows b v) w (closes_with n bytes s)
@@ -227,16 +228,12 @@ module _ (b : Line) (v : View) where
 
   -- it fails, or its input ends
   module _ (s : State) (w : List Event) (h : Shows b v s w) (n : ℕ) (other : n ≢ b.client) where
-    -- the stream of another client is another
-    pub record IsElse (a : Client) : Type 0 where
-      pub stream : (l : ℕ) → (a.about.phase ≡ Opening l) ⊎ (a.about.phase ≡ Streaming l) → l ≢ b.id
-
-    shows_fails : (cause : Cause) (a : Client) → IsElse a → After (Shows b v) w (client_fails n cause a s)
+    shows_fails : (cause : Cause) (a : Client) → IsElse b a → After (Shows b v) w (client_fails n cause a s)
     shows_fails cause a apart =
         shows_stream_fails (to_client n none_kept s) w (shows_client b v n none_kept s w other h) n other a.about.phase cause
         (stream_of a.about.phase s.streams) (λ l e some. apart.stream l e)
 
-    pub shows_client_ends : (cause : Cause) (o : Option Client) → ((a : Client) → o ≡ Some a → IsElse a) → After (Shows b v) w (client_ends n cause o s)
+    pub shows_client_ends : (cause : Cause) (o : Option Client) → ((a : Client) → o ≡ Some a → IsElse b a) → After (Shows b v) w (client_ends n cause o s)
     shows_client_ends cause None apart = after_quietly (Shows b v) w s h
     shows_client_ends Eof (Some a) apart = after_quietly (Shows b v) w (input_ends a.about.phase n s) (shows_input_ends s w h n other a.about.phase)
     shows_client_ends Fault (Some a) apart = shows_fails Fault a (apart a refl)

@@ -1,3 +1,4 @@
 pub mod Line
 pub mod Treated
 pub mod Turned
+pub mod Turns

@@ -187,7 +187,7 @@ module _ {P : State → List Event → Type 0} (k : Moves P) where
     treat_any_kept t Wrte p = if_connected_kept t Wrte p
     treat_any_kept t Clse p = if_connected_kept t Clse p
 
-    treat_on_kept : (o : Option Link) (t : ℕ) (p : Packet) → After P w (treat_on o t p s)
+    pub treat_on_kept : (o : Option Link) (t : ℕ) (p : Packet) → After P w (treat_on o t p s)
     treat_on_kept None t p = after_quietly P w s h
     treat_on_kept (Some link) t p = treat_any_kept t p.command p
 
