@@ -8,3 +8,5 @@ mod OwnTurns
 mod OwnHands
 mod OtherTurns
 mod Rules
+mod Openings
+mod Lives

@@ -2,3 +2,4 @@ pub mod Line
 pub mod Treated
 pub mod Turned
 pub mod Turns
+pub mod Life
