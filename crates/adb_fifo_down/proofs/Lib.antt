@@ -10,3 +10,4 @@ mod OtherTurns
 mod Rules
 mod Openings
 mod Lives
+mod LifePackets

@@ -63,10 +63,7 @@ was_peer None after (inl is) e = absurd (let clash : None ≡ Some peer_closed =
 was_peer None after (inr is) e = absurd (let both : Some stopped ≡ Some peer_closed = sym is ∙ e in cc)
 
 module _ (l : ℕ) (k : Cradle) (packets : List Packet) (shut : Bool) (out : List ℕ) (v : View) where
-  abbrev Lives : View → Type 0
-  Lives u = Life l k packets shut out u
-
-  lives_at : (x : SeenStream) → v.stream ≡ Some x → Life l k packets shut out v → LivesAs x.orphan x.remote l k packets (heard v)
+  pub lives_at : (x : SeenStream) → v.stream ≡ Some x → Life l k packets shut out v → LivesAs x.orphan x.remote l k packets (heard v)
   lives_at x there h = subst (λ (o : Option SeenStream). LivesIn o l k packets shut (heard v)) there h.lives
 
   -- ---- it is over
@@ -106,7 +103,7 @@ module _ (l : ℕ) (k : Cradle) (packets : List Packet) (shut : Bool) (out : Lis
       (record { tied = tied; lives = (subst IsDone (sym gone) none_done, inr (inl unheard)) })
 
   -- what was open then, by another ending than its device's close
-  open_story : (remote : ℕ) (ending : Ending) → ending ≢ peer_closed → IsOpened remote l k packets (heard v)
+  pub open_story : (remote : ℕ) (ending : Ending) → ending ≢ peer_closed → IsOpened remote l k packets (heard v)
       → WasOpen l k packets v.output (first_of v.ending (Some ending))
   open_story remote ending other h = record {
     opening = h.opening;
@@ -250,11 +247,11 @@ module _ (l : ℕ) (k : Cradle) (packets : List Packet) (shut : Bool) (out : Lis
         by (Some x) there i = alive_fails x x.orphan x.remote refl refl i
 
 -- ---- bytes are handed out
-same_orphan : (c : Bool) (x y : SeenStream) (orphan : Bool) → x.orphan ≡ orphan → y.orphan ≡ orphan → (cond c x y).orphan ≡ orphan
+pub same_orphan : (c : Bool) (x y : SeenStream) (orphan : Bool) → x.orphan ≡ orphan → y.orphan ≡ orphan → (cond c x y).orphan ≡ orphan
 same_orphan true x y orphan e f = e
 same_orphan false x y orphan e f = f
 
-same_remote : (c : Bool) (x y : SeenStream) (remote : ℕ) → x.remote ≡ remote → y.remote ≡ remote → (cond c x y).remote ≡ remote
+pub same_remote : (c : Bool) (x y : SeenStream) (remote : ℕ) → x.remote ≡ remote → y.remote ≡ remote → (cond c x y).remote ≡ remote
 same_remote true x y remote e f = e
 same_remote false x y remote e f = f
 
