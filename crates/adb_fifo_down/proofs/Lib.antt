@@ -1,6 +1,7 @@
 mod Shown
 mod Others
 mod OtherPackets
+mod OtherLinks
 mod Own
 mod OwnPackets
 mod Ups
@@ -11,3 +12,5 @@ mod Rules
 mod Openings
 mod Lives
 mod LifePackets
+mod Brought
+mod Entries

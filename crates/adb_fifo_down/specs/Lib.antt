@@ -3,3 +3,4 @@ pub mod Treated
 pub mod Turned
 pub mod Turns
 pub mod Life
+pub mod Follows
