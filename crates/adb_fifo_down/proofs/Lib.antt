@@ -14,3 +14,4 @@ mod Lives
 mod LifePackets
 mod Brought
 mod Entries
+mod Steps
