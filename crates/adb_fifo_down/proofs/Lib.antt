@@ -15,3 +15,5 @@ mod LifePackets
 mod Brought
 mod Entries
 mod Steps
+mod BornNow
+mod Begun

@@ -71,7 +71,7 @@ module _ (b : Line) where
   )
 
   -- what is told of them
-  told_due : (bytes : List ℕ) (u : View) → tells b (due_to_client b.client bytes) u ≡ record u { output = u.output ++ bytes }
+  pub told_due : (bytes : List ℕ) (u : View) → tells b (due_to_client b.client bytes) u ≡ record u { output = u.output ++ bytes }
   told_due bytes u =
       let output : u.output ++ cond (eqb b.client b.client) bytes [] ≡ u.output ++ bytes =
       ap (λ (x : Bool). u.output ++ cond x bytes []) (eq-eqb b.client b.client refl) in

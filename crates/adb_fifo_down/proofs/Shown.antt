@@ -71,7 +71,7 @@ module _ (b : Line) where
     pub okays : okays_of b.id (packets_to b.link (e ∷ [])) ≡ []
     pub ending : ending_in b.id (e ∷ []) ≡ None
 
-  tells_nothing : (e : Event) (v : View) → IsQuiet e → tells b e v ≡ v
+  pub tells_nothing : (e : Event) (v : View) → IsQuiet e → tells b e v ≡ v
   tells_nothing e v q =
       let output : v.output ++ bytes_for b.client e ≡ v.output = ap (λ (x : List ℕ). v.output ++ x) q.bytes ∙ append-nil v.output in
       let okays : v.okays ++ okays_of b.id (packets_to b.link (e ∷ [])) ≡ v.okays =

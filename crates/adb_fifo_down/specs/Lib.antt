@@ -4,3 +4,4 @@ pub mod Turned
 pub mod Turns
 pub mod Life
 pub mod Follows
+pub mod Begins
