@@ -17,3 +17,4 @@ mod Entries
 mod Steps
 mod BornNow
 mod Begun
+mod BirthEntries
