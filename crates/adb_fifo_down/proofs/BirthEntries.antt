@@ -51,6 +51,7 @@ use Rattle.adb_fifo_down.proofs.Shown.{packets_append, ending_append, first_none
 use Rattle.adb_fifo_down.proofs.Others.{after_next}
 use Rattle.adb_fifo_down.proofs.OwnPackets.{own_row}
 use Rattle.adb_fifo_down.proofs.Ups.{Upped, shows_ups}
+use Rattle.adb_fifo_down.proofs.Askers.{AsksAs, alone, asked_then, AsksBehind, asks_behind_it, asking_at, asking_parts}
 use Rattle.adb_fifo_down.proofs.Begun.{of_another, of_older, drawn_line, new_row, drawn_shows}
 
 drop_all : {A : Type 0} (xs : List A) → drop (length xs) xs ≡ []
@@ -112,13 +113,6 @@ module _ {P : PromiseOf} (lasts : Lasts P) where
           (lasts.begins (line l b) k credit (bytes_put b.client (e ∷ older)) due put))
 
 -- ---- what a client asks
--- what it asked, with what is read from it
-asked_then : (c : ℕ) (bytes : List ℕ) (older : History)
-    → asked c (Read c bytes ∷ older) ≡ asked_with (is_asking c older (book older)) (devices older) (forwards older) bytes (asked c older)
-asked_then c bytes older =
-    let q = asked_with (is_asking c older (book older)) (devices older) (forwards older) bytes (asked c older) in
-    ap (λ (b : Bool). cond b q (asked c older)) (eq-eqb c c refl)
-
 -- a request is whole only now, of a client that asks
 record NowAsks (c : ℕ) (bytes : List ℕ) (older : History) (next : Next) : Type 0 where
   asking : is_asking c older (book older) ≡ true
@@ -137,49 +131,3 @@ now_asks c bytes older next before after = by (is_asking c older (book older)) r
         let clash : None ≡ Some next = sym before ∙ (ap (λ (q : Asked). q.next) (sym now) ∙ after) in
         absurd (cc)
 
--- the client is there, and asks
-asking_row : (o : Option Client) → asks_now o ≡ true → (a : Client) × (o ≡ Some a) × (a.about.phase ≡ Asking)
-asking_row None e = absurd (let clash : false ≡ true = e in cc)
-asking_row (Some a) e = (a, refl, by a.about.phase e)
-  where
-    by : (phase : Phase) → asks_in phase ≡ true → phase ≡ Asking
-    by Asking e = refl
-    by (Opening l) e = absurd (cc)
-    by (Streaming l) e = absurd (cc)
-    by Binding e = absurd (cc)
-    by Tracking e = absurd (cc)
-    by Closing e = absurd (cc)
-    by Gone e = absurd (cc)
-
--- what the machine makes of a request that opens a stream
-module _ (c : ℕ) (bytes : List ℕ) (older : History) (legal : IsLegal (Read c bytes ∷ older)) (t : ℕ) (service : List ℕ)
-    (asks_it : NowAsks c bytes older (what.Open t service)) where
-  asking_client : (a : Client) × ((state older).clients c ≡ Some a) × (a.about.phase ≡ Asking)
-  asking_client = asking_row ((state older).clients c) (((booked older legal.0).clients legal.2.0 c).asks ∙ asks_it.asking)
-
-  machine_asks : Client → Asked
-  machine_asks a = asks_with (state older).devices (state older).forwards bytes (asked_before a)
-
-  -- what it asked before is as the machine keeps it
-  asked_as_kept : (a : Client) → (state older).clients c ≡ Some a → a.about.phase ≡ Asking → asked c older ≡ behind (asked c older) (asked_before a)
-  asked_as_kept a is asking =
-      let kept = all_unread older legal.0 c a is asking in
-      let replies : (asked c older).replies ≡ (asked c older).replies ++ [] = sym (append-nil (asked c older).replies) in
-      let used : (asked c older).used ≡ (asked c older).used + 0 = omega arith in
-      λ i. record {
-        replies = replies i;
-        used = used i;
-        rest = sym kept.rest i;
-        selected = sym kept.selected i;
-        next = asks_it.before i;
-      }
-
-  asked_behind : (a : Client) → (state older).clients c ≡ Some a → a.about.phase ≡ Asking
-      → asked c (Read c bytes ∷ older) ≡ behind (asked c older) (asks_with (state older).devices (state older).forwards bytes (asked_before a))
-  asked_behind a is asking =
-      let books = all_books older legal.0 in
-      asks_it.same
-      ∙ (ap (λ (d : DeviceTable). asks_with d (forwards older) bytes (asked c older)) (sym books.devices)
-      ∙ (ap (λ (f : List (ℕ × ForwardRow)). asks_with (state older).devices f bytes (asked c older)) (sym books.forwards)
-      ∙ (ap (asks_with (state older).devices (state older).forwards bytes) (asked_as_kept a is asking)
-      ∙ asks_behind (state older).devices (state older).forwards (asked c older) bytes (asked_before a))))

@@ -17,4 +17,5 @@ mod Entries
 mod Steps
 mod BornNow
 mod Begun
+mod Askers
 mod BirthEntries
