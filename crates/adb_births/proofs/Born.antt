@@ -90,43 +90,44 @@ born_later e older heard streams all l stream is =
     }
 
 -- packets of its link
-pub hears_born : (h : History) (t : ℕ) (ps : List Packet) (old new : ℕ → List Packet) (x y : Rows (Option Stream)) → AllHear t ps x y
-    → ((k : ℕ) → t ≢ k → new k ≡ old k) × (new t ≡ old t ++ ps) → AllBornAs h old x → AllBornAs h new y
-hears_born h t ps old new x y hear next all l b is = go (eqb b.link t) refl
-  where
-    was : Heard t ps l (x l) b
-    was = hear l b is
+module _ (h : History) (t : ℕ) (ps : List Packet) (old new : ℕ → List Packet) where
+  pub hears_born : (x y : Rows (Option Stream)) → AllHear t ps x y → ((k : ℕ) → t ≢ k → new k ≡ old k) × (new t ≡ old t ++ ps)
+      → AllBornAs h old x → AllBornAs h new y
+  hears_born x y hear next all l b is = go (eqb b.link t) refl
+    where
+      was : Heard t ps l (x l) b
+      was = hear l b is
 
-    k : IsBornAs h old l (hear l b is).stream
-    k = all l (hear l b is).stream (hear l b is).is
+      k : IsBornAs h old l (hear l b is).stream
+      k = all l (hear l b is).stream (hear l b is).is
 
-    to : b.link ≡ (all l (hear l b is).stream (hear l b is).is).birth.link
-    to = was.link ∙ k.link
+      to : b.link ≡ (all l (hear l b is).stream (hear l b is).is).birth.link
+      to = was.link ∙ k.link
 
-    made : (packets : List Packet) → new k.birth.link ≡ packets → k.birth.packets_before ≤ length packets
-        → IsHeard l b.part.remote (drop k.birth.packets_before packets) → IsBornAs h new l b
-    made packets same within heard = record {
-      birth = k.birth;
-      is = k.is;
-      id = was.id ∙ k.id;
-      client = was.client ∙ k.client;
-      link = was.link ∙ k.link;
-      credit = was.credit ∙ k.credit;
-      before = subst (λ (qs : List Packet). k.birth.packets_before ≤ length qs) (sym same) within;
-      heard_of = subst (λ (qs : List Packet). IsHeard l b.part.remote (drop k.birth.packets_before qs)) (sym same) heard;
-    }
+      made : (packets : List Packet) → new k.birth.link ≡ packets → k.birth.packets_before ≤ length packets
+          → IsHeard l b.part.remote (drop k.birth.packets_before packets) → IsBornAs h new l b
+      made packets same within heard = record {
+        birth = k.birth;
+        is = k.is;
+        id = was.id ∙ k.id;
+        client = was.client ∙ k.client;
+        link = was.link ∙ k.link;
+        credit = was.credit ∙ k.credit;
+        before = subst (λ (qs : List Packet). k.birth.packets_before ≤ length qs) (sym same) within;
+        heard_of = subst (λ (qs : List Packet). IsHeard l b.part.remote (drop k.birth.packets_before qs)) (sym same) heard;
+      }
 
-    go : (c : Bool) → eqb b.link t ≡ c → IsBornAs h new l b
-    go true e =
-        let on : t ≡ k.birth.link = sym (eqb-true b.link t e) ∙ to in
-        let same : new k.birth.link ≡ old k.birth.link ++ ps = sym (ap new on) ∙ (next.1 ∙ ap (λ (n : ℕ). old n ++ ps) on) in
-        made (old k.birth.link ++ ps) same (omega (arith, k.before, length-append (old k.birth.link) ps))
-        (subst (IsHeard l b.part.remote) (sym (drop-append-le k.birth.packets_before (old k.birth.link) ps k.before))
-        (was.here (eqb-true b.link t e) (drop k.birth.packets_before (old k.birth.link)) k.heard_of))
-    go false e =
-        let off : t ≢ k.birth.link = λ same. eqb-false b.link t e (to ∙ sym same) in
-        made (old k.birth.link) (next.0 k.birth.link off) k.before
-        (subst (λ (n : ℕ). IsHeard l n (drop k.birth.packets_before (old k.birth.link))) (sym (was.other (eqb-false b.link t e))) k.heard_of)
+      go : (c : Bool) → eqb b.link t ≡ c → IsBornAs h new l b
+      go true e =
+          let on : t ≡ k.birth.link = sym (eqb-true b.link t e) ∙ to in
+          let same : new k.birth.link ≡ old k.birth.link ++ ps = sym (ap new on) ∙ (next.1 ∙ ap (λ (n : ℕ). old n ++ ps) on) in
+          made (old k.birth.link ++ ps) same (omega (arith, k.before, length-append (old k.birth.link) ps))
+          (subst (IsHeard l b.part.remote) (sym (drop-append-le k.birth.packets_before (old k.birth.link) ps k.before))
+          (was.here (eqb-true b.link t e) (drop k.birth.packets_before (old k.birth.link)) k.heard_of))
+      go false e =
+          let off : t ≢ k.birth.link = λ same. eqb-false b.link t e (to ∙ sym same) in
+          made (old k.birth.link) (next.0 k.birth.link off) k.before
+          (subst (λ (n : ℕ). IsHeard l n (drop k.birth.packets_before (old k.birth.link))) (sym (was.other (eqb-false b.link t e))) k.heard_of)
 
 -- ---- an entry
 module _ (e : Entry) (older : History) (b : AreBorn older) where

@@ -52,32 +52,30 @@ not_cnxn Stls of e = of
 abbrev pub IsAhead : History → (ℕ → List Packet) → Type 0
 IsAhead h heard = (t : ℕ) → ComeFirst (heard t) (brought t h)
 
-pub own_row : (h : History) (heard : ℕ → List Packet) (rows : Rows (Option Stream)) → AllBornAs h heard rows → IsAhead h heard
-    → (t : ℕ) (p : Packet) → IsOfRow rows t p → IsOf h t p
-own_row h heard rows all ahead t p of =
-    let k = all p.arg0 of.stream of.is in
-    let told : remote_of p.arg0 k.birth h ≡ of.stream.part.remote = remote_told h heard p.arg0 of.stream k (ahead k.birth.link) of.known in
-    record {
-      birth = k.birth;
-      is = k.is;
-      link = sym k.link ∙ of.link;
-      told = λ none. of.known (sym told ∙ none);
-      remote = of.remote ∙ sym told;
-    }
+module _ (h : History) (heard : ℕ → List Packet) (rows : Rows (Option Stream)) (all : AllBornAs h heard rows) (ahead : IsAhead h heard) where
+  own_row : (t : ℕ) (p : Packet) → IsOfRow rows t p → IsOf h t p
+  own_row t p of =
+      let k = all p.arg0 of.stream of.is in
+      let told : remote_of p.arg0 k.birth h ≡ of.stream.part.remote = remote_told h heard p.arg0 of.stream k (ahead k.birth.link) of.known in
+      record {
+        birth = k.birth;
+        is = k.is;
+        link = sym k.link ∙ of.link;
+        told = λ none. of.known (sym told ∙ none);
+        remote = of.remote ∙ sym told;
+      }
 
-right_row : (h : History) (heard : ℕ → List Packet) (rows : Rows (Option Stream)) → AllBornAs h heard rows → IsAhead h heard
-    → (t : ℕ) (p : Packet) (check : ℕ) → IsOfRow rows t p → IsShort p check → IsRight h t p check
-right_row h heard rows all ahead t p check of short = record {
-  own = own_open h t p p.command of.of (own_row h heard rows all ahead t p of);
-  short = short;
-  sum = λ cnxn. absurd (not_cnxn p.command of.of cnxn);
-}
+  right_row : (t : ℕ) (p : Packet) (check : ℕ) → IsOfRow rows t p → IsShort p check → IsRight h t p check
+  right_row t p check of short = record {
+    own = own_open h t p p.command of.of (own_row t p of);
+    short = short;
+    sum = λ cnxn. absurd (not_cnxn p.command of.of cnxn);
+  }
 
-pub right_from : (h : History) (heard : ℕ → List Packet) (rows : Rows (Option Stream)) → AllBornAs h heard rows → IsAhead h heard
-    → (e : Event) → IsFrom rows e → IsRightEvent h e
-right_from h heard rows all ahead (due_to_client client bytes) from = tt
-right_from h heard rows all ahead (due_to_link t p check) from = right_row h heard rows all ahead t p check from.0 from.1
-right_from h heard rows all ahead (ended stream ending) from = tt
+  pub right_from : (e : Event) → IsFrom rows e → IsRightEvent h e
+  right_from (due_to_client client bytes) from = tt
+  right_from (due_to_link t p check) from = right_row t p check from.0 from.1
+  right_from (ended stream ending) from = tt
 
 -- ---- the answers to a packet
 module _ (h : History) (t : ℕ) (p : Packet) (xs more : List Packet) (whole : xs ++ p ∷ more ≡ brought t h) where
