@@ -1,6 +1,6 @@
 -- What is sent of a stream is a front of what was told of it.
 use Rattle.std.proofs.Common.{◌≡◌, ℕ, ◌<◌, ◌≤◌, zero, suc, Bool, true, false, List, [], ◌∷◌, ◌++◌, length, get_or, refl, sym, ap, subst, ◌∙◌}
-use Rattle.std.proofs.Common.{append_assoc, arith, eqb}
+use Rattle.std.proofs.Common.{append_assoc, arith, eqb, ◌+◌, Option, Some, None}
 use Rattle.std.specs.Prelude.{◌&&◌, Contains}
 use Rattle.std.proofs.lemmas.Bool.{eq-eqb}
 use Rattle.std.proofs.lemmas.List.{append-nil, length-append}
@@ -9,16 +9,18 @@ use Rattle.adb_wire.specs.declared.packets.Packet.{Packet}
 use Rattle.adb_history.specs.Links.{close_packet}
 use Rattle.adb_history.specs.Machine.{History, told, IsLegal}
 use Rattle.adb_history.specs.Bytes.{sent}
-use Rattle.adb_history.specs.Births.{Birth, carried_in, count_from, is_clse, is_wrte, opening_of, remote_of}
+use Rattle.adb_history.specs.Births.{Opening, Birth, carried_in, count_from, is_clse, is_wrte, opening_of, remote_of}
 use Rattle.adb_history.specs.Lives.{packets_of, rest_of, carried_of}
-use Rattle.adb_history.specs.Fifo.{CarriesRest, CarriesWholeRest, KeepsUpWindow, IsWithinUp}
-use Rattle.adb_fifo_up.specs.Carrying.{AllHaveBirths, SendsFront}
+use Rattle.adb_history.specs.Fifo.{allowed_writes, CarriesRest, CarriesWholeRest, KeepsUpWindow, IsWithinUp}
+use Rattle.adb_history.specs.Causes.{okays_behind, IsDone}
+use Rattle.adb_fifo_up.specs.Climbing.{carried}
+use Rattle.adb_fifo_up.specs.Carrying.{AllHaveBirths, SendsFront, ClosedStreamsAreDone}
 use Rattle.adb_fifo_up.proofs.Seeing.{carried_in_append}
 use Rattle.adb_fifo_up.proofs.BirthSteps.{born_drawn}
 use Rattle.adb_fifo_up.proofs.Shutting.{count_append, has_close, IsLast, last_split, or_left, or_right}
 use Rattle.adb_fifo_up.proofs.Shuts.{all_shut}
 use Rattle.adb_fifo_up.proofs.Openings.{allowed}
-use Rattle.adb_fifo_up.proofs.Fits.{used}
+use Rattle.adb_fifo_up.proofs.Fits.{used, IsAnsweredAll}
 use Rattle.adb_fifo_up.proofs.Windowed.{all_fit}
 use Rattle.adb_fifo_up.proofs.Carried.{all_carried}
 
@@ -73,3 +75,17 @@ within_up true l b h front fits =
 
 pub up_window : AllHaveBirths → (h : History) → IsLegal h → SendsFront h → KeepsUpWindow h
 up_window births h legal front l b is = within_up b.credit l b h front (all_fit births h legal l b is).fits.within
+
+-- ---- a stream whose client closed
+answered : (went l : ℕ) (o : Option Opening) → went + 1 ≤ allowed_writes l o → went ≤ okays_behind l o
+answered went l None fits = omega (arith, fits)
+answered went l (Some o) fits = omega (arith, fits)
+
+is_done : (credit : Bool) (l : ℕ) (b : Birth) (h : History) → IsAnsweredAll credit (used credit b.link l (told h)) (allowed credit l (opening_of l b h))
+    → carried b.link l (told h) ≡ rest_of l b h → IsDone credit l b h
+is_done false l b h fits all = answered (used false b.link l (told h)) l (opening_of l b h) fits
+is_done true l b h fits all = all
+
+pub closed_done : AllHaveBirths → (h : History) → IsLegal h → ClosedStreamsAreDone h
+closed_done births h legal l b is ends =
+    is_done b.credit l b h ((all_fit births h legal l b is).fits.done ends).1 ((all_carried births h legal l b is).rises.whole ends)

@@ -1,5 +1,5 @@
 -- What goes up a stream, and what it may send more, fits within what its device allowed, through each move but an OKAY to it.
-use Rattle.std.proofs.Common.{◌≡◌, ◌≢◌, ℕ, ◌+◌, ◌-◌, ◌≤◌, zero, suc, Bool, true, false, cond, List, [], ◌∷◌, ◌++◌, length, drop, Some, None}
+use Rattle.std.proofs.Common.{not, ◌≡◌, ◌≢◌, ℕ, ◌+◌, ◌-◌, ◌≤◌, zero, suc, Bool, true, false, cond, List, [], ◌∷◌, ◌++◌, length, drop, Option, Some, None}
 use Rattle.std.proofs.Common.{refl, sym, ap, subst, ◌∙◌, arith, ◌⊎◌, inl, inr, eqb}
 use Rattle.std.proofs.lemmas.Bool.{eq-eqb, cases_eq}
 use Rattle.std.proofs.lemmas.List.{length-append, length-take}
@@ -13,9 +13,9 @@ use Rattle.adb_stream.specs.declared.row.Stream.{Stream}
 use Rattle.adb_client.specs.declared.phase.Phase.{Phase}
 use Rattle.adb_client.specs.declared.phase.Phase.TheVariants.{Opening, Streaming}
 use Rattle.adb_history.specs.Rows.{State, to_stream, with_stream_part}
-use Rattle.adb_history.specs.Events.{Made, Event, packets_to}
+use Rattle.adb_history.specs.Events.{Made, Event, client_closed, ending_in, packets_to}
 use Rattle.adb_history.specs.Links.{maxdata_of}
-use Rattle.adb_history.specs.Flow.{write_len, write_before, writes, payloads, total, flow_after, sends_up}
+use Rattle.adb_history.specs.Flow.{is_idle, write_len, write_before, writes, payloads, total, flow_after, sends_up}
 use Rattle.adb_history.specs.Losing.{stops}
 use Rattle.adb_history.specs.Births.{Opening as DeviceOpening, opening_in, joined, count_from, is_wrte}
 use Rattle.adb_history.specs.Fifo.{has_credit}
@@ -25,12 +25,12 @@ use Rattle.adb_history.proofs.StreamMoves.{like_after}
 use Rattle.adb_history.proofs.Sweep.{Sending, sent}
 use Rattle.adb_fifo_up.specs.Seen.{Seen, seen, seen_in, Sees}
 use Rattle.adb_fifo_up.specs.Climbing.{carried, Are, may_send, IsLevel, IsRowOf, IsOther, Goes, Climbs}
-use Rattle.adb_fifo_up.proofs.Seeing.{carried_append, packets_append}
+use Rattle.adb_fifo_up.proofs.Seeing.{carried_append, packets_append, ending_split, end_such, silent_open, silent_aside, silent_end, silent_up}
 use Rattle.adb_fifo_up.proofs.Shutting.{IsDry, count_append, count_dry, carried_dry, aside_are_dry, end_are_dry, up_are_dry}
 use Rattle.adb_fifo_up.proofs.Opened.{NowIn, phase_seen, draws_other, Opens, opens_made}
 use Rattle.adb_fifo_up.proofs.Openings.{allowed, IsOpenEnded}
-use Rattle.adb_fifo_up.proofs.SendsUp.{streaming_is, Sends, sends_made}
-use Rattle.adb_fifo_up.proofs.Stops.{stops_dry}
+use Rattle.adb_fifo_up.proofs.SendsUp.{streaming_is, IsLeft, Sends, sends_made}
+use Rattle.adb_fifo_up.proofs.Stops.{stops_dry, stops_other}
 
 -- ---- how much writes take
 spent : Bool → List (List ℕ) → ℕ
@@ -77,6 +77,15 @@ fits_send true (Credit credit) maxdata held e =
     let ps : List (List ℕ) = writes (length held) maxdata credit.to_send held in
     omega (arith, after_credit ps credit, writes_within (length held) maxdata credit.to_send held)
 
+-- where no write waits, one more may go up
+idle_room : (flow : Flow) → has_credit flow ≡ false → is_idle flow ≡ true → may_send flow ≡ 1
+idle_room (One window) one idle = go window.outstanding refl idle
+  where
+    go : (b : Bool) → window.outstanding ≡ b → not b ≡ true → may_send (One window) ≡ 1
+    go true e f = let clash : false ≡ true = f in cc
+    go false e f = ap (λ (x : Bool). cond x 0 1) e
+idle_room (Credit credit) one idle = let clash : true ≡ false = one in cc
+
 -- ---- how much went up
 abbrev pub used : Bool → (t l : ℕ) → List Event → ℕ
 used false t l w = count_from is_wrte l (packets_to t w)
@@ -97,12 +106,22 @@ pub record IsRoom (t l : ℕ) (credit : Bool) (ps : List Packet) (went : ℕ) (y
   pub flow : has_credit y.part.flow ≡ credit
   pub room : RoomAt credit l ps went (may_send y.part.flow) y.part.remote
 
+-- with one write at a time each write was answered
+abbrev pub IsAnsweredAll : Bool → (went may : ℕ) → Type 0
+IsAnsweredAll false went may = went + 1 ≤ may
+IsAnsweredAll true went may = Unit {0}
+
+pub answered_more : (credit : Bool) (went next may more : ℕ) → next ≡ went → may ≤ more → IsAnsweredAll credit went may → IsAnsweredAll credit next more
+answered_more false went next may more same fits h = omega (arith, same, fits, h)
+answered_more true went next may more same fits h = tt
+
 -- the packets are those that the link of the stream brought since its birth
 pub record Fits (l t : ℕ) (credit : Bool) (ps : List Packet) (s : State) (w : List Event) : Type 0 where
   pub born : l ≤ s.drawn
   pub within : used credit t l w ≤ allowed credit l (opening_in l ps)
   pub row : (y : Stream) → s.streams l ≡ Some y → IsRoom t l credit ps (used credit t l w) y
   pub open_row : (n : ℕ) (v : Seen) → Sees (s.clients n) v → v.phase ≡ Streaming l → (y : Stream) → s.streams l ≡ Some y → y.part.remote ≢ 0
+  pub done : ending_in l w ≡ Some client_closed → (s.streams l ≡ None) × IsAnsweredAll credit (used credit t l w) (allowed credit l (opening_in l ps))
 
 -- an OKAY to another stream
 abbrev pub Others : ℕ → State → ℕ → Type 0
@@ -120,15 +139,26 @@ module _ (l t : ℕ) (credit : Bool) (ps : List Packet) where
   }
 
   -- nothing of it is told
-  pub told_dry : (s : State) (w u : List Event) → Are (IsDry l) u → Fits l t credit ps s w → Fits l t credit ps s (w ++ u)
-  told_dry s w u dry h =
+  pub told_dry : (s : State) (w u : List Event) → Are (IsDry l) u → (ending_in l u ≡ Some client_closed → ⊥) → Fits l t credit ps s w
+      → Fits l t credit ps s (w ++ u)
+  told_dry s w u dry other h =
       let same : used credit t l (w ++ u) ≡ used credit t l w = used_dry credit t l w u dry in
       record {
         born = h.born;
         within = omega (arith, h.within, same);
         row = λ y e. subst (λ (n : ℕ). IsRoom t l credit ps n y) (sym same) (h.row y e);
         open_row = h.open_row;
+        done = λ e. done same (ending_split l w u client_closed e);
       }
+    where
+      done : used credit t l (w ++ u) ≡ used credit t l w → (ending_in l w ≡ Some client_closed) ⊎ (ending_in l u ≡ Some client_closed)
+          → (s.streams l ≡ None) × IsAnsweredAll credit (used credit t l (w ++ u)) (allowed credit l (opening_in l ps))
+      done same (inl e) = (
+        (h.done e).0,
+        answered_more credit (used credit t l w) (used credit t l (w ++ u)) (allowed credit l (opening_in l ps))
+            (allowed credit l (opening_in l ps)) same (omega arith) (h.done e).1,
+      )
+      done same (inr e) = absurd (other e)
 
   -- nothing is told, and its row stays, or goes
   view : (s next : State) (w : List Event) → s.drawn ≤ next.drawn
@@ -139,7 +169,12 @@ module _ (l t : ℕ) (credit : Bool) (ps : List Packet) where
     within = h.within;
     row = λ y e. (let x = row y e in like_room (used credit t l w) (used credit t l w) x.0 y refl x.2 x.3 (h.row x.0 x.1));
     open_row = λ n v see phase y e none. (let x = row y e in h.open_row n v (before n v see phase) phase x.0 x.1 (sym x.3.remote ∙ none));
+    done = λ e. (none_now (next.streams l) refl (h.done e).0, (h.done e).1);
   }
+    where
+      none_now : (o : Option Stream) → next.streams l ≡ o → s.streams l ≡ None → next.streams l ≡ None
+      none_now None e none = e
+      none_now (Some y) e none = (let x = row y e in let clash : None ≡ Some x.0 = sym none ∙ x.1 in cc)
 
   -- its rows stay, and who has it open had it open
   pub rows_fit : (s next : State) (w : List Event) → next.drawn ≡ s.drawn → next.streams ≡ s.streams
@@ -150,6 +185,7 @@ module _ (l t : ℕ) (credit : Bool) (ps : List Packet) where
     within = h.within;
     row = λ y e. h.row y (sym (ap (λ r. r l) rows) ∙ e);
     open_row = λ n v see phase y e. (let u = before n v see phase in h.open_row n u.0 u.1 u.2 y (sym (ap (λ r. r l) rows) ∙ e));
+    done = λ e. (ap (λ r. r l) rows ∙ (h.done e).0, (h.done e).1);
   }
 
   same_level : (part : Part) → IsLevel part part
@@ -193,7 +229,7 @@ module _ (l t : ℕ) (credit : Bool) (ps : List Packet) where
   opens_fits : (k : ℕ) (stream : Stream) (s : State) (m : Made) (w : List Event) → k ≢ l → Opens k stream s m → Fits l t credit ps s w
       → Fits l t credit ps m.state (w ++ m.told)
   opens_fits k stream s m w apart o h =
-      told_dry m.state w m.told (aside_are_dry l m.told o.told)
+      told_dry m.state w m.told (aside_are_dry l m.told o.told) (silent_open l m.told (silent_aside l m.told o.told))
       (view s m.state w (omega (arith, o.drawn)) (stays s m.state (o.others l (λ e. apart (sym e))))
       (λ n v see phase. before n v phase (o.clients n v see)) h)
     where
@@ -207,7 +243,7 @@ module _ (l t : ℕ) (credit : Bool) (ps : List Packet) where
 
   pub gone_fits : (s : State) (m : Made) (w : List Event) → Goes IsOther l s m → Fits l t credit ps s w → Fits l t credit ps m.state (w ++ m.told)
   gone_fits s m w g h =
-      told_dry m.state w m.told (end_are_dry IsOther l l m.told g.told)
+      told_dry m.state w m.told (end_are_dry IsOther l l m.told g.told) (λ e. end_such IsOther l m.told client_closed g.told e refl)
       (view s m.state w (omega (arith, g.drawn)) (λ y e. row y (g.row y e)) (λ n v see phase. g.clients n v see) h)
     where
       row : (y : Stream) → IsRowOf g.stream y → (x : Stream) × (s.streams l ≡ Some x) × (y.link ≡ x.link) × IsLevel x.part y.part
@@ -215,7 +251,7 @@ module _ (l t : ℕ) (credit : Bool) (ps : List Packet) where
 
   other_fits : (k : ℕ) (s : State) (m : Made) (w : List Event) → l ≢ k → Goes IsOther k s m → Fits l t credit ps s w → Fits l t credit ps m.state (w ++ m.told)
   other_fits k s m w apart g h =
-      told_dry m.state w m.told (end_are_dry IsOther k l m.told g.told)
+      told_dry m.state w m.told (end_are_dry IsOther k l m.told g.told) (silent_open l m.told (silent_end IsOther k l apart m.told g.told))
       (view s m.state w (omega (arith, g.drawn)) (stays s m.state (g.others l apart)) (λ n v see phase. g.clients n v see) h)
 
   -- ---- sends
@@ -253,6 +289,24 @@ module _ (l t : ℕ) (credit : Bool) (ps : List Packet) where
       clients n v phase y e none =
           open_now (record { phase = Streaming l; held = x.client.held }) see refl (sym (o.row y e).3 ∙ none)
 
+      answered : (c : Bool) → has_credit x.stream.part.flow ≡ c → is_idle (flow_after (sent l s x) x.stream.part.flow) ≡ true → (went may : ℕ)
+          → went + may_send (flow_after (sent l s x) x.stream.part.flow) ≤ may → IsAnsweredAll c went may
+      answered false one idle went may within =
+          omega (arith, within, idle_room (flow_after (sent l s x) x.stream.part.flow) ((like_after (sent l s x) x.stream.part.flow).credit ∙ one) idle)
+      answered true one idle went may within = tt
+
+      done : (p : DeviceOpening) × (opening_in l ps ≡ Some p) × (p.remote ≡ x.stream.part.remote)
+          × (used credit t l w + may_send x.stream.part.flow ≤ allowed credit l (Some p))
+          → (ending_in l w ≡ Some client_closed) ⊎ (ending_in l m.told ≡ Some client_closed) → IsLeft l s x m
+          → (m.state.streams l ≡ None) × IsAnsweredAll credit (used credit t l (w ++ m.told)) (allowed credit l (opening_in l ps))
+      done at (inl e) fate = absurd (let clash : None ≡ Some x.stream = sym (h.done e).0 ∙ x.there in cc)
+      done at (inr e) (inl goes_on) = absurd (let clash : None ≡ Some client_closed = sym goes_on.0 ∙ e in cc)
+      done at (inr e) (inr over) = (
+        over.2,
+        answered credit mine.flow over.3 (used credit t l (w ++ m.told)) (allowed credit l (opening_in l ps))
+            (omega (arith, sum credit, fits, at.3, ap (allowed credit l) at.1)),
+      )
+
       by : (remote : ℕ) → x.stream.part.remote ≡ remote → RoomAt credit l ps (used credit t l w) (may_send x.stream.part.flow) x.stream.part.remote
           → Fits l t credit ps m.state (w ++ m.told)
       by zero none room = absurd (open_now (record { phase = Streaming l; held = x.client.held }) see refl none)
@@ -268,6 +322,7 @@ module _ (l t : ℕ) (credit : Bool) (ps : List Packet) where
                   (at.0, at.1, at.2, omega (arith, sum credit, fits, at.3, ap may_send same.2));
             };
         open_row = λ n v see2 phase y e. clients n v phase y e;
+        done = λ e. done (at.0, at.1, at.2 ∙ sym is, at.3) (ending_split l w m.told client_closed e) o.fate;
       }
         where
           at : (p : DeviceOpening) × (opening_in l ps ≡ Some p) × (p.remote ≡ suc r)
@@ -277,7 +332,7 @@ module _ (l t : ℕ) (credit : Bool) (ps : List Packet) where
   unsent_fits : (k : ℕ) (s : State) (x : Sending k s) (m : Made) (w : List Event) → l ≢ k → Sends k s x m → Fits l t credit ps s w
       → Fits l t credit ps m.state (w ++ m.told)
   unsent_fits k s x m w apart o h =
-      told_dry m.state w m.told (up_are_dry k l apart m.told o.told)
+      told_dry m.state w m.told (up_are_dry k l apart m.told o.told) (silent_open l m.told (silent_up k l apart m.told o.told))
       (view s m.state w (omega (arith, o.drawn)) (stays s m.state (o.others l apart)) (λ n v see phase. before n v phase (o.clients n v see)) h)
     where
       same_stream : Streaming k ≡ Streaming l → k ≡ l
@@ -290,18 +345,19 @@ module _ (l t : ℕ) (credit : Bool) (ps : List Packet) where
   -- ---- all moves
   pub fits_climbs : Climbs (Others l) (Fits l t credit ps)
   fits_climbs = record {
-    aside = λ s m w off h. told_dry m.state w m.told (aside_are_dry l m.told off.told)
+    aside = λ s m w off h. told_dry m.state w m.told (aside_are_dry l m.told off.told) (silent_open l m.told (silent_aside l m.told off.told))
         (view s m.state w (omega (arith, off.drawn)) (stays s m.state (off.streams l)) (λ n v see phase. off.clients n v see) h);
     draws = λ n t2 x s w here asks h. draws_fits n t2 s w h;
     parts = λ k stream part s w is level h. part_fits k stream part s w is (λ same. level) h;
     acks = λ k word stream s w is apart h. part_fits k stream _ s w is (λ same. absurd (apart same)) h;
     opens = λ k remote word stream s w is new apart h. opens_fits k stream s _ w apart (opens_made k remote word stream s is) h;
     goes = λ k s m w g h. goes k s m w g h (cases_eq k l);
-    stops = λ n s w h. told_dry (stops n s).state w (stops n s).told (stops_dry n s l) (record {
+    stops = λ n s w h. told_dry (stops n s).state w (stops n s).told (stops_dry n s l) (stops_other n s l) (record {
       born = h.born;
       within = h.within;
       row = λ y e. absurd (let clash : None ≡ Some y = e in cc);
       open_row = λ k v see phase y e. absurd (let clash : None ≡ Some y = e in cc);
+      done = λ e. (refl, (h.done e).1);
     });
     sends = λ k s w x h. sends k s x w h (cases_eq k l);
   }

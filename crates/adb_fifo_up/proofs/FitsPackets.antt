@@ -15,30 +15,31 @@ use Rattle.adb_stream.specs.declared.flow.Flow.TheVariants.{One, Credit}
 use Rattle.adb_stream.specs.declared.row.Part.{Part}
 use Rattle.adb_stream.specs.declared.row.Stream.{Stream}
 use Rattle.adb_history.specs.Rows.{State, to_link, to_stream, none_kept, with_stream_part}
-use Rattle.adb_history.specs.Events.{Made, Event, quietly, peer_closed}
+use Rattle.adb_history.specs.Events.{Made, Event, client_closed, ending_in, quietly, peer_closed}
 use Rattle.adb_history.specs.Links.{credit_word, is_connected}
 use Rattle.adb_history.specs.Streams.{ends_row}
 use Rattle.adb_history.specs.Flow.{with_flow}
 use Rattle.adb_history.specs.Packets.{cnxn, at_stream, first_credit, opened, orphan_opened}
 use Rattle.adb_history.specs.Packets.{acknowledged, okay_open, okay_first, takes_okay, takes_close, treat_open, treat_any, treat, treat_all}
 use Rattle.adb_history.specs.Packets.{faulty, with_rest, receives_cut}
-use Rattle.adb_history.specs.Births.{opening_by}
+use Rattle.adb_history.specs.Births.{opening_by, opening_in}
 use Rattle.adb_history.specs.Fifo.{has_credit}
 use Rattle.adb_history.specs.Linked.{IsLinked}
 use Rattle.adb_history.specs.Moves.{After}
 use Rattle.adb_history.proofs.Following.{after_quietly, after_then, after_if, changed_here}
 use Rattle.adb_history.proofs.LinkMoves.{linked_moves}
 use Rattle.adb_fifo_up.specs.Climbing.{may_send}
+use Rattle.adb_fifo_up.proofs.Seeing.{silent_open, silent_aside}
 use Rattle.adb_fifo_up.proofs.Shutting.{aside_are_dry}
 use Rattle.adb_fifo_up.proofs.Ends.{no_row_of, orphan_goes}
 use Rattle.adb_fifo_up.proofs.Opened.{opened_row, opens_made}
 use Rattle.adb_fifo_up.proofs.OwnedPackets.{treat_linked}
 use Rattle.adb_fifo_up.proofs.Openings.{opening_more, IsOpenEnded, Passes, ended_more, first_heard, Closes, Kind, kind, later_allows, more_allows}
-use Rattle.adb_fifo_up.proofs.Openings.{gives, okay_allows, first_allows}
+use Rattle.adb_fifo_up.proofs.Openings.{allowed, gives, okay_allows, first_allows}
 use Rattle.adb_fifo_up.proofs.StreamClimbs.{treat_climbs, faulty_climbs}
 use Rattle.adb_fifo_up.proofs.RuleClimbs.{rest_climbs}
 use Rattle.adb_fifo_up.proofs.Treated.{Any, cnxn_cleared, connected, link_there, any_treated, none_comes, to_stream_or, okay_treated}
-use Rattle.adb_fifo_up.proofs.Fits.{used, RoomAt, IsRoom, Fits, fits_climbs, told_dry, gone_fits}
+use Rattle.adb_fifo_up.proofs.Fits.{used, RoomAt, IsRoom, answered_more, Fits, fits_climbs, told_dry, gone_fits}
 
 -- ---- how much an OKAY gives
 acknowledged_room : (credit : Bool) (flow : Flow) (p : Packet) → has_credit flow ≡ credit
@@ -94,6 +95,11 @@ module _ (l t : ℕ) (credit : Bool) (ps : List Packet) where
       room = more_room (used credit t l w) (may_send y.part.flow) qs y.part.remote (passes y e) was.room;
     });
     open_row = h.open_row;
+    done = λ e. (
+      (h.done e).0,
+      answered_more credit (used credit t l w) (used credit t l w) (allowed credit l (opening_in l ps))
+          (allowed credit l (opening_in l (ps ++ qs))) refl (more_allows credit l ps qs) (h.done e).1,
+    );
   }
 
   -- one packet
@@ -129,6 +135,9 @@ module _ (l t : ℕ) (credit : Bool) (ps : List Packet) where
     module _ (y : Stream) (there : s.streams l ≡ Some y) where
       mine : IsRoom t l credit ps (used credit t l w) y
       mine = h.row y there
+
+      not_done : ending_in l w ≡ Some client_closed → ⊥
+      not_done e = let clash : None ≡ Some y = sym (h.done e).0 ∙ there in cc
 
       same_row : (z : Stream) → s.streams l ≡ Some z → z ≡ y
       same_row z e = let both : Some z ≡ Some y = sym e ∙ there in cc
@@ -185,11 +194,12 @@ module _ (l t : ℕ) (credit : Bool) (ps : List Packet) where
         opened_fits =
             let m : Made = opened l p.arg0 (credit_word p.payload) y s in
             let o = opens_made l p.arg0 (credit_word p.payload) y s there in
-            told_dry l t credit (ps ++ p ∷ []) m.state w m.told (aside_are_dry l m.told o.told) (record {
+            told_dry l t credit (ps ++ p ∷ []) m.state w m.told (aside_are_dry l m.told o.told) (silent_open l m.told (silent_aside l m.told o.told)) (record {
               born = omega (arith, h.born, o.drawn);
               within = omega (arith, nothing.1);
               row = opened_room;
               open_row = λ n v see phase z e f. some (sym (part_of z e) ∙ f);
+              done = λ e. absurd (not_done e);
             })
 
         first_fits : (orphan : Bool) → After (Fits l t credit (ps ++ p ∷ [])) w (okay_first orphan l p.arg0 (credit_word p.payload) y s)
@@ -218,6 +228,7 @@ module _ (l t : ℕ) (credit : Bool) (ps : List Packet) where
           room = acked_room y.part.remote refl from some mine.room;
         });
         open_row = λ n v see phase z e f. some (ap (λ (x : Stream). x.part.remote) (row z e) ∙ f);
+        done = λ e. absurd (not_done e);
       })
         where
           row : (z : Stream) → (to_stream l (with_stream_part (with_flow (acknowledged (credit_word p.payload) y.part.flow) y.part)) s).streams l ≡ Some z

@@ -12,9 +12,10 @@ use Rattle.adb_client.specs.declared.phase.Phase.{Phase}
 use Rattle.adb_client.specs.declared.phase.Phase.TheVariants.{Asking, Opening, Streaming, Binding, Tracking, Closing, Gone}
 use Rattle.adb_history.specs.Rows.{Client, Link, State, with_held, with_stream_part}
 use Rattle.adb_history.specs.Events.{Made, Event, Ending, due_to_client, due_to_link, ended, packets_to, ending_in, client_closed}
-use Rattle.adb_history.specs.Flow.{write_len, write_before, writes, payloads, total, with_flow, goes_up, all_go_up, flow_after, is_over, closes_if, sends_up}
+use Rattle.adb_history.specs.Flow.{is_idle, write_len, write_before, writes, payloads, total, with_flow, goes_up, all_go_up, flow_after, is_over}
+use Rattle.adb_history.specs.Flow.{closes_if, sends_up}
 use Rattle.adb_history.specs.Flow.{is_streaming}
-use Rattle.adb_history.specs.Links.{write_packet}
+use Rattle.adb_history.specs.Links.{close_packet, write_packet, owe_link}
 use Rattle.adb_history.specs.Streams.{ends_telling}
 use Rattle.adb_history.specs.Births.{joined, carried_in, count_from, is_wrte}
 use Rattle.adb_history.proofs.Following.{changed_here, changed_other}
@@ -23,7 +24,7 @@ use Rattle.adb_fifo_up.specs.Seen.{Seen, Sees, IsOf}
 use Rattle.adb_fifo_up.specs.Climbing.{IsRowOf, carried, IsEndOf, IsUpOf, Are, is_shut, Goes}
 use Rattle.adb_fifo_up.proofs.Seeing.{seen_phase, are_append, are_weaker, carried_append, end_carries}
 use Rattle.adb_fifo_up.proofs.Shutting.{count_dry, IsLast, IsDry, end_dry, last_dry, shut_cases}
-use Rattle.adb_fifo_up.proofs.Ends.{telling_goes, telling_left}
+use Rattle.adb_fifo_up.proofs.Ends.{telling_goes, telling_left, no_row_of}
 
 -- ---- the writes are what is held, in order
 writes_join : (k maxdata credit : ℕ) (held : List ℕ) → joined (writes k maxdata credit held) ++ drop (total (writes k maxdata credit held)) held ≡ held
@@ -126,6 +127,11 @@ over_holds_none : (closed : Bool) (held : List ℕ) (flow : Flow) → is_over cl
 over_holds_none closed [] flow e = refl
 over_holds_none closed (b ∷ held) flow e = let clash : false ≡ true = e in cc
 
+over_is_idle : (closed : Bool) (held : List ℕ) (flow : Flow) → is_over closed held flow ≡ true → is_idle flow ≡ true
+over_is_idle true [] flow e = e
+over_is_idle false [] flow e = let clash : false ≡ true = e in cc
+over_is_idle closed (b ∷ held) flow e = let clash : false ≡ true = e in cc
+
 -- its row after the writes
 abbrev pub row_after : (k : ℕ) (s : State) → Sending k s → Stream
 row_after k s x = record x.stream { part = with_flow (flow_after (sent k s x) x.stream.part.flow) x.stream.part }
@@ -134,7 +140,8 @@ row_after k s x = record x.stream { part = with_flow (flow_after (sent k s x) x.
 abbrev pub IsLeft : (k : ℕ) (s : State) → Sending k s → Made → Type 0
 IsLeft k s x m =
     ((ending_in k m.told ≡ None) × ((v : Seen) → Sees (m.state.clients x.stream.client) v → v.held ≡ drop (total (sent k s x)) x.client.held))
-    ⊎ ((drop (total (sent k s x)) x.client.held ≡ []) × ((v : Seen) → Sees (m.state.clients x.stream.client) v → IsOf k v.phase → ⊥))
+    ⊎ ((drop (total (sent k s x)) x.client.held ≡ []) × ((v : Seen) → Sees (m.state.clients x.stream.client) v → IsOf k v.phase → ⊥)
+    × (m.state.streams k ≡ None) × (is_idle (flow_after (sent k s x) x.stream.part.flow) ≡ true))
 
 pub record Sends (k : ℕ) (s : State) (x : Sending k s) (m : Made) : Type 0 where
   pub drawn : m.state.drawn ≡ s.drawn
@@ -246,6 +253,8 @@ module _ (k : ℕ) (s : State) (x : Sending k s) where
         fate = inr (
           over_holds_none x.client.about.ended held_now (flow_after (sent k s x) x.stream.part.flow) e,
           λ v see of. telling_left k k client_closed row_now now v see of,
+          no_row_of Any k client_closed row_now (owe_link row_now.link (close_packet k row_now.part.remote) now).state there_now,
+          over_is_idle x.client.about.ended held_now (flow_after (sent k s x) x.stream.part.flow) e,
         );
       }
     where

@@ -273,6 +273,7 @@ module _ (l : ℕ) (b : Birth) (e : Entry) (older : History) (has : HasBirths (e
       within = omega (arith, unused b.credit);
       row = row;
       open_row = λ n v see phase y f. absurd (waits v phase (h.waits n v see (subst (IsOf l) (sym phase) refl)).0);
+      done = λ f. absurd (h.not_closed f);
     });
   }
     where

@@ -1,11 +1,13 @@
 -- What the laws of this crate stand on, and what they keep of each stream.
-use Rattle.std.specs.Prelude.{ℕ, ◌≡◌, ◌≤◌, List, ◌++◌, length}
+use Rattle.std.specs.Prelude.{ℕ, ◌≡◌, ◌≤◌, List, ◌++◌, length, Some}
 use Rattle.adb_wire.specs.declared.packets.Packet.{Packet}
+use Rattle.adb_history.specs.Events.{client_closed}
 use Rattle.adb_history.specs.Machine.{History, state, told, IsLegal}
 use Rattle.adb_history.specs.Bytes.{bytes_read, sent}
 use Rattle.adb_history.specs.Births.{Birth}
-use Rattle.adb_history.specs.Lives.{packets_of, rest_of}
-use Rattle.adb_history.specs.Fifo.{HasBirths}
+use Rattle.adb_history.specs.Lives.{packets_of, ending_of, rest_of}
+use Rattle.adb_history.specs.Fifo.{HasBirths, OfEachStream}
+use Rattle.adb_history.specs.Causes.{IsDone}
 use Rattle.adb_fifo_up.specs.Rising.{Rises}
 
 -- every legal history has its births
@@ -20,3 +22,7 @@ SendsFront h = (t : ℕ) → (others : List Packet) × (sent t h ++ others ≡ p
 pub record IsCarried (l : ℕ) (b : Birth) (h : History) : Type 0 where
   pub head : b.head ≤ length (bytes_read b.client h)
   pub rises : Rises l b.link b.client (rest_of l b h) (state h) (told h)
+
+-- Of a stream whose client closed all was answered, or with credit all went up.
+abbrev pub ClosedStreamsAreDone : History → Type 0
+ClosedStreamsAreDone h = OfEachStream h (λ l b. ending_of l h ≡ Some client_closed → IsDone b.credit l b h)

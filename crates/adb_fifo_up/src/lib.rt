@@ -4,4 +4,7 @@
 
 mod up;
 
-pub use up::{carries_rest, carries_whole_rest, each_stream_is_carried, keeps_up_window};
+pub use up::{
+    carries_rest, carries_whole_rest, closed_streams_are_done, each_stream_is_carried,
+    keeps_up_window,
+};

@@ -5,7 +5,8 @@ ghost use Rattle.adb_capture.specs.declared.entry.Entry.{Entry};
 ghost use Rattle.adb_history.specs.Machine.{IsLegal};
 ghost use Rattle.adb_history.specs.Fifo.{CarriesRest, CarriesWholeRest, KeepsUpWindow};
 ghost use Rattle.adb_history.specs.Fifo.{OfEachStream};
-ghost use Rattle.adb_fifo_up.specs.Carrying.{AllHaveBirths, IsCarried, SendsFront};
+ghost use Rattle.adb_fifo_up.specs.Carrying.{AllHaveBirths, ClosedStreamsAreDone, IsCarried};
+ghost use Rattle.adb_fifo_up.specs.Carrying.{SendsFront};
 
 /// In every legal history what became due of each stream and what its client holds are, in order
 /// and once, what the client wrote past its requests as long as the stream lived.
@@ -32,4 +33,11 @@ pub fn carries_whole_rest()
 pub fn keeps_up_window()
     ensures { AllHaveBirths → (history : List Entry) → IsLegal history → SendsFront history
         → KeepsUpWindow history }
+{}
+
+/// In every legal history a stream whose client closed is done: with one write at a time each write
+/// was answered, and with credit all that the client wrote became due.
+pub fn closed_streams_are_done()
+    ensures { AllHaveBirths → (history : List Entry) → IsLegal history
+        → ClosedStreamsAreDone history }
 {}
