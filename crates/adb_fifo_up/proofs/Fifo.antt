@@ -69,8 +69,8 @@ carried_front : (l : ℕ) (ps qs all : List Packet) → ps ++ qs ≡ all → len
 carried_front l ps qs all e =
     omega (arith, sym (ap (λ xs. length (carried_in l xs)) e), ap length (carried_in_append l ps qs), length-append (carried_in l ps) (carried_in l qs))
 
-within_up : (credit : Bool) (l : ℕ) (b : Birth) (h : History) → ComeFirst (sent b.link h) (packets_of b.link h) → used credit b.link l (told h) ≤ allowed credit l (opening_of l b h)
-    → IsWithinUp credit l b h
+within_up : (credit : Bool) (l : ℕ) (b : Birth) (h : History) → ComeFirst (sent b.link h) (packets_of b.link h)
+    → used credit b.link l (told h) ≤ allowed credit l (opening_of l b h) → IsWithinUp credit l b h
 within_up false l b h first fits = omega (arith, fits, count_front l (sent b.link h) first.0 (packets_of b.link h) first.1)
 within_up true l b h first fits = omega (arith, fits, carried_front l (sent b.link h) first.0 (packets_of b.link h) first.1)
 
