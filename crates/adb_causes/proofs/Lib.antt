@@ -31,3 +31,4 @@ pub mod Unchanged
 pub mod RuleSteps
 pub mod RecvSteps
 pub mod NotOver
+pub mod ByClient
