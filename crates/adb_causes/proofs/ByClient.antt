@@ -1,110 +1,37 @@
 -- A stream that its client ended: its client had closed, and all that it wrote had gone up.
-use Rattle.std.proofs.Common.{◌≡◌, ◌≢◌, ◌≤◌, ◌<◌, ◌+◌, ◌-◌, ℕ, zero, suc, Bool, true, false, cond, not, ◌&&◌, ◌||◌, List, [], ◌∷◌, ◌++◌, length, drop, Option, Some, None, refl, sym, ap, subst, ◌∙◌, eqb}
-use Rattle.std.proofs.Common.{arith, ◌⊎◌, inl, inr, length-append, length-drop, append_assoc}
-use Rattle.std.specs.Prelude.{nat_eq, is_some}
-use Rattle.std.proofs.Math.Bool.{or-true}
-use Rattle.std.proofs.lemmas.Bool.{eqb-true, eqb-false, eq-eqb, ne_eqb}
-use Rattle.adb_wire.specs.declared.command.Command.{Command}
-use Rattle.adb_wire.specs.declared.command.Command.TheVariants.{Cnxn, Open, Okay, Wrte, Clse, Auth, Stls}
-use Rattle.adb_wire.specs.declared.packets.Packet.{Packet}
-use Rattle.adb_client.specs.declared.phase.Phase.{Phase}
-use Rattle.adb_client.specs.declared.phase.Phase.TheVariants.{Asking, Opening, Streaming, Binding, Tracking, Closing, Gone}
-use Rattle.adb_client.specs.declared.about.Want.{Want}
-use Rattle.adb_stream.specs.declared.flow.Flow.{Flow}
+use Rattle.std.proofs.Common.{◌≡◌, ◌≤◌, ◌<◌, ℕ, true, false, ◌∷◌, Option, Some, None, refl, sym, ap, subst, ◌∙◌}
+use Rattle.std.proofs.Common.{arith, ◌⊎◌, inl, inr}
+use Rattle.std.specs.Prelude.{is_some}
 use Rattle.adb_stream.specs.declared.row.Stream.{Stream}
 use Rattle.adb_capture.specs.declared.entry.Entry.{Entry}
 use Rattle.adb_capture.specs.declared.entry.Entry.TheVariants.{Join, Enter, Read, End, Bound, Attach, Recv, Detach, Put, Send}
-use Rattle.adb_history.specs.Rows.{Client, State}
-use Rattle.adb_history.specs.Events.{Made, owed_to, packets_to}
-use Rattle.adb_history.specs.Links.{credit_word}
-use Rattle.adb_history.specs.Asking.{Asked}
+use Rattle.adb_history.specs.Rows.{Client}
+use Rattle.adb_history.specs.Events.{Made}
 use Rattle.adb_history.specs.Machine.{rule, ups, History, state, told_at, told, IsLegal}
-use Rattle.adb_history.specs.Bytes.{is_lost, bytes_read, bytes_put, bytes_received, brought}
-use Rattle.adb_history.specs.Book.{Book, book, asked, is_asking, asked_with, bound_turn, devices_if}
-use Rattle.adb_history.specs.Births.{Birth, born, Opening as FirstOkay, opening_by, opening_in, opening_of, remote_in, remote_of, since, is_between, told_after, told_to, joined, lead_of, handed_to}
-use Rattle.adb_history.specs.Births.{carried_in, count_from, is_wrte}
-use Rattle.adb_history.specs.Lives.{output_of, packets_of}
-use Rattle.adb_history.specs.Fifo.{has_credit, okays_of, credit_of}
-use Rattle.adb_history.specs.Causes.{okays_behind, okays_after, given_to, has_closed_since, is_close_by}
-use Rattle.adb_history.specs.Moves.{HasOne}
-use Rattle.adb_history.proofs.Books.{booked}
-use Rattle.adb_causes.specs.Flows.{FlowIs, waiting, hears, start_of, IsAsTold}
-use Rattle.adb_causes.proofs.Silent.{Tally, tally_silent}
-use Rattle.adb_causes.proofs.Untouched.{Untouched}
-use Rattle.adb_causes.proofs.UntouchedEntries.{Pair, IsFar}
+use Rattle.adb_history.specs.Bytes.{bytes_read}
+use Rattle.adb_history.specs.Births.{Birth}
+use Rattle.adb_history.specs.Fifo.{has_credit}
+use Rattle.adb_history.specs.Causes.{has_closed_since}
+use Rattle.adb_causes.proofs.UntouchedEntries.{Pair}
 use Rattle.adb_causes.proofs.Middle.{AfterRule}
-use Rattle.std.specs.Prelude.{min}
 use Rattle.std.specs.Option.{option_or}
-use Rattle.std.proofs.lemmas.List.{drop-append-le, append-nil}
-use Rattle.adb_outside.specs.Bytes.{IsPrefixOf}
-use Rattle.adb_outside.specs.declared.kinds.Cause.{Cause}
-use Rattle.adb_outside.specs.declared.kinds.Cause.TheVariants.{Eof, Fault, Starved, NoThread}
-use Rattle.adb_wire.specs.Cutting.{framed}
-use Rattle.adb_stream.specs.declared.flow.Flow.TheVariants.{One, Credit}
-use Rattle.adb_history.specs.Rows.{to_client, to_stream, with_held, with_stream_part}
-use Rattle.adb_history.specs.Events.{quietly, then_also}
 use Rattle.adb_history.specs.Flow.{with_flow}
-use Rattle.adb_history.specs.Orderly.{phase_for}
-use Rattle.adb_history.specs.Losing.{input_ended, input_ends, client_ends}
-use Rattle.adb_history.specs.Reading.{reads_in, reads_from, reads}
-use Rattle.adb_history.specs.Tied.{DueIsPastPut}
-use Rattle.adb_history.proofs.Following.{changed_here}
-use Rattle.adb_history.proofs.OutputEntries.{all_due_past_put}
-use Rattle.adb_causes.proofs.Silent.{AreSilent, silent_append}
-use Rattle.adb_causes.proofs.UntouchedEntries.{has_stream}
-use Rattle.adb_causes.proofs.Unchanged.{handed_is, asked_same, SameBytes, closed_before}
-use Rattle.std.specs.List.{list_any}
-use Rattle.adb_wire.specs.Cutting.{cut_packets}
-use Rattle.adb_wire.specs.Format.{is_cnxn}
-use Rattle.adb_wire.specs.declared.format.PacketFault.{PacketFault}
-use Rattle.adb_history.specs.Rows.{Link, to_link}
 use Rattle.adb_history.specs.Events.{ending_in}
-use Rattle.adb_history.specs.Packets.{treat_all, faulty_on, faulty, with_rest, receives_cut, receives_on, receives}
-use Rattle.adb_history.specs.Book.{is_refused}
-use Rattle.adb_history.specs.Causes.{closes_in}
 use Rattle.adb_history.proofs.LinkMoves.{all_linked}
-use Rattle.adb_causes.proofs.Fates.{lives, FateOf, none_some}
-use Rattle.adb_causes.proofs.PacketFates.{OfLink, receives_fate}
-use Rattle.adb_causes.proofs.Turning.{Here}
+use Rattle.adb_causes.proofs.Fates.{lives, FateOf}
 use Rattle.adb_causes.proofs.Untouched.{Apart}
-use Rattle.adb_causes.proofs.UntouchedEntries.{pair_apart}
-use Rattle.adb_causes.proofs.Runs.{RunsOn, says_anew, Cutting, CutFell, CutRun, rested_here}
-use Rattle.adb_causes.proofs.RunEffects.{remote_all, written_all, okays_all, RunEffect, LivesOn, run_effect}
-use Rattle.adb_causes.proofs.Sayings.{neither, remote_known, written_in, okays_behind_in, SaidMore, said_more}
-use Rattle.adb_causes.proofs.Receiving.{Brought, brought_cut, LinkThere, here_at, there_at, recv_run}
-use Rattle.adb_causes.proofs.Unchanged.{opened_some}
-use Rattle.adb_causes.proofs.RuleSteps.{Standing, flow_at, client_here, has_one, same_asked, same_start, same_lead, Becomes}
 use Rattle.adb_history.specs.Events.{Ending, client_closed, lost, client_failed, stopped}
-use Rattle.adb_history.specs.Flow.{total, flow_after, is_over}
-use Rattle.adb_history.specs.Bytes.{is_orderly}
-use Rattle.adb_history.specs.Births.{Birth, born}
+use Rattle.adb_history.specs.Flow.{flow_after}
+use Rattle.adb_history.specs.Births.{Birth}
 use Rattle.adb_history.specs.Lives.{ending_of}
-use Rattle.adb_history.specs.Machine.{MayPut, unplugs_on}
-use Rattle.adb_history.specs.Handing.{puts}
-use Rattle.adb_history.specs.Losing.{client_ends}
-use Rattle.adb_history.specs.Fifo.{HasBirths, IsKeptAs}
 use Rattle.adb_history.specs.Owned.{IsOwned}
-use Rattle.adb_history.specs.Causes.{may_finish, IsDone, IsClosedByClient, EndsByClient}
-use Rattle.adb_history.proofs.OwnedMoves.{client_of}
-use Rattle.adb_causes.specs.Times.{AtEachTime}
-use Rattle.adb_causes.specs.Flows.{HoldsAsTold}
+use Rattle.adb_history.specs.Causes.{IsDone}
 use Rattle.adb_causes.proofs.Fates.{row_lives, ending_append}
 use Rattle.adb_causes.proofs.StreamFates.{up_all_fate}
-use Rattle.adb_causes.proofs.RuleFates.{WhyBy, draws, drawn_row, rule_fate}
-use Rattle.adb_causes.proofs.TurnsOfPackets.{link_ends_told}
-use Rattle.adb_causes.proofs.Lives.{now}
-use Rattle.adb_causes.proofs.Endings.{IsTime, time_of, times_at, EndsAt, ends_at, ends_for}
-use Rattle.adb_causes.proofs.OtherCauses.{end_told}
-use Rattle.adb_causes.proofs.Untouched.{apart_fate}
-use Rattle.adb_causes.proofs.UntouchedEntries.{pair_of, far_rule, pair_apart, has_stream}
-use Rattle.adb_causes.proofs.PutEffects.{LetsSame, puts_effect}
+use Rattle.adb_causes.proofs.RuleFates.{WhyBy, drawn_row, rule_fate}
 use Rattle.adb_causes.proofs.UpRuns.{UpEffect, GoesOnWith, EndsWith, up_run}
 use Rattle.adb_causes.proofs.Goings.{GoesOn, goes_fate}
 use Rattle.adb_causes.proofs.Middle.{AfterRule, done_at}
-use Rattle.adb_causes.proofs.Unchanged.{SameBytes, far_bytes}
-use Rattle.adb_causes.proofs.RuleSteps.{with_more, with_end, read_after, end_after, Steady}
-use Rattle.adb_causes.proofs.RecvSteps.{Received, received_now, recv_after, recv_becomes}
-use Rattle.adb_causes.proofs.NotOver.{LeavesLink, stays_on}
 
 -- the rule of an entry ends no stream by its client
 no_close : (e : Entry) (kill : Type 0) (client link : ℕ) → WhyBy e kill client link client_closed → ⊥
@@ -149,7 +76,7 @@ closes_at e older l x legal is told = go (ending_in l m.told) refl (sym (ending_
         (subst (WhyBy e ((rule e (state older)).state.stopped ≡ true) x.row.client x.row.link) same x.why))
 
 -- a stream that goes on does not end
-not_going : (e : Entry) (older : History) (l : ℕ) → ClosesAt e older l → GoesOn l (rule e (state older)).state → ⊥
+pub not_going : (e : Entry) (older : History) (l : ℕ) → ClosesAt e older l → GoesOn l (rule e (state older)).state → ⊥
 not_going e older l c on = ((goes_fate l (rule e (state older)).state on (rule e (state older)).state.drawn).ends client_closed c.up_told).why
 
 -- ---- an entry by which it may be done

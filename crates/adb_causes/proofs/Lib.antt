@@ -32,3 +32,5 @@ pub mod RuleSteps
 pub mod RecvSteps
 pub mod NotOver
 pub mod ByClient
+pub mod ClosedByClient
+pub mod AllCauses

@@ -7,9 +7,16 @@ ghost use Rattle.adb_history.specs.Machine.{IsLegal};
 ghost use Rattle.adb_history.specs.Fifo.{HasBirths};
 ghost use Rattle.adb_history.specs.Causes.{EndsByPeer, EndsByLoss, EndsByBreak};
 ghost use Rattle.adb_history.specs.Causes.{EndsByFailure, EndsByStop};
-ghost use Rattle.adb_history.specs.Causes.{EndsOutOfTurn, HasNoOtherCause};
+ghost use Rattle.adb_history.specs.Causes.{EndsByClient, EndsOutOfTurn, HasNoOtherCause, HasCauses};
 ghost use Rattle.adb_causes.specs.Times.{AtEachTime};
 ghost use Rattle.adb_causes.specs.Flows.{HoldsAsTold};
+
+/// A stream ends by its client's close only after that, and when all that the client wrote had gone
+/// up, by the close itself or by what its device sent then.
+pub fn ends_by_client()
+    ensures { (history : List Entry) → IsLegal history → AtEachTime HasBirths history
+        → AtEachTime HoldsAsTold history → EndsByClient history }
+{}
 
 /// A stream ends by its device only where that closed it, in the very bytes that came.
 pub fn ends_by_peer()
@@ -54,4 +61,10 @@ pub fn ends_by_stop()
 pub fn outlives_no_cause()
     ensures { (history : List Entry) → IsLegal history → AtEachTime HasBirths history
         → AtEachTime HoldsAsTold history → HasNoOtherCause history }
+{}
+
+/// Every end of a stream has its cause.
+pub fn every_end_has_its_cause()
+    ensures { (history : List Entry) → IsLegal history → AtEachTime HasBirths history
+        → AtEachTime HoldsAsTold history → HasCauses history }
 {}
