@@ -34,3 +34,4 @@ pub mod NotOver
 pub mod ByClient
 pub mod ClosedByClient
 pub mod AllCauses
+pub mod PutSteps
