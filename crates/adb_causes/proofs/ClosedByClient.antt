@@ -67,7 +67,7 @@ record EndsNow (e : Entry) (older : History) (l : ℕ) (b : Birth) (x : Stream) 
 abbrev Closed : Entry → History → ℕ → Birth → Stream → Type 0
 Closed e older l b x = EndsNow e older l b x → IsClosedByClient l b e older
 
-flow_credit : (flow : Flow) (credit : Bool) (w h g : ℕ) → FlowIs flow credit w h g → has_credit flow ≡ credit
+pub flow_credit : (flow : Flow) (credit : Bool) (w h g : ℕ) → FlowIs flow credit w h g → has_credit flow ≡ credit
 flow_credit (One window) credit w h g f = sym f.0
 flow_credit (Credit c) credit w h g f = sym f.0
 

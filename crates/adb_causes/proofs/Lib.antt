@@ -35,3 +35,4 @@ pub mod ByClient
 pub mod ClosedByClient
 pub mod AllCauses
 pub mod PutSteps
+pub mod StreamSteps
