@@ -19,7 +19,7 @@ use Rattle.adb_outside.specs.declared.kinds.Cause.{Cause}
 use Rattle.adb_outside.specs.declared.kinds.Cause.TheVariants.{Eof, Fault, Starved, NoThread}
 use Rattle.adb_stream.specs.declared.flow.Flow.TheVariants.{One, Credit}
 use Rattle.adb_history.specs.Losing.{client_ends}
-use Rattle.adb_causes.proofs.UntouchedEntries.{has_stream}
+use Rattle.adb_causes.proofs.UntouchedEntries.{has_still}
 use Rattle.adb_history.specs.Events.{ending_in}
 use Rattle.adb_history.proofs.LinkMoves.{all_linked}
 use Rattle.adb_causes.proofs.Fates.{none_some}
@@ -47,7 +47,7 @@ use Rattle.adb_causes.proofs.Lives.{now}
 use Rattle.adb_causes.proofs.Endings.{time_of, times_at, ends_at, ends_for}
 use Rattle.adb_causes.proofs.OtherCauses.{end_told}
 use Rattle.adb_causes.proofs.Untouched.{apart_fate}
-use Rattle.adb_causes.proofs.UntouchedEntries.{pair_of, far_rule, pair_apart, has_stream}
+use Rattle.adb_causes.proofs.UntouchedEntries.{pair_of, far_rule, pair_apart, has_still}
 use Rattle.adb_causes.proofs.PutEffects.{LetsSame, puts_effect}
 use Rattle.adb_causes.proofs.Goings.{GoesOn}
 use Rattle.adb_causes.proofs.Unchanged.{far_bytes}
@@ -88,7 +88,7 @@ far_closed e older l b x far leaves c = absurd (not_going e older l c.closes on)
         let u = far_rule l x (state older) owned p e c.standing.legal.2 far (ap is_some (is_row (live_row ((rule e (state older)).state.streams l) c.closes.alive))) in
         stays_on e older l x x.part.flow [] p p.client (c.standing.legal, refl, refl, sym (append-nil p.client.held)) (same_flow x.part.flow, inl refl)
         (leaves, (far_bytes e older x.client x.link far).received)
-        (record { row = u.row ∙ p.is; here = u.client p.client p.here (has_stream p.client.about.phase l x.part.remote p.phase) })
+        (record { row = u.row ∙ p.is; here = u.client p.client p.here (has_still p.client.about.phase l x.part.remote p.phase) })
       where
         is_row : (r : Row ((rule e (state older)).state.streams l)) → (rule e (state older)).state.streams l ≡ Some r.row
         is_row r = r.is

@@ -26,7 +26,7 @@ use Rattle.adb_causes.proofs.Turns.{counts, written_after}
 use Rattle.adb_causes.proofs.Silent.{AreSilent, silent_append, okay_silent}
 use Rattle.adb_history.proofs.Growing.{owed_append}
 use Rattle.adb_causes.proofs.Untouched.{Untouched, u_owe, u_quiet}
-use Rattle.adb_causes.proofs.UntouchedEntries.{Pair, has_stream}
+use Rattle.adb_causes.proofs.UntouchedEntries.{Pair, has_still}
 
 -- whether a packet is an OKAY of an open stream
 abbrev pub is_again : (remote l : ℕ) → Packet → Bool
@@ -72,7 +72,7 @@ nothing_done l x p s h m u none = record {
   alive = h.alive;
   of = refl;
   client = h.client;
-  here = u.client h.client h.here (has_stream h.client.about.phase l x.part.remote h.phase);
+  here = u.client h.client h.here (has_still h.client.about.phase l x.part.remote h.phase);
   phase = h.phase;
   same = same_client h.client;
   owed = λ written nil.
@@ -215,7 +215,7 @@ module _ (l : ℕ) (x : Stream) (p : Packet) (s : State) (h : Pair l x s) where
         alive = h.alive;
         of = refl;
         client = h.client;
-        here = u.client h.client h.here (has_stream h.client.about.phase l x.part.remote h.phase);
+        here = u.client h.client h.here (has_still h.client.about.phase l x.part.remote h.phase);
         phase = h.phase;
         same = same_client h.client;
         owed = λ written nil.

@@ -29,7 +29,7 @@ use Rattle.adb_history.proofs.Books.{booked, all_books}
 use Rattle.adb_causes.specs.Flows.{FlowIs, waiting, hears, start_of, IsAsTold, HoldsAsTold}
 use Rattle.adb_causes.proofs.Silent.{Tally, tally_silent, AreSilent, silent_append}
 use Rattle.adb_causes.proofs.Untouched.{Untouched, Apart, apart_fate}
-use Rattle.adb_causes.proofs.UntouchedEntries.{Pair, IsFar, has_stream, pair_apart, pair_of, far_rule}
+use Rattle.adb_causes.proofs.UntouchedEntries.{Pair, IsFar, has_still, pair_apart, pair_of, far_rule}
 use Rattle.adb_causes.proofs.Middle.{AfterRule, done_at}
 use Rattle.std.specs.Option.{option_or}
 use Rattle.std.proofs.lemmas.List.{drop-append-le, append-nil}

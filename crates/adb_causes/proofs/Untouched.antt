@@ -26,10 +26,17 @@ use Rattle.adb_causes.proofs.Fates.{Reason, FateOf}
 use Rattle.adb_causes.proofs.StreamFates.{Any, ends_of_fate}
 use Rattle.adb_causes.proofs.Silent.{IsSilent, AreSilent, silent_append, okay_silent}
 
+-- a client that neither tracks nor waits for a listener
+abbrev pub Still : Phase → Type 0
+Still Asking = Unit {0}
+Still (Opening l) = Unit {0}
+Still (Streaming l) = Unit {0}
+Still _ = ⊥
+
 -- what a rule leaves of a stream and of its client
 pub record Untouched (l c : ℕ) (s : State) (m : Made) : Type 0 where
   pub row : m.state.streams l ≡ s.streams l
-  pub client : (k : Client) → s.clients c ≡ Some k → HasOne k.about.phase → m.state.clients c ≡ Some k
+  pub client : (k : Client) → s.clients c ≡ Some k → Still k.about.phase → m.state.clients c ≡ Some k
   pub owed : owed_to c m.told ≡ []
   pub silent : AreSilent l m.told
 
@@ -93,10 +100,10 @@ module _ (l c : ℕ) where
     silent = tt;
   }
     where
-      same : (k : Client) (phase : Phase) → k.about.phase ≡ phase → HasOne phase → marked k ≡ k
+      same : (k : Client) (phase : Phase) → k.about.phase ≡ phase → Still phase → marked k ≡ k
       same k (Opening n) e has = ap (λ p. marked_in p k) e
       same k (Streaming n) e has = ap (λ p. marked_in p k) e
-      same k Asking e has = absurd has
+      same k Asking e has = ap (λ p. marked_in p k) e
       same k Binding e has = absurd has
       same k Tracking e has = absurd has
       same k Closing e has = absurd has

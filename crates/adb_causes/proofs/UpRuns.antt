@@ -21,7 +21,7 @@ use Rattle.adb_history.proofs.Growing.{owed_append}
 use Rattle.adb_causes.proofs.StreamFates.{up_all_fate}
 use Rattle.adb_causes.proofs.Silent.{AreSilent, write_silent}
 use Rattle.adb_causes.proofs.Untouched.{Untouched, Apart, apart_fate, u_then, u_if, u_quiet, u_owe, u_stream, u_client, u_telling}
-use Rattle.adb_causes.proofs.UntouchedEntries.{Pair, has_stream}
+use Rattle.adb_causes.proofs.UntouchedEntries.{Pair, has_still}
 use Rattle.adb_causes.specs.Flows.{waiting}
 use Rattle.adb_history.specs.Streams.{loses, client_loses, tells_end}
 use Rattle.adb_history.specs.Links.{close_packet, check_on, wants_sums}
@@ -278,7 +278,7 @@ module _ (l : ℕ) (x : Stream) (s : State) (h : Pair l x s) (apart : Apart l x.
         is = u.row ∙ h.is;
         alive = h.alive;
         client = h.client;
-        here = u.client h.client h.here (has_stream h.client.about.phase l x.part.remote h.phase);
+        here = u.client h.client h.here (has_still h.client.about.phase l x.part.remote h.phase);
         phase = h.phase;
       }
 
@@ -329,7 +329,7 @@ module _ (l : ℕ) (x : Stream) (s : State) (h : Pair l x s) (apart : Apart l x.
           → GoesOnWith l x h.client e.sent (up_all (suc k) s).state ⊎ EndsWith l x h.client e.sent (up_all (suc k) s)
       after u (inl goes) = inl (
         u.row ∙ goes.0,
-        u.client (record h.client { held = drop (total e.sent) h.client.held }) goes.1 (has_stream h.client.about.phase l x.part.remote h.phase),
+        u.client (record h.client { held = drop (total e.sent) h.client.held }) goes.1 (has_still h.client.about.phase l x.part.remote h.phase),
       )
       after u (inr ends) = inr (
         ends.0,
