@@ -36,3 +36,5 @@ pub mod ClosedByClient
 pub mod AllCauses
 pub mod PutSteps
 pub mod StreamSteps
+pub mod Asks
+pub mod AsksSteps

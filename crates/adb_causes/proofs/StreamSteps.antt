@@ -236,7 +236,7 @@ module _ (older : History) (l : ℕ) (b : Birth) (x : Stream) (own : (x.client �
   ruled (Send n bytes) = far_ruled (Send n bytes) older l b x tt
 
 -- ---- and after the up rule
-rule_owned : (e : Entry) (older : History) → IsLegal (e ∷ older) → IsOwned (rule e (state older)).state
+pub rule_owned : (e : Entry) (older : History) → IsLegal (e ∷ older) → IsOwned (rule e (state older)).state
 rule_owned e older legal =
     rule_kept owned_moves e (state older) [] (begins_owned (state older) (all_linked older legal.0).owned e [] legal.2)
 

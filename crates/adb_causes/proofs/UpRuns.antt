@@ -255,7 +255,7 @@ own_up l s x h =
     go true e = sends_effect l s x h ps (own_sends l s x h e) e
 
 -- ---- and all of them
-up_apart : (l c k : ℕ) (s : State) → Apart l c s → Apart l c (up_all k s).state
+pub up_apart : (l c k : ℕ) (s : State) → Apart l c s → Apart l c (up_all k s).state
 up_apart l c k s h = apart_fate l c (λ client link y. Unit {0}) s (up_all k s) (λ n. up_all_fate n (λ client link y. Unit {0}) k s (λ client link. tt)) h
 
 -- before its turn
