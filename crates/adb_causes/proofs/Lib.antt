@@ -38,3 +38,4 @@ pub mod PutSteps
 pub mod StreamSteps
 pub mod Asks
 pub mod AsksSteps
+pub mod Newborn
