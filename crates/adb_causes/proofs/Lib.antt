@@ -39,3 +39,4 @@ pub mod StreamSteps
 pub mod Asks
 pub mod AsksSteps
 pub mod Newborn
+pub mod NewbornEntries
