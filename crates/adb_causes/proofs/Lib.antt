@@ -40,3 +40,4 @@ pub mod Asks
 pub mod AsksSteps
 pub mod Newborn
 pub mod NewbornEntries
+pub mod Holding

@@ -3,114 +3,38 @@ use Rattle.adb_reply.specs.declared.answer.Next.{Next}
 use Rattle.adb_forward.specs.declared.row.ForwardRow.{ForwardRow}
 use Rattle.adb_stream.specs.Stream.{new_stream}
 use Rattle.adb_stream.specs.Flow.{new_flow}
-use Rattle.adb_stream.specs.declared.credit.TheConstants.{CREDIT_WINDOW}
-use Rattle.adb_history.specs.Rows.{new_client, in_phase, with_stream_part, Client, State, to_client, to_stream, with_held, Link, to_link, none_kept, with_due}
-use Rattle.adb_history.specs.Events.{Event, due_to_client, due_to_link, ended, Made, owed_to, packets_to, quietly, then_also, ending_in, Ending, client_closed, lost, client_failed, stopped}
-use Rattle.adb_history.specs.Links.{open_packet, is_credit, is_connected, owe_link, credit_word, check_on, wants_sums, is_connected_row, maxdata_of}
-use Rattle.adb_history.specs.Streams.{stream_ids, draw, asks_for, no_ids_left, opens}
-use Rattle.adb_history.specs.Losing.{stops, input_ended, input_ends, client_ends}
-use Rattle.adb_history.specs.Reading.{enters_by, enters, comes, comes_in_vain, goes_on, reads_in, reads_from, reads, asked_before, asks, has_asked}
-use Rattle.adb_history.specs.Book.{newly, devices, forwards, Book, book, asked, is_asking, asked_with, bound_turn, devices_if, is_refused, plugged, device_of, last_cnxn, row_by, is_killed, still_asks}
-use Rattle.adb_history.specs.Births.{birth_by, birth_through, births_at, births, born, since, opening_in, opening_of, told_to, joined, handed_to, remote_of, remote_in, is_okay, Birth, opening_by, is_between, told_after, lead_of, carried_in, count_from, is_wrte}
-use Rattle.adb_history.specs.Fifo.{okays_of, credit_of, has_credit, HasBirths, IsKeptAs}
-use Rattle.adb_history.specs.Order.{IsOfBorn, AreOfBorn}
-use Rattle.adb_history.specs.Tied.{bytes_asked, came_count, DueIsPastPut}
-use Rattle.adb_history.proofs.Births.{told_of_born}
-use Rattle.adb_wire.specs.declared.command.Command.{Command}
-use Rattle.adb_wire.specs.declared.command.Command.TheVariants.{Cnxn, Open, Okay, Wrte, Clse, Auth, Stls}
-use Rattle.adb_wire.specs.declared.packets.Packet.{Packet}
-use Rattle.std.proofs.Math.Seq.{drop-length}
-use Rattle.std.proofs.lemmas.List.Elements.{All-head, All-tail}
-use Rattle.std.proofs.lemmas.Bool.Decides.{nat_tests}
-use Rattle.std.specs.Prelude.{All, unwrap_or, nat_lt, slice_get, nat_eq, is_some, min, option_map, is_none, option_and_then}
-use Rattle.adb_outside.specs.Tables.{at, change_row}
-use Rattle.adb_causes.proofs.Silent.{IsSilent, AreSilent, silent_append, tally_silent, Tally}
-use Rattle.adb_causes.proofs.Others.{born_within}
-use Rattle.adb_causes.proofs.StreamSteps.{Ruled, ups_hold, rule_owned}
+use Rattle.adb_history.specs.Rows.{new_client, in_phase, Client, State, to_client}
+use Rattle.adb_history.specs.Events.{due_to_client, Made, owed_to, quietly}
+use Rattle.adb_history.specs.Links.{is_credit, is_connected}
+use Rattle.adb_history.specs.Streams.{stream_ids, asks_for, no_ids_left, opens}
+use Rattle.adb_history.specs.Reading.{enters_by, enters, comes, comes_in_vain, goes_on, reads_in, reads_from, reads, has_asked}
+use Rattle.adb_history.specs.Book.{newly, devices, forwards, asked}
+use Rattle.adb_history.specs.Births.{birth_by, birth_through, births_at, Birth}
+use Rattle.adb_history.specs.Tied.{bytes_asked, came_count}
+use Rattle.std.specs.Prelude.{slice_get, nat_eq}
+use Rattle.adb_outside.specs.Tables.{at}
+use Rattle.adb_causes.proofs.Silent.{AreSilent}
 use Rattle.adb_causes.proofs.AsksSteps.{all_ask}
-use Rattle.adb_causes.proofs.Unchanged.{handed_is, asked_same, SameBytes, closed_before, opened_some, far_bytes}
-use Rattle.adb_history.specs.Tracking.{mark_all, due_or, list_if_stale, offered}
-use Rattle.std.proofs.Common.{◌≡◌, ◌≢◌, ◌≤◌, ◌<◌, ◌+◌, ◌-◌, ℕ, zero, suc, Bool, true, false, cond, not, ◌&&◌, ◌||◌, List, [], ◌∷◌, ◌++◌, length, drop, Option, Some, None, refl, sym, ap, subst, ◌∙◌, eqb, arith, ◌⊎◌, inl, inr, length-append, length-drop, append_assoc, take}
-use Rattle.std.proofs.Math.Bool.{or-true}
-use Rattle.std.proofs.lemmas.Bool.{eqb-true, eqb-false, eq-eqb, ne_eqb, cases_eq}
+use Rattle.std.proofs.Common.{◌≡◌, ◌<◌, ◌+◌, ℕ, Bool, true, false, cond, not, ◌&&◌, ◌||◌, List, [], ◌∷◌, ◌++◌, length, drop, Option, Some, None, refl, sym, ap, subst, ◌∙◌, eqb, arith, length-append}
+use Rattle.std.proofs.lemmas.Bool.{eq-eqb}
 use Rattle.adb_client.specs.declared.phase.Phase.{Phase}
 use Rattle.adb_client.specs.declared.phase.Phase.TheVariants.{Asking, Opening, Streaming, Binding, Tracking, Closing, Gone}
-use Rattle.adb_client.specs.declared.about.Want.{Want}
-use Rattle.adb_stream.specs.declared.flow.Flow.{Flow}
 use Rattle.adb_stream.specs.declared.row.Stream.{Stream}
-use Rattle.adb_capture.specs.declared.entry.Entry.{Entry}
 use Rattle.adb_capture.specs.declared.entry.Entry.TheVariants.{Join, Enter, Read, End, Bound, Attach, Recv, Detach, Put, Send}
-use Rattle.adb_history.specs.Asking.{Asked, nothing_asked, asks_with}
-use Rattle.adb_history.specs.Machine.{rule, ups, History, state, told_at, told, IsLegal, MayPut, unplugs_on, IsSomeOf, May}
-use Rattle.adb_history.specs.Bytes.{is_lost, bytes_read, bytes_put, bytes_received, brought, is_orderly, has_joined, has_ended}
-use Rattle.adb_history.specs.Lives.{output_of, packets_of, ending_of}
-use Rattle.adb_history.specs.Causes.{okays_behind, okays_after, given_to, has_closed_since, is_close_by, closes_in, may_finish, IsDone, IsClosedByClient, EndsByClient}
-use Rattle.adb_history.specs.Moves.{HasOne}
-use Rattle.adb_history.proofs.Books.{booked, all_books}
-use Rattle.adb_causes.specs.Flows.{FlowIs, waiting, hears, start_of, IsAsTold, HoldsAsTold}
-use Rattle.adb_causes.proofs.Untouched.{Untouched, Apart, apart_fate, Still, u_then, u_quiet}
-use Rattle.adb_causes.proofs.UntouchedEntries.{Pair, IsFar, has_still, pair_apart, pair_of, far_rule, IsOthers, asking_rule, asking_apart}
-use Rattle.adb_causes.proofs.Middle.{AfterRule, done_at, after_ups}
-use Rattle.std.specs.Option.{option_or}
-use Rattle.std.proofs.lemmas.List.{drop-append-le, append-nil}
-use Rattle.adb_outside.specs.Bytes.{IsPrefixOf}
-use Rattle.adb_outside.specs.declared.kinds.Cause.{Cause}
-use Rattle.adb_outside.specs.declared.kinds.Cause.TheVariants.{Eof, Fault, Starved, NoThread}
-use Rattle.adb_wire.specs.Cutting.{framed, cut_packets}
-use Rattle.adb_stream.specs.declared.flow.Flow.TheVariants.{One, Credit}
-use Rattle.adb_history.specs.Flow.{with_flow, total, flow_after, is_over, write_len, write_before, writes, payloads, is_idle, is_streaming, up_all, up}
-use Rattle.adb_history.specs.Orderly.{phase_for}
+use Rattle.adb_history.specs.Asking.{Asked}
+use Rattle.adb_history.specs.Machine.{History, state, IsLegal}
+use Rattle.adb_history.specs.Bytes.{bytes_read, brought, has_ended}
+use Rattle.adb_history.specs.Lives.{output_of}
+use Rattle.adb_history.proofs.Books.{all_books}
+use Rattle.std.proofs.lemmas.List.{append-nil}
 use Rattle.adb_history.proofs.Following.{changed_here}
-use Rattle.adb_history.proofs.OutputEntries.{all_due_past_put, tied}
-use Rattle.std.specs.List.{list_any}
-use Rattle.adb_wire.specs.Format.{is_cnxn}
-use Rattle.adb_wire.specs.declared.format.PacketFault.{PacketFault}
-use Rattle.adb_history.specs.Packets.{treat_all, faulty_on, faulty, with_rest, receives_cut, receives_on, receives}
-use Rattle.adb_history.proofs.LinkMoves.{all_linked}
-use Rattle.adb_causes.proofs.Fates.{lives, FateOf, none_some, row_lives, ending_append, Row, live_row}
-use Rattle.adb_causes.proofs.PacketFates.{OfLink, receives_fate}
-use Rattle.adb_causes.proofs.Turning.{Here}
-use Rattle.adb_causes.proofs.Runs.{RunsOn, says_anew, Cutting, CutFell, CutRun, rested_here, alive_told}
-use Rattle.adb_causes.proofs.RunEffects.{remote_all, written_all, okays_all, RunEffect, LivesOn, run_effect}
-use Rattle.adb_causes.proofs.Sayings.{neither, remote_known, written_in, okays_behind_in, SaidMore, said_more}
-use Rattle.adb_causes.proofs.Receiving.{Brought, brought_cut, LinkThere, here_at, there_at, recv_run}
-use Rattle.adb_causes.proofs.RuleSteps.{Standing, flow_at, client_here, has_one, same_asked, same_start, same_lead, Becomes, with_more, with_end, read_after, end_after, Steady, ends_own, far_after, same_written, same_okays, same_remote, same_waits, same_before}
-use Rattle.adb_history.specs.Handing.{puts, to_hand, left_in, hands, lists_first, takes_of, client_left, puts_to, unmarked}
-use Rattle.adb_history.specs.Owned.{IsOwned}
-use Rattle.adb_history.proofs.OwnedMoves.{client_of}
-use Rattle.adb_causes.specs.Times.{AtEachTime}
-use Rattle.adb_causes.proofs.StreamFates.{up_all_fate}
-use Rattle.adb_causes.proofs.RuleFates.{WhyBy, draws, drawn_row, rule_fate}
-use Rattle.adb_causes.proofs.TurnsOfPackets.{link_ends_told}
-use Rattle.adb_causes.proofs.Lives.{now, DrawnBy, drawn_grows, WhyStep, step_fate, kinds}
-use Rattle.adb_causes.proofs.Endings.{IsTime, time_of, times_at, EndsAt, ends_at, ends_for, stopped_after}
-use Rattle.adb_causes.proofs.OtherCauses.{end_told, Kills, reads_kills, bound_killed}
-use Rattle.adb_causes.proofs.PutEffects.{LetsSame, puts_effect, PutEffect}
-use Rattle.adb_causes.proofs.UpRuns.{UpEffect, GoesOnWith, EndsWith, up_run, u_up, up_apart}
-use Rattle.adb_causes.proofs.Goings.{GoesOn, goes_fate}
-use Rattle.adb_causes.proofs.RecvSteps.{Received, received_now, recv_after, recv_becomes}
-use Rattle.adb_causes.proofs.ClosedByClient.{flow_credit}
-use Rattle.adb_causes.proofs.NotOver.{LeavesLink, stays_on}
-use Rattle.adb_history.proofs.Booked.{said, asks_in, asks_now, SameAsked}
-use Rattle.adb_registry.specs.Row.{new_row}
+use Rattle.adb_history.proofs.OutputEntries.{tied}
+use Rattle.adb_history.proofs.Booked.{said, SameAsked}
 use Rattle.adb_registry.specs.Registry.{DeviceTable}
-use Rattle.adb_history.proofs.OrderlyStates.{rests_calm}
-use Rattle.adb_history.proofs.Quiet.{IsCalm, IsCalmAt, up_all_drawn}
-use Rattle.adb_history.proofs.Sweep.{Sending, over, up_to, sent, left}
-use Rattle.adb_history.proofs.Devices.{shows_devices}
-use Rattle.adb_causes.proofs.ByClient.{ClosesAt, closes_at, not_going, finished}
-use Rattle.adb_history.proofs.RuleMoves.{rule_kept}
-use Rattle.adb_history.proofs.OwnedStep.{owned_moves, begins_owned}
-use Rattle.adb_history.proofs.StreamMoves.{like_after}
-use Rattle.adb_causes.proofs.PutSteps.{put_effect, put_after}
-use Rattle.std.proofs.lemmas.Option.{slice_get_within}
-use Rattle.adb_history.proofs.Waiting.{is_waiting}
-use Rattle.adb_history.proofs.Asked.{behind, Unused, asks_unused}
-use Rattle.adb_history.proofs.BookReads.{none_next, and_parts, asked_all, replied_is, replied_row, replied_state}
+use Rattle.adb_history.proofs.BookReads.{replied_is, replied_row}
 use Rattle.adb_history.proofs.BookTurns.{all_unheard}
-use Rattle.adb_history.proofs.Growing.{owed_append}
-use Rattle.adb_history.specs.Clients.{closing, owe_client, closes}
-use Rattle.adb_causes.proofs.Asks.{AsksAsTold, AllAsk, is_said, AskingRow, asking_row, joined_before, not_ended_before, asked_before_is, now_said, was_said, same_said, parts, open_before, asked_now, unused_now}
+use Rattle.adb_history.specs.Clients.{owe_client}
+use Rattle.adb_causes.proofs.Asks.{AsksAsTold, now_said, same_said, parts, open_before, asked_now, unused_now}
 use Rattle.adb_reply.specs.declared.answer.Next.TheVariants as what
 use Rattle.adb_causes.proofs.Newborn.{Newborn}
 
@@ -295,3 +219,88 @@ module _ (c : ℕ) (bytes : List ℕ) (older : History) (legal : IsLegal (Read c
       go : (o : Option Client) → (state older).clients c ≡ o → (reads_from o c bytes (state older)).state.streams l ≡ Some y → Newborn (Read c bytes) older l b
       go None e f = absurd (still (quietly (state older)) refl f)
       go (Some k0) e f = phases k0 e k0.about.phase refl f
+
+-- ---- by a client that comes through a forward
+module _ (n port : ℕ) (older : History) (legal : IsLegal (Enter n port ∷ older)) (l : ℕ) (next : l ≡ (state older).drawn + 1) where
+  abbrev came : State
+  came = comes true n (state older)
+
+  -- its birth
+  through_is : (b : Birth) (row : ForwardRow) → at port (state older).forwards ≡ Some row → is_connected row.transport (state older).devices ≡ true
+      → slice_get (births_at (Enter n port) older) 0 ≡ Some b
+      → record {
+        client = n;
+        link = row.transport;
+        credit = is_credit row.transport (devices older);
+        forwarded = true;
+        service = row.remote;
+        head = 0;
+        packets_before = length (brought row.transport older);
+      } ≡ b
+  through_is b row found on is =
+      let books = all_books older legal.0 in
+      let same : birth_through n older (at port (forwards older)) ≡ birth_through n older (Some row) =
+      ap (λ f. birth_through n older (at port f)) (sym books.forwards) ∙ ap (birth_through n older) found in
+      let connected : is_connected row.transport (devices older) ≡ true = ap (is_connected row.transport) (sym books.devices) ∙ on in
+      let b0 : Birth = record {
+        client = n;
+        link = row.transport;
+        credit = is_credit row.transport (devices older);
+        forwarded = true;
+        service = row.remote;
+        head = 0;
+        packets_before = length (brought row.transport older);
+      } in
+      let both : Some b0 ≡ Some b =
+      sym (ap (λ xs. slice_get xs 0) same ∙ ap (λ c. slice_get (cond c (b0 ∷ []) []) 0) connected) ∙ is in
+      cc
+
+  through_newborn : (b : Birth) (row : ForwardRow) → at port (state older).forwards ≡ Some row → is_connected row.transport (state older).devices ≡ true
+      → slice_get (births_at (Enter n port) older) 0 ≡ Some b
+      → enters n port (state older) ≡ asks_for ((state older).drawn + 1) n row.transport row.remote (comes true n (state older))
+      → Newborn (Enter n port) older l b
+  through_newborn b row found on birth made =
+      let t = tied older legal.0 in
+      let fresh : came_count older < n = omega (arith, legal.2.1, t.joined) in
+      let unheard = all_unheard older legal.0 n fresh in
+      let unread : bytes_read n older ≡ [] = sym (asked_read n older unheard.ended) ∙ unheard.input in
+      let here : came.clients n ≡ Some (new_client true n) =
+      ap (λ c. cond c (Some (new_client true n)) ((state older).clients n)) (eq-eqb n n refl) in
+      let silent_out : length (output_of n older) ≡ 0 = ap length (t.told.clients n fresh) in
+      let silent_now : length (owed_to n (enters n port (state older)).told) ≡ 0 = ap (λ (m : Made). length (owed_to n m.told)) made in
+      subst (Newborn (Enter n port) older l) (through_is b row found on birth) (record {
+        client = record (new_client true n) { about = record (new_client true n).about { phase = Opening ((state older).drawn + 1) } };
+        is = ap (λ (m : Made). m.state.streams l) made ∙ (drawn_row_is l n row.transport row.remote came next
+            ∙ ap (λ (x : DeviceTable). Some (new_stream l n row.transport (new_flow (is_credit row.transport x)))) (all_books older legal.0).devices);
+        here = ap (λ (m : Made). m.state.clients n) made ∙ drawn_client_is n row.transport row.remote came (new_client true n) here;
+        silent = subst (λ (m : Made). AreSilent l m.told) (sym made) (record { write = refl; credit = refl }, tt);
+        output = omega (arith, silent_out, silent_now);
+        forwarded = refl;
+        input = refl;
+        before = refl;
+        received = refl;
+        head = omega arith;
+        held = sym unread;
+        above = omega (arith, next);
+      })
+
+  pub enter_newborn : (b : Birth) (y : Stream) → (enters n port (state older)).state.streams l ≡ Some y → (state older).streams l ≡ None
+      → slice_get (births_at (Enter n port) older) 0 ≡ Some b → Newborn (Enter n port) older l b
+  enter_newborn b y is none birth = go (at port (state older).forwards) refl is
+    where
+      still : (m : Made) → m.state.streams l ≡ (state older).streams l → m.state.streams l ≡ Some y → ⊥
+      still m same f = let clash : None ≡ Some y = sym none ∙ (sym same ∙ f) in cc
+
+      joined_row : (row : ForwardRow) → at port (state older).forwards ≡ Some row → (c : Bool) → is_connected row.transport (state older).devices ≡ c
+          → (cond c (opens true n row.transport row.remote came) (quietly (comes_in_vain (state older)))).state.streams l ≡ Some y
+          → Newborn (Enter n port) older l b
+      joined_row row found false e f = absurd (still (quietly (comes_in_vain (state older))) refl f)
+      joined_row row found true e f =
+          let opened = opens_drew l came none true n row.transport row.remote y f in
+          through_newborn b row found e birth (ap (λ o. enters_by n o (state older)) found
+          ∙ (ap (λ c. cond c (opens true n row.transport row.remote came) (quietly (comes_in_vain (state older)))) e ∙ opened))
+
+      go : (o : Option ForwardRow) → at port (state older).forwards ≡ o → (enters_by n o (state older)).state.streams l ≡ Some y
+          → Newborn (Enter n port) older l b
+      go None e f = absurd (still (quietly (comes_in_vain (state older))) refl f)
+      go (Some row) e f = joined_row row e (is_connected row.transport (state older).devices) refl f

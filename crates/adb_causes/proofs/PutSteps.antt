@@ -1,88 +1,34 @@
 -- A stream that lives holds what is told after each entry too.
-use Rattle.std.proofs.Common.{◌≡◌, ◌≢◌, ◌≤◌, ◌<◌, ◌+◌, ◌-◌, ℕ, zero, suc, Bool, true, false, cond, not, ◌&&◌, ◌||◌, List, [], ◌∷◌, ◌++◌, length, drop, Option, Some, None, refl, sym, ap, subst, ◌∙◌, eqb, arith, ◌⊎◌, inl, inr, length-append, length-drop, append_assoc, take}
-use Rattle.std.specs.Prelude.{nat_eq, is_some, min, unwrap_or, option_map}
-use Rattle.std.proofs.Math.Bool.{or-true}
-use Rattle.std.proofs.lemmas.Bool.{eqb-true, eqb-false, eq-eqb, ne_eqb, cases_eq}
-use Rattle.adb_wire.specs.declared.command.Command.{Command}
-use Rattle.adb_wire.specs.declared.command.Command.TheVariants.{Cnxn, Open, Okay, Wrte, Clse, Auth, Stls}
-use Rattle.adb_wire.specs.declared.packets.Packet.{Packet}
-use Rattle.adb_client.specs.declared.phase.Phase.{Phase}
-use Rattle.adb_client.specs.declared.phase.Phase.TheVariants.{Asking, Opening, Streaming, Binding, Tracking, Closing, Gone, Opening as Waits, Streaming as Opened, Tracking as Tracks}
-use Rattle.adb_client.specs.declared.about.Want.{Want}
+use Rattle.std.proofs.Common.{◌≡◌, ◌≢◌, ◌≤◌, ◌+◌, ◌-◌, ℕ, zero, suc, Bool, true, false, cond, List, [], ◌∷◌, ◌++◌, length, drop, Option, refl, sym, ap, subst, ◌∙◌, arith, length-append, length-drop}
+use Rattle.std.specs.Prelude.{nat_eq, min}
+use Rattle.std.proofs.lemmas.Bool.{eq-eqb, ne_eqb}
+use Rattle.adb_client.specs.declared.phase.Phase.TheVariants.{Opening as Waits, Streaming as Opened, Tracking as Tracks}
 use Rattle.adb_stream.specs.declared.flow.Flow.{Flow}
 use Rattle.adb_stream.specs.declared.row.Stream.{Stream}
 use Rattle.adb_capture.specs.declared.entry.Entry.{Entry}
-use Rattle.adb_capture.specs.declared.entry.Entry.TheVariants.{Join, Enter, Read, End, Bound, Attach, Recv, Detach, Put, Send}
-use Rattle.adb_history.specs.Rows.{Client, State, to_client, to_stream, with_held, with_stream_part, Link, to_link}
-use Rattle.adb_history.specs.Events.{Made, owed_to, packets_to, quietly, then_also, ending_in, Ending, client_closed, lost, client_failed, stopped}
-use Rattle.adb_history.specs.Links.{credit_word, is_connected, is_connected_row, maxdata_of}
-use Rattle.adb_history.specs.Asking.{Asked}
-use Rattle.adb_history.specs.Machine.{rule, ups, History, state, told_at, told, IsLegal, MayPut, unplugs_on, IsSomeOf}
-use Rattle.adb_history.specs.Bytes.{is_lost, bytes_read, bytes_put, bytes_received, brought, is_orderly}
-use Rattle.adb_history.specs.Book.{Book, book, asked, is_asking, asked_with, bound_turn, devices_if, is_refused, plugged, device_of, last_cnxn, row_by, is_killed}
-use Rattle.adb_history.specs.Births.{Birth, born, Opening as FirstOkay, opening_by, opening_in, opening_of, remote_in, remote_of, since, is_between, told_after, told_to, joined, lead_of, handed_to, carried_in, count_from, is_wrte}
-use Rattle.adb_history.specs.Lives.{output_of, packets_of, ending_of}
-use Rattle.adb_history.specs.Fifo.{has_credit, okays_of, credit_of, HasBirths, IsKeptAs}
-use Rattle.adb_history.specs.Causes.{okays_behind, okays_after, given_to, has_closed_since, is_close_by, closes_in, may_finish, IsDone, IsClosedByClient, EndsByClient}
-use Rattle.adb_history.specs.Moves.{HasOne}
-use Rattle.adb_history.proofs.Books.{booked, all_books}
-use Rattle.adb_causes.specs.Flows.{FlowIs, waiting, hears, start_of, IsAsTold, HoldsAsTold}
-use Rattle.adb_causes.proofs.Silent.{Tally, tally_silent, AreSilent, silent_append}
-use Rattle.adb_causes.proofs.Untouched.{Untouched, Apart, apart_fate}
-use Rattle.adb_causes.proofs.UntouchedEntries.{Pair, IsFar, has_still, pair_apart, pair_of, far_rule}
-use Rattle.adb_causes.proofs.Middle.{AfterRule, done_at}
-use Rattle.std.specs.Option.{option_or}
-use Rattle.std.proofs.lemmas.List.{drop-append-le, append-nil}
+use Rattle.adb_capture.specs.declared.entry.Entry.TheVariants.{Put}
+use Rattle.adb_history.specs.Rows.{Client, State}
+use Rattle.adb_history.specs.Events.{owed_to}
+use Rattle.adb_history.specs.Machine.{rule, History, state, MayPut, IsSomeOf}
+use Rattle.adb_history.specs.Bytes.{bytes_put}
+use Rattle.adb_history.specs.Book.{asked}
+use Rattle.adb_history.specs.Births.{Birth, told_to, joined, lead_of, handed_to}
+use Rattle.adb_history.specs.Lives.{output_of}
+use Rattle.adb_history.specs.Fifo.{has_credit}
+use Rattle.adb_history.specs.Causes.{given_to}
+use Rattle.adb_causes.specs.Flows.{FlowIs, hears, start_of}
+use Rattle.adb_causes.proofs.Silent.{Tally}
+use Rattle.adb_causes.proofs.Middle.{AfterRule}
 use Rattle.adb_outside.specs.Bytes.{IsPrefixOf}
-use Rattle.adb_outside.specs.declared.kinds.Cause.{Cause}
-use Rattle.adb_outside.specs.declared.kinds.Cause.TheVariants.{Eof, Fault, Starved, NoThread}
-use Rattle.adb_wire.specs.Cutting.{framed, cut_packets}
 use Rattle.adb_stream.specs.declared.flow.Flow.TheVariants.{One, Credit}
-use Rattle.adb_history.specs.Flow.{with_flow, total, flow_after, is_over, write_len, write_before, writes, payloads, is_idle, is_streaming, up_all}
+use Rattle.adb_history.specs.Flow.{with_flow}
 use Rattle.adb_history.specs.Orderly.{phase_for}
-use Rattle.adb_history.specs.Losing.{input_ended, input_ends, client_ends}
-use Rattle.adb_history.specs.Reading.{reads_in, reads_from, reads}
-use Rattle.adb_history.specs.Tied.{DueIsPastPut}
-use Rattle.adb_history.proofs.Following.{changed_here}
 use Rattle.adb_history.proofs.OutputEntries.{all_due_past_put}
-use Rattle.adb_causes.proofs.Unchanged.{handed_is, asked_same, SameBytes, closed_before, opened_some, far_bytes}
-use Rattle.std.specs.List.{list_any}
-use Rattle.adb_wire.specs.Format.{is_cnxn}
-use Rattle.adb_wire.specs.declared.format.PacketFault.{PacketFault}
-use Rattle.adb_history.specs.Packets.{treat_all, faulty_on, faulty, with_rest, receives_cut, receives_on, receives}
+use Rattle.adb_causes.proofs.Unchanged.{handed_is, closed_before}
 use Rattle.adb_history.proofs.LinkMoves.{all_linked}
-use Rattle.adb_causes.proofs.Fates.{lives, FateOf, none_some, row_lives, ending_append, Row, live_row}
-use Rattle.adb_causes.proofs.PacketFates.{OfLink, receives_fate}
-use Rattle.adb_causes.proofs.Turning.{Here}
-use Rattle.adb_causes.proofs.Runs.{RunsOn, says_anew, Cutting, CutFell, CutRun, rested_here}
-use Rattle.adb_causes.proofs.RunEffects.{remote_all, written_all, okays_all, RunEffect, LivesOn, run_effect}
-use Rattle.adb_causes.proofs.Sayings.{neither, remote_known, written_in, okays_behind_in, SaidMore, said_more}
-use Rattle.adb_causes.proofs.Receiving.{Brought, brought_cut, LinkThere, here_at, there_at, recv_run}
-use Rattle.adb_causes.proofs.RuleSteps.{Standing, flow_at, client_here, has_one, same_asked, same_start, same_lead, Becomes, with_more, with_end, read_after, end_after, Steady, ends_own, far_after, same_written, same_okays, same_remote, same_waits, same_before}
-use Rattle.adb_history.specs.Handing.{puts, to_hand}
-use Rattle.adb_history.specs.Owned.{IsOwned}
-use Rattle.adb_history.proofs.OwnedMoves.{client_of}
-use Rattle.adb_causes.specs.Times.{AtEachTime}
-use Rattle.adb_causes.proofs.StreamFates.{up_all_fate}
-use Rattle.adb_causes.proofs.RuleFates.{WhyBy, draws, drawn_row, rule_fate}
-use Rattle.adb_causes.proofs.TurnsOfPackets.{link_ends_told}
-use Rattle.adb_causes.proofs.Lives.{now}
-use Rattle.adb_causes.proofs.Endings.{IsTime, time_of, times_at, EndsAt, ends_at, ends_for, stopped_after}
-use Rattle.adb_causes.proofs.OtherCauses.{end_told, Kills, reads_kills, bound_killed}
-use Rattle.adb_causes.proofs.PutEffects.{LetsSame, puts_effect, PutEffect}
-use Rattle.adb_causes.proofs.UpRuns.{UpEffect, GoesOnWith, EndsWith, up_run}
-use Rattle.adb_causes.proofs.Goings.{GoesOn, goes_fate}
-use Rattle.adb_causes.proofs.RecvSteps.{Received, received_now, recv_after, recv_becomes}
-use Rattle.adb_causes.proofs.NotOver.{LeavesLink, stays_on}
-use Rattle.adb_history.proofs.Booked.{said, asks_in, asks_now}
-use Rattle.adb_outside.specs.Tables.{at}
-use Rattle.adb_registry.specs.Row.{new_row}
-use Rattle.adb_registry.specs.Registry.{DeviceTable}
-use Rattle.adb_history.proofs.OrderlyStates.{rests_calm}
-use Rattle.adb_history.proofs.Quiet.{IsCalm, IsCalmAt}
-use Rattle.adb_history.proofs.Sweep.{Sending, over, up_to}
-use Rattle.adb_history.proofs.Devices.{shows_devices}
-use Rattle.adb_causes.proofs.ByClient.{ClosesAt, closes_at, not_going, finished}
+use Rattle.adb_causes.proofs.RuleSteps.{Standing, client_here, same_start, same_lead, same_remote}
+use Rattle.adb_history.specs.Handing.{to_hand}
+use Rattle.adb_causes.proofs.PutEffects.{puts_effect, PutEffect}
 use Rattle.adb_history.specs.Tracking.{due_or, list_if_stale, offered}
 
 -- ---- its client is handed bytes
@@ -164,8 +110,20 @@ module _ (older : History) (l : ℕ) (b : Birth) (x : Stream) (bytes : List ℕ)
       ∙ length-append (bytes_put b.client older) t.pair.client.due in
       let was = one_flow x.part.flow b.credit (length (joined (told_to l b older))) (length (handed_to l b older)) (given_to l b older) one t.holds.flow in
       let hear = hears_open x.part.remote b.forwarded (length (joined (told_to l b older))) some in
-      omega (arith, new, old, put, due, was, hear, t.holds.output, lead_is b older (length (joined (told_to l b older))), within_due,
-      same_lead e older l b x t, length-drop (length bytes) t.pair.client.due)
+      omega (
+        arith,
+        new,
+        old,
+        put,
+        due,
+        was,
+        hear,
+        t.holds.output,
+        lead_is b older (length (joined (told_to l b older))),
+        within_due,
+        same_lead e older l b x t,
+        length-drop (length bytes) t.pair.client.due,
+      )
 
   pub put_after : AfterRule (Put b.client bytes) older l b (record x { part = with_flow put_effect.flow x.part })
       (record t.pair.client { due = drop (length bytes) t.pair.client.due })

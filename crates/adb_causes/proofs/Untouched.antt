@@ -19,7 +19,7 @@ use Rattle.adb_history.specs.Losing.{forgets, link_ends}
 use Rattle.adb_history.specs.Flow.{with_flow}
 use Rattle.adb_history.specs.Packets.{with_remote, first_credit, hears_okay, opened, orphan_opened, acknowledged, okay_open, okay_first, takes_okay}
 use Rattle.adb_history.specs.Packets.{is_out_of_turn, accepted, accepts_none, accepts, takes_write, takes_close}
-use Rattle.adb_history.specs.Moves.{HasOne, open_now}
+use Rattle.adb_history.specs.Moves.{open_now}
 use Rattle.adb_history.proofs.Following.{changed_other}
 use Rattle.adb_history.proofs.Growing.{owed_append}
 use Rattle.adb_causes.proofs.Fates.{Reason, FateOf}
