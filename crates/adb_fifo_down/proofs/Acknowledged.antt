@@ -10,7 +10,7 @@ use Rattle.adb_history.specs.Machine.{History, IsLegal}
 use Rattle.adb_history.specs.Bytes.{bytes_put, sent}
 use Rattle.adb_history.specs.Births.{Birth, Opening, since, opening_of, opening_in, told_in, told_after, told_to, lead_of, handed_to}
 use Rattle.adb_history.specs.Lives.{packets_of}
-use Rattle.adb_history.specs.Fifo.{HasBirths, has_credit, okays_of, IsWithinDown, KeepsDownWindow}
+use Rattle.adb_history.specs.Fifo.{has_credit, okays_of, IsWithinDown, KeepsDownWindow}
 use Rattle.adb_fifo_down.specs.Line.{Line, View, gathered_of}
 use Rattle.adb_fifo_down.specs.Turns.{Turns}
 use Rattle.adb_fifo_down.specs.Life.{Cradle}
@@ -18,7 +18,8 @@ use Rattle.adb_fifo_down.specs.Window.{handed_past, IsBackedBy, IsBacked}
 use Rattle.adb_fifo_down.specs.Followed.{WindowOf}
 use Rattle.adb_fifo_down.specs.Follows.{Follows}
 use Rattle.adb_fifo_down.specs.Begins.{Lasts}
-use Rattle.adb_fifo_down.specs.Premises.{AtAllTimes, AreFirstOf, SendsWhatIsDue}
+use Rattle.adb_births.specs.Brought.{ComeFirst}
+use Rattle.adb_births.proofs.Laws.{sends_first}
 use Rattle.adb_fifo_down.proofs.Shown.{okays_append}
 use Rattle.adb_fifo_down.proofs.Followed.{follows}
 use Rattle.adb_fifo_down.proofs.Handed.{life_turns, life_lasts, lead_is}
@@ -79,11 +80,11 @@ no_front : (ps qs : List Packet) → ps ++ qs ≡ [] → ps ≡ []
 no_front [] qs e = refl
 no_front (p ∷ ps) qs e = absurd (let clash : p ∷ (ps ++ qs) ≡ [] = e in cc)
 
-module _ (l : ℕ) (b : Birth) (h : History) (f : Follows WindowOf h l b) (sends : AreFirstOf (sent b.link h) (packets_of b.link h)) where
-  okays_are : okays_of l (sent b.link h) ++ okays_of l sends.others ≡ f.holds.seen.okays
-  okays_are = sym (okays_append l (sent b.link h) sends.others) ∙ (ap (okays_of l) sends.are ∙ ap (λ (v : View). v.okays) f.holds.shows.1)
+module _ (l : ℕ) (b : Birth) (h : History) (f : Follows WindowOf h l b) (sends : ComeFirst (sent b.link h) (packets_of b.link h)) where
+  okays_are : okays_of l (sent b.link h) ++ okays_of l sends.0 ≡ f.holds.seen.okays
+  okays_are = sym (okays_append l (sent b.link h) sends.0) ∙ (ap (okays_of l) sends.1 ∙ ap (λ (v : View). v.okays) f.holds.shows.1)
 
-  backed : IsBacked (opening_in l (since b h)) l f.cradle.credit (okays_of l (sent b.link h) ++ okays_of l sends.others)
+  backed : IsBacked (opening_in l (since b h)) l f.cradle.credit (okays_of l (sent b.link h) ++ okays_of l sends.0)
       (handed_past f.cradle (bytes_put b.client h))
   backed = subst (λ (ps : List Packet). IsBacked (opening_in l (since b h)) l f.cradle.credit ps (handed_past f.cradle (bytes_put b.client h))) (sym okays_are)
       f.holds.keeps.backed
@@ -91,15 +92,15 @@ module _ (l : ℕ) (b : Birth) (h : History) (f : Follows WindowOf h l b) (sends
   handed_is : handed_past f.cradle (bytes_put b.client h) ≡ length (drop (lead_of b h) (bytes_put b.client h))
   handed_is = ap (λ (n : ℕ). length (drop n (bytes_put b.client h))) (lead_is f.cradle b h f.forwarded f.replies)
 
-  sent_backed : (o : Option Opening) → IsBacked o l f.cradle.credit (okays_of l (sent b.link h) ++ okays_of l sends.others)
+  sent_backed : (o : Option Opening) → IsBacked o l f.cradle.credit (okays_of l (sent b.link h) ++ okays_of l sends.0)
       (handed_past f.cradle (bytes_put b.client h))
       → IsBackedBy f.cradle.credit (told_after l o) (okays_of l (sent b.link h)) (length (cond (is_some o) (drop (lead_of b h) (bytes_put b.client h)) []))
   sent_backed None none =
-      subst (λ (ps : List Packet). IsBackedBy f.cradle.credit [] ps 0) (sym (no_front (okays_of l (sent b.link h)) (okays_of l sends.others) none))
+      subst (λ (ps : List Packet). IsBackedBy f.cradle.credit [] ps 0) (sym (no_front (okays_of l (sent b.link h)) (okays_of l sends.0) none))
       (backed_none f.cradle.credit [] 0)
   sent_backed (Some o) all =
       subst (λ (n : ℕ). IsBackedBy f.cradle.credit (told_in o.remote l o.later) (okays_of l (sent b.link h)) n) handed_is
-      (backed_front f.cradle.credit (told_in o.remote l o.later) (okays_of l (sent b.link h)) (okays_of l sends.others)
+      (backed_front f.cradle.credit (told_in o.remote l o.later) (okays_of l (sent b.link h)) (okays_of l sends.0)
       (handed_past f.cradle (bytes_put b.client h)) all)
 
   by_credit : (credit : Bool) → IsBackedBy credit (told_to l b h) (okays_of l (sent b.link h)) (length (handed_to l b h)) → IsWithinDown credit l b h
@@ -113,5 +114,5 @@ module _ (l : ℕ) (b : Birth) (h : History) (f : Follows WindowOf h l b) (sends
       (sent_backed (opening_of l b h) backed))
 
 -- What a device is told that its client was handed, it was.
-pub keeps_down_window : (h : History) → IsLegal h → AtAllTimes HasBirths h → SendsWhatIsDue h → KeepsDownWindow h
-keeps_down_window h legal births sends l b is = within l b h (follows window_lasts h legal births l b is) (sends b.link)
+pub keeps_down_window : (h : History) → IsLegal h → KeepsDownWindow h
+keeps_down_window h legal l b is = within l b h (follows window_lasts h legal l b is) (sends_first h legal b.link).first

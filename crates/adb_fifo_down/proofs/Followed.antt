@@ -27,7 +27,7 @@ use Rattle.adb_history.specs.Order.{IsOfBorn}
 use Rattle.adb_history.proofs.Births.{told_of_born}
 use Rattle.adb_fifo_down.specs.Follows.{line, is_shut, PromiseOf, Follows}
 use Rattle.adb_fifo_down.specs.Begins.{Lasts, IsBornNow}
-use Rattle.adb_fifo_down.specs.Premises.{AtAllTimes}
+use Rattle.adb_births.proofs.Born.{all_births}
 use Rattle.adb_fifo_down.proofs.Brought.{brings_more}
 use Rattle.adb_fifo_down.proofs.Steps.{step_holds, unreceived}
 use Rattle.adb_fifo_down.proofs.BornNow.{born_when, by_request, by_forward, newly_is}
@@ -137,15 +137,6 @@ unborn_okays drawn t (due_to_link link p check ∷ w) all =
     by false rest of = rest
 
 -- ---- at all times
--- what holds of each legal history holds of it at all times
-pub all_times : (P : History → Type 0) → ((h : History) → IsLegal h → P h) → (h : History) → IsLegal h → AtAllTimes P h
-all_times P each [] legal = each [] legal
-all_times P each (e ∷ older) legal = (each (e ∷ older) legal, all_times P each older legal.0)
-
-at_time : (P : History → Type 0) (h : History) → AtAllTimes P h → P h
-at_time P [] all = all
-at_time P (e ∷ older) all = all.0
-
 module _ {P : PromiseOf} (lasts : Lasts P) where
   follows_on : (e : Entry) (older : History) → IsLegal (e ∷ older) → (l : ℕ) (b : Birth) → 0 < l → Follows P older l b → Follows P (e ∷ older) l b
   follows_on e older legal l b some h = record {
@@ -232,8 +223,8 @@ module _ {P : PromiseOf} (lasts : Lasts P) where
   some_id zero b h is = absurd (let clash : None ≡ Some b = is in cc)
   some_id (suc l) b h is = omega arith
 
-  pub follows : (h : History) → IsLegal h → AtAllTimes HasBirths h → (l : ℕ) (b : Birth) → born l h ≡ Some b → Follows P h l b
-  follows [] legal all l b is = absurd (none l is)
+  pub follows : (h : History) → IsLegal h → (l : ℕ) (b : Birth) → born l h ≡ Some b → Follows P h l b
+  follows [] legal l b is = absurd (none l is)
     where
       none : (l : ℕ) → born l [] ≡ Some b → ⊥
       none zero e = let clash : None ≡ Some b = e in cc
@@ -242,8 +233,8 @@ module _ {P : PromiseOf} (lasts : Lasts P) where
           by : (lt : Bool) → cond lt None None ≡ Some b → ⊥
           by true f = let clash : None ≡ Some b = f in cc
           by false f = let clash : None ≡ Some b = f in cc
-  follows (e ∷ older) legal all l b is = go (born_when l b e older is) (λ before. follows older legal.0 all.1 l b before)
+  follows (e ∷ older) legal l b is = go (born_when l b e older is) (λ before. follows older legal.0 l b before)
     where
       go : (born l older ≡ Some b) ⊎ IsBornNow l b e older → (born l older ≡ Some b → Follows P older l b) → Follows P (e ∷ older) l b
       go (inl before) rest = follows_on e older legal l b (some_id l b older before) (rest before)
-      go (inr now) rest = follows_first e older legal (at_time HasBirths older all.1) l b now
+      go (inr now) rest = follows_first e older legal (all_births older legal.0) l b now

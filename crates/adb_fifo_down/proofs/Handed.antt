@@ -12,14 +12,13 @@ use Rattle.adb_history.specs.Book.{asked}
 use Rattle.adb_history.specs.Births.{Birth, Opening, since, opening_in, opening_of, told_in, told_after, told_to, told_before, told_before_close}
 use Rattle.adb_history.specs.Births.{before_close, joined, lead_of, handed_to}
 use Rattle.adb_history.specs.Events.{peer_closed}
-use Rattle.adb_history.specs.Fifo.{HasBirths, HandsTold, HandsWholeTold}
+use Rattle.adb_history.specs.Fifo.{HandsTold, HandsWholeTold}
 use Rattle.adb_fifo_down.specs.Line.{Line, SeenStream, View}
 use Rattle.adb_fifo_down.specs.Turns.{Turns}
 use Rattle.adb_fifo_down.specs.Life.{Cradle, okay_after, lead, heard, IsUnheard, IsClosedAt, Story, LivesAs, LivesIn, Life}
 use Rattle.adb_fifo_down.specs.Followed.{LifeOf, HasLives}
 use Rattle.adb_fifo_down.specs.Follows.{is_shut, replies_of, Follows}
 use Rattle.adb_fifo_down.specs.Begins.{Lasts}
-use Rattle.adb_fifo_down.specs.Premises.{AtAllTimes}
 use Rattle.adb_fifo_down.proofs.Openings.{pending_now}
 use Rattle.adb_fifo_down.proofs.Lives.{any_front, life_served, life_closes, life_breaks, life_stops, life_fails, life_hands, life_shuts}
 use Rattle.adb_fifo_down.proofs.LifePackets.{life_treats}
@@ -212,16 +211,16 @@ module _ (l : ℕ) (b : Birth) (h : History) (f : Follows LifeOf h l b) where
         by (Some o) e = whole_of o e
 
 -- Each client is handed what the device of its stream wrote, in order and once.
-pub hands_told : (h : History) → IsLegal h → AtAllTimes HasBirths h → HandsTold h
-hands_told h legal births l b is = handed_is_told l b h (follows life_lasts h legal births l b is)
+pub hands_told : (h : History) → IsLegal h → HandsTold h
+hands_told h legal l b is = handed_is_told l b h (follows life_lasts h legal l b is)
 
 -- And all of it, where the device closed and the client was handed all that became due to it.
-pub hands_whole_told : (h : History) → IsLegal h → AtAllTimes HasBirths h → HandsWholeTold h
-hands_whole_told h legal births l b is by_peer all =
-    let f = follows life_lasts h legal births l b is in
+pub hands_whole_told : (h : History) → IsLegal h → HandsWholeTold h
+hands_whole_told h legal l b is by_peer all =
+    let f = follows life_lasts h legal l b is in
     let seen = f.holds.shows.1 in
     handed_whole l b h f (sym (ap (λ (v : View). v.ending) seen) ∙ by_peer) (all ∙ ap (λ (v : View). v.output) seen)
 
 -- Each stream that was born has its life.
-pub has_lives : (h : History) → IsLegal h → AtAllTimes HasBirths h → HasLives h
-has_lives h legal births l b is = follows life_lasts h legal births l b is
+pub has_lives : (h : History) → IsLegal h → HasLives h
+has_lives h legal l b is = follows life_lasts h legal l b is
