@@ -1,5 +1,6 @@
 -- Every client that asks is as it is told.
-use Rattle.std.proofs.Common.{◌≡◌, ◌≢◌, ◌<◌, ◌+◌, ℕ, zero, suc, Bool, true, false, cond, not, ◌&&◌, ◌||◌, List, [], ◌∷◌, ◌++◌, length, drop, Option, Some, None, refl, sym, ap, subst, ◌∙◌, eqb, arith, ◌⊎◌, inl, inr, length-append}
+use Rattle.std.proofs.Common.{◌≡◌, ◌≢◌, ◌<◌, ◌+◌, ℕ, zero, suc, Bool, true, false, cond, not, ◌&&◌, ◌||◌, List, [], ◌∷◌, ◌++◌, length, drop, Option}
+use Rattle.std.proofs.Common.{Some, None, refl, sym, ap, subst, ◌∙◌, eqb, arith, ◌⊎◌, inl, inr, length-append}
 use Rattle.std.specs.Prelude.{is_some}
 use Rattle.std.proofs.lemmas.Bool.{eq-eqb, cases_eq}
 use Rattle.adb_client.specs.declared.phase.Phase.TheVariants.{Asking, Tracking}
@@ -43,7 +44,8 @@ use Rattle.adb_outside.specs.Tables.{change_row}
 use Rattle.adb_history.specs.Clients.{owe_client}
 use Rattle.adb_history.specs.Reading.{has_asked}
 use Rattle.adb_causes.proofs.StreamSteps.{rule_owned}
-use Rattle.adb_causes.proofs.Asks.{AsksAsTold, AllAsk, is_said, AskingRow, asking_row, joined_before, not_ended_before, asked_before_is, now_said, same_said, open_before, asked_now}
+use Rattle.adb_causes.proofs.Asks.{AsksAsTold, AllAsk, is_said, AskingRow, asking_row, joined_before, not_ended_before, asked_before_is, now_said}
+use Rattle.adb_causes.proofs.Asks.{same_said, open_before, asked_now}
 
 -- ---- before the entry
 still_before : (e : Entry) (older : History) (c : ℕ) → (has_joined c older ≡ true) × (not (has_ended c older) ≡ true) → still_asks (asked c (e ∷ older)) ≡ true
@@ -51,7 +53,8 @@ still_before : (e : Entry) (older : History) (c : ℕ) → (has_joined c older �
 still_before (Read n bytes) older c known on = go (cases_eq n c)
   where
     mine : (b : Bool) → is_asking c older (book older) ≡ b
-        → still_asks (asked_with b (devices_if (book older).killed older) (book older).forwards bytes (asked c older)) ≡ true → still_asks (asked c older) ≡ true
+        → still_asks (asked_with b (devices_if (book older).killed older) (book older).forwards bytes (asked c older)) ≡ true
+        → still_asks (asked c older) ≡ true
     mine true e f = (and_parts (has_joined c older) (not (has_ended c older)) (still_asks (asked c older)) e).2
     mine false e f = f
 
@@ -175,7 +178,8 @@ after_up e older c k legal here r =
     subst (AsksAsTold (e ∷ older) c) row (record { forwarded = r.forwarded; ended = r.ended; output = omega (arith, all, own, r.output) })
 
 -- ---- by entries of others
-module _ (e : Entry) (older : History) (c : ℕ) (k0 : Client) (legal : IsLegal (e ∷ older)) (row : ((state older).clients c ≡ Some k0) × (k0.about.phase ≡ Asking)) where
+module _ (e : Entry) (older : History) (c : ℕ) (k0 : Client) (legal : IsLegal (e ∷ older)) (row : ((state older).clients c ≡ Some k0) × (k0.about.phase
+    ≡ Asking)) where
   owned_before : IsOwned (state older)
   owned_before = (all_linked older legal.0).owned
 
@@ -184,7 +188,8 @@ module _ (e : Entry) (older : History) (c : ℕ) (k0 : Client) (legal : IsLegal 
   others_ask t far other on =
       let u = asking_rule c k0 (state older) (all_linked older legal.0).owned row.0 row.1 e legal.2 far on in
       let none : length (owed_to c (rule e (state older)).told) ≡ 0 = ap length u.owed in
-      let same : length (asked c (e ∷ older)).replies ≡ length (asked c older).replies = ap (λ (q : Asked). length q.replies) (asked_before_is e older c other) in
+      let same : length (asked c (e ∷ older)).replies ≡ length (asked c older).replies = ap (λ (q : Asked). length q.replies)
+      (asked_before_is e older c other) in
       record {
         client = k0;
         here = u.client k0 row.0 (subst Still (sym row.1) tt);

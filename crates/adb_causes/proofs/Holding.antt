@@ -45,7 +45,8 @@ module _ (e : Entry) (older : History) (legal : IsLegal (e ∷ older)) (has : Ha
       fate = step_fate l e older legal other
 
       alive_before : lives ((state older).streams l) ≡ true
-      alive_before = sym (fate.stays (alive_told l (WhyStep e ((rule e (state older)).state.stopped ≡ true)) (state older) (step (state older) e) y fate (is.0, is.1)))
+      alive_before = sym (fate.stays (alive_told l (WhyStep e ((rule e (state older)).state.stopped
+          ≡ true)) (state older) (step (state older) e) y fate (is.0, is.1)))
           ∙ row_lives ((state (e ∷ older)).streams l) y is.0 is.1
 
       rule_alive : lives ((rule e (state older)).state.streams l) ≡ true

@@ -129,7 +129,8 @@ module _ (l : ℕ) where
       go true e = omega (arith, e)
       go false e = e
 
-pub tally_append : (l t : ℕ) (a b : List Event) (c d : List ℕ) (m n i j : ℕ) → Tally l t a c m i → Tally l t b d n j → Tally l t (a ++ b) (c ++ d) (m + n) (i + j)
+pub tally_append : (l t : ℕ) (a b : List Event) (c d : List ℕ) (m n i j : ℕ) → Tally l t a c m i → Tally l t b d n j
+    → Tally l t (a ++ b) (c ++ d) (m + n) (i + j)
 tally_append l t a b c d m n i j h k = record {
   bytes = ap (carried_in l) (packets_append t a b) ∙ (carried_append l (packets_to t a) (packets_to t b)
       ∙ (ap (λ x. x ++ carried_in l (packets_to t b)) h.bytes ∙ ap (λ x. c ++ x) k.bytes));

@@ -217,13 +217,15 @@ ups_hold e older l b legal r within y k is = go (up_run l r.row m.state pair (pa
     go : UpEffect l r.row pair.client (ups (rule e (state older)).state) → IsAsTold (e ∷ older) l b y k
     go u = kind u.after
       where
-        kind : GoesOnWith l r.row pair.client u.sent (ups (rule e (state older)).state).state ⊎ EndsWith l r.row pair.client u.sent (ups (rule e (state older)).state)
+        kind : GoesOnWith l r.row pair.client u.sent (ups (rule e (state older)).state).state ⊎ EndsWith l r.row pair.client u.sent (ups (rule e
+            (state older)).state)
             → IsAsTold (e ∷ older) l b y k
         kind (inr ends) = absurd (let clash : None ≡ Some y = sym ends.2 ∙ is.0 in cc)
         kind (inl goes) =
             let z = record r.row { part = with_flow (flow_after u.sent r.row.part.flow) r.row.part } in
             let row : z ≡ y = (let both : Some z ≡ Some y = sym goes.0 ∙ is.0 in cc) in
             let rest = record pair.client { held = drop (total u.sent) pair.client.held } in
-            let client : rest ≡ k = (let both : Some rest ≡ Some k = sym goes.1 ∙ (ap (λ (w : Stream). (state (e ∷ older)).clients w.client) row ∙ is.2) in cc) in
+            let client : rest ≡ k = (let both : Some rest ≡ Some k = sym goes.1 ∙ (ap (λ (w : Stream). (state (e ∷ older)).clients w.client) row
+            ∙ is.2) in cc) in
             subst (λ (w : Client). IsAsTold (e ∷ older) l b y w) client
             (subst (λ (w : Stream). IsAsTold (e ∷ older) l b w rest) row (after_ups e older l b r.row pair.client after (r.of, r.link, credit) u))

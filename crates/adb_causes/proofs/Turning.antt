@@ -113,7 +113,8 @@ module _ (t : ℕ) (x : Stream) (p : Packet) (s : State) (h : Here t p.arg1 x s)
           link = goes.link;
           remote = goes.remote ∙ sym after;
           flow = λ credit written handed given f.
-              subst (λ (n : ℕ). FlowIs y.part.flow credit n handed given) (sym (written_same p.arg1 x p written none)) (goes.flow credit written handed given f);
+              subst (λ (n : ℕ). FlowIs y.part.flow credit n handed given) (sym (written_same p.arg1 x p written none))
+              (goes.flow credit written handed given f);
         };
         live = live_frame p.arg1 t p.arg1 s m frame h.live;
         not_close = ap (λ k. is_clse k && (is_between 0 p.arg1 p || is_between x.part.remote p.arg1 p)) c;
