@@ -16,12 +16,12 @@ use Rattle.adb_history.proofs.OwnedStep.{ends_state, client_loses_frame}
 
 module _ (l : ℕ) where
   -- a stream that ends is one row
-  ends_streams : (k : ℕ) (ending : Ending) (stream : Stream) (s : State)
+  pub ends_streams : (k : ℕ) (ending : Ending) (stream : Stream) (s : State)
       → (ends_row k ending stream s).state.streams l ≡ change_row k (option_and_then none_kept) s.streams l
   ends_streams k ending stream s = ap (λ (x : State). x.streams l)
       (ends_state k ending stream s ∙ client_loses_frame (s.clients stream.client) stream.client (to_stream k none_kept s))
 
-  none_of : (o : Option Stream) → option_and_then none_kept o ≡ None
+  pub none_of : (o : Option Stream) → option_and_then none_kept o ≡ None
   none_of None = refl
   none_of (Some y) = refl
 

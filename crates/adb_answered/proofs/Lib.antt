@@ -29,3 +29,4 @@ pub mod Clearing
 pub mod Openings
 pub mod ShownMoves
 pub mod ShownRules
+pub mod ShownPackets

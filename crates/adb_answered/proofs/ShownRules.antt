@@ -243,7 +243,7 @@ module _ (heard : Bool) (x : Subject) (seen : Seen) where
         λ same. ap (λ (f : ℕ → Option Link). f x.link) (ends_links k ending stream s) ∙ cut same,
       )) s w h
 
-  link_ends_cut : (t : ℕ) (ending : Ending) (s : State) (w : List Event) → W s w
+  pub link_ends_cut : (t : ℕ) (ending : Ending) (s : State) (w : List Event) → W s w
       → W (link_ends t ending s).state (w ++ (link_ends t ending s).told) × (t ≡ x.link → (link_ends t ending s).state.links x.link ≡ None)
   link_ends_cut t ending s w h =
       let forgot : State = forgets t s in
