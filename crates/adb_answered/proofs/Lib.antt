@@ -30,3 +30,4 @@ pub mod Openings
 pub mod ShownMoves
 pub mod ShownRules
 pub mod ShownPackets
+pub mod ShownCloses

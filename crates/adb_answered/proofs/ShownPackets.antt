@@ -50,7 +50,7 @@ use Rattle.adb_answered.proofs.ShownRules.{ends_shown, link_ends_cut, online_sho
 module _ (x : Subject) where
   -- ---- what is seen changes
   -- a packet that says nothing of the stream
-  seen_on : (heard : Bool) (a b : Seen) (s : State) (w : List Event) → IsSeenOn x.stream a b → IsShown heard x a s w → IsShown heard x b s w
+  pub seen_on : (heard : Bool) (a b : Seen) (s : State) (w : List Event) → IsSeenOn x.stream a b → IsShown heard x a s w → IsShown heard x b s w
   seen_on heard a b s w on h = record {
     owned = h.owned;
     row = h.row;
@@ -80,7 +80,7 @@ module _ (x : Subject) where
           by (inr other) = inr other
 
   -- its row is gone: what its device may say yet changes nothing
-  row_gone : (heard : Bool) (a b : Seen) (s : State) (w : List Event) → s.streams x.stream ≡ None → (a.remote ≢ 0 → b.remote ≢ 0)
+  pub row_gone : (heard : Bool) (a b : Seen) (s : State) (w : List Event) → s.streams x.stream ≡ None → (a.remote ≢ 0 → b.remote ≢ 0)
       → (heard ≡ false → WillNotOpen x b.sealed s) → IsShown heard x a s w → IsShown heard x b s w
   row_gone heard a b s w none told reason h = record {
     owned = h.owned;
@@ -98,15 +98,15 @@ module _ (x : Subject) where
       out false e o = record { closed = o.closed; out_is = o.out_is; waits = λ y is owned. absurd (nothing y is); gone = λ g. reason e }
 
   -- why it was not opened, where its row is gone
-  gone_reason : (heard : Bool) (a : Seen) (s : State) (w : List Event) → s.streams x.stream ≡ None → IsShown heard x a s w → heard ≡ false
+  pub gone_reason : (heard : Bool) (a : Seen) (s : State) (w : List Event) → s.streams x.stream ≡ None → IsShown heard x a s w → heard ≡ false
       → WillNotOpen x a.sealed s
   gone_reason false a s w none h e = h.out.gone (λ y is. absurd (let clash : None ≡ Some y = sym none ∙ is in cc))
   gone_reason true a s w none h e = absurd (let clash : true ≡ false = e in cc)
 
-  told_more : (ps qs : List Packet) → remote_in (opening_in x.stream ps) ≢ 0 → remote_in (opening_in x.stream (ps ++ qs)) ≢ 0
+  pub told_more : (ps qs : List Packet) → remote_in (opening_in x.stream ps) ≢ 0 → remote_in (opening_in x.stream (ps ++ qs)) ≢ 0
   told_more ps qs some e = some (sym (remote_stays x.stream ps qs some) ∙ e)
 
-  sealed_more : (ps qs : List Packet) (s : State) → WillNotOpen x (sealed_in x.stream ps) s → WillNotOpen x (sealed_in x.stream (ps ++ qs)) s
+  pub sealed_more : (ps qs : List Packet) (s : State) → WillNotOpen x (sealed_in x.stream ps) s → WillNotOpen x (sealed_in x.stream (ps ++ qs)) s
   sealed_more ps qs s (inl sealed) = inl (sealed_stays x.stream ps qs sealed)
   sealed_more ps qs s (inr other) = inr other
 
@@ -117,11 +117,10 @@ module _ (x : Subject) where
       (λ e. sealed_more ps qs s (gone_reason heard (seen x.stream ps) s w none h e)) h
 
   -- ---- a stream that will end, whatever for
-  pardoned : Subject
+  abbrev pub pardoned : Subject
   pardoned = record x { failed = true }
 
-  pardon : (heard : Bool) (a : Seen) (s : State) (w : List Event) → IsShown heard x a s w → IsShown heard pardoned a s w
-  unfolding pardoned
+  pub pardon : (heard : Bool) (a : Seen) (s : State) (w : List Event) → IsShown heard x a s w → IsShown heard pardoned a s w
   pardon heard a s w h = record {
     owned = h.owned;
     row = h.row;
@@ -135,9 +134,8 @@ module _ (x : Subject) where
       out true o = record { bytes = o.bytes; out_is = o.out_is; may = o.may; told = o.told }
       out false o = record { closed = o.closed; out_is = o.out_is; waits = o.waits; gone = λ g. inr (inr refl) }
 
-  restore : (heard : Bool) (a b : Seen) (s : State) (w : List Event) → s.streams x.stream ≡ None → (a.remote ≢ 0 → b.remote ≢ 0)
+  pub restore : (heard : Bool) (a b : Seen) (s : State) (w : List Event) → s.streams x.stream ≡ None → (a.remote ≢ 0 → b.remote ≢ 0)
       → (heard ≡ false → WillNotOpen x b.sealed s) → IsShown heard pardoned a s w → IsShown heard x b s w
-  unfolding pardoned
   restore heard a b s w none told reason h = record {
     owned = h.owned;
     row = h.row;
@@ -172,7 +170,7 @@ module _ (x : Subject) where
           absurd (let clash : true ≡ false = sym live.1 ∙ ap is_some none in cc)
 
   -- ---- packets that say nothing of the stream
-  allows_by : (t : ℕ) (c : Command) (p : Packet) → SaysNothing c x.stream p → Allows (aside x) t c p
+  pub allows_by : (t : ℕ) (c : Command) (p : Packet) → SaysNothing c x.stream p → Allows (aside x) t c p
   allows_by t Okay p says = record { reaches = λ e. says; renews = λ e. absurd (let clash : false ≡ true = e in cc) }
   allows_by t Clse p says = record { reaches = λ e. says; renews = λ e. absurd (let clash : false ≡ true = e in cc) }
   allows_by t Cnxn p says = absurd says
@@ -181,7 +179,7 @@ module _ (x : Subject) where
   allows_by t Auth p says = record { reaches = λ e. absurd (let clash : false ≡ true = e in cc); renews = λ e. absurd (let clash : false ≡ true = e in cc) }
   allows_by t Stls p says = record { reaches = λ e. absurd (let clash : false ≡ true = e in cc); renews = λ e. absurd (let clash : false ≡ true = e in cc) }
 
-  other : x.client + 1 ≢ x.client
+  pub other : x.client + 1 ≢ x.client
   other e = omega (arith, e)
 
   pub allowed_kept : (heard : Bool) (a : Seen) (t : ℕ) (p : Packet) (s : State) (w : List Event) → Allows (aside x) t p.command p → IsShown heard x a s w

@@ -41,6 +41,7 @@ use Rattle.adb_answered.specs.Served.{PhaseFor, RowServed}
 use Rattle.adb_answered.specs.Shown.{aside, Seen, Subject, IsShownRow, IsGone, WillNotOpen, IsUnopened, IsOpened, ShownOut, IsShown}
 use Rattle.adb_answered.proofs.ToldOthers.{quiet_after, all_stop_owed, stopped_none, owed_other, client_loses_owed, owned_opened, forgets_owned}
 use Rattle.adb_answered.proofs.SteadyRows.{at_client_loses, at_marked, at_due, at_apart, at_none, at_closing, at_like, at_hands}
+use Rattle.adb_answered.proofs.Clearing.{ends_links, link_stays}
 use Rattle.adb_answered.proofs.Endings.{all_end_by}
 use Rattle.adb_answered.proofs.ServedMoves.{steady, closed_told, phase_of_own, phase_waiting}
 use Rattle.adb_answered.proofs.ShownMoves.{Steps, steps_same, steps_part, shown_quietly, shown_steps, shown_gone, own_steps, out_steps, out_more, shown_client}
@@ -198,10 +199,6 @@ module _ (heard : Bool) (x : Subject) (seen : Seen) where
   ends_so_shown k ending stream s w is so h = ends_shown k ending stream s w is h (open_heard k ending stream s w is so h)
 
 -- ---- links
-ends_links : (k : ℕ) (ending : Ending) (stream : Stream) (s : State) → (ends_row k ending stream s).state.links ≡ s.links
-ends_links k ending stream s =
-    ap (λ (x : State). x.links) (ends_state k ending stream s ∙ client_loses_frame (s.clients stream.client) stream.client (to_stream k none_kept s))
-
 -- of a link nothing is kept
 link_gone : (n t : ℕ) (links : Rows (Option Link)) → n ≡ t → change_row n (option_and_then none_kept) links t ≡ None
 link_gone n t links same = ap (λ (b : Bool). cond b (option_and_then none_kept (links t)) (links t)) (eq-eqb n t same) ∙ go (links t)
@@ -209,14 +206,6 @@ link_gone n t links same = ap (λ (b : Bool). cond b (option_and_then none_kept 
     go : (o : Option Link) → option_and_then none_kept o ≡ None
     go None = refl
     go (Some link) = refl
-
--- a link that is gone stays so
-pub link_stays : (n t : ℕ) (f : Link → Option Link) (links : Rows (Option Link)) → links t ≡ None → change_row n (option_and_then f) links t ≡ None
-link_stays n t f links none = go (eqb n t) (links t) none
-  where
-    go : (b : Bool) (o : Option Link) → o ≡ None → cond b (option_and_then f o) o ≡ None
-    go true o e = ap (option_and_then f) e
-    go false o e = e
 
 module _ (heard : Bool) (x : Subject) (seen : Seen) where
   abbrev W : State → List Event → Type 0
