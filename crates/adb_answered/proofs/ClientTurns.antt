@@ -85,7 +85,7 @@ module _ {c : ℕ} {P : State → List Event → Type 0} (k : IsOfClient c P) wh
         (k.marks s (plugged_in t kind serial s) w (begins_owned s (k.owned s w h) (Attach t kind serial) w may) refl refl refl h)
 
     read_kept : (n : ℕ) (bytes : List ℕ) → n ≢ c → May s (Read n bytes) → After P w (rule (Read n bytes) s)
-    read_kept n bytes apart may = rule_kept (k.turns n apart) (Read n bytes) s w refl (
+    read_kept n bytes apart may = rule_kept (k.turns n apart) (Read n bytes) s w (refl, tt) (
       h,
       λ client is asking.
           k.stays s (to_client n (has_asked (asks_with s.devices s.forwards bytes (asked_before client))) s) w
@@ -181,7 +181,7 @@ module _ {c : ℕ} {P : State → List Event → Type 0} (k : IsOfClient c P) wh
     client_rule (Put n bytes) another may = put_either n bytes may (eqb n c) refl
     client_rule (Attach t kind serial) another may = attach_kept t kind serial may
     client_rule (End n cause) another may = rule_kept own_turns (End n cause) s w tt h
-    client_rule (Recv t bytes) another may = rule_kept own_turns (Recv t bytes) s w (λ p. record { reaches = λ e. tt; renews = λ e. tt }) h
+    client_rule (Recv t bytes) another may = rule_kept own_turns (Recv t bytes) s w ((λ p. record { reaches = λ e. tt; renews = λ e. tt; cuts = λ e. tt }), tt) h
     client_rule (Detach t cause) another may = rule_kept own_turns (Detach t cause) s w tt h
     client_rule (Send t bytes) another may = rule_kept own_turns (Send t bytes) s w tt h
 

@@ -25,11 +25,11 @@ use Rattle.adb_history.proofs.Following.{after_quietly}
 use Rattle.adb_answered.specs.Served.{PhaseFor}
 use Rattle.adb_answered.specs.Shown.{Seen, seen, seals_by, sealed_in, Subject, WillNotOpen, IsShown}
 use Rattle.adb_answered.proofs.Clearing.{none_of, ends_streams, link_ends_cleared, online_cleared, online_links}
-use Rattle.adb_answered.proofs.Openings.{IsSeenOn, seen_pending, seen_one}
+use Rattle.adb_answered.proofs.Openings.{IsSeenOn, remote_sealed, seen_pending, seen_one}
 use Rattle.adb_answered.proofs.ServedMoves.{phase_waiting}
 use Rattle.adb_answered.proofs.ShownMoves.{shown_client}
 use Rattle.adb_answered.proofs.ShownRules.{ends_shown, link_ends_cut, online_shown}
-use Rattle.adb_answered.proofs.ShownPackets.{seen_on, gone_more, gone_reason, told_more, sealed_more, pardoned, pardon, restore, live_link, no_link}
+use Rattle.adb_answered.proofs.ShownPackets.{seen_on, gone_more, gone_reason, told_more, sealed_more, still_none, pardoned, pardon, restore, live_link, no_link}
 
 module _ (x : Subject) where
   -- a stream that waits has been told no id
@@ -51,13 +51,16 @@ module _ (x : Subject) where
       → (remote_in (opening_in x.stream ps) ≡ 0 → Seals p) → IsShown heard x (seen x.stream ps) s w → next.streams x.stream ≡ None
       → IsShown heard (record x { failed = true }) (seen x.stream ps) next v → IsShown heard x (seen x.stream (ps ++ p ∷ [])) next v
   sealed_shown ps p heard y s next w v is seals h none after =
-      restore x heard (seen x.stream ps) (seen x.stream (ps ++ p ∷ [])) next v none (told_more x ps (p ∷ [])) (λ e. inl (sealed heard h e)) after
+      restore x heard (seen x.stream ps) (seen x.stream (ps ++ p ∷ [])) next v none (told_more x ps (p ∷ []))
+      (λ e. (let seal = sealed heard h e in (inl seal.0, λ f. inl seal.1))) after
     where
-      sealed : (c : Bool) → IsShown c x (seen x.stream ps) s w → c ≡ false → sealed_in x.stream (ps ++ p ∷ []) ≡ true
+      sealed : (c : Bool) → IsShown c x (seen x.stream ps) s w → c ≡ false
+          → (sealed_in x.stream (ps ++ p ∷ []) ≡ true) × (remote_in (opening_in x.stream (ps ++ p ∷ [])) ≡ 0)
       sealed true h e = absurd (let clash : true ≡ false = e in cc)
       sealed false h e =
           let zeroth = waiting_none ps s w y is h in
-          ap (λ (a : Seen). a.sealed) (seen_pending x.stream ps (p ∷ []) zeroth ((h.own y is).pending zeroth)) ∙ seals zeroth
+          let same = seen_pending x.stream ps (p ∷ []) zeroth ((h.own y is).pending zeroth) in
+          (ap (λ (a : Seen). a.sealed) same ∙ seals zeroth, ap (λ (a : Seen). a.remote) same ∙ remote_sealed x.stream (p ∷ []) [] (seals zeroth))
 
   -- ---- CLSE
   module _ (p : Packet) (command : p.command ≡ Clse) (names : p.arg1 ≡ x.stream) where
@@ -171,20 +174,21 @@ module _ (x : Subject) where
         where
           moved : WillNotOpen x (sealed_in x.stream (ps ++ p ∷ [])) s → WillNotOpen x (sealed_in x.stream (ps ++ p ∷ [])) m.state
           moved (inl sealed) = inl sealed
-          moved (inr (inl gone)) = inr (inl (links gone))
+          moved (inr (inl gone)) = inr (inl (gone.0, links gone.1))
           moved (inr (inr failed)) = inr (inr failed)
 
           go : (o : Option Stream) → s.streams x.stream ≡ o → IsShown heard x (seen x.stream (ps ++ p ∷ [])) m.state (w ++ m.told)
           go (Some y) is = sealed_shown ps p heard y s m.state w (w ++ m.told) is (λ e. renews_seals) h none after
           go None is = restore x heard (seen x.stream ps) (seen x.stream (ps ++ p ∷ [])) m.state (w ++ m.told) none (told_more x ps (p ∷ []))
-              (λ e. moved (sealed_more x ps (p ∷ []) s (gone_reason x heard (seen x.stream ps) s w is h e))) after
+              (λ e. (let why = gone_reason x heard (seen x.stream ps) s w is h e in
+              (moved (sealed_more x ps (p ∷ []) s why), still_none x ps (p ∷ []) s why))) after
 
       on_link : (y : Stream) → s.streams x.stream ≡ Some y → y.link ≡ x.link
       on_link y is = (h.own y is).link
 
       breaks : IsShown heard x (seen x.stream (ps ++ p ∷ [])) (link_ends x.link broken s).state (w ++ (link_ends x.link broken s).told)
       breaks =
-          let after = link_ends_cut heard (record x { failed = true }) (seen x.stream ps) x.link broken s w (pardon x heard (seen x.stream ps) s w h) in
+          let after = link_ends_cut heard (record x { failed = true }) (seen x.stream ps) x.link broken s w (λ same. inr refl) (pardon x heard (seen x.stream ps) s w h) in
           gone_then (link_ends x.link broken s) (link_ends_cleared x.stream x.link broken s h.owned.rows.streams.zero h.drawn on_link) (λ e. after.1 refl) after.0
 
       renews : (identity : Identity) → IsShown heard x (seen x.stream (ps ++ p ∷ [])) (connects_now x.link p.arg0 p.arg1 identity s).state

@@ -42,7 +42,7 @@ use Rattle.adb_answered.proofs.ToldOthers.{quiet_after, owned_opened}
 use Rattle.adb_answered.proofs.TurnPackets.{treat_on_kept, orphan_kept, okay_open_kept}
 use Rattle.adb_answered.proofs.SteadyRows.{at_due}
 use Rattle.adb_answered.proofs.Clearing.{none_of, ends_streams, link_ends_cleared, online_cleared}
-use Rattle.adb_answered.proofs.Openings.{IsSeenOn, remote_stays, sealed_stays, seen_pending, seen_one, seen_nothing, seen_told}
+use Rattle.adb_answered.proofs.Openings.{IsSeenOn, remote_stays, remote_sealed, sealed_stays, seen_pending, seen_one, seen_nothing, seen_told}
 use Rattle.adb_answered.proofs.ServedMoves.{steady, phase_waiting, phase_open}
 use Rattle.adb_answered.proofs.ShownMoves.{shown_client}
 use Rattle.adb_answered.proofs.ShownRules.{ends_shown, link_ends_cut, online_shown, shown_turns}
@@ -73,15 +73,24 @@ module _ (x : Subject) where
         out_is = o.out_is;
         waits = o.waits;
         gone = λ g. by (o.gone g);
+        none = λ e. still (o.none e);
       }
         where
           by : WillNotOpen x a.sealed s → WillNotOpen x b.sealed s
           by (inl sealed) = inl (on.sealed sealed)
           by (inr other) = inr other
 
+          still : (a.remote ≡ 0) ⊎ (x.failed ≡ true) → (b.remote ≡ 0) ⊎ (x.failed ≡ true)
+          still (inl none) = inl (on.remote ∙ none)
+          still (inr failed) = inr failed
+
+  -- its device told no id, unless its client failed or its link may be gone
+  abbrev pub StillNone : Seen → Type 0
+  StillNone b = x.cut ≡ false → (b.remote ≡ 0) ⊎ (x.failed ≡ true)
+
   -- its row is gone: what its device may say yet changes nothing
   pub row_gone : (heard : Bool) (a b : Seen) (s : State) (w : List Event) → s.streams x.stream ≡ None → (a.remote ≢ 0 → b.remote ≢ 0)
-      → (heard ≡ false → WillNotOpen x b.sealed s) → IsShown heard x a s w → IsShown heard x b s w
+      → (heard ≡ false → WillNotOpen x b.sealed s × StillNone b) → IsShown heard x a s w → IsShown heard x b s w
   row_gone heard a b s w none told reason h = record {
     owned = h.owned;
     row = h.row;
@@ -95,7 +104,7 @@ module _ (x : Subject) where
 
       out : (c : Bool) → heard ≡ c → ShownOut c x a s (owed_to x.client w) → ShownOut c x b s (owed_to x.client w)
       out true e o = record { bytes = o.bytes; out_is = o.out_is; may = o.may; told = told o.told }
-      out false e o = record { closed = o.closed; out_is = o.out_is; waits = λ y is owned. absurd (nothing y is); gone = λ g. reason e }
+      out false e o = record { closed = o.closed; out_is = o.out_is; waits = λ y is owned. absurd (nothing y is); gone = λ g. (reason e).0; none = (reason e).1 }
 
   -- why it was not opened, where its row is gone
   pub gone_reason : (heard : Bool) (a : Seen) (s : State) (w : List Event) → s.streams x.stream ≡ None → IsShown heard x a s w → heard ≡ false
@@ -110,11 +119,17 @@ module _ (x : Subject) where
   sealed_more ps qs s (inl sealed) = inl (sealed_stays x.stream ps qs sealed)
   sealed_more ps qs s (inr other) = inr other
 
+  -- and has told no id
+  pub still_none : (ps qs : List Packet) (s : State) → WillNotOpen x (sealed_in x.stream ps) s → StillNone (seen x.stream (ps ++ qs))
+  still_none ps qs s (inl sealed) e = inl (remote_sealed x.stream ps qs sealed)
+  still_none ps qs s (inr (inl gone)) e = absurd (let clash : true ≡ false = sym gone.0 ∙ e in cc)
+  still_none ps qs s (inr (inr failed)) e = inr failed
+
   -- packets that come when its row is gone
   pub gone_more : (heard : Bool) (ps qs : List Packet) (s : State) (w : List Event) → s.streams x.stream ≡ None → IsShown heard x (seen x.stream ps) s w
       → IsShown heard x (seen x.stream (ps ++ qs)) s w
   gone_more heard ps qs s w none h = row_gone heard (seen x.stream ps) (seen x.stream (ps ++ qs)) s w none (told_more ps qs)
-      (λ e. sealed_more ps qs s (gone_reason heard (seen x.stream ps) s w none h e)) h
+      (λ e. (let why = gone_reason heard (seen x.stream ps) s w none h e in (sealed_more ps qs s why, still_none ps qs s why))) h
 
   -- ---- a stream that will end, whatever for
   abbrev pub pardoned : Subject
@@ -132,10 +147,10 @@ module _ (x : Subject) where
     where
       out : (c : Bool) → ShownOut c x a s (owed_to x.client w) → ShownOut c (record x { failed = true }) a s (owed_to x.client w)
       out true o = record { bytes = o.bytes; out_is = o.out_is; may = o.may; told = o.told }
-      out false o = record { closed = o.closed; out_is = o.out_is; waits = o.waits; gone = λ g. inr (inr refl) }
+      out false o = record { closed = o.closed; out_is = o.out_is; waits = o.waits; gone = λ g. inr (inr refl); none = λ e. inr refl }
 
   pub restore : (heard : Bool) (a b : Seen) (s : State) (w : List Event) → s.streams x.stream ≡ None → (a.remote ≢ 0 → b.remote ≢ 0)
-      → (heard ≡ false → WillNotOpen x b.sealed s) → IsShown heard pardoned a s w → IsShown heard x b s w
+      → (heard ≡ false → WillNotOpen x b.sealed s × StillNone b) → IsShown heard pardoned a s w → IsShown heard x b s w
   restore heard a b s w none told reason h = record {
     owned = h.owned;
     row = h.row;
@@ -149,7 +164,7 @@ module _ (x : Subject) where
 
       out : (c : Bool) → heard ≡ c → ShownOut c (record x { failed = true }) a s (owed_to x.client w) → ShownOut c x b s (owed_to x.client w)
       out true e o = record { bytes = o.bytes; out_is = o.out_is; may = o.may; told = told o.told }
-      out false e o = record { closed = o.closed; out_is = o.out_is; waits = λ y is owned. absurd (nothing y is); gone = λ g. reason e }
+      out false e o = record { closed = o.closed; out_is = o.out_is; waits = λ y is owned. absurd (nothing y is); gone = λ g. (reason e).0; none = (reason e).1 }
 
   -- ---- the link of a stream that lives
   pub live_link : (y : Stream) (s : State) → IsLinked s → s.streams x.stream ≡ Some y → y.link ≡ x.link
@@ -171,13 +186,37 @@ module _ (x : Subject) where
 
   -- ---- packets that say nothing of the stream
   pub allows_by : (t : ℕ) (c : Command) (p : Packet) → SaysNothing c x.stream p → Allows (aside x) t c p
-  allows_by t Okay p says = record { reaches = λ e. says; renews = λ e. absurd (let clash : false ≡ true = e in cc) }
-  allows_by t Clse p says = record { reaches = λ e. says; renews = λ e. absurd (let clash : false ≡ true = e in cc) }
+  allows_by t Okay p says = record {
+    reaches = λ e. says;
+    renews = λ e. absurd (let clash : false ≡ true = e in cc);
+    cuts = λ e. absurd (let clash : false ≡ true = e in cc);
+  }
+  allows_by t Clse p says = record {
+    reaches = λ e. says;
+    renews = λ e. absurd (let clash : false ≡ true = e in cc);
+    cuts = λ e. absurd (let clash : false ≡ true = e in cc);
+  }
   allows_by t Cnxn p says = absurd says
-  allows_by t Open p says = record { reaches = λ e. absurd (let clash : false ≡ true = e in cc); renews = λ e. absurd (let clash : false ≡ true = e in cc) }
-  allows_by t Wrte p says = record { reaches = λ e. absurd (let clash : false ≡ true = e in cc); renews = λ e. absurd (let clash : false ≡ true = e in cc) }
-  allows_by t Auth p says = record { reaches = λ e. absurd (let clash : false ≡ true = e in cc); renews = λ e. absurd (let clash : false ≡ true = e in cc) }
-  allows_by t Stls p says = record { reaches = λ e. absurd (let clash : false ≡ true = e in cc); renews = λ e. absurd (let clash : false ≡ true = e in cc) }
+  allows_by t Open p says = record {
+    reaches = λ e. absurd (let clash : false ≡ true = e in cc);
+    renews = λ e. absurd (let clash : false ≡ true = e in cc);
+    cuts = λ e. absurd (let clash : false ≡ true = e in cc);
+  }
+  allows_by t Wrte p says = record {
+    reaches = λ e. absurd (let clash : false ≡ true = e in cc);
+    renews = λ e. absurd (let clash : false ≡ true = e in cc);
+    cuts = λ e. absurd (let clash : false ≡ true = e in cc);
+  }
+  allows_by t Auth p says = record {
+    reaches = λ e. absurd (let clash : false ≡ true = e in cc);
+    renews = λ e. absurd (let clash : false ≡ true = e in cc);
+    cuts = λ e. absurd (let clash : false ≡ true = e in cc);
+  }
+  allows_by t Stls p says = record {
+    reaches = λ e. absurd (let clash : false ≡ true = e in cc);
+    renews = λ e. absurd (let clash : false ≡ true = e in cc);
+    cuts = λ e. absurd (let clash : false ≡ true = e in cc);
+  }
 
   pub other : x.client + 1 ≢ x.client
   other e = omega (arith, e)
