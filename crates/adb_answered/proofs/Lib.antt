@@ -31,3 +31,4 @@ pub mod ShownMoves
 pub mod ShownRules
 pub mod ShownPackets
 pub mod ShownCloses
+pub mod ShownReceives

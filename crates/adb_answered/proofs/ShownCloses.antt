@@ -33,7 +33,7 @@ use Rattle.adb_answered.proofs.ShownPackets.{seen_on, gone_more, gone_reason, to
 
 module _ (x : Subject) where
   -- a stream that waits has been told no id
-  waiting_none : (ps : List Packet) (s : State) (w : List Event) (y : Stream) → s.streams x.stream ≡ Some y → IsShown false x (seen x.stream ps) s w
+  pub waiting_none : (ps : List Packet) (s : State) (w : List Event) (y : Stream) → s.streams x.stream ≡ Some y → IsShown false x (seen x.stream ps) s w
       → remote_in (opening_in x.stream ps) ≡ 0
   waiting_none ps s w y is h = sym (h.own y is).remote ∙ go y.part.orphan refl
     where
@@ -79,7 +79,7 @@ module _ (x : Subject) where
         both true = refl
         both false = refl
 
-    close_none : (o : Option Link) (t : ℕ) (s : State) → s.streams x.stream ≡ None → treat_on o t p s ≡ quietly s
+    pub close_none : (o : Option Link) (t : ℕ) (s : State) → s.streams x.stream ≡ None → treat_on o t p s ≡ quietly s
     close_none None t s none = refl
     close_none (Some link) t s none =
         ap (λ (c : Command). treat_any t c p s) command

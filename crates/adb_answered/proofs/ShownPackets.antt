@@ -257,7 +257,7 @@ module _ (x : Subject) where
         no_seal false = refl
 
     -- a row that is gone takes none
-    okay_none : (o : Option Link) (t : ℕ) (s : State) → s.streams x.stream ≡ None → treat_on o t p s ≡ quietly s
+    pub okay_none : (o : Option Link) (t : ℕ) (s : State) → s.streams x.stream ≡ None → treat_on o t p s ≡ quietly s
     okay_none None t s none = refl
     okay_none (Some link) t s none =
         ap (λ (c : Command). treat_any t c p s) command
@@ -269,7 +269,7 @@ module _ (x : Subject) where
         either false = refl
 
     -- nor one of another link
-    okay_apart : (o : Option Link) (t : ℕ) (s : State) (y : Stream) → s.streams x.stream ≡ Some y → y.link ≢ t → treat_on o t p s ≡ quietly s
+    pub okay_apart : (o : Option Link) (t : ℕ) (s : State) (y : Stream) → s.streams x.stream ≡ Some y → y.link ≢ t → treat_on o t p s ≡ quietly s
     okay_apart None t s y is apart = refl
     okay_apart (Some link) t s y is apart =
         ap (λ (c : Command). treat_any t c p s) command
