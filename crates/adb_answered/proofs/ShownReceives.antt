@@ -166,3 +166,78 @@ allow_cut x heard a s w h = record {
       gone = λ g. by (o.gone g);
       none = λ e. absurd (let clash : true ≡ false = e in cc);
     }
+
+-- a link that lives is not gone
+pub deny_cut : (x : Subject) (heard : Bool) (ps : List Packet) (s : State) (w : List Event) → is_some (s.links x.link) ≡ true
+    → IsShown heard (record x { cut = true }) (seen x.stream ps) s w → IsShown heard (record x { cut = false }) (seen x.stream ps) s w
+deny_cut x heard ps s w there h = record {
+  owned = h.owned;
+  row = h.row;
+  own = λ y is. (let was = h.own y is in
+      record { client = was.client; link = was.link; remote = was.remote; pending = was.pending; may = was.may; orphan = was.orphan });
+  drawn = h.drawn;
+  out = out heard h;
+}
+  where
+    gone : s.links x.link ≡ None → ⊥
+    gone none = let clash : true ≡ false = sym there ∙ ap is_some none in cc
+
+    by : WillNotOpen (record x { cut = true }) (sealed_in x.stream ps) s → WillNotOpen (record x { cut = false }) (sealed_in x.stream ps) s
+    by (inl sealed) = inl sealed
+    by (inr (inl none)) = absurd (gone none.1)
+    by (inr (inr failed)) = inr (inr failed)
+
+    why : WillNotOpen (record x { cut = true }) (sealed_in x.stream ps) s → (remote_in (opening_in x.stream ps) ≡ 0) ⊎ (x.failed ≡ true)
+    why (inl sealed) =
+        inl (ap (λ (qs : List Packet). remote_in (opening_in x.stream qs)) (sym (append-nil ps)) ∙ remote_sealed x.stream ps [] sealed)
+    why (inr (inl none)) = absurd (gone none.1)
+    why (inr (inr failed)) = inr failed
+
+    still : IsShown false (record x { cut = true }) (seen x.stream ps) s w → (o : Option Stream) → s.streams x.stream ≡ o
+        → (remote_in (opening_in x.stream ps) ≡ 0) ⊎ (x.failed ≡ true)
+    still h None is = why (gone_reason (record x { cut = true }) false (seen x.stream ps) s w is h refl)
+    still h (Some y) is = inl (waiting_none (record x { cut = true }) ps s w y is h)
+
+    out : (c : Bool) → IsShown c (record x { cut = true }) (seen x.stream ps) s w → ShownOut c (record x { cut = false }) (seen x.stream ps) s (owed_to x.client w)
+    out true h = record { bytes = h.out.bytes; out_is = h.out.out_is; may = h.out.may; told = h.out.told }
+    out false h = record {
+      closed = h.out.closed;
+      out_is = h.out.out_is;
+      waits = h.out.waits;
+      gone = λ g. by (h.out.gone g);
+      none = λ e. still h (s.streams x.stream) refl;
+    }
+
+-- What a stream and its client are after bytes of its link: as the packets say; and who did not hear that it is open was told no id, or failed.
+pub record IsTreated (x : Subject) (ps : List Packet) (s : State) (w : List Event) : Type 0 where
+  pub heard : Bool
+  pub shown : IsShown heard (record x { cut = true }) (seen x.stream ps) s w
+  pub none : heard ≡ false → (remote_in (opening_in x.stream ps) ≡ 0) ⊎ (x.failed ≡ true)
+
+module _ (x : Subject) where
+  none_of_shown : (heard : Bool) (a : Seen) (s : State) (w : List Event) → IsShown heard (record x { cut = false }) a s w → heard ≡ false
+      → (a.remote ≡ 0) ⊎ (x.failed ≡ true)
+  none_of_shown false a s w h e = h.out.none refl
+  none_of_shown true a s w h e = absurd (let clash : true ≡ false = e in cc)
+
+  pub receives_here : (bytes : List ℕ) (ps : List Packet) (link : Link) (s : State) (w : List Event) → IsLinked s → s.links x.link ≡ Some link
+      → (heard : Bool) → IsShown heard (record x { cut = true }) (seen x.stream ps) s w
+      → IsTreated x (ps ++ (cut_packets (record { sums = link.sums }) (link.rest ++ bytes)).given) (receives x.link bytes s).state
+      (w ++ (receives x.link bytes s).told)
+  receives_here bytes ps link s w linked is heard h =
+      let c = cut_packets (record { sums = link.sums }) (link.rest ++ bytes) in
+      let taken : State = to_link x.link (with_rest c.rest) s in
+      let denied = deny_cut x heard ps s w (ap is_some is) h in
+      let begun = (shown_turns heard (record x { cut = false }) (seen x.stream ps) (x.client + 1) (other x)).links x.link (λ l. record l { rest = c.rest }) s w denied in
+      let m : Made = treat_all x.link c.given taken in
+      let run = all_here (record x { cut = false }) c.given ps taken w (linked_moves.links x.link (λ l. record l { rest = c.rest }) s w linked) (heard, begun) in
+      let allowed = allow_cut (record x { cut = false }) run.0 (seen x.stream (ps ++ c.given)) m.state (w ++ m.told) run.1 in
+      let done = after_then (λ s w. IsShown run.0 (record x { cut = true }) (seen x.stream (ps ++ c.given)) s w) w m (faulty x.link c.fault) allowed
+      (λ v now. faulty_kept (shown_turns run.0 (record x { cut = true }) (seen x.stream (ps ++ c.given)) (x.client + 1) (other x)) m.state v now
+      (m.state.links x.link) x.link c.fault (λ same. refl)) in
+      record {
+        heard = run.0;
+        shown = subst (λ (m : Made). IsShown run.0 (record x { cut = true }) (seen x.stream (ps ++ c.given)) m.state (w ++ m.told))
+            (sym (ap (λ (o : Option Link). receives_on o x.link bytes s) is)) done;
+        none = none_of_shown run.0 (seen x.stream (ps ++ c.given)) m.state (w ++ m.told) run.1;
+      }
