@@ -328,7 +328,7 @@ module _ (older : History) (legal : IsLegal older) (h : IsFresh (λ n. has_joine
       (h, λ client is asking. read_alone n bytes client may is asking)
   fresh_step (Bound n port) may = step_kept (fresh_turns (λ k. has_joined k older) n) (Bound n port) s w refl h
   fresh_step (Put n bytes) may = step_kept (fresh_turns (λ k. has_joined k older) n) (Put n bytes) s w refl h
-  fresh_step (End n cause) may = step_kept (fresh_turns (λ k. has_joined k older) 0) (End n cause) s w tt h
+  fresh_step (End n cause) may = step_kept (fresh_turns (λ k. has_joined k older) 0) (End n cause) s w (λ e. tt) h
   fresh_step (Attach t kind serial) may = step_kept (fresh_turns (λ k. has_joined k older) 0) (Attach t kind serial) s w tt (record {
     owned = begins_owned s h.owned (Attach t kind serial) w may;
     alone = λ k. at_marked (steady (has_joined k older)) k s.clients (h.alone k);

@@ -145,7 +145,7 @@ module _ (c : ℕ) (older : History) (legal : IsLegal older) (came : has_joined 
     })
 
     pub end_answers : (n : ℕ) (cause : Cause) → After P w (rule (End n cause) s)
-    end_answers n cause = rule_kept (answers_turns (c + 1) c (heard c older) other) (End n cause) s w tt h
+    end_answers n cause = rule_kept (answers_turns (c + 1) c (heard c older) other) (End n cause) s w (λ e. tt) h
 
     pub recv_answers : (t : ℕ) (bytes : List ℕ) → After P w (rule (Recv t bytes) s)
     recv_answers t bytes = rule_kept (answers_turns (c + 1) c (heard c older) other) (Recv t bytes) s w ((λ p. record { reaches = λ e. tt; renews = λ e. tt; cuts = λ e. tt }), tt) h

@@ -33,7 +33,7 @@ use Rattle.adb_answered.proofs.HeardAsks.{asks_asking, open_next, heard_now, hea
 use Rattle.adb_answered.proofs.HeardHistories.{all_answers}
 use Rattle.adb_answered.proofs.FreshMoves.{all_fresh}
 use Rattle.adb_answered.proofs.BornLaws.{IsBirthOf, birth_of, born_more, IsBornNow, still_none, none_unborn}
-use Rattle.adb_answered.proofs.ClientTurns.{another_comes, client_kept, client_ups}
+use Rattle.adb_answered.proofs.ClientTurns.{another_comes, covers_all, client_kept, client_ups}
 use Rattle.adb_answered.proofs.ServedClients.{done_client, served_client}
 use Rattle.adb_answered.proofs.ServedAsks.{asks_stream_now}
 
@@ -125,7 +125,7 @@ module _ (c : ℕ) (older : History) (legal : IsLegal older) (came : has_joined 
   silent_served e may silent false none = still_none c e older silent.none none
   silent_served e may silent true (inl g) =
       let kept = client_kept (served_client c g.stream (asked c older).replies) (state older) (told older) e
-      (another_comes c (state older) e below may) may (g.heard, g.served) in
+      (another_comes c 0 (state older) e (below, omega arith) may) (covers_all e) may (g.heard, g.served) in
       inl (record {
         stream = g.stream;
         birth = g.birth;
@@ -140,7 +140,7 @@ module _ (c : ℕ) (older : History) (legal : IsLegal older) (came : has_joined 
         none = still_none c e older silent.none r.none;
         done = subst (λ (x : List ℕ). IsDone c (x ++ no_ids_reply) (state (e ∷ older)) (told (e ∷ older))) (sym silent.replies)
             (client_kept (done_client c ((asked c older).replies ++ no_ids_reply)) (state older) (told older) e
-            (another_comes c (state older) e below may) may r.done);
+            (another_comes c 0 (state older) e (below, omega arith) may) (covers_all e) may r.done);
       })
 
   abbrev Before : Type 0

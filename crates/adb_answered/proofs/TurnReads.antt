@@ -29,6 +29,7 @@ use Rattle.adb_history.specs.Forwarding.{Binding as Bound, forwards_with, put_fo
 use Rattle.adb_history.specs.Asking.{Asked, asks_with}
 use Rattle.adb_history.specs.Losing.{stream_fails, stream_of, input_ends, client_ends}
 use Rattle.adb_history.specs.Reading.{tracks, awaits, goes_on, asked_before, has_asked, asks, reads_in, bound_for, bound_in, bound_at}
+use Rattle.adb_history.specs.Bytes.{is_orderly}
 use Rattle.adb_history.specs.Moves.{IsClientIn, After, IsFree, HasOne, IsLed}
 use Rattle.adb_history.proofs.Following.{after_quietly, after_then, changed_here}
 use Rattle.adb_history.proofs.StreamMoves.{asks_free}
@@ -186,10 +187,10 @@ module _ {scope : Scope} {asker : ℕ} {P : State → List Event → Type 0} (k 
     input_kept Closing c x = h
     input_kept Gone c x = h
 
-    pub client_ends_kept : (c : ℕ) (cause : Cause) (o : Option Client) → scope.fails c → s.clients c ≡ o → After P w (client_ends c cause o s)
+    pub client_ends_kept : (c : ℕ) (cause : Cause) (o : Option Client) → (is_orderly cause ≡ false → scope.fails c) → s.clients c ≡ o → After P w (client_ends c cause o s)
     client_ends_kept c cause None may is = after_quietly P w s h
     client_ends_kept c Eof (Some client) may is =
         after_quietly P w (input_ends client.about.phase c s) (input_kept client.about.phase c (record { client = client; here = is; in_phase = refl }))
-    client_ends_kept c Fault (Some client) may is = fails_in_kept client.about.phase c Fault may (record { client = client; here = is; in_phase = refl })
-    client_ends_kept c Starved (Some client) may is = fails_in_kept client.about.phase c Starved may (record { client = client; here = is; in_phase = refl })
-    client_ends_kept c NoThread (Some client) may is = fails_in_kept client.about.phase c NoThread may (record { client = client; here = is; in_phase = refl })
+    client_ends_kept c Fault (Some client) may is = fails_in_kept client.about.phase c Fault (may refl) (record { client = client; here = is; in_phase = refl })
+    client_ends_kept c Starved (Some client) may is = fails_in_kept client.about.phase c Starved (may refl) (record { client = client; here = is; in_phase = refl })
+    client_ends_kept c NoThread (Some client) may is = fails_in_kept client.about.phase c NoThread (may refl) (record { client = client; here = is; in_phase = refl })

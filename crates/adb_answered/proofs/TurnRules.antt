@@ -27,6 +27,7 @@ use Rattle.adb_history.specs.Handing.{client_left, takes_of, puts_to, sends}
 use Rattle.adb_history.specs.Asking.{asks_with}
 use Rattle.adb_history.specs.Reading.{asked_before, has_asked, reads_from, comes, comes_in_vain, enters_by}
 use Rattle.adb_history.specs.Machine.{unplugs_on, rule, ups, step}
+use Rattle.adb_history.specs.Bytes.{is_orderly}
 use Rattle.adb_history.specs.Moves.{IsClientIn, After, IsLike, plugged_in}
 use Rattle.adb_history.proofs.Following.{after_quietly, after_then, after_if, changed_here}
 use Rattle.adb_answered.specs.Turns.{Scope, Allows, Turns}
@@ -211,7 +212,7 @@ module _ {scope : Scope} {asker : ℕ} {P : State → List Event → Type 0} (k 
   IsBy (Read c bytes) = (c ≡ asker) × scope.stops
   IsBy (Bound c port) = c ≡ asker
   IsBy (Put c bytes) = c ≡ asker
-  IsBy (End c cause) = scope.fails c
+  IsBy (End c cause) = is_orderly cause ≡ false → scope.fails c
   IsBy (Recv t bytes) = ((p : Packet) → Allows scope t p.command p) × scope.cuts t
   IsBy (Detach t cause) = scope.cuts t
   IsBy _ = Unit {0}
