@@ -32,3 +32,4 @@ pub mod ShownRules
 pub mod ShownPackets
 pub mod ShownCloses
 pub mod ShownReceives
+pub mod Brought
