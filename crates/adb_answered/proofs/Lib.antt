@@ -33,3 +33,4 @@ pub mod ShownPackets
 pub mod ShownCloses
 pub mod ShownReceives
 pub mod Brought
+pub mod Failing
