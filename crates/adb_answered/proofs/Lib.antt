@@ -29,3 +29,13 @@ pub mod Clearing
 pub mod Openings
 pub mod ShownMoves
 pub mod ShownRules
+pub mod ShownPackets
+pub mod ShownCloses
+pub mod ShownReceives
+pub mod Brought
+pub mod Failing
+pub mod ShownClients
+pub mod ShownHistories
+pub mod ShownSteps
+pub mod ShownBirths
+pub mod ShownAll
