@@ -131,7 +131,7 @@ module _ (l : ℕ) (k : Cradle) (packets : List Packet) (out : List ℕ) (v : Vi
       waits_over ending seals =
           let sealed : IsSealed l more = sealed_by l packets p o.pending seals in
           subst (λ (c : Bool). Life l k more false out (over c ending v)) (sym is_owned)
-          (over_waiting l k more false out v o.client l ending o.here o.phase due_now (record { unopened = sealed_now l more sealed; for_good = inr sealed }))
+          (over_waiting l k more false out v packets o ending due_now (record { unopened = sealed_now l more sealed; for_good = inr sealed }))
 
       -- what the opening is by a packet
       as_command : (c : Command) → p.command ≡ c → (others : List Packet) → opening_in l (p ∷ others) ≡ opening_by c l p others (opening_in l others)
