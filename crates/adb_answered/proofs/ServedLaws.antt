@@ -17,7 +17,8 @@ use Rattle.adb_history.specs.Answered.{HasStreamAlone, IsAnswered}
 use Rattle.adb_answered.specs.Heard.{asks_stream}
 use Rattle.adb_answered.specs.Served.{OutBy, IsDone, no_ids_reply, IsGiven, IsRefused, ServedIn, AtEachFront, IsEntered, HearsAsTold}
 use Rattle.adb_answered.proofs.HeardLaws.{replies_first, replies_bound, lists_tracked, present_list, nothing_more}
-use Rattle.adb_answered.proofs.ServedHistories.{all_served}
+use Rattle.adb_answered.proofs.ServedHistories.{births_at_fronts, all_served}
+use Rattle.adb_answered.proofs.Hears.{hears_as_told}
 use Rattle.adb_answered.specs.Shown.{Seen, seen, Subject, IsShown}
 use Rattle.adb_answered.proofs.ShownClients.{opened_not_closed}
 use Rattle.adb_answered.proofs.ShownHistories.{IsShownAt, may_hear, subject_of}
@@ -41,7 +42,13 @@ unopened_out : (heard : Bool) (replies out : List ℕ) → ShownBy heard replies
 unopened_out false replies out n e = n
 unopened_out true replies out n e = absurd (let clash : true ≡ false = e in cc)
 
-module _ (h : History) (legal : IsLegal h) (births : AtEachFront HasBirths h) (hears : HearsAsTold h) where
+module _ (h : History) (legal : IsLegal h) where
+  births : AtEachFront HasBirths h
+  births = births_at_fronts h legal
+
+  hears : HearsAsTold h
+  hears = hears_as_told h legal
+
   -- ---- a client that came by itself
   module _ (c : ℕ) (came : has_joined c h ≡ true) where
     given_stream : (g : IsGiven c h (asked c h).replies (state h) (told h)) → IsStreamOf h c g.stream g.birth
