@@ -49,7 +49,7 @@ use Rattle.adb_fifo_down.proofs.Rules.{held_by, holds_cut, holds_unplugs, more_p
 use Rattle.adb_fifo_down.proofs.Brought.{brings, brings_more}
 
 -- ---- whether what follows a request is a kill
-kill_is : (next : Option Next) → kills next ≡ true → next ≡ Some what.Stop
+pub kill_is : (next : Option Next) → kills next ≡ true → next ≡ Some what.Stop
 kill_is (Some what.Stop) e = refl
 kill_is None e = absurd (cc)
 kill_is (Some what.Close) e = absurd (cc)
@@ -61,7 +61,7 @@ kill_is (Some (what.Rebind transport local remote)) e = absurd (cc)
 kill_is (Some (what.Unbind local)) e = absurd (cc)
 kill_is (Some what.UnbindAll) e = absurd (cc)
 
-no_kill : (next : Option Next) → kills next ≡ false → next ≢ Some what.Stop
+pub no_kill : (next : Option Next) → kills next ≡ false → next ≢ Some what.Stop
 no_kill next e is = let clash : true ≡ false = sym (ap kills is) ∙ e in cc
 
 -- ---- what may be put to a client of a stream
@@ -74,11 +74,11 @@ in_line_no_tracker l Binding i e = absurd i
 in_line_no_tracker l Tracking i e = absurd i
 in_line_no_tracker l Gone i e = absurd i
 
-due_itself : (due : List ℕ) → due_or due [] ≡ due
+pub due_itself : (due : List ℕ) → due_or due [] ≡ due
 due_itself [] = refl
 due_itself (d ∷ due) = refl
 
-not_empty : (bytes due : List ℕ) → bytes ≢ [] → IsPrefixOf bytes due → due ≢ []
+pub not_empty : (bytes due : List ℕ) → bytes ≢ [] → IsPrefixOf bytes due → due ≢ []
 not_empty [] due some front e = absurd (some refl)
 not_empty (d ∷ bytes) due some (rest, is) e = let clash : d ∷ (bytes ++ rest) ≡ [] = is ∙ e in cc
 

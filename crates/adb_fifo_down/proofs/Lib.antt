@@ -17,3 +17,5 @@ mod Entries
 mod Steps
 mod BornNow
 mod Begun
+mod Askers
+mod BirthEntries

@@ -5,3 +5,4 @@ pub mod Turns
 pub mod Life
 pub mod Follows
 pub mod Begins
+pub mod Premises
