@@ -149,7 +149,7 @@ asked_then c bytes older =
     let q = asked_with (is_asking c older (book older)) (devices older) (forwards older) bytes (asked c older) in
     ap (λ (b : Bool). cond b q (asked c older)) (eq-eqb c c refl)
 
-asked_other : (n c : ℕ) (bytes : List ℕ) (older : History) → n ≢ c → asked c (Read n bytes ∷ older) ≡ asked c older
+pub asked_other : (n c : ℕ) (bytes : List ℕ) (older : History) → n ≢ c → asked c (Read n bytes ∷ older) ≡ asked c older
 asked_other n c bytes older other =
     let q = asked_with (is_asking n older (book older)) (devices older) (forwards older) bytes (asked n older) in
     ap (λ (b : Bool). cond b q (asked c older)) (ne_eqb n c other)

@@ -115,13 +115,13 @@ module _ {P : PromiseOf} (lasts : Lasts P) where
 
 -- ---- what a client asks
 -- a request is whole only now, of a client that asks
-record NowAsks (c : ℕ) (bytes : List ℕ) (older : History) (next : Next) : Type 0 where
+pub record NowAsks (c : ℕ) (bytes : List ℕ) (older : History) (next : Next) : Type 0 where
   asking : is_asking c older (book older) ≡ true
   before : (asked c older).next ≡ None
   after : (asked_with true (devices older) (forwards older) bytes (asked c older)).next ≡ Some next
   same : asked c (Read c bytes ∷ older) ≡ asks_with (devices older) (forwards older) bytes (asked c older)
 
-now_asks : (c : ℕ) (bytes : List ℕ) (older : History) (next : Next) → (asked c older).next ≡ None → (asked c (Read c bytes ∷ older)).next ≡ Some next
+pub now_asks : (c : ℕ) (bytes : List ℕ) (older : History) (next : Next) → (asked c older).next ≡ None → (asked c (Read c bytes ∷ older)).next ≡ Some next
     → NowAsks c bytes older next
 now_asks c bytes older next before after = by (is_asking c older (book older)) refl (asked_then c bytes older)
   where
@@ -143,7 +143,7 @@ opened_made c t service q s ids next =
     ∙ ap (λ (b : Bool). then_also owed (λ x. cond b (no_ids_left false c x) (asks_for (s.drawn + 1) c t service x))) ids
 
 -- the birth of a stream by the request of a client
-abbrev asked_birth : (c t : ℕ) (service : List ℕ) (head : ℕ) → History → Birth
+abbrev pub asked_birth : (c t : ℕ) (service : List ℕ) (head : ℕ) → History → Birth
 asked_birth c t service head older = record {
   client = c;
   link = t;
@@ -155,11 +155,11 @@ asked_birth c t service head older = record {
 }
 
 -- what had not been told of a stream that was not born
-record IsUnborn (l t : ℕ) (w : List Event) : Type 0 where
-  okays : okays_of l (packets_to t w) ≡ []
+pub record IsUnborn (l t : ℕ) (w : List Event) : Type 0 where
+  pub okays : okays_of l (packets_to t w) ≡ []
 
 module _ {P : PromiseOf} (lasts : Lasts P) (c : ℕ) (bytes : List ℕ) (older : History) (legal : IsLegal (Read c bytes ∷ older)) (t : ℕ) (service : List ℕ) where
-  read_born : (head : ℕ) → NowAsks c bytes older (what.Open t service) → (state older).drawn ≢ stream_ids
+  pub read_born : (head : ℕ) → NowAsks c bytes older (what.Open t service) → (state older).drawn ≢ stream_ids
       → IsUnborn ((state older).drawn + 1) t (told older)
       → Follows P (Read c bytes ∷ older) ((state older).drawn + 1) (asked_birth c t service head older)
   read_born head now ids unborn = record {
@@ -282,7 +282,7 @@ module _ {P : PromiseOf} (lasts : Lasts P) (c : ℕ) (bytes : List ℕ) (older :
           (λ k x there. of_another (state older) c by.client k x (all_linked older legal.0).owned by.is by.phase there))))
 
 -- ---- the birth through a forward
-abbrev entered_birth : ℕ → ForwardRow → History → Birth
+abbrev pub entered_birth : ℕ → ForwardRow → History → Birth
 entered_birth c row older = record {
   client = c;
   link = row.transport;
@@ -294,7 +294,7 @@ entered_birth c row older = record {
 }
 
 module _ {P : PromiseOf} (lasts : Lasts P) (c port : ℕ) (older : History) (legal : IsLegal (Enter c port ∷ older)) (row : ForwardRow) where
-  enter_born : at port (forwards older) ≡ Some row → is_connected row.transport (devices older) ≡ true → (state older).drawn ≢ stream_ids
+  pub enter_born : at port (forwards older) ≡ Some row → is_connected row.transport (devices older) ≡ true → (state older).drawn ≢ stream_ids
       → IsUnborn ((state older).drawn + 1) row.transport (told older)
       → Follows P (Enter c port ∷ older) ((state older).drawn + 1) (entered_birth c row older)
   enter_born is connected ids unborn = record {

@@ -19,3 +19,4 @@ mod BornNow
 mod Begun
 mod Askers
 mod BirthEntries
+mod Followed
