@@ -1,6 +1,6 @@
 -- A client that asks came by itself, and was told the replies to its whole requests.
-use Rattle.std.proofs.Common.{ℕ, ◌+◌, ◌≡◌, ◌≢◌, ◌≤◌, ◌<◌, zero, suc, Bool, true, false, cond, List, [], ◌∷◌, ◌++◌, length, drop, Option, Some, None, is_some, is_none, refl}
-use Rattle.std.proofs.Common.{sym, ◌∙◌, ap, subst, eqb, arith, append_assoc, inl, inr, ◌⊎◌}
+use Rattle.std.proofs.Common.{ℕ, ◌+◌, ◌≡◌, ◌≢◌, ◌≤◌, ◌<◌, Bool, true, false, cond, List, [], ◌∷◌, ◌++◌, length, drop, Option, Some, None, is_none, refl}
+use Rattle.std.proofs.Common.{sym, ◌∙◌, ap, subst, eqb, arith, inl, inr, ◌⊎◌}
 use Rattle.std.proofs.lemmas.Bool.{eqb-true, ne_eqb, eq-eqb, cases_eq}
 use Rattle.std.proofs.lemmas.List.{append-nil}
 use Rattle.std.specs.Prelude.{◌&&◌, ◌||◌, not, option_map}
@@ -18,40 +18,38 @@ use Rattle.adb_capture.specs.declared.entry.Entry.{Entry}
 use Rattle.adb_capture.specs.declared.entry.Entry.TheVariants.{Join, Enter, Read, End, Bound, Attach, Recv, Detach, Put, Send}
 use Rattle.adb_client.specs.declared.about.Want.{Want}
 use Rattle.adb_history.specs.Rows.{Client, State, new_client, to_client}
-use Rattle.adb_history.specs.Events.{Made, Event, quietly, then_also, owed_to}
+use Rattle.adb_history.specs.Events.{Made, Event, then_also}
 use Rattle.adb_history.specs.Clients.{owe_client}
 use Rattle.adb_history.specs.Tracking.{list_if_stale, due_or, offered}
-use Rattle.adb_history.specs.Asking.{Asked, nothing_asked, asks_with}
+use Rattle.adb_history.specs.Asking.{Asked, asks_with}
 use Rattle.adb_history.specs.Losing.{client_ends, stops}
-use Rattle.adb_history.specs.Reading.{comes, enters_by, plugs_in, asked_before, has_asked, goes_on, asks, reads_in, reads_from, bound_in, bound_at}
+use Rattle.adb_history.specs.Reading.{comes, plugs_in, asked_before, has_asked, goes_on, asks, reads_in, reads_from, bound_in, bound_at}
 use Rattle.adb_history.specs.Packets.{receives_on}
 use Rattle.adb_history.specs.Handing.{lists_first, left_in, hands, client_left, takes_of, puts_to, sends}
-use Rattle.adb_history.specs.Machine.{unplugs_on, rule, ups, step, History, state, told, IsSomeOf, MayPut, May, IsLegal}
+use Rattle.adb_history.specs.Machine.{unplugs_on, rule, ups, History, state, told, MayPut, May, IsLegal}
 use Rattle.adb_history.specs.Bytes.{has_joined, has_ended}
-use Rattle.adb_history.specs.Book.{book, asked, devices, forwards, asked_with, is_asking, still_asks, kills, bound_turn}
+use Rattle.adb_history.specs.Book.{book, asked, devices, forwards, asked_with, is_asking, still_asks, bound_turn}
 use Rattle.adb_history.specs.Owned.{IsOwned}
 use Rattle.adb_history.specs.Tied.{came_count}
 use Rattle.adb_history.specs.Linked.{IsLinked}
 use Rattle.adb_history.specs.Moves.{After}
 use Rattle.adb_history.proofs.Following.{after_quietly, changed_here}
-use Rattle.adb_history.proofs.Growing.{Keeps, owed_append}
 use Rattle.adb_history.proofs.GrowingRules.{keeps_up_all}
 use Rattle.adb_history.proofs.Asked.{behind, asks_behind}
 use Rattle.adb_history.proofs.Numbers.{counted}
 use Rattle.adb_history.proofs.LinkMoves.{all_linked}
 use Rattle.adb_history.proofs.Books.{booked, all_books, all_unread}
 use Rattle.adb_history.proofs.Booked.{asks_in, asks_now}
-use Rattle.adb_history.proofs.BookReads.{none_next, and_parts}
+use Rattle.adb_history.proofs.BookReads.{none_next}
 use Rattle.adb_history.proofs.BookTurns.{all_unheard}
 use Rattle.adb_history.proofs.OutputEntries.{tied, row_below}
-use Rattle.adb_fifo_down.specs.Line.{Line, SeenClient, View, view, seen, seen_client, Apart, Shows, IsOpenIn, over}
-use Rattle.adb_fifo_down.proofs.Others.{after_next, IsElse, shows_client_ends, shows_bound, shows_goes_on}
-use Rattle.adb_fifo_down.proofs.Shown.{shows_client, shows_owe_client}
+use Rattle.adb_fifo_down.specs.Line.{Line, SeenClient, View, view, seen, seen_client, Shows}
+use Rattle.adb_fifo_down.proofs.Others.{after_next, shows_client_ends, shows_bound}
 use Rattle.adb_fifo_down.proofs.Own.{with_client, owed_more, client_seen, own_client, own_due}
 use Rattle.adb_fifo_down.proofs.OtherTurns.{else_of, shows_puts, shows_comes, shows_enters, shows_plugs_in, shows_reads_in}
 use Rattle.adb_fifo_down.proofs.OtherLinks.{shows_receives, shows_unplugs}
 use Rattle.adb_fifo_down.proofs.Ups.{Upped, shows_ups}
-use Rattle.adb_fifo_down.proofs.Entries.{kill_is, no_kill, due_itself, not_empty}
+use Rattle.adb_fifo_down.proofs.Entries.{due_itself, not_empty}
 use Rattle.adb_fifo_down.proofs.Begun.{of_older}
 
 -- a client, and no stream of it
@@ -229,12 +227,15 @@ module _ (c : ℕ) (older : History) (legal : IsLegal older) where
   comes_asking : c ≡ (state older).joined + 1 → AsksAs c (asked c older).replies (comes false c (state older)) (told older)
   comes_asking is = record {
     seen = view (alone c) (comes false c (state older)) (told older);
-    shows = (record {
-      others = λ k x there other. of_older (state older) c k x linked.owned (omega (arith, is)) there;
-      client = λ x there. absurd (none x there);
-      link = λ x there. absurd (none x there);
-      born = omega arith;
-    }, refl);
+    shows = (
+      record {
+        others = λ k x there other. of_older (state older) c k x linked.owned (omega (arith, is)) there;
+        client = λ x there. absurd (none x there);
+        link = λ x there. absurd (none x there);
+        born = omega arith;
+      },
+      refl,
+    );
     stream = ap (option_map seen) linked.owned.rows.streams.zero;
     due = [];
     client = ap (λ (b : Bool). option_map seen_client (cond b (Some (new_client false c)) ((state older).clients c))) (eq-eqb c c refl);

@@ -1,30 +1,25 @@
 -- What is seen of a stream that was drawn just now.
-use Rattle.std.proofs.Common.{ℕ, ◌+◌, ◌≡◌, ◌≢◌, ◌≤◌, ◌<◌, zero, suc, Bool, true, false, cond, List, [], ◌∷◌, ◌++◌, length, Option, Some, None, refl, sym, ◌∙◌, ap, subst}
-use Rattle.std.proofs.Common.{eqb, arith, append_assoc, inl, inr, ◌⊎◌}
-use Rattle.std.proofs.lemmas.Bool.{eqb-true, ne_eqb, eq-eqb, cases_eq}
-use Rattle.std.proofs.lemmas.List.{append-nil}
-use Rattle.std.specs.Prelude.{option_map, option_and_then}
+use Rattle.std.proofs.Common.{ℕ, ◌+◌, ◌≡◌, ◌≢◌, ◌<◌, zero, suc, Bool, true, false, cond, List, Some, None, refl, sym, ◌∙◌, ap}
+use Rattle.std.proofs.Common.{eqb, arith}
+use Rattle.std.proofs.lemmas.Bool.{ne_eqb, eq-eqb}
+use Rattle.std.specs.Prelude.{option_map}
 use Rattle.adb_stream.specs.Flow.{new_flow}
 use Rattle.adb_stream.specs.Stream.{new_stream}
 use Rattle.adb_stream.specs.declared.row.Stream.{Stream}
 use Rattle.adb_client.specs.declared.phase.Phase.{Phase}
 use Rattle.adb_client.specs.declared.phase.Phase.TheVariants.{Asking, Opening, Streaming}
 use Rattle.adb_wire.specs.declared.packets.Packet.{Packet}
-use Rattle.adb_history.specs.Rows.{Client, State, new_client, to_client, with_due, in_phase}
-use Rattle.adb_history.specs.Events.{Made, Event, then_also, due_to_client, due_to_link, owed_to, packets_to, ending_in}
-use Rattle.adb_history.specs.Links.{open_packet, owe_link, check_on, wants_sums, is_credit}
-use Rattle.adb_history.specs.Clients.{owe_client}
+use Rattle.adb_history.specs.Rows.{Client, State, in_phase}
+use Rattle.adb_history.specs.Events.{Made, Event, due_to_link, owed_to, packets_to, ending_in}
+use Rattle.adb_history.specs.Links.{open_packet, check_on, wants_sums, is_credit}
 use Rattle.adb_history.specs.Streams.{draw, asks_for}
-use Rattle.adb_history.specs.Asking.{Asked}
-use Rattle.adb_history.specs.Reading.{comes, has_asked}
 use Rattle.adb_history.specs.Orderly.{phase_for}
-use Rattle.adb_history.specs.Owned.{OwnerIn, ClientOf, IsOwned}
+use Rattle.adb_history.specs.Owned.{OwnerIn, IsOwned}
 use Rattle.adb_history.specs.Fifo.{okays_of}
 use Rattle.adb_history.specs.Moves.{After}
 use Rattle.adb_history.proofs.Following.{changed_here}
-use Rattle.adb_fifo_down.specs.Line.{Line, SeenClient, View, view, seen, seen_client, Apart, Shows, tells}
+use Rattle.adb_fifo_down.specs.Line.{Line, view, seen, seen_client, Apart, Shows}
 use Rattle.adb_fifo_down.proofs.Shown.{view_told, tells_nothing, quiet_link}
-use Rattle.adb_fifo_down.proofs.Own.{told_due}
 
 -- ---- whose clients the streams have
 -- no stream has a client that asks

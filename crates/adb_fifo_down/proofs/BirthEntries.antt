@@ -1,59 +1,53 @@
 -- What is promised of a stream at its birth.
-use Rattle.std.proofs.Common.{ℕ, ◌+◌, ◌≡◌, ◌≢◌, ◌≤◌, ◌<◌, zero, suc, Bool, true, false, cond, List, [], ◌∷◌, ◌++◌, length, drop, min, Option, Some, None, is_some, is_none, refl}
-use Rattle.std.proofs.Common.{sym, ◌∙◌, ap, subst, eqb, arith, append_assoc, inl, inr, ◌⊎◌}
-use Rattle.std.proofs.lemmas.Bool.{eqb-true, ne_eqb, eq-eqb, cases_eq}
+use Rattle.std.proofs.Common.{ℕ, ◌+◌, ◌≡◌, ◌≢◌, ◌<◌, Bool, true, false, cond, List, [], ◌∷◌, ◌++◌, length, drop, Option, Some, None, is_some, refl}
+use Rattle.std.proofs.Common.{sym, ◌∙◌, ap, subst, eqb, arith, append_assoc, inl, inr}
+use Rattle.std.proofs.lemmas.Bool.{ne_eqb, eq-eqb}
 use Rattle.std.proofs.lemmas.List.{append-nil}
-use Rattle.std.specs.Prelude.{◌&&◌, ◌||◌, not}
+use Rattle.std.specs.Prelude.{◌||◌}
 use Rattle.adb_outside.specs.Tables.{at}
-use Rattle.adb_registry.specs.Registry.{DeviceTable}
 use Rattle.adb_forward.specs.declared.row.ForwardRow.{ForwardRow}
 use Rattle.adb_wire.specs.Cutting.{framed}
 use Rattle.adb_wire.specs.declared.packets.Packet.{Packet}
 use Rattle.adb_client.specs.declared.phase.Phase.{Phase}
-use Rattle.adb_client.specs.declared.phase.Phase.TheVariants.{Asking, Opening, Streaming, Binding, Tracking, Closing, Gone}
+use Rattle.adb_client.specs.declared.phase.Phase.TheVariants.{Asking, Opening, Streaming}
 use Rattle.adb_reply.specs.declared.answer.Next.{Next}
 use Rattle.adb_reply.specs.declared.answer.Next.TheVariants as what
 use Rattle.adb_capture.specs.declared.entry.Entry.{Entry}
-use Rattle.adb_capture.specs.declared.entry.Entry.TheVariants.{Join, Enter, Read, End, Bound, Attach, Recv, Detach, Put, Send}
+use Rattle.adb_capture.specs.declared.entry.Entry.TheVariants.{Enter, Read}
 use Rattle.adb_history.specs.Rows.{Client, Link, State, new_client, to_client, with_due}
-use Rattle.adb_history.specs.Events.{Made, Event, Ending, quietly, then_also, due_to_client, owed_to, packets_to, ending_in}
+use Rattle.adb_history.specs.Events.{Made, Event, quietly, then_also, owed_to, packets_to, ending_in}
 use Rattle.adb_history.specs.Links.{is_connected, is_credit}
 use Rattle.adb_history.specs.Clients.{owe_client}
 use Rattle.adb_history.specs.Streams.{stream_ids, asks_for, no_ids_left, opens}
 use Rattle.adb_history.specs.Asking.{Asked, asks_with}
-use Rattle.adb_history.specs.Reading.{comes, comes_in_vain, enters_by, enters, asked_before, has_asked, goes_on, asks, reads_in, reads_from, reads}
-use Rattle.adb_history.specs.Machine.{rule, ups, step, History, state, told, May, IsLegal}
-use Rattle.adb_history.specs.Bytes.{has_joined, has_ended, is_lost, bytes_put, bytes_received, brought}
-use Rattle.adb_history.specs.Book.{book, asked, devices, forwards, asked_with, is_asking, still_asks, newly}
-use Rattle.adb_history.specs.Births.{Birth, since, births}
-use Rattle.adb_history.specs.Lives.{output_of}
+use Rattle.adb_history.specs.Reading.{comes, comes_in_vain, enters_by, asked_before, has_asked, goes_on, asks, reads_in, reads_from}
+use Rattle.adb_history.specs.Machine.{rule, ups, History, state, told, IsLegal}
+use Rattle.adb_history.specs.Bytes.{is_lost, bytes_put, bytes_received, brought}
+use Rattle.adb_history.specs.Book.{book, asked, devices, forwards, asked_with, is_asking}
+use Rattle.adb_history.specs.Births.{Birth, since}
 use Rattle.adb_history.specs.Linked.{IsLinked}
 use Rattle.adb_history.specs.Tied.{came_count}
 use Rattle.adb_history.specs.Fifo.{okays_of}
 use Rattle.adb_history.specs.Moves.{After}
 use Rattle.adb_history.proofs.Following.{changed_here}
 use Rattle.adb_history.proofs.Growing.{owed_append}
-use Rattle.adb_history.proofs.Asked.{behind, asks_behind}
 use Rattle.adb_history.proofs.Numbers.{counted}
 use Rattle.adb_history.proofs.LinkMoves.{all_linked}
-use Rattle.adb_history.proofs.Books.{booked, all_books, all_unread}
-use Rattle.adb_history.proofs.Booked.{asks_in, asks_now}
-use Rattle.adb_history.proofs.BookReads.{and_parts}
-use Rattle.adb_history.proofs.Outputs.{ClientTie, Tie}
+use Rattle.adb_history.proofs.Books.{all_books}
 use Rattle.adb_history.proofs.OutputEntries.{connected_is, tied, all_due_past_put}
 use Rattle.adb_history.proofs.Received.{ReadTie, received}
-use Rattle.adb_fifo_down.specs.Line.{Line, SeenStream, SeenClient, View, seen, seen_client, over, Shows, IsOpenIn}
+use Rattle.adb_fifo_down.specs.Line.{Line, SeenStream, SeenClient, View, seen, seen_client, Shows}
 use Rattle.adb_fifo_down.specs.Life.{Cradle}
-use Rattle.adb_fifo_down.specs.Turns.{Promise, Turns, Holds}
-use Rattle.adb_fifo_down.specs.Follows.{line, is_shut, replies_of, PromiseOf, Follows}
+use Rattle.adb_fifo_down.specs.Turns.{Holds}
+use Rattle.adb_fifo_down.specs.Follows.{line, is_shut, PromiseOf, Follows}
 use Rattle.adb_fifo_down.specs.Begins.{newborn, Lasts}
 use Rattle.adb_fifo_down.proofs.Shown.{packets_append, ending_append, first_none}
 use Rattle.adb_fifo_down.proofs.Others.{after_next}
 use Rattle.adb_fifo_down.proofs.Own.{client_seen}
 use Rattle.adb_fifo_down.proofs.OwnPackets.{own_row}
 use Rattle.adb_fifo_down.proofs.Ups.{Upped, shows_ups}
-use Rattle.adb_fifo_down.proofs.Askers.{AsksAs, alone, asked_then, AsksBehind, asks_behind_it, asking_at, asking_parts}
-use Rattle.adb_fifo_down.proofs.Begun.{of_another, of_older, drawn_line, new_row, drawn_shows}
+use Rattle.adb_fifo_down.proofs.Askers.{AsksAs, alone, asked_then, AsksBehind, asks_behind_it, asking_at}
+use Rattle.adb_fifo_down.proofs.Begun.{of_another, of_older, new_row, drawn_shows}
 
 drop_all : {A : Type 0} (xs : List A) → drop (length xs) xs ≡ []
 drop_all [] = refl
@@ -131,7 +125,6 @@ now_asks c bytes older next before after = by (is_asking c older (book older)) r
     by false e now =
         let clash : None ≡ Some next = sym before ∙ (ap (λ (q : Asked). q.next) (sym now) ∙ after) in
         absurd (cc)
-
 
 -- ---- the birth by a request
 -- a request that opens a stream, by what the machine makes of it

@@ -1,52 +1,40 @@
 -- What each turn of what is seen of a stream keeps, each entry after its birth keeps.
-use Rattle.std.proofs.Common.{ℕ, ◌+◌, ◌≡◌, ◌≢◌, ◌≤◌, ◌<◌, Bool, true, false, cond, List, [], ◌∷◌, ◌++◌, length, drop, Option, Some, None, is_some, refl, sym, ◌∙◌, ap, subst}
-use Rattle.std.proofs.Common.{eqb, arith, inl, inr, ◌⊎◌}
-use Rattle.std.proofs.lemmas.Bool.{eqb-true, ne_eqb, eq-eqb, cases_eq}
-use Rattle.std.proofs.lemmas.List.{drop-append-le}
-use Rattle.std.specs.Prelude.{◌&&◌, ◌||◌, not}
+use Rattle.std.proofs.Common.{ℕ, ◌≡◌, ◌≢◌, Bool, true, false, cond, List, [], ◌∷◌, ◌++◌, length, Option, Some, None, refl, sym, ◌∙◌, ap, subst}
+use Rattle.std.proofs.Common.{eqb, inl, inr, ◌⊎◌}
+use Rattle.std.proofs.lemmas.Bool.{eqb-true, eq-eqb, cases_eq}
 use Rattle.adb_outside.specs.Bytes.{IsPrefixOf}
 use Rattle.adb_outside.specs.Tables.{at}
 use Rattle.adb_outside.specs.declared.kinds.Cause.{Cause}
-use Rattle.adb_registry.specs.Registry.{DeviceTable}
-use Rattle.adb_wire.specs.Cutting.{cut_packets, framed}
 use Rattle.adb_wire.specs.declared.packets.Packet.{Packet}
-use Rattle.adb_stream.specs.declared.row.Stream.{Stream}
 use Rattle.adb_client.specs.declared.phase.Phase.{Phase}
 use Rattle.adb_client.specs.declared.phase.Phase.TheVariants.{Asking, Opening, Streaming, Binding, Tracking, Closing, Gone}
 use Rattle.adb_reply.specs.declared.answer.Next.{Next}
 use Rattle.adb_reply.specs.declared.answer.Next.TheVariants as what
-use Rattle.adb_capture.specs.declared.entry.Entry.{Entry}
-use Rattle.adb_capture.specs.declared.entry.Entry.TheVariants.{Join, Enter, Read, End, Bound, Attach, Recv, Detach, Put, Send}
-use Rattle.adb_history.specs.Rows.{Client, Link, State, to_client, to_link}
-use Rattle.adb_history.specs.Events.{Made, Event, quietly, then_also}
+use Rattle.adb_history.specs.Rows.{Client, State, to_client}
+use Rattle.adb_history.specs.Events.{Made, Event}
 use Rattle.adb_history.specs.Clients.{owe_client}
 use Rattle.adb_history.specs.Tracking.{list_if_stale, due_or, offered}
 use Rattle.adb_history.specs.Asking.{Asked, asks_with}
 use Rattle.adb_history.specs.Losing.{client_ends, stops}
-use Rattle.adb_history.specs.Packets.{receives_cut, receives_on}
-use Rattle.adb_history.specs.Reading.{comes, enters_by, plugs_in, asked_before, has_asked, goes_on, asks, reads_in, reads_from, bound_at}
-use Rattle.adb_history.specs.Handing.{puts_to, sends}
-use Rattle.adb_history.specs.Machine.{unplugs_on, rule, History, state, told, IsSomeOf, MayPut, May, IsLegal}
-use Rattle.adb_history.specs.Bytes.{is_lost, bytes_put, bytes_received, brought}
+use Rattle.adb_history.specs.Reading.{comes, enters_by, asked_before, has_asked, goes_on, asks, reads_in, reads_from, bound_at}
+use Rattle.adb_history.specs.Handing.{puts_to}
+use Rattle.adb_history.specs.Machine.{IsSomeOf, MayPut}
 use Rattle.adb_history.specs.Book.{kills}
-use Rattle.adb_history.specs.Births.{Birth, since}
+use Rattle.adb_history.specs.Births.{Birth}
 use Rattle.adb_history.specs.Owned.{IsOwned}
-use Rattle.adb_history.specs.Linked.{IsLinked}
 use Rattle.adb_history.specs.Moves.{After}
 use Rattle.adb_history.proofs.Following.{after_quietly}
-use Rattle.adb_fifo_down.specs.Line.{Line, SeenClient, View, seen_client, Shows}
+use Rattle.adb_fifo_down.specs.Line.{seen_client, Shows}
 use Rattle.adb_fifo_down.specs.Turned.{IsInLine, killed}
 use Rattle.adb_fifo_down.specs.Turns.{Promise, Turns, Holds}
-use Rattle.adb_fifo_down.specs.Follows.{line, is_shut}
+use Rattle.adb_fifo_down.specs.Follows.{line}
 use Rattle.adb_fifo_down.proofs.Shown.{shows_client, shows_owe_client}
-use Rattle.adb_fifo_down.proofs.Others.{after_next, shows_goes_on, shows_client_ends, shows_bound, shows_link_ends}
+use Rattle.adb_fifo_down.proofs.Others.{after_next, shows_goes_on, shows_client_ends, shows_bound}
 use Rattle.adb_fifo_down.proofs.Own.{client_seen}
 use Rattle.adb_fifo_down.proofs.OwnTurns.{IsStopped, own_reads, own_bound, own_stops}
 use Rattle.adb_fifo_down.proofs.OwnHands.{own_puts}
-use Rattle.adb_fifo_down.proofs.OtherTurns.{else_of, shows_puts, shows_comes, shows_enters, shows_plugs_in, shows_reads_in}
-use Rattle.adb_fifo_down.proofs.OtherLinks.{shows_receives, shows_unplugs}
-use Rattle.adb_fifo_down.proofs.Rules.{held_by, holds_cut, holds_unplugs, more_packets, holds_ends}
-use Rattle.adb_fifo_down.proofs.Brought.{brings, brings_more}
+use Rattle.adb_fifo_down.proofs.OtherTurns.{else_of, shows_puts, shows_comes, shows_enters, shows_reads_in}
+use Rattle.adb_fifo_down.proofs.Rules.{held_by, holds_ends}
 
 -- ---- whether what follows a request is a kill
 pub kill_is : (next : Option Next) → kills next ≡ true → next ≡ Some what.Stop

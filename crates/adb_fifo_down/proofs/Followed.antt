@@ -1,14 +1,13 @@
 -- What lasts from the birth of a stream on holds of every legal history.
-use Rattle.std.proofs.Common.{ℕ, ◌+◌, ◌≡◌, ◌≢◌, ◌≤◌, ◌<◌, zero, suc, Bool, true, false, cond, List, [], ◌∷◌, ◌++◌, length, drop, min, Option, Some, None, is_some, is_none, refl}
+use Rattle.std.proofs.Common.{ℕ, ◌+◌, ◌≡◌, ◌≢◌, ◌≤◌, ◌<◌, zero, suc, Bool, true, false, cond, List, [], ◌∷◌, length, min, Option, Some, None, is_some, is_none, refl}
 use Rattle.std.proofs.Common.{sym, ◌∙◌, ap, subst, eqb, arith, inl, inr, ◌⊎◌}
 use Rattle.std.specs.Prelude.{All, ◌&&◌, not}
-use Rattle.std.proofs.lemmas.Bool.{eqb-true, ne_eqb, eq-eqb, cases_eq}
-use Rattle.std.proofs.lemmas.List.{append-nil, length-append}
+use Rattle.std.proofs.lemmas.Bool.{eqb-true, cases_eq}
+use Rattle.std.proofs.lemmas.List.{length-append}
 use Rattle.std.proofs.lemmas.List.Elements.{All-head, All-tail}
 use Rattle.adb_outside.specs.Tables.{at}
 use Rattle.adb_wire.specs.declared.command.Command.{Command}
-use Rattle.adb_wire.specs.declared.command.Command.TheVariants.{Cnxn, Open, Okay, Wrte, Clse, Auth, Stls}
-use Rattle.adb_wire.specs.declared.packets.Packet.{Packet}
+use Rattle.adb_wire.specs.declared.command.Command.TheVariants.{Cnxn}
 use Rattle.adb_reply.specs.declared.answer.Next.{Next}
 use Rattle.adb_reply.specs.declared.answer.Next.TheVariants as what
 use Rattle.adb_client.specs.declared.about.Want.{Want}
@@ -18,21 +17,19 @@ use Rattle.adb_history.specs.Events.{Event, due_to_client, due_to_link, ended, p
 use Rattle.adb_history.specs.Streams.{stream_ids}
 use Rattle.adb_history.specs.Asking.{Asked}
 use Rattle.adb_history.specs.Machine.{History, state, told, IsLegal}
-use Rattle.adb_history.specs.Bytes.{has_joined, has_ended, bytes_put, brought}
-use Rattle.adb_history.specs.Book.{book, asked, devices, forwards, newly, is_asking, asked_with, still_asks, bound_turn}
-use Rattle.adb_history.specs.Births.{Birth, births, births_at, birth_by, birth_through, born, is_okay}
+use Rattle.adb_history.specs.Bytes.{has_joined, has_ended, brought}
+use Rattle.adb_history.specs.Book.{book, asked, devices, forwards, newly, asked_with, bound_turn}
+use Rattle.adb_history.specs.Births.{Birth, births, births_at, born, is_okay}
 use Rattle.adb_history.specs.Tied.{came_count}
 use Rattle.adb_history.specs.Fifo.{okays_of, HasBirths}
 use Rattle.adb_history.specs.Order.{IsOfBorn}
 use Rattle.adb_history.proofs.Births.{told_of_born}
-use Rattle.adb_fifo_down.specs.Life.{Cradle}
-use Rattle.adb_fifo_down.specs.Turns.{Holds}
-use Rattle.adb_fifo_down.specs.Follows.{line, is_shut, replies_of, PromiseOf, Follows}
+use Rattle.adb_fifo_down.specs.Follows.{line, is_shut, PromiseOf, Follows}
 use Rattle.adb_fifo_down.specs.Begins.{Lasts, IsBornNow}
 use Rattle.adb_fifo_down.specs.Premises.{AtAllTimes}
 use Rattle.adb_fifo_down.proofs.Brought.{brings_more}
-use Rattle.adb_fifo_down.proofs.Steps.{IsBornBy, step_holds, unreceived}
-use Rattle.adb_fifo_down.proofs.BornNow.{born_when, IsBy, by_request, IsThrough, by_forward, newly_is}
+use Rattle.adb_fifo_down.proofs.Steps.{step_holds, unreceived}
+use Rattle.adb_fifo_down.proofs.BornNow.{born_when, by_request, by_forward, newly_is}
 use Rattle.adb_fifo_down.proofs.Askers.{asked_then, asked_other}
 use Rattle.adb_fifo_down.proofs.BirthEntries.{IsUnborn, asked_birth, entered_birth, now_asks, read_born, enter_born}
 

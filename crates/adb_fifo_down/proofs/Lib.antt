@@ -20,3 +20,4 @@ mod Begun
 mod Askers
 mod BirthEntries
 mod Followed
+mod Handed

@@ -1,28 +1,27 @@
 -- The life of a stream goes on through each packet of its link.
-use Rattle.std.proofs.Common.{ℕ, ◌+◌, ◌≡◌, ◌≢◌, zero, suc, Bool, true, false, cond, List, [], ◌∷◌, ◌++◌, length, Option, Some, None, refl, sym, ◌∙◌, ap, subst}
+use Rattle.std.proofs.Common.{ℕ, ◌≡◌, ◌≢◌, zero, suc, Bool, true, false, cond, List, [], ◌∷◌, ◌++◌, length, Option, Some, None, refl, sym, ◌∙◌, ap, subst}
 use Rattle.std.proofs.Common.{eqb, append_assoc, inl, inr, ◌⊎◌, codes}
 use Rattle.std.proofs.lemmas.List.{append-nil}
 use Rattle.std.proofs.lemmas.Bool.{eqb-true, eqb-false, eq-eqb, ne_eqb}
 use Rattle.std.specs.Prelude.{◌&&◌, ◌||◌, not, nat_eq}
-use Rattle.adb_outside.specs.Bytes.{IsPrefixOf}
 use Rattle.adb_outside.specs.declared.identity.Identity.{Identity}
 use Rattle.adb_banner.specs.Banner.{identity_of}
 use Rattle.adb_wire.specs.declared.command.Command.{Command}
 use Rattle.adb_wire.specs.declared.command.Command.TheVariants.{Cnxn, Open, Okay, Wrte, Clse, Auth, Stls}
 use Rattle.adb_wire.specs.declared.packets.Packet.{Packet}
-use Rattle.adb_client.specs.declared.phase.Phase.TheVariants.{Opening, Streaming, Closing}
-use Rattle.adb_history.specs.Events.{Ending, peer_closed, out_of_turn, lost, broken}
+use Rattle.adb_client.specs.declared.phase.Phase.TheVariants.{Streaming}
+use Rattle.adb_history.specs.Events.{Ending, peer_closed, out_of_turn}
 use Rattle.adb_history.specs.Links.{credit_word, okay_packet}
 use Rattle.adb_history.specs.Births as birth
 use Rattle.adb_history.specs.Births.{opening_by, opening_in, told_in, before_close, is_close_of, is_between, is_wrte, is_clse, joined}
-use Rattle.adb_fifo_down.specs.Line.{Line, SeenStream, SeenClient, View, over}
-use Rattle.adb_fifo_down.specs.Treated.{hears_as, hears_open, opened_as, after_okay, is_late, takes, due_more, accepts_as, after_write, after_close, ending_by}
-use Rattle.adb_fifo_down.specs.Treated.{cnxn_ending, treated_as, treated_on, treated}
-use Rattle.adb_fifo_down.specs.Life.{Cradle, okay_after, lead, IsPending, IsSealed, NeverOpens, Heard, heard, IsWaiting, IsUnheard, IsOrphaned, IsOpened, IsClosedAt}
-use Rattle.adb_fifo_down.specs.Life.{WasOpen, IsDone, Story, LivesAs, LivesIn, TiedTo, Life}
-use Rattle.adb_fifo_down.proofs.Openings.{later_too, opening_stays, pending_on, sealed_by, sealed_on, sealed_now, pending_now, opened_by, told_more, front_later}
+use Rattle.adb_fifo_down.specs.Line.{SeenStream, SeenClient, View, over}
+use Rattle.adb_fifo_down.specs.Treated.{hears_as, hears_open, opened_as, is_late, takes, due_more, accepts_as, after_write, after_close, ending_by}
+use Rattle.adb_fifo_down.specs.Treated.{cnxn_ending, treated_as, treated_on}
+use Rattle.adb_fifo_down.specs.Life.{Cradle, okay_after, lead, IsSealed, Heard, heard, IsWaiting, IsOrphaned, IsOpened, IsClosedAt}
+use Rattle.adb_fifo_down.specs.Life.{WasOpen, Story, LivesAs, LivesIn, TiedTo, Life}
+use Rattle.adb_fifo_down.proofs.Openings.{later_too, opening_stays, pending_on, sealed_by, sealed_on, sealed_now, opened_by, told_more, front_later}
 use Rattle.adb_fifo_down.proofs.Openings.{unclosed_on}
-use Rattle.adb_fifo_down.proofs.Lives.{tied_at, over_open, over_waiting, over_orphan, open_story, lives_at, same_orphan, same_remote}
+use Rattle.adb_fifo_down.proofs.Lives.{tied_at, over_open, over_waiting, over_orphan, open_story, same_orphan, same_remote}
 
 always_or : (c : Bool) → (c || not c) ≡ true
 always_or true = refl

@@ -1,21 +1,20 @@
 -- The life of a stream goes on through each turn of what is seen of it.
-use Rattle.std.proofs.Common.{ℕ, ◌+◌, ◌≡◌, ◌≢◌, zero, suc, Bool, true, false, cond, List, [], ◌∷◌, ◌++◌, length, drop, min, Option, Some, None, refl, sym, ◌∙◌, ap, subst}
-use Rattle.std.proofs.Common.{eqb, append_assoc, inl, inr, ◌⊎◌, codes}
+use Rattle.std.proofs.Common.{ℕ, ◌≡◌, ◌≢◌, zero, suc, Bool, true, false, cond, List, [], ◌∷◌, ◌++◌, length, drop, min, Option, Some, None, refl, sym, ◌∙◌, ap, subst}
+use Rattle.std.proofs.Common.{eqb, append_assoc, inl, inr, ◌⊎◌}
 use Rattle.std.proofs.lemmas.List.{append-nil}
-use Rattle.std.proofs.lemmas.Bool.{eqb-true}
 use Rattle.adb_outside.specs.Bytes.{IsPrefixOf}
 use Rattle.adb_outside.specs.declared.kinds.Cause.{Cause}
 use Rattle.adb_wire.specs.declared.packets.Packet.{Packet}
 use Rattle.adb_client.specs.declared.phase.Phase.{Phase}
-use Rattle.adb_client.specs.declared.phase.Phase.TheVariants.{Asking, Opening, Streaming, Binding, Tracking, Closing, Gone}
-use Rattle.adb_history.specs.Events.{Ending, client_closed, peer_closed, out_of_turn, lost, broken, client_failed, stopped}
+use Rattle.adb_client.specs.declared.phase.Phase.TheVariants.{Opening, Streaming, Closing}
+use Rattle.adb_history.specs.Events.{Ending, client_closed, peer_closed, lost, broken, client_failed, stopped}
 use Rattle.adb_history.specs.Births as birth
 use Rattle.adb_history.specs.Births.{opening_in, told_in, before_close, joined}
 use Rattle.adb_history.proofs.Outputs.{handed_off}
 use Rattle.adb_fifo_down.specs.Line.{Line, SeenStream, SeenClient, View, IsOpenIn, first_of, closing_seen, fail_bytes, loss, lost_by, over}
 use Rattle.adb_fifo_down.specs.Turned.{IsInLine, IsStop, IsServed, row_fails, failed_by, killed, row_left, more_okays, credit_told, whole_told, left_told}
 use Rattle.adb_fifo_down.specs.Turned.{stream_left_as, row_handed, handed_in, handed_out}
-use Rattle.adb_fifo_down.specs.Life.{Cradle, lead, IsPending, IsSealed, NeverOpens, IsNotByPeer, Heard, heard, IsWaiting, IsUnheard, IsOrphaned, IsOpened, IsClosedAt}
+use Rattle.adb_fifo_down.specs.Life.{Cradle, lead, NeverOpens, IsNotByPeer, heard, IsUnheard, IsOpened, IsClosedAt}
 use Rattle.adb_fifo_down.specs.Life.{WasOpen, IsDone, Story, LivesAs, LivesIn, TiedTo, Life}
 use Rattle.adb_fifo_down.proofs.Openings.{pending_now}
 
@@ -26,7 +25,7 @@ tied_at o a output out here h = subst (λ (x : Option SeenClient). TiedTo x outp
 pub front_of_tied : (a : SeenClient) (output out : List ℕ) → output ≡ out ++ a.due → IsPrefixOf out output
 front_of_tied a output out e = (a.due, sym e)
 
-any_front : (o : Option SeenClient) (output out : List ℕ) → TiedTo o output out → IsPrefixOf out output
+pub any_front : (o : Option SeenClient) (output out : List ℕ) → TiedTo o output out → IsPrefixOf out output
 any_front None output out h = h
 any_front (Some a) output out h = front_of_tied a output out h
 
@@ -322,14 +321,14 @@ module _ (l : ℕ) (k : Cradle) (packets : List Packet) (shut : Bool) (out bytes
             lives = subst (λ (o : Option SeenStream). LivesIn o l k packets shut (heard now_seen)) (sym there)
                 (subst (λ (c : Bool). LivesAs c x.remote l k packets (heard now_seen)) (sym is_orphan)
                 (subst (λ (r : ℕ). LivesAs false r l k packets (heard now_seen)) (sym is) (record {
-              client = now_due;
-              here = refl;
-              phase = phase;
-              forwarded = forwarded;
-              output = i.output;
-              pending = i.pending;
-              ending = i.ending;
-            })));
+                  client = now_due;
+                  here = refl;
+                  phase = phase;
+                  forwarded = forwarded;
+                  output = i.output;
+                  pending = i.pending;
+                  ending = i.ending;
+                })));
           })
       alive x false (suc r) is_orphan is there i =
           let phase : a.phase ≡ Streaming l = sym (ap (λ (c : SeenClient). c.phase) (same i.client i.here)) ∙ i.phase in

@@ -1,5 +1,5 @@
 -- What is seen of a stream stays through the entries of other links.
-use Rattle.std.proofs.Common.{ℕ, ◌≡◌, ◌≢◌, List, [], ◌∷◌, ◌++◌, Option, Some, None, inl, inr, ◌⊎◌}
+use Rattle.std.proofs.Common.{ℕ, List, [], ◌∷◌, ◌++◌, Option, Some, None}
 use Rattle.adb_outside.specs.Framing.{Cut}
 use Rattle.adb_wire.specs.Cutting.{cut_packets}
 use Rattle.adb_wire.specs.declared.packets.Packet.{Packet}

@@ -1,10 +1,9 @@
 -- What is seen of a stream stays through the packets to other streams, and through those of other links.
-use Rattle.std.proofs.Common.{ℕ, ◌+◌, ◌≡◌, ◌≢◌, zero, suc, Bool, true, false, cond, List, [], ◌∷◌, ◌++◌, length, Option, Some, None, refl, sym, ◌∙◌, ap, subst, eqb}
-use Rattle.std.proofs.Common.{inl, inr, ◌⊎◌, codes}
-use Rattle.std.proofs.lemmas.Bool.{eqb-true, ne_eqb, eqb-false, cases_eq}
-use Rattle.std.specs.Prelude.{◌||◌, not, nat_eq, nat_lt}
+use Rattle.std.proofs.Common.{ℕ, ◌≡◌, ◌≢◌, Bool, true, false, cond, List, [], ◌∷◌, length, Option, Some, None, refl, eqb}
+use Rattle.std.proofs.Common.{codes}
+use Rattle.std.proofs.lemmas.Bool.{eqb-true, ne_eqb}
+use Rattle.std.specs.Prelude.{◌||◌, not, nat_lt}
 use Rattle.adb_outside.specs.Tables.{at}
-use Rattle.adb_outside.specs.Framing.{Cut}
 use Rattle.adb_outside.specs.declared.identity.Identity.{Identity}
 use Rattle.adb_outside.specs.declared.identity.State.{State as DeviceState}
 use Rattle.adb_outside.specs.declared.identity.State.TheVariants.{Offline, Unauthorized, Device, Bootloader, Recovery, Sideload, Rescue, Host}
@@ -21,16 +20,15 @@ use Rattle.adb_stream.specs.declared.flow.Flow.TheVariants.{One, Credit}
 use Rattle.adb_stream.specs.declared.row.Stream.{Stream}
 use Rattle.adb_client.specs.declared.phase.Phase.TheVariants.{Streaming}
 use Rattle.adb_history.specs.Rows.{Client, Link, State, to_client, to_stream, none_kept, in_phase, with_stream_part}
-use Rattle.adb_history.specs.Events.{Made, Event, quietly, then_also, peer_closed, out_of_turn, lost, broken}
+use Rattle.adb_history.specs.Events.{Made, Event, quietly, peer_closed, out_of_turn, lost, broken}
 use Rattle.adb_history.specs.Links.{close_packet, okay_packet, credit_word, owe_link, is_connected}
 use Rattle.adb_history.specs.Clients.{owe_client}
-use Rattle.adb_history.specs.Streams.{ends_row, ends_telling, all_end}
+use Rattle.adb_history.specs.Streams.{ends_row, ends_telling}
 use Rattle.adb_history.specs.Flow.{with_flow}
-use Rattle.adb_history.specs.Tracking.{mark_all}
 use Rattle.adb_history.specs.Losing.{link_ends}
 use Rattle.adb_history.specs.Packets.{least_version, least_maxdata, streams_end_first, goes_online, connects, cnxn, unauthorized_from, unauthorized, refuses_open}
-use Rattle.adb_history.specs.Packets.{at_stream, with_remote, first_credit, hears_okay, opened, orphan_opened, acknowledged, okay_open, okay_first, takes_okay}
-use Rattle.adb_history.specs.Packets.{is_out_of_turn, accepted, accepts_none, accepts, takes_write, takes_close, treat_open, treat_any, treat_on, treat, faulty_on}
+use Rattle.adb_history.specs.Packets.{at_stream, with_remote, first_credit, hears_okay, opened, acknowledged, okay_open, okay_first, takes_okay}
+use Rattle.adb_history.specs.Packets.{is_out_of_turn, accepted, accepts_none, accepts, takes_write, takes_close, treat_open, treat_any, treat_on, faulty_on}
 use Rattle.adb_history.specs.Moves.{After}
 use Rattle.adb_history.proofs.Following.{after_quietly, after_then, after_if}
 use Rattle.adb_fifo_down.specs.Line.{Line, View, Shows}
@@ -172,7 +170,7 @@ module _ (b : Line) (v : View) where
 
       shows_if_connected : (command : Command) (p : Packet) → After (Shows b v) w (cond (is_connected t s.devices) (treat_open t command p s) (quietly s))
       shows_if_connected command p =
-          after_if (Shows b v) w (is_connected t s.devices) (treat_open t command p s) (quietly s) 
+          after_if (Shows b v) w (is_connected t s.devices) (treat_open t command p s) (quietly s)
           (λ e. shows_treat_open t s w h command p (λ x is on. elsewhere b v t p.arg1 x s w apart h is on))
           (λ e. after_quietly (Shows b v) w s h)
 

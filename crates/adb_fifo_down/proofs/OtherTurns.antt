@@ -1,9 +1,9 @@
 -- What is seen of a stream stays through the entries of other clients and of who comes, but for a kill.
-use Rattle.std.proofs.Common.{ℕ, ◌+◌, ◌≡◌, ◌≢◌, ◌≤◌, zero, suc, Bool, true, false, cond, List, [], ◌∷◌, ◌++◌, length, drop, min, Option, Some, None, refl, sym, ◌∙◌, ap}
-use Rattle.std.proofs.Common.{subst, eqb, arith, inl, inr, ◌⊎◌}
-use Rattle.std.proofs.lemmas.Bool.{eqb-true, ne_eqb, eq-eqb, cases_eq}
-use Rattle.std.specs.Prelude.{option_map, option_and_then, ◌&&◌}
-use Rattle.adb_outside.specs.Tables.{at, put_row}
+use Rattle.std.proofs.Common.{ℕ, ◌≡◌, ◌≢◌, zero, suc, Bool, true, false, cond, List, [], ◌∷◌, ◌++◌, length, drop, min, Option, Some, None, refl, sym, ◌∙◌, ap}
+use Rattle.std.proofs.Common.{subst, eqb, inl, inr, ◌⊎◌}
+use Rattle.std.proofs.lemmas.Bool.{ne_eqb}
+use Rattle.std.specs.Prelude.{option_map}
+use Rattle.adb_outside.specs.Tables.{put_row}
 use Rattle.adb_outside.specs.declared.kinds.Kind.{Kind}
 use Rattle.adb_registry.specs.Registry.{attached}
 use Rattle.adb_forward.specs.declared.row.ForwardRow.{ForwardRow}
@@ -13,24 +13,22 @@ use Rattle.adb_stream.specs.declared.row.Stream.{Stream}
 use Rattle.adb_stream.specs.declared.row.Part.{Part}
 use Rattle.adb_client.specs.declared.phase.Phase.{Phase}
 use Rattle.adb_client.specs.declared.phase.Phase.TheVariants.{Asking, Opening, Streaming, Binding, Tracking, Closing, Gone}
-use Rattle.adb_reply.specs.declared.answer.Next.{Next}
 use Rattle.adb_reply.specs.declared.answer.Next.TheVariants as what
 use Rattle.adb_history.specs.Rows.{Client, State, new_client, new_link, to_client, to_stream, with_due, with_held, with_stream_part}
 use Rattle.adb_history.specs.Events.{Made, Event, quietly, then_also}
-use Rattle.adb_history.specs.Links.{server_cnxn, okay_packet, credit_packet, owe_link, is_connected}
-use Rattle.adb_history.specs.Clients.{owe_client}
+use Rattle.adb_history.specs.Links.{server_cnxn, okay_packet, credit_packet, is_connected}
 use Rattle.adb_history.specs.Streams.{opens}
 use Rattle.adb_history.specs.Flow.{with_flow}
 use Rattle.adb_history.specs.Tracking.{offered, mark_all}
-use Rattle.adb_history.specs.Asking.{Asked, asks_with}
-use Rattle.adb_history.specs.Reading.{comes, comes_in_vain, enters_by, plugs_in, asked_before, has_asked, asks, reads_in, reads_from}
+use Rattle.adb_history.specs.Asking.{asks_with}
+use Rattle.adb_history.specs.Reading.{comes, comes_in_vain, enters_by, plugs_in, asked_before, reads_in}
 use Rattle.adb_history.specs.Handing.{unmarked, lists_first, hands, handed_to, credit_back, to_hand, tells_credit, tells_handed, stream_hands, stream_left, client_left}
 use Rattle.adb_history.specs.Handing.{takes_of, puts_to}
 use Rattle.adb_history.specs.Owned.{HoldsIn, IsOwned}
 use Rattle.adb_history.specs.Moves.{After}
 use Rattle.adb_history.proofs.Following.{after_quietly, after_then, after_if, changed_here}
-use Rattle.adb_fifo_down.specs.Line.{Line, SeenClient, View, view, seen_client, Apart, Shows}
-use Rattle.adb_fifo_down.proofs.Shown.{no_okay, shows_owe_link, shows_client, shows_owe_client, shows_same, shows_mark_all, shows_stream}
+use Rattle.adb_fifo_down.specs.Line.{Line, View, view, seen_client, Shows}
+use Rattle.adb_fifo_down.proofs.Shown.{no_okay, shows_owe_link, shows_client, shows_owe_client, shows_mark_all, shows_stream}
 use Rattle.adb_fifo_down.proofs.Others.{IsElse, part_keeps, shows_opens, shows_asks}
 
 module _ (b : Line) (v : View) where
@@ -113,9 +111,11 @@ module _ (b : Line) (v : View) where
   -- ---- who comes
   module _ (s : State) (w : List Event) (h : Shows b v s w) where
     pub shows_comes : (forwarded : Bool) (n : ℕ) → n ≢ b.client → Shows b v (comes forwarded n s) w
-    shows_comes forwarded n other =
-        (h.0, ap (λ (c : Bool). record (view b s w) { client = option_map seen_client (cond c (Some (new_client forwarded n)) (s.clients b.client)) })
-            (ne_eqb n b.client other) ∙ h.1)
+    shows_comes forwarded n other = (
+      h.0,
+      ap (λ (c : Bool). record (view b s w) { client = option_map seen_client (cond c (Some (new_client forwarded n)) (s.clients b.client)) })
+          (ne_eqb n b.client other) ∙ h.1,
+    )
 
     pub shows_enters : (o : Option ForwardRow) (n : ℕ) → n ≢ b.client → After (Shows b v) w (enters_by n o s)
     shows_enters None n other = after_quietly (Shows b v) w (comes_in_vain s) h

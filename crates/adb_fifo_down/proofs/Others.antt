@@ -1,13 +1,9 @@
 -- What is seen of a stream stays through the rules of other clients, streams and links.
-use Rattle.std.proofs.Common.{ℕ, ◌+◌, ◌≡◌, ◌≢◌, zero, suc, Bool, true, false, cond, List, [], ◌∷◌, ◌++◌, length, Option, Some, None, refl, sym, ◌∙◌, ap, subst, eqb}
+use Rattle.std.proofs.Common.{ℕ, ◌+◌, ◌≡◌, ◌≢◌, zero, suc, Bool, true, false, List, [], ◌∷◌, ◌++◌, Option, Some, None, refl, sym, ◌∙◌, ap, subst, eqb}
 use Rattle.std.proofs.Common.{inl, inr, ◌⊎◌, codes, append_assoc}
-use Rattle.std.proofs.lemmas.Bool.{eqb-true, ne_eqb, cases_eq}
+use Rattle.std.proofs.lemmas.Bool.{eqb-true}
 use Rattle.adb_outside.specs.declared.kinds.Cause.{Cause}
 use Rattle.adb_outside.specs.declared.kinds.Cause.TheVariants.{Eof, Fault, Starved, NoThread}
-use Rattle.adb_outside.specs.declared.identity.Identity.{Identity}
-use Rattle.adb_wire.specs.declared.packets.Packet.{Packet}
-use Rattle.adb_stream.specs.declared.flow.Flow.{Flow}
-use Rattle.adb_stream.specs.declared.flow.Flow.TheVariants.{One, Credit}
 use Rattle.adb_stream.specs.declared.row.Stream.{Stream}
 use Rattle.adb_stream.specs.declared.row.Part.{Part}
 use Rattle.adb_client.specs.declared.phase.Phase.{Phase}
@@ -16,24 +12,23 @@ use Rattle.adb_client.specs.declared.about.Want.{Want}
 use Rattle.adb_reply.specs.Strings.{failed}
 use Rattle.adb_reply.specs.declared.answer.Next.{Next}
 use Rattle.adb_reply.specs.declared.answer.Next.TheVariants as what
-use Rattle.adb_history.specs.Rows.{Client, State, to_client, to_link, to_stream, none_kept, with_due, with_held, in_phase, with_stream_part}
+use Rattle.adb_history.specs.Rows.{Client, State, to_client, to_stream, none_kept, in_phase, with_stream_part}
 use Rattle.adb_history.specs.Events.{Made, Event, Ending, quietly, then_also, ended, client_failed}
-use Rattle.adb_history.specs.Links.{owe_link, open_packet, close_packet, okay_packet, credit_packet, is_credit}
+use Rattle.adb_history.specs.Links.{owe_link, open_packet, close_packet, is_credit}
 use Rattle.adb_history.specs.Clients.{owe_client, closes, closes_with, closing}
 use Rattle.adb_history.specs.Streams.{stream_ids, draw, asks_for, no_ids_left, opens, loses, client_loses, tells_end, ends_row, ends_telling, ends_if_of, ends_of}
 use Rattle.adb_history.specs.Streams.{all_end}
-use Rattle.adb_history.specs.Flow.{with_flow}
 use Rattle.adb_history.specs.Tracking.{mark_all}
 use Rattle.adb_history.specs.Forwarding.{put_forward, bound_by}
 use Rattle.adb_outside.specs.Tables.{without}
 use Rattle.adb_history.specs.Losing.{forgets, link_ends, orphaned, stream_fails, stream_of, client_fails, input_ended, input_ends, client_ends}
-use Rattle.adb_history.specs.Reading.{tracks, awaits, goes_on, has_asked, asks, reads_in, bound_to, bound_for, bound_in, bound_at}
-use Rattle.adb_history.specs.Asking.{Asked, asks_with}
+use Rattle.adb_history.specs.Reading.{tracks, awaits, goes_on, has_asked, asks, bound_for, bound_in, bound_at}
+use Rattle.adb_history.specs.Asking.{Asked}
 use Rattle.adb_history.specs.Moves.{After}
 use Rattle.adb_history.proofs.Following.{after_quietly, after_then, after_if}
 use Rattle.std.specs.Prelude.{option_map}
-use Rattle.adb_fifo_down.specs.Line.{Line, View, view, seen, Apart, Shows}
-use Rattle.adb_fifo_down.proofs.Shown.{no_okay, shows_told, shows_owe_link, shows_client, shows_owe_client, shows_same, shows_mark_all, shows_stream, shows_draw, quiet_ended}
+use Rattle.adb_fifo_down.specs.Line.{Line, View, seen, Shows}
+use Rattle.adb_fifo_down.proofs.Shown.{shows_told, shows_owe_link, shows_client, shows_owe_client, shows_mark_all, shows_stream, shows_draw, quiet_ended}
 
 -- one rule after another, of which each leaves something else
 pub after_next : (P Q : State → List Event → Type 0) (w : List Event) (m : Made) (rule : State → Made) → After P w m
@@ -137,7 +132,6 @@ module _ (b : Line) (v : View) where
       (λ e. shows_ends s w h k ending x is (other x is (eqb-true x.link t e))) (λ e. after_quietly (Shows b v) w s h)
 
   module _ (t : ℕ) (apart : IsElsewhere t) where
-
     shows_ends_of : (n : ℕ) (ending : Ending) (s : State) (w : List Event) → Shows b v s w → After (Shows b v) w (ends_of t n ending s)
     shows_ends_of zero ending s w h = after_quietly (Shows b v) w s h
     shows_ends_of (suc n) ending s w h =

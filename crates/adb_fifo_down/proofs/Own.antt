@@ -1,28 +1,24 @@
 -- What is seen of a stream when it changes, when its client changes, and when it ends.
-use Rattle.std.proofs.Common.{ℕ, ◌+◌, ◌≡◌, ◌≢◌, zero, suc, Bool, true, false, cond, List, [], ◌∷◌, ◌++◌, length, Option, Some, None, refl, sym, ◌∙◌, ap, subst, eqb}
-use Rattle.std.proofs.Common.{inl, inr, ◌⊎◌, codes}
-use Rattle.std.proofs.lemmas.Bool.{eqb-true, ne_eqb, eq-eqb, cases_eq}
+use Rattle.std.proofs.Common.{ℕ, ◌≡◌, Bool, true, false, cond, List, [], ◌∷◌, ◌++◌, Option, Some, None, refl, sym, ◌∙◌, ap, subst, eqb}
+use Rattle.std.proofs.Common.{codes}
+use Rattle.std.proofs.lemmas.Bool.{eq-eqb}
 use Rattle.std.proofs.lemmas.List.{append-nil}
-use Rattle.std.specs.Prelude.{option_map, option_and_then}
-use Rattle.adb_outside.specs.Tables.{change_row}
-use Rattle.adb_wire.specs.declared.packets.Packet.{Packet}
+use Rattle.std.specs.Prelude.{option_map}
 use Rattle.adb_stream.specs.declared.row.Stream.{Stream}
 use Rattle.adb_stream.specs.declared.row.Part.{Part}
 use Rattle.adb_client.specs.declared.phase.Phase.{Phase}
 use Rattle.adb_client.specs.declared.phase.Phase.TheVariants.{Asking, Opening, Streaming, Binding, Tracking, Closing, Gone}
 use Rattle.adb_reply.specs.Strings.{failed}
 use Rattle.adb_history.specs.Rows.{Client, State, to_client, to_stream, none_kept, with_due, with_stream_part}
-use Rattle.adb_history.specs.Events.{Made, Event, Ending, quietly, due_to_client, ended}
-use Rattle.adb_history.specs.Links.{owe_link, close_packet}
+use Rattle.adb_history.specs.Events.{Made, Event, Ending, due_to_client, ended}
 use Rattle.adb_history.specs.Clients.{owe_client, closes, closes_with, closing, closing_with}
-use Rattle.adb_history.specs.Streams.{loses, client_loses, tells_end, ends_row, ends_telling}
-use Rattle.adb_history.specs.Fifo.{okays_of}
+use Rattle.adb_history.specs.Streams.{loses, client_loses, tells_end, ends_row}
 use Rattle.adb_history.specs.Moves.{After}
-use Rattle.adb_history.proofs.Following.{after_quietly, after_then, changed_here, changed_none}
-use Rattle.adb_fifo_down.specs.Line.{Line, SeenStream, SeenClient, View, view, seen, seen_client, Apart, Shows, first_of, tells, closing_seen, fail_bytes}
+use Rattle.adb_history.proofs.Following.{after_quietly, changed_here, changed_none}
+use Rattle.adb_fifo_down.specs.Line.{Line, SeenStream, SeenClient, View, view, seen, seen_client, Shows, first_of, tells, closing_seen}
 use Rattle.adb_fifo_down.specs.Line.{loss, lost_by, ended_as, over}
 use Rattle.adb_fifo_down.specs.Treated.{due_more}
-use Rattle.adb_fifo_down.proofs.Shown.{view_told, apart_change, first_none, shows_owe_link}
+use Rattle.adb_fifo_down.proofs.Shown.{view_told, apart_change, first_none}
 use Rattle.adb_fifo_down.proofs.Others.{after_next, part_keeps, none_keeps}
 
 -- ---- what is seen

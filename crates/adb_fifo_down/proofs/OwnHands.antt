@@ -1,5 +1,5 @@
 -- What the hand-outs to its client make of what is seen of a stream.
-use Rattle.std.proofs.Common.{ℕ, ◌+◌, ◌-◌, ◌≡◌, ◌≢◌, zero, suc, Bool, true, false, cond, List, [], ◌∷◌, ◌++◌, length, drop, min, Option, Some, None, refl, sym, ◌∙◌, ap}
+use Rattle.std.proofs.Common.{ℕ, ◌≡◌, ◌≢◌, zero, suc, List, [], ◌∷◌, ◌++◌, length, drop, min, Option, Some, None, refl, sym, ◌∙◌, ap}
 use Rattle.std.proofs.Common.{subst, eqb}
 use Rattle.std.specs.Prelude.{option_map}
 use Rattle.adb_wire.specs.declared.packets.Packet.{Packet}
@@ -10,7 +10,7 @@ use Rattle.adb_stream.specs.declared.row.Part.{Part}
 use Rattle.adb_client.specs.declared.phase.Phase.{Phase}
 use Rattle.adb_client.specs.declared.phase.Phase.TheVariants.{Asking, Opening, Streaming, Binding, Tracking, Closing, Gone}
 use Rattle.adb_history.specs.Rows.{Client, State, to_client, to_stream, with_stream_part}
-use Rattle.adb_history.specs.Events.{Made, Event, quietly, then_also}
+use Rattle.adb_history.specs.Events.{Event, quietly, then_also}
 use Rattle.adb_history.specs.Links.{okay_packet, credit_packet}
 use Rattle.adb_history.specs.Flow.{with_flow}
 use Rattle.adb_history.specs.Handing.{lists_first, left_in, hands, to_hand, credit_back, handed_to, tells_credit, tells_handed, stream_hands, stream_left, client_left}
@@ -18,8 +18,8 @@ use Rattle.adb_history.specs.Handing.{takes_of, puts_to}
 use Rattle.adb_history.specs.Moves.{After}
 use Rattle.adb_history.proofs.Following.{after_quietly}
 use Rattle.adb_fifo_down.specs.Line.{Line, SeenStream, SeenClient, View, seen, seen_client, Shows, closing_seen}
-use Rattle.adb_fifo_down.specs.Turned.{IsInLine, row_left, credit_told, whole_told, left_told, stream_left_as, row_handed, handed_in, handed_out}
-use Rattle.adb_fifo_down.proofs.Own.{with_stream, with_client, stream_seen, own_part, own_client, closing_is}
+use Rattle.adb_fifo_down.specs.Turned.{IsInLine, row_left, credit_told, left_told, stream_left_as, row_handed, handed_in, handed_out}
+use Rattle.adb_fifo_down.proofs.Own.{with_stream, with_client, own_part, own_client, closing_is}
 use Rattle.adb_fifo_down.proofs.OwnPackets.{shows_if, own_okay, okay_counts}
 
 -- what was due before is nothing to a client that closes

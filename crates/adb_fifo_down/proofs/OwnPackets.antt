@@ -1,8 +1,8 @@
 -- What the packets of its link make of what is seen of a stream.
-use Rattle.std.proofs.Common.{ℕ, ◌+◌, ◌-◌, ◌≡◌, ◌≢◌, ◌≤◌, ◌<◌, zero, suc, Bool, true, false, cond, List, [], ◌∷◌, ◌++◌, length, Option, Some, None, is_some, refl, sym, ◌∙◌, ap}
+use Rattle.std.proofs.Common.{ℕ, ◌≡◌, ◌≢◌, ◌≤◌, ◌<◌, zero, suc, Bool, true, false, cond, List, [], ◌∷◌, ◌++◌, length, Option, Some, None, is_some, refl, sym, ◌∙◌, ap}
 use Rattle.std.proofs.Common.{subst, eqb, arith, inl, inr, ◌⊎◌, codes}
-use Rattle.std.proofs.lemmas.Bool.{eqb-true, ne_eqb, eq-eqb, eqb-false, cases_eq}
-use Rattle.std.specs.Prelude.{◌||◌, ◌&&◌, not, nat_eq, nat_lt, option_map}
+use Rattle.std.proofs.lemmas.Bool.{eqb-true, eq-eqb, eqb-false, cases_eq}
+use Rattle.std.specs.Prelude.{◌||◌, ◌&&◌, not, nat_lt, option_map}
 use Rattle.adb_outside.specs.Tables.{at}
 use Rattle.adb_outside.specs.declared.identity.Identity.{Identity}
 use Rattle.adb_banner.specs.Banner.{identity_of}
@@ -15,7 +15,7 @@ use Rattle.adb_stream.specs.declared.row.Stream.{Stream}
 use Rattle.adb_stream.specs.declared.row.Part.{Part}
 use Rattle.adb_client.specs.declared.phase.Phase.TheVariants.{Streaming}
 use Rattle.adb_history.specs.Rows.{Client, Link, State, to_client, to_stream, none_kept, in_phase, with_due, with_stream_part}
-use Rattle.adb_history.specs.Events.{Made, Event, Ending, quietly, then_also, due_to_client, due_to_link, peer_closed, out_of_turn, lost, broken}
+use Rattle.adb_history.specs.Events.{Made, Event, Ending, quietly, then_also, due_to_link, peer_closed, out_of_turn, lost, broken}
 use Rattle.adb_history.specs.Links.{close_packet, okay_packet, credit_word, owe_link, is_connected, check_on, wants_sums}
 use Rattle.adb_history.specs.Clients.{owe_client}
 use Rattle.adb_history.specs.Streams.{ends_row, ends_telling, ends_if_of, ends_of, all_end}
@@ -23,19 +23,19 @@ use Rattle.adb_history.specs.Flow.{with_flow}
 use Rattle.adb_history.specs.Tracking.{mark_all}
 use Rattle.adb_history.specs.Losing.{forgets, link_ends}
 use Rattle.adb_history.specs.Packets.{least_version, least_maxdata, streams_end_first, goes_online, connects, cnxn, at_stream, with_remote, first_credit}
-use Rattle.adb_history.specs.Packets.{hears_okay, opened, orphan_opened, acknowledged, okay_open, okay_first, takes_okay, is_out_of_turn, accepted}
+use Rattle.adb_history.specs.Packets.{hears_okay, acknowledged, okay_open, okay_first, takes_okay, is_out_of_turn, accepted}
 use Rattle.adb_history.specs.Packets.{accepts_none, accepts, takes_write, takes_close, treat_open, treat_any, treat_on, treat}
 use Rattle.adb_history.specs.Births.{is_okay}
 use Rattle.adb_history.specs.Fifo.{okays_of}
 use Rattle.adb_history.specs.Moves.{After}
-use Rattle.adb_history.proofs.Following.{after_quietly, after_then, after_if, changed_here, changed_none}
-use Rattle.adb_fifo_down.specs.Line.{Line, SeenStream, SeenClient, View, view, seen, seen_client, Shows, first_of, tells, over}
+use Rattle.adb_history.proofs.Following.{after_quietly, after_then, after_if, changed_here}
+use Rattle.adb_fifo_down.specs.Line.{Line, SeenStream, SeenClient, View, seen, seen_client, Shows, first_of, tells, over}
 use Rattle.adb_fifo_down.specs.Treated.{hears_as, hears_open, opened_as, after_okay, is_late, takes, due_more, accepts_as, after_write, after_close, ending_by}
 use Rattle.adb_fifo_down.specs.Treated.{cnxn_ending, treated_as, treated_on, treated}
-use Rattle.adb_fifo_down.proofs.Shown.{view_told, first_none, shows_owe_link, shows_mark_all, no_okay}
-use Rattle.adb_fifo_down.proofs.Others.{after_next, part_keeps, none_keeps, shows_ends_if}
+use Rattle.adb_fifo_down.proofs.Shown.{view_told, first_none, shows_owe_link, shows_mark_all}
+use Rattle.adb_fifo_down.proofs.Others.{after_next, none_keeps, shows_ends_if}
 use Rattle.adb_fifo_down.proofs.OtherPackets.{shows_refuses, shows_unauthorized, shows_online, shows_treat_open}
-use Rattle.adb_fifo_down.proofs.Own.{with_stream, with_client, owed_more, client_seen, stream_seen, own_stream, own_part, own_client, own_no_client, own_due, own_owes, own_ends}
+use Rattle.adb_fifo_down.proofs.Own.{with_stream, owed_more, client_seen, stream_seen, own_stream, own_part, own_client, own_no_client, own_due, own_owes, own_ends}
 use Rattle.std.proofs.lemmas.List.{append-nil}
 
 module _ (b : Line) where

@@ -1,39 +1,30 @@
 -- What the entries of its client, and the hand-outs to it, make of what is seen of a stream.
-use Rattle.std.proofs.Common.{ℕ, ◌+◌, ◌-◌, ◌≡◌, ◌≢◌, zero, suc, Bool, true, false, cond, List, [], ◌∷◌, ◌++◌, length, drop, min, Option, Some, None, refl, sym, ◌∙◌, ap}
-use Rattle.std.proofs.Common.{subst, eqb, inl, inr, ◌⊎◌}
-use Rattle.std.proofs.lemmas.Bool.{eqb-true, ne_eqb, eq-eqb, eqb-false, cases_eq}
+use Rattle.std.proofs.Common.{ℕ, ◌≡◌, ◌≢◌, zero, suc, Bool, true, false, cond, List, [], ◌∷◌, ◌++◌, Option, Some, None, refl, sym, ◌∙◌, ap}
+use Rattle.std.proofs.Common.{subst, eqb, inl, inr}
+use Rattle.std.proofs.lemmas.Bool.{ne_eqb}
 use Rattle.std.proofs.lemmas.List.{append-nil}
-use Rattle.std.specs.Prelude.{option_map, option_and_then, nat_eq}
+use Rattle.std.specs.Prelude.{option_map, option_and_then}
 use Rattle.adb_outside.specs.Tables.{Rows}
 use Rattle.adb_outside.specs.declared.kinds.Cause.{Cause}
-use Rattle.adb_outside.specs.declared.kinds.Cause.TheVariants.{Eof, Fault, Starved, NoThread}
 use Rattle.adb_wire.specs.declared.packets.Packet.{Packet}
-use Rattle.adb_stream.specs.declared.flow.Flow.{Flow}
-use Rattle.adb_stream.specs.declared.flow.Flow.TheVariants.{One, Credit}
 use Rattle.adb_stream.specs.declared.row.Stream.{Stream}
-use Rattle.adb_stream.specs.declared.row.Part.{Part}
 use Rattle.adb_client.specs.declared.phase.Phase.{Phase}
 use Rattle.adb_client.specs.declared.phase.Phase.TheVariants.{Asking, Opening, Streaming, Binding, Tracking, Closing, Gone}
 use Rattle.adb_history.specs.Rows.{Client, State, to_client, to_stream, none_kept, with_held, with_stream_part}
-use Rattle.adb_history.specs.Events.{Made, Event, Ending, quietly, then_also, ended, client_failed, stopped, owed_to, packets_to, ending_in}
-use Rattle.adb_history.specs.Links.{owe_link, close_packet, okay_packet, credit_packet}
-use Rattle.adb_history.specs.Clients.{closing, closes, closing_with}
-use Rattle.adb_history.specs.Flow.{with_flow}
-use Rattle.adb_history.specs.Losing.{orphaned, stream_fails, stream_of, client_fails, input_ended, input_ends, client_ends, tells_stop, all_stop, only_client, stops}
-use Rattle.adb_history.specs.Reading.{reads_in, reads_from, bound_in, bound_at}
-use Rattle.adb_history.specs.Handing.{lists_first, left_in, hands, to_hand, credit_back, handed_to, tells_credit, tells_handed, stream_hands, stream_left, client_left}
-use Rattle.adb_history.specs.Handing.{takes_of, puts_to}
+use Rattle.adb_history.specs.Events.{Made, Event, Ending, ended, client_failed, stopped, owed_to, packets_to, ending_in}
+use Rattle.adb_history.specs.Links.{owe_link, close_packet}
+use Rattle.adb_history.specs.Clients.{closing}
+use Rattle.adb_history.specs.Losing.{orphaned, stream_fails, stream_of, client_fails, input_ends, tells_stop, all_stop, only_client, stops}
+use Rattle.adb_history.specs.Reading.{reads_in, bound_in}
 use Rattle.adb_history.specs.Fifo.{okays_of}
 use Rattle.adb_history.specs.Moves.{After}
-use Rattle.adb_history.proofs.Following.{after_quietly, after_then, after_if, changed_here}
+use Rattle.adb_history.proofs.Following.{after_quietly}
 use Rattle.adb_history.proofs.Growing.{owed_append}
-use Rattle.adb_fifo_down.specs.Line.{Line, SeenStream, SeenClient, View, view, seen, seen_client, Shows, Apart, first_of, closing_seen}
-use Rattle.adb_fifo_down.specs.Turned.{IsInLine, IsStop, IsServed, row_fails, failed_by, killed, back_of, row_left, more_okays, credit_told, whole_told, left_told}
-use Rattle.adb_fifo_down.specs.Turned.{stream_left_as, row_handed, handed_in, handed_out}
-use Rattle.adb_fifo_down.proofs.Shown.{packets_append, okays_append, ending_append, shows_owe_link, shows_same, shows_client}
+use Rattle.adb_fifo_down.specs.Line.{Line, SeenStream, View, view, seen, seen_client, Shows, first_of}
+use Rattle.adb_fifo_down.specs.Turned.{IsInLine, IsStop, row_fails, failed_by, killed}
+use Rattle.adb_fifo_down.proofs.Shown.{packets_append, ending_append, shows_owe_link, shows_same}
 use Rattle.adb_fifo_down.proofs.Others.{after_next, none_keeps}
-use Rattle.adb_fifo_down.proofs.Own.{with_stream, with_client, client_seen, stream_seen, own_stream, own_part, own_client, own_told_end}
-use Rattle.adb_fifo_down.proofs.OwnPackets.{shows_if, own_okay, okay_counts}
+use Rattle.adb_fifo_down.proofs.Own.{with_stream, with_client, own_stream, own_part, own_client, own_told_end}
 
 module _ (b : Line) (v : View) where
   module _ (s : State) (w : List Event) (h : Shows b v s w) where

@@ -1,11 +1,9 @@
 -- What each turn of what is seen of a stream keeps, each rule keeps.
-use Rattle.std.proofs.Common.{ℕ, ◌+◌, ◌≡◌, ◌≢◌, ◌≤◌, ◌<◌, zero, suc, Bool, true, false, cond, List, [], ◌∷◌, ◌++◌, length, Option, Some, None, is_some, refl, sym, ◌∙◌, ap}
-use Rattle.std.proofs.Common.{subst, eqb, arith, append_assoc, inl, inr, ◌⊎◌}
-use Rattle.std.proofs.lemmas.Bool.{eqb-true, ne_eqb, eq-eqb, cases_eq}
+use Rattle.std.proofs.Common.{ℕ, ◌≡◌, ◌<◌, Bool, true, false, List, [], ◌∷◌, ◌++◌, Option, Some, None, is_some, refl, sym, ◌∙◌, ap}
+use Rattle.std.proofs.Common.{subst, append_assoc, inl, inr, ◌⊎◌}
 use Rattle.std.proofs.lemmas.List.{append-nil}
 use Rattle.adb_outside.specs.Tables.{at}
 use Rattle.adb_outside.specs.Framing.{Cut}
-use Rattle.adb_outside.specs.Bytes.{IsPrefixOf}
 use Rattle.adb_outside.specs.declared.kinds.Cause.{Cause}
 use Rattle.adb_outside.specs.declared.kinds.Cause.TheVariants.{Eof, Fault, Starved, NoThread}
 use Rattle.adb_wire.specs.declared.packets.Packet.{Packet}
@@ -13,23 +11,23 @@ use Rattle.adb_wire.specs.declared.format.PacketFault.{PacketFault}
 use Rattle.adb_wire.specs.declared.format.PacketFormat.{PacketFormat}
 use Rattle.adb_stream.specs.declared.row.Stream.{Stream}
 use Rattle.adb_history.specs.Rows.{Client, Link, State, to_link}
-use Rattle.adb_history.specs.Events.{Made, Event, Ending, quietly, then_also, client_closed, lost, broken}
+use Rattle.adb_history.specs.Events.{Made, Event, Ending, quietly, client_closed, lost, broken}
 use Rattle.adb_history.specs.Links.{is_connected}
 use Rattle.adb_history.specs.Losing.{link_ends, input_ends, client_ends}
 use Rattle.adb_history.specs.Packets.{treat, treat_all, faulty, faulty_on, with_rest, receives_cut}
 use Rattle.adb_history.specs.Machine.{unplugs_on, ups}
 use Rattle.adb_history.specs.Linked.{IsLinked}
 use Rattle.adb_history.specs.Moves.{After}
-use Rattle.adb_history.proofs.Following.{after_quietly, after_then}
+use Rattle.adb_history.proofs.Following.{after_quietly}
 use Rattle.adb_history.proofs.PacketMoves.{treat_on_kept}
 use Rattle.adb_history.proofs.LinkMoves.{linked_moves}
 use Rattle.adb_history.proofs.OutputEntries.{connected_is}
-use Rattle.adb_fifo_down.specs.Line.{Line, SeenStream, SeenClient, View, seen, seen_client, over, Shows, IsOpenIn}
+use Rattle.adb_fifo_down.specs.Line.{Line, SeenStream, View, seen_client, over, Shows}
 use Rattle.adb_fifo_down.specs.Treated.{treated_on, treated}
 use Rattle.adb_fifo_down.specs.Turned.{IsInLine}
 use Rattle.adb_fifo_down.specs.Turns.{Promise, Turns, Holds}
-use Rattle.adb_fifo_down.proofs.Others.{after_next, IsElsewhere, shows_link_ends}
-use Rattle.adb_fifo_down.proofs.OtherPackets.{shows_treat_on, shows_faulty}
+use Rattle.adb_fifo_down.proofs.Others.{after_next, shows_link_ends}
+use Rattle.adb_fifo_down.proofs.OtherPackets.{shows_treat_on}
 use Rattle.adb_fifo_down.proofs.Own.{client_seen}
 use Rattle.adb_fifo_down.proofs.OwnPackets.{IsUp, own_row, own_treat, own_link_ends}
 use Rattle.adb_fifo_down.proofs.OwnTurns.{own_input_ends, own_fails}

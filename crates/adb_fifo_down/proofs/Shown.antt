@@ -1,19 +1,17 @@
 -- What is seen of a stream stays where other streams and clients change.
-use Rattle.std.proofs.Common.{ℕ, ◌+◌, ◌≡◌, ◌≢◌, ◌≤◌, Bool, true, false, cond, List, [], ◌∷◌, ◌++◌, Option, Some, None, refl, sym, ◌∙◌, ap, subst, arith, eqb}
-use Rattle.std.proofs.Common.{append_assoc, inl, inr, ◌⊎◌}
-use Rattle.std.proofs.lemmas.Bool.{eqb-true, ne_eqb, eq-eqb, cases_eq}
+use Rattle.std.proofs.Common.{ℕ, ◌+◌, ◌≡◌, ◌≢◌, Bool, true, false, cond, List, [], ◌∷◌, ◌++◌, Option, Some, None, refl, sym, ◌∙◌, ap, arith, eqb}
+use Rattle.std.proofs.lemmas.Bool.{ne_eqb}
 use Rattle.std.proofs.lemmas.List.{append-nil}
 use Rattle.std.specs.Prelude.{option_map, option_and_then, ◌&&◌}
 use Rattle.adb_outside.specs.Tables.{Rows, change_row}
 use Rattle.adb_wire.specs.declared.packets.Packet.{Packet}
-use Rattle.adb_wire.specs.Packet.{spelling}
 use Rattle.adb_stream.specs.Flow.{new_flow}
 use Rattle.adb_stream.specs.Stream.{new_stream}
 use Rattle.adb_stream.specs.declared.row.Stream.{Stream}
 use Rattle.adb_client.specs.declared.phase.Phase.{Phase}
 use Rattle.adb_client.specs.declared.phase.Phase.TheVariants.{Asking, Opening, Streaming, Binding, Tracking, Closing, Gone}
-use Rattle.adb_history.specs.Rows.{Client, State, to_client, to_link, to_stream, with_due, with_link_due}
-use Rattle.adb_history.specs.Events.{Made, Event, Ending, due_to_client, due_to_link, ended, bytes_for, owed_to, packets_to, ending_in}
+use Rattle.adb_history.specs.Rows.{Client, State, to_client, to_stream, with_due}
+use Rattle.adb_history.specs.Events.{Event, Ending, due_to_client, due_to_link, ended, bytes_for, owed_to, packets_to, ending_in}
 use Rattle.adb_history.specs.Links.{owe_link}
 use Rattle.adb_history.specs.Clients.{owe_client}
 use Rattle.adb_history.specs.Streams.{draw}
@@ -23,7 +21,7 @@ use Rattle.adb_history.specs.Fifo.{okays_of}
 use Rattle.adb_history.specs.Moves.{After}
 use Rattle.adb_history.proofs.Following.{changed_other}
 use Rattle.adb_history.proofs.Growing.{owed_append}
-use Rattle.adb_fifo_down.specs.Line.{Line, SeenStream, SeenClient, View, view, seen, seen_client, Apart, Shows, first_of, tells}
+use Rattle.adb_fifo_down.specs.Line.{Line, SeenClient, View, view, seen, seen_client, Apart, Shows, first_of, tells}
 
 -- ---- what is told, one after another
 put_first : (p : Packet) (here : Bool) (ps qs rs : List Packet) → ps ≡ qs ++ rs → cond here (p ∷ ps) ps ≡ cond here (p ∷ qs) qs ++ rs
@@ -38,7 +36,7 @@ packets_append t (ended stream ending ∷ es) fs = packets_append t es fs
 
 pub okays_append : (l : ℕ) (ps qs : List Packet) → okays_of l (ps ++ qs) ≡ okays_of l ps ++ okays_of l qs
 okays_append l [] qs = refl
-okays_append l (p ∷ ps) qs = 
+okays_append l (p ∷ ps) qs =
     put_first p (is_okay p.command && eqb p.arg0 l) (okays_of l (ps ++ qs)) (okays_of l ps) (okays_of l qs) (okays_append l ps qs)
 
 pub ending_append : (l : ℕ) (es fs : List Event) → ending_in l (es ++ fs) ≡ first_of (ending_in l es) (ending_in l fs)

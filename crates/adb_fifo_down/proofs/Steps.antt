@@ -1,25 +1,23 @@
 -- What each turn of what is seen of a stream keeps, each step after its birth keeps.
-use Rattle.std.proofs.Common.{ℕ, ◌+◌, ◌≡◌, ◌≢◌, ◌≤◌, ◌<◌, Bool, true, false, cond, List, [], ◌∷◌, ◌++◌, length, drop, Option, Some, None, is_some, refl, sym, ◌∙◌, ap, subst}
+use Rattle.std.proofs.Common.{ℕ, ◌+◌, ◌≡◌, ◌≢◌, ◌≤◌, ◌<◌, Bool, true, false, cond, List, ◌∷◌, ◌++◌, length, drop, Option, Some, None, is_some, refl, sym, ◌∙◌, ap, subst}
 use Rattle.std.proofs.Common.{eqb, arith, inl, inr, ◌⊎◌}
 use Rattle.std.proofs.lemmas.Bool.{eqb-true, ne_eqb, eq-eqb, cases_eq}
 use Rattle.std.proofs.lemmas.List.{drop-append-le}
-use Rattle.std.specs.Prelude.{◌&&◌, ◌||◌, not, option_map}
+use Rattle.std.specs.Prelude.{◌&&◌, ◌||◌, not}
 use Rattle.adb_outside.specs.Tables.{at}
 use Rattle.adb_outside.specs.declared.kinds.Cause.{Cause}
 use Rattle.adb_wire.specs.Cutting.{cut_packets, framed}
 use Rattle.adb_wire.specs.declared.packets.Packet.{Packet}
-use Rattle.adb_stream.specs.declared.row.Stream.{Stream}
 use Rattle.adb_capture.specs.declared.entry.Entry.{Entry}
 use Rattle.adb_capture.specs.declared.entry.Entry.TheVariants.{Join, Enter, Read, End, Bound, Attach, Recv, Detach, Put, Send}
 use Rattle.adb_history.specs.Rows.{Link, State}
-use Rattle.adb_history.specs.Events.{Made, Event, quietly}
+use Rattle.adb_history.specs.Events.{Made, Event}
 use Rattle.adb_history.specs.Packets.{receives_on}
 use Rattle.adb_history.specs.Reading.{comes, plugs_in}
 use Rattle.adb_history.specs.Handing.{sends}
-use Rattle.adb_history.specs.Machine.{unplugs_on, rule, ups, step, History, state, told, May, IsLegal}
+use Rattle.adb_history.specs.Machine.{unplugs_on, rule, ups, History, state, told, May, IsLegal}
 use Rattle.adb_history.specs.Bytes.{is_lost, bytes_put, bytes_received, brought}
 use Rattle.adb_history.specs.Births.{Birth, since}
-use Rattle.adb_history.specs.Owned.{IsOwned}
 use Rattle.adb_history.specs.Linked.{IsLinked}
 use Rattle.adb_history.specs.Tied.{came_count}
 use Rattle.adb_history.specs.Moves.{After}
@@ -27,7 +25,7 @@ use Rattle.adb_history.proofs.Following.{after_quietly}
 use Rattle.adb_history.proofs.Numbers.{counted}
 use Rattle.adb_history.proofs.LinkMoves.{all_linked}
 use Rattle.adb_history.proofs.OutputEntries.{connected_is}
-use Rattle.adb_fifo_down.specs.Line.{Line, SeenStream, View, seen, Shows}
+use Rattle.adb_fifo_down.specs.Line.{SeenStream}
 use Rattle.adb_fifo_down.specs.Turns.{Promise, Turns, Holds}
 use Rattle.adb_fifo_down.specs.Follows.{line, is_shut}
 use Rattle.adb_fifo_down.proofs.Others.{after_next}

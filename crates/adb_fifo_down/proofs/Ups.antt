@@ -1,26 +1,25 @@
 -- What the up rule makes of what is seen of a stream: it stays, or the stream is closed for its client.
-use Rattle.std.proofs.Common.{ℕ, ◌+◌, ◌≡◌, ◌≢◌, zero, suc, Bool, true, false, cond, List, [], ◌∷◌, ◌++◌, length, drop, Option, Some, None, refl, sym, ◌∙◌, ap, subst, eqb}
+use Rattle.std.proofs.Common.{ℕ, ◌≡◌, ◌≢◌, zero, suc, Bool, true, false, List, [], ◌∷◌, length, drop, Option, Some, None, refl, sym, ◌∙◌, ap, subst}
 use Rattle.std.proofs.Common.{inl, inr, ◌⊎◌}
 use Rattle.std.proofs.lemmas.Bool.{eqb-true, cases_eq}
-use Rattle.std.specs.Prelude.{option_map}
 use Rattle.adb_stream.specs.declared.flow.Flow.{Flow}
 use Rattle.adb_stream.specs.declared.flow.Flow.TheVariants.{One, Credit}
 use Rattle.adb_stream.specs.declared.row.Stream.{Stream}
 use Rattle.adb_stream.specs.declared.row.Part.{Part}
 use Rattle.adb_client.specs.declared.phase.Phase.{Phase}
 use Rattle.adb_client.specs.declared.phase.Phase.TheVariants.{Asking, Opening, Streaming, Binding, Tracking, Closing, Gone}
-use Rattle.adb_history.specs.Rows.{Client, State, to_client, to_stream, with_held, with_stream_part}
-use Rattle.adb_history.specs.Events.{Made, Event, Ending, quietly, then_also, client_closed}
+use Rattle.adb_history.specs.Rows.{Client, State, to_stream, with_stream_part}
+use Rattle.adb_history.specs.Events.{Made, Event, Ending, quietly, client_closed}
 use Rattle.adb_history.specs.Links.{write_packet, maxdata_of}
 use Rattle.adb_history.specs.Flow.{payloads, total, wrote, with_flow, goes_up, all_go_up, flow_after, noted, is_over, closes_if, sends_up, is_streaming, up_client, up_stream}
 use Rattle.adb_history.specs.Flow.{up, up_all}
 use Rattle.adb_history.specs.Moves.{After}
-use Rattle.adb_history.proofs.Following.{after_quietly, after_then, after_if, changed_here}
+use Rattle.adb_history.proofs.Following.{after_quietly, after_then, after_if}
 use Rattle.adb_fifo_down.specs.Line.{Line, SeenStream, SeenClient, View, seen, seen_client, loss, lost_by, over, Shows, IsOpenIn}
 use Rattle.adb_fifo_down.proofs.Shown.{shows_owe_link, shows_same, shows_stream}
 use Rattle.adb_fifo_down.proofs.Others.{after_next, part_keeps, shows_ends_telling}
 use Rattle.adb_fifo_down.proofs.Own.{client_seen, stream_seen}
-use Rattle.adb_fifo_down.proofs.OwnPackets.{own_same, own_ends_telling, own_row}
+use Rattle.adb_fifo_down.proofs.OwnPackets.{own_same, own_ends_telling}
 
 -- ---- a stream that ended is there no more
 loss_gone : (forwarded : Bool) (phase : Phase) (a : SeenClient) (v : View) → v.stream ≡ None → (loss forwarded phase a v).stream ≡ None
@@ -111,8 +110,11 @@ module _ (b : Line) where
     own_closes_if y false (Some x) s w is h = after_quietly Upped w s (inl h)
     own_closes_if y true (Some x) s w is h =
         let row : y.row ≡ seen x = let same : Some y.row ≡ Some (seen x) = sym y.stream ∙ stream_seen b v s w (Some x) h is in cc in
-        inr (y, subst (λ (z : SeenStream). After (Shows b (over z.orphan client_closed v)) w (closes_if true b.id (Some x) s)) (sym row)
-        (own_ends_telling b v x s w is h client_closed))
+        inr (
+          y,
+          subst (λ (z : SeenStream). After (Shows b (over z.orphan client_closed v)) w (closes_if true b.id (Some x) s)) (sym row)
+              (own_ends_telling b v x s w is h client_closed),
+        )
 
     own_sends_up : (x : Stream) (a : Client) (payloads : List (List ℕ)) (s : State) (w : List Event) → IsOpenIn b v → s.streams b.id ≡ Some x → Shows b v s w
         → After Upped w (sends_up b.id x a payloads s)

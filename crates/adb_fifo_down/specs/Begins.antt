@@ -1,5 +1,5 @@
 -- What is seen of a stream at its birth.
-use Rattle.std.specs.Prelude.{ℕ, ◌≡◌, ◌+◌, ◌<◌, Bool, false, List, [], ◌∷◌, ◌++◌, length, Option, Some, None}
+use Rattle.std.specs.Prelude.{ℕ, ◌≡◌, ◌+◌, ◌<◌, Bool, false, List, [], ◌∷◌, ◌++◌, length, Some}
 use Rattle.adb_stream.specs.Flow.{new_flow}
 use Rattle.adb_stream.specs.Stream.{new_stream}
 use Rattle.adb_client.specs.declared.phase.Phase.TheVariants.{Opening}
@@ -9,7 +9,7 @@ use Rattle.adb_history.specs.Streams.{stream_ids}
 use Rattle.adb_history.specs.Births.{Birth, births, births_at}
 use Rattle.adb_fifo_down.specs.Line.{Line, View, seen}
 use Rattle.adb_fifo_down.specs.Life.{Cradle}
-use Rattle.adb_fifo_down.specs.Turns.{Promise, Turns}
+use Rattle.adb_fifo_down.specs.Turns.{Turns}
 use Rattle.adb_fifo_down.specs.Follows.{PromiseOf}
 
 -- a stream that was asked for just now, and its client waits for it

@@ -1,5 +1,5 @@
 -- What is promised of a stream, of a whole history: from its birth on it holds of what is seen of the stream.
-use Rattle.std.specs.Prelude.{ℕ, ◌≡◌, ◌≤◌, Bool, true, false, if◌then◌else◌, ◌||◌, is_some, List, [], length, Some}
+use Rattle.std.specs.Prelude.{ℕ, ◌≡◌, ◌≤◌, Bool, true, false, if◌then◌else◌, ◌||◌, is_some, List, [], length}
 use Rattle.adb_wire.specs.Cutting.{framed}
 use Rattle.adb_history.specs.Machine.{History, state, told}
 use Rattle.adb_history.specs.Bytes.{is_lost, bytes_put, bytes_received, brought}

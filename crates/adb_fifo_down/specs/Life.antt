@@ -1,5 +1,5 @@
 -- The life of a stream, in what is seen of it: it waits for its device, or is an orphan, or is open, or is over; and what became due to its client by then.
-use Rattle.std.specs.Prelude.{ℕ, ◌≡◌, ◌≢◌, ◌⊎◌, Bool, true, false, List, [], ◌∷◌, ◌++◌, Option, Some, None, codes, zero, suc}
+use Rattle.std.specs.Prelude.{ℕ, ◌≡◌, ◌≢◌, ◌⊎◌, Bool, true, false, List, ◌++◌, Option, Some, None, codes, zero, suc}
 use Rattle.adb_outside.specs.Bytes.{IsPrefixOf}
 use Rattle.adb_wire.specs.declared.packets.Packet.{Packet}
 use Rattle.adb_client.specs.declared.phase.Phase.TheVariants.{Opening, Streaming, Closing}

@@ -1,5 +1,5 @@
 -- What is taken from other promises, of a history at all times.
-use Rattle.std.specs.Prelude.{ℕ, ◌≡◌, true, List, [], ◌∷◌}
+use Rattle.std.specs.Prelude.{ℕ, ◌≡◌, true, [], ◌∷◌}
 use Rattle.adb_history.specs.Machine.{History}
 use Rattle.adb_history.specs.Bytes.{has_joined}
 use Rattle.adb_history.specs.Answered.{SaysNothingMore}

@@ -1,2 +1,7 @@
-//! What is handed down: what the client of a stream is handed is what its device wrote.
+//! What is handed down: in every legal history the client of a stream is handed what its device
+//! wrote. Each function does nothing: its contract is the law.
 #![tactic(auto)]
+
+mod down;
+
+pub use down::what_is_handed_was_told;
