@@ -26,7 +26,7 @@ use Rattle.adb_history.specs.Order.{IsOfBorn}
 use Rattle.adb_history.proofs.Births.{told_of_born}
 use Rattle.adb_fifo_down.specs.Follows.{line, is_shut, PromiseOf, Follows}
 use Rattle.adb_fifo_down.specs.Begins.{Lasts, IsBornNow}
-use Rattle.adb_fifo_down.specs.Premises.{AtAllTimes}
+use Rattle.adb_fifo_down.specs.Premises.{AtAllTimes, EndsBornAlone}
 use Rattle.adb_fifo_down.proofs.Brought.{brings_more}
 use Rattle.adb_fifo_down.proofs.Steps.{step_holds, unreceived}
 use Rattle.adb_fifo_down.proofs.BornNow.{born_when, by_request, by_forward, newly_is}
@@ -134,12 +134,17 @@ unborn_okays drawn t (due_to_link link p check ∷ w) all =
     by false rest of = rest
 
 -- ---- at all times
+at_time : (P : History → Type 0) (h : History) → AtAllTimes P h → P h
+at_time P [] all = all
+at_time P (e ∷ older) all = all.0
+
 module _ {P : PromiseOf} (lasts : Lasts P) where
   follows_on : (e : Entry) (older : History) → IsLegal (e ∷ older) → (l : ℕ) (b : Birth) → 0 < l → Follows P older l b → Follows P (e ∷ older) l b
   follows_on e older legal l b some h = record {
     cradle = h.cradle;
     forwarded = h.forwarded;
     replies = h.replies ∙ by b.forwarded refl;
+    unended = λ ends. h.unended ends.1;
     asks_no_more = λ own. ap (λ (q : Asked). is_some q.next) (fixed own) ∙ h.asks_no_more own;
     came = omega (arith, h.came, came_more e older);
     within = omega (arith, h.within, brought_no_fewer e b.link older);
@@ -171,8 +176,11 @@ module _ {P : PromiseOf} (lasts : Lasts P) where
         apart : (n m : ℕ) → n < m → n ≢ m
         apart n m lt same = omega (arith, lt, same)
 
-    unborn : (t : ℕ) → IsUnborn ((state older).drawn + 1) t (told older)
-    unborn t = record { okays = unborn_okays (state older).drawn t (told older) (told_of_born older legal.0) }
+    unborn : (t : ℕ) → IsUnborn (AtAllTimes EndsBornAlone older) ((state older).drawn + 1) t (told older)
+    unborn t = record {
+      okays = unborn_okays (state older).drawn t (told older) (told_of_born older legal.0);
+      ending = λ ends. at_time EndsBornAlone older ends ((state older).drawn + 1) (omega arith);
+    }
 
     at_number : (x : Birth) → b ≡ x → Follows P (e ∷ older) ((state older).drawn + 1) x → Follows P (e ∷ older) l b
     at_number x is h = subst (λ (n : ℕ). Follows P (e ∷ older) n b) (sym number_as) (subst (Follows P (e ∷ older) ((state older).drawn + 1)) (sym is) h)
@@ -210,11 +218,6 @@ module _ {P : PromiseOf} (lasts : Lasts P) where
   follows_first (Put c bytes) older legal births_before l b now = none_born l b (Put c bytes) older refl now
   follows_first (Send t bytes) older legal births_before l b now = none_born l b (Send t bytes) older refl now
 
-  -- the births of a time
-  births_at_time : (h : History) → AtAllTimes HasBirths h → HasBirths h
-  births_at_time [] all = all
-  births_at_time (e ∷ older) all = all.0
-
   -- no stream has the id 0
   some_id : (l : ℕ) (b : Birth) (h : History) → born l h ≡ Some b → 0 < l
   some_id zero b h is = absurd (let clash : None ≡ Some b = is in cc)
@@ -234,4 +237,4 @@ module _ {P : PromiseOf} (lasts : Lasts P) where
     where
       go : (born l older ≡ Some b) ⊎ IsBornNow l b e older → (born l older ≡ Some b → Follows P older l b) → Follows P (e ∷ older) l b
       go (inl before) rest = follows_on e older legal l b (some_id l b older before) (rest before)
-      go (inr now) rest = follows_first e older legal (births_at_time older all.1) l b now
+      go (inr now) rest = follows_first e older legal (at_time HasBirths older all.1) l b now

@@ -8,14 +8,16 @@ use Rattle.adb_outside.specs.Bytes.{IsPrefixOf}
 use Rattle.adb_history.specs.Machine.{History, IsLegal}
 use Rattle.adb_history.specs.Bytes.{bytes_put}
 use Rattle.adb_history.specs.Book.{asked}
-use Rattle.adb_history.specs.Births.{Birth, Opening, since, opening_in, opening_of, told_in, told_after, told_to, joined, lead_of, handed_to}
-use Rattle.adb_history.specs.Fifo.{HasBirths, HandsTold}
-use Rattle.adb_fifo_down.specs.Line.{Line, SeenStream}
+use Rattle.adb_history.specs.Births.{Birth, Opening, since, opening_in, opening_of, told_in, told_after, told_to, told_before, told_before_close}
+use Rattle.adb_history.specs.Births.{before_close, joined, lead_of, handed_to}
+use Rattle.adb_history.specs.Events.{peer_closed}
+use Rattle.adb_history.specs.Fifo.{HasBirths, HandsTold, HandsWholeTold}
+use Rattle.adb_fifo_down.specs.Line.{Line, SeenStream, View}
 use Rattle.adb_fifo_down.specs.Turns.{Turns}
-use Rattle.adb_fifo_down.specs.Life.{Cradle, okay_after, lead, heard, IsUnheard, Story, LivesAs, LivesIn, Life}
+use Rattle.adb_fifo_down.specs.Life.{Cradle, okay_after, lead, heard, IsUnheard, IsClosedAt, Story, LivesAs, LivesIn, Life}
 use Rattle.adb_fifo_down.specs.Follows.{is_shut, PromiseOf, Follows}
 use Rattle.adb_fifo_down.specs.Begins.{Lasts}
-use Rattle.adb_fifo_down.specs.Premises.{AtAllTimes}
+use Rattle.adb_fifo_down.specs.Premises.{AtAllTimes, EndsBornAlone}
 use Rattle.adb_fifo_down.proofs.Openings.{pending_now}
 use Rattle.adb_fifo_down.proofs.Lives.{any_front, life_served, life_closes, life_breaks, life_stops, life_fails, life_hands, life_shuts}
 use Rattle.adb_fifo_down.proofs.LifePackets.{life_treats}
@@ -161,6 +163,59 @@ module _ (l : ℕ) (b : Birth) (h : History) (f : Follows LifeOf h l b) where
           let t = told_of o e in
           front_then (drop (lead_of b h) (bytes_put b.client h)) t.bytes (joined (told_in o.remote l o.later)) t.handed t.front
 
+  -- ---- all of it
+  module _ (unended : f.cradle.ending ≡ None) (by_peer : f.holds.seen.ending ≡ Some peer_closed) (all : bytes_put b.client h ≡ f.holds.seen.output) where
+    -- what its device had written when it closed
+    whole_of : (o : Opening) → opening_in l (since b h) ≡ Some o
+        → drop (lead_of b h) (bytes_put b.client h) ≡ joined (told_in o.remote l (before_close o.remote l o.later))
+    whole_of o is = by f.holds.seen.stream life.lives
+      where
+        same : (p : Opening) → opening_in l (since b h) ≡ Some p → p ≡ o
+        same p e = let both : Some p ≡ Some o = sym e ∙ is in cc
+
+        fresh : f.holds.seen.ending ≡ f.cradle.ending → ⊥
+        fresh e = let clash : None ≡ Some peer_closed = sym unended ∙ (sym e ∙ by_peer) in cc
+
+        alive : (orphan : Bool) (remote : ℕ) → LivesAs orphan remote l f.cradle (since b h) (heard f.holds.seen)
+            → drop (lead_of b h) (bytes_put b.client h) ≡ joined (told_in o.remote l (before_close o.remote l o.later))
+        alive true remote i = absurd (i.unheard.not_by_peer unended by_peer)
+        alive false zero i = absurd (fresh i.ending)
+        alive false (suc r) i = absurd (fresh i.ending)
+
+        closed : (p : Opening) (bytes : List ℕ) → f.holds.seen.output ≡ lead f.cradle ++ bytes → IsClosedAt l p bytes
+            → drop (lead_of b h) (bytes_put b.client h) ≡ joined (told_in p.remote l (before_close p.remote l p.later))
+        closed p bytes output c =
+            ap (λ (n : ℕ). drop n (bytes_put b.client h)) (sym lead_length)
+            ∙ (ap (drop (length (lead f.cradle))) (all ∙ output) ∙ (drop-append_seam (lead f.cradle) bytes ∙ c.whole))
+
+        over : Story l f.cradle (since b h) (is_shut b.link h) (heard f.holds.seen)
+            → drop (lead_of b h) (bytes_put b.client h) ≡ joined (told_in o.remote l (before_close o.remote l o.later))
+        over (inl never) = absurd (let clash : None ≡ Some o = sym never.unopened ∙ is in cc)
+        over (inr (inl unheard)) = absurd (unheard.not_by_peer unended by_peer)
+        over (inr (inr i)) =
+            subst (λ (p : Opening). drop (lead_of b h) (bytes_put b.client h) ≡ joined (told_in p.remote l (before_close p.remote l p.later)))
+            (same i.opening i.opened) (closed i.opening i.bytes i.output_is (i.closed unended by_peer))
+
+        by : (x : Option SeenStream) → LivesIn x l f.cradle (since b h) (is_shut b.link h) (heard f.holds.seen)
+            → drop (lead_of b h) (bytes_put b.client h) ≡ joined (told_in o.remote l (before_close o.remote l o.later))
+        by None i = over i.1
+        by (Some x) i = alive x.orphan x.remote i
+
+    pub handed_whole : handed_to l b h ≡ joined (told_before_close l b h)
+    handed_whole = by (opening_of l b h) refl
+      where
+        by : (o : Option Opening) → opening_of l b h ≡ o
+            → cond (is_some o) (drop (lead_of b h) (bytes_put b.client h)) [] ≡ joined (told_before l o)
+        by None e = refl
+        by (Some o) e = whole_of o e
+
 -- Each client is handed what the device of its stream wrote, in order and once.
 pub hands_told : (h : History) → IsLegal h → AtAllTimes HasBirths h → HandsTold h
 hands_told h legal births l b is = handed_is_told l b h (follows life_lasts h legal births l b is)
+
+-- And all of it, where the device closed and the client was handed all that became due to it.
+pub hands_whole_told : (h : History) → IsLegal h → AtAllTimes HasBirths h → AtAllTimes EndsBornAlone h → HandsWholeTold h
+hands_whole_told h legal births ends l b is by_peer all =
+    let f = follows life_lasts h legal births l b is in
+    let seen = f.holds.shows.1 in
+    handed_whole l b h f (f.unended ends) (sym (ap (λ (v : View). v.ending) seen) ∙ by_peer) (all ∙ ap (λ (v : View). v.output) seen)
