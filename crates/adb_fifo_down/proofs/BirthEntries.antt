@@ -77,16 +77,16 @@ not_shut h legal l b v x there shows = by ((state h).links b.link) refl
 
 module _ {P : PromiseOf} (lasts : Lasts P) where
   -- what is promised of a newborn stream, which the up rule leaves as it is
-  born_holds : (l : ℕ) (b : Birth) (e : Entry) (older : History) (k : Cradle) (credit : Bool) (due : List ℕ) → IsLegal (e ∷ older)
+  born_holds : (l : ℕ) (b : Birth) (e : Entry) (older : History) (k : Cradle) (due : List ℕ) → IsLegal (e ∷ older)
       → k.replies ≡ bytes_put b.client (e ∷ older) ++ due → since b (e ∷ older) ≡ []
-      → After (Shows (line l b) (newborn (line l b) k credit due)) (told older) (rule e (state older))
+      → After (Shows (line l b) (newborn (line l b) k due)) (told older) (rule e (state older))
       → Holds (line l b) (P (line l b) k) (since b (e ∷ older)) (is_shut b.link (e ∷ older)) (bytes_put b.client (e ∷ older)) (state (e ∷ older)) (told (e ∷ older))
-  born_holds l b e older k credit due legal put none shows = record { seen = born; shows = now; keeps = promised }
+  born_holds l b e older k due legal put none shows = record { seen = born; shows = now; keeps = promised }
     where
       born : View
-      born = newborn (line l b) k credit due
+      born = newborn (line l b) k due
 
-      still : (s : State) (w : List Event) → Upped (line l b) (newborn (line l b) k credit due) s w → Shows (line l b) (newborn (line l b) k credit due) s w
+      still : (s : State) (w : List Event) → Upped (line l b) (newborn (line l b) k due) s w → Shows (line l b) (newborn (line l b) k due) s w
       still s w (inl h) = h
       still s w (inr (y, h)) =
           let waits : SeenClient = record { phase = Opening l; forwarded = k.forwarded; due = due } in
@@ -94,19 +94,19 @@ module _ {P : PromiseOf} (lasts : Lasts P) where
           let clash : Opening l ≡ Streaming l = ap (λ (a : SeenClient). a.phase) same ∙ y.phase in
           absurd (cc)
 
-      now : Shows (line l b) (newborn (line l b) k credit due) (state (e ∷ older)) (told (e ∷ older))
+      now : Shows (line l b) (newborn (line l b) k due) (state (e ∷ older)) (told (e ∷ older))
       now =
-          after_next (Shows (line l b) (newborn (line l b) k credit due)) (Shows (line l b) (newborn (line l b) k credit due)) (told older)
+          after_next (Shows (line l b) (newborn (line l b) k due)) (Shows (line l b) (newborn (line l b) k due)) (told older)
           (rule e (state older)) ups shows
           (λ u h. still (ups (rule e (state older)).state).state (u ++ (ups (rule e (state older)).state).told)
-          (shows_ups (line l b) (newborn (line l b) k credit due) (rule e (state older)).state.drawn (rule e (state older)).state u h))
+          (shows_ups (line l b) (newborn (line l b) k due) (rule e (state older)).state.drawn (rule e (state older)).state u h))
 
-      promised : P (line l b) k (since b (e ∷ older)) (is_shut b.link (e ∷ older)) (bytes_put b.client (e ∷ older)) (newborn (line l b) k credit due)
+      promised : P (line l b) k (since b (e ∷ older)) (is_shut b.link (e ∷ older)) (bytes_put b.client (e ∷ older)) (newborn (line l b) k due)
       promised =
-          subst (λ (shut : Bool). P (line l b) k (since b (e ∷ older)) shut (bytes_put b.client (e ∷ older)) (newborn (line l b) k credit due))
-          (sym (not_shut (e ∷ older) legal l b (newborn (line l b) k credit due) _ refl now))
-          (subst (λ (ps : List Packet). P (line l b) k ps false (bytes_put b.client (e ∷ older)) (newborn (line l b) k credit due)) (sym none)
-          (lasts.begins (line l b) k credit (bytes_put b.client (e ∷ older)) due put))
+          subst (λ (shut : Bool). P (line l b) k (since b (e ∷ older)) shut (bytes_put b.client (e ∷ older)) (newborn (line l b) k due))
+          (sym (not_shut (e ∷ older) legal l b (newborn (line l b) k due) _ refl now))
+          (subst (λ (ps : List Packet). P (line l b) k ps false (bytes_put b.client (e ∷ older)) (newborn (line l b) k due)) (sym none)
+          (lasts.begins (line l b) k (bytes_put b.client (e ∷ older)) due put))
 
 -- ---- what a client asks
 -- a request is whole only now, of a client that asks
@@ -159,13 +159,14 @@ module _ {P : PromiseOf} (lasts : Lasts P) (c : ℕ) (bytes : List ℕ) (older :
       → Follows P (Read c bytes ∷ older) ((state older).drawn + 1) (asked_birth c t service head older)
   read_born head now ids unborn = record {
     cradle = cradle;
+    credit = ap (is_credit t) (all_books older legal.0).devices;
     forwarded = refl;
     replies = refl;
     unended = λ ends. unborn.ending ends.1;
     asks_no_more = λ e. ap is_some (ap (λ (q : Asked). q.next) now.same ∙ now.after);
     came = omega (arith, legal.2.1.1, (counted older).joined);
     within = omega arith;
-    holds = born_holds lasts ((state older).drawn + 1) b (Read c bytes) older cradle (is_credit t (state older).devices) due legal put
+    holds = born_holds lasts ((state older).drawn + 1) b (Read c bytes) older cradle due legal put
         (drop_all (brought t older)) shows;
   }
     where
@@ -186,6 +187,7 @@ module _ {P : PromiseOf} (lasts : Lasts P) (c : ℕ) (bytes : List ℕ) (older :
 
       cradle : Cradle
       cradle = record {
+        credit = is_credit t (state older).devices;
         forwarded = false;
         replies = (asked c (Read c bytes ∷ older)).replies;
         ending = ending_in ((state older).drawn + 1) (told older);
@@ -247,7 +249,7 @@ module _ {P : PromiseOf} (lasts : Lasts P) (c : ℕ) (bytes : List ℕ) (older :
         ending = ending_in ((state older).drawn + 1) (told older ++ owed.told);
       }
 
-      same_view : drawn_view ≡ newborn born_line cradle (is_credit t (state older).devices) due
+      same_view : drawn_view ≡ newborn born_line cradle due
       same_view =
           let output : owed_to c (told older ++ owed.told) ≡ cradle.replies =
           owed_append c (told older) owed.told
@@ -267,10 +269,10 @@ module _ {P : PromiseOf} (lasts : Lasts P) (c : ℕ) (bytes : List ℕ) (older :
           }
 
       shows : After (Shows (line ((state older).drawn + 1) (asked_birth c t service head older))
-          (newborn (line ((state older).drawn + 1) (asked_birth c t service head older)) cradle (is_credit t (state older).devices) due)) (told older)
+          (newborn (line ((state older).drawn + 1) (asked_birth c t service head older)) cradle due)) (told older)
           (rule (Read c bytes) (state older))
       shows =
-          subst (λ (m : Made). After (Shows born_line (newborn born_line cradle (is_credit t (state older).devices) due)) (told older) m) (sym rule_is)
+          subst (λ (m : Made). After (Shows born_line (newborn born_line cradle due)) (told older) m) (sym rule_is)
           (subst (λ (v : View). After (Shows born_line v) (told older) (then_also owed (asks_for ((state older).drawn + 1) c t service))) same_view
           (subst (λ (u : List Event). Shows born_line drawn_view (asks_for ((state older).drawn + 1) c t service owed.state).state u)
           (append_assoc (told older) owed.told (asks_for ((state older).drawn + 1) c t service owed.state).told)
@@ -295,13 +297,14 @@ module _ {P : PromiseOf} (lasts : Lasts P) (c port : ℕ) (older : History) (leg
       → Follows P (Enter c port ∷ older) ((state older).drawn + 1) (entered_birth c row older)
   enter_born is connected ids unborn = record {
     cradle = cradle;
+    credit = ap (is_credit row.transport) (all_books older legal.0).devices;
     forwarded = refl;
     replies = refl;
     unended = λ ends. unborn.ending ends.1;
     asks_no_more = λ e. absurd (let clash : true ≡ false = e in cc);
     came = omega (arith, legal.2.1, (counted older).joined);
     within = omega arith;
-    holds = born_holds lasts ((state older).drawn + 1) b (Enter c port) older cradle (is_credit row.transport (state older).devices) [] legal put
+    holds = born_holds lasts ((state older).drawn + 1) b (Enter c port) older cradle [] legal put
         (drop_all (brought row.transport older)) shows;
   }
     where
@@ -309,7 +312,7 @@ module _ {P : PromiseOf} (lasts : Lasts P) (c port : ℕ) (older : History) (leg
       b = entered_birth c row older
 
       cradle : Cradle
-      cradle = record { forwarded = true; replies = []; ending = ending_in ((state older).drawn + 1) (told older) }
+      cradle = record { credit = is_credit row.transport (state older).devices; forwarded = true; replies = []; ending = ending_in ((state older).drawn + 1) (told older) }
 
       above : came_count older < c
       above = omega (arith, legal.2.1, (counted older).joined)
@@ -344,7 +347,7 @@ module _ {P : PromiseOf} (lasts : Lasts P) (c port : ℕ) (older : History) (leg
         ending = ending_in ((state older).drawn + 1) (told older);
       }
 
-      same_view : drawn_view ≡ newborn born_line cradle (is_credit row.transport (state older).devices) []
+      same_view : drawn_view ≡ newborn born_line cradle []
       same_view =
           let output : owed_to c (told older) ≡ [] = (tied older legal.0).told.clients c above in
           λ i. record {
@@ -356,10 +359,10 @@ module _ {P : PromiseOf} (lasts : Lasts P) (c port : ℕ) (older : History) (leg
           }
 
       shows : After (Shows (line ((state older).drawn + 1) (entered_birth c row older))
-          (newborn (line ((state older).drawn + 1) (entered_birth c row older)) cradle (is_credit row.transport (state older).devices) [])) (told older)
+          (newborn (line ((state older).drawn + 1) (entered_birth c row older)) cradle [])) (told older)
           (rule (Enter c port) (state older))
       shows =
-          subst (λ (m : Made). After (Shows born_line (newborn born_line cradle (is_credit row.transport (state older).devices) [])) (told older) m) (sym rule_is)
+          subst (λ (m : Made). After (Shows born_line (newborn born_line cradle [])) (told older) m) (sym rule_is)
           (subst (λ (v : View). After (Shows born_line v) (told older)
           (asks_for ((state older).drawn + 1) c row.transport row.remote (comes true c (state older)))) same_view
           (drawn_shows c row.transport row.remote came_state (new_client true c) (told older) here

@@ -142,6 +142,7 @@ module _ {P : PromiseOf} (lasts : Lasts P) where
   follows_on : (e : Entry) (older : History) → IsLegal (e ∷ older) → (l : ℕ) (b : Birth) → 0 < l → Follows P older l b → Follows P (e ∷ older) l b
   follows_on e older legal l b some h = record {
     cradle = h.cradle;
+    credit = h.credit;
     forwarded = h.forwarded;
     replies = h.replies ∙ by b.forwarded refl;
     unended = λ ends. h.unended ends.1;

@@ -41,7 +41,7 @@ life_turns b k = record {
 
 pub life_lasts : Lasts LifeOf
 life_lasts = record {
-  begins = λ b k credit out due put. record {
+  begins = λ b k out due put. record {
     tied = put;
     lives = record {
       client = _;

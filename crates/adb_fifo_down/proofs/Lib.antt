@@ -21,3 +21,4 @@ mod Askers
 mod BirthEntries
 mod Followed
 mod Handed
+mod Backed

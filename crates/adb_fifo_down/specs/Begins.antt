@@ -13,9 +13,9 @@ use Rattle.adb_fifo_down.specs.Turns.{Turns}
 use Rattle.adb_fifo_down.specs.Follows.{PromiseOf}
 
 -- a stream that was asked for just now, and its client waits for it
-abbrev pub newborn : Line → Cradle → Bool → List ℕ → View
-newborn b k credit due = record {
-  stream = Some (seen (new_stream b.id b.client b.link (new_flow credit)));
+abbrev pub newborn : Line → Cradle → List ℕ → View
+newborn b k due = record {
+  stream = Some (seen (new_stream b.id b.client b.link (new_flow k.credit)));
   client = Some (record { phase = Opening b.id; forwarded = k.forwarded; due = due });
   output = k.replies;
   okays = [];
@@ -24,7 +24,7 @@ newborn b k credit due = record {
 
 -- What is to be shown of a promise: that it holds at the birth of a stream, and is kept at each turn after it.
 pub record Lasts (P : PromiseOf) : Type 0 where
-  pub begins : (b : Line) (k : Cradle) (credit : Bool) (out due : List ℕ) → k.replies ≡ out ++ due → P b k [] false out (newborn b k credit due)
+  pub begins : (b : Line) (k : Cradle) (out due : List ℕ) → k.replies ≡ out ++ due → P b k [] false out (newborn b k due)
   pub turns : (b : Line) (k : Cradle) → Turns b (P b k)
 
 -- a stream is born by an entry

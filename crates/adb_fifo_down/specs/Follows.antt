@@ -28,6 +28,7 @@ PromiseOf = Line → Cradle → Promise
 
 pub record Follows (P : PromiseOf) (h : History) (l : ℕ) (b : Birth) : Type 0 where
   pub cradle : Cradle
+  pub credit : cradle.credit ≡ b.credit
   pub forwarded : cradle.forwarded ≡ b.forwarded
   pub replies : cradle.replies ≡ replies_of b h
   pub unended : AtAllTimes EndsBornAlone h → cradle.ending ≡ None

@@ -6,3 +6,4 @@ pub mod Life
 pub mod Premises
 pub mod Follows
 pub mod Begins
+pub mod Window
