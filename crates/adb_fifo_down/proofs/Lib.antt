@@ -22,3 +22,4 @@ mod BirthEntries
 mod Followed
 mod Handed
 mod Backed
+mod OpenTurns

@@ -23,11 +23,11 @@ use Rattle.adb_fifo_down.proofs.Openings.{later_too, opening_stays, pending_on, 
 use Rattle.adb_fifo_down.proofs.Openings.{unclosed_on}
 use Rattle.adb_fifo_down.proofs.Lives.{tied_at, over_open, over_waiting, over_orphan, open_story, same_orphan, same_remote}
 
-always_or : (c : Bool) → (c || not c) ≡ true
+pub always_or : (c : Bool) → (c || not c) ≡ true
 always_or true = refl
 always_or false = refl
 
-and_false : (c : Bool) → (c && false) ≡ false
+pub and_false : (c : Bool) → (c && false) ≡ false
 and_false true = refl
 and_false false = refl
 
