@@ -23,3 +23,4 @@ mod Followed
 mod Handed
 mod Backed
 mod OpenTurns
+mod Windows

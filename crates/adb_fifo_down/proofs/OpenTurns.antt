@@ -118,6 +118,7 @@ module _ (l : ℕ) (p : Packet) (x : SeenStream) (v : View) where
   -- ---- a stream that its device has not opened
   -- the row stays but for the id that its device tells
   pub record IsSameRow (y : SeenStream) : Type 0 where
+    pub orphan : y.orphan ≡ x.orphan
     pub credit : y.credit ≡ x.credit
     pub to_hand : y.to_hand ≡ x.to_hand
     pub gathered : y.gathered ≡ x.gathered
@@ -128,7 +129,7 @@ module _ (l : ℕ) (p : Packet) (x : SeenStream) (v : View) where
 
   module _ (there : v.stream ≡ Some x) (fresh : x.remote ≡ 0) (gone : (orphan : Bool) (ending : Ending) → (over orphan ending v).stream ≡ None) where
     same_turn : FreshTurn v
-    same_turn = record { okays = refl; row = inr (x, there, record { credit = refl; to_hand = refl; gathered = refl }) }
+    same_turn = record { okays = refl; row = inr (x, there, record { orphan = refl; credit = refl; to_hand = refl; gathered = refl }) }
 
     over_turn : (ending : Ending) → FreshTurn (over x.orphan ending v)
     over_turn ending = record { okays = over_okays x.orphan ending v; row = inl (gone x.orphan ending) }
@@ -141,11 +142,11 @@ module _ (l : ℕ) (p : Packet) (x : SeenStream) (v : View) where
         put = record v { stream = Some (record x { remote = p.arg0 }) }
 
         hears : (forwarded : Bool) (a : SeenClient) → FreshTurn (hears_as forwarded l a (record v { stream = Some (record x { remote = p.arg0 }) }))
-        hears true a = record { okays = refl; row = inr (record x { remote = p.arg0 }, refl, record { credit = refl; to_hand = refl; gathered = refl }) }
-        hears false a = record { okays = refl; row = inr (record x { remote = p.arg0 }, refl, record { credit = refl; to_hand = refl; gathered = refl }) }
+        hears true a = record { okays = refl; row = inr (record x { remote = p.arg0 }, refl, record { orphan = refl; credit = refl; to_hand = refl; gathered = refl }) }
+        hears false a = record { okays = refl; row = inr (record x { remote = p.arg0 }, refl, record { orphan = refl; credit = refl; to_hand = refl; gathered = refl }) }
 
         by : (o : Option SeenClient) → FreshTurn (hears_open l o (record v { stream = Some (record x { remote = p.arg0 }) }))
-        by None = record { okays = refl; row = inr (record x { remote = p.arg0 }, refl, record { credit = refl; to_hand = refl; gathered = refl }) }
+        by None = record { okays = refl; row = inr (record x { remote = p.arg0 }, refl, record { orphan = refl; credit = refl; to_hand = refl; gathered = refl }) }
         by (Some a) = hears a.forwarded a
 
     fresh_goes : (c : Command) → FreshTurn (treated_as l c p x v)
