@@ -24,3 +24,5 @@ mod Handed
 mod Backed
 mod OpenTurns
 mod Windows
+mod WindowTurns
+mod WindowPackets

@@ -37,11 +37,11 @@ pub handed_grows : (k : Cradle) (out bytes : List ℕ) → handed_past k out ≤
 handed_grows k out bytes = omega (arith, handed_count k out, handed_count k (out ++ bytes), length-append out bytes)
 
 -- what remains of a flow of which some bytes were handed out
-left_sum : (to_hand whole first out due bytes : ℕ) → to_hand + (out - first) ≡ whole → first + whole ≡ out + due → bytes ≤ due
+pub left_sum : (to_hand whole first out due bytes : ℕ) → to_hand + (out - first) ≡ whole → first + whole ≡ out + due → bytes ≤ due
     → min to_hand (due - bytes) + ((out + bytes) - first) ≡ whole
 left_sum to_hand whole first out due bytes left output le = omega (arith, left, output, le)
 
-front_within : (bytes due : List ℕ) → IsPrefixOf bytes due → length bytes ≤ length due
+pub front_within : (bytes due : List ℕ) → IsPrefixOf bytes due → length bytes ≤ length due
 front_within bytes due (rest, is) = omega (arith, ap length is, length-append bytes rest)
 
 none_left : (now whole : ℕ) → 0 + now ≡ whole → now ≡ whole
@@ -70,13 +70,13 @@ back_within left x = by _
 
 module _ (l : ℕ) (k : Cradle) (told : List (List ℕ)) where
   -- what is left of a flow, behind a hand-out
-  record Handed (x : SeenStream) (handed : ℕ) (u : View) : Type 0 where
-    row : SeenStream
-    stream : u.stream ≡ Some row
-    orphan : row.orphan ≡ x.orphan
-    credit : row.credit ≡ x.credit
-    flowing : IsFlowing k row told u.okays handed
-    backed : IsBackedBy k.credit told u.okays handed
+  pub record Handed (x : SeenStream) (handed : ℕ) (u : View) : Type 0 where
+    pub row : SeenStream
+    pub stream : u.stream ≡ Some row
+    pub orphan : row.orphan ≡ x.orphan
+    pub credit : row.credit ≡ x.credit
+    pub flowing : IsFlowing k row told u.okays handed
+    pub backed : IsBackedBy k.credit told u.okays handed
 
   module _ (x : SeenStream) (v : View) (there : v.stream ≡ Some x) (same : x.credit ≡ k.credit) (before now : ℕ)
       (flow : IsFlowing k x told v.okays before) (backed : IsBackedBy k.credit told v.okays before) (le : before ≤ now) where
@@ -184,7 +184,7 @@ module _ (l : ℕ) (k : Cradle) (told : List (List ℕ)) where
         }
 
     -- some bytes are handed out
-    hands_some : (left : ℕ) → left ≤ x.to_hand → left + now ≡ length (joined told) → Handed x now (stream_left_as left l x v)
+    pub hands_some : (left : ℕ) → left ≤ x.to_hand → left + now ≡ length (joined told) → Handed x now (stream_left_as left l x v)
     hands_some left within sum = by (eqb left x.to_hand) refl
       where
         less : eqb left x.to_hand ≡ false → left < x.to_hand
