@@ -15,7 +15,7 @@ use Rattle.adb_history.specs.Fifo.{HasBirths, HandsTold, HandsWholeTold}
 use Rattle.adb_fifo_down.specs.Line.{Line, SeenStream, View}
 use Rattle.adb_fifo_down.specs.Turns.{Turns}
 use Rattle.adb_fifo_down.specs.Life.{Cradle, okay_after, lead, heard, IsUnheard, IsClosedAt, Story, LivesAs, LivesIn, Life}
-use Rattle.adb_fifo_down.specs.Follows.{is_shut, PromiseOf, Follows}
+use Rattle.adb_fifo_down.specs.Follows.{is_shut, replies_of, PromiseOf, Follows}
 use Rattle.adb_fifo_down.specs.Begins.{Lasts}
 use Rattle.adb_fifo_down.specs.Premises.{AtAllTimes, EndsBornAlone}
 use Rattle.adb_fifo_down.proofs.Openings.{pending_now}
@@ -76,6 +76,17 @@ past_lead put first bytes (rest, is) = go (cases_lt (length put) (length first))
 nothing_past : (n : ℕ) (put replies : List ℕ) → IsPrefixOf put replies → length replies ≤ n → drop n put ≡ []
 nothing_past n put replies (rest, is) le = drop_past n put (omega (arith, ap length is, length-append put rest, le))
 
+-- so many bytes come before those of a stream
+pub lead_is : (k : Cradle) (b : Birth) (h : History) → k.forwarded ≡ b.forwarded → k.replies ≡ replies_of b h → length (lead k) ≡ lead_of b h
+lead_is k b h forwarded_is replies_are = by b.forwarded forwarded_is replies_are
+  where
+    by : (forwarded : Bool) → k.forwarded ≡ forwarded → k.replies ≡ cond forwarded [] (asked b.client h).replies
+        → length (okay_after k.forwarded k.replies) ≡ cond forwarded 0 (length (asked b.client h).replies + 4)
+    by true e g = ap (λ (c : Bool). length (okay_after c k.replies)) e ∙ ap length g
+    by false e g =
+        ap (λ (c : Bool). length (okay_after c k.replies)) e
+        ∙ (ap (λ (x : List ℕ). length (x ++ codes "OKAY")) g ∙ length-append (asked b.client h).replies (codes "OKAY"))
+
 -- ---- what was handed to the client of a stream
 module _ (l : ℕ) (b : Birth) (h : History) (f : Follows LifeOf h l b) where
   abbrev life : Life l f.cradle (since b h) (is_shut b.link h) (bytes_put b.client h) f.holds.seen
@@ -85,15 +96,8 @@ module _ (l : ℕ) (b : Birth) (h : History) (f : Follows LifeOf h l b) where
   put_front = any_front f.holds.seen.client f.holds.seen.output (bytes_put b.client h) life.tied
 
   -- so many bytes come first
-  pub lead_length : length (lead f.cradle) ≡ lead_of b h
-  lead_length = by b.forwarded f.forwarded f.replies
-    where
-      by : (forwarded : Bool) → f.cradle.forwarded ≡ forwarded → f.cradle.replies ≡ cond forwarded [] (asked b.client h).replies
-          → length (okay_after f.cradle.forwarded f.cradle.replies) ≡ cond forwarded 0 (length (asked b.client h).replies + 4)
-      by true e g = ap (λ (c : Bool). length (okay_after c f.cradle.replies)) e ∙ ap length g
-      by false e g =
-          ap (λ (c : Bool). length (okay_after c f.cradle.replies)) e
-          ∙ (ap (λ (x : List ℕ). length (x ++ codes "OKAY")) g ∙ length-append (asked b.client h).replies (codes "OKAY"))
+  lead_length : length (lead f.cradle) ≡ lead_of b h
+  lead_length = lead_is f.cradle b h f.forwarded f.replies
 
   replies_within : length f.cradle.replies ≤ lead_of b h
   replies_within = by b.forwarded f.replies

@@ -26,3 +26,4 @@ mod OpenTurns
 mod Windows
 mod WindowTurns
 mod WindowPackets
+mod Acknowledged

@@ -1,25 +1,24 @@
 -- What is acknowledged was handed out: each packet of its link keeps it.
-use Rattle.std.proofs.Common.{ℕ, ◌+◌, ◌-◌, ◌≡◌, ◌≢◌, ◌≤◌, ◌<◌, zero, suc, Bool, true, false, cond, List, [], ◌∷◌, ◌++◌, length, take, drop, min, Option, Some, None, refl, sym, ◌∙◌, ap, subst}
-use Rattle.std.proofs.Common.{arith, append_assoc, eqb, inl, inr, ◌⊎◌}
+use Rattle.std.proofs.Common.{ℕ, ◌+◌, ◌-◌, ◌≡◌, ◌≤◌, zero, suc, Bool, true, false, cond, List, [], ◌∷◌, ◌++◌, length, Option, Some, None, refl, sym, ◌∙◌, ap, subst}
+use Rattle.std.proofs.Common.{arith, inl, inr, ◌⊎◌}
 use Rattle.std.specs.Prelude.{nat_lt}
 use Rattle.std.proofs.lemmas.Bool.{ltb-false}
 use Rattle.std.proofs.lemmas.List.{append-nil, length-append}
 use Rattle.adb_outside.specs.Bytes.{IsPrefixOf}
 use Rattle.adb_wire.specs.declared.packets.Packet.{Packet}
-use Rattle.adb_history.specs.Events.{Ending}
 use Rattle.adb_history.specs.Links.{okay_packet}
 use Rattle.adb_history.specs.Births as birth
 use Rattle.adb_history.specs.Births.{opening_in, told_in, joined}
-use Rattle.adb_history.specs.Fifo.{whole_within, credit_of, GivesBack}
-use Rattle.adb_fifo_down.specs.Line.{SeenStream, SeenClient, View, over}
-use Rattle.adb_fifo_down.specs.Treated.{is_late, takes, accepts_as, treated_as, treated_on}
-use Rattle.adb_fifo_down.specs.Life.{Cradle, okay_after, lead, Heard, heard, IsWaiting, IsOrphaned, IsOpened, IsPending, LivesAs, LivesIn, TiedTo, Life}
+use Rattle.adb_history.specs.Fifo.{whole_within}
+use Rattle.adb_fifo_down.specs.Line.{SeenStream, View}
+use Rattle.adb_fifo_down.specs.Treated.{is_late, accepts_as, treated_as, treated_on}
+use Rattle.adb_fifo_down.specs.Life.{Cradle, okay_after, heard, IsWaiting, IsOpened, IsPending, LivesAs, LivesIn, Life}
 use Rattle.adb_fifo_down.specs.Window.{handed_past, IsBackedBy, IsBacked, waiting_write, Counts, IsFlowing, IsUnused, FlowsBy, FlowAs, FlowIn, Window}
 use Rattle.adb_fifo_down.proofs.Openings.{later_too, opening_stays, pending_now, told_append, joined_append}
 use Rattle.adb_fifo_down.proofs.Ups.{over_gone}
-use Rattle.adb_fifo_down.proofs.Lives.{tied_at, any_front, lives_at}
-use Rattle.adb_fifo_down.proofs.OpenTurns.{over_okays, Accepts, Stays, OpenTurn, open_turn, IsSameRow, FreshTurn, fresh_turn, first_later}
-use Rattle.adb_fifo_down.proofs.Backed.{all_whole, backed_handed, backed_told, unbacked, backed_more, backed_goes}
+use Rattle.adb_fifo_down.proofs.Lives.{any_front}
+use Rattle.adb_fifo_down.proofs.OpenTurns.{OpenTurn, open_turn, IsSameRow, FreshTurn, fresh_turn, first_later}
+use Rattle.adb_fifo_down.proofs.Backed.{all_whole, backed_told, unbacked, backed_goes}
 use Rattle.adb_fifo_down.proofs.Windows.{handed_count}
 use Rattle.adb_fifo_down.proofs.WindowTurns.{window_over}
 
@@ -104,10 +103,10 @@ module _ (l : ℕ) (k : Cradle) (told : List (List ℕ)) (x : SeenStream) (v : V
     credit = refl;
     flowing = subst (λ (ps : List Packet). IsFlowing k (record x { left = x.left - length (d ∷ payload); to_hand = x.to_hand + length (d ∷ payload) })
         (told ++ (d ∷ payload) ∷ []) ps handed) (sym okays) (record {
-      left = omega (arith, flow.left, joined_one told (d ∷ payload));
-      counts = subst (λ (c : Bool). Counts c (record x { left = x.left - length (d ∷ payload); to_hand = x.to_hand + length (d ∷ payload) })
-          (told ++ (d ∷ payload) ∷ []) v.okays handed) credited (subst (λ (c : Bool). Counts c x told v.okays handed) (sym credited) flow.counts);
-    });
+          left = omega (arith, flow.left, joined_one told (d ∷ payload));
+          counts = subst (λ (c : Bool). Counts c (record x { left = x.left - length (d ∷ payload); to_hand = x.to_hand + length (d ∷ payload) })
+              (told ++ (d ∷ payload) ∷ []) v.okays handed) credited (subst (λ (c : Bool). Counts c x told v.okays handed) (sym credited) flow.counts);
+        });
     backed = subst (λ (ps : List Packet). IsBackedBy k.credit (told ++ (d ∷ payload) ∷ []) ps handed) (sym okays)
         (backed_told k.credit told ((d ∷ payload) ∷ []) v.okays handed backed);
   }

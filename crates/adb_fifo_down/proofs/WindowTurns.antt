@@ -1,30 +1,24 @@
 -- What is acknowledged was handed out: each turn of what is seen of a stream keeps it.
-use Rattle.std.proofs.Common.{ℕ, ◌+◌, ◌-◌, ◌≡◌, ◌≢◌, ◌≤◌, ◌<◌, zero, suc, Bool, true, false, cond, List, [], ◌∷◌, ◌++◌, length, take, drop, min, Option, Some, None, refl, sym, ◌∙◌, ap, subst}
-use Rattle.std.proofs.Common.{arith, append_assoc, eqb, inl, inr, ◌⊎◌}
-use Rattle.std.specs.Prelude.{nat_lt}
-use Rattle.std.proofs.lemmas.Bool.{ltb-false}
-use Rattle.std.proofs.lemmas.List.{append-nil, length-append, length-drop}
+use Rattle.std.proofs.Common.{ℕ, ◌+◌, ◌-◌, ◌≡◌, ◌≤◌, zero, suc, Bool, true, false, List, ◌++◌, length, drop, min, Option, Some, None, refl, sym, ◌∙◌, ap, subst}
+use Rattle.std.proofs.Common.{arith}
+use Rattle.std.proofs.lemmas.List.{length-append, length-drop}
 use Rattle.adb_outside.specs.Bytes.{IsPrefixOf}
 use Rattle.adb_outside.specs.declared.kinds.Cause.{Cause}
 use Rattle.adb_wire.specs.declared.packets.Packet.{Packet}
 use Rattle.adb_client.specs.declared.phase.Phase.{Phase}
 use Rattle.adb_client.specs.declared.phase.Phase.TheVariants.{Asking, Opening, Streaming, Binding, Tracking, Closing, Gone}
-use Rattle.adb_history.specs.Events.{Ending, client_closed, client_failed}
-use Rattle.adb_history.specs.Links.{okay_packet}
+use Rattle.adb_history.specs.Events.{Ending, client_failed}
 use Rattle.adb_history.specs.Births as birth
 use Rattle.adb_history.specs.Births.{opening_in, told_in, joined}
-use Rattle.adb_history.specs.Fifo.{whole_within, credit_of, GivesBack}
-use Rattle.adb_fifo_down.specs.Line.{Line, SeenStream, SeenClient, View, IsOpenIn, over}
-use Rattle.adb_fifo_down.specs.Treated.{is_late, takes, accepts_as, treated_as, treated_on}
-use Rattle.adb_fifo_down.specs.Turned.{IsStop, row_fails, failed_by, killed, stream_left_as, row_handed, handed_in, handed_out}
-use Rattle.adb_fifo_down.specs.Turns.{Turns}
-use Rattle.adb_fifo_down.specs.Life.{Cradle, okay_after, lead, Heard, heard, IsWaiting, IsOrphaned, IsOpened, LivesAs, LivesIn, TiedTo, Life}
-use Rattle.adb_fifo_down.specs.Window.{handed_past, IsBackedBy, IsBacked, waiting_write, Counts, IsFlowing, IsUnused, FlowsBy, FlowAs, FlowIn, Window}
-use Rattle.adb_fifo_down.proofs.Openings.{later_too, opening_stays, pending_now, told_append, joined_append}
+use Rattle.adb_fifo_down.specs.Line.{Line, SeenStream, SeenClient, View, over}
+use Rattle.adb_fifo_down.specs.Turned.{row_fails, failed_by, stream_left_as, row_handed, handed_in, handed_out}
+use Rattle.adb_fifo_down.specs.Life.{Cradle, lead, heard, IsOpened, LivesAs, LivesIn, Life}
+use Rattle.adb_fifo_down.specs.Window.{handed_past, IsBackedBy, IsBacked, IsFlowing, IsUnused, FlowsBy, FlowAs, FlowIn, Window}
+use Rattle.adb_fifo_down.proofs.Openings.{pending_now}
 use Rattle.adb_fifo_down.proofs.Ups.{over_gone}
-use Rattle.adb_fifo_down.proofs.Lives.{tied_at, any_front, lives_at}
-use Rattle.adb_fifo_down.proofs.OpenTurns.{over_okays, Accepts, Stays, OpenTurn, open_turn, IsSameRow, FreshTurn, fresh_turn, first_later}
-use Rattle.adb_fifo_down.proofs.Backed.{all_whole, backed_handed, backed_told, unbacked, backed_more, backed_goes}
+use Rattle.adb_fifo_down.proofs.Lives.{tied_at, lives_at}
+use Rattle.adb_fifo_down.proofs.OpenTurns.{over_okays}
+use Rattle.adb_fifo_down.proofs.Backed.{backed_more}
 use Rattle.adb_fifo_down.proofs.Windows.{handed_count, handed_grows, left_sum, front_within, Handed, hands_some}
 
 module _ (l : ℕ) (k : Cradle) where

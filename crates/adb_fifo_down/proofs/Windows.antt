@@ -1,33 +1,19 @@
 -- What is acknowledged was handed out, through each turn of what is seen of a stream.
-use Rattle.std.proofs.Common.{ℕ, ◌+◌, ◌-◌, ◌≡◌, ◌≢◌, ◌≤◌, ◌<◌, zero, suc, Bool, true, false, cond, List, [], ◌∷◌, ◌++◌, length, take, drop, min, Option, Some, None, refl, sym, ◌∙◌, ap, subst}
-use Rattle.std.proofs.Common.{arith, append_assoc, eqb, inl, inr, ◌⊎◌}
-use Rattle.std.specs.Prelude.{All, nat_lt}
-use Rattle.std.proofs.lemmas.Bool.{eqb-true, eqb-false, ltb-false}
-use Rattle.std.proofs.lemmas.List.{append-nil, length-append, length-drop}
+use Rattle.std.proofs.Common.{ℕ, ◌+◌, ◌-◌, ◌≡◌, ◌≢◌, ◌≤◌, ◌<◌, zero, suc, Bool, true, false, cond, List, [], ◌∷◌, ◌++◌, length, min, Some, None, refl, sym, ◌∙◌, ap, subst}
+use Rattle.std.proofs.Common.{arith, eqb}
+use Rattle.std.proofs.lemmas.Bool.{eqb-true, eqb-false}
+use Rattle.std.proofs.lemmas.List.{length-append, length-drop}
 use Rattle.std.proofs.lemmas.List.Elements.{All-cons, All-nil, All-append}
 use Rattle.adb_outside.specs.Bytes.{IsPrefixOf}
-use Rattle.adb_outside.specs.declared.kinds.Cause.{Cause}
-use Rattle.adb_stream.specs.Credit.{given_back}
 use Rattle.adb_wire.specs.declared.packets.Packet.{Packet}
-use Rattle.adb_client.specs.declared.phase.Phase.{Phase}
-use Rattle.adb_client.specs.declared.phase.Phase.TheVariants.{Asking, Opening, Streaming, Binding, Tracking, Closing, Gone}
-use Rattle.adb_history.specs.Events.{Ending, client_failed}
 use Rattle.adb_history.specs.Links.{okay_packet, credit_packet, credit_word}
-use Rattle.adb_history.specs.Births as birth
-use Rattle.adb_history.specs.Births.{opening_in, told_in, joined}
+use Rattle.adb_history.specs.Births.{joined}
 use Rattle.adb_history.specs.Fifo.{whole_within, credit_of, GivesBack}
-use Rattle.adb_fifo_down.specs.Line.{Line, SeenStream, SeenClient, View, IsOpenIn, over}
-use Rattle.adb_fifo_down.specs.Treated.{is_late, takes, accepts_as, treated_as, treated_on}
-use Rattle.adb_fifo_down.specs.Turned.{IsStop, row_fails, failed_by, killed, back_of, row_left, more_okays, credit_told, whole_told, left_told, stream_left_as}
-use Rattle.adb_fifo_down.specs.Turned.{row_handed, handed_in, handed_out}
-use Rattle.adb_fifo_down.specs.Turns.{Turns}
-use Rattle.adb_fifo_down.specs.Life.{Cradle, okay_after, lead, Heard, heard, IsWaiting, IsOrphaned, IsOpened, LivesAs, LivesIn, TiedTo, Life}
-use Rattle.adb_fifo_down.specs.Window.{handed_past, IsBackedBy, IsBacked, waiting_write, Counts, IsFlowing, IsUnused, FlowsBy, FlowAs, FlowIn, Window}
-use Rattle.adb_fifo_down.proofs.Openings.{later_too, opening_stays, pending_now, told_append, joined_append}
-use Rattle.adb_fifo_down.proofs.Ups.{over_gone}
-use Rattle.adb_fifo_down.proofs.Lives.{tied_at, any_front, lives_at}
-use Rattle.adb_fifo_down.proofs.OpenTurns.{over_okays, Accepts, Stays, OpenTurn, open_turn, IsSameRow, FreshTurn, fresh_turn, first_later}
-use Rattle.adb_fifo_down.proofs.Backed.{all_whole, backed_handed, backed_told, unbacked, backed_more, backed_goes, credit_append, credit_given, credit_said}
+use Rattle.adb_fifo_down.specs.Line.{SeenStream, View}
+use Rattle.adb_fifo_down.specs.Turned.{back_of, row_left, credit_told, whole_told, left_told, stream_left_as}
+use Rattle.adb_fifo_down.specs.Life.{Cradle, lead}
+use Rattle.adb_fifo_down.specs.Window.{handed_past, IsBackedBy, waiting_write, Counts, IsFlowing}
+use Rattle.adb_fifo_down.proofs.Backed.{all_whole, backed_handed, credit_append, credit_given, credit_said}
 
 -- ---- how many were handed out
 pub handed_count : (k : Cradle) (out : List ℕ) → handed_past k out ≡ length out - length (lead k)
@@ -48,7 +34,7 @@ none_left : (now whole : ℕ) → 0 + now ≡ whole → now ≡ whole
 none_left now whole e = omega (arith, e)
 
 -- an OKAY that gives credit
-abbrev HasWord : Packet → Type 0
+abbrev pub HasWord : Packet → Type 0
 HasWord p = credit_word p.payload ≢ None
 
 -- the flow of a row without credit, and with
@@ -178,8 +164,16 @@ module _ (l : ℕ) (k : Cradle) (told : List (List ℕ)) where
           backed = subst (λ (c : Bool). IsBackedBy c told (v.okays ++ credit_packet l x.remote (suc n) ∷ []) now) (sym credit) (record {
             words = All-append HasWord v.okays (credit_packet l x.remote (suc n) ∷ []) given.words
                 (All-cons HasWord (credit_packet l x.remote (suc n)) [] (credit_said l x.remote (suc n)) (All-nil HasWord));
-            within = omega (arith, counts, flow.left, sum, less, within, credit_append v.okays (credit_packet l x.remote (suc n) ∷ []),
-                credit_given l x.remote (suc n));
+            within = omega (
+              arith,
+              counts,
+              flow.left,
+              sum,
+              less,
+              within,
+              credit_append v.okays (credit_packet l x.remote (suc n) ∷ []),
+              credit_given l x.remote (suc n),
+            );
           });
         }
 

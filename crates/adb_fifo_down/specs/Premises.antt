@@ -1,7 +1,9 @@
 -- What is taken from other promises, of a history at all times.
-use Rattle.std.specs.Prelude.{ℕ, ◌≡◌, ◌<◌, [], ◌∷◌, None}
+use Rattle.std.specs.Prelude.{ℕ, ◌≡◌, ◌<◌, List, [], ◌∷◌, ◌++◌, None}
+use Rattle.adb_wire.specs.declared.packets.Packet.{Packet}
 use Rattle.adb_history.specs.Machine.{History, state}
-use Rattle.adb_history.specs.Lives.{ending_of}
+use Rattle.adb_history.specs.Bytes.{sent}
+use Rattle.adb_history.specs.Lives.{ending_of, packets_of}
 
 -- it holds at each time of a history
 abbrev pub AtAllTimes : (History → Type 0) → History → Type 0
@@ -11,3 +13,12 @@ AtAllTimes P (e ∷ older) = P (e ∷ older) × AtAllTimes P older
 -- no ending is told of a stream that was not born
 abbrev pub EndsBornAlone : History → Type 0
 EndsBornAlone h = (l : ℕ) → (state h).drawn < l → ending_of l h ≡ None
+
+-- packets that are the first of all
+pub record AreFirstOf (front all : List Packet) : Type 0 where
+  pub others : List Packet
+  pub are : front ++ others ≡ all
+
+-- the packets that were sent to a link, whole, are the first of those that became due to it
+abbrev pub SendsWhatIsDue : History → Type 0
+SendsWhatIsDue h = (t : ℕ) → AreFirstOf (sent t h) (packets_of t h)

@@ -3,8 +3,8 @@
 ghost use Rattle.std.specs.Prelude.{List};
 ghost use Rattle.adb_capture.specs.declared.entry.Entry.{Entry};
 ghost use Rattle.adb_history.specs.Machine.{IsLegal};
-ghost use Rattle.adb_history.specs.Fifo.{HandsTold, HandsWholeTold, HasBirths};
-ghost use Rattle.adb_fifo_down.specs.Premises.{AtAllTimes, EndsBornAlone};
+ghost use Rattle.adb_history.specs.Fifo.{HandsTold, HandsWholeTold, HasBirths, KeepsDownWindow};
+ghost use Rattle.adb_fifo_down.specs.Premises.{AtAllTimes, EndsBornAlone, SendsWhatIsDue};
 
 /// In every legal history whose streams are the births, at all times, each client is handed what
 /// the device of its stream wrote, in order and once.
@@ -18,4 +18,12 @@ pub fn what_is_handed_was_told()
 pub fn all_is_handed_up_to_the_close()
     ensures { (history : List Entry) → IsLegal history → AtAllTimes HasBirths history
         → AtAllTimes EndsBornAlone history → HandsWholeTold history }
+{}
+
+/// In every legal history whose streams are the births, at all times, and in which the packets
+/// that are sent are the first that became due, what a device is told that its client was handed,
+/// it was.
+pub fn what_is_acknowledged_was_handed()
+    ensures { (history : List Entry) → IsLegal history → AtAllTimes HasBirths history
+        → SendsWhatIsDue history → KeepsDownWindow history }
 {}

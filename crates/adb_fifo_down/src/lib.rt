@@ -4,4 +4,6 @@
 
 mod down;
 
-pub use down::{all_is_handed_up_to_the_close, what_is_handed_was_told};
+pub use down::{
+    all_is_handed_up_to_the_close, what_is_acknowledged_was_handed, what_is_handed_was_told,
+};
