@@ -54,7 +54,7 @@ use Rattle.adb_fifo_down.proofs.Begun.{of_older}
 
 -- a client, and no stream of it
 abbrev pub alone : ℕ → Line
-alone c = record { id = 0; client = c; link = 0 }
+alone c = record { id = 0; client = c; link = 0; from = 0 }
 
 -- A client asks: it has no stream, it came by itself, and it was told these replies.
 pub record AsksAs (c : ℕ) (replies : List ℕ) (s : State) (w : List Event) : Type 0 where
@@ -259,7 +259,7 @@ module _ (c : ℕ) (older : History) (legal : IsLegal older) where
         → After (AsksAs c replies) (told older) (reads_from o n bytes (state older))
     other_asks n bytes None other goes = after_quietly (AsksAs c replies) (told older) (state older) h
     other_asks n bytes (Some a) other goes = stays (reads_from (Some a) n bytes (state older))
-        (shows_reads_in (alone c) h.seen (state older) (told older) h.shows a.about.phase n bytes a other (λ e. goes a refl e))
+        (shows_reads_in (alone c) h.seen (state older) (told older) h.shows a.about.phase n bytes a other (λ e. goes a refl e) (λ e t service f ids g. omega (arith, g)))
 
     other_ends : (n : ℕ) (cause : Cause) → n ≢ c → After (AsksAs c replies) (told older) (client_ends n cause ((state older).clients n) (state older))
     other_ends n cause other = stays (client_ends n cause ((state older).clients n) (state older))
@@ -472,7 +472,8 @@ module _ (c : ℕ) (older : History) (legal : IsLegal older)
   rule_asking (Enter n port) may going on asks =
       let there = there_is (before on asks) in
       link_asking (rule (Enter n port) (state older))
-      (λ h. shows_enters (alone c) h.seen (state older) (told older) h.shows (at port (state older).forwards) n (λ same. omega (arith, may.1, same, there)))
+      (λ h. shows_enters (alone c) h.seen (state older) (told older) h.shows (at port (state older).forwards) n (λ same. omega (arith, may.1, same, there))
+      (λ row f on ids g. omega (arith, g)))
       on asks
   rule_asking (Read n bytes) may going on asks = read_asking n bytes on going asks
   rule_asking (End n cause) may going on asks = end_asking n cause on asks

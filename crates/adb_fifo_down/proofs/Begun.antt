@@ -46,7 +46,7 @@ of_older s c k x owned lt there same = omega (arith, lt, same, (owned.owned.stre
 -- ---- a stream is drawn
 module _ (c t : ℕ) (service : List ℕ) (s : State) where
   abbrev pub drawn_line : Line
-  drawn_line = record { id = s.drawn + 1; client = c; link = t }
+  drawn_line = record { id = s.drawn + 1; client = c; link = t; from = s.drawn + 1 }
 
   abbrev pub new_row : Stream
   new_row = new_stream (s.drawn + 1) c t (new_flow (is_credit t s.devices))

@@ -40,7 +40,6 @@ use Rattle.adb_fifo_down.specs.Line.{Line, SeenStream, SeenClient, View, seen, s
 use Rattle.adb_fifo_down.specs.Life.{Cradle}
 use Rattle.adb_fifo_down.specs.Turns.{Holds}
 use Rattle.adb_fifo_down.specs.Follows.{line, is_shut, PromiseOf, Follows}
-use Rattle.adb_fifo_down.specs.Premises.{AtAllTimes, EndsBornAlone}
 use Rattle.adb_fifo_down.specs.Begins.{newborn, Lasts}
 use Rattle.adb_fifo_down.proofs.Shown.{packets_append, ending_append, first_none}
 use Rattle.adb_fifo_down.proofs.Others.{after_next}
@@ -149,20 +148,20 @@ asked_birth c t service head older = record {
 }
 
 -- what had not been told of a stream that was not born
-pub record IsUnborn (Ends : Type 0) (l t : ℕ) (w : List Event) : Type 0 where
+pub record IsUnborn (l t : ℕ) (w : List Event) : Type 0 where
   pub okays : okays_of l (packets_to t w) ≡ []
-  pub ending : Ends → ending_in l w ≡ None
+  pub ending : ending_in l w ≡ None
 
 module _ {P : PromiseOf} (lasts : Lasts P) (c : ℕ) (bytes : List ℕ) (older : History) (legal : IsLegal (Read c bytes ∷ older)) (t : ℕ) (service : List ℕ) where
   pub read_born : (head : ℕ) → NowAsks c bytes older (what.Open t service) → (state older).drawn ≢ stream_ids
-      → IsUnborn (AtAllTimes EndsBornAlone older) ((state older).drawn + 1) t (told older)
+      → IsUnborn ((state older).drawn + 1) t (told older)
       → Follows P (Read c bytes ∷ older) ((state older).drawn + 1) (asked_birth c t service head older)
   read_born head now ids unborn = record {
     cradle = cradle;
     credit = ap (is_credit t) (all_books older legal.0).devices;
     forwarded = refl;
     replies = refl;
-    unended = λ ends. unborn.ending ends.1;
+    unended = unborn.ending;
     asks_no_more = λ e. ap is_some (ap (λ (q : Asked). q.next) now.same ∙ now.after);
     came = omega (arith, legal.2.1.1, (counted older).joined);
     within = omega arith;
@@ -293,14 +292,14 @@ entered_birth c row older = record {
 
 module _ {P : PromiseOf} (lasts : Lasts P) (c port : ℕ) (older : History) (legal : IsLegal (Enter c port ∷ older)) (row : ForwardRow) where
   pub enter_born : at port (forwards older) ≡ Some row → is_connected row.transport (devices older) ≡ true → (state older).drawn ≢ stream_ids
-      → IsUnborn (AtAllTimes EndsBornAlone older) ((state older).drawn + 1) row.transport (told older)
+      → IsUnborn ((state older).drawn + 1) row.transport (told older)
       → Follows P (Enter c port ∷ older) ((state older).drawn + 1) (entered_birth c row older)
   enter_born is connected ids unborn = record {
     cradle = cradle;
     credit = ap (is_credit row.transport) (all_books older legal.0).devices;
     forwarded = refl;
     replies = refl;
-    unended = λ ends. unborn.ending ends.1;
+    unended = unborn.ending;
     asks_no_more = λ e. absurd (let clash : true ≡ false = e in cc);
     came = omega (arith, legal.2.1, (counted older).joined);
     within = omega arith;

@@ -26,11 +26,12 @@ use Rattle.adb_history.specs.Order.{IsOfBorn}
 use Rattle.adb_history.proofs.Births.{told_of_born}
 use Rattle.adb_fifo_down.specs.Follows.{line, is_shut, PromiseOf, Follows}
 use Rattle.adb_fifo_down.specs.Begins.{Lasts, IsBornNow}
-use Rattle.adb_fifo_down.specs.Premises.{AtAllTimes, EndsBornAlone}
+use Rattle.adb_fifo_down.specs.Premises.{AtAllTimes}
 use Rattle.adb_fifo_down.proofs.Brought.{brings_more}
 use Rattle.adb_fifo_down.proofs.Steps.{step_holds, unreceived}
 use Rattle.adb_fifo_down.proofs.BornNow.{born_when, by_request, by_forward, newly_is}
 use Rattle.adb_fifo_down.proofs.Askers.{asked_then, asked_other}
+use Rattle.adb_fifo_down.proofs.Unborn.{ends_born}
 use Rattle.adb_fifo_down.proofs.BirthEntries.{IsUnborn, asked_birth, entered_birth, now_asks, read_born, enter_born}
 
 -- ---- what stays
@@ -145,7 +146,7 @@ module _ {P : PromiseOf} (lasts : Lasts P) where
     credit = h.credit;
     forwarded = h.forwarded;
     replies = h.replies ∙ by b.forwarded refl;
-    unended = λ ends. h.unended ends.1;
+    unended = h.unended;
     asks_no_more = λ own. ap (λ (q : Asked). is_some q.next) (fixed own) ∙ h.asks_no_more own;
     came = omega (arith, h.came, came_more e older);
     within = omega (arith, h.within, brought_no_fewer e b.link older);
@@ -177,10 +178,10 @@ module _ {P : PromiseOf} (lasts : Lasts P) where
         apart : (n m : ℕ) → n < m → n ≢ m
         apart n m lt same = omega (arith, lt, same)
 
-    unborn : (t : ℕ) → IsUnborn (AtAllTimes EndsBornAlone older) ((state older).drawn + 1) t (told older)
+    unborn : (t : ℕ) → IsUnborn ((state older).drawn + 1) t (told older)
     unborn t = record {
       okays = unborn_okays (state older).drawn t (told older) (told_of_born older legal.0);
-      ending = λ ends. at_time EndsBornAlone older ends ((state older).drawn + 1) (omega arith);
+      ending = ends_born older legal.0 ((state older).drawn + 1) (omega arith);
     }
 
     at_number : (x : Birth) → b ≡ x → Follows P (e ∷ older) ((state older).drawn + 1) x → Follows P (e ∷ older) l b

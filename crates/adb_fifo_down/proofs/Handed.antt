@@ -17,7 +17,7 @@ use Rattle.adb_fifo_down.specs.Turns.{Turns}
 use Rattle.adb_fifo_down.specs.Life.{Cradle, okay_after, lead, heard, IsUnheard, IsClosedAt, Story, LivesAs, LivesIn, Life}
 use Rattle.adb_fifo_down.specs.Follows.{is_shut, replies_of, PromiseOf, Follows}
 use Rattle.adb_fifo_down.specs.Begins.{Lasts}
-use Rattle.adb_fifo_down.specs.Premises.{AtAllTimes, EndsBornAlone}
+use Rattle.adb_fifo_down.specs.Premises.{AtAllTimes}
 use Rattle.adb_fifo_down.proofs.Openings.{pending_now}
 use Rattle.adb_fifo_down.proofs.Lives.{any_front, life_served, life_closes, life_breaks, life_stops, life_fails, life_hands, life_shuts}
 use Rattle.adb_fifo_down.proofs.LifePackets.{life_treats}
@@ -218,8 +218,8 @@ pub hands_told : (h : History) → IsLegal h → AtAllTimes HasBirths h → Hand
 hands_told h legal births l b is = handed_is_told l b h (follows life_lasts h legal births l b is)
 
 -- And all of it, where the device closed and the client was handed all that became due to it.
-pub hands_whole_told : (h : History) → IsLegal h → AtAllTimes HasBirths h → AtAllTimes EndsBornAlone h → HandsWholeTold h
-hands_whole_told h legal births ends l b is by_peer all =
+pub hands_whole_told : (h : History) → IsLegal h → AtAllTimes HasBirths h → HandsWholeTold h
+hands_whole_told h legal births l b is by_peer all =
     let f = follows life_lasts h legal births l b is in
     let seen = f.holds.shows.1 in
-    handed_whole l b h f (f.unended ends) (sym (ap (λ (v : View). v.ending) seen) ∙ by_peer) (all ∙ ap (λ (v : View). v.output) seen)
+    handed_whole l b h f f.unended (sym (ap (λ (v : View). v.ending) seen) ∙ by_peer) (all ∙ ap (λ (v : View). v.output) seen)

@@ -19,6 +19,7 @@ mod BornNow
 mod Begun
 mod Askers
 mod BirthEntries
+mod Unborn
 mod Followed
 mod Handed
 mod Backed

@@ -38,6 +38,11 @@ use Rattle.adb_fifo_down.proofs.OtherPackets.{shows_refuses, shows_unauthorized,
 use Rattle.adb_fifo_down.proofs.Own.{with_stream, owed_more, client_seen, stream_seen, own_stream, own_part, own_client, own_no_client, own_due, own_owes, own_ends}
 use Rattle.std.proofs.lemmas.List.{append-nil}
 
+-- a stream that was drawn
+pub record IsReal (b : Line) : Type 0 where
+  pub some : 0 < b.id
+  pub from : b.from ≡ b.id
+
 module _ (b : Line) where
   -- by a test
   pub shows_if : (w : List Event) (c : Bool) (u v : View) (m n : Made) → (c ≡ true → After (Shows b u) w m) → (c ≡ false → After (Shows b v) w n)
@@ -267,13 +272,13 @@ module _ (b : Line) where
         after_next (Ended n) (Ended (suc n)) w (ends_of b.link n ending s) (λ s. ends_if_of b.link (suc n) ending (s.streams (suc n)) s) (ends_all n s w some h)
         (λ u now. ends_one n (ends_of b.link n ending s).state u now (cases_eq (suc n) b.id))
 
-    pub own_all_end : (s : State) (w : List Event) → 0 < b.id → Shows b v s w → After (Shows b (over x.orphan ending v)) w (all_end b.link ending s)
-    own_all_end s w some h = (ends_all s.drawn s w some h).ended h.0.born
+    pub own_all_end : (s : State) (w : List Event) → IsReal b → Shows b v s w → After (Shows b (over x.orphan ending v)) w (all_end b.link ending s)
+    own_all_end s w real h = (ends_all s.drawn s w real.some h).ended (omega (arith, h.0.born, real.from))
 
-    pub own_link_ends : (s : State) (w : List Event) → 0 < b.id → Shows b v s w → After (Shows b (over x.orphan ending v)) w (link_ends b.link ending s)
-    own_link_ends s w some h =
+    pub own_link_ends : (s : State) (w : List Event) → IsReal b → Shows b v s w → After (Shows b (over x.orphan ending v)) w (link_ends b.link ending s)
+    own_link_ends s w real h =
         let ended_all : Made = all_end b.link ending (forgets b.link s) in
-        after_then (Shows b (over x.orphan ending v)) w ended_all (λ s. quietly (mark_all s)) (own_all_end (forgets b.link s) w some h)
+        after_then (Shows b (over x.orphan ending v)) w ended_all (λ s. quietly (mark_all s)) (own_all_end (forgets b.link s) w real h)
         (λ u now. after_quietly (Shows b (over x.orphan ending v)) u (mark_all ended_all.state) (shows_mark_all b (over x.orphan ending v) ended_all.state u now))
 
   -- ---- CNXN
@@ -282,15 +287,15 @@ module _ (b : Line) where
     pub link : is_some (s.links b.link) ≡ true
     pub connected : is_connected b.link s.devices ≡ true
 
-  module _ (v : View) (x : SeenStream) (there : v.stream ≡ Some x) (some : 0 < b.id) (s : State) (w : List Event) (up : IsUp s) (h : Shows b v s w) where
+  module _ (v : View) (x : SeenStream) (there : v.stream ≡ Some x) (real : IsReal b) (s : State) (w : List Event) (up : IsUp s) (h : Shows b v s w) where
     own_connects : (version maxdata : ℕ) (who : Option Identity) → After (Shows b (over x.orphan (ending_by false who) v)) w
         (connects b.link version maxdata who s)
-    own_connects version maxdata None = own_link_ends v x there broken s w some h
+    own_connects version maxdata None = own_link_ends v x there broken s w real h
     own_connects version maxdata (Some identity) =
         subst (λ (c : Bool). After (Shows b (over x.orphan lost v)) w (then_also (streams_end_first c b.link s)
         (λ s. quietly (goes_online b.link version maxdata identity s)))) (sym up.connected)
         (after_then (Shows b (over x.orphan lost v)) w (all_end b.link lost s) (λ s. quietly (goes_online b.link version maxdata identity s))
-        (own_all_end v x there lost s w some h)
+        (own_all_end v x there lost s w real h)
         (λ u now. after_quietly (Shows b (over x.orphan lost v)) u (goes_online b.link version maxdata identity (all_end b.link lost s).state)
         (shows_online b (over x.orphan lost v) (all_end b.link lost s).state u now b.link version maxdata identity)))
 
@@ -299,7 +304,7 @@ module _ (b : Line) where
       where
         by : (c : Bool) → After (Shows b (over x.orphan (ending_by c (identity_of p.payload)) v)) w
             (cond c (link_ends b.link broken s) (connects b.link p.arg0 p.arg1 (identity_of p.payload) s))
-        by true = own_link_ends v x there broken s w some h
+        by true = own_link_ends v x there broken s w real h
         by false = own_connects p.arg0 p.arg1 (identity_of p.payload)
 
     -- ---- one packet

@@ -147,14 +147,12 @@ module _ (b : Line) (v : View) where
   all_stops (suc n) streams = both_stop (all_stop n streams) (tells_stop (suc n) (streams (suc n))) (all_stops n streams) (one_stop (suc n) (streams (suc n)))
 
   -- another client asked for it
-  pub record IsStopped (s : State) (w : List Event) : Type 0 where
-    pub ending : Option Ending
+  pub record IsStopped (ending : Option Ending) (s : State) (w : List Event) : Type 0 where
     pub is : IsStop ending
     pub shows : Shows b (killed ending v) s w
 
-  pub own_stops : (n : ℕ) (s : State) (w : List Event) → n ≢ b.client → Shows b v s w → After IsStopped w (stops n s)
+  pub own_stops : (n : ℕ) (s : State) (w : List Event) → n ≢ b.client → Shows b v s w → After (IsStopped (ending_in b.id (all_stop s.drawn s.streams))) w (stops n s)
   own_stops n s w other h = record {
-    ending = ending_in b.id events;
     is = told.ending;
     shows = (
       record {

@@ -9,10 +9,9 @@ use Rattle.adb_history.specs.Tied.{came_count}
 use Rattle.adb_fifo_down.specs.Line.{Line}
 use Rattle.adb_fifo_down.specs.Life.{Cradle}
 use Rattle.adb_fifo_down.specs.Turns.{Promise, Holds}
-use Rattle.adb_fifo_down.specs.Premises.{AtAllTimes, EndsBornAlone}
 
 abbrev pub line : ℕ → Birth → Line
-line l b = record { id = l; client = b.client; link = b.link }
+line l b = record { id = l; client = b.client; link = b.link; from = l }
 
 -- a link brings no more packets: it was lost, or its bytes have a fault
 abbrev pub is_shut : ℕ → History → Bool
@@ -31,7 +30,7 @@ pub record Follows (P : PromiseOf) (h : History) (l : ℕ) (b : Birth) : Type 0 
   pub credit : cradle.credit ≡ b.credit
   pub forwarded : cradle.forwarded ≡ b.forwarded
   pub replies : cradle.replies ≡ replies_of b h
-  pub unended : AtAllTimes EndsBornAlone h → cradle.ending ≡ None
+  pub unended : cradle.ending ≡ None
   -- its client asks no more
   pub asks_no_more : b.forwarded ≡ false → is_some (asked b.client h).next ≡ true
   pub came : b.client ≤ came_count h

@@ -1,18 +1,14 @@
 -- What is taken from other promises, of a history at all times.
-use Rattle.std.specs.Prelude.{ℕ, ◌≡◌, ◌<◌, List, [], ◌∷◌, ◌++◌, None}
+use Rattle.std.specs.Prelude.{ℕ, ◌≡◌, List, [], ◌∷◌, ◌++◌}
 use Rattle.adb_wire.specs.declared.packets.Packet.{Packet}
-use Rattle.adb_history.specs.Machine.{History, state}
+use Rattle.adb_history.specs.Machine.{History}
 use Rattle.adb_history.specs.Bytes.{sent}
-use Rattle.adb_history.specs.Lives.{ending_of, packets_of}
+use Rattle.adb_history.specs.Lives.{packets_of}
 
 -- it holds at each time of a history
 abbrev pub AtAllTimes : (History → Type 0) → History → Type 0
 AtAllTimes P [] = P []
 AtAllTimes P (e ∷ older) = P (e ∷ older) × AtAllTimes P older
-
--- no ending is told of a stream that was not born
-abbrev pub EndsBornAlone : History → Type 0
-EndsBornAlone h = (l : ℕ) → (state h).drawn < l → ending_of l h ≡ None
 
 -- packets that are the first of all
 pub record AreFirstOf (front all : List Packet) : Type 0 where

@@ -4,7 +4,7 @@ ghost use Rattle.std.specs.Prelude.{List};
 ghost use Rattle.adb_capture.specs.declared.entry.Entry.{Entry};
 ghost use Rattle.adb_history.specs.Machine.{IsLegal};
 ghost use Rattle.adb_history.specs.Fifo.{HandsTold, HandsWholeTold, HasBirths, KeepsDownWindow};
-ghost use Rattle.adb_fifo_down.specs.Premises.{AtAllTimes, EndsBornAlone, SendsWhatIsDue};
+ghost use Rattle.adb_fifo_down.specs.Premises.{AtAllTimes, SendsWhatIsDue};
 
 /// In every legal history whose streams are the births, at all times, each client is handed what
 /// the device of its stream wrote, in order and once.
@@ -14,10 +14,10 @@ pub fn what_is_handed_was_told()
 {}
 
 /// And all of it, where the device closed the stream and its client was handed all that became
-/// due to it, if none but streams that were born end.
+/// due to it.
 pub fn all_is_handed_up_to_the_close()
     ensures { (history : List Entry) → IsLegal history → AtAllTimes HasBirths history
-        → AtAllTimes EndsBornAlone history → HandsWholeTold history }
+        → HandsWholeTold history }
 {}
 
 /// In every legal history whose streams are the births, at all times, and in which the packets
