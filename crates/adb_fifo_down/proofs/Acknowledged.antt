@@ -102,7 +102,8 @@ module _ (l : ℕ) (b : Birth) (h : History) (f : Follows WindowOf h l b) (sends
       (backed_none f.cradle.credit [] 0)
   sent_backed (Some o) all =
       subst (λ (n : ℕ). IsBackedBy f.cradle.credit (told_in o.remote l o.later) (okays_of l (sent b.link h)) n) handed_is
-      (backed_front f.cradle.credit (told_in o.remote l o.later) (okays_of l (sent b.link h)) (okays_of l sends.others) (handed_past f.cradle (bytes_put b.client h)) all)
+      (backed_front f.cradle.credit (told_in o.remote l o.later) (okays_of l (sent b.link h)) (okays_of l sends.others)
+      (handed_past f.cradle (bytes_put b.client h)) all)
 
   by_credit : (credit : Bool) → IsBackedBy credit (told_to l b h) (okays_of l (sent b.link h)) (length (handed_to l b h)) → IsWithinDown credit l b h
   by_credit false i = i

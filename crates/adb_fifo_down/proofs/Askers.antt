@@ -131,8 +131,10 @@ module _ (c : ℕ) (replies : List ℕ) where
       takes None none = absurd (let clash : None ≡ Some a = sym none ∙ is in cc)
       takes (Some x) here =
           let same : a ≡ x = (let both : Some a ≡ Some x = sym is ∙ here in cc) in
-          subst (λ (x : Client). After (AsksAs c replies) w (client_left x.about.phase (length (drop (length bytes) x.due)) (to_client c (hands (length bytes)) s))) same
-          (subst (λ (p : Phase). After (AsksAs c replies) w (client_left p (length (drop (length bytes) a.due)) (to_client c (hands (length bytes)) s))) (sym asks)
+          subst (λ (x : Client). After (AsksAs c replies) w (client_left x.about.phase (length (drop (length bytes) x.due))
+          (to_client c (hands (length bytes)) s))) same
+          (subst (λ (p : Phase). After (AsksAs c replies) w (client_left p (length (drop (length bytes) a.due)) (to_client c (hands (length bytes)) s)))
+          (sym asks)
           (after_quietly (AsksAs c replies) w (to_client c (hands (length bytes)) s) handed))
 
       by : (due : List ℕ) → due ≢ [] → After (AsksAs c replies) w (then_also (lists_first c due a s) (λ s. takes_of c (length bytes) (s.clients c) s))
@@ -259,7 +261,8 @@ module _ (c : ℕ) (older : History) (legal : IsLegal older) where
         → After (AsksAs c replies) (told older) (reads_from o n bytes (state older))
     other_asks n bytes None other goes = after_quietly (AsksAs c replies) (told older) (state older) h
     other_asks n bytes (Some a) other goes = stays (reads_from (Some a) n bytes (state older))
-        (shows_reads_in (alone c) h.seen (state older) (told older) h.shows a.about.phase n bytes a other (λ e. goes a refl e) (λ e t service f ids g. omega (arith, g)))
+        (shows_reads_in (alone c) h.seen (state older) (told older) h.shows a.about.phase n bytes a other (λ e. goes a refl e)
+        (λ e t service f ids g. omega (arith, g)))
 
     other_ends : (n : ℕ) (cause : Cause) → n ≢ c → After (AsksAs c replies) (told older) (client_ends n cause ((state older).clients n) (state older))
     other_ends n cause other = stays (client_ends n cause ((state older).clients n) (state older))
@@ -514,7 +517,8 @@ still_on (Put c bytes) older legal going = (all_books older legal.0).killed ∙ 
 still_on (Send t bytes) older legal going = (all_books older legal.0).killed ∙ (sym (all_books (Send t bytes ∷ older) legal).killed ∙ going)
 
 -- A client that asks came by itself, has no stream, and was told the replies to its whole requests.
-pub asking_at : (h : History) → IsLegal h → (state h).stopped ≡ false → (c : ℕ) → is_asking c h (book h) ≡ true → AsksAs c (asked c h).replies (state h) (told h)
+pub asking_at : (h : History) → IsLegal h → (state h).stopped ≡ false → (c : ℕ) → is_asking c h (book h) ≡ true
+    → AsksAs c (asked c h).replies (state h) (told h)
 asking_at [] legal on c asks = absurd (let clash : false ≡ true = asks in cc)
 asking_at (e ∷ older) legal going c asks =
     let on = still_on e older legal going in

@@ -54,7 +54,8 @@ drop_all [] = refl
 drop_all (x ∷ xs) = drop_all xs
 
 -- the link of a stream that lives brings more
-not_shut : (h : History) → IsLegal h → (l : ℕ) (b : Birth) (v : View) (x : SeenStream) → v.stream ≡ Some x → Shows (line l b) v (state h) (told h) → is_shut b.link h ≡ false
+not_shut : (h : History) → IsLegal h → (l : ℕ) (b : Birth) (v : View) (x : SeenStream) → v.stream ≡ Some x → Shows (line l b) v (state h) (told h)
+    → is_shut b.link h ≡ false
 not_shut h legal l b v x there shows = by ((state h).links b.link) refl
   where
     linked : IsLinked (state h)
@@ -79,7 +80,8 @@ module _ {P : PromiseOf} (lasts : Lasts P) where
   born_holds : (l : ℕ) (b : Birth) (e : Entry) (older : History) (k : Cradle) (due : List ℕ) → IsLegal (e ∷ older)
       → k.replies ≡ bytes_put b.client (e ∷ older) ++ due → since b (e ∷ older) ≡ []
       → After (Shows (line l b) (newborn (line l b) k due)) (told older) (rule e (state older))
-      → Holds (line l b) (P (line l b) k) (since b (e ∷ older)) (is_shut b.link (e ∷ older)) (bytes_put b.client (e ∷ older)) (state (e ∷ older)) (told (e ∷ older))
+      → Holds (line l b) (P (line l b) k) (since b (e ∷ older)) (is_shut b.link (e ∷ older)) (bytes_put b.client (e ∷ older)) (state (e ∷ older))
+      (told (e ∷ older))
   born_holds l b e older k due legal put none shows = record { seen = born; shows = now; keeps = promised }
     where
       born : View
@@ -311,7 +313,13 @@ module _ {P : PromiseOf} (lasts : Lasts P) (c port : ℕ) (older : History) (leg
       b = entered_birth c row older
 
       cradle : Cradle
-      cradle = record { credit = is_credit row.transport (state older).devices; forwarded = true; replies = []; ending = ending_in ((state older).drawn + 1) (told older) }
+      cradle = record {
+        credit = is_credit row.transport (state older).devices;
+        forwarded = true;
+        replies = [];
+        ending = ending_in ((state older).drawn + 1)
+            (told older);
+      }
 
       above : came_count older < c
       above = omega (arith, legal.2.1, (counted older).joined)

@@ -82,9 +82,11 @@ module _ (l : ℕ) (b : Birth) {P : Promise} (k : Turns (line l b) P) where
     holds_goes_on next s w h = by (kills next) refl
       where
         by : (c : Bool) → kills next ≡ c → After (Holds (line l b) P packets shut out) w (goes_on next n s)
-        by false e = held_by k packets shut out h.seen w (goes_on next n s) h.keeps (shows_goes_on (line l b) h.seen s w h.shows n other next (no_kill next e) (λ t service f ids. later l s.drawn h.shows.0.born))
+        by false e = held_by k packets shut out h.seen w (goes_on next n s) h.keeps (shows_goes_on (line l b) h.seen s w h.shows n other next
+            (no_kill next e) (λ t service f ids. later l s.drawn h.shows.0.born))
         by true e =
-            let stop : After (IsStopped (line l b) h.seen (ending_in l (all_stop s.drawn s.streams))) w (stops n s) = own_stops (line l b) h.seen n s w other h.shows in
+            let stop : After (IsStopped (line l b) h.seen (ending_in l (all_stop s.drawn s.streams))) w (stops n s) = own_stops (line l b)
+            h.seen n s w other h.shows in
             subst (λ (o : Option Next). After (Holds (line l b) P packets shut out) w (goes_on o n s)) (sym (kill_is next e)) (record {
               seen = killed (ending_in l (all_stop s.drawn s.streams)) h.seen;
               shows = stop.shows;
@@ -207,4 +209,5 @@ module _ (l : ℕ) (b : Birth) {P : Promise} (k : Turns (line l b) P) where
     come_holds n other = record { seen = h.seen; shows = shows_comes (line l b) h.seen s w h.shows false n other; keeps = h.keeps }
 
     pub enter_holds : (n port : ℕ) → n ≢ b.client → After (Holds (line l b) P packets shut out) w (enters_by n (at port s.forwards) s)
-    enter_holds n port other = kept (enters_by n (at port s.forwards) s) (shows_enters (line l b) h.seen s w h.shows (at port s.forwards) n other (λ row f on ids. later l s.drawn h.shows.0.born))
+    enter_holds n port other = kept (enters_by n (at port s.forwards) s) (shows_enters (line l b) h.seen s w h.shows (at port s.forwards) n other
+        (λ row f on ids. later l s.drawn h.shows.0.born))

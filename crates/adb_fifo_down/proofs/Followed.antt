@@ -1,5 +1,6 @@
 -- What lasts from the birth of a stream on holds of every legal history.
-use Rattle.std.proofs.Common.{ℕ, ◌+◌, ◌≡◌, ◌≢◌, ◌≤◌, ◌<◌, zero, suc, Bool, true, false, cond, List, [], ◌∷◌, length, min, Option, Some, None, is_some, is_none, refl}
+use Rattle.std.proofs.Common.{ℕ, ◌+◌, ◌≡◌, ◌≢◌, ◌≤◌, ◌<◌, zero, suc, Bool, true, false, cond, List, [], ◌∷◌, length, min, Option, Some, None, is_some}
+use Rattle.std.proofs.Common.{is_none, refl}
 use Rattle.std.proofs.Common.{sym, ◌∙◌, ap, subst, eqb, arith, inl, inr, ◌⊎◌}
 use Rattle.std.specs.Prelude.{All, ◌&&◌, not}
 use Rattle.std.proofs.lemmas.Bool.{eqb-true, cases_eq}
@@ -123,7 +124,8 @@ unborn_okays drawn t (due_to_link link p check ∷ w) all =
     by (eqb link t) (unborn_okays drawn t w (All-tail (IsOfBorn drawn) (due_to_link link p check) w all))
     (All-head (IsOfBorn drawn) (due_to_link link p check) w all)
   where
-    one : (okay here : Bool) → is_okay p.command ≡ okay → eqb p.arg0 (drawn + 1) ≡ here → (p.command ≢ Cnxn → p.arg0 ≤ drawn) → okays_of (drawn + 1) (packets_to t w) ≡ []
+    one : (okay here : Bool) → is_okay p.command ≡ okay → eqb p.arg0 (drawn + 1) ≡ here → (p.command ≢ Cnxn → p.arg0 ≤ drawn)
+        → okays_of (drawn + 1) (packets_to t w) ≡ []
         → cond (okay && here) (p ∷ okays_of (drawn + 1) (packets_to t w)) (okays_of (drawn + 1) (packets_to t w)) ≡ []
     one true true e f of rest = absurd (omega (arith, of (okay_no_cnxn p.command e), eqb-true p.arg0 (drawn + 1) f))
     one true false e f of rest = rest
@@ -208,7 +210,8 @@ module _ {P : PromiseOf} (lasts : Lasts P) where
   none_born : (l : ℕ) (b : Birth) (e : Entry) (older : History) → births_at e older ≡ [] → IsBornNow l b e older → Follows P (e ∷ older) l b
   none_born l b e older none now = absurd (let clash : [] ≡ b ∷ [] = sym none ∙ now.is in cc)
 
-  follows_first : (e : Entry) (older : History) → IsLegal (e ∷ older) → HasBirths older → (l : ℕ) (b : Birth) → IsBornNow l b e older → Follows P (e ∷ older) l b
+  follows_first : (e : Entry) (older : History) → IsLegal (e ∷ older) → HasBirths older → (l : ℕ) (b : Birth) → IsBornNow l b e older
+      → Follows P (e ∷ older) l b
   follows_first (Read c bytes) older legal births_before l b now = born_by_read c bytes older legal births_before l b now
   follows_first (Enter c port) older legal births_before l b now = born_by_enter c port older legal births_before l b now
   follows_first (Join c) older legal births_before l b now = none_born l b (Join c) older refl now

@@ -525,7 +525,8 @@ module _ (l : ℕ) (k : Cradle) (packets : List Packet) (out : List ℕ) (v : Vi
   pub life_treats : Life l k packets false out v → Life l k more false out (treated_on v.stream l p v)
   life_treats h = by v.stream refl h.lives
     where
-      alive : (x : SeenStream) (orphan : Bool) (remote : ℕ) → v.stream ≡ Some x → x.orphan ≡ orphan → x.remote ≡ remote → LivesAs orphan remote l k packets (heard v)
+      alive : (x : SeenStream) (orphan : Bool) (remote : ℕ) → v.stream ≡ Some x → x.orphan ≡ orphan → x.remote ≡ remote
+          → LivesAs orphan remote l k packets (heard v)
           → Life l k more false out (treated_as l p.command p x v)
       alive x true r there is_orphan is i =
           orphan_goes h x there is_orphan (subst (λ (r : ℕ). IsOrphaned r k (heard v)) (sym is) i) p.command

@@ -1,5 +1,6 @@
 -- The life of a stream goes on through each turn of what is seen of it.
-use Rattle.std.proofs.Common.{ℕ, ◌≡◌, ◌≢◌, zero, suc, Bool, true, false, cond, List, [], ◌∷◌, ◌++◌, length, drop, min, Option, Some, None, refl, sym, ◌∙◌, ap, subst}
+use Rattle.std.proofs.Common.{ℕ, ◌≡◌, ◌≢◌, zero, suc, Bool, true, false, cond, List, [], ◌∷◌, ◌++◌, length, drop, min, Option, Some, None, refl, sym, ◌∙◌, ap}
+use Rattle.std.proofs.Common.{subst}
 use Rattle.std.proofs.Common.{eqb, append_assoc, inl, inr, ◌⊎◌}
 use Rattle.std.proofs.lemmas.List.{append-nil}
 use Rattle.adb_outside.specs.Bytes.{IsPrefixOf}
@@ -44,7 +45,8 @@ none_done : IsDone None
 none_done a e = absurd (let clash : None ≡ Some a = e in cc)
 
 -- ---- endings
-other_ending : (k : Cradle) (before : Option Ending) (ending : Ending) → before ≡ k.ending → ending ≢ peer_closed → IsNotByPeer k (first_of before (Some ending))
+other_ending : (k : Cradle) (before : Option Ending) (ending : Ending) → before ≡ k.ending → ending ≢ peer_closed
+    → IsNotByPeer k (first_of before (Some ending))
 other_ending k before ending same other none e =
     let first : first_of before (Some ending) ≡ Some ending = ap (λ (o : Option Ending). first_of o (Some ending)) (same ∙ none) in
     let both : Some ending ≡ Some peer_closed = sym first ∙ e in
@@ -96,7 +98,8 @@ module _ (l : ℕ) (k : Cradle) (packets : List Packet) (shut : Bool) (out : Lis
       }
 
   -- it was an orphan
-  pub over_orphan : (ending : Ending) → v.client ≡ None → TiedTo v.client v.output out → IsUnheard k v.output v.ending → Life l k packets shut out (over true ending v)
+  pub over_orphan : (ending : Ending) → v.client ≡ None → TiedTo v.client v.output out → IsUnheard k v.output v.ending
+      → Life l k packets shut out (over true ending v)
   over_orphan ending gone tied unheard =
       subst (λ (u : View). Life l k packets shut out u) (sym (ap (λ (o : Option SeenClient). lost_by o (record v { stream = None })) gone))
       (record { tied = tied; lives = (subst IsDone (sym gone) none_done, inr (inl unheard)) })
@@ -242,7 +245,11 @@ module _ (l : ℕ) (k : Cradle) (packets : List Packet) (shut : Bool) (out : Lis
       where
         by : (o : Option SeenStream) → v.stream ≡ o → LivesIn o l k packets shut (heard v) → Life l k packets shut out (row_fails a.phase failing o v)
         by None none i = row_phase Closing None (i.0 a here)
-            (record { tied = gone_front; lives = subst (λ (o : Option SeenStream). LivesIn o l k packets shut (heard (record v { client = None }))) (sym none) (none_done, i.1) })
+            (record {
+              tied = gone_front;
+              lives = subst (λ (o : Option SeenStream). LivesIn o l k packets shut (heard (record v { client = None })))
+                  (sym none) (none_done, i.1);
+            })
         by (Some x) there i = alive_fails x x.orphan x.remote refl refl i
 
 -- ---- bytes are handed out
@@ -310,7 +317,8 @@ module _ (l : ℕ) (k : Cradle) (packets : List Packet) (shut : Bool) (out bytes
       same : (c : SeenClient) → v.client ≡ Some c → c ≡ a
       same c is = let both : Some c ≡ Some a = sym is ∙ here in cc
 
-      alive : (x : SeenStream) (orphan : Bool) (remote : ℕ) → x.orphan ≡ orphan → x.remote ≡ remote → v.stream ≡ Some x → LivesAs orphan remote l k packets (heard v)
+      alive : (x : SeenStream) (orphan : Bool) (remote : ℕ) → x.orphan ≡ orphan → x.remote ≡ remote → v.stream ≡ Some x
+          → LivesAs orphan remote l k packets (heard v)
           → Life l k packets shut (out ++ bytes) (handed_in a.phase l (length bytes) a v)
       alive x true remote is_orphan is there i = absurd (let clash : None ≡ Some a = sym i.gone ∙ here in cc)
       alive x false zero is_orphan is there i =

@@ -142,11 +142,50 @@ module _ (l : ℕ) (p : Packet) (x : SeenStream) (v : View) where
         put = record v { stream = Some (record x { remote = p.arg0 }) }
 
         hears : (forwarded : Bool) (a : SeenClient) → FreshTurn (hears_as forwarded l a (record v { stream = Some (record x { remote = p.arg0 }) }))
-        hears true a = record { okays = refl; row = inr (record x { remote = p.arg0 }, refl, record { orphan = refl; credit = refl; to_hand = refl; gathered = refl }) }
-        hears false a = record { okays = refl; row = inr (record x { remote = p.arg0 }, refl, record { orphan = refl; credit = refl; to_hand = refl; gathered = refl }) }
+        hears true a = record {
+          okays = refl;
+          row = inr (
+            record x { remote = p.arg0 },
+            refl,
+            record {
+              orphan = refl;
+              credit = refl;
+              to_hand = refl;
+              gathered
+                  = refl;
+            },
+          );
+        }
+        hears false a = record {
+          okays = refl;
+          row = inr (
+            record x { remote = p.arg0 },
+            refl,
+            record {
+              orphan = refl;
+              credit = refl;
+              to_hand = refl;
+              gathered
+                  = refl;
+            },
+          );
+        }
 
         by : (o : Option SeenClient) → FreshTurn (hears_open l o (record v { stream = Some (record x { remote = p.arg0 }) }))
-        by None = record { okays = refl; row = inr (record x { remote = p.arg0 }, refl, record { orphan = refl; credit = refl; to_hand = refl; gathered = refl }) }
+        by None = record {
+          okays = refl;
+          row = inr (
+            record x { remote = p.arg0 },
+            refl,
+            record {
+              orphan = refl;
+              credit = refl;
+              to_hand = refl;
+              gathered =
+                  refl;
+            },
+          );
+        }
         by (Some a) = hears a.forwarded a
 
     fresh_goes : (c : Command) → FreshTurn (treated_as l c p x v)

@@ -16,7 +16,8 @@ use Rattle.adb_history.specs.Rows.{Client, State, to_client, to_stream, none_kep
 use Rattle.adb_history.specs.Events.{Made, Event, Ending, quietly, then_also, ended, client_failed}
 use Rattle.adb_history.specs.Links.{owe_link, open_packet, close_packet, is_credit}
 use Rattle.adb_history.specs.Clients.{owe_client, closes, closes_with, closing}
-use Rattle.adb_history.specs.Streams.{stream_ids, draw, asks_for, no_ids_left, opens, loses, client_loses, tells_end, ends_row, ends_telling, ends_if_of, ends_of}
+use Rattle.adb_history.specs.Streams.{stream_ids, draw, asks_for, no_ids_left, opens, loses, client_loses, tells_end, ends_row, ends_telling, ends_if_of}
+use Rattle.adb_history.specs.Streams.{ends_of}
 use Rattle.adb_history.specs.Streams.{all_end}
 use Rattle.adb_history.specs.Tracking.{mark_all}
 use Rattle.adb_history.specs.Forwarding.{put_forward, bound_by}
@@ -170,7 +171,10 @@ module _ (b : Line) (v : View) where
     shows_goes_on (Some (what.Bind transport local remote chosen)) none fresh =
         let want : Want = record { transport = transport; local = local; remote = remote } in
         after_quietly (Shows b v) w (to_client n (awaits want) s) (shows_client b v n (awaits want) s w other h)
-    shows_goes_on (Some (what.Rebind transport local remote)) none fresh = shows_closes (record s { forwards = put_forward local transport remote s.devices s.forwards }) h
+    shows_goes_on (Some (what.Rebind transport local remote)) none fresh = shows_closes (record s {
+      forwards = put_forward local transport remote s.devices
+          s.forwards;
+    }) h
     shows_goes_on (Some (what.Unbind local)) none fresh = shows_closes (record s { forwards = without local s.forwards }) h
     shows_goes_on (Some what.UnbindAll) none fresh = shows_closes (record s { forwards = [] }) h
     shows_goes_on (Some what.Stop) none fresh = absurd (none refl)

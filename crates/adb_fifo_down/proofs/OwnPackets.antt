@@ -1,5 +1,6 @@
 -- What the packets of its link make of what is seen of a stream.
-use Rattle.std.proofs.Common.{ℕ, ◌≡◌, ◌≢◌, ◌≤◌, ◌<◌, zero, suc, Bool, true, false, cond, List, [], ◌∷◌, ◌++◌, length, Option, Some, None, is_some, refl, sym, ◌∙◌, ap}
+use Rattle.std.proofs.Common.{ℕ, ◌≡◌, ◌≢◌, ◌≤◌, ◌<◌, zero, suc, Bool, true, false, cond, List, [], ◌∷◌, ◌++◌, length, Option, Some, None, is_some, refl, sym}
+use Rattle.std.proofs.Common.{◌∙◌, ap}
 use Rattle.std.proofs.Common.{subst, eqb, arith, inl, inr, ◌⊎◌, codes}
 use Rattle.std.proofs.lemmas.Bool.{eqb-true, eq-eqb, eqb-false, cases_eq}
 use Rattle.std.specs.Prelude.{◌||◌, ◌&&◌, not, nat_lt, option_map}
@@ -35,7 +36,8 @@ use Rattle.adb_fifo_down.specs.Treated.{cnxn_ending, treated_as, treated_on, tre
 use Rattle.adb_fifo_down.proofs.Shown.{view_told, first_none, shows_owe_link, shows_mark_all}
 use Rattle.adb_fifo_down.proofs.Others.{after_next, none_keeps, shows_ends_if}
 use Rattle.adb_fifo_down.proofs.OtherPackets.{shows_refuses, shows_unauthorized, shows_online, shows_treat_open}
-use Rattle.adb_fifo_down.proofs.Own.{with_stream, owed_more, client_seen, stream_seen, own_stream, own_part, own_client, own_no_client, own_due, own_owes, own_ends}
+use Rattle.adb_fifo_down.proofs.Own.{with_stream, owed_more, client_seen, stream_seen, own_stream, own_part, own_client, own_no_client, own_due, own_owes}
+use Rattle.adb_fifo_down.proofs.Own.{own_ends}
 use Rattle.std.proofs.lemmas.List.{append-nil}
 
 -- a stream that was drawn
@@ -153,7 +155,8 @@ module _ (b : Line) where
         let part : Part = with_flow (acknowledged word x.part.flow) x.part in
         after_quietly (Shows b v) w (to_stream b.id (with_stream_part part) s) (own_same v part x s w there (by word x.part.flow) h)
       where
-        by : (word : Option ℕ) (flow : Flow) → seen (record x { part = with_flow (acknowledged word flow) x.part }) ≡ seen (record x { part = with_flow flow x.part })
+        by : (word : Option ℕ) (flow : Flow)
+            → seen (record x { part = with_flow (acknowledged word flow) x.part }) ≡ seen (record x { part = with_flow flow x.part })
         by word (One window) = refl
         by None (Credit credit) = refl
         by (Some n) (Credit credit) = refl
@@ -181,7 +184,8 @@ module _ (b : Line) where
         own_okay v x (okay_packet b.id x.part.remote) s w (h.0.link x there) (okay_counts (okay_packet b.id x.part.remote) refl refl) h
     own_accepts_none (Credit credit) = after_quietly (Shows b v) w s h
 
-    taken_seen : (n : ℕ) (flow : Flow) → seen (record x { part = with_flow (accepted n flow) x.part }) ≡ takes n (seen (record x { part = with_flow flow x.part }))
+    taken_seen : (n : ℕ) (flow : Flow)
+        → seen (record x { part = with_flow (accepted n flow) x.part }) ≡ takes n (seen (record x { part = with_flow flow x.part }))
     taken_seen n (One window) = refl
     taken_seen n (Credit credit) = refl
 
@@ -198,7 +202,8 @@ module _ (b : Line) where
         let put : View = with_stream (Some (takes (length bytes) (seen x))) v in
         let made : View = record put { client = due_more bytes v.client; output = v.output ++ bytes } in
         subst (λ (n : ℕ). After (Shows b made) w (owe_client n bytes taken)) (sym (h.0.client x there))
-        (subst (λ (o : Option SeenClient). After (Shows b (record put { client = due_more bytes o; output = v.output ++ bytes })) w (owe_client b.client bytes taken))
+        (subst (λ (o : Option SeenClient). After (Shows b (record put { client = due_more bytes o; output = v.output ++ bytes })) w
+        (owe_client b.client bytes taken))
         (sym (client_seen b v s w (s.clients b.client) h refl))
         (own_owes b put bytes (s.clients b.client) taken w refl
         (subst (λ (y : SeenStream). Shows b (with_stream (Some y) v) taken w) (taken_seen (length bytes) x.part.flow) (own_part b v part x s w there h))))
@@ -279,7 +284,8 @@ module _ (b : Line) where
     own_link_ends s w real h =
         let ended_all : Made = all_end b.link ending (forgets b.link s) in
         after_then (Shows b (over x.orphan ending v)) w ended_all (λ s. quietly (mark_all s)) (own_all_end (forgets b.link s) w real h)
-        (λ u now. after_quietly (Shows b (over x.orphan ending v)) u (mark_all ended_all.state) (shows_mark_all b (over x.orphan ending v) ended_all.state u now))
+        (λ u now. after_quietly (Shows b (over x.orphan ending v)) u (mark_all ended_all.state) (shows_mark_all b (over x.orphan ending v)
+        ended_all.state u now))
 
   -- ---- CNXN
   -- the link of a stream that is there is there, and connected
@@ -320,7 +326,8 @@ module _ (b : Line) where
             (subst (λ (c : Bool). After (Shows b u) w (cond c (rule b.id y s) (quietly s))) (sym (eq-eqb y.link b.link (h.0.link y is))) (own y is same))
 
         by : (here : Bool) → eqb k b.id ≡ here → After (Shows b (cond here u v)) w (at_stream b.link (s.streams k) (rule k) s)
-        by true e = subst (λ (n : ℕ). After (Shows b u) w (at_stream b.link (s.streams n) (rule n) s)) (sym (eqb-true k b.id e)) (mine (own_row v x s w there h))
+        by true e = subst (λ (n : ℕ). After (Shows b u) w (at_stream b.link (s.streams n) (rule n) s)) (sym (eqb-true k b.id e))
+            (mine (own_row v x s w there h))
         by false e = others (eqb-false k b.id e)
 
     own_treat_open : (command : Command) (p : Packet) → command ≢ Cnxn → After (Shows b (treated_as b.id command p x v)) w (treat_open b.link command p s)

@@ -31,7 +31,8 @@ put_first p false ps qs rs e = e
 pub packets_append : (t : ℕ) (es fs : List Event) → packets_to t (es ++ fs) ≡ packets_to t es ++ packets_to t fs
 packets_append t [] fs = refl
 packets_append t (due_to_client client bytes ∷ es) fs = packets_append t es fs
-packets_append t (due_to_link link p check ∷ es) fs = put_first p (eqb link t) (packets_to t (es ++ fs)) (packets_to t es) (packets_to t fs) (packets_append t es fs)
+packets_append t (due_to_link link p check ∷ es) fs = put_first p (eqb link t) (packets_to t (es ++ fs)) (packets_to t es) (packets_to t fs)
+    (packets_append t es fs)
 packets_append t (ended stream ending ∷ es) fs = packets_append t es fs
 
 pub okays_append : (l : ℕ) (ps qs : List Packet) → okays_of l (ps ++ qs) ≡ okays_of l ps ++ okays_of l qs

@@ -1,5 +1,6 @@
 -- What is acknowledged was handed out: each packet of its link keeps it.
-use Rattle.std.proofs.Common.{ℕ, ◌+◌, ◌-◌, ◌≡◌, ◌≤◌, zero, suc, Bool, true, false, cond, List, [], ◌∷◌, ◌++◌, length, Option, Some, None, refl, sym, ◌∙◌, ap, subst}
+use Rattle.std.proofs.Common.{ℕ, ◌+◌, ◌-◌, ◌≡◌, ◌≤◌, zero, suc, Bool, true, false, cond, List, [], ◌∷◌, ◌++◌, length, Option, Some, None, refl, sym, ◌∙◌, ap}
+use Rattle.std.proofs.Common.{subst}
 use Rattle.std.proofs.Common.{arith, inl, inr, ◌⊎◌}
 use Rattle.std.specs.Prelude.{nat_lt}
 use Rattle.std.proofs.lemmas.Bool.{ltb-false}
@@ -55,7 +56,8 @@ module _ (l : ℕ) (k : Cradle) (told : List (List ℕ)) (x : SeenStream) (v : V
     credit = refl;
     flowing = record {
       left = omega (arith, flow.left, joined_one told []);
-      counts = subst (λ (c : Bool). Counts c x (told ++ [] ∷ []) v.okays handed) (e_is e) (subst (λ (c : Bool). Counts c x told v.okays handed) (sym (e_is e)) flow.counts);
+      counts = subst (λ (c : Bool). Counts c x (told ++ [] ∷ []) v.okays handed) (e_is e) (subst (λ (c : Bool). Counts c x told v.okays handed)
+          (sym (e_is e)) flow.counts);
     };
     backed = backed_told k.credit told ([] ∷ []) v.okays handed backed;
   }
@@ -118,11 +120,12 @@ module _ (l : ℕ) (k : Cradle) (told : List (List ℕ)) (x : SeenStream) (v : V
     stream = now;
     orphan = refl;
     credit = refl;
-    flowing = subst (λ (ps : List Packet). IsFlowing k (record x { to_hand = length (d ∷ payload) }) (told ++ (d ∷ payload) ∷ []) ps handed) (sym okays) (record {
-      left = omega (arith, flow.left, none, joined_one told (d ∷ payload));
-      counts = subst (λ (c : Bool). Counts c (record x { to_hand = length (d ∷ payload) }) (told ++ (d ∷ payload) ∷ []) v.okays handed) plain
-          (omega (arith, counts, length-append told ((d ∷ payload) ∷ [])));
-    });
+    flowing = subst (λ (ps : List Packet). IsFlowing k (record x { to_hand = length (d ∷ payload) }) (told ++ (d ∷ payload) ∷ []) ps handed) (sym okays)
+        (record {
+          left = omega (arith, flow.left, none, joined_one told (d ∷ payload));
+          counts = subst (λ (c : Bool). Counts c (record x { to_hand = length (d ∷ payload) }) (told ++ (d ∷ payload) ∷ []) v.okays handed) plain
+              (omega (arith, counts, length-append told ((d ∷ payload) ∷ [])));
+        });
     backed = subst (λ (ps : List Packet). IsBackedBy k.credit (told ++ (d ∷ payload) ∷ []) ps handed) (sym okays)
         (backed_told k.credit told ((d ∷ payload) ∷ []) v.okays handed backed);
   }
@@ -155,7 +158,8 @@ module _ (l : ℕ) (k : Cradle) (packets : List Packet) (out : List ℕ) (v : Vi
   row_flow x there = subst (λ (o : Option SeenStream). FlowIn o l k packets v.okays (handed_past k out)) there w.flow
 
   -- ---- one that is open
-  module _ (r : ℕ) (x : SeenStream) (there : v.stream ≡ Some x) (owned : x.orphan ≡ false) (known : x.remote ≡ suc r) (o : IsOpened (suc r) l k packets (heard v)) where
+  module _ (r : ℕ) (x : SeenStream) (there : v.stream ≡ Some x) (owned : x.orphan ≡ false) (known : x.remote ≡ suc r)
+      (o : IsOpened (suc r) l k packets (heard v)) where
     abbrev told : List (List ℕ)
     told = told_in o.opening.remote l o.opening.later
 
@@ -211,9 +215,11 @@ module _ (l : ℕ) (k : Cradle) (packets : List Packet) (out : List ℕ) (v : Vi
         subst (λ (y : View). Window l k (packets ++ p ∷ []) false out y) (sym accepts.is)
         (open_window (accepts_as l p.payload x v) (subst (λ (y : View). Life l k (packets ++ p ∷ []) false out y) accepts.is life)
         (subst (λ (ps : List (List ℕ)). Accepted k ps x (handed_past k out) (accepts_as l p.payload x v)) (told_then (p.payload ∷ []) accepts.told)
-        (accepts_write l k (told_in o.opening.remote l o.opening.later) x v there (row_flow x there).0 (handed_past k out) flowing backed p.payload accepts.in_turn)))
+        (accepts_write l k (told_in o.opening.remote l o.opening.later) x v there (row_flow x there).0 (handed_past k out)
+        flowing backed p.payload accepts.in_turn)))
 
-    open_treats : Life l k (packets ++ p ∷ []) false out (treated_as l p.command p x v) → Window l k (packets ++ p ∷ []) false out (treated_as l p.command p x v)
+    open_treats : Life l k (packets ++ p ∷ []) false out (treated_as l p.command p x v)
+        → Window l k (packets ++ p ∷ []) false out (treated_as l p.command p x v)
     open_treats life =
         by_turn (treated_as l p.command p x v) life
         (open_turn l p x v o.opening.remote (known ∙ sym o.told_as) (λ e. let clash : suc r ≡ 0 = sym o.told_as ∙ e in cc))
@@ -296,7 +302,8 @@ module _ (l : ℕ) (k : Cradle) (packets : List Packet) (out : List ℕ) (v : Vi
   pub window_treats : Life l k (packets ++ p ∷ []) false out (treated_on v.stream l p v) → Window l k (packets ++ p ∷ []) false out (treated_on v.stream l p v)
   window_treats life = by v.stream refl w.life.lives life
     where
-      alive : (x : SeenStream) (orphan : Bool) (remote : ℕ) → v.stream ≡ Some x → x.orphan ≡ orphan → x.remote ≡ remote → LivesAs orphan remote l k packets (heard v)
+      alive : (x : SeenStream) (orphan : Bool) (remote : ℕ) → v.stream ≡ Some x → x.orphan ≡ orphan → x.remote ≡ remote
+          → LivesAs orphan remote l k packets (heard v)
           → Life l k (packets ++ p ∷ []) false out (treated_as l p.command p x v) → Window l k (packets ++ p ∷ []) false out (treated_as l p.command p x v)
       alive x true r there is_orphan is i life =
           let unused = subst (λ (c : Bool). FlowAs c l k packets x v.okays (handed_past k out)) is_orphan (row_flow x there).1 in

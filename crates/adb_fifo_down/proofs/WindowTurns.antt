@@ -23,7 +23,8 @@ use Rattle.adb_fifo_down.proofs.Windows.{handed_count, handed_grows, left_sum, f
 
 module _ (l : ℕ) (k : Cradle) where
   -- a stream that ended
-  pub window_over : (packets : List Packet) (shut : Bool) (out : List ℕ) (v : View) (orphan : Bool) (ending : Ending) → Life l k packets shut out (over orphan ending v)
+  pub window_over : (packets : List Packet) (shut : Bool) (out : List ℕ) (v : View) (orphan : Bool) (ending : Ending)
+      → Life l k packets shut out (over orphan ending v)
       → IsBacked (opening_in l packets) l k.credit v.okays (handed_past k out) → Window l k packets shut out (over orphan ending v)
   window_over packets shut out v orphan ending life backed = record {
     life = life;

@@ -1,5 +1,6 @@
 -- What is acknowledged was handed out, through each turn of what is seen of a stream.
-use Rattle.std.proofs.Common.{ℕ, ◌+◌, ◌-◌, ◌≡◌, ◌≢◌, ◌≤◌, ◌<◌, zero, suc, Bool, true, false, cond, List, [], ◌∷◌, ◌++◌, length, min, Some, None, refl, sym, ◌∙◌, ap, subst}
+use Rattle.std.proofs.Common.{ℕ, ◌+◌, ◌-◌, ◌≡◌, ◌≢◌, ◌≤◌, ◌<◌, zero, suc, Bool, true, false, cond, List, [], ◌∷◌, ◌++◌, length, min, Some, None, refl, sym}
+use Rattle.std.proofs.Common.{◌∙◌, ap, subst}
 use Rattle.std.proofs.Common.{arith, eqb}
 use Rattle.std.proofs.lemmas.Bool.{eqb-true, eqb-false}
 use Rattle.std.proofs.lemmas.List.{length-append, length-drop}
@@ -159,7 +160,17 @@ module _ (l : ℕ) (k : Cradle) (told : List (List ℕ)) where
             left = sum;
             counts = subst (λ (c : Bool). Counts c (record x { left = x.left + suc n; to_hand = left; gathered = x.gathered + (x.to_hand - left) - suc n })
                 told (v.okays ++ credit_packet l x.remote (suc n) ∷ []) now) (sym credit)
-                (omega (arith, counts, flow.left, sum, less, within, credit_append v.okays (credit_packet l x.remote (suc n) ∷ []), credit_given l x.remote (suc n)));
+                (omega (
+                  arith,
+                  counts,
+                  flow.left,
+                  sum,
+                  less,
+                  within,
+                  credit_append v.okays (credit_packet l x.remote (suc n) ∷ []),
+                  credit_given l x.remote
+                      (suc n),
+                ));
           };
           backed = subst (λ (c : Bool). IsBackedBy c told (v.okays ++ credit_packet l x.remote (suc n) ∷ []) now) (sym credit) (record {
             words = All-append HasWord v.okays (credit_packet l x.remote (suc n) ∷ []) given.words

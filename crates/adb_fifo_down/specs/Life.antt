@@ -8,7 +8,8 @@ use Rattle.adb_history.specs.Births as birth
 use Rattle.adb_history.specs.Births.{opening_in, told_in, before_close, joined}
 use Rattle.adb_fifo_down.specs.Line.{SeenStream, SeenClient, View}
 
--- What was so when the stream was born: whether with credit; whether its client came through a forward; what had become due to it; and whether an ending had been told.
+-- What was so when the stream was born: whether with credit; whether its client came through a forward; what had become due to it; and whether an ending had
+-- been told.
 pub record Cradle : Type 0 where
   pub credit : Bool
   pub forwarded : Bool
