@@ -46,7 +46,8 @@ use Rattle.adb_fifo_down.proofs.Others.{after_next}
 use Rattle.adb_fifo_down.proofs.Own.{client_seen}
 use Rattle.adb_fifo_down.proofs.OwnPackets.{own_row}
 use Rattle.adb_fifo_down.proofs.Ups.{Upped, shows_ups}
-use Rattle.adb_fifo_down.proofs.Askers.{AsksAs, alone, asked_then, AsksBehind, asks_behind_it, asking_at}
+use Rattle.adb_fifo_down.proofs.Askers.{AsksAs, alone, asked_then, AsksBehind, asks_behind_it}
+use Rattle.adb_fifo_down.proofs.Asking.{asking_at}
 use Rattle.adb_fifo_down.proofs.Begun.{of_another, of_older, new_row, drawn_shows}
 
 drop_all : {A : Type 0} (xs : List A) → drop (length xs) xs ≡ []

@@ -13,7 +13,7 @@ use Rattle.adb_history.specs.Births as birth
 use Rattle.adb_history.specs.Births.{told_in, is_between, is_wrte, opening_by, opening_in}
 use Rattle.adb_fifo_down.specs.Line.{SeenStream, SeenClient, View, loss, lost_by, over}
 use Rattle.adb_fifo_down.specs.Treated.{hears_as, hears_open, opened_as, is_late, accepts_as, after_write, cnxn_ending, treated_as}
-use Rattle.adb_fifo_down.proofs.LifePackets.{always_or, and_false}
+use Rattle.adb_fifo_down.proofs.LifeFresh.{always_or, and_false}
 
 -- ---- what an end leaves
 loss_okays : (forwarded : Bool) (phase : Phase) (a : SeenClient) (v : View) → (loss forwarded phase a v).okays ≡ v.okays
