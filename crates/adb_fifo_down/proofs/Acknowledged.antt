@@ -14,8 +14,9 @@ use Rattle.adb_history.specs.Fifo.{HasBirths, has_credit, okays_of, IsWithinDown
 use Rattle.adb_fifo_down.specs.Line.{Line, View, gathered_of}
 use Rattle.adb_fifo_down.specs.Turns.{Turns}
 use Rattle.adb_fifo_down.specs.Life.{Cradle}
-use Rattle.adb_fifo_down.specs.Window.{handed_past, IsBackedBy, IsBacked, Window}
-use Rattle.adb_fifo_down.specs.Follows.{PromiseOf, Follows}
+use Rattle.adb_fifo_down.specs.Window.{handed_past, IsBackedBy, IsBacked}
+use Rattle.adb_fifo_down.specs.Followed.{WindowOf}
+use Rattle.adb_fifo_down.specs.Follows.{Follows}
 use Rattle.adb_fifo_down.specs.Begins.{Lasts}
 use Rattle.adb_fifo_down.specs.Premises.{AtAllTimes, AreFirstOf, SendsWhatIsDue}
 use Rattle.adb_fifo_down.proofs.Shown.{okays_append}
@@ -25,10 +26,6 @@ use Rattle.adb_fifo_down.proofs.Backed.{backed_none, credit_append}
 use Rattle.adb_fifo_down.proofs.Windows.{HasWord}
 use Rattle.adb_fifo_down.proofs.WindowTurns.{window_over, window_fails, window_hands}
 use Rattle.adb_fifo_down.proofs.WindowPackets.{window_treats}
-
--- what is acknowledged of each stream
-abbrev pub WindowOf : PromiseOf
-WindowOf b k = λ packets shut out v. Window b.id k packets shut out v
 
 window_turns : (b : Line) (k : Cradle) → Turns b (WindowOf b k)
 window_turns b k =

@@ -137,6 +137,11 @@ unborn_okays drawn t (due_to_link link p check ∷ w) all =
     by false rest of = rest
 
 -- ---- at all times
+-- what holds of each legal history holds of it at all times
+pub all_times : (P : History → Type 0) → ((h : History) → IsLegal h → P h) → (h : History) → IsLegal h → AtAllTimes P h
+all_times P each [] legal = each [] legal
+all_times P each (e ∷ older) legal = (each (e ∷ older) legal, all_times P each older legal.0)
+
 at_time : (P : History → Type 0) (h : History) → AtAllTimes P h → P h
 at_time P [] all = all
 at_time P (e ∷ older) all = all.0

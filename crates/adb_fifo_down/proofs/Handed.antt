@@ -16,17 +16,14 @@ use Rattle.adb_history.specs.Fifo.{HasBirths, HandsTold, HandsWholeTold}
 use Rattle.adb_fifo_down.specs.Line.{Line, SeenStream, View}
 use Rattle.adb_fifo_down.specs.Turns.{Turns}
 use Rattle.adb_fifo_down.specs.Life.{Cradle, okay_after, lead, heard, IsUnheard, IsClosedAt, Story, LivesAs, LivesIn, Life}
-use Rattle.adb_fifo_down.specs.Follows.{is_shut, replies_of, PromiseOf, Follows}
+use Rattle.adb_fifo_down.specs.Followed.{LifeOf, HasLives}
+use Rattle.adb_fifo_down.specs.Follows.{is_shut, replies_of, Follows}
 use Rattle.adb_fifo_down.specs.Begins.{Lasts}
 use Rattle.adb_fifo_down.specs.Premises.{AtAllTimes}
 use Rattle.adb_fifo_down.proofs.Openings.{pending_now}
 use Rattle.adb_fifo_down.proofs.Lives.{any_front, life_served, life_closes, life_breaks, life_stops, life_fails, life_hands, life_shuts}
 use Rattle.adb_fifo_down.proofs.LifePackets.{life_treats}
 use Rattle.adb_fifo_down.proofs.Followed.{follows}
-
--- the life of each stream
-abbrev pub LifeOf : PromiseOf
-LifeOf b k = λ packets shut out v. Life b.id k packets shut out v
 
 pub life_turns : (b : Line) (k : Cradle) → Turns b (LifeOf b k)
 life_turns b k = record {
@@ -224,3 +221,7 @@ hands_whole_told h legal births l b is by_peer all =
     let f = follows life_lasts h legal births l b is in
     let seen = f.holds.shows.1 in
     handed_whole l b h f f.unended (sym (ap (λ (v : View). v.ending) seen) ∙ by_peer) (all ∙ ap (λ (v : View). v.output) seen)
+
+-- Each stream that was born has its life.
+pub has_lives : (h : History) → IsLegal h → AtAllTimes HasBirths h → HasLives h
+has_lives h legal births l b is = follows life_lasts h legal births l b is

@@ -31,6 +31,7 @@ use Rattle.adb_history.proofs.PlainMoves.{Plain, plain_moves}
 use Rattle.adb_history.proofs.RuleMoves.{Begins, step_kept}
 use Rattle.adb_history.proofs.LinkMoves.{all_linked}
 use Rattle.adb_fifo_down.specs.Line.{Line, View, view, Shows, first_of}
+use Rattle.adb_fifo_down.specs.Followed.{EndsBornAlone}
 use Rattle.adb_fifo_down.specs.Turned.{killed}
 use Rattle.adb_fifo_down.proofs.Shown.{ending_append, shows_client, shows_owe_client}
 use Rattle.adb_fifo_down.proofs.Others.{after_next, UndrawnBy, shows_client_ends, shows_bound, shows_goes_on}
@@ -245,7 +246,7 @@ unborn_at (e ∷ older) legal l lt =
     (unborn_rule l e (state older) (told older) (all_linked older legal.0).owned legal.2 before (omega (arith, lt, same)) (unborn_at older legal.0 l before))
     (λ u now. unborn_ups l ruled u now)
 
-pub ends_born : (h : History) → IsLegal h → (l : ℕ) → (state h).drawn < l → ending_in l (told h) ≡ None
+pub ends_born : (h : History) → IsLegal h → EndsBornAlone h
 ends_born h legal l lt =
     let u = unborn_at h legal l lt in
     ap (λ (v : View). v.ending) u.shows.1 ∙ u.ending

@@ -7,3 +7,4 @@ pub mod Premises
 pub mod Follows
 pub mod Begins
 pub mod Window
+pub mod Followed
