@@ -164,7 +164,6 @@ module _ {P : PromiseOf} (lasts : Lasts P) (c : ℕ) (bytes : List ℕ) (older :
     credit = ap (is_credit t) (all_books older legal.0).devices;
     forwarded = refl;
     replies = refl;
-    unended = unborn.ending;
     asks_no_more = λ e. ap is_some (ap (λ (q : Asked). q.next) now.same ∙ now.after);
     came = omega (arith, legal.2.1.1, (counted older).joined);
     within = omega arith;
@@ -192,7 +191,6 @@ module _ {P : PromiseOf} (lasts : Lasts P) (c : ℕ) (bytes : List ℕ) (older :
         credit = is_credit t (state older).devices;
         forwarded = false;
         replies = (asked c (Read c bytes ∷ older)).replies;
-        ending = ending_in ((state older).drawn + 1) (told older);
       }
 
       told_as : (asked c older).replies ≡ owed_to c (told older)
@@ -260,8 +258,8 @@ module _ {P : PromiseOf} (lasts : Lasts P) (c : ℕ) (bytes : List ℕ) (older :
           ∙ (ap (λ (x : List ℕ). x ++ q.replies) (sym told_as) ∙ sym said))) in
           let okays : okays_of ((state older).drawn + 1) (packets_to t (told older ++ owed.told)) ≡ [] =
           ap (okays_of ((state older).drawn + 1)) (packets_append t (told older) owed.told ∙ append-nil (packets_to t (told older))) ∙ unborn.okays in
-          let ending : ending_in ((state older).drawn + 1) (told older ++ owed.told) ≡ cradle.ending =
-          ending_append ((state older).drawn + 1) (told older) owed.told ∙ first_none (ending_in ((state older).drawn + 1) (told older)) in
+          let ending : ending_in ((state older).drawn + 1) (told older ++ owed.told) ≡ None =
+          ending_append ((state older).drawn + 1) (told older) owed.told ∙ (first_none (ending_in ((state older).drawn + 1) (told older)) ∙ unborn.ending) in
           λ i. record {
             stream = Some (seen (new_row c t service owed.state));
             client = Some (record { phase = Opening ((state older).drawn + 1); forwarded = by_itself i; due = due });
@@ -302,7 +300,6 @@ module _ {P : PromiseOf} (lasts : Lasts P) (c port : ℕ) (older : History) (leg
     credit = ap (is_credit row.transport) (all_books older legal.0).devices;
     forwarded = refl;
     replies = refl;
-    unended = unborn.ending;
     asks_no_more = λ e. absurd (let clash : true ≡ false = e in cc);
     came = omega (arith, legal.2.1, (counted older).joined);
     within = omega arith;
@@ -314,13 +311,7 @@ module _ {P : PromiseOf} (lasts : Lasts P) (c port : ℕ) (older : History) (leg
       b = entered_birth c row older
 
       cradle : Cradle
-      cradle = record {
-        credit = is_credit row.transport (state older).devices;
-        forwarded = true;
-        replies = [];
-        ending = ending_in ((state older).drawn + 1)
-            (told older);
-      }
+      cradle = record { credit = is_credit row.transport (state older).devices; forwarded = true; replies = [] }
 
       above : came_count older < c
       above = omega (arith, legal.2.1, (counted older).joined)
@@ -363,7 +354,7 @@ module _ {P : PromiseOf} (lasts : Lasts P) (c port : ℕ) (older : History) (leg
             client = Some (record { phase = Opening ((state older).drawn + 1); forwarded = true; due = [] });
             output = output i;
             okays = unborn.okays i;
-            ending = ending_in ((state older).drawn + 1) (told older);
+            ending = unborn.ending i;
           }
 
       shows : After (Shows (line ((state older).drawn + 1) (entered_birth c row older))

@@ -153,7 +153,6 @@ module _ {P : PromiseOf} (lasts : Lasts P) where
     credit = h.credit;
     forwarded = h.forwarded;
     replies = h.replies ∙ by b.forwarded refl;
-    unended = h.unended;
     asks_no_more = λ own. ap (λ (q : Asked). is_some q.next) (fixed own) ∙ h.asks_no_more own;
     came = omega (arith, h.came, came_more e older);
     within = omega (arith, h.within, brought_no_fewer e b.link older);

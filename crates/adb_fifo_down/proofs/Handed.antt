@@ -166,7 +166,7 @@ module _ (l : ℕ) (b : Birth) (h : History) (f : Follows LifeOf h l b) where
           front_then (drop (lead_of b h) (bytes_put b.client h)) t.bytes (joined (told_in o.remote l o.later)) t.handed t.front
 
   -- ---- all of it
-  module _ (unended : f.cradle.ending ≡ None) (by_peer : f.holds.seen.ending ≡ Some peer_closed) (all : bytes_put b.client h ≡ f.holds.seen.output) where
+  module _ (by_peer : f.holds.seen.ending ≡ Some peer_closed) (all : bytes_put b.client h ≡ f.holds.seen.output) where
     -- what its device had written when it closed
     whole_of : (o : Opening) → opening_in l (since b h) ≡ Some o
         → drop (lead_of b h) (bytes_put b.client h) ≡ joined (told_in o.remote l (before_close o.remote l o.later))
@@ -175,12 +175,12 @@ module _ (l : ℕ) (b : Birth) (h : History) (f : Follows LifeOf h l b) where
         same : (p : Opening) → opening_in l (since b h) ≡ Some p → p ≡ o
         same p e = let both : Some p ≡ Some o = sym e ∙ is in cc
 
-        fresh : f.holds.seen.ending ≡ f.cradle.ending → ⊥
-        fresh e = let clash : None ≡ Some peer_closed = sym unended ∙ (sym e ∙ by_peer) in cc
+        fresh : f.holds.seen.ending ≡ None → ⊥
+        fresh e = let clash : None ≡ Some peer_closed = sym e ∙ by_peer in cc
 
         alive : (orphan : Bool) (remote : ℕ) → LivesAs orphan remote l f.cradle (since b h) (heard f.holds.seen)
             → drop (lead_of b h) (bytes_put b.client h) ≡ joined (told_in o.remote l (before_close o.remote l o.later))
-        alive true remote i = absurd (i.unheard.not_by_peer unended by_peer)
+        alive true remote i = absurd (i.unheard.not_by_peer by_peer)
         alive false zero i = absurd (fresh i.ending)
         alive false (suc r) i = absurd (fresh i.ending)
 
@@ -193,10 +193,10 @@ module _ (l : ℕ) (b : Birth) (h : History) (f : Follows LifeOf h l b) where
         over : Story l f.cradle (since b h) (is_shut b.link h) (heard f.holds.seen)
             → drop (lead_of b h) (bytes_put b.client h) ≡ joined (told_in o.remote l (before_close o.remote l o.later))
         over (inl never) = absurd (let clash : None ≡ Some o = sym never.unopened ∙ is in cc)
-        over (inr (inl unheard)) = absurd (unheard.not_by_peer unended by_peer)
+        over (inr (inl unheard)) = absurd (unheard.not_by_peer by_peer)
         over (inr (inr i)) =
             subst (λ (p : Opening). drop (lead_of b h) (bytes_put b.client h) ≡ joined (told_in p.remote l (before_close p.remote l p.later)))
-            (same i.opening i.opened) (closed i.opening i.bytes i.output_is (i.closed unended by_peer))
+            (same i.opening i.opened) (closed i.opening i.bytes i.output_is (i.closed by_peer))
 
         by : (x : Option SeenStream) → LivesIn x l f.cradle (since b h) (is_shut b.link h) (heard f.holds.seen)
             → drop (lead_of b h) (bytes_put b.client h) ≡ joined (told_in o.remote l (before_close o.remote l o.later))
@@ -220,7 +220,7 @@ pub hands_whole_told : (h : History) → IsLegal h → AtAllTimes HasBirths h �
 hands_whole_told h legal births l b is by_peer all =
     let f = follows life_lasts h legal births l b is in
     let seen = f.holds.shows.1 in
-    handed_whole l b h f f.unended (sym (ap (λ (v : View). v.ending) seen) ∙ by_peer) (all ∙ ap (λ (v : View). v.output) seen)
+    handed_whole l b h f (sym (ap (λ (v : View). v.ending) seen) ∙ by_peer) (all ∙ ap (λ (v : View). v.output) seen)
 
 -- Each stream that was born has its life.
 pub has_lives : (h : History) → IsLegal h → AtAllTimes HasBirths h → HasLives h

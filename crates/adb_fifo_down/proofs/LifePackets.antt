@@ -30,7 +30,7 @@ was_open_goes l k packets p output ending h = record {
   bytes = h.bytes;
   output_is = h.output_is;
   front = front_later h.opening.remote l h.opening.later (p ∷ []) h.bytes h.front;
-  closed = λ none e. closed_later (h.closed none e);
+  closed = λ e. closed_later (h.closed e);
 }
   where
     closed_later : IsClosedAt l h.opening h.bytes → IsClosedAt l (later_too (p ∷ []) h.opening) h.bytes
@@ -149,7 +149,7 @@ module _ (l : ℕ) (k : Cradle) (packets : List Packet) (out : List ℕ) (v : Vi
             bytes = joined (told_in remote l later);
             output_is = o.output;
             front = front_later remote l later (p ∷ []) (joined (told_in remote l later)) ([], append-nil (joined (told_in remote l later)));
-            closed = λ none e. record {
+            closed = λ e. record {
               whole = ap (λ (ps : List Packet). joined (told_in remote l ps)) (sym (ends []));
               closed = λ others. ap (before_close remote l) (append_assoc later (p ∷ []) others) ∙ (ends others ∙ sym (ends []));
             };

@@ -1,5 +1,5 @@
 -- What is promised of a stream, of a whole history: from its birth on it holds of what is seen of the stream.
-use Rattle.std.specs.Prelude.{None, ℕ, ◌≡◌, ◌≤◌, Bool, true, false, if◌then◌else◌, ◌||◌, is_some, List, [], length}
+use Rattle.std.specs.Prelude.{ℕ, ◌≡◌, ◌≤◌, Bool, true, false, if◌then◌else◌, ◌||◌, is_some, List, [], length}
 use Rattle.adb_wire.specs.Cutting.{framed}
 use Rattle.adb_history.specs.Machine.{History, state, told}
 use Rattle.adb_history.specs.Bytes.{is_lost, bytes_put, bytes_received, brought}
@@ -30,7 +30,6 @@ pub record Follows (P : PromiseOf) (h : History) (l : ℕ) (b : Birth) : Type 0 
   pub credit : cradle.credit ≡ b.credit
   pub forwarded : cradle.forwarded ≡ b.forwarded
   pub replies : cradle.replies ≡ replies_of b h
-  pub unended : cradle.ending ≡ None
   -- its client asks no more
   pub asks_no_more : b.forwarded ≡ false → is_some (asked b.client h).next ≡ true
   pub came : b.client ≤ came_count h
