@@ -102,7 +102,8 @@ born_by (Send t bytes) older l b legal new birth z is = absurd (let clash : fals
 
 module _ (e : Entry) (older : History) (legal : IsLegal (e ∷ older)) where
   newborn_holds : HasBirths older → (l : ℕ) (b : Birth) (y : Stream) (k : Client) → (draws e ≡ true) × (l ≡ (state older).drawn + 1)
-      → born l (e ∷ older) ≡ Some b → ((state (e ∷ older)).streams l ≡ Some y) × (y.part.orphan ≡ false) × ((state (e ∷ older)).clients y.client ≡ Some k) → (0 < l) × (l ≤ (state (e ∷ older)).drawn) → IsAsTold (e ∷ older) l b y k
+      → born l (e ∷ older) ≡ Some b → ((state (e ∷ older)).streams l ≡ Some y) × (y.part.orphan ≡ false) × ((state (e ∷ older)).clients y.client ≡ Some k)
+      → (0 < l) × (l ≤ (state (e ∷ older)).drawn) → IsAsTold (e ∷ older) l b y k
   newborn_holds has l b y k new birth is within =
       let m = rule e (state older) in
       let w = (up_all_fate l (λ client link z. Unit {0}) m.state.drawn m.state (λ client link. tt)).was y is.0 in

@@ -227,7 +227,9 @@ calm_pair older l x p legal streaming =
 module _ (e : Entry) (older : History) (l : ℕ) (x : Stream) (flow : Flow) (bytes : List ℕ) where
   -- a stream whose flow lets the same go up, with the same or more that is held
   pub stays_on : (p : Pair l x (state older)) (k : Client) → IsLegal (e ∷ older) × (k.about.phase ≡ p.client.about.phase) × (k.about.ended
-      ≡ p.client.about.ended) × (k.held ≡ p.client.held ++ bytes) → LetsSame x.part.flow flow × ((bytes ≡ []) ⊎ (flow ≡ x.part.flow)) → LeavesLink x.link e × (bytes_received x.link (e ∷ older) ≡ bytes_received x.link older) → Becomes l (record x { part = with_flow flow x.part }) k (rule e (state older)).state → GoesOn l (rule e (state older)).state
+      ≡ p.client.about.ended) × (k.held ≡ p.client.held ++ bytes) → LetsSame x.part.flow flow × ((bytes ≡ []) ⊎ (flow ≡ x.part.flow))
+      → LeavesLink x.link e × (bytes_received x.link (e ∷ older) ≡ bytes_received x.link older)
+      → Becomes l (record x { part = with_flow flow x.part }) k (rule e (state older)).state → GoesOn l (rule e (state older)).state
   stays_on p k at lets far is =
       goes_as l y k (rule e (state older)).state is (λ streaming. over_is (calm_pair older l x p at.0.0 (ap (is_streaming l) (sym at.1) ∙ streaming)) lets.1)
     where
