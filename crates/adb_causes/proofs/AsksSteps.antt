@@ -200,31 +200,32 @@ module _ (e : Entry) (older : History) (c : ℕ) (k0 : Client) (legal : IsLegal 
       }
 
 -- ---- it reads
-reads_ask : (older : History) (c : ℕ) (bytes : List ℕ) (k0 : Client) → (legal : IsLegal (Read c bytes ∷ older)) → (here : (state older).clients c ≡ Some k0)
-    → (asks : k0.about.phase ≡ Asking) → AsksAsTold older c k0 → still_asks (asked c (Read c bytes ∷ older)) ≡ true → AskRuled (Read c bytes) older c
-reads_ask older c bytes k0 legal here asks t still =
-    let p = now_said c bytes older legal k0 here asks in
-    let all = asked_now c bytes older legal k0 here asks in
-    let q = same_said c bytes older legal k0 here asks in
-    let next : p.next ≡ None = none_next p.next (ap (λ (q : Asked). still_asks q) (sym all) ∙ still) in
-    let owed = owe_client c p.replies (to_client c (has_asked p) (state older)) in
-    let made : reads c bytes (state older) ≡ then_also owed (λ s. quietly s) =
-    ap (λ o. reads_from o c bytes (state older)) here
-    ∙ (ap (λ phase. reads_in phase c bytes k0 (state older)) asks ∙ ap (λ n. then_also owed (goes_on n c)) next) in
-    let told : length (owed_to c (reads c bytes (state older)).told) ≡ length p.replies =
-    ap (λ (m : Made). length (owed_to c m.told)) made
-    ∙ (ap (λ b. length (cond b p.replies [] ++ [])) (eq-eqb c c refl) ∙ ap length (append-nil p.replies)) in
-    let replies : length (asked c (Read c bytes ∷ older)).replies ≡ length (asked c older).replies + length p.replies =
-    ap (λ (q : Asked). length q.replies) all ∙ length-append (asked c older).replies p.replies in
-    record {
-      client = replied_row c bytes k0 (state older) (asked c older) here asks q.rest q.selected (open_before c bytes older legal k0 here asks);
-      here = ap (λ (m : Made). m.state.clients c) made
-          ∙ replied_is c bytes k0 (state older) (asked c older) here asks q.rest q.selected (open_before c bytes older legal k0 here asks);
-      asks = asks;
-      forwarded = t.forwarded;
-      ended = t.ended;
-      output = omega (arith, told, replies, t.output);
-    }
+module _ (older : History) (c : ℕ) (bytes : List ℕ) (k0 : Client) where
+  reads_ask : (legal : IsLegal (Read c bytes ∷ older)) → (here : (state older).clients c ≡ Some k0) → (asks : k0.about.phase ≡ Asking)
+      → AsksAsTold older c k0 → still_asks (asked c (Read c bytes ∷ older)) ≡ true → AskRuled (Read c bytes) older c
+  reads_ask legal here asks t still =
+      let p = now_said c bytes older legal k0 here asks in
+      let all = asked_now c bytes older legal k0 here asks in
+      let q = same_said c bytes older legal k0 here asks in
+      let next : p.next ≡ None = none_next p.next (ap (λ (q : Asked). still_asks q) (sym all) ∙ still) in
+      let owed = owe_client c p.replies (to_client c (has_asked p) (state older)) in
+      let made : reads c bytes (state older) ≡ then_also owed (λ s. quietly s) =
+      ap (λ o. reads_from o c bytes (state older)) here
+      ∙ (ap (λ phase. reads_in phase c bytes k0 (state older)) asks ∙ ap (λ n. then_also owed (goes_on n c)) next) in
+      let told : length (owed_to c (reads c bytes (state older)).told) ≡ length p.replies =
+      ap (λ (m : Made). length (owed_to c m.told)) made
+      ∙ (ap (λ b. length (cond b p.replies [] ++ [])) (eq-eqb c c refl) ∙ ap length (append-nil p.replies)) in
+      let replies : length (asked c (Read c bytes ∷ older)).replies ≡ length (asked c older).replies + length p.replies =
+      ap (λ (q : Asked). length q.replies) all ∙ length-append (asked c older).replies p.replies in
+      record {
+        client = replied_row c bytes k0 (state older) (asked c older) here asks q.rest q.selected (open_before c bytes older legal k0 here asks);
+        here = ap (λ (m : Made). m.state.clients c) made
+            ∙ replied_is c bytes k0 (state older) (asked c older) here asks q.rest q.selected (open_before c bytes older legal k0 here asks);
+        asks = asks;
+        forwarded = t.forwarded;
+        ended = t.ended;
+        output = omega (arith, told, replies, t.output);
+      }
 
 -- ---- it is handed bytes
 front_nil : (xs : List ℕ) → IsPrefixOf xs [] → xs ≡ []

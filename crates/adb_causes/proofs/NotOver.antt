@@ -224,46 +224,46 @@ calm_pair older l x p legal streaming =
     (rests_calm older legal l (drawn_row (state older).drawn l (state older).streams (all_linked older legal).owned.rows.streams x p.is).0).calm
     (record { stream = x; client = p.client; there = p.is; here = p.here; streaming = streaming })
 
--- a stream whose flow lets the same go up, with the same or more that is held
-pub stays_on : (e : Entry) (older : History) (l : ℕ) (x : Stream) (flow : Flow) (bytes : List ℕ) → (p : Pair l x (state older)) (k : Client)
-    → IsLegal (e ∷ older) × (k.about.phase ≡ p.client.about.phase) × (k.about.ended ≡ p.client.about.ended) × (k.held ≡ p.client.held ++ bytes)
-    → LetsSame x.part.flow flow × ((bytes ≡ []) ⊎ (flow ≡ x.part.flow))
-    → LeavesLink x.link e × (bytes_received x.link (e ∷ older) ≡ bytes_received x.link older)
-    → Becomes l (record x { part = with_flow flow x.part }) k (rule e (state older)).state → GoesOn l (rule e (state older)).state
-stays_on e older l x flow bytes p k at lets far is =
-    goes_as l y k (rule e (state older)).state is (λ streaming. over_is (calm_pair older l x p at.0.0 (ap (is_streaming l) (sym at.1) ∙ streaming)) lets.1)
-  where
-    y : Stream
-    y = record x { part = with_flow flow x.part }
+module _ (e : Entry) (older : History) (l : ℕ) (x : Stream) (flow : Flow) (bytes : List ℕ) where
+  -- a stream whose flow lets the same go up, with the same or more that is held
+  pub stays_on : (p : Pair l x (state older)) (k : Client) → IsLegal (e ∷ older) × (k.about.phase ≡ p.client.about.phase) × (k.about.ended
+      ≡ p.client.about.ended) × (k.held ≡ p.client.held ++ bytes) → LetsSame x.part.flow flow × ((bytes ≡ []) ⊎ (flow ≡ x.part.flow))
+      → LeavesLink x.link e × (bytes_received x.link (e ∷ older) ≡ bytes_received x.link older)
+      → Becomes l (record x { part = with_flow flow x.part }) k (rule e (state older)).state → GoesOn l (rule e (state older)).state
+  stays_on p k at lets far is =
+      goes_as l y k (rule e (state older)).state is (λ streaming. over_is (calm_pair older l x p at.0.0 (ap (is_streaming l) (sym at.1) ∙ streaming)) lets.1)
+    where
+      y : Stream
+      y = record x { part = with_flow flow x.part }
 
-    md : ℕ
-    md = maxdata_of x.link (rule e (state older)).state.devices
+      md : ℕ
+      md = maxdata_of x.link (rule e (state older)).state.devices
 
-    same : maxdata_of x.link (rule e (state older)).state.devices ≡ maxdata_of x.link (state older).devices
-    same = maxdata_same e older l x at.0 (
-      p.is,
-      row_lives ((rule e (state older)).state.streams l)
-          (record x { part = with_flow flow x.part }) is.row p.alive,
-    ) far
+      same : maxdata_of x.link (rule e (state older)).state.devices ≡ maxdata_of x.link (state older).devices
+      same = maxdata_same e older l x at.0 (
+        p.is,
+        row_lives ((rule e (state older)).state.streams l)
+            (record x { part = with_flow flow x.part }) is.row p.alive,
+      ) far
 
-    over_is : SendsNothing (state older).devices p.client x → (bytes ≡ []) ⊎ (flow ≡ x.part.flow)
-        → is_over k.about.ended (drop (total (payloads flow (maxdata_of x.link (rule e (state older)).state.devices) k.held)) k.held)
-        (flow_after (payloads flow (maxdata_of x.link (rule e (state older)).state.devices) k.held) flow) ≡ false
-    over_is calm (inr own) =
-        ap (λ (f : Flow). is_over k.about.ended (drop (total (payloads f md k.held)) k.held) (flow_after (payloads f md k.held) f)) own
-        ∙ (ap (λ (m : ℕ). is_over k.about.ended (drop (total (payloads x.part.flow m k.held)) k.held) (flow_after
-        (payloads x.part.flow m k.held) x.part.flow)) same
-        ∙ (ap (λ (held : List ℕ). is_over k.about.ended (drop (total (payloads x.part.flow (maxdata_of x.link (state older).devices) held)) held)
-        (flow_after (payloads x.part.flow (maxdata_of x.link (state older).devices) held) x.part.flow)) at.3
-        ∙ (ap (λ ended. is_over ended (drop (total (payloads x.part.flow (maxdata_of x.link (state older).devices) (p.client.held ++ bytes)))
-        (p.client.held ++ bytes))
-        (flow_after (payloads x.part.flow (maxdata_of x.link (state older).devices) (p.client.held ++ bytes)) x.part.flow)) at.2
-        ∙ read_goes x.part.flow (maxdata_of x.link (state older).devices) p.client.about.ended p.client.held bytes calm.nothing calm.goes_on)))
-    over_is calm (inl none) =
-        let held : k.held ≡ p.client.held = at.3 ∙ (ap (λ w. p.client.held ++ w) none ∙ append-nil p.client.held) in
-        let nothing : payloads flow md k.held ≡ [] =
-        lets.0.payloads md k.held ∙ (ap (λ (m : ℕ). payloads x.part.flow m k.held) same
-        ∙ (ap (payloads x.part.flow (maxdata_of x.link (state older).devices)) held ∙ calm.nothing)) in
-        ap (λ (ps : List (List ℕ)). is_over k.about.ended (drop (total ps) k.held) (flow_after ps flow)) nothing
-        ∙ (lets.0.over k.about.ended k.held
-        ∙ (ap (λ w. is_over k.about.ended w x.part.flow) held ∙ (ap (λ b. is_over b p.client.held x.part.flow) at.2 ∙ calm.goes_on)))
+      over_is : SendsNothing (state older).devices p.client x → (bytes ≡ []) ⊎ (flow ≡ x.part.flow)
+          → is_over k.about.ended (drop (total (payloads flow (maxdata_of x.link (rule e (state older)).state.devices) k.held)) k.held)
+          (flow_after (payloads flow (maxdata_of x.link (rule e (state older)).state.devices) k.held) flow) ≡ false
+      over_is calm (inr own) =
+          ap (λ (f : Flow). is_over k.about.ended (drop (total (payloads f md k.held)) k.held) (flow_after (payloads f md k.held) f)) own
+          ∙ (ap (λ (m : ℕ). is_over k.about.ended (drop (total (payloads x.part.flow m k.held)) k.held) (flow_after
+          (payloads x.part.flow m k.held) x.part.flow)) same
+          ∙ (ap (λ (held : List ℕ). is_over k.about.ended (drop (total (payloads x.part.flow (maxdata_of x.link (state older).devices) held)) held)
+          (flow_after (payloads x.part.flow (maxdata_of x.link (state older).devices) held) x.part.flow)) at.3
+          ∙ (ap (λ ended. is_over ended (drop (total (payloads x.part.flow (maxdata_of x.link (state older).devices) (p.client.held ++ bytes)))
+          (p.client.held ++ bytes))
+          (flow_after (payloads x.part.flow (maxdata_of x.link (state older).devices) (p.client.held ++ bytes)) x.part.flow)) at.2
+          ∙ read_goes x.part.flow (maxdata_of x.link (state older).devices) p.client.about.ended p.client.held bytes calm.nothing calm.goes_on)))
+      over_is calm (inl none) =
+          let held : k.held ≡ p.client.held = at.3 ∙ (ap (λ w. p.client.held ++ w) none ∙ append-nil p.client.held) in
+          let nothing : payloads flow md k.held ≡ [] =
+          lets.0.payloads md k.held ∙ (ap (λ (m : ℕ). payloads x.part.flow m k.held) same
+          ∙ (ap (payloads x.part.flow (maxdata_of x.link (state older).devices)) held ∙ calm.nothing)) in
+          ap (λ (ps : List (List ℕ)). is_over k.about.ended (drop (total ps) k.held) (flow_after ps flow)) nothing
+          ∙ (lets.0.over k.about.ended k.held
+          ∙ (ap (λ w. is_over k.about.ended w x.part.flow) held ∙ (ap (λ b. is_over b p.client.held x.part.flow) at.2 ∙ calm.goes_on)))

@@ -185,29 +185,30 @@ module _ (l : ℕ) (x : Stream) (k : Client) (n : ℕ) (s : State) (h : (s.strea
         go false e = fewer x.part.flow refl sound
 
 -- ---- the whole rule
--- what may be put to the client of a stream is due to it
-due_some : (l remote : ℕ) (k : Client) (devices : DeviceTable) (bytes : List ℕ) → (k.about.mark ≡ true → k.about.phase ≡ Tracking)
-    → k.about.phase ≡ phase_for l remote → IsSomeOf bytes (offered devices k) → (due : List ℕ) → k.due ≡ due → due ≢ []
-due_some l remote k devices bytes mark phase may due is none = unmarked k.about.mark refl
-  where
-    tracking : (n : ℕ) → Tracking ≡ phase_for l n → ⊥
-    tracking zero e = let clash : Tracking ≡ Opening l = e in cc
-    tracking (suc n) e = let clash : Tracking ≡ Streaming l = e in cc
+module _ (l remote : ℕ) (k : Client) (devices : DeviceTable) where
+  -- what may be put to the client of a stream is due to it
+  due_some : (bytes : List ℕ) → (k.about.mark ≡ true → k.about.phase ≡ Tracking) → k.about.phase ≡ phase_for l remote → IsSomeOf bytes (offered devices k)
+      → (due : List ℕ) → k.due ≡ due → due ≢ []
+  due_some bytes mark phase may due is none = unmarked k.about.mark refl
+    where
+      tracking : (n : ℕ) → Tracking ≡ phase_for l n → ⊥
+      tracking zero e = let clash : Tracking ≡ Opening l = e in cc
+      tracking (suc n) e = let clash : Tracking ≡ Streaming l = e in cc
 
-    -- nothing is offered
-    no_front : bytes ≢ [] → IsPrefixOf bytes [] → ⊥
-    no_front some front = some (front_nil bytes front)
-      where
-        front_nil : (xs : List ℕ) → IsPrefixOf xs [] → xs ≡ []
-        front_nil [] f = refl
-        front_nil (b ∷ xs) f = absurd (let clash : b ∷ (xs ++ f.0) ≡ [] = f.1 in cc)
+      -- nothing is offered
+      no_front : bytes ≢ [] → IsPrefixOf bytes [] → ⊥
+      no_front some front = some (front_nil bytes front)
+        where
+          front_nil : (xs : List ℕ) → IsPrefixOf xs [] → xs ≡ []
+          front_nil [] f = refl
+          front_nil (b ∷ xs) f = absurd (let clash : b ∷ (xs ++ f.0) ≡ [] = f.1 in cc)
 
-    unmarked : (b : Bool) → k.about.mark ≡ b → ⊥
-    unmarked true e = tracking remote (sym (mark e) ∙ phase)
-    unmarked false e =
-        let offers : offered devices k ≡ [] =
-        ap (λ d. due_or d (list_if_stale devices k.about.mark k.about.long)) (is ∙ none) ∙ ap (λ b. list_if_stale devices b k.about.long) e in
-        no_front may.some (subst (IsPrefixOf bytes) offers may.front)
+      unmarked : (b : Bool) → k.about.mark ≡ b → ⊥
+      unmarked true e = tracking remote (sym (mark e) ∙ phase)
+      unmarked false e =
+          let offers : offered devices k ≡ [] =
+          ap (λ d. due_or d (list_if_stale devices k.about.mark k.about.long)) (is ∙ none) ∙ ap (λ b. list_if_stale devices b k.about.long) e in
+          no_front may.some (subst (IsPrefixOf bytes) offers may.front)
 
 -- the rest of what is due to a client with a stream
 hands_own : (l remote n : ℕ) (k : Client) → k.about.phase ≡ phase_for l remote → hands n k ≡ Some (record k { due = drop n k.due })
