@@ -1,8 +1,9 @@
 -- A client whose connection failed is told nothing more.
-use Rattle.std.proofs.Common.{◌≡◌, ◌≢◌, ℕ, ◌+◌, ◌≤◌, ◌<◌, Bool, true, false, cond, not, ◌&&◌, ◌||◌, List, [], ◌∷◌, ◌++◌, Option, Some, None, refl, sym, ap, subst, ◌∙◌, eqb}
+use Rattle.std.proofs.Common.{◌≡◌, ℕ, ◌≤◌, ◌<◌, Bool, true, false, cond, not, ◌&&◌, ◌||◌, List, [], ◌∷◌, ◌++◌, Option, Some, None, refl, sym, ap, subst, ◌∙◌}
+use Rattle.std.proofs.Common.{eqb}
 use Rattle.std.proofs.Common.{append_assoc, arith}
 use Rattle.std.proofs.lemmas.Bool.{eqb-true, eq-eqb}
-use Rattle.std.specs.Prelude.{nat_eq, option_and_then}
+use Rattle.std.specs.Prelude.{option_and_then}
 use Rattle.adb_outside.specs.declared.kinds.Cause.{Cause}
 use Rattle.adb_outside.specs.declared.kinds.Cause.TheVariants.{Eof, Fault, Starved, NoThread}
 use Rattle.adb_stream.specs.declared.row.Stream.{Stream}
@@ -11,7 +12,7 @@ use Rattle.adb_client.specs.declared.phase.Phase.TheVariants.{Asking, Opening, S
 use Rattle.adb_capture.specs.declared.entry.Entry.{Entry}
 use Rattle.adb_capture.specs.declared.entry.Entry.TheVariants.{Join, Enter, Read, End, Bound, Attach, Recv, Detach, Put, Send}
 use Rattle.adb_history.specs.Rows.{Client, State, to_client, none_kept}
-use Rattle.adb_history.specs.Events.{Made, Event, quietly, owed_to}
+use Rattle.adb_history.specs.Events.{Made, Event, owed_to}
 use Rattle.adb_history.specs.Losing.{stream_fails, stream_of, client_ends}
 use Rattle.adb_history.specs.Machine.{History, state, told, rule, ups, May, IsLegal}
 use Rattle.adb_history.specs.Bytes.{has_joined, has_ended, has_failed, is_orderly}
@@ -31,7 +32,8 @@ failed_ended : (c : ℕ) (h : History) → has_failed c h ≡ true → has_ended
 failed_ended c [] e = e
 failed_ended c (End n cause ∷ older) e = go (eqb n c) (not (is_orderly cause)) (has_failed c older) refl e (failed_ended c older)
   where
-    go : (a b f : Bool) → has_failed c older ≡ f → ((a && b) || f) ≡ true → (has_failed c older ≡ true → has_ended c older ≡ true) → (a || has_ended c older) ≡ true
+    go : (a b f : Bool) → has_failed c older ≡ f → ((a && b) || f) ≡ true → (has_failed c older ≡ true → has_ended c older ≡ true)
+        → (a || has_ended c older) ≡ true
     go true b f is e h = refl
     go false b f is e h = h (is ∙ e)
 failed_ended c (Join n ∷ older) e = failed_ended c older e
@@ -66,7 +68,8 @@ fails_none c cause x s = ap (λ (f : ℕ → Option Client). f c)
     (fails_clients x.about.phase cause (stream_of x.about.phase s.streams) (to_client c none_kept s))
     ∙ (ap (λ (b : Bool). cond b (option_and_then none_kept (s.clients c)) (s.clients c)) (eq-eqb c c refl) ∙ none_row (s.clients c))
 
-ended_none : (c : ℕ) (cause : Cause) (o : Option Client) (s : State) → s.clients c ≡ o → is_orderly cause ≡ false → (client_ends c cause o s).state.clients c ≡ None
+ended_none : (c : ℕ) (cause : Cause) (o : Option Client) (s : State) → s.clients c ≡ o → is_orderly cause ≡ false
+    → (client_ends c cause o s).state.clients c ≡ None
 ended_none c cause None s is e = is
 ended_none c Eof (Some x) s is e = absurd (let clash : true ≡ false = e in cc)
 ended_none c Fault (Some x) s is e = fails_none c Fault x s
@@ -94,9 +97,11 @@ module _ (c : ℕ) (older : History) (legal : IsLegal older) (came : has_joined 
       let owned : IsOwned m.state = moves.rule_kept owned_moves (End c cause) s (told older) (all_owned older legal) in
       let out : List ℕ = owed_to c (told older ++ m.told) in
       let done : IsDone c out m.state (told older ++ m.told) =
-      record { owned = owned; row = λ client is. absurd (let clash : None ≡ Some client = sym none ∙ is in cc); told = refl } in
-      (out, subst (λ (v : List Event). IsDone c out (state (End c cause ∷ older)) v) (append_assoc (told older) m.told (ups m.state).told)
-      (client_ups (done_client c out) m.state (told older ++ m.told) done))
+      record { owned = owned; row = λ client is. absurd (let clash : None ≡ Some client = sym none ∙ is in cc); told = refl } in (
+        out,
+        subst (λ (v : List Event). IsDone c out (state (End c cause ∷ older)) v) (append_assoc (told older) m.told (ups m.state).told)
+            (client_ups (done_client c out) m.state (told older ++ m.told) done),
+      )
 
   failed_end : (n : ℕ) (cause : Cause) → May (state older) (End n cause) → (has_failed c older ≡ true → HasFailed c older)
       → (a b f : Bool) → eqb n c ≡ a → is_orderly cause ≡ b → has_failed c older ≡ f → ((a && not b) || f) ≡ true → HasFailed c (End n cause ∷ older)

@@ -1,8 +1,7 @@
 -- A CLSE of a stream, and a CNXN of its link: the stream is as the packets say.
-use Rattle.std.proofs.Common.{◌≡◌, ◌≢◌, ℕ, ◌+◌, ◌≤◌, Bool, true, false, cond, not, ◌&&◌, ◌||◌, List, [], ◌∷◌, ◌++◌, Option, Some, None, is_some, refl, sym, ap, subst}
-use Rattle.std.proofs.Common.{◌∙◌, eqb, append_assoc, arith, inl, inr, ◌⊎◌}
+use Rattle.std.proofs.Common.{◌≡◌, ◌≢◌, ℕ, Bool, true, false, cond, ◌&&◌, ◌||◌, List, [], ◌∷◌, ◌++◌, Option, Some, None, is_some, refl, sym, ap, subst}
+use Rattle.std.proofs.Common.{◌∙◌, eqb, inl, inr}
 use Rattle.std.proofs.lemmas.Bool.{ne_eqb, eqb-true, eqb-false, eq-eqb}
-use Rattle.std.proofs.lemmas.List.{append-nil}
 use Rattle.std.specs.Prelude.{nat_eq, nat_lt, option_and_then}
 use Rattle.adb_outside.specs.declared.identity.Identity.{Identity}
 use Rattle.adb_banner.specs.Banner.{identity_of}
@@ -10,26 +9,24 @@ use Rattle.adb_wire.specs.declared.command.Command.{Command}
 use Rattle.adb_wire.specs.declared.command.Command.TheVariants.{Cnxn, Clse}
 use Rattle.adb_wire.specs.declared.packets.Packet.{Packet}
 use Rattle.adb_stream.specs.declared.row.Stream.{Stream}
-use Rattle.adb_history.specs.Rows.{Client, Link, State, none_kept}
+use Rattle.adb_history.specs.Rows.{Link, State, none_kept}
 use Rattle.adb_history.specs.Events.{Made, Event, quietly, broken, peer_closed}
 use Rattle.adb_history.specs.Links.{is_connected}
 use Rattle.adb_history.specs.Streams.{ends_row}
 use Rattle.adb_history.specs.Losing.{link_ends}
-use Rattle.adb_history.specs.Packets.{least_version, least_maxdata, connects, cnxn, at_stream, takes_close, treat_any, treat_on, treat}
+use Rattle.adb_history.specs.Packets.{least_version, least_maxdata, connects, at_stream, takes_close, treat_any, treat_on, treat}
 use Rattle.adb_history.specs.Births.{is_between, Opening as FirstOkay, opening_by, opening_in, remote_in}
-use Rattle.adb_history.specs.Orderly.{phase_for}
 use Rattle.adb_history.specs.Moves.{connects_now}
 use Rattle.adb_history.specs.Owned.{OwnerIn}
 use Rattle.adb_history.specs.Linked.{IsLinked}
 use Rattle.adb_history.proofs.Following.{after_quietly}
-use Rattle.adb_answered.specs.Served.{PhaseFor}
 use Rattle.adb_answered.specs.Shown.{Seen, seen, seals_by, sealed_in, Subject, WillNotOpen, IsShown}
 use Rattle.adb_answered.proofs.Clearing.{none_of, ends_streams, link_ends_cleared, online_cleared, online_links}
-use Rattle.adb_answered.proofs.Openings.{IsSeenOn, remote_sealed, seen_pending, seen_one}
+use Rattle.adb_answered.proofs.Openings.{remote_sealed, seen_pending, seen_one}
 use Rattle.adb_answered.proofs.ServedMoves.{phase_waiting}
 use Rattle.adb_answered.proofs.ShownMoves.{shown_client}
 use Rattle.adb_answered.proofs.ShownRules.{ends_shown, link_ends_cut, online_shown}
-use Rattle.adb_answered.proofs.ShownPackets.{seen_on, gone_more, gone_reason, told_more, sealed_more, still_none, pardoned, pardon, restore, live_link, no_link}
+use Rattle.adb_answered.proofs.ShownPackets.{seen_on, gone_more, gone_reason, told_more, sealed_more, still_none, pardon, restore, live_link, no_link}
 
 module _ (x : Subject) where
   -- a stream that waits has been told no id
@@ -102,7 +99,8 @@ module _ (x : Subject) where
         either true = refl
         either false = refl
 
-    close_is : (o : Option Link) (t : ℕ) (s : State) (y : Stream) → s.streams x.stream ≡ Some y → y.link ≡ t → is_some o ≡ true → is_connected t s.devices ≡ true
+    close_is : (o : Option Link) (t : ℕ) (s : State) (y : Stream) → s.streams x.stream ≡ Some y → y.link ≡ t → is_some o ≡ true
+        → is_connected t s.devices ≡ true
         → treat_on o t p s ≡ takes_close x.stream p.arg0 y s
     close_is None t s y is link there connected = absurd (let clash : false ≡ true = there in cc)
     close_is (Some l) t s y is link there connected =
@@ -149,7 +147,8 @@ module _ (x : Subject) where
         → IsShown heard x (seen x.stream (ps ++ p ∷ [])) (treat x.link p s).state (w ++ (treat x.link p s).told)
     close_here ps s w linked heard h = go (s.streams x.stream) refl
       where
-        go : (o : Option Stream) → s.streams x.stream ≡ o → IsShown heard x (seen x.stream (ps ++ p ∷ [])) (treat x.link p s).state (w ++ (treat x.link p s).told)
+        go : (o : Option Stream) → s.streams x.stream ≡ o → IsShown heard x (seen x.stream (ps ++ p ∷ [])) (treat x.link p s).state (w ++
+            (treat x.link p s).told)
         go None is = subst (λ (m : Made). IsShown heard x (seen x.stream (ps ++ p ∷ [])) m.state (w ++ m.told))
             (sym (close_none (s.links x.link) x.link s is))
             (after_quietly (λ s w. IsShown heard x (seen x.stream (ps ++ p ∷ [])) s w) w s (gone_more x heard ps (p ∷ []) s w is h))
@@ -188,8 +187,10 @@ module _ (x : Subject) where
 
       breaks : IsShown heard x (seen x.stream (ps ++ p ∷ [])) (link_ends x.link broken s).state (w ++ (link_ends x.link broken s).told)
       breaks =
-          let after = link_ends_cut heard (record x { failed = true }) (seen x.stream ps) x.link broken s w (λ same. inr refl) (pardon x heard (seen x.stream ps) s w h) in
-          gone_then (link_ends x.link broken s) (link_ends_cleared x.stream x.link broken s h.owned.rows.streams.zero h.drawn on_link) (λ e. after.1 refl) after.0
+          let after = link_ends_cut heard (record x { failed = true }) (seen x.stream ps) x.link broken s w (λ same. inr refl) (pardon x heard
+          (seen x.stream ps) s w h) in
+          gone_then (link_ends x.link broken s) (link_ends_cleared x.stream x.link broken s h.owned.rows.streams.zero h.drawn on_link)
+          (λ e. after.1 refl) after.0
 
       renews : (identity : Identity) → IsShown heard x (seen x.stream (ps ++ p ∷ [])) (connects_now x.link p.arg0 p.arg1 identity s).state
           (w ++ (connects_now x.link p.arg0 p.arg1 identity s).told)

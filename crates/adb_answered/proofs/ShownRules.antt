@@ -1,18 +1,18 @@
 -- A stream and its client are as the packets of its link say, through each rule that does not concern them.
-use Rattle.std.proofs.Common.{◌≡◌, ◌≢◌, ℕ, ◌+◌, ◌≤◌, suc, zero, Bool, true, false, cond, List, [], ◌∷◌, ◌++◌, length, Option, Some, None, refl, sym, ap, subst, ◌∙◌, eqb}
-use Rattle.std.proofs.Common.{append_assoc, arith, inl, inr, ◌⊎◌}
+use Rattle.std.proofs.Common.{◌≡◌, ◌≢◌, ℕ, ◌+◌, Bool, true, false, cond, List, [], ◌∷◌, ◌++◌, length, Option, Some, None, refl, sym, ap, subst, ◌∙◌, eqb}
+use Rattle.std.proofs.Common.{arith, inl, inr, ◌⊎◌}
 use Rattle.std.proofs.lemmas.Bool.{ne_eqb, eqb-true, eqb-false, eq-eqb}
 use Rattle.std.proofs.lemmas.List.{append-nil}
 use Rattle.std.specs.Prelude.{codes, option_and_then}
 use Rattle.adb_outside.specs.Tables.{Rows, change_row}
 use Rattle.adb_outside.specs.declared.kinds.Cause.{Cause}
 use Rattle.adb_outside.specs.declared.identity.Identity.{Identity}
-use Rattle.adb_stream.specs.declared.row.Part.{Part}
 use Rattle.adb_stream.specs.declared.row.Stream.{Stream}
 use Rattle.adb_client.specs.declared.phase.Phase.{Phase}
 use Rattle.adb_client.specs.declared.phase.Phase.TheVariants.{Opening, Streaming}
 use Rattle.adb_reply.specs.Strings.{failed}
-use Rattle.adb_history.specs.Rows.{Client, Link, State, to_client, to_link, to_stream, none_kept, in_phase, with_due, with_held, with_link_due, with_stream_part}
+use Rattle.adb_history.specs.Rows.{Client, Link, State, to_client, to_link, to_stream, none_kept, in_phase, with_due, with_held, with_link_due}
+use Rattle.adb_history.specs.Rows.{with_stream_part}
 use Rattle.adb_history.specs.Events.{Made, Event, Ending, quietly, then_also, ended, due_to_client, due_to_link, owed_to, lost, client_failed}
 use Rattle.adb_history.specs.Links.{is_connected, is_credit}
 use Rattle.adb_history.specs.Streams.{client_loses, tells_end, ends_row, all_end}
@@ -29,21 +29,21 @@ use Rattle.adb_history.specs.Clients.{closes, owe_client}
 use Rattle.adb_history.specs.Flow.{with_flow}
 use Rattle.adb_history.specs.Packets.{with_sums, streams_end_first, with_remote, first_credit, hears_okay, opened, is_out_of_turn, accepted, unauthorized_from}
 use Rattle.adb_history.specs.Orderly.{phase_for}
-use Rattle.adb_history.specs.Answered.{tells_closed, closed_reply}
+use Rattle.adb_history.specs.Answered.{closed_reply}
 use Rattle.adb_history.specs.Moves.{After, connects_now, open_now, accepts_now, draws_now}
 use Rattle.adb_history.specs.Owned.{StreamOf, OwnerIn, HoldsIn, IsOwned}
 use Rattle.adb_history.proofs.Following.{after_quietly}
 use Rattle.adb_history.proofs.Growing.{owed_append}
 use Rattle.adb_history.proofs.OwnedMoves.{client_of}
 use Rattle.adb_history.proofs.OwnedStep.{owned_moves, ends_state, client_loses_frame}
-use Rattle.adb_answered.specs.Turns.{HasOpen, IsOpenedBy, EndsSo, Turns}
+use Rattle.adb_answered.specs.Turns.{IsOpenedBy, EndsSo, Turns}
 use Rattle.adb_answered.specs.Served.{PhaseFor, RowServed}
-use Rattle.adb_answered.specs.Shown.{aside, Seen, Subject, IsShownRow, IsGone, WillNotOpen, IsUnopened, IsOpened, ShownOut, IsShown}
+use Rattle.adb_answered.specs.Shown.{aside, Seen, Subject, WillNotOpen, ShownOut, IsShown}
 use Rattle.adb_answered.proofs.ToldOthers.{quiet_after, all_stop_owed, stopped_none, owed_other, client_loses_owed, owned_opened, forgets_owned}
 use Rattle.adb_answered.proofs.SteadyRows.{at_client_loses, at_marked, at_due, at_apart, at_none, at_closing, at_like, at_hands}
 use Rattle.adb_answered.proofs.Clearing.{ends_links, link_stays}
 use Rattle.adb_answered.proofs.Endings.{all_end_by}
-use Rattle.adb_answered.proofs.ServedMoves.{steady, closed_told, phase_of_own, phase_waiting}
+use Rattle.adb_answered.proofs.ServedMoves.{steady, closed_told, phase_waiting}
 use Rattle.adb_answered.proofs.ShownMoves.{Steps, steps_same, steps_part, shown_quietly, shown_steps, shown_gone, own_steps, out_steps, out_more, shown_client}
 use Rattle.adb_answered.proofs.ShownMoves.{other_client, none_more}
 
@@ -236,7 +236,8 @@ module _ (heard : Bool) (x : Subject) (seen : Seen) where
       go (inl cut) = inr (inl (cut, none))
       go (inr failed) = inr (inr failed)
 
-  all_end_cut : (t : ℕ) (ending : Ending) (s : State) (w : List Event) → CutReason t → Cut t s w → After (λ s w. IsShown heard x seen s w × (t ≡ x.link → s.links x.link ≡ None)) w
+  all_end_cut : (t : ℕ) (ending : Ending) (s : State) (w : List Event) → CutReason t → Cut t s w → After (λ s w. IsShown heard x seen s w × (t ≡ x.link
+      → s.links x.link ≡ None)) w
       (all_end t ending s)
   all_end_cut t ending s w reason h = all_end_by {P = λ s w. IsShown heard x seen s w × (t ≡ x.link → s.links x.link ≡ None)} t ending
       (λ k stream s w at (h, cut). (
@@ -252,9 +253,11 @@ module _ (heard : Bool) (x : Subject) (seen : Seen) where
       let forgot : State = forgets t s in
       let all : Made = all_end t ending forgot in
       let owned : IsOwned forgot = forgets_owned t s h.owned in
-      let kept = all_end_cut t ending forgot w reason (shown_quietly heard x seen s forgot w
-      (steps_same x s forgot refl (λ e. link_stays t x.link none_kept s.links e)) owned h.row (omega arith) h,
-      λ same. link_gone t x.link s.links same) in (
+      let kept = all_end_cut t ending forgot w reason (
+        shown_quietly heard x seen s forgot w
+            (steps_same x s forgot refl (λ e. link_stays t x.link none_kept s.links e)) owned h.row (omega arith) h,
+        λ same. link_gone t x.link s.links same,
+      ) in (
         quiet_after (λ s w. IsShown heard x seen s w) w all.told (mark_all all.state)
             (marked_shown all.state all.state (w ++ all.told) (owned_moves.link_ends t ending s w h.owned) refl refl refl (λ e. e) kept.0),
         kept.1,
@@ -319,7 +322,8 @@ module _ (heard : Bool) (x : Subject) (seen : Seen) where
       → is_out_of_turn stream.part.flow (length payload) ≡ false → W s w → W (accepts_now k payload stream s) (w ++ due_to_client stream.client payload ∷ [])
   accepts_shown k payload stream s w is known turn h =
       let next : State = accepts_now k payload stream s in
-      let steps : Steps x s next = steps_part x s next k stream (with_flow (accepted (length payload) stream.part.flow) stream.part) is (refl, refl) refl (λ e. e) in
+      let steps : Steps x s next = steps_part x s next k stream (with_flow (accepted (length payload) stream.part.flow) stream.part) is (refl, refl) refl
+      (λ e. e) in
       record {
         owned = owned_moves.accepts k payload stream s w is known turn h.owned;
         row = at_due (steady x.stream heard) x.client stream.client payload s.clients h.row;
@@ -341,13 +345,20 @@ module _ (heard : Bool) (x : Subject) (seen : Seen) where
           → ShownOut b x seen next (owed_to x.client (w ++ due_to_client stream.client payload ∷ []))
       out true e next steps h =
           let more = out_more x seen s (owed_to x.client w) (owed_to x.client (due_to_client stream.client payload ∷ [])) h in
-          record { bytes = more.bytes; out_is = owed_append x.client w (due_to_client stream.client payload ∷ []) ∙ more.out_is; may = more.may; told = more.told }
+          record {
+            bytes = more.bytes;
+            out_is = owed_append x.client w (due_to_client stream.client payload ∷ [])
+                ∙ more.out_is;
+            may = more.may;
+            told = more.told;
+          }
       out false e next steps h = out_steps x seen false s next (owed_to x.client w) (owed_to x.client (w ++ due_to_client stream.client payload ∷ [])) steps
           (none_more false x seen w (due_to_client stream.client payload ∷ []) (owed_other x.client stream.client payload (apart stream.part.orphan refl e))) h
 
   -- ---- a client fails
   none_row : (k : ℕ) (streams : Rows (Option Stream)) → k ≡ x.stream → change_row k (option_and_then none_kept) streams x.stream ≡ None
-  none_row k streams here = ap (λ (b : Bool). cond b (option_and_then none_kept (streams x.stream)) (streams x.stream)) (eq-eqb k x.stream here) ∙ go (streams x.stream)
+  none_row k streams here = ap (λ (b : Bool). cond b (option_and_then none_kept (streams x.stream)) (streams x.stream)) (eq-eqb k x.stream here)
+      ∙ go (streams x.stream)
     where
       go : (o : Option Stream) → option_and_then none_kept o ≡ None
       go None = refl
