@@ -34,3 +34,5 @@ pub mod ShownCloses
 pub mod ShownReceives
 pub mod Brought
 pub mod Failing
+pub mod ShownClients
+pub mod ShownHistories

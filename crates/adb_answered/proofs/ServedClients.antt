@@ -12,7 +12,7 @@ use Rattle.adb_answered.proofs.DoneMoves.{done_turns}
 use Rattle.adb_answered.proofs.ServedMoves as served
 use Rattle.adb_answered.proofs.ServedRules.{IsServedSo, served_turns}
 
-served_busy : (p : Phase) (l : ℕ) (heard : Bool) → PhaseFor p l heard → IsBusy p
+pub served_busy : (p : Phase) (l : ℕ) (heard : Bool) → PhaseFor p l heard → IsBusy p
 served_busy (Opening k) l heard h = tt
 served_busy (Streaming k) l heard h = tt
 served_busy Closing l heard h = tt
