@@ -35,7 +35,7 @@ IsClosing x = x.about.phase ≡ Closing
 pub steady : IsSteady IsClosing
 steady = record { closing = λ x y phase forwarded h. phase; like = λ x y phase forwarded h. phase ∙ h }
 
-never_closing : (l remote : ℕ) → Closing ≡ phase_for l remote → ⊥
+pub never_closing : (l remote : ℕ) → Closing ≡ phase_for l remote → ⊥
 never_closing l zero e = cc
 never_closing l (suc remote) e = cc
 

@@ -5,6 +5,8 @@ use Rattle.std.proofs.lemmas.Bool.{eqb-true, eqb-false, eq-eqb, ne_eqb, cases_eq
 use Rattle.std.proofs.lemmas.List.{append-nil, length-append, drop-append-le, take-append-le, take-append-drop}
 use Rattle.std.proofs.lemmas.List.Folds.{list_any-append}
 use Rattle.std.specs.List.{list_any}
+use Rattle.std.specs.Prelude.{nat_eq}
+use Rattle.adb_registry.specs.Row.{new_row}
 use Rattle.adb_wire.specs.declared.packets.Packet.{Packet}
 use Rattle.adb_stream.specs.declared.row.Stream.{Stream}
 use Rattle.adb_capture.specs.declared.entry.Entry.{Entry}
@@ -12,8 +14,8 @@ use Rattle.adb_capture.specs.declared.entry.Entry.TheVariants.{Join, Enter, Read
 use Rattle.adb_history.specs.Rows.{Client, Link, State}
 use Rattle.adb_history.specs.Events.{Made, Event, owed_to}
 use Rattle.adb_history.specs.Machine.{History, state, told, told_at, rule, ups, step, May, IsLegal}
-use Rattle.adb_history.specs.Bytes.{has_joined, has_failed, brought}
-use Rattle.adb_history.specs.Book.{asked, is_refused, plugged}
+use Rattle.adb_history.specs.Bytes.{has_joined, has_failed, is_orderly, brought}
+use Rattle.adb_history.specs.Book.{asked, is_refused, plugged, plugged_count}
 use Rattle.adb_history.specs.Births.{Birth, born, since, opening_in, opening_of, remote_in}
 use Rattle.adb_history.specs.Answered.{is_heard}
 use Rattle.adb_history.specs.Moves.{After}
@@ -24,6 +26,7 @@ use Rattle.adb_answered.proofs.Openings.{opening_named}
 use Rattle.adb_answered.proofs.ShownClients.{shown_of, IsSaid, resubject, opened_not_closed}
 use Rattle.adb_answered.proofs.ShownCloses.{waiting_none}
 use Rattle.adb_answered.proofs.Failing.{all_failed}
+use Rattle.adb_answered.proofs.DoneMoves.{never_closing}
 
 -- whether a client may hear by what comes next that its stream opens
 abbrev pub may_hear : ℕ → Birth → History → Bool
@@ -93,3 +96,131 @@ module _ (heard_before some_now some_before failed_before : Bool) where
       go false true false false e (inl s) = s
       go false true false false e (inr (inl b)) = absurd (let clash : false ≡ true = b in cc)
       go false true false false e (inr (inr f)) = absurd (let clash : false ≡ true = f in cc)
+
+failed_more : (c : ℕ) (e : Entry) (older : History) → has_failed c older ≡ true → has_failed c (e ∷ older) ≡ true
+failed_more c (End n cause) older h = go (nat_eq n c && not (is_orderly cause)) h
+  where
+    go : (b : Bool) → has_failed c older ≡ true → (b || has_failed c older) ≡ true
+    go true h = refl
+    go false h = h
+failed_more c (Join n) older h = h
+failed_more c (Enter n port) older h = h
+failed_more c (Read n bytes) older h = h
+failed_more c (Bound n port) older h = h
+failed_more c (Attach t kind serial) older h = h
+failed_more c (Recv t bytes) older h = h
+failed_more c (Detach t cause) older h = h
+failed_more c (Put n bytes) older h = h
+failed_more c (Send t bytes) older h = h
+
+joined_more : (c : ℕ) (e : Entry) (older : History) → has_joined c older ≡ true → has_joined c (e ∷ older) ≡ true
+joined_more c (Join n) older h = go (nat_eq n c) h
+  where
+    go : (b : Bool) → has_joined c older ≡ true → (b || has_joined c older) ≡ true
+    go true h = refl
+    go false h = h
+joined_more c (End n cause) older h = h
+joined_more c (Enter n port) older h = h
+joined_more c (Read n bytes) older h = h
+joined_more c (Bound n port) older h = h
+joined_more c (Attach t kind serial) older h = h
+joined_more c (Recv t bytes) older h = h
+joined_more c (Detach t cause) older h = h
+joined_more c (Put n bytes) older h = h
+joined_more c (Send t bytes) older h = h
+
+plugged_more : (e : Entry) (older : History) → plugged_count older ≤ plugged_count (e ∷ older)
+plugged_more (Attach t kind serial) older = omega arith
+plugged_more (Join n) older = omega arith
+plugged_more (End n cause) older = omega arith
+plugged_more (Enter n port) older = omega arith
+plugged_more (Read n bytes) older = omega arith
+plugged_more (Bound n port) older = omega arith
+plugged_more (Recv t bytes) older = omega arith
+plugged_more (Detach t cause) older = omega arith
+plugged_more (Put n bytes) older = omega arith
+plugged_more (Send t bytes) older = omega arith
+
+plugged_still : (t : ℕ) (e : Entry) (older : History) → is_some (plugged t older) ≡ true → is_some (plugged t (e ∷ older)) ≡ true
+plugged_still t (Attach n kind serial) older h = go (nat_eq n t)
+  where
+    go : (b : Bool) → is_some (cond b (Some (new_row t kind serial)) (plugged t older)) ≡ true
+    go true = refl
+    go false = h
+plugged_still t (Join n) older h = h
+plugged_still t (End n cause) older h = h
+plugged_still t (Enter n port) older h = h
+plugged_still t (Read n bytes) older h = h
+plugged_still t (Bound n port) older h = h
+plugged_still t (Recv n bytes) older h = h
+plugged_still t (Detach n cause) older h = h
+plugged_still t (Put n bytes) older h = h
+plugged_still t (Send n bytes) older h = h
+
+-- who heard may
+hears_may : (c : Bool) (x : Subject) (a : Seen) (s : State) (w : List Event) → IsShown c x a s w → c ≡ true → x.may ≡ true
+hears_may true x a s w h e = h.out.may
+hears_may false x a s w h e = absurd (let clash : false ≡ true = e in cc)
+
+hears_some : (c : Bool) (x : Subject) (a : Seen) (s : State) (w : List Event) → IsShown c x a s w → c ≡ true → a.remote ≢ 0
+hears_some true x a s w h e = h.out.told
+hears_some false x a s w h e = absurd (let clash : false ≡ true = e in cc)
+
+module _ (l : ℕ) (b : Birth) (e : Entry) (older : History) (legal : IsLegal (e ∷ older)) (came : has_joined b.client older ≡ true) (n : IsShownAt l b older) where
+  abbrev now : History
+  now = e ∷ older
+
+  abbrev x : Subject
+  x = subject_of l b older (may_hear l b older) (has_failed b.client (e ∷ older))
+
+  begun : IsShown n.heard (subject_of l b older (may_hear l b older) (has_failed b.client (e ∷ older))) (seen l (since b older)) (state older) (told older)
+  begun = resubject n.heard (subject_of l b older (may_hear l b older) (has_failed b.client older)) (may_hear l b older) (has_failed b.client (e ∷ older))
+      (seen l (since b older)) (state older) (told older) (record {
+        live = λ y is owned. (n.shown.own y is).may owned;
+        hears = λ c. hears_may n.heard (subject_of l b older (may_hear l b older) (has_failed b.client older)) (seen l (since b older)) (state older) (told older) n.shown c;
+        fails = failed_more b.client e older;
+      }) n.shown
+
+  -- why it did not hear by this entry
+  abbrev pub NotNow : Type 0
+  NotNow = (is_some (opening_of l b (e ∷ older)) ≡ false) ⊎ ((is_some (opening_of l b older) ≡ true) ⊎ (has_failed b.client older ≡ true))
+
+  -- after the entry
+  pub record IsStepped : Type 0 where
+    pub within : b.packets_before ≤ length (brought b.link (e ∷ older))
+    pub clean : list_any is_refused (take b.packets_before (brought b.link (e ∷ older))) ≡ false
+    pub heard : Bool
+    pub shown : IsShown heard (subject_of l b older (may_hear l b older) (has_failed b.client (e ∷ older))) (seen l (since b (e ∷ older)))
+        (state (e ∷ older)) (told (e ∷ older))
+    pub none : heard ≡ false → NotNow
+
+  -- who heard before hears
+  heard_before : (c : Bool) → IsShown c (subject_of l b older (may_hear l b older) (has_failed b.client (e ∷ older))) (seen l (since b older)) (state older) (told older)
+      → IsShown false (subject_of l b older (may_hear l b older) (has_failed b.client (e ∷ older))) (seen l (since b (e ∷ older))) (state (e ∷ older)) (told (e ∷ older))
+      → c ≡ false
+  heard_before false before after = refl
+  heard_before true before after =
+      absurd (opened_not_closed (asked b.client older).replies before.out.bytes (owed_to b.client (told_at e older)) after.out.closed
+      (ap (λ v. v ++ owed_to b.client (told_at e older)) (sym before.out.out_is)
+      ∙ (sym (owed_append b.client (told older) (told_at e older)) ∙ after.out.out_is)))
+
+  hears_so : (c : Bool) → IsShown c (subject_of l b older (may_hear l b older) (has_failed b.client (e ∷ older))) (seen l (since b (e ∷ older))) (state (e ∷ older))
+      (told (e ∷ older)) → (c ≡ false → NotNow) → c ≡ is_heard l b (e ∷ older)
+  hears_so true h none = sym (hears_true (is_heard l b older) (is_some (opening_of l b (e ∷ older))) (is_some (opening_of l b older)) (has_failed b.client older)
+      h.out.may (some_remote l (since b (e ∷ older)) h.out.told))
+  hears_so false h none = sym (hears_false (is_heard l b older) (is_some (opening_of l b (e ∷ older))) (is_some (opening_of l b older)) (has_failed b.client older)
+      (sym n.is ∙ heard_before n.heard begun h) (none refl))
+
+  -- a client of a stream that lives has not failed
+  not_failed : (c : Bool) (y : Stream) (r : Subject) (a : Seen) → r.stream ≡ l → r.client ≡ b.client
+      → IsShown c r a (state (e ∷ older)) (told (e ∷ older)) → (state (e ∷ older)).streams l ≡ Some y → y.client ≡ b.client
+      → y.part.orphan ≡ false → has_failed b.client (e ∷ older) ≡ false
+  not_failed c y r a stream client h is own owned = go (has_failed b.client (e ∷ older)) refl
+    where
+      go : (f : Bool) → has_failed b.client (e ∷ older) ≡ f → has_failed b.client (e ∷ older) ≡ false
+      go false f = f
+      go true f =
+          let of = client_of (state (e ∷ older)) l y is owned h.owned in
+          let done = (all_failed (e ∷ older) legal b.client (joined_more b.client e older came) f).1 in
+          absurd (never_closing l y.part.remote
+          (sym (done.row of.client (subst (λ (k : ℕ). (state (e ∷ older)).clients k ≡ Some of.client) own of.is)) ∙ of.phase))
