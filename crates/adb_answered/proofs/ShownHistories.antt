@@ -25,6 +25,9 @@ use Rattle.adb_answered.specs.Shown.{aside, Seen, seen, Subject, IsShown}
 use Rattle.adb_answered.proofs.Openings.{opening_named}
 use Rattle.adb_answered.proofs.ShownClients.{shown_of, IsSaid, resubject, opened_not_closed}
 use Rattle.adb_answered.proofs.ShownCloses.{waiting_none}
+use Rattle.adb_history.proofs.Numbers.{counted}
+use Rattle.adb_answered.proofs.HeardEntries.{joined_below}
+use Rattle.adb_answered.proofs.ClientTurns.{another_comes, Covers, client_kept, client_ups}
 use Rattle.adb_answered.proofs.Failing.{all_failed}
 use Rattle.adb_answered.proofs.DoneMoves.{never_closing}
 
@@ -224,3 +227,80 @@ module _ (l : ℕ) (b : Birth) (e : Entry) (older : History) (legal : IsLegal (e
           let done = (all_failed (e ∷ older) legal b.client (joined_more b.client e older came) f).1 in
           absurd (never_closing l y.part.remote
           (sym (done.row of.client (subst (λ (k : ℕ). (state (e ∷ older)).clients k ≡ Some of.client) own of.is)) ∙ of.phase))
+
+  -- and then it is known as much
+  module _ (replies : (asked b.client (e ∷ older)).replies ≡ (asked b.client older).replies) where
+    may_live : (c : Bool) → IsShown c (subject_of l b older (may_hear l b older) (has_failed b.client (e ∷ older))) (seen l (since b (e ∷ older)))
+        (state (e ∷ older)) (told (e ∷ older)) → c ≡ is_heard l b (e ∷ older) → (y : Stream) → (state (e ∷ older)).streams l ≡ Some y → y.part.orphan ≡ false
+        → may_hear l b (e ∷ older) ≡ true
+    may_live true h is y at_l owned =
+        ap (λ (v : Bool). v || (not (is_some (opening_of l b (e ∷ older))) && not (has_failed b.client (e ∷ older)))) (sym is)
+    may_live false h is y at_l owned =
+        let x : Subject = subject_of l b older (may_hear l b older) (has_failed b.client (e ∷ older)) in
+        let none : is_some (opening_of l b (e ∷ older)) ≡ false =
+        none_remote l (since b (e ∷ older)) (waiting_none x (since b (e ∷ older)) (state (e ∷ older)) (told (e ∷ older)) y at_l h) in
+        let alive = not_failed false y x (seen l (since b (e ∷ older))) refl refl h at_l (h.own y at_l).client owned in
+        ap (λ (v : Bool). v || (not (is_some (opening_of l b (e ∷ older))) && not (has_failed b.client (e ∷ older)))) (sym is)
+        ∙ (ap (λ (v : Bool). not v && not (has_failed b.client (e ∷ older))) none ∙ ap not alive)
+
+    may_heard : (c : Bool) → c ≡ is_heard l b (e ∷ older) → c ≡ true → may_hear l b (e ∷ older) ≡ true
+    may_heard c is f = ap (λ (v : Bool). v || (not (is_some (opening_of l b (e ∷ older))) && not (has_failed b.client (e ∷ older)))) (sym is ∙ f)
+
+    pub finished : IsStepped → IsShownAt l b (e ∷ older)
+    finished m =
+        let x : Subject = subject_of l b older (may_hear l b older) (has_failed b.client (e ∷ older)) in
+        let is = hears_so m.heard m.shown m.none in
+        record {
+          within = m.within;
+          plugged = plugged_still b.link e older n.plugged;
+          clean = m.clean;
+          drawn = (let more = plugged_more e older in omega (arith, n.drawn, more, (counted older).plugged, (counted (e ∷ older)).plugged));
+          heard = m.heard;
+          is = is;
+          shown = subst (λ (r : List ℕ). IsShown m.heard (record {
+            stream = l;
+            client = b.client;
+            link = b.link;
+            replies = r;
+            may = may_hear l b (e ∷ older);
+            failed = has_failed b.client (e ∷ older);
+            cut = true;
+          }) (seen l (since b (e ∷ older))) (state (e ∷ older)) (told (e ∷ older))) (sym replies)
+              (resubject m.heard x (may_hear l b (e ∷ older)) (has_failed b.client (e ∷ older)) (seen l (since b (e ∷ older))) (state (e ∷ older)) (told (e ∷ older))
+              (record {
+                live = λ y at_l owned. may_live m.heard m.shown is y at_l owned;
+                hears = may_heard m.heard is;
+                fails = λ f. f;
+              }) m.shown);
+        }
+
+-- ---- an entry by which the link brings nothing
+module _ (l : ℕ) (b : Birth) (e : Entry) (older : History) (legal : IsLegal (e ∷ older)) (came : has_joined b.client older ≡ true) (n : IsShownAt l b older) where
+  -- it may not have been heard now, where it was not told now
+  same_none : is_some (opening_of l b (e ∷ older)) ≡ is_some (opening_of l b older) → NotNow l b e older legal came n
+  same_none same = go (is_some (opening_of l b older)) refl
+    where
+      go : (v : Bool) → is_some (opening_of l b older) ≡ v → NotNow l b e older legal came n
+      go true f = inr (inl f)
+      go false f = inl (same ∙ f)
+
+  pub stepped_same : brought b.link (e ∷ older) ≡ brought b.link older
+      → IsShown n.heard (subject_of l b older (may_hear l b older) (has_failed b.client (e ∷ older))) (seen l (since b older)) (state (e ∷ older)) (told (e ∷ older))
+      → IsStepped l b e older legal came n
+  stepped_same same h = record {
+    within = subst (λ (ps : List Packet). b.packets_before ≤ length ps) (sym same) n.within;
+    clean = subst (λ (ps : List Packet). list_any is_refused (take b.packets_before ps) ≡ false) (sym same) n.clean;
+    heard = n.heard;
+    shown = subst (λ (ps : List Packet). IsShown n.heard (subject_of l b older (may_hear l b older) (has_failed b.client (e ∷ older)))
+        (seen l (drop b.packets_before ps)) (state (e ∷ older)) (told (e ∷ older))) (sym same) h;
+    none = λ f. same_none (ap (λ (ps : List Packet). is_some (opening_in l (drop b.packets_before ps))) same);
+  }
+
+  below : b.client ≤ (state older).joined
+  below = let le = joined_below older legal.0 b.client came in omega (arith, le, (counted older).joined)
+
+  pub stepped_other : brought b.link (e ∷ older) ≡ brought b.link older
+      → Covers (aside (subject_of l b older (may_hear l b older) (has_failed b.client (e ∷ older)))) e → IsStepped l b e older legal came n
+  stepped_other same covers = stepped_same same
+      (client_kept (shown_of n.heard (subject_of l b older (may_hear l b older) (has_failed b.client (e ∷ older))) (seen l (since b older))) (state older) (told older) e
+      (another_comes b.client b.link (state older) e (below, n.drawn) legal.2) covers legal.2 (begun l b e older legal came n))
