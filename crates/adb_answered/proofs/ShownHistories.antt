@@ -5,7 +5,7 @@ use Rattle.std.proofs.lemmas.Bool.{eqb-true, eqb-false, eq-eqb, ne_eqb, cases_eq
 use Rattle.std.proofs.lemmas.List.{append-nil, length-append, drop-append-le, take-append-le, take-append-drop}
 use Rattle.std.proofs.lemmas.List.Folds.{list_any-append}
 use Rattle.std.specs.List.{list_any}
-use Rattle.std.specs.Prelude.{nat_eq}
+use Rattle.std.specs.Prelude.{nat_eq, option_map}
 use Rattle.adb_registry.specs.Row.{new_row}
 use Rattle.adb_wire.specs.declared.packets.Packet.{Packet}
 use Rattle.adb_stream.specs.declared.row.Stream.{Stream}
@@ -14,18 +14,29 @@ use Rattle.adb_capture.specs.declared.entry.Entry.TheVariants.{Join, Enter, Read
 use Rattle.adb_history.specs.Rows.{Client, Link, State}
 use Rattle.adb_history.specs.Events.{Made, Event, owed_to}
 use Rattle.adb_history.specs.Machine.{History, state, told, told_at, rule, ups, step, May, IsLegal}
-use Rattle.adb_history.specs.Bytes.{has_joined, has_failed, is_orderly, brought}
-use Rattle.adb_history.specs.Book.{asked, is_refused, plugged, plugged_count}
-use Rattle.adb_history.specs.Births.{Birth, born, since, opening_in, opening_of, remote_in}
+use Rattle.adb_history.specs.Bytes.{has_joined, has_failed, is_orderly, is_lost, bytes_received, brought}
+use Rattle.adb_history.specs.Packets.{receives_on}
+use Rattle.adb_wire.specs.Cutting.{framed, cut_packets}
+use Rattle.adb_wire.specs.declared.format.PacketFault.{PacketFault}
+use Rattle.adb_registry.specs.declared.row.Row.{Row}
+use Rattle.adb_history.specs.Book.{asked, is_refused, plugged, plugged_count, is_broken, last_cnxn, row_by, device_of}
+use Rattle.adb_history.specs.Births.{Birth, born, since, Opening as FirstOkay, opening_in, opening_of, remote_in}
 use Rattle.adb_history.specs.Answered.{is_heard}
 use Rattle.adb_history.specs.Moves.{After}
 use Rattle.adb_history.proofs.Growing.{owed_append}
 use Rattle.adb_history.proofs.OwnedMoves.{client_of}
-use Rattle.adb_answered.specs.Shown.{aside, Seen, seen, Subject, IsShown}
-use Rattle.adb_answered.proofs.Openings.{opening_named}
+use Rattle.adb_answered.specs.Shown.{aside, Seen, seen, sealed_in, Subject, IsShown}
+use Rattle.adb_answered.proofs.Openings.{opening_named, remote_sealed, IsPending}
 use Rattle.adb_answered.proofs.ShownClients.{shown_of, IsSaid, resubject, opened_not_closed}
 use Rattle.adb_answered.proofs.ShownCloses.{waiting_none}
+use Rattle.adb_history.proofs.Following.{after_quietly, after_then}
 use Rattle.adb_history.proofs.Numbers.{counted}
+use Rattle.adb_history.proofs.Received.{ReadTie, received}
+use Rattle.adb_history.proofs.Devices.{shows_devices}
+use Rattle.adb_history.proofs.LinkMoves.{all_linked}
+use Rattle.adb_answered.proofs.Brought.{brought_live, brought_lost, brought_faulty, BringsMore, brings_more, brought_apart, pending_taken}
+use Rattle.adb_answered.proofs.ShownReceives.{receives_here, receives_apart}
+use Rattle.adb_answered.proofs.ShownPackets.{gone_more, no_link}
 use Rattle.adb_answered.proofs.HeardEntries.{joined_below}
 use Rattle.adb_answered.proofs.ClientTurns.{another_comes, Covers, client_kept, client_ups}
 use Rattle.adb_answered.proofs.Failing.{all_failed}
@@ -304,3 +315,148 @@ module _ (l : ℕ) (b : Birth) (e : Entry) (older : History) (legal : IsLegal (e
   stepped_other same covers = stepped_same same
       (client_kept (shown_of n.heard (subject_of l b older (may_hear l b older) (has_failed b.client (e ∷ older))) (seen l (since b older))) (state older) (told older) e
       (another_comes b.client b.link (state older) e (below, n.drawn) legal.2) covers legal.2 (begun l b e older legal came n))
+
+-- ---- bytes are received
+module _ (l : ℕ) (b : Birth) (t : ℕ) (bytes : List ℕ) (older : History) (legal : IsLegal (Recv t bytes ∷ older)) (came : has_joined b.client older ≡ true)
+    (n : IsShownAt l b older) where
+  abbrev e : Entry
+  e = Recv t bytes
+
+  abbrev s : State
+  s = state older
+
+  abbrev w : List Event
+  w = told older
+
+  abbrev r : Subject
+  r = subject_of l b older (may_hear l b older) (has_failed b.client older)
+
+  from : IsShown n.heard (subject_of l b older (may_hear l b older) (has_failed b.client older)) (seen l (since b older)) s w
+  from = begun l b e older legal came n
+
+  ups_shown : (heard : Bool) (a : Seen) → IsShown heard (subject_of l b older (may_hear l b older) (has_failed b.client older)) a (rule e s).state (w ++ (rule e s).told)
+      → IsShown heard (subject_of l b older (may_hear l b older) (has_failed b.client older)) a (state (e ∷ older)) (told (e ∷ older))
+  ups_shown heard a h = after_then (λ s w. IsShown heard (subject_of l b older (may_hear l b older) (has_failed b.client older)) a s w) w (rule e s) ups h
+      (λ v now. client_ups (shown_of heard (subject_of l b older (may_hear l b older) (has_failed b.client older)) a) (rule e s).state v now)
+
+  pub recv_apart : t ≢ b.link → IsStepped l b e older legal came n
+  recv_apart apart = stepped_same l b e older legal came n (brought_apart t b.link bytes older apart)
+      (ups_shown n.heard (seen l (since b older))
+      (receives_apart (subject_of l b older (may_hear l b older) (has_failed b.client older)) (seen l (since b older)) t apart n.heard bytes s w from))
+
+module _ (l : ℕ) (b : Birth) (bytes : List ℕ) (older : History) (legal : IsLegal (Recv b.link bytes ∷ older)) (came : has_joined b.client older ≡ true)
+    (n : IsShownAt l b older) where
+  abbrev here : Entry
+  here = Recv b.link bytes
+
+  -- it brings more
+  within_more : (qs : List Packet) → brought b.link (Recv b.link bytes ∷ older) ≡ brought b.link older ++ qs
+      → b.packets_before ≤ length (brought b.link (Recv b.link bytes ∷ older))
+  within_more qs is = omega (arith, n.within, ap length is, length-append (brought b.link older) qs)
+
+  clean_more : (qs : List Packet) → brought b.link (Recv b.link bytes ∷ older) ≡ brought b.link older ++ qs
+      → list_any is_refused (take b.packets_before (brought b.link (Recv b.link bytes ∷ older))) ≡ false
+  clean_more qs is = ap (λ (ps : List Packet). list_any is_refused (take b.packets_before ps)) is
+      ∙ (ap (list_any is_refused) (take-append-le b.packets_before (brought b.link older) qs n.within) ∙ n.clean)
+
+  since_more : (qs : List Packet) → brought b.link (Recv b.link bytes ∷ older) ≡ brought b.link older ++ qs
+      → since b (Recv b.link bytes ∷ older) ≡ since b older ++ qs
+  since_more qs is = ap (drop b.packets_before) is ∙ drop-append-le b.packets_before (brought b.link older) qs n.within
+
+  shown_from : IsShown n.heard (subject_of l b older (may_hear l b older) (has_failed b.client older)) (seen l (since b older)) (state older) (told older)
+  shown_from = begun l b (Recv b.link bytes) older legal came n
+
+  -- the link lives
+  recv_live : (link : Link) → (state older).links b.link ≡ Some link → IsStepped l b (Recv b.link bytes) older legal came n
+  recv_live link is =
+      let x : Subject = subject_of l b older (may_hear l b older) (has_failed b.client older) in
+      let reads = subst (λ (o : Option Link). ReadTie (is_lost b.link older) o (bytes_received b.link older)) is ((received older legal.0).links b.link) in
+      let qs = (cut_packets (record { sums = link.sums }) (link.rest ++ bytes)).given in
+      let more = brought_live b.link bytes older link reads.0 reads.1 in
+      let treated = receives_here x bytes (since b older) link (state older) (told older) (all_linked older legal.0) is n.heard shown_from in
+      record {
+        within = within_more qs more;
+        clean = clean_more qs more;
+        heard = treated.heard;
+        shown = subst (λ (ps : List Packet). IsShown treated.heard x (seen l ps) (state (Recv b.link bytes ∷ older)) (told (Recv b.link bytes ∷ older)))
+            (sym (since_more qs more)) (ups_shown l b b.link bytes older legal came n treated.heard (seen l (since b older ++ qs)) treated.shown);
+        none = λ f. live_none qs more (treated.none f);
+      }
+    where
+      live_none : (qs : List Packet) → brought b.link (Recv b.link bytes ∷ older) ≡ brought b.link older ++ qs
+          → (remote_in (opening_in l (since b older ++ qs)) ≡ 0) ⊎ (has_failed b.client older ≡ true) → NotNow l b (Recv b.link bytes) older legal came n
+      live_none qs more (inl none) = inl (ap (λ (ps : List Packet). is_some (opening_in l ps)) (since_more qs more) ∙ none_remote l (since b older ++ qs) none)
+      live_none qs more (inr f) = inr (inr f)
+
+  -- the link is gone: what it brings opens nothing
+  module _ (gone : (state older).links b.link ≡ None) where
+    device_none : is_some (device_of b.link older) ≡ false
+    device_none =
+        let shows = shows_devices older legal.0 in
+        ap is_some (sym (shows.rows legal.2.0 b.link)) ∙ (sym (shows.linked b.link) ∙ ap is_some gone)
+
+    -- it brought no CNXN with which no device is taken, where the stream is pending
+    unrefused : IsPending l (since b older) → list_any is_refused (brought b.link older) ≡ false
+    unrefused pending =
+        ap (list_any is_refused) (sym (take-append-drop b.packets_before (brought b.link older)))
+        ∙ (list_any-append is_refused (take b.packets_before (brought b.link older)) (since b older)
+        ∙ (ap (λ (v : Bool). v || list_any is_refused (since b older)) n.clean ∙ pending_taken l (since b older) pending))
+
+    plugged_device : (o : Option Row) → is_some o ≡ true → (f : Row → Row) → is_some (option_map f o) ≡ true
+    plugged_device None e f = e
+    plugged_device (Some row) e f = refl
+
+    pending_none : IsPending l (since b older) → brought b.link (Recv b.link bytes ∷ older) ≡ brought b.link older
+    pending_none pending = go (is_lost b.link older) refl (framed (bytes_received b.link older)).fault refl
+      where
+        go : (lost : Bool) → is_lost b.link older ≡ lost → (o : Option PacketFault) → (framed (bytes_received b.link older)).fault ≡ o
+            → brought b.link (Recv b.link bytes ∷ older) ≡ brought b.link older
+        go true e o f = brought_lost b.link bytes older e
+        go false e (Some fault) f = brought_faulty b.link bytes older fault e f
+        go false e None f =
+            let there : is_some (device_of b.link older) ≡ true =
+            ap (λ (v : Bool). is_some (cond (v || is_broken b.link older) None
+            (option_map (row_by (last_cnxn (brought b.link older)) (brought b.link older)) (plugged b.link older)))) e
+            ∙ (ap (λ (o : Option PacketFault). is_some (cond (is_some o || list_any is_refused (brought b.link older)) None
+            (option_map (row_by (last_cnxn (brought b.link older)) (brought b.link older)) (plugged b.link older)))) f
+            ∙ (ap (λ (v : Bool). is_some (cond v None
+            (option_map (row_by (last_cnxn (brought b.link older)) (brought b.link older)) (plugged b.link older)))) (unrefused pending)
+            ∙ plugged_device (plugged b.link older) n.plugged (row_by (last_cnxn (brought b.link older)) (brought b.link older)))) in
+            absurd (let clash : true ≡ false = sym there ∙ device_none in cc)
+
+    gone_none : NotNow l b (Recv b.link bytes) older legal came n
+    gone_none = go (opening_in l (since b older)) refl (sealed_in l (since b older)) refl
+      where
+        more : BringsMore b.link bytes older
+        more = brings_more b.link bytes older
+
+        go : (o : Option FirstOkay) → opening_in l (since b older) ≡ o → (v : Bool) → sealed_in l (since b older) ≡ v → NotNow l b (Recv b.link bytes) older legal came n
+        go (Some o) is v f = inr (inl (ap is_some is))
+        go None is true f = inl (ap (λ (ps : List Packet). is_some (opening_in l ps)) (since_more more.more more.is)
+            ∙ none_remote l (since b older ++ more.more) (remote_sealed l (since b older) more.more f))
+        go None is false f = inl (ap (λ (ps : List Packet). is_some (opening_in l (drop b.packets_before ps))) (pending_none (is, f)) ∙ ap is_some is)
+
+    recv_gone : IsStepped l b (Recv b.link bytes) older legal came n
+    recv_gone =
+        let x : Subject = subject_of l b older (may_hear l b older) (has_failed b.client older) in
+        let more = brings_more b.link bytes older in
+        let none = no_link x n.heard (seen l (since b older)) (state older) (told older) (all_linked older legal.0) gone shown_from in
+        let shown = gone_more x n.heard (since b older) more.more (state older) (told older) none shown_from in
+        let ruled = subst (λ (m : Made). IsShown n.heard x (seen l (since b older ++ more.more)) m.state (told older ++ m.told))
+        (sym (ap (λ (o : Option Link). receives_on o b.link bytes (state older)) gone))
+        (after_quietly (λ s w. IsShown n.heard x (seen l (since b older ++ more.more)) s w) (told older) (state older) shown) in
+        record {
+          within = within_more more.more more.is;
+          clean = clean_more more.more more.is;
+          heard = n.heard;
+          shown = subst (λ (ps : List Packet). IsShown n.heard x (seen l ps) (state (Recv b.link bytes ∷ older)) (told (Recv b.link bytes ∷ older)))
+              (sym (since_more more.more more.is)) (ups_shown l b b.link bytes older legal came n n.heard (seen l (since b older ++ more.more)) ruled);
+          none = λ f. gone_none;
+        }
+
+  pub recv_here : IsStepped l b (Recv b.link bytes) older legal came n
+  recv_here = go ((state older).links b.link) refl
+    where
+      go : (o : Option Link) → (state older).links b.link ≡ o → IsStepped l b (Recv b.link bytes) older legal came n
+      go None is = recv_gone is
+      go (Some link) is = recv_live link is
