@@ -36,3 +36,4 @@ pub mod Brought
 pub mod Failing
 pub mod ShownClients
 pub mod ShownHistories
+pub mod ShownSteps
