@@ -37,3 +37,4 @@ pub mod Failing
 pub mod ShownClients
 pub mod ShownHistories
 pub mod ShownSteps
+pub mod ShownBirths
