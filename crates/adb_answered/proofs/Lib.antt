@@ -38,3 +38,4 @@ pub mod ShownClients
 pub mod ShownHistories
 pub mod ShownSteps
 pub mod ShownBirths
+pub mod ShownAll

@@ -43,7 +43,7 @@ pub record IsOpen (next : Option Next) : Type 0 where
   pub service : List ℕ
   pub is : next ≡ Some (what.Open transport service)
 
-stream_open : (next : Option Next) → asks_stream next ≡ true → IsOpen next
+pub stream_open : (next : Option Next) → asks_stream next ≡ true → IsOpen next
 stream_open (Some (what.Open t service)) e = record { transport = t; service = service; is = refl }
 stream_open None e = absurd (let clash : false ≡ true = e in cc)
 stream_open (Some what.Close) e = absurd (let clash : false ≡ true = e in cc)
@@ -55,7 +55,7 @@ stream_open (Some (what.Unbind local)) e = absurd (let clash : false ≡ true = 
 stream_open (Some what.UnbindAll) e = absurd (let clash : false ≡ true = e in cc)
 stream_open (Some what.Stop) e = absurd (let clash : false ≡ true = e in cc)
 
-no_birth : (c head : ℕ) (older : History) (next : Option Next) → asks_stream next ≡ false → birth_by c head older next ≡ []
+pub no_birth : (c head : ℕ) (older : History) (next : Option Next) → asks_stream next ≡ false → birth_by c head older next ≡ []
 no_birth c head older (Some (what.Open t service)) e = absurd (let clash : true ≡ false = e in cc)
 no_birth c head older None e = refl
 no_birth c head older (Some what.Close) e = refl
@@ -67,7 +67,7 @@ no_birth c head older (Some (what.Unbind local)) e = refl
 no_birth c head older (Some what.UnbindAll) e = refl
 no_birth c head older (Some what.Stop) e = refl
 
-none_at : (k : ℕ) (b : Birth) (bs : List Birth) → bs ≡ [] → slice_get bs k ≡ Some b → ⊥
+pub none_at : (k : ℕ) (b : Birth) (bs : List Birth) → bs ≡ [] → slice_get bs k ≡ Some b → ⊥
 none_at k b bs e is = nothing k (ap (λ (x : List Birth). slice_get x k) (sym e) ∙ is)
   where
     nothing : (k : ℕ) → slice_get (let none : List Birth = [] in none) k ≡ Some b → ⊥
@@ -89,7 +89,7 @@ silent_same : (c : ℕ) (e : Entry) (older : History) → (asked c (e ∷ older)
     → (asked c (e ∷ older)).replies ≡ (asked c older).replies → ((n : ℕ) → IsBirthOf e n → n ≢ c) → IsSilent c e older
 silent_same c e older next replies apart = record { next = next; replies = replies; none = apart_births c e older apart }
 
-silent_bound : (c n port : ℕ) (older : History) → IsSilent c (Bound n port) older
+pub silent_bound : (c n port : ℕ) (older : History) → IsSilent c (Bound n port) older
 silent_bound c n port older = record {
   next = ap (λ (q : Asked). q.next) (go ((book older).waits n));
   replies = ap (λ (q : Asked). q.replies) (go ((book older).waits n));
@@ -100,7 +100,7 @@ silent_bound c n port older = record {
     go None = refl
     go (Some want) = refl
 
-silent_read : (c n : ℕ) (bytes : List ℕ) (older : History) → eqb n c ≡ false → IsSilent c (Read n bytes) older
+pub silent_read : (c n : ℕ) (bytes : List ℕ) (older : History) → eqb n c ≡ false → IsSilent c (Read n bytes) older
 silent_read c n bytes older e = silent_same c (Read n bytes) older (ap (λ (r : Heard). r.next) (heard_read n c bytes older e))
     (ap (λ (r : Heard). r.replies) (heard_read n c bytes older e)) (λ m of same. eqb-false n c e (sym of ∙ same))
 
@@ -108,7 +108,7 @@ module _ (c : ℕ) (older : History) (legal : IsLegal older) (came : has_joined 
   below : c ≤ (state older).joined
   below = let le = joined_below older legal c came in omega (arith, le, (counted older).joined)
 
-  silent_idle : (bytes : List ℕ) → May (state older) (Read c bytes) → (said c older).asking ≡ false → IsSilent c (Read c bytes) older
+  pub silent_idle : (bytes : List ℕ) → May (state older) (Read c bytes) → (said c older).asking ≡ false → IsSilent c (Read c bytes) older
   silent_idle bytes may idle =
       let same = heard_idle c older legal bytes may idle in
       let next : (asked c (Read c bytes ∷ older)).next ≡ (asked c older).next = ap (λ (r : Heard). r.next) same in
