@@ -1,16 +1,12 @@
 -- The packets that a link brought, with more bytes of it, and whether it is broken.
-use Rattle.std.proofs.Common.{◌≡◌, ◌≢◌, ℕ, ◌+◌, ◌≤◌, Bool, true, false, cond, not, ◌&&◌, ◌||◌, List, [], ◌∷◌, ◌++◌, length, take, drop, Option, Some, None, is_some, refl}
-use Rattle.std.proofs.Common.{sym, ap, subst, ◌∙◌, eqb, arith, inl, inr, ◌⊎◌}
-use Rattle.std.proofs.lemmas.Bool.{eq-eqb, ne_eqb, eqb-true}
-use Rattle.std.proofs.lemmas.List.{append-nil, length-append, drop-append-le, take-append-le, take-append-drop}
-use Rattle.std.proofs.lemmas.List.Folds.{list_any-append}
+use Rattle.std.proofs.Common.{◌≡◌, ◌≢◌, ℕ, Bool, true, false, cond, not, ◌&&◌, ◌||◌, List, [], ◌∷◌, ◌++◌, length, Option, Some, None, refl}
+use Rattle.std.proofs.Common.{sym, ap, ◌∙◌, eqb, arith}
+use Rattle.std.proofs.lemmas.Bool.{eq-eqb, ne_eqb}
+use Rattle.std.proofs.lemmas.List.{append-nil}
 use Rattle.std.specs.List.{list_any}
-use Rattle.std.specs.Prelude.{nat_eq, nat_lt, is_none, option_map}
+use Rattle.std.specs.Prelude.{nat_eq, nat_lt, is_none}
 use Rattle.adb_banner.specs.Banner.{identity_of}
-use Rattle.adb_outside.specs.Tables.{at}
-use Rattle.adb_outside.specs.Framing.{joined}
 use Rattle.adb_outside.proofs.FramingLaws.{fault_stays}
-use Rattle.adb_registry.specs.declared.row.Row.{Row}
 use Rattle.adb_wire.specs.Cutting.{framed, cut_packets}
 use Rattle.adb_wire.specs.Format.{front_of, packet_of, format_after, is_cnxn}
 use Rattle.adb_wire.specs.declared.command.Command.{Command}
@@ -23,8 +19,8 @@ use Rattle.adb_history.specs.Rows.{Link}
 use Rattle.adb_history.specs.Machine.{History}
 use Rattle.adb_history.specs.Bytes.{is_lost, bytes_received, brought}
 use Rattle.adb_history.specs.Packets.{least_version, least_maxdata}
-use Rattle.adb_history.specs.Book.{plugged, is_refused, is_broken, last_cnxn, row_by, device_of}
-use Rattle.adb_history.specs.Births.{is_between, Opening as FirstOkay, opening_by, opening_in, remote_in}
+use Rattle.adb_history.specs.Book.{is_refused}
+use Rattle.adb_history.specs.Births.{is_between, Opening as FirstOkay, opening_by, opening_in}
 use Rattle.adb_history.specs.Links.{credit_word}
 use Rattle.adb_history.proofs.Received.{ReadsAs, framed_piece}
 use Rattle.adb_answered.specs.Shown.{seals_by, sealed_in}

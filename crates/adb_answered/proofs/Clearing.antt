@@ -1,12 +1,12 @@
 -- No stream of a link outlives the end of all its streams.
-use Rattle.std.proofs.Common.{◌≡◌, ◌≢◌, ℕ, ◌+◌, ◌≤◌, ◌<◌, zero, suc, Bool, true, false, cond, Option, Some, None, refl, sym, ap, subst, ◌∙◌, eqb, arith, inl, inr, ◌⊎◌}
+use Rattle.std.proofs.Common.{◌≡◌, ◌≢◌, ℕ, ◌≤◌, ◌<◌, zero, suc, Bool, true, false, cond, Option, Some, None, refl, sym, ap, subst, ◌∙◌, eqb, arith, inl, inr, ◌⊎◌}
 use Rattle.std.specs.Prelude.{option_and_then, nat_eq}
 use Rattle.std.proofs.lemmas.Bool.{eq-eqb, ne_eqb, cases_eq}
 use Rattle.adb_outside.specs.Tables.{Rows, change_row}
 use Rattle.adb_outside.specs.declared.identity.Identity.{Identity}
 use Rattle.adb_stream.specs.declared.row.Stream.{Stream}
 use Rattle.adb_history.specs.Rows.{Link, State, to_stream, none_kept}
-use Rattle.adb_history.specs.Events.{Made, Ending, quietly, lost}
+use Rattle.adb_history.specs.Events.{Ending, quietly, lost}
 use Rattle.adb_history.specs.Links.{is_connected}
 use Rattle.adb_history.specs.Streams.{ends_row, ends_if_of, ends_of, all_end}
 use Rattle.adb_history.specs.Losing.{forgets, link_ends}

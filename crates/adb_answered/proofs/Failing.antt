@@ -1,8 +1,8 @@
 -- A client whose connection failed is told nothing more.
-use Rattle.std.proofs.Common.{◌≡◌, ◌≢◌, ℕ, ◌+◌, ◌≤◌, ◌<◌, Bool, true, false, cond, not, ◌&&◌, ◌||◌, List, [], ◌∷◌, ◌++◌, Option, Some, None, refl, sym, ap, subst, ◌∙◌, eqb}
+use Rattle.std.proofs.Common.{◌≡◌, ℕ, ◌≤◌, ◌<◌, Bool, true, false, cond, not, ◌&&◌, ◌||◌, List, [], ◌∷◌, ◌++◌, Option, Some, None, refl, sym, ap, subst, ◌∙◌, eqb}
 use Rattle.std.proofs.Common.{append_assoc, arith}
 use Rattle.std.proofs.lemmas.Bool.{eqb-true, eq-eqb}
-use Rattle.std.specs.Prelude.{nat_eq, option_and_then}
+use Rattle.std.specs.Prelude.{option_and_then}
 use Rattle.adb_outside.specs.declared.kinds.Cause.{Cause}
 use Rattle.adb_outside.specs.declared.kinds.Cause.TheVariants.{Eof, Fault, Starved, NoThread}
 use Rattle.adb_stream.specs.declared.row.Stream.{Stream}
@@ -11,7 +11,7 @@ use Rattle.adb_client.specs.declared.phase.Phase.TheVariants.{Asking, Opening, S
 use Rattle.adb_capture.specs.declared.entry.Entry.{Entry}
 use Rattle.adb_capture.specs.declared.entry.Entry.TheVariants.{Join, Enter, Read, End, Bound, Attach, Recv, Detach, Put, Send}
 use Rattle.adb_history.specs.Rows.{Client, State, to_client, none_kept}
-use Rattle.adb_history.specs.Events.{Made, Event, quietly, owed_to}
+use Rattle.adb_history.specs.Events.{Made, Event, owed_to}
 use Rattle.adb_history.specs.Losing.{stream_fails, stream_of, client_ends}
 use Rattle.adb_history.specs.Machine.{History, state, told, rule, ups, May, IsLegal}
 use Rattle.adb_history.specs.Bytes.{has_joined, has_ended, has_failed, is_orderly}
@@ -94,9 +94,11 @@ module _ (c : ℕ) (older : History) (legal : IsLegal older) (came : has_joined 
       let owned : IsOwned m.state = moves.rule_kept owned_moves (End c cause) s (told older) (all_owned older legal) in
       let out : List ℕ = owed_to c (told older ++ m.told) in
       let done : IsDone c out m.state (told older ++ m.told) =
-      record { owned = owned; row = λ client is. absurd (let clash : None ≡ Some client = sym none ∙ is in cc); told = refl } in
-      (out, subst (λ (v : List Event). IsDone c out (state (End c cause ∷ older)) v) (append_assoc (told older) m.told (ups m.state).told)
-      (client_ups (done_client c out) m.state (told older ++ m.told) done))
+      record { owned = owned; row = λ client is. absurd (let clash : None ≡ Some client = sym none ∙ is in cc); told = refl } in (
+        out,
+        subst (λ (v : List Event). IsDone c out (state (End c cause ∷ older)) v) (append_assoc (told older) m.told (ups m.state).told)
+            (client_ups (done_client c out) m.state (told older ++ m.told) done),
+      )
 
   failed_end : (n : ℕ) (cause : Cause) → May (state older) (End n cause) → (has_failed c older ≡ true → HasFailed c older)
       → (a b f : Bool) → eqb n c ≡ a → is_orderly cause ≡ b → has_failed c older ≡ f → ((a && not b) || f) ≡ true → HasFailed c (End n cause ∷ older)

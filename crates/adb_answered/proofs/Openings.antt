@@ -1,5 +1,5 @@
 -- What one more packet says of the opening of a stream.
-use Rattle.std.proofs.Common.{◌≡◌, ◌≢◌, ℕ, Bool, true, false, cond, not, ◌&&◌, List, [], ◌∷◌, ◌++◌, Option, Some, None, is_some, refl, sym, ap, subst, ◌∙◌, eqb}
+use Rattle.std.proofs.Common.{◌≡◌, ◌≢◌, ℕ, Bool, true, false, cond, not, ◌&&◌, List, [], ◌∷◌, ◌++◌, Option, Some, None, refl, sym, ap, ◌∙◌, eqb}
 use Rattle.std.proofs.Common.{inl, inr, ◌⊎◌}
 use Rattle.std.specs.Prelude.{nat_eq}
 use Rattle.std.proofs.lemmas.Bool.{eqb-true, eqb-false, ne_eqb}
@@ -193,13 +193,15 @@ module _ (l : ℕ) where
 
   nothing_one : (c : Command) (p : Packet) → SaysNothing c l p → (opening_by c l p [] None ≡ None) × (seals_by c l p false ≡ false)
   nothing_one Okay p apart =
-      let e : nat_eq p.arg1 l ≡ false = ne_eqb p.arg1 l apart in
-      (ap (λ (b : Bool). cond (b && not (eqb p.arg0 0)) (Some (record { remote = p.arg0; word = credit_word p.payload; later = [] })) None) e,
-      ap (λ (b : Bool). cond (b && not (eqb p.arg0 0)) false false) e)
+      let e : nat_eq p.arg1 l ≡ false = ne_eqb p.arg1 l apart in (
+        ap (λ (b : Bool). cond (b && not (eqb p.arg0 0)) (Some (record { remote = p.arg0; word = credit_word p.payload; later = [] })) None) e,
+        ap (λ (b : Bool). cond (b && not (eqb p.arg0 0)) false false) e,
+      )
   nothing_one Clse p apart =
-      let e : nat_eq p.arg1 l ≡ false = ne_eqb p.arg1 l apart in
-      (ap (λ (b : Bool). cond (nat_eq p.arg0 0 && b) None None) e ∙ both (nat_eq p.arg0 0),
-      ap (λ (b : Bool). cond (nat_eq p.arg0 0 && b) true false) e ∙ neither (nat_eq p.arg0 0))
+      let e : nat_eq p.arg1 l ≡ false = ne_eqb p.arg1 l apart in (
+        ap (λ (b : Bool). cond (nat_eq p.arg0 0 && b) None None) e ∙ both (nat_eq p.arg0 0),
+        ap (λ (b : Bool). cond (nat_eq p.arg0 0 && b) true false) e ∙ neither (nat_eq p.arg0 0),
+      )
     where
       none : Option Opening
       none = None

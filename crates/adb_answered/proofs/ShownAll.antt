@@ -1,7 +1,7 @@
 -- In every legal history it is known of each stream that a client asked for, whether its client heard that it is open.
-use Rattle.std.proofs.Common.{◌≡◌, ◌≢◌, ℕ, ◌+◌, ◌<◌, zero, suc, min, Bool, true, false, cond, ◌||◌, List, [], ◌∷◌, length, Option, Some, None, refl, sym, ap, subst}
+use Rattle.std.proofs.Common.{◌≡◌, ℕ, ◌+◌, ◌<◌, zero, suc, min, Bool, true, false, cond, ◌||◌, List, [], ◌∷◌, length, Option, Some, None, refl, sym, ap, subst}
 use Rattle.std.proofs.Common.{◌∙◌, arith, eqb, inl, inr, ◌⊎◌}
-use Rattle.std.proofs.lemmas.Bool.{eqb-true, eqb-false, eq-eqb}
+use Rattle.std.proofs.lemmas.Bool.{eqb-true}
 use Rattle.std.specs.Prelude.{slice_get}
 use Rattle.adb_outside.specs.Tables.{at}
 use Rattle.adb_forward.specs.declared.row.ForwardRow.{ForwardRow}
@@ -14,7 +14,7 @@ use Rattle.adb_history.specs.Links.{is_connected, is_credit}
 use Rattle.adb_history.specs.Streams.{stream_ids}
 use Rattle.adb_history.specs.Asking.{asks_with}
 use Rattle.adb_history.specs.Reading.{asked_before}
-use Rattle.adb_history.specs.Machine.{History, state, told, May, IsLegal}
+use Rattle.adb_history.specs.Machine.{History, state, May, IsLegal}
 use Rattle.adb_history.specs.Bytes.{has_joined, brought}
 use Rattle.adb_history.specs.Book.{asked, newly, devices, forwards}
 use Rattle.adb_history.specs.Births.{Birth, birth_by, birth_through, births_at, births, born}
@@ -24,7 +24,7 @@ use Rattle.adb_history.proofs.Numbers.{counted}
 use Rattle.adb_history.proofs.Booked.{said, asks_in, asks_now}
 use Rattle.adb_history.proofs.Books.{booked}
 use Rattle.adb_answered.specs.Heard.{Heard, asks_stream}
-use Rattle.adb_answered.specs.Served.{HasNoStream, ServedIn, AtEachFront}
+use Rattle.adb_answered.specs.Served.{ServedIn, AtEachFront}
 use Rattle.adb_answered.proofs.HeardAsks.{asks_asking, open_next, heard_now}
 use Rattle.adb_answered.proofs.BornLaws.{birth_of, born_either, IsBornNow, none_unborn}
 use Rattle.adb_answered.proofs.ServedAsks as asks

@@ -1,12 +1,11 @@
 -- A stream that a client asks for: what is known of it and of its client when it is born.
-use Rattle.std.proofs.Common.{◌≡◌, ◌≢◌, ℕ, ◌+◌, ◌≤◌, ◌<◌, zero, suc, min, Bool, true, false, cond, not, ◌&&◌, ◌||◌, List, [], ◌∷◌, ◌++◌, length, take, drop, Option, Some, None}
-use Rattle.std.proofs.Common.{is_some, refl, sym, ap, subst, ◌∙◌, append_assoc, arith, eqb, inl, inr, ◌⊎◌}
+use Rattle.std.proofs.Common.{◌≡◌, ◌≢◌, ℕ, ◌+◌, ◌≤◌, zero, suc, min, Bool, true, false, cond, not, ◌&&◌, ◌||◌, List, [], ◌∷◌, ◌++◌, length, drop, Option, Some, None}
+use Rattle.std.proofs.Common.{is_some, refl, sym, ap, subst, ◌∙◌, append_assoc, arith, eqb}
 use Rattle.std.proofs.lemmas.Bool.{eqb-true, eqb-false, eq-eqb, ltb-true, ltb-false}
-use Rattle.std.proofs.lemmas.List.{append-nil, length-append}
+use Rattle.std.proofs.lemmas.List.{length-append}
 use Rattle.std.proofs.Math.Seq.{take-length, drop-length}
 use Rattle.std.specs.List.{list_any}
 use Rattle.std.specs.Prelude.{nat_lt, option_map}
-use Rattle.adb_outside.specs.Tables.{at}
 use Rattle.adb_registry.specs.declared.row.Row.{Row}
 use Rattle.adb_stream.specs.Flow.{new_flow}
 use Rattle.adb_stream.specs.Stream.{new_stream}
@@ -19,7 +18,7 @@ use Rattle.adb_reply.specs.declared.answer.Next.TheVariants as what
 use Rattle.adb_capture.specs.declared.entry.Entry.{Entry}
 use Rattle.adb_capture.specs.declared.entry.Entry.TheVariants.{Join, Enter, Read, End, Bound, Attach, Recv, Detach, Put, Send}
 use Rattle.adb_history.specs.Rows.{Client, State, to_client}
-use Rattle.adb_history.specs.Events.{Made, Event, then_also, owed_to}
+use Rattle.adb_history.specs.Events.{Made, Event, then_also}
 use Rattle.adb_history.specs.Clients.{owe_client}
 use Rattle.adb_history.specs.Links.{is_credit}
 use Rattle.adb_history.specs.Streams.{stream_ids, asks_for, no_ids_left}
@@ -27,7 +26,7 @@ use Rattle.adb_history.specs.Asking.{Asked, asks_with}
 use Rattle.adb_history.specs.Reading.{asked_before, has_asked}
 use Rattle.adb_history.specs.Machine.{History, state, told, rule, ups, May, IsLegal}
 use Rattle.adb_history.specs.Bytes.{has_joined, has_failed, is_lost, brought}
-use Rattle.adb_history.specs.Book.{asked, plugged, plugged_count, is_refused, is_broken, last_cnxn, row_by, device_of}
+use Rattle.adb_history.specs.Book.{plugged, plugged_count, is_refused, is_broken, last_cnxn, row_by, device_of}
 use Rattle.adb_history.specs.Births.{Birth, births, since, opening_in, opening_of}
 use Rattle.adb_history.specs.Answered.{is_heard}
 use Rattle.adb_history.specs.Owned.{IsOwned}

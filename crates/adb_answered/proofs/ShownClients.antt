@@ -1,19 +1,14 @@
 -- A stream and its client, as a client that asks no more; and with other things said of them.
-use Rattle.std.proofs.Common.{◌≡◌, ◌≢◌, ℕ, ◌≤◌, Bool, true, false, List, [], ◌∷◌, ◌++◌, Option, Some, None, refl, sym, ap, subst, ◌∙◌, append_assoc, arith, inl, inr, ◌⊎◌}
-use Rattle.std.specs.Prelude.{option_map, codes}
+use Rattle.std.proofs.Common.{◌≡◌, ℕ, Bool, true, false, List, [], ◌∷◌, ◌++◌, Option, Some, refl, sym, ap, ◌∙◌, append_assoc, arith, inl, inr, ◌⊎◌}
 use Rattle.adb_stream.specs.declared.row.Stream.{Stream}
-use Rattle.adb_client.specs.declared.phase.Phase.{Phase}
 use Rattle.adb_reply.specs.Strings.{okay, failed}
-use Rattle.adb_history.specs.Rows.{Client, Link, State}
+use Rattle.adb_history.specs.Rows.{State}
 use Rattle.adb_history.specs.Events.{Event, owed_to}
-use Rattle.adb_history.specs.Tracking.{marked}
 use Rattle.adb_history.specs.Answered.{closed_reply}
-use Rattle.adb_history.specs.Owned.{IsOwned}
-use Rattle.adb_answered.specs.Served.{RowServed}
 use Rattle.adb_answered.specs.Shown.{aside, Seen, Subject, WillNotOpen, ShownOut, IsShown}
 use Rattle.adb_answered.proofs.SteadyRows.{at_marked}
 use Rattle.adb_answered.proofs.ServedMoves.{steady}
-use Rattle.adb_answered.proofs.ClientTurns.{IsBusy, IsOfClient}
+use Rattle.adb_answered.proofs.ClientTurns.{IsOfClient}
 use Rattle.adb_answered.proofs.ServedClients.{served_busy}
 use Rattle.adb_answered.proofs.ShownMoves.{steps_same, shown_quietly}
 use Rattle.adb_answered.proofs.ShownRules.{shown_turns}

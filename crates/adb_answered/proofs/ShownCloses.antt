@@ -1,8 +1,7 @@
 -- A CLSE of a stream, and a CNXN of its link: the stream is as the packets say.
-use Rattle.std.proofs.Common.{◌≡◌, ◌≢◌, ℕ, ◌+◌, ◌≤◌, Bool, true, false, cond, not, ◌&&◌, ◌||◌, List, [], ◌∷◌, ◌++◌, Option, Some, None, is_some, refl, sym, ap, subst}
-use Rattle.std.proofs.Common.{◌∙◌, eqb, append_assoc, arith, inl, inr, ◌⊎◌}
+use Rattle.std.proofs.Common.{◌≡◌, ◌≢◌, ℕ, Bool, true, false, cond, ◌&&◌, ◌||◌, List, [], ◌∷◌, ◌++◌, Option, Some, None, is_some, refl, sym, ap, subst}
+use Rattle.std.proofs.Common.{◌∙◌, eqb, inl, inr}
 use Rattle.std.proofs.lemmas.Bool.{ne_eqb, eqb-true, eqb-false, eq-eqb}
-use Rattle.std.proofs.lemmas.List.{append-nil}
 use Rattle.std.specs.Prelude.{nat_eq, nat_lt, option_and_then}
 use Rattle.adb_outside.specs.declared.identity.Identity.{Identity}
 use Rattle.adb_banner.specs.Banner.{identity_of}
@@ -10,26 +9,24 @@ use Rattle.adb_wire.specs.declared.command.Command.{Command}
 use Rattle.adb_wire.specs.declared.command.Command.TheVariants.{Cnxn, Clse}
 use Rattle.adb_wire.specs.declared.packets.Packet.{Packet}
 use Rattle.adb_stream.specs.declared.row.Stream.{Stream}
-use Rattle.adb_history.specs.Rows.{Client, Link, State, none_kept}
+use Rattle.adb_history.specs.Rows.{Link, State, none_kept}
 use Rattle.adb_history.specs.Events.{Made, Event, quietly, broken, peer_closed}
 use Rattle.adb_history.specs.Links.{is_connected}
 use Rattle.adb_history.specs.Streams.{ends_row}
 use Rattle.adb_history.specs.Losing.{link_ends}
-use Rattle.adb_history.specs.Packets.{least_version, least_maxdata, connects, cnxn, at_stream, takes_close, treat_any, treat_on, treat}
+use Rattle.adb_history.specs.Packets.{least_version, least_maxdata, connects, at_stream, takes_close, treat_any, treat_on, treat}
 use Rattle.adb_history.specs.Births.{is_between, Opening as FirstOkay, opening_by, opening_in, remote_in}
-use Rattle.adb_history.specs.Orderly.{phase_for}
 use Rattle.adb_history.specs.Moves.{connects_now}
 use Rattle.adb_history.specs.Owned.{OwnerIn}
 use Rattle.adb_history.specs.Linked.{IsLinked}
 use Rattle.adb_history.proofs.Following.{after_quietly}
-use Rattle.adb_answered.specs.Served.{PhaseFor}
 use Rattle.adb_answered.specs.Shown.{Seen, seen, seals_by, sealed_in, Subject, WillNotOpen, IsShown}
 use Rattle.adb_answered.proofs.Clearing.{none_of, ends_streams, link_ends_cleared, online_cleared, online_links}
-use Rattle.adb_answered.proofs.Openings.{IsSeenOn, remote_sealed, seen_pending, seen_one}
+use Rattle.adb_answered.proofs.Openings.{remote_sealed, seen_pending, seen_one}
 use Rattle.adb_answered.proofs.ServedMoves.{phase_waiting}
 use Rattle.adb_answered.proofs.ShownMoves.{shown_client}
 use Rattle.adb_answered.proofs.ShownRules.{ends_shown, link_ends_cut, online_shown}
-use Rattle.adb_answered.proofs.ShownPackets.{seen_on, gone_more, gone_reason, told_more, sealed_more, still_none, pardoned, pardon, restore, live_link, no_link}
+use Rattle.adb_answered.proofs.ShownPackets.{seen_on, gone_more, gone_reason, told_more, sealed_more, still_none, pardon, restore, live_link, no_link}
 
 module _ (x : Subject) where
   -- a stream that waits has been told no id

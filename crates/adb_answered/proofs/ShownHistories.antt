@@ -1,8 +1,7 @@
 -- In every legal history the client of a stream hears that it is open exactly where the entries say so.
-use Rattle.std.proofs.Common.{◌≡◌, ◌≢◌, ℕ, ◌+◌, ◌≤◌, ◌<◌, Bool, true, false, cond, not, ◌&&◌, ◌||◌, List, [], ◌∷◌, ◌++◌, length, take, drop, Option, Some, None, is_some}
-use Rattle.std.proofs.Common.{refl, sym, ap, subst, ◌∙◌, eqb, append_assoc, arith, inl, inr, ◌⊎◌}
-use Rattle.std.proofs.lemmas.Bool.{eqb-true, eqb-false, eq-eqb, ne_eqb, cases_eq}
-use Rattle.std.proofs.lemmas.List.{append-nil, length-append, drop-append-le, take-append-le, take-append-drop}
+use Rattle.std.proofs.Common.{◌≡◌, ◌≢◌, ℕ, ◌≤◌, Bool, true, false, cond, not, ◌&&◌, ◌||◌, List, ◌∷◌, ◌++◌, length, take, drop, Option, Some, None, is_some}
+use Rattle.std.proofs.Common.{refl, sym, ap, subst, ◌∙◌, arith, inl, inr, ◌⊎◌}
+use Rattle.std.proofs.lemmas.List.{length-append, drop-append-le, take-append-le, take-append-drop}
 use Rattle.std.proofs.lemmas.List.Folds.{list_any-append}
 use Rattle.std.specs.List.{list_any}
 use Rattle.std.specs.Prelude.{nat_eq, option_map}
@@ -11,23 +10,22 @@ use Rattle.adb_wire.specs.declared.packets.Packet.{Packet}
 use Rattle.adb_stream.specs.declared.row.Stream.{Stream}
 use Rattle.adb_capture.specs.declared.entry.Entry.{Entry}
 use Rattle.adb_capture.specs.declared.entry.Entry.TheVariants.{Join, Enter, Read, End, Bound, Attach, Recv, Detach, Put, Send}
-use Rattle.adb_history.specs.Rows.{Client, Link, State}
+use Rattle.adb_history.specs.Rows.{Link, State}
 use Rattle.adb_history.specs.Events.{Made, Event, owed_to}
-use Rattle.adb_history.specs.Machine.{History, state, told, told_at, rule, ups, step, May, IsLegal}
+use Rattle.adb_history.specs.Machine.{History, state, told, told_at, rule, ups, IsLegal}
 use Rattle.adb_history.specs.Bytes.{has_joined, has_failed, is_orderly, is_lost, bytes_received, brought}
 use Rattle.adb_history.specs.Packets.{receives_on}
 use Rattle.adb_wire.specs.Cutting.{framed, cut_packets}
 use Rattle.adb_wire.specs.declared.format.PacketFault.{PacketFault}
 use Rattle.adb_registry.specs.declared.row.Row.{Row}
 use Rattle.adb_history.specs.Book.{asked, is_refused, plugged, plugged_count, is_broken, last_cnxn, row_by, device_of}
-use Rattle.adb_history.specs.Births.{Birth, born, since, Opening as FirstOkay, opening_in, opening_of, remote_in}
+use Rattle.adb_history.specs.Births.{Birth, since, Opening as FirstOkay, opening_in, opening_of, remote_in}
 use Rattle.adb_history.specs.Answered.{is_heard}
-use Rattle.adb_history.specs.Moves.{After}
 use Rattle.adb_history.proofs.Growing.{owed_append}
 use Rattle.adb_history.proofs.OwnedMoves.{client_of}
 use Rattle.adb_answered.specs.Shown.{aside, Seen, seen, sealed_in, Subject, IsShown}
 use Rattle.adb_answered.proofs.Openings.{opening_named, remote_sealed, IsPending}
-use Rattle.adb_answered.proofs.ShownClients.{shown_of, IsSaid, resubject, opened_not_closed}
+use Rattle.adb_answered.proofs.ShownClients.{shown_of, resubject, opened_not_closed}
 use Rattle.adb_answered.proofs.ShownCloses.{waiting_none}
 use Rattle.adb_history.proofs.Following.{after_quietly, after_then}
 use Rattle.adb_history.proofs.Numbers.{counted}

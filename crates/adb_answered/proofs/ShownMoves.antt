@@ -1,29 +1,23 @@
 -- A stream and its client are as the packets of its link say, through each change that does not concern them.
-use Rattle.std.proofs.Common.{◌≡◌, ◌≢◌, ℕ, ◌+◌, ◌≤◌, Bool, true, false, cond, List, [], ◌∷◌, ◌++◌, Option, Some, None, refl, sym, ap, subst, ◌∙◌, eqb}
-use Rattle.std.proofs.Common.{append_assoc, arith, inl, inr, ◌⊎◌}
-use Rattle.std.proofs.lemmas.Bool.{ne_eqb, eqb-true, eqb-false}
+use Rattle.std.proofs.Common.{◌≡◌, ◌≢◌, ℕ, ◌≤◌, Bool, true, false, cond, List, [], ◌++◌, Option, Some, None, refl, sym, ap, subst, ◌∙◌, eqb}
+use Rattle.std.proofs.Common.{append_assoc, arith, inl, inr}
+use Rattle.std.proofs.lemmas.Bool.{ne_eqb, eqb-true}
 use Rattle.std.proofs.lemmas.List.{append-nil}
 use Rattle.std.specs.Prelude.{option_and_then}
 use Rattle.adb_outside.specs.Tables.{Rows, change_row}
 use Rattle.adb_stream.specs.declared.row.Part.{Part}
 use Rattle.adb_stream.specs.declared.row.Stream.{Stream}
 use Rattle.adb_client.specs.declared.phase.Phase.{Phase}
-use Rattle.adb_client.specs.declared.phase.Phase.TheVariants.{Opening, Streaming}
 use Rattle.adb_reply.specs.Strings.{okay}
-use Rattle.adb_history.specs.Rows.{Client, Link, State, to_stream, none_kept, with_stream_part}
-use Rattle.adb_history.specs.Events.{Made, Event, Ending, then_also, ended, owed_to}
-use Rattle.adb_history.specs.Streams.{client_loses, tells_end, ends_row}
+use Rattle.adb_history.specs.Rows.{Client, State, with_stream_part}
+use Rattle.adb_history.specs.Events.{Event, owed_to}
 use Rattle.adb_history.specs.Orderly.{phase_for}
-use Rattle.adb_history.specs.Answered.{closed_reply}
-use Rattle.adb_history.specs.Owned.{OwnerIn, IsOwned}
+use Rattle.adb_history.specs.Owned.{IsOwned}
 use Rattle.adb_history.proofs.Growing.{owed_append}
 use Rattle.adb_history.proofs.OwnedMoves.{client_of}
-use Rattle.adb_history.proofs.OwnedStep.{owned_moves, ends_state, client_loses_frame}
 use Rattle.adb_answered.specs.Served.{PhaseFor, RowServed}
-use Rattle.adb_answered.specs.Shown.{Seen, Subject, IsShownRow, IsGone, WillNotOpen, IsUnopened, IsOpened, ShownOut, IsShown}
-use Rattle.adb_answered.proofs.ToldOthers.{client_loses_owed}
-use Rattle.adb_answered.proofs.SteadyRows.{at_client_loses}
-use Rattle.adb_answered.proofs.ServedMoves.{steady, closed_told, phase_of_own, phase_waiting, own_change}
+use Rattle.adb_answered.specs.Shown.{Seen, Subject, IsShownRow, IsGone, WillNotOpen, ShownOut, IsShown}
+use Rattle.adb_answered.proofs.ServedMoves.{phase_of_own}
 
 -- ---- the row of the stream
 -- a row that is as it was, but for its flow

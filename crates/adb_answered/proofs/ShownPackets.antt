@@ -1,51 +1,43 @@
 -- A stream and its client are as the packets of its link say, packet after packet.
-use Rattle.std.proofs.Common.{◌≡◌, ◌≢◌, ℕ, ◌+◌, ◌≤◌, Bool, true, false, cond, not, ◌&&◌, ◌||◌, List, [], ◌∷◌, ◌++◌, Option, Some, None, is_some, refl, sym, ap, subst, ◌∙◌, eqb}
-use Rattle.std.proofs.Common.{append_assoc, arith, inl, inr, ◌⊎◌}
+use Rattle.std.proofs.Common.{◌≡◌, ◌≢◌, ℕ, ◌+◌, ◌≤◌, Bool, true, false, cond, not, ◌&&◌, List, [], ◌∷◌, ◌++◌, Option, Some, None, is_some, refl, sym, ap, subst, ◌∙◌, eqb}
+use Rattle.std.proofs.Common.{arith, inl, inr, ◌⊎◌}
 use Rattle.std.proofs.lemmas.Bool.{ne_eqb, eqb-true, eqb-false, eq-eqb}
 use Rattle.std.proofs.lemmas.List.{append-nil}
-use Rattle.std.specs.Prelude.{codes, nat_eq, nat_lt, option_and_then}
+use Rattle.std.specs.Prelude.{codes, nat_eq, option_and_then}
 use Rattle.adb_outside.specs.Tables.{Rows, at, change_row}
-use Rattle.adb_outside.specs.declared.identity.Identity.{Identity}
-use Rattle.adb_banner.specs.Banner.{identity_of}
 use Rattle.adb_wire.specs.declared.command.Command.{Command}
 use Rattle.adb_wire.specs.declared.command.Command.TheVariants.{Cnxn, Open, Okay, Wrte, Clse, Auth, Stls}
 use Rattle.adb_wire.specs.declared.packets.Packet.{Packet}
 use Rattle.adb_stream.specs.declared.row.Part.{Part}
 use Rattle.adb_stream.specs.declared.row.Stream.{Stream}
-use Rattle.adb_client.specs.declared.phase.Phase.{Phase}
-use Rattle.adb_client.specs.declared.phase.Phase.TheVariants.{Opening, Streaming}
+use Rattle.adb_client.specs.declared.phase.Phase.TheVariants.{Streaming}
 use Rattle.adb_reply.specs.Strings.{okay}
-use Rattle.adb_history.specs.Rows.{Client, Link, State, to_stream, none_kept, in_phase, with_stream_part}
-use Rattle.adb_history.specs.Events.{Made, Event, quietly, owed_to, broken, peer_closed}
+use Rattle.adb_history.specs.Rows.{Client, Link, State, none_kept, in_phase, with_stream_part}
+use Rattle.adb_history.specs.Events.{Made, Event, quietly, owed_to}
 use Rattle.adb_history.specs.Clients.{owe_client}
 use Rattle.adb_history.specs.Links.{is_connected, credit_word}
-use Rattle.adb_history.specs.Streams.{ends_row}
 use Rattle.adb_history.specs.Flow.{with_flow}
-use Rattle.adb_history.specs.Losing.{link_ends}
-use Rattle.adb_history.specs.Packets.{least_version, least_maxdata, connects, cnxn, at_stream, with_remote, first_credit, hears_okay, opened, orphan_opened}
-use Rattle.adb_history.specs.Packets.{okay_open, okay_first, takes_okay, takes_close, treat_open, treat_any, treat_on, treat}
-use Rattle.adb_history.specs.Births.{is_between, Opening as FirstOkay, opening_by, opening_in, remote_in}
-use Rattle.adb_history.specs.Orderly.{phase_for}
+use Rattle.adb_history.specs.Packets.{at_stream, with_remote, first_credit, hears_okay, opened, orphan_opened}
+use Rattle.adb_history.specs.Packets.{okay_open, okay_first, takes_okay, treat_any, treat_on, treat}
+use Rattle.adb_history.specs.Births.{Opening as FirstOkay, opening_by, opening_in, remote_in}
 use Rattle.adb_history.specs.Answered.{closed_reply}
-use Rattle.adb_history.specs.Moves.{After, connects_now, open_now}
-use Rattle.adb_history.specs.Owned.{OwnerIn, IsOwned}
+use Rattle.adb_history.specs.Moves.{open_now}
 use Rattle.adb_history.specs.Linked.{IsLinked}
-use Rattle.adb_history.proofs.Following.{after_quietly, after_if, changed_here}
+use Rattle.adb_history.proofs.Following.{after_quietly, changed_here}
 use Rattle.adb_history.proofs.Growing.{owed_append}
 use Rattle.adb_history.proofs.OutputEntries.{connected_is}
 use Rattle.adb_history.proofs.OwnedMoves.{client_of}
-use Rattle.adb_history.proofs.LinkMoves.{linked_moves}
-use Rattle.adb_answered.specs.Turns.{IsOpenedBy, Allows, Turns}
-use Rattle.adb_answered.specs.Served.{PhaseFor, RowServed}
-use Rattle.adb_answered.specs.Shown.{aside, Seen, seen, seals_by, sealed_in, SaysNothing, Subject, IsShownRow, IsGone, WillNotOpen, IsUnopened, IsOpened, ShownOut, IsShown}
+use Rattle.adb_answered.specs.Turns.{IsOpenedBy, Allows}
+use Rattle.adb_answered.specs.Served.{RowServed}
+use Rattle.adb_answered.specs.Shown.{aside, Seen, seen, seals_by, sealed_in, SaysNothing, Subject, IsShownRow, WillNotOpen, ShownOut, IsShown}
 use Rattle.adb_answered.proofs.ToldOthers.{quiet_after, owned_opened}
 use Rattle.adb_answered.proofs.TurnPackets.{treat_on_kept, orphan_kept, okay_open_kept}
 use Rattle.adb_answered.proofs.SteadyRows.{at_due}
-use Rattle.adb_answered.proofs.Clearing.{none_of, ends_streams, link_ends_cleared, online_cleared}
-use Rattle.adb_answered.proofs.Openings.{IsSeenOn, remote_stays, remote_sealed, sealed_stays, seen_pending, seen_one, seen_nothing, seen_told}
-use Rattle.adb_answered.proofs.ServedMoves.{steady, phase_waiting, phase_open}
+use Rattle.adb_answered.proofs.Clearing.{none_of}
+use Rattle.adb_answered.proofs.Openings.{IsSeenOn, remote_stays, remote_sealed, sealed_stays, seen_pending, seen_one, seen_told}
+use Rattle.adb_answered.proofs.ServedMoves.{steady, phase_open}
 use Rattle.adb_answered.proofs.ShownMoves.{shown_client}
-use Rattle.adb_answered.proofs.ShownRules.{ends_shown, link_ends_cut, online_shown, shown_turns}
+use Rattle.adb_answered.proofs.ShownRules.{shown_turns}
 
 module _ (x : Subject) where
   -- ---- what is seen changes
@@ -242,9 +234,9 @@ module _ (x : Subject) where
     okay_zero : eqb p.arg0 0 ≡ true → (opening_in x.stream (p ∷ []) ≡ None) × (sealed_in x.stream (p ∷ []) ≡ false)
     okay_zero zeroth = (
       ap (λ (c : Command). opening_by c x.stream p [] None) command
-      ∙ (ap (λ (b : Bool).
+          ∙ (ap (λ (b : Bool).
           cond {A = Option FirstOkay} (nat_eq p.arg1 x.stream && not b) (Some (record { remote = p.arg0; word = credit_word p.payload; later = [] })) None) zeroth
-      ∙ no_opening (nat_eq p.arg1 x.stream)),
+          ∙ no_opening (nat_eq p.arg1 x.stream)),
       ap (λ (c : Command). seals_by c x.stream p false) command ∙ no_seal (nat_eq p.arg1 x.stream && not (eqb p.arg0 0)),
     )
       where
@@ -407,17 +399,22 @@ module _ (x : Subject) where
       module _ (heard : Bool) (h : IsShown heard x (seen x.stream ps) s w) where
         -- nothing comes of it
         quiet_shows : IsSeenOn x.stream (seen x.stream ps) (seen x.stream (ps ++ p ∷ [])) → Shows (quietly s)
-        quiet_shows on = (heard, after_quietly (λ s w. IsShown heard x (seen x.stream (ps ++ p ∷ [])) s w) w s
-            (seen_on heard (seen x.stream ps) (seen x.stream (ps ++ p ∷ [])) s w on h))
+        quiet_shows on = (
+          heard,
+          after_quietly (λ s w. IsShown heard x (seen x.stream (ps ++ p ∷ [])) s w) w s
+              (seen_on heard (seen x.stream ps) (seen x.stream (ps ++ p ∷ [])) s w on h),
+        )
 
         first_shows : (orphan : Bool) → y.part.orphan ≡ orphan → y.part.remote ≡ 0 → p.arg0 ≢ 0
             → Shows (okay_first orphan x.stream p.arg0 (credit_word p.payload) y s)
         first_shows true e none some =
             let m : Made = orphan_opened x.stream p.arg0 y s in
-            let kept = orphan_kept (shown_turns heard x (seen x.stream ps) (x.client + 1) other) s w h x.stream p.arg0 y is e in
-            (heard, gone_more heard ps (p ∷ []) m.state (w ++ m.told)
-            (ap (λ (b : Bool). cond b (option_and_then none_kept (s.streams x.stream)) (s.streams x.stream)) (eq-eqb x.stream x.stream refl)
-            ∙ none_of x.stream (s.streams x.stream)) kept)
+            let kept = orphan_kept (shown_turns heard x (seen x.stream ps) (x.client + 1) other) s w h x.stream p.arg0 y is e in (
+              heard,
+              gone_more heard ps (p ∷ []) m.state (w ++ m.told)
+                  (ap (λ (b : Bool). cond b (option_and_then none_kept (s.streams x.stream)) (s.streams x.stream)) (eq-eqb x.stream x.stream refl)
+                  ∙ none_of x.stream (s.streams x.stream)) kept,
+            )
         first_shows false e none some = go heard h
           where
             by : IsOpenedBy p.arg0 y
@@ -431,10 +428,12 @@ module _ (x : Subject) where
         later_shows : (b : Bool) → y.part.remote ≢ 0 → Shows (cond b (okay_open x.stream (credit_word p.payload) y s) (quietly s))
         later_shows false some = quiet_shows (seen_told x.stream ps (p ∷ []) (λ e. some ((h.own y is).remote ∙ e)))
         later_shows true some =
-            let m : Made = okay_open x.stream (credit_word p.payload) y s in
-            (heard, seen_on heard (seen x.stream ps) (seen x.stream (ps ++ p ∷ [])) m.state (w ++ m.told)
-            (seen_told x.stream ps (p ∷ []) (λ e. some ((h.own y is).remote ∙ e)))
-            (okay_open_kept (shown_turns heard x (seen x.stream ps) (x.client + 1) other) s w h x.stream (credit_word p.payload) y is))
+            let m : Made = okay_open x.stream (credit_word p.payload) y s in (
+              heard,
+              seen_on heard (seen x.stream ps) (seen x.stream (ps ++ p ∷ [])) m.state (w ++ m.told)
+                  (seen_told x.stream ps (p ∷ []) (λ e. some ((h.own y is).remote ∙ e)))
+                  (okay_open_kept (shown_turns heard x (seen x.stream ps) (x.client + 1) other) s w h x.stream (credit_word p.payload) y is),
+            )
 
         known_shows : (b : Bool) → eqb y.part.remote 0 ≡ b → p.arg0 ≢ 0
             → Shows (cond b (okay_first y.part.orphan x.stream p.arg0 (credit_word p.payload) y s)
@@ -455,12 +454,17 @@ module _ (x : Subject) where
       where
         go : (o : Option Stream) → s.streams x.stream ≡ o
             → (hears : Bool) × IsShown hears x (seen x.stream (ps ++ p ∷ [])) (treat x.link p s).state (w ++ (treat x.link p s).told)
-        go None is = (heard, subst (λ (m : Made). IsShown heard x (seen x.stream (ps ++ p ∷ [])) m.state (w ++ m.told))
-            (sym (okay_none (s.links x.link) x.link s is))
-            (after_quietly (λ s w. IsShown heard x (seen x.stream (ps ++ p ∷ [])) s w) w s (gone_more heard ps (p ∷ []) s w is h)))
+        go None is = (
+          heard,
+          subst (λ (m : Made). IsShown heard x (seen x.stream (ps ++ p ∷ [])) m.state (w ++ m.told))
+              (sym (okay_none (s.links x.link) x.link s is))
+              (after_quietly (λ s w. IsShown heard x (seen x.stream (ps ++ p ∷ [])) s w) w s (gone_more heard ps (p ∷ []) s w is h)),
+        )
         go (Some y) is =
             let link = (h.own y is).link in
             let live = live_link y s linked is link in
-            let done = okay_shows ps s w y is heard h (eqb p.arg0 0) refl in
-            (done.0, subst (λ (m : Made). IsShown done.0 x (seen x.stream (ps ++ p ∷ [])) m.state (w ++ m.told))
-            (sym (okay_is (s.links x.link) x.link s y is link live.1 live.0)) done.1)
+            let done = okay_shows ps s w y is heard h (eqb p.arg0 0) refl in (
+              done.0,
+              subst (λ (m : Made). IsShown done.0 x (seen x.stream (ps ++ p ∷ [])) m.state (w ++ m.told))
+                  (sym (okay_is (s.links x.link) x.link s y is link live.1 live.0)) done.1,
+            )

@@ -1,5 +1,5 @@
 -- Bytes are received: a stream and its client are as the packets of its link say.
-use Rattle.std.proofs.Common.{◌≡◌, ◌≢◌, ℕ, ◌+◌, Bool, true, false, cond, List, [], ◌∷◌, ◌++◌, Option, Some, None, is_some, refl, sym, ap, subst, ◌∙◌, append_assoc}
+use Rattle.std.proofs.Common.{◌≡◌, ◌≢◌, ℕ, ◌+◌, Bool, true, false, List, [], ◌∷◌, ◌++◌, Option, Some, None, is_some, refl, sym, ap, subst, ◌∙◌, append_assoc}
 use Rattle.std.proofs.Common.{inl, inr, ◌⊎◌}
 use Rattle.std.proofs.lemmas.Bool.{cases_eq}
 use Rattle.std.proofs.lemmas.List.{append-nil}
@@ -12,7 +12,7 @@ use Rattle.adb_wire.specs.declared.format.PacketFault.{PacketFault}
 use Rattle.adb_wire.specs.declared.format.PacketFormat.{PacketFormat}
 use Rattle.adb_stream.specs.declared.row.Stream.{Stream}
 use Rattle.adb_history.specs.Rows.{Link, State, to_link}
-use Rattle.adb_history.specs.Events.{Made, Event, quietly, then_also, owed_to}
+use Rattle.adb_history.specs.Events.{Made, Event, quietly, owed_to}
 use Rattle.adb_history.specs.Packets.{treat, treat_all, faulty, with_rest, receives_cut, receives_on, receives}
 use Rattle.adb_history.specs.Births.{opening_in, remote_in}
 use Rattle.adb_history.specs.Moves.{After}
@@ -44,9 +44,11 @@ module _ (x : Subject) where
     Next = ShownSo (ps ++ p ∷ []) (treat x.link p s).state (w ++ (treat x.link p s).told)
 
     nothing_here : SaysNothing p.command x.stream p → Next
-    nothing_here says =
-        (heard, seen_on x heard (seen x.stream ps) (seen x.stream (ps ++ p ∷ [])) (treat x.link p s).state (w ++ (treat x.link p s).told)
-        (seen_nothing x.stream ps p says) (allowed_kept x heard (seen x.stream ps) x.link p s w (allows_by x x.link p.command p says) h))
+    nothing_here says = (
+      heard,
+      seen_on x heard (seen x.stream ps) (seen x.stream (ps ++ p ∷ [])) (treat x.link p s).state (w ++ (treat x.link p s).told)
+          (seen_nothing x.stream ps p says) (allowed_kept x heard (seen x.stream ps) x.link p s w (allows_by x x.link p.command p says) h),
+    )
 
     by_command : (c : Command) → p.command ≡ c → Next
     by_command Okay e = go (cases_eq p.arg1 x.stream)
@@ -70,16 +72,20 @@ module _ (x : Subject) where
 
   pub all_here : (packets ps : List Packet) (s : State) (w : List Event) → IsLinked s → ShownSo ps s w
       → ShownSo (ps ++ packets) (treat_all x.link packets s).state (w ++ (treat_all x.link packets s).told)
-  all_here [] ps s w linked (heard, h) = (heard,
-      subst (λ (qs : List Packet). IsShown heard x (seen x.stream qs) s (w ++ [])) (sym (append-nil ps))
-      (after_quietly (λ s w. IsShown heard x (seen x.stream ps) s w) w s h))
+  all_here [] ps s w linked (heard, h) = (
+    heard,
+    subst (λ (qs : List Packet). IsShown heard x (seen x.stream qs) s (w ++ [])) (sym (append-nil ps))
+        (after_quietly (λ s w. IsShown heard x (seen x.stream ps) s w) w s h),
+  )
   all_here (p ∷ packets) ps s w linked (heard, h) =
       let m : Made = treat x.link p s in
       let first = packet_here ps p s w linked heard h in
       let rest = all_here packets (ps ++ p ∷ []) m.state (w ++ m.told) (linked_packet x.link p s linked) first in
-      let later : Made = treat_all x.link packets m.state in
-      (rest.0, subst (λ (qs : List Packet). IsShown rest.0 x (seen x.stream qs) later.state (w ++ (m.told ++ later.told))) (append_assoc ps (p ∷ []) packets)
-      (subst (λ (v : List Event). IsShown rest.0 x (seen x.stream ((ps ++ p ∷ []) ++ packets)) later.state v) (append_assoc w m.told later.told) rest.1))
+      let later : Made = treat_all x.link packets m.state in (
+        rest.0,
+        subst (λ (qs : List Packet). IsShown rest.0 x (seen x.stream qs) later.state (w ++ (m.told ++ later.told))) (append_assoc ps (p ∷ []) packets)
+            (subst (λ (v : List Event). IsShown rest.0 x (seen x.stream ((ps ++ p ∷ []) ++ packets)) later.state v) (append_assoc w m.told later.told) rest.1),
+      )
 
   -- ---- packets of another link
   module _ (a : Seen) (t : ℕ) (apart : t ≢ x.link) (heard : Bool) where

@@ -1,13 +1,12 @@
 -- A stream and its client are as the packets of its link say, through each rule that does not concern them.
-use Rattle.std.proofs.Common.{◌≡◌, ◌≢◌, ℕ, ◌+◌, ◌≤◌, suc, zero, Bool, true, false, cond, List, [], ◌∷◌, ◌++◌, length, Option, Some, None, refl, sym, ap, subst, ◌∙◌, eqb}
-use Rattle.std.proofs.Common.{append_assoc, arith, inl, inr, ◌⊎◌}
+use Rattle.std.proofs.Common.{◌≡◌, ◌≢◌, ℕ, ◌+◌, Bool, true, false, cond, List, [], ◌∷◌, ◌++◌, length, Option, Some, None, refl, sym, ap, subst, ◌∙◌, eqb}
+use Rattle.std.proofs.Common.{arith, inl, inr, ◌⊎◌}
 use Rattle.std.proofs.lemmas.Bool.{ne_eqb, eqb-true, eqb-false, eq-eqb}
 use Rattle.std.proofs.lemmas.List.{append-nil}
 use Rattle.std.specs.Prelude.{codes, option_and_then}
 use Rattle.adb_outside.specs.Tables.{Rows, change_row}
 use Rattle.adb_outside.specs.declared.kinds.Cause.{Cause}
 use Rattle.adb_outside.specs.declared.identity.Identity.{Identity}
-use Rattle.adb_stream.specs.declared.row.Part.{Part}
 use Rattle.adb_stream.specs.declared.row.Stream.{Stream}
 use Rattle.adb_client.specs.declared.phase.Phase.{Phase}
 use Rattle.adb_client.specs.declared.phase.Phase.TheVariants.{Opening, Streaming}
@@ -29,21 +28,21 @@ use Rattle.adb_history.specs.Clients.{closes, owe_client}
 use Rattle.adb_history.specs.Flow.{with_flow}
 use Rattle.adb_history.specs.Packets.{with_sums, streams_end_first, with_remote, first_credit, hears_okay, opened, is_out_of_turn, accepted, unauthorized_from}
 use Rattle.adb_history.specs.Orderly.{phase_for}
-use Rattle.adb_history.specs.Answered.{tells_closed, closed_reply}
+use Rattle.adb_history.specs.Answered.{closed_reply}
 use Rattle.adb_history.specs.Moves.{After, connects_now, open_now, accepts_now, draws_now}
 use Rattle.adb_history.specs.Owned.{StreamOf, OwnerIn, HoldsIn, IsOwned}
 use Rattle.adb_history.proofs.Following.{after_quietly}
 use Rattle.adb_history.proofs.Growing.{owed_append}
 use Rattle.adb_history.proofs.OwnedMoves.{client_of}
 use Rattle.adb_history.proofs.OwnedStep.{owned_moves, ends_state, client_loses_frame}
-use Rattle.adb_answered.specs.Turns.{HasOpen, IsOpenedBy, EndsSo, Turns}
+use Rattle.adb_answered.specs.Turns.{IsOpenedBy, EndsSo, Turns}
 use Rattle.adb_answered.specs.Served.{PhaseFor, RowServed}
-use Rattle.adb_answered.specs.Shown.{aside, Seen, Subject, IsShownRow, IsGone, WillNotOpen, IsUnopened, IsOpened, ShownOut, IsShown}
+use Rattle.adb_answered.specs.Shown.{aside, Seen, Subject, WillNotOpen, ShownOut, IsShown}
 use Rattle.adb_answered.proofs.ToldOthers.{quiet_after, all_stop_owed, stopped_none, owed_other, client_loses_owed, owned_opened, forgets_owned}
 use Rattle.adb_answered.proofs.SteadyRows.{at_client_loses, at_marked, at_due, at_apart, at_none, at_closing, at_like, at_hands}
 use Rattle.adb_answered.proofs.Clearing.{ends_links, link_stays}
 use Rattle.adb_answered.proofs.Endings.{all_end_by}
-use Rattle.adb_answered.proofs.ServedMoves.{steady, closed_told, phase_of_own, phase_waiting}
+use Rattle.adb_answered.proofs.ServedMoves.{steady, closed_told, phase_waiting}
 use Rattle.adb_answered.proofs.ShownMoves.{Steps, steps_same, steps_part, shown_quietly, shown_steps, shown_gone, own_steps, out_steps, out_more, shown_client}
 use Rattle.adb_answered.proofs.ShownMoves.{other_client, none_more}
 
@@ -252,9 +251,11 @@ module _ (heard : Bool) (x : Subject) (seen : Seen) where
       let forgot : State = forgets t s in
       let all : Made = all_end t ending forgot in
       let owned : IsOwned forgot = forgets_owned t s h.owned in
-      let kept = all_end_cut t ending forgot w reason (shown_quietly heard x seen s forgot w
-      (steps_same x s forgot refl (λ e. link_stays t x.link none_kept s.links e)) owned h.row (omega arith) h,
-      λ same. link_gone t x.link s.links same) in (
+      let kept = all_end_cut t ending forgot w reason (
+        shown_quietly heard x seen s forgot w
+            (steps_same x s forgot refl (λ e. link_stays t x.link none_kept s.links e)) owned h.row (omega arith) h,
+        λ same. link_gone t x.link s.links same,
+      ) in (
         quiet_after (λ s w. IsShown heard x seen s w) w all.told (mark_all all.state)
             (marked_shown all.state all.state (w ++ all.told) (owned_moves.link_ends t ending s w h.owned) refl refl refl (λ e. e) kept.0),
         kept.1,

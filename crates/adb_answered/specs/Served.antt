@@ -12,7 +12,7 @@ use Rattle.adb_history.specs.Book.{asked}
 use Rattle.adb_history.specs.Births.{Birth, born, told_to, joined}
 use Rattle.adb_history.specs.Lives.{output_of}
 use Rattle.adb_history.specs.Fifo.{OfEachStream}
-use Rattle.adb_history.specs.Answered.{tells_closed, closed_reply, is_heard}
+use Rattle.adb_history.specs.Answered.{tells_closed, closed_reply}
 use Rattle.adb_history.specs.Owned.{IsOwned}
 
 -- Who came through a forward is known, and no stream has ended that was not drawn.
