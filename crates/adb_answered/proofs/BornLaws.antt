@@ -181,7 +181,13 @@ born_either (suc k) b e older is = go (nat_lt k stream_ids) refl is
         → (cond true (slice_get (births older) k) None ≡ Some b) ⊎ IsBornNow (suc k) b e older
     split (inl old) within = inl old
     split (inr new) within =
-        let lt = ltb-true k stream_ids within in inr (record { place = new.place; stream = omega (arith, new.behind); within = omega (arith, lt, new.behind); is = new.is })
+        let lt = ltb-true k stream_ids within in inr (record {
+          place = new.place;
+          stream = omega (arith, new.behind);
+          within = omega
+              (arith, lt, new.behind);
+          is = new.is;
+        })
 
     go : (within : Bool) → nat_lt k stream_ids ≡ within → cond within (slice_get (births (e ∷ older)) k) None ≡ Some b
         → (cond within (slice_get (births older) k) None ≡ Some b) ⊎ IsBornNow (suc k) b e older

@@ -1,5 +1,6 @@
 -- No stream of a link outlives the end of all its streams.
-use Rattle.std.proofs.Common.{◌≡◌, ◌≢◌, ℕ, ◌≤◌, ◌<◌, zero, suc, Bool, true, false, cond, Option, Some, None, refl, sym, ap, subst, ◌∙◌, eqb, arith, inl, inr, ◌⊎◌}
+use Rattle.std.proofs.Common.{◌≡◌, ◌≢◌, ℕ, ◌≤◌, ◌<◌, zero, suc, Bool, true, false, cond, Option, Some, None, refl, sym, ap, subst, ◌∙◌, eqb, arith, inl, inr}
+use Rattle.std.proofs.Common.{◌⊎◌}
 use Rattle.std.specs.Prelude.{option_and_then, nat_eq}
 use Rattle.std.proofs.lemmas.Bool.{eq-eqb, ne_eqb, cases_eq}
 use Rattle.adb_outside.specs.Tables.{Rows, change_row}
@@ -124,7 +125,8 @@ module _ (l : ℕ) where
       go false e (Some y) is = absurd (let clash : true ≡ false = sym (on y is).1 ∙ e in cc)
 
 -- a link that is gone stays so when a device says who it is
-pub online_links : (t version maxdata : ℕ) (identity : Identity) (s : State) → s.links t ≡ None → (connects_now t version maxdata identity s).state.links t ≡ None
+pub online_links : (t version maxdata : ℕ) (identity : Identity) (s : State) → s.links t ≡ None
+    → (connects_now t version maxdata identity s).state.links t ≡ None
 online_links t version maxdata identity s none = link_stays t t (with_sums (has_sums version)) first.links (same (is_connected t s.devices))
   where
     first : State

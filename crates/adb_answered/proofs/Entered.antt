@@ -173,7 +173,8 @@ all_entered (End n cause ∷ older) legal births c absent =
 all_entered (Bound n port ∷ older) legal births c absent =
     entered_more c older legal.0 (Bound n port) legal.2 tt (all_entered older legal.0 (front_older (Bound n port) older births) c absent)
 all_entered (Attach t kind serial ∷ older) legal births c absent =
-    entered_more c older legal.0 (Attach t kind serial) legal.2 (λ same. omega (arith, same, legal.2.1)) (all_entered older legal.0 (front_older (Attach t kind serial) older births) c absent)
+    entered_more c older legal.0 (Attach t kind serial) legal.2 (λ same. omega (arith, same, legal.2.1)) (all_entered older legal.0 (front_older
+    (Attach t kind serial) older births) c absent)
 all_entered (Recv t bytes ∷ older) legal births c absent =
     entered_more c older legal.0 (Recv t bytes) legal.2 tt (all_entered older legal.0 (front_older (Recv t bytes) older births) c absent)
 all_entered (Detach t cause ∷ older) legal births c absent =

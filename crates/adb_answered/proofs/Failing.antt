@@ -1,5 +1,6 @@
 -- A client whose connection failed is told nothing more.
-use Rattle.std.proofs.Common.{◌≡◌, ℕ, ◌≤◌, ◌<◌, Bool, true, false, cond, not, ◌&&◌, ◌||◌, List, [], ◌∷◌, ◌++◌, Option, Some, None, refl, sym, ap, subst, ◌∙◌, eqb}
+use Rattle.std.proofs.Common.{◌≡◌, ℕ, ◌≤◌, ◌<◌, Bool, true, false, cond, not, ◌&&◌, ◌||◌, List, [], ◌∷◌, ◌++◌, Option, Some, None, refl, sym, ap, subst, ◌∙◌}
+use Rattle.std.proofs.Common.{eqb}
 use Rattle.std.proofs.Common.{append_assoc, arith}
 use Rattle.std.proofs.lemmas.Bool.{eqb-true, eq-eqb}
 use Rattle.std.specs.Prelude.{option_and_then}
@@ -31,7 +32,8 @@ failed_ended : (c : ℕ) (h : History) → has_failed c h ≡ true → has_ended
 failed_ended c [] e = e
 failed_ended c (End n cause ∷ older) e = go (eqb n c) (not (is_orderly cause)) (has_failed c older) refl e (failed_ended c older)
   where
-    go : (a b f : Bool) → has_failed c older ≡ f → ((a && b) || f) ≡ true → (has_failed c older ≡ true → has_ended c older ≡ true) → (a || has_ended c older) ≡ true
+    go : (a b f : Bool) → has_failed c older ≡ f → ((a && b) || f) ≡ true → (has_failed c older ≡ true → has_ended c older ≡ true)
+        → (a || has_ended c older) ≡ true
     go true b f is e h = refl
     go false b f is e h = h (is ∙ e)
 failed_ended c (Join n ∷ older) e = failed_ended c older e
@@ -66,7 +68,8 @@ fails_none c cause x s = ap (λ (f : ℕ → Option Client). f c)
     (fails_clients x.about.phase cause (stream_of x.about.phase s.streams) (to_client c none_kept s))
     ∙ (ap (λ (b : Bool). cond b (option_and_then none_kept (s.clients c)) (s.clients c)) (eq-eqb c c refl) ∙ none_row (s.clients c))
 
-ended_none : (c : ℕ) (cause : Cause) (o : Option Client) (s : State) → s.clients c ≡ o → is_orderly cause ≡ false → (client_ends c cause o s).state.clients c ≡ None
+ended_none : (c : ℕ) (cause : Cause) (o : Option Client) (s : State) → s.clients c ≡ o → is_orderly cause ≡ false
+    → (client_ends c cause o s).state.clients c ≡ None
 ended_none c cause None s is e = is
 ended_none c Eof (Some x) s is e = absurd (let clash : true ≡ false = e in cc)
 ended_none c Fault (Some x) s is e = fails_none c Fault x s

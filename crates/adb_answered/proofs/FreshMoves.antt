@@ -334,7 +334,8 @@ module _ (older : History) (legal : IsLegal older) (h : IsFresh (λ n. has_joine
     alone = λ k. at_marked (steady (has_joined k older)) k s.clients (h.alone k);
     unended = h.unended;
   })
-  fresh_step (Recv t bytes) may = step_kept (fresh_turns (λ k. has_joined k older) 0) (Recv t bytes) s w ((λ p. record { reaches = λ e. tt; renews = λ e. tt; cuts = λ e. tt }), tt) h
+  fresh_step (Recv t bytes) may = step_kept (fresh_turns (λ k. has_joined k older) 0) (Recv t bytes) s w
+      ((λ p. record { reaches = λ e. tt; renews = λ e. tt; cuts = λ e. tt }), tt) h
   fresh_step (Detach t cause) may = step_kept (fresh_turns (λ k. has_joined k older) 0) (Detach t cause) s w tt h
   fresh_step (Send t bytes) may = step_kept (fresh_turns (λ k. has_joined k older) 0) (Send t bytes) s w tt h
 

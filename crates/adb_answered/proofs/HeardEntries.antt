@@ -148,7 +148,8 @@ module _ (c : ℕ) (older : History) (legal : IsLegal older) (came : has_joined 
     end_answers n cause = rule_kept (answers_turns (c + 1) c (heard c older) other) (End n cause) s w (λ e. tt) h
 
     pub recv_answers : (t : ℕ) (bytes : List ℕ) → After P w (rule (Recv t bytes) s)
-    recv_answers t bytes = rule_kept (answers_turns (c + 1) c (heard c older) other) (Recv t bytes) s w ((λ p. record { reaches = λ e. tt; renews = λ e. tt; cuts = λ e. tt }), tt) h
+    recv_answers t bytes = rule_kept (answers_turns (c + 1) c (heard c older) other) (Recv t bytes) s w
+        ((λ p. record { reaches = λ e. tt; renews = λ e. tt; cuts = λ e. tt }), tt) h
 
     pub detach_answers : (t : ℕ) (cause : Cause) → After P w (rule (Detach t cause) s)
     detach_answers t cause = rule_kept (answers_turns (c + 1) c (heard c older) other) (Detach t cause) s w tt h

@@ -227,7 +227,8 @@ module _ (l : ℕ) where
       go false e = inl (eqb-false (remote_in (opening_in l ps)) 0 e)
 
   -- a packet that says nothing of the stream
-  pub seen_one : (ps : List Packet) (p : Packet) → (opening_in l (p ∷ []) ≡ None) × (sealed_in l (p ∷ []) ≡ false) → IsSeenOn (seen l ps) (seen l (ps ++ p ∷ []))
+  pub seen_one : (ps : List Packet) (p : Packet) → (opening_in l (p ∷ []) ≡ None) × (sealed_in l (p ∷ []) ≡ false)
+      → IsSeenOn (seen l ps) (seen l (ps ++ p ∷ []))
   seen_one ps p none_said = record {
     remote = go (seen_cases ps) (sealed_in l ps) refl;
     sealed = sealed_stays ps (p ∷ []);

@@ -33,7 +33,8 @@ steady l heard = record {
 
 -- ---- the row of its stream
 module _ (l : ℕ) (R : Stream → Type 0) where
-  pub own_change : (n : ℕ) (f : Stream → Option Stream) (streams : Rows (Option Stream)) → ((x y : Stream) → streams l ≡ Some x → n ≡ l → f x ≡ Some y → R x → R y)
+  pub own_change : (n : ℕ) (f : Stream → Option Stream) (streams : Rows (Option Stream)) → ((x y : Stream) → streams l ≡ Some x → n ≡ l → f x ≡ Some y → R x
+      → R y)
       → ((x : Stream) → streams l ≡ Some x → R x) → (y : Stream) → change_row n (option_and_then f) streams l ≡ Some y → R y
   own_change n f streams keeps h y is = go (eqb n l) refl (streams l) refl is
     where

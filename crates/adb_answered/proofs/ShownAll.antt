@@ -28,7 +28,8 @@ use Rattle.adb_answered.specs.Served.{ServedIn, AtEachFront}
 use Rattle.adb_answered.proofs.HeardAsks.{asks_asking, open_next, heard_now}
 use Rattle.adb_answered.proofs.BornLaws.{birth_of, born_either, IsBornNow, none_unborn}
 use Rattle.adb_answered.proofs.ServedAsks as asks
-use Rattle.adb_answered.proofs.ServedHistories.{IsOpen, stream_open, no_birth, none_at, silent_bound, silent_read, silent_idle, front_births, front_older, all_served}
+use Rattle.adb_answered.proofs.ServedHistories.{IsOpen, stream_open, no_birth, none_at, silent_bound, silent_read, silent_idle, front_births, front_older}
+use Rattle.adb_answered.proofs.ServedHistories.{all_served}
 use Rattle.adb_answered.proofs.ShownHistories.{IsShownAt}
 use Rattle.adb_answered.proofs.ShownSteps.{shown_step}
 use Rattle.adb_answered.proofs.ShownBirths.{shown_birth}

@@ -32,7 +32,8 @@ pub record IsSaid (heard : Bool) (x : Subject) (may failed : Bool) (s : State) :
   pub hears : heard ≡ true → may ≡ true
   pub fails : x.failed ≡ true → failed ≡ true
 
-pub resubject : (heard : Bool) (x : Subject) (may failed : Bool) (seen : Seen) (s : State) (w : List Event) → IsSaid heard x may failed s → IsShown heard x seen s w
+pub resubject : (heard : Bool) (x : Subject) (may failed : Bool) (seen : Seen) (s : State) (w : List Event) → IsSaid heard x may failed s
+    → IsShown heard x seen s w
     → IsShown heard (record x { may = may; failed = failed }) seen s w
 resubject heard x may failed seen s w said h = record {
   owned = h.owned;

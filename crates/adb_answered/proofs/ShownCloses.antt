@@ -99,7 +99,8 @@ module _ (x : Subject) where
         either true = refl
         either false = refl
 
-    close_is : (o : Option Link) (t : ℕ) (s : State) (y : Stream) → s.streams x.stream ≡ Some y → y.link ≡ t → is_some o ≡ true → is_connected t s.devices ≡ true
+    close_is : (o : Option Link) (t : ℕ) (s : State) (y : Stream) → s.streams x.stream ≡ Some y → y.link ≡ t → is_some o ≡ true
+        → is_connected t s.devices ≡ true
         → treat_on o t p s ≡ takes_close x.stream p.arg0 y s
     close_is None t s y is link there connected = absurd (let clash : false ≡ true = there in cc)
     close_is (Some l) t s y is link there connected =
@@ -146,7 +147,8 @@ module _ (x : Subject) where
         → IsShown heard x (seen x.stream (ps ++ p ∷ [])) (treat x.link p s).state (w ++ (treat x.link p s).told)
     close_here ps s w linked heard h = go (s.streams x.stream) refl
       where
-        go : (o : Option Stream) → s.streams x.stream ≡ o → IsShown heard x (seen x.stream (ps ++ p ∷ [])) (treat x.link p s).state (w ++ (treat x.link p s).told)
+        go : (o : Option Stream) → s.streams x.stream ≡ o → IsShown heard x (seen x.stream (ps ++ p ∷ [])) (treat x.link p s).state (w ++
+            (treat x.link p s).told)
         go None is = subst (λ (m : Made). IsShown heard x (seen x.stream (ps ++ p ∷ [])) m.state (w ++ m.told))
             (sym (close_none (s.links x.link) x.link s is))
             (after_quietly (λ s w. IsShown heard x (seen x.stream (ps ++ p ∷ [])) s w) w s (gone_more x heard ps (p ∷ []) s w is h))
@@ -185,8 +187,10 @@ module _ (x : Subject) where
 
       breaks : IsShown heard x (seen x.stream (ps ++ p ∷ [])) (link_ends x.link broken s).state (w ++ (link_ends x.link broken s).told)
       breaks =
-          let after = link_ends_cut heard (record x { failed = true }) (seen x.stream ps) x.link broken s w (λ same. inr refl) (pardon x heard (seen x.stream ps) s w h) in
-          gone_then (link_ends x.link broken s) (link_ends_cleared x.stream x.link broken s h.owned.rows.streams.zero h.drawn on_link) (λ e. after.1 refl) after.0
+          let after = link_ends_cut heard (record x { failed = true }) (seen x.stream ps) x.link broken s w (λ same. inr refl) (pardon x heard
+          (seen x.stream ps) s w h) in
+          gone_then (link_ends x.link broken s) (link_ends_cleared x.stream x.link broken s h.owned.rows.streams.zero h.drawn on_link)
+          (λ e. after.1 refl) after.0
 
       renews : (identity : Identity) → IsShown heard x (seen x.stream (ps ++ p ∷ [])) (connects_now x.link p.arg0 p.arg1 identity s).state
           (w ++ (connects_now x.link p.arg0 p.arg1 identity s).told)

@@ -178,7 +178,8 @@ hears_some : (c : Bool) (x : Subject) (a : Seen) (s : State) (w : List Event) �
 hears_some true x a s w h e = h.out.told
 hears_some false x a s w h e = absurd (let clash : false ≡ true = e in cc)
 
-module _ (l : ℕ) (b : Birth) (e : Entry) (older : History) (legal : IsLegal (e ∷ older)) (came : has_joined b.client older ≡ true) (n : IsShownAt l b older) where
+module _ (l : ℕ) (b : Birth) (e : Entry) (older : History) (legal : IsLegal (e ∷ older)) (came : has_joined b.client older
+    ≡ true) (n : IsShownAt l b older) where
   abbrev now : History
   now = e ∷ older
 
@@ -189,7 +190,8 @@ module _ (l : ℕ) (b : Birth) (e : Entry) (older : History) (legal : IsLegal (e
   begun = resubject n.heard (subject_of l b older (may_hear l b older) (has_failed b.client older)) (may_hear l b older) (has_failed b.client (e ∷ older))
       (seen l (since b older)) (state older) (told older) (record {
         live = λ y is owned. (n.shown.own y is).may owned;
-        hears = λ c. hears_may n.heard (subject_of l b older (may_hear l b older) (has_failed b.client older)) (seen l (since b older)) (state older) (told older) n.shown c;
+        hears = λ c. hears_may n.heard (subject_of l b older (may_hear l b older) (has_failed b.client older)) (seen l (since b older)) (state older)
+            (told older) n.shown c;
         fails = failed_more b.client e older;
       }) n.shown
 
@@ -207,8 +209,10 @@ module _ (l : ℕ) (b : Birth) (e : Entry) (older : History) (legal : IsLegal (e
     pub none : heard ≡ false → NotNow
 
   -- who heard before hears
-  heard_before : (c : Bool) → IsShown c (subject_of l b older (may_hear l b older) (has_failed b.client (e ∷ older))) (seen l (since b older)) (state older) (told older)
-      → IsShown false (subject_of l b older (may_hear l b older) (has_failed b.client (e ∷ older))) (seen l (since b (e ∷ older))) (state (e ∷ older)) (told (e ∷ older))
+  heard_before : (c : Bool) → IsShown c (subject_of l b older (may_hear l b older) (has_failed b.client (e ∷ older))) (seen l (since b older)) (state older)
+      (told older)
+      → IsShown false (subject_of l b older (may_hear l b older) (has_failed b.client (e ∷ older))) (seen l (since b (e ∷ older))) (state (e ∷ older)) (told
+      (e ∷ older))
       → c ≡ false
   heard_before false before after = refl
   heard_before true before after =
@@ -216,11 +220,14 @@ module _ (l : ℕ) (b : Birth) (e : Entry) (older : History) (legal : IsLegal (e
       (ap (λ v. v ++ owed_to b.client (told_at e older)) (sym before.out.out_is)
       ∙ (sym (owed_append b.client (told older) (told_at e older)) ∙ after.out.out_is)))
 
-  hears_so : (c : Bool) → IsShown c (subject_of l b older (may_hear l b older) (has_failed b.client (e ∷ older))) (seen l (since b (e ∷ older))) (state (e ∷ older))
+  hears_so : (c : Bool) → IsShown c (subject_of l b older (may_hear l b older) (has_failed b.client (e ∷ older))) (seen l (since b (e ∷ older))) (state
+      (e ∷ older))
       (told (e ∷ older)) → (c ≡ false → NotNow) → c ≡ is_heard l b (e ∷ older)
-  hears_so true h none = sym (hears_true (is_heard l b older) (is_some (opening_of l b (e ∷ older))) (is_some (opening_of l b older)) (has_failed b.client older)
+  hears_so true h none = sym (hears_true (is_heard l b older) (is_some (opening_of l b (e ∷ older))) (is_some (opening_of l b older))
+      (has_failed b.client older)
       h.out.may (some_remote l (since b (e ∷ older)) h.out.told))
-  hears_so false h none = sym (hears_false (is_heard l b older) (is_some (opening_of l b (e ∷ older))) (is_some (opening_of l b older)) (has_failed b.client older)
+  hears_so false h none = sym (hears_false (is_heard l b older) (is_some (opening_of l b (e ∷ older))) (is_some (opening_of l b older))
+      (has_failed b.client older)
       (sym n.is ∙ heard_before n.heard begun h) (none refl))
 
   -- a client of a stream that lives has not failed
@@ -275,7 +282,8 @@ module _ (l : ℕ) (b : Birth) (e : Entry) (older : History) (legal : IsLegal (e
             failed = has_failed b.client (e ∷ older);
             cut = true;
           }) (seen l (since b (e ∷ older))) (state (e ∷ older)) (told (e ∷ older))) (sym replies)
-              (resubject m.heard x (may_hear l b (e ∷ older)) (has_failed b.client (e ∷ older)) (seen l (since b (e ∷ older))) (state (e ∷ older)) (told (e ∷ older))
+              (resubject m.heard x (may_hear l b (e ∷ older)) (has_failed b.client (e ∷ older)) (seen l (since b (e ∷ older))) (state (e ∷ older)) (told
+              (e ∷ older))
               (record {
                 live = λ y at_l owned. may_live m.heard m.shown is y at_l owned;
                 hears = may_heard m.heard is;
@@ -284,7 +292,8 @@ module _ (l : ℕ) (b : Birth) (e : Entry) (older : History) (legal : IsLegal (e
         }
 
 -- ---- an entry by which the link brings nothing
-module _ (l : ℕ) (b : Birth) (e : Entry) (older : History) (legal : IsLegal (e ∷ older)) (came : has_joined b.client older ≡ true) (n : IsShownAt l b older) where
+module _ (l : ℕ) (b : Birth) (e : Entry) (older : History) (legal : IsLegal (e ∷ older)) (came : has_joined b.client older
+    ≡ true) (n : IsShownAt l b older) where
   -- it may not have been heard now, where it was not told now
   same_none : is_some (opening_of l b (e ∷ older)) ≡ is_some (opening_of l b older) → NotNow l b e older legal came n
   same_none same = go (is_some (opening_of l b older)) refl
@@ -294,7 +303,8 @@ module _ (l : ℕ) (b : Birth) (e : Entry) (older : History) (legal : IsLegal (e
       go false f = inl (same ∙ f)
 
   pub stepped_same : brought b.link (e ∷ older) ≡ brought b.link older
-      → IsShown n.heard (subject_of l b older (may_hear l b older) (has_failed b.client (e ∷ older))) (seen l (since b older)) (state (e ∷ older)) (told (e ∷ older))
+      → IsShown n.heard (subject_of l b older (may_hear l b older) (has_failed b.client (e ∷ older))) (seen l (since b older)) (state (e ∷ older)) (told
+      (e ∷ older))
       → IsStepped l b e older legal came n
   stepped_same same h = record {
     within = subst (λ (ps : List Packet). b.packets_before ≤ length ps) (sym same) n.within;
@@ -311,7 +321,8 @@ module _ (l : ℕ) (b : Birth) (e : Entry) (older : History) (legal : IsLegal (e
   pub stepped_other : brought b.link (e ∷ older) ≡ brought b.link older
       → Covers (aside (subject_of l b older (may_hear l b older) (has_failed b.client (e ∷ older)))) e → IsStepped l b e older legal came n
   stepped_other same covers = stepped_same same
-      (client_kept (shown_of n.heard (subject_of l b older (may_hear l b older) (has_failed b.client (e ∷ older))) (seen l (since b older))) (state older) (told older) e
+      (client_kept (shown_of n.heard (subject_of l b older (may_hear l b older) (has_failed b.client (e ∷ older))) (seen l (since b older))) (state older)
+      (told older) e
       (another_comes b.client b.link (state older) e (below, n.drawn) legal.2) covers legal.2 (begun l b e older legal came n))
 
 -- ---- bytes are received
@@ -332,7 +343,8 @@ module _ (l : ℕ) (b : Birth) (t : ℕ) (bytes : List ℕ) (older : History) (l
   from : IsShown n.heard (subject_of l b older (may_hear l b older) (has_failed b.client older)) (seen l (since b older)) s w
   from = begun l b e older legal came n
 
-  ups_shown : (heard : Bool) (a : Seen) → IsShown heard (subject_of l b older (may_hear l b older) (has_failed b.client older)) a (rule e s).state (w ++ (rule e s).told)
+  ups_shown : (heard : Bool) (a : Seen) → IsShown heard (subject_of l b older (may_hear l b older) (has_failed b.client older)) a (rule e s).state (w ++
+      (rule e s).told)
       → IsShown heard (subject_of l b older (may_hear l b older) (has_failed b.client older)) a (state (e ∷ older)) (told (e ∷ older))
   ups_shown heard a h = after_then (λ s w. IsShown heard (subject_of l b older (may_hear l b older) (has_failed b.client older)) a s w) w (rule e s) ups h
       (λ v now. client_ups (shown_of heard (subject_of l b older (may_hear l b older) (has_failed b.client older)) a) (rule e s).state v now)
@@ -428,7 +440,8 @@ module _ (l : ℕ) (b : Birth) (bytes : List ℕ) (older : History) (legal : IsL
         more : BringsMore b.link bytes older
         more = brings_more b.link bytes older
 
-        go : (o : Option FirstOkay) → opening_in l (since b older) ≡ o → (v : Bool) → sealed_in l (since b older) ≡ v → NotNow l b (Recv b.link bytes) older legal came n
+        go : (o : Option FirstOkay) → opening_in l (since b older) ≡ o → (v : Bool) → sealed_in l (since b older) ≡ v
+            → NotNow l b (Recv b.link bytes) older legal came n
         go (Some o) is v f = inr (inl (ap is_some is))
         go None is true f = inl (ap (λ (ps : List Packet). is_some (opening_in l ps)) (since_more more.more more.is)
             ∙ none_remote l (since b older ++ more.more) (remote_sealed l (since b older) more.more f))

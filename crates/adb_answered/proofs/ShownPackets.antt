@@ -1,5 +1,6 @@
 -- A stream and its client are as the packets of its link say, packet after packet.
-use Rattle.std.proofs.Common.{◌≡◌, ◌≢◌, ℕ, ◌+◌, ◌≤◌, Bool, true, false, cond, not, ◌&&◌, List, [], ◌∷◌, ◌++◌, Option, Some, None, is_some, refl, sym, ap, subst, ◌∙◌, eqb}
+use Rattle.std.proofs.Common.{◌≡◌, ◌≢◌, ℕ, ◌+◌, ◌≤◌, Bool, true, false, cond, not, ◌&&◌, List, [], ◌∷◌, ◌++◌, Option, Some, None, is_some, refl, sym, ap, subst}
+use Rattle.std.proofs.Common.{◌∙◌, eqb}
 use Rattle.std.proofs.Common.{arith, inl, inr, ◌⊎◌}
 use Rattle.std.proofs.lemmas.Bool.{ne_eqb, eqb-true, eqb-false, eq-eqb}
 use Rattle.std.proofs.lemmas.List.{append-nil}
@@ -96,7 +97,14 @@ module _ (x : Subject) where
 
       out : (c : Bool) → heard ≡ c → ShownOut c x a s (owed_to x.client w) → ShownOut c x b s (owed_to x.client w)
       out true e o = record { bytes = o.bytes; out_is = o.out_is; may = o.may; told = told o.told }
-      out false e o = record { closed = o.closed; out_is = o.out_is; waits = λ y is owned. absurd (nothing y is); gone = λ g. (reason e).0; none = (reason e).1 }
+      out false e o = record {
+        closed = o.closed;
+        out_is = o.out_is;
+        waits = λ y is owned. absurd (nothing y is);
+        gone = λ g. (reason e).0;
+        none =
+            (reason e).1;
+      }
 
   -- why it was not opened, where its row is gone
   pub gone_reason : (heard : Bool) (a : Seen) (s : State) (w : List Event) → s.streams x.stream ≡ None → IsShown heard x a s w → heard ≡ false
@@ -156,7 +164,14 @@ module _ (x : Subject) where
 
       out : (c : Bool) → heard ≡ c → ShownOut c (record x { failed = true }) a s (owed_to x.client w) → ShownOut c x b s (owed_to x.client w)
       out true e o = record { bytes = o.bytes; out_is = o.out_is; may = o.may; told = told o.told }
-      out false e o = record { closed = o.closed; out_is = o.out_is; waits = λ y is owned. absurd (nothing y is); gone = λ g. (reason e).0; none = (reason e).1 }
+      out false e o = record {
+        closed = o.closed;
+        out_is = o.out_is;
+        waits = λ y is owned. absurd (nothing y is);
+        gone = λ g. (reason e).0;
+        none =
+            (reason e).1;
+      }
 
   -- ---- the link of a stream that lives
   pub live_link : (y : Stream) (s : State) → IsLinked s → s.streams x.stream ≡ Some y → y.link ≡ x.link
@@ -235,12 +250,14 @@ module _ (x : Subject) where
     okay_zero zeroth = (
       ap (λ (c : Command). opening_by c x.stream p [] None) command
           ∙ (ap (λ (b : Bool).
-          cond {A = Option FirstOkay} (nat_eq p.arg1 x.stream && not b) (Some (record { remote = p.arg0; word = credit_word p.payload; later = [] })) None) zeroth
+          cond {A = Option FirstOkay} (nat_eq p.arg1 x.stream && not b) (Some
+          (record { remote = p.arg0; word = credit_word p.payload; later = [] })) None) zeroth
           ∙ no_opening (nat_eq p.arg1 x.stream)),
       ap (λ (c : Command). seals_by c x.stream p false) command ∙ no_seal (nat_eq p.arg1 x.stream && not (eqb p.arg0 0)),
     )
       where
-        no_opening : (b : Bool) → cond {A = Option FirstOkay} (b && false) (Some (record { remote = p.arg0; word = credit_word p.payload; later = [] })) None ≡ None
+        no_opening : (b : Bool) → cond {A = Option FirstOkay} (b && false) (Some
+            (record { remote = p.arg0; word = credit_word p.payload; later = [] })) None ≡ None
         no_opening true = refl
         no_opening false = refl
 

@@ -134,7 +134,8 @@ module _ (x : Subject) where
         let taken : State = to_link t (with_rest c.rest) s in
         let turns = shown_turns heard x a (x.client + 1) (other x) in
         let m : Made = treat_all t c.given taken in
-        after_then (λ s w. IsShown heard x a s w) w m (faulty t c.fault) (all_apart c.given taken w (turns.links t (λ link. record link { rest = c.rest }) s w h))
+        after_then (λ s w. IsShown heard x a s w) w m (faulty t c.fault) (all_apart c.given taken w (turns.links t
+        (λ link. record link { rest = c.rest }) s w h))
         (λ v now. faulty_kept turns m.state v now (m.state.links t) t c.fault (λ same. absurd (apart same)))
 
     pub receives_apart : (bytes : List ℕ) (s : State) (w : List Event) → V s w → After (λ s w. IsShown heard x a s w) w (receives t bytes s)
@@ -204,7 +205,8 @@ deny_cut x heard ps s w there h = record {
     still h None is = why (gone_reason (record x { cut = true }) false (seen x.stream ps) s w is h refl)
     still h (Some y) is = inl (waiting_none (record x { cut = true }) ps s w y is h)
 
-    out : (c : Bool) → IsShown c (record x { cut = true }) (seen x.stream ps) s w → ShownOut c (record x { cut = false }) (seen x.stream ps) s (owed_to x.client w)
+    out : (c : Bool) → IsShown c (record x { cut = true }) (seen x.stream ps) s w
+        → ShownOut c (record x { cut = false }) (seen x.stream ps) s (owed_to x.client w)
     out true h = record { bytes = h.out.bytes; out_is = h.out.out_is; may = h.out.may; told = h.out.told }
     out false h = record {
       closed = h.out.closed;
@@ -234,9 +236,11 @@ module _ (x : Subject) where
       let c = cut_packets (record { sums = link.sums }) (link.rest ++ bytes) in
       let taken : State = to_link x.link (with_rest c.rest) s in
       let denied = deny_cut x heard ps s w (ap is_some is) h in
-      let begun = (shown_turns heard (record x { cut = false }) (seen x.stream ps) (x.client + 1) (other x)).links x.link (λ l. record l { rest = c.rest }) s w denied in
+      let begun = (shown_turns heard (record x { cut = false }) (seen x.stream ps) (x.client + 1) (other x)).links x.link
+      (λ l. record l { rest = c.rest }) s w denied in
       let m : Made = treat_all x.link c.given taken in
-      let run = all_here (record x { cut = false }) c.given ps taken w (linked_moves.links x.link (λ l. record l { rest = c.rest }) s w linked) (heard, begun) in
+      let run = all_here (record x { cut = false }) c.given ps taken w (linked_moves.links x.link (λ l. record l { rest = c.rest }) s w linked)
+      (heard, begun) in
       let allowed = allow_cut (record x { cut = false }) run.0 (seen x.stream (ps ++ c.given)) m.state (w ++ m.told) run.1 in
       let done = after_then (λ s w. IsShown run.0 (record x { cut = true }) (seen x.stream (ps ++ c.given)) s w) w m (faulty x.link c.fault) allowed
       (λ v now. faulty_kept (shown_turns run.0 (record x { cut = true }) (seen x.stream (ps ++ c.given)) (x.client + 1) (other x)) m.state v now

@@ -11,7 +11,8 @@ use Rattle.adb_stream.specs.declared.row.Stream.{Stream}
 use Rattle.adb_client.specs.declared.phase.Phase.{Phase}
 use Rattle.adb_client.specs.declared.phase.Phase.TheVariants.{Opening, Streaming}
 use Rattle.adb_reply.specs.Strings.{failed}
-use Rattle.adb_history.specs.Rows.{Client, Link, State, to_client, to_link, to_stream, none_kept, in_phase, with_due, with_held, with_link_due, with_stream_part}
+use Rattle.adb_history.specs.Rows.{Client, Link, State, to_client, to_link, to_stream, none_kept, in_phase, with_due, with_held, with_link_due}
+use Rattle.adb_history.specs.Rows.{with_stream_part}
 use Rattle.adb_history.specs.Events.{Made, Event, Ending, quietly, then_also, ended, due_to_client, due_to_link, owed_to, lost, client_failed}
 use Rattle.adb_history.specs.Links.{is_connected, is_credit}
 use Rattle.adb_history.specs.Streams.{client_loses, tells_end, ends_row, all_end}
@@ -235,7 +236,8 @@ module _ (heard : Bool) (x : Subject) (seen : Seen) where
       go (inl cut) = inr (inl (cut, none))
       go (inr failed) = inr (inr failed)
 
-  all_end_cut : (t : ℕ) (ending : Ending) (s : State) (w : List Event) → CutReason t → Cut t s w → After (λ s w. IsShown heard x seen s w × (t ≡ x.link → s.links x.link ≡ None)) w
+  all_end_cut : (t : ℕ) (ending : Ending) (s : State) (w : List Event) → CutReason t → Cut t s w → After (λ s w. IsShown heard x seen s w × (t ≡ x.link
+      → s.links x.link ≡ None)) w
       (all_end t ending s)
   all_end_cut t ending s w reason h = all_end_by {P = λ s w. IsShown heard x seen s w × (t ≡ x.link → s.links x.link ≡ None)} t ending
       (λ k stream s w at (h, cut). (
@@ -320,7 +322,8 @@ module _ (heard : Bool) (x : Subject) (seen : Seen) where
       → is_out_of_turn stream.part.flow (length payload) ≡ false → W s w → W (accepts_now k payload stream s) (w ++ due_to_client stream.client payload ∷ [])
   accepts_shown k payload stream s w is known turn h =
       let next : State = accepts_now k payload stream s in
-      let steps : Steps x s next = steps_part x s next k stream (with_flow (accepted (length payload) stream.part.flow) stream.part) is (refl, refl) refl (λ e. e) in
+      let steps : Steps x s next = steps_part x s next k stream (with_flow (accepted (length payload) stream.part.flow) stream.part) is (refl, refl) refl
+      (λ e. e) in
       record {
         owned = owned_moves.accepts k payload stream s w is known turn h.owned;
         row = at_due (steady x.stream heard) x.client stream.client payload s.clients h.row;
@@ -342,13 +345,20 @@ module _ (heard : Bool) (x : Subject) (seen : Seen) where
           → ShownOut b x seen next (owed_to x.client (w ++ due_to_client stream.client payload ∷ []))
       out true e next steps h =
           let more = out_more x seen s (owed_to x.client w) (owed_to x.client (due_to_client stream.client payload ∷ [])) h in
-          record { bytes = more.bytes; out_is = owed_append x.client w (due_to_client stream.client payload ∷ []) ∙ more.out_is; may = more.may; told = more.told }
+          record {
+            bytes = more.bytes;
+            out_is = owed_append x.client w (due_to_client stream.client payload ∷ [])
+                ∙ more.out_is;
+            may = more.may;
+            told = more.told;
+          }
       out false e next steps h = out_steps x seen false s next (owed_to x.client w) (owed_to x.client (w ++ due_to_client stream.client payload ∷ [])) steps
           (none_more false x seen w (due_to_client stream.client payload ∷ []) (owed_other x.client stream.client payload (apart stream.part.orphan refl e))) h
 
   -- ---- a client fails
   none_row : (k : ℕ) (streams : Rows (Option Stream)) → k ≡ x.stream → change_row k (option_and_then none_kept) streams x.stream ≡ None
-  none_row k streams here = ap (λ (b : Bool). cond b (option_and_then none_kept (streams x.stream)) (streams x.stream)) (eq-eqb k x.stream here) ∙ go (streams x.stream)
+  none_row k streams here = ap (λ (b : Bool). cond b (option_and_then none_kept (streams x.stream)) (streams x.stream)) (eq-eqb k x.stream here)
+      ∙ go (streams x.stream)
     where
       go : (o : Option Stream) → option_and_then none_kept o ≡ None
       go None = refl

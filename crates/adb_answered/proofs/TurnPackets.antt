@@ -155,7 +155,8 @@ module _ {scope : Scope} {asker : ℕ} {P : State → List Event → Type 0} (k 
     treat_open_kept t Auth p may = after_quietly P w s h
     treat_open_kept t Stls p may = after_quietly P w s h
 
-    if_connected_kept : (t : ℕ) (command : Command) (p : Packet) → (names_stream command ≡ true → scope.reaches p.arg1) → After P w (cond (is_connected t s.devices) (treat_open t command p s) (quietly s))
+    if_connected_kept : (t : ℕ) (command : Command) (p : Packet) → (names_stream command ≡ true → scope.reaches p.arg1)
+        → After P w (cond (is_connected t s.devices) (treat_open t command p s) (quietly s))
     if_connected_kept t command p may =
         after_if P w (is_connected t s.devices) (treat_open t command p s) (quietly s) (λ e. treat_open_kept t command p may) (λ e. after_quietly P w s h)
 
@@ -172,10 +173,12 @@ module _ {scope : Scope} {asker : ℕ} {P : State → List Event → Type 0} (k 
     treat_on_kept None t p may = after_quietly P w s h
     treat_on_kept (Some link) t p may = treat_any_kept t p.command p may
 
-  treat_all_kept : (s : State) (w : List Event) → P s w → (t : ℕ) (packets : List Packet) → ((p : Packet) → Allows scope t p.command p) → After P w (treat_all t packets s)
+  treat_all_kept : (s : State) (w : List Event) → P s w → (t : ℕ) (packets : List Packet) → ((p : Packet) → Allows scope t p.command p)
+      → After P w (treat_all t packets s)
   treat_all_kept s w h t [] may = after_quietly P w s h
   treat_all_kept s w h t (p ∷ packets) may =
-      after_then P w (treat t p s) (treat_all t packets) (treat_on_kept s w h (s.links t) t p (may p)) (λ v now. treat_all_kept (treat t p s).state v now t packets may)
+      after_then P w (treat t p s) (treat_all t packets) (treat_on_kept s w h (s.links t) t p (may p)) (λ v now. treat_all_kept
+      (treat t p s).state v now t packets may)
 
   module _ (s : State) (w : List Event) (h : P s w) where
     -- ---- receive
@@ -185,14 +188,16 @@ module _ {scope : Scope} {asker : ℕ} {P : State → List Event → Type 0} (k 
     faulty_kept (Some link) t (Some fault) may = k.link_ends t broken s w (refl, may) h
 
   module _ (s : State) (w : List Event) (h : P s w) where
-    receives_cut_kept : (t : ℕ) (c : Cut PacketFormat Packet PacketFault) → ((p : Packet) → Allows scope t p.command p) × scope.cuts t → After P w (receives_cut t c s)
+    receives_cut_kept : (t : ℕ) (c : Cut PacketFormat Packet PacketFault) → ((p : Packet) → Allows scope t p.command p) × scope.cuts t
+        → After P w (receives_cut t c s)
     receives_cut_kept t c may =
         let taken : State = to_link t (with_rest c.rest) s in
         after_then P w (treat_all t c.given taken) (faulty t c.fault)
         (treat_all_kept taken w (k.links t (λ link. record link { rest = c.rest }) s w h) t c.given may.0)
         (λ v now. faulty_kept (treat_all t c.given taken).state v now ((treat_all t c.given taken).state.links t) t c.fault may.1)
 
-    receives_on_kept : (o : Option Link) (t : ℕ) (bytes : List ℕ) → ((p : Packet) → Allows scope t p.command p) × scope.cuts t → After P w (receives_on o t bytes s)
+    receives_on_kept : (o : Option Link) (t : ℕ) (bytes : List ℕ) → ((p : Packet) → Allows scope t p.command p) × scope.cuts t
+        → After P w (receives_on o t bytes s)
     receives_on_kept None t bytes may = after_quietly P w s h
     receives_on_kept (Some link) t bytes may =
         receives_cut_kept t (cut_packets (record { sums = link.sums }) (link.rest ++ bytes)) may

@@ -95,7 +95,8 @@ module _ {scope : Scope} {asker : ℕ} {P : State → List Event → Type 0} (k 
     goes_on_kept (Some Stop) x ready = k.stops x.client s w ready.1 x.here x.in_phase h
 
   module _ (s : State) (w : List Event) where
-    pub asks_kept : (q : Asked) → IsClientIn s asker Asking → IsAskedReady s.devices q.next × scope.stops → P (to_client asker (has_asked q) s) w → After P w (asks q asker s)
+    pub asks_kept : (q : Asked) → IsClientIn s asker Asking → IsAskedReady s.devices q.next × scope.stops → P (to_client asker (has_asked q) s) w
+        → After P w (asks q asker s)
     asks_kept q x ready h =
         let now : State = to_client asker (has_asked q) s in
         let taken : Client = record x.client { about = record x.client.about { selected = q.selected }; held = q.rest } in
@@ -187,10 +188,13 @@ module _ {scope : Scope} {asker : ℕ} {P : State → List Event → Type 0} (k 
     input_kept Closing c x = h
     input_kept Gone c x = h
 
-    pub client_ends_kept : (c : ℕ) (cause : Cause) (o : Option Client) → (is_orderly cause ≡ false → scope.fails c) → s.clients c ≡ o → After P w (client_ends c cause o s)
+    pub client_ends_kept : (c : ℕ) (cause : Cause) (o : Option Client) → (is_orderly cause ≡ false → scope.fails c) → s.clients c ≡ o
+        → After P w (client_ends c cause o s)
     client_ends_kept c cause None may is = after_quietly P w s h
     client_ends_kept c Eof (Some client) may is =
         after_quietly P w (input_ends client.about.phase c s) (input_kept client.about.phase c (record { client = client; here = is; in_phase = refl }))
     client_ends_kept c Fault (Some client) may is = fails_in_kept client.about.phase c Fault (may refl) (record { client = client; here = is; in_phase = refl })
-    client_ends_kept c Starved (Some client) may is = fails_in_kept client.about.phase c Starved (may refl) (record { client = client; here = is; in_phase = refl })
-    client_ends_kept c NoThread (Some client) may is = fails_in_kept client.about.phase c NoThread (may refl) (record { client = client; here = is; in_phase = refl })
+    client_ends_kept c Starved (Some client) may is = fails_in_kept client.about.phase c Starved (may refl)
+        (record { client = client; here = is; in_phase = refl })
+    client_ends_kept c NoThread (Some client) may is = fails_in_kept client.about.phase c NoThread (may refl)
+        (record { client = client; here = is; in_phase = refl })

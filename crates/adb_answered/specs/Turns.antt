@@ -99,11 +99,13 @@ pub record Turns (scope : Scope) (asker : ℕ) (P : State → List Event → Typ
   pub accepts : (l : ℕ) (payload : List ℕ) (stream : Stream) (s : State) (w : List Event) → s.streams l ≡ Some stream
       → stream.part.remote ≢ 0 → is_out_of_turn stream.part.flow (length payload) ≡ false
       → P s w → P (accepts_now l payload stream s) (w ++ due_to_client stream.client payload ∷ [])
-  pub opened : (l remote : ℕ) (word : Option ℕ) (stream : Stream) (s : State) (w : List Event) → s.streams l ≡ Some stream → IsOpenedBy remote stream → scope.reaches l
+  pub opened : (l remote : ℕ) (word : Option ℕ) (stream : Stream) (s : State) (w : List Event) → s.streams l ≡ Some stream → IsOpenedBy remote stream
+      → scope.reaches l
       → P s w → After P w (opened l remote word stream s)
   pub orphan_goes : (l : ℕ) (stream : Stream) (s : State) (w : List Event) → s.streams l ≡ Some stream → stream.part.orphan ≡ true
       → P s w → P (to_stream l none_kept s) w
-  pub ends : (l : ℕ) (ending : Ending) (stream : Stream) (s : State) (w : List Event) → s.streams l ≡ Some stream → EndsSo scope.reaches s.clients l ending stream
+  pub ends : (l : ℕ) (ending : Ending) (stream : Stream) (s : State) (w : List Event) → s.streams l ≡ Some stream
+      → EndsSo scope.reaches s.clients l ending stream
       → P s w → After P w (ends_row l ending stream s)
   pub fails_open : (c l : ℕ) (cause : Cause) (client : Client) (stream : Stream) (s : State) (w : List Event)
       → (s.clients c ≡ Some client) × (client.about.phase ≡ Streaming l) × (s.streams l ≡ Some stream)
@@ -115,7 +117,8 @@ pub record Turns (scope : Scope) (asker : ℕ) (P : State → List Event → Typ
   pub links : (t : ℕ) (f : Link → Link) (s : State) (w : List Event) → P s w → P (to_link t (λ link. Some (f link)) s) w
   pub link_ends : (t : ℕ) (ending : Ending) (s : State) (w : List Event) → (tells_closed (Some ending) ≡ true) × scope.cuts t → P s w
       → After P w (link_ends t ending s)
-  pub online : (t version maxdata : ℕ) (identity : Identity) (s : State) (w : List Event) → scope.renews t → P s w → After P w (connects_now t version maxdata identity s)
+  pub online : (t version maxdata : ℕ) (identity : Identity) (s : State) (w : List Event) → scope.renews t → P s w
+      → After P w (connects_now t version maxdata identity s)
   pub unauthorized : (t : ℕ) (row : Row) (s : State) (w : List Event) → at t s.devices.rows ≡ Some row → row.state ≡ Offline
       → P s w → P (unauthorized_from t Offline s) w
   pub forwards : (forwards : List (ℕ × ForwardRow)) (s : State) (w : List Event) → (All (IsLed s.devices) s.forwards → All (IsLed s.devices) forwards)

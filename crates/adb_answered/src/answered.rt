@@ -7,8 +7,8 @@ ghost use Rattle.adb_history.specs.Answered.{RepliesFirst, RepliesWhenBound};
 ghost use Rattle.adb_history.specs.Answered.{ListsTracked, HasPresentList, SaysNothingMore};
 ghost use Rattle.adb_answered.specs.Heard.{OfWhoJoined};
 
-/// A client is handed a front of its output, which begins with the replies to its whole requests, in
-/// order.
+/// A client is handed a front of its output, which begins with the replies to its whole requests,
+/// in order.
 pub fn replies_come_first()
     ensures { (history : List Entry) → IsLegal history → OfWhoJoined RepliesFirst history }
 {}
