@@ -39,3 +39,4 @@ pub mod ShownHistories
 pub mod ShownSteps
 pub mod ShownBirths
 pub mod ShownAll
+pub mod Fronts
