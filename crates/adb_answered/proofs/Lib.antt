@@ -40,3 +40,4 @@ pub mod ShownHistories
 pub mod ShownSteps
 pub mod ShownBirths
 pub mod ShownAll
+pub mod Fronts
