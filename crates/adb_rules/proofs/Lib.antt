@@ -1,0 +1,16 @@
+mod Rows
+mod Owing
+mod StreamRows
+mod Using
+mod Marks
+mod Closings
+mod Ending
+mod Failing
+mod Naming
+mod Taking
+mod UsingOf
+mod Handouts
+mod WritesUp
+mod Sending
+mod GoingUp
+mod Sweeping

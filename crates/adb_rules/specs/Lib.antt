@@ -1,0 +1,6 @@
+pub mod Tables
+pub mod Places
+pub mod Tracked
+pub mod Came
+pub mod Handing
+pub mod Up
