@@ -28,7 +28,8 @@ fused {A} n f g h rows both i k = at_place k i
     at_row None = refl
     at_row (Some row) = sym (both row)
 
-    by_test : (b : Bool) (row : Option A) → cond b (option_and_then h row) row ≡ cond b (option_and_then f (cond b (option_and_then g row) row)) (cond b (option_and_then g row) row)
+    by_test : (b : Bool) (row : Option A) → cond b (option_and_then h row) row
+        ≡ cond b (option_and_then f (cond b (option_and_then g row) row)) (cond b (option_and_then g row) row)
     by_test true row = at_row row
     by_test false row = refl
 

@@ -12,7 +12,8 @@ use Rattle.adb_history.specs.Streams.{loses, client_loses, tells_end, ends_row, 
 use Rattle.adb_rules.proofs.Closings.{told_state}
 
 -- ---- what a stream's end leaves of the others
-loses_streams : (forwarded : Bool) (phase : Phase) (c : ℕ) (s : State) → ((loses forwarded phase c s).state.streams ≡ s.streams) × ((loses forwarded phase c s).state.drawn ≡ s.drawn)
+loses_streams : (forwarded : Bool) (phase : Phase) (c : ℕ) (s : State)
+    → ((loses forwarded phase c s).state.streams ≡ s.streams) × ((loses forwarded phase c s).state.drawn ≡ s.drawn)
 loses_streams forwarded (Streaming l) c s = (refl, refl)
 loses_streams true (Opening l) c s = (refl, refl)
 loses_streams false (Opening l) c s = (refl, refl)
@@ -71,7 +72,8 @@ module _ (t id : ℕ) (ending : Ending) (s : State) (stream : Stream) (h : IsFir
 
   gone_here : after.streams id ≡ None
   gone_here = ap (λ rows. rows id) (row_streams id ending stream s).0
-      ∙ (ap (λ b. cond b (option_and_then (none_kept {A = Stream}) (s.streams id)) (s.streams id)) (eq-eqb id id refl) ∙ ap (option_and_then (none_kept {A = Stream})) h.is)
+      ∙ (ap (λ b. cond b (option_and_then (none_kept {A = Stream}) (s.streams id)) (s.streams id)) (eq-eqb id id refl)
+      ∙ ap (option_and_then (none_kept {A = Stream})) h.is)
 
   same_there : (j : ℕ) → j < id → after.streams j ≡ s.streams j
   same_there j below = ap (λ rows. rows j) (row_streams id ending stream s).0

@@ -17,22 +17,23 @@ use Rattle.adb_rules.specs.Came.{packet_of, packets_of, takes_slice, slices_of, 
 use Rattle.adb_rules.proofs.Using.{more_room, more_places, owned_then, stays}
 
 -- what a rule takes of one client, a packet takes of it
-pub takes_from : {link client a b : ℕ} {old new : Tables} (slices : ℕ → ℕ) → a ≤ 1 → b ≤ slices client → Uses link a client b old new → Takes link 1 slices old new
-takes_from {link} {client} {a} {b} {old} {new} slices le enough h = record {
-  on_link = λ n room. h.on_link n (more_room (n + 1) (n + a) (at link old.links.entries) (omega (arith, le)) room);
-  on_links = h.on_links;
-  of_clients = λ n c room. of_client n c (cases_eq c client) room;
-  counted = h.counted;
-  tracked = h.tracked;
-  owned = h.owned;
-}
-  where
-    of_client : (n c : ℕ) → ◌⊎◌ (c ≡ client) (c ≢ client) → ClientRoom (n + slices c) (at c old.clients.entries) → ClientRoom n (at c new.clients.entries)
-    of_client n c (inl is) room =
-        let here = subst (λ (q : ℕ). ClientRoom (n + slices q) (at q old.clients.entries)) is room in
-        subst (λ (q : ℕ). ClientRoom n (at q new.clients.entries)) (sym is)
-        (h.of_client n (more_places (n + slices client) (n + b) (at client old.clients.entries) (omega (arith, enough)) here))
-    of_client n c (inr other) room = h.of_clients n c other (more_places (n + slices c) n (at c old.clients.entries) (omega arith) room)
+module _ {link client a b : ℕ} {old new : Tables} (h : Uses link a client b old new) where
+  pub takes_from : (slices : ℕ → ℕ) → a ≤ 1 → b ≤ slices client → Takes link 1 slices old new
+  takes_from slices le enough = record {
+    on_link = λ n room. h.on_link n (more_room (n + 1) (n + a) (at link old.links.entries) (omega (arith, le)) room);
+    on_links = h.on_links;
+    of_clients = λ n c room. of_client n c (cases_eq c client) room;
+    counted = h.counted;
+    tracked = h.tracked;
+    owned = h.owned;
+  }
+    where
+      of_client : (n c : ℕ) → ◌⊎◌ (c ≡ client) (c ≢ client) → ClientRoom (n + slices c) (at c old.clients.entries) → ClientRoom n (at c new.clients.entries)
+      of_client n c (inl is) room =
+          let here = subst (λ (q : ℕ). ClientRoom (n + slices q) (at q old.clients.entries)) is room in
+          subst (λ (q : ℕ). ClientRoom n (at q new.clients.entries)) (sym is)
+          (h.of_client n (more_places (n + slices client) (n + b) (at client old.clients.entries) (omega (arith, enough)) here))
+      of_client n c (inr other) room = h.of_clients n c other (more_places (n + slices c) n (at c old.clients.entries) (omega arith) room)
 
 -- a packet for a stream takes one slice of its client
 pub one_slice : (stream : Stream) (row : Option Stream) → row ≡ Some stream → 1 ≤ slices_of true row stream.client
@@ -83,7 +84,8 @@ pub record Left (link total : ℕ) (first : ℕ → ℕ) (items : List Came) (ol
   pub takes : TakesAll link total (length items) first (slices_in (packets_of items) now.streams.streams) old now
   pub is : items ≡ came ∷ rest
 
-module _ {link total : ℕ} {first : ℕ → ℕ} {items : List Came} {old now : Tables} {came : Came} {rest : List Came} (h : Left link total first items old now came rest) where
+module _ {link total : ℕ} {first : ℕ → ℕ} {items : List Came} {old now : Tables} {came : Came} {rest : List Came}
+    (h : Left link total first items old now came rest) where
   count : length items ≡ suc (length rest)
   count = ap (length {A = Came}) h.is
 

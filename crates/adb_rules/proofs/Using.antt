@@ -53,12 +53,17 @@ none_left : (row : Option Stream) → option_and_then (none_kept {A = Stream}) r
 none_left None = refl
 none_left (Some stream) = refl
 
+-- a row that is kept or not
+abbrev gone_if : Bool → Option Stream → Option Stream
+gone_if b row = cond b (option_and_then (none_kept {A = Stream}) row) row
+
 -- a row put in another's place keeps its owners
 owned_part : (streams : List (ℕ × Stream)) (id : ℕ) (stream : Stream) → at id streams ≡ Some stream → (part : Part) (l : ℕ)
     → StaysOwned (at l streams) (at l (put_part_at id part (found stream.link id streams) streams))
 owned_part streams id stream here part l = by_place (cases_eq id l)
   where
-    now : at l (put_part_at id part (found stream.link id streams) streams) ≡ cond (eqb id l) (option_and_then (with_stream_part part) (at l streams)) (at l streams)
+    now : at l (put_part_at id part (found stream.link id streams) streams)
+        ≡ cond (eqb id l) (option_and_then (with_stream_part part) (at l streams)) (at l streams)
     now = λ i. part_rows streams id stream here part i l
 
     by_place : ◌⊎◌ (id ≡ l) (id ≢ l) → StaysOwned (at l streams) (at l (put_part_at id part (found stream.link id streams) streams))
@@ -70,7 +75,8 @@ owned_part streams id stream here part l = by_place (cases_eq id l)
         subst (λ row. StaysOwned row (at l (put_part_at id part (found stream.link id streams) streams))) (sym there)
         (subst (StaysOwned (Some stream)) (sym then) (refl, refl))
     by_place (inr other) =
-        subst (StaysOwned (at l streams)) (sym (now ∙ ap (λ b. cond b (option_and_then (with_stream_part part) (at l streams)) (at l streams)) (ne_eqb id l other)))
+        subst (StaysOwned (at l streams))
+        (sym (now ∙ ap (λ b. cond b (option_and_then (with_stream_part part) (at l streams)) (at l streams)) (ne_eqb id l other)))
         (stays (at l streams))
 
 pub part_spares : (old : Tables) (id : ℕ) (stream : Stream) → at id old.streams.streams ≡ Some stream → IsSound old.streams → (part : Part)
@@ -130,7 +136,8 @@ module _ (old new : Tables) (id : ℕ) (stream : Stream) (here : at id old.strea
   gone_spares sound = record {
     links = λ n k room. keeps n k (cases_eq k stream.link) room;
     clients = λ n c room. subst (λ (table : _). ClientRoom n (at c table.entries)) (sym h.clients) room;
-    counted = λ counted k. subst (λ (table : _). IsCountedAt k table.streams (at k new.links.entries)) (sym h.streams) (counts k (cases_eq k stream.link) (counted k));
+    counted = λ counted k. subst (λ (table : _). IsCountedAt k table.streams (at k new.links.entries)) (sym h.streams)
+        (counts k (cases_eq k stream.link) (counted k));
     tracked = λ tracked c. subst (λ (table : _). IsListedAt c new.trackers.keys (at c table.entries)) (sym h.clients)
         (subst (λ keys. IsListedAt c keys (at c old.clients.entries)) (sym h.trackers) (tracked c));
     owned = λ l. subst (λ (table : _). StaysOwned (at l old.streams.streams) (at l table.streams)) (sym h.streams) (owned l (cases_eq id l));
@@ -157,10 +164,14 @@ module _ (old new : Tables) (id : ℕ) (stream : Stream) (here : at id old.strea
       owned : (l : ℕ) → ◌⊎◌ (id ≡ l) (id ≢ l) → StaysOwned (at l old.streams.streams) (at l (without id old.streams.streams))
       owned l place = by_row (λ i. gone_rows old.streams.streams id stream here sound.rises i l) place
         where
-          by_row : at l (without id old.streams.streams) ≡ cond (eqb id l) (option_and_then (none_kept {A = Stream}) (at l old.streams.streams)) (at l old.streams.streams)
+          by_row : at l (without id old.streams.streams) ≡ gone_if (eqb id l) (at l old.streams.streams)
               → ◌⊎◌ (id ≡ l) (id ≢ l) → StaysOwned (at l old.streams.streams) (at l (without id old.streams.streams))
-          by_row now (inl is) = subst (StaysOwned (at l old.streams.streams)) (sym (now ∙ (ap (λ b. cond b (option_and_then (none_kept {A = Stream}) (at l old.streams.streams)) (at l old.streams.streams)) (eq-eqb id l is) ∙ none_left (at l old.streams.streams)))) tt
-          by_row now (inr other) = subst (StaysOwned (at l old.streams.streams)) (sym (now ∙ ap (λ b. cond b (option_and_then (none_kept {A = Stream}) (at l old.streams.streams)) (at l old.streams.streams)) (ne_eqb id l other))) (stays (at l old.streams.streams))
+          by_row now (inl is) =
+              let row = at l old.streams.streams in
+              subst (StaysOwned row) (sym (now ∙ (ap (λ b. gone_if b row) (eq-eqb id l is) ∙ none_left row))) tt
+          by_row now (inr other) =
+              let row = at l old.streams.streams in
+              subst (StaysOwned row) (sym (now ∙ ap (λ b. gone_if b row) (ne_eqb id l other))) (stays row)
 
 -- ---- one rule after another
 pub more_room : (m n : ℕ) (port : Option Port) → n ≤ m → LinkRoom m port → LinkRoom n port
@@ -298,24 +309,27 @@ spares_of link client old new h = record {
   where
     on_link : (n k : ℕ) → ◌⊎◌ (k ≡ link) (k ≢ link) → LinkRoom n (at k old.links.entries) → LinkRoom n (at k new.links.entries)
     on_link n k (inl is) room =
-        let here = subst (λ (q : ℕ). LinkRoom q (at link old.links.entries)) (sym (no_more n)) (subst (λ (q : ℕ). LinkRoom n (at q old.links.entries)) is room) in
+        let on = subst (λ (q : ℕ). LinkRoom n (at q old.links.entries)) is room in
+        let here = subst (λ (q : ℕ). LinkRoom q (at link old.links.entries)) (sym (no_more n)) on in
         subst (λ (q : ℕ). LinkRoom n (at q new.links.entries)) (sym is) (h.on_link n here)
     on_link n k (inr other) room = h.on_links n k other room
 
     of_client : (n c : ℕ) → ◌⊎◌ (c ≡ client) (c ≢ client) → ClientRoom n (at c old.clients.entries) → ClientRoom n (at c new.clients.entries)
     of_client n c (inl is) room =
-        let here = subst (λ (q : ℕ). ClientRoom q (at client old.clients.entries)) (sym (no_more n)) (subst (λ (q : ℕ). ClientRoom n (at q old.clients.entries)) is room) in
+        let of_it = subst (λ (q : ℕ). ClientRoom n (at q old.clients.entries)) is room in
+        let here = subst (λ (q : ℕ). ClientRoom q (at client old.clients.entries)) (sym (no_more n)) of_it in
         subst (λ (q : ℕ). ClientRoom n (at q new.clients.entries)) (sym is) (h.of_client n here)
     of_client n c (inr other) room = h.of_clients n c other room
 
 -- what takes no more than so much takes so much at most
-pub uses_within : {link client a p : ℕ} {old new : Tables} → (b q : ℕ) → a ≤ b → p ≤ q → Uses link a client p old new → Uses link b client q old new
-uses_within {link} {client} {a} {p} {old} {new} b q le lq h = record {
-  on_link = λ n room. h.on_link n (more_room (n + b) (n + a) (at link old.links.entries) (omega (arith, le)) room);
-  on_links = h.on_links;
-  of_client = λ n room. h.of_client n (more_places (n + q) (n + p) (at client old.clients.entries) (omega (arith, lq)) room);
-  of_clients = h.of_clients;
-  counted = h.counted;
-  tracked = h.tracked;
-  owned = h.owned;
-}
+module _ {link client a p : ℕ} {old new : Tables} (h : Uses link a client p old new) where
+  pub uses_within : (b q : ℕ) → a ≤ b → p ≤ q → Uses link b client q old new
+  uses_within b q le lq = record {
+    on_link = λ n room. h.on_link n (more_room (n + b) (n + a) (at link old.links.entries) (omega (arith, le)) room);
+    on_links = h.on_links;
+    of_client = λ n room. h.of_client n (more_places (n + q) (n + p) (at client old.clients.entries) (omega (arith, lq)) room);
+    of_clients = h.of_clients;
+    counted = h.counted;
+    tracked = h.tracked;
+    owned = h.owned;
+  }

@@ -36,5 +36,7 @@ returns-in-Some-clause-fewer c =
     let link = c.args.link in
     let counts = gone_counts c.args.self.now.streams.streams c.args.id c.in-Some.stream (found c) link in
     let one : is_on link c.in-Some.stream ≡ 1 = ap (λ b. cond b 1 0) (eq-eqb c.in-Some.stream.link link (first c).on) in
-    let now : streams_on link c.end_row.new.self.streams.streams ≡ streams_on link (without c.args.id c.args.self.now.streams.streams) = ap (λ (table : StreamTable). streams_on link table.streams) c.end_row.ensures.rows in
+    let left = without c.args.id c.args.self.now.streams.streams in
+    let now : streams_on link c.end_row.new.self.streams.streams ≡ streams_on link left =
+    ap (λ (table : StreamTable). streams_on link table.streams) c.end_row.ensures.rows in
     omega (arith, counts, one, now)

@@ -21,4 +21,4 @@ returns-then-left-to_hand-clause-state c =
 
 pub returns-then-left-to_hand-clause-uses : goal.returns-then-left-to_hand-clause-uses
 returns-then-left-to_hand-clause-uses c = λ k.
-    subst (λ (row : Option Stream). UsesOf row 1 k 0 c.args.self.now c.leave.new.self) (sym (here c)) (c.leave.ensures.uses k)
+    subst (λ (found : Option Stream). UsesOf found 1 k 0 c.args.self.now c.leave.new.self) (sym (here c)) (c.leave.ensures.uses k)

@@ -3,15 +3,11 @@ use Rattle.std.proofs.lemmas.List.Elements.{All-head, All-tail}
 use Rattle.adb_history.specs.Rows.{State}
 use Rattle.adb_history.specs.Packets.{treat_all}
 use Rattle.adb_rules.specs.declared.came.Came.{Came}
-use Rattle.adb_rules.specs.declared.tables.Tables.{Tables}
 use Rattle.adb_rules.specs.Tables.{state_of}
 use Rattle.adb_rules.specs.Came.{IsCame, packet_of, packets_of, slices_in, slices_for}
 use Rattle.adb_rules.specs.Places.{TakesAll}
 use Rattle.adb_rules.proofs.Taking.{Left, next_room, next_places, takes_more, takes_over, provided_after}
 use Rattle.adb_rules.proofs.tables.Tables.treat_all.Goals as goal
-
-abbrev Waiting : (link : ℕ) (all : List Came) (old now : Tables) (items : List Came) (came : Came) (rest : List Came) → Type 0
-Waiting link all old now items came rest = Left link (length all) (slices_in (packets_of all) old.streams.streams) items old now came rest
 
 pub treat-requires-clause-came : goal.treat-requires-clause-came
 treat-requires-clause-came c =
@@ -19,14 +15,16 @@ treat-requires-clause-came c =
 
 pub treat-requires-clause-link : goal.treat-requires-clause-link
 treat-requires-clause-link c =
-    let h : Waiting c.args.link c.args.packets.items c.args.self.now c.loop-came.self c.loop-came.packets.items c.in-Some.came c.next_of.new.packets.items =
-    record { takes = c.loop-came.invariant.3; is = c.in-Some.ensures } in
+    let all = c.args.packets.items in
+    let h : Left c.args.link (length all) (slices_in (packets_of all) c.args.self.now.streams.streams) c.loop-came.packets.items c.args.self.now c.loop-came.self
+    c.in-Some.came c.next_of.new.packets.items = record { takes = c.loop-came.invariant.3; is = c.in-Some.ensures } in
     next_room h c.requires.link
 
 pub treat-requires-clause-clients : goal.treat-requires-clause-clients
 treat-requires-clause-clients c =
-    let h : Waiting c.args.link c.args.packets.items c.args.self.now c.loop-came.self c.loop-came.packets.items c.in-Some.came c.next_of.new.packets.items =
-    record { takes = c.loop-came.invariant.3; is = c.in-Some.ensures } in
+    let all = c.args.packets.items in
+    let h : Left c.args.link (length all) (slices_in (packets_of all) c.args.self.now.streams.streams) c.loop-came.packets.items c.args.self.now c.loop-came.self
+    c.in-Some.came c.next_of.new.packets.items = record { takes = c.loop-came.invariant.3; is = c.in-Some.ensures } in
     next_places h c.requires.clients
 
 pub loop-came-preserved : goal.loop-came-preserved
@@ -35,7 +33,8 @@ loop-came-preserved c =
     let rest = c.next_of.new.packets.items in
     let now = c.loop-came.self in
     let inv = c.loop-came.invariant in
-    let h : Waiting link c.args.packets.items c.args.self.now now c.loop-came.packets.items c.in-Some.came rest =
+    let all = c.args.packets.items in
+    let h : Left link (length all) (slices_in (packets_of all) c.args.self.now.streams.streams) c.loop-came.packets.items c.args.self.now now c.in-Some.came rest =
     record { takes = inv.3; is = c.in-Some.ensures } in
     let slices = slices_for (packet_of c.in-Some.came) now.streams.streams in (
       ap (λ (s : State). (treat_all link (packets_of rest) s).state) c.treat.ensures.state

@@ -23,4 +23,4 @@ returns-in-Some-clause-state c =
 pub returns-in-Some-clause-takes : goal.returns-in-Some-clause-takes
 returns-in-Some-clause-takes c =
     let row = at c.args.head.now.arg1 c.args.self.now.streams.streams in
-    takes_from (slices_of true row) (omega arith) (one_slice c.in-Some.stream row (found c).is) (c.take_okay.ensures.uses c.args.link)
+    takes_from (c.take_okay.ensures.uses c.args.link) (slices_of true row) (omega arith) (one_slice c.in-Some.stream row (found c).is)

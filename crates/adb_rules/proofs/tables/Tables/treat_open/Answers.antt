@@ -9,8 +9,8 @@ use Rattle.adb_rules.proofs.tables.Tables.treat_open.Goals as goal
 
 pub returns-in-Open-clause-takes : goal.returns-in-Open-clause-takes
 returns-in-Open-clause-takes c =
-    takes_from (slices_for (packet_under c.args.head.now c.args.payload) c.args.self.now.streams.streams) (omega arith) (omega arith)
-    (c.refuse_open.ensures.uses 0)
+    takes_from (c.refuse_open.ensures.uses 0) (slices_for (packet_under c.args.head.now c.args.payload) c.args.self.now.streams.streams)
+    (omega arith) (omega arith)
 
 pub returns-in-Okay-clause-takes : goal.returns-in-Okay-clause-takes
 returns-in-Okay-clause-takes c =

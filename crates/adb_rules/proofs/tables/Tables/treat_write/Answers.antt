@@ -24,4 +24,4 @@ returns-in-Some-clause-takes c =
     let row = at c.args.head.now.arg1 c.args.self.now.streams.streams in
     let stream = c.in-Some.stream in
     let uses = subst (λ (t : ℕ). Uses t 1 stream.client 1 c.args.self.now c.take_write.new.self) (found c).on c.take_write.ensures.uses in
-    takes_from (slices_of true row) (omega arith) (one_slice stream row (found c).is) uses
+    takes_from uses (slices_of true row) (omega arith) (one_slice stream row (found c).is)
