@@ -498,7 +498,8 @@ module _ (older : History) (legal : IsLegal older) (b : IsBooked (state older) o
         forwards = keeps.forwards ∙ sym (ap (λ (x : Book). x.forwards) same);
         led = subst (λ (f : List (ℕ × ForwardRow)). AreLed s.devices f) (sym keeps.forwards) (led_bound want port may.0);
         here = subst (λ (r : Said). IsAs (m.state.clients n) r)
-            (sym (ap (said_by n) same ∙ ap (λ (x : Bool). said_by n (record (bound_with n binding (book older)) { waits = λ k. cond x None ((book older).waits k) }))
+            (sym (ap (said_by n) same
+            ∙ ap (λ (x : Bool). said_by n (record (bound_with n binding (book older)) { waits = λ k. cond x None ((book older).waits k) }))
             (eq-eqb n n refl)))
             (idle_is (m.state.clients n) (said_by n (record (bound_with n binding (book older)) { waits = λ k. None }))
             (closed_with_row n binding.reply next) idle refl);
