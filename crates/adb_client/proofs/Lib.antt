@@ -1,2 +1,4 @@
 pub mod Seams
 pub mod Ends
+pub mod Weaving
+pub mod Filling

@@ -1,9 +1,9 @@
 -- Two lists in a row, cut at a place.
-use Rattle.std.proofs.Common.{◌≡◌, ℕ, ◌+◌, ◌-◌, ◌≤◌, ◌<◌, List, [], ◌∷◌, ◌++◌, length, take, drop, min, zero, suc, get_or, refl, sym, ap, ◌∙◌, arith}
+use Rattle.std.proofs.Common.{◌≡◌, ℕ, ◌-◌, ◌≤◌, List, [], ◌∷◌, ◌++◌, length, take, drop, min, zero, suc, refl, sym, ap, ◌∙◌, arith}
+use Rattle.std.proofs.Common.{append_assoc, length-append, take_all}
 use Rattle.std.proofs.Math.Seq.{take-nil, drop-length}
-use Rattle.std.specs.List.{concat}
-use Rattle.bytes.proofs.Chunks.{drop-append_min, concat-append, concat_push}
-use Rattle.std.proofs.lemmas.List.{take_min, take-append-drop, take-append-le, length-take, take_more}
+use Rattle.bytes.proofs.Chunks.{drop-append_min}
+use Rattle.std.proofs.lemmas.List.{take_min, take-append-drop, length-take}
 
 -- `take` over two lists takes what it can from the first
 pub take_both : (xs ys : List ℕ) (n : ℕ) → take n (xs ++ ys) ≡ take n xs ++ take (n - length xs) ys
@@ -35,30 +35,28 @@ take_drop xs ys n h =
     in
     ap (λ (l : List ℕ). take n (xs ++ ys) ++ l) (sym rest) ∙ take-append-drop n (xs ++ ys)
 
--- A front of a list, filled up from what comes behind it.
-pub filled : (xs ys text : List ℕ) (max : ℕ) → text ≡ take max xs → text ++ take (max - length text) ys ≡ take max (xs ++ ys)
-filled xs ys text max is =
-    let size : length text ≡ min max (length xs) = ap length is ∙ length-take max xs in
-    let room : max - length text ≡ max - length xs = omega (arith, size) in
-    ap (λ (m : ℕ). text ++ take m ys) room ∙ (ap (λ (l : List ℕ). l ++ take (max - length xs) ys) is ∙ sym (take_both xs ys max))
+-- a list within a size stands whole in front of what follows
+pub take_behind : (text ys : List ℕ) (max : ℕ) → length text ≤ max → take max (text ++ ys) ≡ text ++ take (max - length text) ys
+take_behind text ys max short =
+    take_both text ys max ∙ ap (λ (l : List ℕ). l ++ take (max - length text) ys) (take_all max text short)
 
--- the same over slices, of which one more was looked at
-pub filled_more : (slices : List (List ℕ)) (i : ℕ) (slice text : List ℕ) (max : ℕ) → i < length slices → slice ≡ get_or slices i slice
-    → text ≡ take max (concat (take i slices))
-    → text ++ take (max - length text) slice ≡ take max (concat (take (i + 1) slices))
-filled_more slices i slice text max here is before =
-    let more : concat (take (i + 1) slices) ≡ concat (take i slices) ++ slice =
-    ap concat (take_more slices i slice here)
-    ∙ (concat_push (take i slices) (get_or slices i slice) ∙ ap (λ (l : List ℕ). concat (take i slices) ++ l) (sym is))
-    in
-    filled (concat (take i slices)) slice text max before ∙ ap (take max) (sym more)
+-- what is cut behind a size is cut there once
+take_once : (xs ys : List ℕ) (n : ℕ) → take n (take n xs ++ ys) ≡ take n (xs ++ ys)
+take_once xs ys n =
+    let size : length (take n xs) ≡ min n (length xs) = length-take n xs in
+    let room : n - length (take n xs) ≡ n - length xs = omega (arith, size) in
+    take_behind (take n xs) ys n (omega (arith, size))
+    ∙ (ap (λ (m : ℕ). take n xs ++ take m ys) room ∙ sym (take_both xs ys n))
 
--- a text that is full of the first slices has all that it takes
-pub filled_up : (slices : List (List ℕ)) (i : ℕ) (text : List ℕ) (max : ℕ) → max ≤ length text → text ≡ take max (concat (take i slices))
-    → text ≡ take max (concat slices)
-filled_up slices i text max full is =
-    let split : concat slices ≡ concat (take i slices) ++ concat (drop i slices) =
-    ap concat (sym (take-append-drop i slices)) ∙ concat-append (take i slices) (drop i slices)
-    in
-    let within : max ≤ length (concat (take i slices)) = omega (arith, full, ap length is, length-take max (concat (take i slices))) in
-    is ∙ (sym (take-append-le max (concat (take i slices)) (concat (drop i slices)) within) ∙ ap (take max) (sym split))
+-- A text was filled up to a size by what came next; how much of what follows it takes is as before.
+pub filled_short : (text xs : List ℕ) (max : ℕ) → length text ≤ max → length (text ++ take (max - length text) xs) ≤ max
+filled_short text xs max short =
+    omega (arith, short, length-append text (take (max - length text) xs), length-take (max - length text) xs)
+
+pub filled_next : (text xs ys : List ℕ) (max : ℕ) → length text ≤ max
+    → take max ((text ++ take (max - length text) xs) ++ ys) ≡ take max (text ++ (xs ++ ys))
+filled_next text xs ys max short =
+    let room = max - length text in
+    ap (take max) (append_assoc text (take room xs) ys)
+    ∙ (take_behind text (take room xs ++ ys) max short
+    ∙ (ap (λ (l : List ℕ). text ++ l) (take_once xs ys room) ∙ sym (take_behind text (xs ++ ys) max short)))

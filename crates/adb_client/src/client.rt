@@ -8,7 +8,7 @@ ghost use Rattle.adb_client.specs.Client.{new_about};
 use crate::about::{About, Want};
 use crate::ask::{Ask, Asked};
 use crate::input::Input;
-use crate::output::Output;
+use crate::output::{MAX_SLICE, Output};
 use crate::phase::Phase;
 use adb_outside::Text;
 use bytes::Bytes;
@@ -17,9 +17,9 @@ use std::marker::Model;
 
 /// A client: what is plain of it, what it sent that is held, and what is due to it. What is held
 /// was not read yet while the client asks; from then on it is to be sent up. Contracts see both as
-/// lists of bytes, and three numbers beside them: how many of the first bytes held are ready to be
-/// cut off without memory, in how many pieces, and how many places are reserved for bytes that
-/// become due without memory. After want of memory the client is as before.
+/// lists of bytes, and four numbers beside them: how many of the first bytes held are ready to be
+/// cut off without memory, in how many pieces, and how many places are reserved for bytes, and how
+/// many for slices, that become due without memory. After want of memory the client is as before.
 #[derive(Drop)]
 pub struct Client {
     about: About,
@@ -51,6 +51,7 @@ impl Client {
           cuts = 0;
           due = [];
           spare = 0;
+          places = 0;
         } }
     {
         Client {
@@ -229,6 +230,28 @@ impl Client {
         self.output.owe_spare(bytes);
     }
 
+    /// Makes the places at least `n`: so many slices can become due by `owe_slice_spare`. No other
+    /// call but that and `finish` lowers them.
+    pub fn reserve_slices(&mut self, n: usize) -> Result<(), AllocError>
+        ensures ok { OnOk result (self.new ≡ record self.old { places = max n self.old.places }) }
+        ensures err { OnErr result (self.new ≡ self.old) }
+        ensures has_room { n ≤ self.old.places → IsOk result }
+    {
+        self.output.reserve_slices(n)
+    }
+
+    /// A slice becomes due, in a reserved place; no byte is copied. It takes no memory.
+    pub fn owe_slice_spare(&mut self, bytes: Bytes)
+        requires place { 0 < self.old.places }
+        requires size { length bytes ≤ MAX_SLICE }
+        ensures { self.new ≡ record self.old {
+          due = self.old.due ++ bytes;
+          places = self.old.places - 1;
+        } }
+    {
+        self.output.owe_slice_spare(bytes);
+    }
+
     /// How many bytes are due.
     pub fn owed(&self) -> usize
         ensures { result ≡ length self.now.due }
@@ -267,6 +290,7 @@ impl Client {
           cuts = 0;
           due = [];
           spare = 0;
+          places = 0;
         } }
     {
         self.about.phase = Phase::Gone;
@@ -274,7 +298,7 @@ impl Client {
         self.output.clear();
     }
 
-    /// Another client that holds the same, with the same spare, and of which nothing is ready.
+    /// Another client that holds the same, with the same places, and of which nothing is ready.
     /// Slices that are due are shared.
     pub fn copy(&self) -> Result<Client, AllocError>
         ensures { IfOk result (λ client. client ≡ record self.now { ready = 0; cuts = 0 }) }

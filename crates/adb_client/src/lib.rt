@@ -14,4 +14,5 @@ mod tests;
 pub use about::{About, Want};
 pub use ask::{Ask, Asked};
 pub use client::Client;
+pub use output::MAX_SLICE;
 pub use phase::Phase;

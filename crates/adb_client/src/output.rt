@@ -1,18 +1,20 @@
 //! What is due to a client.
 
-ghost use Rattle.std.specs.Prelude.{◌≡◌, ◌<◌, ◌≤◌, ◌+◌, ◌-◌, ◌++◌, [], List, ℕ, length, take, drop, max, All, IsOk, IfOk, OnOk, OnErr};
-ghost use Rattle.std.specs.List.{concat};
-ghost use Rattle.std.specs.VecDeque.{deque_len, deque_capacity};
+ghost use Rattle.std.specs.Prelude.{◌≡◌, ◌<◌, ◌≤◌, ◌+◌, ◌-◌, ◌++◌, [], length, take, drop, max, IsOk, IfOk, OnOk, OnErr};
 ghost use Rattle.bytes.specs.Unread.{IsChunkOf};
 
-use crate::slices::{first, share};
+use crate::slices::{Slice, fill, first, put_back, share_all};
 use adb_outside::Text;
 use bytes::{Bytes, BytesMut};
 use std::alloc::{AllocError, Global};
 use std::collections::VecDeque;
 use std::marker::Model;
 
-/// How many bytes the slices hold at most, so that all that is due fits a `usize`.
+/// The most bytes of a slice that becomes due in a reserved place: the most payload of a packet.
+pub const MAX_SLICE: usize = 1_048_576;
+
+/// How many bytes the slices hold at most, with those that have a place and come later, so that all
+/// that is due fits a `usize`.
 const MOST: usize = 1 << 63;
 
 /// How many bytes, and how many places of slices, may stay taken where nothing is due.
@@ -20,16 +22,20 @@ const FEW_BYTES: usize = 16 * 1024;
 
 const FEW_SLICES: usize = 64;
 
-/// The bytes that are due: slices, which are shared, and behind them bytes of its own, with the
-/// places that are reserved. What was handed out of the first slice is cut off.
+/// The bytes that are due: bytes of its own, and slices among them, which are shared, with the
+/// places that are reserved for more of both. What was handed out is cut off.
 #[derive(Drop)]
 pub(crate) struct Output {
     alloc: Global,
-    slices: VecDeque<Bytes>,
+    slices: VecDeque<Slice>,
     /// How many bytes the slices hold.
     shared: usize,
-    tail: BytesMut,
-    /// How many places are reserved.
+    /// How many slices more have a place.
+    places: usize,
+    own: BytesMut,
+    /// How many of its own bytes stand before the last slice.
+    before: usize,
+    /// How many bytes more of its own have a place.
     spare: usize,
 }
 
@@ -48,13 +54,15 @@ impl Model for Output {
 impl Output {
     /// Nothing is due or reserved. It takes no memory.
     pub(crate) fn new(alloc: Global) -> Output
-        ensures { result ≡ record { due = []; spare = 0 } }
+        ensures { result ≡ record { due = []; spare = 0; places = 0 } }
     {
         Output {
             alloc,
             slices: VecDeque::new(alloc),
             shared: 0,
-            tail: BytesMut::new(alloc),
+            places: 0,
+            own: BytesMut::new(alloc),
+            before: 0,
             spare: 0,
         }
     }
@@ -63,7 +71,7 @@ impl Output {
     pub(crate) fn owed(&self) -> usize
         ensures { result ≡ length self.now.due }
     {
-        self.shared + self.tail.len()
+        self.shared + self.own.len()
     }
 
     /// Makes the spare at least `n`.
@@ -72,8 +80,26 @@ impl Output {
         ensures err { OnErr result (self.new ≡ self.old) }
         ensures has_room { n ≤ self.old.spare → IsOk result }
     {
-        self.tail.reserve(n)?;
+        self.own.reserve(n)?;
         self.spare = self.spare.max(n);
+        Ok(())
+    }
+
+    /// Makes the places at least `n`. Where so many slices could not be counted it is want of
+    /// memory.
+    pub(crate) fn reserve_slices(&mut self, n: usize) -> Result<(), AllocError>
+        ensures ok { OnOk result (self.new ≡ record self.old { places = max n self.old.places }) }
+        ensures err { OnErr result (self.new ≡ self.old) }
+        ensures has_room { n ≤ self.old.places → IsOk result }
+    {
+        if n <= self.places {
+            return Ok(());
+        }
+        if n > (MOST - self.shared) / MAX_SLICE {
+            return Err(AllocError);
+        }
+        self.slices.reserve(n)?;
+        self.places = n;
         Ok(())
     }
 
@@ -85,8 +111,8 @@ impl Output {
         let Some(places) = self.spare.checked_add(bytes.len()) else {
             return Err(AllocError);
         };
-        self.tail.reserve(places)?;
-        self.tail.extend_reserved(bytes);
+        self.own.reserve(places)?;
+        self.own.extend_reserved(bytes);
         Ok(())
     }
 
@@ -95,14 +121,19 @@ impl Output {
         ensures ok { OnOk result (self.new ≡ record self.old { due = self.old.due ++ bytes }) }
         ensures err { OnErr result (self.new ≡ self.old) }
     {
-        let shared = self.owed().saturating_add(bytes.len());
-        if shared > MOST {
+        let shared = self.shared.saturating_add(bytes.len());
+        if shared > MOST - MAX_SLICE * self.places {
             return Err(AllocError);
         }
-        self.slices.reserve(2)?;
-        let tail = self.tail.freeze_to(self.tail.len())?;
-        push(&mut self.slices, tail);
-        push(&mut self.slices, bytes);
+        if bytes.is_empty() {
+            return Ok(());
+        }
+        self.slices.reserve(self.places + 1)?;
+        self.slices.push_back_reserved(Slice {
+            before: self.own.len() - self.before,
+            bytes,
+        });
+        self.before = self.own.len();
         self.shared = shared;
         Ok(())
     }
@@ -115,8 +146,29 @@ impl Output {
           spare = self.old.spare - length bytes.now;
         } }
     {
-        self.tail.extend_reserved(bytes);
+        self.own.extend_reserved(bytes);
         self.spare -= bytes.len();
+    }
+
+    /// A slice is due, in a reserved place, copied nowhere. It takes no memory.
+    pub(crate) fn owe_slice_spare(&mut self, bytes: Bytes)
+        requires place { 0 < self.old.places }
+        requires size { length bytes ≤ MAX_SLICE }
+        ensures { self.new ≡ record self.old {
+          due = self.old.due ++ bytes;
+          places = self.old.places - 1;
+        } }
+    {
+        self.places -= 1;
+        if bytes.is_empty() {
+            return;
+        }
+        self.shared += bytes.len();
+        self.slices.push_back_reserved(Slice {
+            before: self.own.len() - self.before,
+            bytes,
+        });
+        self.before = self.own.len();
     }
 
     /// The first bytes that are due, some where any are.
@@ -124,8 +176,9 @@ impl Output {
         ensures { IsChunkOf result.now self.now.due }
     {
         match self.slices.front() {
-            Some(first) => first.as_slice(),
-            None => self.tail.as_slice(),
+            Some(slice) if slice.before > 0 => first(self.own.as_slice(), slice.before),
+            Some(slice) => slice.bytes.as_slice(),
+            None => self.own.as_slice(),
         }
     }
 
@@ -135,8 +188,7 @@ impl Output {
     {
         let room = Vec::with_capacity(self.alloc, max.min(self.owed()))?;
         let mut text = Text::from_vec(room);
-        fill_from_slices(&mut text, &self.slices, max)?;
-        fill(&mut text, self.tail.as_slice(), max)?;
+        fill(&mut text, &self.slices, self.own.as_slice(), max)?;
         Ok(text)
     }
 
@@ -152,22 +204,29 @@ impl Output {
         self.give_back();
     }
 
-    /// At most the first `n` bytes were handed out, of the first slice alone: how many.
+    /// At most the first `n` bytes were handed out, of the first slice alone or of the own bytes
+    /// before it: how many.
     fn hand_first(&mut self, n: usize) -> usize
         requires { (0 < n) × (n ≤ length self.old.due) }
         ensures count { (0 < result) × (result ≤ n) }
         ensures due { self.new ≡ record self.old { due = drop result self.old.due } }
     {
-        let Some(mut first) = self.slices.pop_front() else {
-            self.tail.advance(n);
+        let Some(mut slice) = self.slices.pop_front() else {
+            self.own.advance(n);
             return n;
         };
-        let taken = n.min(first.len());
-        first.advance(taken);
-        if !first.is_empty() {
-            self.slices.push_front_reserved(first);
+        if slice.before > 0 {
+            let taken = n.min(slice.before);
+            self.own.advance(taken);
+            self.before -= taken;
+            slice.before -= taken;
+            self.slices.push_front_reserved(slice);
+            return taken;
         }
+        let taken = n.min(slice.bytes.len());
         self.shared -= taken;
+        slice.bytes.advance(taken);
+        put_back(&mut self.slices, slice);
         taken
     }
 
@@ -175,20 +234,23 @@ impl Output {
     fn give_back(&mut self)
         ensures { self.new ≡ self.old }
     {
-        if self.slices.is_empty() && self.slices.capacity() > FEW_SLICES {
-            self.slices = VecDeque::new(self.alloc);
-        }
-        if self.tail.is_empty()
-            && self.tail.capacity() > FEW_BYTES.saturating_add(self.spare)
-            && let Ok(tail) = BytesMut::with_capacity(self.alloc, self.spare)
+        if self.slices.is_empty()
+            && self.slices.capacity() > FEW_SLICES.saturating_add(self.places)
+            && let Ok(slices) = VecDeque::with_capacity(self.alloc, self.places)
         {
-            self.tail = tail;
+            self.slices = slices;
+        }
+        if self.own.is_empty()
+            && self.own.capacity() > FEW_BYTES.saturating_add(self.spare)
+            && let Ok(own) = BytesMut::with_capacity(self.alloc, self.spare)
+        {
+            self.own = own;
         }
     }
 
     /// Nothing is due or reserved any more. It takes no memory.
     pub(crate) fn clear(&mut self)
-        ensures { self.new ≡ record { due = []; spare = 0 } }
+        ensures { self.new ≡ record { due = []; spare = 0; places = 0 } }
     {
         *self = Output::new(self.alloc);
     }
@@ -197,62 +259,17 @@ impl Output {
     pub(crate) fn copy(&self) -> Result<Output, AllocError>
         ensures { IfOk result (λ output. output ≡ self.now) }
     {
-        let mut tail = BytesMut::new(self.alloc);
-        tail.extend_from_slice(self.tail.as_slice())?;
-        tail.reserve(self.spare)?;
+        let mut own = BytesMut::new(self.alloc);
+        own.extend_from_slice(self.own.as_slice())?;
+        own.reserve(self.spare)?;
         Ok(Output {
             alloc: self.alloc,
-            slices: share_all(self.alloc, &self.slices)?,
+            slices: share_all(self.alloc, &self.slices, self.places)?,
             shared: self.shared,
-            tail,
+            places: self.places,
+            own,
+            before: self.before,
             spare: self.spare,
         })
     }
-}
-
-/// A slice is put behind the others, unless it is empty.
-fn push(slices: &mut VecDeque<Bytes>, slice: Bytes)
-    requires { deque_len slices.old < deque_capacity slices.old }
-    ensures bytes { concat slices.new.items ≡ concat slices.old.items ++ slice }
-    ensures some { All (λ s. 0 < length s) slices.old.items
-        → All (λ s. 0 < length s) slices.new.items }
-    ensures len { deque_len slices.new ≤ deque_len slices.old + 1 }
-    ensures capacity { deque_capacity slices.new ≡ deque_capacity slices.old }
-{
-    if !slice.is_empty() {
-        slices.push_back_reserved(slice);
-    }
-}
-
-/// Other owners of the same slices.
-fn share_all(alloc: Global, slices: &VecDeque<Bytes>) -> Result<VecDeque<Bytes>, AllocError>
-    ensures { IfOk result (λ shared. shared.items ≡ slices.now.items) }
-{
-    let mut shared = VecDeque::with_capacity(alloc, slices.len())?;
-    for i in 0..slices.len() {
-        shared.push_back(share(&slices[i])?)?;
-    }
-    Ok(shared)
-}
-
-/// Fills an empty text up to `max` bytes from slices, and looks at none behind them.
-fn fill_from_slices(text: &mut Text, slices: &VecDeque<Bytes>, max: usize) -> Result<(), AllocError>
-    requires { text.old ≡ [] }
-    ensures { OnOk result (text.new ≡ take max (concat slices.now.items)) }
-{
-    for i in 0..slices.len() {
-        if text.len() >= max {
-            return Ok(());
-        }
-        fill(text, slices[i].as_slice(), max)?;
-    }
-    Ok(())
-}
-
-/// Fills a text up to `max` bytes from the front of others.
-fn fill(text: &mut Text, bytes: &[u8], max: usize) -> Result<(), AllocError>
-    ensures { OnOk result (text.new ≡ text.old ++ take (max - length text.old) bytes.now) }
-{
-    let n = max.saturating_sub(text.len()).min(bytes.len());
-    text.push_slice(first(bytes, n))
 }

@@ -2,7 +2,7 @@
 
 ghost use Rattle.std.specs.Prelude.{◌≤◌, length};
 
-use crate::{Ask, Client, Phase, Want};
+use crate::{Ask, Client, MAX_SLICE, Phase, Want};
 use adb_outside::Text;
 use adb_request::Request;
 use bytes::Bytes;
@@ -157,6 +157,42 @@ fn what_is_due_is_handed_out(rt: HostRuntime) -> Result<(), Fail> {
         owe(&mut client, debt)?;
         assert_eq!(rt; client.front(), front);
         assert_eq!(rt; client.owed(), owed);
+    }
+    Ok(())
+}
+
+/// Bytes and slices become due by turns, in places that were reserved before them all.
+fn owe_by_turns(client: &mut Client) -> Result<(), AllocError> {
+    client.reserve(4)?;
+    client.reserve_slices(4)?;
+    client.owe_spare(b"ab");
+    client.owe_slice_spare(Bytes::from_static(b"cde"));
+    client.owe_slice_spare(Bytes::from_static(b""));
+    client.owe_slice_spare(Bytes::from_static(b"f"));
+    client.owe_spare(b"gh");
+    client.owe_slice_spare(Bytes::from_static(b"ijkl"));
+    Ok(())
+}
+
+/// The front, and how many bytes are handed out then.
+const FRONTS: &[(&[u8], usize)] = &[
+    (b"ab", 1),
+    (b"b", 2),
+    (b"de", 1),
+    (b"e", 2),
+    (b"gh", 3),
+    (b"jkl", 3),
+    (b"", 0),
+];
+
+#[test]
+fn slices_stand_among_bytes(rt: HostRuntime) -> Result<(), Fail> {
+    assert_eq!(rt; MAX_SLICE, 1_048_576);
+    let mut client = Client::new(rt.alloc(), 1, false);
+    owe_by_turns(&mut client)?;
+    for &(front, n) in FRONTS {
+        assert_eq!(rt; client.front(), front);
+        client.hand(n.min(client.owed()));
     }
     Ok(())
 }

@@ -124,7 +124,7 @@ pub record IsCleared (t : ℕ) (before after : State) : Type 0 where
 order : (a b : ℕ) → (a ≤ b) ⊎ (b < a)
 order a b = grind arith
 
-all_cleared : (t : ℕ) (ending : Ending) (s : State) → AllDrawn s → IsCleared t s (all_end t ending s).state
+pub all_cleared : (t : ℕ) (ending : Ending) (s : State) → AllDrawn s → IsCleared t s (all_end t ending s).state
 all_cleared t ending s rows =
     let h = ends_left t ending s s.drawn in
     record {
@@ -176,7 +176,7 @@ module _ (s : State) (h : IsLinked s) where
       })
 
   -- ---- a device says who it is
-  first_cleared : (b : Bool) (t : ℕ) → is_connected t s.devices ≡ b → IsCleared t s (streams_end_first b t s).state
+  pub first_cleared : (b : Bool) (t : ℕ) → is_connected t s.devices ≡ b → IsCleared t s (streams_end_first b t s).state
   first_cleared true t is = all_cleared t lost s h.owned.rows
   first_cleared false t is =
       record { devices = refl; links = refl; forwards = refl; same = λ m x e. e; clear = λ m x e. none_on t s.devices x is (h.on m x e) }

@@ -48,7 +48,7 @@ always false e = cc
 written_to : (remote own : ℕ) → (eqb remote 0 || not (eqb remote own)) ≡ false → own ≢ 0
 written_to remote own e is = always (eqb remote 0) (subst (λ (n : ℕ). (eqb remote 0 || not (eqb remote n)) ≡ false) is e)
 
-hears_streams : (o : Option Client) (c : ℕ) (s : State) → (hears_okay o c s).state.streams ≡ s.streams
+pub hears_streams : (o : Option Client) (c : ℕ) (s : State) → (hears_okay o c s).state.streams ≡ s.streams
 hears_streams None c s = refl
 hears_streams (Some client) c s = go client.about.forwarded
   where
@@ -187,7 +187,7 @@ module _ {P : State → List Event → Type 0} (k : Moves P) where
     treat_any_kept t Wrte p = if_connected_kept t Wrte p
     treat_any_kept t Clse p = if_connected_kept t Clse p
 
-    treat_on_kept : (o : Option Link) (t : ℕ) (p : Packet) → After P w (treat_on o t p s)
+    pub treat_on_kept : (o : Option Link) (t : ℕ) (p : Packet) → After P w (treat_on o t p s)
     treat_on_kept None t p = after_quietly P w s h
     treat_on_kept (Some link) t p = treat_any_kept t p.command p
 

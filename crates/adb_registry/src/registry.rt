@@ -153,6 +153,14 @@ impl Registry {
         self.rows.remove(&id).is_some()
     }
 
+    /// Removes all devices. The ids that were drawn stay drawn. It takes no memory.
+    pub fn clear(&mut self)
+        ensures devices { self.new ≡ record self.old { rows = [] } }
+        ensures sound { IsSound self.new }
+    {
+        self.rows.clear();
+    }
+
     /// The device of this id, where there is one: its serial holds at most 64 bytes, its features
     /// at most 32,768.
     pub fn row(&self, id: u32) -> Option<&Row>

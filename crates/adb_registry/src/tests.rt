@@ -78,6 +78,9 @@ fn attached_or_refused(rt: HostRuntime) -> Result<(), Fail> {
     assert!(rt; !registry.detach(5));
     assert!(rt; registry.row(5).is_none());
     assert_eq!(rt; registry.attach(Kind::Usb, b"~"), Ok(129));
+    registry.clear();
+    assert!(rt; registry.row(129).is_none());
+    assert_eq!(rt; registry.attach(Kind::Usb, b"~"), Ok(130));
     let mut exhausted = Registry::exhausted(alloc);
     assert_eq!(rt; exhausted.attach(Kind::Usb, b""), Err(AttachError::Numbers));
     Ok(())

@@ -1,3 +1,4 @@
 pub mod Beginnings
 pub mod Openings
 pub mod Readiness
+pub mod Shortness

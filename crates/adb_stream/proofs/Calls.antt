@@ -1,15 +1,17 @@
 -- What stands on a shelf after each of its calls.
-use Rattle.std.proofs.Common.{◌≡◌, ◌≢◌, ℕ, ◌+◌, ◌<◌, ◌^◌, Bool, true, false, cond, Option, Some, None}
+use Rattle.std.proofs.Common.{◌≡◌, ◌≢◌, ℕ, ◌+◌, ◌<◌, ◌^◌, Bool, true, false, cond, List, [], Option, Some, None}
 use Rattle.std.proofs.Common.{refl, sym, ap, ◌∙◌, arith, ◌⊎◌, inl, inr, subst, eqb}
 use Rattle.std.proofs.lemmas.Bool.{cases_eq, ne_eqb, eq-eqb}
-use Rattle.std.specs.Prelude.{is_some, option_map}
+use Rattle.std.specs.Prelude.{is_some, option_map, slice_index_or}
+use Rattle.std.specs.BTreeMap.{is_at}
+use Rattle.std.specs.Map.{lookup}
 use Rattle.slab.specs.Slab.{with_value, Updates}
 use Rattle.slab.proofs.SlabLemmas.{Updates-with_value}
 use Rattle.adb_outside.specs.Tables.{at, IsRising, Rows, put_row, put_at, without}
 use Rattle.adb_outside.proofs.TableLaws.{puts_is}
 use Rattle.adb_stream.specs.Stream.{with_part, IsStreamAt}
 use Rattle.adb_stream.specs.Streams.{StreamTable, found, put_part_at, with_part_in}
-use Rattle.adb_stream.specs.Shelf.{keys_of, slots_of, index_of, stream_of, put_place, put_part, with_part_at, emptied, displaced}
+use Rattle.adb_stream.specs.Shelf.{keys_of, slots_of, index_of, stream_of, place_cmp, put_place, put_part, with_part_at, emptied, displaced}
 use Rattle.adb_stream.specs.Shelf.{table_of, key_if, place_of, HasStream, IsIndexed}
 use Rattle.adb_stream.specs.declared.row.Stream.{Stream}
 use Rattle.adb_stream.specs.declared.row.Part.{Part}
@@ -253,3 +255,29 @@ pub lent_table : (link id : ℕ) (old : Kept) (table : StreamTable) → table_of
     → (λ (part : Part). table_of old.drawn (with_part_at old.shelf (index_of old.shelf link id) part)) ≡ with_part_in link id table
 lent_table link id old table is =
     (λ i part. record { drawn = old.drawn; streams = (lent link id part old).streams i }) ∙ ap (with_part_in link id) is
+
+-- Nothing stands on a shelf that was cleared.
+pub record IsCleared (shelf : Shelf) : Type 0 where
+  pub keys : shelf.keys.entries ≡ []
+  pub slots : shelf.rows.slots ≡ []
+  pub index : shelf.index.entries ≡ []
+  pub rises : IsRising shelf.keys.entries
+
+module _ (drawn : ℕ) (shelf : Shelf) (fits : drawn < 2 ^ 32) (c : IsCleared shelf) where
+  no_key : (id : ℕ) → keys_of shelf id ≡ None
+  no_key id = ap (at id) c.keys
+
+  no_slot : (key : ℕ) → slots_of shelf key ≡ None
+  no_slot key = ap (λ (slots : List (Option Stream)). slice_index_or slots key None) c.slots
+
+  no_place : (link id : ℕ) → index_of shelf link id ≡ None
+  no_place link id = ap (lookup (is_at (place_cmp (link, id)))) c.index
+
+  pub cleared_indexed : IsIndexed drawn shelf
+  cleared_indexed = record {
+    fits = fits;
+    rows = λ id key is. absurd (some_none key (keys_of shelf id) is (no_key id));
+    held = λ key stream is. absurd (some_none stream (slots_of shelf key) is (no_slot key));
+    finds = λ link id. no_place link id ∙ ap (place_of (slots_of shelf) link) (sym (no_key id));
+    rises = c.rises;
+  }

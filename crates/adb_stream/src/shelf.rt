@@ -108,6 +108,26 @@ impl Shelf {
         Some(stream)
     }
 
+    /// Takes out all streams. It takes no memory.
+    pub(crate) fn clear(&mut self)
+        ensures keys { self.new.keys.entries ≡ [] }
+        ensures slots { self.new.rows.slots ≡ [] }
+        ensures index { self.new.index.entries ≡ [] }
+        ensures rises { IsRising self.new.keys.entries }
+    {
+        self.rows.clear();
+        self.keys.clear();
+        self.index.clear();
+    }
+
+    /// The stream of an id.
+    pub(crate) fn get(&self, id: u32) -> Option<&Stream>
+        ensures { option_copied result ≡ stream_of (slots_of self.now) (keys_of self.now id) }
+    {
+        let key = self.keys.get(&id)?;
+        self.rows.get(*key)
+    }
+
     /// The stream of a link and an id.
     pub(crate) fn find(&self, link: u32, id: u32) -> Option<&Stream>
         ensures { option_copied result ≡ stream_of (slots_of self.now) (index_of self.now link id) }

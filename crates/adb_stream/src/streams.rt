@@ -86,6 +86,14 @@ impl Streams {
         Ok(id)
     }
 
+    /// The stream of an id, or `None` where none lives. It takes no memory.
+    pub fn get(&self, id: u32) -> Option<&Stream>
+        ensures found { option_copied result ≡ at id self.now.streams }
+        ensures sound { IsSound self.now }
+    {
+        self.shelf.get(id)
+    }
+
     /// The stream of this id, exactly where it lives and is one of this link.
     pub fn find(&self, link: u32, id: u32) -> Option<&Stream>
         ensures found { option_copied result ≡ found link id self.now.streams }
@@ -100,6 +108,7 @@ impl Streams {
         ensures* writes_back { sem 𝓛 (LendsPart self.entry link id result) }
         ensures found { option_copied_mut result
             ≡ option_map (λ stream. stream.part) (found link id self.old.streams) }
+        ensures sound { IsSound self.old }
     {
         self.shelf.find_mut(link, id)
     }
@@ -111,6 +120,14 @@ impl Streams {
         ensures sound { IsSound self.new }
     {
         self.shelf.remove(id)
+    }
+
+    /// All streams end. The ids that were drawn stay drawn. It takes no memory.
+    pub fn clear(&mut self)
+        ensures after { self.new ≡ record self.old { streams = [] } }
+        ensures sound { IsSound self.new }
+    {
+        self.shelf.clear();
     }
 
     /// The least id of a stream of this link that lives.

@@ -84,6 +84,9 @@ fn streams_stand_by_link(rt: HostRuntime) -> Result<(), Fail> {
     assert_eq!(rt; remote, 40);
     assert_eq!(rt; streams.first_of(2), Some(3));
     assert_eq!(rt; streams.first_of(3), None);
+    streams.clear();
+    assert_eq!(rt; streams.first_of(2), None);
+    assert_eq!(rt; streams.draw(5, 2, false), Ok(4));
     Ok(())
 }
 

@@ -1,0 +1,4 @@
+pub mod Turns
+pub mod Heard
+pub mod Served
+pub mod Shown

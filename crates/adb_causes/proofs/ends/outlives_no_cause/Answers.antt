@@ -1,0 +1,5 @@
+use Rattle.adb_causes.proofs.OtherCauses.{all_other}
+use Rattle.adb_causes.proofs.ends.outlives_no_cause.Goals as goal
+
+pub returns : goal.returns
+returns c = all_other

@@ -1,0 +1,200 @@
+-- What each move keeps, one packet of a device keeps; so a packet leaves clients and streams to keep each other.
+use Rattle.std.proofs.Common.{◌≡◌, ◌≢◌, ℕ, Bool, true, false, cond, not, ◌||◌, List, [], ◌∷◌, ◌++◌, length, Option, Some, None, refl, ap, subst, ◌∙◌}
+use Rattle.std.proofs.Common.{arith, inl, inr, eqb}
+use Rattle.std.specs.Prelude.{codes, is_some, nat_eq, nat_lt}
+use Rattle.std.proofs.lemmas.Bool.{eqb-true, eqb-false}
+use Rattle.adb_outside.specs.Tables.{at}
+use Rattle.adb_outside.specs.declared.identity.Identity.{Identity}
+use Rattle.adb_outside.specs.declared.identity.State.{State as DeviceState}
+use Rattle.adb_outside.specs.declared.identity.State.TheVariants.{Offline, Unauthorized, Device, Bootloader, Recovery, Sideload, Rescue, Host}
+use Rattle.adb_banner.specs.Banner.{identity_of}
+use Rattle.adb_registry.specs.declared.row.Row.{Row}
+use Rattle.adb_wire.specs.declared.command.Command.{Command}
+use Rattle.adb_wire.specs.declared.command.Command.TheVariants.{Cnxn, Open, Okay, Wrte, Clse, Auth, Stls}
+use Rattle.adb_wire.specs.declared.packets.Packet.{Packet}
+use Rattle.adb_stream.specs.declared.flow.Flow.{Flow}
+use Rattle.adb_stream.specs.declared.flow.Flow.TheVariants.{One, Credit}
+use Rattle.adb_stream.specs.declared.row.Stream.{Stream}
+use Rattle.adb_history.specs.Rows.{Client, Link, State, to_stream, with_stream_part}
+use Rattle.adb_history.specs.Events.{Made, Event, quietly, peer_closed, out_of_turn, broken}
+use Rattle.adb_history.specs.Links.{close_packet, okay_packet, credit_word, owe_link, is_connected}
+use Rattle.adb_history.specs.Clients.{owe_client}
+use Rattle.adb_history.specs.Streams.{ends_row, ends_telling}
+use Rattle.adb_history.specs.Flow.{with_flow}
+use Rattle.adb_history.specs.Losing.{link_ends}
+use Rattle.adb_history.specs.Packets.{least_version, least_maxdata, connects, cnxn, unauthorized_from, unauthorized, refuses_open, at_stream}
+use Rattle.adb_history.specs.Packets.{hears_okay, opened, orphan_opened, acknowledged, okay_open, okay_first, takes_okay, is_out_of_turn}
+use Rattle.adb_history.specs.Packets.{accepts_none, accepts, takes_write, takes_close, treat_open, treat_any, treat_on, treat}
+use Rattle.adb_history.specs.Moves.{After, Moves, IsLike, open_now}
+use Rattle.adb_history.specs.Owned.{IsOwned}
+use Rattle.adb_history.specs.Linked.{IsLinked}
+use Rattle.adb_history.proofs.LinkMoves.{linked_moves}
+use Rattle.adb_history.proofs.OwnedStep.{owned_moves}
+use Rattle.adb_history.proofs.Following.{after_quietly, after_then, after_if}
+use Rattle.adb_history.proofs.StreamMoves.{owes_kept, ends_telling_kept}
+
+like_acknowledged : (word : Option ℕ) (flow : Flow) → IsLike flow (acknowledged word flow)
+like_acknowledged word (One window) = record { credit = refl; left = omega arith; sound = λ h. h }
+like_acknowledged None (Credit credit) = record { credit = refl; left = omega arith; sound = λ h. h }
+like_acknowledged (Some n) (Credit credit) =
+    record { credit = refl; left = omega arith; sound = λ h. record { window = h.window; few = h.few; none = h.none } }
+
+-- what the test of a write says where it passes
+always : (b : Bool) → (b || not b) ≡ false → ⊥
+always true e = cc
+always false e = cc
+
+written_to : (remote own : ℕ) → (eqb remote 0 || not (eqb remote own)) ≡ false → own ≢ 0
+written_to remote own e is = always (eqb remote 0) (subst (λ (n : ℕ). (eqb remote 0 || not (eqb remote n)) ≡ false) is e)
+
+hears_streams : (o : Option Client) (c : ℕ) (s : State) → (hears_okay o c s).state.streams ≡ s.streams
+hears_streams None c s = refl
+hears_streams (Some client) c s = go client.about.forwarded
+  where
+    go : (b : Bool) → (cond b (quietly s) (owe_client c (codes "OKAY") s)).state.streams ≡ s.streams
+    go true = refl
+    go false = refl
+
+module _ {P : State → List Event → Type 0} (k : Moves P) where
+  module _ (s : State) (w : List Event) (h : P s w) where
+    -- ---- CNXN, AUTH and STLS
+    connects_kept : (t version maxdata : ℕ) (who : Option Identity) → After P w (connects t version maxdata who s)
+    connects_kept t version maxdata None = k.link_ends t broken s w h
+    connects_kept t version maxdata (Some identity) = k.online t version maxdata identity s w h
+
+    cnxn_kept : (t version maxdata : ℕ) (banner : List ℕ) → After P w (cnxn t version maxdata banner s)
+    cnxn_kept t version maxdata banner =
+        after_if P w (nat_lt version least_version || nat_lt maxdata least_maxdata) (link_ends t broken s) (connects t version maxdata (identity_of banner) s)
+        (λ e. k.link_ends t broken s w h) (λ e. connects_kept t version maxdata (identity_of banner))
+
+    unauthorized_kept : (t : ℕ) (o : Option Row) → at t s.devices.rows ≡ o → After P w (unauthorized t o s)
+    unauthorized_kept t None is = after_quietly P w s h
+    unauthorized_kept t (Some row) is = after_quietly P w (unauthorized_from t row.state s) (go row.state refl)
+      where
+        go : (state : DeviceState) → row.state ≡ state → P (unauthorized_from t state s) w
+        go Offline e = k.unauthorized t row s w is e h
+        go Unauthorized e = h
+        go Device e = h
+        go Bootloader e = h
+        go Recovery e = h
+        go Sideload e = h
+        go Rescue e = h
+        go Host e = h
+
+    -- ---- OPEN
+    refuses_kept : (t id : ℕ) → After P w (refuses_open t id s)
+    refuses_kept t id =
+        after_if P w (eqb id 0) (quietly s) (owe_link t (close_packet 0 id) s) (λ e. after_quietly P w s h)
+        (λ e. owes_kept k s w h t (close_packet 0 id) (inl refl))
+
+    at_stream_kept : (t l : ℕ) (o : Option Stream) (rule : Stream → State → Made) → s.streams l ≡ o
+        → ((stream : Stream) → s.streams l ≡ Some stream → After P w (rule stream s)) → After P w (at_stream t o rule s)
+    at_stream_kept t l None rule is keeps = after_quietly P w s h
+    at_stream_kept t l (Some stream) rule is keeps =
+        after_if P w (nat_eq stream.link t) (rule stream s) (quietly s) (λ e. keeps stream is) (λ e. after_quietly P w s h)
+
+    -- ---- OKAY
+    hears_kept : (o : Option Client) (c : ℕ) → After P w (hears_okay o c s)
+    hears_kept None c = after_quietly P w s h
+    hears_kept (Some client) c =
+        after_if P w client.about.forwarded (quietly s) (owe_client c (codes "OKAY") s) (λ e. after_quietly P w s h) (λ e. k.due c (codes "OKAY") s w h)
+
+    opened_kept : (l remote : ℕ) (word : Option ℕ) (stream : Stream) → s.streams l ≡ Some stream
+        → (stream.part.remote ≡ 0) × (stream.part.orphan ≡ false) × (remote ≢ 0) → After P w (opened l remote word stream s)
+    opened_kept l remote word stream is new =
+        let heard : Made = hears_okay (s.clients stream.client) stream.client s in
+        after_then P w heard (λ s. quietly (open_now l remote word stream s)) (hears_kept (s.clients stream.client) stream.client)
+        (λ v now. after_quietly P v (open_now l remote word stream heard.state)
+        (k.opens l remote word stream heard.state v (ap (λ streams. streams l) (hears_streams (s.clients stream.client) stream.client s) ∙ is) new now))
+
+    orphan_kept : (l remote : ℕ) (stream : Stream) → s.streams l ≡ Some stream → stream.part.orphan ≡ true → After P w (orphan_opened l remote stream s)
+    orphan_kept l remote stream is orphan =
+        let p : Packet = close_packet l remote in
+        let owed : Made = owe_link stream.link p s in
+        k.orphan_goes l stream owed.state (w ++ owed.told) is orphan (owes_kept k s w h stream.link p (inr (inl (ap is_some is))))
+
+    first_kept : (orphan : Bool) (l remote : ℕ) (word : Option ℕ) (stream : Stream) → s.streams l ≡ Some stream
+        → (stream.part.remote ≡ 0) × (stream.part.orphan ≡ orphan) × (remote ≢ 0) → After P w (okay_first orphan l remote word stream s)
+    first_kept true l remote word stream is new = orphan_kept l remote stream is new.1
+    first_kept false l remote word stream is new = opened_kept l remote word stream is new
+
+    okay_open_kept : (l : ℕ) (word : Option ℕ) (stream : Stream) → s.streams l ≡ Some stream → After P w (okay_open l word stream s)
+    okay_open_kept l word stream is =
+        let flow : Flow = acknowledged word stream.part.flow in
+        after_quietly P w (to_stream l (with_stream_part (with_flow flow stream.part)) s)
+        (k.flows l stream flow s w is (like_acknowledged word stream.part.flow) h)
+
+    okay_kept : (l remote : ℕ) (word : Option ℕ) (stream : Stream) → s.streams l ≡ Some stream → After P w (takes_okay l remote word stream s)
+    okay_kept l remote word stream is =
+        let first : Made = okay_first stream.part.orphan l remote word stream s in
+        let open_again : Made = okay_open l word stream s in
+        let later : Made = cond (eqb remote stream.part.remote) open_again (quietly s) in
+        after_if P w (eqb remote 0) (quietly s) (cond (eqb stream.part.remote 0) first later) (λ e. after_quietly P w s h)
+        (λ some. after_if P w (eqb stream.part.remote 0) first later
+        (λ e. first_kept stream.part.orphan l remote word stream is (eqb-true stream.part.remote 0 e, refl, eqb-false remote 0 some))
+        (λ e. after_if P w (eqb remote stream.part.remote) open_again (quietly s) (λ e. okay_open_kept l word stream is) (λ e. after_quietly P w s h)))
+
+    -- ---- WRTE
+    accepts_none_kept : (flow : Flow) (l : ℕ) (stream : Stream) → s.streams l ≡ Some stream → After P w (accepts_none flow l stream s)
+    accepts_none_kept (One window) l stream is = owes_kept k s w h stream.link (okay_packet l stream.part.remote) (inr (inl (ap is_some is)))
+    accepts_none_kept (Credit credit) l stream is = after_quietly P w s h
+
+    accepts_kept : (l : ℕ) (payload : List ℕ) (stream : Stream) → s.streams l ≡ Some stream → stream.part.remote ≢ 0
+        → is_out_of_turn stream.part.flow (length payload) ≡ false → After P w (accepts l payload stream s)
+    accepts_kept l [] stream is known turn = accepts_none_kept stream.part.flow l stream is
+    accepts_kept l (b ∷ payload) stream is known turn = k.accepts l (b ∷ payload) stream s w is known turn h
+
+    write_kept : (l remote : ℕ) (payload : List ℕ) (stream : Stream) → s.streams l ≡ Some stream → After P w (takes_write l remote payload stream s)
+    write_kept l remote payload stream is =
+        let late : Made = ends_telling l out_of_turn stream s in
+        let taken : Made = accepts l payload stream s in
+        let out : Bool = is_out_of_turn stream.part.flow (length payload) in
+        after_if P w (eqb remote 0 || not (eqb remote stream.part.remote)) (quietly s) (cond out late taken) (λ e. after_quietly P w s h)
+        (λ known. after_if P w out late taken (λ e. ends_telling_kept k s w h l out_of_turn stream is)
+        (λ turn. accepts_kept l payload stream is (written_to remote stream.part.remote known) turn))
+
+    -- ---- CLSE
+    close_kept : (l remote : ℕ) (stream : Stream) → s.streams l ≡ Some stream → After P w (takes_close l remote stream s)
+    close_kept l remote stream is =
+        after_if P w (eqb remote 0 || eqb remote stream.part.remote) (ends_row l peer_closed stream s) (quietly s) (λ e. k.ends l peer_closed stream s w is h)
+        (λ e. after_quietly P w s h)
+
+    -- ---- one packet
+    treat_open_kept : (t : ℕ) (command : Command) (p : Packet) → After P w (treat_open t command p s)
+    treat_open_kept t Open p = refuses_kept t p.arg0
+    treat_open_kept t Okay p =
+        at_stream_kept t p.arg1 (s.streams p.arg1) (takes_okay p.arg1 p.arg0 (credit_word p.payload)) refl
+        (λ stream is. okay_kept p.arg1 p.arg0 (credit_word p.payload) stream is)
+    treat_open_kept t Wrte p =
+        at_stream_kept t p.arg1 (s.streams p.arg1) (takes_write p.arg1 p.arg0 p.payload) refl (λ stream is. write_kept p.arg1 p.arg0 p.payload stream is)
+    treat_open_kept t Clse p =
+        at_stream_kept t p.arg1 (s.streams p.arg1) (takes_close p.arg1 p.arg0) refl (λ stream is. close_kept p.arg1 p.arg0 stream is)
+    treat_open_kept t Cnxn p = after_quietly P w s h
+    treat_open_kept t Auth p = after_quietly P w s h
+    treat_open_kept t Stls p = after_quietly P w s h
+
+    if_connected_kept : (t : ℕ) (command : Command) (p : Packet) → After P w (cond (is_connected t s.devices) (treat_open t command p s) (quietly s))
+    if_connected_kept t command p =
+        after_if P w (is_connected t s.devices) (treat_open t command p s) (quietly s) (λ e. treat_open_kept t command p) (λ e. after_quietly P w s h)
+
+    treat_any_kept : (t : ℕ) (command : Command) (p : Packet) → After P w (treat_any t command p s)
+    treat_any_kept t Cnxn p = cnxn_kept t p.arg0 p.arg1 p.payload
+    treat_any_kept t Auth p = unauthorized_kept t (at t s.devices.rows) refl
+    treat_any_kept t Stls p = unauthorized_kept t (at t s.devices.rows) refl
+    treat_any_kept t Open p = if_connected_kept t Open p
+    treat_any_kept t Okay p = if_connected_kept t Okay p
+    treat_any_kept t Wrte p = if_connected_kept t Wrte p
+    treat_any_kept t Clse p = if_connected_kept t Clse p
+
+    treat_on_kept : (o : Option Link) (t : ℕ) (p : Packet) → After P w (treat_on o t p s)
+    treat_on_kept None t p = after_quietly P w s h
+    treat_on_kept (Some link) t p = treat_any_kept t p.command p
+
+    treat_kept : (t : ℕ) (p : Packet) → After P w (treat t p s)
+    treat_kept t p = treat_on_kept (s.links t) t p
+
+pub treat_owned : (t : ℕ) (p : Packet) (s : State) → IsOwned s → IsOwned (treat t p s).state
+treat_owned t p s owned = treat_kept owned_moves s [] owned t p
+
+pub treat_linked : (t : ℕ) (p : Packet) (s : State) → IsLinked s → IsLinked (treat t p s).state
+treat_linked t p s linked = treat_kept linked_moves s [] linked t p

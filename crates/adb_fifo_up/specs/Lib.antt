@@ -1,0 +1,4 @@
+pub mod Seen
+pub mod Climbing
+pub mod Rising
+pub mod Carrying

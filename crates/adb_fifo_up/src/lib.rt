@@ -1,0 +1,7 @@
+//! What goes up: a device is written what the client of a stream wrote, in order and once. Each
+//! function does nothing: its contract is the law.
+#![tactic(auto)]
+
+mod up;
+
+pub use up::{carries_rest, carries_whole_rest, each_stream_is_carried, keeps_up_window};
