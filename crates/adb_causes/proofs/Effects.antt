@@ -1,41 +1,32 @@
 -- What a packet to a stream makes of it and of its client, where it goes on.
-use Rattle.std.proofs.Common.{◌≡◌, ◌≢◌, ◌≤◌, ◌<◌, ◌+◌, ◌-◌, ℕ, zero, suc, Bool, true, false, cond, not, ◌||◌, ◌&&◌, List, [], ◌∷◌, ◌++◌, length, Option, Some, None, refl, sym, ap, subst, ◌∙◌, eqb}
-use Rattle.std.proofs.Common.{arith, ◌⊎◌, inl, inr, length-append}
-use Rattle.std.specs.Prelude.{nat_eq, nat_lt, is_some, option_and_then, codes}
-use Rattle.std.proofs.lemmas.Bool.{eqb-true, eqb-false, eq-eqb, ne_eqb, cases_eq}
+use Rattle.std.proofs.Common.{◌≡◌, ◌≤◌, ◌+◌, ℕ, zero, suc, Bool, true, false, cond, not, ◌&&◌, List, [], ◌∷◌, ◌++◌, length, Option, Some, None, refl, sym, ap, subst, ◌∙◌, eqb}
+use Rattle.std.proofs.Common.{arith, ◌⊎◌}
+use Rattle.std.specs.Prelude.{nat_eq, codes}
+use Rattle.std.proofs.lemmas.Bool.{eqb-true, eqb-false, eq-eqb}
 use Rattle.std.proofs.lemmas.List.{append-nil}
 use Rattle.adb_outside.specs.Tables.{at}
-use Rattle.adb_outside.specs.declared.identity.State.{State as DeviceState}
-use Rattle.adb_wire.specs.Format.{is_cnxn}
-use Rattle.adb_wire.specs.declared.command.Command.{Command}
-use Rattle.adb_wire.specs.declared.command.Command.TheVariants.{Cnxn, Open, Okay, Wrte, Clse, Auth, Stls}
 use Rattle.adb_wire.specs.declared.packets.Packet.{Packet}
 use Rattle.adb_stream.specs.declared.flow.Flow.{Flow}
 use Rattle.adb_stream.specs.declared.flow.Flow.TheVariants.{One, Credit}
-use Rattle.adb_stream.specs.declared.row.Part.{Part}
 use Rattle.adb_stream.specs.declared.row.Stream.{Stream}
 use Rattle.adb_client.specs.declared.phase.Phase.TheVariants.{Streaming}
-use Rattle.adb_history.specs.Rows.{Client, Link, State, to_client, to_stream, with_due, in_phase, with_stream_part}
-use Rattle.adb_history.specs.Events.{Made, Event, Ending, peer_closed, out_of_turn, quietly, then_also, owed_to}
-use Rattle.adb_history.specs.Links.{okay_packet, credit_word, owe_link, is_connected}
+use Rattle.adb_history.specs.Rows.{Client, State, with_due, in_phase, with_stream_part}
+use Rattle.adb_history.specs.Events.{Made, quietly, owed_to}
+use Rattle.adb_history.specs.Links.{okay_packet}
 use Rattle.adb_history.specs.Clients.{owe_client}
-use Rattle.adb_history.specs.Streams.{ends_row, ends_telling}
 use Rattle.adb_history.specs.Flow.{with_flow}
-use Rattle.adb_history.specs.Packets.{at_stream, with_remote, first_credit, hears_okay, opened, acknowledged, okay_open, okay_first, takes_okay, is_out_of_turn}
-use Rattle.adb_history.specs.Packets.{accepted, accepts_none, accepts, takes_write, takes_close, treat_open, treat_any, treat_on, treat}
-use Rattle.adb_history.specs.Moves.{open_now}
+use Rattle.adb_history.specs.Packets.{with_remote, first_credit, hears_okay, opened, acknowledged, okay_open}
+use Rattle.adb_history.specs.Packets.{accepted, accepts_none, accepts}
 use Rattle.adb_history.specs.Orderly.{phase_for}
-use Rattle.adb_history.specs.Births.{is_between, is_okay, is_wrte, is_clse}
-use Rattle.adb_history.specs.Causes.{remote_after}
+use Rattle.adb_history.specs.Births.{is_between, is_okay}
 use Rattle.adb_history.proofs.Following.{changed_here}
 use Rattle.adb_causes.specs.Flows.{waiting, hears}
 use Rattle.adb_causes.proofs.PacketFates.{hears_streams}
-use Rattle.adb_causes.proofs.StreamFates.{gone_here}
-use Rattle.adb_causes.proofs.Turns.{counts, written_after, no_and}
-use Rattle.adb_causes.proofs.Silent.{IsSilent, AreSilent, silent_append, okay_silent}
+use Rattle.adb_causes.proofs.Turns.{counts, written_after}
+use Rattle.adb_causes.proofs.Silent.{AreSilent, silent_append, okay_silent}
 use Rattle.adb_history.proofs.Growing.{owed_append}
-use Rattle.adb_causes.proofs.Untouched.{Untouched, Apart, u_owe, u_quiet}
-use Rattle.adb_causes.proofs.UntouchedEntries.{Pair, has_stream}
+use Rattle.adb_causes.proofs.Untouched.{Untouched, u_owe, u_quiet}
+use Rattle.adb_causes.proofs.UntouchedEntries.{Pair, has_still}
 
 -- whether a packet is an OKAY of an open stream
 abbrev pub is_again : (remote l : ℕ) → Packet → Bool
@@ -81,7 +72,7 @@ nothing_done l x p s h m u none = record {
   alive = h.alive;
   of = refl;
   client = h.client;
-  here = u.client h.client h.here (has_stream h.client.about.phase l x.part.remote h.phase);
+  here = u.client h.client h.here (has_still h.client.about.phase l x.part.remote h.phase);
   phase = h.phase;
   same = same_client h.client;
   owed = λ written nil.
@@ -224,7 +215,7 @@ module _ (l : ℕ) (x : Stream) (p : Packet) (s : State) (h : Pair l x s) where
         alive = h.alive;
         of = refl;
         client = h.client;
-        here = u.client h.client h.here (has_stream h.client.about.phase l x.part.remote h.phase);
+        here = u.client h.client h.here (has_still h.client.about.phase l x.part.remote h.phase);
         phase = h.phase;
         same = same_client h.client;
         owed = λ written nil.

@@ -31,3 +31,13 @@ pub mod Unchanged
 pub mod RuleSteps
 pub mod RecvSteps
 pub mod NotOver
+pub mod ByClient
+pub mod ClosedByClient
+pub mod AllCauses
+pub mod PutSteps
+pub mod StreamSteps
+pub mod Asks
+pub mod AsksSteps
+pub mod Newborn
+pub mod NewbornEntries
+pub mod Holding

@@ -1,7 +1,6 @@
 -- A stream and its client after the rule of an entry, and after the up rule.
-use Rattle.std.proofs.Common.{◌≡◌, ◌≢◌, ◌≤◌, ◌+◌, ℕ, zero, suc, Bool, true, false, cond, ◌&&◌, List, [], ◌∷◌, ◌++◌, length, take, drop, Option, Some, None, refl, sym, ap, subst, ◌∙◌, eqb}
-use Rattle.std.proofs.Common.{arith, ◌⊎◌, inl, inr, length-append, append_assoc}
-use Rattle.std.specs.Option.{option_or}
+use Rattle.std.proofs.Common.{◌≡◌, ◌≤◌, ◌+◌, ℕ, Bool, true, false, cond, List, [], ◌∷◌, ◌++◌, length, take, drop, None, refl, sym, ap, subst, ◌∙◌}
+use Rattle.std.proofs.Common.{arith, length-append, append_assoc}
 use Rattle.std.proofs.lemmas.List.{take-append-drop, append-nil}
 use Rattle.std.specs.Prelude.{is_some, not}
 use Rattle.adb_wire.specs.declared.packets.Packet.{Packet}
@@ -9,8 +8,8 @@ use Rattle.adb_stream.specs.declared.flow.Flow.{Flow}
 use Rattle.adb_stream.specs.declared.flow.Flow.TheVariants.{One, Credit}
 use Rattle.adb_stream.specs.declared.row.Stream.{Stream}
 use Rattle.adb_capture.specs.declared.entry.Entry.{Entry}
-use Rattle.adb_history.specs.Rows.{Client, State}
-use Rattle.adb_history.specs.Events.{Made, Event, Ending, owed_to, packets_to, ending_in}
+use Rattle.adb_history.specs.Rows.{Client}
+use Rattle.adb_history.specs.Events.{Made, owed_to, ending_in}
 use Rattle.adb_history.specs.Flow.{total, flow_after, with_flow, is_idle, is_over}
 use Rattle.adb_history.specs.Machine.{rule, ups, History, state, told_at, told, IsLegal}
 use Rattle.adb_history.specs.Bytes.{bytes_read, brought}
@@ -18,15 +17,14 @@ use Rattle.adb_history.specs.Births.{Birth, born, since, opening_in, told_to, jo
 use Rattle.adb_history.specs.Lives.{output_of, packets_of, ending_of, lived, rest_of}
 use Rattle.adb_history.specs.Fifo.{has_credit, okays_of, credit_of}
 use Rattle.adb_history.specs.Causes.{given_to, okays_after, has_closed_since, IsDone}
-use Rattle.adb_history.specs.Owned.{IsOwned}
 use Rattle.adb_history.proofs.Growing.{owed_append}
 use Rattle.adb_history.proofs.LinkMoves.{all_linked}
 use Rattle.adb_causes.specs.Times.{AtEachTime}
 use Rattle.adb_causes.specs.Flows.{FlowIs, waiting, hears, start_of, IsAsTold, HoldsAsTold, HasFlows}
 use Rattle.adb_causes.proofs.Silent.{Tally, tally_append}
-use Rattle.adb_causes.proofs.UntouchedEntries.{Pair, pair_of}
+use Rattle.adb_causes.proofs.UntouchedEntries.{pair_of}
 use Rattle.adb_causes.proofs.UpEffects.{flow_wrote}
-use Rattle.adb_causes.proofs.UpRuns.{Sends, UpEffect, GoesOnWith, EndsWith}
+use Rattle.adb_causes.proofs.UpRuns.{UpEffect}
 
 -- ---- what holds at each time
 pub times_map : (P Q : History → Type 0) → ((h : History) → IsLegal h → P h → Q h) → (h : History) → IsLegal h → AtEachTime P h → AtEachTime Q h

@@ -1,70 +1,32 @@
 -- By which entries a stream that its client has open is not over.
-use Rattle.std.proofs.Common.{◌≡◌, ◌≢◌, ◌≤◌, ◌<◌, ◌+◌, ◌-◌, ℕ, zero, suc, Bool, true, false, cond, not, ◌&&◌, ◌||◌, List, [], ◌∷◌, ◌++◌, length, take, drop, Option, Some, None, refl, sym, ap, subst, ◌∙◌, eqb}
-use Rattle.std.proofs.Common.{arith, ◌⊎◌, inl, inr, length-append, length-drop, append_assoc}
-use Rattle.std.specs.Prelude.{nat_eq, is_some}
-use Rattle.std.proofs.Math.Bool.{or-true}
-use Rattle.std.proofs.lemmas.Bool.{eqb-true, eqb-false, eq-eqb, ne_eqb}
-use Rattle.adb_wire.specs.declared.command.Command.{Command}
-use Rattle.adb_wire.specs.declared.command.Command.TheVariants.{Cnxn, Open, Okay, Wrte, Clse, Auth, Stls}
-use Rattle.adb_wire.specs.declared.packets.Packet.{Packet}
-use Rattle.adb_client.specs.declared.phase.Phase.{Phase}
-use Rattle.adb_client.specs.declared.phase.Phase.TheVariants.{Asking, Opening, Streaming, Binding, Tracking, Closing, Gone}
-use Rattle.adb_client.specs.declared.about.Want.{Want}
+use Rattle.std.proofs.Common.{◌≡◌, ◌≢◌, ◌-◌, ℕ, zero, suc, Bool, true, false, cond, ◌||◌, List, [], ◌∷◌, ◌++◌, length, take, drop, Option, Some, None, refl, sym, ap, subst, ◌∙◌}
+use Rattle.std.proofs.Common.{arith, ◌⊎◌, inl, inr}
+use Rattle.std.specs.Prelude.{is_some}
+use Rattle.std.proofs.lemmas.Bool.{ne_eqb}
 use Rattle.adb_stream.specs.declared.flow.Flow.{Flow}
 use Rattle.adb_stream.specs.declared.row.Stream.{Stream}
 use Rattle.adb_capture.specs.declared.entry.Entry.{Entry}
 use Rattle.adb_capture.specs.declared.entry.Entry.TheVariants.{Join, Enter, Read, End, Bound, Attach, Recv, Detach, Put, Send}
 use Rattle.adb_history.specs.Rows.{Client, State}
-use Rattle.adb_history.specs.Events.{Made, owed_to, packets_to}
-use Rattle.adb_history.specs.Links.{credit_word}
-use Rattle.adb_history.specs.Asking.{Asked}
-use Rattle.adb_history.specs.Machine.{rule, ups, History, state, told_at, told, IsLegal}
-use Rattle.adb_history.specs.Bytes.{is_lost, bytes_read, bytes_put, bytes_received, brought}
-use Rattle.adb_history.specs.Book.{Book, book, asked, is_asking, asked_with, bound_turn, devices_if}
-use Rattle.adb_history.specs.Births.{Birth, born, Opening as FirstOkay, opening_by, opening_in, opening_of, remote_in, remote_of, since, is_between, told_after, told_to, joined, lead_of, handed_to}
-use Rattle.adb_history.specs.Births.{carried_in, count_from, is_wrte}
-use Rattle.adb_history.specs.Lives.{output_of, packets_of}
-use Rattle.adb_history.specs.Fifo.{has_credit, okays_of, credit_of}
-use Rattle.adb_history.specs.Causes.{okays_behind, okays_after, given_to, has_closed_since, is_close_by}
-use Rattle.adb_history.specs.Moves.{HasOne}
-use Rattle.adb_history.proofs.Books.{booked}
-use Rattle.adb_history.proofs.Booked.{said, asks_in, asks_now}
-use Rattle.adb_causes.specs.Flows.{FlowIs, waiting, hears, start_of, IsAsTold}
-use Rattle.adb_causes.proofs.Silent.{Tally, tally_silent}
-use Rattle.adb_causes.proofs.Untouched.{Untouched}
-use Rattle.adb_causes.proofs.UntouchedEntries.{Pair, IsFar}
-use Rattle.adb_causes.proofs.Middle.{AfterRule}
-use Rattle.std.specs.Prelude.{min}
-use Rattle.std.proofs.lemmas.List.{drop-append-le, append-nil}
-use Rattle.adb_outside.specs.Bytes.{IsPrefixOf}
-use Rattle.adb_outside.specs.declared.kinds.Cause.{Cause}
-use Rattle.adb_outside.specs.declared.kinds.Cause.TheVariants.{Eof, Fault, Starved, NoThread}
+use Rattle.adb_history.specs.Machine.{rule, History, state, IsLegal}
+use Rattle.adb_history.specs.Bytes.{is_lost, bytes_received}
+use Rattle.adb_history.specs.Book.{book}
+use Rattle.adb_causes.proofs.UntouchedEntries.{Pair}
+use Rattle.std.proofs.lemmas.List.{append-nil}
 use Rattle.adb_wire.specs.Cutting.{framed}
 use Rattle.adb_stream.specs.declared.flow.Flow.TheVariants.{One, Credit}
-use Rattle.adb_history.specs.Rows.{to_client, to_stream, with_held, with_stream_part}
-use Rattle.adb_history.specs.Events.{quietly, then_also}
 use Rattle.adb_history.specs.Flow.{with_flow}
-use Rattle.adb_history.specs.Orderly.{phase_for}
-use Rattle.adb_history.specs.Losing.{input_ended, input_ends, client_ends}
-use Rattle.adb_history.specs.Reading.{reads_in, reads_from, reads}
-use Rattle.adb_history.specs.Tied.{DueIsPastPut}
-use Rattle.adb_history.proofs.Following.{changed_here}
-use Rattle.adb_history.proofs.OutputEntries.{all_due_past_put}
-use Rattle.adb_causes.proofs.Silent.{AreSilent}
-use Rattle.adb_causes.proofs.UntouchedEntries.{has_stream}
-use Rattle.adb_causes.proofs.Unchanged.{handed_is, asked_same, SameBytes, closed_before}
 use Rattle.std.specs.Prelude.{unwrap_or, option_map}
 use Rattle.std.specs.List.{list_any}
 use Rattle.adb_outside.specs.Tables.{at}
 use Rattle.adb_registry.specs.Row.{new_row}
 use Rattle.adb_registry.specs.declared.row.Row.{Row}
-use Rattle.adb_registry.specs.Registry.{DeviceTable}
 use Rattle.adb_history.specs.Links.{is_connected, is_connected_row, maxdata_of}
 use Rattle.adb_history.specs.Flow.{write_len, write_before, writes, payloads, total, flow_after, is_idle, is_over, is_streaming}
 use Rattle.adb_history.specs.Book.{plugged, device_of, is_refused, last_cnxn, row_by, is_killed}
 use Rattle.adb_history.proofs.LinkMoves.{all_linked}
 use Rattle.adb_history.proofs.OrderlyStates.{rests_calm}
-use Rattle.adb_history.proofs.Quiet.{IsCalm, IsCalmAt}
+use Rattle.adb_history.proofs.Quiet.{IsCalm}
 use Rattle.adb_history.proofs.Sweep.{Sending, over}
 use Rattle.adb_history.proofs.Devices.{shows_devices}
 use Rattle.adb_history.proofs.Books.{all_books}

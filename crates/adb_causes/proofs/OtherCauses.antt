@@ -58,7 +58,7 @@ fails_told phase c l (suc n) cause s x is in_phase =
     ∙ (ap (λ o. ending_in l (stream_fails (Streaming l) cause o (to_client c none_kept s)).told) is
     ∙ ap (λ b. cond b (Some (client_failed cause)) None) (eq-eqb l l refl))
 
-end_told : (c l : ℕ) (cause : Cause) (s : State) (x : Stream) → s.streams l ≡ Some x → (k : ClientOf s.clients l x) → s.clients c ≡ Some k.client
+pub end_told : (c l : ℕ) (cause : Cause) (s : State) (x : Stream) → s.streams l ≡ Some x → (k : ClientOf s.clients l x) → s.clients c ≡ Some k.client
     → is_orderly cause ≡ false → ending_in l (client_ends c cause (Some k.client) s).told ≡ Some (client_failed cause)
 end_told c l Fault s x is k here e = fails_told k.client.about.phase c l x.part.remote Fault s x is k.phase
 end_told c l Starved s x is k here e = fails_told k.client.about.phase c l x.part.remote Starved s x is k.phase

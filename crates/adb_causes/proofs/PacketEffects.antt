@@ -1,49 +1,33 @@
 -- What each packet of its link makes of a stream and its client, where the stream goes on.
-use Rattle.std.proofs.Common.{◌≡◌, ◌≢◌, ◌≤◌, ◌<◌, ◌+◌, ◌-◌, ℕ, zero, suc, Bool, true, false, cond, not, ◌||◌, ◌&&◌, List, [], ◌∷◌, ◌++◌, length, Option, Some, None, refl, sym, ap, subst, ◌∙◌, eqb}
-use Rattle.std.proofs.Common.{arith, ◌⊎◌, inl, inr, length-append}
-use Rattle.std.specs.Prelude.{nat_eq, nat_lt, is_some, option_and_then, codes}
-use Rattle.std.proofs.lemmas.Bool.{eqb-true, eqb-false, eq-eqb, ne_eqb, cases_eq}
-use Rattle.std.proofs.lemmas.List.{append-nil}
+use Rattle.std.proofs.Common.{◌≡◌, ◌≢◌, ℕ, Bool, true, false, cond, not, ◌||◌, ◌&&◌, length, Option, Some, None, refl, sym, ap, subst, ◌∙◌, eqb}
+use Rattle.std.proofs.Common.{◌⊎◌, inl, inr}
+use Rattle.std.specs.Prelude.{nat_eq, is_some}
+use Rattle.std.proofs.lemmas.Bool.{eq-eqb, cases_eq}
 use Rattle.adb_outside.specs.Tables.{at}
-use Rattle.adb_outside.specs.declared.identity.State.{State as DeviceState}
 use Rattle.adb_wire.specs.Format.{is_cnxn}
 use Rattle.adb_wire.specs.declared.command.Command.{Command}
 use Rattle.adb_wire.specs.declared.command.Command.TheVariants.{Cnxn, Open, Okay, Wrte, Clse, Auth, Stls}
 use Rattle.adb_wire.specs.declared.packets.Packet.{Packet}
-use Rattle.adb_stream.specs.declared.flow.Flow.{Flow}
-use Rattle.adb_stream.specs.declared.flow.Flow.TheVariants.{One, Credit}
-use Rattle.adb_stream.specs.declared.row.Part.{Part}
 use Rattle.adb_stream.specs.declared.row.Stream.{Stream}
-use Rattle.adb_client.specs.declared.phase.Phase.TheVariants.{Streaming}
-use Rattle.adb_history.specs.Rows.{Client, Link, State, to_client, to_stream, with_due, in_phase, with_stream_part}
-use Rattle.adb_history.specs.Events.{Made, Event, Ending, peer_closed, out_of_turn, quietly, then_also, owed_to}
-use Rattle.adb_history.specs.Links.{okay_packet, credit_word, owe_link, is_connected}
-use Rattle.adb_history.specs.Clients.{owe_client}
+use Rattle.adb_history.specs.Rows.{Link, State}
+use Rattle.adb_history.specs.Events.{Made, peer_closed, out_of_turn, quietly}
+use Rattle.adb_history.specs.Links.{credit_word, owe_link, is_connected}
 use Rattle.adb_history.specs.Streams.{ends_row, ends_telling}
-use Rattle.adb_history.specs.Flow.{with_flow}
-use Rattle.adb_history.specs.Packets.{at_stream, with_remote, first_credit, hears_okay, opened, acknowledged, okay_open, okay_first, takes_okay, is_out_of_turn}
-use Rattle.adb_history.specs.Packets.{accepted, accepts_none, accepts, takes_write, takes_close, treat_open, treat_any, treat_on, treat}
-use Rattle.adb_history.specs.Moves.{open_now}
+use Rattle.adb_history.specs.Packets.{at_stream, okay_open, okay_first, takes_okay, is_out_of_turn}
+use Rattle.adb_history.specs.Packets.{accepts, takes_write, takes_close, treat_open, treat_any, treat_on, treat}
 use Rattle.adb_history.specs.Orderly.{phase_for}
-use Rattle.adb_history.specs.Births.{is_between, is_okay, is_wrte, is_clse}
-use Rattle.adb_history.specs.Causes.{remote_after}
-use Rattle.adb_history.proofs.Following.{changed_here}
-use Rattle.adb_causes.proofs.PacketFates.{hears_streams}
+use Rattle.adb_history.specs.Births.{is_between, is_okay, is_wrte}
 use Rattle.adb_causes.proofs.StreamFates.{gone_here}
-use Rattle.adb_causes.proofs.Turns.{counts, written_after, no_and}
-use Rattle.adb_causes.proofs.Silent.{IsSilent, AreSilent, silent_append, okay_silent}
-use Rattle.adb_history.proofs.Growing.{owed_append}
-use Rattle.adb_causes.proofs.Untouched.{Untouched, Apart, u_owe, u_quiet}
-use Rattle.adb_causes.proofs.UntouchedEntries.{Pair, has_stream}
-use Rattle.adb_registry.specs.declared.row.Row.{Row}
+use Rattle.adb_causes.proofs.Turns.{counts}
+use Rattle.adb_causes.proofs.Untouched.{Untouched, Apart, u_quiet}
+use Rattle.adb_causes.proofs.UntouchedEntries.{Pair}
 use Rattle.adb_history.specs.Links.{close_packet}
 use Rattle.adb_history.specs.Packets.{unauthorized, refuses_open}
-use Rattle.adb_causes.proofs.Turns.{other_kind, other_stream}
+use Rattle.adb_causes.proofs.Turns.{other_stream}
 use Rattle.adb_causes.proofs.Turning.{no_write, a_write, Here}
 use Rattle.adb_causes.proofs.Untouched.{u_okay, u_write, u_close}
 use Rattle.adb_causes.proofs.UntouchedRules.{far_unauthorized, far_refuses}
-use Rattle.adb_causes.specs.Flows.{waiting, hears}
-use Rattle.adb_causes.proofs.Effects.{is_again, SameClient, Effect, EffectOr, nothing_done, opened_effect, again_effect, takes_effect}
+use Rattle.adb_causes.proofs.Effects.{Effect, EffectOr, nothing_done, opened_effect, again_effect, takes_effect}
 
 -- a write that counts is of a stream that is open
 counts_open : (own remote : ℕ) → (true && not (nat_eq own 0) && (nat_eq remote own && true)) ≡ true → eqb own 0 ≡ false
@@ -85,10 +69,12 @@ module _ (t : ℕ) (x : Stream) (p : Packet) (s : State) (h : Pair p.arg1 x s) w
 
       known : (b : Bool) → eqb p.arg0 x.part.remote ≡ b → eqb x.part.remote 0 ≡ false → Effect p.arg1 x p h.client (cond b (okay_open p.arg1 word x s) (quietly s))
       known false e f = still
-      known true e f = again_effect p.arg1 x p s h word (okay_none c,
-          ap (λ k. is_okay k && not (nat_eq x.part.remote 0) && (nat_eq p.arg0 x.part.remote && nat_eq p.arg1 p.arg1)) c
-          ∙ (ap (λ b. true && not b && (nat_eq p.arg0 x.part.remote && nat_eq p.arg1 p.arg1)) f
-          ∙ (ap (λ b. b && nat_eq p.arg1 p.arg1) e ∙ eq-eqb p.arg1 p.arg1 refl)))
+      known true e f = again_effect p.arg1 x p s h word (
+        okay_none c,
+        ap (λ k. is_okay k && not (nat_eq x.part.remote 0) && (nat_eq p.arg0 x.part.remote && nat_eq p.arg1 p.arg1)) c
+            ∙ (ap (λ b. true && not b && (nat_eq p.arg0 x.part.remote && nat_eq p.arg1 p.arg1)) f
+            ∙ (ap (λ b. b && nat_eq p.arg1 p.arg1) e ∙ eq-eqb p.arg1 p.arg1 refl)),
+      )
 
       at_first : (b : Bool) → eqb x.part.remote 0 ≡ b → eqb p.arg0 0 ≡ false
           → Effect p.arg1 x p h.client (cond b (okay_first x.part.orphan p.arg1 p.arg0 word x s) later)
@@ -153,8 +139,13 @@ module _ (t l : ℕ) (x : Stream) (p : Packet) (s : State) (h : Pair l x s) wher
       go : (p.arg1 ≡ l) ⊎ (p.arg1 ≡ l → ⊥) → EffectOr l x p h.client m
       go (inl same) =
           subst (λ (n : ℕ). EffectOr n x p h.client m) same
-          (own (record { is = ap s.streams same ∙ h.is; alive = h.alive; client = h.client; here = h.here;
-              phase = h.phase ∙ ap (λ n. phase_for n x.part.remote) (sym same) }) refl)
+          (own (record {
+            is = ap s.streams same ∙ h.is;
+            alive = h.alive;
+            client = h.client;
+            here = h.here;
+            phase = h.phase ∙ ap (λ n. phase_for n x.part.remote) (sym same);
+          }) refl)
       go (inr apart) = other apart
 
   command_effect : (command : Command) → p.command ≡ command → is_cnxn command ≡ false → (x.link ≡ t) × Apart l x.client s

@@ -1,23 +1,21 @@
 -- What handing out to its client makes of a stream.
-use Rattle.std.proofs.Common.{◌≡◌, ◌≢◌, ◌≤◌, ◌<◌, ◌+◌, ◌-◌, ◌^◌, ℕ, zero, suc, Bool, true, false, cond, List, [], ◌∷◌, ◌++◌, length, drop, min, Option, Some, None, refl, sym, ap, subst, ◌∙◌, eqb}
-use Rattle.std.proofs.Common.{arith, ◌⊎◌, inl, inr}
-use Rattle.std.specs.Prelude.{nat_eq, nat_le, unwrap_or, ◌||◌, ◌&&◌}
-use Rattle.adb_stream.specs.declared.credit.TheConstants.{CREDIT_STEP, CREDIT_WINDOW}
+use Rattle.std.proofs.Common.{◌≡◌, ◌≢◌, ◌≤◌, ◌<◌, ◌+◌, ◌-◌, ◌^◌, ℕ, zero, suc, Bool, true, false, cond, List, [], ◌∷◌, ◌++◌, length, drop, min, Option, Some, refl, sym, ap, subst, ◌∙◌, eqb}
+use Rattle.std.proofs.Common.{arith}
+use Rattle.std.specs.Prelude.{nat_le, unwrap_or, ◌||◌, ◌&&◌}
+use Rattle.adb_stream.specs.declared.credit.TheConstants.{CREDIT_STEP}
 use Rattle.std.proofs.lemmas.Bool.{eqb-true, eq-eqb}
-use Rattle.std.proofs.lemmas.List.{append-nil}
 use Rattle.byteorder.specs.Numbers.{little_number-reads_back}
 use Rattle.byteorder.specs.Endian.{little_bytes}
 use Rattle.adb_outside.specs.Bytes.{IsPrefixOf}
 use Rattle.adb_registry.specs.Registry.{DeviceTable}
-use Rattle.adb_stream.specs.Credit.{ByteCredit, given_back, IsWhole}
+use Rattle.adb_stream.specs.Credit.{ByteCredit, IsWhole}
 use Rattle.adb_stream.specs.declared.flow.Flow.{Flow}
 use Rattle.adb_stream.specs.declared.flow.Flow.TheVariants.{One, Credit}
-use Rattle.adb_stream.specs.declared.row.Part.{Part}
 use Rattle.adb_stream.specs.declared.row.Stream.{Stream}
 use Rattle.adb_client.specs.declared.phase.Phase.{Phase}
-use Rattle.adb_client.specs.declared.phase.Phase.TheVariants.{Asking, Opening, Streaming, Binding, Tracking, Closing, Gone}
+use Rattle.adb_client.specs.declared.phase.Phase.TheVariants.{Opening, Streaming, Tracking}
 use Rattle.adb_history.specs.Rows.{Client, State, to_client, to_stream, with_stream_part}
-use Rattle.adb_history.specs.Events.{Made, Event, quietly, then_also, owed_to, packets_to}
+use Rattle.adb_history.specs.Events.{Made, quietly, then_also, owed_to, packets_to}
 use Rattle.adb_history.specs.Links.{credit_word, okay_packet, credit_packet, owe_link}
 use Rattle.adb_history.specs.Flow.{with_flow, payloads, is_idle, is_over}
 use Rattle.adb_history.specs.Tracking.{list_if_stale, due_or, offered}
@@ -31,7 +29,7 @@ use Rattle.adb_history.specs.Owned.{IsOwned}
 use Rattle.adb_history.proofs.Following.{changed_here}
 use Rattle.adb_causes.specs.Flows.{FlowIs}
 use Rattle.adb_causes.proofs.Silent.{Tally, tally_silent, okay_silent, AreSilent}
-use Rattle.adb_causes.proofs.UntouchedEntries.{Pair, has_stream}
+use Rattle.adb_causes.proofs.UntouchedEntries.{Pair}
 use Rattle.adb_causes.specs.Flows.{waiting}
 
 -- a flow that lets the same go up

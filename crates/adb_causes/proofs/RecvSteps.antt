@@ -1,79 +1,46 @@
 -- A stream and its client after what its link brings.
-use Rattle.std.proofs.Common.{◌≡◌, ◌≢◌, ◌≤◌, ◌<◌, ◌+◌, ◌-◌, ℕ, zero, suc, Bool, true, false, cond, not, ◌&&◌, ◌||◌, List, [], ◌∷◌, ◌++◌, length, drop, Option, Some, None, refl, sym, ap, subst, ◌∙◌, eqb}
-use Rattle.std.proofs.Common.{arith, ◌⊎◌, inl, inr, length-append, length-drop, append_assoc}
-use Rattle.std.specs.Prelude.{nat_eq, is_some}
-use Rattle.std.proofs.Math.Bool.{or-true}
-use Rattle.std.proofs.lemmas.Bool.{eqb-true, eqb-false, eq-eqb, ne_eqb}
-use Rattle.adb_wire.specs.declared.command.Command.{Command}
-use Rattle.adb_wire.specs.declared.command.Command.TheVariants.{Cnxn, Open, Okay, Wrte, Clse, Auth, Stls}
+use Rattle.std.proofs.Common.{◌≡◌, ◌≤◌, ◌<◌, ◌+◌, ◌-◌, ℕ, Bool, true, false, cond, not, ◌&&◌, ◌||◌, List, [], ◌∷◌, ◌++◌, length, drop, Option, Some, None, refl, sym, ap, subst, ◌∙◌}
+use Rattle.std.proofs.Common.{arith, inl, inr, length-append}
+use Rattle.std.specs.Prelude.{nat_eq}
+use Rattle.std.proofs.lemmas.Bool.{eqb-true, eqb-false}
 use Rattle.adb_wire.specs.declared.packets.Packet.{Packet}
-use Rattle.adb_client.specs.declared.phase.Phase.{Phase}
-use Rattle.adb_client.specs.declared.phase.Phase.TheVariants.{Asking, Opening, Streaming, Binding, Tracking, Closing, Gone}
-use Rattle.adb_client.specs.declared.about.Want.{Want}
-use Rattle.adb_stream.specs.declared.flow.Flow.{Flow}
 use Rattle.adb_stream.specs.declared.row.Stream.{Stream}
 use Rattle.adb_capture.specs.declared.entry.Entry.{Entry}
-use Rattle.adb_capture.specs.declared.entry.Entry.TheVariants.{Join, Enter, Read, End, Bound, Attach, Recv, Detach, Put, Send}
+use Rattle.adb_capture.specs.declared.entry.Entry.TheVariants.{Recv}
 use Rattle.adb_history.specs.Rows.{Client, State}
-use Rattle.adb_history.specs.Events.{Made, owed_to, packets_to}
-use Rattle.adb_history.specs.Links.{credit_word}
-use Rattle.adb_history.specs.Asking.{Asked}
-use Rattle.adb_history.specs.Machine.{rule, ups, History, state, told_at, told, IsLegal}
-use Rattle.adb_history.specs.Bytes.{is_lost, bytes_read, bytes_put, bytes_received, brought}
-use Rattle.adb_history.specs.Book.{Book, book, asked, is_asking, asked_with, bound_turn, devices_if}
-use Rattle.adb_history.specs.Births.{Birth, born, Opening as FirstOkay, opening_by, opening_in, opening_of, remote_in, remote_of, since, is_between, told_after, told_to, joined, lead_of, handed_to}
-use Rattle.adb_history.specs.Births.{carried_in, count_from, is_wrte}
+use Rattle.adb_history.specs.Events.{Made, owed_to}
+use Rattle.adb_history.specs.Machine.{rule, History, state}
+use Rattle.adb_history.specs.Bytes.{bytes_put, brought}
+use Rattle.adb_history.specs.Book.{asked}
+use Rattle.adb_history.specs.Births.{Birth, Opening as FirstOkay, opening_in, opening_of, remote_in, remote_of, since, told_after, told_to, joined, lead_of, handed_to}
+use Rattle.adb_history.specs.Births.{carried_in}
 use Rattle.adb_history.specs.Lives.{output_of, packets_of}
-use Rattle.adb_history.specs.Fifo.{has_credit, okays_of, credit_of}
-use Rattle.adb_history.specs.Causes.{okays_behind, okays_after, given_to, has_closed_since, is_close_by}
-use Rattle.adb_history.specs.Moves.{HasOne}
-use Rattle.adb_history.proofs.Books.{booked}
-
-use Rattle.adb_causes.specs.Flows.{FlowIs, waiting, hears, start_of, IsAsTold}
-use Rattle.adb_causes.proofs.Silent.{Tally, tally_silent}
-use Rattle.adb_causes.proofs.Untouched.{Untouched}
-use Rattle.adb_causes.proofs.UntouchedEntries.{Pair, IsFar}
+use Rattle.adb_history.specs.Causes.{okays_after, given_to}
+use Rattle.adb_causes.specs.Flows.{hears, start_of}
+use Rattle.adb_causes.proofs.Silent.{tally_silent}
 use Rattle.adb_causes.proofs.Middle.{AfterRule}
-use Rattle.std.specs.Prelude.{min}
 use Rattle.std.proofs.lemmas.List.{drop-append-le, append-nil}
-use Rattle.adb_outside.specs.Bytes.{IsPrefixOf}
-use Rattle.adb_outside.specs.declared.kinds.Cause.{Cause}
-use Rattle.adb_outside.specs.declared.kinds.Cause.TheVariants.{Eof, Fault, Starved, NoThread}
-use Rattle.adb_wire.specs.Cutting.{framed}
-use Rattle.adb_stream.specs.declared.flow.Flow.TheVariants.{One, Credit}
-use Rattle.adb_history.specs.Rows.{to_client, to_stream, with_held, with_stream_part}
 use Rattle.adb_history.specs.Events.{quietly, then_also}
-use Rattle.adb_history.specs.Flow.{with_flow}
-use Rattle.adb_history.specs.Orderly.{phase_for}
-use Rattle.adb_history.specs.Losing.{input_ended, input_ends, client_ends}
-use Rattle.adb_history.specs.Reading.{reads_in, reads_from, reads}
-use Rattle.adb_history.specs.Tied.{DueIsPastPut}
-use Rattle.adb_history.proofs.Following.{changed_here}
 use Rattle.adb_history.proofs.OutputEntries.{all_due_past_put}
 use Rattle.adb_causes.proofs.Silent.{AreSilent, silent_append}
-use Rattle.adb_causes.proofs.UntouchedEntries.{has_stream}
-use Rattle.adb_causes.proofs.Unchanged.{handed_is, asked_same, SameBytes, closed_before}
+use Rattle.adb_causes.proofs.Unchanged.{handed_is, closed_before}
 use Rattle.std.specs.List.{list_any}
 use Rattle.adb_wire.specs.Cutting.{cut_packets}
 use Rattle.adb_wire.specs.Format.{is_cnxn}
-use Rattle.adb_wire.specs.declared.format.PacketFault.{PacketFault}
 use Rattle.adb_history.specs.Rows.{Link, to_link}
-use Rattle.adb_history.specs.Events.{ending_in}
-use Rattle.adb_history.specs.Packets.{treat_all, faulty_on, faulty, with_rest, receives_cut, receives_on, receives}
+use Rattle.adb_history.specs.Packets.{treat_all, faulty_on, with_rest, receives_on, receives}
 use Rattle.adb_history.specs.Book.{is_refused}
 use Rattle.adb_history.specs.Causes.{closes_in}
 use Rattle.adb_history.proofs.LinkMoves.{all_linked}
-use Rattle.adb_causes.proofs.Fates.{lives, FateOf, none_some}
-use Rattle.adb_causes.proofs.PacketFates.{OfLink, receives_fate}
-use Rattle.adb_causes.proofs.Turning.{Here}
-use Rattle.adb_causes.proofs.Untouched.{Apart}
+use Rattle.adb_causes.proofs.Fates.{lives}
+use Rattle.adb_causes.proofs.PacketFates.{receives_fate}
 use Rattle.adb_causes.proofs.UntouchedEntries.{pair_apart}
-use Rattle.adb_causes.proofs.Runs.{RunsOn, says_anew, Cutting, CutFell, CutRun, rested_here}
-use Rattle.adb_causes.proofs.RunEffects.{remote_all, written_all, okays_all, RunEffect, LivesOn, run_effect}
+use Rattle.adb_causes.proofs.Runs.{RunsOn, says_anew, Cutting, CutRun, rested_here}
+use Rattle.adb_causes.proofs.RunEffects.{written_all, okays_all, RunEffect, run_effect}
 use Rattle.adb_causes.proofs.Sayings.{neither, remote_known, written_in, okays_behind_in, SaidMore, said_more}
-use Rattle.adb_causes.proofs.Receiving.{Brought, brought_cut, LinkThere, here_at, there_at, recv_run}
+use Rattle.adb_causes.proofs.Receiving.{brought_cut, LinkThere, here_at, there_at, recv_run}
 use Rattle.adb_causes.proofs.Unchanged.{opened_some}
-use Rattle.adb_causes.proofs.RuleSteps.{Standing, flow_at, client_here, has_one, same_asked, same_start, same_lead, Becomes}
+use Rattle.adb_causes.proofs.RuleSteps.{Standing, flow_at, client_here, same_start, same_lead, Becomes}
 
 -- packets that do not say who the device is
 no_cnxn : (packets : List Packet) → list_any says_anew packets ≡ false → list_any is_refused packets ≡ false → list_any (λ p. is_cnxn p.command) packets ≡ false
@@ -101,6 +68,7 @@ pub record Received (older : History) (l : ℕ) (b : Birth) (x : Stream) (k : Cl
   pub silent_of_device : list_any (λ p. is_cnxn p.command) given ≡ false
   pub effect : RunEffect l x given k treated
   pub made : receives b.link bytes (state older) ≡ then_also treated (λ s. quietly s)
+  pub within : (0 < l) × (l ≤ (receives b.link bytes (state older)).state.drawn)
 
 module _ (older : History) (l : ℕ) (b : Birth) (x : Stream) (bytes : List ℕ) (t : Standing (Recv b.link bytes) older l b x) where
   on_link : ((state older).streams l ≡ Some x) × (x.part.orphan ≡ false) × (x.link ≡ b.link)
@@ -139,6 +107,7 @@ module _ (older : History) (l : ℕ) (b : Birth) (x : Stream) (bytes : List ℕ)
             (rested_here b.link l x (state older) (here_at b.link l x older t.legal.0 on_link) cut_now, record { alone = apart.alone })
             (ap (λ (m : Made). lives (m.state.streams l)) (sym made) ∙ alive);
         made = made;
+        within = r.live.within;
       }
 
   pub received_now : lives ((receives b.link bytes (state older)).state.streams l) ≡ true → Received older l b x t.pair.client bytes

@@ -1,55 +1,39 @@
 -- A stream and its client after the rule of an entry: by entries of others, and by what its client sends and is handed.
-use Rattle.std.proofs.Common.{◌≡◌, ◌≢◌, ◌≤◌, ◌<◌, ◌+◌, ◌-◌, ℕ, zero, suc, Bool, true, false, cond, not, ◌&&◌, ◌||◌, List, [], ◌∷◌, ◌++◌, length, drop, Option, Some, None, refl, sym, ap, subst, ◌∙◌, eqb}
-use Rattle.std.proofs.Common.{arith, ◌⊎◌, inl, inr, length-append, length-drop, append_assoc}
+use Rattle.std.proofs.Common.{◌≡◌, ◌≤◌, ◌+◌, ◌-◌, ℕ, zero, suc, Bool, true, cond, ◌&&◌, ◌||◌, List, [], ◌∷◌, ◌++◌, length, drop, Some, refl, sym, ap, subst, ◌∙◌}
+use Rattle.std.proofs.Common.{arith, length-append, append_assoc}
 use Rattle.std.specs.Prelude.{nat_eq, is_some}
-use Rattle.std.proofs.Math.Bool.{or-true}
-use Rattle.std.proofs.lemmas.Bool.{eqb-true, eqb-false, eq-eqb, ne_eqb}
-use Rattle.adb_wire.specs.declared.command.Command.{Command}
-use Rattle.adb_wire.specs.declared.command.Command.TheVariants.{Cnxn, Open, Okay, Wrte, Clse, Auth, Stls}
+use Rattle.std.proofs.lemmas.Bool.{eq-eqb}
 use Rattle.adb_wire.specs.declared.packets.Packet.{Packet}
-use Rattle.adb_client.specs.declared.phase.Phase.{Phase}
-use Rattle.adb_client.specs.declared.phase.Phase.TheVariants.{Asking, Opening, Streaming, Binding, Tracking, Closing, Gone}
-use Rattle.adb_client.specs.declared.about.Want.{Want}
 use Rattle.adb_stream.specs.declared.flow.Flow.{Flow}
 use Rattle.adb_stream.specs.declared.row.Stream.{Stream}
 use Rattle.adb_capture.specs.declared.entry.Entry.{Entry}
-use Rattle.adb_capture.specs.declared.entry.Entry.TheVariants.{Join, Enter, Read, End, Bound, Attach, Recv, Detach, Put, Send}
+use Rattle.adb_capture.specs.declared.entry.Entry.TheVariants.{Read, End}
 use Rattle.adb_history.specs.Rows.{Client, State}
-use Rattle.adb_history.specs.Events.{Made, owed_to, packets_to}
-use Rattle.adb_history.specs.Links.{credit_word}
+use Rattle.adb_history.specs.Events.{Made, owed_to}
 use Rattle.adb_history.specs.Asking.{Asked}
-use Rattle.adb_history.specs.Machine.{rule, ups, History, state, told_at, told, IsLegal}
-use Rattle.adb_history.specs.Bytes.{is_lost, bytes_read, bytes_put, bytes_received, brought}
-use Rattle.adb_history.specs.Book.{Book, book, asked, is_asking, asked_with, bound_turn, devices_if}
-use Rattle.adb_history.specs.Births.{Birth, born, Opening as FirstOkay, opening_by, opening_in, opening_of, remote_in, remote_of, since, is_between, told_after, told_to, joined, lead_of, handed_to}
-use Rattle.adb_history.specs.Births.{carried_in, count_from, is_wrte}
-use Rattle.adb_history.specs.Lives.{output_of, packets_of}
-use Rattle.adb_history.specs.Fifo.{has_credit, okays_of, credit_of}
+use Rattle.adb_history.specs.Machine.{rule, History, state, IsLegal}
+use Rattle.adb_history.specs.Bytes.{bytes_read, bytes_put, bytes_received, brought}
+use Rattle.adb_history.specs.Book.{asked}
+use Rattle.adb_history.specs.Births.{Birth, born, opening_in, remote_in, remote_of, since, told_after, told_to, joined, lead_of, handed_to}
+use Rattle.adb_history.specs.Births.{carried_in}
+use Rattle.adb_history.specs.Lives.{packets_of}
 use Rattle.adb_history.specs.Causes.{okays_behind, okays_after, given_to, has_closed_since, is_close_by}
 use Rattle.adb_history.specs.Moves.{HasOne}
-use Rattle.adb_history.proofs.Books.{booked}
-use Rattle.adb_history.proofs.Booked.{said, asks_in, asks_now}
-use Rattle.adb_causes.specs.Flows.{FlowIs, waiting, hears, start_of, IsAsTold}
-use Rattle.adb_causes.proofs.Silent.{Tally, tally_silent}
+use Rattle.adb_causes.specs.Flows.{FlowIs, hears, start_of, IsAsTold}
+use Rattle.adb_causes.proofs.Silent.{tally_silent}
 use Rattle.adb_causes.proofs.Untouched.{Untouched}
-use Rattle.adb_causes.proofs.UntouchedEntries.{Pair, IsFar}
+use Rattle.adb_causes.proofs.UntouchedEntries.{Pair}
 use Rattle.adb_causes.proofs.Middle.{AfterRule}
-use Rattle.std.specs.Prelude.{min}
-use Rattle.std.proofs.lemmas.List.{drop-append-le, append-nil}
-use Rattle.adb_outside.specs.Bytes.{IsPrefixOf}
-use Rattle.adb_outside.specs.declared.kinds.Cause.{Cause}
-use Rattle.adb_outside.specs.declared.kinds.Cause.TheVariants.{Eof, Fault, Starved, NoThread}
+use Rattle.std.proofs.lemmas.List.{drop-append-le}
+use Rattle.adb_outside.specs.declared.kinds.Cause.TheVariants.{Eof}
 use Rattle.adb_wire.specs.Cutting.{framed}
 use Rattle.adb_stream.specs.declared.flow.Flow.TheVariants.{One, Credit}
-use Rattle.adb_history.specs.Rows.{to_client, to_stream, with_held, with_stream_part}
-use Rattle.adb_history.specs.Events.{quietly, then_also}
-use Rattle.adb_history.specs.Flow.{with_flow}
+use Rattle.adb_history.specs.Rows.{to_client, with_held}
+use Rattle.adb_history.specs.Events.{quietly}
 use Rattle.adb_history.specs.Orderly.{phase_for}
 use Rattle.adb_history.specs.Losing.{input_ended, input_ends, client_ends}
 use Rattle.adb_history.specs.Reading.{reads_in, reads_from, reads}
-use Rattle.adb_history.specs.Tied.{DueIsPastPut}
 use Rattle.adb_history.proofs.Following.{changed_here}
-use Rattle.adb_history.proofs.OutputEntries.{all_due_past_put}
 use Rattle.adb_causes.proofs.Silent.{AreSilent}
 use Rattle.adb_causes.proofs.UntouchedEntries.{has_stream}
 use Rattle.adb_causes.proofs.Unchanged.{handed_is, asked_same, SameBytes, closed_before}
@@ -158,7 +142,7 @@ module _ (e : Entry) (older : History) (l : ℕ) (b : Birth) (x : Stream) (t : S
   })
 
 -- ---- its client sends
-reads_own : (l c remote : ℕ) (bytes : List ℕ) (k : Client) (s : State) → s.clients c ≡ Some k → k.about.phase ≡ phase_for l remote
+pub reads_own : (l c remote : ℕ) (bytes : List ℕ) (k : Client) (s : State) → s.clients c ≡ Some k → k.about.phase ≡ phase_for l remote
     → reads c bytes s ≡ quietly (to_client c (with_held (k.held ++ bytes)) s)
 reads_own l c remote bytes k s here phase =
     ap (λ o. reads_from o c bytes s) here ∙ (ap (λ p. reads_in p c bytes k s) phase ∙ go remote)
@@ -168,7 +152,7 @@ reads_own l c remote bytes k s here phase =
     go (suc n) = refl
 
 -- its input ends in order
-ends_own : (l c remote : ℕ) (k : Client) (s : State) → s.clients c ≡ Some k → k.about.phase ≡ phase_for l remote
+pub ends_own : (l c remote : ℕ) (k : Client) (s : State) → s.clients c ≡ Some k → k.about.phase ≡ phase_for l remote
     → client_ends c Eof (s.clients c) s ≡ quietly (to_client c input_ended s)
 ends_own l c remote k s here phase =
     ap (λ o. client_ends c Eof o s) here ∙ (ap (λ p. quietly (input_ends p c s)) phase ∙ go remote)

@@ -1,55 +1,31 @@
 -- What the packets of its link make of a stream and its client, one after another, where the stream goes on.
-use Rattle.std.proofs.Common.{◌≡◌, ◌≢◌, ◌≤◌, ◌<◌, ◌+◌, ◌-◌, ℕ, zero, suc, Bool, true, false, cond, not, ◌||◌, ◌&&◌, List, [], ◌∷◌, ◌++◌, length, Option, Some, None, refl, sym, ap, subst, ◌∙◌, eqb}
-use Rattle.std.proofs.Common.{arith, ◌⊎◌, inl, inr, length-append}
-use Rattle.std.specs.Prelude.{nat_eq, nat_lt, is_some, option_and_then, codes}
-use Rattle.std.proofs.lemmas.Bool.{eqb-true, eqb-false, eq-eqb, ne_eqb, cases_eq}
-use Rattle.std.proofs.lemmas.List.{append-nil}
-use Rattle.adb_outside.specs.declared.identity.State.{State as DeviceState}
-use Rattle.adb_wire.specs.Format.{is_cnxn}
-use Rattle.adb_wire.specs.declared.command.Command.{Command}
-use Rattle.adb_wire.specs.declared.command.Command.TheVariants.{Cnxn, Open, Okay, Wrte, Clse, Auth, Stls}
+use Rattle.std.proofs.Common.{◌≡◌, ◌≤◌, ◌+◌, ℕ, Bool, true, false, cond, not, ◌&&◌, List, [], ◌∷◌, ◌++◌, length, Some, None, refl, sym, ap, subst, ◌∙◌}
+use Rattle.std.proofs.Common.{arith, inl, inr, length-append}
+use Rattle.std.specs.Prelude.{nat_eq}
+use Rattle.std.proofs.lemmas.Bool.{eqb-true, eqb-false}
 use Rattle.adb_wire.specs.declared.packets.Packet.{Packet}
-use Rattle.adb_stream.specs.declared.flow.Flow.{Flow}
-use Rattle.adb_stream.specs.declared.flow.Flow.TheVariants.{One, Credit}
-use Rattle.adb_stream.specs.declared.row.Part.{Part}
 use Rattle.adb_stream.specs.declared.row.Stream.{Stream}
-use Rattle.adb_client.specs.declared.phase.Phase.TheVariants.{Streaming}
-use Rattle.adb_history.specs.Rows.{Client, Link, State, to_client, to_stream, with_due, in_phase, with_stream_part}
-use Rattle.adb_history.specs.Events.{Made, Event, Ending, peer_closed, out_of_turn, quietly, then_also, owed_to}
-use Rattle.adb_history.specs.Links.{okay_packet, credit_word, owe_link, is_connected}
-use Rattle.adb_history.specs.Clients.{owe_client}
-use Rattle.adb_history.specs.Streams.{ends_row, ends_telling}
-use Rattle.adb_history.specs.Flow.{with_flow}
-use Rattle.adb_history.specs.Packets.{at_stream, with_remote, first_credit, hears_okay, opened, acknowledged, okay_open, okay_first, takes_okay, is_out_of_turn}
-use Rattle.adb_history.specs.Packets.{accepted, accepts_none, accepts, takes_write, takes_close, treat_open, treat_any, treat_on, treat}
-use Rattle.adb_history.specs.Moves.{open_now}
+use Rattle.adb_history.specs.Rows.{Client, State}
+use Rattle.adb_history.specs.Events.{Made, owed_to}
+use Rattle.adb_history.specs.Packets.{treat}
 use Rattle.adb_history.specs.Orderly.{phase_for}
-use Rattle.adb_history.specs.Births.{is_between, is_okay, is_wrte, is_clse}
+use Rattle.adb_history.specs.Births.{is_between, is_okay, is_wrte}
 use Rattle.adb_history.specs.Causes.{remote_after}
-use Rattle.adb_history.proofs.Following.{changed_here}
-use Rattle.adb_causes.proofs.PacketFates.{hears_streams}
-use Rattle.adb_causes.proofs.StreamFates.{gone_here}
-use Rattle.adb_causes.proofs.Turns.{counts, written_after, no_and}
-use Rattle.adb_causes.proofs.Silent.{IsSilent, AreSilent, silent_append, okay_silent}
+use Rattle.adb_causes.proofs.Turns.{written_after, no_and}
+use Rattle.adb_causes.proofs.Silent.{AreSilent, silent_append}
 use Rattle.adb_history.proofs.Growing.{owed_append}
-use Rattle.adb_causes.proofs.Untouched.{Untouched, Apart, u_owe, u_quiet}
-use Rattle.adb_causes.proofs.UntouchedEntries.{Pair, has_stream}
-use Rattle.adb_registry.specs.declared.row.Row.{Row}
-use Rattle.adb_history.specs.Links.{close_packet}
-use Rattle.adb_history.specs.Packets.{unauthorized, refuses_open}
-use Rattle.adb_causes.proofs.Turns.{other_kind, other_stream}
-use Rattle.adb_causes.proofs.Turning.{no_write, a_write, Here}
-use Rattle.adb_causes.proofs.Untouched.{u_okay, u_write, u_close}
-use Rattle.adb_causes.proofs.UntouchedRules.{far_unauthorized, far_refuses}
+use Rattle.adb_causes.proofs.Untouched.{Apart}
+use Rattle.adb_causes.proofs.UntouchedEntries.{Pair}
+use Rattle.adb_causes.proofs.Turning.{Here}
 use Rattle.adb_causes.specs.Flows.{waiting, hears}
-use Rattle.adb_causes.proofs.Effects.{is_again, SameClient, Effect, EffectOr, nothing_done, opened_effect, again_effect, takes_effect}
+use Rattle.adb_causes.proofs.Effects.{SameClient, Effect, EffectOr}
 use Rattle.std.specs.Option.{option_or}
 use Rattle.adb_history.specs.Events.{ending_in}
 use Rattle.adb_history.specs.Packets.{treat_all}
 use Rattle.adb_causes.specs.Flows.{FlowIs}
-use Rattle.adb_causes.proofs.Fates.{FateOf, ending_append, row_lives, lives}
+use Rattle.adb_causes.proofs.Fates.{ending_append, lives}
 use Rattle.adb_causes.proofs.PacketFates.{OfLink, treat_fate, treat_all_fate}
-use Rattle.adb_causes.proofs.Turns.{Next, Passes, Falls}
+use Rattle.adb_causes.proofs.Turns.{Next, Passes}
 use Rattle.adb_causes.proofs.Turning.{Turn}
 use Rattle.adb_causes.proofs.TurnsOfPackets.{treat_turn}
 use Rattle.adb_causes.proofs.Untouched.{apart_fate}

@@ -1,9 +1,9 @@
 -- What more packets say of a stream: its opening, the payloads that were told to it, and its OKAYs.
-use Rattle.std.proofs.Common.{◌≡◌, ◌≢◌, ◌≤◌, ◌+◌, ℕ, zero, suc, Bool, true, false, cond, not, ◌||◌, ◌&&◌, List, [], ◌∷◌, ◌++◌, length, drop, Option, Some, None, refl, sym, ap, subst, ◌∙◌, eqb}
-use Rattle.std.proofs.Common.{arith, ◌⊎◌, inl, inr, length-append, append_assoc}
+use Rattle.std.proofs.Common.{◌≡◌, ◌+◌, ℕ, Bool, true, false, cond, not, ◌||◌, ◌&&◌, List, [], ◌∷◌, ◌++◌, length, Option, Some, None, refl, sym, ap, ◌∙◌, eqb}
+use Rattle.std.proofs.Common.{arith, length-append, append_assoc}
 use Rattle.std.specs.Prelude.{nat_eq}
 use Rattle.std.specs.List.{list_any}
-use Rattle.std.proofs.lemmas.Bool.{eqb-true, eqb-false, eq-eqb, ne_eqb}
+use Rattle.std.proofs.lemmas.Bool.{eqb-true, eqb-false}
 use Rattle.std.proofs.lemmas.List.{append-nil}
 use Rattle.adb_wire.specs.Format.{is_cnxn}
 use Rattle.adb_wire.specs.declared.command.Command.{Command}
@@ -13,8 +13,8 @@ use Rattle.adb_history.specs.Links.{credit_word}
 use Rattle.adb_history.specs.Births.{Opening, opening_by, opening_in, remote_in, told_in, told_after, joined, is_between, is_wrte, is_okay, is_clse, is_close_of}
 use Rattle.adb_history.specs.Fifo.{okays_in}
 use Rattle.adb_history.specs.Causes.{remote_after, closes_in, okays_behind}
-use Rattle.adb_causes.proofs.Turns.{counts, written_after}
-use Rattle.adb_causes.proofs.Effects.{is_again, okays_after_one}
+use Rattle.adb_causes.proofs.Turns.{written_after}
+use Rattle.adb_causes.proofs.Effects.{okays_after_one}
 use Rattle.adb_causes.proofs.RunEffects.{remote_all, written_all, okays_all}
 
 -- ---- lists
@@ -50,7 +50,7 @@ module _ (r l : ℕ) (some : nat_eq r 0 ≡ false) where
   written_known (p ∷ packets) written =
       ap (λ n. written_all n l packets (written_after r l p written)) (known_after p)
       ∙ (written_known packets (written_after r l p written) ∙ (ap (λ b. cond (is_wrte p.command && not b && is_between r l p)
-          (written + length p.payload) written + length (joined (told_in r l packets))) some ∙ go (is_wrte p.command) (is_between r l p)))
+      (written + length p.payload) written + length (joined (told_in r l packets))) some ∙ go (is_wrte p.command) (is_between r l p)))
     where
       go : (a b : Bool) → cond (a && true && b) (written + length p.payload) written + length (joined (told_in r l packets))
           ≡ written + length (joined (cond (a && b) (p.payload ∷ told_in r l packets) (told_in r l packets)))

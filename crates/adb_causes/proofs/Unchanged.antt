@@ -1,39 +1,28 @@
 -- What an entry leaves of what the history tells of a stream.
-use Rattle.std.proofs.Common.{◌≡◌, ◌≢◌, ◌≤◌, ◌<◌, ◌+◌, ◌-◌, ℕ, zero, suc, Bool, true, false, cond, not, ◌&&◌, ◌||◌, List, [], ◌∷◌, ◌++◌, length, drop, Option, Some, None, refl, sym, ap, subst, ◌∙◌, eqb}
-use Rattle.std.proofs.Common.{arith, ◌⊎◌, inl, inr, length-append, length-drop}
+use Rattle.std.proofs.Common.{◌≡◌, ◌-◌, ℕ, Bool, true, false, cond, not, ◌&&◌, ◌||◌, List, [], ◌∷◌, ◌++◌, length, drop, Option, Some, None, refl, sym, ap, ◌∙◌, eqb}
+use Rattle.std.proofs.Common.{length-drop}
 use Rattle.std.specs.Prelude.{nat_eq, is_some}
 use Rattle.std.proofs.Math.Bool.{or-true}
-use Rattle.std.proofs.lemmas.Bool.{eqb-true, eqb-false, eq-eqb, ne_eqb}
+use Rattle.std.proofs.lemmas.Bool.{eqb-true, eq-eqb, ne_eqb}
 use Rattle.adb_wire.specs.declared.command.Command.{Command}
 use Rattle.adb_wire.specs.declared.command.Command.TheVariants.{Cnxn, Open, Okay, Wrte, Clse, Auth, Stls}
 use Rattle.adb_wire.specs.declared.packets.Packet.{Packet}
 use Rattle.adb_client.specs.declared.phase.Phase.{Phase}
 use Rattle.adb_client.specs.declared.phase.Phase.TheVariants.{Asking, Opening, Streaming, Binding, Tracking, Closing, Gone}
 use Rattle.adb_client.specs.declared.about.Want.{Want}
-use Rattle.adb_stream.specs.declared.flow.Flow.{Flow}
-use Rattle.adb_stream.specs.declared.row.Stream.{Stream}
 use Rattle.adb_capture.specs.declared.entry.Entry.{Entry}
 use Rattle.adb_capture.specs.declared.entry.Entry.TheVariants.{Join, Enter, Read, End, Bound, Attach, Recv, Detach, Put, Send}
-use Rattle.adb_history.specs.Rows.{Client, State}
-use Rattle.adb_history.specs.Events.{Made, owed_to, packets_to}
+use Rattle.adb_history.specs.Rows.{Client}
 use Rattle.adb_history.specs.Links.{credit_word}
-use Rattle.adb_history.specs.Asking.{Asked}
-use Rattle.adb_history.specs.Machine.{rule, ups, History, state, told_at, told, IsLegal}
-use Rattle.adb_history.specs.Bytes.{is_lost, bytes_read, bytes_put, bytes_received, brought}
-use Rattle.adb_history.specs.Book.{Book, book, asked, is_asking, asked_with, bound_turn, devices_if}
-use Rattle.adb_history.specs.Births.{Birth, born, Opening as FirstOkay, opening_by, opening_in, opening_of, remote_in, remote_of, since, is_between, told_after, told_to, joined, lead_of, handed_to}
-use Rattle.adb_history.specs.Births.{carried_in, count_from, is_wrte}
-use Rattle.adb_history.specs.Lives.{output_of, packets_of}
-use Rattle.adb_history.specs.Fifo.{has_credit, okays_of, credit_of}
-use Rattle.adb_history.specs.Causes.{okays_behind, okays_after, given_to, has_closed_since, is_close_by}
+use Rattle.adb_history.specs.Machine.{History, state, IsLegal}
+use Rattle.adb_history.specs.Bytes.{is_lost, bytes_read, bytes_put, bytes_received}
+use Rattle.adb_history.specs.Book.{book, asked, is_asking, asked_with, bound_turn, devices_if}
+use Rattle.adb_history.specs.Births.{Birth, born, Opening as FirstOkay, opening_by, opening_in, opening_of, remote_in, remote_of, since, is_between, lead_of, handed_to}
+use Rattle.adb_history.specs.Causes.{has_closed_since, is_close_by}
 use Rattle.adb_history.specs.Moves.{HasOne}
 use Rattle.adb_history.proofs.Books.{booked}
-use Rattle.adb_history.proofs.Booked.{said, asks_in, asks_now}
-use Rattle.adb_causes.specs.Flows.{FlowIs, waiting, hears, start_of, IsAsTold}
-use Rattle.adb_causes.proofs.Silent.{Tally, tally_silent}
-use Rattle.adb_causes.proofs.Untouched.{Untouched}
-use Rattle.adb_causes.proofs.UntouchedEntries.{Pair, IsFar}
-use Rattle.adb_causes.proofs.Middle.{AfterRule}
+use Rattle.adb_history.proofs.Booked.{asks_in, asks_now}
+use Rattle.adb_causes.proofs.UntouchedEntries.{IsFar}
 
 -- ---- the opening
 pub opened_some : (l : ℕ) (packets : List Packet) (o : FirstOkay) → opening_in l packets ≡ Some o → nat_eq o.remote 0 ≡ false

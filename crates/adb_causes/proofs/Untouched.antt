@@ -1,8 +1,7 @@
 -- What rules of other clients, streams and links leave of a stream and its client.
-use Rattle.std.proofs.Common.{◌≡◌, ◌≢◌, ◌≤◌, ◌<◌, ◌+◌, ◌-◌, ℕ, zero, suc, Bool, true, false, cond, not, ◌||◌, List, [], ◌∷◌, ◌++◌, length, drop, min, Option, Some, None, refl, sym, ap, subst, ◌∙◌, eqb}
-use Rattle.std.proofs.Common.{arith, ◌⊎◌, inl, inr}
-use Rattle.std.specs.Prelude.{option_and_then, option_map, nat_eq, codes, is_some}
-use Rattle.std.proofs.lemmas.Bool.{eqb-true, eq-eqb, ne_eqb, cases_eq}
+use Rattle.std.proofs.Common.{◌≡◌, ◌≢◌, ℕ, zero, suc, Bool, true, false, cond, not, ◌||◌, List, [], ◌∷◌, ◌++◌, length, Option, Some, None, refl, sym, ap, ◌∙◌, eqb}
+use Rattle.std.specs.Prelude.{option_map, nat_eq, codes}
+use Rattle.std.proofs.lemmas.Bool.{eqb-true, ne_eqb}
 use Rattle.adb_wire.specs.declared.packets.Packet.{Packet}
 use Rattle.adb_stream.specs.declared.flow.Flow.{Flow}
 use Rattle.adb_stream.specs.declared.flow.Flow.TheVariants.{One, Credit}
@@ -10,8 +9,8 @@ use Rattle.adb_stream.specs.declared.row.Stream.{Stream}
 use Rattle.adb_client.specs.declared.phase.Phase.{Phase}
 use Rattle.adb_client.specs.declared.phase.Phase.TheVariants.{Asking, Opening, Streaming, Binding, Tracking, Closing, Gone}
 use Rattle.adb_reply.specs.Strings.{failed}
-use Rattle.adb_history.specs.Rows.{Client, Link, State, to_client, to_stream, none_kept, with_due, in_phase, with_stream_part}
-use Rattle.adb_history.specs.Events.{Made, Event, Ending, peer_closed, out_of_turn, quietly, then_also, owed_to}
+use Rattle.adb_history.specs.Rows.{Client, State, to_client, to_stream, none_kept, with_due, in_phase, with_stream_part}
+use Rattle.adb_history.specs.Events.{Made, Ending, peer_closed, out_of_turn, quietly, then_also, owed_to}
 use Rattle.adb_history.specs.Links.{close_packet, okay_packet, owe_link}
 use Rattle.adb_history.specs.Clients.{owe_client, closing, closes, closes_with}
 use Rattle.adb_history.specs.Streams.{tells_end, loses, client_loses, ends_row, ends_telling, ends_if_of, ends_of, all_end}
@@ -20,17 +19,24 @@ use Rattle.adb_history.specs.Losing.{forgets, link_ends}
 use Rattle.adb_history.specs.Flow.{with_flow}
 use Rattle.adb_history.specs.Packets.{with_remote, first_credit, hears_okay, opened, orphan_opened, acknowledged, okay_open, okay_first, takes_okay}
 use Rattle.adb_history.specs.Packets.{is_out_of_turn, accepted, accepts_none, accepts, takes_write, takes_close}
-use Rattle.adb_history.specs.Moves.{HasOne, open_now}
-use Rattle.adb_history.proofs.Following.{changed_here, changed_other}
+use Rattle.adb_history.specs.Moves.{open_now}
+use Rattle.adb_history.proofs.Following.{changed_other}
 use Rattle.adb_history.proofs.Growing.{owed_append}
 use Rattle.adb_causes.proofs.Fates.{Reason, FateOf}
-use Rattle.adb_causes.proofs.StreamFates.{Any, ends_of_fate, all_end_fate}
+use Rattle.adb_causes.proofs.StreamFates.{Any, ends_of_fate}
 use Rattle.adb_causes.proofs.Silent.{IsSilent, AreSilent, silent_append, okay_silent}
+
+-- a client that neither tracks nor waits for a listener
+abbrev pub Still : Phase → Type 0
+Still Asking = Unit {0}
+Still (Opening l) = Unit {0}
+Still (Streaming l) = Unit {0}
+Still _ = ⊥
 
 -- what a rule leaves of a stream and of its client
 pub record Untouched (l c : ℕ) (s : State) (m : Made) : Type 0 where
   pub row : m.state.streams l ≡ s.streams l
-  pub client : (k : Client) → s.clients c ≡ Some k → HasOne k.about.phase → m.state.clients c ≡ Some k
+  pub client : (k : Client) → s.clients c ≡ Some k → Still k.about.phase → m.state.clients c ≡ Some k
   pub owed : owed_to c m.told ≡ []
   pub silent : AreSilent l m.told
 
@@ -94,10 +100,10 @@ module _ (l c : ℕ) where
     silent = tt;
   }
     where
-      same : (k : Client) (phase : Phase) → k.about.phase ≡ phase → HasOne phase → marked k ≡ k
+      same : (k : Client) (phase : Phase) → k.about.phase ≡ phase → Still phase → marked k ≡ k
       same k (Opening n) e has = ap (λ p. marked_in p k) e
       same k (Streaming n) e has = ap (λ p. marked_in p k) e
-      same k Asking e has = absurd has
+      same k Asking e has = ap (λ p. marked_in p k) e
       same k Binding e has = absurd has
       same k Tracking e has = absurd has
       same k Closing e has = absurd has

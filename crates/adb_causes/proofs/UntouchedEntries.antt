@@ -1,28 +1,14 @@
 -- What each entry of other clients and links leaves of a stream that lives on, and of its client.
-use Rattle.std.proofs.Common.{◌≡◌, ◌≢◌, ◌≤◌, ◌<◌, ◌+◌, ◌-◌, ℕ, zero, suc, Bool, true, false, cond, not, ◌||◌, List, [], ◌∷◌, ◌++◌, length, drop, min, Option, Some, None, refl, sym, ap, subst, ◌∙◌, eqb}
+use Rattle.std.proofs.Common.{◌≡◌, ◌≢◌, ◌+◌, ℕ, zero, suc, Bool, true, false, cond, List, ◌++◌, length, Option, Some, None, refl, sym, ap, subst, ◌∙◌, eqb}
 use Rattle.std.proofs.Common.{arith, ◌⊎◌, inl, inr}
-use Rattle.std.specs.Prelude.{option_and_then, nat_eq, nat_lt, codes, is_some}
-use Rattle.std.proofs.lemmas.Bool.{eqb-true, eq-eqb, ne_eqb, cases_eq}
-use Rattle.adb_outside.specs.Tables.{at, put_row, without}
-use Rattle.adb_outside.specs.Framing.{Cut}
+use Rattle.std.specs.Prelude.{codes, is_some}
+use Rattle.std.proofs.lemmas.Bool.{ne_eqb}
+use Rattle.adb_outside.specs.Tables.{at, put_row}
 use Rattle.adb_outside.specs.declared.kinds.Cause.{Cause}
 use Rattle.adb_outside.specs.declared.kinds.Cause.TheVariants.{Eof, Fault, Starved, NoThread}
-use Rattle.adb_outside.specs.declared.identity.Identity.{Identity}
-use Rattle.adb_outside.specs.declared.identity.State.{State as DeviceState}
-use Rattle.adb_outside.specs.declared.identity.State.TheVariants.{Offline, Unauthorized, Device, Bootloader, Recovery, Sideload, Rescue, Host}
-use Rattle.adb_banner.specs.Banner.{identity_of}
-use Rattle.adb_registry.specs.declared.row.Row.{Row}
 use Rattle.adb_forward.specs.declared.row.ForwardRow.{ForwardRow}
-use Rattle.adb_wire.specs.Cutting.{cut_packets}
-use Rattle.adb_wire.specs.declared.command.Command.{Command}
-use Rattle.adb_wire.specs.declared.command.Command.TheVariants.{Cnxn, Open, Okay, Wrte, Clse, Auth, Stls}
-use Rattle.adb_wire.specs.declared.packets.Packet.{Packet}
-use Rattle.adb_wire.specs.declared.format.PacketFault.{PacketFault}
-use Rattle.adb_wire.specs.declared.format.PacketFormat.{PacketFormat}
 use Rattle.adb_stream.specs.Stream.{new_stream}
 use Rattle.adb_stream.specs.Flow.{new_flow}
-use Rattle.adb_stream.specs.declared.flow.Flow.{Flow}
-use Rattle.adb_stream.specs.declared.flow.Flow.TheVariants.{One, Credit}
 use Rattle.adb_stream.specs.declared.row.Stream.{Stream}
 use Rattle.adb_client.specs.declared.phase.Phase.{Phase}
 use Rattle.adb_client.specs.declared.phase.Phase.TheVariants.{Asking, Opening, Streaming, Binding, Tracking, Closing, Gone}
@@ -32,41 +18,30 @@ use Rattle.adb_reply.specs.declared.answer.Next.{Next}
 use Rattle.adb_reply.specs.declared.answer.Next.TheVariants as what
 use Rattle.adb_capture.specs.declared.entry.Entry.{Entry}
 use Rattle.adb_capture.specs.declared.entry.Entry.TheVariants.{Join, Enter, Read, End, Bound, Attach, Recv, Detach, Put, Send}
-use Rattle.adb_history.specs.Rows.{Client, Link, State, new_client, new_link, with_held, to_client, to_link, to_stream, none_kept, with_due, in_phase, with_stream_part}
-use Rattle.adb_history.specs.Events.{Made, Event, Ending, lost, broken, quietly, then_also, owed_to}
-use Rattle.adb_history.specs.Links.{server_cnxn, open_packet, close_packet, okay_packet, credit_packet, credit_word, owe_link, is_connected, is_credit}
-use Rattle.adb_history.specs.Clients.{owe_client, closing, closes, closes_with}
-use Rattle.adb_history.specs.Streams.{stream_ids, draw, asks_for, no_ids_left, opens, all_end}
-use Rattle.adb_history.specs.Tracking.{mark_all, offered}
-use Rattle.adb_history.specs.Losing.{link_ends, stream_fails, stream_of, client_fails, input_ended, input_ends, client_ends, orphaned, stops}
-use Rattle.adb_history.specs.Flow.{with_flow}
+use Rattle.adb_history.specs.Rows.{Client, State, new_client, new_link, with_held, to_client, none_kept, in_phase, with_stream_part}
+use Rattle.adb_history.specs.Events.{Made, quietly}
+use Rattle.adb_history.specs.Links.{is_connected, is_credit}
+use Rattle.adb_history.specs.Clients.{owe_client, closing}
+use Rattle.adb_history.specs.Streams.{stream_ids, asks_for, no_ids_left, opens}
+use Rattle.adb_history.specs.Losing.{stream_fails, stream_of, input_ended, input_ends, client_ends, orphaned, only_client, stops}
 use Rattle.adb_history.specs.Asking.{Asked, asks_with}
-use Rattle.adb_history.specs.Packets.{least_version, least_maxdata, goes_online, streams_end_first, connects, cnxn, unauthorized_from, unauthorized}
-use Rattle.adb_history.specs.Packets.{refuses_open, at_stream, takes_okay, takes_write, takes_close, treat_open, treat_any, treat_on, treat, treat_all, faulty_on}
-use Rattle.adb_history.specs.Packets.{faulty, with_rest, receives_cut, receives_on, receives}
 use Rattle.adb_history.specs.Reading.{comes, comes_in_vain, enters_by, tracks, awaits, goes_on, asked_before, has_asked, asks, reads_in, reads_from}
-use Rattle.adb_history.specs.Reading.{bound_to, bound_for, bound_in, bound_at}
-use Rattle.adb_history.specs.Handing.{unmarked, lists_first, hands, to_hand, credit_back, handed_to, tells_credit, tells_handed, stream_hands, stream_left}
-use Rattle.adb_history.specs.Handing.{client_left, takes_of, puts_to}
-use Rattle.adb_history.specs.Machine.{unplugs_on}
+use Rattle.adb_history.specs.Reading.{bound_for, bound_in, bound_at}
 use Rattle.adb_registry.specs.Registry.{attached}
 use Rattle.adb_history.specs.Forwarding.{bound_by}
 use Rattle.adb_history.specs.Moves.{HasOne, plugged_in}
-use Rattle.adb_history.proofs.Following.{changed_here, changed_other}
-use Rattle.adb_causes.proofs.Fates.{FateOf}
-use Rattle.adb_causes.proofs.StreamFates.{Any}
-use Rattle.adb_causes.proofs.PacketFates.{OfLink, treat_fate, treat_all_fate}
-use Rattle.adb_causes.proofs.Silent.{IsSilent, AreSilent, okay_silent, credit_silent}
-use Rattle.adb_causes.proofs.Untouched.{Untouched, Apart, apart_fate, u_then, u_if, u_quiet, u_owe, u_client, u_owe_client, u_closes_with, u_stream, u_marks}
-use Rattle.adb_causes.proofs.Untouched.{u_all_end, u_link_ends, u_okay, u_write, u_close}
-use Rattle.adb_history.specs.Reading.{plugs_in, enters, reads, bound}
-use Rattle.adb_history.specs.Handing.{puts, sends}
-use Rattle.adb_history.specs.Machine.{unplugs, rule, May}
+use Rattle.adb_history.proofs.Following.{changed_other}
+use Rattle.adb_causes.proofs.Untouched.{Still, Untouched, Apart, u_then, u_if, u_quiet, u_client, u_owe_client, u_closes_with, u_marks}
+use Rattle.adb_history.specs.Machine.{rule, May}
 use Rattle.adb_history.specs.Orderly.{phase_for}
-use Rattle.adb_history.specs.Owned.{StreamOf, HoldsIn, ClientOf, OwnerIn, IsOwned}
+use Rattle.adb_history.specs.Owned.{StreamOf, HoldsIn, OwnerIn, IsOwned}
 use Rattle.adb_history.proofs.OwnedMoves.{joined_client, client_of}
 use Rattle.adb_causes.proofs.RuleFates.{drawn_row}
 use Rattle.adb_causes.proofs.UntouchedRules.{Away, OtherIn, far_receives, far_unplugs, far_puts}
+
+-- what is left by a rule that makes no kill
+abbrev pub LeftBy : (l c : ℕ) → Made → Type 0
+LeftBy l c m = (is_some (m.state.streams l) ≡ true) ⊎ (is_some (m.state.clients c) ≡ true)
 
 -- ---- what another client asks
 module _ (l c : ℕ) where
@@ -84,7 +59,7 @@ module _ (l c : ℕ) where
       ids true = u_client l c n none_kept s other.0
       ids false = u_closes_with l c n (failed (codes "no stream ids left")).bytes s other.0
 
-  far_goes_on : (next : Option Next) (n : ℕ) (s : State) → (n ≢ c) × (l ≢ s.drawn + 1) → is_some ((goes_on next n s).state.streams l) ≡ true
+  far_goes_on : (next : Option Next) (n : ℕ) (s : State) → (n ≢ c) × (l ≢ s.drawn + 1) → LeftBy l c (goes_on next n s)
       → Untouched l c s (goes_on next n s)
   far_goes_on None n s other on = u_quiet l c s
   far_goes_on (Some what.Close) n s other on = u_client l c n closing s other.0
@@ -99,9 +74,17 @@ module _ (l c : ℕ) where
       record { row = refl; client = λ k is has. changed_other n c closing s.clients other.0 ∙ is; owed = refl; silent = tt }
   far_goes_on (Some what.UnbindAll) n s other on =
       record { row = refl; client = λ k is has. changed_other n c closing s.clients other.0 ∙ is; owed = refl; silent = tt }
-  far_goes_on (Some what.Stop) n s other on = absurd (let clash : false ≡ true = on in cc)
+  far_goes_on (Some what.Stop) n s other on = absurd (gone on)
+    where
+      gone : LeftBy l c (stops n s) → ⊥
+      gone (inl some) = let clash : false ≡ true = some in cc
+      gone (inr some) =
+          let none : (stops n s).state.clients c ≡ None =
+          changed_other n c closing (only_client n s.clients) other.0 ∙ ap (λ b. cond b (s.clients c) None) (ne_eqb n c other.0) in
+          let clash : false ≡ true = sym (ap is_some none) ∙ some in
+          cc
 
-  far_asks : (q : Asked) (n : ℕ) (s : State) → (n ≢ c) × (l ≢ s.drawn + 1) → is_some ((asks q n s).state.streams l) ≡ true → Untouched l c s (asks q n s)
+  far_asks : (q : Asked) (n : ℕ) (s : State) → (n ≢ c) × (l ≢ s.drawn + 1) → LeftBy l c (asks q n s) → Untouched l c s (asks q n s)
   far_asks q n s other on =
       let now = to_client n (has_asked q) s in
       let owed = owe_client n q.replies now in
@@ -112,7 +95,7 @@ module _ (l c : ℕ) where
       (far_goes_on q.next n owed.state other on)
 
   far_reads_in : (phase : Phase) (n : ℕ) (bytes : List ℕ) (client : Client) (s : State) → (n ≢ c) × (l ≢ s.drawn + 1)
-      → is_some ((reads_in phase n bytes client s).state.streams l) ≡ true → Untouched l c s (reads_in phase n bytes client s)
+      → LeftBy l c (reads_in phase n bytes client s) → Untouched l c s (reads_in phase n bytes client s)
   far_reads_in Asking n bytes client s other on = far_asks (asks_with s.devices s.forwards bytes (asked_before client)) n s other on
   far_reads_in (Opening k) n bytes client s other on = u_client l c n (with_held (client.held ++ bytes)) s other.0
   far_reads_in (Streaming k) n bytes client s other on = u_client l c n (with_held (client.held ++ bytes)) s other.0
@@ -122,7 +105,7 @@ module _ (l c : ℕ) where
   far_reads_in Gone n bytes client s other on = u_quiet l c s
 
   far_reads : (o : Option Client) (n : ℕ) (bytes : List ℕ) (s : State) → (n ≢ c) × (l ≢ s.drawn + 1)
-      → is_some ((reads_from o n bytes s).state.streams l) ≡ true → Untouched l c s (reads_from o n bytes s)
+      → LeftBy l c (reads_from o n bytes s) → Untouched l c s (reads_from o n bytes s)
   far_reads None n bytes s other on = u_quiet l c s
   far_reads (Some client) n bytes s other on = far_reads_in client.about.phase n bytes client s other on
 
@@ -138,13 +121,13 @@ module _ (l c : ℕ) where
       came k is = ap (λ b. cond b (Some (new_client true n)) (s.clients c)) (ne_eqb n c other.0) ∙ is
 
   -- ---- another client's listener, and its end
-  far_bound : (o : Option Client) (n port : ℕ) (s : State) → s.clients n ≡ o → ((k : Client) → s.clients c ≡ Some k → HasOne k.about.phase)
+  far_bound : (o : Option Client) (n port : ℕ) (s : State) → s.clients n ≡ o → ((k : Client) → s.clients c ≡ Some k → Still k.about.phase)
       → is_some (s.clients c) ≡ true → Untouched l c s (bound_at o n port s)
   far_bound None n port s is has some = u_quiet l c s
   far_bound (Some k) n port s is has some = go k.about.phase refl
     where
       apart : k.about.phase ≡ Binding → n ≢ c
-      apart e same = subst HasOne e (has k (ap s.clients (sym same) ∙ is))
+      apart e same = subst Still e (has k (ap s.clients (sym same) ∙ is))
 
       wanted : (want : Option Want) → k.about.phase ≡ Binding → Untouched l c s (bound_for want n port s)
       wanted None e = u_quiet l c s
@@ -219,6 +202,10 @@ pub record Pair (l : ℕ) (x : Stream) (s : State) : Type 0 where
 pub has_stream : (phase : Phase) (l remote : ℕ) → phase ≡ phase_for l remote → HasOne phase
 has_stream phase l zero e = subst HasOne (sym e) tt
 has_stream phase l (suc n) e = subst HasOne (sym e) tt
+
+pub has_still : (phase : Phase) (l remote : ℕ) → phase ≡ phase_for l remote → Still phase
+has_still phase l zero e = subst Still (sym e) tt
+has_still phase l (suc n) e = subst Still (sym e) tt
 
 pub pair_of : (l : ℕ) (x : Stream) (s : State) → IsOwned s → s.streams l ≡ Some x → x.part.orphan ≡ false → Pair l x s
 pair_of l x s h is alive =
@@ -300,10 +287,10 @@ module _ (l : ℕ) (x : Stream) (s : State) (h : IsOwned s) (p : Pair l x s) whe
   comes_apart : (n : ℕ) → n ≡ s.joined + 1 → n ≢ x.client
   comes_apart n next same = omega (arith, next, same, joined_client s x.client p.client h.rows p.here)
 
-  has_one : (k : Client) → s.clients x.client ≡ Some k → HasOne k.about.phase
+  has_one : (k : Client) → s.clients x.client ≡ Some k → Still k.about.phase
   has_one k is =
       let row : p.client ≡ k = (let both : Some p.client ≡ Some k = sym p.here ∙ is in cc) in
-      subst (λ (y : Client). HasOne y.about.phase) row (has_stream p.client.about.phase l x.part.remote p.phase)
+      subst (λ (y : Client). Still y.about.phase) row (has_still p.client.about.phase l x.part.remote p.phase)
 
   -- a stream that lives on is not touched by what is not its own
   pub far_rule : (e : Entry) → May s e → IsFar x.client x.link e → is_some ((rule e s).state.streams l) ≡ true → Untouched l x.client s (rule e s)
@@ -314,7 +301,7 @@ module _ (l : ℕ) (x : Stream) (s : State) (h : IsOwned s) (p : Pair l x s) whe
     silent = tt;
   }
   far_rule (Enter n port) may far on = far_enters l x.client n (at port s.forwards) s (comes_apart n may.1, not_next)
-  far_rule (Read n bytes) may far on = far_reads l x.client (s.clients n) n bytes s (far, not_next) on
+  far_rule (Read n bytes) may far on = far_reads l x.client (s.clients n) n bytes s (far, not_next) (inl on)
   far_rule (End n cause) may far on = far_ends l x.client n cause (s.clients n) s far (λ k is. other_in l n x s h p far k is)
   far_rule (Bound n port) may far on = far_bound l x.client (s.clients n) n port s refl has_one (ap is_some p.here)
   far_rule (Attach k kind serial) may far on =
@@ -325,3 +312,83 @@ module _ (l : ℕ) (x : Stream) (s : State) (h : IsOwned s) (p : Pair l x s) whe
   far_rule (Detach k cause) may far on = far_unplugs l x.client k s (pair_away k far) (s.links k)
   far_rule (Put n bytes) may far on = far_puts l x.client n far (s.clients n) (length bytes) s refl (λ k is. other_in l n x s h p far k is)
   far_rule (Send k bytes) may far on = record { row = refl; client = λ k is has. is; owed = refl; silent = tt }
+
+-- ---- a client that asks
+-- no stream is of a client that asks
+pub asking_apart : (c : ℕ) (k : Client) (s : State) → IsOwned s → s.clients c ≡ Some k → k.about.phase ≡ Asking → Apart 0 c s
+asking_apart c k s h here asks = record { alone = λ n z is other same. go n z is same z.part.orphan refl }
+  where
+    never : (n remote : ℕ) → Asking ≡ phase_for n remote → ⊥
+    never n zero e = let clash : Asking ≡ Opening n = e in cc
+    never n (suc m) e = let clash : Asking ≡ Streaming n = e in cc
+
+    go : (n : ℕ) (z : Stream) → s.streams n ≡ Some z → z.client ≡ c → (b : Bool) → z.part.orphan ≡ b → ⊥
+    go n z is same true e =
+        let owner : OwnerIn true s.clients n z = subst (λ (b : Bool). OwnerIn b s.clients n z) e (h.owned.stream n z is).owner in
+        let clash : None ≡ Some k = sym owner.1 ∙ (ap s.clients same ∙ here) in
+        cc
+    go n z is same false e =
+        let own = client_of s n z is e h in
+        let row : own.client ≡ k = (let both : Some own.client ≡ Some k = sym own.is ∙ (ap s.clients same ∙ here) in cc) in
+        never n z.part.remote (sym asks ∙ (ap (λ (y : Client). y.about.phase) (sym row) ∙ own.phase))
+
+-- a client that asks, with no stream
+module _ (c : ℕ) (k : Client) (s : State) (h : IsOwned s) (here : s.clients c ≡ Some k) (asks : k.about.phase ≡ Asking) where
+  no_zero : (y : Stream) → s.streams 0 ≡ Some y → ⊥
+  no_zero y is = let clash : None ≡ Some y = sym h.rows.streams.zero ∙ is in cc
+
+  asking_away : (t : ℕ) → Away 0 c t s
+  asking_away t = record { apart = asking_apart c k s h here asks; link = λ y is same. no_zero y is }
+
+  later : (n : ℕ) → n ≡ s.joined + 1 → n ≢ c
+  later n next same = omega (arith, next, same, joined_client s c k h.rows here)
+
+  drawn_later : 0 ≢ s.drawn + 1
+  drawn_later e = omega (arith, e)
+
+  its_phase : (y : Client) → s.clients c ≡ Some y → Still y.about.phase
+  its_phase y is =
+      let row : k ≡ y = (let both : Some k ≡ Some y = sym here ∙ is in cc) in
+      subst (λ (z : Client). Still z.about.phase) row (subst Still (sym asks) tt)
+
+  -- no stream is the one of number 0
+  other_zero : (n : ℕ) (y : Client) → s.clients n ≡ Some y → OtherIn 0 y.about.phase
+  other_zero n y is = go y.about.phase (h.owned.client n y is).holds
+    where
+      none : (m : ℕ) → StreamOf s.streams n m → m ≢ 0
+      none m own same = no_zero own.stream (ap s.streams (sym same) ∙ own.is)
+
+      go : (phase : Phase) → HoldsIn phase s.streams n y → OtherIn 0 phase
+      go (Opening m) holds = none m holds
+      go (Streaming m) holds = none m holds
+      go Asking holds = tt
+      go Binding holds = tt
+      go Tracking holds = tt
+      go Closing holds = tt
+      go Gone holds = tt
+
+  -- an entry of others
+  abbrev pub IsOthers : Entry → Type 0
+  IsOthers (Read n bytes) = n ≢ c
+  IsOthers (End n cause) = n ≢ c
+  IsOthers (Put n bytes) = n ≢ c
+  IsOthers _ = Unit {0}
+
+  pub asking_rule : (e : Entry) → May s e → IsOthers e → is_some ((rule e s).state.clients c) ≡ true → Untouched 0 c s (rule e s)
+  asking_rule (Join n) may far on = record {
+    row = refl;
+    client = λ y is has. ap (λ b. cond b (Some (new_client false n)) (s.clients c)) (ne_eqb n c (later n may.1)) ∙ is;
+    owed = refl;
+    silent = tt;
+  }
+  asking_rule (Enter n port) may far on = far_enters 0 c n (at port s.forwards) s (later n may.1, drawn_later)
+  asking_rule (Read n bytes) may far on = far_reads 0 c (s.clients n) n bytes s (far, drawn_later) (inr on)
+  asking_rule (End n cause) may far on = far_ends 0 c n cause (s.clients n) s far (λ y is. other_zero n y is)
+  asking_rule (Bound n port) may far on = far_bound 0 c (s.clients n) n port s refl its_phase (ap is_some here)
+  asking_rule (Attach t kind serial) may far on =
+      let marks = u_marks 0 c (record s { devices = attached kind serial s.devices; links = put_row t (Some new_link) s.links }) in
+      record { row = refl; client = marks.client; owed = refl; silent = (record { write = refl; credit = refl }, tt) }
+  asking_rule (Recv t bytes) may far on = far_receives 0 c t bytes s (asking_away t)
+  asking_rule (Detach t cause) may far on = far_unplugs 0 c t s (asking_away t) (s.links t)
+  asking_rule (Put n bytes) may far on = far_puts 0 c n far (s.clients n) (length bytes) s refl (λ y is. other_zero n y is)
+  asking_rule (Send t bytes) may far on = record { row = refl; client = λ y is has. is; owed = refl; silent = tt }

@@ -1,61 +1,42 @@
 -- What the rule of an entry leaves of a stream and its client, where it is of other clients and links.
-use Rattle.std.proofs.Common.{◌≡◌, ◌≢◌, ◌≤◌, ◌<◌, ◌+◌, ◌-◌, ℕ, zero, suc, Bool, true, false, cond, not, ◌||◌, List, [], ◌∷◌, ◌++◌, length, drop, min, Option, Some, None, refl, sym, ap, subst, ◌∙◌, eqb}
-use Rattle.std.proofs.Common.{arith, ◌⊎◌, inl, inr}
-use Rattle.std.specs.Prelude.{option_and_then, nat_eq, nat_lt, codes, is_some}
-use Rattle.std.proofs.lemmas.Bool.{eqb-true, eq-eqb, ne_eqb, cases_eq}
-use Rattle.adb_outside.specs.Tables.{at, put_row, without}
+use Rattle.std.proofs.Common.{◌≡◌, ◌≢◌, ℕ, zero, suc, Bool, true, false, cond, ◌||◌, List, [], ◌∷◌, ◌++◌, length, drop, min, Option, Some, None, refl, sym, ap, subst, ◌∙◌, eqb}
+use Rattle.std.specs.Prelude.{nat_eq, nat_lt}
+use Rattle.std.proofs.lemmas.Bool.{eqb-true}
+use Rattle.adb_outside.specs.Tables.{at}
 use Rattle.adb_outside.specs.Framing.{Cut}
-use Rattle.adb_outside.specs.declared.kinds.Cause.{Cause}
-use Rattle.adb_outside.specs.declared.kinds.Cause.TheVariants.{Eof, Fault, Starved, NoThread}
 use Rattle.adb_outside.specs.declared.identity.Identity.{Identity}
 use Rattle.adb_outside.specs.declared.identity.State.{State as DeviceState}
 use Rattle.adb_outside.specs.declared.identity.State.TheVariants.{Offline, Unauthorized, Device, Bootloader, Recovery, Sideload, Rescue, Host}
 use Rattle.adb_banner.specs.Banner.{identity_of}
 use Rattle.adb_registry.specs.declared.row.Row.{Row}
-use Rattle.adb_forward.specs.declared.row.ForwardRow.{ForwardRow}
 use Rattle.adb_wire.specs.Cutting.{cut_packets}
 use Rattle.adb_wire.specs.declared.command.Command.{Command}
 use Rattle.adb_wire.specs.declared.command.Command.TheVariants.{Cnxn, Open, Okay, Wrte, Clse, Auth, Stls}
 use Rattle.adb_wire.specs.declared.packets.Packet.{Packet}
 use Rattle.adb_wire.specs.declared.format.PacketFault.{PacketFault}
 use Rattle.adb_wire.specs.declared.format.PacketFormat.{PacketFormat}
-use Rattle.adb_stream.specs.Stream.{new_stream}
-use Rattle.adb_stream.specs.Flow.{new_flow}
 use Rattle.adb_stream.specs.declared.flow.Flow.{Flow}
 use Rattle.adb_stream.specs.declared.flow.Flow.TheVariants.{One, Credit}
 use Rattle.adb_stream.specs.declared.row.Stream.{Stream}
 use Rattle.adb_client.specs.declared.phase.Phase.{Phase}
 use Rattle.adb_client.specs.declared.phase.Phase.TheVariants.{Asking, Opening, Streaming, Binding, Tracking, Closing, Gone}
-use Rattle.adb_client.specs.declared.about.Want.{Want}
-use Rattle.adb_reply.specs.Strings.{failed}
-use Rattle.adb_reply.specs.declared.answer.Next.{Next}
-use Rattle.adb_reply.specs.declared.answer.Next.TheVariants as what
-use Rattle.adb_capture.specs.declared.entry.Entry.{Entry}
-use Rattle.adb_capture.specs.declared.entry.Entry.TheVariants.{Join, Enter, Read, End, Bound, Attach, Recv, Detach, Put, Send}
-use Rattle.adb_history.specs.Rows.{Client, Link, State, new_client, to_client, to_link, to_stream, none_kept, with_due, in_phase, with_stream_part}
-use Rattle.adb_history.specs.Events.{Made, Event, Ending, lost, broken, quietly, then_also, owed_to}
-use Rattle.adb_history.specs.Links.{server_cnxn, open_packet, close_packet, okay_packet, credit_packet, credit_word, owe_link, is_connected, is_credit}
-use Rattle.adb_history.specs.Clients.{owe_client, closing, closes, closes_with}
-use Rattle.adb_history.specs.Streams.{stream_ids, draw, asks_for, no_ids_left, opens, all_end}
-use Rattle.adb_history.specs.Tracking.{mark_all, offered}
-use Rattle.adb_history.specs.Losing.{link_ends, stream_fails, stream_of, client_fails, input_ended, input_ends, client_ends, orphaned, stops}
+use Rattle.adb_history.specs.Rows.{Client, Link, State, to_client, to_link, to_stream, with_due, with_stream_part}
+use Rattle.adb_history.specs.Events.{Made, lost, broken, quietly}
+use Rattle.adb_history.specs.Links.{close_packet, okay_packet, credit_packet, credit_word, owe_link, is_connected}
+use Rattle.adb_history.specs.Tracking.{offered}
+use Rattle.adb_history.specs.Losing.{link_ends}
 use Rattle.adb_history.specs.Flow.{with_flow}
-use Rattle.adb_history.specs.Asking.{Asked, asks_with}
 use Rattle.adb_history.specs.Packets.{least_version, least_maxdata, goes_online, streams_end_first, connects, cnxn, unauthorized_from, unauthorized}
 use Rattle.adb_history.specs.Packets.{refuses_open, at_stream, takes_okay, takes_write, takes_close, treat_open, treat_any, treat_on, treat, treat_all, faulty_on}
 use Rattle.adb_history.specs.Packets.{faulty, with_rest, receives_cut, receives_on, receives}
-use Rattle.adb_history.specs.Reading.{comes, comes_in_vain, enters_by, tracks, awaits, goes_on, asked_before, has_asked, asks, reads_in, reads_from}
-use Rattle.adb_history.specs.Reading.{bound_to, bound_for, bound_in, bound_at}
-use Rattle.adb_history.specs.Handing.{unmarked, lists_first, hands, to_hand, credit_back, handed_to, tells_credit, tells_handed, stream_hands, stream_left}
+use Rattle.adb_history.specs.Handing.{unmarked, lists_first, hands, to_hand, credit_back, handed_to, tells_credit, tells_handed, stream_left}
 use Rattle.adb_history.specs.Handing.{client_left, takes_of, puts_to}
 use Rattle.adb_history.specs.Machine.{unplugs_on}
-use Rattle.adb_history.specs.Moves.{HasOne}
-use Rattle.adb_history.proofs.Following.{changed_here, changed_other}
+use Rattle.adb_history.proofs.Following.{changed_here}
 use Rattle.adb_causes.proofs.Fates.{FateOf}
-use Rattle.adb_causes.proofs.StreamFates.{Any}
 use Rattle.adb_causes.proofs.PacketFates.{OfLink, treat_fate, treat_all_fate}
-use Rattle.adb_causes.proofs.Silent.{IsSilent, AreSilent, okay_silent, credit_silent}
-use Rattle.adb_causes.proofs.Untouched.{Untouched, Apart, apart_fate, u_then, u_if, u_quiet, u_owe, u_client, u_owe_client, u_closes_with, u_stream, u_marks}
+use Rattle.adb_causes.proofs.Silent.{okay_silent, credit_silent}
+use Rattle.adb_causes.proofs.Untouched.{Untouched, Apart, apart_fate, u_then, u_if, u_quiet, u_owe, u_client, u_owe_client, u_stream, u_marks}
 use Rattle.adb_causes.proofs.Untouched.{u_all_end, u_link_ends, u_okay, u_write, u_close}
 
 -- a stream of another link than this one, and no other stream is of its client

@@ -1,35 +1,19 @@
 -- What the up rule makes of a stream and of its client, and tells of them.
-use Rattle.std.proofs.Common.{◌≡◌, ◌≢◌, ◌≤◌, ◌<◌, ◌+◌, ◌-◌, ℕ, zero, suc, Bool, true, false, cond, List, [], ◌∷◌, ◌++◌, length, take, drop, min, Option, Some, None, refl, sym, ap, subst, ◌∙◌, eqb}
-use Rattle.std.proofs.Common.{arith, ◌⊎◌, inl, inr, length-append}
-use Rattle.std.specs.Prelude.{nat_eq, option_and_then}
-use Rattle.std.specs.Option.{option_or}
+use Rattle.std.proofs.Common.{◌≡◌, ◌+◌, ◌-◌, ℕ, zero, suc, Bool, true, false, cond, List, [], ◌∷◌, ◌++◌, length, take, drop, refl, sym, ap, subst, ◌∙◌}
+use Rattle.std.proofs.Common.{arith}
 use Rattle.std.proofs.Math.Seq.{take-add}
-use Rattle.std.proofs.lemmas.List.{length-take-le, append-nil}
-use Rattle.std.proofs.lemmas.Bool.{eqb-true, eq-eqb, ne_eqb, cases_eq}
-use Rattle.adb_wire.specs.declared.packets.Packet.{Packet}
+use Rattle.std.proofs.lemmas.List.{length-take-le}
+use Rattle.std.proofs.lemmas.Bool.{eq-eqb}
 use Rattle.adb_stream.specs.declared.flow.Flow.{Flow}
 use Rattle.adb_stream.specs.declared.flow.Flow.TheVariants.{One, Credit}
-use Rattle.adb_stream.specs.declared.row.Part.{Part}
 use Rattle.adb_stream.specs.declared.row.Stream.{Stream}
-use Rattle.adb_client.specs.declared.phase.Phase.{Phase}
-use Rattle.adb_client.specs.declared.phase.Phase.TheVariants.{Asking, Opening, Streaming, Binding, Tracking, Closing, Gone}
-use Rattle.adb_history.specs.Rows.{Client, State, to_client, to_stream, with_held, with_stream_part}
-use Rattle.adb_history.specs.Events.{Made, Event, Ending, client_closed, quietly, then_also, owed_to, packets_to, ending_in}
-use Rattle.adb_history.specs.Links.{write_packet, owe_link, maxdata_of}
-use Rattle.adb_history.specs.Streams.{ends_telling}
-use Rattle.adb_history.specs.Flow.{write_len, write_before, writes, payloads, total, wrote, with_flow, goes_up, all_go_up, flow_after, noted, is_over, closes_if}
-use Rattle.adb_history.specs.Flow.{sends_up, is_streaming, up_client, up_stream, up, up_all}
+use Rattle.adb_history.specs.Rows.{State}
+use Rattle.adb_history.specs.Events.{owed_to, packets_to}
+use Rattle.adb_history.specs.Links.{write_packet}
+use Rattle.adb_history.specs.Flow.{write_len, write_before, writes, payloads, total, wrote, goes_up, all_go_up, flow_after}
 use Rattle.adb_history.specs.Births.{joined, is_wrte, carried_in, count_from}
 use Rattle.adb_history.specs.Fifo.{has_credit, okays_of, credit_of}
-use Rattle.adb_history.specs.Moves.{HasOne}
-use Rattle.adb_history.proofs.Following.{changed_here, changed_other}
-use Rattle.adb_history.proofs.Growing.{owed_append}
 use Rattle.adb_causes.specs.Flows.{FlowIs}
-use Rattle.adb_causes.proofs.Fates.{FateOf}
-use Rattle.adb_causes.proofs.StreamFates.{up_fate, up_all_fate}
-use Rattle.adb_causes.proofs.Silent.{AreSilent, silent_append, write_silent, silent_carried, silent_writes, silent_credits}
-use Rattle.adb_causes.proofs.Untouched.{Untouched, Apart, apart_fate, u_then, u_if, u_quiet, u_owe, u_stream, u_client, u_telling}
-use Rattle.adb_causes.proofs.UntouchedEntries.{Pair, has_stream}
 use Rattle.adb_causes.specs.Flows.{waiting}
 
 -- ---- the writes

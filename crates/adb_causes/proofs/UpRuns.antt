@@ -1,41 +1,33 @@
 -- What the up rule for all streams makes of one, and of its client.
-use Rattle.std.proofs.Common.{◌≡◌, ◌≢◌, ◌≤◌, ◌<◌, ◌+◌, ◌-◌, ℕ, zero, suc, Bool, true, false, cond, List, [], ◌∷◌, ◌++◌, length, take, drop, min, Option, Some, None, refl, sym, ap, subst, ◌∙◌, eqb}
-use Rattle.std.proofs.Common.{arith, ◌⊎◌, inl, inr, length-append}
-use Rattle.std.specs.Prelude.{nat_eq, option_and_then}
+use Rattle.std.proofs.Common.{◌≡◌, ◌≢◌, ◌≤◌, ◌<◌, ◌+◌, ℕ, zero, suc, Bool, true, false, cond, List, [], ◌∷◌, ◌++◌, length, take, drop, Option, Some, None, refl, sym, ap, subst, ◌∙◌}
+use Rattle.std.proofs.Common.{arith, ◌⊎◌, inl, inr}
 use Rattle.std.specs.Option.{option_or}
-use Rattle.std.proofs.Math.Seq.{take-add}
-use Rattle.std.proofs.lemmas.List.{length-take-le, append-nil}
-use Rattle.std.proofs.lemmas.Bool.{eqb-true, eq-eqb, ne_eqb, cases_eq}
-use Rattle.adb_wire.specs.declared.packets.Packet.{Packet}
-use Rattle.adb_stream.specs.declared.flow.Flow.{Flow}
-use Rattle.adb_stream.specs.declared.flow.Flow.TheVariants.{One, Credit}
+use Rattle.std.proofs.lemmas.List.{append-nil}
+use Rattle.std.proofs.lemmas.Bool.{cases_eq}
 use Rattle.adb_stream.specs.declared.row.Part.{Part}
 use Rattle.adb_stream.specs.declared.row.Stream.{Stream}
 use Rattle.adb_client.specs.declared.phase.Phase.{Phase}
 use Rattle.adb_client.specs.declared.phase.Phase.TheVariants.{Asking, Opening, Streaming, Binding, Tracking, Closing, Gone}
-use Rattle.adb_history.specs.Rows.{Client, State, to_client, to_stream, with_held, with_stream_part}
-use Rattle.adb_history.specs.Events.{Made, Event, Ending, client_closed, quietly, then_also, owed_to, packets_to, ending_in}
+use Rattle.adb_history.specs.Rows.{Client, State, to_stream, with_held, with_stream_part}
+use Rattle.adb_history.specs.Events.{Made, Event, client_closed, quietly, then_also, owed_to, packets_to, ending_in}
 use Rattle.adb_history.specs.Links.{write_packet, owe_link, maxdata_of}
 use Rattle.adb_history.specs.Streams.{ends_telling}
-use Rattle.adb_history.specs.Flow.{write_len, write_before, writes, payloads, total, wrote, with_flow, goes_up, all_go_up, flow_after, noted, is_over, closes_if}
+use Rattle.adb_history.specs.Flow.{payloads, total, with_flow, goes_up, all_go_up, flow_after, noted, is_over, closes_if}
 use Rattle.adb_history.specs.Flow.{sends_up, is_streaming, up_client, up_stream, up, up_all}
 use Rattle.adb_history.specs.Births.{joined, is_wrte, carried_in, count_from}
 use Rattle.adb_history.specs.Fifo.{has_credit, okays_of, credit_of}
-use Rattle.adb_history.specs.Moves.{HasOne}
 use Rattle.adb_history.proofs.Following.{changed_here, changed_other}
 use Rattle.adb_history.proofs.Growing.{owed_append}
-use Rattle.adb_causes.specs.Flows.{FlowIs}
-use Rattle.adb_causes.proofs.Fates.{FateOf}
-use Rattle.adb_causes.proofs.StreamFates.{up_fate, up_all_fate}
-use Rattle.adb_causes.proofs.Silent.{AreSilent, silent_append, write_silent, silent_carried, silent_writes, silent_credits}
+use Rattle.adb_causes.proofs.StreamFates.{up_all_fate}
+use Rattle.adb_causes.proofs.Silent.{AreSilent, write_silent}
 use Rattle.adb_causes.proofs.Untouched.{Untouched, Apart, apart_fate, u_then, u_if, u_quiet, u_owe, u_stream, u_client, u_telling}
-use Rattle.adb_causes.proofs.UntouchedEntries.{Pair, has_stream}
+use Rattle.adb_causes.proofs.UntouchedEntries.{Pair, has_still}
 use Rattle.adb_causes.specs.Flows.{waiting}
-use Rattle.adb_history.specs.Streams.{loses, client_loses, ends_row, tells_end}
+use Rattle.adb_history.specs.Streams.{loses, client_loses, tells_end}
 use Rattle.adb_history.specs.Links.{close_packet, check_on, wants_sums}
 use Rattle.adb_history.specs.Events.{due_to_link, ended}
 use Rattle.adb_history.specs.Rows.{none_kept}
-use Rattle.adb_causes.proofs.Fates.{lives, ending_append}
+use Rattle.adb_causes.proofs.Fates.{ending_append}
 use Rattle.adb_causes.proofs.Runs.{alive_told}
 use Rattle.adb_causes.proofs.StreamFates.{telling_fate, gone_here}
 use Rattle.adb_causes.proofs.Turning.{ended_told}
@@ -163,8 +155,10 @@ telling_quiet l c y now k alive here streaming =
         × AreSilent l (due_to_link y.link (close_packet l y.part.remote) (check_on (wants_sums (now.links y.link)) (close_packet l y.part.remote)) ∷ m.told)
 
     both : (owed_to c (loses k.about.forwarded k.about.phase y.client gone).told ≡ []) × AreSilent l (loses k.about.forwarded k.about.phase y.client gone).told
-        → Quiet (record { state = (loses k.about.forwarded k.about.phase y.client gone).state;
-            told = ended l client_closed ∷ (loses k.about.forwarded k.about.phase y.client gone).told })
+        → Quiet (record {
+          state = (loses k.about.forwarded k.about.phase y.client gone).state;
+          told = ended l client_closed ∷ (loses k.about.forwarded k.about.phase y.client gone).told;
+        })
     both q = (q.0, (record { write = refl; credit = refl }, q.1))
 
 module _ (l : ℕ) (s : State) (x : Stream) (h : Pair l x s) (streaming : is_streaming l h.client.about.phase ≡ true) where
@@ -261,7 +255,7 @@ own_up l s x h =
     go true e = sends_effect l s x h ps (own_sends l s x h e) e
 
 -- ---- and all of them
-up_apart : (l c k : ℕ) (s : State) → Apart l c s → Apart l c (up_all k s).state
+pub up_apart : (l c k : ℕ) (s : State) → Apart l c s → Apart l c (up_all k s).state
 up_apart l c k s h = apart_fate l c (λ client link y. Unit {0}) s (up_all k s) (λ n. up_all_fate n (λ client link y. Unit {0}) k s (λ client link. tt)) h
 
 -- before its turn
@@ -284,7 +278,7 @@ module _ (l : ℕ) (x : Stream) (s : State) (h : Pair l x s) (apart : Apart l x.
         is = u.row ∙ h.is;
         alive = h.alive;
         client = h.client;
-        here = u.client h.client h.here (has_stream h.client.about.phase l x.part.remote h.phase);
+        here = u.client h.client h.here (has_still h.client.about.phase l x.part.remote h.phase);
         phase = h.phase;
       }
 
@@ -308,9 +302,12 @@ module _ (l : ℕ) (x : Stream) (s : State) (h : Pair l x s) (apart : Apart l x.
           after : (ws : List (List ℕ)) → GoesOnWith l x h.client ws (up l (up_all k s).state).state ⊎ EndsWith l x h.client ws (up l (up_all k s).state)
               → GoesOnWith l x h.client ws (up l (up_all k s).state).state ⊎ EndsWith l x h.client ws (then_also (up_all k s) (up l))
           after ws (inl goes) = inl goes
-          after ws (inr ends) = inr (ends.0,
-              ending_append l (up_all k s).told (up l (up_all k s).state).told
-              ∙ (ap (λ o. option_or o (ending_in l (up l (up_all k s).state).told)) none ∙ ends.1), ends.2)
+          after ws (inr ends) = inr (
+            ends.0,
+            ending_append l (up_all k s).told (up l (up_all k s).state).told
+                ∙ (ap (λ o. option_or o (ending_in l (up l (up_all k s).state).told)) none ∙ ends.1),
+            ends.2,
+          )
 
   -- behind its turn
   more_up : (k : ℕ) → suc k ≢ l → UpEffect l x h.client (up_all k s) → UpEffect l x h.client (up_all (suc k) s)
@@ -330,11 +327,16 @@ module _ (l : ℕ) (x : Stream) (s : State) (h : Pair l x s) (apart : Apart l x.
       after : Untouched l x.client (up_all k s).state (up (suc k) (up_all k s).state)
           → GoesOnWith l x h.client e.sent (up_all k s).state ⊎ EndsWith l x h.client e.sent (up_all k s)
           → GoesOnWith l x h.client e.sent (up_all (suc k) s).state ⊎ EndsWith l x h.client e.sent (up_all (suc k) s)
-      after u (inl goes) = inl (u.row ∙ goes.0,
-          u.client (record h.client { held = drop (total e.sent) h.client.held }) goes.1 (has_stream h.client.about.phase l x.part.remote h.phase))
-      after u (inr ends) = inr (ends.0,
-          ending_append l (up_all k s).told (up (suc k) (up_all k s).state).told
-          ∙ ap (λ o. option_or o (ending_in l (up (suc k) (up_all k s).state).told)) ends.1, u.row ∙ ends.2)
+      after u (inl goes) = inl (
+        u.row ∙ goes.0,
+        u.client (record h.client { held = drop (total e.sent) h.client.held }) goes.1 (has_still h.client.about.phase l x.part.remote h.phase),
+      )
+      after u (inr ends) = inr (
+        ends.0,
+        ending_append l (up_all k s).told (up (suc k) (up_all k s).state).told
+            ∙ ap (λ o. option_or o (ending_in l (up (suc k) (up_all k s).state).told)) ends.1,
+        u.row ∙ ends.2,
+      )
 
   pub up_run : (k : ℕ) → (0 < l) × (l ≤ k) → UpEffect l x h.client (up_all k s)
   up_run zero within = absurd (omega (arith, within.0, within.1))

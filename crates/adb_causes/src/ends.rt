@@ -7,9 +7,24 @@ ghost use Rattle.adb_history.specs.Machine.{IsLegal};
 ghost use Rattle.adb_history.specs.Fifo.{HasBirths};
 ghost use Rattle.adb_history.specs.Causes.{EndsByPeer, EndsByLoss, EndsByBreak};
 ghost use Rattle.adb_history.specs.Causes.{EndsByFailure, EndsByStop};
-ghost use Rattle.adb_history.specs.Causes.{EndsOutOfTurn, HasNoOtherCause};
+ghost use Rattle.adb_history.specs.Causes.{EndsByClient, EndsOutOfTurn, HasNoOtherCause, HasCauses};
 ghost use Rattle.adb_causes.specs.Times.{AtEachTime};
 ghost use Rattle.adb_causes.specs.Flows.{HoldsAsTold};
+
+/// A stream that lives and its client hold what the history tells of them: the flow is as its device
+/// wrote and its client was handed, what its client wrote past its request went up or is held, and
+/// each of its writes but one is answered.
+pub fn streams_hold_what_is_told()
+    ensures { (history : List Entry) → IsLegal history → AtEachTime HasBirths history
+        → HoldsAsTold history }
+{}
+
+/// A stream ends by its client's close only after that, and when all that the client wrote had gone
+/// up, by the close itself or by what its device sent then.
+pub fn ends_by_client()
+    ensures { (history : List Entry) → IsLegal history → AtEachTime HasBirths history
+        → EndsByClient history }
+{}
 
 /// A stream ends by its device only where that closed it, in the very bytes that came.
 pub fn ends_by_peer()
@@ -21,7 +36,7 @@ pub fn ends_by_peer()
 /// to be handed out, or past the credit that it was given.
 pub fn ends_out_of_turn()
     ensures { (history : List Entry) → IsLegal history → AtEachTime HasBirths history
-        → AtEachTime HoldsAsTold history → EndsOutOfTurn history }
+        → EndsOutOfTurn history }
 {}
 
 /// A stream ends with a link that is lost only where that is detached, or its device says anew who
@@ -53,5 +68,11 @@ pub fn ends_by_stop()
 /// At an entry that leaves a stream alive nothing stands that ends one, but its client's orderly end.
 pub fn outlives_no_cause()
     ensures { (history : List Entry) → IsLegal history → AtEachTime HasBirths history
-        → AtEachTime HoldsAsTold history → HasNoOtherCause history }
+        → HasNoOtherCause history }
+{}
+
+/// Every end of a stream has its cause.
+pub fn every_end_has_its_cause()
+    ensures { (history : List Entry) → IsLegal history → AtEachTime HasBirths history
+        → HasCauses history }
 {}

@@ -1,19 +1,19 @@
 -- What more bytes that were handed out, and more writes that were told, make of what is acknowledged.
-use Rattle.std.proofs.Common.{ℕ, ◌+◌, ◌-◌, ◌≡◌, ◌≢◌, ◌≤◌, ◌<◌, zero, suc, Bool, true, false, cond, List, [], ◌∷◌, ◌++◌, length, take, drop, min, Option, Some, None, refl, sym, ◌∙◌, ap, subst}
-use Rattle.std.proofs.Common.{arith, append_assoc, eqb, inl, inr, ◌⊎◌}
-use Rattle.std.specs.Prelude.{All, nat_le, unwrap_or, ◌&&◌}
-use Rattle.std.proofs.lemmas.Bool.{cases_lt, leb-true, leb-false, eqb-true}
-use Rattle.std.proofs.lemmas.List.{append-nil, length-append, length-drop}
-use Rattle.std.proofs.lemmas.List.Elements.{All-head, All-tail, All-cons, All-nil}
-use Rattle.adb_outside.specs.Bytes.{IsPrefixOf}
+use Rattle.std.proofs.Common.{ℕ, ◌+◌, ◌-◌, ◌≡◌, ◌≢◌, ◌≤◌, suc, Bool, true, false, cond, List, [], ◌∷◌, ◌++◌, length, Option, Some, None, refl, sym, ◌∙◌, ap}
+use Rattle.std.proofs.Common.{subst}
+use Rattle.std.proofs.Common.{arith}
+use Rattle.std.specs.Prelude.{nat_le}
+use Rattle.std.proofs.lemmas.Bool.{leb-true, leb-false}
+use Rattle.std.proofs.lemmas.List.{length-append}
+use Rattle.std.proofs.lemmas.List.Elements.{All-nil}
 use Rattle.byteorder.specs.Endian.{little_bytes, little_number}
 use Rattle.adb_wire.specs.declared.packets.Packet.{Packet}
 use Rattle.adb_history.specs.Links.{credit_word, credit_packet}
 use Rattle.adb_history.specs.Births as birth
 use Rattle.adb_history.specs.Births.{opening_in, told_in, joined, is_okay}
-use Rattle.adb_history.specs.Fifo.{whole_within, credit_of, okays_of, GivesBack}
+use Rattle.adb_history.specs.Fifo.{whole_within, credit_of}
 use Rattle.adb_fifo_down.specs.Window.{IsBackedBy, IsBacked}
-use Rattle.adb_fifo_down.proofs.Openings.{later_too, opening_stays, told_append}
+use Rattle.adb_fifo_down.proofs.Openings.{opening_stays, told_append}
 
 -- ---- whole writes
 -- more bytes have no fewer of them whole

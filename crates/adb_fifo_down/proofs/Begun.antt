@@ -46,7 +46,7 @@ of_older s c k x owned lt there same = omega (arith, lt, same, (owned.owned.stre
 -- ---- a stream is drawn
 module _ (c t : ℕ) (service : List ℕ) (s : State) where
   abbrev pub drawn_line : Line
-  drawn_line = record { id = s.drawn + 1; client = c; link = t }
+  drawn_line = record { id = s.drawn + 1; client = c; link = t; from = s.drawn + 1 }
 
   abbrev pub new_row : Stream
   new_row = new_stream (s.drawn + 1) c t (new_flow (is_credit t s.devices))
@@ -63,7 +63,11 @@ module _ (c t : ℕ) (service : List ℕ) (s : State) where
         okays = okays_of (s.drawn + 1) (packets_to t w);
         ending = ending_in (s.drawn + 1) w;
       })) w asking_made
-  drawn_shows a w is others = (apart, view_told drawn_line asking_made.state w said ∙ (tells_nothing drawn_line said _ (quiet_link drawn_line t asked _ refl) ∙ rows))
+  drawn_shows a w is others = (
+    apart,
+    view_told drawn_line asking_made.state w said ∙ (tells_nothing drawn_line said _ (quiet_link drawn_line t asked _ refl)
+        ∙ rows),
+  )
     where
       asked : Packet
       asked = open_packet (is_credit t s.devices) (s.drawn + 1) service

@@ -40,14 +40,14 @@ use Rattle.adb_fifo_down.specs.Line.{Line, SeenStream, SeenClient, View, seen, s
 use Rattle.adb_fifo_down.specs.Life.{Cradle}
 use Rattle.adb_fifo_down.specs.Turns.{Holds}
 use Rattle.adb_fifo_down.specs.Follows.{line, is_shut, PromiseOf, Follows}
-use Rattle.adb_fifo_down.specs.Premises.{AtAllTimes, EndsBornAlone}
 use Rattle.adb_fifo_down.specs.Begins.{newborn, Lasts}
 use Rattle.adb_fifo_down.proofs.Shown.{packets_append, ending_append, first_none}
 use Rattle.adb_fifo_down.proofs.Others.{after_next}
 use Rattle.adb_fifo_down.proofs.Own.{client_seen}
 use Rattle.adb_fifo_down.proofs.OwnPackets.{own_row}
 use Rattle.adb_fifo_down.proofs.Ups.{Upped, shows_ups}
-use Rattle.adb_fifo_down.proofs.Askers.{AsksAs, alone, asked_then, AsksBehind, asks_behind_it, asking_at}
+use Rattle.adb_fifo_down.proofs.Askers.{AsksAs, alone, asked_then, AsksBehind, asks_behind_it}
+use Rattle.adb_fifo_down.proofs.Asking.{asking_at}
 use Rattle.adb_fifo_down.proofs.Begun.{of_another, of_older, new_row, drawn_shows}
 
 drop_all : {A : Type 0} (xs : List A) → drop (length xs) xs ≡ []
@@ -55,7 +55,8 @@ drop_all [] = refl
 drop_all (x ∷ xs) = drop_all xs
 
 -- the link of a stream that lives brings more
-not_shut : (h : History) → IsLegal h → (l : ℕ) (b : Birth) (v : View) (x : SeenStream) → v.stream ≡ Some x → Shows (line l b) v (state h) (told h) → is_shut b.link h ≡ false
+not_shut : (h : History) → IsLegal h → (l : ℕ) (b : Birth) (v : View) (x : SeenStream) → v.stream ≡ Some x → Shows (line l b) v (state h) (told h)
+    → is_shut b.link h ≡ false
 not_shut h legal l b v x there shows = by ((state h).links b.link) refl
   where
     linked : IsLinked (state h)
@@ -80,7 +81,8 @@ module _ {P : PromiseOf} (lasts : Lasts P) where
   born_holds : (l : ℕ) (b : Birth) (e : Entry) (older : History) (k : Cradle) (due : List ℕ) → IsLegal (e ∷ older)
       → k.replies ≡ bytes_put b.client (e ∷ older) ++ due → since b (e ∷ older) ≡ []
       → After (Shows (line l b) (newborn (line l b) k due)) (told older) (rule e (state older))
-      → Holds (line l b) (P (line l b) k) (since b (e ∷ older)) (is_shut b.link (e ∷ older)) (bytes_put b.client (e ∷ older)) (state (e ∷ older)) (told (e ∷ older))
+      → Holds (line l b) (P (line l b) k) (since b (e ∷ older)) (is_shut b.link (e ∷ older)) (bytes_put b.client (e ∷ older)) (state (e ∷ older))
+      (told (e ∷ older))
   born_holds l b e older k due legal put none shows = record { seen = born; shows = now; keeps = promised }
     where
       born : View
@@ -149,20 +151,19 @@ asked_birth c t service head older = record {
 }
 
 -- what had not been told of a stream that was not born
-pub record IsUnborn (Ends : Type 0) (l t : ℕ) (w : List Event) : Type 0 where
+pub record IsUnborn (l t : ℕ) (w : List Event) : Type 0 where
   pub okays : okays_of l (packets_to t w) ≡ []
-  pub ending : Ends → ending_in l w ≡ None
+  pub ending : ending_in l w ≡ None
 
 module _ {P : PromiseOf} (lasts : Lasts P) (c : ℕ) (bytes : List ℕ) (older : History) (legal : IsLegal (Read c bytes ∷ older)) (t : ℕ) (service : List ℕ) where
   pub read_born : (head : ℕ) → NowAsks c bytes older (what.Open t service) → (state older).drawn ≢ stream_ids
-      → IsUnborn (AtAllTimes EndsBornAlone older) ((state older).drawn + 1) t (told older)
+      → IsUnborn ((state older).drawn + 1) t (told older)
       → Follows P (Read c bytes ∷ older) ((state older).drawn + 1) (asked_birth c t service head older)
   read_born head now ids unborn = record {
     cradle = cradle;
     credit = ap (is_credit t) (all_books older legal.0).devices;
     forwarded = refl;
     replies = refl;
-    unended = λ ends. unborn.ending ends.1;
     asks_no_more = λ e. ap is_some (ap (λ (q : Asked). q.next) now.same ∙ now.after);
     came = omega (arith, legal.2.1.1, (counted older).joined);
     within = omega arith;
@@ -190,7 +191,6 @@ module _ {P : PromiseOf} (lasts : Lasts P) (c : ℕ) (bytes : List ℕ) (older :
         credit = is_credit t (state older).devices;
         forwarded = false;
         replies = (asked c (Read c bytes ∷ older)).replies;
-        ending = ending_in ((state older).drawn + 1) (told older);
       }
 
       told_as : (asked c older).replies ≡ owed_to c (told older)
@@ -258,8 +258,8 @@ module _ {P : PromiseOf} (lasts : Lasts P) (c : ℕ) (bytes : List ℕ) (older :
           ∙ (ap (λ (x : List ℕ). x ++ q.replies) (sym told_as) ∙ sym said))) in
           let okays : okays_of ((state older).drawn + 1) (packets_to t (told older ++ owed.told)) ≡ [] =
           ap (okays_of ((state older).drawn + 1)) (packets_append t (told older) owed.told ∙ append-nil (packets_to t (told older))) ∙ unborn.okays in
-          let ending : ending_in ((state older).drawn + 1) (told older ++ owed.told) ≡ cradle.ending =
-          ending_append ((state older).drawn + 1) (told older) owed.told ∙ first_none (ending_in ((state older).drawn + 1) (told older)) in
+          let ending : ending_in ((state older).drawn + 1) (told older ++ owed.told) ≡ None =
+          ending_append ((state older).drawn + 1) (told older) owed.told ∙ (first_none (ending_in ((state older).drawn + 1) (told older)) ∙ unborn.ending) in
           λ i. record {
             stream = Some (seen (new_row c t service owed.state));
             client = Some (record { phase = Opening ((state older).drawn + 1); forwarded = by_itself i; due = due });
@@ -293,14 +293,13 @@ entered_birth c row older = record {
 
 module _ {P : PromiseOf} (lasts : Lasts P) (c port : ℕ) (older : History) (legal : IsLegal (Enter c port ∷ older)) (row : ForwardRow) where
   pub enter_born : at port (forwards older) ≡ Some row → is_connected row.transport (devices older) ≡ true → (state older).drawn ≢ stream_ids
-      → IsUnborn (AtAllTimes EndsBornAlone older) ((state older).drawn + 1) row.transport (told older)
+      → IsUnborn ((state older).drawn + 1) row.transport (told older)
       → Follows P (Enter c port ∷ older) ((state older).drawn + 1) (entered_birth c row older)
   enter_born is connected ids unborn = record {
     cradle = cradle;
     credit = ap (is_credit row.transport) (all_books older legal.0).devices;
     forwarded = refl;
     replies = refl;
-    unended = λ ends. unborn.ending ends.1;
     asks_no_more = λ e. absurd (let clash : true ≡ false = e in cc);
     came = omega (arith, legal.2.1, (counted older).joined);
     within = omega arith;
@@ -312,7 +311,7 @@ module _ {P : PromiseOf} (lasts : Lasts P) (c port : ℕ) (older : History) (leg
       b = entered_birth c row older
 
       cradle : Cradle
-      cradle = record { credit = is_credit row.transport (state older).devices; forwarded = true; replies = []; ending = ending_in ((state older).drawn + 1) (told older) }
+      cradle = record { credit = is_credit row.transport (state older).devices; forwarded = true; replies = [] }
 
       above : came_count older < c
       above = omega (arith, legal.2.1, (counted older).joined)
@@ -355,7 +354,7 @@ module _ {P : PromiseOf} (lasts : Lasts P) (c port : ℕ) (older : History) (leg
             client = Some (record { phase = Opening ((state older).drawn + 1); forwarded = true; due = [] });
             output = output i;
             okays = unborn.okays i;
-            ending = ending_in ((state older).drawn + 1) (told older);
+            ending = unborn.ending i;
           }
 
       shows : After (Shows (line ((state older).drawn + 1) (entered_birth c row older))

@@ -88,14 +88,16 @@ pub born_when : (l : ℕ) (b : Birth) (e : Entry) (older : History) → born l (
 born_when zero b e older is = absurd (let clash : None ≡ Some b = is in cc)
 born_when (suc j) b e older is = by (nat_lt j stream_ids) refl is
   where
-    here : nat_lt j stream_ids ≡ true → (slice_get (births older) j ≡ Some b) ⊎ ((i : ℕ) × (j ≡ length (births older) + i) × (slice_get (births_at e older) i ≡ Some b))
+    here : nat_lt j stream_ids ≡ true
+        → (slice_get (births older) j ≡ Some b) ⊎ ((i : ℕ) × (j ≡ length (births older) + i) × (slice_get (births_at e older) i ≡ Some b))
         → (cond true (slice_get (births older) j) None ≡ Some b) ⊎ IsBornNow (suc j) b e older
     here lt (inl f) = inl f
     here lt (inr (i, f, g)) =
         let one = only_one (births_at e older) i b (few e older) g in
         inr (record {
           number = omega (arith, f, one.0);
-          within = subst (λ (n : ℕ). n < stream_ids) (f ∙ (ap (λ (i : ℕ). length (births older) + i) one.0 ∙ plus_zero (length (births older)))) (ltb-true j stream_ids lt);
+          within = subst (λ (n : ℕ). n < stream_ids) (f ∙ (ap (λ (i : ℕ). length (births older) + i) one.0 ∙ plus_zero (length (births older))))
+              (ltb-true j stream_ids lt);
           is = one.1;
         })
       where

@@ -1,5 +1,5 @@
 -- What each turn of what is seen of a stream keeps, each entry after its birth keeps.
-use Rattle.std.proofs.Common.{ℕ, ◌≡◌, ◌≢◌, Bool, true, false, cond, List, [], ◌∷◌, ◌++◌, length, Option, Some, None, refl, sym, ◌∙◌, ap, subst}
+use Rattle.std.proofs.Common.{◌+◌, arith, ◌≤◌, ℕ, ◌≡◌, ◌≢◌, Bool, true, false, cond, List, [], ◌∷◌, ◌++◌, length, Option, Some, None, refl, sym, ◌∙◌, ap, subst}
 use Rattle.std.proofs.Common.{eqb, inl, inr, ◌⊎◌}
 use Rattle.std.proofs.lemmas.Bool.{eqb-true, eq-eqb, cases_eq}
 use Rattle.adb_outside.specs.Bytes.{IsPrefixOf}
@@ -11,11 +11,11 @@ use Rattle.adb_client.specs.declared.phase.Phase.TheVariants.{Asking, Opening, S
 use Rattle.adb_reply.specs.declared.answer.Next.{Next}
 use Rattle.adb_reply.specs.declared.answer.Next.TheVariants as what
 use Rattle.adb_history.specs.Rows.{Client, State, to_client}
-use Rattle.adb_history.specs.Events.{Made, Event}
+use Rattle.adb_history.specs.Events.{Made, Event, ending_in}
 use Rattle.adb_history.specs.Clients.{owe_client}
 use Rattle.adb_history.specs.Tracking.{list_if_stale, due_or, offered}
 use Rattle.adb_history.specs.Asking.{Asked, asks_with}
-use Rattle.adb_history.specs.Losing.{client_ends, stops}
+use Rattle.adb_history.specs.Losing.{all_stop, client_ends, stops}
 use Rattle.adb_history.specs.Reading.{comes, enters_by, asked_before, has_asked, goes_on, asks, reads_in, reads_from, bound_at}
 use Rattle.adb_history.specs.Handing.{puts_to}
 use Rattle.adb_history.specs.Machine.{IsSomeOf, MayPut}
@@ -70,6 +70,10 @@ pub not_empty : (bytes due : List ℕ) → bytes ≢ [] → IsPrefixOf bytes due
 not_empty [] due some front e = absurd (some refl)
 not_empty (d ∷ bytes) due some (rest, is) e = let clash : d ∷ (bytes ++ rest) ≡ [] = is ∙ e in cc
 
+-- what is drawn next is none that was drawn
+later : (l drawn : ℕ) → l ≤ drawn → drawn + 1 ≢ l
+later l drawn le e = omega (arith, le, e)
+
 module _ (l : ℕ) (b : Birth) {P : Promise} (k : Turns (line l b) P) where
   -- what was asked by another client
   module _ (packets : List Packet) (shut : Bool) (out : List ℕ) (n : ℕ) (other : n ≢ b.client) where
@@ -78,13 +82,15 @@ module _ (l : ℕ) (b : Birth) {P : Promise} (k : Turns (line l b) P) where
     holds_goes_on next s w h = by (kills next) refl
       where
         by : (c : Bool) → kills next ≡ c → After (Holds (line l b) P packets shut out) w (goes_on next n s)
-        by false e = held_by k packets shut out h.seen w (goes_on next n s) h.keeps (shows_goes_on (line l b) h.seen s w h.shows n other next (no_kill next e))
+        by false e = held_by k packets shut out h.seen w (goes_on next n s) h.keeps (shows_goes_on (line l b) h.seen s w h.shows n other next
+            (no_kill next e) (λ t service f ids. later l s.drawn h.shows.0.born))
         by true e =
-            let stop : After (IsStopped (line l b) h.seen) w (stops n s) = own_stops (line l b) h.seen n s w other h.shows in
+            let stop : After (IsStopped (line l b) h.seen (ending_in l (all_stop s.drawn s.streams))) w (stops n s) = own_stops (line l b)
+            h.seen n s w other h.shows in
             subst (λ (o : Option Next). After (Holds (line l b) P packets shut out) w (goes_on o n s)) (sym (kill_is next e)) (record {
-              seen = killed stop.ending h.seen;
+              seen = killed (ending_in l (all_stop s.drawn s.streams)) h.seen;
               shows = stop.shows;
-              keeps = k.stops packets shut out h.seen stop.ending stop.is h.keeps;
+              keeps = k.stops packets shut out h.seen (ending_in l (all_stop s.drawn s.streams)) stop.is h.keeps;
             })
 
     holds_asks : (q : Asked) (s : State) (w : List Event) → Holds (line l b) P packets shut out s w → After (Holds (line l b) P packets shut out) w (asks q n s)
@@ -100,7 +106,7 @@ module _ (l : ℕ) (b : Birth) {P : Promise} (k : Turns (line l b) P) where
         → After (Holds (line l b) P packets shut out) w (reads_in phase n bytes a s)
     holds_unread phase bytes a s w no_asking h =
         held_by k packets shut out h.seen w (reads_in phase n bytes a s) h.keeps
-        (shows_reads_in (line l b) h.seen s w h.shows phase n bytes a other (λ e. absurd (no_asking e)))
+        (shows_reads_in (line l b) h.seen s w h.shows phase n bytes a other (λ e. absurd (no_asking e)) (λ e. absurd (no_asking e)))
 
     holds_reads_in : (phase : Phase) (bytes : List ℕ) (a : Client) (s : State) (w : List Event) → Holds (line l b) P packets shut out s w
         → After (Holds (line l b) P packets shut out) w (reads_in phase n bytes a s)
@@ -203,4 +209,5 @@ module _ (l : ℕ) (b : Birth) {P : Promise} (k : Turns (line l b) P) where
     come_holds n other = record { seen = h.seen; shows = shows_comes (line l b) h.seen s w h.shows false n other; keeps = h.keeps }
 
     pub enter_holds : (n port : ℕ) → n ≢ b.client → After (Holds (line l b) P packets shut out) w (enters_by n (at port s.forwards) s)
-    enter_holds n port other = kept (enters_by n (at port s.forwards) s) (shows_enters (line l b) h.seen s w h.shows (at port s.forwards) n other)
+    enter_holds n port other = kept (enters_by n (at port s.forwards) s) (shows_enters (line l b) h.seen s w h.shows (at port s.forwards) n other
+        (λ row f on ids. later l s.drawn h.shows.0.born))

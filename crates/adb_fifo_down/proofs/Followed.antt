@@ -1,5 +1,6 @@
 -- What lasts from the birth of a stream on holds of every legal history.
-use Rattle.std.proofs.Common.{ℕ, ◌+◌, ◌≡◌, ◌≢◌, ◌≤◌, ◌<◌, zero, suc, Bool, true, false, cond, List, [], ◌∷◌, length, min, Option, Some, None, is_some, is_none, refl}
+use Rattle.std.proofs.Common.{ℕ, ◌+◌, ◌≡◌, ◌≢◌, ◌≤◌, ◌<◌, zero, suc, Bool, true, false, cond, List, [], ◌∷◌, length, min, Option, Some, None, is_some}
+use Rattle.std.proofs.Common.{is_none, refl}
 use Rattle.std.proofs.Common.{sym, ◌∙◌, ap, subst, eqb, arith, inl, inr, ◌⊎◌}
 use Rattle.std.specs.Prelude.{All, ◌&&◌, not}
 use Rattle.std.proofs.lemmas.Bool.{eqb-true, cases_eq}
@@ -26,11 +27,12 @@ use Rattle.adb_history.specs.Order.{IsOfBorn}
 use Rattle.adb_history.proofs.Births.{told_of_born}
 use Rattle.adb_fifo_down.specs.Follows.{line, is_shut, PromiseOf, Follows}
 use Rattle.adb_fifo_down.specs.Begins.{Lasts, IsBornNow}
-use Rattle.adb_fifo_down.specs.Premises.{AtAllTimes, EndsBornAlone}
+use Rattle.adb_births.proofs.Born.{all_births}
 use Rattle.adb_fifo_down.proofs.Brought.{brings_more}
 use Rattle.adb_fifo_down.proofs.Steps.{step_holds, unreceived}
 use Rattle.adb_fifo_down.proofs.BornNow.{born_when, by_request, by_forward, newly_is}
 use Rattle.adb_fifo_down.proofs.Askers.{asked_then, asked_other}
+use Rattle.adb_fifo_down.proofs.Unborn.{ends_born}
 use Rattle.adb_fifo_down.proofs.BirthEntries.{IsUnborn, asked_birth, entered_birth, now_asks, read_born, enter_born}
 
 -- ---- what stays
@@ -122,7 +124,8 @@ unborn_okays drawn t (due_to_link link p check ∷ w) all =
     by (eqb link t) (unborn_okays drawn t w (All-tail (IsOfBorn drawn) (due_to_link link p check) w all))
     (All-head (IsOfBorn drawn) (due_to_link link p check) w all)
   where
-    one : (okay here : Bool) → is_okay p.command ≡ okay → eqb p.arg0 (drawn + 1) ≡ here → (p.command ≢ Cnxn → p.arg0 ≤ drawn) → okays_of (drawn + 1) (packets_to t w) ≡ []
+    one : (okay here : Bool) → is_okay p.command ≡ okay → eqb p.arg0 (drawn + 1) ≡ here → (p.command ≢ Cnxn → p.arg0 ≤ drawn)
+        → okays_of (drawn + 1) (packets_to t w) ≡ []
         → cond (okay && here) (p ∷ okays_of (drawn + 1) (packets_to t w)) (okays_of (drawn + 1) (packets_to t w)) ≡ []
     one true true e f of rest = absurd (omega (arith, of (okay_no_cnxn p.command e), eqb-true p.arg0 (drawn + 1) f))
     one true false e f of rest = rest
@@ -134,10 +137,6 @@ unborn_okays drawn t (due_to_link link p check ∷ w) all =
     by false rest of = rest
 
 -- ---- at all times
-at_time : (P : History → Type 0) (h : History) → AtAllTimes P h → P h
-at_time P [] all = all
-at_time P (e ∷ older) all = all.0
-
 module _ {P : PromiseOf} (lasts : Lasts P) where
   follows_on : (e : Entry) (older : History) → IsLegal (e ∷ older) → (l : ℕ) (b : Birth) → 0 < l → Follows P older l b → Follows P (e ∷ older) l b
   follows_on e older legal l b some h = record {
@@ -145,7 +144,6 @@ module _ {P : PromiseOf} (lasts : Lasts P) where
     credit = h.credit;
     forwarded = h.forwarded;
     replies = h.replies ∙ by b.forwarded refl;
-    unended = λ ends. h.unended ends.1;
     asks_no_more = λ own. ap (λ (q : Asked). is_some q.next) (fixed own) ∙ h.asks_no_more own;
     came = omega (arith, h.came, came_more e older);
     within = omega (arith, h.within, brought_no_fewer e b.link older);
@@ -177,10 +175,10 @@ module _ {P : PromiseOf} (lasts : Lasts P) where
         apart : (n m : ℕ) → n < m → n ≢ m
         apart n m lt same = omega (arith, lt, same)
 
-    unborn : (t : ℕ) → IsUnborn (AtAllTimes EndsBornAlone older) ((state older).drawn + 1) t (told older)
+    unborn : (t : ℕ) → IsUnborn ((state older).drawn + 1) t (told older)
     unborn t = record {
       okays = unborn_okays (state older).drawn t (told older) (told_of_born older legal.0);
-      ending = λ ends. at_time EndsBornAlone older ends ((state older).drawn + 1) (omega arith);
+      ending = ends_born older legal.0 ((state older).drawn + 1) (omega arith);
     }
 
     at_number : (x : Birth) → b ≡ x → Follows P (e ∷ older) ((state older).drawn + 1) x → Follows P (e ∷ older) l b
@@ -207,7 +205,8 @@ module _ {P : PromiseOf} (lasts : Lasts P) where
   none_born : (l : ℕ) (b : Birth) (e : Entry) (older : History) → births_at e older ≡ [] → IsBornNow l b e older → Follows P (e ∷ older) l b
   none_born l b e older none now = absurd (let clash : [] ≡ b ∷ [] = sym none ∙ now.is in cc)
 
-  follows_first : (e : Entry) (older : History) → IsLegal (e ∷ older) → HasBirths older → (l : ℕ) (b : Birth) → IsBornNow l b e older → Follows P (e ∷ older) l b
+  follows_first : (e : Entry) (older : History) → IsLegal (e ∷ older) → HasBirths older → (l : ℕ) (b : Birth) → IsBornNow l b e older
+      → Follows P (e ∷ older) l b
   follows_first (Read c bytes) older legal births_before l b now = born_by_read c bytes older legal births_before l b now
   follows_first (Enter c port) older legal births_before l b now = born_by_enter c port older legal births_before l b now
   follows_first (Join c) older legal births_before l b now = none_born l b (Join c) older refl now
@@ -224,8 +223,8 @@ module _ {P : PromiseOf} (lasts : Lasts P) where
   some_id zero b h is = absurd (let clash : None ≡ Some b = is in cc)
   some_id (suc l) b h is = omega arith
 
-  pub follows : (h : History) → IsLegal h → AtAllTimes HasBirths h → (l : ℕ) (b : Birth) → born l h ≡ Some b → Follows P h l b
-  follows [] legal all l b is = absurd (none l is)
+  pub follows : (h : History) → IsLegal h → (l : ℕ) (b : Birth) → born l h ≡ Some b → Follows P h l b
+  follows [] legal l b is = absurd (none l is)
     where
       none : (l : ℕ) → born l [] ≡ Some b → ⊥
       none zero e = let clash : None ≡ Some b = e in cc
@@ -234,8 +233,8 @@ module _ {P : PromiseOf} (lasts : Lasts P) where
           by : (lt : Bool) → cond lt None None ≡ Some b → ⊥
           by true f = let clash : None ≡ Some b = f in cc
           by false f = let clash : None ≡ Some b = f in cc
-  follows (e ∷ older) legal all l b is = go (born_when l b e older is) (λ before. follows older legal.0 all.1 l b before)
+  follows (e ∷ older) legal l b is = go (born_when l b e older is) (λ before. follows older legal.0 l b before)
     where
       go : (born l older ≡ Some b) ⊎ IsBornNow l b e older → (born l older ≡ Some b → Follows P older l b) → Follows P (e ∷ older) l b
       go (inl before) rest = follows_on e older legal l b (some_id l b older before) (rest before)
-      go (inr now) rest = follows_first e older legal (at_time HasBirths older all.1) l b now
+      go (inr now) rest = follows_first e older legal (all_births older legal.0) l b now

@@ -1,5 +1,6 @@
 -- A client is handed what the device of its stream wrote.
-use Rattle.std.proofs.Common.{ℕ, ◌+◌, ◌≡◌, ◌≤◌, ◌<◌, zero, suc, Bool, true, false, cond, List, [], ◌∷◌, ◌++◌, length, drop, Option, Some, None, is_some, refl, sym, ◌∙◌, ap, subst}
+use Rattle.std.proofs.Common.{ℕ, ◌+◌, ◌≡◌, ◌≤◌, ◌<◌, zero, suc, Bool, true, false, cond, List, [], ◌∷◌, ◌++◌, length, drop, Option, Some, None, is_some, refl}
+use Rattle.std.proofs.Common.{sym, ◌∙◌, ap, subst}
 use Rattle.std.proofs.Common.{arith, append_assoc, inl, inr, ◌⊎◌, codes}
 use Rattle.std.proofs.Math.Seq.{drop-append_seam}
 use Rattle.std.proofs.lemmas.Bool.{cases_lt}
@@ -11,21 +12,17 @@ use Rattle.adb_history.specs.Book.{asked}
 use Rattle.adb_history.specs.Births.{Birth, Opening, since, opening_in, opening_of, told_in, told_after, told_to, told_before, told_before_close}
 use Rattle.adb_history.specs.Births.{before_close, joined, lead_of, handed_to}
 use Rattle.adb_history.specs.Events.{peer_closed}
-use Rattle.adb_history.specs.Fifo.{HasBirths, HandsTold, HandsWholeTold}
+use Rattle.adb_history.specs.Fifo.{HandsTold, HandsWholeTold}
 use Rattle.adb_fifo_down.specs.Line.{Line, SeenStream, View}
 use Rattle.adb_fifo_down.specs.Turns.{Turns}
 use Rattle.adb_fifo_down.specs.Life.{Cradle, okay_after, lead, heard, IsUnheard, IsClosedAt, Story, LivesAs, LivesIn, Life}
-use Rattle.adb_fifo_down.specs.Follows.{is_shut, PromiseOf, Follows}
+use Rattle.adb_fifo_down.specs.Followed.{LifeOf, HasLives}
+use Rattle.adb_fifo_down.specs.Follows.{is_shut, replies_of, Follows}
 use Rattle.adb_fifo_down.specs.Begins.{Lasts}
-use Rattle.adb_fifo_down.specs.Premises.{AtAllTimes, EndsBornAlone}
 use Rattle.adb_fifo_down.proofs.Openings.{pending_now}
 use Rattle.adb_fifo_down.proofs.Lives.{any_front, life_served, life_closes, life_breaks, life_stops, life_fails, life_hands, life_shuts}
 use Rattle.adb_fifo_down.proofs.LifePackets.{life_treats}
 use Rattle.adb_fifo_down.proofs.Followed.{follows}
-
--- the life of each stream
-abbrev pub LifeOf : PromiseOf
-LifeOf b k = λ packets shut out v. Life b.id k packets shut out v
 
 pub life_turns : (b : Line) (k : Cradle) → Turns b (LifeOf b k)
 life_turns b k = record {
@@ -76,6 +73,17 @@ past_lead put first bytes (rest, is) = go (cases_lt (length put) (length first))
 nothing_past : (n : ℕ) (put replies : List ℕ) → IsPrefixOf put replies → length replies ≤ n → drop n put ≡ []
 nothing_past n put replies (rest, is) le = drop_past n put (omega (arith, ap length is, length-append put rest, le))
 
+-- so many bytes come before those of a stream
+pub lead_is : (k : Cradle) (b : Birth) (h : History) → k.forwarded ≡ b.forwarded → k.replies ≡ replies_of b h → length (lead k) ≡ lead_of b h
+lead_is k b h forwarded_is replies_are = by b.forwarded forwarded_is replies_are
+  where
+    by : (forwarded : Bool) → k.forwarded ≡ forwarded → k.replies ≡ cond forwarded [] (asked b.client h).replies
+        → length (okay_after k.forwarded k.replies) ≡ cond forwarded 0 (length (asked b.client h).replies + 4)
+    by true e g = ap (λ (c : Bool). length (okay_after c k.replies)) e ∙ ap length g
+    by false e g =
+        ap (λ (c : Bool). length (okay_after c k.replies)) e
+        ∙ (ap (λ (x : List ℕ). length (x ++ codes "OKAY")) g ∙ length-append (asked b.client h).replies (codes "OKAY"))
+
 -- ---- what was handed to the client of a stream
 module _ (l : ℕ) (b : Birth) (h : History) (f : Follows LifeOf h l b) where
   abbrev life : Life l f.cradle (since b h) (is_shut b.link h) (bytes_put b.client h) f.holds.seen
@@ -85,15 +93,8 @@ module _ (l : ℕ) (b : Birth) (h : History) (f : Follows LifeOf h l b) where
   put_front = any_front f.holds.seen.client f.holds.seen.output (bytes_put b.client h) life.tied
 
   -- so many bytes come first
-  pub lead_length : length (lead f.cradle) ≡ lead_of b h
-  lead_length = by b.forwarded f.forwarded f.replies
-    where
-      by : (forwarded : Bool) → f.cradle.forwarded ≡ forwarded → f.cradle.replies ≡ cond forwarded [] (asked b.client h).replies
-          → length (okay_after f.cradle.forwarded f.cradle.replies) ≡ cond forwarded 0 (length (asked b.client h).replies + 4)
-      by true e g = ap (λ (c : Bool). length (okay_after c f.cradle.replies)) e ∙ ap length g
-      by false e g =
-          ap (λ (c : Bool). length (okay_after c f.cradle.replies)) e
-          ∙ (ap (λ (x : List ℕ). length (x ++ codes "OKAY")) g ∙ length-append (asked b.client h).replies (codes "OKAY"))
+  lead_length : length (lead f.cradle) ≡ lead_of b h
+  lead_length = lead_is f.cradle b h f.forwarded f.replies
 
   replies_within : length f.cradle.replies ≤ lead_of b h
   replies_within = by b.forwarded f.replies
@@ -164,7 +165,7 @@ module _ (l : ℕ) (b : Birth) (h : History) (f : Follows LifeOf h l b) where
           front_then (drop (lead_of b h) (bytes_put b.client h)) t.bytes (joined (told_in o.remote l o.later)) t.handed t.front
 
   -- ---- all of it
-  module _ (unended : f.cradle.ending ≡ None) (by_peer : f.holds.seen.ending ≡ Some peer_closed) (all : bytes_put b.client h ≡ f.holds.seen.output) where
+  module _ (by_peer : f.holds.seen.ending ≡ Some peer_closed) (all : bytes_put b.client h ≡ f.holds.seen.output) where
     -- what its device had written when it closed
     whole_of : (o : Opening) → opening_in l (since b h) ≡ Some o
         → drop (lead_of b h) (bytes_put b.client h) ≡ joined (told_in o.remote l (before_close o.remote l o.later))
@@ -173,12 +174,12 @@ module _ (l : ℕ) (b : Birth) (h : History) (f : Follows LifeOf h l b) where
         same : (p : Opening) → opening_in l (since b h) ≡ Some p → p ≡ o
         same p e = let both : Some p ≡ Some o = sym e ∙ is in cc
 
-        fresh : f.holds.seen.ending ≡ f.cradle.ending → ⊥
-        fresh e = let clash : None ≡ Some peer_closed = sym unended ∙ (sym e ∙ by_peer) in cc
+        fresh : f.holds.seen.ending ≡ None → ⊥
+        fresh e = let clash : None ≡ Some peer_closed = sym e ∙ by_peer in cc
 
         alive : (orphan : Bool) (remote : ℕ) → LivesAs orphan remote l f.cradle (since b h) (heard f.holds.seen)
             → drop (lead_of b h) (bytes_put b.client h) ≡ joined (told_in o.remote l (before_close o.remote l o.later))
-        alive true remote i = absurd (i.unheard.not_by_peer unended by_peer)
+        alive true remote i = absurd (i.unheard.not_by_peer by_peer)
         alive false zero i = absurd (fresh i.ending)
         alive false (suc r) i = absurd (fresh i.ending)
 
@@ -191,10 +192,10 @@ module _ (l : ℕ) (b : Birth) (h : History) (f : Follows LifeOf h l b) where
         over : Story l f.cradle (since b h) (is_shut b.link h) (heard f.holds.seen)
             → drop (lead_of b h) (bytes_put b.client h) ≡ joined (told_in o.remote l (before_close o.remote l o.later))
         over (inl never) = absurd (let clash : None ≡ Some o = sym never.unopened ∙ is in cc)
-        over (inr (inl unheard)) = absurd (unheard.not_by_peer unended by_peer)
+        over (inr (inl unheard)) = absurd (unheard.not_by_peer by_peer)
         over (inr (inr i)) =
             subst (λ (p : Opening). drop (lead_of b h) (bytes_put b.client h) ≡ joined (told_in p.remote l (before_close p.remote l p.later)))
-            (same i.opening i.opened) (closed i.opening i.bytes i.output_is (i.closed unended by_peer))
+            (same i.opening i.opened) (closed i.opening i.bytes i.output_is (i.closed by_peer))
 
         by : (x : Option SeenStream) → LivesIn x l f.cradle (since b h) (is_shut b.link h) (heard f.holds.seen)
             → drop (lead_of b h) (bytes_put b.client h) ≡ joined (told_in o.remote l (before_close o.remote l o.later))
@@ -210,12 +211,16 @@ module _ (l : ℕ) (b : Birth) (h : History) (f : Follows LifeOf h l b) where
         by (Some o) e = whole_of o e
 
 -- Each client is handed what the device of its stream wrote, in order and once.
-pub hands_told : (h : History) → IsLegal h → AtAllTimes HasBirths h → HandsTold h
-hands_told h legal births l b is = handed_is_told l b h (follows life_lasts h legal births l b is)
+pub hands_told : (h : History) → IsLegal h → HandsTold h
+hands_told h legal l b is = handed_is_told l b h (follows life_lasts h legal l b is)
 
 -- And all of it, where the device closed and the client was handed all that became due to it.
-pub hands_whole_told : (h : History) → IsLegal h → AtAllTimes HasBirths h → AtAllTimes EndsBornAlone h → HandsWholeTold h
-hands_whole_told h legal births ends l b is by_peer all =
-    let f = follows life_lasts h legal births l b is in
+pub hands_whole_told : (h : History) → IsLegal h → HandsWholeTold h
+hands_whole_told h legal l b is by_peer all =
+    let f = follows life_lasts h legal l b is in
     let seen = f.holds.shows.1 in
-    handed_whole l b h f (f.unended ends) (sym (ap (λ (v : View). v.ending) seen) ∙ by_peer) (all ∙ ap (λ (v : View). v.output) seen)
+    handed_whole l b h f (sym (ap (λ (v : View). v.ending) seen) ∙ by_peer) (all ∙ ap (λ (v : View). v.output) seen)
+
+-- Each stream that was born has its life.
+pub has_lives : (h : History) → IsLegal h → HasLives h
+has_lives h legal l b is = follows life_lasts h legal l b is

@@ -11,6 +11,7 @@ mod OtherTurns
 mod Rules
 mod Openings
 mod Lives
+mod LifeFresh
 mod LifePackets
 mod Brought
 mod Entries
@@ -18,9 +19,14 @@ mod Steps
 mod BornNow
 mod Begun
 mod Askers
+mod Asking
 mod BirthEntries
+mod Unborn
 mod Followed
 mod Handed
 mod Backed
 mod OpenTurns
 mod Windows
+mod WindowTurns
+mod WindowPackets
+mod Acknowledged

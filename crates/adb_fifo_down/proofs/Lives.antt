@@ -1,5 +1,6 @@
 -- The life of a stream goes on through each turn of what is seen of it.
-use Rattle.std.proofs.Common.{ℕ, ◌≡◌, ◌≢◌, zero, suc, Bool, true, false, cond, List, [], ◌∷◌, ◌++◌, length, drop, min, Option, Some, None, refl, sym, ◌∙◌, ap, subst}
+use Rattle.std.proofs.Common.{ℕ, ◌≡◌, ◌≢◌, zero, suc, Bool, true, false, cond, List, [], ◌∷◌, ◌++◌, length, drop, min, Option, Some, None, refl, sym, ◌∙◌, ap}
+use Rattle.std.proofs.Common.{subst}
 use Rattle.std.proofs.Common.{eqb, append_assoc, inl, inr, ◌⊎◌}
 use Rattle.std.proofs.lemmas.List.{append-nil}
 use Rattle.adb_outside.specs.Bytes.{IsPrefixOf}
@@ -44,17 +45,17 @@ none_done : IsDone None
 none_done a e = absurd (let clash : None ≡ Some a = e in cc)
 
 -- ---- endings
-other_ending : (k : Cradle) (before : Option Ending) (ending : Ending) → before ≡ k.ending → ending ≢ peer_closed → IsNotByPeer k (first_of before (Some ending))
-other_ending k before ending same other none e =
-    let first : first_of before (Some ending) ≡ Some ending = ap (λ (o : Option Ending). first_of o (Some ending)) (same ∙ none) in
+other_ending : (before : Option Ending) (ending : Ending) → before ≡ None → ending ≢ peer_closed → IsNotByPeer (first_of before (Some ending))
+other_ending before ending none other e =
+    let first : first_of before (Some ending) ≡ Some ending = ap (λ (o : Option Ending). first_of o (Some ending)) none in
     let both : Some ending ≡ Some peer_closed = sym first ∙ e in
     other (cc)
 
 -- an ending that is no close stays so
-stays_other : (k : Cradle) (before after : Option Ending) → IsStop after → IsNotByPeer k before → IsNotByPeer k (first_of before after)
-stays_other k (Some ending) after stop h none e = h none e
-stays_other k None after (inl is) h none e = let clash : None ≡ Some peer_closed = sym is ∙ e in cc
-stays_other k None after (inr is) h none e = let both : Some stopped ≡ Some peer_closed = sym is ∙ e in cc
+stays_other : (before after : Option Ending) → IsStop after → IsNotByPeer before → IsNotByPeer (first_of before after)
+stays_other (Some ending) after stop h e = h e
+stays_other None after (inl is) h e = let clash : None ≡ Some peer_closed = sym is ∙ e in cc
+stays_other None after (inr is) h e = let both : Some stopped ≡ Some peer_closed = sym is ∙ e in cc
 
 was_peer : (before after : Option Ending) → IsStop after → first_of before after ≡ Some peer_closed → before ≡ Some peer_closed
 was_peer (Some ending) after stop e = e
@@ -96,7 +97,8 @@ module _ (l : ℕ) (k : Cradle) (packets : List Packet) (shut : Bool) (out : Lis
       }
 
   -- it was an orphan
-  pub over_orphan : (ending : Ending) → v.client ≡ None → TiedTo v.client v.output out → IsUnheard k v.output v.ending → Life l k packets shut out (over true ending v)
+  pub over_orphan : (ending : Ending) → v.client ≡ None → TiedTo v.client v.output out → IsUnheard k v.output v.ending
+      → Life l k packets shut out (over true ending v)
   over_orphan ending gone tied unheard =
       subst (λ (u : View). Life l k packets shut out u) (sym (ap (λ (o : Option SeenClient). lost_by o (record v { stream = None })) gone))
       (record { tied = tied; lives = (subst IsDone (sym gone) none_done, inr (inl unheard)) })
@@ -110,7 +112,7 @@ module _ (l : ℕ) (k : Cradle) (packets : List Packet) (shut : Bool) (out : Lis
     bytes = joined (told_in h.opening.remote l h.opening.later);
     output_is = h.output;
     front = ([], append-nil (joined (told_in h.opening.remote l h.opening.later)));
-    closed = λ none e. absurd (other_ending k v.ending ending h.ending other none e);
+    closed = λ e. absurd (other_ending v.ending ending h.ending other e);
   }
 
   -- ---- what does not end it
@@ -169,14 +171,14 @@ module _ (l : ℕ) (k : Cradle) (packets : List Packet) (shut : Bool) (out : Lis
   pub life_stops : (ending : Option Ending) → IsStop ending → Life l k packets shut out v → Life l k packets shut out (killed ending v)
   life_stops ending stop h = record { tied = any_front v.client v.output out h.tied; lives = (none_done, by v.stream h.lives) }
     where
-      unheard : IsNotByPeer k v.ending → v.output ≡ k.replies → IsUnheard k v.output (first_of v.ending ending)
-      unheard other output = record { output_is = output; not_by_peer = stays_other k v.ending ending stop other }
+      unheard : IsNotByPeer v.ending → v.output ≡ k.replies → IsUnheard k v.output (first_of v.ending ending)
+      unheard other output = record { output_is = output; not_by_peer = stays_other v.ending ending stop other }
 
-      fresh : v.ending ≡ k.ending → IsNotByPeer k v.ending
-      fresh same none e = let clash : None ≡ Some peer_closed = sym none ∙ (sym same ∙ e) in cc
+      fresh : v.ending ≡ None → IsNotByPeer v.ending
+      fresh none e = let clash : None ≡ Some peer_closed = sym none ∙ e in cc
 
       was_open : (o : birth.Opening) (bytes : List ℕ) → opening_in l packets ≡ Some o → v.output ≡ lead k ++ bytes
-          → IsPrefixOf bytes (joined (told_in o.remote l o.later)) → (k.ending ≡ None → v.ending ≡ Some peer_closed → IsClosedAt l o bytes)
+          → IsPrefixOf bytes (joined (told_in o.remote l o.later)) → (v.ending ≡ Some peer_closed → IsClosedAt l o bytes)
           → WasOpen l k packets v.output (first_of v.ending ending)
       was_open o bytes opened output front closed = record {
         opening = o;
@@ -184,7 +186,7 @@ module _ (l : ℕ) (k : Cradle) (packets : List Packet) (shut : Bool) (out : Lis
         bytes = bytes;
         output_is = output;
         front = front;
-        closed = λ none e. closed none (was_peer v.ending ending stop e);
+        closed = λ e. closed (was_peer v.ending ending stop e);
       }
 
       alive : (orphan : Bool) (remote : ℕ) → LivesAs orphan remote l k packets (heard v) → Story l k packets shut (heard (killed ending v))
@@ -192,7 +194,7 @@ module _ (l : ℕ) (k : Cradle) (packets : List Packet) (shut : Bool) (out : Lis
       alive false zero i = inr (inl (unheard (fresh i.ending) i.output))
       alive false (suc r) i =
           inr (inr (was_open i.opening (joined (told_in i.opening.remote l i.opening.later)) i.opened i.output
-          ([], append-nil (joined (told_in i.opening.remote l i.opening.later))) (λ none e. absurd (fresh i.ending none e))))
+          ([], append-nil (joined (told_in i.opening.remote l i.opening.later))) (λ e. absurd (fresh i.ending e))))
 
       told : Story l k packets shut (heard v) → Story l k packets shut (heard (killed ending v))
       told (inl never) = inl never
@@ -229,7 +231,7 @@ module _ (l : ℕ) (k : Cradle) (packets : List Packet) (shut : Bool) (out : Lis
       lives = record {
         remote_is = is;
         gone = refl;
-        unheard = record { output_is = i.output; not_by_peer = other_ending k v.ending failing i.ending (λ e. cc) };
+        unheard = record { output_is = i.output; not_by_peer = other_ending v.ending failing i.ending (λ e. cc) };
       };
     })
     alive_fails x false (suc r) is_orphan is i = row_phase (Streaming l) (Some x) (its_phase (Streaming l) i.client i.here i.phase) (record {
@@ -242,7 +244,11 @@ module _ (l : ℕ) (k : Cradle) (packets : List Packet) (shut : Bool) (out : Lis
       where
         by : (o : Option SeenStream) → v.stream ≡ o → LivesIn o l k packets shut (heard v) → Life l k packets shut out (row_fails a.phase failing o v)
         by None none i = row_phase Closing None (i.0 a here)
-            (record { tied = gone_front; lives = subst (λ (o : Option SeenStream). LivesIn o l k packets shut (heard (record v { client = None }))) (sym none) (none_done, i.1) })
+            (record {
+              tied = gone_front;
+              lives = subst (λ (o : Option SeenStream). LivesIn o l k packets shut (heard (record v { client = None })))
+                  (sym none) (none_done, i.1);
+            })
         by (Some x) there i = alive_fails x x.orphan x.remote refl refl i
 
 -- ---- bytes are handed out
@@ -310,7 +316,8 @@ module _ (l : ℕ) (k : Cradle) (packets : List Packet) (shut : Bool) (out bytes
       same : (c : SeenClient) → v.client ≡ Some c → c ≡ a
       same c is = let both : Some c ≡ Some a = sym is ∙ here in cc
 
-      alive : (x : SeenStream) (orphan : Bool) (remote : ℕ) → x.orphan ≡ orphan → x.remote ≡ remote → v.stream ≡ Some x → LivesAs orphan remote l k packets (heard v)
+      alive : (x : SeenStream) (orphan : Bool) (remote : ℕ) → x.orphan ≡ orphan → x.remote ≡ remote → v.stream ≡ Some x
+          → LivesAs orphan remote l k packets (heard v)
           → Life l k packets shut (out ++ bytes) (handed_in a.phase l (length bytes) a v)
       alive x true remote is_orphan is there i = absurd (let clash : None ≡ Some a = sym i.gone ∙ here in cc)
       alive x false zero is_orphan is there i =

@@ -1,7 +1,7 @@
 -- What one packet makes of what is seen of a stream: nothing, its end, or a write that it accepts; and of one that its device has not opened.
-use Rattle.std.proofs.Common.{ℕ, ◌+◌, ◌≡◌, ◌≢◌, zero, suc, Bool, true, false, cond, List, [], ◌∷◌, ◌++◌, length, Option, Some, None, refl, sym, ◌∙◌, ap, subst}
-use Rattle.std.proofs.Common.{eqb, inl, inr, ◌⊎◌, codes}
-use Rattle.std.proofs.lemmas.Bool.{eqb-true, ne_eqb, eq-eqb}
+use Rattle.std.proofs.Common.{ℕ, ◌≡◌, ◌≢◌, Bool, true, false, cond, [], ◌∷◌, length, Option, Some, None, refl, sym, ◌∙◌, ap, subst}
+use Rattle.std.proofs.Common.{eqb, inl, inr, ◌⊎◌}
+use Rattle.std.proofs.lemmas.Bool.{eqb-true, ne_eqb}
 use Rattle.std.specs.Prelude.{◌&&◌, ◌||◌, not}
 use Rattle.adb_wire.specs.declared.command.Command.{Command}
 use Rattle.adb_wire.specs.declared.command.Command.TheVariants.{Cnxn, Open, Okay, Wrte, Clse, Auth, Stls}
@@ -12,8 +12,8 @@ use Rattle.adb_history.specs.Events.{Ending, peer_closed, out_of_turn}
 use Rattle.adb_history.specs.Births as birth
 use Rattle.adb_history.specs.Births.{told_in, is_between, is_wrte, opening_by, opening_in}
 use Rattle.adb_fifo_down.specs.Line.{SeenStream, SeenClient, View, loss, lost_by, over}
-use Rattle.adb_fifo_down.specs.Treated.{hears_as, hears_open, opened_as, after_okay, is_late, accepts_as, after_write, after_close, cnxn_ending, treated_as, treated_on}
-use Rattle.adb_fifo_down.proofs.LifePackets.{always_or, and_false}
+use Rattle.adb_fifo_down.specs.Treated.{hears_as, hears_open, opened_as, is_late, accepts_as, after_write, cnxn_ending, treated_as}
+use Rattle.adb_fifo_down.proofs.LifeFresh.{always_or, and_false}
 
 -- ---- what an end leaves
 loss_okays : (forwarded : Bool) (phase : Phase) (a : SeenClient) (v : View) → (loss forwarded phase a v).okays ≡ v.okays
@@ -142,11 +142,50 @@ module _ (l : ℕ) (p : Packet) (x : SeenStream) (v : View) where
         put = record v { stream = Some (record x { remote = p.arg0 }) }
 
         hears : (forwarded : Bool) (a : SeenClient) → FreshTurn (hears_as forwarded l a (record v { stream = Some (record x { remote = p.arg0 }) }))
-        hears true a = record { okays = refl; row = inr (record x { remote = p.arg0 }, refl, record { orphan = refl; credit = refl; to_hand = refl; gathered = refl }) }
-        hears false a = record { okays = refl; row = inr (record x { remote = p.arg0 }, refl, record { orphan = refl; credit = refl; to_hand = refl; gathered = refl }) }
+        hears true a = record {
+          okays = refl;
+          row = inr (
+            record x { remote = p.arg0 },
+            refl,
+            record {
+              orphan = refl;
+              credit = refl;
+              to_hand = refl;
+              gathered
+                  = refl;
+            },
+          );
+        }
+        hears false a = record {
+          okays = refl;
+          row = inr (
+            record x { remote = p.arg0 },
+            refl,
+            record {
+              orphan = refl;
+              credit = refl;
+              to_hand = refl;
+              gathered
+                  = refl;
+            },
+          );
+        }
 
         by : (o : Option SeenClient) → FreshTurn (hears_open l o (record v { stream = Some (record x { remote = p.arg0 }) }))
-        by None = record { okays = refl; row = inr (record x { remote = p.arg0 }, refl, record { orphan = refl; credit = refl; to_hand = refl; gathered = refl }) }
+        by None = record {
+          okays = refl;
+          row = inr (
+            record x { remote = p.arg0 },
+            refl,
+            record {
+              orphan = refl;
+              credit = refl;
+              to_hand = refl;
+              gathered =
+                  refl;
+            },
+          );
+        }
         by (Some a) = hears a.forwarded a
 
     fresh_goes : (c : Command) → FreshTurn (treated_as l c p x v)

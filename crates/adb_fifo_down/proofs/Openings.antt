@@ -14,7 +14,8 @@ abbrev pub later_too : List Packet → Opening → Opening
 later_too more o = record o { later = o.later ++ more }
 
 -- an opening stays, with the packets after it
-pub opening_stays : (l : ℕ) (packets more : List Packet) (o : Opening) → opening_in l packets ≡ Some o → opening_in l (packets ++ more) ≡ Some (later_too more o)
+pub opening_stays : (l : ℕ) (packets more : List Packet) (o : Opening) → opening_in l packets ≡ Some o
+    → opening_in l (packets ++ more) ≡ Some (later_too more o)
 opening_stays l [] more o e = absurd (let clash : None ≡ Some o = e in cc)
 opening_stays l (p ∷ packets) more o e = by p.command e (λ f. opening_stays l packets more o f)
   where
@@ -28,7 +29,8 @@ opening_stays l (p ∷ packets) more o e = by p.command e (λ f. opening_stays l
         ap (λ (x : Opening). Some (later_too more x)) same
     okay false e rest = rest e
 
-    close : (c : Bool) → cond c None (opening_in l packets) ≡ Some o → (opening_in l packets ≡ Some o → opening_in l (packets ++ more) ≡ Some (later_too more o))
+    close : (c : Bool) → cond c None (opening_in l packets) ≡ Some o → (opening_in l packets ≡ Some o
+        → opening_in l (packets ++ more) ≡ Some (later_too more o))
         → cond c None (opening_in l (packets ++ more)) ≡ Some (later_too more o)
     close true e rest = absurd (let clash : None ≡ Some o = e in cc)
     close false e rest = rest e

@@ -22,14 +22,15 @@ use Rattle.adb_history.specs.Flow.{with_flow}
 use Rattle.adb_history.specs.Tracking.{offered, mark_all}
 use Rattle.adb_history.specs.Asking.{asks_with}
 use Rattle.adb_history.specs.Reading.{comes, comes_in_vain, enters_by, plugs_in, asked_before, reads_in}
-use Rattle.adb_history.specs.Handing.{unmarked, lists_first, hands, handed_to, credit_back, to_hand, tells_credit, tells_handed, stream_hands, stream_left, client_left}
+use Rattle.adb_history.specs.Handing.{unmarked, lists_first, hands, handed_to, credit_back, to_hand, tells_credit, tells_handed, stream_hands, stream_left}
+use Rattle.adb_history.specs.Handing.{client_left}
 use Rattle.adb_history.specs.Handing.{takes_of, puts_to}
 use Rattle.adb_history.specs.Owned.{HoldsIn, IsOwned}
 use Rattle.adb_history.specs.Moves.{After}
 use Rattle.adb_history.proofs.Following.{after_quietly, after_then, after_if, changed_here}
 use Rattle.adb_fifo_down.specs.Line.{Line, View, view, seen_client, Shows}
 use Rattle.adb_fifo_down.proofs.Shown.{no_okay, shows_owe_link, shows_client, shows_owe_client, shows_mark_all, shows_stream}
-use Rattle.adb_fifo_down.proofs.Others.{IsElse, part_keeps, shows_opens, shows_asks}
+use Rattle.adb_fifo_down.proofs.Others.{IsElse, IsUndrawn, UndrawnBy, part_keeps, shows_opens, shows_asks}
 
 module _ (b : Line) (v : View) where
   -- the stream of another client is another
@@ -64,7 +65,8 @@ module _ (b : Line) (v : View) where
         let part : Part = with_flow (handed_to left x.part.flow) x.part in
         after_if (Shows b v) w (eqb left (to_hand x.part.flow)) (quietly s) (tells_handed x.part.flow left k x (to_stream k (with_stream_part part) s))
         (λ e. after_quietly (Shows b v) w s h)
-        (λ e. shows_tells_handed x.part.flow left (to_stream k (with_stream_part part) s) w (shows_stream b v k (with_stream_part part) s w other (part_keeps part) h))
+        (λ e. shows_tells_handed x.part.flow left (to_stream k (with_stream_part part) s) w (shows_stream b v k (with_stream_part part) s w other
+        (part_keeps part) h))
 
   shows_left : (due k : ℕ) (o : Option Stream) (s : State) (w : List Event) → k ≢ b.id → Shows b v s w → After (Shows b v) w (stream_left due k o s)
   shows_left due k None s w other h = after_quietly (Shows b v) w s h
@@ -85,7 +87,8 @@ module _ (b : Line) (v : View) where
         → Shows b v s w → After (Shows b v) w (takes_of n count o s)
     shows_takes None s w apart h = after_quietly (Shows b v) w s h
     shows_takes (Some a) s w apart h =
-        shows_client_left a.about.phase (length (drop count a.due)) (to_client n (hands count) s) w (apart a refl) (shows_client b v n (hands count) s w other h)
+        shows_client_left a.about.phase (length (drop count a.due)) (to_client n (hands count) s) w (apart a refl)
+        (shows_client b v n (hands count) s w other h)
 
     pub shows_puts : (a : Client) (s : State) (w : List Event) → s.clients n ≡ Some a → IsElse b a → Shows b v s w
         → After (Shows b v) w (puts_to (Some a) n count s)
@@ -117,11 +120,12 @@ module _ (b : Line) (v : View) where
           (ne_eqb n b.client other) ∙ h.1,
     )
 
-    pub shows_enters : (o : Option ForwardRow) (n : ℕ) → n ≢ b.client → After (Shows b v) w (enters_by n o s)
-    shows_enters None n other = after_quietly (Shows b v) w (comes_in_vain s) h
-    shows_enters (Some row) n other =
+    pub shows_enters : (o : Option ForwardRow) (n : ℕ) → n ≢ b.client
+        → ((row : ForwardRow) → o ≡ Some row → is_connected row.transport s.devices ≡ true → IsUndrawn b s) → After (Shows b v) w (enters_by n o s)
+    shows_enters None n other fresh = after_quietly (Shows b v) w (comes_in_vain s) h
+    shows_enters (Some row) n other fresh =
         after_if (Shows b v) w (is_connected row.transport s.devices) (opens true n row.transport row.remote (comes true n s)) (quietly (comes_in_vain s))
-        (λ e. shows_opens b v (comes true n s) w (shows_comes true n other) true n row.transport row.remote other)
+        (λ e. shows_opens b v (comes true n s) w (shows_comes true n other) true n row.transport row.remote other (fresh row refl e))
         (λ e. after_quietly (Shows b v) w (comes_in_vain s) h)
 
     pub shows_plugs_in : (t : ℕ) (kind : Kind) (serial : List ℕ) → After (Shows b v) w (plugs_in t kind serial s)
@@ -131,13 +135,15 @@ module _ (b : Line) (v : View) where
 
     -- another client asks, and does not stop the server
     pub shows_reads_in : (phase : Phase) (n : ℕ) (bytes : List ℕ) (a : Client) → n ≢ b.client
-        → (phase ≡ Asking → (asks_with s.devices s.forwards bytes (asked_before a)).next ≢ Some what.Stop) → After (Shows b v) w (reads_in phase n bytes a s)
-    shows_reads_in Asking n bytes a other goes = shows_asks b v s w h n other (asks_with s.devices s.forwards bytes (asked_before a)) (goes refl)
-    shows_reads_in (Opening l) n bytes a other goes =
+        → (phase ≡ Asking → (asks_with s.devices s.forwards bytes (asked_before a)).next ≢ Some what.Stop)
+        → (phase ≡ Asking → UndrawnBy b s (asks_with s.devices s.forwards bytes (asked_before a)).next) → After (Shows b v) w (reads_in phase n bytes a s)
+    shows_reads_in Asking n bytes a other goes fresh = shows_asks b v s w h n other (asks_with s.devices s.forwards bytes (asked_before a)) (goes refl)
+        (fresh refl)
+    shows_reads_in (Opening l) n bytes a other goes fresh =
         after_quietly (Shows b v) w (to_client n (with_held (a.held ++ bytes)) s) (shows_client b v n (with_held (a.held ++ bytes)) s w other h)
-    shows_reads_in (Streaming l) n bytes a other goes =
+    shows_reads_in (Streaming l) n bytes a other goes fresh =
         after_quietly (Shows b v) w (to_client n (with_held (a.held ++ bytes)) s) (shows_client b v n (with_held (a.held ++ bytes)) s w other h)
-    shows_reads_in Binding n bytes a other goes = after_quietly (Shows b v) w s h
-    shows_reads_in Tracking n bytes a other goes = after_quietly (Shows b v) w s h
-    shows_reads_in Closing n bytes a other goes = after_quietly (Shows b v) w s h
-    shows_reads_in Gone n bytes a other goes = after_quietly (Shows b v) w s h
+    shows_reads_in Binding n bytes a other goes fresh = after_quietly (Shows b v) w s h
+    shows_reads_in Tracking n bytes a other goes fresh = after_quietly (Shows b v) w s h
+    shows_reads_in Closing n bytes a other goes fresh = after_quietly (Shows b v) w s h
+    shows_reads_in Gone n bytes a other goes fresh = after_quietly (Shows b v) w s h

@@ -16,7 +16,8 @@ use Rattle.adb_history.specs.Rows.{Client, State, to_client, to_stream, none_kep
 use Rattle.adb_history.specs.Events.{Made, Event, Ending, quietly, then_also, ended, client_failed}
 use Rattle.adb_history.specs.Links.{owe_link, open_packet, close_packet, is_credit}
 use Rattle.adb_history.specs.Clients.{owe_client, closes, closes_with, closing}
-use Rattle.adb_history.specs.Streams.{stream_ids, draw, asks_for, no_ids_left, opens, loses, client_loses, tells_end, ends_row, ends_telling, ends_if_of, ends_of}
+use Rattle.adb_history.specs.Streams.{stream_ids, draw, asks_for, no_ids_left, opens, loses, client_loses, tells_end, ends_row, ends_telling, ends_if_of}
+use Rattle.adb_history.specs.Streams.{ends_of}
 use Rattle.adb_history.specs.Streams.{all_end}
 use Rattle.adb_history.specs.Tracking.{mark_all}
 use Rattle.adb_history.specs.Forwarding.{put_forward, bound_by}
@@ -44,6 +45,13 @@ part_keeps part x y e =
 pub none_keeps : (x y : Stream) → none_kept x ≡ Some y → (y.client ≡ x.client) × (y.link ≡ x.link)
 none_keeps x y e = absurd (let clash : None ≡ Some y = e in cc)
 
+-- the stream is not the one that is drawn next, where there is an id for it
+abbrev pub IsUndrawn : Line → State → Type 0
+IsUndrawn b s = eqb s.drawn stream_ids ≡ false → s.drawn + 1 ≢ b.id
+
+abbrev pub UndrawnBy : Line → State → Option Next → Type 0
+UndrawnBy b s next = (t : ℕ) (service : List ℕ) → next ≡ Some (what.Open t service) → IsUndrawn b s
+
 -- a client whose stream is another
 pub record IsElse (b : Line) (a : Client) : Type 0 where
   pub stream : (l : ℕ) → (a.about.phase ≡ Opening l) ⊎ (a.about.phase ≡ Streaming l) → l ≢ b.id
@@ -56,21 +64,21 @@ module _ (b : Line) (v : View) where
         let owed : Made = owe_client n bytes s in
         shows_client b v n closing owed.state (w ++ owed.told) other (shows_owe_client b v n bytes s w other h)
 
-    shows_asks_for : (n t : ℕ) (service : List ℕ) → n ≢ b.client → After (Shows b v) w (asks_for (s.drawn + 1) n t service s)
-    shows_asks_for n t service other =
+    shows_asks_for : (n t : ℕ) (service : List ℕ) → n ≢ b.client → s.drawn + 1 ≢ b.id → After (Shows b v) w (asks_for (s.drawn + 1) n t service s)
+    shows_asks_for n t service other fresh =
         let credit : Bool = is_credit t s.devices in
         let drawn : State = draw credit n t s in
         shows_owe_link b v t (open_packet credit (s.drawn + 1) service) (to_client n (in_phase (Opening (s.drawn + 1))) drawn) w refl
-        (shows_client b v n (in_phase (Opening (s.drawn + 1))) drawn w other (shows_draw b v credit n t s w other h))
+        (shows_client b v n (in_phase (Opening (s.drawn + 1))) drawn w other (shows_draw b v credit n t s w other fresh h))
 
     shows_no_ids : (forwarded : Bool) (n : ℕ) → n ≢ b.client → After (Shows b v) w (no_ids_left forwarded n s)
     shows_no_ids true n other = after_quietly (Shows b v) w (to_client n none_kept s) (shows_client b v n none_kept s w other h)
     shows_no_ids false n other = shows_closes_with n (failed (codes "no stream ids left")).bytes other
 
-    pub shows_opens : (forwarded : Bool) (n t : ℕ) (service : List ℕ) → n ≢ b.client → After (Shows b v) w (opens forwarded n t service s)
-    shows_opens forwarded n t service other =
+    pub shows_opens : (forwarded : Bool) (n t : ℕ) (service : List ℕ) → n ≢ b.client → IsUndrawn b s → After (Shows b v) w (opens forwarded n t service s)
+    shows_opens forwarded n t service other fresh =
         after_if (Shows b v) w (eqb s.drawn stream_ids) (no_ids_left forwarded n s) (asks_for (s.drawn + 1) n t service s)
-        (λ e. shows_no_ids forwarded n other) (λ e. shows_asks_for n t service other)
+        (λ e. shows_no_ids forwarded n other) (λ e. shows_asks_for n t service other (fresh e))
 
     -- ---- a stream ends
     shows_loses : (forwarded : Bool) (phase : Phase) (n : ℕ) → n ≢ b.client → After (Shows b v) w (loses forwarded phase n s)
@@ -154,19 +162,22 @@ module _ (b : Line) (v : View) where
     shows_closes next now = after_quietly (Shows b v) w (closes n next) (shows_client b v n closing next w other now)
 
     -- what follows its requests, if that is no kill
-    pub shows_goes_on : (next : Option Next) → next ≢ Some what.Stop → After (Shows b v) w (goes_on next n s)
-    shows_goes_on None none = after_quietly (Shows b v) w s h
-    shows_goes_on (Some what.Close) none = after_quietly (Shows b v) w (closes n s) (shows_client b v n closing s w other h)
-    shows_goes_on (Some (what.Select id)) none = after_quietly (Shows b v) w s h
-    shows_goes_on (Some (what.Track long)) none = after_quietly (Shows b v) w (to_client n (tracks long) s) (shows_client b v n (tracks long) s w other h)
-    shows_goes_on (Some (what.Open transport service)) none = shows_opens s w h false n transport service other
-    shows_goes_on (Some (what.Bind transport local remote chosen)) none =
+    pub shows_goes_on : (next : Option Next) → next ≢ Some what.Stop → UndrawnBy b s next → After (Shows b v) w (goes_on next n s)
+    shows_goes_on None none fresh = after_quietly (Shows b v) w s h
+    shows_goes_on (Some what.Close) none fresh = after_quietly (Shows b v) w (closes n s) (shows_client b v n closing s w other h)
+    shows_goes_on (Some (what.Select id)) none fresh = after_quietly (Shows b v) w s h
+    shows_goes_on (Some (what.Track long)) none fresh = after_quietly (Shows b v) w (to_client n (tracks long) s) (shows_client b v n (tracks long) s w other h)
+    shows_goes_on (Some (what.Open transport service)) none fresh = shows_opens s w h false n transport service other (fresh transport service refl)
+    shows_goes_on (Some (what.Bind transport local remote chosen)) none fresh =
         let want : Want = record { transport = transport; local = local; remote = remote } in
         after_quietly (Shows b v) w (to_client n (awaits want) s) (shows_client b v n (awaits want) s w other h)
-    shows_goes_on (Some (what.Rebind transport local remote)) none = shows_closes (record s { forwards = put_forward local transport remote s.devices s.forwards }) h
-    shows_goes_on (Some (what.Unbind local)) none = shows_closes (record s { forwards = without local s.forwards }) h
-    shows_goes_on (Some what.UnbindAll) none = shows_closes (record s { forwards = [] }) h
-    shows_goes_on (Some what.Stop) none = absurd (none refl)
+    shows_goes_on (Some (what.Rebind transport local remote)) none fresh = shows_closes (record s {
+      forwards = put_forward local transport remote s.devices
+          s.forwards;
+    }) h
+    shows_goes_on (Some (what.Unbind local)) none fresh = shows_closes (record s { forwards = without local s.forwards }) h
+    shows_goes_on (Some what.UnbindAll) none fresh = shows_closes (record s { forwards = [] }) h
+    shows_goes_on (Some what.Stop) none fresh = absurd (none refl)
 
     -- it fails
     pub shows_stream_fails : (phase : Phase) (cause : Cause) (o : Option Stream) → ((l : ℕ) → phase ≡ Opening l ⊎ phase ≡ Streaming l → o ≢ None → l ≢ b.id)
@@ -235,9 +246,9 @@ module _ (b : Line) (v : View) where
     shows_client_ends NoThread (Some a) apart = shows_fails NoThread a (apart a refl)
 
     -- it asks
-    pub shows_asks : (q : Asked) → q.next ≢ Some what.Stop → After (Shows b v) w (asks q n s)
-    shows_asks q none =
+    pub shows_asks : (q : Asked) → q.next ≢ Some what.Stop → UndrawnBy b s q.next → After (Shows b v) w (asks q n s)
+    shows_asks q none fresh =
         let asked : State = to_client n (has_asked q) s in
         let owed : Made = owe_client n q.replies asked in
         after_then (Shows b v) w owed (goes_on q.next n) (shows_owe_client b v n q.replies asked w other (shows_client b v n (has_asked q) s w other h))
-        (λ u now. shows_goes_on owed.state u now n other q.next none)
+        (λ u now. shows_goes_on owed.state u now n other q.next none fresh)

@@ -123,7 +123,8 @@ module _ (b : Line) where
       subst (λ (o : Option SeenClient). Shows b (with_client o v) (closes b.client s) w) (closing_is a.due a) (own_client v closing a s w is h)
 
   own_closes_with : (v : View) (bytes : List ℕ) (a : Client) (s : State) (w : List Event) → s.clients b.client ≡ Some a → Shows b v s w
-      → After (Shows b (with_client (closing_seen (a.due ++ bytes) (record (seen_client a) { due = a.due ++ bytes })) (record v { output = v.output ++ bytes })))
+      → After (Shows b (with_client (closing_seen (a.due ++ bytes) (record (seen_client a) { due = a.due ++ bytes }))
+      (record v { output = v.output ++ bytes })))
       w (closes_with b.client bytes s)
   own_closes_with v bytes a s w is h =
       let owed : Made = owe_client b.client bytes s in
@@ -166,7 +167,8 @@ module _ (b : Line) where
       (own_tells_end (with_stream None v) x.part.orphan ending gone w (own_stream v none_kept x s w is none_keeps h))
       (λ y now. loses_client u told.state y now)
     where
-      loses_client : (u : View) (s : State) (w : List Event) → Shows b u s w → After (Shows b (lost_by u.client u)) w (client_loses (s.clients x.client) x.client s)
+      loses_client : (u : View) (s : State) (w : List Event) → Shows b u s w
+          → After (Shows b (lost_by u.client u)) w (client_loses (s.clients x.client) x.client s)
       loses_client u s w now =
           subst (λ (n : ℕ). After (Shows b (lost_by u.client u)) w (client_loses (s.clients n) n s)) (sym (h.0.client x is))
           (subst (λ (o : Option SeenClient). After (Shows b (lost_by o u)) w (client_loses (s.clients b.client) b.client s))

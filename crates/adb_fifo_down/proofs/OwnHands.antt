@@ -13,7 +13,8 @@ use Rattle.adb_history.specs.Rows.{Client, State, to_client, to_stream, with_str
 use Rattle.adb_history.specs.Events.{Event, quietly, then_also}
 use Rattle.adb_history.specs.Links.{okay_packet, credit_packet}
 use Rattle.adb_history.specs.Flow.{with_flow}
-use Rattle.adb_history.specs.Handing.{lists_first, left_in, hands, to_hand, credit_back, handed_to, tells_credit, tells_handed, stream_hands, stream_left, client_left}
+use Rattle.adb_history.specs.Handing.{lists_first, left_in, hands, to_hand, credit_back, handed_to, tells_credit, tells_handed, stream_hands, stream_left}
+use Rattle.adb_history.specs.Handing.{client_left}
 use Rattle.adb_history.specs.Handing.{takes_of, puts_to}
 use Rattle.adb_history.specs.Moves.{After}
 use Rattle.adb_history.proofs.Following.{after_quietly}
@@ -51,7 +52,8 @@ module _ (b : Line) where
         let p : Packet = okay_packet b.id x.part.remote in
         own_okay b u x p s w (h.0.link x there) (okay_counts b p refl refl) now
     tells_left u (suc left) (One window) s now = after_quietly (Shows b u) w s now
-    tells_left u left (Credit credit) s now = own_tells_credit u (credit_back left credit) (seen (record x { part = with_flow (Credit credit) x.part })) s refl now
+    tells_left u left (Credit credit) s now = own_tells_credit u (credit_back left credit) (seen (record x { part = with_flow (Credit credit) x.part }))
+        s refl now
 
     own_left : (left : ℕ) → After (Shows b (stream_left_as left b.id (seen x) v)) w (stream_hands left b.id x s)
     own_left left =
@@ -88,11 +90,13 @@ module _ (b : Line) where
         (stream_left (length (drop n a.due)) b.id (s.streams b.id) now))
         (ap (λ (y : View). y.stream) h.1)
         (own_row_left u (length (drop n a.due)) (s.streams b.id) now w refl (handed (Streaming k) e)))
-    by_phase (Opening k) e same = after_quietly (Shows b (handed_in (Opening k) b.id n (seen_client a) v)) w (to_client b.client (hands n) s) (handed (Opening k) e)
+    by_phase (Opening k) e same = after_quietly (Shows b (handed_in (Opening k) b.id n (seen_client a) v)) w (to_client b.client (hands n) s)
+        (handed (Opening k) e)
     by_phase Closing e i =
         let d : List ℕ = drop n a.due in
         after_quietly (Shows b (handed_in Closing b.id n (seen_client a) v)) w (to_client b.client (hands n) s)
-        (subst (λ (o : Option SeenClient). Shows b (with_client o v) (to_client b.client (hands n) s) w) (closing_is b d (record a { due = d }) ∙ closing_any d d (seen_client a)) (handed Closing e))
+        (subst (λ (o : Option SeenClient). Shows b (with_client o v) (to_client b.client (hands n) s) w)
+        (closing_is b d (record a { due = d }) ∙ closing_any d d (seen_client a)) (handed Closing e))
     by_phase Asking e i = absurd i
     by_phase Binding e i = absurd i
     by_phase Tracking e i = absurd i

@@ -1,5 +1,6 @@
 -- What the packets of its link make of what is seen of a stream.
-use Rattle.std.proofs.Common.{ℕ, ◌≡◌, ◌≢◌, ◌≤◌, ◌<◌, zero, suc, Bool, true, false, cond, List, [], ◌∷◌, ◌++◌, length, Option, Some, None, is_some, refl, sym, ◌∙◌, ap}
+use Rattle.std.proofs.Common.{ℕ, ◌≡◌, ◌≢◌, ◌≤◌, ◌<◌, zero, suc, Bool, true, false, cond, List, [], ◌∷◌, ◌++◌, length, Option, Some, None, is_some, refl, sym}
+use Rattle.std.proofs.Common.{◌∙◌, ap}
 use Rattle.std.proofs.Common.{subst, eqb, arith, inl, inr, ◌⊎◌, codes}
 use Rattle.std.proofs.lemmas.Bool.{eqb-true, eq-eqb, eqb-false, cases_eq}
 use Rattle.std.specs.Prelude.{◌||◌, ◌&&◌, not, nat_lt, option_map}
@@ -35,8 +36,14 @@ use Rattle.adb_fifo_down.specs.Treated.{cnxn_ending, treated_as, treated_on, tre
 use Rattle.adb_fifo_down.proofs.Shown.{view_told, first_none, shows_owe_link, shows_mark_all}
 use Rattle.adb_fifo_down.proofs.Others.{after_next, none_keeps, shows_ends_if}
 use Rattle.adb_fifo_down.proofs.OtherPackets.{shows_refuses, shows_unauthorized, shows_online, shows_treat_open}
-use Rattle.adb_fifo_down.proofs.Own.{with_stream, owed_more, client_seen, stream_seen, own_stream, own_part, own_client, own_no_client, own_due, own_owes, own_ends}
+use Rattle.adb_fifo_down.proofs.Own.{with_stream, owed_more, client_seen, stream_seen, own_stream, own_part, own_client, own_no_client, own_due, own_owes}
+use Rattle.adb_fifo_down.proofs.Own.{own_ends}
 use Rattle.std.proofs.lemmas.List.{append-nil}
+
+-- a stream that was drawn
+pub record IsReal (b : Line) : Type 0 where
+  pub some : 0 < b.id
+  pub from : b.from ≡ b.id
 
 module _ (b : Line) where
   -- by a test
@@ -148,7 +155,8 @@ module _ (b : Line) where
         let part : Part = with_flow (acknowledged word x.part.flow) x.part in
         after_quietly (Shows b v) w (to_stream b.id (with_stream_part part) s) (own_same v part x s w there (by word x.part.flow) h)
       where
-        by : (word : Option ℕ) (flow : Flow) → seen (record x { part = with_flow (acknowledged word flow) x.part }) ≡ seen (record x { part = with_flow flow x.part })
+        by : (word : Option ℕ) (flow : Flow)
+            → seen (record x { part = with_flow (acknowledged word flow) x.part }) ≡ seen (record x { part = with_flow flow x.part })
         by word (One window) = refl
         by None (Credit credit) = refl
         by (Some n) (Credit credit) = refl
@@ -176,7 +184,8 @@ module _ (b : Line) where
         own_okay v x (okay_packet b.id x.part.remote) s w (h.0.link x there) (okay_counts (okay_packet b.id x.part.remote) refl refl) h
     own_accepts_none (Credit credit) = after_quietly (Shows b v) w s h
 
-    taken_seen : (n : ℕ) (flow : Flow) → seen (record x { part = with_flow (accepted n flow) x.part }) ≡ takes n (seen (record x { part = with_flow flow x.part }))
+    taken_seen : (n : ℕ) (flow : Flow)
+        → seen (record x { part = with_flow (accepted n flow) x.part }) ≡ takes n (seen (record x { part = with_flow flow x.part }))
     taken_seen n (One window) = refl
     taken_seen n (Credit credit) = refl
 
@@ -193,7 +202,8 @@ module _ (b : Line) where
         let put : View = with_stream (Some (takes (length bytes) (seen x))) v in
         let made : View = record put { client = due_more bytes v.client; output = v.output ++ bytes } in
         subst (λ (n : ℕ). After (Shows b made) w (owe_client n bytes taken)) (sym (h.0.client x there))
-        (subst (λ (o : Option SeenClient). After (Shows b (record put { client = due_more bytes o; output = v.output ++ bytes })) w (owe_client b.client bytes taken))
+        (subst (λ (o : Option SeenClient). After (Shows b (record put { client = due_more bytes o; output = v.output ++ bytes })) w
+        (owe_client b.client bytes taken))
         (sym (client_seen b v s w (s.clients b.client) h refl))
         (own_owes b put bytes (s.clients b.client) taken w refl
         (subst (λ (y : SeenStream). Shows b (with_stream (Some y) v) taken w) (taken_seen (length bytes) x.part.flow) (own_part b v part x s w there h))))
@@ -267,14 +277,15 @@ module _ (b : Line) where
         after_next (Ended n) (Ended (suc n)) w (ends_of b.link n ending s) (λ s. ends_if_of b.link (suc n) ending (s.streams (suc n)) s) (ends_all n s w some h)
         (λ u now. ends_one n (ends_of b.link n ending s).state u now (cases_eq (suc n) b.id))
 
-    pub own_all_end : (s : State) (w : List Event) → 0 < b.id → Shows b v s w → After (Shows b (over x.orphan ending v)) w (all_end b.link ending s)
-    own_all_end s w some h = (ends_all s.drawn s w some h).ended h.0.born
+    pub own_all_end : (s : State) (w : List Event) → IsReal b → Shows b v s w → After (Shows b (over x.orphan ending v)) w (all_end b.link ending s)
+    own_all_end s w real h = (ends_all s.drawn s w real.some h).ended (omega (arith, h.0.born, real.from))
 
-    pub own_link_ends : (s : State) (w : List Event) → 0 < b.id → Shows b v s w → After (Shows b (over x.orphan ending v)) w (link_ends b.link ending s)
-    own_link_ends s w some h =
+    pub own_link_ends : (s : State) (w : List Event) → IsReal b → Shows b v s w → After (Shows b (over x.orphan ending v)) w (link_ends b.link ending s)
+    own_link_ends s w real h =
         let ended_all : Made = all_end b.link ending (forgets b.link s) in
-        after_then (Shows b (over x.orphan ending v)) w ended_all (λ s. quietly (mark_all s)) (own_all_end (forgets b.link s) w some h)
-        (λ u now. after_quietly (Shows b (over x.orphan ending v)) u (mark_all ended_all.state) (shows_mark_all b (over x.orphan ending v) ended_all.state u now))
+        after_then (Shows b (over x.orphan ending v)) w ended_all (λ s. quietly (mark_all s)) (own_all_end (forgets b.link s) w real h)
+        (λ u now. after_quietly (Shows b (over x.orphan ending v)) u (mark_all ended_all.state) (shows_mark_all b (over x.orphan ending v)
+        ended_all.state u now))
 
   -- ---- CNXN
   -- the link of a stream that is there is there, and connected
@@ -282,15 +293,15 @@ module _ (b : Line) where
     pub link : is_some (s.links b.link) ≡ true
     pub connected : is_connected b.link s.devices ≡ true
 
-  module _ (v : View) (x : SeenStream) (there : v.stream ≡ Some x) (some : 0 < b.id) (s : State) (w : List Event) (up : IsUp s) (h : Shows b v s w) where
+  module _ (v : View) (x : SeenStream) (there : v.stream ≡ Some x) (real : IsReal b) (s : State) (w : List Event) (up : IsUp s) (h : Shows b v s w) where
     own_connects : (version maxdata : ℕ) (who : Option Identity) → After (Shows b (over x.orphan (ending_by false who) v)) w
         (connects b.link version maxdata who s)
-    own_connects version maxdata None = own_link_ends v x there broken s w some h
+    own_connects version maxdata None = own_link_ends v x there broken s w real h
     own_connects version maxdata (Some identity) =
         subst (λ (c : Bool). After (Shows b (over x.orphan lost v)) w (then_also (streams_end_first c b.link s)
         (λ s. quietly (goes_online b.link version maxdata identity s)))) (sym up.connected)
         (after_then (Shows b (over x.orphan lost v)) w (all_end b.link lost s) (λ s. quietly (goes_online b.link version maxdata identity s))
-        (own_all_end v x there lost s w some h)
+        (own_all_end v x there lost s w real h)
         (λ u now. after_quietly (Shows b (over x.orphan lost v)) u (goes_online b.link version maxdata identity (all_end b.link lost s).state)
         (shows_online b (over x.orphan lost v) (all_end b.link lost s).state u now b.link version maxdata identity)))
 
@@ -299,7 +310,7 @@ module _ (b : Line) where
       where
         by : (c : Bool) → After (Shows b (over x.orphan (ending_by c (identity_of p.payload)) v)) w
             (cond c (link_ends b.link broken s) (connects b.link p.arg0 p.arg1 (identity_of p.payload) s))
-        by true = own_link_ends v x there broken s w some h
+        by true = own_link_ends v x there broken s w real h
         by false = own_connects p.arg0 p.arg1 (identity_of p.payload)
 
     -- ---- one packet
@@ -315,7 +326,8 @@ module _ (b : Line) where
             (subst (λ (c : Bool). After (Shows b u) w (cond c (rule b.id y s) (quietly s))) (sym (eq-eqb y.link b.link (h.0.link y is))) (own y is same))
 
         by : (here : Bool) → eqb k b.id ≡ here → After (Shows b (cond here u v)) w (at_stream b.link (s.streams k) (rule k) s)
-        by true e = subst (λ (n : ℕ). After (Shows b u) w (at_stream b.link (s.streams n) (rule n) s)) (sym (eqb-true k b.id e)) (mine (own_row v x s w there h))
+        by true e = subst (λ (n : ℕ). After (Shows b u) w (at_stream b.link (s.streams n) (rule n) s)) (sym (eqb-true k b.id e))
+            (mine (own_row v x s w there h))
         by false e = others (eqb-false k b.id e)
 
     own_treat_open : (command : Command) (p : Packet) → command ≢ Cnxn → After (Shows b (treated_as b.id command p x v)) w (treat_open b.link command p s)

@@ -82,7 +82,8 @@ module _ (b : Line) (v : View) where
         let owed : Made = owe_link x.link (close_packet b.id x.part.remote) left in
         after_next (Shows b none) (Shows b (row_fails (Streaming b.id) (client_failed cause) (Some (seen x)) v)) w owed
         (λ s. record { state = s; told = ended b.id (client_failed cause) ∷ [] })
-        (shows_owe_link b none x.link (close_packet b.id x.part.remote) left w refl (own_stream b (with_client None v) none_kept x gone w there none_keeps gone_shows))
+        (shows_owe_link b none x.link (close_packet b.id x.part.remote) left w refl (own_stream b (with_client None v)
+        none_kept x gone w there none_keeps gone_shows))
         (λ u now. own_told_end b none (client_failed cause) owed.state u now)
 
     asked_fails : (o : Option Stream) → s.streams b.id ≡ o
@@ -94,7 +95,8 @@ module _ (b : Line) (v : View) where
         own_told_end b u (client_failed cause) left w (own_part b (with_client None v) (orphaned x.part) x gone w there gone_shows)
 
     by_phase : (phase : Phase) → IsInLine b.id phase
-        → After (Shows b (row_fails phase (client_failed cause) (option_map seen (s.streams b.id)) v)) w (stream_fails phase cause (stream_of phase s.streams) gone)
+        → After (Shows b (row_fails phase (client_failed cause) (option_map seen (s.streams b.id)) v)) w
+        (stream_fails phase cause (stream_of phase s.streams) gone)
     by_phase (Streaming l) same =
         subst (λ (k : ℕ). After (Shows b (row_fails (Streaming k) (client_failed cause) (option_map seen (s.streams b.id)) v)) w
         (stream_fails (Streaming k) cause (s.streams k) gone)) (sym same) (open_fails (s.streams b.id) refl)
@@ -147,14 +149,13 @@ module _ (b : Line) (v : View) where
   all_stops (suc n) streams = both_stop (all_stop n streams) (tells_stop (suc n) (streams (suc n))) (all_stops n streams) (one_stop (suc n) (streams (suc n)))
 
   -- another client asked for it
-  pub record IsStopped (s : State) (w : List Event) : Type 0 where
-    pub ending : Option Ending
+  pub record IsStopped (ending : Option Ending) (s : State) (w : List Event) : Type 0 where
     pub is : IsStop ending
     pub shows : Shows b (killed ending v) s w
 
-  pub own_stops : (n : ℕ) (s : State) (w : List Event) → n ≢ b.client → Shows b v s w → After IsStopped w (stops n s)
+  pub own_stops : (n : ℕ) (s : State) (w : List Event) → n ≢ b.client → Shows b v s w
+      → After (IsStopped (ending_in b.id (all_stop s.drawn s.streams))) w (stops n s)
   own_stops n s w other h = record {
-    ending = ending_in b.id events;
     is = told.ending;
     shows = (
       record {

@@ -1,5 +1,5 @@
 -- What each turn of what is seen of a stream keeps, each rule keeps.
-use Rattle.std.proofs.Common.{ℕ, ◌≡◌, ◌<◌, Bool, true, false, List, [], ◌∷◌, ◌++◌, Option, Some, None, is_some, refl, sym, ◌∙◌, ap}
+use Rattle.std.proofs.Common.{ℕ, ◌≡◌, Bool, true, false, List, [], ◌∷◌, ◌++◌, Option, Some, None, is_some, refl, sym, ◌∙◌, ap}
 use Rattle.std.proofs.Common.{subst, append_assoc, inl, inr, ◌⊎◌}
 use Rattle.std.proofs.lemmas.List.{append-nil}
 use Rattle.adb_outside.specs.Tables.{at}
@@ -29,7 +29,7 @@ use Rattle.adb_fifo_down.specs.Turns.{Promise, Turns, Holds}
 use Rattle.adb_fifo_down.proofs.Others.{after_next, shows_link_ends}
 use Rattle.adb_fifo_down.proofs.OtherPackets.{shows_treat_on}
 use Rattle.adb_fifo_down.proofs.Own.{client_seen}
-use Rattle.adb_fifo_down.proofs.OwnPackets.{IsUp, own_row, own_treat, own_link_ends}
+use Rattle.adb_fifo_down.proofs.OwnPackets.{IsReal, IsUp, own_row, own_treat, own_link_ends}
 use Rattle.adb_fifo_down.proofs.OwnTurns.{own_input_ends, own_fails}
 use Rattle.adb_fifo_down.proofs.Ups.{Upped, shows_ups}
 
@@ -50,7 +50,7 @@ module _ {b : Line} {P : Promise} (k : Turns b P) where
           record { seen = over y.row.orphan client_closed h.seen; shows = now; keeps = k.closes packets shut out h.seen y h.keeps }
 
   -- ---- its link
-  module _ (some : 0 < b.id) where
+  module _ (real : IsReal b) where
     -- the link of a stream that lives is up
     up_link : (x : Stream) (v : View) (s : State) (w : List Event) → s.streams b.id ≡ Some x → IsLinked s → Shows b v s w → IsUp b s
     up_link x v s w there linked h =
@@ -68,7 +68,7 @@ module _ {b : Line} {P : Promise} (k : Turns b P) where
             (shows_treat_on b h.seen b.link (inr none) s w h.shows (s.links b.link) p)
         by (Some x) there =
             let row = own_row b h.seen x s w there h.shows in
-            own_treat b h.seen x there some s w (up_link row.0 h.seen s w row.1 linked h.shows) h.shows p
+            own_treat b h.seen x there real s w (up_link row.0 h.seen s w row.1 linked h.shows) h.shows p
 
     holds_treat_all : (given packets : List Packet) (out : List ℕ) (s : State) (w : List Event) → IsLinked s → Holds b P packets false out s w
         → After (Holds b P (packets ++ given) false out) w (treat_all b.link given s)
@@ -93,7 +93,7 @@ module _ {b : Line} {P : Promise} (k : Turns b P) where
         by : (o : Option SeenStream) → h.seen.stream ≡ o → After (Holds b P packets true out) w (link_ends b.link ending s)
         by None none = held_by packets true out h.seen w _ closed (shows_link_ends b h.seen b.link (inr none) ending s w h.shows)
         by (Some x) there = held_by packets true out (over x.orphan ending h.seen) w _ (k.breaks packets out h.seen x ending there which closed)
-            (own_link_ends b h.seen x there ending s w some h.shows)
+            (own_link_ends b h.seen x there ending s w real h.shows)
 
     holds_faulty : (packets : List Packet) (out : List ℕ) (o : Option Link) (fault : Option PacketFault) (s : State) (w : List Event)
         → Holds b P packets false out s w → After (Holds b P packets (is_some fault) out) w (faulty_on o b.link fault s)

@@ -31,7 +31,8 @@ put_first p false ps qs rs e = e
 pub packets_append : (t : ℕ) (es fs : List Event) → packets_to t (es ++ fs) ≡ packets_to t es ++ packets_to t fs
 packets_append t [] fs = refl
 packets_append t (due_to_client client bytes ∷ es) fs = packets_append t es fs
-packets_append t (due_to_link link p check ∷ es) fs = put_first p (eqb link t) (packets_to t (es ++ fs)) (packets_to t es) (packets_to t fs) (packets_append t es fs)
+packets_append t (due_to_link link p check ∷ es) fs = put_first p (eqb link t) (packets_to t (es ++ fs)) (packets_to t es) (packets_to t fs)
+    (packets_append t es fs)
 packets_append t (ended stream ending ∷ es) fs = packets_append t es fs
 
 pub okays_append : (l : ℕ) (ps qs : List Packet) → okays_of l (ps ++ qs) ≡ okays_of l ps ++ okays_of l qs
@@ -172,8 +173,8 @@ module _ (b : Line) (v : View) where
     ap (λ (o : Option Stream). record (view b s w) { stream = option_map seen o }) (changed_other k b.id f s.streams other) ∙ h.1,
   )
 
-  pub shows_draw : (credit : Bool) (n t : ℕ) (s : State) (w : List Event) → n ≢ b.client → Shows b v s w → Shows b v (draw credit n t s) w
-  shows_draw credit n t s w other h = (
+  pub shows_draw : (credit : Bool) (n t : ℕ) (s : State) (w : List Event) → n ≢ b.client → s.drawn + 1 ≢ b.id → Shows b v s w → Shows b v (draw credit n t s) w
+  shows_draw credit n t s w other fresh h = (
     record {
       others = λ k y is apart. by k y (eqb (s.drawn + 1) k) is apart;
       client = λ y is. h.0.client y (sym here ∙ is);
@@ -187,7 +188,7 @@ module _ (b : Line) (v : View) where
       row = new_stream (s.drawn + 1) n t (new_flow credit)
 
       here : cond (eqb (s.drawn + 1) b.id) (Some row) (s.streams b.id) ≡ s.streams b.id
-      here = ap (λ (x : Bool). cond x (Some row) (s.streams b.id)) (ne_eqb (s.drawn + 1) b.id (λ e. omega (arith, h.0.born, e)))
+      here = ap (λ (x : Bool). cond x (Some row) (s.streams b.id)) (ne_eqb (s.drawn + 1) b.id fresh)
 
       by : (k : ℕ) (y : Stream) (new : Bool) → cond new (Some row) (s.streams k) ≡ Some y → k ≢ b.id → y.client ≢ b.client
       by k y true e apart = let same : row ≡ y = let both : Some row ≡ Some y = e in cc in (λ is. other (ap (λ (x : Stream). x.client) same ∙ is))

@@ -1,5 +1,6 @@
 -- What each turn of what is seen of a stream keeps, each step after its birth keeps.
-use Rattle.std.proofs.Common.{ℕ, ◌+◌, ◌≡◌, ◌≢◌, ◌≤◌, ◌<◌, Bool, true, false, cond, List, ◌∷◌, ◌++◌, length, drop, Option, Some, None, is_some, refl, sym, ◌∙◌, ap, subst}
+use Rattle.std.proofs.Common.{ℕ, ◌+◌, ◌≡◌, ◌≢◌, ◌≤◌, ◌<◌, Bool, true, false, cond, List, ◌∷◌, ◌++◌, length, drop, Option, Some, None, is_some, refl, sym, ◌∙◌}
+use Rattle.std.proofs.Common.{ap, subst}
 use Rattle.std.proofs.Common.{eqb, arith, inl, inr, ◌⊎◌}
 use Rattle.std.proofs.lemmas.Bool.{eqb-true, ne_eqb, eq-eqb, cases_eq}
 use Rattle.std.proofs.lemmas.List.{drop-append-le}
@@ -81,7 +82,7 @@ module _ (l : ℕ) (b : Birth) {P : Promise} (k : Turns (line l b) P) (older : H
         subst (λ (ps : List Packet). After (Holds (line l b) P ps (is_shut b.link (Recv b.link bytes ∷ older)) (bytes_put b.client older)) (told older) m)
         (sym (since_more (Recv b.link bytes ∷ older) c.given by.packets))
         (subst (λ (shut : Bool). After (Holds (line l b) P (since b older ++ c.given) shut (bytes_put b.client older)) (told older) m) (sym by.shut)
-        (holds_cut k born.some (since b older) (bytes_put b.client older) c (state older) (told older) linked
+        (holds_cut k (record { some = born.some; from = refl }) (since b older) (bytes_put b.client older) c (state older) (told older) linked
         (subst (λ (shut : Bool). Holds (line l b) P (since b older) shut (bytes_put b.client older) (state older) (told older)) by.before h)))
 
     -- a stream of a link that is gone is gone
@@ -155,7 +156,8 @@ module _ (l : ℕ) (b : Birth) {P : Promise} (k : Turns (line l b) P) (older : H
             (bytes_put b.client older)) (told older) (unplugs_on ((state older).links n) n (state older))) (sym e)
             (subst (λ (m : ℕ). After (Holds (line l b) P (since b older) true (bytes_put b.client older)) (told older)
             (unplugs_on ((state older).links m) m (state older))) (sym (eqb-true n b.link e))
-            (holds_unplugs k born.some (since b older) (is_shut b.link older) (bytes_put b.client older) ((state older).links b.link) (state older) (told older) h))
+            (holds_unplugs k (record { some = born.some; from = refl }) (since b older) (is_shut b.link older) (bytes_put b.client older)
+            ((state older).links b.link) (state older) (told older) h))
         by false e =
             let other : n ≢ b.link = λ same. (let clash : true ≡ false = sym (eq-eqb n b.link same) ∙ e in cc) in
             same_link (Detach n cause ∷ older) (unplugs_on ((state older).links n) n (state older)) refl (ap (λ (c : Bool). c || is_lost b.link older) e)

@@ -1,33 +1,20 @@
 -- What is acknowledged was handed out, through each turn of what is seen of a stream.
-use Rattle.std.proofs.Common.{ℕ, ◌+◌, ◌-◌, ◌≡◌, ◌≢◌, ◌≤◌, ◌<◌, zero, suc, Bool, true, false, cond, List, [], ◌∷◌, ◌++◌, length, take, drop, min, Option, Some, None, refl, sym, ◌∙◌, ap, subst}
-use Rattle.std.proofs.Common.{arith, append_assoc, eqb, inl, inr, ◌⊎◌}
-use Rattle.std.specs.Prelude.{All, nat_lt}
-use Rattle.std.proofs.lemmas.Bool.{eqb-true, eqb-false, ltb-false}
-use Rattle.std.proofs.lemmas.List.{append-nil, length-append, length-drop}
+use Rattle.std.proofs.Common.{ℕ, ◌+◌, ◌-◌, ◌≡◌, ◌≢◌, ◌≤◌, ◌<◌, zero, suc, Bool, true, false, cond, List, [], ◌∷◌, ◌++◌, length, min, Some, None, refl, sym}
+use Rattle.std.proofs.Common.{◌∙◌, ap, subst}
+use Rattle.std.proofs.Common.{arith, eqb}
+use Rattle.std.proofs.lemmas.Bool.{eqb-true, eqb-false}
+use Rattle.std.proofs.lemmas.List.{length-append, length-drop}
 use Rattle.std.proofs.lemmas.List.Elements.{All-cons, All-nil, All-append}
 use Rattle.adb_outside.specs.Bytes.{IsPrefixOf}
-use Rattle.adb_outside.specs.declared.kinds.Cause.{Cause}
-use Rattle.adb_stream.specs.Credit.{given_back}
 use Rattle.adb_wire.specs.declared.packets.Packet.{Packet}
-use Rattle.adb_client.specs.declared.phase.Phase.{Phase}
-use Rattle.adb_client.specs.declared.phase.Phase.TheVariants.{Asking, Opening, Streaming, Binding, Tracking, Closing, Gone}
-use Rattle.adb_history.specs.Events.{Ending, client_failed}
 use Rattle.adb_history.specs.Links.{okay_packet, credit_packet, credit_word}
-use Rattle.adb_history.specs.Births as birth
-use Rattle.adb_history.specs.Births.{opening_in, told_in, joined}
+use Rattle.adb_history.specs.Births.{joined}
 use Rattle.adb_history.specs.Fifo.{whole_within, credit_of, GivesBack}
-use Rattle.adb_fifo_down.specs.Line.{Line, SeenStream, SeenClient, View, IsOpenIn, over}
-use Rattle.adb_fifo_down.specs.Treated.{is_late, takes, accepts_as, treated_as, treated_on}
-use Rattle.adb_fifo_down.specs.Turned.{IsStop, row_fails, failed_by, killed, back_of, row_left, more_okays, credit_told, whole_told, left_told, stream_left_as}
-use Rattle.adb_fifo_down.specs.Turned.{row_handed, handed_in, handed_out}
-use Rattle.adb_fifo_down.specs.Turns.{Turns}
-use Rattle.adb_fifo_down.specs.Life.{Cradle, okay_after, lead, Heard, heard, IsWaiting, IsOrphaned, IsOpened, LivesAs, LivesIn, TiedTo, Life}
-use Rattle.adb_fifo_down.specs.Window.{handed_past, IsBackedBy, IsBacked, waiting_write, Counts, IsFlowing, IsUnused, FlowsBy, FlowAs, FlowIn, Window}
-use Rattle.adb_fifo_down.proofs.Openings.{later_too, opening_stays, pending_now, told_append, joined_append}
-use Rattle.adb_fifo_down.proofs.Ups.{over_gone}
-use Rattle.adb_fifo_down.proofs.Lives.{tied_at, any_front, lives_at}
-use Rattle.adb_fifo_down.proofs.OpenTurns.{over_okays, Accepts, Stays, OpenTurn, open_turn, IsSameRow, FreshTurn, fresh_turn, first_later}
-use Rattle.adb_fifo_down.proofs.Backed.{all_whole, backed_handed, backed_told, unbacked, backed_more, backed_goes, credit_append, credit_given, credit_said}
+use Rattle.adb_fifo_down.specs.Line.{SeenStream, View}
+use Rattle.adb_fifo_down.specs.Turned.{back_of, row_left, credit_told, whole_told, left_told, stream_left_as}
+use Rattle.adb_fifo_down.specs.Life.{Cradle, lead}
+use Rattle.adb_fifo_down.specs.Window.{handed_past, IsBackedBy, waiting_write, Counts, IsFlowing}
+use Rattle.adb_fifo_down.proofs.Backed.{all_whole, backed_handed, credit_append, credit_given, credit_said}
 
 -- ---- how many were handed out
 pub handed_count : (k : Cradle) (out : List ℕ) → handed_past k out ≡ length out - length (lead k)
@@ -37,18 +24,18 @@ pub handed_grows : (k : Cradle) (out bytes : List ℕ) → handed_past k out ≤
 handed_grows k out bytes = omega (arith, handed_count k out, handed_count k (out ++ bytes), length-append out bytes)
 
 -- what remains of a flow of which some bytes were handed out
-left_sum : (to_hand whole first out due bytes : ℕ) → to_hand + (out - first) ≡ whole → first + whole ≡ out + due → bytes ≤ due
+pub left_sum : (to_hand whole first out due bytes : ℕ) → to_hand + (out - first) ≡ whole → first + whole ≡ out + due → bytes ≤ due
     → min to_hand (due - bytes) + ((out + bytes) - first) ≡ whole
 left_sum to_hand whole first out due bytes left output le = omega (arith, left, output, le)
 
-front_within : (bytes due : List ℕ) → IsPrefixOf bytes due → length bytes ≤ length due
+pub front_within : (bytes due : List ℕ) → IsPrefixOf bytes due → length bytes ≤ length due
 front_within bytes due (rest, is) = omega (arith, ap length is, length-append bytes rest)
 
 none_left : (now whole : ℕ) → 0 + now ≡ whole → now ≡ whole
 none_left now whole e = omega (arith, e)
 
 -- an OKAY that gives credit
-abbrev HasWord : Packet → Type 0
+abbrev pub HasWord : Packet → Type 0
 HasWord p = credit_word p.payload ≢ None
 
 -- the flow of a row without credit, and with
@@ -70,13 +57,13 @@ back_within left x = by _
 
 module _ (l : ℕ) (k : Cradle) (told : List (List ℕ)) where
   -- what is left of a flow, behind a hand-out
-  record Handed (x : SeenStream) (handed : ℕ) (u : View) : Type 0 where
-    row : SeenStream
-    stream : u.stream ≡ Some row
-    orphan : row.orphan ≡ x.orphan
-    credit : row.credit ≡ x.credit
-    flowing : IsFlowing k row told u.okays handed
-    backed : IsBackedBy k.credit told u.okays handed
+  pub record Handed (x : SeenStream) (handed : ℕ) (u : View) : Type 0 where
+    pub row : SeenStream
+    pub stream : u.stream ≡ Some row
+    pub orphan : row.orphan ≡ x.orphan
+    pub credit : row.credit ≡ x.credit
+    pub flowing : IsFlowing k row told u.okays handed
+    pub backed : IsBackedBy k.credit told u.okays handed
 
   module _ (x : SeenStream) (v : View) (there : v.stream ≡ Some x) (same : x.credit ≡ k.credit) (before now : ℕ)
       (flow : IsFlowing k x told v.okays before) (backed : IsBackedBy k.credit told v.okays before) (le : before ≤ now) where
@@ -173,18 +160,36 @@ module _ (l : ℕ) (k : Cradle) (told : List (List ℕ)) where
             left = sum;
             counts = subst (λ (c : Bool). Counts c (record x { left = x.left + suc n; to_hand = left; gathered = x.gathered + (x.to_hand - left) - suc n })
                 told (v.okays ++ credit_packet l x.remote (suc n) ∷ []) now) (sym credit)
-                (omega (arith, counts, flow.left, sum, less, within, credit_append v.okays (credit_packet l x.remote (suc n) ∷ []), credit_given l x.remote (suc n)));
+                (omega (
+                  arith,
+                  counts,
+                  flow.left,
+                  sum,
+                  less,
+                  within,
+                  credit_append v.okays (credit_packet l x.remote (suc n) ∷ []),
+                  credit_given l x.remote
+                      (suc n),
+                ));
           };
           backed = subst (λ (c : Bool). IsBackedBy c told (v.okays ++ credit_packet l x.remote (suc n) ∷ []) now) (sym credit) (record {
             words = All-append HasWord v.okays (credit_packet l x.remote (suc n) ∷ []) given.words
                 (All-cons HasWord (credit_packet l x.remote (suc n)) [] (credit_said l x.remote (suc n)) (All-nil HasWord));
-            within = omega (arith, counts, flow.left, sum, less, within, credit_append v.okays (credit_packet l x.remote (suc n) ∷ []),
-                credit_given l x.remote (suc n));
+            within = omega (
+              arith,
+              counts,
+              flow.left,
+              sum,
+              less,
+              within,
+              credit_append v.okays (credit_packet l x.remote (suc n) ∷ []),
+              credit_given l x.remote (suc n),
+            );
           });
         }
 
     -- some bytes are handed out
-    hands_some : (left : ℕ) → left ≤ x.to_hand → left + now ≡ length (joined told) → Handed x now (stream_left_as left l x v)
+    pub hands_some : (left : ℕ) → left ≤ x.to_hand → left + now ≡ length (joined told) → Handed x now (stream_left_as left l x v)
     hands_some left within sum = by (eqb left x.to_hand) refl
       where
         less : eqb left x.to_hand ≡ false → left < x.to_hand

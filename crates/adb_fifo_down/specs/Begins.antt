@@ -1,5 +1,5 @@
 -- What is seen of a stream at its birth.
-use Rattle.std.specs.Prelude.{ℕ, ◌≡◌, ◌+◌, ◌<◌, Bool, false, List, [], ◌∷◌, ◌++◌, length, Some}
+use Rattle.std.specs.Prelude.{None, ℕ, ◌≡◌, ◌+◌, ◌<◌, false, List, [], ◌∷◌, ◌++◌, length, Some}
 use Rattle.adb_stream.specs.Flow.{new_flow}
 use Rattle.adb_stream.specs.Stream.{new_stream}
 use Rattle.adb_client.specs.declared.phase.Phase.TheVariants.{Opening}
@@ -19,7 +19,7 @@ newborn b k due = record {
   client = Some (record { phase = Opening b.id; forwarded = k.forwarded; due = due });
   output = k.replies;
   okays = [];
-  ending = k.ending;
+  ending = None;
 }
 
 -- What is to be shown of a promise: that it holds at the birth of a stream, and is kept at each turn after it.

@@ -1,5 +1,5 @@
 -- What is promised of a stream, of a whole history: from its birth on it holds of what is seen of the stream.
-use Rattle.std.specs.Prelude.{None, ℕ, ◌≡◌, ◌≤◌, Bool, true, false, if◌then◌else◌, ◌||◌, is_some, List, [], length}
+use Rattle.std.specs.Prelude.{ℕ, ◌≡◌, ◌≤◌, Bool, true, false, if◌then◌else◌, ◌||◌, is_some, List, [], length}
 use Rattle.adb_wire.specs.Cutting.{framed}
 use Rattle.adb_history.specs.Machine.{History, state, told}
 use Rattle.adb_history.specs.Bytes.{is_lost, bytes_put, bytes_received, brought}
@@ -9,10 +9,9 @@ use Rattle.adb_history.specs.Tied.{came_count}
 use Rattle.adb_fifo_down.specs.Line.{Line}
 use Rattle.adb_fifo_down.specs.Life.{Cradle}
 use Rattle.adb_fifo_down.specs.Turns.{Promise, Holds}
-use Rattle.adb_fifo_down.specs.Premises.{AtAllTimes, EndsBornAlone}
 
 abbrev pub line : ℕ → Birth → Line
-line l b = record { id = l; client = b.client; link = b.link }
+line l b = record { id = l; client = b.client; link = b.link; from = l }
 
 -- a link brings no more packets: it was lost, or its bytes have a fault
 abbrev pub is_shut : ℕ → History → Bool
@@ -31,7 +30,6 @@ pub record Follows (P : PromiseOf) (h : History) (l : ℕ) (b : Birth) : Type 0 
   pub credit : cradle.credit ≡ b.credit
   pub forwarded : cradle.forwarded ≡ b.forwarded
   pub replies : cradle.replies ≡ replies_of b h
-  pub unended : AtAllTimes EndsBornAlone h → cradle.ending ≡ None
   -- its client asks no more
   pub asks_no_more : b.forwarded ≡ false → is_some (asked b.client h).next ≡ true
   pub came : b.client ≤ came_count h

@@ -3,7 +3,7 @@ pub mod Treated
 pub mod Turned
 pub mod Turns
 pub mod Life
-pub mod Premises
 pub mod Follows
 pub mod Begins
 pub mod Window
+pub mod Followed

@@ -8,12 +8,11 @@ use Rattle.adb_history.specs.Births as birth
 use Rattle.adb_history.specs.Births.{opening_in, told_in, before_close, joined}
 use Rattle.adb_fifo_down.specs.Line.{SeenStream, SeenClient, View}
 
--- What was so when the stream was born: whether with credit; whether its client came through a forward; what had become due to it; and whether an ending had been told.
+-- What was so when the stream was born: whether it has credit; whether its client came through a forward; and what had become due to its client.
 pub record Cradle : Type 0 where
   pub credit : Bool
   pub forwarded : Bool
   pub replies : List ℕ
-  pub ending : Option Ending
 
 abbrev pub okay_after : Bool → List ℕ → List ℕ
 okay_after true replies = replies
@@ -36,9 +35,9 @@ pub record NeverOpens (l : ℕ) (packets : List Packet) (shut : Bool) : Type 0 w
   pub unopened : opening_in l packets ≡ None
   pub for_good : (shut ≡ true) ⊎ IsSealed l packets
 
--- its device did not close it, if no ending was told before its birth
-abbrev pub IsNotByPeer : Cradle → Option Ending → Type 0
-IsNotByPeer k ending = k.ending ≡ None → ending ≢ Some peer_closed
+-- its device did not close it
+abbrev pub IsNotByPeer : Option Ending → Type 0
+IsNotByPeer ending = ending ≢ Some peer_closed
 
 -- what is seen of its client, and of its end
 pub record Heard : Type 0 where
@@ -57,12 +56,12 @@ pub record IsWaiting (l : ℕ) (k : Cradle) (packets : List Packet) (y : Heard) 
   pub forwarded : client.forwarded ≡ k.forwarded
   pub output : y.output ≡ k.replies
   pub pending : IsPending l packets
-  pub ending : y.ending ≡ k.ending
+  pub ending : y.ending ≡ None
 
 -- its client was gone before its device opened it
 pub record IsUnheard (k : Cradle) (output : List ℕ) (ending : Option Ending) : Type 0 where
   pub output_is : output ≡ k.replies
-  pub not_by_peer : IsNotByPeer k ending
+  pub not_by_peer : IsNotByPeer ending
 
 pub record IsOrphaned (remote : ℕ) (k : Cradle) (y : Heard) : Type 0 where
   pub remote_is : remote ≡ 0
@@ -78,7 +77,7 @@ pub record IsOpened (remote l : ℕ) (k : Cradle) (packets : List Packet) (y : H
   pub told_as : opening.remote ≡ remote
   pub output : y.output ≡ lead k ++ joined (told_in opening.remote l opening.later)
   pub unclosed : before_close opening.remote l opening.later ≡ opening.later
-  pub ending : y.ending ≡ k.ending
+  pub ending : y.ending ≡ None
 
 -- ---- when it is over
 -- its device closed it, and all that it had written became due
@@ -92,7 +91,7 @@ pub record WasOpen (l : ℕ) (k : Cradle) (packets : List Packet) (output : List
   pub bytes : List ℕ
   pub output_is : output ≡ lead k ++ bytes
   pub front : IsPrefixOf bytes (joined (told_in opening.remote l opening.later))
-  pub closed : k.ending ≡ None → ending ≡ Some peer_closed → IsClosedAt l opening bytes
+  pub closed : ending ≡ Some peer_closed → IsClosedAt l opening bytes
 
 -- a client that is there is closing
 abbrev pub IsDone : Option SeenClient → Type 0

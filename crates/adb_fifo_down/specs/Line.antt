@@ -13,11 +13,12 @@ use Rattle.adb_history.specs.Events.{Event, Ending, bytes_for, owed_to, packets_
 use Rattle.adb_history.specs.Handing.{to_hand}
 use Rattle.adb_history.specs.Fifo.{okays_of, has_credit}
 
--- the stream that is spoken of: its id, its client and its link
+-- The stream that is spoken of: its id, its client and its link; and how many streams are drawn by then, at least.
 pub record Line : Type 0 where
   pub id : ℕ
   pub client : ℕ
   pub link : ℕ
+  pub from : ℕ
 
 -- ---- what is seen of a stream and its client
 pub record SeenStream : Type 0 where
@@ -72,12 +73,12 @@ view b s w = record {
   ending = ending_in b.id w;
 }
 
--- The stream has this client and this link, and no other stream has this client; and its id was drawn.
+-- The stream has this client and this link, and no other stream has this client; and so many were drawn.
 pub record Apart (b : Line) (drawn : ℕ) (streams : Rows (Option Stream)) : Type 0 where
   pub others : (k : ℕ) (x : Stream) → streams k ≡ Some x → k ≢ b.id → x.client ≢ b.client
   pub client : (x : Stream) → streams b.id ≡ Some x → x.client ≡ b.client
   pub link : (x : Stream) → streams b.id ≡ Some x → x.link ≡ b.link
-  pub born : b.id ≤ drawn
+  pub born : b.from ≤ drawn
 
 -- this is seen of the stream
 abbrev pub Shows : Line → View → State → List Event → Type 0

@@ -1,7 +1,6 @@
 -- What the device of a stream is told of what was handed out, in what is seen of the stream.
-use Rattle.std.specs.Prelude.{ℕ, ⊤, ◌+◌, ◌≡◌, ◌≢◌, ◌≤◌, Bool, true, false, List, [], length, drop, All, Option, Some, None, zero, suc}
+use Rattle.std.specs.Prelude.{ℕ, ⊤, ◌+◌, ◌≡◌, ◌≤◌, Bool, true, false, List, [], length, drop, Option, Some, None, zero, suc}
 use Rattle.adb_wire.specs.declared.packets.Packet.{Packet}
-use Rattle.adb_history.specs.Links.{credit_word}
 use Rattle.adb_history.specs.Births as birth
 use Rattle.adb_history.specs.Births.{opening_in, told_in, joined}
 use Rattle.adb_history.specs.Fifo.{whole_within, credit_of, GivesBack}

@@ -3,19 +3,21 @@
 ghost use Rattle.std.specs.Prelude.{List};
 ghost use Rattle.adb_capture.specs.declared.entry.Entry.{Entry};
 ghost use Rattle.adb_history.specs.Machine.{IsLegal};
-ghost use Rattle.adb_history.specs.Fifo.{HandsTold, HandsWholeTold, HasBirths};
-ghost use Rattle.adb_fifo_down.specs.Premises.{AtAllTimes, EndsBornAlone};
+ghost use Rattle.adb_history.specs.Fifo.{HandsTold, HandsWholeTold, KeepsDownWindow};
 
-/// In every legal history whose streams are the births, at all times, each client is handed what
-/// the device of its stream wrote, in order and once.
+/// In every legal history each client is handed what the device of its stream wrote, in order and
+/// once.
 pub fn what_is_handed_was_told()
-    ensures { (history : List Entry) → IsLegal history → AtAllTimes HasBirths history
-        → HandsTold history }
+    ensures { (history : List Entry) → IsLegal history → HandsTold history }
 {}
 
 /// And all of it, where the device closed the stream and its client was handed all that became
-/// due to it, if none but streams that were born end.
+/// due to it.
 pub fn all_is_handed_up_to_the_close()
-    ensures { (history : List Entry) → IsLegal history → AtAllTimes HasBirths history
-        → AtAllTimes EndsBornAlone history → HandsWholeTold history }
+    ensures { (history : List Entry) → IsLegal history → HandsWholeTold history }
+{}
+
+/// In every legal history what a device is told that its client was handed, it was.
+pub fn what_is_acknowledged_was_handed()
+    ensures { (history : List Entry) → IsLegal history → KeepsDownWindow history }
 {}

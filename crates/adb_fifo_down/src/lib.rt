@@ -3,5 +3,9 @@
 #![tactic(auto)]
 
 mod down;
+mod streams;
 
-pub use down::{all_is_handed_up_to_the_close, what_is_handed_was_told};
+pub use down::{
+    all_is_handed_up_to_the_close, what_is_acknowledged_was_handed, what_is_handed_was_told,
+};
+pub use streams::{every_stream_has_its_life, none_but_the_born_end};

@@ -20,7 +20,8 @@ use Rattle.adb_history.proofs.OwnedStep.{all_owned}
 use Rattle.adb_fifo_up.specs.Seen.{Seen, seen, seen_in, Sees, IsOf}
 use Rattle.adb_fifo_up.specs.Climbing.{carried}
 use Rattle.adb_fifo_up.specs.Rising.{Rises}
-use Rattle.adb_fifo_up.specs.Carrying.{AllHaveBirths, IsCarried}
+use Rattle.adb_births.proofs.Born.{all_births}
+use Rattle.adb_fifo_up.specs.Carrying.{IsCarried}
 use Rattle.adb_fifo_up.proofs.Seeing.{seen_phase, none_unseen}
 use Rattle.adb_fifo_up.proofs.BirthSteps.{IsNew, born_before, born_drawn}
 use Rattle.adb_fifo_up.proofs.Inputs.{read_here}
@@ -316,11 +317,10 @@ module _ (l : ℕ) (b : Birth) (older : History) (h : IsCarried l b older) where
           (own_carried own.0 (subst (λ (x : Entry). IsLegal (x ∷ older)) own.1 legal))
 
 -- ---- all streams
-module _ (births : AllHaveBirths) where
-  pub all_carried : (h : History) → IsLegal h → (l : ℕ) (b : Birth) → born l h ≡ Some b → IsCarried l b h
-  all_carried [] legal l b is = absurd (let drawn = born_drawn l b [] (births [] legal) is in omega (arith, drawn.0, drawn.1))
-  all_carried (e ∷ older) legal l b is = go (born_before l b e older is) (λ was. all_carried older legal.0 l b was)
-    where
-      go : (born l older ≡ Some b) ⊎ IsNew l b e older → (born l older ≡ Some b → IsCarried l b older) → IsCarried l b (e ∷ older)
-      go (inl was) before = old_carried l b older (before was) e legal
-      go (inr new) before = carried_new l b e older legal (births older legal.0, births (e ∷ older) legal) is new
+pub all_carried : (h : History) → IsLegal h → (l : ℕ) (b : Birth) → born l h ≡ Some b → IsCarried l b h
+all_carried [] legal l b is = absurd (let drawn = born_drawn l b [] (all_births [] legal) is in omega (arith, drawn.0, drawn.1))
+all_carried (e ∷ older) legal l b is = go (born_before l b e older is) (λ was. all_carried older legal.0 l b was)
+  where
+    go : (born l older ≡ Some b) ⊎ IsNew l b e older → (born l older ≡ Some b → IsCarried l b older) → IsCarried l b (e ∷ older)
+    go (inl was) before = old_carried l b older (before was) e legal
+    go (inr new) before = carried_new l b e older legal (all_births older legal.0, all_births (e ∷ older) legal) is new

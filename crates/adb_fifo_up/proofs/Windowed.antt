@@ -31,7 +31,7 @@ use Rattle.adb_history.proofs.LinkMoves.{all_linked}
 use Rattle.adb_history.proofs.Received.{ReadTie, ReadsAs, received, framed_piece}
 use Rattle.adb_fifo_up.specs.Seen.{Seen, seen, seen_in, Sees, IsOf}
 use Rattle.adb_fifo_up.specs.Climbing.{may_send}
-use Rattle.adb_fifo_up.specs.Carrying.{AllHaveBirths}
+use Rattle.adb_births.proofs.Born.{all_births}
 use Rattle.adb_fifo_up.proofs.Seeing.{seen_phase}
 use Rattle.adb_fifo_up.proofs.BirthSteps.{IsNew, born_before, born_by, born_drawn, new_above}
 use Rattle.adb_fifo_up.proofs.Shutting.{no_writes}
@@ -326,11 +326,10 @@ new_fits l b (Detach t cause) older legal has is new = absurd (born_by (Detach t
 new_fits l b (Put c bytes) older legal has is new = absurd (born_by (Put c bytes) older b new.now)
 new_fits l b (Send t bytes) older legal has is new = absurd (born_by (Send t bytes) older b new.now)
 
-module _ (births : AllHaveBirths) where
-  pub all_fit : (h : History) → IsLegal h → (l : ℕ) (b : Birth) → born l h ≡ Some b → IsFit l b h
-  all_fit [] legal l b is = absurd (let drawn = born_drawn l b [] (births [] legal) is in omega (arith, drawn.0, drawn.1))
-  all_fit (e ∷ older) legal l b is = go (born_before l b e older is) (λ was. all_fit older legal.0 l b was)
-    where
-      go : (born l older ≡ Some b) ⊎ IsNew l b e older → (born l older ≡ Some b → IsFit l b older) → IsFit l b (e ∷ older)
-      go (inl was) before = old_fits l b older (before was) (born_drawn l b older (births older legal.0) was).0 e legal.0
-      go (inr new) before = new_fits l b e older legal (births older legal.0, births (e ∷ older) legal) is new
+pub all_fit : (h : History) → IsLegal h → (l : ℕ) (b : Birth) → born l h ≡ Some b → IsFit l b h
+all_fit [] legal l b is = absurd (let drawn = born_drawn l b [] (all_births [] legal) is in omega (arith, drawn.0, drawn.1))
+all_fit (e ∷ older) legal l b is = go (born_before l b e older is) (λ was. all_fit older legal.0 l b was)
+  where
+    go : (born l older ≡ Some b) ⊎ IsNew l b e older → (born l older ≡ Some b → IsFit l b older) → IsFit l b (e ∷ older)
+    go (inl was) before = old_fits l b older (before was) (born_drawn l b older (all_births older legal.0) was).0 e legal.0
+    go (inr new) before = new_fits l b e older legal (all_births older legal.0, all_births (e ∷ older) legal) is new

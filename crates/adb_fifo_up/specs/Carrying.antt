@@ -1,22 +1,13 @@
--- What the laws of this crate stand on, and what they keep of each stream.
-use Rattle.std.specs.Prelude.{ℕ, ◌≡◌, ◌≤◌, List, ◌++◌, length, Some}
-use Rattle.adb_wire.specs.declared.packets.Packet.{Packet}
+-- What is kept of each stream that goes up.
+use Rattle.std.specs.Prelude.{ℕ, ◌≡◌, ◌≤◌, length, Some}
 use Rattle.adb_history.specs.Events.{client_closed}
-use Rattle.adb_history.specs.Machine.{History, state, told, IsLegal}
-use Rattle.adb_history.specs.Bytes.{bytes_read, sent}
+use Rattle.adb_history.specs.Machine.{History, state, told}
+use Rattle.adb_history.specs.Bytes.{bytes_read}
 use Rattle.adb_history.specs.Births.{Birth}
-use Rattle.adb_history.specs.Lives.{packets_of, ending_of, rest_of}
-use Rattle.adb_history.specs.Fifo.{HasBirths, OfEachStream}
+use Rattle.adb_history.specs.Lives.{ending_of, rest_of}
+use Rattle.adb_history.specs.Fifo.{OfEachStream}
 use Rattle.adb_history.specs.Causes.{IsDone}
 use Rattle.adb_fifo_up.specs.Rising.{Rises}
-
--- every legal history has its births
-abbrev pub AllHaveBirths : Type 0
-AllHaveBirths = (h : History) → IsLegal h → HasBirths h
-
--- the packets that were sent to each link are a front of those that became due to it
-abbrev pub SendsFront : History → Type 0
-SendsFront h = (t : ℕ) → (others : List Packet) × (sent t h ++ others ≡ packets_of t h)
 
 -- What was told of a stream and what its client holds are what the client wrote past its requests, as long as the stream lived.
 pub record IsCarried (l : ℕ) (b : Birth) (h : History) : Type 0 where

@@ -2,4 +2,4 @@ use Rattle.adb_fifo_up.proofs.Carried.{all_carried}
 use Rattle.adb_fifo_up.proofs.up.each_stream_is_carried.Goals as goal
 
 pub returns : goal.returns
-returns c births h legal l b is = all_carried births h legal l b is
+returns c h legal l b is = all_carried h legal l b is
