@@ -1,0 +1,10 @@
+pub mod Worked
+pub mod Tables
+pub mod Owed
+pub mod Settling
+pub mod Packets
+pub mod Opens
+pub mod Closes
+pub mod Machines
+pub mod Treating
+pub mod Feeding

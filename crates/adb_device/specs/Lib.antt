@@ -1,0 +1,6 @@
+pub mod Serving
+pub mod Device
+pub mod Held
+pub mod Behind
+pub mod Daemon
+pub mod Link
