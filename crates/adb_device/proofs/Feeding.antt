@@ -1,5 +1,5 @@
 -- A piece that is fed.
-use Rattle.std.specs.Prelude.{ℕ, ◌≡◌, ◌≢◌, ◌<◌, Bool, true, false, List, [], ◌∷◌, ◌++◌, fold, Option, option_map, Result, Ok, Err}
+use Rattle.std.specs.Prelude.{ℕ, ◌≡◌, ◌≢◌, ◌<◌, Bool, true, false, List, [], ◌∷◌, ◌++◌, fold, Option, Some, None, option_map, Result, Ok, Err}
 use Rattle.std.proofs.Common.{refl, sym, ◌∙◌, ap, subst, inl}
 use Rattle.std.proofs.lemmas.Bool.{true≢false}
 use Rattle.std.proofs.lemmas.List.{append_assoc}
@@ -21,7 +21,7 @@ use Rattle.adb_device.specs.Serving.{Serving, sent_bytes}
 use Rattle.adb_device.specs.Device.{Device, Setting, step, first_device, device_behind}
 use Rattle.adb_device.specs.Held.{CutFiles}
 use Rattle.adb_device.specs.Behind.{Stands, setting_of}
-use Rattle.adb_device.specs.Daemon.{HasDone, HasDoneFront, Answers, CutAt, Treats, TreatsFront, daemon_of, device_of, verdict, error_of, ran_out}
+use Rattle.adb_device.specs.Daemon.{HasDone, HasDoneFront, Answers, CutAt, Treats, TreatsFront, daemon_of, device_of, verdict, error_of, ran_out, answer_to}
 use Rattle.adb_device.proofs.Machines.{step_more, all_refused}
 
 -- files as before are those behind a front of what a packet asks for
@@ -164,3 +164,33 @@ module _ (setting : Setting) (fed taken piece : List ℕ) (read : Deframing) (ma
             whole = refl;
           };
         }
+
+-- A refusal of a CNXN and a fault stay.
+pub answer_stays : (setting : Setting) (fed more : List ℕ) (error : DaemonError) → IsBytes fed → IsBytes more → answer_to setting fed ≡ Err error
+    → answer_to setting (fed ++ more) ≡ Err error
+answer_stays setting fed more error bytes others is = go (device_of setting fed).refused refl (parts_of fed).fault refl
+  where
+    cuts : Cuts fed (parts_of fed)
+    cuts = parts_cut fed bytes
+
+    on : Continues (parts_of fed) (parts_of (fed ++ more))
+    on = continues fed more (parts_of fed) (parts_of (fed ++ more)) cuts (parts_cut (fed ++ more) (All-append (λ b. b < 256) fed more bytes others))
+
+    behind : device_of setting (fed ++ more) ≡ fold (step setting) (device_of setting fed) on.others
+    behind = ap (λ (ps : List Packet). device_behind setting ps) on.begins ∙ step_more setting (first_device setting) (parts_of fed).packets on.others
+
+    go : (refused : Bool) → (device_of setting fed).refused ≡ refused → (fault : Option PacketFault) → (parts_of fed).fault ≡ fault
+        → answer_to setting (fed ++ more) ≡ Err error
+    go true over fault read =
+        let same = behind ∙ all_refused setting (device_of setting fed) on.others over in
+        let still : (device_of setting (fed ++ more)).refused ≡ true = ap (λ (d : Device). d.refused) same ∙ over in
+        ap (λ (b : Bool). verdict b (parts_of (fed ++ more)).fault) still
+        ∙ (sym (ap (λ (b : Bool). verdict b (parts_of fed).fault) over) ∙ is)
+    go false open_still (Some fault) read =
+        let stays = on.stays fault read in
+        ap (λ (ps : List Packet). verdict (device_behind setting ps).refused (parts_of (fed ++ more)).fault) stays.0
+        ∙ (ap (verdict (device_of setting fed).refused) (stays.1 ∙ sym read) ∙ is)
+    go false open_still None read =
+        let fine : answer_to setting fed ≡ Ok tt = ap (λ (b : Bool). verdict b (parts_of fed).fault) open_still ∙ ap (verdict false) read in
+        let clash : Ok tt ≡ Err error = sym fine ∙ is in
+        cc

@@ -8,3 +8,7 @@ pub mod Closes
 pub mod Machines
 pub mod Treating
 pub mod Feeding
+pub mod Fronts
+pub mod Standing
+pub mod Rules
+pub mod Quiet

@@ -4,3 +4,4 @@ pub mod Held
 pub mod Behind
 pub mod Daemon
 pub mod Link
+pub mod Streams

@@ -4,6 +4,7 @@
 
 mod daemon;
 mod error;
+mod laws;
 mod machine;
 mod services;
 mod table;
@@ -12,3 +13,4 @@ mod tests;
 
 pub use daemon::Daemon;
 pub use error::DaemonError;
+pub use laws::{refusals_stay, streams_are_settled, streams_write_their_answers};

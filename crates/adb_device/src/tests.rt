@@ -1,28 +1,117 @@
-//! What no clause says: the bytes of a session on each kind of link.
+//! What no clause says: the bytes of sessions on each kind of link, each refusal once, and a push and
+//! a pull through packets in pieces.
 
 use crate::{Daemon, DaemonError};
 use adb_files::Files;
+use adb_wire::{HeadFault, WireError};
 use std::process::Abort;
 use std::test::Fail;
 
-/// The CNXN of a host that has `shell_v2` and `hub_credit`.
+/// The CNXN of a host that has `shell_v2` and `hub_credit`, and of one that has `shell_v2`.
 const HOST: &[u8] = b"CNXN\x01\0\0\x01\0\0\x10\0\x22\0\0\0\x32\x0d\0\0\xbc\xb1\xa7\xb1\
 host::features=shell_v2,hub_credit";
 
-/// A piece is fed, and what the device owes then is this, and taken.
-fn assert_owes(rt: &impl Abort, daemon: &mut Daemon, piece: &[u8], owed: &[u8]) {
-    assert!(rt; daemon.feed(piece).is_ok());
+const PLAIN_HOST: &[u8] = b"CNXN\x01\0\0\x01\0\0\x10\0\x17\0\0\0\0\0\0\0\xbc\xb1\xa7\xb1\
+host::features=shell_v2";
+
+/// A device whose own CNXN was taken.
+fn taken_once(rt: &impl Abort, daemon: &mut Daemon, cnxn: &[u8]) {
+    assert!(rt; daemon.out() == cnxn);
+    let n = daemon.out().len();
+    daemon.taken(n);
+}
+
+/// Pieces are fed, and what the device owes then is this, and taken.
+fn assert_owes(rt: &impl Abort, daemon: &mut Daemon, bytes: &[u8], owed: &[u8]) {
+    for piece in bytes.chunks(5) {
+        assert!(rt; daemon.feed(piece).is_ok());
+    }
     assert!(rt; daemon.out() == owed);
     let n = daemon.out().len();
     daemon.taken(n);
+}
+
+/// The device's own CNXN, with credit and without.
+const CREDIT_CNXN: &[u8] = b"CNXN\x01\0\0\x01\0\x10\0\0\x6a\0\0\0\x76\x28\0\0\xbc\xb1\xa7\xb1\
+device::ro.product.name=model;ro.product.model=Model;ro.product.device=model;features=shell_v2,hub_credit;";
+
+const PLAIN_CNXN: &[u8] = b"CNXN\x01\0\0\x01\0\x10\0\0\x5f\0\0\0\x31\x24\0\0\xbc\xb1\xa7\xb1\
+device::ro.product.name=model;ro.product.model=Model;ro.product.device=model;features=shell_v2;";
+
+/// What a host sends on a plain link, and what the device owes then.
+const PLAIN_LINK: [(&[u8], &[u8]); 8] = [
+    // Before the host's CNXN all is ignored.
+    (
+        b"OPEN\x07\0\0\0\0\0\0\0\x05\0\0\0\0\0\0\0\xb0\xaf\xba\xb1echo:",
+        b"",
+    ),
+    (PLAIN_HOST, b""),
+    (
+        b"OPEN\x07\0\0\0\0\0\0\0\x14\0\0\0\0\0\0\0\xb0\xaf\xba\xb1shell,v2,raw:echo hi",
+        b"OKAY\x01\0\0\0\x07\0\0\0\0\0\0\0\0\0\0\0\xb0\xb4\xbe\xa6\
+        WRTE\x01\0\0\0\x07\0\0\0\x0e\0\0\0\0\0\0\0\xa8\xad\xab\xba\
+        \x01\x03\0\0\0hi\n\x03\x01\0\0\0\0",
+    ),
+    // A live stream's id is ignored, and an OKAY that names one of its ids alone.
+    (
+        b"OPEN\x07\0\0\0\0\0\0\0\x05\0\0\0\0\0\0\0\xb0\xaf\xba\xb1echo:\
+        OKAY\x08\0\0\0\x01\0\0\0\0\0\0\0\0\0\0\0\xb0\xb4\xbe\xa6",
+        b"",
+    ),
+    (
+        b"OKAY\x07\0\0\0\x01\0\0\0\0\0\0\0\0\0\0\0\xb0\xb4\xbe\xa6",
+        b"CLSE\x01\0\0\0\x07\0\0\0\0\0\0\0\0\0\0\0\xbc\xb3\xac\xba",
+    ),
+    // Another service is refused; a further CNXN ends all streams; and ids go on.
+    (
+        b"OPEN\x08\0\0\0\0\0\0\0\x05\0\0\0\0\0\0\0\xb0\xaf\xba\xb1none:",
+        b"CLSE\0\0\0\0\x08\0\0\0\0\0\0\0\0\0\0\0\xbc\xb3\xac\xba",
+    ),
+    (
+        b"OPEN\x07\0\0\0\0\0\0\0\x05\0\0\0\0\0\0\0\xb0\xaf\xba\xb1echo:",
+        b"OKAY\x02\0\0\0\x07\0\0\0\0\0\0\0\0\0\0\0\xb0\xb4\xbe\xa6",
+    ),
+    (
+        b"CNXN\x01\0\0\x01\0\0\x10\0\x17\0\0\0\0\0\0\0\xbc\xb1\xa7\xb1host::features=shell_v2\
+        WRTE\x07\0\0\0\x02\0\0\0\x01\0\0\0\0\0\0\0\xa8\xad\xab\xbaa",
+        b"",
+    ),
+];
+
+#[test]
+fn shell_v2_packets(rt: HostRuntime) -> Result<(), Fail> {
+    let alloc = rt.alloc();
+    let mut daemon = Daemon::plain(alloc, Files::new(alloc), 4096)?;
+    taken_once(&rt, &mut daemon, PLAIN_CNXN);
+    for (bytes, owed) in &PLAIN_LINK {
+        assert_owes(&rt, &mut daemon, bytes, owed);
+    }
+    assert!(rt; daemon.files().get(b"/a").is_none());
+    Ok(())
+}
+
+#[test]
+fn faults_stay(rt: HostRuntime) -> Result<(), Fail> {
+    let alloc = rt.alloc();
+    let mut broken = Daemon::plain(alloc, Files::new(alloc), 4096)?;
+    let fault = Err(DaemonError::Broken(WireError::Broken(HeadFault::BadMagic {
+        command: 0x4e45_504f,
+        magic: 0,
+    })));
+    assert!(rt; broken.feed(b"OPEN\0\0\0\0\0\0\0\0\0\0\0\0\0\0\0\0\0\0\0\0") == fault);
+    assert!(rt; broken.feed(PLAIN_HOST) == fault);
+    let mut refused = Daemon::plain(alloc, Files::new(alloc), 4096)?;
+    let cnxn = b"CNXN\x01\0\0\x01\xff\x0f\0\0\x06\0\0\0\0\0\0\0\xbc\xb1\xa7\xb1host::";
+    assert!(rt; refused.feed(cnxn) == Err(DaemonError::BadCnxn));
+    assert!(rt; refused.feed(PLAIN_HOST) == Err(DaemonError::BadCnxn));
+    Ok(())
 }
 
 #[test]
 fn credit_is_given_and_given_back(rt: HostRuntime) -> Result<(), Fail> {
     let alloc = rt.alloc();
     let mut daemon = Daemon::new(alloc, Files::new(alloc), 4096)?;
-    let n = daemon.out().len();
-    daemon.taken(n);
+    taken_once(&rt, &mut daemon, CREDIT_CNXN);
     assert_owes(&rt, &mut daemon, HOST, b"");
     assert_owes(
         &rt,
