@@ -1,5 +1,6 @@
 -- What a stream writes is a front of its service's answer, as payloads come and writes go.
-use Rattle.std.specs.Prelude.{ℕ, ◌≡◌, ◌≢◌, ◌≤◌, ◌-◌, ◌==◌, cond, if◌then◌else◌, Bool, true, false, List, [], ◌∷◌, ◌++◌, length, take, drop, zero, suc, Some, None}
+use Rattle.std.specs.Prelude.{ℕ, ◌≡◌, ◌≢◌, ◌≤◌, ◌-◌, ◌==◌, cond, if◌then◌else◌, Bool, true, false}
+use Rattle.std.specs.Prelude.{List, [], ◌∷◌, ◌++◌, length, take, drop, zero, suc, Some, None}
 use Rattle.std.proofs.Common.{refl, sym, ◌∙◌, ap, arith}
 use Rattle.std.specs.Io.{StartsWith}
 use Rattle.std.proofs.Transfers.{starts_with_of_append}
@@ -68,8 +69,10 @@ pub front_took : (came : Came) (row : Row) → IsFront row → IsFront (row_took
 front_took came row front =
     let grows = answers_more row.kind row.first came row.past in
     let all = (service_answer row.kind row.first (came ∷ row.past)).bytes in
-    let whole : all ≡ row.sent ++ (unsent row ++ grows.more) = grows.is ∙ (ap (λ l. l ++ grows.more) (sym front) ∙ append_assoc row.sent (unsent row) grows.more) in
-    ap (λ l. l ++ drop (length row.sent) all) (sym (starts_with_of_append all row.sent (unsent row ++ grows.more) whole)) ∙ take-append-drop (length row.sent) all
+    let whole : all ≡ row.sent ++ (unsent row ++ grows.more) = grows.is ∙ (ap (λ l. l ++ grows.more) (sym front)
+    ∙ append_assoc row.sent (unsent row) grows.more) in
+    ap (λ l. l ++ drop (length row.sent) all) (sym (starts_with_of_append all row.sent (unsent row ++ grows.more) whole))
+    ∙ take-append-drop (length row.sent) all
 
 front_past : (most : ℕ) (row : Row) → IsFront row → IsFront (row_past (next_payload most row) row)
 front_past most row front =
@@ -77,7 +80,8 @@ front_past most row front =
     let rest = unsent row in
     let n = room_of row.flow most in
     let next = take n rest in
-    let whole : all ≡ (row.sent ++ next) ++ drop n rest = sym front ∙ (ap (λ l. row.sent ++ l) (sym (take-append-drop n rest)) ∙ sym (append_assoc row.sent next (drop n rest))) in
+    let whole : all ≡ (row.sent ++ next) ++ drop n rest = sym front ∙ (ap (λ l. row.sent ++ l) (sym (take-append-drop n rest))
+    ∙ sym (append_assoc row.sent next (drop n rest))) in
     ap (λ l. l ++ drop (length (row.sent ++ next)) all) (sym (starts_with_of_append all (row.sent ++ next) (drop n rest) whole))
     ∙ take-append-drop (length (row.sent ++ next)) all
 

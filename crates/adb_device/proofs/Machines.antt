@@ -27,7 +27,8 @@ module _ (setting : Setting) (d : Device) where
   all_refused (p ∷ more) is = ap (λ (e : Device). fold (step setting) e more) (step_refused p is) ∙ all_refused more is
 
 -- packets behind packets
-pub step_more : (setting : Setting) (d : Device) (front more : List Packet) → fold (step setting) d (front ++ more) ≡ fold (step setting) (fold (step setting) d front) more
+pub step_more : (setting : Setting) (d : Device) (front more : List Packet)
+    → fold (step setting) d (front ++ more) ≡ fold (step setting) (fold (step setting) d front) more
 step_more setting d [] more = refl
 step_more setting d (p ∷ front) more = step_more setting (step setting d p) front more
 
@@ -37,7 +38,8 @@ module _ (setting : Setting) (d : Device) (p : Packet) (taken : List ℕ) (machi
       → Holds (served p.command link p d.serving) taken (view_of services) → Stands (treated setting p d) taken (record machine { services = services })
   serves link services other linked held =
       let on : d.link ≡ Some link = sym h.link ∙ linked in
-      subst (λ (t : Bool). Stands (if t then linked_to (link_of setting.most setting.credit p) d else served_on d.link p d) taken (record machine { services = services }))
+      subst (λ (t : Bool). Stands (if t then linked_to (link_of setting.most setting.credit p) d else served_on d.link p d) taken
+      (record machine { services = services }))
       (sym other) (subst (λ (l : Option Link). Stands (served_on l p d) taken (record machine { services = services })) (sym on)
       (record { link = h.link; refused = h.refused; holds = held }))
 

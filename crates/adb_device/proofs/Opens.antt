@@ -124,7 +124,8 @@ module _ (link : Link) (p : Packet) (s : Serving) (taken : List ℕ) (view : Vie
 
     -- what the call says of the stream, in the definition's words
     told : (stream : Stream) (due : List ℕ) (done : Bool)
-        → Settles link.sums (view.drawn + 1) link.most (opened p.arg0 kind view.files (credit_of link p)) stream (view.due ++ greeting (view.drawn + 1)) due done
+        → Settles link.sums (view.drawn + 1) link.most (opened p.arg0 kind view.files (credit_of link p)) stream (view.due ++ greeting
+        (view.drawn + 1)) due done
         → Settles link.sums (s.drawn + 1) link.most row stream (view.due ++ sent_bytes hello) due done
     told stream due done settles =
         subst (λ (l : List ℕ). Settles link.sums (s.drawn + 1) link.most row stream (view.due ++ l) due done) (sym (append-nil (greeting (s.drawn + 1))))
@@ -153,7 +154,8 @@ module _ (link : Link) (p : Packet) (s : Serving) (taken : List ℕ) (view : Vie
         (view.due ++ greeting (view.drawn + 1)) due) on o.settles))
         (subst (λ (k : ℕ). Puts (k + 1) (Some stream) view.streams streams × Puts stream.host (Some (k + 1)) view.hosts hosts) h.drawn puts) in
         let left : files_opened kind s.files ≡ files = ap (files_opened kind) (sym h.files) ∙ sym o.left in
-        subst (λ (k : ℕ). Holds (open_as link p (Some kind) s) taken (record { drawn = k; streams = streams; hosts = hosts; files = files; due = due })) (sym is)
+        subst (λ (k : ℕ). Holds (open_as link p (Some kind) s) taken
+        (record { drawn = k; streams = streams; hosts = hosts; files = files; due = due })) (sym is)
         (subst (λ (f : List Entry). Holds (open_as link p (Some kind) s) taken
         (record { drawn = view.drawn + 1; streams = streams; hosts = hosts; files = f; due = due })) left result)
 

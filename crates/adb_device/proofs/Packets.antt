@@ -99,7 +99,8 @@ module _ (link : Link) (p : Packet) (s : Serving) (taken : List ℕ) (view : Vie
         (live_settles link p.arg1 (row_acked (credit_word_in p.payload) l.row) s taken view h due l.row streams l.is refl
         (subst (SettlesAt link p.arg1 (row_acked (credit_word_in p.payload) l.row) view.streams streams view.due due) on (settles l.row l.stands)))
 
-    pub okay_ends : (streams' : List (ℕ × Stream)) (hosts : List (ℕ × ℕ)) (done : Bool) → done ≡ true → ((row : Row) → StandsAt (Some row) (at p.arg1 view.streams)
+    pub okay_ends : (streams' : List (ℕ × Stream)) (hosts : List (ℕ × ℕ)) (done : Bool) → done ≡ true → ((row : Row)
+        → StandsAt (Some row) (at p.arg1 view.streams)
         → SettlesAt link p.arg1 (row_acked (credit_word_in p.payload) row) view.streams streams view.due due done)
         → Puts p.arg1 None streams streams' → Puts p.arg0 None view.hosts hosts
         → Holds (on_okay link p s) taken (record view { streams = streams'; hosts = hosts; due = due })
@@ -140,7 +141,8 @@ module _ (link : Link) (p : Packet) (s : Serving) (taken : List ℕ) (view : Vie
           h.files (subst (λ (b : List ℕ). SettlesAt link p.arg1 (row_took (came_over p.payload view.files) row) view.streams streams (view.due ++ b) due done)
           (acks_are link p.arg1 row.host row.flow (length p.payload)) (w.settles row (live is).stands))
 
-      to_rule : (v : View) → Holds (settled link p.arg1 (row_took came row) (record (owing more s) { files = files })) taken v → Holds (on_write link p s) taken v
+      to_rule : (v : View) → Holds (settled link p.arg1 (row_took came row) (record (owing more s) { files = files })) taken v
+          → Holds (on_write link p s) taken v
       to_rule v held =
           subst (λ (r : Option Row). Holds (written_to link p r s) taken v) (sym (live is).both)
           (subst (λ (f : List Entry). Holds (settled link p.arg1 (row_took came row) (record (owing more s) { files = f })) taken v) over held)
@@ -155,7 +157,8 @@ module _ (link : Link) (p : Packet) (s : Serving) (taken : List ℕ) (view : Vie
         let w = as_told files done false on told in
         to_rule files false w (record view { streams = streams; files = files; due = due })
         (live_settles link p.arg1 (row_took (came files false w) (row files false w)) (record (owing (more files false w) s) { files = files }) taken
-        (record view { files = files; due = view.due ++ sent_bytes (more files false w) }) (owes files false w) due (row files false w) streams (live is).is refl
+        (record view { files = files; due = view.due ++ sent_bytes (more files false w) }) (owes files false w) due (row files false w) streams
+        (live is).is refl
         (settled_then files false w))
 
     pub write_ends : (files : List Entry) (streams' : List (ℕ × Stream)) (hosts : List (ℕ × ℕ)) (done : Bool) → done ≡ true → Writes files done

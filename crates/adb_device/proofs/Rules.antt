@@ -1,5 +1,6 @@
 -- What one stream wrote, by each packet of the host.
-use Rattle.std.specs.Prelude.{ℕ, ◌≡◌, ◌<◌, ◌≤◌, ◌+◌, ◌==◌, ◌||◌, if◌then◌else◌, Bool, true, false, cond, List, [], ◌∷◌, ◌++◌, length, map, fold, Option, Some, None}
+use Rattle.std.specs.Prelude.{ℕ, ◌≡◌, ◌<◌, ◌≤◌, ◌+◌, ◌==◌, ◌||◌, if◌then◌else◌, Bool, true, false}
+use Rattle.std.specs.Prelude.{cond, List, [], ◌∷◌, ◌++◌, length, map, fold, Option, Some, None}
 use Rattle.std.proofs.Common.{refl, sym, ◌∙◌, ap, subst, arith, ◌⊎◌, inl, inr}
 use Rattle.std.specs.Ordering.{nat_cmp, is_eq}
 use Rattle.std.proofs.lemmas.Bool.{cases_eq, cases_lt, eq-eqb, ne_eqb, true≢false}
@@ -25,7 +26,8 @@ use Rattle.adb_device.specs.Serving.{open_as, on_open, written_to, on_write, ack
 use Rattle.adb_device.specs.Device.{Device, Setting, step, treated, linked_to, served_on, first_device, device_behind}
 use Rattle.adb_device.specs.Streams.{over_at, Writes}
 use Rattle.adb_device.proofs.Fronts.{front_took}
-use Rattle.adb_device.proofs.Standing.{IsSilent, IsOrderly, IsReady, silent_close, writes_stay, other_settles, own_settles, other_gone, own_gone, silent_none, same_written, same_closed}
+use Rattle.adb_device.proofs.Standing.{IsSilent, IsOrderly, IsReady, silent_close, writes_stay, other_settles}
+use Rattle.adb_device.proofs.Standing.{own_settles, other_gone, own_gone, silent_none, same_written, same_closed}
 
 -- the row of both ids is the one that stands there
 named_is : (host : ℕ) (found : Option Row) (row : Row) → named host found ≡ Some row → found ≡ Some row
@@ -198,7 +200,8 @@ at_same q n h = grind (arith, nat_tests)
 at_other : (q n : ℕ) → (q ≡ n → ⊥) → is_eq (nat_cmp q n) ≡ false
 at_other q n h = grind (arith, nat_tests)
 
-all_over : (own : ℕ) (rows : List (ℕ × Row)) (ended : List Ended) → over_at own (map (ended_at false) rows ++ ended) ≡ or_over own (at own rows) (over_at own ended)
+all_over : (own : ℕ) (rows : List (ℕ × Row)) (ended : List Ended)
+    → over_at own (map (ended_at false) rows ++ ended) ≡ or_over own (at own rows) (over_at own ended)
 unfolding or_over
 all_over own [] ended = refl
 all_over own (e ∷ es) ended = go (cases_eq e.0 own) (all_over own es ended)

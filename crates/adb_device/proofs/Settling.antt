@@ -150,8 +150,10 @@ module _ (link : Link) (own : ℕ) (row : Row) (x : Serving) (taken : List ℕ) 
         gone q above (inr apart) = lost.others q apart ∙ h.fresh q above
 
     -- a new stream settles and goes on
-    pub new_settles : (stream : Stream) (streams : List (ℕ × Stream)) (hosts : List (ℕ × ℕ)) → (own ≡ x.drawn) × (at own x.rows ≡ None) × (at row.host view.hosts ≡ None)
-        → Settles link.sums own link.most row stream view.due due false → Puts own (Some stream) view.streams streams × Puts stream.host (Some own) view.hosts hosts
+    pub new_settles : (stream : Stream) (streams : List (ℕ × Stream)) (hosts : List (ℕ × ℕ))
+        → (own ≡ x.drawn) × (at own x.rows ≡ None) × (at row.host view.hosts ≡ None)
+        → Settles link.sums own link.most row stream view.due due false
+        → Puts own (Some stream) view.streams streams × Puts stream.host (Some own) view.hosts hosts
         → Holds (settled link own row x) taken (record view { streams = streams; hosts = hosts; due = due })
     new_settles stream streams hosts free settles puts =
         let on : is_done end ≡ false = sym settles.done_then in

@@ -170,4 +170,10 @@ module _ (rows : List (ℕ × Row)) (streams : List (ℕ × Stream)) (hosts : Li
 -- no streams
 pub table_empty : IsTable [] [] []
 unfolding IsStrictlySortedBy
-table_empty = record { rises = tt; stands = λ own. tt; index = λ host own there. absurd (none_some own there); indexed = λ own row there. absurd (none_some row there) }
+table_empty = record {
+  rises = tt;
+  stands = λ own. tt;
+  index = λ host own there. absurd (none_some own there);
+  indexed = λ own row there. absurd
+      (none_some row there);
+}

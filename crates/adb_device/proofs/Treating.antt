@@ -29,7 +29,8 @@ module _ (read : Deframing) (machine : Machine) (read' : Deframing) (machine' : 
     done = t.done ++ packet ∷ [];
     is = given_is ∙ sym (append_assoc t.done (packet ∷ []) left.given);
     reads = λ fed before stands.
-        subst (λ (all : List Packet). StandsFor fed all left) (append_assoc before t.done (packet ∷ [])) (g.stands fed (before ++ t.done) (t.reads fed before stands));
+        subst (λ (all : List Packet). StandsFor fed all left) (append_assoc before t.done (packet ∷ [])) (g.stands fed (before ++ t.done)
+        (t.reads fed before stands));
     stands = λ files d taken stands.
         let setting = setting_of machine.most machine.credit files in
         subst (λ (e : Device). Stands e taken new) (sym (step_more setting d t.done (packet ∷ [])))

@@ -15,7 +15,7 @@ use Rattle.adb_device.specs.declared.machine.Machine.{Machine}
 use Rattle.adb_device.specs.Serving.{Serving, sent_bytes}
 use Rattle.adb_device.specs.Device.{Device, Setting, step, device_behind}
 use Rattle.adb_device.specs.Held.{CutFiles}
-use Rattle.adb_device.specs.Behind.{Stands, setting_of}
+use Rattle.adb_device.specs.Behind.{Stands, setting_in}
 
 -- a device that is not spent
 abbrev pub daemon_of : Deframing → Machine → Daemon
@@ -97,7 +97,7 @@ pub record Treats (deframing : Deframing) (machine : Machine) (deframing' : Defr
   pub none_left : deframing'.given ≡ []
   pub reads : (fed : List ℕ) (before : List Packet) → StandsFor fed before deframing → StandsFor fed (before ++ deframing.given) deframing'
   pub stands : (files : List Entry) (d : Device) (taken : List ℕ) → Stands d taken machine
-      → Stands (fold (step (setting_of machine.most machine.credit files)) d deframing.given) taken machine'
+      → Stands (fold (step (setting_in machine files)) d deframing.given) taken machine'
   pub most : machine'.most ≡ machine.most
   pub credit : machine'.credit ≡ machine.credit
 
@@ -107,6 +107,6 @@ pub record Treating (deframing : Deframing) (machine : Machine) (deframing' : De
   pub is : deframing.given ≡ done ++ deframing'.given
   pub reads : (fed : List ℕ) (before : List Packet) → StandsFor fed before deframing → StandsFor fed (before ++ done) deframing'
   pub stands : (files : List Entry) (d : Device) (taken : List ℕ) → Stands d taken machine
-      → Stands (fold (step (setting_of machine.most machine.credit files)) d done) taken machine'
+      → Stands (fold (step (setting_in machine files)) d done) taken machine'
   pub most : machine'.most ≡ machine.most
   pub credit : machine'.credit ≡ machine.credit

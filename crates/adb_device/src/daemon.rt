@@ -4,10 +4,11 @@ ghost use Rattle.std.specs.Prelude.{◌≡◌, ◌≢◌, ◌≤◌, ◌++◌, [
 ghost use Rattle.adb_wire.specs.declared.headers.TheConstants.{MAX_PAYLOAD};
 ghost use Rattle.adb_wire.specs.declared.format.PacketFault.{PacketFault};
 ghost use Rattle.adb_wire.specs.Header.{IsBytes};
+ghost use Rattle.adb_daemon.specs.declared.link.TheConstants.{LEAST_PAYLOAD};
 ghost use Rattle.adb_wire.specs.Deframing.{Takes};
 ghost use Rattle.adb_files.specs.Entries.{Entry};
 ghost use Rattle.adb_device.specs.Device.{Device, Setting};
-ghost use Rattle.adb_device.specs.Behind.{Stands, setting_of};
+ghost use Rattle.adb_device.specs.Behind.{Stands, setting_in, setting_of};
 ghost use Rattle.adb_device.specs.Daemon.{HasDone, HasDoneFront, Answers, Treats, TreatsFront, daemon_of, error_of, files_of, owed, ran_out, verdict};
 
 use crate::error::DaemonError;
@@ -16,9 +17,9 @@ use adb_files::Files;
 use adb_wire::{Deframer, WireError};
 use std::alloc::{AllocError, Global};
 
-/// A model of a device in the process, over packets (protocol.txt): its services are `echo:`, `sync:`,
-/// `shell:` and `shell,<words>:`. What comes from the host is fed, in pieces of any length, and what
-/// goes to it is taken.
+/// A model of a device in the process, over packets (protocol.txt): its services are `echo:`,
+/// `sync:`, `shell:` and `shell,<words>:`. What comes from the host is fed, in pieces of any
+/// length, and what goes to it is taken.
 #[derive(Drop)]
 pub struct Daemon {
     deframer: Deframer,
@@ -27,10 +28,10 @@ pub struct Daemon {
 }
 
 impl Daemon {
-    /// A device with these files that takes payloads of at most `maxdata` bytes, and credit in bytes
-    /// where its host does. Its own CNXN is due.
+    /// A device with these files that takes payloads of at most `maxdata` bytes, and credit in
+    /// bytes where its host does. Its own CNXN is due.
     pub fn new(alloc: Global, files: Files, maxdata: u32) -> Result<Daemon, AllocError>
-        requires least { 4096 ≤ maxdata }
+        requires least { LEAST_PAYLOAD ≤ maxdata }
         requires most { maxdata ≤ MAX_PAYLOAD }
         ensures { IfOk result (λ daemon. HasDone (setting_of maxdata true files) [] [] daemon) }
     {
@@ -39,19 +40,19 @@ impl Daemon {
 
     /// The same with one write each way on every link.
     pub fn plain(alloc: Global, files: Files, maxdata: u32) -> Result<Daemon, AllocError>
-        requires least { 4096 ≤ maxdata }
+        requires least { LEAST_PAYLOAD ≤ maxdata }
         requires most { maxdata ≤ MAX_PAYLOAD }
         ensures { IfOk result (λ daemon. HasDone (setting_of maxdata false files) [] [] daemon) }
     {
         begin(alloc, files, maxdata, false)
     }
 
-    /// Takes the next piece of what the host sends. Each whole packet is treated in order. `BadCnxn`
-    /// comes exactly where one of the packets is a CNXN that is refused; else `Broken` exactly where the
-    /// bytes have a fault, which is that of `Deframer`. Both stay, and nothing behind them is treated.
-    /// After want of memory the device is spent: every call answers it and changes nothing. What it owes
-    /// is then that of a front of the packets, and the files are those behind it, or behind a front of
-    /// what the next packet asks for.
+    /// Takes the next piece of what the host sends. Each whole packet is treated in order.
+    /// `BadCnxn` comes exactly where one of the packets is a CNXN that is refused; else `Broken`
+    /// exactly where the bytes have a fault, which is that of `Deframer`. Both stay, and nothing
+    /// behind them is treated. After want of memory the device is spent: every call answers it and
+    /// changes nothing. What it owes is then that of a front of the packets, and the files are
+    /// those behind it, or behind a front of what the next packet asks for.
     pub fn feed(&mut self, piece: &[u8]) -> Result<(), DaemonError>
         ensures whole { result ≢ Err DaemonError.OutOfMemory → (setting : Setting)
             (fed taken : List ℕ) → HasDone setting fed taken self.old
@@ -175,8 +176,7 @@ fn treat_all(deframer: &mut Deframer, machine: &mut Machine) -> Result<(), Alloc
     ensures ok { OnOk result (Treats deframer.old machine.old deframer.new machine.new) }
     ensures front { OnErr result ((files : List Entry) (d : Device) (taken : List ℕ)
         → Stands d taken machine.old → TreatsFront
-        (setting_of machine.old.most machine.old.credit files) d deframer.old.given taken
-        machine.new) }
+        (setting_in machine.old files) d deframer.old.given taken machine.new) }
 {
     while let Some(packet) = deframer.next() {
         machine.step(&packet)?;

@@ -20,8 +20,8 @@ pub fn streams_write_their_answers()
         in Writes own s.made (at own s.rows) (over_at own s.ended) }
 {}
 
-/// A live stream has nothing to write that its window lets go, and is not done: where its service has
-/// ended, all is written and nothing is outstanding, it was closed.
+/// A live stream has nothing to write that its window lets go, and is not done: where its service
+/// has ended, all is written and nothing is outstanding, it was closed.
 pub fn streams_are_settled()
     ensures { (setting : Setting) (packets : List Packet) (link : Link) (own : ℕ) (row : Row)
         → (device_behind setting packets).link ≡ Some link

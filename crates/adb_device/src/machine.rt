@@ -3,7 +3,7 @@
 ghost use Rattle.std.specs.Prelude.{◌≡◌, ◌≤◌, ◌++◌, [], ℕ, List, length, Some, None, IfOk, OnOk, OnErr};
 ghost use Rattle.adb_device.specs.Device.{Device, Setting, first_device, identity_text, own_cnxn, step, treated, linked_to};
 ghost use Rattle.adb_device.specs.Serving.{bytes_of};
-ghost use Rattle.adb_device.specs.Behind.{Stands, setting_of};
+ghost use Rattle.adb_device.specs.Behind.{Stands, setting_in, setting_of};
 ghost use Rattle.adb_device.specs.Link.{Fits};
 ghost use Rattle.adb_device.specs.Held.{CutFiles};
 ghost use Rattle.adb_daemon.specs.Due.{Grows};
@@ -84,7 +84,8 @@ impl Machine {
     pub fn new(alloc: Global, files: Files, most: u32, credit: bool) -> Result<Machine, AllocError>
         ensures stands { IfOk result (λ machine.
             Stands (first_device (setting_of most credit files)) [] machine) }
-        ensures setting { IfOk result (λ machine. (machine.most ≡ most) × (machine.credit ≡ credit)) }
+        ensures setting { IfOk result (λ machine.
+            (machine.most ≡ most) × (machine.credit ≡ credit)) }
     {
         let due = first_due(alloc, most, credit)?;
         Ok(Machine {
@@ -101,13 +102,13 @@ impl Machine {
         })
     }
 
-    /// Treats a packet. After want of memory what is due is as before, and the files are those behind a
-    /// front of what the packet asks for.
+    /// Treats a packet. After want of memory what is due is as before, and the files are those
+    /// behind a front of what the packet asks for.
     pub fn step(&mut self, packet: &Packet) -> Result<(), AllocError>
         requires { length packet.now.payload ≤ MAX_PAYLOAD }
         ensures ok { OnOk result ((files : List Entry) (d : Device) (taken : List ℕ)
             → Stands d taken self.old
-            → Stands (step (setting_of self.old.most self.old.credit files) d packet.now) taken self.new) }
+            → Stands (step (setting_in self.old files) d packet.now) taken self.new) }
         ensures due { OnErr result (self.new.services.due.bytes ≡ self.old.services.due.bytes) }
         ensures err { OnErr result ((d : Device) (taken : List ℕ) → Stands d taken self.old
             → CutFiles packet.now.command packet.now d.serving self.new.services.files) }
@@ -128,8 +129,8 @@ impl Machine {
     fn treat(&mut self, packet: &Packet) -> Result<(), AllocError>
         requires { length packet.now.payload ≤ MAX_PAYLOAD }
         ensures ok { OnOk result ((files : List Entry) (d : Device) (taken : List ℕ)
-            → Stands d taken self.old → Stands (treated (setting_of self.old.most self.old.credit files)
-            packet.now d) taken self.new) }
+            → Stands d taken self.old
+            → Stands (treated (setting_in self.old files) packet.now d) taken self.new) }
         ensures err { OnErr result ((d : Device) (taken : List ℕ) → Stands d taken self.old
             → CutFiles packet.now.command packet.now d.serving self.new.services.files) }
         ensures grows { Grows self.old.services.due.bytes self.new.services.due.bytes }
@@ -147,7 +148,8 @@ impl Machine {
     /// A CNXN of the host. After want of memory the files are as before.
     fn connect(&mut self, packet: &Packet) -> Result<(), AllocError>
         ensures ok { OnOk result ((files : List Entry) (d : Device) (taken : List ℕ)
-            → Stands d taken self.old → Stands (linked_to (link_of self.old.most self.old.credit packet.now) d) taken self.new) }
+            → Stands d taken self.old → Stands
+            (linked_to (link_of self.old.most self.old.credit packet.now) d) taken self.new) }
         ensures files { self.new.services.files ≡ self.old.services.files }
         ensures due { self.new.services.due ≡ self.old.services.due }
         ensures setting { (self.new.most ≡ self.old.most) × (self.new.credit ≡ self.old.credit) }
@@ -184,7 +186,9 @@ fn identity_text(credit: bool) -> &'static [u8]
     ensures short { length result.now ≤ MAX_PAYLOAD }
 {
     if credit {
-        return b"device::ro.product.name=model;ro.product.model=Model;ro.product.device=model;features=shell_v2,hub_credit;";
+        return b"device::ro.product.name=model;ro.product.model=Model;ro.product.device=model;\
+        features=shell_v2,hub_credit;";
     }
-    b"device::ro.product.name=model;ro.product.model=Model;ro.product.device=model;features=shell_v2;"
+    b"device::ro.product.name=model;ro.product.model=Model;ro.product.device=model;\
+    features=shell_v2;"
 }

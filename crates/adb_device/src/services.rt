@@ -30,15 +30,15 @@ pub struct Services {
 }
 
 impl Services {
-    /// A packet of the host that speaks of a stream. After want of memory the files are those behind a
-    /// front of what it asks for.
+    /// A packet of the host that speaks of a stream. After want of memory the files are those
+    /// behind a front of what it asks for.
     pub fn serve(&mut self, alloc: Global, link: Link, packet: &Packet) -> Result<(), AllocError>
         requires most { link.most ≤ MAX_PAYLOAD }
         requires payload { length packet.now.payload ≤ MAX_PAYLOAD }
         ensures ok { OnOk result ((s : Serving) (taken : List ℕ) → Holds s taken (view_of self.old)
             → Holds (served packet.now.command link packet.now s) taken (view_of self.new)) }
-        ensures err { OnErr result ((s : Serving) (taken : List ℕ) → Holds s taken (view_of self.old)
-            → CutFiles packet.now.command packet.now s self.new.files) }
+        ensures err { OnErr result ((s : Serving) (taken : List ℕ)
+            → Holds s taken (view_of self.old) → CutFiles packet.now.command packet.now s self.new.files) }
         ensures grows { Grows self.old.due.bytes self.new.due.bytes }
     {
         match packet.command {
@@ -59,8 +59,8 @@ impl Services {
         requires { link.most ≤ MAX_PAYLOAD }
         ensures ok { OnOk result ((s : Serving) (taken : List ℕ) → Holds s taken (view_of self.old)
             → Holds (on_open link packet.now s) taken (view_of self.new)) }
-        ensures err { OnErr result ((s : Serving) (taken : List ℕ) → Holds s taken (view_of self.old)
-            → CutOpen packet.now s self.new.files) }
+        ensures err { OnErr result ((s : Serving) (taken : List ℕ)
+            → Holds s taken (view_of self.old) → CutOpen packet.now s self.new.files) }
         ensures grows { Grows self.old.due.bytes self.new.due.bytes }
     {
         if packet.arg0 == 0 || self.table.is_taken(packet.arg0) {
@@ -75,7 +75,8 @@ impl Services {
         }
     }
 
-    /// An OPEN of a service that the device knows, with a host's id that is not that of a live stream.
+    /// An OPEN of a service that the device knows, with a host's id that is not that of a live
+    /// stream.
     fn open_as(
         &mut self,
         alloc: Global,
@@ -87,7 +88,8 @@ impl Services {
         requires left { self.old.table.drawn < u32.MAX }
         ensures ok { OnOk result ((s : Serving) (taken : List ℕ) → Holds s taken (view_of self.old)
             → at packet.now.arg0 self.old.table.hosts.entries ≡ None
-            → Holds (open_as link packet.now (Some (kind_of asked.entry)) s) taken (view_of self.new)) }
+            → Holds (open_as link packet.now (Some (kind_of asked.entry)) s) taken
+            (view_of self.new)) }
         ensures err { OnErr result ((self.new.files ≡ self.old.files)
             ⊎ (self.new.files ≡ files_opened (kind_of asked.entry) self.old.files)) }
         ensures grows { Grows self.old.due.bytes self.new.due.bytes }
@@ -116,8 +118,8 @@ impl Services {
         requires payload { length packet.now.payload ≤ MAX_PAYLOAD }
         ensures ok { OnOk result ((s : Serving) (taken : List ℕ) → Holds s taken (view_of self.old)
             → Holds (on_write link packet.now s) taken (view_of self.new)) }
-        ensures err { OnErr result ((s : Serving) (taken : List ℕ) → Holds s taken (view_of self.old)
-            → CutWrite packet.now s self.new.files) }
+        ensures err { OnErr result ((s : Serving) (taken : List ℕ)
+            → Holds s taken (view_of self.old) → CutWrite packet.now s self.new.files) }
         ensures grows { Grows self.old.due.bytes self.new.due.bytes }
     {
         if !self.table.has(packet.arg1, packet.arg0) {
@@ -268,8 +270,8 @@ fn write_at(
     )
 }
 
-/// An OKAY for a live stream: it ends a write, or gives credit for more, and the stream settles. Says
-/// whether the stream is done.
+/// An OKAY for a live stream: it ends a write, or gives credit for more, and the stream settles.
+/// Says whether the stream is done.
 fn okay_at(
     alloc: Global,
     rows: &mut BTreeMap<u32, Stream>,

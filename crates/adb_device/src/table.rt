@@ -60,7 +60,8 @@ impl Table {
         }
     }
 
-    /// Adds a stream under the next id. After want of memory it may stand under one of its ids alone.
+    /// Adds a stream under the next id. After want of memory it may stand under one of its ids
+    /// alone.
     pub fn add(&mut self, own: u32, stream: Stream) -> Result<(), AllocError>
         ensures drawn { OnOk result (self.new.drawn ≡ own) }
         ensures row { OnOk result

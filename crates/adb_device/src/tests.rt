@@ -1,5 +1,5 @@
-//! What no clause says: the bytes of sessions on each kind of link, each refusal once, and a push and
-//! a pull through packets in pieces.
+//! What no clause says: the bytes of sessions on each kind of link, each refusal once, and a push
+//! and a pull through packets in pieces.
 
 use crate::{Daemon, DaemonError};
 use adb_files::Files;
@@ -33,7 +33,8 @@ fn assert_owes(rt: &impl Abort, daemon: &mut Daemon, bytes: &[u8], owed: &[u8]) 
 
 /// The device's own CNXN, with credit and without.
 const CREDIT_CNXN: &[u8] = b"CNXN\x01\0\0\x01\0\x10\0\0\x6a\0\0\0\x76\x28\0\0\xbc\xb1\xa7\xb1\
-device::ro.product.name=model;ro.product.model=Model;ro.product.device=model;features=shell_v2,hub_credit;";
+device::ro.product.name=model;ro.product.model=Model;ro.product.device=model;\
+features=shell_v2,hub_credit;";
 
 const PLAIN_CNXN: &[u8] = b"CNXN\x01\0\0\x01\0\x10\0\0\x5f\0\0\0\x31\x24\0\0\xbc\xb1\xa7\xb1\
 device::ro.product.name=model;ro.product.model=Model;ro.product.device=model;features=shell_v2;";
