@@ -9,6 +9,7 @@ pub mod Machines
 pub mod Treating
 pub mod Feeding
 pub mod Fronts
+pub mod Windows
 pub mod Standing
 pub mod Rules
 pub mod Quiet

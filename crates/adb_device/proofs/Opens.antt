@@ -14,9 +14,9 @@ use Rattle.adb_daemon.specs.Service.{files_opened}
 use Rattle.adb_daemon.specs.Stream.{Row, Settles, opened, packet_bytes, okay, clse, opening_word}
 use Rattle.adb_daemon.specs.declared.link.Link.{Link}
 use Rattle.adb_daemon.specs.declared.stream.Stream.{Stream}
-use Rattle.adb_device.specs.Serving.{Serving, Sent, with_sum, sent_bytes, owing, credit_of, open_as, on_open, is_taken, kind_for}
+use Rattle.adb_device.specs.Serving.{Serving, Sent, with_sum, sent_bytes, owing, granted, credit_of, open_as, on_open, is_taken, kind_for}
 use Rattle.adb_device.specs.Held.{IsOfHost, IsTable, View, Holds}
-use Rattle.adb_device.proofs.Settling.{owes_more, draws, new_settles, new_ends}
+use Rattle.adb_device.proofs.Settling.{owes_more, grants, draws, new_settles, new_ends}
 
 -- whether a row is one of a host's id
 of_host : ℕ → ℕ × Row → Bool
@@ -112,15 +112,17 @@ module _ (link : Link) (p : Packet) (s : Serving) (taken : List ℕ) (view : Vie
     hello = with_sum link.sums (okay (s.drawn + 1) p.arg0 (opening_word (credit_of link p))) ∷ []
 
     abbrev middle : Serving
-    middle = record (owing hello s) { drawn = s.drawn + 1; files = files_opened kind s.files }
+    middle = record (granted (s.drawn + 1) (credit_of link p) (owing hello s)) { drawn = s.drawn + 1; files = files_opened kind s.files }
 
     abbrev seen : View
     seen = record view { drawn = view.drawn + 1; files = files_opened kind s.files; due = view.due ++ sent_bytes hello }
 
     greeted : Holds middle taken seen
     greeted =
-        draws (record (owing hello s) { files = files_opened kind s.files }) taken
-        (record view { files = files_opened kind s.files; due = view.due ++ sent_bytes hello }) (owes_more s taken view hello (files_opened kind s.files) h)
+        let before = record (owing hello s) { files = files_opened kind s.files } in
+        let v = record view { files = files_opened kind s.files; due = view.due ++ sent_bytes hello } in
+        draws (granted (s.drawn + 1) (credit_of link p) before) taken v
+        (grants before taken v (s.drawn + 1) (credit_of link p) (owes_more s taken view hello (files_opened kind s.files) h))
 
     -- what the call says of the stream, in the definition's words
     told : (stream : Stream) (due : List ℕ) (done : Bool)

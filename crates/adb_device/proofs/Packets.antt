@@ -15,9 +15,9 @@ use Rattle.adb_daemon.specs.Stream.{Row, row_took, row_acked, ack_bytes, packet_
 use Rattle.adb_daemon.specs.Link.{credit_word_in}
 use Rattle.adb_daemon.specs.declared.link.Link.{Link}
 use Rattle.adb_daemon.specs.declared.stream.Stream.{Stream}
-use Rattle.adb_device.specs.Serving.{Serving, Sent, sent_bytes, sent_ack, named, written_to, on_write, acked_to, on_okay, owing, settled}
+use Rattle.adb_device.specs.Serving.{Serving, Sent, sent_bytes, sent_ack, named, written_to, on_write, acked_to, on_okay, owing, granted, settled}
 use Rattle.adb_device.specs.Held.{host_at, is_named, StandsAt, View, Holds, SettlesAt, CutWrite}
-use Rattle.adb_device.proofs.Settling.{owes_more, live_settles, live_ends}
+use Rattle.adb_device.proofs.Settling.{owes_more, grants, live_settles, live_ends}
 
 -- a live stream of both ids
 pub record Live (host : ℕ) (found : Option Row) (held : Option Stream) : Type 0 where
@@ -88,6 +88,9 @@ module _ (link : Link) (p : Packet) (s : Serving) (taken : List ℕ) (view : Vie
       })
 
   module _ (is : is_named p.arg0 (host_at p.arg1 view.streams) ≡ true) (streams : List (ℕ × Stream)) (due : List ℕ) where
+    abbrev word : Option ℕ
+    word = credit_word_in p.payload
+
     -- an OKAY for a stream that goes on, and for one that is done then
     pub okay_goes : (done : Bool) → done ≡ false → ((row : Row) → StandsAt (Some row) (at p.arg1 view.streams)
         → SettlesAt link p.arg1 (row_acked (credit_word_in p.payload) row) view.streams streams view.due due done)
@@ -96,7 +99,8 @@ module _ (link : Link) (p : Packet) (s : Serving) (taken : List ℕ) (view : Vie
         let l = live is in
         let v = record view { streams = streams; due = due } in
         subst (λ (r : Option Row). Holds (acked_to link p r s) taken v) (sym l.both)
-        (live_settles link p.arg1 (row_acked (credit_word_in p.payload) l.row) s taken view h due l.row streams l.is refl
+        (live_settles link p.arg1 (row_acked (credit_word_in p.payload) l.row) (granted p.arg1 word s) taken view
+        (grants s taken view p.arg1 word h) due l.row streams l.is refl
         (subst (SettlesAt link p.arg1 (row_acked (credit_word_in p.payload) l.row) view.streams streams view.due due) on (settles l.row l.stands)))
 
     pub okay_ends : (streams' : List (ℕ × Stream)) (hosts : List (ℕ × ℕ)) (done : Bool) → done ≡ true → ((row : Row)
@@ -108,7 +112,8 @@ module _ (link : Link) (p : Packet) (s : Serving) (taken : List ℕ) (view : Vie
         let l = live is in
         let v = record view { streams = streams'; hosts = hosts; due = due } in
         subst (λ (r : Option Row). Holds (acked_to link p r s) taken v) (sym l.both)
-        (live_ends link p.arg1 (row_acked (credit_word_in p.payload) l.row) s taken view h due l.row streams streams' hosts l.is
+        (live_ends link p.arg1 (row_acked (credit_word_in p.payload) l.row) (granted p.arg1 word s) taken view
+        (grants s taken view p.arg1 word h) due l.row streams streams' hosts l.is
         (subst (SettlesAt link p.arg1 (row_acked (credit_word_in p.payload) l.row) view.streams streams view.due due) over (settles l.row l.stands))
         puts (subst (λ (n : ℕ). Puts n None view.hosts hosts) (sym l.same) host_puts))
 

@@ -14,7 +14,7 @@ use Rattle.adb_daemon.specs.Service.{came_over, files_fed, files_opened}
 use Rattle.adb_daemon.specs.Stream.{Row, is_done, row_written, row_took, row_acked, opened, okay, opening_word}
 use Rattle.adb_daemon.specs.Link.{credit_word_in, link_of}
 use Rattle.adb_daemon.specs.declared.link.Link.{Link}
-use Rattle.adb_device.specs.Serving.{Serving, with_sum, owing, settled_as, settled, sent_writes, sent_ack, named, closable, is_taken, kind_for, credit_of}
+use Rattle.adb_device.specs.Serving.{Serving, with_sum, owing, granted, settled_as, settled, sent_writes, sent_ack, named, closable, is_taken, kind_for, credit_of}
 use Rattle.adb_device.specs.Serving.{open_as, written_to, acked_to, closed_to, served}
 use Rattle.adb_device.specs.Device.{Device, Setting, step, treated, linked_to, served_on, first_device, device_behind}
 use Rattle.adb_device.specs.Streams.{HasSettled}
@@ -66,7 +66,8 @@ module _ (link : Link) (p : Packet) (s : Serving) (quiet : IsQuiet link.most s.r
   opens None = quiet
   opens (Some kind) =
       let hello = with_sum link.sums (okay (s.drawn + 1) p.arg0 (opening_word (credit_of link p))) ∷ [] in
-      settles link p (record (owing hello s) { drawn = s.drawn + 1; files = files_opened kind s.files }) quiet (s.drawn + 1)
+      settles link p (record (granted (s.drawn + 1) (credit_of link p) (owing hello s)) { drawn = s.drawn + 1; files = files_opened kind s.files }) quiet
+      (s.drawn + 1)
       (opened p.arg0 kind s.files (credit_of link p))
 
   opens_or_not : (t : Bool) → IsQuiet link.most (if t then s else open_as link p (kind_for s.drawn p) s).rows
@@ -82,7 +83,7 @@ module _ (link : Link) (p : Packet) (s : Serving) (quiet : IsQuiet link.most s.r
 
   acks_to : (found : Option Row) → IsQuiet link.most (acked_to link p found s).rows
   acks_to None = quiet
-  acks_to (Some row) = settles link p s quiet p.arg1 (row_acked (credit_word_in p.payload) row)
+  acks_to (Some row) = settles link p (granted p.arg1 (credit_word_in p.payload) s) quiet p.arg1 (row_acked (credit_word_in p.payload) row)
 
   closes_to : (found : Option Row) → IsQuiet link.most (closed_to p.arg1 found s).rows
   closes_to None = quiet

@@ -1,6 +1,6 @@
 -- What one stream wrote, by each packet of the host.
 use Rattle.std.specs.Prelude.{ℕ, ◌≡◌, ◌<◌, ◌≤◌, ◌+◌, ◌==◌, ◌||◌, if◌then◌else◌, Bool, true, false}
-use Rattle.std.specs.Prelude.{cond, List, [], ◌∷◌, ◌++◌, length, map, fold, Option, Some, None}
+use Rattle.std.specs.Prelude.{cond, List, [], ◌∷◌, ◌++◌, length, map, fold, Option, Some, None, unwrap_or}
 use Rattle.std.proofs.Common.{refl, sym, ◌∙◌, ap, subst, arith, ◌⊎◌, inl, inr}
 use Rattle.std.specs.Ordering.{nat_cmp, is_eq}
 use Rattle.std.proofs.lemmas.Bool.{cases_eq, cases_lt, eq-eqb, ne_eqb, true≢false}
@@ -18,16 +18,18 @@ use Rattle.adb_stream.specs.declared.flow.Flow.TheVariants as flows
 use Rattle.adb_files.specs.Entries.{Entry}
 use Rattle.adb_daemon.specs.Asked.{Kind}
 use Rattle.adb_daemon.specs.Service.{Came, came_over, files_fed, files_opened}
-use Rattle.adb_daemon.specs.Stream.{Row, opened, row_took, row_acked, okay, clse, opening_word}
+use Rattle.adb_daemon.specs.Stream.{Row, opened, row_took, row_acked, flow_acked, first_flow, okay, clse, opening_word}
 use Rattle.adb_daemon.specs.Link.{credit_word_in, link_of}
 use Rattle.adb_daemon.specs.declared.link.Link.{Link}
-use Rattle.adb_device.specs.Serving.{Serving, Sent, Ended, with_sum, owing, ended_at, sent_ack, settled, named, closable, is_taken, kind_for, credit_of}
+use Rattle.adb_device.specs.Serving.{Serving, Sent, Ack, Ended, with_sum, owing, granted, ended_at, sent_ack, settled, named, closable, is_taken, kind_for, credit_of}
 use Rattle.adb_device.specs.Serving.{open_as, on_open, written_to, on_write, acked_to, on_okay, closed_to, on_close, all_gone, served}
 use Rattle.adb_device.specs.Device.{Device, Setting, step, treated, linked_to, served_on, first_device, device_behind}
-use Rattle.adb_device.specs.Streams.{over_at, Writes}
+use Rattle.adb_device.specs.Streams.{over_at, written, writes_of, acks_of, words_of, IsWithin, Writes}
+use Rattle.adb_device.proofs.Windows.{within_acked, within_first}
 use Rattle.adb_device.proofs.Fronts.{front_took}
 use Rattle.adb_device.proofs.Standing.{IsSilent, IsOrderly, IsReady, silent_close, writes_stay, other_settles}
-use Rattle.adb_device.proofs.Standing.{own_settles, other_gone, own_gone, silent_none, same_written, same_closed}
+use Rattle.adb_device.proofs.Standing.{own_settles, other_gone, own_gone, silent_none, same_written, same_closed, same_window}
+use Rattle.adb_device.proofs.Standing.{writes_ack, writes_more}
 
 -- the row of both ids is the one that stands there
 named_is : (host : ℕ) (found : Option Row) (row : Row) → named host found ≡ Some row → found ≡ Some row
@@ -46,18 +48,34 @@ closable_is host found row is = go (host == 0) is
     go false e = named_is host found row e
 
 silent_ack : (own : ℕ) (link : Link) (q host : ℕ) (flow : Flow) (n : ℕ) → IsSilent own (sent_ack link q host flow n)
-silent_ack own link q host (flows.One window) n = record { writes = refl; closes = refl }
+silent_ack own link q host (flows.One window) n = record { writes = refl; count = refl; closes = refl }
 silent_ack own link q host (flows.Credit credit) n = go (n == 0)
   where
     go : (t : Bool) → IsSilent own (if t then [] else with_sum link.sums (okay q host (little_bytes 4 n)) ∷ [])
     go true = silent_none own
-    go false = record { writes = refl; closes = refl }
+    go false = record { writes = refl; count = refl; closes = refl }
 
 -- more became due that is nothing to this stream, and the files changed
 owing_orderly : (own : ℕ) (s : Serving) (more : List Sent) (files : List Entry) → IsSilent own more → IsOrderly own s
     → IsOrderly own (record (owing more s) { files = files })
 owing_orderly own s more files silent o =
-    record { rises = o.rises; fresh = o.fresh; writes = writes_stay own s.made more silent (at own s.rows) (over_at own s.ended) o.writes }
+    record { rises = o.rises; fresh = o.fresh; writes = writes_stay own s.made more silent s.acks (at own s.rows) (over_at own s.ended) o.writes }
+
+-- a stream took an OKAY
+granted_orderly : (own q : ℕ) (word : Option ℕ) (s : Serving) → IsOrderly own s → IsOrderly own (granted q word s)
+granted_orderly own q word s o = record {
+  rises = o.rises;
+  fresh = o.fresh;
+  writes = writes_ack own s.made (record { own = q; word = word }) s.acks (at own s.rows) (over_at own s.ended) o.writes;
+}
+
+-- what this stream took
+own_ack : (own q : ℕ) (count bytes : ℕ) (word : Option ℕ) (acks : List Ack) (flow : Flow) → q ≡ own
+    → IsWithin count bytes (1 + acks_of own acks) (unwrap_or word 0 + words_of own acks) flow
+    → IsWithin count bytes (acks_of own (record { own = q; word = word } ∷ acks)) (words_of own (record { own = q; word = word } ∷ acks)) flow
+own_ack own q count bytes word acks flow here within =
+    subst (λ (t : Bool). IsWithin count bytes ((if t then 1 else 0) + acks_of own acks) ((if t then unwrap_or word 0 else 0) + words_of own acks) flow)
+    (sym (eq-eqb q own here)) within
 
 module _ (own : ℕ) (s : Serving) (o : IsOrderly own s) where
   -- an id that has a row was drawn
@@ -71,24 +89,31 @@ module _ (own : ℕ) (s : Serving) (o : IsOrderly own s) where
   -- this stream, where it lives
   pub ready : (row : Row) → at own s.rows ≡ Some row → IsReady own row s
   ready row is =
-      let w = subst (λ (r : Option Row). Writes own s.made r (over_at own s.ended)) is o.writes in
-      record { rises = o.rises; drawn = drawn row is; writes = w.0; unclosed = w.1 }
+      let w = subst (λ (r : Option Row). Writes own s.made s.acks r (over_at own s.ended)) is o.writes in
+      record { rises = o.rises; drawn = drawn row is; writes = w.0; unclosed = w.1; window = w.2 }
 
   pub okay_orderly : (link : Link) (p : Packet) → IsOrderly own (on_okay link p s)
   okay_orderly link p = go (named p.arg0 (at p.arg1 s.rows)) refl
     where
-      at_row : (row : Row) → at p.arg1 s.rows ≡ Some row → (p.arg1 ≡ own) ⊎ (p.arg1 ≡ own → ⊥)
-          → IsOrderly own (settled link p.arg1 (row_acked (credit_word_in p.payload) row) s)
-      at_row row is (inl here) =
+      at_row : (row : Row) (word : Option ℕ) → at p.arg1 s.rows ≡ Some row → (p.arg1 ≡ own) ⊎ (p.arg1 ≡ own → ⊥)
+          → IsOrderly own (settled link p.arg1 (row_acked word row) (granted p.arg1 word s))
+      at_row row word is (inl here) =
           let r = ready row (ap (λ (k : ℕ). at k s.rows) (sym here) ∙ is) in
-          subst (λ (k : ℕ). IsOrderly own (settled link k (row_acked (credit_word_in p.payload) row) s)) (sym here)
-          (own_settles own link (row_acked (credit_word_in p.payload) row) s
-          (record { rises = r.rises; drawn = r.drawn; writes = record { written = r.writes.written; front = r.writes.front }; unclosed = r.unclosed }))
-      at_row row is (inr apart) = other_settles own p.arg1 apart link (row_acked (credit_word_in p.payload) row) s o
+          subst (λ (k : ℕ). IsOrderly own (settled link k (row_acked word row) (granted k word s))) (sym here)
+          (own_settles own link (row_acked word row) (granted own word s) (record {
+            rises = r.rises;
+            drawn = r.drawn;
+            writes = record { written = r.writes.written; front = r.writes.front };
+            unclosed = r.unclosed;
+            window = own_ack own own (writes_of own s.made) (length (written own s.made)) word s.acks (flow_acked row.flow word) refl
+                (within_acked row.flow word (writes_of own s.made) (length (written own s.made)) (acks_of own s.acks) (words_of own s.acks) r.window);
+          }))
+      at_row row word is (inr apart) =
+          other_settles own p.arg1 apart link (row_acked word row) (granted p.arg1 word s) (granted_orderly own p.arg1 word s o)
 
       go : (found : Option Row) → named p.arg0 (at p.arg1 s.rows) ≡ found → IsOrderly own (acked_to link p found s)
       go None is = o
-      go (Some row) is = at_row row (named_is p.arg0 (at p.arg1 s.rows) row is) (cases_eq p.arg1 own)
+      go (Some row) is = at_row row (credit_word_in p.payload) (named_is p.arg0 (at p.arg1 s.rows) row is) (cases_eq p.arg1 own)
 
   -- a WRTE to a live stream: it is acknowledged
   module _ (link : Link) (p : Packet) (row : Row) (is : at p.arg1 s.rows ≡ Some row) where
@@ -118,6 +143,7 @@ module _ (own : ℕ) (s : Serving) (o : IsOrderly own s) where
             front = front_took came row r.writes.front;
           };
           unclosed = same_closed own s.made more silent ∙ r.unclosed;
+          window = same_window own s.made more silent s.acks row.flow r.window;
         }))
 
   pub write_orderly : (link : Link) (p : Packet) → IsOrderly own (on_write link p s)
@@ -152,29 +178,38 @@ module _ (own : ℕ) (s : Serving) (o : IsOrderly own s) (some : 0 < own) (link 
     hello = with_sum link.sums (okay (s.drawn + 1) p.arg0 (opening_word (credit_of link p))) ∷ []
 
     abbrev begun : Serving
-    begun = record (owing hello s) { drawn = s.drawn + 1; files = files_opened kind s.files }
+    begun = record (granted (s.drawn + 1) (credit_of link p) (owing hello s)) { drawn = s.drawn + 1; files = files_opened kind s.files }
 
     unheard : IsSilent own hello
-    unheard = record { writes = refl; closes = refl }
+    unheard = record { writes = refl; count = refl; closes = refl }
 
     greeted : IsOrderly own begun
     greeted = record {
       rises = o.rises;
       fresh = λ above. o.fresh (omega (arith, above));
-      writes = writes_stay own s.made hello unheard (at own s.rows) (over_at own s.ended) o.writes;
+      writes = writes_ack own (s.made ++ hello) (record { own = s.drawn + 1; word = credit_of link p }) s.acks (at own s.rows) (over_at own s.ended)
+          (writes_stay own s.made hello unheard s.acks (at own s.rows) (over_at own s.ended) o.writes);
     }
 
     new_row : (s.drawn + 1 ≡ own) ⊎ (s.drawn + 1 ≡ own → ⊥) → IsOrderly own (settled link (s.drawn + 1) fresh_row begun)
     new_row (inr apart) = other_settles own (s.drawn + 1) apart link fresh_row begun greeted
     new_row (inl here) =
         let free = o.fresh (omega (arith, here)) in
-        let none = subst (λ (r : Option Row). Writes own s.made r None) free.0
-        (subst (λ (e : Option Ended). Writes own s.made (at own s.rows) e) free.1 o.writes) in
+        let none = subst (λ (r : Option Row). Writes own s.made s.acks r None) free.0
+        (subst (λ (e : Option Ended). Writes own s.made s.acks (at own s.rows) e) free.1 o.writes) in
+        let text : written own (s.made ++ hello) ≡ [] = same_written own s.made hello unheard ∙ none.0 in
+        let count : writes_of own (s.made ++ hello) ≡ 0 = omega (arith, writes_more own s.made hello, none.2) in
         subst (λ (k : ℕ). IsOrderly own (settled link k fresh_row begun)) (sym here) (own_settles own link fresh_row begun (record {
           rises = o.rises;
           drawn = omega (arith, here);
           writes = record { written = same_written own s.made hello unheard ∙ none.0; front = refl };
           unclosed = same_closed own s.made hello unheard ∙ none.1;
+          window = own_ack own (s.drawn + 1) (writes_of own (s.made ++ hello)) (length (written own (s.made ++ hello))) (credit_of link p) s.acks
+              (first_flow (credit_of link p)) here
+              (subst (λ n. IsWithin n (length (written own (s.made ++ hello))) (1 + acks_of own s.acks) (unwrap_or (credit_of link p) 0 + words_of own s.acks)
+              (first_flow (credit_of link p))) (sym count)
+              (subst (λ (l : List ℕ). IsWithin 0 (length l) (1 + acks_of own s.acks) (unwrap_or (credit_of link p) 0 + words_of own s.acks)
+              (first_flow (credit_of link p))) (sym text) (within_first (credit_of link p) (acks_of own s.acks) (words_of own s.acks))));
         }))
 
   opened_as : (kind : Option Kind) → IsOrderly own (open_as link p kind s)
@@ -224,12 +259,12 @@ gone_orderly own s o = record {
   fresh = λ above.
       let f = o.fresh above in
       (refl, all_over own s.rows s.ended ∙ (ap (λ (r : Option Row). or_over own r (over_at own s.ended)) f.0 ∙ f.1));
-  writes = subst (λ (e : Option Ended). Writes own s.made None e) (sym (all_over own s.rows s.ended)) (go (at own s.rows) o.writes);
+  writes = subst (λ (e : Option Ended). Writes own s.made s.acks None e) (sym (all_over own s.rows s.ended)) (go (at own s.rows) o.writes);
 }
   where
-    go : (r : Option Row) → Writes own s.made r (over_at own s.ended) → Writes own s.made None (or_over own r (over_at own s.ended))
+    go : (r : Option Row) → Writes own s.made s.acks r (over_at own s.ended) → Writes own s.made s.acks None (or_over own r (over_at own s.ended))
     go None w = w
-    go (Some row) w = (refl, record { writes = w.0; closed = w.1; whole = λ closed. absurd (true≢false (sym closed)) })
+    go (Some row) w = (refl, record { writes = w.0; closed = w.1; whole = λ closed. absurd (true≢false (sym closed)) }, w.2)
 
 -- Each packet.
 module _ (own : ℕ) (some : 0 < own) where
@@ -268,8 +303,8 @@ module _ (own : ℕ) (some : 0 < own) where
 
   -- behind any packets
   pub streams_write : (setting : Setting) (packets : List Packet)
-      → Writes own (device_behind setting packets).serving.made (at own (device_behind setting packets).serving.rows)
+      → Writes own (device_behind setting packets).serving.made (device_behind setting packets).serving.acks (at own (device_behind setting packets).serving.rows)
       (over_at own (device_behind setting packets).serving.ended)
   unfolding IsStrictlySortedBy
   streams_write setting packets =
-      (all_orderly setting packets (first_device setting) (record { rises = tt; fresh = λ above. (refl, refl); writes = (refl, refl) })).writes
+      (all_orderly setting packets (first_device setting) (record { rises = tt; fresh = λ above. (refl, refl); writes = (refl, refl, refl) })).writes

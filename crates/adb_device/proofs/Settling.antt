@@ -9,7 +9,7 @@ use Rattle.adb_files.specs.Entries.{Entry}
 use Rattle.adb_daemon.specs.Stream.{Row, StandsFor, Settles, is_done, row_written, writes, writes_bytes, close_bytes, packet_bytes, clse}
 use Rattle.adb_daemon.specs.declared.link.Link.{Link}
 use Rattle.adb_daemon.specs.declared.stream.Stream.{Stream}
-use Rattle.adb_device.specs.Serving.{Serving, Sent, sent_bytes, with_sum, owing, sent_writes, sent_close, settled_as, settled}
+use Rattle.adb_device.specs.Serving.{Serving, Sent, sent_bytes, with_sum, owing, granted, sent_writes, sent_close, settled_as, settled}
 use Rattle.adb_device.specs.Held.{StandsAt, View, Holds, SettlesAt}
 use Rattle.adb_device.proofs.Tables.{table_changes, table_loses, table_gains, table_idle}
 use Rattle.adb_device.proofs.Owed.{bytes_more, bytes_one, writes_are, written_host}
@@ -62,6 +62,10 @@ owes_more s taken view more files h = record {
 -- as many ids were drawn
 pub redrawn : (s : Serving) (taken : List ℕ) (view : View) (n : ℕ) → n ≡ view.drawn → Holds s taken view → Holds s taken (record view { drawn = n })
 redrawn s taken view n is h = record { drawn = is ∙ h.drawn; table = h.table; fresh = h.fresh; files = h.files; due = h.due }
+
+-- a stream took an OKAY
+pub grants : (s : Serving) (taken : List ℕ) (view : View) (own : ℕ) (word : Option ℕ) → Holds s taken view → Holds (granted own word s) taken view
+grants s taken view own word h = record { drawn = h.drawn; table = h.table; fresh = h.fresh; files = h.files; due = h.due }
 
 -- the next id was drawn
 pub draws : (s : Serving) (taken : List ℕ) (view : View) → Holds s taken view

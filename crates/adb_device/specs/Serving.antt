@@ -39,17 +39,28 @@ pub record Ended : Type 0 where
 abbrev pub ended_at : Bool → ℕ × Row → Ended
 ended_at closed entry = record { own = entry.0; row = entry.1; closed = closed }
 
--- how many ids were drawn, the live streams by these, those that have ended, the newest first, the files, and all that ever became due
+-- an OKAY of the host that a stream took, with its credit word; the OPEN of a stream is its first
+pub record Ack : Type 0 where
+  pub own : ℕ
+  pub word : Option ℕ
+
+-- how many ids were drawn, the live streams by these, those that have ended, the newest first, the OKAYs that streams took,
+-- the files, and all that ever became due
 pub record Serving : Type 0 where
   pub drawn : ℕ
   pub rows : List (ℕ × Row)
   pub ended : List Ended
+  pub acks : List Ack
   pub files : List Entry
   pub made : List Sent
 
 -- more becomes due
 abbrev pub owing : List Sent → Serving → Serving
 owing more s = record s { made = s.made ++ more }
+
+-- a stream took an OKAY
+abbrev pub granted : ℕ → Option ℕ → Serving → Serving
+granted own word s = record s { acks = record { own = own; word = word } ∷ s.acks }
 
 -- a stream changes, or ends
 abbrev pub kept : ℕ → Row → Serving → Serving
@@ -86,7 +97,10 @@ open_as link p None s = owing (with_sum link.sums (clse 0 p.arg0) ∷ []) s
 open_as link p (Some kind) s =
     let own = s.drawn + 1 in
     settled link own (opened p.arg0 kind s.files (credit_of link p))
-    (record (owing (with_sum link.sums (okay own p.arg0 (opening_word (credit_of link p))) ∷ []) s) { drawn = own; files = files_opened kind s.files })
+    (record (granted own (credit_of link p) (owing (with_sum link.sums (okay own p.arg0 (opening_word (credit_of link p))) ∷ []) s)) {
+      drawn = own;
+      files = files_opened kind s.files;
+    })
 
 -- whether a host's id is that of a live stream
 abbrev pub is_taken : ℕ → List (ℕ × Row) → Bool
@@ -124,7 +138,7 @@ on_write link p s = written_to link p (named p.arg0 (at p.arg1 s.rows)) s
 -- An OKAY of a live stream's two ids ends a write, or gives credit for more, and the stream settles.
 abbrev pub acked_to : Link → Packet → Option Row → Serving → Serving
 acked_to link p None s = s
-acked_to link p (Some row) s = settled link p.arg1 (row_acked (credit_word_in p.payload) row) s
+acked_to link p (Some row) s = settled link p.arg1 (row_acked (credit_word_in p.payload) row) (granted p.arg1 (credit_word_in p.payload) s)
 
 abbrev pub on_okay : Link → Packet → Serving → Serving
 on_okay link p s = acked_to link p (named p.arg0 (at p.arg1 s.rows)) s

@@ -1,11 +1,13 @@
 -- What each stream wrote, in all that became due.
-use Rattle.std.specs.Prelude.{ℕ, ◌≡◌, ◌==◌, ◌&&◌, if◌then◌else◌, Bool, true, false, List, [], ◌++◌, find, Option, Some, None}
+use Rattle.std.specs.Prelude.{ℕ, ◌+◌, ◌≡◌, ◌≤◌, ◌==◌, ◌&&◌, if◌then◌else◌, Bool, true, false, List, [], ◌∷◌, ◌++◌, length, find, Option, Some, None, unwrap_or}
+use Rattle.adb_stream.specs.declared.flow.Flow.{Flow}
+use Rattle.adb_stream.specs.declared.flow.Flow.TheVariants as flows
 use Rattle.std.specs.List.{flat_map, list_any}
 use Rattle.adb_wire.specs.declared.command.Command.{Command}
 use Rattle.adb_wire.specs.declared.command.Command.TheVariants.{Wrte, Clse}
 use Rattle.adb_daemon.specs.Service.{service_answer}
 use Rattle.adb_daemon.specs.Stream.{Row, unsent, next_payload, is_done}
-use Rattle.adb_device.specs.Serving.{Sent, Ended}
+use Rattle.adb_device.specs.Serving.{Sent, Ack, Ended}
 
 abbrev pub is_write : Command → Bool
 is_write Wrte = true
@@ -29,6 +31,33 @@ closes own one = is_close one.packet.command && one.packet.arg0 == own
 abbrev pub is_closed : ℕ → List Sent → Bool
 is_closed own made = list_any (closes own) made
 
+-- how many writes a stream made
+abbrev pub writes_of : ℕ → List Sent → ℕ
+writes_of own [] = 0
+writes_of own (one ∷ more) = (if is_write one.packet.command && one.packet.arg0 == own then 1 else 0) + writes_of own more
+
+-- how many OKAYs a stream took, its OPEN among them, and the sum of their credit words
+abbrev pub acks_of : ℕ → List Ack → ℕ
+acks_of own [] = 0
+acks_of own (ack ∷ more) = (if ack.own == own then 1 else 0) + acks_of own more
+
+abbrev pub words_of : ℕ → List Ack → ℕ
+words_of own [] = 0
+words_of own (ack ∷ more) = (if ack.own == own then unwrap_or ack.word 0 else 0) + words_of own more
+
+-- what a stream may still write: one write where none is outstanding, or its credit
+abbrev pub free_of : Bool → ℕ
+free_of outstanding = if outstanding then 0 else 1
+
+abbrev pub IsWithin : (count bytes acks words : ℕ) → Flow → Type 0
+IsWithin count bytes acks words (flows.One window) = count + free_of window.outstanding ≤ acks
+IsWithin count bytes acks words (flows.Credit credit) = bytes + credit.to_send ≤ words
+
+-- A stream keeps its window: on a plain link its writes, and those that it may still make, are no more than the OKAYs that it took, its OPEN among them; where
+-- the link has credit in bytes what it wrote and may still write is no longer than the sum of their credit words.
+abbrev pub KeepsWindow : ℕ → List Sent → List Ack → Flow → Type 0
+KeepsWindow own made acks flow = IsWithin (writes_of own made) (length (written own made)) (acks_of own acks) (words_of own acks) flow
+
 -- the stream of an id among those that have ended
 abbrev pub over_at : ℕ → List Ended → Option Ended
 over_at own ended = find (λ (e : Ended). e.own == own) ended
@@ -49,11 +78,11 @@ pub record IsOver (e : Ended) (made : List Sent) : Type 0 where
   pub closed : is_closed e.own made ≡ e.closed
   pub whole : e.closed ≡ true → WritesAll e.row
 
--- What becomes due for an id: a live stream writes a front of its answer, and is not closed; of an id that was not drawn nothing is due.
-abbrev pub Writes : ℕ → List Sent → Option Row → Option Ended → Type 0
-Writes own made (Some row) over = WritesFront own row made × (is_closed own made ≡ false)
-Writes own made None (Some e) = (e.own ≡ own) × IsOver e made
-Writes own made None None = (written own made ≡ []) × (is_closed own made ≡ false)
+-- What becomes due for an id: a live stream writes a front of its answer within its window, and is not closed; of an id that was not drawn nothing is due.
+abbrev pub Writes : ℕ → List Sent → List Ack → Option Row → Option Ended → Type 0
+Writes own made acks (Some row) over = WritesFront own row made × (is_closed own made ≡ false) × KeepsWindow own made acks row.flow
+Writes own made acks None (Some e) = (e.own ≡ own) × IsOver e made × KeepsWindow own made acks e.row.flow
+Writes own made acks None None = (written own made ≡ []) × (is_closed own made ≡ false) × (writes_of own made ≡ 0)
 
 -- A live stream has settled: its window lets no write go, or none is left, and it is not done.
 pub record HasSettled (most : ℕ) (row : Row) : Type 0 where
