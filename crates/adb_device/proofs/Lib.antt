@@ -13,3 +13,4 @@ pub mod Windows
 pub mod Standing
 pub mod Rules
 pub mod Quiet
+pub mod Acks

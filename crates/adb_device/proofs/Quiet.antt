@@ -14,7 +14,8 @@ use Rattle.adb_daemon.specs.Service.{came_over, files_fed, files_opened}
 use Rattle.adb_daemon.specs.Stream.{Row, is_done, row_written, row_took, row_acked, opened, okay, opening_word}
 use Rattle.adb_daemon.specs.Link.{credit_word_in, link_of}
 use Rattle.adb_daemon.specs.declared.link.Link.{Link}
-use Rattle.adb_device.specs.Serving.{Serving, with_sum, owing, granted, settled_as, settled, sent_writes, sent_ack, named, closable, is_taken, kind_for, credit_of}
+use Rattle.adb_device.specs.Serving.{Serving, with_sum, owing, granted, settled_as, settled}
+use Rattle.adb_device.specs.Serving.{sent_writes, sent_ack, named, closable, is_taken, kind_for, credit_of}
 use Rattle.adb_device.specs.Serving.{open_as, written_to, acked_to, closed_to, served}
 use Rattle.adb_device.specs.Device.{Device, Setting, step, treated, linked_to, served_on, first_device, device_behind}
 use Rattle.adb_device.specs.Streams.{HasSettled}

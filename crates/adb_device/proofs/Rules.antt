@@ -21,7 +21,8 @@ use Rattle.adb_daemon.specs.Service.{Came, came_over, files_fed, files_opened}
 use Rattle.adb_daemon.specs.Stream.{Row, opened, row_took, row_acked, flow_acked, first_flow, okay, clse, opening_word}
 use Rattle.adb_daemon.specs.Link.{credit_word_in, link_of}
 use Rattle.adb_daemon.specs.declared.link.Link.{Link}
-use Rattle.adb_device.specs.Serving.{Serving, Sent, Ack, Ended, with_sum, owing, granted, ended_at, sent_ack, settled, named, closable, is_taken, kind_for, credit_of}
+use Rattle.adb_device.specs.Serving.{Serving, Sent, Ack, Ended, with_sum, owing, granted}
+use Rattle.adb_device.specs.Serving.{ended_at, sent_ack, settled, named, closable, is_taken, kind_for, credit_of}
 use Rattle.adb_device.specs.Serving.{open_as, on_open, written_to, on_write, acked_to, on_okay, closed_to, on_close, all_gone, served}
 use Rattle.adb_device.specs.Device.{Device, Setting, step, treated, linked_to, served_on, first_device, device_behind}
 use Rattle.adb_device.specs.Streams.{over_at, written, writes_of, acks_of, words_of, IsWithin, Writes}
@@ -32,7 +33,7 @@ use Rattle.adb_device.proofs.Standing.{own_settles, other_gone, own_gone, silent
 use Rattle.adb_device.proofs.Standing.{writes_ack, writes_more}
 
 -- the row of both ids is the one that stands there
-named_is : (host : ℕ) (found : Option Row) (row : Row) → named host found ≡ Some row → found ≡ Some row
+pub named_is : (host : ℕ) (found : Option Row) (row : Row) → named host found ≡ Some row → found ≡ Some row
 named_is host None row is = cc
 named_is host (Some other) row is = go (other.host == host) is
   where
@@ -40,7 +41,7 @@ named_is host (Some other) row is = go (other.host == host) is
     go true e = e
     go false e = cc
 
-closable_is : (host : ℕ) (found : Option Row) (row : Row) → closable host found ≡ Some row → found ≡ Some row
+pub closable_is : (host : ℕ) (found : Option Row) (row : Row) → closable host found ≡ Some row → found ≡ Some row
 closable_is host found row is = go (host == 0) is
   where
     go : (t : Bool) → (if t then found else named host found) ≡ Some row → found ≡ Some row
@@ -225,7 +226,7 @@ module _ (own : ℕ) (s : Serving) (o : IsOrderly own s) (some : 0 < own) (link 
       go false = opened_as (kind_for s.drawn p)
 
 -- all streams end
-or_over : ℕ → Option Row → Option Ended → Option Ended
+abbrev pub or_over : ℕ → Option Row → Option Ended → Option Ended
 or_over own None over = over
 or_over own (Some row) over = Some (ended_at false (own, row))
 
@@ -235,9 +236,8 @@ at_same q n h = grind (arith, nat_tests)
 at_other : (q n : ℕ) → (q ≡ n → ⊥) → is_eq (nat_cmp q n) ≡ false
 at_other q n h = grind (arith, nat_tests)
 
-all_over : (own : ℕ) (rows : List (ℕ × Row)) (ended : List Ended)
+pub all_over : (own : ℕ) (rows : List (ℕ × Row)) (ended : List Ended)
     → over_at own (map (ended_at false) rows ++ ended) ≡ or_over own (at own rows) (over_at own ended)
-unfolding or_over
 all_over own [] ended = refl
 all_over own (e ∷ es) ended = go (cases_eq e.0 own) (all_over own es ended)
   where
@@ -253,7 +253,7 @@ all_over own (e ∷ es) ended = go (cases_eq e.0 own) (all_over own es ended)
         ∙ (later ∙ sym (ap (λ (b : Bool). or_over own (cond b (Some e.1) (at own es)) (over_at own ended)) (at_other own e.0 (λ same. apart (sym same)))))
 
 pub gone_orderly : (own : ℕ) (s : Serving) → IsOrderly own s → IsOrderly own (all_gone s)
-unfolding or_over IsStrictlySortedBy
+unfolding IsStrictlySortedBy
 gone_orderly own s o = record {
   rises = tt;
   fresh = λ above.
@@ -303,7 +303,8 @@ module _ (own : ℕ) (some : 0 < own) where
 
   -- behind any packets
   pub streams_write : (setting : Setting) (packets : List Packet)
-      → Writes own (device_behind setting packets).serving.made (device_behind setting packets).serving.acks (at own (device_behind setting packets).serving.rows)
+      → Writes own (device_behind setting packets).serving.made (device_behind setting packets).serving.acks (at own
+      (device_behind setting packets).serving.rows)
       (over_at own (device_behind setting packets).serving.ended)
   unfolding IsStrictlySortedBy
   streams_write setting packets =

@@ -1,5 +1,6 @@
 -- What one stream wrote, as packets come.
-use Rattle.std.specs.Prelude.{ℕ, ◌+◌, ◌≡◌, ◌<◌, ◌≤◌, ◌==◌, ◌&&◌, ◌||◌, if◌then◌else◌, Bool, true, false, cond, List, [], ◌∷◌, ◌++◌, length, map, Option, Some, None}
+use Rattle.std.specs.Prelude.{ℕ, ◌+◌, ◌≡◌, ◌<◌, ◌≤◌, ◌==◌, ◌&&◌, ◌||◌, if◌then◌else◌, Bool, true}
+use Rattle.std.specs.Prelude.{false, cond, List, [], ◌∷◌, ◌++◌, length, map, Option, Some, None}
 use Rattle.std.proofs.Common.{refl, sym, ◌∙◌, ap, subst, arith}
 use Rattle.std.specs.List.{concat}
 use Rattle.std.proofs.lemmas.Bool.{eq-eqb, ne_eqb, true≢false}
@@ -152,10 +153,10 @@ pub record IsOrderly (own : ℕ) (s : Serving) : Type 0 where
   pub writes : Writes own s.made s.acks (at own s.rows) (over_at own s.ended)
 
 -- a stream of another id ends: nothing of this one
-other_over : (own : ℕ) (e : Ended) (ended : List Ended) → (e.own ≡ own → ⊥) → over_at own (e ∷ ended) ≡ over_at own ended
+pub other_over : (own : ℕ) (e : Ended) (ended : List Ended) → (e.own ≡ own → ⊥) → over_at own (e ∷ ended) ≡ over_at own ended
 other_over own e ended apart = ap (λ (b : Bool). cond b (Some e) (over_at own ended)) (ne_eqb e.own own apart)
 
-own_over : (own : ℕ) (e : Ended) (ended : List Ended) → e.own ≡ own → over_at own (e ∷ ended) ≡ Some e
+pub own_over : (own : ℕ) (e : Ended) (ended : List Ended) → e.own ≡ own → over_at own (e ∷ ended) ≡ Some e
 own_over own e ended is = ap (λ (b : Bool). cond b (Some e) (over_at own ended)) (eq-eqb e.own own is)
 
 module _ (own q : ℕ) (apart : q ≡ own → ⊥) where

@@ -1,12 +1,14 @@
 -- A stream's writes are within its window.
-use Rattle.std.specs.Prelude.{ℕ, ◌≡◌, ◌≢◌, ◌≤◌, ◌+◌, ◌==◌, min, if◌then◌else◌, Bool, true, false, List, [], ◌∷◌, length, take, zero, suc, Option, Some, None, unwrap_or}
+use Rattle.std.specs.Prelude.{ℕ, ◌≡◌, ◌≢◌, ◌≤◌, ◌+◌, ◌==◌, min, if◌then◌else◌, Bool, true, false}
+use Rattle.std.specs.Prelude.{List, [], ◌∷◌, length, take, zero, suc, Option, Some, None, unwrap_or}
 use Rattle.std.specs.List.{concat}
 use Rattle.std.proofs.Common.{refl, sym, arith}
 use borrow.Author.Tests.{false-eqb}
 use Rattle.std.proofs.lemmas.List.{length-append, length-take}
 use Rattle.adb_stream.specs.declared.flow.Flow.{Flow}
 use Rattle.adb_stream.specs.declared.flow.Flow.TheVariants as flows
-use Rattle.adb_daemon.specs.Stream.{Row, unsent, next_payload, row_past, row_past_all, row_written, writes_at, writes, room_of, flow_past, flow_acked, first_flow}
+use Rattle.adb_daemon.specs.Stream.{Row, unsent, next_payload, row_past, row_past_all, row_written}
+use Rattle.adb_daemon.specs.Stream.{writes_at, writes, room_of, flow_past, flow_acked, first_flow}
 use Rattle.adb_device.specs.Streams.{free_of, IsWithin}
 
 -- more acknowledgements and credit

@@ -32,7 +32,11 @@ own_cnxn setting =
 
 abbrev pub first_device : Setting → Device
 first_device setting =
-    record { link = None; serving = record { drawn = 0; rows = []; ended = []; acks = []; files = setting.files; made = own_cnxn setting ∷ [] }; refused = false }
+    record {
+      link = None;
+      serving = record { drawn = 0; rows = []; ended = []; acks = []; files = setting.files; made = own_cnxn setting ∷ [] };
+      refused = false;
+    }
 
 -- A CNXN that is refused is the end. Else all streams end, with no CLSE, and the link is that of this CNXN.
 abbrev pub linked_to : Option Link → Device → Device

@@ -1,11 +1,13 @@
 -- What each stream wrote, in all that became due.
 use Rattle.std.specs.Prelude.{ℕ, ◌+◌, ◌≡◌, ◌≤◌, ◌==◌, ◌&&◌, if◌then◌else◌, Bool, true, false, List, [], ◌∷◌, ◌++◌, length, find, Option, Some, None, unwrap_or}
+use Rattle.byteorder.specs.Endian.{little_bytes}
+use Rattle.adb_stream.specs.declared.credit.TheConstants.{CREDIT_WINDOW}
 use Rattle.adb_stream.specs.declared.flow.Flow.{Flow}
 use Rattle.adb_stream.specs.declared.flow.Flow.TheVariants as flows
 use Rattle.std.specs.List.{flat_map, list_any}
 use Rattle.adb_wire.specs.declared.command.Command.{Command}
-use Rattle.adb_wire.specs.declared.command.Command.TheVariants.{Wrte, Clse}
-use Rattle.adb_daemon.specs.Service.{service_answer}
+use Rattle.adb_wire.specs.declared.command.Command.TheVariants.{Okay, Wrte, Clse}
+use Rattle.adb_daemon.specs.Service.{Came, service_answer}
 use Rattle.adb_daemon.specs.Stream.{Row, unsent, next_payload, is_done}
 use Rattle.adb_device.specs.Serving.{Sent, Ack, Ended}
 
@@ -83,6 +85,37 @@ abbrev pub Writes : ℕ → List Sent → List Ack → Option Row → Option End
 Writes own made acks (Some row) over = WritesFront own row made × (is_closed own made ≡ false) × KeepsWindow own made acks row.flow
 Writes own made acks None (Some e) = (e.own ≡ own) × IsOver e made × KeepsWindow own made acks e.row.flow
 Writes own made acks None None = (written own made ≡ []) × (is_closed own made ≡ false) × (writes_of own made ≡ 0)
+
+-- the payloads of the OKAYs for a stream
+abbrev pub is_okay : Command → Bool
+is_okay Okay = true
+is_okay _ = false
+
+abbrev pub okay_of : ℕ → Sent → List (List ℕ)
+okay_of own one = if is_okay one.packet.command && one.packet.arg0 == own then one.packet.payload ∷ [] else []
+
+abbrev pub okays_of : ℕ → List Sent → List (List ℕ)
+okays_of own made = flat_map (okay_of own) made
+
+-- What these have to be for the payloads that came, the newest first: behind that of the OPEN one for each write; where the link has credit in bytes the first
+-- holds the whole window and the others give the bytes back, and there is none where there are none.
+abbrev pub has_credit : Flow → Bool
+has_credit (flows.One window) = false
+has_credit (flows.Credit credit) = true
+
+abbrev pub ack_for : Bool → ℕ → List (List ℕ)
+ack_for false n = [] ∷ []
+ack_for true n = if n == 0 then [] else little_bytes 4 n ∷ []
+
+abbrev pub acks_due : Bool → List Came → List (List ℕ)
+acks_due credit [] = (if credit then little_bytes 4 CREDIT_WINDOW else []) ∷ []
+acks_due credit (came ∷ past) = acks_due credit past ++ ack_for credit (length came.bytes)
+
+-- The OPEN of a stream and each write that came for it are acknowledged, in order, and nothing else is.
+abbrev pub IsAcked : ℕ → List Sent → Option Row → Option Ended → Type 0
+IsAcked own made (Some row) over = okays_of own made ≡ acks_due (has_credit row.flow) row.past
+IsAcked own made None (Some e) = okays_of own made ≡ acks_due (has_credit e.row.flow) e.row.past
+IsAcked own made None None = okays_of own made ≡ []
 
 -- A live stream has settled: its window lets no write go, or none is left, and it is not done.
 pub record HasSettled (most : ℕ) (row : Row) : Type 0 where

@@ -10,16 +10,25 @@ ghost use Rattle.adb_wire.specs.Header.{IsBytes};
 ghost use Rattle.adb_device.specs.declared.error.DaemonError.{DaemonError};
 ghost use Rattle.adb_device.specs.Daemon.{answer_to};
 ghost use Rattle.adb_device.specs.Device.{Setting, device_behind};
-ghost use Rattle.adb_device.specs.Streams.{Writes, HasSettled, over_at};
+ghost use Rattle.adb_device.specs.Streams.{Writes, IsAcked, HasSettled, over_at};
 
 /// The joined payloads that a stream wrote are a front of its service's answer to the payloads that
 /// came, and where the device closed it all of the answer. On a plain link it made at most as many
-/// writes as it took OKAYs, its OPEN among them; where the link has credit in bytes it wrote at most
-/// the sum of their credit words.
+/// writes as it took OKAYs, its OPEN among them; where the link has credit in bytes it wrote at
+/// most the sum of their credit words.
 pub fn streams_write_their_answers()
     ensures { (setting : Setting) (packets : List Packet) (own : ℕ) → 0 < own
         → let s = (device_behind setting packets).serving
         in Writes own s.made s.acks (at own s.rows) (over_at own s.ended) }
+{}
+
+/// The OPEN of a stream and each write that came for it were acknowledged by one OKAY, in order,
+/// and nothing else was; where the link has credit in bytes the first holds the whole window, and
+/// each other one the number of bytes, and there is none where a write had none.
+pub fn writes_are_acknowledged()
+    ensures { (setting : Setting) (packets : List Packet) (own : ℕ)
+        → let s = (device_behind setting packets).serving
+        in IsAcked own s.made (at own s.rows) (over_at own s.ended) }
 {}
 
 /// A live stream has nothing to write that its window lets go, and is not done: where its service

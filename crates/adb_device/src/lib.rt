@@ -13,4 +13,6 @@ mod tests;
 
 pub use daemon::Daemon;
 pub use error::DaemonError;
-pub use laws::{refusals_stay, streams_are_settled, streams_write_their_answers};
+pub use laws::{
+    refusals_stay, streams_are_settled, streams_write_their_answers, writes_are_acknowledged,
+};

@@ -38,7 +38,8 @@ impl Services {
         ensures ok { OnOk result ((s : Serving) (taken : List ℕ) → Holds s taken (view_of self.old)
             → Holds (served packet.now.command link packet.now s) taken (view_of self.new)) }
         ensures err { OnErr result ((s : Serving) (taken : List ℕ)
-            → Holds s taken (view_of self.old) → CutFiles packet.now.command packet.now s self.new.files) }
+            → Holds s taken (view_of self.old)
+            → CutFiles packet.now.command packet.now s self.new.files) }
         ensures grows { Grows self.old.due.bytes self.new.due.bytes }
     {
         match packet.command {
