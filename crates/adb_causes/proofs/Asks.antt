@@ -92,7 +92,8 @@ not_ended_before (Send t bytes) older c on = on
 -- what it asked before, by entries that are not its own
 pub asked_before_is : (e : Entry) (older : History) (c : ℕ) → ((bytes : List ℕ) → e ≢ Read c bytes) → asked c (e ∷ older) ≡ asked c older
 asked_before_is (Read n bytes) older c other = ap (λ b. cond b
-    (asked_with (is_asking n older (book older)) (devices_if (book older).killed older) (book older).forwards bytes ((book older).asked n)) ((book older).asked c))
+    (asked_with (is_asking n older (book older)) (devices_if (book older).killed older) (book older).forwards bytes ((book older).asked n))
+    ((book older).asked c))
     (ne_eqb n c (λ same. other bytes (ap (λ i. Read i bytes) same)))
 asked_before_is (Bound n port) older c other = go ((book older).waits n)
   where

@@ -1,5 +1,6 @@
 -- Every client that asks is as it is told.
-use Rattle.std.proofs.Common.{◌≡◌, ◌≢◌, ◌<◌, ◌+◌, ℕ, zero, suc, Bool, true, false, cond, not, ◌&&◌, ◌||◌, List, [], ◌∷◌, ◌++◌, length, drop, Option, Some, None, refl, sym, ap, subst, ◌∙◌, eqb, arith, ◌⊎◌, inl, inr, length-append}
+use Rattle.std.proofs.Common.{◌≡◌, ◌≢◌, ◌<◌, ◌+◌, ℕ, zero, suc, Bool, true, false, cond, not, ◌&&◌, ◌||◌, List, [], ◌∷◌, ◌++◌, length, drop, Option}
+use Rattle.std.proofs.Common.{Some, None, refl, sym, ap, subst, ◌∙◌, eqb, arith, ◌⊎◌, inl, inr, length-append}
 use Rattle.std.specs.Prelude.{is_some}
 use Rattle.std.proofs.lemmas.Bool.{eq-eqb, cases_eq}
 use Rattle.adb_client.specs.declared.phase.Phase.TheVariants.{Asking, Tracking}
@@ -43,7 +44,8 @@ use Rattle.adb_outside.specs.Tables.{change_row}
 use Rattle.adb_history.specs.Clients.{owe_client}
 use Rattle.adb_history.specs.Reading.{has_asked}
 use Rattle.adb_causes.proofs.StreamSteps.{rule_owned}
-use Rattle.adb_causes.proofs.Asks.{AsksAsTold, AllAsk, is_said, AskingRow, asking_row, joined_before, not_ended_before, asked_before_is, now_said, same_said, open_before, asked_now}
+use Rattle.adb_causes.proofs.Asks.{AsksAsTold, AllAsk, is_said, AskingRow, asking_row, joined_before, not_ended_before, asked_before_is, now_said}
+use Rattle.adb_causes.proofs.Asks.{same_said, open_before, asked_now}
 
 -- ---- before the entry
 still_before : (e : Entry) (older : History) (c : ℕ) → (has_joined c older ≡ true) × (not (has_ended c older) ≡ true) → still_asks (asked c (e ∷ older)) ≡ true
@@ -51,7 +53,8 @@ still_before : (e : Entry) (older : History) (c : ℕ) → (has_joined c older �
 still_before (Read n bytes) older c known on = go (cases_eq n c)
   where
     mine : (b : Bool) → is_asking c older (book older) ≡ b
-        → still_asks (asked_with b (devices_if (book older).killed older) (book older).forwards bytes (asked c older)) ≡ true → still_asks (asked c older) ≡ true
+        → still_asks (asked_with b (devices_if (book older).killed older) (book older).forwards bytes (asked c older)) ≡ true
+        → still_asks (asked c older) ≡ true
     mine true e f = (and_parts (has_joined c older) (not (has_ended c older)) (still_asks (asked c older)) e).2
     mine false e f = f
 
@@ -175,7 +178,8 @@ after_up e older c k legal here r =
     subst (AsksAsTold (e ∷ older) c) row (record { forwarded = r.forwarded; ended = r.ended; output = omega (arith, all, own, r.output) })
 
 -- ---- by entries of others
-module _ (e : Entry) (older : History) (c : ℕ) (k0 : Client) (legal : IsLegal (e ∷ older)) (row : ((state older).clients c ≡ Some k0) × (k0.about.phase ≡ Asking)) where
+module _ (e : Entry) (older : History) (c : ℕ) (k0 : Client) (legal : IsLegal (e ∷ older)) (row : ((state older).clients c ≡ Some k0) × (k0.about.phase
+    ≡ Asking)) where
   owned_before : IsOwned (state older)
   owned_before = (all_linked older legal.0).owned
 
@@ -184,7 +188,8 @@ module _ (e : Entry) (older : History) (c : ℕ) (k0 : Client) (legal : IsLegal 
   others_ask t far other on =
       let u = asking_rule c k0 (state older) (all_linked older legal.0).owned row.0 row.1 e legal.2 far on in
       let none : length (owed_to c (rule e (state older)).told) ≡ 0 = ap length u.owed in
-      let same : length (asked c (e ∷ older)).replies ≡ length (asked c older).replies = ap (λ (q : Asked). length q.replies) (asked_before_is e older c other) in
+      let same : length (asked c (e ∷ older)).replies ≡ length (asked c older).replies = ap (λ (q : Asked). length q.replies)
+      (asked_before_is e older c other) in
       record {
         client = k0;
         here = u.client k0 row.0 (subst Still (sym row.1) tt);
@@ -195,31 +200,32 @@ module _ (e : Entry) (older : History) (c : ℕ) (k0 : Client) (legal : IsLegal 
       }
 
 -- ---- it reads
-reads_ask : (older : History) (c : ℕ) (bytes : List ℕ) (k0 : Client) → (legal : IsLegal (Read c bytes ∷ older)) → (here : (state older).clients c ≡ Some k0)
-    → (asks : k0.about.phase ≡ Asking) → AsksAsTold older c k0 → still_asks (asked c (Read c bytes ∷ older)) ≡ true → AskRuled (Read c bytes) older c
-reads_ask older c bytes k0 legal here asks t still =
-    let p = now_said c bytes older legal k0 here asks in
-    let all = asked_now c bytes older legal k0 here asks in
-    let q = same_said c bytes older legal k0 here asks in
-    let next : p.next ≡ None = none_next p.next (ap (λ (q : Asked). still_asks q) (sym all) ∙ still) in
-    let owed = owe_client c p.replies (to_client c (has_asked p) (state older)) in
-    let made : reads c bytes (state older) ≡ then_also owed (λ s. quietly s) =
-    ap (λ o. reads_from o c bytes (state older)) here
-    ∙ (ap (λ phase. reads_in phase c bytes k0 (state older)) asks ∙ ap (λ n. then_also owed (goes_on n c)) next) in
-    let told : length (owed_to c (reads c bytes (state older)).told) ≡ length p.replies =
-    ap (λ (m : Made). length (owed_to c m.told)) made
-    ∙ (ap (λ b. length (cond b p.replies [] ++ [])) (eq-eqb c c refl) ∙ ap length (append-nil p.replies)) in
-    let replies : length (asked c (Read c bytes ∷ older)).replies ≡ length (asked c older).replies + length p.replies =
-    ap (λ (q : Asked). length q.replies) all ∙ length-append (asked c older).replies p.replies in
-    record {
-      client = replied_row c bytes k0 (state older) (asked c older) here asks q.rest q.selected (open_before c bytes older legal k0 here asks);
-      here = ap (λ (m : Made). m.state.clients c) made
-          ∙ replied_is c bytes k0 (state older) (asked c older) here asks q.rest q.selected (open_before c bytes older legal k0 here asks);
-      asks = asks;
-      forwarded = t.forwarded;
-      ended = t.ended;
-      output = omega (arith, told, replies, t.output);
-    }
+module _ (older : History) (c : ℕ) (bytes : List ℕ) (k0 : Client) where
+  reads_ask : (legal : IsLegal (Read c bytes ∷ older)) → (here : (state older).clients c ≡ Some k0) → (asks : k0.about.phase ≡ Asking)
+      → AsksAsTold older c k0 → still_asks (asked c (Read c bytes ∷ older)) ≡ true → AskRuled (Read c bytes) older c
+  reads_ask legal here asks t still =
+      let p = now_said c bytes older legal k0 here asks in
+      let all = asked_now c bytes older legal k0 here asks in
+      let q = same_said c bytes older legal k0 here asks in
+      let next : p.next ≡ None = none_next p.next (ap (λ (q : Asked). still_asks q) (sym all) ∙ still) in
+      let owed = owe_client c p.replies (to_client c (has_asked p) (state older)) in
+      let made : reads c bytes (state older) ≡ then_also owed (λ s. quietly s) =
+      ap (λ o. reads_from o c bytes (state older)) here
+      ∙ (ap (λ phase. reads_in phase c bytes k0 (state older)) asks ∙ ap (λ n. then_also owed (goes_on n c)) next) in
+      let told : length (owed_to c (reads c bytes (state older)).told) ≡ length p.replies =
+      ap (λ (m : Made). length (owed_to c m.told)) made
+      ∙ (ap (λ b. length (cond b p.replies [] ++ [])) (eq-eqb c c refl) ∙ ap length (append-nil p.replies)) in
+      let replies : length (asked c (Read c bytes ∷ older)).replies ≡ length (asked c older).replies + length p.replies =
+      ap (λ (q : Asked). length q.replies) all ∙ length-append (asked c older).replies p.replies in
+      record {
+        client = replied_row c bytes k0 (state older) (asked c older) here asks q.rest q.selected (open_before c bytes older legal k0 here asks);
+        here = ap (λ (m : Made). m.state.clients c) made
+            ∙ replied_is c bytes k0 (state older) (asked c older) here asks q.rest q.selected (open_before c bytes older legal k0 here asks);
+        asks = asks;
+        forwarded = t.forwarded;
+        ended = t.ended;
+        output = omega (arith, told, replies, t.output);
+      }
 
 -- ---- it is handed bytes
 front_nil : (xs : List ℕ) → IsPrefixOf xs [] → xs ≡ []

@@ -66,7 +66,8 @@ closes_at e older l x legal is told = go (ending_in l m.told) refl (sym (ending_
     fate = rule_fate l (state older) owned e
         (λ d. λ next. omega (arith, next, (drawn_row (state older).drawn l (state older).streams owned.rows.streams x is.0).1))
 
-    go : (o : Option Ending) → ending_in l (rule e (state older)).told ≡ o → option_or o (ending_in l (ups (rule e (state older)).state).told) ≡ Some client_closed
+    go : (o : Option Ending) → ending_in l (rule e (state older)).told ≡ o → option_or o (ending_in l (ups (rule e (state older)).state).told)
+        ≡ Some client_closed
         → ClosesAt e older l
     go None f g = record { rule_told = f; alive = fate.stays f ∙ row_lives ((state older).streams l) x is.0 is.1; up_told = g }
     go (Some z) f g =
@@ -91,7 +92,8 @@ module _ (e : Entry) (older : History) (l : ℕ) (b : Birth) (x : Stream) (legal
     pub link : y.link ≡ b.link
     pub credit : has_credit y.part.flow ≡ b.credit
 
-  pub finished : (y : Stream) (k : Client) → Finishing y k → ClosesAt e older l → (ending_of l older ≡ None) × (ending_in l (told_at e older) ≡ Some client_closed)
+  pub finished : (y : Stream) (k : Client) → Finishing y k → ClosesAt e older l → (ending_of l older ≡ None) × (ending_in l (told_at e older)
+      ≡ Some client_closed)
       × (bytes_read b.client (e ∷ older) ≡ bytes_read b.client older) → (has_closed_since l b.client (e ∷ older) ≡ true) × IsDone b.credit l b (e ∷ older)
   finished y k f c at = go (up_run l y m.state f.pair f.apart m.state.drawn f.within)
     where
@@ -101,7 +103,8 @@ module _ (e : Entry) (older : History) (l : ℕ) (b : Birth) (x : Stream) (legal
       go : UpEffect l y f.pair.client (ups (rule e (state older)).state) → (has_closed_since l b.client (e ∷ older) ≡ true) × IsDone b.credit l b (e ∷ older)
       go u = kind u.after
         where
-          kind : GoesOnWith l y f.pair.client u.sent (ups (rule e (state older)).state).state ⊎ EndsWith l y f.pair.client u.sent (ups (rule e (state older)).state)
+          kind : GoesOnWith l y f.pair.client u.sent (ups (rule e (state older)).state).state ⊎ EndsWith l y f.pair.client u.sent (ups (rule e
+              (state older)).state)
               → (has_closed_since l b.client (e ∷ older) ≡ true) × IsDone b.credit l b (e ∷ older)
           kind (inl goes) = absurd (
               let fate = up_all_fate l (λ client link z. Unit {0}) m.state.drawn m.state (λ client link. tt) in

@@ -85,7 +85,8 @@ far_closed e older l b x far leaves c = absurd (not_going e older l c.closes on)
     on : GoesOn l (rule e (state older)).state
     on =
         let p = c.standing.pair in
-        let u = far_rule l x (state older) owned p e c.standing.legal.2 far (ap is_some (is_row (live_row ((rule e (state older)).state.streams l) c.closes.alive))) in
+        let u = far_rule l x (state older) owned p e c.standing.legal.2 far (ap is_some (is_row (live_row ((rule e
+        (state older)).state.streams l) c.closes.alive))) in
         stays_on e older l x x.part.flow [] p p.client (c.standing.legal, refl, refl, sym (append-nil p.client.held)) (same_flow x.part.flow, inl refl)
         (leaves, (far_bytes e older x.client x.link far).received)
         (record { row = u.row ∙ p.is; here = u.client p.client p.here (has_still p.client.about.phase l x.part.remote p.phase) })
@@ -99,7 +100,8 @@ read_closed older l b x bytes c =
     let p = c.standing.pair in
     let r = read_after older l b x bytes c.standing in
     absurd (not_going (Read b.client bytes) older l c.closes
-    (stays_on (Read b.client bytes) older l x x.part.flow bytes p (with_more bytes p.client) (c.standing.legal, refl, refl, refl) (same_flow x.part.flow, inr refl)
+    (stays_on (Read b.client bytes) older l x x.part.flow bytes p (with_more bytes p.client) (c.standing.legal, refl, refl, refl)
+    (same_flow x.part.flow, inr refl)
     (tt, refl) (record { row = r.1.row; here = r.1.here })))
 
 put_closed : (older : History) (l : ℕ) (b : Birth) (x : Stream) (bytes : List ℕ) → Closed (Put x.client bytes) older l b x

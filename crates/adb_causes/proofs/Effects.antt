@@ -1,5 +1,6 @@
 -- What a packet to a stream makes of it and of its client, where it goes on.
-use Rattle.std.proofs.Common.{◌≡◌, ◌≤◌, ◌+◌, ℕ, zero, suc, Bool, true, false, cond, not, ◌&&◌, List, [], ◌∷◌, ◌++◌, length, Option, Some, None, refl, sym, ap, subst, ◌∙◌, eqb}
+use Rattle.std.proofs.Common.{◌≡◌, ◌≤◌, ◌+◌, ℕ, zero, suc, Bool, true, false, cond, not, ◌&&◌, List, [], ◌∷◌, ◌++◌, length, Option, Some, None, refl}
+use Rattle.std.proofs.Common.{sym, ap, subst, ◌∙◌, eqb}
 use Rattle.std.proofs.Common.{arith, ◌⊎◌}
 use Rattle.std.specs.Prelude.{nat_eq, codes}
 use Rattle.std.proofs.lemmas.Bool.{eqb-true, eqb-false, eq-eqb}
@@ -153,7 +154,8 @@ module _ (l : ℕ) (x : Stream) (p : Packet) (s : State) (h : Pair l x s) where
 
       owed : (written : ℕ) → (x.part.remote ≡ 0 → written ≡ 0)
           → length (owed_to x.client (hears_okay (s.clients x.client) x.client s).told) ≡ cond h.client.about.forwarded 0 4
-          → owed_to x.client ((hears_okay (s.clients x.client) x.client s).told ++ []) ≡ owed_to x.client (hears_okay (s.clients x.client) x.client s).told ++ []
+          → owed_to x.client ((hears_okay (s.clients x.client) x.client s).told ++ [])
+          ≡ owed_to x.client (hears_okay (s.clients x.client) x.client s).told ++ []
           → length (owed_to x.client ((hears_okay (s.clients x.client) x.client s).told ++ [])) + hears x.part.remote h.client.about.forwarded written
           ≡ hears p.arg0 h.client.about.forwarded (written_after x.part.remote l p written)
       owed written nil told all =

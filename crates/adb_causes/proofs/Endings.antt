@@ -1,5 +1,6 @@
 -- A stream that ends by an entry was born before it, and did not end before.
-use Rattle.std.proofs.Common.{◌≡◌, ◌≢◌, ◌+◌, ℕ, zero, suc, true, false, cond, [], ◌∷◌, ◌++◌, Option, Some, None, refl, sym, ap, subst, ◌∙◌, ◌⊎◌, inl, inr, ◌&&◌, not}
+use Rattle.std.proofs.Common.{◌≡◌, ◌≢◌, ◌+◌, ℕ, zero, suc, true, false, cond, [], ◌∷◌, ◌++◌, Option, Some, None, refl, sym, ap, subst, ◌∙◌, ◌⊎◌, inl}
+use Rattle.std.proofs.Common.{inr, ◌&&◌, not}
 use Rattle.std.proofs.lemmas.Bool.{eq-eqb}
 use Rattle.adb_outside.specs.declared.kinds.Cause.{Cause}
 use Rattle.adb_stream.specs.declared.row.Stream.{Stream}

@@ -73,7 +73,8 @@ module _ (l : ℕ) where
       waits x =
           let same : new ≡ x.stream = (let both : Some new ≡ Some x.stream = sym there ∙ x.there in cc) in
           let here : (draws_now c t s).clients c ≡ Some x.client = ap (λ (y : Stream). (draws_now c t s).clients y.client) same ∙ x.here in
-          row (s.clients c) x.client (sym (ap (λ b. cond b (option_and_then (in_phase (Opening (s.drawn + 1))) (s.clients c)) (s.clients c)) (eq-eqb c c refl)) ∙ here)
+          row (s.clients c) x.client (sym (ap (λ b. cond b (option_and_then (in_phase (Opening (s.drawn + 1))) (s.clients c)) (s.clients c))
+          (eq-eqb c c refl)) ∙ here)
           x.streaming
 
   module _ (s : State) (next : l ≡ s.drawn + 1) (none : s.streams l ≡ None) where

@@ -45,7 +45,8 @@ module _ (e : Entry) (older : History) (legal : IsLegal (e ∷ older)) (has : Ha
       fate = step_fate l e older legal other
 
       alive_before : lives ((state older).streams l) ≡ true
-      alive_before = sym (fate.stays (alive_told l (WhyStep e ((rule e (state older)).state.stopped ≡ true)) (state older) (step (state older) e) y fate (is.0, is.1)))
+      alive_before = sym (fate.stays (alive_told l (WhyStep e ((rule e (state older)).state.stopped
+          ≡ true)) (state older) (step (state older) e) y fate (is.0, is.1)))
           ∙ row_lives ((state (e ∷ older)).streams l) y is.0 is.1
 
       rule_alive : lives ((rule e (state older)).state.streams l) ≡ true
@@ -99,16 +100,16 @@ born_by (Detach t cause) older l b legal new birth z is = absurd (let clash : fa
 born_by (Put n bytes) older l b legal new birth z is = absurd (let clash : false ≡ true = new.0 in cc)
 born_by (Send t bytes) older l b legal new birth z is = absurd (let clash : false ≡ true = new.0 in cc)
 
-newborn_holds : (e : Entry) (older : History) (legal : IsLegal (e ∷ older)) → HasBirths older → (l : ℕ) (b : Birth) (y : Stream) (k : Client)
-    → (draws e ≡ true) × (l ≡ (state older).drawn + 1) → born l (e ∷ older) ≡ Some b
-    → ((state (e ∷ older)).streams l ≡ Some y) × (y.part.orphan ≡ false) × ((state (e ∷ older)).clients y.client ≡ Some k)
-    → (0 < l) × (l ≤ (state (e ∷ older)).drawn) → IsAsTold (e ∷ older) l b y k
-newborn_holds e older legal has l b y k new birth is within =
-    let m = rule e (state older) in
-    let w = (up_all_fate l (λ client link z. Unit {0}) m.state.drawn m.state (λ client link. tt)).was y is.0 in
-    let next : l ≡ suc (state older).drawn = omega (arith, new.1) in
-    let first = born_new (state older).drawn e older b has refl (subst (λ (i : ℕ). born i (e ∷ older) ≡ Some b) next birth) in
-    ups_hold e older l b legal (newborn_ruled e older l b legal (born_by e older l b legal new first w.old w.is)) within y k is
+module _ (e : Entry) (older : History) (legal : IsLegal (e ∷ older)) where
+  newborn_holds : HasBirths older → (l : ℕ) (b : Birth) (y : Stream) (k : Client) → (draws e ≡ true) × (l ≡ (state older).drawn + 1)
+      → born l (e ∷ older) ≡ Some b → ((state (e ∷ older)).streams l ≡ Some y) × (y.part.orphan ≡ false) × ((state (e ∷ older)).clients y.client ≡ Some k)
+      → (0 < l) × (l ≤ (state (e ∷ older)).drawn) → IsAsTold (e ∷ older) l b y k
+  newborn_holds has l b y k new birth is within =
+      let m = rule e (state older) in
+      let w = (up_all_fate l (λ client link z. Unit {0}) m.state.drawn m.state (λ client link. tt)).was y is.0 in
+      let next : l ≡ suc (state older).drawn = omega (arith, new.1) in
+      let first = born_new (state older).drawn e older b has refl (subst (λ (i : ℕ). born i (e ∷ older) ≡ Some b) next birth) in
+      ups_hold e older l b legal (newborn_ruled e older l b legal (born_by e older l b legal new first w.old w.is)) within y k is
 
 -- ---- all histories
 pub all_hold : (h : History) → IsLegal h → AtEachTime HasBirths h → HoldsAsTold h

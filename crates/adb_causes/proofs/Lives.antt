@@ -176,7 +176,8 @@ module _ (l : ℕ) (e : Entry) (older : History) (legal : IsLegal (e ∷ older))
   old_lived : (draws e ≡ true → l ≢ (state older).drawn + 1) → IsLived (e ∷ older) l
   old_lived other = record {
     over = λ y f. over y (ending_in l (told older)) refl (sym (ending_append l (told older) (told_at e older)) ∙ f);
-    runs = λ f within. (let none = or_none (ending_in l (told older)) (ending_in l (told_at e older)) (sym (ending_append l (told older) (told_at e older)) ∙ f) in
+    runs = λ f within. (let none = or_none (ending_in l (told older)) (ending_in l (told_at e older)) (sym (ending_append l (told older)
+        (told_at e older)) ∙ f) in
         fate.stays none.1 ∙ before.runs none.0 (within.0, drawn_before (draws e) refl within.1));
   }
     where

@@ -76,7 +76,8 @@ module _ (e : Entry) (older : History) (l : ℕ) (b : Birth) (x : Stream) (k : C
         before = r.before;
         waits = r.waits;
         forwarded = r.forwarded;
-        flow = flow_wrote u.sent x.part.flow b.credit (length (joined (told_to l b (e ∷ older)))) (length (handed_to l b (e ∷ older))) (given_to l b (e ∷ older))
+        flow = flow_wrote u.sent x.part.flow b.credit (length (joined (told_to l b (e ∷ older)))) (length (handed_to l b (e ∷ older))) (given_to l b
+            (e ∷ older))
             (subst (λ (n : ℕ). FlowIs x.part.flow b.credit (length (joined (told_to l b (e ∷ older)))) (length (handed_to l b (e ∷ older))) n)
             (omega (arith, t.given)) r.flow);
         output = output (subst (λ (n : ℕ). owed_to n (ups m.state).told ≡ []) own.0 u.owed);

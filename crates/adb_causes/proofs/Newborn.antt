@@ -19,7 +19,8 @@ use Rattle.std.specs.Prelude.{All, unwrap_or, nat_lt, slice_get, nat_eq, min}
 use Rattle.adb_causes.proofs.Silent.{IsSilent, AreSilent, tally_silent, Tally}
 use Rattle.adb_causes.proofs.StreamSteps.{Ruled}
 use Rattle.adb_causes.proofs.Unchanged.{handed_is}
-use Rattle.std.proofs.Common.{◌≡◌, ◌≢◌, ◌≤◌, ◌<◌, ◌+◌, ℕ, zero, suc, Bool, true, false, cond, ◌&&◌, List, [], ◌∷◌, ◌++◌, length, drop, Some, None, refl, sym, ap, ◌∙◌, arith}
+use Rattle.std.proofs.Common.{◌≡◌, ◌≢◌, ◌≤◌, ◌<◌, ◌+◌, ℕ, zero, suc, Bool, true, false, cond, ◌&&◌, List, [], ◌∷◌, ◌++◌, length, drop, Some, None}
+use Rattle.std.proofs.Common.{refl, sym, ap, ◌∙◌, arith}
 use Rattle.std.proofs.lemmas.Bool.{ne_eqb}
 use Rattle.adb_capture.specs.declared.entry.Entry.{Entry}
 use Rattle.adb_history.specs.Machine.{rule, History, state, told, IsLegal}
@@ -63,7 +64,8 @@ born_new k e older b has drawn is = go (nat_lt k stream_ids) refl is
     last : (a n : ℕ) → k ≡ min a n → k < n → a ≡ k
     last a n f g = omega (arith, f, g)
 
-    go : (c : Bool) → nat_lt k stream_ids ≡ c → cond c (slice_get (births older ++ births_at e older) k) None ≡ Some b → slice_get (births_at e older) 0 ≡ Some b
+    go : (c : Bool) → nat_lt k stream_ids ≡ c → cond c (slice_get (births older ++ births_at e older) k) None ≡ Some b
+        → slice_get (births_at e older) 0 ≡ Some b
     go false f g = absurd (let clash : None ≡ Some b = g in cc)
     go true f g =
         let size : length (births older) ≡ k = last (length (births older)) stream_ids (sym drawn ∙ has.drawn) (below f) in
@@ -166,6 +168,7 @@ newborn_ruled e older l b legal n = record {
     handed : length (handed_to l b (e ∷ older)) ≡ 0
     handed = handed_is l b (e ∷ older) 0 (ap (λ ps. remote_in (opening_in l ps)) none_since)
 
-    flow : (credit : Bool) → FlowIs (new_flow credit) credit (length (joined (told_to l b (e ∷ older)))) (length (handed_to l b (e ∷ older))) (given_to l b older + 0)
+    flow : (credit : Bool) → FlowIs (new_flow credit) credit (length (joined (told_to l b (e ∷ older)))) (length (handed_to l b (e ∷ older)))
+        (given_to l b older + 0)
     flow true = (refl, omega (arith, written, none.given))
     flow false = (refl, omega (arith, written, handed))

@@ -15,7 +15,8 @@ use Rattle.std.specs.Prelude.{slice_get, nat_eq}
 use Rattle.adb_outside.specs.Tables.{at}
 use Rattle.adb_causes.proofs.Silent.{AreSilent}
 use Rattle.adb_causes.proofs.AsksSteps.{all_ask}
-use Rattle.std.proofs.Common.{◌≡◌, ◌<◌, ◌+◌, ℕ, Bool, true, false, cond, not, ◌&&◌, ◌||◌, List, [], ◌∷◌, ◌++◌, length, drop, Option, Some, None, refl, sym, ap, subst, ◌∙◌, eqb, arith, length-append}
+use Rattle.std.proofs.Common.{◌≡◌, ◌<◌, ◌+◌, ℕ, Bool, true, false, cond, not, ◌&&◌, ◌||◌, List, [], ◌∷◌, ◌++◌, length, drop, Option, Some, None, refl}
+use Rattle.std.proofs.Common.{sym, ap, subst, ◌∙◌, eqb, arith, length-append}
 use Rattle.std.proofs.lemmas.Bool.{eq-eqb}
 use Rattle.adb_client.specs.declared.phase.Phase.{Phase}
 use Rattle.adb_client.specs.declared.phase.Phase.TheVariants.{Asking, Opening, Streaming, Binding, Tracking, Closing, Gone}
@@ -208,7 +209,8 @@ module _ (c : ℕ) (bytes : List ℕ) (older : History) (legal : IsLegal (Read c
       phases : (k0 : Client) → (state older).clients c ≡ Some k0 → (phase : Phase) → k0.about.phase ≡ phase
           → (reads_in phase c bytes k0 (state older)).state.streams l ≡ Some y → Newborn (Read c bytes) older l b
       phases k0 here Asking e f =
-          request_newborn k0 here e b (all_ask older legal.0 c k0 here e) (drew_next l (s1 k0 here e) none (now_said c bytes older legal k0 here e).next c y f) birth
+          request_newborn k0 here e b (all_ask older legal.0 c k0 here e) (drew_next l (s1 k0 here e) none
+          (now_said c bytes older legal k0 here e).next c y f) birth
       phases k0 here (Opening i) e f = absurd (still (reads_in (Opening i) c bytes k0 (state older)) refl f)
       phases k0 here (Streaming i) e f = absurd (still (reads_in (Streaming i) c bytes k0 (state older)) refl f)
       phases k0 here Binding e f = absurd (still (reads_in Binding c bytes k0 (state older)) refl f)

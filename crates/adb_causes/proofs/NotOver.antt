@@ -1,5 +1,6 @@
 -- By which entries a stream that its client has open is not over.
-use Rattle.std.proofs.Common.{◌≡◌, ◌≢◌, ◌-◌, ℕ, zero, suc, Bool, true, false, cond, ◌||◌, List, [], ◌∷◌, ◌++◌, length, take, drop, Option, Some, None, refl, sym, ap, subst, ◌∙◌}
+use Rattle.std.proofs.Common.{◌≡◌, ◌≢◌, ◌-◌, ℕ, zero, suc, Bool, true, false, cond, ◌||◌, List, [], ◌∷◌, ◌++◌, length, take, drop, Option, Some, None}
+use Rattle.std.proofs.Common.{refl, sym, ap, subst, ◌∙◌}
 use Rattle.std.proofs.Common.{arith, ◌⊎◌, inl, inr}
 use Rattle.std.specs.Prelude.{is_some}
 use Rattle.std.proofs.lemmas.Bool.{ne_eqb}
@@ -67,7 +68,8 @@ read_goes (One window) maxdata true held bytes none on = go window.outstanding r
     busy [] w e = e
     busy (c ∷ rest) w e = refl
 
-    free : (n : ℕ) → is_over true (drop (total (write_before n (held ++ bytes) [])) (held ++ bytes)) (flow_after (write_before n (held ++ bytes) []) (One window)) ≡ false
+    free : (n : ℕ) → is_over true (drop (total (write_before n (held ++ bytes) [])) (held ++ bytes)) (flow_after (write_before n (held ++ bytes) [])
+        (One window)) ≡ false
     free zero = held_on true held bytes (One window) on
     free (suc n) = busy (drop (total (write_before (suc n) (held ++ bytes) [])) (held ++ bytes)) (One (record window { outstanding = true })) refl
 
@@ -85,12 +87,14 @@ read_goes (Credit credit) maxdata true held bytes none on = go held none on
     go (c ∷ held) e f =
         let nil : write_len maxdata credit.to_send (c ∷ held) ≡ 0 =
         no_write (write_len maxdata credit.to_send (c ∷ held)) (c ∷ held)
-        (writes (length held) maxdata (credit.to_send - write_len maxdata credit.to_send (c ∷ held)) (drop (write_len maxdata credit.to_send (c ∷ held)) (c ∷ held)))
+        (writes (length held) maxdata (credit.to_send - write_len maxdata credit.to_send (c ∷ held)) (drop (write_len maxdata credit.to_send (c ∷ held))
+        (c ∷ held)))
         e in
         let still : write_len maxdata credit.to_send (c ∷ held ++ bytes) ≡ 0 = small nil in
         let stops : writes (length (c ∷ held ++ bytes)) maxdata credit.to_send (c ∷ held ++ bytes) ≡ [] =
         ap (λ n. write_before n (c ∷ held ++ bytes) (writes (length (held ++ bytes)) maxdata
-        (credit.to_send - write_len maxdata credit.to_send (c ∷ held ++ bytes)) (drop (write_len maxdata credit.to_send (c ∷ held ++ bytes)) (c ∷ held ++ bytes)))) still in
+        (credit.to_send - write_len maxdata credit.to_send (c ∷ held ++ bytes)) (drop (write_len maxdata credit.to_send (c ∷ held ++ bytes))
+        (c ∷ held ++ bytes)))) still in
         ap (λ (ps : List (List ℕ)). is_over true (drop (total ps) (c ∷ held ++ bytes)) (flow_after ps (Credit credit))) stops
       where
         small : write_len maxdata credit.to_send (c ∷ held) ≡ 0 → write_len maxdata credit.to_send (c ∷ held ++ bytes) ≡ 0
@@ -134,7 +138,8 @@ same_plugged t (Recv n bytes) older far = refl
 same_plugged t (Put n bytes) older far = refl
 same_plugged t (Send n bytes) older far = refl
 
-same_device : (t : ℕ) (e : Entry) (older : History) → LeavesLink t e → bytes_received t (e ∷ older) ≡ bytes_received t older → device_of t (e ∷ older) ≡ device_of t older
+same_device : (t : ℕ) (e : Entry) (older : History) → LeavesLink t e → bytes_received t (e ∷ older) ≡ bytes_received t older
+    → device_of t (e ∷ older) ≡ device_of t older
 same_device t e older far received =
     ap (λ b. device_as b (bytes_received t (e ∷ older)) (plugged t (e ∷ older))) (same_lost t e older far)
     ∙ (ap (λ bytes. device_as (is_lost t older) bytes (plugged t (e ∷ older))) received
@@ -153,7 +158,8 @@ lives_on older l x legal is = go (state older).stopped refl
         sym (ap (λ rows. is_connected_row (at x.link rows)) ((shows_devices older legal).gone e)) ∙ connected in cc)
 
 -- an entry that leaves a stream alive makes no kill
-same_kill : (e : Entry) (older : History) → IsLegal (e ∷ older) → is_killed (e ∷ older) ≡ is_killed older → (rule e (state older)).state.stopped ≡ (state older).stopped
+same_kill : (e : Entry) (older : History) → IsLegal (e ∷ older) → is_killed (e ∷ older) ≡ is_killed older
+    → (rule e (state older)).state.stopped ≡ (state older).stopped
 same_kill e older legal same =
     sym (stopped_after e older) ∙ ((all_books (e ∷ older) legal).killed ∙ (same ∙ sym (all_books older legal.0).killed))
 
@@ -188,7 +194,8 @@ maxdata_same : (e : Entry) (older : History) (l : ℕ) (x : Stream) → IsLegal 
 maxdata_same e older l x legal on far =
     let before : (state older).stopped ≡ false = lives_on older l x legal.0 on.0 in
     let after : (state (e ∷ older)).stopped ≡ false = stopped_after e older ∙ (rule_on e older l legal on.1 ∙ before) in
-    let ruled : (state (e ∷ older)).devices ≡ (rule e (state older)).state.devices = up_devices (rule e (state older)).state.drawn (rule e (state older)).state in
+    let ruled : (state (e ∷ older)).devices ≡ (rule e (state older)).state.devices = up_devices (rule e (state older)).state.drawn (rule e
+    (state older)).state in
     ap (maxdata_of x.link) (sym ruled)
     ∙ ap (λ (o : Option Row). unwrap_or (option_map (λ row. row.maxdata) o) 0)
     ((shows_devices (e ∷ older) legal).rows after x.link ∙ (same_device x.link e older far.0 far.1 ∙ sym ((shows_devices older legal.0).rows before x.link)))
@@ -217,40 +224,46 @@ calm_pair older l x p legal streaming =
     (rests_calm older legal l (drawn_row (state older).drawn l (state older).streams (all_linked older legal).owned.rows.streams x p.is).0).calm
     (record { stream = x; client = p.client; there = p.is; here = p.here; streaming = streaming })
 
--- a stream whose flow lets the same go up, with the same or more that is held
-pub stays_on : (e : Entry) (older : History) (l : ℕ) (x : Stream) (flow : Flow) (bytes : List ℕ) → (p : Pair l x (state older)) (k : Client)
-    → IsLegal (e ∷ older) × (k.about.phase ≡ p.client.about.phase) × (k.about.ended ≡ p.client.about.ended) × (k.held ≡ p.client.held ++ bytes)
-    → LetsSame x.part.flow flow × ((bytes ≡ []) ⊎ (flow ≡ x.part.flow))
-    → LeavesLink x.link e × (bytes_received x.link (e ∷ older) ≡ bytes_received x.link older)
-    → Becomes l (record x { part = with_flow flow x.part }) k (rule e (state older)).state → GoesOn l (rule e (state older)).state
-stays_on e older l x flow bytes p k at lets far is =
-    goes_as l y k (rule e (state older)).state is (λ streaming. over_is (calm_pair older l x p at.0.0 (ap (is_streaming l) (sym at.1) ∙ streaming)) lets.1)
-  where
-    y : Stream
-    y = record x { part = with_flow flow x.part }
+module _ (e : Entry) (older : History) (l : ℕ) (x : Stream) (flow : Flow) (bytes : List ℕ) where
+  -- a stream whose flow lets the same go up, with the same or more that is held
+  pub stays_on : (p : Pair l x (state older)) (k : Client) → IsLegal (e ∷ older) × (k.about.phase ≡ p.client.about.phase) × (k.about.ended
+      ≡ p.client.about.ended) × (k.held ≡ p.client.held ++ bytes) → LetsSame x.part.flow flow × ((bytes ≡ []) ⊎ (flow ≡ x.part.flow))
+      → LeavesLink x.link e × (bytes_received x.link (e ∷ older) ≡ bytes_received x.link older)
+      → Becomes l (record x { part = with_flow flow x.part }) k (rule e (state older)).state → GoesOn l (rule e (state older)).state
+  stays_on p k at lets far is =
+      goes_as l y k (rule e (state older)).state is (λ streaming. over_is (calm_pair older l x p at.0.0 (ap (is_streaming l) (sym at.1) ∙ streaming)) lets.1)
+    where
+      y : Stream
+      y = record x { part = with_flow flow x.part }
 
-    md : ℕ
-    md = maxdata_of x.link (rule e (state older)).state.devices
+      md : ℕ
+      md = maxdata_of x.link (rule e (state older)).state.devices
 
-    same : maxdata_of x.link (rule e (state older)).state.devices ≡ maxdata_of x.link (state older).devices
-    same = maxdata_same e older l x at.0 (p.is, row_lives ((rule e (state older)).state.streams l) (record x { part = with_flow flow x.part }) is.row p.alive) far
+      same : maxdata_of x.link (rule e (state older)).state.devices ≡ maxdata_of x.link (state older).devices
+      same = maxdata_same e older l x at.0 (
+        p.is,
+        row_lives ((rule e (state older)).state.streams l)
+            (record x { part = with_flow flow x.part }) is.row p.alive,
+      ) far
 
-    over_is : IsCalm (state older).devices p.client x → (bytes ≡ []) ⊎ (flow ≡ x.part.flow)
-        → is_over k.about.ended (drop (total (payloads flow (maxdata_of x.link (rule e (state older)).state.devices) k.held)) k.held)
-        (flow_after (payloads flow (maxdata_of x.link (rule e (state older)).state.devices) k.held) flow) ≡ false
-    over_is calm (inr own) =
-        ap (λ (f : Flow). is_over k.about.ended (drop (total (payloads f md k.held)) k.held) (flow_after (payloads f md k.held) f)) own
-        ∙ (ap (λ (m : ℕ). is_over k.about.ended (drop (total (payloads x.part.flow m k.held)) k.held) (flow_after (payloads x.part.flow m k.held) x.part.flow)) same
-        ∙ (ap (λ (held : List ℕ). is_over k.about.ended (drop (total (payloads x.part.flow (maxdata_of x.link (state older).devices) held)) held)
-        (flow_after (payloads x.part.flow (maxdata_of x.link (state older).devices) held) x.part.flow)) at.3
-        ∙ (ap (λ ended. is_over ended (drop (total (payloads x.part.flow (maxdata_of x.link (state older).devices) (p.client.held ++ bytes))) (p.client.held ++ bytes))
-        (flow_after (payloads x.part.flow (maxdata_of x.link (state older).devices) (p.client.held ++ bytes)) x.part.flow)) at.2
-        ∙ read_goes x.part.flow (maxdata_of x.link (state older).devices) p.client.about.ended p.client.held bytes calm.nothing calm.goes_on)))
-    over_is calm (inl none) =
-        let held : k.held ≡ p.client.held = at.3 ∙ (ap (λ w. p.client.held ++ w) none ∙ append-nil p.client.held) in
-        let nothing : payloads flow md k.held ≡ [] =
-        lets.0.payloads md k.held ∙ (ap (λ (m : ℕ). payloads x.part.flow m k.held) same
-        ∙ (ap (payloads x.part.flow (maxdata_of x.link (state older).devices)) held ∙ calm.nothing)) in
-        ap (λ (ps : List (List ℕ)). is_over k.about.ended (drop (total ps) k.held) (flow_after ps flow)) nothing
-        ∙ (lets.0.over k.about.ended k.held
-        ∙ (ap (λ w. is_over k.about.ended w x.part.flow) held ∙ (ap (λ b. is_over b p.client.held x.part.flow) at.2 ∙ calm.goes_on)))
+      over_is : IsCalm (state older).devices p.client x → (bytes ≡ []) ⊎ (flow ≡ x.part.flow)
+          → is_over k.about.ended (drop (total (payloads flow (maxdata_of x.link (rule e (state older)).state.devices) k.held)) k.held)
+          (flow_after (payloads flow (maxdata_of x.link (rule e (state older)).state.devices) k.held) flow) ≡ false
+      over_is calm (inr own) =
+          ap (λ (f : Flow). is_over k.about.ended (drop (total (payloads f md k.held)) k.held) (flow_after (payloads f md k.held) f)) own
+          ∙ (ap (λ (m : ℕ). is_over k.about.ended (drop (total (payloads x.part.flow m k.held)) k.held) (flow_after
+          (payloads x.part.flow m k.held) x.part.flow)) same
+          ∙ (ap (λ (held : List ℕ). is_over k.about.ended (drop (total (payloads x.part.flow (maxdata_of x.link (state older).devices) held)) held)
+          (flow_after (payloads x.part.flow (maxdata_of x.link (state older).devices) held) x.part.flow)) at.3
+          ∙ (ap (λ ended. is_over ended (drop (total (payloads x.part.flow (maxdata_of x.link (state older).devices) (p.client.held ++ bytes)))
+          (p.client.held ++ bytes))
+          (flow_after (payloads x.part.flow (maxdata_of x.link (state older).devices) (p.client.held ++ bytes)) x.part.flow)) at.2
+          ∙ read_goes x.part.flow (maxdata_of x.link (state older).devices) p.client.about.ended p.client.held bytes calm.nothing calm.goes_on)))
+      over_is calm (inl none) =
+          let held : k.held ≡ p.client.held = at.3 ∙ (ap (λ w. p.client.held ++ w) none ∙ append-nil p.client.held) in
+          let nothing : payloads flow md k.held ≡ [] =
+          lets.0.payloads md k.held ∙ (ap (λ (m : ℕ). payloads x.part.flow m k.held) same
+          ∙ (ap (payloads x.part.flow (maxdata_of x.link (state older).devices)) held ∙ calm.nothing)) in
+          ap (λ (ps : List (List ℕ)). is_over k.about.ended (drop (total ps) k.held) (flow_after ps flow)) nothing
+          ∙ (lets.0.over k.about.ended k.held
+          ∙ (ap (λ w. is_over k.about.ended w x.part.flow) held ∙ (ap (λ b. is_over b p.client.held x.part.flow) at.2 ∙ calm.goes_on)))

@@ -1,5 +1,6 @@
 -- A stream that lives on had no failing client, and no kill.
-use Rattle.std.proofs.Common.{◌≡◌, ◌+◌, ℕ, zero, suc, Bool, true, false, cond, not, ◌&&◌, ◌||◌, List, ◌∷◌, Option, Some, None, refl, sym, ap, subst, ◌∙◌, ◌⊎◌, inl, inr, arith, eqb}
+use Rattle.std.proofs.Common.{◌≡◌, ◌+◌, ℕ, zero, suc, Bool, true, false, cond, not, ◌&&◌, ◌||◌, List, ◌∷◌, Option, Some, None, refl, sym, ap, subst}
+use Rattle.std.proofs.Common.{◌∙◌, ◌⊎◌, inl, inr, arith, eqb}
 use Rattle.std.specs.Prelude.{is_some}
 use Rattle.std.specs.List.{list_any}
 use Rattle.std.proofs.Math.Bool.{and-not_self}
@@ -46,17 +47,18 @@ use Rattle.adb_causes.proofs.Endings.{IsTime, time_of, times_at, stopped_after}
 use Rattle.adb_causes.proofs.Others.{Alive, alive_at, unstruck, rule_none, link_quiet, not_detached}
 
 -- ---- its client did not fail
--- the failure of the client of a stream is told
-fails_told : (phase : Phase) (c l remote : ℕ) (cause : Cause) (s : State) → (x : Stream) → s.streams l ≡ Some x → phase ≡ phase_for l remote
-    → ending_in l (stream_fails phase cause (stream_of phase s.streams) (to_client c none_kept s)).told ≡ Some (client_failed cause)
-fails_told phase c l zero cause s x is in_phase =
-    ap (λ p. ending_in l (stream_fails p cause (stream_of p s.streams) (to_client c none_kept s)).told) in_phase
-    ∙ (ap (λ o. ending_in l (stream_fails (Opening l) cause o (to_client c none_kept s)).told) is
-    ∙ ap (λ b. cond b (Some (client_failed cause)) None) (eq-eqb l l refl))
-fails_told phase c l (suc n) cause s x is in_phase =
-    ap (λ p. ending_in l (stream_fails p cause (stream_of p s.streams) (to_client c none_kept s)).told) in_phase
-    ∙ (ap (λ o. ending_in l (stream_fails (Streaming l) cause o (to_client c none_kept s)).told) is
-    ∙ ap (λ b. cond b (Some (client_failed cause)) None) (eq-eqb l l refl))
+module _ (phase : Phase) (c l : ℕ) where
+  -- the failure of the client of a stream is told
+  fails_told : (remote : ℕ) (cause : Cause) (s : State) → (x : Stream) → s.streams l ≡ Some x → phase ≡ phase_for l remote
+      → ending_in l (stream_fails phase cause (stream_of phase s.streams) (to_client c none_kept s)).told ≡ Some (client_failed cause)
+  fails_told zero cause s x is in_phase =
+      ap (λ p. ending_in l (stream_fails p cause (stream_of p s.streams) (to_client c none_kept s)).told) in_phase
+      ∙ (ap (λ o. ending_in l (stream_fails (Opening l) cause o (to_client c none_kept s)).told) is
+      ∙ ap (λ b. cond b (Some (client_failed cause)) None) (eq-eqb l l refl))
+  fails_told (suc n) cause s x is in_phase =
+      ap (λ p. ending_in l (stream_fails p cause (stream_of p s.streams) (to_client c none_kept s)).told) in_phase
+      ∙ (ap (λ o. ending_in l (stream_fails (Streaming l) cause o (to_client c none_kept s)).told) is
+      ∙ ap (λ b. cond b (Some (client_failed cause)) None) (eq-eqb l l refl))
 
 pub end_told : (c l : ℕ) (cause : Cause) (s : State) (x : Stream) → s.streams l ≡ Some x → (k : ClientOf s.clients l x) → s.clients c ≡ Some k.client
     → is_orderly cause ≡ false → ending_in l (client_ends c cause (Some k.client) s).told ≡ Some (client_failed cause)

@@ -1,5 +1,6 @@
 -- At an entry that leaves a stream alive nothing stands that ends one, but its client's orderly end.
-use Rattle.std.proofs.Common.{◌≡◌, ◌≤◌, ◌<◌, ℕ, zero, suc, Bool, true, false, cond, not, ◌&&◌, ◌||◌, List, [], ◌∷◌, ◌++◌, length, drop, min, Some, None, refl, sym, ap, ◌∙◌, inl, inr, arith, eqb}
+use Rattle.std.proofs.Common.{◌≡◌, ◌≤◌, ◌<◌, ℕ, zero, suc, Bool, true, false, cond, not, ◌&&◌, ◌||◌, List, [], ◌∷◌, ◌++◌, length, drop, min, Some}
+use Rattle.std.proofs.Common.{None, refl, sym, ap, ◌∙◌, inl, inr, arith, eqb}
 use Rattle.std.specs.Prelude.{is_some, nat_lt, slice_get}
 use Rattle.std.specs.List.{list_any}
 use Rattle.std.proofs.Math.Seq.{drop-length}
@@ -104,7 +105,8 @@ nothing_brought l b e older same =
     ap (λ bytes. drop (length (brought b.link older)) (framed bytes).given) same ∙ drop-length (brought b.link older) in
     record {
       peer = ap (λ ps. closes_in (remote_of l b older) l ps) none;
-      turn = ap (λ ps. writes_early_in b (remote_of l b older) l (length (joined (told_to l b older))) (length (handed_to l b older)) (given_to l b older) ps) none;
+      turn = ap (λ ps. writes_early_in b (remote_of l b older) l (length (joined (told_to l b older))) (length (handed_to l b older))
+          (given_to l b older) ps) none;
       anew = ap (λ ps. list_any says_anew ps) none;
       broken =
           ap (λ ps. (is_some (framed (bytes_received b.link (e ∷ older))).fault && not (is_some (framed (bytes_received b.link older)).fault))

@@ -67,7 +67,8 @@ module _ (t : ℕ) (x : Stream) (p : Packet) (s : State) (h : Pair p.arg1 x s) w
       later : Made
       later = cond (eqb p.arg0 x.part.remote) (okay_open p.arg1 word x s) (quietly s)
 
-      known : (b : Bool) → eqb p.arg0 x.part.remote ≡ b → eqb x.part.remote 0 ≡ false → Effect p.arg1 x p h.client (cond b (okay_open p.arg1 word x s) (quietly s))
+      known : (b : Bool) → eqb p.arg0 x.part.remote ≡ b → eqb x.part.remote 0 ≡ false
+          → Effect p.arg1 x p h.client (cond b (okay_open p.arg1 word x s) (quietly s))
       known false e f = still
       known true e f = again_effect p.arg1 x p s h word (
         okay_none c,

@@ -1,5 +1,6 @@
 -- What handing out to its client makes of a stream.
-use Rattle.std.proofs.Common.{◌≡◌, ◌≢◌, ◌≤◌, ◌<◌, ◌+◌, ◌-◌, ◌^◌, ℕ, zero, suc, Bool, true, false, cond, List, [], ◌∷◌, ◌++◌, length, drop, min, Option, Some, refl, sym, ap, subst, ◌∙◌, eqb}
+use Rattle.std.proofs.Common.{◌≡◌, ◌≢◌, ◌≤◌, ◌<◌, ◌+◌, ◌-◌, ◌^◌, ℕ, zero, suc, Bool, true, false, cond, List, [], ◌∷◌, ◌++◌, length, drop, min}
+use Rattle.std.proofs.Common.{Option, Some, refl, sym, ap, subst, ◌∙◌, eqb}
 use Rattle.std.proofs.Common.{arith}
 use Rattle.std.specs.Prelude.{nat_le, unwrap_or, ◌||◌, ◌&&◌}
 use Rattle.adb_stream.specs.declared.credit.TheConstants.{CREDIT_STEP}
@@ -83,7 +84,8 @@ back_small left c h fits = go (eqb left 0 || nat_le CREDIT_STEP (c.gathered + (c
     go true = omega (arith, h.window, fits)
     go false = omega arith
 
-module _ (l : ℕ) (x : Stream) (k : Client) (n : ℕ) (s : State) (h : (s.streams l ≡ Some x) × (s.clients x.client ≡ Some (record k { due = drop n k.due }))) where
+module _ (l : ℕ) (x : Stream) (k : Client) (n : ℕ) (s : State) (h : (s.streams l ≡ Some x) × (s.clients x.client
+    ≡ Some (record k { due = drop n k.due }))) where
   -- as many are left as the stream has accepted
   all_left : x.part.remote ≢ 0 → min (to_hand x.part.flow) (length (drop n k.due)) ≡ to_hand x.part.flow → PutEffect l x k n (quietly s)
   all_left open_now same = record {
@@ -169,7 +171,8 @@ module _ (l : ℕ) (x : Stream) (k : Client) (n : ℕ) (s : State) (h : (s.strea
         }
 
         go : (back : ℕ) → credit_back left c ≡ back → PutEffect l x k n (tells_credit back l x less)
-        go zero f = effect (quietly less) refl refl refl (subst (λ (b : ℕ). Tally l x.link [] [] 0 b) (sym f) (record { bytes = refl; count = refl; given = refl }))
+        go zero f = effect (quietly less) refl refl refl (subst (λ (b : ℕ). Tally l x.link [] [] 0 b) (sym f)
+            (record { bytes = refl; count = refl; given = refl }))
         go (suc b) f = effect (owe_link x.link (credit_packet l x.part.remote (suc b)) less) refl refl refl
             (subst (λ (i : ℕ). Tally l x.link (owe_link x.link (credit_packet l x.part.remote (suc b)) less).told [] 0 i) (sym f)
             (credit_tally l x (suc b) less (omega (arith, small, f))))
@@ -182,29 +185,30 @@ module _ (l : ℕ) (x : Stream) (k : Client) (n : ℕ) (s : State) (h : (s.strea
         go false e = fewer x.part.flow refl sound
 
 -- ---- the whole rule
--- what may be put to the client of a stream is due to it
-due_some : (l remote : ℕ) (k : Client) (devices : DeviceTable) (bytes : List ℕ) → (k.about.mark ≡ true → k.about.phase ≡ Tracking)
-    → k.about.phase ≡ phase_for l remote → IsSomeOf bytes (offered devices k) → (due : List ℕ) → k.due ≡ due → due ≢ []
-due_some l remote k devices bytes mark phase may due is none = unmarked k.about.mark refl
-  where
-    tracking : (n : ℕ) → Tracking ≡ phase_for l n → ⊥
-    tracking zero e = let clash : Tracking ≡ Opening l = e in cc
-    tracking (suc n) e = let clash : Tracking ≡ Streaming l = e in cc
+module _ (l remote : ℕ) (k : Client) (devices : DeviceTable) where
+  -- what may be put to the client of a stream is due to it
+  due_some : (bytes : List ℕ) → (k.about.mark ≡ true → k.about.phase ≡ Tracking) → k.about.phase ≡ phase_for l remote → IsSomeOf bytes (offered devices k)
+      → (due : List ℕ) → k.due ≡ due → due ≢ []
+  due_some bytes mark phase may due is none = unmarked k.about.mark refl
+    where
+      tracking : (n : ℕ) → Tracking ≡ phase_for l n → ⊥
+      tracking zero e = let clash : Tracking ≡ Opening l = e in cc
+      tracking (suc n) e = let clash : Tracking ≡ Streaming l = e in cc
 
-    -- nothing is offered
-    no_front : bytes ≢ [] → IsPrefixOf bytes [] → ⊥
-    no_front some front = some (front_nil bytes front)
-      where
-        front_nil : (xs : List ℕ) → IsPrefixOf xs [] → xs ≡ []
-        front_nil [] f = refl
-        front_nil (b ∷ xs) f = absurd (let clash : b ∷ (xs ++ f.0) ≡ [] = f.1 in cc)
+      -- nothing is offered
+      no_front : bytes ≢ [] → IsPrefixOf bytes [] → ⊥
+      no_front some front = some (front_nil bytes front)
+        where
+          front_nil : (xs : List ℕ) → IsPrefixOf xs [] → xs ≡ []
+          front_nil [] f = refl
+          front_nil (b ∷ xs) f = absurd (let clash : b ∷ (xs ++ f.0) ≡ [] = f.1 in cc)
 
-    unmarked : (b : Bool) → k.about.mark ≡ b → ⊥
-    unmarked true e = tracking remote (sym (mark e) ∙ phase)
-    unmarked false e =
-        let offers : offered devices k ≡ [] =
-        ap (λ d. due_or d (list_if_stale devices k.about.mark k.about.long)) (is ∙ none) ∙ ap (λ b. list_if_stale devices b k.about.long) e in
-        no_front may.some (subst (IsPrefixOf bytes) offers may.front)
+      unmarked : (b : Bool) → k.about.mark ≡ b → ⊥
+      unmarked true e = tracking remote (sym (mark e) ∙ phase)
+      unmarked false e =
+          let offers : offered devices k ≡ [] =
+          ap (λ d. due_or d (list_if_stale devices k.about.mark k.about.long)) (is ∙ none) ∙ ap (λ b. list_if_stale devices b k.about.long) e in
+          no_front may.some (subst (IsPrefixOf bytes) offers may.front)
 
 -- the rest of what is due to a client with a stream
 hands_own : (l remote n : ℕ) (k : Client) → k.about.phase ≡ phase_for l remote → hands n k ≡ Some (record k { due = drop n k.due })
@@ -243,7 +247,8 @@ module _ (l : ℕ) (x : Stream) (s : State) (h : IsOwned s) (p : Pair l x s) (by
       flows (One window) credit written before now given same f = (f.0, omega (arith, same, f.1))
       flows (Credit c) credit written before now given same f = (f.0, omega (arith, f.1))
 
-  left_effect : (remote : ℕ) → x.part.remote ≡ remote → PutEffect l x p.client (length bytes) (client_left (phase_for l remote) (length (drop (length bytes) p.client.due)) handed)
+  left_effect : (remote : ℕ) → x.part.remote ≡ remote → PutEffect l x p.client (length bytes) (client_left (phase_for l remote) (length (drop
+      (length bytes) p.client.due)) handed)
   left_effect zero e = waiting_effect e
   left_effect (suc m) e =
       subst (λ (o : Option Stream). PutEffect l x p.client n (stream_left (length (drop n p.client.due)) l o handed)) (sym p.is)
@@ -264,7 +269,8 @@ module _ (l : ℕ) (x : Stream) (s : State) (h : IsOwned s) (p : Pair l x s) (by
           (subst (λ (o : Option Client). MayPut s o bytes) p.here may) due e
 
       go : (due : List ℕ) → p.client.due ≡ due
-          → PutEffect l x p.client (length bytes) (then_also (lists_first x.client due p.client s) (λ s. takes_of x.client (length bytes) (s.clients x.client) s))
+          → PutEffect l x p.client (length bytes) (then_also (lists_first x.client due p.client s) (λ s. takes_of x.client (length bytes)
+          (s.clients x.client) s))
       go [] e = absurd (some [] e refl)
       go (c ∷ due) e =
           let r = takes_effect in

@@ -1,5 +1,6 @@
 -- A stream that lives holds what is told after each entry too.
-use Rattle.std.proofs.Common.{◌≡◌, ◌≢◌, ◌≤◌, ◌+◌, ◌-◌, ℕ, zero, suc, Bool, true, false, cond, List, [], ◌∷◌, ◌++◌, length, drop, Option, refl, sym, ap, subst, ◌∙◌, arith, length-append, length-drop}
+use Rattle.std.proofs.Common.{◌≡◌, ◌≢◌, ◌≤◌, ◌+◌, ◌-◌, ℕ, zero, suc, Bool, true, false, cond, List, [], ◌∷◌, ◌++◌, length, drop, Option, refl, sym}
+use Rattle.std.proofs.Common.{ap, subst, ◌∙◌, arith, length-append, length-drop}
 use Rattle.std.specs.Prelude.{nat_eq, min}
 use Rattle.std.proofs.lemmas.Bool.{eq-eqb, ne_eqb}
 use Rattle.adb_client.specs.declared.phase.Phase.TheVariants.{Opening as Waits, Streaming as Opened, Tracking as Tracks}
@@ -129,7 +130,8 @@ module _ (older : History) (l : ℕ) (b : Birth) (x : Stream) (bytes : List ℕ)
       (record t.pair.client { due = drop (length bytes) t.pair.client.due })
   put_after =
       let r = put_effect in
-      let none : length (owed_to b.client (rule e (state older)).told) ≡ 0 = ap length (subst (λ (c : ℕ). owed_to c (rule e (state older)).told ≡ []) t.client r.owed) in
+      let none : length (owed_to b.client (rule e (state older)).told) ≡ 0 = ap length (subst (λ (c : ℕ). owed_to c (rule e (state older)).told
+      ≡ []) t.client r.owed) in
       record {
         credits = r.back;
         tally = subst (λ (i : ℕ). Tally l i (rule e (state older)).told [] 0 r.back) t.link r.tally;

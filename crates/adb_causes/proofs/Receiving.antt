@@ -79,7 +79,12 @@ module _ (t l : ℕ) (x : Stream) (older : History) (legal : IsLegal older)
     is = is.0;
     alive = is.1;
     on = is.2;
-    live = record { connected = connected; link = some_link; within = drawn_row (state older).drawn l (state older).streams (all_linked older legal).owned.rows.streams x is.0 };
+    live = record {
+      connected = connected;
+      link = some_link;
+      within = drawn_row (state older).drawn l (state older).streams
+          (all_linked older legal).owned.rows.streams x is.0;
+    };
   }
 
   pub there_at : LinkThere t (state older)

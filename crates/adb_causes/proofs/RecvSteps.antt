@@ -1,5 +1,6 @@
 -- A stream and its client after what its link brings.
-use Rattle.std.proofs.Common.{◌≡◌, ◌≤◌, ◌<◌, ◌+◌, ◌-◌, ℕ, Bool, true, false, cond, not, ◌&&◌, ◌||◌, List, [], ◌∷◌, ◌++◌, length, drop, Option, Some, None, refl, sym, ap, subst, ◌∙◌}
+use Rattle.std.proofs.Common.{◌≡◌, ◌≤◌, ◌<◌, ◌+◌, ◌-◌, ℕ, Bool, true, false, cond, not, ◌&&◌, ◌||◌, List, [], ◌∷◌, ◌++◌, length, drop, Option, Some}
+use Rattle.std.proofs.Common.{None, refl, sym, ap, subst, ◌∙◌}
 use Rattle.std.proofs.Common.{arith, inl, inr, length-append}
 use Rattle.std.specs.Prelude.{nat_eq}
 use Rattle.std.proofs.lemmas.Bool.{eqb-true, eqb-false}
@@ -12,7 +13,8 @@ use Rattle.adb_history.specs.Events.{Made, owed_to}
 use Rattle.adb_history.specs.Machine.{rule, History, state}
 use Rattle.adb_history.specs.Bytes.{bytes_put, brought}
 use Rattle.adb_history.specs.Book.{asked}
-use Rattle.adb_history.specs.Births.{Birth, Opening as FirstOkay, opening_in, opening_of, remote_in, remote_of, since, told_after, told_to, joined, lead_of, handed_to}
+use Rattle.adb_history.specs.Births.{Birth, Opening as FirstOkay, opening_in, opening_of, remote_in, remote_of, since, told_after, told_to, joined}
+use Rattle.adb_history.specs.Births.{lead_of, handed_to}
 use Rattle.adb_history.specs.Births.{carried_in}
 use Rattle.adb_history.specs.Lives.{output_of, packets_of}
 use Rattle.adb_history.specs.Causes.{okays_after, given_to}
@@ -95,7 +97,8 @@ module _ (older : History) (l : ℕ) (b : Birth) (x : Stream) (bytes : List ℕ)
       let made : receives b.link bytes (state older) ≡ then_also treated_now (λ s. quietly s) =
       ap (λ o. receives_on o b.link bytes (state older)) there.is
       ∙ (ap (λ fault. then_also treated_now (λ s. faulty_on (s.links b.link) b.link fault s)) sound
-      ∙ ap (λ (m : Made). record { state = m.state; told = treated_now.told ++ m.told }) (faulty_none (treated_now.state.links b.link) b.link treated_now.state)) in
+      ∙ ap (λ (m : Made). record { state = m.state; told = treated_now.told ++ m.told }) (faulty_none
+      (treated_now.state.links b.link) b.link treated_now.state)) in
       record {
         given = cut_now.given;
         treated = treated_now;
@@ -221,7 +224,8 @@ module _ (older : History) (l : ℕ) (b : Birth) (x : Stream) (bytes : List ℕ)
           writes = λ one.
               let was = t.holds.writes one in
               let more = r.effect.okays (okays_after l b older) in
-              let same : okays_after l b (e ∷ older) ≡ okays_all x.part.remote l r.given (okays_after l b older) = ap (okays_behind_in l) more_since ∙ told_more.okays in
+              let same : okays_after l b (e ∷ older) ≡ okays_all x.part.remote l r.given (okays_after l b older) = ap (okays_behind_in l) more_since
+              ∙ told_more.okays in
               omega (arith, was, more, same);
           closed = λ ended. closed_before l b.client e older (t.holds.closed (sym r.effect.same.ended ∙ ended));
         }

@@ -1,5 +1,6 @@
 -- What the rule of each entry makes of the stream of a number that was drawn before.
-use Rattle.std.proofs.Common.{◌≡◌, ◌≢◌, ◌≤◌, ◌<◌, ◌+◌, ℕ, zero, suc, Bool, true, false, cond, not, List, [], ◌∷◌, length, drop, min, Option, Some, None, refl, sym, ap, subst, ◌∙◌, eqb}
+use Rattle.std.proofs.Common.{◌≡◌, ◌≢◌, ◌≤◌, ◌<◌, ◌+◌, ℕ, zero, suc, Bool, true, false, cond, not, List, [], ◌∷◌, length, drop, min, Option, Some}
+use Rattle.std.proofs.Common.{None, refl, sym, ap, subst, ◌∙◌, eqb}
 use Rattle.std.proofs.Common.{arith, ◌⊎◌, inl, inr}
 use Rattle.std.specs.Prelude.{nat_eq}
 use Rattle.std.specs.Option.{option_or}
@@ -152,7 +153,8 @@ module _ (l : ℕ) (Why : Reason) where
       new : Option Stream
       new = (draw (is_credit t s.devices) c t s).streams (s.drawn + 1)
 
-      go : (b : Bool) → b ≡ false → Fate l Why (s.streams l) (cond b (Some (new_stream (s.drawn + 1) c t (new_flow (is_credit t s.devices)))) (s.streams l)) told
+      go : (b : Bool) → b ≡ false → Fate l Why (s.streams l) (cond b (Some (new_stream (s.drawn + 1) c t (new_flow (is_credit t s.devices))))
+          (s.streams l)) told
       go false e = fate_same l Why (s.streams l) told refl
       go true e = absurd (let clash : true ≡ false = e in cc)
 

@@ -1,5 +1,6 @@
 -- A stream and its client after the rule of an entry: by entries of others, and by what its client sends and is handed.
-use Rattle.std.proofs.Common.{◌≡◌, ◌≤◌, ◌+◌, ◌-◌, ℕ, zero, suc, Bool, true, cond, ◌&&◌, ◌||◌, List, [], ◌∷◌, ◌++◌, length, drop, Some, refl, sym, ap, subst, ◌∙◌}
+use Rattle.std.proofs.Common.{◌≡◌, ◌≤◌, ◌+◌, ◌-◌, ℕ, zero, suc, Bool, true, cond, ◌&&◌, ◌||◌, List, [], ◌∷◌, ◌++◌, length, drop, Some, refl, sym, ap}
+use Rattle.std.proofs.Common.{subst, ◌∙◌}
 use Rattle.std.proofs.Common.{arith, length-append, append_assoc}
 use Rattle.std.specs.Prelude.{nat_eq, is_some}
 use Rattle.std.proofs.lemmas.Bool.{eq-eqb}
@@ -97,7 +98,8 @@ module _ (e : Entry) (older : History) (l : ℕ) (b : Birth) (x : Stream) (t : S
     same_waits nil packets = ap (λ ps. opening_in l (drop b.packets_before ps ++ packets)) same_brought ∙ t.holds.waits nil packets
 
     pub same_before : b.packets_before ≤ length (brought b.link (e ∷ older))
-    same_before = (let same : length (brought b.link (e ∷ older)) ≡ length (brought b.link older) = ap length same_brought in omega (arith, same, t.holds.before))
+    same_before = (let same : length (brought b.link (e ∷ older)) ≡ length (brought b.link older) = ap length same_brought in omega
+        (arith, same, t.holds.before))
 
   pub steady : (k : Client) → Steady k → AfterRule e older l b x k
   steady k q =

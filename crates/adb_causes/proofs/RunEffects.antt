@@ -136,7 +136,8 @@ module _ (t l : ℕ) (x : Stream) (p : Packet) (packets : List Packet) (s : Stat
           subst (Next l x p) same a.next
 
       owed : (written : ℕ) → (x.part.remote ≡ 0 → written ≡ 0)
-          → length (owed_to x.client ((treat t p s).told ++ (treat_all t packets (treat t p s).state).told)) + hears x.part.remote h.client.about.forwarded written
+          → length (owed_to x.client ((treat t p s).told ++ (treat_all t packets
+          (treat t p s).state).told)) + hears x.part.remote h.client.about.forwarded written
           ≡ hears r.row.part.remote h.client.about.forwarded
           (written_all (remote_after x.part.remote l p) l packets (written_after x.part.remote l p written))
       owed written nil =

@@ -129,7 +129,8 @@ module _ (t l : ℕ) (x : Stream) (p : Packet) (packets : List Packet) (s : Stat
         ∙ e b (written_after x.part.remote l p written) handed given (a.next.flow b.credit written handed given f)
     struck_behind lost e = ap (λ b. (b && not (is_refused p)) || list_any says_anew packets) a.not_cnxn ∙ e
     struck_behind broken e =
-        ap (λ b. (b && (nat_lt p.arg0 least_version || nat_lt p.arg1 least_maxdata || is_none (identity_of p.payload))) || list_any is_refused packets) a.not_cnxn
+        ap (λ b. (b && (nat_lt p.arg0 least_version || nat_lt p.arg1 least_maxdata || is_none
+        (identity_of p.payload))) || list_any is_refused packets) a.not_cnxn
         ∙ e
     struck_behind client_closed e = absurd e
     struck_behind (client_failed cause) e = absurd e

@@ -10,7 +10,8 @@ use Rattle.adb_wire.specs.declared.command.Command.{Command}
 use Rattle.adb_wire.specs.declared.command.Command.TheVariants.{Cnxn, Open, Okay, Wrte, Clse, Auth, Stls}
 use Rattle.adb_wire.specs.declared.packets.Packet.{Packet}
 use Rattle.adb_history.specs.Links.{credit_word}
-use Rattle.adb_history.specs.Births.{Opening, opening_by, opening_in, remote_in, told_in, told_after, joined, is_between, is_wrte, is_okay, is_clse, is_close_of}
+use Rattle.adb_history.specs.Births.{Opening, opening_by, opening_in, remote_in, told_in, told_after, joined, is_between, is_wrte, is_okay, is_clse}
+use Rattle.adb_history.specs.Births.{is_close_of}
 use Rattle.adb_history.specs.Fifo.{okays_in}
 use Rattle.adb_history.specs.Causes.{remote_after, closes_in, okays_behind}
 use Rattle.adb_causes.proofs.Turns.{written_after}
@@ -87,7 +88,8 @@ opening_more l (p ∷ a) b o is = go p.command is (opening_more l a b o)
 
     okay : (c : Bool) → cond c (Some (record { remote = p.arg0; word = credit_word p.payload; later = a })) (opening_in l a) ≡ Some o
         → (opening_in l a ≡ Some o → opening_in l (a ++ b) ≡ Some (record o { later = o.later ++ b }))
-        → cond c (Some (record { remote = p.arg0; word = credit_word p.payload; later = a ++ b })) (opening_in l (a ++ b)) ≡ Some (record o { later = o.later ++ b })
+        → cond c (Some (record { remote = p.arg0; word = credit_word p.payload; later = a ++ b })) (opening_in l (a ++ b))
+        ≡ Some (record o { later = o.later ++ b })
     okay true e ih = same a e
     okay false e ih = ih e
 
@@ -248,7 +250,8 @@ module _ (l r : ℕ) (packets more : List Packet) (known : remote_in (opening_in
       record {
         told =
             let before : written_in l packets ≡ length (joined (told_in o.remote l o.later)) = ap (λ x. length (joined (told_after l x))) is in
-            let after : written_in l (packets ++ more) ≡ length (joined (told_in o.remote l (o.later ++ more))) = ap (λ x. length (joined (told_after l x))) now in
+            let after : written_in l (packets ++ more) ≡ length (joined (told_in o.remote l (o.later ++ more))) = ap (λ x. length (joined
+            (told_after l x))) now in
             let parts : length (joined (told_in o.remote l (o.later ++ more)))
             ≡ length (joined (told_in o.remote l o.later)) + length (joined (told_in o.remote l more)) =
             ap (λ ps. length (joined ps)) (told_append o.remote l o.later more)
@@ -276,7 +279,8 @@ module _ (l r : ℕ) (packets more : List Packet) (known : remote_in (opening_in
       let none : opening_in l packets ≡ None = ap (opening_in l) (sym (append-nil packets)) ∙ waits [] in
       record {
         told = ap (λ o. length (joined (told_after l o))) (waits more)
-            ∙ (s.told ∙ (ap (λ n. written_all n l more 0) (sym nil) ∙ ap (λ w. written_all r l more w) (sym (ap (λ o. length (joined (told_after l o))) none))));
+            ∙ (s.told ∙ (ap (λ n. written_all n l more 0) (sym nil) ∙ ap (λ w. written_all r l more w) (sym (ap (λ o. length (joined
+            (told_after l o))) none))));
         okays = ap (okays_behind l) (waits more)
             ∙ (s.okays ∙ (ap (λ n. okays_all n l more 0) (sym nil) ∙ ap (λ w. okays_all r l more w) (sym (ap (okays_behind l) none))));
         remote = ap remote_in (waits more) ∙ (s.remote ∙ ap (λ n. remote_all n l more) (sym nil));

@@ -129,16 +129,17 @@ module _ (l : ℕ) where
       go true e = omega (arith, e)
       go false e = e
 
-pub tally_append : (l t : ℕ) (a b : List Event) (c d : List ℕ) (m n i j : ℕ) → Tally l t a c m i → Tally l t b d n j → Tally l t (a ++ b) (c ++ d) (m + n) (i + j)
-tally_append l t a b c d m n i j h k = record {
-  bytes = ap (carried_in l) (packets_append t a b) ∙ (carried_append l (packets_to t a) (packets_to t b)
-      ∙ (ap (λ x. x ++ carried_in l (packets_to t b)) h.bytes ∙ ap (λ x. c ++ x) k.bytes));
-  count =
-      let both : count_from is_wrte l (packets_to t (a ++ b)) ≡ count_from is_wrte l (packets_to t a) + count_from is_wrte l (packets_to t b) =
-      ap (count_from is_wrte l) (packets_append t a b) ∙ count_append l (packets_to t a) (packets_to t b) in
-      omega (arith, both, h.count, k.count);
-  given =
-      let both : credit_of (okays_of l (packets_to t (a ++ b))) ≡ credit_of (okays_of l (packets_to t a)) + credit_of (okays_of l (packets_to t b)) =
-      ap (λ ps. credit_of (okays_of l ps)) (packets_append t a b) ∙ credits_append l (packets_to t a) (packets_to t b) in
-      omega (arith, both, h.given, k.given);
-}
+module _ (l t : ℕ) (a b : List Event) where
+  pub tally_append : (c d : List ℕ) (m n i j : ℕ) → Tally l t a c m i → Tally l t b d n j → Tally l t (a ++ b) (c ++ d) (m + n) (i + j)
+  tally_append c d m n i j h k = record {
+    bytes = ap (carried_in l) (packets_append t a b) ∙ (carried_append l (packets_to t a) (packets_to t b)
+        ∙ (ap (λ x. x ++ carried_in l (packets_to t b)) h.bytes ∙ ap (λ x. c ++ x) k.bytes));
+    count =
+        let both : count_from is_wrte l (packets_to t (a ++ b)) ≡ count_from is_wrte l (packets_to t a) + count_from is_wrte l (packets_to t b) =
+        ap (count_from is_wrte l) (packets_append t a b) ∙ count_append l (packets_to t a) (packets_to t b) in
+        omega (arith, both, h.count, k.count);
+    given =
+        let both : credit_of (okays_of l (packets_to t (a ++ b))) ≡ credit_of (okays_of l (packets_to t a)) + credit_of (okays_of l (packets_to t b)) =
+        ap (λ ps. credit_of (okays_of l ps)) (packets_append t a b) ∙ credits_append l (packets_to t a) (packets_to t b) in
+        omega (arith, both, h.given, k.given);
+  }

@@ -187,43 +187,45 @@ pub rule_owned : (e : Entry) (older : History) → IsLegal (e ∷ older) → IsO
 rule_owned e older legal =
     rule_kept owned_moves e (state older) [] (begins_owned (state older) (all_linked older legal.0).owned e [] legal.2)
 
-pub ups_hold : (e : Entry) (older : History) (l : ℕ) (b : Birth) → IsLegal (e ∷ older) → Ruled e older l b → (0 < l) × (l ≤ (state (e ∷ older)).drawn)
-    → (y : Stream) (k : Client) → ((state (e ∷ older)).streams l ≡ Some y) × (y.part.orphan ≡ false) × ((state (e ∷ older)).clients y.client ≡ Some k)
-    → IsAsTold (e ∷ older) l b y k
-ups_hold e older l b legal r within y k is = go (up_run l r.row m.state pair (pair_apart l r.row m.state owned pair) m.state.drawn (within.0, drawn))
-  where
-    m : Made
-    m = rule e (state older)
+module _ (e : Entry) (older : History) (l : ℕ) (b : Birth) where
+  pub ups_hold : IsLegal (e ∷ older) → Ruled e older l b → (0 < l) × (l ≤ (state (e ∷ older)).drawn) → (y : Stream) (k : Client)
+      → ((state (e ∷ older)).streams l ≡ Some y) × (y.part.orphan ≡ false) × ((state (e ∷ older)).clients y.client ≡ Some k) → IsAsTold (e ∷ older) l b y k
+  ups_hold legal r within y k is = go (up_run l r.row m.state pair (pair_apart l r.row m.state owned pair) m.state.drawn (within.0, drawn))
+    where
+      m : Made
+      m = rule e (state older)
 
-    owned : IsOwned (rule e (state older)).state
-    owned = rule_owned e older legal
+      owned : IsOwned (rule e (state older)).state
+      owned = rule_owned e older legal
 
-    pair : Pair l r.row (rule e (state older)).state
-    pair = pair_of l r.row m.state owned r.is r.alive
+      pair : Pair l r.row (rule e (state older)).state
+      pair = pair_of l r.row m.state owned r.is r.alive
 
-    drawn : l ≤ (rule e (state older)).state.drawn
-    drawn = (let same = up_all_drawn m.state.drawn m.state in omega (arith, within.1, same))
+      drawn : l ≤ (rule e (state older)).state.drawn
+      drawn = (let same = up_all_drawn m.state.drawn m.state in omega (arith, within.1, same))
 
-    same_client : pair.client ≡ r.client
-    same_client = (let both : Some pair.client ≡ Some r.client = sym pair.here ∙ r.here in cc)
+      same_client : pair.client ≡ r.client
+      same_client = (let both : Some pair.client ≡ Some r.client = sym pair.here ∙ r.here in cc)
 
-    after : AfterRule e older l b r.row pair.client
-    after = subst (AfterRule e older l b r.row) (sym same_client) r.after
+      after : AfterRule e older l b r.row pair.client
+      after = subst (AfterRule e older l b r.row) (sym same_client) r.after
 
-    credit : has_credit r.row.part.flow ≡ b.credit
-    credit = flow_credit r.row.part.flow b.credit (length (joined (told_to l b (e ∷ older)))) (length (handed_to l b (e ∷ older)))
-        (given_to l b older + after.credits) after.flow
+      credit : has_credit r.row.part.flow ≡ b.credit
+      credit = flow_credit r.row.part.flow b.credit (length (joined (told_to l b (e ∷ older)))) (length (handed_to l b (e ∷ older)))
+          (given_to l b older + after.credits) after.flow
 
-    go : UpEffect l r.row pair.client (ups (rule e (state older)).state) → IsAsTold (e ∷ older) l b y k
-    go u = kind u.after
-      where
-        kind : GoesOnWith l r.row pair.client u.sent (ups (rule e (state older)).state).state ⊎ EndsWith l r.row pair.client u.sent (ups (rule e (state older)).state)
-            → IsAsTold (e ∷ older) l b y k
-        kind (inr ends) = absurd (let clash : None ≡ Some y = sym ends.2 ∙ is.0 in cc)
-        kind (inl goes) =
-            let z = record r.row { part = with_flow (flow_after u.sent r.row.part.flow) r.row.part } in
-            let row : z ≡ y = (let both : Some z ≡ Some y = sym goes.0 ∙ is.0 in cc) in
-            let rest = record pair.client { held = drop (total u.sent) pair.client.held } in
-            let client : rest ≡ k = (let both : Some rest ≡ Some k = sym goes.1 ∙ (ap (λ (w : Stream). (state (e ∷ older)).clients w.client) row ∙ is.2) in cc) in
-            subst (λ (w : Client). IsAsTold (e ∷ older) l b y w) client
-            (subst (λ (w : Stream). IsAsTold (e ∷ older) l b w rest) row (after_ups e older l b r.row pair.client after (r.of, r.link, credit) u))
+      go : UpEffect l r.row pair.client (ups (rule e (state older)).state) → IsAsTold (e ∷ older) l b y k
+      go u = kind u.after
+        where
+          kind : GoesOnWith l r.row pair.client u.sent (ups (rule e (state older)).state).state ⊎ EndsWith l r.row pair.client u.sent (ups (rule e
+              (state older)).state)
+              → IsAsTold (e ∷ older) l b y k
+          kind (inr ends) = absurd (let clash : None ≡ Some y = sym ends.2 ∙ is.0 in cc)
+          kind (inl goes) =
+              let z = record r.row { part = with_flow (flow_after u.sent r.row.part.flow) r.row.part } in
+              let row : z ≡ y = (let both : Some z ≡ Some y = sym goes.0 ∙ is.0 in cc) in
+              let rest = record pair.client { held = drop (total u.sent) pair.client.held } in
+              let client : rest ≡ k = (let both : Some rest ≡ Some k = sym goes.1 ∙ (ap (λ (w : Stream). (state (e ∷ older)).clients w.client) row
+              ∙ is.2) in cc) in
+              subst (λ (w : Client). IsAsTold (e ∷ older) l b y w) client
+              (subst (λ (w : Stream). IsAsTold (e ∷ older) l b w rest) row (after_ups e older l b r.row pair.client after (r.of, r.link, credit) u))

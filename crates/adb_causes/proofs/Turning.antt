@@ -48,24 +48,24 @@ live_frame n t l s m f live = record {
 written_same : (l : ℕ) (x : Stream) (p : Packet) (written : ℕ) → counts x.part.remote l p ≡ false → written_after x.part.remote l p written ≡ written
 written_same l x p written e = ap (λ b. cond b (written + length p.payload) written) e
 
--- a packet that the stream ignores
-pub ignored : (t l : ℕ) (x : Stream) (p : Packet) (s : State) (m : Made) → Here t l x s → Ignores l x p → m.state.streams l ≡ Some x → OnLive t l m.state
-    → Passes t l x p m
-ignored t l x p s m h i is live = record {
-  row = x;
-  is = is;
-  next = record {
-    alive = h.alive;
-    link = refl;
-    remote = sym i.remote;
-    flow = λ credit written handed given f.
-        subst (λ (n : ℕ). FlowIs x.part.flow credit n handed given) (sym (written_same l x p written i.counts)) f;
-  };
-  live = live;
-  not_close = i.not_close;
-  not_cnxn = i.not_cnxn;
-  in_turn = λ e. absurd (let clash : false ≡ true = sym i.counts ∙ e in cc);
-}
+module _ (t l : ℕ) (x : Stream) (p : Packet) (s : State) where
+  -- a packet that the stream ignores
+  pub ignored : (m : Made) → Here t l x s → Ignores l x p → m.state.streams l ≡ Some x → OnLive t l m.state → Passes t l x p m
+  ignored m h i is live = record {
+    row = x;
+    is = is;
+    next = record {
+      alive = h.alive;
+      link = refl;
+      remote = sym i.remote;
+      flow = λ credit written handed given f.
+          subst (λ (n : ℕ). FlowIs x.part.flow credit n handed given) (sym (written_same l x p written i.counts)) f;
+    };
+    live = live;
+    not_close = i.not_close;
+    not_cnxn = i.not_cnxn;
+    in_turn = λ e. absurd (let clash : false ≡ true = sym i.counts ∙ e in cc);
+  }
 
 -- a rule that ends the stream tells it
 pub ended_told : (l : ℕ) (s : State) (m : Made) (x : Stream) (y : Ending) → (s.streams l ≡ Some x) × (x.part.orphan ≡ false)
@@ -113,7 +113,8 @@ module _ (t : ℕ) (x : Stream) (p : Packet) (s : State) (h : Here t p.arg1 x s)
           link = goes.link;
           remote = goes.remote ∙ sym after;
           flow = λ credit written handed given f.
-              subst (λ (n : ℕ). FlowIs y.part.flow credit n handed given) (sym (written_same p.arg1 x p written none)) (goes.flow credit written handed given f);
+              subst (λ (n : ℕ). FlowIs y.part.flow credit n handed given) (sym (written_same p.arg1 x p written none))
+              (goes.flow credit written handed given f);
         };
         live = live_frame p.arg1 t p.arg1 s m frame h.live;
         not_close = ap (λ k. is_clse k && (is_between 0 p.arg1 p || is_between x.part.remote p.arg1 p)) c;

@@ -83,7 +83,8 @@ pub record Ignores (l : ℕ) (x : Stream) (p : Packet) : Type 0 where
   pub not_cnxn : is_cnxn p.command ≡ false
 
 -- one of another kind
-pub other_kind : (l : ℕ) (x : Stream) (p : Packet) → is_okay p.command ≡ false → is_wrte p.command ≡ false → is_clse p.command ≡ false → is_cnxn p.command ≡ false
+pub other_kind : (l : ℕ) (x : Stream) (p : Packet) → is_okay p.command ≡ false → is_wrte p.command ≡ false → is_clse p.command ≡ false
+    → is_cnxn p.command ≡ false
     → Ignores l x p
 other_kind l x p okay wrte clse cnxn = record {
   remote = ap (λ b. cond (nat_eq x.part.remote 0 && b && nat_eq p.arg1 l) p.arg0 x.part.remote) okay

@@ -1,5 +1,6 @@
 -- What an entry leaves of what the history tells of a stream.
-use Rattle.std.proofs.Common.{◌≡◌, ◌-◌, ℕ, Bool, true, false, cond, not, ◌&&◌, ◌||◌, List, [], ◌∷◌, ◌++◌, length, drop, Option, Some, None, refl, sym, ap, ◌∙◌, eqb}
+use Rattle.std.proofs.Common.{◌≡◌, ◌-◌, ℕ, Bool, true, false, cond, not, ◌&&◌, ◌||◌, List, [], ◌∷◌, ◌++◌, length, drop, Option, Some, None, refl, sym}
+use Rattle.std.proofs.Common.{ap, ◌∙◌, eqb}
 use Rattle.std.proofs.Common.{length-drop}
 use Rattle.std.specs.Prelude.{nat_eq, is_some}
 use Rattle.std.proofs.Math.Bool.{or-true}
@@ -17,7 +18,8 @@ use Rattle.adb_history.specs.Links.{credit_word}
 use Rattle.adb_history.specs.Machine.{History, state, IsLegal}
 use Rattle.adb_history.specs.Bytes.{is_lost, bytes_read, bytes_put, bytes_received}
 use Rattle.adb_history.specs.Book.{book, asked, is_asking, asked_with, bound_turn, devices_if}
-use Rattle.adb_history.specs.Births.{Birth, born, Opening as FirstOkay, opening_by, opening_in, opening_of, remote_in, remote_of, since, is_between, lead_of, handed_to}
+use Rattle.adb_history.specs.Births.{Birth, born, Opening as FirstOkay, opening_by, opening_in, opening_of, remote_in, remote_of, since, is_between}
+use Rattle.adb_history.specs.Births.{lead_of, handed_to}
 use Rattle.adb_history.specs.Causes.{has_closed_since, is_close_by}
 use Rattle.adb_history.specs.Moves.{HasOne}
 use Rattle.adb_history.proofs.Books.{booked}

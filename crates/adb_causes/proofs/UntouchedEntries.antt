@@ -245,23 +245,24 @@ pair_apart l x s h p = record { alone = λ n z is other same. go n z is other sa
         other (one_phase l n x.part.remote p.client.about.phase p.phase
         (kind_of n z.part.remote p.client.about.phase (ap (λ (y : Client). y.about.phase) (sym row) ∙ k.phase)))
 
--- the stream of another client is another one
-pub other_in : (l n : ℕ) (x : Stream) (s : State) → IsOwned s → Pair l x s → n ≢ x.client → (k : Client) → s.clients n ≡ Some k → OtherIn l k.about.phase
-other_in l n x s h p other k is = go k.about.phase (h.owned.client n k is).holds
-  where
-    none : (m : ℕ) → StreamOf s.streams n m → m ≢ l
-    none m own same =
-        let row : own.stream ≡ x = (let both : Some own.stream ≡ Some x = sym own.is ∙ (ap s.streams same ∙ p.is) in cc) in
-        other (sym own.client ∙ ap (λ (z : Stream). z.client) row)
+module _ (l n : ℕ) (x : Stream) where
+  -- the stream of another client is another one
+  pub other_in : (s : State) → IsOwned s → Pair l x s → n ≢ x.client → (k : Client) → s.clients n ≡ Some k → OtherIn l k.about.phase
+  other_in s h p other k is = go k.about.phase (h.owned.client n k is).holds
+    where
+      none : (m : ℕ) → StreamOf s.streams n m → m ≢ l
+      none m own same =
+          let row : own.stream ≡ x = (let both : Some own.stream ≡ Some x = sym own.is ∙ (ap s.streams same ∙ p.is) in cc) in
+          other (sym own.client ∙ ap (λ (z : Stream). z.client) row)
 
-    go : (phase : Phase) → HoldsIn phase s.streams n k → OtherIn l phase
-    go (Opening m) holds = none m holds
-    go (Streaming m) holds = none m holds
-    go Asking holds = tt
-    go Binding holds = tt
-    go Tracking holds = tt
-    go Closing holds = tt
-    go Gone holds = tt
+      go : (phase : Phase) → HoldsIn phase s.streams n k → OtherIn l phase
+      go (Opening m) holds = none m holds
+      go (Streaming m) holds = none m holds
+      go Asking holds = tt
+      go Binding holds = tt
+      go Tracking holds = tt
+      go Closing holds = tt
+      go Gone holds = tt
 
 -- ---- entries
 -- an entry of another client and another link than these

@@ -1,5 +1,6 @@
 -- What the rule of an entry leaves of a stream and its client, where it is of other clients and links.
-use Rattle.std.proofs.Common.{◌≡◌, ◌≢◌, ℕ, zero, suc, Bool, true, false, cond, ◌||◌, List, [], ◌∷◌, ◌++◌, length, drop, min, Option, Some, None, refl, sym, ap, subst, ◌∙◌, eqb}
+use Rattle.std.proofs.Common.{◌≡◌, ◌≢◌, ℕ, zero, suc, Bool, true, false, cond, ◌||◌, List, [], ◌∷◌, ◌++◌, length, drop, min, Option, Some, None, refl}
+use Rattle.std.proofs.Common.{sym, ap, subst, ◌∙◌, eqb}
 use Rattle.std.specs.Prelude.{nat_eq, nat_lt}
 use Rattle.std.proofs.lemmas.Bool.{eqb-true}
 use Rattle.adb_outside.specs.Tables.{at}
@@ -27,7 +28,8 @@ use Rattle.adb_history.specs.Tracking.{offered}
 use Rattle.adb_history.specs.Losing.{link_ends}
 use Rattle.adb_history.specs.Flow.{with_flow}
 use Rattle.adb_history.specs.Packets.{least_version, least_maxdata, goes_online, streams_end_first, connects, cnxn, unauthorized_from, unauthorized}
-use Rattle.adb_history.specs.Packets.{refuses_open, at_stream, takes_okay, takes_write, takes_close, treat_open, treat_any, treat_on, treat, treat_all, faulty_on}
+use Rattle.adb_history.specs.Packets.{refuses_open, at_stream, takes_okay, takes_write, takes_close, treat_open, treat_any, treat_on, treat}
+use Rattle.adb_history.specs.Packets.{treat_all, faulty_on}
 use Rattle.adb_history.specs.Packets.{faulty, with_rest, receives_cut, receives_on, receives}
 use Rattle.adb_history.specs.Handing.{unmarked, lists_first, hands, to_hand, credit_back, handed_to, tells_credit, tells_handed, stream_left}
 use Rattle.adb_history.specs.Handing.{client_left, takes_of, puts_to}
@@ -102,7 +104,8 @@ module _ (l c t : ℕ) where
   far_open Auth p s h = u_quiet l c s
   far_open Stls p s h = u_quiet l c s
 
-  far_if : (command : Command) (p : Packet) (s : State) → Away l c t s → Untouched l c s (cond (is_connected t s.devices) (treat_open t command p s) (quietly s))
+  far_if : (command : Command) (p : Packet) (s : State) → Away l c t s → Untouched l c s (cond (is_connected t s.devices) (treat_open t command p s)
+      (quietly s))
   far_if command p s h =
       u_if l c s (is_connected t s.devices) (treat_open t command p s) (quietly s) (λ e. far_open command p s h) (λ e. u_quiet l c s)
 

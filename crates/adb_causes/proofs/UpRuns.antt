@@ -1,5 +1,6 @@
 -- What the up rule for all streams makes of one, and of its client.
-use Rattle.std.proofs.Common.{◌≡◌, ◌≢◌, ◌≤◌, ◌<◌, ◌+◌, ℕ, zero, suc, Bool, true, false, cond, List, [], ◌∷◌, ◌++◌, length, take, drop, Option, Some, None, refl, sym, ap, subst, ◌∙◌}
+use Rattle.std.proofs.Common.{◌≡◌, ◌≢◌, ◌≤◌, ◌<◌, ◌+◌, ℕ, zero, suc, Bool, true, false, cond, List, [], ◌∷◌, ◌++◌, length, take, drop, Option, Some}
+use Rattle.std.proofs.Common.{None, refl, sym, ap, subst, ◌∙◌}
 use Rattle.std.proofs.Common.{arith, ◌⊎◌, inl, inr}
 use Rattle.std.specs.Option.{option_or}
 use Rattle.std.proofs.lemmas.List.{append-nil}
@@ -144,14 +145,19 @@ telling_quiet : (l c : ℕ) (y : Stream) (now : State) (k : Client) → y.part.o
     → (owed_to c (ends_telling l client_closed y now).told ≡ []) × AreSilent l (ends_telling l client_closed y now).told
 telling_quiet l c y now k alive here streaming =
     subst (λ (orphan : Bool). Quiet (then_also (tells_end orphan l client_closed gone) (λ s. client_loses (s.clients y.client) y.client s))) (sym alive)
-    (subst (λ (o : Option Client). Quiet (record { state = (client_loses o y.client gone).state; told = ended l client_closed ∷ (client_loses o y.client gone).told }))
+    (subst (λ (o : Option Client). Quiet (record {
+      state = (client_loses o y.client gone).state;
+      told = ended l client_closed ∷
+          (client_loses o y.client gone).told;
+    }))
     (sym here) (both (loses_quiet l c y.client k.about.forwarded k.about.phase gone streaming)))
   where
     gone : State
     gone = to_stream l none_kept (owe_link y.link (close_packet l y.part.remote) now).state
 
     Quiet : Made → Type 0
-    Quiet m = (owed_to c (due_to_link y.link (close_packet l y.part.remote) (check_on (wants_sums (now.links y.link)) (close_packet l y.part.remote)) ∷ m.told) ≡ [])
+    Quiet m = (owed_to c (due_to_link y.link (close_packet l y.part.remote) (check_on (wants_sums (now.links y.link))
+        (close_packet l y.part.remote)) ∷ m.told) ≡ [])
         × AreSilent l (due_to_link y.link (close_packet l y.part.remote) (check_on (wants_sums (now.links y.link)) (close_packet l y.part.remote)) ∷ m.told)
 
     both : (owed_to c (loses k.about.forwarded k.about.phase y.client gone).told ≡ []) × AreSilent l (loses k.about.forwarded k.about.phase y.client gone).told

@@ -1,5 +1,6 @@
-//! The causes of a stream's end, as laws: each is the contract of a function that does nothing. All of
-//! them hold where the streams of a history are, at each of its times, those that were asked for.
+//! The causes of a stream's end, as laws: each is the contract of a function that does nothing. All
+//! of them hold where the streams of a history are, at each of its times, those that were asked
+//! for.
 
 ghost use Rattle.std.specs.Prelude.{List};
 ghost use Rattle.adb_capture.specs.declared.entry.Entry.{Entry};
@@ -11,9 +12,9 @@ ghost use Rattle.adb_history.specs.Causes.{EndsByClient, EndsOutOfTurn, HasNoOth
 ghost use Rattle.adb_causes.specs.Times.{AtEachTime};
 ghost use Rattle.adb_causes.specs.Flows.{HoldsAsTold};
 
-/// A stream that lives and its client hold what the history tells of them: the flow is as its device
-/// wrote and its client was handed, what its client wrote past its request went up or is held, and
-/// each of its writes but one is answered.
+/// A stream that lives and its client hold what the history tells of them: the flow is as its
+/// device wrote and its client was handed, what its client wrote past its request went up or is
+/// held, and each of its writes but one is answered.
 pub fn streams_hold_what_is_told()
     ensures { (history : List Entry) → IsLegal history → AtEachTime HasBirths history
         → HoldsAsTold history }
@@ -32,8 +33,8 @@ pub fn ends_by_peer()
         → EndsByPeer history }
 {}
 
-/// A stream ends out of turn only where its device wrote so: while bytes of its last write were still
-/// to be handed out, or past the credit that it was given.
+/// A stream ends out of turn only where its device wrote so: while bytes of its last write were
+/// still to be handed out, or past the credit that it was given.
 pub fn ends_out_of_turn()
     ensures { (history : List Entry) → IsLegal history → AtEachTime HasBirths history
         → EndsOutOfTurn history }
@@ -65,7 +66,8 @@ pub fn ends_by_stop()
         → EndsByStop history }
 {}
 
-/// At an entry that leaves a stream alive nothing stands that ends one, but its client's orderly end.
+/// At an entry that leaves a stream alive nothing stands that ends one, but its client's orderly
+/// end.
 pub fn outlives_no_cause()
     ensures { (history : List Entry) → IsLegal history → AtEachTime HasBirths history
         → HasNoOtherCause history }
