@@ -34,17 +34,14 @@ use Rattle.adb_history.specs.Births.{Birth}
 use Rattle.adb_history.specs.Lives.{ending_of}
 use Rattle.adb_history.specs.Machine.{unplugs_on}
 use Rattle.adb_history.specs.Losing.{client_ends}
-use Rattle.adb_history.specs.Fifo.{HasBirths}
 use Rattle.adb_history.specs.Owned.{IsOwned}
 use Rattle.adb_history.specs.Causes.{IsClosedByClient, EndsByClient}
 use Rattle.adb_history.proofs.OwnedMoves.{client_of}
-use Rattle.adb_causes.specs.Times.{AtEachTime}
-use Rattle.adb_causes.specs.Flows.{HoldsAsTold}
+use Rattle.adb_causes.specs.Flows.{AllHoldAsTold}
 use Rattle.adb_causes.proofs.Fates.{Row, live_row}
 use Rattle.adb_causes.proofs.RuleFates.{WhyBy, drawn_row, rule_fate}
 use Rattle.adb_causes.proofs.TurnsOfPackets.{link_ends_told}
-use Rattle.adb_causes.proofs.Lives.{now}
-use Rattle.adb_causes.proofs.Endings.{time_of, times_at, ends_at, ends_for}
+use Rattle.adb_causes.proofs.Endings.{time_of, ends_at, ends_for}
 use Rattle.adb_causes.proofs.OtherCauses.{end_told}
 use Rattle.adb_causes.proofs.Untouched.{apart_fate}
 use Rattle.adb_causes.proofs.UntouchedEntries.{pair_of, far_rule, pair_apart, has_still}
@@ -226,16 +223,16 @@ module _ (older : History) (l : ℕ) (b : Birth) (x : Stream) (own : (x.client �
   closed_by (Bound n port) = far_closed (Bound n port) older l b x tt tt
   closed_by (Send n bytes) = far_closed (Send n bytes) older l b x tt tt
 
-pub all_by_client : (h : History) → IsLegal h → AtEachTime HasBirths h → AtEachTime HoldsAsTold h → EndsByClient h
-all_by_client h legal births holds l e older moment told =
-    let time = time_of h legal births e older moment in
+pub all_by_client : AllHoldAsTold → (h : History) → IsLegal h → EndsByClient h
+all_by_client holds h legal l e older moment told =
+    let time = time_of h legal e older moment in
     let x = ends_at l e older client_closed time told in
-    let before = now HoldsAsTold older (times_at HoldsAsTold moment.0 (e ∷ older) (subst (AtEachTime HoldsAsTold) (sym moment.1) holds)).1 in
+    let before = holds older time.0 in
     let b = x.kept.birth in
-    let p = pair_of l x.row (state older) (all_linked older time.legal.0).owned x.is x.alive in
+    let p = pair_of l x.row (state older) (all_linked older time.0).owned x.is x.alive in
     ends_for IsClosedByClient l e older client_closed x (closed_by older l b x.row (x.kept.client, x.kept.link) e (record {
       standing = record {
-        legal = time.legal;
+        legal = time;
         born_now = x.kept.is;
         pair = p;
         client = x.kept.client;
@@ -243,7 +240,7 @@ all_by_client h legal births holds l e older moment told =
         remote = sym x.kept.remote;
         holds = before l b x.row p.client x.kept.is x.is x.alive p.here;
       };
-      closes = closes_at e older l x.row time.legal (x.is, x.alive) told;
+      closes = closes_at e older l x.row time (x.is, x.alive) told;
       lived = x.lived;
       told = told;
     }))

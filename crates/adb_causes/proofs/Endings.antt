@@ -18,30 +18,18 @@ use Rattle.adb_history.specs.Fifo.{HasBirths, IsKeptAs}
 use Rattle.adb_history.specs.Causes.{IsMoment, EndsFor, EndsByStop, EndsByFailure, stops_now, failure_of}
 use Rattle.adb_history.proofs.Books.{all_books}
 use Rattle.adb_history.proofs.Sweep.{up_to}
-use Rattle.adb_causes.specs.Times.{AtEachTime}
+use Rattle.adb_births.proofs.Born.{all_births}
 use Rattle.adb_causes.proofs.Fates.{lives, row_lives, none_some}
 use Rattle.adb_causes.proofs.RuleFates.{draws}
-use Rattle.adb_causes.proofs.Lives.{now, WhyStep, step_fate, fresh_told, kinds, lived}
+use Rattle.adb_causes.proofs.Lives.{WhyStep, step_fate, fresh_told, kinds, lived}
 
 -- ---- moments
 pub legal_at : (newer older : History) → IsLegal (newer ++ older) → IsLegal older
 legal_at [] older legal = legal
 legal_at (e ∷ newer) older legal = legal_at newer older legal.0
 
-pub times_at : (P : History → Type 0) (newer older : History) → AtEachTime P (newer ++ older) → AtEachTime P older
-times_at P [] older all = all
-times_at P (e ∷ newer) older all = times_at P newer older all.1
-
--- an entry of a history that is legal and had its births until then
-pub record IsTime (e : Entry) (older : History) : Type 0 where
-  pub legal : IsLegal (e ∷ older)
-  pub births : AtEachTime HasBirths (e ∷ older)
-
-pub time_of : (h : History) → IsLegal h → AtEachTime HasBirths h → (e : Entry) (older : History) → IsMoment e older h → IsTime e older
-time_of h legal births e older moment = record {
-  legal = legal_at moment.0 (e ∷ older) (subst IsLegal (sym moment.1) legal);
-  births = times_at HasBirths moment.0 (e ∷ older) (subst (AtEachTime HasBirths) (sym moment.1) births);
-}
+pub time_of : (h : History) → IsLegal h → (e : Entry) (older : History) → IsMoment e older h → IsLegal (e ∷ older)
+time_of h legal e older moment = legal_at moment.0 (e ∷ older) (subst IsLegal (sym moment.1) legal)
 
 -- ---- what ends by an entry
 pub record EndsAt (l : ℕ) (e : Entry) (older : History) (ending : Ending) : Type 0 where
@@ -52,27 +40,27 @@ pub record EndsAt (l : ℕ) (e : Entry) (older : History) (ending : Ending) : Ty
   pub lived : ending_of l older ≡ None
   pub why : WhyStep e ((rule e (state older)).state.stopped ≡ true) row.client row.link ending
 
-pub ends_at : (l : ℕ) (e : Entry) (older : History) (ending : Ending) → IsTime e older → ending_in l (told_at e older) ≡ Some ending → EndsAt l e older ending
+pub ends_at : (l : ℕ) (e : Entry) (older : History) (ending : Ending) → IsLegal (e ∷ older) → ending_in l (told_at e older) ≡ Some ending → EndsAt l e older ending
 ends_at l e older ending time told = go (kinds e l (state older).drawn)
   where
     births : HasBirths older
-    births = now HasBirths older time.births.1
+    births = all_births older time.0
 
     before : (o : Option Ending) → ending_of l older ≡ o → lives ((state older).streams l) ≡ true → ending_of l older ≡ None
     before None is alive = is
     before (Some z) is alive =
-        let over = ((lived older time.legal.0 time.births.1 l).over z is).0 in
+        let over = ((lived older time.0 l).over z is).0 in
         absurd (let clash : true ≡ false = sym alive ∙ over in cc)
 
     go : ((draws e ≡ true) × (l ≡ (state older).drawn + 1)) ⊎ (draws e ≡ true → l ≢ (state older).drawn + 1) → EndsAt l e older ending
-    go (inl new) = absurd (none_some ending (sym (fresh_told l e older time.legal new) ∙ told))
+    go (inl new) = absurd (none_some ending (sym (fresh_told l e older time new) ∙ told))
     go (inr other) =
-        let x = (step_fate l e older time.legal other).ends ending told in
+        let x = (step_fate l e older time other).ends ending told in
         record {
           row = x.row;
           is = x.is;
           alive = x.alive;
-          kept = (now HasBirths older time.births.1).kept l x.row x.is;
+          kept = (all_births older time.0).kept l x.row x.is;
           lived = before (ending_of l older) refl (row_lives ((state older).streams l) x.row x.is x.alive);
           why = x.why;
         }
@@ -109,11 +97,11 @@ stop_cause (Put c bytes) older client link legal (inl why) = absurd why
 stop_cause (Send t bytes) older client link legal (inl why) = absurd why
 stop_cause e older client link legal (inr why) = absurd (let clash : stopped ≡ client_closed = why in cc)
 
-pub all_by_stop : (h : History) → IsLegal h → AtEachTime HasBirths h → EndsByStop h
-all_by_stop h legal births l e older moment told =
-    let time = time_of h legal births e older moment in
+pub all_by_stop : (h : History) → IsLegal h → EndsByStop h
+all_by_stop h legal l e older moment told =
+    let time = time_of h legal e older moment in
     let x = ends_at l e older stopped time told in
-    ends_for (λ l b e older. stops_now e older ≡ true) l e older stopped x (stop_cause e older x.row.client x.row.link time.legal x.why)
+    ends_for (λ l b e older. stops_now e older ≡ true) l e older stopped x (stop_cause e older x.row.client x.row.link time x.why)
 
 -- ---- a client failed
 failure_here : (n client : ℕ) (k cause : Cause) → (client_failed cause ≡ client_failed k) × (client ≡ n) × (is_orderly k ≡ false)
@@ -137,9 +125,9 @@ failure_cause cause (Put c bytes) older client link (inl why) = absurd why
 failure_cause cause (Send t bytes) older client link (inl why) = absurd why
 failure_cause cause e older client link (inr why) = absurd (let clash : client_failed cause ≡ client_closed = why in cc)
 
-pub all_by_failure : (h : History) → IsLegal h → AtEachTime HasBirths h → EndsByFailure h
-all_by_failure h legal births cause l e older moment told =
-    let time = time_of h legal births e older moment in
+pub all_by_failure : (h : History) → IsLegal h → EndsByFailure h
+all_by_failure h legal cause l e older moment told =
+    let time = time_of h legal e older moment in
     let x = ends_at l e older (client_failed cause) time told in
     ends_for (λ l b e older. failure_of b.client e ≡ Some cause) l e older (client_failed cause) x
     (subst (λ (n : ℕ). failure_of n e ≡ Some cause) x.kept.client (failure_cause cause e older x.row.client x.row.link x.why))

@@ -1,9 +1,10 @@
 -- In every legal history each stream that lives and its client hold what the history tells.
 use Rattle.adb_history.specs.Rows.{Client}
 use Rattle.adb_history.specs.Events.{ending_in, Ending}
-use Rattle.adb_history.specs.Births.{births_at, births, born, Birth}
+use Rattle.adb_history.specs.Births.{births_at, born, Birth}
 use Rattle.adb_history.specs.Fifo.{HasBirths}
 use Rattle.std.specs.Prelude.{slice_get}
+use Rattle.adb_births.proofs.Born.{all_births}
 use Rattle.adb_causes.proofs.StreamSteps.{ups_hold}
 use Rattle.std.proofs.Common.{◌≡◌, ◌≢◌, ◌≤◌, ◌<◌, ◌+◌, ℕ, suc, true, false, [], ◌∷◌, Option, Some, None, refl, sym, ap, subst, ◌∙◌, arith, ◌⊎◌, inl, inr}
 use Rattle.adb_stream.specs.declared.row.Stream.{Stream}
@@ -18,10 +19,9 @@ use Rattle.adb_causes.proofs.Fates.{lives, FateOf, row_lives, ending_append, liv
 use Rattle.adb_causes.proofs.Runs.{alive_told}
 use Rattle.adb_causes.proofs.RuleSteps.{Standing}
 use Rattle.adb_history.specs.Owned.{IsOwned}
-use Rattle.adb_causes.specs.Times.{AtEachTime}
 use Rattle.adb_causes.proofs.StreamFates.{up_all_fate}
 use Rattle.adb_causes.proofs.RuleFates.{WhyBy, draws, drawn_row, rule_fate}
-use Rattle.adb_causes.proofs.Lives.{now, WhyStep, step_fate, kinds}
+use Rattle.adb_causes.proofs.Lives.{WhyStep, step_fate, kinds}
 use Rattle.adb_causes.proofs.Newborn.{Newborn}
 use Rattle.adb_history.specs.Machine.{step}
 use Rattle.adb_causes.proofs.Newborn.{born_stays, born_new, newborn_ruled}
@@ -112,19 +112,15 @@ module _ (e : Entry) (older : History) (legal : IsLegal (e ∷ older)) where
       ups_hold e older l b legal (newborn_ruled e older l b legal (born_by e older l b legal new first w.old w.is)) within y k is
 
 -- ---- all histories
-pub all_hold : (h : History) → IsLegal h → AtEachTime HasBirths h → HoldsAsTold h
-all_hold [] legal births l b y k birth is alive here = absurd (let clash : None ≡ Some y = is in cc)
-all_hold (e ∷ older) legal births l b y k birth is alive here =
-    go (kinds e l (state older).drawn) (all_hold older legal.0 births.1)
+pub all_hold : (h : History) → IsLegal h → HoldsAsTold h
+all_hold [] legal l b y k birth is alive here = absurd (let clash : None ≡ Some y = is in cc)
+all_hold (e ∷ older) legal l b y k birth is alive here =
+    go (kinds e l (state older).drawn) (all_hold older legal.0)
   where
     within : (0 < l) × (l ≤ (state (e ∷ older)).drawn)
     within = drawn_row (state (e ∷ older)).drawn l (state (e ∷ older)).streams (all_linked (e ∷ older) legal).owned.rows.streams y is
 
     go : ((draws e ≡ true) × (l ≡ (state older).drawn + 1)) ⊎ (draws e ≡ true → l ≢ (state older).drawn + 1) → HoldsAsTold older
         → IsAsTold (e ∷ older) l b y k
-    go (inl new) holds = newborn_holds e older legal (now HasBirths older births.1) l b y k new birth (is, alive, here) within
-    go (inr other) holds = old_holds e older legal (now HasBirths older births.1) holds l b y k other birth (is, alive, here) within
-
-pub always_hold : (h : History) → IsLegal h → AtEachTime HasBirths h → AtEachTime HoldsAsTold h
-always_hold [] legal births = all_hold [] legal births
-always_hold (e ∷ older) legal births = (all_hold (e ∷ older) legal births, always_hold older legal.0 births.1)
+    go (inl new) holds = newborn_holds e older legal (all_births older legal.0) l b y k new birth (is, alive, here) within
+    go (inr other) holds = old_holds e older legal (all_births older legal.0) holds l b y k other birth (is, alive, here) within

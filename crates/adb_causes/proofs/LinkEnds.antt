@@ -1,5 +1,5 @@
 -- Streams that end by what their link brings, or with it.
-use Rattle.std.proofs.Common.{◌≡◌, ℕ, true, not, ◌&&◌, ◌||◌, List, ◌∷◌, length, Some, None, sym, ap, subst, ◌∙◌, ◌⊎◌, inl, inr}
+use Rattle.std.proofs.Common.{◌≡◌, ℕ, true, not, ◌&&◌, ◌||◌, List, ◌∷◌, length, Some, None, sym, ap, ◌∙◌, ◌⊎◌, inl, inr}
 use Rattle.std.specs.Prelude.{is_some}
 use Rattle.std.specs.List.{list_any}
 use Rattle.std.proofs.Math.Bool.{or-true}
@@ -14,13 +14,11 @@ use Rattle.adb_history.specs.Book.{is_refused}
 use Rattle.adb_history.specs.Births.{remote_of, told_to, joined, handed_to}
 use Rattle.adb_history.specs.Causes.{brings, closes_in, peer_closes, writes_early_in, given_to, writes_early, loses_link, breaks_link}
 use Rattle.adb_history.specs.Causes.{EndsByPeer, EndsOutOfTurn, EndsByLoss, EndsByBreak}
-use Rattle.adb_history.specs.Fifo.{HasBirths}
-use Rattle.adb_causes.specs.Times.{AtEachTime}
-use Rattle.adb_causes.specs.Flows.{HasFlows, HoldsAsTold}
-use Rattle.adb_causes.proofs.Middle.{times_map, holds_flows}
+use Rattle.adb_causes.specs.Flows.{HasFlows, AllHoldAsTold}
+use Rattle.adb_causes.proofs.Middle.{holds_flows}
 use Rattle.adb_causes.proofs.Runs.{says_anew, StruckBy, Cutting}
-use Rattle.adb_causes.proofs.Lives.{now, WhyStep}
-use Rattle.adb_causes.proofs.Endings.{IsTime, time_of, times_at, EndsAt, ends_at, ends_for}
+use Rattle.adb_causes.proofs.Lives.{WhyStep}
+use Rattle.adb_causes.proofs.Endings.{time_of, EndsAt, ends_at, ends_for}
 use Rattle.adb_causes.proofs.Receiving.{recv_ends}
 
 -- what ends a stream by the bytes of its link: the cut of the bytes is that of the link of its birth
@@ -33,9 +31,9 @@ pub record ByCut (t : ℕ) (bytes : List ℕ) (older : History) (l : ℕ) (endin
   pub why : StruckBy l x.row cut ending ⊎ (ending ≡ client_closed)
 
 pub by_cut : (t : ℕ) (bytes : List ℕ) (older : History) (l : ℕ) (ending : Ending) (x : EndsAt l (Recv t bytes) older ending)
-    → IsTime (Recv t bytes) older × (x.row.link ≡ t) × (ending_in l (told_at (Recv t bytes) older) ≡ Some ending) → ByCut t bytes older l ending x
+    → IsLegal (Recv t bytes ∷ older) × (x.row.link ≡ t) × (ending_in l (told_at (Recv t bytes) older) ≡ Some ending) → ByCut t bytes older l ending x
 by_cut t bytes older l ending x at =
-    let ends = recv_ends t l bytes x.row older at.0.legal (x.is, x.alive, at.1) ending at.2 in
+    let ends = recv_ends t l bytes x.row older at.0 (x.is, x.alive, at.1) ending at.2 in
     let same : x.kept.birth.link ≡ t = sym x.kept.link ∙ at.1 in
     record {
       cut = ends.cut;
@@ -55,7 +53,7 @@ peer_struck l t bytes older x c (inl (inr fault)) = absurd (let clash : peer_clo
 peer_struck l t bytes older x c (inr closed) = absurd (let clash : peer_closed ≡ client_closed = closed in cc)
 
 -- an entry that ends a stream of which its device is told by packets alone
-peer_cause : (l : ℕ) (e : Entry) (older : History) (x : EndsAt l e older peer_closed) → IsTime e older → ending_in l (told_at e older) ≡ Some peer_closed
+peer_cause : (l : ℕ) (e : Entry) (older : History) (x : EndsAt l e older peer_closed) → IsLegal (e ∷ older) → ending_in l (told_at e older) ≡ Some peer_closed
     → WhyStep e ((rule e (state older)).state.stopped ≡ true) x.row.client x.row.link peer_closed → peer_closes l x.kept.birth e older ≡ true
 peer_cause l (Recv t bytes) older x time told (inl why) =
     let c = by_cut t bytes older l peer_closed x (time, why, told) in
@@ -71,9 +69,9 @@ peer_cause l (Put n bytes) older x time told (inl why) = absurd why
 peer_cause l (Send t bytes) older x time told (inl why) = absurd why
 peer_cause l e older x time told (inr why) = absurd (let clash : peer_closed ≡ client_closed = why in cc)
 
-pub all_by_peer : (h : History) → IsLegal h → AtEachTime HasBirths h → EndsByPeer h
-all_by_peer h legal births l e older moment told =
-    let time = time_of h legal births e older moment in
+pub all_by_peer : (h : History) → IsLegal h → EndsByPeer h
+all_by_peer h legal l e older moment told =
+    let time = time_of h legal e older moment in
     let x = ends_at l e older peer_closed time told in
     ends_for (λ l b e older. peer_closes l b e older ≡ true) l e older peer_closed x (peer_cause l e older x time told x.why)
 
@@ -91,7 +89,7 @@ turn_struck l t bytes older x c flows (inl (inl early)) =
 turn_struck l t bytes older x c flows (inl (inr fault)) = absurd (let clash : out_of_turn ≡ broken = fault.0 in cc)
 turn_struck l t bytes older x c flows (inr closed) = absurd (let clash : out_of_turn ≡ client_closed = closed in cc)
 
-turn_cause : (l : ℕ) (e : Entry) (older : History) (x : EndsAt l e older out_of_turn) → IsTime e older × HasFlows older
+turn_cause : (l : ℕ) (e : Entry) (older : History) (x : EndsAt l e older out_of_turn) → IsLegal (e ∷ older) × HasFlows older
     × (ending_in l (told_at e older) ≡ Some out_of_turn) → WhyStep e ((rule e (state older)).state.stopped ≡ true) x.row.client x.row.link out_of_turn
     → writes_early l x.kept.birth e older ≡ true
 turn_cause l (Recv t bytes) older x at (inl why) =
@@ -108,14 +106,12 @@ turn_cause l (Put n bytes) older x at (inl why) = absurd why
 turn_cause l (Send t bytes) older x at (inl why) = absurd why
 turn_cause l e older x at (inr why) = absurd (let clash : out_of_turn ≡ client_closed = why in cc)
 
-pub all_out_of_turn : (h : History) → IsLegal h → AtEachTime HasBirths h → AtEachTime HoldsAsTold h → EndsOutOfTurn h
-all_out_of_turn h legal births holds l e older moment told =
-    let flows = times_map HoldsAsTold HasFlows holds_flows h legal holds in
-    let time = time_of h legal births e older moment in
+pub all_out_of_turn : AllHoldAsTold → (h : History) → IsLegal h → EndsOutOfTurn h
+all_out_of_turn holds h legal l e older moment told =
+    let time = time_of h legal e older moment in
     let x = ends_at l e older out_of_turn time told in
-    let before = times_at HasFlows moment.0 (e ∷ older) (subst (AtEachTime HasFlows) (sym moment.1) flows) in
     ends_for (λ l b e older. writes_early l b e older ≡ true) l e older out_of_turn x
-    (turn_cause l e older x (time, now HasFlows older before.1, told) x.why)
+    (turn_cause l e older x (time, holds_flows older time.0 (holds older time.0), told) x.why)
 
 -- ---- its link was lost
 lost_struck : (l : ℕ) (t : ℕ) (bytes : List ℕ) (older : History) (x : EndsAt l (Recv t bytes) older lost) → (c : ByCut t bytes older l lost x)
@@ -124,7 +120,7 @@ lost_struck l t bytes older x c (inl (inl anew)) = ap (λ ps. list_any says_anew
 lost_struck l t bytes older x c (inl (inr fault)) = absurd (let clash : lost ≡ broken = fault.0 in cc)
 lost_struck l t bytes older x c (inr closed) = absurd (let clash : lost ≡ client_closed = closed in cc)
 
-lost_cause : (l : ℕ) (e : Entry) (older : History) (x : EndsAt l e older lost) → IsTime e older → ending_in l (told_at e older) ≡ Some lost
+lost_cause : (l : ℕ) (e : Entry) (older : History) (x : EndsAt l e older lost) → IsLegal (e ∷ older) → ending_in l (told_at e older) ≡ Some lost
     → WhyStep e ((rule e (state older)).state.stopped ≡ true) x.row.client x.row.link lost → loses_link x.kept.birth e older ≡ true
 lost_cause l (Recv t bytes) older x time told (inl why) =
     let c = by_cut t bytes older l lost x (time, why, told) in
@@ -142,9 +138,9 @@ lost_cause l (Put n bytes) older x time told (inl why) = absurd why
 lost_cause l (Send t bytes) older x time told (inl why) = absurd why
 lost_cause l e older x time told (inr why) = absurd (let clash : lost ≡ client_closed = why in cc)
 
-pub all_by_loss : (h : History) → IsLegal h → AtEachTime HasBirths h → EndsByLoss h
-all_by_loss h legal births l e older moment told =
-    let time = time_of h legal births e older moment in
+pub all_by_loss : (h : History) → IsLegal h → EndsByLoss h
+all_by_loss h legal l e older moment told =
+    let time = time_of h legal e older moment in
     let x = ends_at l e older lost time told in
     ends_for (λ l b e older. loses_link b e older ≡ true) l e older lost x (lost_cause l e older x time told x.why)
 
@@ -163,7 +159,7 @@ broken_struck l t bytes older x c (inl (inr fault)) =
     ∙ ap (λ a. (a && true) || rest) fault.1)
 broken_struck l t bytes older x c (inr closed) = absurd (let clash : broken ≡ client_closed = closed in cc)
 
-broken_cause : (l : ℕ) (e : Entry) (older : History) (x : EndsAt l e older broken) → IsTime e older → ending_in l (told_at e older) ≡ Some broken
+broken_cause : (l : ℕ) (e : Entry) (older : History) (x : EndsAt l e older broken) → IsLegal (e ∷ older) → ending_in l (told_at e older) ≡ Some broken
     → WhyStep e ((rule e (state older)).state.stopped ≡ true) x.row.client x.row.link broken → breaks_link x.kept.birth e older ≡ true
 broken_cause l (Recv t bytes) older x time told (inl why) =
     let c = by_cut t bytes older l broken x (time, why, told) in
@@ -179,8 +175,8 @@ broken_cause l (Put n bytes) older x time told (inl why) = absurd why
 broken_cause l (Send t bytes) older x time told (inl why) = absurd why
 broken_cause l e older x time told (inr why) = absurd (let clash : broken ≡ client_closed = why in cc)
 
-pub all_by_break : (h : History) → IsLegal h → AtEachTime HasBirths h → EndsByBreak h
-all_by_break h legal births l e older moment told =
-    let time = time_of h legal births e older moment in
+pub all_by_break : (h : History) → IsLegal h → EndsByBreak h
+all_by_break h legal l e older moment told =
+    let time = time_of h legal e older moment in
     let x = ends_at l e older broken time told in
     ends_for (λ l b e older. breaks_link b e older ≡ true) l e older broken x (broken_cause l e older x time told x.why)

@@ -21,17 +21,12 @@ use Rattle.adb_history.specs.Lives.{ending_of}
 use Rattle.adb_history.specs.Fifo.{HasBirths}
 use Rattle.adb_history.proofs.LinkMoves.{all_linked}
 use Rattle.adb_history.proofs.Quiet.{up_all_drawn}
-use Rattle.adb_causes.specs.Times.{AtEachTime}
+use Rattle.adb_births.proofs.Born.{all_births}
 use Rattle.adb_causes.proofs.Fates.{lives, Reason, Fate, FateOf, then_fate, ending_append, or_none, none_some, row_lives}
 use Rattle.adb_causes.proofs.StreamFates.{up_all_fate}
 use Rattle.adb_causes.proofs.RuleFates.{WhyBy, draws, drawn_row, rule_fate}
 use Rattle.adb_causes.proofs.Goings.{goes_fate}
 use Rattle.adb_causes.proofs.Fresh.{rule_fresh}
-
--- at the last time
-pub now : (P : History → Type 0) (h : History) → AtEachTime P h → P h
-now P [] all = all
-now P (e ∷ older) all = all.0
 
 -- ---- how many streams an entry draws
 request_few : (c head : ℕ) (older : History) (next : Option Next) → length (birth_by c head older next) ≤ 1
@@ -209,14 +204,14 @@ module _ (l : ℕ) (e : Entry) (older : History) (legal : IsLegal (e ∷ older))
           let le = (drawn_row (state older).drawn l (state older).streams (all_linked older legal.0).owned.rows.streams x.row x.is).1 in
           (x.over, omega (arith, le, drawn.grows))
 
-pub lived : (h : History) → IsLegal h → AtEachTime HasBirths h → (l : ℕ) → IsLived h l
-lived [] legal births l = record {
+pub lived : (h : History) → IsLegal h → (l : ℕ) → IsLived h l
+lived [] legal l = record {
   over = λ y f. absurd (none_some y f);
   runs = λ f within. absurd (omega (arith, within.0, within.1));
 }
-lived (e ∷ older) legal births l =
-    go (kinds e l (state older).drawn) (lived older legal.0 births.1 l)
+lived (e ∷ older) legal l =
+    go (kinds e l (state older).drawn) (lived older legal.0 l)
   where
     go : ((draws e ≡ true) × (l ≡ (state older).drawn + 1)) ⊎ (draws e ≡ true → l ≢ (state older).drawn + 1) → IsLived older l → IsLived (e ∷ older) l
-    go (inl is) before = new_lived l e older legal (drawn_grows e older births.0 (now HasBirths older births.1)) before is
-    go (inr other) before = old_lived l e older legal (drawn_grows e older births.0 (now HasBirths older births.1)) before other
+    go (inl is) before = new_lived l e older legal (drawn_grows e older (all_births (e ∷ older) legal) (all_births older legal.0)) before is
+    go (inr other) before = old_lived l e older legal (drawn_grows e older (all_births (e ∷ older) legal) (all_births older legal.0)) before other

@@ -19,7 +19,6 @@ use Rattle.adb_history.specs.Fifo.{has_credit, okays_of, credit_of}
 use Rattle.adb_history.specs.Causes.{given_to, okays_after, has_closed_since, IsDone}
 use Rattle.adb_history.proofs.Growing.{owed_append}
 use Rattle.adb_history.proofs.LinkMoves.{all_linked}
-use Rattle.adb_causes.specs.Times.{AtEachTime}
 use Rattle.adb_causes.specs.Flows.{FlowIs, waiting, hears, start_of, IsAsTold, HoldsAsTold, HasFlows}
 use Rattle.adb_causes.proofs.Silent.{Tally, tally_append}
 use Rattle.adb_causes.proofs.UntouchedEntries.{pair_of}
@@ -27,10 +26,6 @@ use Rattle.adb_causes.proofs.UpEffects.{flow_wrote}
 use Rattle.adb_causes.proofs.UpRuns.{UpEffect}
 
 -- ---- what holds at each time
-pub times_map : (P Q : History → Type 0) → ((h : History) → IsLegal h → P h → Q h) → (h : History) → IsLegal h → AtEachTime P h → AtEachTime Q h
-times_map P Q f [] legal all = f [] legal all
-times_map P Q f (e ∷ older) legal all = (f (e ∷ older) legal all.0, times_map P Q f older legal.0 all.1)
-
 pub holds_flows : (h : History) → IsLegal h → HoldsAsTold h → HasFlows h
 holds_flows h legal holds l b x born is alive =
     let p = pair_of l x (state h) (all_linked h legal).owned is alive in

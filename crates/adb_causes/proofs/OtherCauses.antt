@@ -1,5 +1,5 @@
 -- A stream that lives on had no failing client, and no kill.
-use Rattle.std.proofs.Common.{◌≡◌, ◌+◌, ℕ, zero, suc, Bool, true, false, cond, not, ◌&&◌, ◌||◌, List, ◌∷◌, Option, Some, None, refl, sym, ap, subst}
+use Rattle.std.proofs.Common.{◌≡◌, ◌+◌, ℕ, zero, suc, Bool, true, false, cond, not, ◌&&◌, ◌||◌, List, ◌∷◌, Option, Some, None, refl, sym, ap}
 use Rattle.std.proofs.Common.{◌∙◌, ◌⊎◌, inl, inr, arith, eqb}
 use Rattle.std.specs.Prelude.{is_some}
 use Rattle.std.specs.List.{list_any}
@@ -26,9 +26,8 @@ use Rattle.adb_history.specs.Reading.{goes_on, asked_before, has_asked, reads_in
 use Rattle.adb_history.specs.Machine.{History, state, told_at, told, IsLegal}
 use Rattle.adb_history.specs.Bytes.{is_orderly}
 use Rattle.adb_history.specs.Book.{book, bound_turn, devices_if, is_killed}
-use Rattle.adb_history.specs.Births.{Birth, births, born}
+use Rattle.adb_history.specs.Births.{Birth, born}
 use Rattle.adb_history.specs.Lives.{ending_of}
-use Rattle.adb_history.specs.Fifo.{HasBirths}
 use Rattle.adb_history.specs.Orderly.{phase_for}
 use Rattle.adb_history.specs.Owned.{ClientOf}
 use Rattle.adb_history.specs.Causes.{brings, failure_of}
@@ -36,14 +35,12 @@ use Rattle.adb_history.specs.Causes.{stops_now, is_struck, HasNoOtherCause}
 use Rattle.adb_history.proofs.Books.{all_books}
 use Rattle.adb_history.proofs.LinkMoves.{all_linked}
 use Rattle.adb_history.proofs.OwnedMoves.{client_of}
-use Rattle.adb_causes.specs.Times.{AtEachTime}
-use Rattle.adb_causes.specs.Flows.{HasFlows, HoldsAsTold}
-use Rattle.adb_causes.proofs.Middle.{times_map, holds_flows}
+use Rattle.adb_causes.specs.Flows.{HasFlows, AllHoldAsTold}
+use Rattle.adb_causes.proofs.Middle.{holds_flows}
 use Rattle.adb_causes.proofs.Fates.{lives, ending_append, or_none, none_some, row_lives}
 use Rattle.adb_causes.proofs.RuleFates.{drawn_row, rule_fate}
 use Rattle.adb_causes.proofs.Runs.{says_anew}
-use Rattle.adb_causes.proofs.Lives.{now}
-use Rattle.adb_causes.proofs.Endings.{IsTime, time_of, times_at, stopped_after}
+use Rattle.adb_causes.proofs.Endings.{time_of, stopped_after}
 use Rattle.adb_causes.proofs.Others.{Alive, alive_at, unstruck, rule_none, link_quiet, not_detached}
 
 -- ---- its client did not fail
@@ -147,12 +144,12 @@ module _ (l : ℕ) (b : Birth) (older : History) (a : Alive l b older) where
   same_kill : (e : Entry) → is_killed (e ∷ older) ≡ is_killed older → stops_now e older ≡ false
   same_kill e same = ap (λ k. k && not (is_killed older)) same ∙ and-not_self (is_killed older)
 
-  not_stopped : (e : Entry) → IsTime e older → ending_in l (told_at e older) ≡ None → stops_now e older ≡ false
+  not_stopped : (e : Entry) → IsLegal (e ∷ older) → ending_in l (told_at e older) ≡ None → stops_now e older ≡ false
   not_stopped (Read c bytes) time none = go (is_killed (Read c bytes ∷ older)) refl
     where
       on : lives ((reads c bytes (state older)).state.streams l) ≡ true
       on =
-          let owned = (all_linked older time.legal.0).owned in
+          let owned = (all_linked older time.0).owned in
           let within = drawn_row (state older).drawn l (state older).streams owned.rows.streams a.row a.is in
           let fate = rule_fate l (state older) owned (Read c bytes) (λ e. λ next. omega (arith, within.1, next)) in
           fate.stays (rule_none l b older a (Read c bytes) none) ∙ row_lives ((state older).streams l) a.row a.is a.alive
@@ -160,11 +157,11 @@ module _ (l : ℕ) (b : Birth) (older : History) (a : Alive l b older) where
       falls : is_killed (Read c bytes ∷ older) ≡ true → ⊥
       falls killed =
           let after : (reads c bytes (state older)).state.stopped ≡ true =
-          sym (stopped_after (Read c bytes) older) ∙ ((all_books (Read c bytes ∷ older) time.legal).killed ∙ killed) in
+          sym (stopped_after (Read c bytes) older) ∙ ((all_books (Read c bytes ∷ older) time).killed ∙ killed) in
           kind after (reads_kills l ((state older).clients c) c bytes (state older))
         where
           kind : (reads c bytes (state older)).state.stopped ≡ true → Kills l (state older) (reads c bytes (state older)) → ⊥
-          kind after (inl same) = let clash : true ≡ false = sym after ∙ (same ∙ time.legal.2.0) in cc
+          kind after (inl same) = let clash : true ≡ false = sym after ∙ (same ∙ time.2.0) in cc
           kind after (inr gone) = let clash : true ≡ false = sym on ∙ ap lives gone in cc
 
       go : (k : Bool) → is_killed (Read c bytes ∷ older) ≡ k → (k && not (is_killed older)) ≡ false
@@ -181,12 +178,12 @@ module _ (l : ℕ) (b : Birth) (older : History) (a : Alive l b older) where
   not_stopped (Send t bytes) time none = same_kill (Send t bytes) refl
 
 -- ---- all of these
-not_struck : (l : ℕ) (b : Birth) (e : Entry) (older : History) → IsTime e older × HasFlows older × (born l older ≡ Some b)
+not_struck : (l : ℕ) (b : Birth) (e : Entry) (older : History) → IsLegal (e ∷ older) × HasFlows older × (born l older ≡ Some b)
     → (ending_of l older ≡ None) × (ending_in l (told_at e older) ≡ None) → is_struck l b e older ≡ false
 not_struck l b e older at none =
-    let legal = at.0.legal.0 in
-    let a = alive_at l b older legal at.0.births.1 at.2 none.0 in
-    let quiet = link_quiet l b older a e (at.0.legal, at.1, at.2) none.1 in
+    let legal = at.0.0 in
+    let a = alive_at l b older legal at.2 none.0 in
+    let quiet = link_quiet l b older a e (at.0, at.1, at.2) none.1 in
     unstruck l b e older (record {
       peer = quiet.peer;
       turn = quiet.turn;
@@ -196,10 +193,8 @@ not_struck l b e older at none =
       stopped = not_stopped l b older a e at.0 none.1;
     })
 
-pub all_other : (h : History) → IsLegal h → AtEachTime HasBirths h → AtEachTime HoldsAsTold h → HasNoOtherCause h
-all_other h legal births holds l b e older moment is none =
-    let flows = times_map HoldsAsTold HasFlows holds_flows h legal holds in
-    let time = time_of h legal births e older moment in
-    let before = times_at HasFlows moment.0 (e ∷ older) (subst (AtEachTime HasFlows) (sym moment.1) flows) in
-    not_struck l b e older (time, now HasFlows older before.1, is)
+pub all_other : AllHoldAsTold → (h : History) → IsLegal h → HasNoOtherCause h
+all_other holds h legal l b e older moment is none =
+    let time = time_of h legal e older moment in
+    not_struck l b e older (time, holds_flows older time.0 (holds older time.0), is)
     (or_none (ending_in l (told older)) (ending_in l (told_at e older)) (sym (ending_append l (told older) (told_at e older)) ∙ none))

@@ -21,15 +21,14 @@ use Rattle.adb_history.specs.Bytes.{is_lost, bytes_received, brought}
 use Rattle.adb_history.specs.Book.{is_refused}
 use Rattle.adb_history.specs.Births.{Birth, births, born, remote_of, told_to, joined, handed_to}
 use Rattle.adb_history.specs.Lives.{ending_of}
-use Rattle.adb_history.specs.Fifo.{HasBirths}
 use Rattle.adb_history.specs.Causes.{brings, closes_in, peer_closes, writes_early_in, given_to, writes_early, detaches, loses_link, breaks_link, failure_of}
 use Rattle.adb_history.specs.Causes.{stops_now, is_struck}
-use Rattle.adb_causes.specs.Times.{AtEachTime}
+use Rattle.adb_births.proofs.Born.{all_births}
 use Rattle.adb_causes.specs.Flows.{HasFlows}
 use Rattle.adb_causes.proofs.Fates.{ending_append, or_none, none_some, live_row}
 use Rattle.adb_causes.proofs.Runs.{RunsOn, Cutting, CutRun, says_anew}
 use Rattle.adb_causes.proofs.TurnsOfPackets.{link_ends_told}
-use Rattle.adb_causes.proofs.Lives.{now, lived}
+use Rattle.adb_causes.proofs.Lives.{lived}
 use Rattle.adb_causes.proofs.Receiving.{Brought, brought_cut, LinkThere, here_at, there_at, recv_run}
 
 -- ---- a stream that was born and did not end lives
@@ -56,12 +55,12 @@ pub record Alive (l : ℕ) (b : Birth) (older : History) : Type 0 where
   pub link : row.link ≡ b.link
   pub remote : row.part.remote ≡ remote_of l b older
 
-pub alive_at : (l : ℕ) (b : Birth) (older : History) → IsLegal older → AtEachTime HasBirths older → born l older ≡ Some b → ending_of l older ≡ None
+pub alive_at : (l : ℕ) (b : Birth) (older : History) → IsLegal older → born l older ≡ Some b → ending_of l older ≡ None
     → Alive l b older
-alive_at l b older legal births is none =
-    let has = now HasBirths older births in
+alive_at l b older legal is none =
+    let has = all_births older legal in
     let within = born_within l older b is in
-    let x = live_row ((state older).streams l) ((lived older legal births l).runs none (within.0, omega (arith, within.1, has.drawn))) in
+    let x = live_row ((state older).streams l) ((lived older legal l).runs none (within.0, omega (arith, within.1, has.drawn))) in
     let kept = has.kept l x.row x.is in
     let same : kept.birth ≡ b = (let both : Some kept.birth ≡ Some b = sym kept.is ∙ is in cc) in
     record {

@@ -4,7 +4,7 @@ use Rattle.adb_wire.specs.declared.packets.Packet.{Packet}
 use Rattle.adb_stream.specs.declared.flow.Flow.{Flow}
 use Rattle.adb_stream.specs.declared.flow.Flow.TheVariants.{One, Credit}
 use Rattle.adb_stream.specs.declared.row.Stream.{Stream}
-use Rattle.adb_history.specs.Machine.{History, state}
+use Rattle.adb_history.specs.Machine.{History, state, IsLegal}
 use Rattle.adb_history.specs.Rows.{Client}
 use Rattle.adb_history.specs.Bytes.{bytes_read, brought}
 use Rattle.adb_history.specs.Book.{asked}
@@ -50,6 +50,10 @@ pub record IsAsTold (h : History) (l : ℕ) (b : Birth) (x : Stream) (k : Client
 abbrev pub HoldsAsTold : History → Type 0
 HoldsAsTold h = (l : ℕ) (b : Birth) (x : Stream) (k : Client) → born l h ≡ Some b → (state h).streams l ≡ Some x → x.part.orphan ≡ false
     → (state h).clients x.client ≡ Some k → IsAsTold h l b x k
+
+-- so do those of every legal history
+abbrev pub AllHoldAsTold : Type 0
+AllHoldAsTold = (h : History) → IsLegal h → HoldsAsTold h
 
 -- The flow of each stream that lives is as its device wrote and its client was handed.
 abbrev pub HasFlows : History → Type 0
