@@ -151,7 +151,9 @@ whole_front Syncs past came files is = go (sync_answer past).ended is
 
     go : (ended : Bool) → files ≡ sync_files ended came.files (served_by past came) → HasFrontOfFiles Syncs past came files
     go true same = (0, same)
-    go false same = (length requests, same ∙ ap (λ (rs : List Request). (serve_all came.files rs).files) (sym (take_all (length requests) requests (omega arith))))
+    go false same =
+        let all = take_all (length requests) requests (omega arith) in
+        (length requests, same ∙ ap (λ (rs : List Request). (serve_all came.files rs).files) (sym all))
 
 -- what holds at an error, where it holds at all
 pub at_err : {T E : Type 0} (P : Type 0) (result : Result T E) → P → OnErr result P

@@ -16,15 +16,17 @@ treat-requires-clause-came c =
 pub treat-requires-clause-link : goal.treat-requires-clause-link
 treat-requires-clause-link c =
     let all = c.args.packets.items in
-    let h : Left c.args.link (length all) (slices_in (packets_of all) c.args.self.now.streams.streams) c.loop-came.packets.items c.args.self.now c.loop-came.self
-    c.in-Some.came c.next_of.new.packets.items = record { takes = c.loop-came.invariant.3; is = c.in-Some.ensures } in
+    let old = c.args.self.now in
+    let h : Left c.args.link (length all) (slices_in (packets_of all) old.streams.streams) c.loop-came.packets.items old c.loop-came.self c.in-Some.came
+    c.next_of.new.packets.items = record { takes = c.loop-came.invariant.3; is = c.in-Some.ensures } in
     next_room h c.requires.link
 
 pub treat-requires-clause-clients : goal.treat-requires-clause-clients
 treat-requires-clause-clients c =
     let all = c.args.packets.items in
-    let h : Left c.args.link (length all) (slices_in (packets_of all) c.args.self.now.streams.streams) c.loop-came.packets.items c.args.self.now c.loop-came.self
-    c.in-Some.came c.next_of.new.packets.items = record { takes = c.loop-came.invariant.3; is = c.in-Some.ensures } in
+    let old = c.args.self.now in
+    let h : Left c.args.link (length all) (slices_in (packets_of all) old.streams.streams) c.loop-came.packets.items old c.loop-came.self c.in-Some.came
+    c.next_of.new.packets.items = record { takes = c.loop-came.invariant.3; is = c.in-Some.ensures } in
     next_places h c.requires.clients
 
 pub loop-came-preserved : goal.loop-came-preserved
@@ -34,7 +36,8 @@ loop-came-preserved c =
     let now = c.loop-came.self in
     let inv = c.loop-came.invariant in
     let all = c.args.packets.items in
-    let h : Left link (length all) (slices_in (packets_of all) c.args.self.now.streams.streams) c.loop-came.packets.items c.args.self.now now c.in-Some.came rest =
+    let old = c.args.self.now in
+    let h : Left link (length all) (slices_in (packets_of all) old.streams.streams) c.loop-came.packets.items old now c.in-Some.came rest =
     record { takes = inv.3; is = c.in-Some.ensures } in
     let slices = slices_for (packet_of c.in-Some.came) now.streams.streams in (
       ap (λ (s : State). (treat_all link (packets_of rest) s).state) c.treat.ensures.state
