@@ -14,3 +14,4 @@ mod WritesUp
 mod Sending
 mod GoingUp
 mod Sweeping
+mod EachUp

@@ -205,16 +205,20 @@ module _ (id : ℕ) (stream : Stream) (client : Client) (s : State) (streaming :
 module _ (id : ℕ) (stream : Stream) (old new : Tables) (here : at id old.streams.streams ≡ Some stream)
     (row : Opens id (at stream.client old.clients.entries))
     (others : (c : ℕ) → c ≢ stream.client → at c new.clients.entries ≡ at c old.clients.entries) where
+  beside : (ps : List (List ℕ)) → state_of new ≡ (sends_up id stream (client_row row.seen) ps (state_of old)).state
+      → KeepsBeside id stream.client (state_of old) (state_of new)
+  beside ps is = subst (KeepsBeside id stream.client (state_of old)) (sym is)
+      (sends_beside id stream (client_row row.seen) (state_of old) row.streams here (ap (option_map client_row) row.is) ps)
+
+  pub same_devices : (ps : List (List ℕ)) → state_of new ≡ (sends_up id stream (client_row row.seen) ps (state_of old)).state → new.devices ≡ old.devices
+  same_devices ps is = (beside ps is).devices
+
   pub leaves_be : (ps : List (List ℕ)) → state_of new ≡ (sends_up id stream (client_row row.seen) ps (state_of old)).state
       → (l : ℕ) → l ≢ id → StaysReady l old new
   leaves_be ps is l other = stays_ready l stream.client old new (record {
-    stream = keeps.streams l other;
-    devices = keeps.devices;
+    stream = (beside ps is).streams l other;
+    devices = (beside ps is).devices;
     others = others;
     before = ap (has_open l) row.is ∙ other_stream l id row.seen.about.phase other row.streams;
-    behind = open_shown l (at stream.client new.clients.entries) ∙ keeps.closed l other;
+    behind = open_shown l (at stream.client new.clients.entries) ∙ (beside ps is).closed l other;
   })
-    where
-      keeps : KeepsBeside id stream.client (state_of old) (state_of new)
-      keeps = subst (KeepsBeside id stream.client (state_of old)) (sym is)
-          (sends_beside id stream (client_row row.seen) (state_of old) row.streams here (ap (option_map client_row) row.is) ps)

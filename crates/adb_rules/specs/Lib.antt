@@ -4,3 +4,4 @@ pub mod Tracked
 pub mod Came
 pub mod Handing
 pub mod Up
+pub mod Sweep

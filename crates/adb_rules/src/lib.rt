@@ -13,6 +13,7 @@ mod okays;
 mod packets;
 mod ports;
 mod streams;
+mod sweep;
 mod tables;
 mod tracking;
 mod treating;

@@ -28,6 +28,7 @@ impl Tables {
         ensures uses { (c : ℕ) → UsesOf (at id self.old.streams.streams) (writes_up id self.old)
             c 0 self.old self.new }
         ensures others { (l : ℕ) → l ≢ id → StaysReady l self.old self.new }
+        ensures devices { self.new.devices ≡ self.old.devices }
     {
         if let Some(stream) = self.streams.get(id).copied()
             && self.has_open(stream.client, id)

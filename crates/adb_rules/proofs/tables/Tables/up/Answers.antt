@@ -5,7 +5,7 @@ use Rattle.adb_rules.specs.Handing.{UsesOf}
 use Rattle.adb_rules.specs.Up.{all_unsent, writes_of}
 use Rattle.adb_rules.proofs.UsingOf.{uses_more}
 use Rattle.adb_rules.proofs.GoingUp.{opens, up_is}
-use Rattle.adb_rules.proofs.Sweeping.{ready_to_send, fewer_writes, leaves_be}
+use Rattle.adb_rules.proofs.Sweeping.{ready_to_send, fewer_writes, leaves_be, same_devices}
 use Rattle.adb_rules.proofs.tables.Tables.up.Goals as goal
 
 pub send_up-requires-clause-ready : goal.send_up-requires-clause-ready
@@ -40,3 +40,12 @@ returns-then-has_open-clause-others c = λ l other.
     let here : at c.args.id old.streams.streams ≡ Some stream = search rules in
     let row = opens c.args.id (at stream.client old.clients.entries) (sym c.has_open.ensures ∙ c.if-has_open.true) in
     leaves_be c.args.id stream old new here row c.send_up.ensures.others (all_unsent stream old) (c.send_up.ensures.state row.seen row.is) l other
+
+pub returns-then-has_open-clause-devices : goal.returns-then-has_open-clause-devices
+returns-then-has_open-clause-devices c =
+    let old = c.args.self.now in
+    let new = c.send_up.new.self in
+    let stream = c.in-Some.stream in
+    let here : at c.args.id old.streams.streams ≡ Some stream = search rules in
+    let row = opens c.args.id (at stream.client old.clients.entries) (sym c.has_open.ensures ∙ c.if-has_open.true) in
+    same_devices c.args.id stream old new here row c.send_up.ensures.others (all_unsent stream old) (c.send_up.ensures.state row.seen row.is)

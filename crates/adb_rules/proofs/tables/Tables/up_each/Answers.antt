@@ -1,0 +1,26 @@
+use Rattle.std.proofs.Common.{ℕ, List, subst}
+use Rattle.adb_rules.proofs.EachUp.{Swept, ready_first, swept_one, swept_uses}
+use Rattle.adb_rules.proofs.tables.Tables.up_each.Goals as goal
+
+pub up-requires-clause-ready : goal.up-requires-clause-ready
+up-requires-clause-ready c =
+    let old = c.args.self.now in
+    let swept = subst (λ (ids : List ℕ). Swept c.args.ids.now.keys ids old c.loop-id.self) c.in-Some.ensures.steps c.loop-id.invariant.0 in
+    ready_first c.in-Some.id.now c.next.new.self c.loop-id.self swept.ready
+
+pub loop-id-preserved : goal.loop-id-preserved
+loop-id-preserved c =
+    let old = c.args.self.now in
+    let swept = subst (λ (ids : List ℕ). Swept c.args.ids.now.keys ids old c.loop-id.self) c.in-Some.ensures.steps c.loop-id.invariant.0 in
+    let then = swept_one c.args.ids.now.keys c.next.new.self c.in-Some.id.now swept (record {
+      state = c.up.ensures.state;
+      uses = c.up.ensures.uses;
+      others = c.up.ensures.others;
+      devices = c.up.ensures.devices;
+    }) in
+    (then, then.counted c.requires.counted)
+
+pub returns-clause-uses : goal.returns-clause-uses
+returns-clause-uses c =
+    swept_uses c.args.ids.now.keys c.args.self.now c.loop-id.self
+    (subst (λ (ids : List ℕ). Swept c.args.ids.now.keys ids c.args.self.now c.loop-id.self) c.in-None.ensures.steps.0 c.loop-id.invariant.0)
