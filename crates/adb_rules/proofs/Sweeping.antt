@@ -19,11 +19,11 @@ use Rattle.adb_history.specs.Flow.{payloads, total, with_flow, all_go_up, flow_a
 use Rattle.adb_rules.specs.declared.tables.Tables.{Tables}
 use Rattle.adb_rules.specs.Tables.{client_row, state_of}
 use Rattle.adb_rules.specs.Handing.{HasRoom}
-use Rattle.adb_rules.specs.Up.{IsCut, IsCutWhereOpen, IsCutOf, writes_where_open, writes_of, writes_up, held_at, all_unsent, CanCutAll, has_open, StaysReady, IsReadyUp, IsReadyToSend, up_writes}
+use Rattle.adb_rules.specs.Up.{IsCut, IsCutFor, IsCutOf, writes_for, writes_of, writes_up, held_at, all_unsent, CanCutAll, is_for, has_stream, has_open, StaysReady, IsReadyUp, IsReadyToSend, up_writes}
 use Rattle.adb_rules.proofs.Closings.{telling_is}
 use Rattle.adb_rules.proofs.Using.{more_room}
 use Rattle.adb_rules.proofs.WritesUp.{few_writes, few_bytes}
-use Rattle.adb_rules.proofs.GoingUp.{IsNot, Opens, open_in, open_shown, held_open, changed_here, goes_streams, goes_devices, stream_then, client_then}
+use Rattle.adb_rules.proofs.GoingUp.{IsNot, Opens, changed_here, goes_streams, goes_devices, stream_then, client_then}
 
 -- ---- what is ready
 streams_it : (l : ℕ) (phase : Phase) → is_streaming l phase ≡ true → phase ≡ Streaming l
@@ -35,29 +35,28 @@ streams_it l Tracking is = absurd (subst IsNot is tt)
 streams_it l Closing is = absurd (subst IsNot is tt)
 streams_it l Gone is = absurd (subst IsNot is tt)
 
--- a stream that is not the one that a client has open
-not_open : (l : ℕ) (phase : Phase) → is_streaming l phase ≡ false → phase ≢ Streaming l
-not_open l phase is here = subst IsNot (sym is ∙ (ap (is_streaming l) here ∙ eq-eqb l l refl)) tt
+for_it : (l : ℕ) (phase : Phase) → is_streaming l phase ≡ true → is_for l phase ≡ true
+for_it l phase is = ap (is_for l) (streams_it l phase is) ∙ eq-eqb l l refl
 
 enough_cut : (flow : Flow) (m : ℕ) (seen : SeenClient) → IsCut flow m seen → CanCutAll (payloads flow m seen.held) (Some seen)
 enough_cut flow m seen cut = (omega (arith, few_bytes flow m seen.held, cut.bytes), omega (arith, few_writes flow m seen.held, cut.pieces))
 
-can_all : (l : ℕ) (flow : Flow) (m : ℕ) (row : Option SeenClient) → has_open l row ≡ true → IsCutWhereOpen l flow m row
+can_all : (l : ℕ) (flow : Flow) (m : ℕ) (row : Option SeenClient) → has_open l row ≡ true → IsCutFor l flow m row
     → CanCutAll (payloads flow m (held_at row)) row
 can_all l flow m None is cut = tt
-can_all l flow m (Some seen) is cut = enough_cut flow m seen (cut (streams_it l seen.about.phase is))
+can_all l flow m (Some seen) is cut = enough_cut flow m seen (cut (for_it l seen.about.phase is))
 
-few_where_open : (l : ℕ) (flow : Flow) (m : ℕ) (row : Option SeenClient) → has_open l row ≡ true
-    → length (payloads flow m (held_at row)) ≤ writes_where_open l flow m row
-few_where_open l flow m None is = absurd (subst IsNot is tt)
-few_where_open l flow m (Some seen) is =
-    let writes : writes_where_open l flow m (Some seen) ≡ up_writes flow m (length seen.held) = ap (λ b. cond b (up_writes flow m (length seen.held)) 0) is in
+few_for : (l : ℕ) (flow : Flow) (m : ℕ) (row : Option SeenClient) → has_open l row ≡ true
+    → length (payloads flow m (held_at row)) ≤ writes_for l flow m row
+few_for l flow m None is = absurd (subst IsNot is tt)
+few_for l flow m (Some seen) is =
+    let writes : writes_for l flow m (Some seen) ≡ up_writes flow m (length seen.held) = ap (λ b. cond b (up_writes flow m (length seen.held)) 0) (for_it l seen.about.phase is) in
     omega (arith, writes, few_writes flow m seen.held)
 
 module _ (l : ℕ) (stream : Stream) (t : Tables) (here : at l t.streams.streams ≡ Some stream)
     (open_here : has_open l (at stream.client t.clients.entries) ≡ true) where
   pub fewer_writes : length (all_unsent stream t) ≤ writes_of l (Some stream) t
-  fewer_writes = few_where_open l stream.part.flow (maxdata_of stream.link t.devices) (at stream.client t.clients.entries) open_here
+  fewer_writes = few_for l stream.part.flow (maxdata_of stream.link t.devices) (at stream.client t.clients.entries) open_here
 
   -- what the rule needs its writes need
   pub ready_to_send : IsReadyUp l t → IsReadyToSend stream t
@@ -69,19 +68,32 @@ module _ (l : ℕ) (stream : Stream) (t : Tables) (here : at l t.streams.streams
   }
 
 -- ---- another stream
+-- whether the client of a row that is shown has a stream
+abbrev pub stream_of_row : ℕ → Option Client → Bool
+stream_of_row l None = false
+stream_of_row l (Some client) = is_for l client.about.phase
+
+stream_shown : (l : ℕ) (row : Option SeenClient) → has_stream l row ≡ stream_of_row l (option_map client_row row)
+stream_shown l None = refl
+stream_shown l (Some seen) = refl
+
+stream_stays : (l : ℕ) (held : List ℕ) (row : Option Client) → stream_of_row l (option_and_then (with_held held) row) ≡ stream_of_row l row
+stream_stays l held None = refl
+stream_stays l held (Some row) = refl
+
 -- What a rule that concerns the stream of a client leaves of another stream.
 pub record LeavesBe (l client : ℕ) (old new : Tables) : Type 0 where
   pub stream : at l new.streams.streams ≡ at l old.streams.streams
   pub devices : new.devices ≡ old.devices
   pub others : (c : ℕ) → c ≢ client → at c new.clients.entries ≡ at c old.clients.entries
-  pub before : has_open l (at client old.clients.entries) ≡ false
-  pub behind : has_open l (at client new.clients.entries) ≡ false
+  pub before : has_stream l (at client old.clients.entries) ≡ false
+  pub behind : has_stream l (at client new.clients.entries) ≡ false
 
-cut_closed : (l : ℕ) (flow : Flow) (m : ℕ) (row : Option SeenClient) → has_open l row ≡ false → IsCutWhereOpen l flow m row
+cut_closed : (l : ℕ) (flow : Flow) (m : ℕ) (row : Option SeenClient) → has_stream l row ≡ false → IsCutFor l flow m row
 cut_closed l flow m None is = tt
-cut_closed l flow m (Some seen) is = λ here. absurd (not_open l seen.about.phase is here)
+cut_closed l flow m (Some seen) is = λ here. absurd (subst IsNot (sym is ∙ here) tt)
 
-no_writes : (l : ℕ) (flow : Flow) (m : ℕ) (row : Option SeenClient) → has_open l row ≡ false → writes_where_open l flow m row ≡ 0
+no_writes : (l : ℕ) (flow : Flow) (m : ℕ) (row : Option SeenClient) → has_stream l row ≡ false → writes_for l flow m row ≡ 0
 no_writes l flow m None is = refl
 no_writes l flow m (Some seen) is = ap (λ b. cond b (up_writes flow m (length seen.held)) 0) is
 
@@ -99,12 +111,12 @@ stays_ready l client old new h = record {
     cut_of (Some stream) cut = by_client (cases_eq stream.client client)
       where
         by_client : ◌⊎◌ (stream.client ≡ client) (stream.client ≢ client)
-            → IsCutWhereOpen l stream.part.flow (maxdata_of stream.link new.devices) (at stream.client new.clients.entries)
+            → IsCutFor l stream.part.flow (maxdata_of stream.link new.devices) (at stream.client new.clients.entries)
         by_client (inl is) = cut_closed l stream.part.flow (maxdata_of stream.link new.devices) (at stream.client new.clients.entries)
-            (ap (λ (c : ℕ). has_open l (at c new.clients.entries)) is ∙ h.behind)
+            (ap (λ (c : ℕ). has_stream l (at c new.clients.entries)) is ∙ h.behind)
         by_client (inr other) =
-            subst (λ (m : ℕ). IsCutWhereOpen l stream.part.flow m (at stream.client new.clients.entries)) (sym (maxdata stream))
-            (subst (IsCutWhereOpen l stream.part.flow (maxdata_of stream.link old.devices)) (sym (h.others stream.client other)) cut)
+            subst (λ (m : ℕ). IsCutFor l stream.part.flow m (at stream.client new.clients.entries)) (sym (maxdata stream))
+            (subst (IsCutFor l stream.part.flow (maxdata_of stream.link old.devices)) (sym (h.others stream.client other)) cut)
 
     writes : (row : Option Stream) → writes_of l row new ≤ writes_of l row old
     writes None = omega arith
@@ -114,12 +126,12 @@ stays_ready l client old new h = record {
         by_client (inl is) =
             let none : writes_of l (Some stream) new ≡ 0 =
             no_writes l stream.part.flow (maxdata_of stream.link new.devices) (at stream.client new.clients.entries)
-            (ap (λ (c : ℕ). has_open l (at c new.clients.entries)) is ∙ h.behind) in
+            (ap (λ (c : ℕ). has_stream l (at c new.clients.entries)) is ∙ h.behind) in
             omega (arith, none)
         by_client (inr other) =
             let same : writes_of l (Some stream) new ≡ writes_of l (Some stream) old =
-            ap (λ (m : ℕ). writes_where_open l stream.part.flow m (at stream.client new.clients.entries)) (maxdata stream)
-            ∙ ap (writes_where_open l stream.part.flow (maxdata_of stream.link old.devices)) (h.others stream.client other) in
+            ap (λ (m : ℕ). writes_for l stream.part.flow m (at stream.client new.clients.entries)) (maxdata stream)
+            ∙ ap (writes_for l stream.part.flow (maxdata_of stream.link old.devices)) (h.others stream.client other) in
             omega (arith, same)
 
 -- ---- and what the rule leaves
@@ -127,16 +139,16 @@ stays_ready l client old new h = record {
 pub record KeepsBeside (id client : ℕ) (old new : State) : Type 0 where
   pub streams : (l : ℕ) → l ≢ id → new.streams l ≡ old.streams l
   pub devices : new.devices ≡ old.devices
-  pub closed : (l : ℕ) → l ≢ id → open_in l (new.clients client) ≡ false
+  pub closed : (l : ℕ) → l ≢ id → stream_of_row l (new.clients client) ≡ false
 
-other_stream : (l id : ℕ) (phase : Phase) → l ≢ id → is_streaming id phase ≡ true → is_streaming l phase ≡ false
-other_stream l id phase other is = ap (is_streaming l) (streams_it id phase is) ∙ ne_eqb id l (λ e. other (sym e))
+other_stream : (l id : ℕ) (phase : Phase) → l ≢ id → is_streaming id phase ≡ true → is_for l phase ≡ false
+other_stream l id phase other is = ap (is_for l) (streams_it id phase is) ∙ ne_eqb id l (λ e. other (sym e))
 
-closed_now : (l : ℕ) (row : Option Client) → open_in l (option_and_then closing row) ≡ false
+closed_now : (l : ℕ) (row : Option Client) → stream_of_row l (option_and_then closing row) ≡ false
 closed_now l None = refl
 closed_now l (Some row) = by_due row.due
   where
-    by_due : (due : List ℕ) → open_in l (closing_with due row) ≡ false
+    by_due : (due : List ℕ) → stream_of_row l (closing_with due row) ≡ false
     by_due [] = refl
     by_due (b ∷ due) = refl
 
@@ -154,8 +166,8 @@ module _ (id : ℕ) (stream : Stream) (client : Client) (s : State) (streaming :
     streams = λ l other. ap (λ (s : State). s.streams l) is
         ∙ ap (λ b. cond b (option_and_then (none_kept {A = Stream}) (s.streams l)) (s.streams l)) (ne_eqb id l (λ e. other (sym e)));
     devices = ap (λ (s : State). s.devices) is;
-    closed = λ l other. ap (λ (s : State). open_in l (s.clients stream.client)) is
-        ∙ (ap (open_in l) (changed_here stream.client closing s.clients) ∙ closed_now l (s.clients stream.client));
+    closed = λ l other. ap (λ (s : State). stream_of_row l (s.clients stream.client)) is
+        ∙ (ap (stream_of_row l) (changed_here stream.client closing s.clients) ∙ closed_now l (s.clients stream.client));
   }
     where
       told : State
@@ -184,9 +196,9 @@ module _ (id : ℕ) (stream : Stream) (client : Client) (s : State) (streaming :
         ∙ ap (λ b. cond b (option_and_then (with_stream_part (with_flow (flow_after ps stream.part.flow) stream.part)) (s.streams l)) (s.streams l))
         (ne_eqb id l (λ e. other (sym e)));
     devices = goes_devices id stream ps (noted id stream client.held ps s);
-    closed = λ l other. ap (open_in l) (client_then id stream ps client.held s)
-        ∙ (held_open l (drop (total ps) client.held) (s.clients stream.client)
-        ∙ (ap (open_in l) owner ∙ other_stream l id client.about.phase other streaming));
+    closed = λ l other. ap (stream_of_row l) (client_then id stream ps client.held s)
+        ∙ (stream_stays l (drop (total ps) client.held) (s.clients stream.client)
+        ∙ (ap (stream_of_row l) owner ∙ other_stream l id client.about.phase other streaming));
   }
 
   pub sends_beside : KeepsBeside id stream.client s (sends_up id stream client ps s).state
@@ -219,6 +231,6 @@ module _ (id : ℕ) (stream : Stream) (old new : Tables) (here : at id old.strea
     stream = (beside ps is).streams l other;
     devices = (beside ps is).devices;
     others = others;
-    before = ap (has_open l) row.is ∙ other_stream l id row.seen.about.phase other row.streams;
-    behind = open_shown l (at stream.client new.clients.entries) ∙ (beside ps is).closed l other;
+    before = ap (has_stream l) row.is ∙ other_stream l id row.seen.about.phase other row.streams;
+    behind = stream_shown l (at stream.client new.clients.entries) ∙ (beside ps is).closed l other;
   })

@@ -1,9 +1,10 @@
 -- What the up rule needs: bytes that are ready to be cut off, and places for its writes.
-use Rattle.std.specs.Prelude.{ℕ, ◌+◌, ◌-◌, ◌/◌, ◌≡◌, ◌≢◌, ◌≤◌, ◌<◌, Bool, false, if◌then◌else◌, List, [], length, drop, min, Option, Some, None}
+use Rattle.std.specs.Prelude.{ℕ, ◌+◌, ◌-◌, ◌/◌, ◌≡◌, ◌≢◌, ◌≤◌, ◌<◌, Bool, true, false, nat_eq, if◌then◌else◌, List, [], length, drop, min, Option, Some, None}
 use Rattle.adb_outside.specs.Tables.{at}
 use Rattle.adb_wire.specs.declared.headers.TheConstants.{MAX_PAYLOAD}
 use Rattle.adb_client.specs.Client.{SeenClient}
-use Rattle.adb_client.specs.declared.phase.Phase.TheVariants.{Streaming}
+use Rattle.adb_client.specs.declared.phase.Phase.{Phase}
+use Rattle.adb_client.specs.declared.phase.Phase.TheVariants.{Opening, Streaming}
 use Rattle.adb_stream.specs.declared.flow.Flow.{Flow}
 use Rattle.adb_stream.specs.declared.flow.Flow.TheVariants.{One, Credit}
 use Rattle.adb_stream.specs.declared.row.Stream.{Stream}
@@ -31,27 +32,38 @@ pub record IsCut (flow : Flow) (maxdata : ℕ) (client : SeenClient) : Type 0 wh
   pub bytes : up_bytes flow maxdata (length client.held) ≤ client.ready
   pub pieces : up_writes flow maxdata (length client.held) ≤ client.cuts
 
--- That, where it has the stream open.
-abbrev pub IsCutWhereOpen : ℕ → Flow → ℕ → Option SeenClient → Type 0
-IsCutWhereOpen l flow maxdata None = Unit {0}
-IsCutWhereOpen l flow maxdata (Some client) = client.about.phase ≡ Streaming l → IsCut flow maxdata client
+-- whether a client in this phase has the stream of an id, asked for or open
+abbrev pub is_for : ℕ → Phase → Bool
+is_for l (Opening k) = nat_eq k l
+is_for l (Streaming k) = nat_eq k l
+is_for l _ = false
+
+-- whether a client has that stream
+abbrev pub has_stream : ℕ → Option SeenClient → Bool
+has_stream l None = false
+has_stream l (Some client) = is_for l client.about.phase
+
+-- So much is ready, where the client has the stream: it can be made so as soon as the stream is asked for.
+abbrev pub IsCutFor : ℕ → Flow → ℕ → Option SeenClient → Type 0
+IsCutFor l flow maxdata None = Unit {0}
+IsCutFor l flow maxdata (Some client) = is_for l client.about.phase ≡ true → IsCut flow maxdata client
 
 abbrev pub IsCutOf : ℕ → Option Stream → Tables → Type 0
 IsCutOf l None t = Unit {0}
-IsCutOf l (Some stream) t = IsCutWhereOpen l stream.part.flow (maxdata_of stream.link t.devices) (at stream.client t.clients.entries)
+IsCutOf l (Some stream) t = IsCutFor l stream.part.flow (maxdata_of stream.link t.devices) (at stream.client t.clients.entries)
 
 -- The client of a stream has so much ready as the stream may write.
 abbrev pub IsCutUp : ℕ → Tables → Type 0
 IsCutUp l t = IsCutOf l (at l t.streams.streams) t
 
--- how many writes a stream may make, where its client has it open
-abbrev pub writes_where_open : ℕ → Flow → ℕ → Option SeenClient → ℕ
-writes_where_open l flow maxdata None = 0
-writes_where_open l flow maxdata (Some client) = if is_streaming l client.about.phase then up_writes flow maxdata (length client.held) else 0
+-- how many writes a stream may make, where the client has it
+abbrev pub writes_for : ℕ → Flow → ℕ → Option SeenClient → ℕ
+writes_for l flow maxdata None = 0
+writes_for l flow maxdata (Some client) = if is_for l client.about.phase then up_writes flow maxdata (length client.held) else 0
 
 abbrev pub writes_of : ℕ → Option Stream → Tables → ℕ
 writes_of l None t = 0
-writes_of l (Some stream) t = writes_where_open l stream.part.flow (maxdata_of stream.link t.devices) (at stream.client t.clients.entries)
+writes_of l (Some stream) t = writes_for l stream.part.flow (maxdata_of stream.link t.devices) (at stream.client t.clients.entries)
 
 abbrev pub writes_up : ℕ → Tables → ℕ
 writes_up l t = writes_of l (at l t.streams.streams) t
