@@ -2,7 +2,6 @@
 use Rattle.std.proofs.Common.{ℕ, ◌+◌, ◌≡◌, ◌≢◌, ◌≤◌, List, [], ◌∷◌, Bool, true, false, Option, Some, None, refl, sym, ◌∙◌, ap, subst, cond, arith, ◌⊎◌, inl, inr}
 use Rattle.std.specs.Prelude.{nat_eq}
 use Rattle.std.proofs.lemmas.Bool.{ne_eqb, eq-eqb, cases_eq}
-use Rattle.std.proofs.lemmas.Bool.Decides.{nat_tests}
 use Rattle.std.specs.Ordering.{nat_cmp}
 use Rattle.std.specs.List.Sorted.{IsStrictlySortedBy}
 use Rattle.adb_outside.specs.Tables.{at}
@@ -18,6 +17,7 @@ use Rattle.adb_rules.specs.Places.{LinkRoom, ClientRoom, IsCounted, StaysOwned}
 use Rattle.adb_rules.specs.Handing.{UsesOf, HasRoom}
 use Rattle.adb_rules.specs.Up.{IsSized, IsReadyUp, StaysReady, writes_up}
 use Rattle.adb_rules.specs.Sweep.{up_each, writes_if_on, writes_on, IsReadyEach, UsesEach}
+use Rattle.adb_rules.proofs.RisingIds.{above, rises_behind}
 use Rattle.adb_rules.proofs.Using.{stays, owned_then, more_room}
 
 -- What the up rule for one id leaves.
@@ -53,14 +53,7 @@ leaves_rest (Some stream) k old new uses = record {
 
 -- ids behind the first are others
 apart : (l q : ℕ) (ids : List ℕ) → IsStrictlySortedBy nat_cmp (l ∷ ids) → IsAmong q ids → q ≢ l
-unfolding IsStrictlySortedBy
-apart l q [] rises among = absurd among
-apart l q (x ∷ ids) rises (inl is) = λ e. grind (arith, nat_tests, rises.0.0, is, e)
-apart l q (x ∷ ids) rises (inr later) = apart l q ids (rises.0.1, rises.1.1) later
-
-rises_behind : (l : ℕ) (ids : List ℕ) → IsStrictlySortedBy nat_cmp (l ∷ ids) → IsStrictlySortedBy nat_cmp ids
-unfolding IsStrictlySortedBy
-rises_behind l ids rises = rises.1
+apart l q ids rises among e = let more = above l q ids rises among in omega (arith, more, e)
 
 module _ (id : ℕ) (old new : Tables) (h : LeavesOne id old new) where
   -- the places of one link
@@ -100,7 +93,8 @@ module _ (id : ℕ) (old new : Tables) (h : LeavesOne id old new) where
       omega (arith, first, fewer_on link ids (λ q among. others q (inr among)))
 
   -- the places that are left to those behind it
-  pub rooms_left : (n link : ℕ) (ids : List ℕ) → IsStrictlySortedBy nat_cmp (id ∷ ids) → LinkRoom (n + writes_on link (id ∷ ids) old) (at link old.links.entries)
+  pub rooms_left : (n link : ℕ) (ids : List ℕ) → IsStrictlySortedBy nat_cmp (id ∷ ids)
+      → LinkRoom (n + writes_on link (id ∷ ids) old) (at link old.links.entries)
       → LinkRoom (n + writes_on link ids new) (at link new.links.entries)
   rooms_left n link ids rises room =
       let fewer = fewer_on link ids (λ q among. apart id q ids rises among) in

@@ -18,7 +18,7 @@ use Rattle.adb_rules.specs.Up.{held_at, unsent, all_unsent, all_written, all_sen
 use Rattle.adb_rules.proofs.Using.{uses_then}
 
 -- a row that is put back as it was
-same_rows : {A : Type 0} (n : ℕ) (f : A → Option A) (rows : Rows (Option A)) → option_and_then f (rows n) ≡ rows n
+pub same_rows : {A : Type 0} (n : ℕ) (f : A → Option A) (rows : Rows (Option A)) → option_and_then f (rows n) ≡ rows n
     → change_row n (option_and_then f) rows ≡ rows
 same_rows {A} n f rows same i k = at_place k i
   where

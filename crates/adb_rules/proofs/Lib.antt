@@ -14,4 +14,6 @@ mod WritesUp
 mod Sending
 mod GoingUp
 mod Sweeping
+mod RisingIds
 mod EachUp
+mod StillUp

@@ -23,7 +23,7 @@ use Rattle.adb_rules.specs.Up.{IsCut, IsCutFor, IsCutOf, writes_for, writes_of, 
 use Rattle.adb_rules.proofs.Closings.{telling_is}
 use Rattle.adb_rules.proofs.Using.{more_room}
 use Rattle.adb_rules.proofs.WritesUp.{few_writes, few_bytes}
-use Rattle.adb_rules.proofs.GoingUp.{IsNot, Opens, changed_here, goes_streams, goes_devices, stream_then, client_then}
+use Rattle.adb_rules.proofs.GoingUp.{IsNot, Opens, changed_here, goes_clients, goes_streams, goes_devices, stream_then, client_then}
 
 -- ---- what is ready
 streams_it : (l : ℕ) (phase : Phase) → is_streaming l phase ≡ true → phase ≡ Streaming l
@@ -35,7 +35,7 @@ streams_it l Tracking is = absurd (subst IsNot is tt)
 streams_it l Closing is = absurd (subst IsNot is tt)
 streams_it l Gone is = absurd (subst IsNot is tt)
 
-for_it : (l : ℕ) (phase : Phase) → is_streaming l phase ≡ true → is_for l phase ≡ true
+pub for_it : (l : ℕ) (phase : Phase) → is_streaming l phase ≡ true → is_for l phase ≡ true
 for_it l phase is = ap (is_for l) (streams_it l phase is) ∙ eq-eqb l l refl
 
 enough_cut : (flow : Flow) (m : ℕ) (seen : SeenClient) → IsCut flow m seen → CanCutAll (payloads flow m seen.held) (Some seen)
@@ -50,7 +50,8 @@ few_for : (l : ℕ) (flow : Flow) (m : ℕ) (row : Option SeenClient) → has_op
     → length (payloads flow m (held_at row)) ≤ writes_for l flow m row
 few_for l flow m None is = absurd (subst IsNot is tt)
 few_for l flow m (Some seen) is =
-    let writes : writes_for l flow m (Some seen) ≡ up_writes flow m (length seen.held) = ap (λ b. cond b (up_writes flow m (length seen.held)) 0) (for_it l seen.about.phase is) in
+    let writes : writes_for l flow m (Some seen) ≡ up_writes flow m (length seen.held) =
+    ap (λ b. cond b (up_writes flow m (length seen.held)) 0) (for_it l seen.about.phase is) in
     omega (arith, writes, few_writes flow m seen.held)
 
 module _ (l : ℕ) (stream : Stream) (t : Tables) (here : at l t.streams.streams ≡ Some stream)
@@ -137,6 +138,7 @@ stays_ready l client old new h = record {
 -- ---- and what the rule leaves
 -- What a rule for the stream of an id and its client leaves of the states.
 pub record KeepsBeside (id client : ℕ) (old new : State) : Type 0 where
+  pub clients : (c : ℕ) → c ≢ client → new.clients c ≡ old.clients c
   pub streams : (l : ℕ) → l ≢ id → new.streams l ≡ old.streams l
   pub devices : new.devices ≡ old.devices
   pub closed : (l : ℕ) → l ≢ id → stream_of_row l (new.clients client) ≡ false
@@ -163,6 +165,8 @@ loses_is id c row s is = ap (λ phase. (loses row.about.forwarded phase c s).sta
 module _ (id : ℕ) (stream : Stream) (client : Client) (s : State) (streaming : is_streaming id client.about.phase ≡ true) where
   ends_beside : (ending : Ending) → s.clients stream.client ≡ Some client → KeepsBeside id stream.client s (ends_telling id ending stream s).state
   ends_beside ending owner = record {
+    clients = λ c other. ap (λ (s : State). s.clients c) is
+        ∙ ap (λ b. cond b (option_and_then closing (s.clients c)) (s.clients c)) (ne_eqb stream.client c (λ e. other (sym e)));
     streams = λ l other. ap (λ (s : State). s.streams l) is
         ∙ ap (λ b. cond b (option_and_then (none_kept {A = Stream}) (s.streams l)) (s.streams l)) (ne_eqb id l (λ e. other (sym e)));
     devices = ap (λ (s : State). s.devices) is;
@@ -180,6 +184,7 @@ module _ (id : ℕ) (stream : Stream) (client : Client) (s : State) (streaming :
 beside_then : {id client : ℕ} {first second third : State} → KeepsBeside id client first second → KeepsBeside id client second third
     → KeepsBeside id client first third
 beside_then h k = record {
+  clients = λ c other. k.clients c other ∙ h.clients c other;
   streams = λ l other. k.streams l other ∙ h.streams l other;
   devices = k.devices ∙ h.devices;
   closed = k.closed;
@@ -192,6 +197,9 @@ module _ (id : ℕ) (stream : Stream) (client : Client) (s : State) (streaming :
 
   sent_beside : KeepsBeside id stream.client s sent
   sent_beside = record {
+    clients = λ c other. ap (λ (rows : Rows (Option Client)). rows c) (goes_clients id stream ps (noted id stream client.held ps s))
+        ∙ ap (λ b. cond b (option_and_then (with_held (drop (total ps) client.held)) (s.clients c)) (s.clients c))
+        (ne_eqb stream.client c (λ e. other (sym e)));
     streams = λ l other. ap (λ (rows : Rows (Option Stream)). rows l) (goes_streams id stream ps (noted id stream client.held ps s))
         ∙ ap (λ b. cond b (option_and_then (with_stream_part (with_flow (flow_after ps stream.part.flow) stream.part)) (s.streams l)) (s.streams l))
         (ne_eqb id l (λ e. other (sym e)));

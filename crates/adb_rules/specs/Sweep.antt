@@ -1,10 +1,12 @@
 -- The up rule for several streams, one after another.
-use Rattle.std.specs.Prelude.{ℕ, ◌+◌, nat_eq, if◌then◌else◌, List, [], ◌∷◌, Option, Some, None}
+use Rattle.std.specs.Prelude.{ℕ, ◌+◌, ◌≡◌, ◌≤◌, ◌<◌, true, false, nat_eq, if◌then◌else◌, List, [], ◌∷◌, Option, Some, None}
 use Rattle.adb_outside.specs.Tables.{at}
 use Rattle.adb_stream.specs.declared.row.Stream.{Stream}
-use Rattle.adb_history.specs.Rows.{State}
+use Rattle.adb_registry.specs.Registry.{DeviceTable}
+use Rattle.adb_history.specs.Rows.{Client, State}
 use Rattle.adb_history.specs.Events.{Made, quietly, then_also}
-use Rattle.adb_history.specs.Flow.{up}
+use Rattle.adb_history.specs.Links.{maxdata_of}
+use Rattle.adb_history.specs.Flow.{payloads, is_over, is_streaming, up}
 use Rattle.adb_rules.specs.declared.tables.Tables.{Tables}
 use Rattle.adb_rules.specs.Tracked.{IsAmong, IsTracked}
 use Rattle.adb_rules.specs.Places.{LinkRoom, ClientRoom, IsCounted, StaysOwned}
@@ -37,3 +39,26 @@ pub record UsesEach (ids : List ℕ) (old new : Tables) : Type 0 where
   pub counted : IsCounted old → IsCounted new
   pub tracked : IsTracked old → IsTracked new
   pub owned : (l : ℕ) → StaysOwned (at l old.streams.streams) (at l new.streams.streams)
+
+-- ---- streams of which nothing goes up
+-- What a client holds of a stream can't go up now, and the stream goes on.
+pub record HasNothingUp (devices : DeviceTable) (client : Client) (stream : Stream) : Type 0 where
+  pub nothing : payloads stream.part.flow (maxdata_of stream.link devices) client.held ≡ []
+  pub goes_on : is_over client.about.ended client.held stream.part.flow ≡ false
+
+abbrev pub IsStillFor : ℕ → DeviceTable → Stream → Option Client → Type 0
+IsStillFor l devices stream None = Unit {0}
+IsStillFor l devices stream (Some client) = is_streaming l client.about.phase ≡ true → HasNothingUp devices client stream
+
+abbrev pub IsStillOf : ℕ → Option Stream → State → Type 0
+IsStillOf l None s = Unit {0}
+IsStillOf l (Some stream) s = IsStillFor l s.devices stream (s.clients stream.client)
+
+-- The up rule makes nothing of the stream of an id.
+abbrev pub IsStill : ℕ → State → Type 0
+IsStill l s = IsStillOf l (s.streams l) s
+
+-- These ids are among the first k, and the up rule makes nothing of any other stream.
+pub record CoversUp (ids : List ℕ) (k : ℕ) (s : State) : Type 0 where
+  pub within : (l : ℕ) → IsAmong l ids → (0 < l) × (l ≤ k)
+  pub still : (l : ℕ) → (IsAmong l ids → ⊥) → IsStill l s
