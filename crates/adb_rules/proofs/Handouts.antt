@@ -46,12 +46,13 @@ pub less_left : (due l : ℕ) (stream : Stream) (s : State) (left : ℕ) → lef
 less_left due l stream s left is fewer =
     ap (λ (m : Made). m.state) (sym (fewer_left left l stream s fewer)) ∙ ap (λ (n : ℕ). (stream_hands n l stream s).state) is
 
--- what is left of a credit, and what is given back
-pub told_credit : (left l : ℕ) (stream : Stream) (s : State) (credit after : ByteCredit) → Credit after ≡ handed_to left (Credit credit)
-    → (tells_credit (credit_back left credit) l stream (to_stream l (with_stream_part (with_flow (Credit after) stream.part)) s)).state
-    ≡ (leaves left l (Credit credit) stream s).state
-told_credit left l stream s credit after is =
-    ap (λ (flow : Flow). (tells_credit (credit_back left credit) l stream (to_stream l (with_stream_part (with_flow flow stream.part)) s)).state) is
+module _ (left l : ℕ) (stream : Stream) (s : State) where
+  -- what is left of a credit, and what is given back
+  pub told_credit : (credit after : ByteCredit) → Credit after ≡ handed_to left (Credit credit)
+      → (tells_credit (credit_back left credit) l stream (to_stream l (with_stream_part (with_flow (Credit after) stream.part)) s)).state
+      ≡ (leaves left l (Credit credit) stream s).state
+  told_credit credit after is =
+      ap (λ (flow : Flow). (tells_credit (credit_back left credit) l stream (to_stream l (with_stream_part (with_flow flow stream.part)) s)).state) is
 
 pub left_then : (l : ℕ) (n m : ℕ) (s t : State) → n ≡ m → s ≡ t → (stream_left n l (s.streams l) s).state ≡ (stream_left m l (t.streams l) t).state
 left_then l n m s t same is = ap (λ (q : ℕ). (stream_left q l (s.streams l) s).state) same ∙ ap (λ (s : State). (stream_left m l (s.streams l) s).state) is

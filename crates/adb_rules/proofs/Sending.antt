@@ -142,22 +142,23 @@ module _ (l : ℕ) (stream : Stream) (m : ℕ) where
       together : (x y z : ℕ) → y ≤ x × z ≤ y → x - y + (y - z) ≡ x - z
       together x y z (first, second) = omega (arith, first, second)
 
--- what the next write needs is there
-pub can_one : (flow : Flow) (m n : ℕ) (row : Option SeenClient) → n ≡ write_len m (may_send flow m) (held_at row) → 0 < n
-    → CanCutAll (payloads flow m (held_at row)) row → CanCut n row
-can_one flow m n None is some can = omega (arith, is, some)
-can_one flow m n (Some row) is some can = at_row (subst (λ payloads. CanCutAll payloads (Some row)) (one_let flow m row.held n is some) can)
-  where
-    size : length (take n row.held) ≡ n
-    size = length-take-le n row.held (omega (arith, is, within m (may_send flow m) row.held))
+module _ (flow : Flow) (m n : ℕ) where
+  -- what the next write needs is there
+  pub can_one : (row : Option SeenClient) → n ≡ write_len m (may_send flow m) (held_at row) → 0 < n
+      → CanCutAll (payloads flow m (held_at row)) row → CanCut n row
+  can_one None is some can = omega (arith, is, some)
+  can_one (Some row) is some can = at_row (subst (λ payloads. CanCutAll payloads (Some row)) (one_let flow m row.held n is some) can)
+    where
+      size : length (take n row.held) ≡ n
+      size = length-take-le n row.held (omega (arith, is, within m (may_send flow m) row.held))
 
-    at_row : CanCutAll (take n row.held ∷ payloads (wrote n flow) m (drop n row.held)) (Some row) → (n ≤ row.ready) × (0 < row.cuts)
-    at_row (bytes, pieces) = (omega (arith, bytes, size), omega (arith, pieces))
+      at_row : CanCutAll (take n row.held ∷ payloads (wrote n flow) m (drop n row.held)) (Some row) → (n ≤ row.ready) × (0 < row.cuts)
+      at_row (bytes, pieces) = (omega (arith, bytes, size), omega (arith, pieces))
 
-pub some_unsent : (flow : Flow) (m n : ℕ) (held : List ℕ) → n ≡ write_len m (may_send flow m) held → 0 < n → 1 ≤ length (payloads flow m held)
-some_unsent flow m n held is some =
-    let all : length (payloads flow m held) ≡ 1 + length (payloads (wrote n flow) m (drop n held)) = ap length (one_let flow m held n is some) ∙ omega arith in
-    omega (arith, all)
+  pub some_unsent : (held : List ℕ) → n ≡ write_len m (may_send flow m) held → 0 < n → 1 ≤ length (payloads flow m held)
+  some_unsent held is some =
+      let all : length (payloads flow m held) ≡ 1 + length (payloads (wrote n flow) m (drop n held)) = ap length (one_let flow m held n is some) ∙ omega arith in
+      omega (arith, all)
 
 -- the bytes that were cut off are the first that were held
 pub piece_is : (n : ℕ) (row : Option SeenClient) (piece : List ℕ) → Some piece ≡ option_map (λ (row : SeenClient). take n row.held) row

@@ -7,7 +7,7 @@ use Rattle.std.proofs.lemmas.List.{length-drop, length-take-le}
 use Rattle.adb_stream.specs.declared.flow.Flow.{Flow}
 use Rattle.adb_stream.specs.declared.flow.Flow.TheVariants.{One, Credit}
 use Rattle.adb_history.specs.Flow.{write_len, write_before, writes, payloads, total, wrote}
-use Rattle.adb_rules.specs.Up.{may_send, LetsGo, up_bytes, up_writes}
+use Rattle.adb_rules.specs.Up.{may_send, up_bytes, up_writes}
 
 -- ---- fuel
 -- no write is made where none may be
@@ -72,17 +72,6 @@ one_let (Credit credit) m held n is some = by_length (length held) refl
         write_first k m c held (subst (λ (k : ℕ). 0 < k) is some)
         ∙ (ap (λ (q : ℕ). take q held ∷ writes k m (c - q) (drop q held)) (sym is)
         ∙ ap (λ others. take n held ∷ others) (enough k (length (drop n held)) m (c - n) (drop n held) (omega (arith, e, less, some), omega arith)))
-
--- a flow lets go what the next write has
-pub lets_one : (flow : Flow) (m : ℕ) (held : List ℕ) (n : ℕ) → n ≡ write_len m (may_send flow m) held → 0 < n → LetsGo flow n
-lets_one (One window) m held n is some = by_test window.outstanding refl
-  where
-    by_test : (b : Bool) → window.outstanding ≡ b → b ≡ false
-    by_test true e =
-        let none : may_send (One window) m ≡ 0 = ap (λ b. cond b 0 m) e in
-        absurd (omega (arith, is, some, none))
-    by_test false e = refl
-lets_one (Credit credit) m held n is some = omega (arith, is)
 
 -- ---- how many there are at most
 all_held : (k m c : ℕ) (held : List ℕ) → total (writes k m c held) ≤ length held
