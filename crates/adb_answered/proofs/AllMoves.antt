@@ -42,7 +42,7 @@ module _ {P : State → List Event → Type 0} (k : Moves P) where
     awaits = λ client want s w is asking h. k.awaits asker client want s w is asking h;
     unmarks = λ s w h. k.unmarks asker s w h;
     draws = λ t client s w is asking ready h. k.draws asker t client s w is asking ready h;
-    stops = λ client s w is asking h. k.stops asker client s w is asking h;
+    stops = λ client s w may is asking h. k.stops asker client s w is asking h;
     closes = k.closes;
     drops = k.drops;
     holds = k.holds;

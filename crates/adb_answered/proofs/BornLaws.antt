@@ -169,6 +169,7 @@ born_now b rest e older is within =
 -- a stream that is born was born before, or is a birth of this entry within the ids
 pub record IsBornNow (l : ℕ) (b : Birth) (e : Entry) (older : History) : Type 0 where
   pub place : ℕ
+  pub stream : l ≡ suc (length (births older) + place)
   pub within : length (births older) + place < stream_ids
   pub is : slice_get (births_at e older) place ≡ Some b
 
@@ -180,7 +181,7 @@ born_either (suc k) b e older is = go (nat_lt k stream_ids) refl is
         → (cond true (slice_get (births older) k) None ≡ Some b) ⊎ IsBornNow (suc k) b e older
     split (inl old) within = inl old
     split (inr new) within =
-        let lt = ltb-true k stream_ids within in inr (record { place = new.place; within = omega (arith, lt, new.behind); is = new.is })
+        let lt = ltb-true k stream_ids within in inr (record { place = new.place; stream = omega (arith, new.behind); within = omega (arith, lt, new.behind); is = new.is })
 
     go : (within : Bool) → nat_lt k stream_ids ≡ within → cond within (slice_get (births (e ∷ older)) k) None ≡ Some b
         → (cond within (slice_get (births older) k) None ≡ Some b) ⊎ IsBornNow (suc k) b e older

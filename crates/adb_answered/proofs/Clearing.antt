@@ -5,23 +5,37 @@ use Rattle.std.proofs.lemmas.Bool.{eq-eqb, ne_eqb, cases_eq}
 use Rattle.adb_outside.specs.Tables.{Rows, change_row}
 use Rattle.adb_outside.specs.declared.identity.Identity.{Identity}
 use Rattle.adb_stream.specs.declared.row.Stream.{Stream}
-use Rattle.adb_history.specs.Rows.{State, to_stream, none_kept}
+use Rattle.adb_history.specs.Rows.{Link, State, to_stream, none_kept}
 use Rattle.adb_history.specs.Events.{Made, Ending, quietly, lost}
 use Rattle.adb_history.specs.Links.{is_connected}
 use Rattle.adb_history.specs.Streams.{ends_row, ends_if_of, ends_of, all_end}
 use Rattle.adb_history.specs.Losing.{forgets, link_ends}
-use Rattle.adb_history.specs.Packets.{streams_end_first}
+use Rattle.adb_history.specs.Packets.{with_sums, streams_end_first}
 use Rattle.adb_history.specs.Moves.{connects_now}
+use Rattle.adb_wire.specs.Format.{has_sums}
 use Rattle.adb_history.proofs.OwnedStep.{ends_state, client_loses_frame}
+
+-- a stream that ends changes no link
+pub ends_links : (k : ℕ) (ending : Ending) (stream : Stream) (s : State) → (ends_row k ending stream s).state.links ≡ s.links
+ends_links k ending stream s =
+    ap (λ (x : State). x.links) (ends_state k ending stream s ∙ client_loses_frame (s.clients stream.client) stream.client (to_stream k none_kept s))
+
+-- a link that is gone stays so
+pub link_stays : (n t : ℕ) (f : Link → Option Link) (links : Rows (Option Link)) → links t ≡ None → change_row n (option_and_then f) links t ≡ None
+link_stays n t f links none = go (eqb n t) (links t) none
+  where
+    go : (b : Bool) (o : Option Link) → o ≡ None → cond b (option_and_then f o) o ≡ None
+    go true o e = ap (option_and_then f) e
+    go false o e = e
 
 module _ (l : ℕ) where
   -- a stream that ends is one row
-  ends_streams : (k : ℕ) (ending : Ending) (stream : Stream) (s : State)
+  pub ends_streams : (k : ℕ) (ending : Ending) (stream : Stream) (s : State)
       → (ends_row k ending stream s).state.streams l ≡ change_row k (option_and_then none_kept) s.streams l
   ends_streams k ending stream s = ap (λ (x : State). x.streams l)
       (ends_state k ending stream s ∙ client_loses_frame (s.clients stream.client) stream.client (to_stream k none_kept s))
 
-  none_of : (o : Option Stream) → option_and_then none_kept o ≡ None
+  pub none_of : (o : Option Stream) → option_and_then none_kept o ≡ None
   none_of None = refl
   none_of (Some y) = refl
 
@@ -108,3 +122,27 @@ module _ (l : ℕ) where
       go true e o is = all_cleared t lost s zeroth le (λ y at_l. (on y at_l).0)
       go false e None is = is
       go false e (Some y) is = absurd (let clash : true ≡ false = sym (on y is).1 ∙ e in cc)
+
+-- a link that is gone stays so when a device says who it is
+pub online_links : (t version maxdata : ℕ) (identity : Identity) (s : State) → s.links t ≡ None → (connects_now t version maxdata identity s).state.links t ≡ None
+online_links t version maxdata identity s none = link_stays t t (with_sums (has_sums version)) first.links (same (is_connected t s.devices))
+  where
+    first : State
+    first = (streams_end_first (is_connected t s.devices) t s).state
+
+    ends : (n : ℕ) → (ends_of t n lost s).state.links t ≡ None
+    ends zero = none
+    ends (suc n) = go (ends n) ((ends_of t n lost s).state.streams (suc n))
+      where
+        by : (b : Bool) (stream : Stream) → (ends_of t n lost s).state.links t ≡ None
+            → (cond b (ends_row (suc n) lost stream (ends_of t n lost s).state) (quietly (ends_of t n lost s).state)).state.links t ≡ None
+        by true stream e = ap (λ (f : ℕ → Option Link). f t) (ends_links (suc n) lost stream (ends_of t n lost s).state) ∙ e
+        by false stream e = e
+
+        go : (ends_of t n lost s).state.links t ≡ None → (o : Option Stream) → (ends_if_of t (suc n) lost o (ends_of t n lost s).state).state.links t ≡ None
+        go e None = e
+        go e (Some stream) = by (nat_eq stream.link t) stream e
+
+    same : (b : Bool) → (streams_end_first b t s).state.links t ≡ None
+    same true = ends s.drawn
+    same false = none

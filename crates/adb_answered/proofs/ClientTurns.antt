@@ -9,18 +9,20 @@ use Rattle.adb_client.specs.declared.phase.Phase.{Phase}
 use Rattle.adb_client.specs.declared.phase.Phase.TheVariants.{Asking, Opening, Streaming, Binding, Tracking, Closing, Gone}
 use Rattle.adb_capture.specs.declared.entry.Entry.{Entry}
 use Rattle.adb_capture.specs.declared.entry.Entry.TheVariants.{Join, Enter, Read, End, Bound, Attach, Recv, Detach, Put, Send}
-use Rattle.adb_history.specs.Rows.{Client, State, new_client, to_client, with_held}
+use Rattle.adb_history.specs.Rows.{Client, State, new_client, new_link, to_client, with_held}
 use Rattle.adb_history.specs.Events.{Made, Event}
 use Rattle.adb_history.specs.Tracking.{marked, list_if_stale, due_or, offered}
 use Rattle.adb_history.specs.Asking.{asks_with}
 use Rattle.adb_history.specs.Reading.{comes, has_asked, asked_before, reads_in, reads_from, bound_in, bound_at}
 use Rattle.adb_history.specs.Handing.{lists_first, takes_of, puts_to}
+use Rattle.adb_wire.specs.declared.packets.Packet.{Packet}
+use Rattle.adb_history.specs.Bytes.{is_orderly}
 use Rattle.adb_history.specs.Machine.{rule, ups, step, May, MayPut, IsSomeOf}
 use Rattle.adb_history.specs.Moves.{After, HasOne, plugged_in}
 use Rattle.adb_history.specs.Owned.{IsOwned}
 use Rattle.adb_history.proofs.Following.{after_quietly, after_then}
 use Rattle.adb_history.proofs.OwnedStep.{begins_owned}
-use Rattle.adb_answered.specs.Turns.{everywhere, Turns}
+use Rattle.adb_answered.specs.Turns.{Scope, Allows, everywhere, Turns}
 use Rattle.adb_answered.proofs.TurnStreams.{up_all_kept}
 use Rattle.adb_answered.proofs.TurnRules.{rule_kept, takes_kept}
 
@@ -32,35 +34,56 @@ IsBusy Closing = Unit {0}
 IsBusy _ = ⊥
 
 -- What holds of a client that asks no more, by its row, the streams and what was told.
-pub record IsOfClient (c : ℕ) (P : State → List Event → Type 0) : Type 0 where
-  pub turns : (asker : ℕ) → asker ≢ c → Turns everywhere asker P
+pub record IsOfClient (scope : Scope) (c t : ℕ) (P : State → List Event → Type 0) : Type 0 where
+  pub turns : (asker : ℕ) → asker ≢ c → Turns scope asker P
   pub owned : (s : State) (w : List Event) → P s w → IsOwned s
   pub busy : (s : State) (w : List Event) (client : Client) → P s w → s.clients c ≡ Some client → IsBusy client.about.phase
   pub stays : (s next : State) (w : List Event) → IsOwned next → next.clients c ≡ s.clients c → next.streams ≡ s.streams → next.drawn ≡ s.drawn
-      → P s w → P next w
+      → next.links t ≡ s.links t → P s w → P next w
   pub marks : (s next : State) (w : List Event) → IsOwned next → next.clients c ≡ option_map marked (s.clients c) → next.streams ≡ s.streams
-      → next.drawn ≡ s.drawn → P s w → P next w
+      → next.drawn ≡ s.drawn → next.links t ≡ s.links t → P s w → P next w
 
--- an entry by which another comes, if any
-abbrev pub IsAnother : ℕ → Entry → Type 0
-IsAnother c (Join n) = n ≢ c
-IsAnother c (Enter n port) = n ≢ c
-IsAnother c _ = Unit {0}
+-- an entry by which another client or another link comes, if any
+abbrev pub IsAnother : (c t : ℕ) → Entry → Type 0
+IsAnother c t (Join n) = n ≢ c
+IsAnother c t (Enter n port) = n ≢ c
+IsAnother c t (Attach n kind serial) = n ≢ t
+IsAnother c t _ = Unit {0}
+
+-- an entry that touches no more than that
+abbrev pub Covers : Scope → Entry → Type 0
+Covers scope (Read c bytes) = scope.stops
+Covers scope (End c cause) = is_orderly cause ≡ false → scope.fails c
+Covers scope (Recv t bytes) = ((p : Packet) → Allows scope t p.command p) × scope.cuts t
+Covers scope (Detach t cause) = scope.cuts t
+Covers scope _ = Unit {0}
+
+pub covers_all : (e : Entry) → Covers everywhere e
+covers_all (Join n) = tt
+covers_all (Enter n port) = tt
+covers_all (Read n bytes) = tt
+covers_all (End n cause) = λ e. tt
+covers_all (Bound n port) = tt
+covers_all (Attach t kind serial) = tt
+covers_all (Recv t bytes) = ((λ p. record { reaches = λ e. tt; renews = λ e. tt; cuts = λ e. tt }), tt)
+covers_all (Detach t cause) = tt
+covers_all (Put n bytes) = tt
+covers_all (Send t bytes) = tt
 
 -- who comes has a number that was not drawn
-pub another_comes : (c : ℕ) (s : State) (e : Entry) → c ≤ s.joined → May s e → IsAnother c e
-another_comes c s (Join n) below may = λ same. omega (arith, same, below, may.1)
-another_comes c s (Enter n port) below may = λ same. omega (arith, same, below, may.1)
-another_comes c s (Read n bytes) below may = tt
-another_comes c s (End n cause) below may = tt
-another_comes c s (Bound n port) below may = tt
-another_comes c s (Attach t kind serial) below may = tt
-another_comes c s (Recv t bytes) below may = tt
-another_comes c s (Detach t cause) below may = tt
-another_comes c s (Put n bytes) below may = tt
-another_comes c s (Send t bytes) below may = tt
+pub another_comes : (c t : ℕ) (s : State) (e : Entry) → (c ≤ s.joined) × (t ≤ s.devices.drawn) → May s e → IsAnother c t e
+another_comes c t s (Join n) below may = λ same. omega (arith, same, below.0, may.1)
+another_comes c t s (Enter n port) below may = λ same. omega (arith, same, below.0, may.1)
+another_comes c t s (Read n bytes) below may = tt
+another_comes c t s (End n cause) below may = tt
+another_comes c t s (Bound n port) below may = tt
+another_comes c t s (Attach n kind serial) below may = λ same. omega (arith, same, below.1, may.1)
+another_comes c t s (Recv n bytes) below may = tt
+another_comes c t s (Detach n cause) below may = tt
+another_comes c t s (Put n bytes) below may = tt
+another_comes c t s (Send n bytes) below may = tt
 
-module _ {c : ℕ} {P : State → List Event → Type 0} (k : IsOfClient c P) where
+module _ {scope : Scope} {c t : ℕ} {P : State → List Event → Type 0} (k : IsOfClient scope c t P) where
   other : c + 1 ≢ c
   other e = omega (arith, e)
 
@@ -72,30 +95,31 @@ module _ {c : ℕ} {P : State → List Event → Type 0} (k : IsOfClient c P) wh
     join_kept : (n : ℕ) → n ≢ c → May s (Join n) → After P w (rule (Join n) s)
     join_kept n apart may =
         rule_kept (k.turns (c + 1) other) (Join n) s w tt
-        (k.stays s (comes false n s) w (begins_owned s (k.owned s w h) (Join n) w may) (came_same false n apart) refl refl h)
+        (k.stays s (comes false n s) w (begins_owned s (k.owned s w h) (Join n) w may) (came_same false n apart) refl refl refl h)
 
     enter_kept : (n port : ℕ) → n ≢ c → May s (Enter n port) → After P w (rule (Enter n port) s)
     enter_kept n port apart may =
         let owned = begins_owned s (k.owned s w h) (Enter n port) w may in
         rule_kept (k.turns n apart) (Enter n port) s w refl
-        (k.stays s (comes true n s) w owned.0 (came_same true n apart) refl refl h, k.stays s _ w owned.1 refl refl refl h)
+        (k.stays s (comes true n s) w owned.0 (came_same true n apart) refl refl refl h, k.stays s _ w owned.1 refl refl refl refl h)
 
-    attach_kept : (t : ℕ) (kind : Kind) (serial : List ℕ) → May s (Attach t kind serial) → After P w (rule (Attach t kind serial) s)
-    attach_kept t kind serial may = rule_kept (k.turns (c + 1) other) (Attach t kind serial) s w tt
-        (k.marks s (plugged_in t kind serial s) w (begins_owned s (k.owned s w h) (Attach t kind serial) w may) refl refl refl h)
+    attach_kept : (n : ℕ) (kind : Kind) (serial : List ℕ) → n ≢ t → May s (Attach n kind serial) → After P w (rule (Attach n kind serial) s)
+    attach_kept n kind serial apart may = rule_kept (k.turns (c + 1) other) (Attach n kind serial) s w tt
+        (k.marks s (plugged_in n kind serial s) w (begins_owned s (k.owned s w h) (Attach n kind serial) w may) refl refl refl
+        (ap (λ (b : Bool). cond b (Some new_link) (s.links t)) (ne_eqb n t apart)) h)
 
-    read_kept : (n : ℕ) (bytes : List ℕ) → n ≢ c → May s (Read n bytes) → After P w (rule (Read n bytes) s)
-    read_kept n bytes apart may = rule_kept (k.turns n apart) (Read n bytes) s w refl (
+    read_kept : (n : ℕ) (bytes : List ℕ) → n ≢ c → scope.stops → May s (Read n bytes) → After P w (rule (Read n bytes) s)
+    read_kept n bytes apart stops may = rule_kept (k.turns n apart) (Read n bytes) s w (refl, stops) (
       h,
       λ client is asking.
           k.stays s (to_client n (has_asked (asks_with s.devices s.forwards bytes (asked_before client))) s) w
           ((begins_owned s (k.owned s w h) (Read n bytes) w may).1 client is asking)
           (ap (λ (b : Bool). cond b (option_and_then (has_asked (asks_with s.devices s.forwards bytes (asked_before client))) (s.clients c)) (s.clients c))
-          (ne_eqb n c apart)) refl refl h,
+          (ne_eqb n c apart)) refl refl refl h,
     )
 
     -- ---- its own
-    own_turns : Turns everywhere (c + 1) P
+    own_turns : Turns scope (c + 1) P
     own_turns = k.turns (c + 1) other
 
     own_reads_in : (bytes : List ℕ) (client : Client) → s.clients c ≡ Some client → (p : Phase) → client.about.phase ≡ p → IsBusy p
@@ -157,9 +181,9 @@ module _ {c : ℕ} {P : State → List Event → Type 0} (k : IsOfClient c P) wh
         (λ v now. takes_kept own_turns m.state v now c (length bytes) (m.state.clients c) refl)
 
     -- ---- all entries
-    read_either : (n : ℕ) (bytes : List ℕ) → May s (Read n bytes) → (here : Bool) → eqb n c ≡ here → After P w (rule (Read n bytes) s)
-    read_either n bytes may false e = read_kept n bytes (eqb-false n c e) may
-    read_either n bytes may true e =
+    read_either : (n : ℕ) (bytes : List ℕ) → scope.stops → May s (Read n bytes) → (here : Bool) → eqb n c ≡ here → After P w (rule (Read n bytes) s)
+    read_either n bytes stops may false e = read_kept n bytes (eqb-false n c e) stops may
+    read_either n bytes stops may true e =
         subst (λ (m : ℕ). After P w (rule (Read m bytes) s)) (sym (eqb-true n c e)) (own_read bytes (s.clients c) refl)
 
     bound_either : (n port : ℕ) → (here : Bool) → eqb n c ≡ here → After P w (rule (Bound n port) s)
@@ -173,22 +197,22 @@ module _ {c : ℕ} {P : State → List Event → Type 0} (k : IsOfClient c P) wh
         subst (λ (m : ℕ). After P w (rule (Put m bytes) s)) (sym (eqb-true n c e))
         (own_put bytes (s.clients c) refl (subst (λ (m : ℕ). MayPut s (s.clients m) bytes) (eqb-true n c e) may))
 
-    client_rule : (e : Entry) → IsAnother c e → May s e → After P w (rule e s)
-    client_rule (Join n) another may = join_kept n another may
-    client_rule (Enter n port) another may = enter_kept n port another may
-    client_rule (Read n bytes) another may = read_either n bytes may (eqb n c) refl
-    client_rule (Bound n port) another may = bound_either n port (eqb n c) refl
-    client_rule (Put n bytes) another may = put_either n bytes may (eqb n c) refl
-    client_rule (Attach t kind serial) another may = attach_kept t kind serial may
-    client_rule (End n cause) another may = rule_kept own_turns (End n cause) s w tt h
-    client_rule (Recv t bytes) another may = rule_kept own_turns (Recv t bytes) s w (λ p. record { reaches = λ e. tt; renews = λ e. tt }) h
-    client_rule (Detach t cause) another may = rule_kept own_turns (Detach t cause) s w tt h
-    client_rule (Send t bytes) another may = rule_kept own_turns (Send t bytes) s w tt h
+    client_rule : (e : Entry) → IsAnother c t e → Covers scope e → May s e → After P w (rule e s)
+    client_rule (Join n) another covers may = join_kept n another may
+    client_rule (Enter n port) another covers may = enter_kept n port another may
+    client_rule (Read n bytes) another covers may = read_either n bytes covers may (eqb n c) refl
+    client_rule (Bound n port) another covers may = bound_either n port (eqb n c) refl
+    client_rule (Put n bytes) another covers may = put_either n bytes may (eqb n c) refl
+    client_rule (Attach n kind serial) another covers may = attach_kept n kind serial another may
+    client_rule (End n cause) another covers may = rule_kept own_turns (End n cause) s w covers h
+    client_rule (Recv n bytes) another covers may = rule_kept own_turns (Recv n bytes) s w covers h
+    client_rule (Detach n cause) another covers may = rule_kept own_turns (Detach n cause) s w covers h
+    client_rule (Send n bytes) another covers may = rule_kept own_turns (Send n bytes) s w tt h
 
   -- What holds of a client that asks no more, each entry keeps.
-  pub client_kept : (s : State) (w : List Event) (e : Entry) → IsAnother c e → May s e → P s w → After P w (step s e)
-  client_kept s w e another may h =
-      after_then P w (rule e s) ups (client_rule s w h e another may)
+  pub client_kept : (s : State) (w : List Event) (e : Entry) → IsAnother c t e → Covers scope e → May s e → P s w → After P w (step s e)
+  client_kept s w e another covers may h =
+      after_then P w (rule e s) ups (client_rule s w h e another covers may)
       (λ v now. up_all_kept (k.turns (c + 1) other) (rule e s).state v now (rule e s).state.drawn)
 
   -- and the up rule

@@ -35,7 +35,7 @@ IsClosing x = x.about.phase ≡ Closing
 pub steady : IsSteady IsClosing
 steady = record { closing = λ x y phase forwarded h. phase; like = λ x y phase forwarded h. phase ∙ h }
 
-never_closing : (l remote : ℕ) → Closing ≡ phase_for l remote → ⊥
+pub never_closing : (l remote : ℕ) → Closing ≡ phase_for l remote → ⊥
 never_closing l zero e = cc
 never_closing l (suc remote) e = cc
 
@@ -168,7 +168,7 @@ module _ (c : ℕ) (out : List ℕ) where
         row = at_apart steady c asker (in_phase (Opening (s.drawn + 1))) s.clients apart h.row;
         told = h.told;
       };
-      stops = λ x s w is asking h. record {
+      stops = λ x s w may is asking h. record {
         owned = owned_moves.stops asker x s w is asking h.owned;
         row = λ y e. absurd (let clash : None ≡ Some y = sym (stopped_none asker c s.clients not_here) ∙ e in cc);
         told = none_told w (all_stop s.drawn s.streams) (all_stop_owed c s.drawn s.streams) h.told;

@@ -26,7 +26,7 @@ use Rattle.adb_history.proofs.OwnedStep.{owned_moves, begins_owned, start_owned}
 use Rattle.adb_history.proofs.Books.{all_books}
 use Rattle.adb_answered.specs.Served.{IsDone, IsEntered, AtEachFront}
 use Rattle.adb_answered.proofs.BornLaws.{born_more, born_now}
-use Rattle.adb_answered.proofs.ClientTurns.{IsAnother, client_kept, client_ups}
+use Rattle.adb_answered.proofs.ClientTurns.{IsAnother, covers_all, client_kept, client_ups}
 use Rattle.adb_answered.proofs.ServedClients.{done_client}
 use Rattle.adb_answered.proofs.ServedHistories.{front_births, front_older}
 
@@ -127,8 +127,8 @@ module _ (c port : ℕ) (older : History) (legal : IsLegal older) (may : May (st
       go (Some row) is = by row is (is_connected row.transport s.devices) refl
 
 module _ (c : ℕ) (older : History) (legal : IsLegal older) where
-  entered_more : (e : Entry) → May (state older) e → IsAnother c e → EnteredIn c older → EnteredIn c (e ∷ older)
-  entered_more e may another (inl h) = inl (client_kept (done_client c []) (state older) (told older) e another may h)
+  entered_more : (e : Entry) → May (state older) e → IsAnother c 0 e → EnteredIn c older → EnteredIn c (e ∷ older)
+  entered_more e may another (inl h) = inl (client_kept (done_client c []) (state older) (told older) e another (covers_all e) may h)
   entered_more e may another (inr g) = inr (record {
     stream = g.stream;
     birth = g.birth;
@@ -173,7 +173,7 @@ all_entered (End n cause ∷ older) legal births c absent =
 all_entered (Bound n port ∷ older) legal births c absent =
     entered_more c older legal.0 (Bound n port) legal.2 tt (all_entered older legal.0 (front_older (Bound n port) older births) c absent)
 all_entered (Attach t kind serial ∷ older) legal births c absent =
-    entered_more c older legal.0 (Attach t kind serial) legal.2 tt (all_entered older legal.0 (front_older (Attach t kind serial) older births) c absent)
+    entered_more c older legal.0 (Attach t kind serial) legal.2 (λ same. omega (arith, same, legal.2.1)) (all_entered older legal.0 (front_older (Attach t kind serial) older births) c absent)
 all_entered (Recv t bytes ∷ older) legal births c absent =
     entered_more c older legal.0 (Recv t bytes) legal.2 tt (all_entered older legal.0 (front_older (Recv t bytes) older births) c absent)
 all_entered (Detach t cause ∷ older) legal births c absent =

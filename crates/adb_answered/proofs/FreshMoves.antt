@@ -213,7 +213,7 @@ module _ (joined : ℕ → Bool) where
       alone = λ n. phase_alone n asker (Opening (s.drawn + 1)) s.clients (h.alone n);
       unended = λ l lt. h.unended l (omega (arith, lt));
     };
-    stops = λ x s w is asking h. record {
+    stops = λ x s w may is asking h. record {
       owned = owned_moves.stops asker x s w is asking h.owned;
       alone = λ n. stopped_alone asker n s.clients (h.alone n);
       unended = λ l lt. more_unended l w (all_stop s.drawn s.streams) (h.unended l lt) (all_stop_unended s.drawn l s.streams lt);
@@ -324,17 +324,17 @@ module _ (older : History) (legal : IsLegal older) (h : IsFresh (λ n. has_joine
   fresh_step (Join n) may = step_kept (fresh_turns (λ k. has_joined k (Join n ∷ older)) 0) (Join n) s w tt (fresh_join n may)
   fresh_step (Enter n port) may = step_kept (fresh_turns (λ k. has_joined k older) n) (Enter n port) s w refl
       (fresh_enter n port may, record { owned = (begins_owned s h.owned (Enter n port) w may).1; alone = h.alone; unended = h.unended })
-  fresh_step (Read n bytes) may = step_kept (fresh_turns (λ k. has_joined k older) n) (Read n bytes) s w refl
+  fresh_step (Read n bytes) may = step_kept (fresh_turns (λ k. has_joined k older) n) (Read n bytes) s w (refl, tt)
       (h, λ client is asking. read_alone n bytes client may is asking)
   fresh_step (Bound n port) may = step_kept (fresh_turns (λ k. has_joined k older) n) (Bound n port) s w refl h
   fresh_step (Put n bytes) may = step_kept (fresh_turns (λ k. has_joined k older) n) (Put n bytes) s w refl h
-  fresh_step (End n cause) may = step_kept (fresh_turns (λ k. has_joined k older) 0) (End n cause) s w tt h
+  fresh_step (End n cause) may = step_kept (fresh_turns (λ k. has_joined k older) 0) (End n cause) s w (λ e. tt) h
   fresh_step (Attach t kind serial) may = step_kept (fresh_turns (λ k. has_joined k older) 0) (Attach t kind serial) s w tt (record {
     owned = begins_owned s h.owned (Attach t kind serial) w may;
     alone = λ k. at_marked (steady (has_joined k older)) k s.clients (h.alone k);
     unended = h.unended;
   })
-  fresh_step (Recv t bytes) may = step_kept (fresh_turns (λ k. has_joined k older) 0) (Recv t bytes) s w (λ p. record { reaches = λ e. tt; renews = λ e. tt }) h
+  fresh_step (Recv t bytes) may = step_kept (fresh_turns (λ k. has_joined k older) 0) (Recv t bytes) s w ((λ p. record { reaches = λ e. tt; renews = λ e. tt; cuts = λ e. tt }), tt) h
   fresh_step (Detach t cause) may = step_kept (fresh_turns (λ k. has_joined k older) 0) (Detach t cause) s w tt h
   fresh_step (Send t bytes) may = step_kept (fresh_turns (λ k. has_joined k older) 0) (Send t bytes) s w tt h
 

@@ -118,7 +118,7 @@ module _ (c : ℕ) (older : History) (legal : IsLegal older) (came : has_joined 
 
       pub read_answers : (bytes : List ℕ) → May s (Read n bytes) → After P w (rule (Read n bytes) s)
       read_answers bytes may =
-          rule_kept (answers_turns n c (heard c older) apart) (Read n bytes) s w refl (
+          rule_kept (answers_turns n c (heard c older) apart) (Read n bytes) s w (refl, tt) (
             h,
             λ client is asking. record {
               owned = (begins_owned s h.owned (Read n bytes) w may).1 client is asking;
@@ -145,10 +145,10 @@ module _ (c : ℕ) (older : History) (legal : IsLegal older) (came : has_joined 
     })
 
     pub end_answers : (n : ℕ) (cause : Cause) → After P w (rule (End n cause) s)
-    end_answers n cause = rule_kept (answers_turns (c + 1) c (heard c older) other) (End n cause) s w tt h
+    end_answers n cause = rule_kept (answers_turns (c + 1) c (heard c older) other) (End n cause) s w (λ e. tt) h
 
     pub recv_answers : (t : ℕ) (bytes : List ℕ) → After P w (rule (Recv t bytes) s)
-    recv_answers t bytes = rule_kept (answers_turns (c + 1) c (heard c older) other) (Recv t bytes) s w (λ p. record { reaches = λ e. tt; renews = λ e. tt }) h
+    recv_answers t bytes = rule_kept (answers_turns (c + 1) c (heard c older) other) (Recv t bytes) s w ((λ p. record { reaches = λ e. tt; renews = λ e. tt; cuts = λ e. tt }), tt) h
 
     pub detach_answers : (t : ℕ) (cause : Cause) → After P w (rule (Detach t cause) s)
     detach_answers t cause = rule_kept (answers_turns (c + 1) c (heard c older) other) (Detach t cause) s w tt h

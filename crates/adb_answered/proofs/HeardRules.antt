@@ -224,7 +224,7 @@ module _ (asker c : ℕ) (r : Heard) (apart : asker ≢ c) where
       row = rows_apart c r s.devices asker (in_phase (Opening (s.drawn + 1))) s.clients apart h.row;
       owes = h.owes;
     };
-    stops = λ x s w is asking h. record {
+    stops = λ x s w may is asking h. record {
       owned = owned_moves.stops asker x s w is asking h.owned;
       row = λ y e. absurd (let clash : None ≡ Some y = sym (stopped_none asker c s.clients not_here) ∙ e in cc);
       owes = owes_none c r w (all_stop s.drawn s.streams) (all_stop_owed c s.drawn s.streams) h.owes;

@@ -49,7 +49,7 @@ module _ (c : ℕ) (older : History) (legal : IsLegal older) (bytes : List ℕ) 
 
   module _ (client : Client) (is : s.clients c ≡ Some client) (asking : client.about.phase ≡ Asking) (t : ℕ) (service : List ℕ)
       (next : (asks_with s.devices s.forwards bytes (asked_before client)).next ≡ Some (what.Open t service)) where
-    abbrev p : Asked
+    abbrev pub p : Asked
     p = asks_with s.devices s.forwards bytes (asked_before client)
 
     -- what its replies leave
@@ -59,7 +59,7 @@ module _ (c : ℕ) (older : History) (legal : IsLegal older) (bytes : List ℕ) 
     abbrev made : Made
     made = then_also (owe_client c p.replies (to_client c (has_asked p) s)) (opens false c t service)
 
-    made_so : rule (Read c bytes) s ≡ made
+    pub made_so : rule (Read c bytes) s ≡ made
     made_so = made_is c older legal bytes may client is asking
         ∙ ap (λ (o : Option Next). then_also (owe_client c p.replies (to_client c (has_asked p) s)) (goes_on o c)) next
 
@@ -72,13 +72,13 @@ module _ (c : ℕ) (older : History) (legal : IsLegal older) (bytes : List ℕ) 
         (record client { about = record client.about { selected = p.selected }; held = p.rest })
         (changed_here c (has_asked p) s.clients client is)
 
-    replies_now : (asked c now).replies ≡ (asked c older).replies ++ p.replies
+    pub replies_now : (asked c now).replies ≡ (asked c older).replies ++ p.replies
     replies_now = ap (λ (r : Heard). r.replies) (heard_now c older legal bytes may client is asking)
 
     next_now : (asked c now).next ≡ Some (what.Open t service)
     next_now = ap (λ (r : Heard). r.next) (heard_now c older legal bytes may client is asking) ∙ next
 
-    abbrev birth : Birth
+    abbrev pub birth : Birth
     birth = record {
       client = c;
       link = t;
@@ -89,14 +89,14 @@ module _ (c : ℕ) (older : History) (legal : IsLegal older) (bytes : List ℕ) 
       packets_before = length (brought t older);
     }
 
-    births_now : births_at (Read c bytes) older ≡ birth ∷ []
+    pub births_now : births_at (Read c bytes) older ≡ birth ∷ []
     births_now =
         ap (λ (o : Option Next). birth_by c (asked c now).used older (newly o (asked c now).next)) (open_next c older legal bytes may client is asking)
         ∙ ap (λ (o : Option Next). birth_by c (asked c now).used older o) next_now
 
     module _ (h : Answers c (heard c older) s.devices s w) (fresh : IsFresh (λ n. has_joined n older) s w) (came : has_joined c older ≡ true)
         (drawn : s.drawn ≡ min (length (births older)) stream_ids) where
-      owned : IsOwned (rule (Read c bytes) s).state
+      pub owned : IsOwned (rule (Read c bytes) s).state
       owned = moves.rule_kept owned_moves (Read c bytes) s w (begins_owned s h.owned (Read c bytes) w may)
 
       -- what had become due before
@@ -107,7 +107,7 @@ module _ (c : ℕ) (older : History) (legal : IsLegal older) (bytes : List ℕ) 
           ∙ append-nil (asked c older).replies)
 
       -- and then becomes due
-      out_with : (more : List Event) → owed_to c (w ++ (due_to_client c p.replies ∷ more)) ≡ (asked c now).replies ++ owed_to c more
+      pub out_with : (more : List Event) → owed_to c (w ++ (due_to_client c p.replies ∷ more)) ≡ (asked c now).replies ++ owed_to c more
       out_with more = owed_append c w (due_to_client c p.replies ∷ more)
           ∙ (ap (λ (b : Bool). owed_to c w ++ (cond b p.replies [] ++ owed_to c more)) (eq-eqb c c refl)
           ∙ (sym (append_assoc (owed_to c w) p.replies (owed_to c more))
@@ -140,10 +140,10 @@ module _ (c : ℕ) (older : History) (legal : IsLegal older) (bytes : List ℕ) 
       abbrev id : ℕ
       id = s.drawn + 1
 
-      abbrev given : Made
+      abbrev pub given : Made
       given = then_also (owe_client c p.replies (to_client c (has_asked p) s)) (asks_for (s.drawn + 1) c t service)
 
-      given_row : (y : Client) → given.state.clients c ≡ Some y → RowServed id false y
+      pub given_row : (y : Client) → given.state.clients c ≡ Some y → RowServed id false y
       unfolding row
       given_row y at_c =
           let opening : Client = record row { about = record row.about { phase = Opening id } } in

@@ -3,6 +3,7 @@ use Rattle.std.proofs.Common.{ℕ, ◌≤◌, Bool, List, Option, sym, ap, subst
 use Rattle.adb_stream.specs.declared.row.Stream.{Stream}
 use Rattle.adb_client.specs.declared.phase.Phase.{Phase}
 use Rattle.adb_client.specs.declared.phase.Phase.TheVariants.{Asking, Opening, Streaming, Binding, Tracking, Closing, Gone}
+use Rattle.adb_answered.specs.Turns.{everywhere}
 use Rattle.adb_answered.specs.Served.{PhaseFor, IsDone}
 use Rattle.adb_answered.proofs.SteadyRows.{at_marked}
 use Rattle.adb_answered.proofs.ClientTurns.{IsBusy, IsOfClient}
@@ -11,7 +12,7 @@ use Rattle.adb_answered.proofs.DoneMoves.{done_turns}
 use Rattle.adb_answered.proofs.ServedMoves as served
 use Rattle.adb_answered.proofs.ServedRules.{IsServedSo, served_turns}
 
-served_busy : (p : Phase) (l : ℕ) (heard : Bool) → PhaseFor p l heard → IsBusy p
+pub served_busy : (p : Phase) (l : ℕ) (heard : Bool) → PhaseFor p l heard → IsBusy p
 served_busy (Opening k) l heard h = tt
 served_busy (Streaming k) l heard h = tt
 served_busy Closing l heard h = tt
@@ -21,14 +22,14 @@ served_busy Tracking l heard h = h
 served_busy Gone l heard h = h
 
 -- a client whose stream was not drawn, or that asked for it and failed
-pub done_client : (c : ℕ) (out : List ℕ) → IsOfClient c (λ s w. IsDone c out s w)
+pub done_client : (c : ℕ) (out : List ℕ) → IsOfClient everywhere c 0 (λ s w. IsDone c out s w)
 done_client c out = record {
   turns = λ asker apart. done_turns c out asker apart;
   owned = λ s w h. h.owned;
   busy = λ s w client h is. subst IsBusy (sym (h.row client is)) tt;
-  stays = λ s next w owned clients streams drawn h.
+  stays = λ s next w owned clients streams drawn links h.
       record { owned = owned; row = λ client is. h.row client (sym clients ∙ is); told = h.told };
-  marks = λ s next w owned clients streams drawn h. record {
+  marks = λ s next w owned clients streams drawn links h. record {
     owned = owned;
     row = λ client is. at_marked done.steady c s.clients h.row client (sym clients ∙ is);
     told = h.told;
@@ -36,12 +37,12 @@ done_client c out = record {
 }
 
 -- a client that asked for a stream
-pub served_client : (c l : ℕ) (replies : List ℕ) → IsOfClient c (λ s w. IsServedSo c l replies s w)
+pub served_client : (c l : ℕ) (replies : List ℕ) → IsOfClient everywhere c 0 (λ s w. IsServedSo c l replies s w)
 served_client c l replies = record {
   turns = λ asker apart. served_turns c l replies asker apart;
   owned = λ s w (b, h). h.owned;
   busy = λ s w client (b, h) is. served_busy client.about.phase l b (h.row client is).phase;
-  stays = λ s next w owned clients streams drawn (b, h). (
+  stays = λ s next w owned clients streams drawn links (b, h). (
     b,
     record {
       owned = owned;
@@ -51,7 +52,7 @@ served_client c l replies = record {
       out = h.out;
     },
   );
-  marks = λ s next w owned clients streams drawn (b, h). (
+  marks = λ s next w owned clients streams drawn links (b, h). (
     b,
     record {
       owned = owned;

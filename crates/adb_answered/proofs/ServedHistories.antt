@@ -26,6 +26,7 @@ use Rattle.adb_history.proofs.Booked.{said, asks_in, asks_now}
 use Rattle.adb_history.proofs.BookTurns.{all_unheard}
 use Rattle.adb_history.proofs.BookReads.{newly_same}
 use Rattle.adb_history.proofs.Books.{booked}
+use Rattle.adb_births.proofs.Born.{all_births}
 use Rattle.adb_answered.specs.Heard.{Heard, asks_stream}
 use Rattle.adb_answered.specs.Served.{IsDone, IsServed, no_ids_reply, HasNoStream, IsGiven, IsRefused, ServedIn, AtEachFront}
 use Rattle.adb_answered.proofs.HeardEntries.{joined_below, heard_read}
@@ -33,7 +34,7 @@ use Rattle.adb_answered.proofs.HeardAsks.{asks_asking, open_next, heard_now, hea
 use Rattle.adb_answered.proofs.HeardHistories.{all_answers}
 use Rattle.adb_answered.proofs.FreshMoves.{all_fresh}
 use Rattle.adb_answered.proofs.BornLaws.{IsBirthOf, birth_of, born_more, IsBornNow, still_none, none_unborn}
-use Rattle.adb_answered.proofs.ClientTurns.{another_comes, client_kept, client_ups}
+use Rattle.adb_answered.proofs.ClientTurns.{another_comes, covers_all, client_kept, client_ups}
 use Rattle.adb_answered.proofs.ServedClients.{done_client, served_client}
 use Rattle.adb_answered.proofs.ServedAsks.{asks_stream_now}
 
@@ -43,7 +44,7 @@ pub record IsOpen (next : Option Next) : Type 0 where
   pub service : List ℕ
   pub is : next ≡ Some (what.Open transport service)
 
-stream_open : (next : Option Next) → asks_stream next ≡ true → IsOpen next
+pub stream_open : (next : Option Next) → asks_stream next ≡ true → IsOpen next
 stream_open (Some (what.Open t service)) e = record { transport = t; service = service; is = refl }
 stream_open None e = absurd (let clash : false ≡ true = e in cc)
 stream_open (Some what.Close) e = absurd (let clash : false ≡ true = e in cc)
@@ -55,7 +56,7 @@ stream_open (Some (what.Unbind local)) e = absurd (let clash : false ≡ true = 
 stream_open (Some what.UnbindAll) e = absurd (let clash : false ≡ true = e in cc)
 stream_open (Some what.Stop) e = absurd (let clash : false ≡ true = e in cc)
 
-no_birth : (c head : ℕ) (older : History) (next : Option Next) → asks_stream next ≡ false → birth_by c head older next ≡ []
+pub no_birth : (c head : ℕ) (older : History) (next : Option Next) → asks_stream next ≡ false → birth_by c head older next ≡ []
 no_birth c head older (Some (what.Open t service)) e = absurd (let clash : true ≡ false = e in cc)
 no_birth c head older None e = refl
 no_birth c head older (Some what.Close) e = refl
@@ -67,7 +68,7 @@ no_birth c head older (Some (what.Unbind local)) e = refl
 no_birth c head older (Some what.UnbindAll) e = refl
 no_birth c head older (Some what.Stop) e = refl
 
-none_at : (k : ℕ) (b : Birth) (bs : List Birth) → bs ≡ [] → slice_get bs k ≡ Some b → ⊥
+pub none_at : (k : ℕ) (b : Birth) (bs : List Birth) → bs ≡ [] → slice_get bs k ≡ Some b → ⊥
 none_at k b bs e is = nothing k (ap (λ (x : List Birth). slice_get x k) (sym e) ∙ is)
   where
     nothing : (k : ℕ) → slice_get (let none : List Birth = [] in none) k ≡ Some b → ⊥
@@ -89,7 +90,7 @@ silent_same : (c : ℕ) (e : Entry) (older : History) → (asked c (e ∷ older)
     → (asked c (e ∷ older)).replies ≡ (asked c older).replies → ((n : ℕ) → IsBirthOf e n → n ≢ c) → IsSilent c e older
 silent_same c e older next replies apart = record { next = next; replies = replies; none = apart_births c e older apart }
 
-silent_bound : (c n port : ℕ) (older : History) → IsSilent c (Bound n port) older
+pub silent_bound : (c n port : ℕ) (older : History) → IsSilent c (Bound n port) older
 silent_bound c n port older = record {
   next = ap (λ (q : Asked). q.next) (go ((book older).waits n));
   replies = ap (λ (q : Asked). q.replies) (go ((book older).waits n));
@@ -100,7 +101,7 @@ silent_bound c n port older = record {
     go None = refl
     go (Some want) = refl
 
-silent_read : (c n : ℕ) (bytes : List ℕ) (older : History) → eqb n c ≡ false → IsSilent c (Read n bytes) older
+pub silent_read : (c n : ℕ) (bytes : List ℕ) (older : History) → eqb n c ≡ false → IsSilent c (Read n bytes) older
 silent_read c n bytes older e = silent_same c (Read n bytes) older (ap (λ (r : Heard). r.next) (heard_read n c bytes older e))
     (ap (λ (r : Heard). r.replies) (heard_read n c bytes older e)) (λ m of same. eqb-false n c e (sym of ∙ same))
 
@@ -108,7 +109,7 @@ module _ (c : ℕ) (older : History) (legal : IsLegal older) (came : has_joined 
   below : c ≤ (state older).joined
   below = let le = joined_below older legal c came in omega (arith, le, (counted older).joined)
 
-  silent_idle : (bytes : List ℕ) → May (state older) (Read c bytes) → (said c older).asking ≡ false → IsSilent c (Read c bytes) older
+  pub silent_idle : (bytes : List ℕ) → May (state older) (Read c bytes) → (said c older).asking ≡ false → IsSilent c (Read c bytes) older
   silent_idle bytes may idle =
       let same = heard_idle c older legal bytes may idle in
       let next : (asked c (Read c bytes ∷ older)).next ≡ (asked c older).next = ap (λ (r : Heard). r.next) same in
@@ -125,7 +126,7 @@ module _ (c : ℕ) (older : History) (legal : IsLegal older) (came : has_joined 
   silent_served e may silent false none = still_none c e older silent.none none
   silent_served e may silent true (inl g) =
       let kept = client_kept (served_client c g.stream (asked c older).replies) (state older) (told older) e
-      (another_comes c (state older) e below may) may (g.heard, g.served) in
+      (another_comes c 0 (state older) e (below, omega arith) may) (covers_all e) may (g.heard, g.served) in
       inl (record {
         stream = g.stream;
         birth = g.birth;
@@ -140,7 +141,7 @@ module _ (c : ℕ) (older : History) (legal : IsLegal older) (came : has_joined 
         none = still_none c e older silent.none r.none;
         done = subst (λ (x : List ℕ). IsDone c (x ++ no_ids_reply) (state (e ∷ older)) (told (e ∷ older))) (sym silent.replies)
             (client_kept (done_client c ((asked c older).replies ++ no_ids_reply)) (state older) (told older) e
-            (another_comes c (state older) e below may) may r.done);
+            (another_comes c 0 (state older) e (below, omega arith) may) (covers_all e) may r.done);
       })
 
   abbrev Before : Type 0
@@ -254,6 +255,13 @@ new_served c older legal may =
     let above : came_count older < c = omega (arith, may.1, (counted older).joined) in
     subst (λ (q : Asked). ServedIn (asks_stream q.next) c (Join c ∷ older)) (sym (all_unheard older legal c above).asked)
     (still_none c (Join c) older (apart_births c (Join c) older (λ m of. absurd of)) (none_unborn older legal c above))
+
+pub births_at_fronts : (h : History) → IsLegal h → AtEachFront HasBirths h
+births_at_fronts h legal newer older is = all_births older (legal_front newer older (subst IsLegal (sym is) legal))
+  where
+    legal_front : (newer older : History) → IsLegal (newer ++ older) → IsLegal older
+    legal_front [] older all = all
+    legal_front (e ∷ newer) older all = legal_front newer older all.0
 
 pub front_births : (e : Entry) (older : History) → AtEachFront HasBirths (e ∷ older) → HasBirths older
 front_births e older births = births (e ∷ []) older refl

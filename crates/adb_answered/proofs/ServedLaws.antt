@@ -1,12 +1,15 @@
 -- The fields of the promise of clients that have a stream, and the whole promise.
-use Rattle.std.proofs.Common.{◌≡◌, ℕ, Bool, true, false, List, [], ◌++◌, Option, refl, sym, subst, inl, inr, ◌⊎◌}
+use Rattle.std.proofs.Common.{◌≡◌, ℕ, Bool, true, false, List, [], ◌++◌, Option, refl, sym, subst, ◌∙◌, inl, inr, ◌⊎◌}
+use Rattle.std.proofs.lemmas.List.{append-nil}
 use Rattle.adb_outside.specs.Bytes.{IsPrefixOf}
 use Rattle.adb_reply.specs.Strings.{okay}
 use Rattle.adb_reply.specs.declared.answer.Next.{Next}
+use Rattle.adb_history.specs.Rows.{State}
+use Rattle.adb_history.specs.Events.{Event, owed_to}
 use Rattle.adb_history.specs.Machine.{History, state, told, IsLegal}
-use Rattle.adb_history.specs.Bytes.{has_joined}
+use Rattle.adb_history.specs.Bytes.{has_joined, has_failed}
 use Rattle.adb_history.specs.Book.{asked}
-use Rattle.adb_history.specs.Births.{told_to, joined}
+use Rattle.adb_history.specs.Births.{since, told_to, joined}
 use Rattle.adb_history.specs.Lives.{output_of, ending_of}
 use Rattle.adb_history.specs.Fifo.{HasBirths}
 use Rattle.adb_history.specs.Answered.{tells_closed, closed_reply, is_heard, FollowsOpen, IsStreamOf, AnswersOpen, IsBehindReplies, RepliesOfStream}
@@ -14,19 +17,54 @@ use Rattle.adb_history.specs.Answered.{HasStreamAlone, IsAnswered}
 use Rattle.adb_answered.specs.Heard.{asks_stream}
 use Rattle.adb_answered.specs.Served.{OutBy, IsDone, no_ids_reply, IsGiven, IsRefused, ServedIn, AtEachFront, IsEntered, HearsAsTold}
 use Rattle.adb_answered.proofs.HeardLaws.{replies_first, replies_bound, lists_tracked, present_list, nothing_more}
-use Rattle.adb_answered.proofs.ServedHistories.{all_served}
+use Rattle.adb_answered.proofs.ServedHistories.{births_at_fronts, all_served}
+use Rattle.adb_answered.proofs.Hears.{hears_as_told}
+use Rattle.adb_answered.specs.Shown.{Seen, seen, Subject, IsShown}
+use Rattle.adb_answered.proofs.ShownClients.{opened_not_closed}
+use Rattle.adb_answered.proofs.ShownHistories.{IsShownAt, may_hear, subject_of}
+use Rattle.adb_answered.proofs.ShownAll.{all_shown}
 use Rattle.adb_answered.proofs.Entered.{all_entered}
 
-module _ (h : History) (legal : IsLegal h) (births : AtEachFront HasBirths h) (hears : HearsAsTold h) where
+-- what became due to the client of a stream, by whether it heard that the stream is open
+abbrev ShownBy : Bool → (replies out : List ℕ) → Type 0
+ShownBy false replies out = (closed : Bool) × (out ≡ replies ++ closed_reply closed)
+ShownBy true replies out = (bytes : List ℕ) × (out ≡ replies ++ (okay ++ bytes))
+
+shown_out : (heard : Bool) (x : Subject) (seen : Seen) (s : State) (w : List Event) → IsShown heard x seen s w → ShownBy heard x.replies (owed_to x.client w)
+shown_out false x seen s w n = (n.out.closed, n.out.out_is)
+shown_out true x seen s w n = (n.out.bytes, n.out.out_is)
+
+opened_out : (heard : Bool) (replies out : List ℕ) → ShownBy heard replies out → heard ≡ true → ShownBy true replies out
+opened_out true replies out n e = n
+opened_out false replies out n e = absurd (let clash : false ≡ true = e in cc)
+
+unopened_out : (heard : Bool) (replies out : List ℕ) → ShownBy heard replies out → heard ≡ false → ShownBy false replies out
+unopened_out false replies out n e = n
+unopened_out true replies out n e = absurd (let clash : true ≡ false = e in cc)
+
+module _ (h : History) (legal : IsLegal h) where
+  births : AtEachFront HasBirths h
+  births = births_at_fronts h legal
+
+  hears : HearsAsTold h
+  hears = hears_as_told h legal
+
   -- ---- a client that came by itself
   module _ (c : ℕ) (came : has_joined c h ≡ true) where
     given_stream : (g : IsGiven c h (asked c h).replies (state h) (told h)) → IsStreamOf h c g.stream g.birth
     given_stream g = record { is = g.born; client = g.client }
 
+    -- what is known of its stream
+    known : (g : IsGiven c h (asked c h).replies (state h) (told h)) → IsShownAt g.stream g.birth h
+    known g = all_shown h legal births g.stream g.birth g.born g.alone (subst (λ (n : ℕ). has_joined n h ≡ true) (sym g.client) came)
+
     -- it heard that its stream is open
     given_heard : (g : IsGiven c h (asked c h).replies (state h) (told h)) → is_heard g.stream g.birth h ≡ true → IsBehindReplies h c (AnswersOpen h c)
     given_heard g e =
-        let heard = (hears g.stream g.birth g.born).opened g.alone e in
+        let n = known g in
+        let heard = opened_out n.heard (asked g.birth.client h).replies (output_of g.birth.client h)
+        (shown_out n.heard (subject_of g.stream g.birth h (may_hear g.stream g.birth h) (has_failed g.birth.client h)) (seen g.stream (since g.birth h))
+        (state h) (told h) n.shown) (n.is ∙ e) in
         record {
           after = okay ++ heard.0;
           output = subst (λ (n : ℕ). output_of n h ≡ (asked n h).replies ++ (okay ++ heard.0)) g.client heard.1;
@@ -34,7 +72,8 @@ module _ (h : History) (legal : IsLegal h) (births : AtEachFront HasBirths h) (h
             g.stream,
             g.birth,
             given_stream g,
-            subst (λ (b : Bool). FollowsOpen b h g.stream g.birth (okay ++ heard.0)) (sym e) (heard.0, refl, heard.2),
+            subst (λ (b : Bool). FollowsOpen b h g.stream g.birth (okay ++ heard.0)) (sym e)
+                (heard.0, refl, (hears g.stream g.birth g.born).behind g.alone heard.0 heard.1),
           );
         }
 
@@ -52,8 +91,12 @@ module _ (h : History) (legal : IsLegal h) (births : AtEachFront HasBirths h) (h
       );
     }
     given_unheard g e true (bytes, out) =
-        absurd ((hears g.stream g.birth g.born).unopened g.alone e bytes
-        (subst (λ (n : ℕ). output_of n h ≡ (asked n h).replies ++ (okay ++ bytes)) (sym g.client) out))
+        let n = known g in
+        let closed = unopened_out n.heard (asked g.birth.client h).replies (output_of g.birth.client h)
+        (shown_out n.heard (subject_of g.stream g.birth h (may_hear g.stream g.birth h) (has_failed g.birth.client h)) (seen g.stream (since g.birth h))
+        (state h) (told h) n.shown) (n.is ∙ e) in
+        absurd (opened_not_closed (asked c h).replies bytes [] closed.0 (append-nil ((asked c h).replies ++ (okay ++ bytes))
+        ∙ (sym out ∙ subst (λ (n : ℕ). output_of n h ≡ (asked n h).replies ++ closed_reply closed.0) g.client closed.1)))
 
     given_reply : (g : IsGiven c h (asked c h).replies (state h) (told h)) → (b : Bool) → is_heard g.stream g.birth h ≡ b
         → IsBehindReplies h c (AnswersOpen h c)
@@ -86,7 +129,7 @@ module _ (h : History) (legal : IsLegal h) (births : AtEachFront HasBirths h) (h
         g.birth,
         record { is = g.born; client = g.client },
         subst (λ (n : ℕ). IsPrefixOf (output_of n h) (joined (told_to g.stream g.birth h))) g.client
-            ((hears g.stream g.birth g.born).forwarded g.forwarded),
+            ((hears g.stream g.birth g.born).alone g.forwarded),
       )
 
   -- ---- all clients

@@ -330,7 +330,7 @@ module _ (c l : ℕ) (replies : List ℕ) where
           out = h.out;
         },
       );
-      stops = λ x s w is asking (b, h). (
+      stops = λ x s w may is asking (b, h). (
         b,
         record {
           owned = owned_moves.stops asker x s w is asking h.owned;
@@ -445,7 +445,7 @@ module _ (c l : ℕ) (replies : List ℕ) where
         },
       );
       links = λ t f s w (b, h). (b, record { owned = owned_moves.links t f s w h.owned; row = h.row; own = h.own; drawn = h.drawn; out = h.out });
-      link_ends = λ t ending s w told (b, h). (b, link_ends_served b c l replies t ending s w told h);
+      link_ends = λ t ending s w told (b, h). (b, link_ends_served b c l replies t ending s w told.0 h);
       online = λ t version maxdata identity s w may (b, h). (b, online_served b c l replies t version maxdata identity s w h);
       unauthorized = λ t row s w is offline (b, h). (
         b,

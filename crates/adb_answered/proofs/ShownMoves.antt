@@ -111,7 +111,7 @@ module _ (x : Subject) (s next : State) where
 module _ (x : Subject) (seen : Seen) where
   will_not : (s next : State) → (s.links x.link ≡ None → next.links x.link ≡ None) → WillNotOpen x seen.sealed s → WillNotOpen x seen.sealed next
   will_not s next links (inl sealed) = inl sealed
-  will_not s next links (inr (inl gone)) = inr (inl (links gone))
+  will_not s next links (inr (inl gone)) = inr (inl (gone.0, links gone.1))
   will_not s next links (inr (inr failed)) = inr (inr failed)
 
   gone_before : (s next : State) → Steps x s next → IsGone next.streams x.stream → IsGone s.streams x.stream
@@ -144,6 +144,7 @@ module _ (x : Subject) (seen : Seen) where
     out_is = same ∙ h.out_is;
     waits = λ y is owned. (let was = steps.was y is in h.waits was.before was.is (sym was.alike.orphan ∙ owned));
     gone = λ gone. will_not s next steps.links (h.gone (gone_before s next steps gone));
+    none = h.none;
   }
 
   -- more becomes due to a client that heard
@@ -222,4 +223,5 @@ module _ (heard : Bool) (x : Subject) (seen : Seen) where
         out_is = none_more w es less.1 ∙ h.out_is;
         waits = λ y is owned. absurd (nothing y is);
         gone = λ gone. reason refl;
+        none = h.none;
       }

@@ -41,6 +41,7 @@ use Rattle.adb_answered.specs.Served.{PhaseFor, RowServed}
 use Rattle.adb_answered.specs.Shown.{aside, Seen, Subject, IsShownRow, IsGone, WillNotOpen, IsUnopened, IsOpened, ShownOut, IsShown}
 use Rattle.adb_answered.proofs.ToldOthers.{quiet_after, all_stop_owed, stopped_none, owed_other, client_loses_owed, owned_opened, forgets_owned}
 use Rattle.adb_answered.proofs.SteadyRows.{at_client_loses, at_marked, at_due, at_apart, at_none, at_closing, at_like, at_hands}
+use Rattle.adb_answered.proofs.Clearing.{ends_links, link_stays}
 use Rattle.adb_answered.proofs.Endings.{all_end_by}
 use Rattle.adb_answered.proofs.ServedMoves.{steady, closed_told, phase_of_own, phase_waiting}
 use Rattle.adb_answered.proofs.ShownMoves.{Steps, steps_same, steps_part, shown_quietly, shown_steps, shown_gone, own_steps, out_steps, out_more, shown_client}
@@ -149,6 +150,7 @@ module _ (heard : Bool) (x : Subject) (seen : Seen) where
         out_is = none_more heard x seen w (ends_made true).told (orphan_told e) ∙ out.out_is;
         waits = λ y is owned. absurd (row_gone y is);
         gone = λ gone. inr (inr ((h.own stream there).orphan e));
+        none = out.none;
       }
       out_left false e false f reason out = record {
         closed = true;
@@ -158,6 +160,7 @@ module _ (heard : Bool) (x : Subject) (seen : Seen) where
             (out.out_is ∙ (ap (λ (b : Bool). x.replies ++ closed_reply b) (out.waits stream there e) ∙ append-nil x.replies)));
         waits = λ y is owned. absurd (row_gone y is);
         gone = λ gone. reason refl refl;
+        none = out.none;
       }
 
       ends_here : (b : Bool) → stream.part.orphan ≡ b → (heard ≡ false → b ≡ false → WillNotOpen x seen.sealed s) → V left (w ++ (ends_made b).told)
@@ -198,10 +201,6 @@ module _ (heard : Bool) (x : Subject) (seen : Seen) where
   ends_so_shown k ending stream s w is so h = ends_shown k ending stream s w is h (open_heard k ending stream s w is so h)
 
 -- ---- links
-ends_links : (k : ℕ) (ending : Ending) (stream : Stream) (s : State) → (ends_row k ending stream s).state.links ≡ s.links
-ends_links k ending stream s =
-    ap (λ (x : State). x.links) (ends_state k ending stream s ∙ client_loses_frame (s.clients stream.client) stream.client (to_stream k none_kept s))
-
 -- of a link nothing is kept
 link_gone : (n t : ℕ) (links : Rows (Option Link)) → n ≡ t → change_row n (option_and_then none_kept) links t ≡ None
 link_gone n t links same = ap (λ (b : Bool). cond b (option_and_then none_kept (links t)) (links t)) (eq-eqb n t same) ∙ go (links t)
@@ -209,14 +208,6 @@ link_gone n t links same = ap (λ (b : Bool). cond b (option_and_then none_kept 
     go : (o : Option Link) → option_and_then none_kept o ≡ None
     go None = refl
     go (Some link) = refl
-
--- a link that is gone stays so
-pub link_stays : (n t : ℕ) (f : Link → Option Link) (links : Rows (Option Link)) → links t ≡ None → change_row n (option_and_then f) links t ≡ None
-link_stays n t f links none = go (eqb n t) (links t) none
-  where
-    go : (b : Bool) (o : Option Link) → o ≡ None → cond b (option_and_then f o) o ≡ None
-    go true o e = ap (option_and_then f) e
-    go false o e = e
 
 module _ (heard : Bool) (x : Subject) (seen : Seen) where
   abbrev W : State → List Event → Type 0
@@ -234,22 +225,34 @@ module _ (heard : Bool) (x : Subject) (seen : Seen) where
   abbrev pub Cut : ℕ → State → List Event → Type 0
   Cut t s w = IsShown heard x seen s w × (t ≡ x.link → s.links x.link ≡ None)
 
-  all_end_cut : (t : ℕ) (ending : Ending) (s : State) (w : List Event) → Cut t s w → After (λ s w. IsShown heard x seen s w × (t ≡ x.link → s.links x.link ≡ None)) w
+  -- why a stream of it will not
+  abbrev pub CutReason : ℕ → Type 0
+  CutReason t = t ≡ x.link → (x.cut ≡ true) ⊎ (x.failed ≡ true)
+
+  cut_reason : (t : ℕ) (s : State) → CutReason t → t ≡ x.link → s.links x.link ≡ None → WillNotOpen x seen.sealed s
+  cut_reason t s reason same none = go (reason same)
+    where
+      go : (x.cut ≡ true) ⊎ (x.failed ≡ true) → WillNotOpen x seen.sealed s
+      go (inl cut) = inr (inl (cut, none))
+      go (inr failed) = inr (inr failed)
+
+  all_end_cut : (t : ℕ) (ending : Ending) (s : State) (w : List Event) → CutReason t → Cut t s w → After (λ s w. IsShown heard x seen s w × (t ≡ x.link → s.links x.link ≡ None)) w
       (all_end t ending s)
-  all_end_cut t ending s w h = all_end_by {P = λ s w. IsShown heard x seen s w × (t ≡ x.link → s.links x.link ≡ None)} t ending
+  all_end_cut t ending s w reason h = all_end_by {P = λ s w. IsShown heard x seen s w × (t ≡ x.link → s.links x.link ≡ None)} t ending
       (λ k stream s w at (h, cut). (
         ends_shown heard x seen k ending stream s w at.0 h
-            (λ here quiet owned. inr (inl (cut (sym at.1 ∙ (h.own stream (ap s.streams (sym here) ∙ at.0)).link)))),
+            (λ here quiet owned. (let same = sym at.1 ∙ (h.own stream (ap s.streams (sym here) ∙ at.0)).link in
+            cut_reason t s reason same (cut same))),
         λ same. ap (λ (f : ℕ → Option Link). f x.link) (ends_links k ending stream s) ∙ cut same,
       )) s w h
 
-  link_ends_cut : (t : ℕ) (ending : Ending) (s : State) (w : List Event) → W s w
+  pub link_ends_cut : (t : ℕ) (ending : Ending) (s : State) (w : List Event) → CutReason t → W s w
       → W (link_ends t ending s).state (w ++ (link_ends t ending s).told) × (t ≡ x.link → (link_ends t ending s).state.links x.link ≡ None)
-  link_ends_cut t ending s w h =
+  link_ends_cut t ending s w reason h =
       let forgot : State = forgets t s in
       let all : Made = all_end t ending forgot in
       let owned : IsOwned forgot = forgets_owned t s h.owned in
-      let kept = all_end_cut t ending forgot w (shown_quietly heard x seen s forgot w
+      let kept = all_end_cut t ending forgot w reason (shown_quietly heard x seen s forgot w
       (steps_same x s forgot refl (λ e. link_stays t x.link none_kept s.links e)) owned h.row (omega arith) h,
       λ same. link_gone t x.link s.links same) in (
         quiet_after (λ s w. IsShown heard x seen s w) w all.told (mark_all all.state)
@@ -455,6 +458,7 @@ module _ (heard : Bool) (x : Subject) (seen : Seen) where
           out_is = none_more false x seen w (ended k (client_failed cause) ∷ []) refl ∙ h.out_is;
           waits = λ y is o. absurd (let clash : true ≡ false = ap (λ (z : Stream). z.part.orphan) (orphan_is same y is) ∙ o in cc);
           gone = λ gone. inr (inr (fails same));
+          none = h.none;
         }
 
         go : (b : Bool) → eqb k x.stream ≡ b
@@ -504,10 +508,10 @@ module _ (heard : Bool) (x : Subject) (seen : Seen) where
           (ap (λ (b : Bool). cond b (Some (new_stream (s.drawn + 1) asker t (new_flow (is_credit t s.devices)))) (s.streams x.stream))
           (ne_eqb (s.drawn + 1) x.stream (λ e. omega (arith, e, h.drawn)))) (λ e. e)) (owned_moves.draws asker t y s w is asking ready h.owned)
           (at_apart (steady x.stream heard) x.client asker (in_phase (Opening (s.drawn + 1))) s.clients apart h.row) (omega arith) h;
-      stops = λ y s w is asking h. shown_gone heard x seen s (stops asker s).state w (all_stop s.drawn s.streams)
+      stops = λ y s w may is asking h. shown_gone heard x seen s (stops asker s).state w (all_stop s.drawn s.streams)
           (owned_moves.stops asker y s w is asking h.owned)
           (λ client e. absurd (let clash : None ≡ Some client = sym (stopped_none asker x.client s.clients not_here) ∙ e in cc)) refl
-          (λ quiet. inr (inl refl)) (omega arith, all_stop_owed x.client s.drawn s.streams) h;
+          (λ quiet. inr (inl (may, refl))) (omega arith, all_stop_owed x.client s.drawn s.streams) h;
       closes = λ n y s w is free h. shown_quietly heard x seen s (closes n s) w (steps_same x s (closes n s) refl (λ e. e))
           (owned_moves.closes n y s w is free h.owned) (at_closing (steady x.stream heard) x.client n s.clients h.row) (omega arith) h;
       drops = λ n y s w is none h. shown_quietly heard x seen s (to_client n none_kept s) w (steps_same x s (to_client n none_kept s) refl (λ e. e))
@@ -533,7 +537,7 @@ module _ (heard : Bool) (x : Subject) (seen : Seen) where
       links = λ t f s w h. shown_quietly heard x seen s (to_link t (λ link. Some (f link)) s) w
           (steps_same x s (to_link t (λ link. Some (f link)) s) refl (λ e. link_stays t x.link (λ link. Some (f link)) s.links e))
           (owned_moves.links t f s w h.owned) h.row (omega arith) h;
-      link_ends = λ t ending s w told h. (link_ends_cut t ending s w h).0;
+      link_ends = λ t ending s w told h. (link_ends_cut t ending s w (λ same. inl (told.1 same)) h).0;
       online = λ t version maxdata identity s w may h. online_shown t version maxdata identity s w (λ same. absurd (may same)) h;
       unauthorized = λ t row s w is offline h. shown_quietly heard x seen s (unauthorized_from t Offline s) w
           (steps_same x s (unauthorized_from t Offline s) refl (λ e. e)) (owned_moves.unauthorized t row s w is offline h.owned)

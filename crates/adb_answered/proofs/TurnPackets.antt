@@ -51,14 +51,14 @@ written_to remote own e is = always (eqb remote 0) (subst (λ (n : ℕ). (eqb re
 module _ {scope : Scope} {asker : ℕ} {P : State → List Event → Type 0} (k : Turns scope asker P) where
   module _ (s : State) (w : List Event) (h : P s w) where
     -- ---- CNXN, AUTH and STLS
-    connects_kept : (t version maxdata : ℕ) (who : Option Identity) → scope.renews t → After P w (connects t version maxdata who s)
-    connects_kept t version maxdata None may = k.link_ends t broken s w refl h
-    connects_kept t version maxdata (Some identity) may = k.online t version maxdata identity s w may h
+    connects_kept : (t version maxdata : ℕ) (who : Option Identity) → scope.renews t × scope.cuts t → After P w (connects t version maxdata who s)
+    connects_kept t version maxdata None may = k.link_ends t broken s w (refl, may.1) h
+    connects_kept t version maxdata (Some identity) may = k.online t version maxdata identity s w may.0 h
 
-    cnxn_kept : (t version maxdata : ℕ) (banner : List ℕ) → scope.renews t → After P w (cnxn t version maxdata banner s)
+    cnxn_kept : (t version maxdata : ℕ) (banner : List ℕ) → scope.renews t × scope.cuts t → After P w (cnxn t version maxdata banner s)
     cnxn_kept t version maxdata banner may =
         after_if P w (nat_lt version least_version || nat_lt maxdata least_maxdata) (link_ends t broken s) (connects t version maxdata (identity_of banner) s)
-        (λ e. k.link_ends t broken s w refl h) (λ e. connects_kept t version maxdata (identity_of banner) may)
+        (λ e. k.link_ends t broken s w (refl, may.1) h) (λ e. connects_kept t version maxdata (identity_of banner) may)
 
     unauthorized_kept : (t : ℕ) (o : Option Row) → at t s.devices.rows ≡ o → After P w (unauthorized t o s)
     unauthorized_kept t None is = after_quietly P w s h
@@ -160,7 +160,7 @@ module _ {scope : Scope} {asker : ℕ} {P : State → List Event → Type 0} (k 
         after_if P w (is_connected t s.devices) (treat_open t command p s) (quietly s) (λ e. treat_open_kept t command p may) (λ e. after_quietly P w s h)
 
     treat_any_kept : (t : ℕ) (command : Command) (p : Packet) → Allows scope t command p → After P w (treat_any t command p s)
-    treat_any_kept t Cnxn p may = cnxn_kept t p.arg0 p.arg1 p.payload (may.renews refl)
+    treat_any_kept t Cnxn p may = cnxn_kept t p.arg0 p.arg1 p.payload (may.renews refl, may.cuts refl)
     treat_any_kept t Auth p may = unauthorized_kept t (at t s.devices.rows) refl
     treat_any_kept t Stls p may = unauthorized_kept t (at t s.devices.rows) refl
     treat_any_kept t Open p may = if_connected_kept t Open p may.reaches
@@ -179,23 +179,23 @@ module _ {scope : Scope} {asker : ℕ} {P : State → List Event → Type 0} (k 
 
   module _ (s : State) (w : List Event) (h : P s w) where
     -- ---- receive
-    pub faulty_kept : (o : Option Link) (t : ℕ) (fault : Option PacketFault) → After P w (faulty_on o t fault s)
-    faulty_kept None t fault = after_quietly P w s h
-    faulty_kept (Some link) t None = after_quietly P w s h
-    faulty_kept (Some link) t (Some fault) = k.link_ends t broken s w refl h
+    pub faulty_kept : (o : Option Link) (t : ℕ) (fault : Option PacketFault) → scope.cuts t → After P w (faulty_on o t fault s)
+    faulty_kept None t fault may = after_quietly P w s h
+    faulty_kept (Some link) t None may = after_quietly P w s h
+    faulty_kept (Some link) t (Some fault) may = k.link_ends t broken s w (refl, may) h
 
   module _ (s : State) (w : List Event) (h : P s w) where
-    receives_cut_kept : (t : ℕ) (c : Cut PacketFormat Packet PacketFault) → ((p : Packet) → Allows scope t p.command p) → After P w (receives_cut t c s)
+    receives_cut_kept : (t : ℕ) (c : Cut PacketFormat Packet PacketFault) → ((p : Packet) → Allows scope t p.command p) × scope.cuts t → After P w (receives_cut t c s)
     receives_cut_kept t c may =
         let taken : State = to_link t (with_rest c.rest) s in
         after_then P w (treat_all t c.given taken) (faulty t c.fault)
-        (treat_all_kept taken w (k.links t (λ link. record link { rest = c.rest }) s w h) t c.given may)
-        (λ v now. faulty_kept (treat_all t c.given taken).state v now ((treat_all t c.given taken).state.links t) t c.fault)
+        (treat_all_kept taken w (k.links t (λ link. record link { rest = c.rest }) s w h) t c.given may.0)
+        (λ v now. faulty_kept (treat_all t c.given taken).state v now ((treat_all t c.given taken).state.links t) t c.fault may.1)
 
-    receives_on_kept : (o : Option Link) (t : ℕ) (bytes : List ℕ) → ((p : Packet) → Allows scope t p.command p) → After P w (receives_on o t bytes s)
+    receives_on_kept : (o : Option Link) (t : ℕ) (bytes : List ℕ) → ((p : Packet) → Allows scope t p.command p) × scope.cuts t → After P w (receives_on o t bytes s)
     receives_on_kept None t bytes may = after_quietly P w s h
     receives_on_kept (Some link) t bytes may =
         receives_cut_kept t (cut_packets (record { sums = link.sums }) (link.rest ++ bytes)) may
 
-    pub receives_kept : (t : ℕ) (bytes : List ℕ) → ((p : Packet) → Allows scope t p.command p) → After P w (receives t bytes s)
+    pub receives_kept : (t : ℕ) (bytes : List ℕ) → ((p : Packet) → Allows scope t p.command p) × scope.cuts t → After P w (receives t bytes s)
     receives_kept t bytes may = receives_on_kept (s.links t) t bytes may

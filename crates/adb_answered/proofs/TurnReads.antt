@@ -29,6 +29,7 @@ use Rattle.adb_history.specs.Forwarding.{Binding as Bound, forwards_with, put_fo
 use Rattle.adb_history.specs.Asking.{Asked, asks_with}
 use Rattle.adb_history.specs.Losing.{stream_fails, stream_of, input_ends, client_ends}
 use Rattle.adb_history.specs.Reading.{tracks, awaits, goes_on, asked_before, has_asked, asks, reads_in, bound_for, bound_in, bound_at}
+use Rattle.adb_history.specs.Bytes.{is_orderly}
 use Rattle.adb_history.specs.Moves.{IsClientIn, After, IsFree, HasOne, IsLed}
 use Rattle.adb_history.proofs.Following.{after_quietly, after_then, changed_here}
 use Rattle.adb_history.proofs.StreamMoves.{asks_free}
@@ -66,14 +67,14 @@ led_bound want port devices forwards all =
 module _ {scope : Scope} {asker : ℕ} {P : State → List Event → Type 0} (k : Turns scope asker P) where
   module _ (s : State) (w : List Event) (h : P s w) where
     -- ---- what follows a request
-    pub goes_on_kept : (next : Option Next) → IsClientIn s asker Asking → IsAskedReady s.devices next → After P w (goes_on next asker s)
+    pub goes_on_kept : (next : Option Next) → IsClientIn s asker Asking → IsAskedReady s.devices next × scope.stops → After P w (goes_on next asker s)
     goes_on_kept None x ready = after_quietly P w s h
     goes_on_kept (Some Close) x ready =
         after_quietly P w (closes asker s) (k.closes asker x.client s w x.here (asks_free x.client.about.phase x.in_phase) h)
-    goes_on_kept (Some (Select id)) x ready = absurd ready
+    goes_on_kept (Some (Select id)) x ready = absurd ready.0
     goes_on_kept (Some (Track long)) x ready =
         after_quietly P w (to_client asker (tracks long) s) (k.tracks x.client long s w x.here x.in_phase h)
-    goes_on_kept (Some (Open t service)) x ready = service_kept k s w h false t service x (inr ready)
+    goes_on_kept (Some (Open t service)) x ready = service_kept k s w h false t service x (inr ready.0)
     goes_on_kept (Some (Bind transport local remote chosen)) x ready =
         let want : Want = record { transport = transport; local = local; remote = remote } in
         after_quietly P w (to_client asker (awaits want) s) (k.awaits x.client want s w x.here x.in_phase h)
@@ -91,10 +92,10 @@ module _ {scope : Scope} {asker : ℕ} {P : State → List Event → Type 0} (k 
         let now : State = record s { forwards = [] } in
         after_quietly P w (closes asker now)
         (k.closes asker x.client now w x.here (asks_free x.client.about.phase x.in_phase) (k.forwards [] s w (λ all. All-nil (IsLed s.devices)) h))
-    goes_on_kept (Some Stop) x ready = k.stops x.client s w x.here x.in_phase h
+    goes_on_kept (Some Stop) x ready = k.stops x.client s w ready.1 x.here x.in_phase h
 
   module _ (s : State) (w : List Event) where
-    pub asks_kept : (q : Asked) → IsClientIn s asker Asking → IsAskedReady s.devices q.next → P (to_client asker (has_asked q) s) w → After P w (asks q asker s)
+    pub asks_kept : (q : Asked) → IsClientIn s asker Asking → IsAskedReady s.devices q.next × scope.stops → P (to_client asker (has_asked q) s) w → After P w (asks q asker s)
     asks_kept q x ready h =
         let now : State = to_client asker (has_asked q) s in
         let taken : Client = record x.client { about = record x.client.about { selected = q.selected }; held = q.rest } in
@@ -107,22 +108,22 @@ module _ {scope : Scope} {asker : ℕ} {P : State → List Event → Type 0} (k 
 
   module _ (s : State) (w : List Event) (h : P s w) where
     -- ---- read
-    pub reads_in_kept : (phase : Phase) (bytes : List ℕ) (x : IsClientIn s asker phase)
+    pub reads_in_kept : (phase : Phase) (bytes : List ℕ) (x : IsClientIn s asker phase) → scope.stops
         → (x.client.about.phase ≡ Asking → P (to_client asker (has_asked (asks_with s.devices s.forwards bytes (asked_before x.client))) s) w)
         → After P w (reads_in phase asker bytes x.client s)
-    reads_in_kept Asking bytes x asked =
+    reads_in_kept Asking bytes x may asked =
         let q : Asked = asks_with s.devices s.forwards bytes (asked_before x.client) in
-        asks_kept s w q x (asks_ready s.devices s.forwards bytes (asked_before x.client) tt) (asked x.in_phase)
-    reads_in_kept (Opening l) bytes x asked =
+        asks_kept s w q x (asks_ready s.devices s.forwards bytes (asked_before x.client) tt, may) (asked x.in_phase)
+    reads_in_kept (Opening l) bytes x may asked =
         after_quietly P w (to_client asker (with_held (x.client.held ++ bytes)) s)
         (k.holds asker x.client (x.client.held ++ bytes) s w x.here (subst HasOne (sym x.in_phase) tt) h)
-    reads_in_kept (Streaming l) bytes x asked =
+    reads_in_kept (Streaming l) bytes x may asked =
         after_quietly P w (to_client asker (with_held (x.client.held ++ bytes)) s)
         (k.holds asker x.client (x.client.held ++ bytes) s w x.here (subst HasOne (sym x.in_phase) tt) h)
-    reads_in_kept Binding bytes x asked = after_quietly P w s h
-    reads_in_kept Tracking bytes x asked = after_quietly P w s h
-    reads_in_kept Closing bytes x asked = after_quietly P w s h
-    reads_in_kept Gone bytes x asked = after_quietly P w s h
+    reads_in_kept Binding bytes x may asked = after_quietly P w s h
+    reads_in_kept Tracking bytes x may asked = after_quietly P w s h
+    reads_in_kept Closing bytes x may asked = after_quietly P w s h
+    reads_in_kept Gone bytes x may asked = after_quietly P w s h
 
     -- ---- bound
     bound_for_kept : (want : Option Want) (port : ℕ) → IsClientIn s asker Binding → After P w (bound_for want asker port s)
@@ -186,10 +187,10 @@ module _ {scope : Scope} {asker : ℕ} {P : State → List Event → Type 0} (k 
     input_kept Closing c x = h
     input_kept Gone c x = h
 
-    pub client_ends_kept : (c : ℕ) (cause : Cause) (o : Option Client) → scope.fails c → s.clients c ≡ o → After P w (client_ends c cause o s)
+    pub client_ends_kept : (c : ℕ) (cause : Cause) (o : Option Client) → (is_orderly cause ≡ false → scope.fails c) → s.clients c ≡ o → After P w (client_ends c cause o s)
     client_ends_kept c cause None may is = after_quietly P w s h
     client_ends_kept c Eof (Some client) may is =
         after_quietly P w (input_ends client.about.phase c s) (input_kept client.about.phase c (record { client = client; here = is; in_phase = refl }))
-    client_ends_kept c Fault (Some client) may is = fails_in_kept client.about.phase c Fault may (record { client = client; here = is; in_phase = refl })
-    client_ends_kept c Starved (Some client) may is = fails_in_kept client.about.phase c Starved may (record { client = client; here = is; in_phase = refl })
-    client_ends_kept c NoThread (Some client) may is = fails_in_kept client.about.phase c NoThread may (record { client = client; here = is; in_phase = refl })
+    client_ends_kept c Fault (Some client) may is = fails_in_kept client.about.phase c Fault (may refl) (record { client = client; here = is; in_phase = refl })
+    client_ends_kept c Starved (Some client) may is = fails_in_kept client.about.phase c Starved (may refl) (record { client = client; here = is; in_phase = refl })
+    client_ends_kept c NoThread (Some client) may is = fails_in_kept client.about.phase c NoThread (may refl) (record { client = client; here = is; in_phase = refl })

@@ -27,6 +27,7 @@ use Rattle.adb_history.specs.Handing.{client_left, takes_of, puts_to, sends}
 use Rattle.adb_history.specs.Asking.{asks_with}
 use Rattle.adb_history.specs.Reading.{asked_before, has_asked, reads_from, comes, comes_in_vain, enters_by}
 use Rattle.adb_history.specs.Machine.{unplugs_on, rule, ups, step}
+use Rattle.adb_history.specs.Bytes.{is_orderly}
 use Rattle.adb_history.specs.Moves.{IsClientIn, After, IsLike, plugged_in}
 use Rattle.adb_history.proofs.Following.{after_quietly, after_then, after_if, changed_here}
 use Rattle.adb_answered.specs.Turns.{Scope, Allows, Turns}
@@ -182,17 +183,17 @@ module _ {scope : Scope} {asker : ℕ} {P : State → List Event → Type 0} (k 
         (λ v now. takes_kept listed.state v now asker n (listed.state.clients asker) refl)
 
     -- ---- entries
-    unplugs_kept : (o : Option Link) (t : ℕ) → After P w (unplugs_on o t s)
-    unplugs_kept None t = after_quietly P w s h
-    unplugs_kept (Some link) t = k.link_ends t lost s w refl h
+    unplugs_kept : (o : Option Link) (t : ℕ) → scope.cuts t → After P w (unplugs_on o t s)
+    unplugs_kept None t may = after_quietly P w s h
+    unplugs_kept (Some link) t may = k.link_ends t lost s w (refl, may) h
 
-    reads_kept : (o : Option Client) (bytes : List ℕ) → s.clients asker ≡ o
+    reads_kept : (o : Option Client) (bytes : List ℕ) → scope.stops → s.clients asker ≡ o
         → ((client : Client) → s.clients asker ≡ Some client → client.about.phase ≡ Asking
         → P (to_client asker (has_asked (asks_with s.devices s.forwards bytes (asked_before client))) s) w)
         → After P w (reads_from o asker bytes s)
-    reads_kept None bytes is asked = after_quietly P w s h
-    reads_kept (Some client) bytes is asked =
-        reads_in_kept k s w h client.about.phase bytes (record { client = client; here = is; in_phase = refl }) (asked client is)
+    reads_kept None bytes may is asked = after_quietly P w s h
+    reads_kept (Some client) bytes may is asked =
+        reads_in_kept k s w h client.about.phase bytes (record { client = client; here = is; in_phase = refl }) may (asked client is)
 
   -- ---- who comes
   enters_kept : (o : Option ForwardRow) (s : State) (w : List Event) → P (comes true asker s) w → P (comes_in_vain s) w
@@ -208,11 +209,12 @@ module _ {scope : Scope} {asker : ℕ} {P : State → List Event → Type 0} (k 
   -- the rule of an entry is one of the asker, or of no client that is answered at once
   abbrev pub IsBy : Entry → Type 0
   IsBy (Enter c port) = c ≡ asker
-  IsBy (Read c bytes) = c ≡ asker
+  IsBy (Read c bytes) = (c ≡ asker) × scope.stops
   IsBy (Bound c port) = c ≡ asker
   IsBy (Put c bytes) = c ≡ asker
-  IsBy (End c cause) = scope.fails c
-  IsBy (Recv t bytes) = (p : Packet) → Allows scope t p.command p
+  IsBy (End c cause) = is_orderly cause ≡ false → scope.fails c
+  IsBy (Recv t bytes) = ((p : Packet) → Allows scope t p.command p) × scope.cuts t
+  IsBy (Detach t cause) = scope.cuts t
   IsBy _ = Unit {0}
 
   -- What is to be shown before the rule of an entry: that it holds with who comes; of a client that asks, that it holds with what is read.
@@ -231,13 +233,13 @@ module _ {scope : Scope} {asker : ℕ} {P : State → List Event → Type 0} (k 
       (λ h. enters_kept (at port s.forwards) s w h.0 h.1) h
   rule_kept (Attach t kind serial) s w by h = owes_kept k (plugged_in t kind serial s) w h t server_cnxn (inr (inr refl))
   rule_kept (Read c bytes) s w by h =
-      subst (λ (n : ℕ). Begins (Read n bytes) s w → After P w (rule (Read n bytes) s)) (sym by)
-      (λ h. reads_kept s w h.0 (s.clients asker) bytes refl h.1) h
+      subst (λ (n : ℕ). Begins (Read n bytes) s w → After P w (rule (Read n bytes) s)) (sym by.0)
+      (λ h. reads_kept s w h.0 (s.clients asker) bytes by.1 refl h.1) h
   rule_kept (End c cause) s w by h = client_ends_kept k s w h c cause (s.clients c) by refl
   rule_kept (Bound c port) s w by h =
       subst (λ (n : ℕ). After P w (rule (Bound n port) s)) (sym by) (bound_kept k s w h (s.clients asker) port refl)
   rule_kept (Recv t bytes) s w by h = receives_kept k s w h t bytes by
-  rule_kept (Detach t cause) s w by h = unplugs_kept s w h (s.links t) t
+  rule_kept (Detach t cause) s w by h = unplugs_kept s w h (s.links t) t by
   rule_kept (Put c bytes) s w by h =
       subst (λ (n : ℕ). After P w (rule (Put n bytes) s)) (sym by) (puts_kept s w h (s.clients asker) (length bytes))
   rule_kept (Send t bytes) s w by h =

@@ -97,14 +97,12 @@ pub record IsEntered (c : ℕ) (h : History) : Type 0 where
   pub forwarded : birth.forwarded ≡ true
 
 -- ---- what a client is handed of its stream
--- What became due to the client of a stream is what its device told: behind `OKAY`, where the client heard that it is open; and alone, where the client
--- came through a forward.
+-- What became due to the client of a stream is what its device told: behind the replies and `OKAY`, where the client came by itself; and alone, where it came
+-- through a forward.
 pub record IsHeardAsTold (h : History) (l : ℕ) (b : Birth) : Type 0 where
-  pub opened : b.forwarded ≡ false → is_heard l b h ≡ true → (bytes : List ℕ)
-      × (output_of b.client h ≡ (asked b.client h).replies ++ (okay ++ bytes)) × IsPrefixOf bytes (joined (told_to l b h))
-  pub unopened : b.forwarded ≡ false → is_heard l b h ≡ false → (bytes : List ℕ)
-      → output_of b.client h ≢ (asked b.client h).replies ++ (okay ++ bytes)
-  pub forwarded : b.forwarded ≡ true → IsPrefixOf (output_of b.client h) (joined (told_to l b h))
+  pub behind : b.forwarded ≡ false → (bytes : List ℕ) → output_of b.client h ≡ (asked b.client h).replies ++ (okay ++ bytes)
+      → IsPrefixOf bytes (joined (told_to l b h))
+  pub alone : b.forwarded ≡ true → IsPrefixOf (output_of b.client h) (joined (told_to l b h))
 
 abbrev pub HearsAsTold : History → Type 0
 HearsAsTold h = OfEachStream h (λ l b. IsHeardAsTold h l b)

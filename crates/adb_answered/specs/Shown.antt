@@ -34,7 +34,8 @@ abbrev pub seen : ℕ → List Packet → Seen
 seen l packets = record { remote = remote_in (opening_in l packets); sealed = sealed_in l packets }
 
 -- ---- a stream and its client
--- A stream that a client asked for, its link, the replies before; whether its client may hear that it opens; and whether its client failed.
+-- A stream that a client asked for, its link, the replies before; whether its client may hear that it opens, whether its client failed, and whether its link
+-- may be gone.
 pub record Subject : Type 0 where
   pub stream : ℕ
   pub client : ℕ
@@ -42,6 +43,7 @@ pub record Subject : Type 0 where
   pub replies : List ℕ
   pub may : Bool
   pub failed : Bool
+  pub cut : Bool
 
 -- its row: as far as its device told, it has the device's id, and until then it may still be opened
 pub record IsShownRow (x : Subject) (seen : Seen) (stream : Stream) : Type 0 where
@@ -58,14 +60,15 @@ IsGone streams l = (stream : Stream) → streams l ≡ Some stream → stream.pa
 
 -- why a stream that was not opened will not be: its device will not open it, its link is gone, or its client failed
 abbrev pub WillNotOpen : Subject → Bool → State → Type 0
-WillNotOpen x sealed s = (sealed ≡ true) ⊎ ((s.links x.link ≡ None) ⊎ (x.failed ≡ true))
+WillNotOpen x sealed s = (sealed ≡ true) ⊎ (((x.cut ≡ true) × (s.links x.link ≡ None)) ⊎ (x.failed ≡ true))
 
 -- its client did not hear that it is open
-pub record IsUnopened (x : Subject) (sealed : Bool) (s : State) (out : List ℕ) : Type 0 where
+pub record IsUnopened (x : Subject) (seen : Seen) (s : State) (out : List ℕ) : Type 0 where
   pub closed : Bool
   pub out_is : out ≡ x.replies ++ closed_reply closed
   pub waits : (stream : Stream) → s.streams x.stream ≡ Some stream → stream.part.orphan ≡ false → closed ≡ false
-  pub gone : IsGone s.streams x.stream → WillNotOpen x sealed s
+  pub gone : IsGone s.streams x.stream → WillNotOpen x seen.sealed s
+  pub none : x.cut ≡ false → (seen.remote ≡ 0) ⊎ (x.failed ≡ true)
 
 -- its client heard that it is open
 pub record IsOpened (x : Subject) (remote : ℕ) (out : List ℕ) : Type 0 where
@@ -75,7 +78,7 @@ pub record IsOpened (x : Subject) (remote : ℕ) (out : List ℕ) : Type 0 where
   pub told : remote ≢ 0
 
 abbrev pub ShownOut : Bool → Subject → Seen → State → List ℕ → Type 0
-ShownOut false x seen s out = IsUnopened x seen.sealed s out
+ShownOut false x seen s out = IsUnopened x seen s out
 ShownOut true x seen s out = IsOpened x seen.remote out
 
 -- A stream and its client are as the packets of its link say.
@@ -86,9 +89,15 @@ pub record IsShown (heard : Bool) (x : Subject) (seen : Seen) (s : State) (event
   pub drawn : x.stream ≤ s.drawn
   pub out : ShownOut heard x seen s (owed_to x.client events)
 
--- what does not concern a stream: packets that do not name it, on other links; and clients that fail where its own is said to
+-- what does not concern a stream: packets that do not name it, and other links; and where it is said, that its client fails, or its link is gone
 abbrev pub aside : Subject → Scope
-aside x = record { reaches = λ l. l ≢ x.stream; renews = λ t. t ≢ x.link; fails = λ c. c ≡ x.client → x.failed ≡ true }
+aside x = record {
+  reaches = λ l. l ≢ x.stream;
+  renews = λ t. t ≢ x.link;
+  fails = λ c. c ≡ x.client → x.failed ≡ true;
+  cuts = λ t. t ≡ x.link → x.cut ≡ true;
+  stops = x.cut ≡ true;
+}
 
 -- a packet that says nothing of a stream: neither of its opening nor of its close
 abbrev pub SaysNothing : Command → ℕ → Packet → Type 0

@@ -31,15 +31,18 @@ use Rattle.adb_history.specs.Answered.{tells_closed}
 abbrev pub HasOpen : Rows (Option Client) → (c l : ℕ) → Type 0
 HasOpen clients c l = (client : Client) × (clients c ≡ Some client) × (client.about.phase ≡ Streaming l)
 
--- What a rule may touch: which streams its packets name, which links say anew who they are, and which clients fail.
+-- What a rule may touch: which streams its packets name, which links say anew who they are, which clients fail, which links are gone by it, and whether the
+-- server may stop.
 pub record Scope : Type 1 where
   pub reaches : ℕ → Type 0
   pub renews : ℕ → Type 0
   pub fails : ℕ → Type 0
+  pub cuts : ℕ → Type 0
+  pub stops : Type 0
 
 -- all of them
 abbrev pub everywhere : Scope
-everywhere = record { reaches = λ l. Unit {0}; renews = λ t. Unit {0}; fails = λ c. Unit {0} }
+everywhere = record { reaches = λ l. Unit {0}; renews = λ t. Unit {0}; fails = λ c. Unit {0}; cuts = λ t. Unit {0}; stops = Unit {0} }
 
 -- whether a packet opens or closes a stream that it names
 abbrev pub names_stream : Command → Bool
@@ -51,6 +54,7 @@ names_stream _ = false
 pub record Allows (scope : Scope) (t : ℕ) (command : Command) (p : Packet) : Type 0 where
   pub reaches : names_stream command ≡ true → scope.reaches p.arg1
   pub renews : is_cnxn command ≡ true → scope.renews t
+  pub cuts : is_cnxn command ≡ true → scope.cuts t
 
 -- A stream may end so: its client hears why it was not opened, or it is open.
 abbrev pub EndsSo : (ℕ → Type 0) → Rows (Option Client) → ℕ → Ending → Stream → Type 0
@@ -77,7 +81,7 @@ pub record Turns (scope : Scope) (asker : ℕ) (P : State → List Event → Typ
   pub unmarks : (s : State) (w : List Event) → P s w → P (to_client asker unmarked s) w
   pub draws : (t : ℕ) (client : Client) (s : State) (w : List Event) → s.clients asker ≡ Some client → client.about.phase ≡ Asking → IsReady t s.devices
       → P s w → P (draws_now asker t s) w
-  pub stops : (client : Client) (s : State) (w : List Event) → s.clients asker ≡ Some client → client.about.phase ≡ Asking
+  pub stops : (client : Client) (s : State) (w : List Event) → scope.stops → s.clients asker ≡ Some client → client.about.phase ≡ Asking
       → P s w → After P w (stops asker s)
   -- clients
   pub closes : (c : ℕ) (client : Client) (s : State) (w : List Event) → s.clients c ≡ Some client → IsFree client.about.phase → P s w → P (closes c s) w
@@ -109,7 +113,8 @@ pub record Turns (scope : Scope) (asker : ℕ) (P : State → List Event → Typ
       → P s w → P (to_stream l (with_stream_part (orphaned stream.part)) (to_client c none_kept s)) (w ++ ended l (client_failed cause) ∷ [])
   -- links, devices and forwards
   pub links : (t : ℕ) (f : Link → Link) (s : State) (w : List Event) → P s w → P (to_link t (λ link. Some (f link)) s) w
-  pub link_ends : (t : ℕ) (ending : Ending) (s : State) (w : List Event) → tells_closed (Some ending) ≡ true → P s w → After P w (link_ends t ending s)
+  pub link_ends : (t : ℕ) (ending : Ending) (s : State) (w : List Event) → (tells_closed (Some ending) ≡ true) × scope.cuts t → P s w
+      → After P w (link_ends t ending s)
   pub online : (t version maxdata : ℕ) (identity : Identity) (s : State) (w : List Event) → scope.renews t → P s w → After P w (connects_now t version maxdata identity s)
   pub unauthorized : (t : ℕ) (row : Row) (s : State) (w : List Event) → at t s.devices.rows ≡ Some row → row.state ≡ Offline
       → P s w → P (unauthorized_from t Offline s) w

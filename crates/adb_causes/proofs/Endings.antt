@@ -40,8 +40,8 @@ pub record EndsAt (l : ℕ) (e : Entry) (older : History) (ending : Ending) : Ty
   pub lived : ending_of l older ≡ None
   pub why : WhyStep e ((rule e (state older)).state.stopped ≡ true) row.client row.link ending
 
-pub ends_at : (l : ℕ) (e : Entry) (older : History) (ending : Ending) → IsLegal (e ∷ older)
-    → ending_in l (told_at e older) ≡ Some ending → EndsAt l e older ending
+pub ends_at : (l : ℕ) (e : Entry) (older : History) (ending : Ending) → IsLegal (e ∷ older) → ending_in l (told_at e older) ≡ Some ending
+    → EndsAt l e older ending
 ends_at l e older ending time told = go (kinds e l (state older).drawn)
   where
     births : HasBirths older

@@ -211,9 +211,6 @@ asking_parts true true asks e = absurd (cc)
 asking_parts false ended asks e = absurd (cc)
 
 module _ (c : ℕ) (older : History) (legal : IsLegal older) where
-  abbrev Asks : List ℕ → State → List Event → Type 0
-  Asks replies s w = AsksAs c replies s w
-
   linked : IsLinked (state older)
   linked = all_linked older legal
 
@@ -317,9 +314,6 @@ module _ (c : ℕ) (older : History) (legal : IsLegal older) where
 
         phase : a.about.phase ≡ Asking
         phase = ap (λ (x : SeenClient). x.phase) row
-
-        asked_now : State
-        asked_now = to_client c (has_asked (machine_asks a bytes)) (state older)
 
         owed : Made
         owed = owe_client c (machine_asks a bytes).replies (to_client c (has_asked (machine_asks a bytes)) (state older))

@@ -18,9 +18,6 @@ use Rattle.adb_history.specs.Births.{Birth, birth_by, birth_through, births_at, 
 use Rattle.adb_fifo_down.specs.Begins.{IsBornNow}
 
 -- ---- one place of a list that grows
-pub record IsIn {A : Type 0} (x : A) (ys : List A) (i : ℕ) : Type 0 where
-  pub is : slice_get ys i ≡ Some x
-
 slice_append : {A : Type 0} (xs ys : List A) (j : ℕ) (x : A) → slice_get (xs ++ ys) j ≡ Some x
     → (slice_get xs j ≡ Some x) ⊎ ((i : ℕ) × (j ≡ length xs + i) × (slice_get ys i ≡ Some x))
 slice_append [] ys j x e = inr (j, omega arith, e)

@@ -143,7 +143,7 @@ module _ (l : ℕ) (b : Birth) (h : History) (f : Follows LifeOf h l b) where
           ([], append-nil (joined (told_in i.opening.remote l i.opening.later))))
 
       over : Story l f.cradle (since b h) (is_shut b.link h) (heard f.holds.seen) → IsTold o
-      over (inl never) = absurd (let clash : None ≡ Some o = sym never.unopened ∙ is in cc)
+      over (inl never) = absurd (let clash : None ≡ Some o = sym never.0.unopened ∙ is in cc)
       over (inr (inl unheard)) = unheard_told o unheard
       over (inr (inr i)) = subst IsTold (same i.opening i.opened) (told_part i.opening i.bytes i.output_is i.front)
 
@@ -191,7 +191,7 @@ module _ (l : ℕ) (b : Birth) (h : History) (f : Follows LifeOf h l b) where
 
         over : Story l f.cradle (since b h) (is_shut b.link h) (heard f.holds.seen)
             → drop (lead_of b h) (bytes_put b.client h) ≡ joined (told_in o.remote l (before_close o.remote l o.later))
-        over (inl never) = absurd (let clash : None ≡ Some o = sym never.unopened ∙ is in cc)
+        over (inl never) = absurd (let clash : None ≡ Some o = sym never.0.unopened ∙ is in cc)
         over (inr (inl unheard)) = absurd (unheard.not_by_peer by_peer)
         over (inr (inr i)) =
             subst (λ (p : Opening). drop (lead_of b h) (bytes_put b.client h) ≡ joined (told_in p.remote l (before_close p.remote l p.later)))

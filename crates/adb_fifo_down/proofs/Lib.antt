@@ -23,10 +23,10 @@ mod Asking
 mod BirthEntries
 mod Unborn
 mod Followed
-mod Handed
+pub mod Handed
 mod Backed
 mod OpenTurns
 mod Windows
 mod WindowTurns
 mod WindowPackets
-mod Acknowledged
+pub mod Acknowledged

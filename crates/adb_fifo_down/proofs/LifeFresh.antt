@@ -12,8 +12,7 @@ use Rattle.adb_wire.specs.declared.packets.Packet.{Packet}
 use Rattle.adb_client.specs.declared.phase.Phase.TheVariants.{Streaming}
 use Rattle.adb_history.specs.Events.{Ending, peer_closed, out_of_turn}
 use Rattle.adb_history.specs.Links.{credit_word}
-use Rattle.adb_history.specs.Births as birth
-use Rattle.adb_history.specs.Births.{opening_by, opening_in, told_in, before_close, is_close_of, is_between, is_wrte, is_clse, joined}
+use Rattle.adb_history.specs.Births.{opening_by, opening_in}
 use Rattle.adb_fifo_down.specs.Line.{SeenStream, SeenClient, View, over}
 use Rattle.adb_fifo_down.specs.Treated.{hears_as, hears_open, opened_as, is_late, accepts_as, after_write, after_close, ending_by}
 use Rattle.adb_fifo_down.specs.Treated.{cnxn_ending, treated_as}
@@ -131,7 +130,7 @@ module _ (l : ℕ) (k : Cradle) (packets : List Packet) (out : List ℕ) (v : Vi
       waits_over ending seals =
           let sealed : IsSealed l more = sealed_by l packets p o.pending seals in
           subst (λ (c : Bool). Life l k more false out (over c ending v)) (sym is_owned)
-          (over_waiting l k more false out v o.client l ending o.here o.phase due_now (record { unopened = sealed_now l more sealed; for_good = inr sealed }))
+          (over_waiting l k more false out v packets o ending due_now (record { unopened = sealed_now l more sealed; for_good = inr sealed }))
 
       -- what the opening is by a packet
       as_command : (c : Command) → p.command ≡ c → (others : List Packet) → opening_in l (p ∷ others) ≡ opening_by c l p others (opening_in l others)
@@ -144,12 +143,6 @@ module _ (l : ℕ) (k : Cradle) (packets : List Packet) (out : List ℕ) (v : Vi
           subst (λ (c : Option SeenClient). Life l k more false out (hears_open l c (record v { stream = Some (record x { remote = p.arg0 }) }))) (sym o.here)
           (by o.client.forwarded o.forwarded)
         where
-          opening : birth.Opening
-          opening = record { remote = p.arg0; word = credit_word p.payload; later = [] }
-
-          put : View
-          put = record v { stream = Some (record x { remote = p.arg0 }) }
-
           live : (y : Heard) → IsOpened (suc r) l k more y → LivesAs x.orphan p.arg0 l k more y
           live y i = subst (λ (c : Bool). LivesAs c p.arg0 l k more y) (sym is_owned) (subst (λ (n : ℕ). LivesAs false n l k more y) (sym is) i)
 

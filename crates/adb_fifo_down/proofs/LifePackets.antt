@@ -49,13 +49,13 @@ module _ (l : ℕ) (k : Cradle) (packets : List Packet) (out : List ℕ) (v : Vi
 
   -- ---- when it is over
   story_goes : Story l k packets false (heard v) → Story l k more false (heard v)
-  story_goes (inl never) = by never.for_good
+  story_goes (inl (never, output)) = by never.for_good
     where
       by : (false ≡ true) ⊎ IsSealed l packets → Story l k more false (heard v)
       by (inl clash) = absurd (cc)
       by (inr sealed) =
           let seals : IsSealed l more = sealed_on l packets (p ∷ []) sealed in
-          inl (record { unopened = sealed_now l more seals; for_good = inr seals })
+          inl (record { unopened = sealed_now l more seals; for_good = inr seals }, output)
   story_goes (inr (inl unheard)) = inr (inl unheard)
   story_goes (inr (inr h)) = inr (inr (was_open_goes l k packets p v.output v.ending h))
 

@@ -15,7 +15,7 @@ use Rattle.adb_history.proofs.Outputs.{handed_off}
 use Rattle.adb_fifo_down.specs.Line.{Line, SeenStream, SeenClient, View, IsOpenIn, first_of, closing_seen, fail_bytes, loss, lost_by, over}
 use Rattle.adb_fifo_down.specs.Turned.{IsInLine, IsStop, IsServed, row_fails, failed_by, killed, row_left, more_okays, credit_told, whole_told, left_told}
 use Rattle.adb_fifo_down.specs.Turned.{stream_left_as, row_handed, handed_in, handed_out}
-use Rattle.adb_fifo_down.specs.Life.{Cradle, lead, NeverOpens, IsNotByPeer, heard, IsUnheard, IsOpened, IsClosedAt}
+use Rattle.adb_fifo_down.specs.Life.{Cradle, lead, NeverOpens, unopened_output, IsNotByPeer, heard, IsWaiting, IsUnheard, IsOpened, IsClosedAt}
 use Rattle.adb_fifo_down.specs.Life.{WasOpen, IsDone, Story, LivesAs, LivesIn, TiedTo, Life}
 use Rattle.adb_fifo_down.proofs.Openings.{pending_now}
 
@@ -81,19 +81,29 @@ module _ (l : ℕ) (k : Cradle) (packets : List Packet) (shut : Bool) (out : Lis
       (record { tied = closing_tied a.due a v.output out due; lives = (closing_done a.due a, inr (inr story)) })
 
   -- it was waiting, and never opens
-  pub over_waiting : (a : SeenClient) (m : ℕ) (ending : Ending) → v.client ≡ Some a → a.phase ≡ Opening m → v.output ≡ out ++ a.due
+  pub over_waiting : (before : List Packet) (w : IsWaiting l k before (heard v)) (ending : Ending) → v.output ≡ out ++ w.client.due
       → NeverOpens l packets shut → Life l k packets shut out (over false ending v)
-  over_waiting a m ending here phase due never =
-      subst (λ (u : View). Life l k packets shut out u) (sym (over_as a (Opening m) ending here phase)) (by a.forwarded)
+  over_waiting before w ending due never =
+      subst (λ (u : View). Life l k packets shut out u) (sym (over_as w.client (Opening l) ending w.here w.phase)) (by w.client.forwarded refl)
     where
-      more : v.output ++ fail_bytes ≡ out ++ (a.due ++ fail_bytes)
-      more = ap (λ (x : List ℕ). x ++ fail_bytes) due ∙ append_assoc out a.due fail_bytes
+      known : (forwarded : Bool) → w.client.forwarded ≡ forwarded → unopened_output forwarded k.replies ≡ unopened_output k.forwarded k.replies
+      known forwarded is = ap (λ (f : Bool). unopened_output f k.replies) (sym is ∙ w.forwarded)
 
-      by : (forwarded : Bool) → Life l k packets shut out (loss forwarded (Opening m) a (record v { stream = None; ending = first_of v.ending (Some ending) }))
-      by true = record { tied = closing_tied a.due a v.output out due; lives = (closing_done a.due a, inl never) }
-      by false = record {
-        tied = closing_tied (a.due ++ fail_bytes) (record a { due = a.due ++ fail_bytes }) (v.output ++ fail_bytes) out more;
-        lives = (closing_done (a.due ++ fail_bytes) (record a { due = a.due ++ fail_bytes }), inl never);
+      more : v.output ++ fail_bytes ≡ out ++ (w.client.due ++ fail_bytes)
+      more = ap (λ (x : List ℕ). x ++ fail_bytes) due ∙ append_assoc out w.client.due fail_bytes
+
+      by : (forwarded : Bool) → w.client.forwarded ≡ forwarded
+          → Life l k packets shut out (loss forwarded (Opening l) w.client (record v { stream = None; ending = first_of v.ending (Some ending) }))
+      by true is = record {
+        tied = closing_tied w.client.due w.client v.output out due;
+        lives = (closing_done w.client.due w.client, inl (never, w.output ∙ known true is));
+      }
+      by false is = record {
+        tied = closing_tied (w.client.due ++ fail_bytes) (record w.client { due = w.client.due ++ fail_bytes }) (v.output ++ fail_bytes) out more;
+        lives = (
+          closing_done (w.client.due ++ fail_bytes) (record w.client { due = w.client.due ++ fail_bytes }),
+          inl (never, ap (λ (x : List ℕ). x ++ fail_bytes) w.output ∙ known false is),
+        );
       }
 
   -- it was an orphan
@@ -162,7 +172,7 @@ module _ (l : ℕ) (k : Cradle) (packets : List Packet) (shut : Bool) (out : Lis
 
       by : (orphan : Bool) (remote : ℕ) → LivesAs orphan remote l k packets (heard v) → Life l k packets shut out (over orphan ending v)
       by true remote i = over_orphan ending i.gone h.tied i.unheard
-      by false zero i = over_waiting i.client l ending i.here i.phase (tied_at v.client i.client v.output out i.here h.tied)
+      by false zero i = over_waiting packets i ending (tied_at v.client i.client v.output out i.here h.tied)
           (record { unopened = pending_now l packets i.pending; for_good = inl over_now })
       by false (suc r) i =
           over_open i.client l ending i.here i.phase (tied_at v.client i.client v.output out i.here h.tied) (open_story (suc r) ending other i)
@@ -376,5 +386,5 @@ life_shuts l k packets shut out v h = record { tied = h.tied; lives = by v.strea
   where
     by : (o : Option SeenStream) → LivesIn o l k packets shut (heard v) → LivesIn o l k packets true (heard v)
     by (Some x) i = i
-    by None (done, inl never) = (done, inl (record { unopened = never.unopened; for_good = inl refl }))
+    by None (done, inl (never, output)) = (done, inl (record { unopened = never.unopened; for_good = inl refl }, output))
     by None (done, inr story) = (done, inr story)

@@ -138,9 +138,6 @@ module _ (l : ℕ) (p : Packet) (x : SeenStream) (v : View) where
     opened_turn true = record { okays = refl; row = inl refl }
     opened_turn false = by v.client
       where
-        put : View
-        put = record v { stream = Some (record x { remote = p.arg0 }) }
-
         hears : (forwarded : Bool) (a : SeenClient) → FreshTurn (hears_as forwarded l a (record v { stream = Some (record x { remote = p.arg0 }) }))
         hears true a = record {
           okays = refl;

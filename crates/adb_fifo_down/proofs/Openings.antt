@@ -98,10 +98,6 @@ front_later remote l packets more bytes h =
     (front_more bytes (joined (told_in remote l packets)) (joined (told_in remote l more)) h)
 
 -- ---- what comes before a close
-before_one : (here : Bool) (p : Packet) (xs ys zs : List Packet) → cond here [] (p ∷ xs) ≡ p ∷ ys → xs ≡ ys
-before_one true p xs ys zs e = absurd (let clash : [] ≡ p ∷ ys = e in cc)
-before_one false p xs ys zs e = cc
-
 pub unclosed_on : (remote l : ℕ) (packets more : List Packet) → before_close remote l packets ≡ packets
     → before_close remote l (packets ++ more) ≡ packets ++ before_close remote l more
 unclosed_on remote l [] more e = refl

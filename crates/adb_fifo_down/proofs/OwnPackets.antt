@@ -65,9 +65,6 @@ module _ (b : Line) where
 
   -- ---- what is owed for the stream
   -- an OKAY becomes due to its link
-  pub with_okay : Packet → View → View
-  with_okay p v = record v { okays = v.okays ++ p ∷ [] }
-
   pub own_okay : (v : View) (x : Stream) (p : Packet) (s : State) (w : List Event) → x.link ≡ b.link → okays_of b.id (p ∷ []) ≡ p ∷ [] → Shows b v s w
       → After (Shows b (record v { okays = v.okays ++ p ∷ [] })) w (owe_link x.link p s)
   own_okay v x p s w on is h = (h.0, view_told b s w said ∙ (ap (tells b said) h.1 ∙ told))

@@ -150,9 +150,6 @@ module _ (b : Line) where
         subst (λ (n : ℕ). After Upped w (up_client b.id x (s.clients n) s)) (sym (h.0.client x is)) (own_up_client x (s.clients b.client) s w is refl h)
 
     -- ---- one stream after another
-    after_left : (w : List Event) (m : Made) → After (Shows b v) w m → After Upped w m
-    after_left w m h = inl h
-
     gone_up : (u : View) (o : Option Stream) (s : State) (w : List Event) → u.stream ≡ None → s.streams b.id ≡ o → Shows b u s w
         → After (Shows b u) w (up_stream b.id o s)
     gone_up u None s w none is h = after_quietly (Shows b u) w s h

@@ -6,7 +6,7 @@ use Rattle.adb_client.specs.declared.phase.Phase.TheVariants.{Opening, Streaming
 use Rattle.adb_history.specs.Events.{Ending, peer_closed}
 use Rattle.adb_history.specs.Births as birth
 use Rattle.adb_history.specs.Births.{opening_in, told_in, before_close, joined}
-use Rattle.adb_fifo_down.specs.Line.{SeenStream, SeenClient, View}
+use Rattle.adb_fifo_down.specs.Line.{SeenStream, SeenClient, View, fail_bytes}
 
 -- What was so when the stream was born: whether it has credit; whether its client came through a forward; and what had become due to its client.
 pub record Cradle : Type 0 where
@@ -34,6 +34,11 @@ IsSealed l packets = (more : List Packet) → opening_in l (packets ++ more) ≡
 pub record NeverOpens (l : ℕ) (packets : List Packet) (shut : Bool) : Type 0 where
   pub unopened : opening_in l packets ≡ None
   pub for_good : (shut ≡ true) ⊎ IsSealed l packets
+
+-- what became due to the client of a stream that never opens, while it waited: its replies, and where it came by itself, that the stream is closed
+abbrev pub unopened_output : Bool → List ℕ → List ℕ
+unopened_output true replies = replies
+unopened_output false replies = replies ++ fail_bytes
 
 -- its device did not close it
 abbrev pub IsNotByPeer : Option Ending → Type 0
@@ -98,7 +103,8 @@ abbrev pub IsDone : Option SeenClient → Type 0
 IsDone client = (a : SeenClient) → client ≡ Some a → a.phase ≡ Closing
 
 abbrev pub Story : ℕ → Cradle → List Packet → Bool → Heard → Type 0
-Story l k packets shut y = NeverOpens l packets shut ⊎ (IsUnheard k y.output y.ending ⊎ WasOpen l k packets y.output y.ending)
+Story l k packets shut y =
+    (NeverOpens l packets shut × (y.output ≡ unopened_output k.forwarded k.replies)) ⊎ (IsUnheard k y.output y.ending ⊎ WasOpen l k packets y.output y.ending)
 
 -- ---- all
 abbrev pub LivesAs : Bool → (remote l : ℕ) → Cradle → List Packet → Heard → Type 0

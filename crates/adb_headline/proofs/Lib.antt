@@ -1,2 +1,3 @@
+pub mod Fifo
 pub mod Written
 pub mod Handed

@@ -5,11 +5,15 @@ ghost use Rattle.std.specs.Prelude.{List, ◌++◌};
 ghost use Rattle.adb_capture.specs.declared.entry.Entry.{Entry};
 ghost use Rattle.adb_history.specs.Machine.{IsLegal};
 ghost use Rattle.adb_headline.specs.Handed.{PutsOnce, StaysDue, StaysHanded, StaysPut};
-ghost use Rattle.adb_headline.specs.Written.{WritesToOne};
+ghost use Rattle.adb_headline.specs.Written.{HandsWritten, WritesToOne};
 
-/// No write that a link brought is to two streams.
-pub fn streams_share_no_write()
-    ensures { (history : List Entry) → WritesToOne history }
+/// Two streams never see each other's bytes: in every legal history each byte that a client was
+/// handed for its stream stands in a write that the stream's own link brought, from its own device
+/// and to it, and the bytes come in the order in which they were written; and no write is to two
+/// streams.
+pub fn streams_see_their_own_bytes()
+    ensures written { (history : List Entry) → IsLegal history → HandsWritten history }
+    ensures apart { (history : List Entry) → WritesToOne history }
 {}
 
 /// What was put to a client until any time is a front of what is put to it in the whole history. In

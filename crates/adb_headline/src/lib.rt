@@ -3,5 +3,7 @@
 #![tactic(auto)]
 
 mod bytes;
+mod promises;
 
-pub use bytes::{puts_once, streams_share_no_write, what_was_handed_stays};
+pub use bytes::{puts_once, streams_see_their_own_bytes, what_was_handed_stays};
+pub use promises::{every_legal_history_has_causes, every_legal_history_is_fifo};
