@@ -246,7 +246,7 @@ module _ (e : Entry) (older : History) (l : ℕ) (x : Stream) (flow : Flow) (byt
             (record x { part = with_flow flow x.part }) is.row p.alive,
       ) far
 
-      over_is : SendsNothing (state older).devices p.client x → (bytes ≡ []) ⊎ (flow ≡ x.part.flow)
+      over_is : IsCalm (state older).devices p.client x → (bytes ≡ []) ⊎ (flow ≡ x.part.flow)
           → is_over k.about.ended (drop (total (payloads flow (maxdata_of x.link (rule e (state older)).state.devices) k.held)) k.held)
           (flow_after (payloads flow (maxdata_of x.link (rule e (state older)).state.devices) k.held) flow) ≡ false
       over_is calm (inr own) =
