@@ -132,13 +132,6 @@ fn credit_is_given_and_given_back(rt: HostRuntime) -> Result<(), Fail> {
     Ok(())
 }
 
-/// How the device's packets reach the host, and what its streams wrote.
-#[derive(Drop)]
-struct Host {
-    deframer: Deframer,
-    wrote: Text,
-}
-
 /// A packet's bytes.
 fn spelled(rt: &impl Abort, alloc: Global, command: Command, arg1: u32, payload: &[u8]) -> Text {
     assert!(rt; payload.len() <= 4096);
@@ -160,32 +153,35 @@ fn feed_pieces(rt: &impl Abort, daemon: &mut Daemon, bytes: &[u8], most: usize) 
     }
 }
 
-/// The host hears what is due, and acknowledges each write; says whether there was one.
+/// The host hears what is due, notes what streams wrote, and acknowledges each write.
 fn hear(
     rt: &impl Abort,
     alloc: Global,
     daemon: &mut Daemon,
-    host: &mut Host,
+    deframer: &mut Deframer,
+    wrote: &mut Text,
     credit: bool,
-) -> bool {
-    let heard = host.deframer.feed(daemon.out());
-    assert!(rt; heard.is_ok());
+) {
+    assert!(rt; deframer.feed(daemon.out()).is_ok());
     let n = daemon.out().len();
     daemon.taken(n);
-    let mut wrote = false;
-    while let Some(packet) = host.deframer.next() {
+    while let Some(packet) = deframer.next() {
         if packet.command == Command::Wrte {
-            wrote = true;
-            host.wrote
+            acknowledge(rt, alloc, daemon, &packet, credit);
+            wrote
                 .push_slice(packet.payload.as_slice())
                 .expect(rt, "memory");
-            let n = (packet.payload.len() as u32).to_le_bytes();
-            let word: &[u8] = if credit { &n } else { b"" };
-            let okay = spelled(rt, alloc, Command::Okay, packet.arg0, word);
-            assert!(rt; daemon.feed(okay.as_slice()).is_ok());
         }
     }
-    wrote
+}
+
+/// The host acknowledges a write.
+fn acknowledge(rt: &impl Abort, alloc: Global, daemon: &mut Daemon, write: &Packet, credit: bool) {
+    assert!(rt; write.payload.len() <= 4096);
+    let n = (write.payload.len() as u32).to_le_bytes();
+    let word: &[u8] = if credit { &n } else { b"" };
+    let okay = spelled(rt, alloc, Command::Okay, write.arg0, word);
+    assert!(rt; daemon.feed(okay.as_slice()).is_ok());
 }
 
 /// Adds 65,536 bytes.
@@ -211,22 +207,20 @@ fn push_and_pull(rt: &impl Abort, alloc: Global, daemon: &mut Daemon, credit: bo
     answers
         .push_slice(b"DATA\x01\0\0\0yDONE\0\0\0\0")
         .expect(rt, "memory");
-    let mut host = Host {
-        deframer: Deframer::new(alloc),
-        wrote: Text::new(alloc),
-    };
+    let mut deframer = Deframer::new(alloc);
+    let mut wrote = Text::new(alloc);
     let given = if credit { 5000 } else { 0 };
     let open = spelled(rt, alloc, Command::Open, given, b"sync:\0");
     feed_pieces(rt, daemon, open.as_slice(), most);
     for payload in asks.as_slice().chunks(4096) {
         let write = spelled(rt, alloc, Command::Wrte, 1, payload);
         feed_pieces(rt, daemon, write.as_slice(), most);
-        hear(rt, alloc, daemon, &mut host, credit);
+        hear(rt, alloc, daemon, &mut deframer, &mut wrote, credit);
     }
     for _ in 0..100 {
-        hear(rt, alloc, daemon, &mut host, credit);
+        hear(rt, alloc, daemon, &mut deframer, &mut wrote, credit);
     }
-    assert!(rt; host.wrote.as_slice() == answers.as_slice());
+    assert!(rt; wrote.as_slice() == answers.as_slice());
     assert!(rt; daemon.files().get(b"/n").is_some());
 }
 
