@@ -157,7 +157,8 @@ module _ (flow : Flow) (m n : ℕ) where
 
   pub some_unsent : (held : List ℕ) → n ≡ write_len m (may_send flow m) held → 0 < n → 1 ≤ length (payloads flow m held)
   some_unsent held is some =
-      let all : length (payloads flow m held) ≡ 1 + length (payloads (wrote n flow) m (drop n held)) = ap length (one_let flow m held n is some) ∙ omega arith in
+      let all : length (payloads flow m held) ≡ 1 + length (payloads (wrote n flow) m (drop n held)) =
+      ap length (one_let flow m held n is some) ∙ omega arith in
       omega (arith, all)
 
 -- the bytes that were cut off are the first that were held
