@@ -27,7 +27,7 @@ use Rattle.adb_history.specs.Flow.{write_len, write_before, writes, payloads, to
 use Rattle.adb_history.specs.Book.{plugged, device_of, is_refused, last_cnxn, row_by, is_killed}
 use Rattle.adb_history.proofs.LinkMoves.{all_linked}
 use Rattle.adb_history.proofs.OrderlyStates.{rests_calm}
-use Rattle.adb_history.proofs.Quiet.{SendsNothing}
+use Rattle.adb_history.proofs.Quiet.{IsCalm}
 use Rattle.adb_history.proofs.Sweep.{Sending, over}
 use Rattle.adb_history.proofs.Devices.{shows_devices}
 use Rattle.adb_history.proofs.Books.{all_books}
@@ -219,7 +219,7 @@ goes_as l x k s is on = record { goes = λ y. go y }
 
 -- at rest
 calm_pair : (older : History) (l : ℕ) (x : Stream) (p : Pair l x (state older)) → IsLegal older → is_streaming l p.client.about.phase ≡ true
-    → SendsNothing (state older).devices p.client x
+    → IsCalm (state older).devices p.client x
 calm_pair older l x p legal streaming =
     (rests_calm older legal l (drawn_row (state older).drawn l (state older).streams (all_linked older legal).owned.rows.streams x p.is).0).calm
     (record { stream = x; client = p.client; there = p.is; here = p.here; streaming = streaming })
@@ -246,7 +246,7 @@ module _ (e : Entry) (older : History) (l : ℕ) (x : Stream) (flow : Flow) (byt
             (record x { part = with_flow flow x.part }) is.row p.alive,
       ) far
 
-      over_is : SendsNothing (state older).devices p.client x → (bytes ≡ []) ⊎ (flow ≡ x.part.flow)
+      over_is : IsCalm (state older).devices p.client x → (bytes ≡ []) ⊎ (flow ≡ x.part.flow)
           → is_over k.about.ended (drop (total (payloads flow (maxdata_of x.link (rule e (state older)).state.devices) k.held)) k.held)
           (flow_after (payloads flow (maxdata_of x.link (rule e (state older)).state.devices) k.held) flow) ≡ false
       over_is calm (inr own) =

@@ -1,10 +1,10 @@
 -- What a sync service answers to payloads, over the files that stand when each of them comes.
-use Rattle.std.specs.Prelude.{ℕ, ◌≡◌, cond, Bool, true, false, List, [], ◌∷◌, ◌++◌, length, take, drop, refl}
-use Rattle.std.proofs.Common.{◌∙◌, ap, sym}
+use Rattle.std.specs.Prelude.{ℕ, ◌≡◌, cond, Bool, true, false, List, [], ◌∷◌, ◌++◌, length, take, drop, refl, Result, Ok, Err, OnErr}
+use Rattle.std.proofs.Common.{◌∙◌, ap, sym, arith}
 use Rattle.std.specs.Io.{StartsWith}
 use Rattle.std.proofs.Transfers.{starts_with_of_append}
 use Rattle.std.proofs.lemmas.Bool.{true≢false}
-use Rattle.std.proofs.lemmas.List.{append-nil, append_assoc}
+use Rattle.std.proofs.lemmas.List.{append-nil, append_assoc, take_all}
 use Rattle.std.proofs.Math.Seq.{drop-append_seam, take-append_seam}
 use Rattle.adb_files.specs.Entries.{Entry}
 use Rattle.adb_files.specs.Requests.{Request, requests_in}
@@ -12,7 +12,7 @@ use Rattle.adb_files.specs.Served.{Served, serve_all}
 use Rattle.adb_files.specs.Service.{Service, Feeds, FeedsFront}
 use Rattle.adb_files.proofs.Serving.{serve_all-ended, serve_all-more}
 use Rattle.adb_shell_service.specs.Service.{Answer}
-use Rattle.adb_daemon.specs.Asked.{Syncs}
+use Rattle.adb_daemon.specs.Asked.{Kind, Echoes, Syncs, Shells}
 use Rattle.adb_daemon.specs.Service.{Came, bytes_in, completed_by, served_by, sync_more, sync_answer, sync_files, files_fed, HasAnswered, HasFrontOfFiles}
 use Rattle.adb_daemon.specs.declared.service.Service.TheVariants as services
 
@@ -139,3 +139,23 @@ module _ (first : List Entry) (past : List Came) (taken : List ℕ) (came : Came
             (ap (λ (a : Answer). a.bytes) answer ∙ (sym has.given_out ∙ sym (append-nil (taken ++ old.out)))),
         (0, refl),
       )
+
+-- The files that a payload leaves are those behind all the sync requests that it makes whole.
+pub whole_front : (kind : Kind) (past : List Came) (came : Came) (files : List Entry) → files ≡ files_fed kind past came → HasFrontOfFiles kind past came files
+whole_front Echoes past came files is = is
+whole_front (Shells packets command) past came files is = is
+whole_front Syncs past came files is = go (sync_answer past).ended is
+  where
+    requests : List Request
+    requests = completed_by (bytes_in past) came.bytes
+
+    go : (ended : Bool) → files ≡ sync_files ended came.files (served_by past came) → HasFrontOfFiles Syncs past came files
+    go true same = (0, same)
+    go false same =
+        let all = take_all (length requests) requests (omega arith) in
+        (length requests, same ∙ ap (λ (rs : List Request). (serve_all came.files rs).files) (sym all))
+
+-- what holds at an error, where it holds at all
+pub at_err : {T E : Type 0} (P : Type 0) (result : Result T E) → P → OnErr result P
+at_err P (Ok x) p = tt
+at_err P (Err e) p = p

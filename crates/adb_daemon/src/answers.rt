@@ -3,7 +3,8 @@
 ghost use Rattle.std.specs.Prelude.{◌≡◌, ◌≤◌, ◌⊎◌, ◌++◌, [], List, ℕ, length, IfOk, OnOk, OnErr};
 ghost use Rattle.byteorder.specs.Endian.{little_bytes};
 ghost use Rattle.adb_daemon.specs.Asked.{kind_of};
-ghost use Rattle.adb_daemon.specs.Service.{came_over, files_opened, files_fed};
+ghost use Rattle.adb_daemon.specs.Service.{came_over, files_opened, files_fed, HasFrontOfFiles};
+ghost use Rattle.adb_daemon.specs.Due.{Grows};
 ghost use Rattle.adb_daemon.specs.Stream.{Row, StandsFor, Settles, opened, row_took, row_acked, ack_bytes, okay, clse, opening_word, packet_bytes};
 
 use crate::asked::Asked;
@@ -37,6 +38,7 @@ pub fn answer_open(
     ensures files { OnOk result (files.new ≡ files_opened (kind_of asked.entry) files.old) }
     ensures err { OnErr result ((files.new ≡ files.old)
         ⊎ (files.new ≡ files_opened (kind_of asked.entry) files.old)) }
+    ensures grows { Grows due.old.bytes due.new.bytes }
 {
     let mut stream = Stream::open(alloc, files, host, asked, credit)?;
     push_opening(alloc, outgoing, host, credit, due)?;
@@ -63,6 +65,9 @@ pub fn answer_write(
         (length payload.now)) due.new.bytes done) }
     ensures files { OnOk result ((row : Row) → StandsFor row stream.old
         → files.new ≡ files_fed row.kind row.past (came_over payload.now files.old)) }
+    ensures front { OnErr result ((row : Row) → StandsFor row stream.old
+        → HasFrontOfFiles row.kind row.past (came_over payload.now files.old) files.new) }
+    ensures grows { Grows due.old.bytes due.new.bytes }
 {
     push_ack(alloc, outgoing, stream, payload.len() as u32, due)?;
     stream.take_write(files, payload)?;
@@ -80,9 +85,10 @@ pub fn answer_okay(
     due: &mut ByteQueue,
 ) -> Result<bool, AllocError>
     requires { outgoing.most ≤ MAX_PAYLOAD }
-    ensures { IfOk result (λ done. (row : Row) → StandsFor row stream.old
+    ensures settles { IfOk result (λ done. (row : Row) → StandsFor row stream.old
         → Settles outgoing.sums outgoing.own outgoing.most (row_acked word row) stream.new
         due.old.bytes due.new.bytes done) }
+    ensures grows { Grows due.old.bytes due.new.bytes }
 {
     stream.acked(word);
     let done = settle(alloc, stream, outgoing, due)?;
@@ -98,9 +104,10 @@ fn settle(
     due: &mut ByteQueue,
 ) -> Result<bool, AllocError>
     requires { outgoing.most ≤ MAX_PAYLOAD }
-    ensures { IfOk result (λ done. (row : Row) → StandsFor row stream.old
+    ensures settles { IfOk result (λ done. (row : Row) → StandsFor row stream.old
         → Settles outgoing.sums outgoing.own outgoing.most row stream.new
         due.old.bytes due.new.bytes done) }
+    ensures grows { Grows due.old.bytes due.new.bytes }
 {
     push_writes(alloc, stream, outgoing, due)?;
     if !stream.is_done() {
@@ -118,8 +125,9 @@ fn push_opening(
     credit: Option<u32>,
     due: &mut ByteQueue,
 ) -> Result<(), AllocError>
-    ensures { OnOk result (due.new.bytes ≡ due.old.bytes
+    ensures ok { OnOk result (due.new.bytes ≡ due.old.bytes
         ++ packet_bytes outgoing.sums (okay outgoing.own host (opening_word credit))) }
+    ensures grows { Grows due.old.bytes due.new.bytes }
 {
     match credit {
         None => push_okay(alloc, outgoing, host, &[], due),
@@ -135,8 +143,9 @@ fn push_ack(
     n: u32,
     due: &mut ByteQueue,
 ) -> Result<(), AllocError>
-    ensures { OnOk result (due.new.bytes ≡ due.old.bytes
+    ensures ok { OnOk result (due.new.bytes ≡ due.old.bytes
         ++ ack_bytes outgoing.sums outgoing.own stream.now.host stream.now.flow n) }
+    ensures grows { Grows due.old.bytes due.new.bytes }
 {
     match &stream.flow {
         Flow::One(_) => push_okay(alloc, outgoing, stream.host, &[], due),
@@ -158,8 +167,9 @@ fn push_okay(
     due: &mut ByteQueue,
 ) -> Result<(), AllocError>
     requires { length payload.now ≤ 4 }
-    ensures { OnOk result (due.new.bytes ≡ due.old.bytes
+    ensures ok { OnOk result (due.new.bytes ≡ due.old.bytes
         ++ packet_bytes outgoing.sums (okay outgoing.own host payload.now)) }
+    ensures grows { Grows due.old.bytes due.new.bytes }
 {
     let packet = Packet {
         command: Command::Okay,
@@ -177,8 +187,9 @@ fn push_close(
     host: u32,
     due: &mut ByteQueue,
 ) -> Result<(), AllocError>
-    ensures { OnOk result (due.new.bytes ≡ due.old.bytes
+    ensures ok { OnOk result (due.new.bytes ≡ due.old.bytes
         ++ packet_bytes outgoing.sums (clse outgoing.own host)) }
+    ensures grows { Grows due.old.bytes due.new.bytes }
 {
     let packet = Packet {
         command: Command::Clse,

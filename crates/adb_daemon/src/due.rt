@@ -1,6 +1,7 @@
 //! What is due to the host.
 
 ghost use Rattle.std.specs.Prelude.{◌≡◌, ◌≤◌, ◌++◌, length, OnOk, OnErr};
+ghost use Rattle.adb_daemon.specs.Due.{Grows};
 ghost use Rattle.adb_daemon.specs.Stream.{packet_bytes};
 
 use adb_outside::{ByteQueue, Text};
@@ -18,6 +19,7 @@ pub fn push_packet(
     requires { length packet.now.payload ≤ MAX_PAYLOAD }
     ensures ok { OnOk result (due.new.bytes ≡ due.old.bytes ++ packet_bytes sums packet.now) }
     ensures err { OnErr result (due.new.bytes ≡ due.old.bytes) }
+    ensures grows { Grows due.old.bytes due.new.bytes }
 {
     let mut bytes = Text::new(alloc);
     frame(alloc, packet, sums, &mut bytes)?;

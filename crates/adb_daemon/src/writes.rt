@@ -1,6 +1,7 @@
 //! The writes of a stream.
 
 ghost use Rattle.std.specs.Prelude.{◌≡◌, ◌≤◌, ◌++◌, length, OnOk, OnErr};
+ghost use Rattle.adb_daemon.specs.Due.{Grows};
 ghost use Rattle.adb_daemon.specs.Stream.{Row, StandsFor, Writes, wrte, packet_bytes};
 
 use crate::due::push_packet;
@@ -27,9 +28,10 @@ pub fn push_writes(
     due: &mut ByteQueue,
 ) -> Result<(), AllocError>
     requires { outgoing.most ≤ MAX_PAYLOAD }
-    ensures { OnOk result ((row : Row) → StandsFor row stream.old
+    ensures writes { OnOk result ((row : Row) → StandsFor row stream.old
         → Writes outgoing.sums outgoing.own outgoing.most row
         stream.new due.old.bytes due.new.bytes) }
+    ensures grows { Grows due.old.bytes due.new.bytes }
 {
     while let Some(payload) = stream.next_write(alloc, outgoing.most as usize)? {
         push_write(alloc, outgoing, stream.host, payload, due)?;
@@ -49,6 +51,7 @@ fn push_write(
     ensures ok { OnOk result (due.new.bytes
         ≡ due.old.bytes ++ packet_bytes outgoing.sums (wrte outgoing.own host payload)) }
     ensures err { OnErr result (due.new.bytes ≡ due.old.bytes) }
+    ensures grows { Grows due.old.bytes due.new.bytes }
 {
     let packet = Packet {
         command: Command::Wrte,

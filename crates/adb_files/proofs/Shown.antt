@@ -64,15 +64,24 @@ one_more directory files k d h below =
     ap (fold (with_shown directory) []) (filter_more p files k d h ∙ ap (λ t. filter p (take k files) ++ cond t (e ∷ []) []) below)
     ∙ fold-append (with_shown directory) [] (filter p (take k files)) (e ∷ [])
 
--- a file that lies in the directory itself
-pub shown_file : (directory : List ℕ) (files : List Entry) (at : ℕ) (e : Entry) (rest : List ℕ) → at < length files → e ≡ slice_index_or files at e
-    → is_below directory e.path ≡ true → rest ≡ rest_below directory e.path → slash_in rest ≡ None
-    → shown_in directory (take (at + 1) files) ≡ insert_entry path_cmp (shown_in directory (take at files)) rest (stat_of e.file)
-shown_file directory files at e rest h here below is none =
-    one_more directory files at e h (ap (λ (x : Entry). is_below directory x.path) (sym here) ∙ below)
-    ∙ (ap (with_shown directory (shown_in directory (take at files))) (sym here)
-    ∙ (ap (λ (r : List ℕ). insert_entry path_cmp (shown_in directory (take at files)) (part_at (slash_in r) r) (stat_at (slash_in r) e.file)) (sym is)
-    ∙ ap (λ (o : Option ℕ). insert_entry path_cmp (shown_in directory (take at files)) (part_at o rest) (stat_at o e.file)) none))
+-- A file of the map that lies below the directory.
+pub record LiesBelow (directory : List ℕ) (files : List Entry) (at : ℕ) : Type 0 where
+  pub entry : Entry
+  pub within : at < length files
+  pub here : entry ≡ slice_index_or files at entry
+  pub below : is_below directory entry.path ≡ true
+
+-- one that lies in the directory itself
+pub shown_file : (directory : List ℕ) (files : List Entry) (at : ℕ) (lies : LiesBelow directory files at)
+    → slash_in (rest_below directory lies.entry.path) ≡ None
+    → shown_in directory (take (at + 1) files)
+    ≡ insert_entry path_cmp (shown_in directory (take at files)) (rest_below directory lies.entry.path) (stat_of lies.entry.file)
+shown_file directory files at lies none =
+    let e = lies.entry in
+    let rest = rest_below directory e.path in
+    one_more directory files at e lies.within (ap (λ (x : Entry). is_below directory x.path) (sym lies.here) ∙ lies.below)
+    ∙ (ap (with_shown directory (shown_in directory (take at files))) (sym lies.here)
+    ∙ ap (λ (o : Option ℕ). insert_entry path_cmp (shown_in directory (take at files)) (part_at o rest) (stat_at o e.file)) none)
 
 -- files that all show the same
 many_more : (directory name : List ℕ) (files : List Entry) (at count : ℕ) → at + count < length files
@@ -109,12 +118,15 @@ alike_shows directory x e i below found alike =
     )
 
 -- all the files that lie in one further directory
-pub shown_directory : (directory : List ℕ) (files : List Entry) (at next i : ℕ) (e : Entry) → IsRising files
-    → BeginsAt (take (length (inside directory) + i) e.path ++ codes "0") files next → at < length files → e ≡ slice_index_or files at e
-    → is_below directory e.path ≡ true → slash_in (rest_below directory e.path) ≡ Some i → (at < next)
-    × (shown_in directory (take next files) ≡ insert_entry path_cmp (shown_in directory (take at files)) (take i (rest_below directory e.path)) directory_stat)
-shown_directory directory files at next i e rising begins h here below slash = (onward, all)
+pub shown_directory : (directory : List ℕ) (files : List Entry) (at next i : ℕ) (lies : LiesBelow directory files at) → IsRising files
+    → BeginsAt (take (length (inside directory) + i) lies.entry.path ++ codes "0") files next → slash_in (rest_below directory lies.entry.path) ≡ Some i
+    → (at < next) × (shown_in directory (take next files)
+    ≡ insert_entry path_cmp (shown_in directory (take at files)) (take i (rest_below directory lies.entry.path)) directory_stat)
+shown_directory directory files at next i lies rising begins slash = (onward, all)
   where
+    e : Entry
+    e = lies.entry
+
     ends : (i < length (rest_below directory e.path)) × (slice_index_or (rest_below directory e.path) i 0 ≡ 47)
     ends = let p = position-Some (λ byte. byte == 47) (rest_below directory e.path) i 0 slash in
         (p.0, eqb-true (slice_index_or (rest_below directory e.path) i 0) 47 p.1)
@@ -126,19 +138,19 @@ shown_directory directory files at next i e rising begins h here below slash = (
     goes_on = below_slash e.path (length (inside directory) + i) long (sym (get_or-drop (length (inside directory)) e.path i 0) ∙ ends.1)
 
     at_is : (d : Entry) → e ≡ slice_index_or files at d
-    at_is d = get_or_read files at e h here d
+    at_is d = get_or_read files at e lies.within lies.here d
 
     onward : at < next
     onward = go (cases_order at next)
       where
         less : path_cmp (slice_index_or files at e).path ((take (length (inside directory) + i) e.path) ++ codes "0") ≡ Less
-        less = ap (λ (x : Entry). path_cmp x.path ((take (length (inside directory) + i) e.path) ++ codes "0")) (sym here)
+        less = ap (λ (x : Entry). path_cmp x.path ((take (length (inside directory) + i) e.path) ++ codes "0")) (sym lies.here)
             ∙ front_less (take (length (inside directory) + i) e.path) e.path goes_on
 
         go : (at ≡ next) ⊎ ((at < next) ⊎ (next < at)) → at < next
-        go (inl s) = absurd (begins.others at e (omega arith) h less)
+        go (inl s) = absurd (begins.others at e (omega arith) lies.within less)
         go (inr (inl l)) = l
-        go (inr (inr l)) = absurd (begins.others at e (omega arith) h less)
+        go (inr (inr l)) = absurd (begins.others at e (omega arith) lies.within less)
 
     begins_there : (k : ℕ) → at ≤ k → k < next → starts_with nat_eq (slice_index_or files k no_entry).path
         ((take (length (inside directory) + i) e.path) ++ codes "/") ≡ true
@@ -167,7 +179,7 @@ shown_directory directory files at next i e rising begins h here below slash = (
     all =
         ap (λ j. shown_in directory (take j files)) (sym ends_at)
         ∙ many_more directory (take i (rest_below directory e.path)) files at (next - at - 1) (omega (arith, ends_at, begins.within))
-        (λ k l m. alike_shows directory (slice_index_or files k no_entry) e i below slash (alike k l (omega (arith, m, ends_at))))
+        (λ k l m. alike_shows directory (slice_index_or files k no_entry) e i lies.below slash (alike k l (omega (arith, m, ends_at))))
 
 -- past the last file below the directory nothing more is shown
 pub shown_all : (directory : List ℕ) (files : List Entry) (at : ℕ) → IsRising files → at ≤ length files

@@ -48,7 +48,8 @@ use Rattle.adb_history.proofs.Devices.{ShowsDevices, shows_devices, shows_rule, 
 use Rattle.adb_history.proofs.Waiting.{NoneWaits, AreFree, Leaves, leaves_all, leaves_over, free_after, none_waits_after}
 use Rattle.adb_history.proofs.WaitingPackets.{leaves_mark_all, leaves_receives, leaves_link_ends, leaves_puts}
 use Rattle.adb_history.proofs.Asked.{Unused}
-use Rattle.adb_history.proofs.OwnEntries.{Owns, owns_over, owns_all, owns_free, owns_opens, opened_row, owns_closes_with, closed_with_row, owns_ends, ended_waits}
+use Rattle.adb_history.proofs.OwnEntries.{Owns, owns_over, owns_all, owns_free, owns_opens, opened_row, owns_closes_with, closed_with_row, owns_ends}
+use Rattle.adb_history.proofs.OwnEntries.{ended_waits}
 use Rattle.adb_history.proofs.ForwardTurns.{AreLed, Leads, leads_link_ends, leads_cut, led_after, led_filter}
 use Rattle.adb_history.proofs.Booked.{Said, said, asks_in, asks_now, wants_in, wants_now, SameAsked, IsAs, Holds, holds, holds_same, idle_is}
 use Rattle.adb_history.proofs.Booked.{idle_says, is_stays, holds_receives, holds_puts}
@@ -497,7 +498,8 @@ module _ (older : History) (legal : IsLegal older) (b : IsBooked (state older) o
         forwards = keeps.forwards ∙ sym (ap (λ (x : Book). x.forwards) same);
         led = subst (λ (f : List (ℕ × ForwardRow)). AreLed s.devices f) (sym keeps.forwards) (led_bound want port may.0);
         here = subst (λ (r : Said). IsAs (m.state.clients n) r)
-            (sym (ap (said_by n) same ∙ ap (λ (x : Bool). said_by n (record (bound_with n binding (book older)) { waits = λ k. cond x None ((book older).waits k) }))
+            (sym (ap (said_by n) same
+            ∙ ap (λ (x : Bool). said_by n (record (bound_with n binding (book older)) { waits = λ k. cond x None ((book older).waits k) }))
             (eq-eqb n n refl)))
             (idle_is (m.state.clients n) (said_by n (record (bound_with n binding (book older)) { waits = λ k. None }))
             (closed_with_row n binding.reply next) idle refl);

@@ -4,6 +4,7 @@ use Rattle.std.proofs.Common.{ap, subst, zero, suc, eqb, ◌⊎◌, inl, inr}
 use Rattle.std.specs.Prelude.{option_and_then}
 use Rattle.std.proofs.lemmas.Bool.{ne_eqb, eq-eqb, cases_eq}
 use Rattle.adb_outside.specs.Tables.{Rows, change_row}
+use Rattle.adb_registry.specs.Registry.{DeviceTable}
 use Rattle.adb_stream.specs.declared.flow.Flow.{Flow}
 use Rattle.adb_stream.specs.declared.flow.Flow.TheVariants.{One, Credit}
 use Rattle.adb_stream.specs.declared.row.Stream.{Stream}
@@ -17,12 +18,17 @@ use Rattle.adb_history.specs.Handing.{unmarked, lists_first, left_in, hands, to_
 use Rattle.adb_history.specs.Handing.{stream_hands, stream_left, client_left, takes_of, puts_to, puts, sends}
 use Rattle.adb_history.specs.Tracking.{offered}
 use Rattle.adb_history.specs.Flow.{payloads, is_over, is_idle, is_streaming, up_all, with_flow}
-use Rattle.adb_history.proofs.Quiet.{SendsNothing, all_still}
+use Rattle.adb_history.proofs.Quiet as quiet
+use Rattle.adb_history.proofs.Quiet.{all_still}
+
+-- what a stream that is open may send: nothing, nor its end
+abbrev pub SendsNothing : DeviceTable → Stream → Client → Type 0
+SendsNothing devices stream client = quiet.IsCalm devices client stream
 
 -- no stream may send
 abbrev pub IsCalm : State → Type 0
 IsCalm s = (l : ℕ) (stream : Stream) (client : Client) → s.streams l ≡ Some stream → s.clients stream.client ≡ Some client
-    → is_streaming l client.about.phase ≡ true → SendsNothing s.devices client stream
+    → is_streaming l client.about.phase ≡ true → SendsNothing s.devices stream client
 
 -- the up rule makes nothing
 pub calm_ups : (k : ℕ) (s : State) → IsCalm s → up_all k s ≡ quietly s
@@ -59,7 +65,7 @@ pub calm_to_client : (c : ℕ) (f : Client → Option Client) (s : State)
     → IsCalm s → IsCalm (to_client c f s)
 calm_to_client c f s keeps calm l stream client is here streaming = by_place (cases_eq c stream.client)
   where
-    by_row : WasChanged f (s.clients stream.client) client → SendsNothing s.devices client stream
+    by_row : WasChanged f (s.clients stream.client) client → SendsNothing s.devices stream client
     by_row was =
         let same = keeps l was.old client was.to streaming in
         let old = calm l stream was.old is was.is same.streaming in
@@ -69,7 +75,7 @@ calm_to_client c f s keeps calm l stream client is here streaming = by_place (ca
               ∙ (ap (λ ended. is_over ended was.old.held stream.part.flow) same.ended ∙ old.goes_on);
         }
 
-    by_place : ◌⊎◌ (c ≡ stream.client) (c ≢ stream.client) → SendsNothing s.devices client stream
+    by_place : ◌⊎◌ (c ≡ stream.client) (c ≢ stream.client) → SendsNothing s.devices stream client
     by_place (inl same) = by_row (was_changed f (s.clients stream.client) client
         (sym (ap (λ b. cond b (option_and_then f (s.clients stream.client)) (s.clients stream.client)) (eq-eqb c stream.client same)) ∙ here))
     by_place (inr other) = calm l stream client is
@@ -92,7 +98,7 @@ pub calm_to_stream : (l : ℕ) (stream : Stream) (flow : Flow) (s : State) → s
     → IsCalm s → IsCalm (to_stream l (with_stream_part (with_flow flow stream.part)) s)
 calm_to_stream l stream flow s is same calm k new client there here streaming = by_place (cases_eq l k)
   where
-    by_row : WasChanged (with_stream_part (with_flow flow stream.part)) (s.streams k) new → l ≡ k → SendsNothing s.devices client new
+    by_row : WasChanged (with_stream_part (with_flow flow stream.part)) (s.streams k) new → l ≡ k → SendsNothing s.devices new client
     by_row was equal =
         let old_is : was.old ≡ stream = (let both : Some was.old ≡ Some stream = sym was.is ∙ (ap s.streams (sym equal) ∙ is) in cc) in
         let made : new ≡ record was.old { part = with_flow flow stream.part } =
@@ -101,12 +107,12 @@ calm_to_stream l stream flow s is same calm k new client there here streaming = 
         ∙ ap (λ (x : Stream). record x { part = with_flow flow stream.part }) old_is in
         let row : s.clients stream.client ≡ Some client = ap (λ (x : Stream). s.clients x.client) (sym shaped) ∙ here in
         let old = calm l stream client is row (ap (λ n. is_streaming n client.about.phase) equal ∙ streaming) in
-        subst (λ (x : Stream). SendsNothing s.devices client x) (sym shaped) (record {
+        subst (λ (x : Stream). SendsNothing s.devices x client) (sym shaped) (record {
           nothing = same.payloads (maxdata_of stream.link s.devices) client.held ∙ old.nothing;
           goes_on = same.over client.about.ended client.held ∙ old.goes_on;
         })
 
-    by_place : ◌⊎◌ (l ≡ k) (l ≢ k) → SendsNothing s.devices client new
+    by_place : ◌⊎◌ (l ≡ k) (l ≢ k) → SendsNothing s.devices new client
     by_place (inl equal) = by_row (was_changed (with_stream_part (with_flow flow stream.part)) (s.streams k) new
         (sym (ap (λ b. cond b (option_and_then (with_stream_part (with_flow flow stream.part)) (s.streams k)) (s.streams k)) (eq-eqb l k equal)) ∙ there)) equal
     by_place (inr other) = calm k new client

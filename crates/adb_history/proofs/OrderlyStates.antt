@@ -24,7 +24,7 @@ use Rattle.adb_history.proofs.OwnedMoves.{together_at}
 use Rattle.adb_history.proofs.LinkMoves.{all_linked}
 use Rattle.adb_history.proofs.Unread.{UnreadBut, all_unread}
 use Rattle.adb_history.proofs.Sweep.{Sending}
-use Rattle.adb_history.proofs.Quiet.{SendsNothing, IsCalmAt, up_all_calms, up_all_drawn, all_still}
+use Rattle.adb_history.proofs.Quiet.{IsCalm, IsCalmAt, up_all_calms, up_all_drawn, all_still}
 
 -- ---- at rest each stream is calm
 order : (a b : ℕ) → (a ≤ b) ⊎ (b < a)
@@ -86,7 +86,7 @@ module _ (s : State) (h : AtRest s) where
       let streaming : is_streaming l x.client.about.phase ≡ true = ap (is_streaming l) x.in_phase ∙ eq-eqb l l refl in
       let here : s.clients y.client ≡ Some x.client = ap s.clients t.of ∙ x.here in
       let sending : Sending l s = record { stream = y; client = x.client; there = there; here = here; streaming = streaming } in
-      let quiet : SendsNothing s.devices x.client y = (h.calm l (some l y there)).calm sending in
+      let quiet : IsCalm s.devices x.client y = (h.calm l (some l y there)).calm sending in
       record { nothing = quiet.nothing; goes_on = quiet.goes_on; accepted = t.accepted }
     where
       some : (m : ℕ) (z : Stream) → s.streams m ≡ Some z → 0 < m

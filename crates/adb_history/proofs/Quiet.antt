@@ -19,13 +19,13 @@ use Rattle.adb_history.proofs.Writes.{payloads_done}
 use Rattle.adb_history.proofs.Sweep.{Sending, sent, left, over, up_to}
 
 -- a stream may send nothing, and is not over
-pub record SendsNothing (devices : DeviceTable) (client : Client) (stream : Stream) : Type 0 where
+pub record IsCalm (devices : DeviceTable) (client : Client) (stream : Stream) : Type 0 where
   pub nothing : payloads stream.part.flow (maxdata_of stream.link devices) client.held ≡ []
   pub goes_on : is_over client.about.ended client.held stream.part.flow ≡ false
 
 -- of the stream of a number
 pub record IsCalmAt (l : ℕ) (s : State) : Type 0 where
-  pub calm : (x : Sending l s) → SendsNothing s.devices x.client x.stream
+  pub calm : (x : Sending l s) → IsCalm s.devices x.client x.stream
 
 -- ---- after the up rule for a stream it is calm
 module _ (l : ℕ) (s : State) where
@@ -47,15 +47,15 @@ module _ (l : ℕ) (s : State) where
       here : (left l s x).clients x.stream.client ≡ Some client
       here = changed_here x.stream.client (with_held (drop (total (sent l s x)) x.client.held)) s.clients x.client x.here
 
-      done : SendsNothing s.devices client stream
+      done : IsCalm s.devices client stream
       done = record { nothing = payloads_done x.stream.part.flow (maxdata_of x.stream.link s.devices) x.client.held; goes_on = e }
 
-      calm : (y : Sending l (record (left l s x) { links = links })) → SendsNothing s.devices y.client y.stream
+      calm : (y : Sending l (record (left l s x) { links = links })) → IsCalm s.devices y.client y.stream
       calm y =
           let same : stream ≡ y.stream = (let both : Some stream ≡ Some y.stream = sym there ∙ y.there in cc) in
           let row : client ≡ y.client =
           (let both : Some client ≡ Some y.client = sym here ∙ (ap (λ (z : Stream). (left l s x).clients z.client) same ∙ y.here) in cc) in
-          subst (λ (z : Client). SendsNothing s.devices z y.stream) row (subst (λ (z : Stream). SendsNothing s.devices client z) same done)
+          subst (λ (z : Client). IsCalm s.devices z y.stream) row (subst (λ (z : Stream). IsCalm s.devices client z) same done)
 
   ends_calm : (x : Sending l s) (links : Rows (Option Link))
       → IsCalmAt l (record (closes x.stream.client (to_stream l none_kept (left l s x))) { links = links })
@@ -112,7 +112,7 @@ module _ (l m : ℕ) (s : State) (apart : l ≢ m) (h : IsCalmAt m s) where
       here = changed_here x.stream.client (with_held (drop (total (sent l s x)) x.client.held)) s.clients x.client x.here
 
       go : (y : Sending m (record (left l s x) { links = links })) → (x.stream.client ≡ y.stream.client) ⊎ (x.stream.client ≡ y.stream.client → ⊥)
-          → SendsNothing s.devices y.client y.stream
+          → IsCalm s.devices y.client y.stream
       go y (inl same) =
           let row : record x.client { held = drop (total (sent l s x)) x.client.held } ≡ y.client =
           (let both : Some (record x.client { held = drop (total (sent l s x)) x.client.held }) ≡ Some y.client = sym here ∙
@@ -146,7 +146,7 @@ module _ (l m : ℕ) (s : State) (apart : l ≢ m) (h : IsCalmAt m s) where
       closed = changed_here x.stream.client closing (left l s x).clients client here
 
       go : (y : Sending m (record (closes x.stream.client (to_stream l none_kept (left l s x))) { links = links }))
-          → (x.stream.client ≡ y.stream.client) ⊎ (x.stream.client ≡ y.stream.client → ⊥) → SendsNothing s.devices y.client y.stream
+          → (x.stream.client ≡ y.stream.client) ⊎ (x.stream.client ≡ y.stream.client → ⊥) → IsCalm s.devices y.client y.stream
       go y (inl same) =
           absurd (closing_idle client.due client y.client m
           (sym closed ∙ (ap (closes x.stream.client (to_stream l none_kept (left l s x))).clients same ∙ y.here)) y.streaming)
@@ -192,7 +192,7 @@ same_rows rows n f row is same = λ i k. one k (eqb n k) refl i
     one k true e = let there : rows k ≡ Some row = ap rows (sym (eqb-true n k e)) ∙ is in ap (option_and_then f) there ∙ (same ∙ sym there)
 
 -- ---- the up rule changes nothing of a stream that is calm
-module _ (l : ℕ) (s : State) (x : Sending l s) (calm : SendsNothing s.devices x.client x.stream) where
+module _ (l : ℕ) (s : State) (x : Sending l s) (calm : IsCalm s.devices x.client x.stream) where
   same_streams : change_row l (option_and_then (with_stream_part (with_flow x.stream.part.flow x.stream.part))) s.streams ≡ s.streams
   same_streams = same_rows s.streams l (with_stream_part (with_flow x.stream.part.flow x.stream.part)) x.stream x.there refl
 
@@ -224,7 +224,7 @@ up_still l s h = at_stream (s.streams l) refl
         test false is = refl
         test true is =
             let x : Sending l s = record { stream = stream; client = client; there = there; here = e; streaming = is } in
-            let calm : SendsNothing s.devices client stream = h.calm x in
+            let calm : IsCalm s.devices client stream = h.calm x in
             ap (λ ps. sends_up l stream client ps s) calm.nothing ∙ sends_nothing l s x calm
 
     at_stream : (o : Option Stream) → s.streams l ≡ o → up_stream l o s ≡ quietly s

@@ -10,13 +10,12 @@ use Rattle.adb_history.specs.Machine.{History, state}
 use Rattle.adb_history.specs.Orderly.{IsOrderly, IsResting}
 use Rattle.adb_history.specs.Drained.{owed}
 use Rattle.adb_history.specs.Settling.{IsDrainedFrom}
-use Rattle.adb_history.proofs.Calm.{IsCalm}
-use Rattle.adb_history.proofs.Quiet.{SendsNothing}
+use Rattle.adb_history.proofs.Calm.{IsCalm, SendsNothing}
 use Rattle.adb_history.proofs.Drains.{drained_rests, drained_enough, drain_all_step, drain_all_over}
 
 -- a client that has a stream open sends nothing
 rests_calm : (s : State) (l c : ℕ) (stream : Stream) (client : Client) (phase : Phase) → IsResting phase s c client → is_streaming l phase ≡ true
-    → s.streams l ≡ Some stream → SendsNothing s.devices client stream
+    → s.streams l ≡ Some stream → SendsNothing s.devices stream client
 rests_calm s l c stream client (Streaming k) rests open_now there =
     let same : k ≡ l = eqb-true k l open_now in
     let quiet = rests.1 stream (ap s.streams same ∙ there) in

@@ -5,7 +5,7 @@ use Rattle.adb_files.specs.declared.stat.Stat.{Stat}
 use Rattle.adb_files.specs.Paths.{path_cmp, is_below, inside}
 use Rattle.adb_files.specs.Places.{BeginsAt}
 use Rattle.adb_files.specs.Listing.{stat_of, directory_stat, rest_below, slash_in, named}
-use Rattle.adb_files.proofs.Shown.{shown_file, shown_directory, named-insert, rest_is, front_is}
+use Rattle.adb_files.proofs.Shown.{LiesBelow, shown_file, shown_directory, named-insert, rest_is, front_is}
 use Rattle.adb_files.proofs.listing.show.Goals as goal
 
 pub returns-in_ok-insert-in-None : goal.returns-in_ok-insert-in-None
@@ -15,7 +15,9 @@ returns-in_ok-insert-in-None c =
     let rest = rest_is directory c.slash_behind.result.now entry.path c.path-path.result.now c.slash_behind.ensures c.path-path.ensures in
     let none : slash_in (rest_below directory entry.path) ≡ None = ap slash_in (sym rest) ∙ (sym c.slash_in.ensures ∙ c.in-None.is) in
     let below : is_below directory entry.path ≡ true = ap (λ (e : Entry). is_below directory e.path) c.index-slots-at.is ∙ c.requires.below entry in
-    let shown = shown_file directory c.args.slots.now c.args.at entry (rest_below directory entry.path) c.requires.within c.index-slots-at.is below refl none in
+    let here = c.index-slots-at.is in
+    let lies : LiesBelow directory c.args.slots.now c.args.at = record { entry = entry; within = c.requires.within; here = here; below = below } in
+    let shown = shown_file directory c.args.slots.now c.args.at lies none in
     let key : c.in_ok-from_slice-in-None.field-0.items ≡ rest_below directory entry.path = c.in_ok-from_slice-in-None.ensures.items ∙ rest in
     let old = named c.args.found.now.entries in
     record {
@@ -40,8 +42,9 @@ returns-in_ok-insert-in-Some c =
     let front = front_is directory c.slash_behind.result.now entry.path c.path-path.result.now i c.slash_behind.ensures c.path-path.ensures in
     let begins : BeginsAt (take (length (inside directory) + i) entry.path ++ codes "0") c.args.slots.now c.first_from.result = subst
     (λ (q : List ℕ). BeginsAt (q ++ codes "0") c.args.slots.now c.first_from.result) front c.first_from.ensures in
-    let shown = shown_directory directory c.args.slots.now c.args.at c.first_from.result i entry
-    c.requires.files.rising begins c.requires.within c.index-slots-at.is below found in
+    let here = c.index-slots-at.is in
+    let lies : LiesBelow directory c.args.slots.now c.args.at = record { entry = entry; within = c.requires.within; here = here; below = below } in
+    let shown = shown_directory directory c.args.slots.now c.args.at c.first_from.result i lies c.requires.files.rising begins found in
     let key : c.in_ok-from_slice-in-Some.field-0.items ≡ take i (rest_below directory entry.path) = c.in_ok-from_slice-in-Some.ensures.items
     ∙ ap (take i) rest in
     let old = named c.args.found.now.entries in

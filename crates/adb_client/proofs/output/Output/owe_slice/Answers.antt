@@ -15,7 +15,9 @@ returns-clause-ok c =
     omega (arith, c.len-2.ensures.value, c.self.invariant.counted.own, c.self.invariant.within)
     in
     let due : woven c.push_back_reserved.new.self.items own ≡ woven slices own ++ bytes =
-    ap (λ (l : List Slice). woven l own) (c.push_back_reserved.ensures.items ∙ ap (λ (l : List Slice). l ++ slice ∷ []) c.in_ok-reserve.ensures.items) ∙ woven_slice slices own slice here
+    ap (λ (l : List Slice). woven l own)
+    (c.push_back_reserved.ensures.items ∙ ap (λ (l : List Slice). l ++ slice ∷ []) c.in_ok-reserve.ensures.items)
+    ∙ woven_slice slices own slice here
     in
     (λ i. record { due = due i; spare = c.self.inside.spare; places = c.self.inside.places })
     ∙ ap (λ (o : Outgoing). record o { due = o.due ++ bytes }) c.self.view_is

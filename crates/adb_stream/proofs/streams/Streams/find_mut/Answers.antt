@@ -18,5 +18,11 @@ returns c =
     let old : Kept = record { drawn = c.self.inside.drawn; shelf = c.self.inside.shelf; indexed = c.self.invariant } in
     let ends = lent_table c.args.link c.args.id old c.args.self.now c.self.view_is in
     let part : _ ≡ _ = ap (option_map (λ (stream : Stream). stream.part))
-    (finds old c.args.link c.args.id ∙ ap (λ (t : StreamTable). found c.args.link c.args.id t.streams) c.self.view_is) in
-    ((λ i. read_of (ghost_name_of c.find_mut.result) (ends i) (c.self.view_is i)), record { writes_back = tt; found = c.find_mut.ensures.value ∙ part; sound = subst IsSound c.self.view_is (sound old) })
+    (finds old c.args.link c.args.id ∙ ap (λ (t : StreamTable). found c.args.link c.args.id t.streams) c.self.view_is) in (
+      (λ i. read_of (ghost_name_of c.find_mut.result) (ends i) (c.self.view_is i)),
+      record {
+        writes_back = tt;
+        found = c.find_mut.ensures.value ∙ part;
+        sound = subst IsSound c.self.view_is (sound old);
+      },
+    )

@@ -1,0 +1,16 @@
+pub mod Worked
+pub mod Tables
+pub mod Owed
+pub mod Settling
+pub mod Packets
+pub mod Opens
+pub mod Closes
+pub mod Machines
+pub mod Treating
+pub mod Feeding
+pub mod Fronts
+pub mod Windows
+pub mod Standing
+pub mod Rules
+pub mod Quiet
+pub mod Acks

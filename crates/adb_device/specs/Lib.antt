@@ -1,0 +1,7 @@
+pub mod Serving
+pub mod Device
+pub mod Held
+pub mod Behind
+pub mod Daemon
+pub mod Link
+pub mod Streams

@@ -1,0 +1,48 @@
+//! What holds of a model device behind any packets of its host. Each function does nothing: its
+//! contract is the law.
+
+ghost use Rattle.std.specs.Prelude.{◌≡◌, ◌<◌, ◌++◌, ℕ, List, Some, Err};
+ghost use Rattle.adb_outside.specs.Tables.{at};
+ghost use Rattle.adb_wire.specs.declared.packets.Packet.{Packet};
+ghost use Rattle.adb_daemon.specs.Stream.{Row};
+ghost use Rattle.adb_daemon.specs.declared.link.Link.{Link};
+ghost use Rattle.adb_wire.specs.Header.{IsBytes};
+ghost use Rattle.adb_device.specs.declared.error.DaemonError.{DaemonError};
+ghost use Rattle.adb_device.specs.Daemon.{answer_to};
+ghost use Rattle.adb_device.specs.Device.{Setting, device_behind};
+ghost use Rattle.adb_device.specs.Streams.{Writes, IsAcked, HasSettled, over_at};
+
+/// The joined payloads that a stream wrote are a front of its service's answer to the payloads that
+/// came, and where the device closed it all of the answer. On a plain link it made at most as many
+/// writes as it took OKAYs, its OPEN among them; where the link has credit in bytes it wrote at
+/// most the sum of their credit words.
+pub fn streams_write_their_answers()
+    ensures { (setting : Setting) (packets : List Packet) (own : ℕ) → 0 < own
+        → let s = (device_behind setting packets).serving
+        in Writes own s.made s.acks (at own s.rows) (over_at own s.ended) }
+{}
+
+/// The OPEN of a stream and each write that came for it were acknowledged by one OKAY, in order,
+/// and nothing else was; where the link has credit in bytes the first holds the whole window, and
+/// each other one the number of bytes, and there is none where a write had none.
+pub fn writes_are_acknowledged()
+    ensures { (setting : Setting) (packets : List Packet) (own : ℕ)
+        → let s = (device_behind setting packets).serving
+        in IsAcked own s.made (at own s.rows) (over_at own s.ended) }
+{}
+
+/// A live stream has nothing to write that its window lets go, and is not done: where its service
+/// has ended, all is written and nothing is outstanding, it was closed.
+pub fn streams_are_settled()
+    ensures { (setting : Setting) (packets : List Packet) (link : Link) (own : ℕ) (row : Row)
+        → (device_behind setting packets).link ≡ Some link
+        → at own (device_behind setting packets).serving.rows ≡ Some row
+        → HasSettled link.most row }
+{}
+
+/// The refusal of a CNXN and a fault of the bytes stay, whatever follows.
+pub fn refusals_stay()
+    ensures { (setting : Setting) (fed more : List ℕ) (error : DaemonError) → IsBytes fed
+        → IsBytes more → answer_to setting fed ≡ Err error
+        → answer_to setting (fed ++ more) ≡ Err error }
+{}

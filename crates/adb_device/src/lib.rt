@@ -1,0 +1,18 @@
+//! A model of a device, over packets (protocol.txt): its link to the host, its streams, and their
+//! services.
+#![tactic(auto)]
+
+mod daemon;
+mod error;
+mod laws;
+mod machine;
+mod services;
+mod table;
+#[cfg(test)]
+mod tests;
+
+pub use daemon::Daemon;
+pub use error::DaemonError;
+pub use laws::{
+    refusals_stay, streams_are_settled, streams_write_their_answers, writes_are_acknowledged,
+};

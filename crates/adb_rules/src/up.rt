@@ -1,0 +1,258 @@
+//! What a stream may send up, by its window or its credit (protocol.txt, WRITE and READY).
+
+ghost use Rattle.std.specs.Prelude.{◌≡◌, ◌≢◌, ◌≤◌, ◌<◌, ℕ, true, false, [], Some, None, length, take, drop, option_map};
+ghost use Rattle.adb_outside.specs.Tables.{at};
+ghost use Rattle.adb_wire.specs.declared.headers.TheConstants.{MAX_PAYLOAD};
+ghost use Rattle.adb_client.specs.Client.{SeenClient};
+ghost use Rattle.adb_stream.specs.declared.row.Stream.{Stream};
+ghost use Rattle.adb_history.specs.Rows.{to_client, to_stream, with_held, with_stream_part};
+ghost use Rattle.adb_history.specs.Flow.{write_len, wrote, is_idle, is_over, is_streaming, with_flow, goes_up, payloads, flow_after, all_go_up, noted, closes_if, sends_up, up};
+ghost use Rattle.adb_rules.specs.Tables.{client_row, state_of};
+ghost use Rattle.adb_rules.specs.Places.{LinkRoom, IsCounted, Uses};
+ghost use Rattle.adb_rules.specs.Handing.{UsesOf};
+ghost use Rattle.adb_rules.specs.Up.{IsReadyUp, IsSized, StaysReady, writes_up, held_at, may_send, LetsGo, CanCut, cut_off, unsent, all_unsent, has_open, CanSend, IsReadyToSend, Sends};
+
+use crate::tables::Tables;
+use adb_client::Phase;
+use adb_stream::{Flow, Part, Stream};
+use bytes::Bytes;
+
+impl Tables {
+    /// The up rule, for the stream of an id: what its client holds goes up in writes, and then its
+    /// end, where its input ended and all went up.
+    pub fn up(&mut self, id: u32)
+        requires ready { IsReadyUp id self.old }
+        requires sized { IsSized self.old }
+        requires counted { IsCounted self.old }
+        ensures state { state_of self.new ≡ (up id (state_of self.old)).state }
+        ensures uses { (c : ℕ) → UsesOf (at id self.old.streams.streams) (writes_up id self.old)
+            c 0 self.old self.new }
+        ensures others { (l : ℕ) → l ≢ id → StaysReady l self.old self.new }
+        ensures devices { self.new.devices ≡ self.old.devices }
+    {
+        if let Some(stream) = self.streams.get(id).copied()
+            && self.has_open(stream.client, id)
+        {
+            self.send_up(id, &stream);
+        }
+    }
+
+    /// Whether a client has the stream of an id open.
+    fn has_open(&self, client: u32, id: u32) -> bool
+        ensures { result ≡ has_open id (at client self.now.clients.entries) }
+    {
+        match self.clients.get(&client) {
+            Some(row) => match row.about().phase {
+                Phase::Streaming(open) => open == id,
+                _ => false,
+            },
+            None => false,
+        }
+    }
+
+    /// What a client holds goes up the stream that it has open.
+    fn send_up(&mut self, id: u32, stream: &Stream)
+        requires here { at id self.old.streams.streams ≡ Some stream.now }
+        requires open { has_open id (at stream.now.client self.old.clients.entries) ≡ true }
+        requires ready { IsReadyToSend stream.now self.old }
+        requires sized { IsSized self.old }
+        requires counted { IsCounted self.old }
+        ensures state { (row : SeenClient)
+            → at stream.now.client self.old.clients.entries ≡ Some row
+            → state_of self.new ≡ (sends_up id stream.now (client_row row)
+            (all_unsent stream.now self.old) (state_of self.old)).state }
+        ensures uses { (c : ℕ) → Uses stream.now.link (length (all_unsent stream.now self.old))
+            c 0 self.old self.new }
+        ensures others { (c : ℕ) → c ≢ stream.now.client
+            → at c self.new.clients.entries ≡ at c self.old.clients.entries }
+    {
+        let flow = self.send_held(id, stream);
+        let part = Part {
+            flow,
+            ..stream.part
+        };
+        self.close_over(id, &Stream { part, ..*stream });
+    }
+
+    /// What a client holds goes up, as much as the flow of its stream lets go; says what the flow
+    /// is then.
+    fn send_held(&mut self, id: u32, stream: &Stream) -> Flow
+        requires here { at id self.old.streams.streams ≡ Some stream.now }
+        requires ready { IsReadyToSend stream.now self.old }
+        requires sized { IsSized self.old }
+        ensures state { let writes = all_unsent stream.now self.old in
+            let held = held_at (at stream.now.client self.old.clients.entries) in
+            state_of self.new ≡ (all_go_up id stream.now writes
+            (noted id stream.now held writes (state_of self.old))).state }
+        ensures flow { result
+            ≡ flow_after (all_unsent stream.now self.old) stream.now.part.flow }
+        ensures uses { (c : ℕ) → Uses stream.now.link (length (all_unsent stream.now self.old))
+            c 0 self.old self.new }
+        ensures others { (c : ℕ) → c ≢ stream.now.client
+            → at c self.new.clients.entries ≡ at c self.old.clients.entries }
+    {
+        let maxdata = self.maxdata_of(stream.link);
+        let flow = self.write_up(id, stream, maxdata);
+        self.set_flow(id, stream, &flow);
+        flow
+    }
+
+    /// A stream that is over for its client ends.
+    fn close_over(&mut self, id: u32, stream: &Stream)
+        requires here { at id self.old.streams.streams ≡ Some stream.now }
+        requires open { has_open id (at stream.now.client self.old.clients.entries) ≡ true }
+        requires room { LinkRoom 0 (at stream.now.link self.old.links.entries) }
+        requires counted { IsCounted self.old }
+        ensures state { (row : SeenClient)
+            → at stream.now.client self.old.clients.entries ≡ Some row
+            → state_of self.new
+            ≡ (closes_if (is_over row.about.ended row.held stream.now.part.flow) id
+            (Some stream.now) (state_of self.old)).state }
+        ensures uses { (c : ℕ) → Uses stream.now.link 0 c 0 self.old self.new }
+        ensures others { (c : ℕ) → c ≢ stream.now.client
+            → at c self.new.clients.entries ≡ at c self.old.clients.entries }
+    {
+        if self.is_over(stream.client, &stream.part.flow) {
+            self.end_telling(id, stream);
+        }
+    }
+
+    /// Whether a stream is over for its client: its input ended, nothing of it is held, and no
+    /// write waits.
+    fn is_over(&self, client: u32, flow: &Flow) -> bool
+        ensures { (row : SeenClient) → at client self.now.clients.entries ≡ Some row
+            → result ≡ is_over row.about.ended row.held flow.now }
+    {
+        match self.clients.get(&client) {
+            Some(row) => row.held() == 0 && row.about().ended && is_idle(flow),
+            None => false,
+        }
+    }
+
+    /// Writes go up, as many as the flow of a stream lets go; says what the flow is then.
+    fn write_up(&mut self, id: u32, stream: &Stream, maxdata: usize) -> Flow
+        requires size { maxdata ≤ MAX_PAYLOAD }
+        requires cut { CanSend stream.now maxdata (stream.now.part.flow, self.old) }
+        requires room { LinkRoom (length (unsent stream.now maxdata
+            (stream.now.part.flow, self.old))) (at stream.now.link self.old.links.entries) }
+        ensures sends { Sends id stream.now maxdata (stream.now.part.flow, self.old)
+            (result, self.new) }
+        ensures all { unsent stream.now maxdata (result, self.new) ≡ [] }
+    {
+        let mut flow = stream.part.flow;
+        while self.write_next(id, stream, &mut flow, maxdata) {}
+        flow
+    }
+
+    /// A write goes up, where the flow of a stream lets one go; says whether one did.
+    fn write_next(&mut self, id: u32, stream: &Stream, flow: &mut Flow, maxdata: usize) -> bool
+        requires size { maxdata ≤ MAX_PAYLOAD }
+        requires cut { CanSend stream.now maxdata (flow.old, self.old) }
+        requires room { LinkRoom (length (unsent stream.now maxdata (flow.old, self.old)))
+            (at stream.now.link self.old.links.entries) }
+        ensures sends { Sends id stream.now maxdata (flow.old, self.old) (flow.new, self.new) }
+        ensures all { result ≡ false
+            → unsent stream.now maxdata (flow.new, self.new) ≡ [] }
+        ensures less { result ≡ true
+            → length (held_at (at stream.now.client self.new.clients.entries))
+            < length (held_at (at stream.now.client self.old.clients.entries)) }
+    {
+        let n = self.next_len(stream.client, flow, maxdata);
+        if n == 0 {
+            return false;
+        }
+        self.write_one(id, stream, n);
+        *flow = wrote(*flow, n);
+        true
+    }
+
+    /// How many bytes go up in the next write.
+    fn next_len(&self, client: u32, flow: &Flow, maxdata: usize) -> usize
+        ensures { result ≡ write_len maxdata (may_send flow.now maxdata)
+            (held_at (at client self.now.clients.entries)) }
+    {
+        match self.clients.get(&client) {
+            Some(row) => maxdata.min(may_send(flow, maxdata)).min(row.held()),
+            None => 0,
+        }
+    }
+
+    /// So many bytes go up in a write.
+    fn write_one(&mut self, id: u32, stream: &Stream, n: usize)
+        requires size { n ≤ MAX_PAYLOAD }
+        requires cut { CanCut n (at stream.now.client self.old.clients.entries) }
+        requires room { LinkRoom 1 (at stream.now.link self.old.links.entries) }
+        ensures state { let held = held_at (at stream.now.client self.old.clients.entries) in
+            state_of self.new ≡ (goes_up id stream.now (take n held)
+            (to_client stream.now.client (with_held (drop n held)) (state_of self.old))).state }
+        ensures client { at stream.now.client self.new.clients.entries
+            ≡ option_map (cut_off n) (at stream.now.client self.old.clients.entries) }
+        ensures others { (c : ℕ) → c ≢ stream.now.client
+            → at c self.new.clients.entries ≡ at c self.old.clients.entries }
+        ensures streams { self.new.streams ≡ self.old.streams }
+        ensures uses { (c : ℕ) → Uses stream.now.link 1 c 0 self.old self.new }
+    {
+        if let Some(payload) = self.cut(stream.client, n) {
+            self.owe_write(stream.link, id, stream.part.remote, payload);
+        }
+    }
+
+    /// The first bytes that a client holds, which are held no more.
+    fn cut(&mut self, client: u32, n: usize) -> Option<Bytes>
+        requires { CanCut n (at client self.old.clients.entries) }
+        ensures piece { result
+            ≡ option_map (λ row. take n row.held) (at client self.old.clients.entries) }
+        ensures state { let held = held_at (at client self.old.clients.entries) in
+            state_of self.new ≡ to_client client (with_held (drop n held)) (state_of self.old) }
+        ensures client { at client self.new.clients.entries
+            ≡ option_map (cut_off n) (at client self.old.clients.entries) }
+        ensures others { (c : ℕ) → c ≢ client
+            → at c self.new.clients.entries ≡ at c self.old.clients.entries }
+        ensures streams { self.new.streams ≡ self.old.streams }
+        ensures links { self.new.links ≡ self.old.links }
+        ensures uses { (t c : ℕ) → Uses t 0 c 0 self.old self.new }
+    {
+        let row = self.clients.get_mut(&client)?;
+        Some(row.cut_ready(n))
+    }
+}
+
+/// How many bytes a flow lets go now.
+fn may_send(flow: &Flow, maxdata: usize) -> usize
+    ensures { result ≡ may_send flow.now maxdata }
+{
+    match flow {
+        Flow::One(window) if window.can_write() => maxdata,
+        Flow::One(_) => 0,
+        Flow::Credit(credit) => credit.can_send() as usize,
+    }
+}
+
+/// The flow after a write of so many bytes.
+fn wrote(flow: Flow, n: usize) -> Flow
+    requires { LetsGo flow n }
+    ensures { result ≡ wrote n flow }
+{
+    match flow {
+        Flow::One(window) => {
+            let mut window = window;
+            window.wrote();
+            Flow::One(window)
+        }
+        Flow::Credit(credit) => {
+            let mut credit = credit;
+            credit.sent(n as u32);
+            Flow::Credit(credit)
+        }
+    }
+}
+
+/// Whether no write waits for its OKAY.
+fn is_idle(flow: &Flow) -> bool
+    ensures { result ≡ is_idle flow.now }
+{
+    match flow {
+        Flow::One(window) => window.can_write(),
+        Flow::Credit(_) => true,
+    }
+}
