@@ -5,7 +5,6 @@ use Rattle.std.proofs.lemmas.List.{append-nil, append_cancel_left}
 use Rattle.adb_outside.specs.Bytes.{IsPrefixOf}
 use Rattle.adb_reply.specs.Strings.{okay}
 use Rattle.adb_history.specs.Machine.{History, IsLegal}
-use Rattle.adb_history.specs.Bytes.{bytes_put}
 use Rattle.adb_history.specs.Book.{asked}
 use Rattle.adb_history.specs.Births.{Birth, Opening, since, opening_in, told_in, told_to, told_after, joined}
 use Rattle.adb_history.specs.Lives.{output_of}

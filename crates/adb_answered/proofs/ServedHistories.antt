@@ -26,7 +26,6 @@ use Rattle.adb_history.proofs.Booked.{said, asks_in, asks_now}
 use Rattle.adb_history.proofs.BookTurns.{all_unheard}
 use Rattle.adb_history.proofs.BookReads.{newly_same}
 use Rattle.adb_history.proofs.Books.{booked}
-use Rattle.adb_births.proofs.Born.{all_births}
 use Rattle.adb_answered.specs.Heard.{Heard, asks_stream}
 use Rattle.adb_answered.specs.Served.{IsDone, IsServed, no_ids_reply, HasNoStream, IsGiven, IsRefused, ServedIn, AtEachFront}
 use Rattle.adb_answered.proofs.HeardEntries.{joined_below, heard_read}
@@ -255,13 +254,6 @@ new_served c older legal may =
     let above : came_count older < c = omega (arith, may.1, (counted older).joined) in
     subst (λ (q : Asked). ServedIn (asks_stream q.next) c (Join c ∷ older)) (sym (all_unheard older legal c above).asked)
     (still_none c (Join c) older (apart_births c (Join c) older (λ m of. absurd of)) (none_unborn older legal c above))
-
-pub births_at_fronts : (h : History) → IsLegal h → AtEachFront HasBirths h
-births_at_fronts h legal newer older is = all_births older (legal_front newer older (subst IsLegal (sym is) legal))
-  where
-    legal_front : (newer older : History) → IsLegal (newer ++ older) → IsLegal older
-    legal_front [] older all = all
-    legal_front (e ∷ newer) older all = legal_front newer older all.0
 
 pub front_births : (e : Entry) (older : History) → AtEachFront HasBirths (e ∷ older) → HasBirths older
 front_births e older births = births (e ∷ []) older refl

@@ -14,10 +14,12 @@ use Rattle.adb_history.specs.Lives.{output_of, ending_of}
 use Rattle.adb_history.specs.Fifo.{HasBirths}
 use Rattle.adb_history.specs.Answered.{tells_closed, closed_reply, is_heard, FollowsOpen, IsStreamOf, AnswersOpen, IsBehindReplies, RepliesOfStream}
 use Rattle.adb_history.specs.Answered.{HasStreamAlone, IsAnswered}
+use Rattle.adb_births.proofs.Born.{all_births}
 use Rattle.adb_answered.specs.Heard.{asks_stream}
 use Rattle.adb_answered.specs.Served.{OutBy, IsDone, no_ids_reply, IsGiven, IsRefused, ServedIn, AtEachFront, IsEntered, HearsAsTold}
+use Rattle.adb_answered.proofs.Fronts.{at_each_front}
 use Rattle.adb_answered.proofs.HeardLaws.{replies_first, replies_bound, lists_tracked, present_list, nothing_more}
-use Rattle.adb_answered.proofs.ServedHistories.{births_at_fronts, all_served}
+use Rattle.adb_answered.proofs.ServedHistories.{all_served}
 use Rattle.adb_answered.proofs.Hears.{hears_as_told}
 use Rattle.adb_answered.specs.Shown.{Seen, seen, Subject, IsShown}
 use Rattle.adb_answered.proofs.ShownClients.{opened_not_closed}
@@ -44,7 +46,7 @@ unopened_out true replies out n e = absurd (let clash : true ≡ false = e in cc
 
 module _ (h : History) (legal : IsLegal h) where
   births : AtEachFront HasBirths h
-  births = births_at_fronts h legal
+  births = at_each_front all_births h legal
 
   hears : HearsAsTold h
   hears = hears_as_told h legal

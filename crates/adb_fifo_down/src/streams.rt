@@ -5,9 +5,9 @@ ghost use Rattle.adb_capture.specs.declared.entry.Entry.{Entry};
 ghost use Rattle.adb_history.specs.Machine.{IsLegal};
 ghost use Rattle.adb_fifo_down.specs.Followed.{EndsBornAlone, HasLives};
 
-/// In every legal history each stream waits for its device, or is an orphan, or is open, or is over;
-/// and what became due to its client is the replies to the client's requests, and then, where the
-/// client heard of its opening, `OKAY` and what its device wrote.
+/// In every legal history each stream waits for its device, or is an orphan, or is open, or is
+/// over; and what became due to its client is the replies to the client's requests, and then, where
+/// the client heard of its opening, `OKAY` and what its device wrote.
 pub fn every_stream_has_its_life()
     ensures { (history : List Entry) → IsLegal history → HasLives history }
 {}

@@ -21,8 +21,8 @@ pub fn every_legal_history_has_causes()
     ensures { (history : List Entry) → IsLegal history → HasCauses history }
 {}
 
-/// In every legal history each whole request is answered from what the server knew at its own entry,
-/// and nothing else is said.
+/// In every legal history each whole request is answered from what the server knew at its own
+/// entry, and nothing else is said.
 pub fn every_legal_history_is_answered()
     ensures { (history : List Entry) → IsLegal history → IsAnswered history }
 {}
