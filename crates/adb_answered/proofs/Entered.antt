@@ -24,11 +24,11 @@ use Rattle.adb_history.specs.Owned.{IsOwned}
 use Rattle.adb_history.proofs.RuleMoves as moves
 use Rattle.adb_history.proofs.OwnedStep.{owned_moves, begins_owned, start_owned}
 use Rattle.adb_history.proofs.Books.{all_books}
-use Rattle.adb_answered.specs.Served.{IsDone, IsEntered, AtEachFront}
+use Rattle.adb_births.proofs.Born.{all_births}
+use Rattle.adb_answered.specs.Served.{IsDone, IsEntered}
 use Rattle.adb_answered.proofs.BornLaws.{born_more, born_now}
 use Rattle.adb_answered.proofs.ClientTurns.{IsAnother, covers_all, client_kept, client_ups}
 use Rattle.adb_answered.proofs.ServedClients.{done_client}
-use Rattle.adb_answered.proofs.ServedHistories.{front_births, front_older}
 
 -- told nothing, or with a stream
 abbrev EnteredIn : ℕ → History → Type 0
@@ -157,29 +157,28 @@ module _ (c : ℕ) (older : History) (legal : IsLegal older) where
   })
 
 -- In every legal history a client that did not come by itself is told nothing, or came through a forward and has a stream.
-pub all_entered : (h : History) → IsLegal h → AtEachFront HasBirths h → (c : ℕ) → has_joined c h ≡ false → IsDone c [] (state h) (told h) ⊎ IsEntered c h
-all_entered [] legal births c absent =
+pub all_entered : (h : History) → IsLegal h → (c : ℕ) → has_joined c h ≡ false → IsDone c [] (state h) (told h) ⊎ IsEntered c h
+all_entered [] legal c absent =
     inl (record { owned = start_owned; row = λ client is. absurd (let clash : None ≡ Some client = is in cc); told = refl })
-all_entered (Join n ∷ older) legal births c absent =
+all_entered (Join n ∷ older) legal c absent =
     entered_join c older legal.0 n (eqb n c) refl absent legal.2
-    (λ before. all_entered older legal.0 (front_older (Join n) older births) c before)
-all_entered (Enter n port ∷ older) legal births c absent =
-    entered_enter c older legal.0 n port (eqb n c) refl legal.2 (front_births (Enter n port) older births)
-    (all_entered older legal.0 (front_older (Enter n port) older births) c absent)
-all_entered (Read n bytes ∷ older) legal births c absent =
-    entered_more c older legal.0 (Read n bytes) legal.2 tt (all_entered older legal.0 (front_older (Read n bytes) older births) c absent)
-all_entered (End n cause ∷ older) legal births c absent =
-    entered_more c older legal.0 (End n cause) legal.2 tt (all_entered older legal.0 (front_older (End n cause) older births) c absent)
-all_entered (Bound n port ∷ older) legal births c absent =
-    entered_more c older legal.0 (Bound n port) legal.2 tt (all_entered older legal.0 (front_older (Bound n port) older births) c absent)
-all_entered (Attach t kind serial ∷ older) legal births c absent =
-    entered_more c older legal.0 (Attach t kind serial) legal.2 (λ same. omega (arith, same, legal.2.1)) (all_entered older legal.0 (front_older
-    (Attach t kind serial) older births) c absent)
-all_entered (Recv t bytes ∷ older) legal births c absent =
-    entered_more c older legal.0 (Recv t bytes) legal.2 tt (all_entered older legal.0 (front_older (Recv t bytes) older births) c absent)
-all_entered (Detach t cause ∷ older) legal births c absent =
-    entered_more c older legal.0 (Detach t cause) legal.2 tt (all_entered older legal.0 (front_older (Detach t cause) older births) c absent)
-all_entered (Put n bytes ∷ older) legal births c absent =
-    entered_more c older legal.0 (Put n bytes) legal.2 tt (all_entered older legal.0 (front_older (Put n bytes) older births) c absent)
-all_entered (Send t bytes ∷ older) legal births c absent =
-    entered_more c older legal.0 (Send t bytes) legal.2 tt (all_entered older legal.0 (front_older (Send t bytes) older births) c absent)
+    (λ before. all_entered older legal.0 c before)
+all_entered (Enter n port ∷ older) legal c absent =
+    entered_enter c older legal.0 n port (eqb n c) refl legal.2 (all_births older legal.0)
+    (all_entered older legal.0 c absent)
+all_entered (Read n bytes ∷ older) legal c absent =
+    entered_more c older legal.0 (Read n bytes) legal.2 tt (all_entered older legal.0 c absent)
+all_entered (End n cause ∷ older) legal c absent =
+    entered_more c older legal.0 (End n cause) legal.2 tt (all_entered older legal.0 c absent)
+all_entered (Bound n port ∷ older) legal c absent =
+    entered_more c older legal.0 (Bound n port) legal.2 tt (all_entered older legal.0 c absent)
+all_entered (Attach t kind serial ∷ older) legal c absent =
+    entered_more c older legal.0 (Attach t kind serial) legal.2 (λ same. omega (arith, same, legal.2.1)) (all_entered older legal.0 c absent)
+all_entered (Recv t bytes ∷ older) legal c absent =
+    entered_more c older legal.0 (Recv t bytes) legal.2 tt (all_entered older legal.0 c absent)
+all_entered (Detach t cause ∷ older) legal c absent =
+    entered_more c older legal.0 (Detach t cause) legal.2 tt (all_entered older legal.0 c absent)
+all_entered (Put n bytes ∷ older) legal c absent =
+    entered_more c older legal.0 (Put n bytes) legal.2 tt (all_entered older legal.0 c absent)
+all_entered (Send t bytes ∷ older) legal c absent =
+    entered_more c older legal.0 (Send t bytes) legal.2 tt (all_entered older legal.0 c absent)

@@ -40,4 +40,3 @@ pub mod ShownHistories
 pub mod ShownSteps
 pub mod ShownBirths
 pub mod ShownAll
-pub mod Fronts

@@ -26,8 +26,9 @@ use Rattle.adb_history.proofs.Booked.{said, asks_in, asks_now}
 use Rattle.adb_history.proofs.BookTurns.{all_unheard}
 use Rattle.adb_history.proofs.BookReads.{newly_same}
 use Rattle.adb_history.proofs.Books.{booked}
+use Rattle.adb_births.proofs.Born.{all_births}
 use Rattle.adb_answered.specs.Heard.{Heard, asks_stream}
-use Rattle.adb_answered.specs.Served.{IsDone, IsServed, no_ids_reply, HasNoStream, IsGiven, IsRefused, ServedIn, AtEachFront}
+use Rattle.adb_answered.specs.Served.{IsDone, IsServed, no_ids_reply, HasNoStream, IsGiven, IsRefused, ServedIn}
 use Rattle.adb_answered.proofs.HeardEntries.{joined_below, heard_read}
 use Rattle.adb_answered.proofs.HeardAsks.{asks_asking, open_next, heard_now, heard_idle}
 use Rattle.adb_answered.proofs.HeardHistories.{all_answers}
@@ -255,17 +256,11 @@ new_served c older legal may =
     subst (λ (q : Asked). ServedIn (asks_stream q.next) c (Join c ∷ older)) (sym (all_unheard older legal c above).asked)
     (still_none c (Join c) older (apart_births c (Join c) older (λ m of. absurd of)) (none_unborn older legal c above))
 
-pub front_births : (e : Entry) (older : History) → AtEachFront HasBirths (e ∷ older) → HasBirths older
-front_births e older births = births (e ∷ []) older refl
-
-pub front_older : (e : Entry) (older : History) → AtEachFront HasBirths (e ∷ older) → AtEachFront HasBirths older
-front_older e older births newer oldest is = births (e ∷ newer) oldest (ap (λ (x : History). e ∷ x) is)
-
 -- In every legal history a client that came by itself and asked for a stream is served by it.
-pub all_served : (h : History) → IsLegal h → AtEachFront HasBirths h → (c : ℕ) → has_joined c h ≡ true → ServedIn (asks_stream (asked c h).next) c h
-all_served [] legal births c came = absurd (let clash : false ≡ true = came in cc)
-all_served (Join n ∷ older) legal births c came =
-    go (eqb n c) refl came (λ before. all_served older legal.0 (front_older (Join n) older births) c before)
+pub all_served : (h : History) → IsLegal h → (c : ℕ) → has_joined c h ≡ true → ServedIn (asks_stream (asked c h).next) c h
+all_served [] legal c came = absurd (let clash : false ≡ true = came in cc)
+all_served (Join n ∷ older) legal c came =
+    go (eqb n c) refl came (λ before. all_served older legal.0 c before)
   where
     go : (here : Bool) → eqb n c ≡ here → (here || has_joined c older) ≡ true
         → (has_joined c older ≡ true → ServedIn (asks_stream (asked c older).next) c older)
@@ -273,31 +268,31 @@ all_served (Join n ∷ older) legal births c came =
     go true e came before =
         subst (λ (k : ℕ). ServedIn (asks_stream (asked c (Join k ∷ older)).next) c (Join k ∷ older)) (sym (eqb-true n c e))
         (new_served c older legal.0 (subst (λ (k : ℕ). May (state older) (Join k)) (eqb-true n c e) legal.2))
-    go false e came before = served_entry c older legal.0 came (Join n) legal.2 (front_births (Join n) older births) (before came)
-all_served (Enter n port ∷ older) legal births c came =
-    served_entry c older legal.0 came (Enter n port) legal.2 (front_births (Enter n port) older births)
-    (all_served older legal.0 (front_older (Enter n port) older births) c came)
-all_served (Read n bytes ∷ older) legal births c came =
-    served_entry c older legal.0 came (Read n bytes) legal.2 (front_births (Read n bytes) older births)
-    (all_served older legal.0 (front_older (Read n bytes) older births) c came)
-all_served (End n cause ∷ older) legal births c came =
-    served_entry c older legal.0 came (End n cause) legal.2 (front_births (End n cause) older births)
-    (all_served older legal.0 (front_older (End n cause) older births) c came)
-all_served (Bound n port ∷ older) legal births c came =
-    served_entry c older legal.0 came (Bound n port) legal.2 (front_births (Bound n port) older births)
-    (all_served older legal.0 (front_older (Bound n port) older births) c came)
-all_served (Attach t kind serial ∷ older) legal births c came =
-    served_entry c older legal.0 came (Attach t kind serial) legal.2 (front_births (Attach t kind serial) older births)
-    (all_served older legal.0 (front_older (Attach t kind serial) older births) c came)
-all_served (Recv t bytes ∷ older) legal births c came =
-    served_entry c older legal.0 came (Recv t bytes) legal.2 (front_births (Recv t bytes) older births)
-    (all_served older legal.0 (front_older (Recv t bytes) older births) c came)
-all_served (Detach t cause ∷ older) legal births c came =
-    served_entry c older legal.0 came (Detach t cause) legal.2 (front_births (Detach t cause) older births)
-    (all_served older legal.0 (front_older (Detach t cause) older births) c came)
-all_served (Put n bytes ∷ older) legal births c came =
-    served_entry c older legal.0 came (Put n bytes) legal.2 (front_births (Put n bytes) older births)
-    (all_served older legal.0 (front_older (Put n bytes) older births) c came)
-all_served (Send t bytes ∷ older) legal births c came =
-    served_entry c older legal.0 came (Send t bytes) legal.2 (front_births (Send t bytes) older births)
-    (all_served older legal.0 (front_older (Send t bytes) older births) c came)
+    go false e came before = served_entry c older legal.0 came (Join n) legal.2 (all_births older legal.0) (before came)
+all_served (Enter n port ∷ older) legal c came =
+    served_entry c older legal.0 came (Enter n port) legal.2 (all_births older legal.0)
+    (all_served older legal.0 c came)
+all_served (Read n bytes ∷ older) legal c came =
+    served_entry c older legal.0 came (Read n bytes) legal.2 (all_births older legal.0)
+    (all_served older legal.0 c came)
+all_served (End n cause ∷ older) legal c came =
+    served_entry c older legal.0 came (End n cause) legal.2 (all_births older legal.0)
+    (all_served older legal.0 c came)
+all_served (Bound n port ∷ older) legal c came =
+    served_entry c older legal.0 came (Bound n port) legal.2 (all_births older legal.0)
+    (all_served older legal.0 c came)
+all_served (Attach t kind serial ∷ older) legal c came =
+    served_entry c older legal.0 came (Attach t kind serial) legal.2 (all_births older legal.0)
+    (all_served older legal.0 c came)
+all_served (Recv t bytes ∷ older) legal c came =
+    served_entry c older legal.0 came (Recv t bytes) legal.2 (all_births older legal.0)
+    (all_served older legal.0 c came)
+all_served (Detach t cause ∷ older) legal c came =
+    served_entry c older legal.0 came (Detach t cause) legal.2 (all_births older legal.0)
+    (all_served older legal.0 c came)
+all_served (Put n bytes ∷ older) legal c came =
+    served_entry c older legal.0 came (Put n bytes) legal.2 (all_births older legal.0)
+    (all_served older legal.0 c came)
+all_served (Send t bytes ∷ older) legal c came =
+    served_entry c older legal.0 came (Send t bytes) legal.2 (all_births older legal.0)
+    (all_served older legal.0 c came)

@@ -11,13 +11,10 @@ use Rattle.adb_history.specs.Bytes.{has_joined, has_failed}
 use Rattle.adb_history.specs.Book.{asked}
 use Rattle.adb_history.specs.Births.{since, told_to, joined}
 use Rattle.adb_history.specs.Lives.{output_of, ending_of}
-use Rattle.adb_history.specs.Fifo.{HasBirths}
 use Rattle.adb_history.specs.Answered.{tells_closed, closed_reply, is_heard, FollowsOpen, IsStreamOf, AnswersOpen, IsBehindReplies, RepliesOfStream}
 use Rattle.adb_history.specs.Answered.{HasStreamAlone, IsAnswered}
-use Rattle.adb_births.proofs.Born.{all_births}
 use Rattle.adb_answered.specs.Heard.{asks_stream}
-use Rattle.adb_answered.specs.Served.{OutBy, IsDone, no_ids_reply, IsGiven, IsRefused, ServedIn, AtEachFront, IsEntered, HearsAsTold}
-use Rattle.adb_answered.proofs.Fronts.{at_each_front}
+use Rattle.adb_answered.specs.Served.{OutBy, IsDone, no_ids_reply, IsGiven, IsRefused, ServedIn, IsEntered, HearsAsTold}
 use Rattle.adb_answered.proofs.HeardLaws.{replies_first, replies_bound, lists_tracked, present_list, nothing_more}
 use Rattle.adb_answered.proofs.ServedHistories.{all_served}
 use Rattle.adb_answered.proofs.Hears.{hears_as_told}
@@ -45,9 +42,6 @@ unopened_out false replies out n e = n
 unopened_out true replies out n e = absurd (let clash : true ≡ false = e in cc)
 
 module _ (h : History) (legal : IsLegal h) where
-  births : AtEachFront HasBirths h
-  births = at_each_front all_births h legal
-
   hears : HearsAsTold h
   hears = hears_as_told h legal
 
@@ -58,7 +52,7 @@ module _ (h : History) (legal : IsLegal h) where
 
     -- what is known of its stream
     known : (g : IsGiven c h (asked c h).replies (state h) (told h)) → IsShownAt g.stream g.birth h
-    known g = all_shown h legal births g.stream g.birth g.born g.alone (subst (λ (n : ℕ). has_joined n h ≡ true) (sym g.client) came)
+    known g = all_shown h legal g.stream g.birth g.born g.alone (subst (λ (n : ℕ). has_joined n h ≡ true) (sym g.client) came)
 
     -- it heard that its stream is open
     given_heard : (g : IsGiven c h (asked c h).replies (state h) (told h)) → is_heard g.stream g.birth h ≡ true → IsBehindReplies h c (AnswersOpen h c)
@@ -113,7 +107,7 @@ module _ (h : History) (legal : IsLegal h) where
     }
 
     pub stream_reply : RepliesOfStream h c
-    stream_reply transport service next = go (subst (λ (o : Option Next). ServedIn (asks_stream o) c h) next (all_served h legal births c came))
+    stream_reply transport service next = go (subst (λ (o : Option Next). ServedIn (asks_stream o) c h) next (all_served h legal c came))
       where
         go : IsGiven c h (asked c h).replies (state h) (told h) ⊎ IsRefused c h (asked c h).replies (state h) (told h)
             → IsBehindReplies h c (AnswersOpen h c)
@@ -122,7 +116,7 @@ module _ (h : History) (legal : IsLegal h) where
 
   -- ---- a client that came through a forward
   pub stream_alone : (c : ℕ) → has_joined c h ≡ false → HasStreamAlone h c
-  stream_alone c absent = go (all_entered h legal births c absent)
+  stream_alone c absent = go (all_entered h legal c absent)
     where
       go : IsDone c (let none : List ℕ = [] in none) (state h) (told h) ⊎ IsEntered c h → HasStreamAlone h c
       go (inl d) = inl d.told

@@ -23,12 +23,13 @@ use Rattle.adb_history.specs.Tied.{came_count}
 use Rattle.adb_history.proofs.Numbers.{counted}
 use Rattle.adb_history.proofs.Booked.{said, asks_in, asks_now}
 use Rattle.adb_history.proofs.Books.{booked}
+use Rattle.adb_births.proofs.Born.{all_births}
 use Rattle.adb_answered.specs.Heard.{Heard, asks_stream}
-use Rattle.adb_answered.specs.Served.{ServedIn, AtEachFront}
+use Rattle.adb_answered.specs.Served.{ServedIn}
 use Rattle.adb_answered.proofs.HeardAsks.{asks_asking, open_next, heard_now}
 use Rattle.adb_answered.proofs.BornLaws.{birth_of, born_either, IsBornNow, none_unborn}
 use Rattle.adb_answered.proofs.ServedAsks as asks
-use Rattle.adb_answered.proofs.ServedHistories.{IsOpen, stream_open, no_birth, none_at, silent_bound, silent_read, silent_idle, front_births, front_older}
+use Rattle.adb_answered.proofs.ServedHistories.{IsOpen, stream_open, no_birth, none_at, silent_bound, silent_read, silent_idle}
 use Rattle.adb_answered.proofs.ServedHistories.{all_served}
 use Rattle.adb_answered.proofs.ShownHistories.{IsShownAt}
 use Rattle.adb_answered.proofs.ShownSteps.{shown_step}
@@ -68,11 +69,11 @@ only x b zero e = record { first = refl; same = (let both : Some x ≡ Some b = 
 only x b (suc zero) e = absurd (let clash : None ≡ Some b = e in cc)
 only x b (suc (suc k)) e = absurd (let clash : None ≡ Some b = e in cc)
 
-module _ (l : ℕ) (b : Birth) (older : History) (legal : IsLegal older) (fronts : AtEachFront HasBirths older) where
+module _ (l : ℕ) (b : Birth) (older : History) (legal : IsLegal older) where
   -- ---- a stream that was born before
   module _ (came : has_joined b.client older ≡ true) (old : born l older ≡ Some b) where
     asked_stream : asks_stream (asked b.client older).next ≡ true
-    asked_stream = go (asks_stream (asked b.client older).next) refl (all_served older legal fronts b.client came)
+    asked_stream = go (asks_stream (asked b.client older).next) refl (all_served older legal b.client came)
       where
         go : (v : Bool) → asks_stream (asked b.client older).next ≡ v → ServedIn v b.client older → asks_stream (asked b.client older).next ≡ true
         go true e h = e
@@ -189,20 +190,20 @@ module _ (l : ℕ) (b : Birth) (older : History) (legal : IsLegal older) (fronts
   new_shown (Put n bytes) may births alone came new = absurd (birth_of (Put n bytes) older new.place b new.is)
   new_shown (Send t bytes) may births alone came new = absurd (birth_of (Send t bytes) older new.place b new.is)
 
-entry_shown : (l : ℕ) (b : Birth) (e : Entry) (older : History) → IsLegal (e ∷ older) → AtEachFront HasBirths (e ∷ older)
+entry_shown : (l : ℕ) (b : Birth) (e : Entry) (older : History) → IsLegal (e ∷ older)
     → (born l older ≡ Some b → has_joined b.client older ≡ true → IsShownAt l b older)
     → born l (e ∷ older) ≡ Some b → b.forwarded ≡ false → has_joined b.client (e ∷ older) ≡ true → IsShownAt l b (e ∷ older)
-entry_shown l b e older legal births before is alone came = go (born_either l b e older is)
+entry_shown l b e older legal before is alone came = go (born_either l b e older is)
   where
     go : (born l older ≡ Some b) ⊎ IsBornNow l b e older → IsShownAt l b (e ∷ older)
     go (inl old) =
-        let joined = came_before l b older legal.0 (front_older e older births) e legal.2 old came in
-        shown_step l b e older legal joined (same_replies l b older legal.0 (front_older e older births) joined old e legal.2) (before old joined)
-    go (inr new) = new_shown l b older legal.0 (front_older e older births) e legal.2 (front_births e older births) alone came new
+        let joined = came_before l b older legal.0 e legal.2 old came in
+        shown_step l b e older legal joined (same_replies l b older legal.0 joined old e legal.2) (before old joined)
+    go (inr new) = new_shown l b older legal.0 e legal.2 (all_births older legal.0) alone came new
 
 -- In every legal history it is known of each stream that a client asked for.
-pub all_shown : (h : History) → IsLegal h → AtEachFront HasBirths h → (l : ℕ) (b : Birth) → born l h ≡ Some b → b.forwarded ≡ false
+pub all_shown : (h : History) → IsLegal h → (l : ℕ) (b : Birth) → born l h ≡ Some b → b.forwarded ≡ false
     → has_joined b.client h ≡ true → IsShownAt l b h
-all_shown [] legal births l b is alone came = absurd (let clash : false ≡ true = came in cc)
-all_shown (e ∷ older) legal births l b is alone came =
-    entry_shown l b e older legal births (λ old joined. all_shown older legal.0 (front_older e older births) l b old alone joined) is alone came
+all_shown [] legal l b is alone came = absurd (let clash : false ≡ true = came in cc)
+all_shown (e ∷ older) legal l b is alone came =
+    entry_shown l b e older legal (λ old joined. all_shown older legal.0 l b old alone joined) is alone came

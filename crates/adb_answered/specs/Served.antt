@@ -84,10 +84,6 @@ abbrev pub ServedIn : Bool → ℕ → History → Type 0
 ServedIn false c h = HasNoStream c h
 ServedIn true c h = IsGiven c h (asked c h).replies (state h) (told h) ⊎ IsRefused c h (asked c h).replies (state h) (told h)
 
--- what held at each time of a history
-abbrev pub AtEachFront : (History → Type 0) → History → Type 0
-AtEachFront Holds h = (newer older : History) → newer ++ older ≡ h → Holds older
-
 -- A client that came through a forward, and its stream, which was born.
 pub record IsEntered (c : ℕ) (h : History) : Type 0 where
   pub stream : ℕ
