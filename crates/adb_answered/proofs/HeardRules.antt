@@ -129,18 +129,19 @@ module _ (c : ℕ) (r : Heard) (d : DeviceTable) where
   ends_first_answers true t s w h = all_end_answers t lost s w h
   ends_first_answers false t s w h = after_quietly (λ s w. Answers c r d s w) w s h
 
-  pub online_answers : (new : DeviceTable) (t version maxdata : ℕ) (identity : Identity) (s : State) (w : List Event) → Answers c r d s w
-      → Answers c r new (connects_now t version maxdata identity s).state (w ++ (connects_now t version maxdata identity s).told)
-  online_answers new t version maxdata identity s w h =
-      let first : Made = streams_end_first (is_connected t s.devices) t s in
-      let whole : Made = connects_now t version maxdata identity s in
-      let kept = ends_first_answers (is_connected t s.devices) t s w h in
-      quiet_after (λ s w. Answers c r new s w) w first.told whole.state
-      (record {
-        owned = owned_moves.online t version maxdata identity s w h.owned;
-        row = rows_marked c r d new first.state.clients kept.row;
-        owes = kept.owes;
-      })
+  module _ (new : DeviceTable) where
+    pub online_answers : (t version maxdata : ℕ) (identity : Identity) (s : State) (w : List Event) → Answers c r d s w
+        → Answers c r new (connects_now t version maxdata identity s).state (w ++ (connects_now t version maxdata identity s).told)
+    online_answers t version maxdata identity s w h =
+        let first : Made = streams_end_first (is_connected t s.devices) t s in
+        let whole : Made = connects_now t version maxdata identity s in
+        let kept = ends_first_answers (is_connected t s.devices) t s w h in
+        quiet_after (λ s w. Answers c r new s w) w first.told whole.state
+        (record {
+          owned = owned_moves.online t version maxdata identity s w h.owned;
+          row = rows_marked c r d new first.state.clients kept.row;
+          owes = kept.owes;
+        })
 
   -- ---- OKAY
   hears_rows : (o : Option Client) (n : ℕ) (s : State) → RowsSay c r d s.clients → RowsSay c r d (hears_okay o n s).state.clients

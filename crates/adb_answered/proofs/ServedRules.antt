@@ -251,21 +251,22 @@ module _ (c l : ℕ) (replies : List ℕ) where
         (ap (λ (z : Stream). z.client) (sym row), ap (λ (z : Stream). z.part.orphan) (sym row))
 
     -- its client is gone: its row goes, or it is an orphan
-    fails_own : (b : Bool) (k : ℕ) (cause : Cause) (f : Stream → Option Stream) (s : State) (w : List Event)
-        → ((x y : Stream) → f x ≡ Some y → (y.client ≡ x.client) × (y.part.orphan ≡ true)) → IsServed b c l replies s w
-        → (y : Stream) → change_row k (option_and_then f) s.streams l ≡ Some y
-        → IsItsOwn c (b ≡ false → ending_in l (w ++ ended k (client_failed cause) ∷ []) ≡ None) y
-    fails_own b k cause f s w gone h y at_l = go (eqb k l) refl (s.streams l) refl at_l
-      where
-        go : (here : Bool) → eqb k l ≡ here → (o : Option Stream) → s.streams l ≡ o → cond here (option_and_then f o) o ≡ Some y
-            → IsItsOwn c (b ≡ false → ending_in l (w ++ ended k (client_failed cause) ∷ []) ≡ None) y
-        go true e None is at = absurd (let clash : None ≡ Some y = at in cc)
-        go true e (Some x) is at =
-            let left = gone x y at in
-            record { client = left.0 ∙ (h.own x is).client; live = λ o. absurd (let clash : true ≡ false = sym left.1 ∙ o in cc) }
-        go false e o is at =
-            like_own b s.streams w h.own (ended k (client_failed cause) ∷ [])
-            (ap (λ (b : Bool). cond b (Some (client_failed cause)) None) e) y (is ∙ at)
+    module _ (b : Bool) (k : ℕ) (cause : Cause) where
+      fails_own : (f : Stream → Option Stream) (s : State) (w : List Event)
+          → ((x y : Stream) → f x ≡ Some y → (y.client ≡ x.client) × (y.part.orphan ≡ true)) → IsServed b c l replies s w
+          → (y : Stream) → change_row k (option_and_then f) s.streams l ≡ Some y
+          → IsItsOwn c (b ≡ false → ending_in l (w ++ ended k (client_failed cause) ∷ []) ≡ None) y
+      fails_own f s w gone h y at_l = go (eqb k l) refl (s.streams l) refl at_l
+        where
+          go : (here : Bool) → eqb k l ≡ here → (o : Option Stream) → s.streams l ≡ o → cond here (option_and_then f o) o ≡ Some y
+              → IsItsOwn c (b ≡ false → ending_in l (w ++ ended k (client_failed cause) ∷ []) ≡ None) y
+          go true e None is at = absurd (let clash : None ≡ Some y = at in cc)
+          go true e (Some x) is at =
+              let left = gone x y at in
+              record { client = left.0 ∙ (h.own x is).client; live = λ o. absurd (let clash : true ≡ false = sym left.1 ∙ o in cc) }
+          go false e o is at =
+              like_own b s.streams w h.own (ended k (client_failed cause) ∷ [])
+              (ap (λ (b : Bool). cond b (Some (client_failed cause)) None) e) y (is ∙ at)
 
     -- What a client is handed that asked for a stream, through each move in which it asks nothing.
     pub served_turns : Turns everywhere asker (λ s w. IsServedSo c l replies s w)
