@@ -262,15 +262,15 @@ module _ (asker c : ℕ) (r : Heard) (apart : asker ≢ c) where
         let made : Made = ends_row l ending stream s in
         subst (λ (d : DeviceTable). Answers c r d made.state (w ++ made.told)) (sym (ends_devices l ending stream s))
         (ends_answers c r s.devices l ending stream s w is h);
-    fails_open = λ n l cause x stream s w at h. record {
-      owned = owned_moves.fails_open n l x stream s w at.0 at.1 at.2 h.owned;
+    fails_open = λ n l failing s w at h. record {
+      owned = owned_moves.fails_open n l failing.client failing.stream s w at.0 at.1 at.2 h.owned;
       row = rows_none c r s.devices n s.clients h.row;
-      owes = owes_none c r w (ended l (client_failed cause) ∷ []) refl h.owes;
+      owes = owes_none c r w (ended l (client_failed failing.cause) ∷ []) refl h.owes;
     };
-    fails_asked = λ n l cause x stream s w may at h. record {
-      owned = owned_moves.fails_asked n l x stream s w at.0 at.1 at.2 h.owned;
+    fails_asked = λ n l failing s w may at h. record {
+      owned = owned_moves.fails_asked n l failing.client failing.stream s w at.0 at.1 at.2 h.owned;
       row = rows_none c r s.devices n s.clients h.row;
-      owes = owes_none c r w (ended l (client_failed cause) ∷ []) refl h.owes;
+      owes = owes_none c r w (ended l (client_failed failing.cause) ∷ []) refl h.owes;
     };
     links = λ t f s w h. record { owned = owned_moves.links t f s w h.owned; row = h.row; owes = h.owes };
     link_ends = λ t ending s w so h. link_ends_answers c r s.devices (link_ends t ending s).state.devices t ending s w h;

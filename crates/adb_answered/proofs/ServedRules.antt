@@ -425,24 +425,24 @@ module _ (c l : ℕ) (replies : List ℕ) where
         },
       );
       ends = λ k ending stream s w is so (b, h). (b, ends_served b c l replies k ending stream s w is h so);
-      fails_open = λ n k cause x stream s w at (b, h). (
+      fails_open = λ n k failing s w at (b, h). (
         b,
         record {
-          owned = owned_moves.fails_open n k x stream s w at.0 at.1 at.2 h.owned;
+          owned = owned_moves.fails_open n k failing.client failing.stream s w at.0 at.1 at.2 h.owned;
           row = at_none (steady l b) c n s.clients h.row;
-          own = fails_own b k cause none_kept s w (λ z y e. absurd (let clash : None ≡ Some y = e in cc)) h;
+          own = fails_own b k failing.cause none_kept s w (λ z y e. absurd (let clash : None ≡ Some y = e in cc)) h;
           drawn = h.drawn;
-          out = out_quiet c l replies b w (ended k (client_failed cause) ∷ []) refl (fails_quiet k cause) h.out;
+          out = out_quiet c l replies b w (ended k (client_failed failing.cause) ∷ []) refl (fails_quiet k failing.cause) h.out;
         },
       );
-      fails_asked = λ n k cause x stream s w may at (b, h). (
+      fails_asked = λ n k failing s w may at (b, h). (
         b,
         record {
-          owned = owned_moves.fails_asked n k x stream s w at.0 at.1 at.2 h.owned;
+          owned = owned_moves.fails_asked n k failing.client failing.stream s w at.0 at.1 at.2 h.owned;
           row = at_none (steady l b) c n s.clients h.row;
-          own = fails_own b k cause (with_stream_part (orphaned stream.part)) s w (λ z y e. orphan_of stream z y e) h;
+          own = fails_own b k failing.cause (with_stream_part (orphaned failing.stream.part)) s w (λ z y e. orphan_of failing.stream z y e) h;
           drawn = h.drawn;
-          out = out_quiet c l replies b w (ended k (client_failed cause) ∷ []) refl (fails_quiet k cause) h.out;
+          out = out_quiet c l replies b w (ended k (client_failed failing.cause) ∷ []) refl (fails_quiet k failing.cause) h.out;
         },
       );
       links = λ t f s w (b, h). (b, record { owned = owned_moves.links t f s w h.owned; row = h.row; own = h.own; drawn = h.drawn; out = h.out });

@@ -5,7 +5,6 @@ use Rattle.std.proofs.lemmas.Bool.{ne_eqb, eqb-true, eqb-false, eq-eqb}
 use Rattle.std.proofs.lemmas.List.{append-nil}
 use Rattle.std.specs.Prelude.{codes, option_and_then}
 use Rattle.adb_outside.specs.Tables.{Rows, change_row}
-use Rattle.adb_outside.specs.declared.kinds.Cause.{Cause}
 use Rattle.adb_outside.specs.declared.identity.Identity.{Identity}
 use Rattle.adb_stream.specs.declared.row.Stream.{Stream}
 use Rattle.adb_client.specs.declared.phase.Phase.{Phase}
@@ -36,7 +35,7 @@ use Rattle.adb_history.proofs.Following.{after_quietly}
 use Rattle.adb_history.proofs.Growing.{owed_append}
 use Rattle.adb_history.proofs.OwnedMoves.{client_of}
 use Rattle.adb_history.proofs.OwnedStep.{owned_moves, ends_state, client_loses_frame}
-use Rattle.adb_answered.specs.Turns.{IsOpenedBy, EndsSo, Turns}
+use Rattle.adb_answered.specs.Turns.{IsOpenedBy, EndsSo, Failing, Turns}
 use Rattle.adb_answered.specs.Served.{PhaseFor, RowServed}
 use Rattle.adb_answered.specs.Shown.{aside, Seen, Subject, WillNotOpen, ShownOut, IsShown}
 use Rattle.adb_answered.proofs.ToldOthers.{quiet_after, all_stop_owed, stopped_none, owed_other, client_loses_owed, owned_opened, forgets_owned}
@@ -398,89 +397,95 @@ module _ (heard : Bool) (x : Subject) (seen : Seen) where
     not_here : eqb asker x.client ≡ false
     not_here = ne_eqb asker x.client apart
 
-    fails_shown : (n k : ℕ) (cause : Cause) (client : Client) (stream : Stream) (s : State) (w : List Event)
-        → (s.clients n ≡ Some client) × (client.about.phase ≡ Streaming k) × (s.streams k ≡ Some stream) → W s w
-        → W (to_stream k none_kept (to_client n none_kept s)) (w ++ ended k (client_failed cause) ∷ [])
-    fails_shown n k cause client stream s w at h = go (eqb k x.stream) refl
+    fails_shown : (n k : ℕ) (failing : Failing) (s : State) (w : List Event)
+        → (s.clients n ≡ Some failing.client) × (failing.client.about.phase ≡ Streaming k) × (s.streams k ≡ Some failing.stream) → W s w
+        → W (to_stream k none_kept (to_client n none_kept s)) (w ++ ended k (client_failed failing.cause) ∷ [])
+    fails_shown n k failing s w at h = go (eqb k x.stream) refl
       where
         next : State
         next = to_stream k none_kept (to_client n none_kept s)
 
         owned : IsOwned (to_stream k none_kept (to_client n none_kept s))
-        owned = owned_moves.fails_open n k client stream s w at.0 at.1 at.2 h.owned
+        owned = owned_moves.fails_open n k failing.client failing.stream s w at.0 at.1 at.2 h.owned
 
         row : (y : Client) → (to_client n none_kept s).clients x.client ≡ Some y → RowServed x.stream heard y
         row = at_none (steady x.stream heard) x.client n s.clients h.row
 
         hears : k ≡ x.stream → heard ≡ true
         hears same =
-            let own : StreamOf s.streams n k = subst (λ (p : Phase). HoldsIn p s.streams n client) at.1 (h.owned.owned.client n client at.0).holds in
-            let who : n ≡ x.client = fails_client n k client stream s w at.0 own at.2 same h in
-            let served = h.row client (subst (λ (m : ℕ). s.clients m ≡ Some client) who at.0) in
+            let own : StreamOf s.streams n k =
+            subst (λ (p : Phase). HoldsIn p s.streams n failing.client) at.1 (h.owned.owned.client n failing.client at.0).holds in
+            let who : n ≡ x.client = fails_client n k failing.client failing.stream s w at.0 own at.2 same h in
+            let served = h.row failing.client (subst (λ (m : ℕ). s.clients m ≡ Some failing.client) who at.0) in
             let phase : PhaseFor (Streaming k) x.stream heard = subst (λ (p : Phase). PhaseFor p x.stream heard) at.1 served.phase in
             phase.1
 
-        go : (b : Bool) → eqb k x.stream ≡ b → W (to_stream k none_kept (to_client n none_kept s)) (w ++ ended k (client_failed cause) ∷ [])
-        go false e = shown_steps heard x seen s (to_stream k none_kept (to_client n none_kept s)) w (ended k (client_failed cause) ∷ [])
+        go : (b : Bool) → eqb k x.stream ≡ b → W (to_stream k none_kept (to_client n none_kept s)) (w ++ ended k (client_failed failing.cause) ∷ [])
+        go false e = shown_steps heard x seen s (to_stream k none_kept (to_client n none_kept s)) w (ended k (client_failed failing.cause) ∷ [])
             (steps_same x s (to_stream k none_kept (to_client n none_kept s)) (other_row k none_kept s.streams (eqb-false k x.stream e)) (λ e. e)) owned row
             (omega arith, refl) h
-        go true e = shown_gone heard x seen s (to_stream k none_kept (to_client n none_kept s)) w (ended k (client_failed cause) ∷ []) owned row
+        go true e = shown_gone heard x seen s (to_stream k none_kept (to_client n none_kept s)) w (ended k (client_failed failing.cause) ∷ []) owned row
             (none_row k s.streams (eqb-true k x.stream e))
             (λ quiet. absurd (let clash : true ≡ false = sym (hears (eqb-true k x.stream e)) ∙ quiet in cc)) (omega arith, refl) h
 
-    asked_shown : (n k : ℕ) (cause : Cause) (client : Client) (stream : Stream) (s : State) (w : List Event) → (n ≡ x.client → x.failed ≡ true)
-        → (s.clients n ≡ Some client) × (client.about.phase ≡ Opening k) × (s.streams k ≡ Some stream) → W s w
-        → W (to_stream k (with_stream_part (orphaned stream.part)) (to_client n none_kept s)) (w ++ ended k (client_failed cause) ∷ [])
-    asked_shown n k cause client stream s w may at h = go (eqb k x.stream) refl
+    asked_shown : (n k : ℕ) (failing : Failing) (s : State) (w : List Event) → (n ≡ x.client → x.failed ≡ true)
+        → (s.clients n ≡ Some failing.client) × (failing.client.about.phase ≡ Opening k) × (s.streams k ≡ Some failing.stream) → W s w
+        → W (to_stream k (with_stream_part (orphaned failing.stream.part)) (to_client n none_kept s)) (w ++ ended k (client_failed failing.cause) ∷ [])
+    asked_shown n k failing s w may at h = go (eqb k x.stream) refl
       where
         next : State
-        next = to_stream k (with_stream_part (orphaned stream.part)) (to_client n none_kept s)
+        next = to_stream k (with_stream_part (orphaned failing.stream.part)) (to_client n none_kept s)
 
-        owned : IsOwned (to_stream k (with_stream_part (orphaned stream.part)) (to_client n none_kept s))
-        owned = owned_moves.fails_asked n k client stream s w at.0 at.1 at.2 h.owned
+        owned : IsOwned (to_stream k (with_stream_part (orphaned failing.stream.part)) (to_client n none_kept s))
+        owned = owned_moves.fails_asked n k failing.client failing.stream s w at.0 at.1 at.2 h.owned
 
         row : (y : Client) → (to_client n none_kept s).clients x.client ≡ Some y → RowServed x.stream heard y
         row = at_none (steady x.stream heard) x.client n s.clients h.row
 
         fails : k ≡ x.stream → x.failed ≡ true
         fails same =
-            let own : StreamOf s.streams n k = subst (λ (p : Phase). HoldsIn p s.streams n client) at.1 (h.owned.owned.client n client at.0).holds in
-            may (fails_client n k client stream s w at.0 own at.2 same h)
+            let own : StreamOf s.streams n k =
+            subst (λ (p : Phase). HoldsIn p s.streams n failing.client) at.1 (h.owned.owned.client n failing.client at.0).holds in
+            may (fails_client n k failing.client failing.stream s w at.0 own at.2 same h)
 
-        orphan_row : k ≡ x.stream → change_row k (option_and_then (with_stream_part (orphaned stream.part))) s.streams x.stream
-            ≡ Some (record stream { part = orphaned stream.part })
+        orphan_row : k ≡ x.stream → change_row k (option_and_then (with_stream_part (orphaned failing.stream.part))) s.streams x.stream
+            ≡ Some (record failing.stream { part = orphaned failing.stream.part })
         orphan_row same =
-            ap (λ (b : Bool). cond b (option_and_then (with_stream_part (orphaned stream.part)) (s.streams x.stream)) (s.streams x.stream))
+            ap (λ (b : Bool). cond b (option_and_then (with_stream_part (orphaned failing.stream.part)) (s.streams x.stream)) (s.streams x.stream))
             (eq-eqb k x.stream same)
-            ∙ ap (option_and_then (with_stream_part (orphaned stream.part))) (ap s.streams (sym same) ∙ at.2)
+            ∙ ap (option_and_then (with_stream_part (orphaned failing.stream.part))) (ap s.streams (sym same) ∙ at.2)
 
-        orphan_is : k ≡ x.stream → (y : Stream) → (to_stream k (with_stream_part (orphaned stream.part)) (to_client n none_kept s)).streams x.stream ≡ Some y
-            → record stream { part = orphaned stream.part } ≡ y
+        orphan_is : k ≡ x.stream → (y : Stream) → (to_stream k (with_stream_part (orphaned failing.stream.part)) (to_client n none_kept s)).streams x.stream
+            ≡ Some y → record failing.stream { part = orphaned failing.stream.part } ≡ y
         orphan_is same y is =
-            let both : Some (record stream { part = orphaned stream.part }) ≡ Some y = sym (orphan_row same) ∙ is in cc
+            let both : Some (record failing.stream { part = orphaned failing.stream.part }) ≡ Some y = sym (orphan_row same) ∙ is in cc
 
         out_orphan : k ≡ x.stream → (b : Bool) → ShownOut b x seen s (owed_to x.client w)
-            → ShownOut b x seen (to_stream k (with_stream_part (orphaned stream.part)) (to_client n none_kept s))
-            (owed_to x.client (w ++ ended k (client_failed cause) ∷ []))
-        out_orphan same true h =
-            record { bytes = h.bytes; out_is = none_more true x seen w (ended k (client_failed cause) ∷ []) refl ∙ h.out_is; may = h.may; told = h.told }
+            → ShownOut b x seen (to_stream k (with_stream_part (orphaned failing.stream.part)) (to_client n none_kept s))
+            (owed_to x.client (w ++ ended k (client_failed failing.cause) ∷ []))
+        out_orphan same true h = record {
+          bytes = h.bytes;
+          out_is = none_more true x seen w (ended k (client_failed failing.cause) ∷ []) refl ∙ h.out_is;
+          may = h.may;
+          told = h.told;
+        }
         out_orphan same false h = record {
           closed = h.closed;
-          out_is = none_more false x seen w (ended k (client_failed cause) ∷ []) refl ∙ h.out_is;
+          out_is = none_more false x seen w (ended k (client_failed failing.cause) ∷ []) refl ∙ h.out_is;
           waits = λ y is o. absurd (let clash : true ≡ false = ap (λ (z : Stream). z.part.orphan) (orphan_is same y is) ∙ o in cc);
           gone = λ gone. inr (inr (fails same));
           none = h.none;
         }
 
         go : (b : Bool) → eqb k x.stream ≡ b
-            → W (to_stream k (with_stream_part (orphaned stream.part)) (to_client n none_kept s)) (w ++ ended k (client_failed cause) ∷ [])
-        go false e = shown_steps heard x seen s (to_stream k (with_stream_part (orphaned stream.part)) (to_client n none_kept s)) w
-            (ended k (client_failed cause) ∷ [])
-            (steps_same x s (to_stream k (with_stream_part (orphaned stream.part)) (to_client n none_kept s))
-            (other_row k (with_stream_part (orphaned stream.part)) s.streams (eqb-false k x.stream e)) (λ e. e)) owned row (omega arith, refl) h
+            → W (to_stream k (with_stream_part (orphaned failing.stream.part)) (to_client n none_kept s)) (w ++ ended k (client_failed failing.cause) ∷ [])
+        go false e = shown_steps heard x seen s (to_stream k (with_stream_part (orphaned failing.stream.part)) (to_client n none_kept s)) w
+            (ended k (client_failed failing.cause) ∷ [])
+            (steps_same x s (to_stream k (with_stream_part (orphaned failing.stream.part)) (to_client n none_kept s))
+            (other_row k (with_stream_part (orphaned failing.stream.part)) s.streams (eqb-false k x.stream e)) (λ e. e)) owned row (omega arith, refl) h
         go true e =
             let same : k ≡ x.stream = eqb-true k x.stream e in
-            let was = h.own stream (ap s.streams (sym same) ∙ at.2) in
+            let was = h.own failing.stream (ap s.streams (sym same) ∙ at.2) in
             record {
               owned = owned;
               row = row;
@@ -543,8 +548,8 @@ module _ (heard : Bool) (x : Subject) (seen : Seen) where
       opened = λ k remote word stream s w is by may h. opened_apart k remote word stream s w is by may h;
       orphan_goes = λ k stream s w is orphan h. orphan_shown k stream s w is orphan h;
       ends = λ k ending stream s w is so h. ends_so_shown heard x seen k ending stream s w is so h;
-      fails_open = λ n k cause client stream s w at h. fails_shown n k cause client stream s w at h;
-      fails_asked = λ n k cause client stream s w may at h. asked_shown n k cause client stream s w may at h;
+      fails_open = λ n k failing s w at h. fails_shown n k failing s w at h;
+      fails_asked = λ n k failing s w may at h. asked_shown n k failing s w may at h;
       links = λ t f s w h. shown_quietly heard x seen s (to_link t (λ link. Some (f link)) s) w
           (steps_same x s (to_link t (λ link. Some (f link)) s) refl (λ e. link_stays t x.link (λ link. Some (f link)) s.links e))
           (owned_moves.links t f s w h.owned) h.row (omega arith) h;
