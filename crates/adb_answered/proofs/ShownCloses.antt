@@ -25,7 +25,7 @@ use Rattle.adb_answered.proofs.Clearing.{none_of, ends_streams, link_ends_cleare
 use Rattle.adb_answered.proofs.Openings.{remote_sealed, seen_pending, seen_one}
 use Rattle.adb_answered.proofs.ServedMoves.{phase_waiting}
 use Rattle.adb_answered.proofs.ShownMoves.{shown_client}
-use Rattle.adb_answered.proofs.ShownRules.{ends_shown, link_ends_cut, online_shown}
+use Rattle.adb_answered.proofs.ShownEnds.{ends_shown, link_ends_cut, online_shown}
 use Rattle.adb_answered.proofs.ShownPackets.{seen_on, gone_more, gone_reason, told_more, sealed_more, still_none, pardon, restore, live_link, no_link}
 
 module _ (x : Subject) where
