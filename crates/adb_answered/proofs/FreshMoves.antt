@@ -254,17 +254,17 @@ module _ (joined : ℕ → Bool) where
     orphan_goes = λ l stream s w is orphan h.
         record { owned = owned_moves.orphan_goes l stream s w is orphan h.owned; alone = h.alone; unended = h.unended };
     ends = λ k ending stream s w is so h. ends_fresh k ending stream s w is h;
-    fails_open = λ c k cause x stream s w at h. record {
-      owned = owned_moves.fails_open c k x stream s w at.0 at.1 at.2 h.owned;
+    fails_open = λ c k failing s w at h. record {
+      owned = owned_moves.fails_open c k failing.client failing.stream s w at.0 at.1 at.2 h.owned;
       alone = λ n. at_none (steady (joined n)) n c s.clients (h.alone n);
-      unended = λ l lt. more_unended l w (ended k (client_failed cause) ∷ []) (h.unended l lt)
-          (one_unended k l s.drawn (client_failed cause) None (drawn_stream k stream s h.owned at.2) lt refl);
+      unended = λ l lt. more_unended l w (ended k (client_failed failing.cause) ∷ []) (h.unended l lt)
+          (one_unended k l s.drawn (client_failed failing.cause) None (drawn_stream k failing.stream s h.owned at.2) lt refl);
     };
-    fails_asked = λ c k cause x stream s w may at h. record {
-      owned = owned_moves.fails_asked c k x stream s w at.0 at.1 at.2 h.owned;
+    fails_asked = λ c k failing s w may at h. record {
+      owned = owned_moves.fails_asked c k failing.client failing.stream s w at.0 at.1 at.2 h.owned;
       alone = λ n. at_none (steady (joined n)) n c s.clients (h.alone n);
-      unended = λ l lt. more_unended l w (ended k (client_failed cause) ∷ []) (h.unended l lt)
-          (one_unended k l s.drawn (client_failed cause) None (drawn_stream k stream s h.owned at.2) lt refl);
+      unended = λ l lt. more_unended l w (ended k (client_failed failing.cause) ∷ []) (h.unended l lt)
+          (one_unended k l s.drawn (client_failed failing.cause) None (drawn_stream k failing.stream s h.owned at.2) lt refl);
     };
     links = λ t f s w h. record { owned = owned_moves.links t f s w h.owned; alone = h.alone; unended = h.unended };
     link_ends = λ t ending s w told h. link_ends_fresh t ending s w h;

@@ -129,18 +129,19 @@ module _ (c : ℕ) (r : Heard) (d : DeviceTable) where
   ends_first_answers true t s w h = all_end_answers t lost s w h
   ends_first_answers false t s w h = after_quietly (λ s w. Answers c r d s w) w s h
 
-  pub online_answers : (new : DeviceTable) (t version maxdata : ℕ) (identity : Identity) (s : State) (w : List Event) → Answers c r d s w
-      → Answers c r new (connects_now t version maxdata identity s).state (w ++ (connects_now t version maxdata identity s).told)
-  online_answers new t version maxdata identity s w h =
-      let first : Made = streams_end_first (is_connected t s.devices) t s in
-      let whole : Made = connects_now t version maxdata identity s in
-      let kept = ends_first_answers (is_connected t s.devices) t s w h in
-      quiet_after (λ s w. Answers c r new s w) w first.told whole.state
-      (record {
-        owned = owned_moves.online t version maxdata identity s w h.owned;
-        row = rows_marked c r d new first.state.clients kept.row;
-        owes = kept.owes;
-      })
+  module _ (new : DeviceTable) where
+    pub online_answers : (t version maxdata : ℕ) (identity : Identity) (s : State) (w : List Event) → Answers c r d s w
+        → Answers c r new (connects_now t version maxdata identity s).state (w ++ (connects_now t version maxdata identity s).told)
+    online_answers t version maxdata identity s w h =
+        let first : Made = streams_end_first (is_connected t s.devices) t s in
+        let whole : Made = connects_now t version maxdata identity s in
+        let kept = ends_first_answers (is_connected t s.devices) t s w h in
+        quiet_after (λ s w. Answers c r new s w) w first.told whole.state
+        (record {
+          owned = owned_moves.online t version maxdata identity s w h.owned;
+          row = rows_marked c r d new first.state.clients kept.row;
+          owes = kept.owes;
+        })
 
   -- ---- OKAY
   hears_rows : (o : Option Client) (n : ℕ) (s : State) → RowsSay c r d s.clients → RowsSay c r d (hears_okay o n s).state.clients
@@ -261,15 +262,15 @@ module _ (asker c : ℕ) (r : Heard) (apart : asker ≢ c) where
         let made : Made = ends_row l ending stream s in
         subst (λ (d : DeviceTable). Answers c r d made.state (w ++ made.told)) (sym (ends_devices l ending stream s))
         (ends_answers c r s.devices l ending stream s w is h);
-    fails_open = λ n l cause x stream s w at h. record {
-      owned = owned_moves.fails_open n l x stream s w at.0 at.1 at.2 h.owned;
+    fails_open = λ n l failing s w at h. record {
+      owned = owned_moves.fails_open n l failing.client failing.stream s w at.0 at.1 at.2 h.owned;
       row = rows_none c r s.devices n s.clients h.row;
-      owes = owes_none c r w (ended l (client_failed cause) ∷ []) refl h.owes;
+      owes = owes_none c r w (ended l (client_failed failing.cause) ∷ []) refl h.owes;
     };
-    fails_asked = λ n l cause x stream s w may at h. record {
-      owned = owned_moves.fails_asked n l x stream s w at.0 at.1 at.2 h.owned;
+    fails_asked = λ n l failing s w may at h. record {
+      owned = owned_moves.fails_asked n l failing.client failing.stream s w at.0 at.1 at.2 h.owned;
       row = rows_none c r s.devices n s.clients h.row;
-      owes = owes_none c r w (ended l (client_failed cause) ∷ []) refl h.owes;
+      owes = owes_none c r w (ended l (client_failed failing.cause) ∷ []) refl h.owes;
     };
     links = λ t f s w h. record { owned = owned_moves.links t f s w h.owned; row = h.row; owes = h.owes };
     link_ends = λ t ending s w so h. link_ends_answers c r s.devices (link_ends t ending s).state.devices t ending s w h;

@@ -29,6 +29,7 @@ pub mod AllMoves
 pub mod Clearing
 pub mod Openings
 pub mod ShownMoves
+pub mod ShownEnds
 pub mod ShownRules
 pub mod ShownPackets
 pub mod ShownCloses

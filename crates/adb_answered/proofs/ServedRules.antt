@@ -251,21 +251,22 @@ module _ (c l : ℕ) (replies : List ℕ) where
         (ap (λ (z : Stream). z.client) (sym row), ap (λ (z : Stream). z.part.orphan) (sym row))
 
     -- its client is gone: its row goes, or it is an orphan
-    fails_own : (b : Bool) (k : ℕ) (cause : Cause) (f : Stream → Option Stream) (s : State) (w : List Event)
-        → ((x y : Stream) → f x ≡ Some y → (y.client ≡ x.client) × (y.part.orphan ≡ true)) → IsServed b c l replies s w
-        → (y : Stream) → change_row k (option_and_then f) s.streams l ≡ Some y
-        → IsItsOwn c (b ≡ false → ending_in l (w ++ ended k (client_failed cause) ∷ []) ≡ None) y
-    fails_own b k cause f s w gone h y at_l = go (eqb k l) refl (s.streams l) refl at_l
-      where
-        go : (here : Bool) → eqb k l ≡ here → (o : Option Stream) → s.streams l ≡ o → cond here (option_and_then f o) o ≡ Some y
-            → IsItsOwn c (b ≡ false → ending_in l (w ++ ended k (client_failed cause) ∷ []) ≡ None) y
-        go true e None is at = absurd (let clash : None ≡ Some y = at in cc)
-        go true e (Some x) is at =
-            let left = gone x y at in
-            record { client = left.0 ∙ (h.own x is).client; live = λ o. absurd (let clash : true ≡ false = sym left.1 ∙ o in cc) }
-        go false e o is at =
-            like_own b s.streams w h.own (ended k (client_failed cause) ∷ [])
-            (ap (λ (b : Bool). cond b (Some (client_failed cause)) None) e) y (is ∙ at)
+    module _ (b : Bool) (k : ℕ) (cause : Cause) where
+      fails_own : (f : Stream → Option Stream) (s : State) (w : List Event)
+          → ((x y : Stream) → f x ≡ Some y → (y.client ≡ x.client) × (y.part.orphan ≡ true)) → IsServed b c l replies s w
+          → (y : Stream) → change_row k (option_and_then f) s.streams l ≡ Some y
+          → IsItsOwn c (b ≡ false → ending_in l (w ++ ended k (client_failed cause) ∷ []) ≡ None) y
+      fails_own f s w gone h y at_l = go (eqb k l) refl (s.streams l) refl at_l
+        where
+          go : (here : Bool) → eqb k l ≡ here → (o : Option Stream) → s.streams l ≡ o → cond here (option_and_then f o) o ≡ Some y
+              → IsItsOwn c (b ≡ false → ending_in l (w ++ ended k (client_failed cause) ∷ []) ≡ None) y
+          go true e None is at = absurd (let clash : None ≡ Some y = at in cc)
+          go true e (Some x) is at =
+              let left = gone x y at in
+              record { client = left.0 ∙ (h.own x is).client; live = λ o. absurd (let clash : true ≡ false = sym left.1 ∙ o in cc) }
+          go false e o is at =
+              like_own b s.streams w h.own (ended k (client_failed cause) ∷ [])
+              (ap (λ (b : Bool). cond b (Some (client_failed cause)) None) e) y (is ∙ at)
 
     -- What a client is handed that asked for a stream, through each move in which it asks nothing.
     pub served_turns : Turns everywhere asker (λ s w. IsServedSo c l replies s w)
@@ -424,24 +425,24 @@ module _ (c l : ℕ) (replies : List ℕ) where
         },
       );
       ends = λ k ending stream s w is so (b, h). (b, ends_served b c l replies k ending stream s w is h so);
-      fails_open = λ n k cause x stream s w at (b, h). (
+      fails_open = λ n k failing s w at (b, h). (
         b,
         record {
-          owned = owned_moves.fails_open n k x stream s w at.0 at.1 at.2 h.owned;
+          owned = owned_moves.fails_open n k failing.client failing.stream s w at.0 at.1 at.2 h.owned;
           row = at_none (steady l b) c n s.clients h.row;
-          own = fails_own b k cause none_kept s w (λ z y e. absurd (let clash : None ≡ Some y = e in cc)) h;
+          own = fails_own b k failing.cause none_kept s w (λ z y e. absurd (let clash : None ≡ Some y = e in cc)) h;
           drawn = h.drawn;
-          out = out_quiet c l replies b w (ended k (client_failed cause) ∷ []) refl (fails_quiet k cause) h.out;
+          out = out_quiet c l replies b w (ended k (client_failed failing.cause) ∷ []) refl (fails_quiet k failing.cause) h.out;
         },
       );
-      fails_asked = λ n k cause x stream s w may at (b, h). (
+      fails_asked = λ n k failing s w may at (b, h). (
         b,
         record {
-          owned = owned_moves.fails_asked n k x stream s w at.0 at.1 at.2 h.owned;
+          owned = owned_moves.fails_asked n k failing.client failing.stream s w at.0 at.1 at.2 h.owned;
           row = at_none (steady l b) c n s.clients h.row;
-          own = fails_own b k cause (with_stream_part (orphaned stream.part)) s w (λ z y e. orphan_of stream z y e) h;
+          own = fails_own b k failing.cause (with_stream_part (orphaned failing.stream.part)) s w (λ z y e. orphan_of failing.stream z y e) h;
           drawn = h.drawn;
-          out = out_quiet c l replies b w (ended k (client_failed cause) ∷ []) refl (fails_quiet k cause) h.out;
+          out = out_quiet c l replies b w (ended k (client_failed failing.cause) ∷ []) refl (fails_quiet k failing.cause) h.out;
         },
       );
       links = λ t f s w (b, h). (b, record { owned = owned_moves.links t f s w h.owned; row = h.row; own = h.own; drawn = h.drawn; out = h.out });

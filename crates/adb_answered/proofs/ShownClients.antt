@@ -32,36 +32,37 @@ pub record IsSaid (heard : Bool) (x : Subject) (may failed : Bool) (s : State) :
   pub hears : heard ≡ true → may ≡ true
   pub fails : x.failed ≡ true → failed ≡ true
 
-pub resubject : (heard : Bool) (x : Subject) (may failed : Bool) (seen : Seen) (s : State) (w : List Event) → IsSaid heard x may failed s
-    → IsShown heard x seen s w
-    → IsShown heard (record x { may = may; failed = failed }) seen s w
-resubject heard x may failed seen s w said h = record {
-  owned = h.owned;
-  row = h.row;
-  own = λ y is. (let was = h.own y is in record {
-    client = was.client;
-    link = was.link;
-    remote = was.remote;
-    pending = was.pending;
-    may = λ owned. said.live y is owned;
-    orphan = λ orphan. said.fails (was.orphan orphan);
-  });
-  drawn = h.drawn;
-  out = out heard refl h.out;
-}
-  where
-    by : WillNotOpen x seen.sealed s → WillNotOpen (record x { may = may; failed = failed }) seen.sealed s
-    by (inl sealed) = inl sealed
-    by (inr (inl gone)) = inr (inl gone)
-    by (inr (inr f)) = inr (inr (said.fails f))
+module _ (heard : Bool) (x : Subject) where
+  pub resubject : (may failed : Bool) (seen : Seen) (s : State) (w : List Event) → IsSaid heard x may failed s
+      → IsShown heard x seen s w
+      → IsShown heard (record x { may = may; failed = failed }) seen s w
+  resubject may failed seen s w said h = record {
+    owned = h.owned;
+    row = h.row;
+    own = λ y is. (let was = h.own y is in record {
+      client = was.client;
+      link = was.link;
+      remote = was.remote;
+      pending = was.pending;
+      may = λ owned. said.live y is owned;
+      orphan = λ orphan. said.fails (was.orphan orphan);
+    });
+    drawn = h.drawn;
+    out = out heard refl h.out;
+  }
+    where
+      by : WillNotOpen x seen.sealed s → WillNotOpen (record x { may = may; failed = failed }) seen.sealed s
+      by (inl sealed) = inl sealed
+      by (inr (inl gone)) = inr (inl gone)
+      by (inr (inr f)) = inr (inr (said.fails f))
 
-    none : (seen.remote ≡ 0) ⊎ (x.failed ≡ true) → (seen.remote ≡ 0) ⊎ (failed ≡ true)
-    none (inl e) = inl e
-    none (inr f) = inr (said.fails f)
+      none : (seen.remote ≡ 0) ⊎ (x.failed ≡ true) → (seen.remote ≡ 0) ⊎ (failed ≡ true)
+      none (inl e) = inl e
+      none (inr f) = inr (said.fails f)
 
-    out : (c : Bool) → heard ≡ c → ShownOut c x seen s (owed_to x.client w) → ShownOut c (record x { may = may; failed = failed }) seen s (owed_to x.client w)
-    out true e o = record { bytes = o.bytes; out_is = o.out_is; may = said.hears e; told = o.told }
-    out false e o = record { closed = o.closed; out_is = o.out_is; waits = o.waits; gone = λ g. by (o.gone g); none = λ c. none (o.none c) }
+      out : (c : Bool) → heard ≡ c → ShownOut c x seen s (owed_to x.client w) → ShownOut c (record x { may = may; failed = failed }) seen s (owed_to x.client w)
+      out true e o = record { bytes = o.bytes; out_is = o.out_is; may = said.hears e; told = o.told }
+      out false e o = record { closed = o.closed; out_is = o.out_is; waits = o.waits; gone = λ g. by (o.gone g); none = λ c. none (o.none c) }
 
 -- ---- what a client was told tells whether it heard
 -- `OKAY` is no refusal

@@ -25,7 +25,7 @@ use Rattle.adb_answered.proofs.Clearing.{none_of, ends_streams, link_ends_cleare
 use Rattle.adb_answered.proofs.Openings.{remote_sealed, seen_pending, seen_one}
 use Rattle.adb_answered.proofs.ServedMoves.{phase_waiting}
 use Rattle.adb_answered.proofs.ShownMoves.{shown_client}
-use Rattle.adb_answered.proofs.ShownRules.{ends_shown, link_ends_cut, online_shown}
+use Rattle.adb_answered.proofs.ShownEnds.{ends_shown, link_ends_cut, online_shown}
 use Rattle.adb_answered.proofs.ShownPackets.{seen_on, gone_more, gone_reason, told_more, sealed_more, still_none, pardon, restore, live_link, no_link}
 
 module _ (x : Subject) where
@@ -44,20 +44,21 @@ module _ (x : Subject) where
   Seals p = sealed_in x.stream (p ∷ []) ≡ true
 
   -- The row of a stream goes by a packet that seals it where it is pending: then it is as the packets say.
-  sealed_shown : (ps : List Packet) (p : Packet) (heard : Bool) (y : Stream) (s next : State) (w v : List Event) → s.streams x.stream ≡ Some y
-      → (remote_in (opening_in x.stream ps) ≡ 0 → Seals p) → IsShown heard x (seen x.stream ps) s w → next.streams x.stream ≡ None
-      → IsShown heard (record x { failed = true }) (seen x.stream ps) next v → IsShown heard x (seen x.stream (ps ++ p ∷ [])) next v
-  sealed_shown ps p heard y s next w v is seals h none after =
-      restore x heard (seen x.stream ps) (seen x.stream (ps ++ p ∷ [])) next v none (told_more x ps (p ∷ []))
-      (λ e. (let seal = sealed heard h e in (inl seal.0, λ f. inl seal.1))) after
-    where
-      sealed : (c : Bool) → IsShown c x (seen x.stream ps) s w → c ≡ false
-          → (sealed_in x.stream (ps ++ p ∷ []) ≡ true) × (remote_in (opening_in x.stream (ps ++ p ∷ [])) ≡ 0)
-      sealed true h e = absurd (let clash : true ≡ false = e in cc)
-      sealed false h e =
-          let zeroth = waiting_none ps s w y is h in
-          let same = seen_pending x.stream ps (p ∷ []) zeroth ((h.own y is).pending zeroth) in
-          (ap (λ (a : Seen). a.sealed) same ∙ seals zeroth, ap (λ (a : Seen). a.remote) same ∙ remote_sealed x.stream (p ∷ []) [] (seals zeroth))
+  module _ (ps : List Packet) (p : Packet) where
+    sealed_shown : (heard : Bool) (y : Stream) (s next : State) (w v : List Event) → s.streams x.stream ≡ Some y
+        → (remote_in (opening_in x.stream ps) ≡ 0 → Seals p) → IsShown heard x (seen x.stream ps) s w → next.streams x.stream ≡ None
+        → IsShown heard (record x { failed = true }) (seen x.stream ps) next v → IsShown heard x (seen x.stream (ps ++ p ∷ [])) next v
+    sealed_shown heard y s next w v is seals h none after =
+        restore x heard (seen x.stream ps) (seen x.stream (ps ++ p ∷ [])) next v none (told_more x ps (p ∷ []))
+        (λ e. (let seal = sealed heard h e in (inl seal.0, λ f. inl seal.1))) after
+      where
+        sealed : (c : Bool) → IsShown c x (seen x.stream ps) s w → c ≡ false
+            → (sealed_in x.stream (ps ++ p ∷ []) ≡ true) × (remote_in (opening_in x.stream (ps ++ p ∷ [])) ≡ 0)
+        sealed true h e = absurd (let clash : true ≡ false = e in cc)
+        sealed false h e =
+            let zeroth = waiting_none ps s w y is h in
+            let same = seen_pending x.stream ps (p ∷ []) zeroth ((h.own y is).pending zeroth) in
+            (ap (λ (a : Seen). a.sealed) same ∙ seals zeroth, ap (λ (a : Seen). a.remote) same ∙ remote_sealed x.stream (p ∷ []) [] (seals zeroth))
 
   -- ---- CLSE
   module _ (p : Packet) (command : p.command ≡ Clse) (names : p.arg1 ≡ x.stream) where

@@ -161,13 +161,14 @@ module _ {scope : Scope} {asker : ℕ} {P : State → List Event → Type 0} (k 
         let owed : Made = owe_link stream.link p s in
         let gone : Made = owe_link stream.link p (to_stream l none_kept (to_client c none_kept s)) in
         subst (λ (v : List Event). P gone.state v) (append_assoc w owed.told (ended l (client_failed cause) ∷ []))
-        (k.fails_open c l cause x.client stream owed.state (w ++ owed.told) (x.here, x.in_phase, at_l)
+        (k.fails_open c l (record { cause = cause; client = x.client; stream = stream }) owed.state (w ++ owed.told) (x.here, x.in_phase, at_l)
         (owes_kept k s w h stream.link p (inr (inl (ap is_some at_l)))))
 
     fails_asked_kept : (c l : ℕ) (cause : Cause) (o : Option Stream) → scope.fails c → IsClientIn s c (Opening l) → s.streams l ≡ o
         → After P w (stream_fails (Opening l) cause o (to_client c none_kept s))
     fails_asked_kept c l cause None may x at_l = drops_kept c x.client x.here (ap (λ p. stream_of p s.streams) x.in_phase ∙ at_l)
-    fails_asked_kept c l cause (Some stream) may x at_l = k.fails_asked c l cause x.client stream s w may (x.here, x.in_phase, at_l) h
+    fails_asked_kept c l cause (Some stream) may x at_l =
+        k.fails_asked c l (record { cause = cause; client = x.client; stream = stream }) s w may (x.here, x.in_phase, at_l) h
 
     fails_in_kept : (phase : Phase) (c : ℕ) (cause : Cause) → scope.fails c → IsClientIn s c phase
         → After P w (stream_fails phase cause (stream_of phase s.streams) (to_client c none_kept s))

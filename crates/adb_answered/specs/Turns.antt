@@ -67,6 +67,12 @@ pub record IsOpenedBy (remote : ℕ) (stream : Stream) : Type 0 where
   pub owned : stream.part.orphan ≡ false
   pub by : remote ≢ 0
 
+-- a client that fails, why, and its stream
+pub record Failing : Type 0 where
+  pub cause : Cause
+  pub client : Client
+  pub stream : Stream
+
 -- What each move keeps, of a state and what was told until then. Of the clients the asker alone is answered.
 pub record Turns (scope : Scope) (asker : ℕ) (P : State → List Event → Type 0) : Type 0 where
   -- something becomes due, or is told
@@ -107,12 +113,12 @@ pub record Turns (scope : Scope) (asker : ℕ) (P : State → List Event → Typ
   pub ends : (l : ℕ) (ending : Ending) (stream : Stream) (s : State) (w : List Event) → s.streams l ≡ Some stream
       → EndsSo scope.reaches s.clients l ending stream
       → P s w → After P w (ends_row l ending stream s)
-  pub fails_open : (c l : ℕ) (cause : Cause) (client : Client) (stream : Stream) (s : State) (w : List Event)
-      → (s.clients c ≡ Some client) × (client.about.phase ≡ Streaming l) × (s.streams l ≡ Some stream)
-      → P s w → P (to_stream l none_kept (to_client c none_kept s)) (w ++ ended l (client_failed cause) ∷ [])
-  pub fails_asked : (c l : ℕ) (cause : Cause) (client : Client) (stream : Stream) (s : State) (w : List Event) → scope.fails c
-      → (s.clients c ≡ Some client) × (client.about.phase ≡ Opening l) × (s.streams l ≡ Some stream)
-      → P s w → P (to_stream l (with_stream_part (orphaned stream.part)) (to_client c none_kept s)) (w ++ ended l (client_failed cause) ∷ [])
+  pub fails_open : (c l : ℕ) (failing : Failing) (s : State) (w : List Event)
+      → (s.clients c ≡ Some failing.client) × (failing.client.about.phase ≡ Streaming l) × (s.streams l ≡ Some failing.stream)
+      → P s w → P (to_stream l none_kept (to_client c none_kept s)) (w ++ ended l (client_failed failing.cause) ∷ [])
+  pub fails_asked : (c l : ℕ) (failing : Failing) (s : State) (w : List Event) → scope.fails c
+      → (s.clients c ≡ Some failing.client) × (failing.client.about.phase ≡ Opening l) × (s.streams l ≡ Some failing.stream)
+      → P s w → P (to_stream l (with_stream_part (orphaned failing.stream.part)) (to_client c none_kept s)) (w ++ ended l (client_failed failing.cause) ∷ [])
   -- links, devices and forwards
   pub links : (t : ℕ) (f : Link → Link) (s : State) (w : List Event) → P s w → P (to_link t (λ link. Some (f link)) s) w
   pub link_ends : (t : ℕ) (ending : Ending) (s : State) (w : List Event) → (tells_closed (Some ending) ≡ true) × scope.cuts t → P s w
