@@ -49,9 +49,13 @@ pub record Standing (e : Entry) (older : History) (l : ℕ) (b : Birth) (x : Str
   pub remote : remote_of l b older ≡ x.part.remote
   pub holds : IsAsTold older l b x pair.client
 
-pub flow_at : (flow : Flow) (credit : Bool) (w h g w' h' g' : ℕ) → (w ≡ w') × (h ≡ h') × (g ≡ g') → FlowIs flow credit w h g → FlowIs flow credit w' h' g'
-flow_at (One window) credit w h g w' h' g' e f = (f.0, omega (arith, e.0, e.1, e.2, f.1))
-flow_at (Credit c) credit w h g w' h' g' e f = (f.0, omega (arith, e.0, e.1, e.2, f.1))
+module _ (flow : Flow) (credit : Bool) (w h g : ℕ) where
+  pub flow_at : (w' h' g' : ℕ) → (w ≡ w') × (h ≡ h') × (g ≡ g') → FlowIs flow credit w h g → FlowIs flow credit w' h' g'
+  flow_at w' h' g' e = by flow
+    where
+      by : (o : Flow) → FlowIs o credit w h g → FlowIs o credit w' h' g'
+      by (One window) f = (f.0, omega (arith, e.0, e.1, e.2, f.1))
+      by (Credit c) f = (f.0, omega (arith, e.0, e.1, e.2, f.1))
 
 module _ (e : Entry) (older : History) (l : ℕ) (b : Birth) (x : Stream) (t : Standing e older l b x) where
   -- its client

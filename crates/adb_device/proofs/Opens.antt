@@ -146,27 +146,28 @@ module _ (link : Link) (p : Packet) (s : Serving) (taken : List ℕ) (view : Vie
       pub left : files ≡ files_opened kind view.files
 
     -- the stream goes on, or is done at once
-    pub open_goes : (stream : Stream) (files : List Entry) (due : List ℕ) (done : Bool) → done ≡ false → Opens stream files due done
-        → at p.arg0 view.hosts ≡ None → (n : ℕ) (streams : List (ℕ × Stream)) (hosts : List (ℕ × ℕ)) → n ≡ view.drawn + 1
-        → Puts (view.drawn + 1) (Some stream) view.streams streams × Puts stream.host (Some (view.drawn + 1)) view.hosts hosts
-        → Holds (open_as link p (Some kind) s) taken (record { drawn = n; streams = streams; hosts = hosts; files = files; due = due })
-    open_goes stream files due done on o unknown n streams hosts is puts =
-        let result = new_settles link (s.drawn + 1) row middle taken seen greeted due stream streams hosts (refl, free, unknown)
-        (told stream due false (subst (Settles link.sums (view.drawn + 1) link.most (opened p.arg0 kind view.files (credit_of link p)) stream
-        (view.due ++ greeting (view.drawn + 1)) due) on o.settles))
-        (subst (λ (k : ℕ). Puts (k + 1) (Some stream) view.streams streams × Puts stream.host (Some (k + 1)) view.hosts hosts) h.drawn puts) in
-        let left : files_opened kind s.files ≡ files = ap (files_opened kind) (sym h.files) ∙ sym o.left in
-        subst (λ (k : ℕ). Holds (open_as link p (Some kind) s) taken
-        (record { drawn = k; streams = streams; hosts = hosts; files = files; due = due })) (sym is)
-        (subst (λ (f : List Entry). Holds (open_as link p (Some kind) s) taken
-        (record { drawn = view.drawn + 1; streams = streams; hosts = hosts; files = f; due = due })) left result)
+    module _ (stream : Stream) (files : List Entry) (due : List ℕ) (done : Bool) where
+      pub open_goes : done ≡ false → Opens stream files due done → at p.arg0 view.hosts ≡ None → (n : ℕ) (streams : List (ℕ × Stream)) (hosts : List (ℕ × ℕ))
+          → n ≡ view.drawn + 1
+          → Puts (view.drawn + 1) (Some stream) view.streams streams × Puts stream.host (Some (view.drawn + 1)) view.hosts hosts
+          → Holds (open_as link p (Some kind) s) taken (record { drawn = n; streams = streams; hosts = hosts; files = files; due = due })
+      open_goes on o unknown n streams hosts is puts =
+          let result = new_settles link (s.drawn + 1) row middle taken seen greeted due stream streams hosts (refl, free, unknown)
+          (told stream due false (subst (Settles link.sums (view.drawn + 1) link.most (opened p.arg0 kind view.files (credit_of link p)) stream
+          (view.due ++ greeting (view.drawn + 1)) due) on o.settles))
+          (subst (λ (k : ℕ). Puts (k + 1) (Some stream) view.streams streams × Puts stream.host (Some (k + 1)) view.hosts hosts) h.drawn puts) in
+          let left : files_opened kind s.files ≡ files = ap (files_opened kind) (sym h.files) ∙ sym o.left in
+          subst (λ (k : ℕ). Holds (open_as link p (Some kind) s) taken
+          (record { drawn = k; streams = streams; hosts = hosts; files = files; due = due })) (sym is)
+          (subst (λ (f : List Entry). Holds (open_as link p (Some kind) s) taken
+          (record { drawn = view.drawn + 1; streams = streams; hosts = hosts; files = f; due = due })) left result)
 
-    pub open_ends : (stream : Stream) (files : List Entry) (due : List ℕ) (done : Bool) → done ≡ true → Opens stream files due done
-        → (n : ℕ) → n ≡ view.drawn + 1 → Holds (open_as link p (Some kind) s) taken (record view { drawn = n; files = files; due = due })
-    open_ends stream files due done over o n is =
-        let result = new_ends link (s.drawn + 1) row middle taken seen greeted due stream free
-        (told stream due true (subst (Settles link.sums (view.drawn + 1) link.most (opened p.arg0 kind view.files (credit_of link p)) stream
-        (view.due ++ greeting (view.drawn + 1)) due) over o.settles)) in
-        let left : files_opened kind s.files ≡ files = ap (files_opened kind) (sym h.files) ∙ sym o.left in
-        subst (λ (k : ℕ). Holds (open_as link p (Some kind) s) taken (record view { drawn = k; files = files; due = due })) (sym is)
-        (subst (λ (f : List Entry). Holds (open_as link p (Some kind) s) taken (record view { drawn = view.drawn + 1; files = f; due = due })) left result)
+      pub open_ends : done ≡ true → Opens stream files due done → (n : ℕ) → n ≡ view.drawn + 1
+          → Holds (open_as link p (Some kind) s) taken (record view { drawn = n; files = files; due = due })
+      open_ends over o n is =
+          let result = new_ends link (s.drawn + 1) row middle taken seen greeted due stream free
+          (told stream due true (subst (Settles link.sums (view.drawn + 1) link.most (opened p.arg0 kind view.files (credit_of link p)) stream
+          (view.due ++ greeting (view.drawn + 1)) due) over o.settles)) in
+          let left : files_opened kind s.files ≡ files = ap (files_opened kind) (sym h.files) ∙ sym o.left in
+          subst (λ (k : ℕ). Holds (open_as link p (Some kind) s) taken (record view { drawn = k; files = files; due = due })) (sym is)
+          (subst (λ (f : List Entry). Holds (open_as link p (Some kind) s) taken (record view { drawn = view.drawn + 1; files = f; due = due })) left result)

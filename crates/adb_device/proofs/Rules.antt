@@ -71,12 +71,13 @@ granted_orderly own q word s o = record {
 }
 
 -- what this stream took
-own_ack : (own q : ℕ) (count bytes : ℕ) (word : Option ℕ) (acks : List Ack) (flow : Flow) → q ≡ own
-    → IsWithin count bytes (1 + acks_of own acks) (unwrap_or word 0 + words_of own acks) flow
-    → IsWithin count bytes (acks_of own (record { own = q; word = word } ∷ acks)) (words_of own (record { own = q; word = word } ∷ acks)) flow
-own_ack own q count bytes word acks flow here within =
-    subst (λ (t : Bool). IsWithin count bytes ((if t then 1 else 0) + acks_of own acks) ((if t then unwrap_or word 0 else 0) + words_of own acks) flow)
-    (sym (eq-eqb q own here)) within
+module _ (own q count bytes : ℕ) where
+  own_ack : (word : Option ℕ) (acks : List Ack) (flow : Flow) → q ≡ own
+      → IsWithin count bytes (1 + acks_of own acks) (unwrap_or word 0 + words_of own acks) flow
+      → IsWithin count bytes (acks_of own (record { own = q; word = word } ∷ acks)) (words_of own (record { own = q; word = word } ∷ acks)) flow
+  own_ack word acks flow here within =
+      subst (λ (t : Bool). IsWithin count bytes ((if t then 1 else 0) + acks_of own acks) ((if t then unwrap_or word 0 else 0) + words_of own acks) flow)
+      (sym (eq-eqb q own here)) within
 
 module _ (own : ℕ) (s : Serving) (o : IsOrderly own s) where
   -- an id that has a row was drawn

@@ -15,8 +15,9 @@ use Rattle.adb_device.proofs.Tables.{table_changes, table_loses, table_gains, ta
 use Rattle.adb_device.proofs.Owed.{bytes_more, bytes_one, writes_are, written_host}
 
 -- the streams that a number has behind two changes at it
-pub two_puts : {X : Type 0} (n : ℕ) (a b : Option X) (x y z : List (ℕ × X)) → Puts n a x y → Puts n b y z → Puts n b x z
-two_puts n a b x y z first second = record { here = second.here; others = λ q apart. second.others q apart ∙ first.others q apart }
+module _ {X : Type 0} (n : ℕ) (a b : Option X) where
+  pub two_puts : (x y z : List (ℕ × X)) → Puts n a x y → Puts n b y z → Puts n b x z
+  two_puts x y z first second = record { here = second.here; others = λ q apart. second.others q apart ∙ first.others q apart }
 
 none_some : {X : Type 0} (x : X) → None ≡ Some x → ⊥
 none_some x e = cc
@@ -31,9 +32,10 @@ pub where_ok : {T E A P : Type 0} (result : Result T E) → OnOk result A → (A
 where_ok (Ok x) a f = f a
 where_ok (Err e) a f = tt
 
-pub at_ok : {T E A B C P : Type 0} (result : Result T E) → OnOk result A → OnOk result B → OnOk result C → (A → B → C → P) → OnOk result P
-at_ok (Ok x) a b c f = f a b c
-at_ok (Err e) a b c f = tt
+module _ {T E A B C P : Type 0} where
+  pub at_ok : (result : Result T E) → OnOk result A → OnOk result B → OnOk result C → (A → B → C → P) → OnOk result P
+  at_ok (Ok x) a b c f = f a b c
+  at_ok (Err e) a b c f = tt
 
 -- A call on the stream at an id: where it answers that the stream settled, the stream at the id has.
 module _ (link : Link) (own : ℕ) (changed : Row → Row) (due : Row → List ℕ) (due' : List ℕ) where

@@ -12,21 +12,28 @@ use Rattle.adb_daemon.specs.Stream.{writes_at, writes, room_of, flow_past, flow_
 use Rattle.adb_device.specs.Streams.{free_of, IsWithin}
 
 -- more acknowledgements and credit
-pub within_more : (flow : Flow) (count bytes acks words acks' words' : ℕ) → acks ≤ acks' → words ≤ words' → IsWithin count bytes acks words flow
-    → IsWithin count bytes acks' words' flow
-within_more (flows.One window) count bytes acks words acks' words' more credit within = omega (arith, more, within)
-within_more (flows.Credit credit) count bytes acks words acks' words' more given within = omega (arith, given, within)
+module _ (flow : Flow) (count bytes acks words : ℕ) where
+  pub within_more : (acks' words' : ℕ) → acks ≤ acks' → words ≤ words' → IsWithin count bytes acks words flow → IsWithin count bytes acks' words' flow
+  within_more acks' words' more given = by flow
+    where
+      by : (f : Flow) → IsWithin count bytes acks words f → IsWithin count bytes acks' words' f
+      by (flows.One window) within = omega (arith, more, within)
+      by (flows.Credit credit) within = omega (arith, given, within)
 
 -- a write goes
-past_one : (flow : Flow) (most n : ℕ) (rest : List ℕ) (count bytes acks words : ℕ) → n ≡ length (take (room_of flow most) rest) → n ≢ 0
-    → IsWithin count bytes acks words flow → IsWithin (count + 1) (bytes + n) acks words (flow_past flow n)
-past_one (flows.One window) most n rest count bytes acks words is some within = go window.outstanding is within
-  where
-    go : (t : Bool) → n ≡ length (take (if t then 0 else most) rest) → count + free_of t ≤ acks → (count + 1) + 0 ≤ acks
-    go true none held = absurd (some (omega (arith, none, length-take 0 rest)))
-    go false next held = omega (arith, held)
-past_one (flows.Credit credit) most n rest count bytes acks words is some within =
-    omega (arith, is, within, length-take (min most credit.to_send) rest)
+module _ (flow : Flow) (most n : ℕ) (rest : List ℕ) where
+  past_one : (count bytes acks words : ℕ) → n ≡ length (take (room_of flow most) rest) → n ≢ 0 → IsWithin count bytes acks words flow
+      → IsWithin (count + 1) (bytes + n) acks words (flow_past flow n)
+  past_one count bytes acks words is some = by flow is
+    where
+      go : (t : Bool) → n ≡ length (take (if t then 0 else most) rest) → count + free_of t ≤ acks → (count + 1) + 0 ≤ acks
+      go true none held = absurd (some (omega (arith, none, length-take 0 rest)))
+      go false next held = omega (arith, held)
+
+      by : (f : Flow) → n ≡ length (take (room_of f most) rest) → IsWithin count bytes acks words f
+          → IsWithin (count + 1) (bytes + n) acks words (flow_past f n)
+      by (flows.One window) next within = go window.outstanding next within
+      by (flows.Credit credit) next within = omega (arith, next, within, length-take (min most credit.to_send) rest)
 
 -- all the writes that the window lets go
 module _ (most : ℕ) (acks words : ℕ) where

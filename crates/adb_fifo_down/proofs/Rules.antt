@@ -131,24 +131,25 @@ module _ {b : Line} {P : Promise} (k : Turns b P) where
       (subst (λ (u : View). P (packets ++ p ∷ []) false out u) (ap (λ (o : Option SeenStream). treated_on o b.id p v) none) (k.treats packets out v p h)))
 
   -- ---- the end of its client
-  pub holds_ends : (packets : List Packet) (shut : Bool) (out : List ℕ) (cause : Cause) (o : Option Client) (s : State) (w : List Event)
-      → s.clients b.client ≡ o → Holds b P packets shut out s w → After (Holds b P packets shut out) w (client_ends b.client cause o s)
-  holds_ends packets shut out cause None s w is h = after_quietly (Holds b P packets shut out) w s h
-  holds_ends packets shut out cause (Some a) s w is h = by cause
-    where
-      here : h.seen.client ≡ Some (seen_client a)
-      here = client_seen b h.seen s w (Some a) h.shows is
+  module _ (packets : List Packet) (shut : Bool) (out : List ℕ) where
+    pub holds_ends : (cause : Cause) (o : Option Client) (s : State) (w : List Event) → s.clients b.client ≡ o → Holds b P packets shut out s w
+        → After (Holds b P packets shut out) w (client_ends b.client cause o s)
+    holds_ends cause None s w is h = after_quietly (Holds b P packets shut out) w s h
+    holds_ends cause (Some a) s w is h = by cause
+      where
+        here : h.seen.client ≡ Some (seen_client a)
+        here = client_seen b h.seen s w (Some a) h.shows is
 
-      in_line : IsInLine b.id a.about.phase
-      in_line = k.served packets shut out h.seen h.keeps (seen_client a) here
+        in_line : IsInLine b.id a.about.phase
+        in_line = k.served packets shut out h.seen h.keeps (seen_client a) here
 
-      fails : (cause : Cause) → After (Holds b P packets shut out) w (Rattle.adb_history.specs.Losing.client_fails b.client cause a s)
-      fails cause = held_by packets shut out _ w _ (k.fails packets shut out h.seen cause (seen_client a) here h.keeps)
-          (own_fails b h.seen cause a s w is h.shows in_line)
+        fails : (cause : Cause) → After (Holds b P packets shut out) w (Rattle.adb_history.specs.Losing.client_fails b.client cause a s)
+        fails cause = held_by packets shut out _ w _ (k.fails packets shut out h.seen cause (seen_client a) here h.keeps)
+            (own_fails b h.seen cause a s w is h.shows in_line)
 
-      by : (cause : Cause) → After (Holds b P packets shut out) w (client_ends b.client cause (Some a) s)
-      by Eof = after_quietly (Holds b P packets shut out) w (input_ends a.about.phase b.client s)
-          (record { seen = h.seen; shows = own_input_ends b h.seen s w h.shows a.about.phase in_line; keeps = h.keeps })
-      by Fault = fails Fault
-      by Starved = fails Starved
-      by NoThread = fails NoThread
+        by : (cause : Cause) → After (Holds b P packets shut out) w (client_ends b.client cause (Some a) s)
+        by Eof = after_quietly (Holds b P packets shut out) w (input_ends a.about.phase b.client s)
+            (record { seen = h.seen; shows = own_input_ends b h.seen s w h.shows a.about.phase in_line; keeps = h.keeps })
+        by Fault = fails Fault
+        by Starved = fails Starved
+        by NoThread = fails NoThread

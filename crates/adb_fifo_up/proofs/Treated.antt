@@ -64,19 +64,20 @@ module _ (t : ℕ) (ending : Ending) where
       (λ apart f. ends_cleared n m s x (within.0, omega (arith, within.1, apart)) f)
 
 -- a CNXN on a connected link ends its streams
-connects_cleared : (t version maxdata m : ℕ) (who : Option Identity) (s : State) (x : Stream) → is_connected t s.devices ≡ true → (0 < m) × (m ≤ s.drawn)
-    → (connects t version maxdata who s).state.streams m ≡ Some x → x.link ≢ t
-connects_cleared t version maxdata m None s x on within e = ends_cleared t broken s.drawn m (forgets t s) x within e
-connects_cleared t version maxdata m (Some identity) s x on within e =
-    ends_cleared t lost s.drawn m s x within (subst (λ (b : Bool). (streams_end_first b t s).state.streams m ≡ Some x) on e)
+module _ (t version maxdata m : ℕ) where
+  connects_cleared : (who : Option Identity) (s : State) (x : Stream) → is_connected t s.devices ≡ true → (0 < m) × (m ≤ s.drawn)
+      → (connects t version maxdata who s).state.streams m ≡ Some x → x.link ≢ t
+  connects_cleared None s x on within e = ends_cleared t broken s.drawn m (forgets t s) x within e
+  connects_cleared (Some identity) s x on within e =
+      ends_cleared t lost s.drawn m s x within (subst (λ (b : Bool). (streams_end_first b t s).state.streams m ≡ Some x) on e)
 
-pub cnxn_cleared : (t version maxdata m : ℕ) (banner : List ℕ) (s : State) (x : Stream) → is_connected t s.devices ≡ true → (0 < m) × (m ≤ s.drawn)
-    → (cnxn t version maxdata banner s).state.streams m ≡ Some x → x.link ≢ t
-cnxn_cleared t version maxdata m banner s x on within e = go (nat_lt version least_version || nat_lt maxdata least_maxdata) e
-  where
-    go : (b : Bool) → (cond b (link_ends t broken s) (connects t version maxdata (identity_of banner) s)).state.streams m ≡ Some x → x.link ≢ t
-    go true f = ends_cleared t broken s.drawn m (forgets t s) x within f
-    go false f = connects_cleared t version maxdata m (identity_of banner) s x on within f
+  pub cnxn_cleared : (banner : List ℕ) (s : State) (x : Stream) → is_connected t s.devices ≡ true → (0 < m) × (m ≤ s.drawn)
+      → (cnxn t version maxdata banner s).state.streams m ≡ Some x → x.link ≢ t
+  cnxn_cleared banner s x on within e = go (nat_lt version least_version || nat_lt maxdata least_maxdata) e
+    where
+      go : (b : Bool) → (cond b (link_ends t broken s) (connects t version maxdata (identity_of banner) s)).state.streams m ≡ Some x → x.link ≢ t
+      go true f = ends_cleared t broken s.drawn m (forgets t s) x within f
+      go false f = connects_cleared (identity_of banner) s x on within f
 
 -- ---- a stream's link is there, and connected
 connected_there : (o : Option Row) → is_connected_row o ≡ true → is_some o ≡ true
