@@ -5,3 +5,4 @@ pub mod Came
 pub mod Handing
 pub mod Up
 pub mod Sweep
+pub mod Fit
