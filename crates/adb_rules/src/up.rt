@@ -181,6 +181,8 @@ impl Tables {
     fn write_one(&mut self, id: u32, stream: &Stream, n: usize)
         requires size { n ≤ MAX_PAYLOAD }
         requires cut { CanCut n (at stream.now.client self.old.clients.entries) }
+        requires some { 0 < n }
+        requires held { n ≤ length (held_at (at stream.now.client self.old.clients.entries)) }
         requires room { LinkRoom 1 (at stream.now.link self.old.links.entries) }
         ensures state { let held = held_at (at stream.now.client self.old.clients.entries) in
             state_of self.new ≡ (goes_up id stream.now (take n held)
@@ -199,7 +201,9 @@ impl Tables {
 
     /// The first bytes that a client holds, which are held no more.
     fn cut(&mut self, client: u32, n: usize) -> Option<Bytes>
-        requires { CanCut n (at client self.old.clients.entries) }
+        requires cut { CanCut n (at client self.old.clients.entries) }
+        requires some { 0 < n }
+        requires held { n ≤ length (held_at (at client self.old.clients.entries)) }
         ensures piece { result
             ≡ option_map (λ row. take n row.held) (at client self.old.clients.entries) }
         ensures state { let held = held_at (at client self.old.clients.entries) in
