@@ -1,5 +1,6 @@
 -- The first of a table to which something is due is the first of its rows.
-use Rattle.std.proofs.Common.{ℕ, zero, suc, ◌≡◌, ◌∙◌, ◌<◌, ◌||◌, sym, ap, subst, arith, refl, Bool, true, false, cond, List, [], ◌∷◌, length, take, Option, Some, None}
+use Rattle.std.proofs.Common.{ℕ, zero, suc, ◌≡◌, ◌∙◌, ◌||◌, sym, ap, subst, arith, refl, Bool, true, false, cond}
+use Rattle.std.proofs.Common.{List, [], ◌∷◌, length, take, Option, Some, None}
 use Rattle.std.proofs.lemmas.Bool.Decides.{nat_tests}
 use Rattle.std.specs.Prelude.{nat_lt, option_map, option_and_then}
 use Rattle.std.specs.Option.{option_or}
@@ -10,7 +11,6 @@ use Rattle.adb_client.specs.Client.{SeenClient}
 use Rattle.adb_capture.specs.declared.entry.Entry.{Entry}
 use Rattle.adb_capture.specs.declared.entry.Entry.TheVariants.{Put, Send}
 use Rattle.adb_history.specs.declared.hand_out.TheConstants.{HAND_OUT}
-use Rattle.adb_history.specs.Rows.{State}
 use Rattle.adb_history.specs.Tracking.{due_or, list_if_stale}
 use Rattle.adb_history.specs.Drained.{send_of, send_on, first_send, put_of, put_to, first_put, next_out}
 use Rattle.adb_history.specs.Orderly.{IsDrawnOnly}
@@ -87,7 +87,8 @@ module _ (devices : DeviceTable) (clients : Rows (Option SeenClient)) where
           owed [] false same marked = others
           owed [] true same marked = record { whose = refl; is = sym (put [] true same marked) }
           owed (b ∷ due) mark same marked = rw (not_empty (length due))
-              (here Client (λ q. put_to devices q (option_map client_row (clients q))) c (Put c (take HAND_OUT (b ∷ due))) (put (b ∷ due) mark same marked) refl)
+              (here Client (λ q. put_to devices q (option_map client_row (clients q))) c (Put c (take HAND_OUT (b ∷ due)))
+              (put (b ∷ due) mark same marked) refl)
 
 -- ---- both
 nothing_in : {A B : Type 0} (f : A → B) (o : Option A) → option_map f o ≡ None → o ≡ None
@@ -120,7 +121,8 @@ module _ (t : Tables) where
       subst (λ (n : Option ℕ). IsFirst Link (λ q. send_on q ((state_of t).links q)) n (first_send (state_of t).links 1 t.devices.drawn)) same
       (first_link_is (λ q. at q t.links.entries) 1 t.devices.drawn)
 
-  pub clients_first : (first : Option ℕ) → first ≡ first_number owes_client t.clients.entries → IsRising t.clients.entries → IsDrawnOnly t.joined (state_of t).clients
+  pub clients_first : (first : Option ℕ) → first ≡ first_number owes_client t.clients.entries → IsRising t.clients.entries
+      → IsDrawnOnly t.joined (state_of t).clients
       → IsFirst Client (λ q. put_to t.devices q ((state_of t).clients q)) first (first_put t.devices (state_of t).clients 1 t.joined)
   clients_first first is rises known =
       let same : first_number owes_client (listed (λ q. at q t.clients.entries) 1 t.joined) ≡ first =

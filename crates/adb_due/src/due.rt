@@ -34,7 +34,7 @@ pub fn next_due(tables: &Tables) -> Option<Owner>
     }
 }
 
-/// The least client to which something is due.
+/// The least client to which something is due, where no link comes before it.
 fn client_due(clients: &BTreeMap<u32, Client>) -> Option<Owner>
     ensures first { result
         ≡ option_map Owner.Client (first_number owes_client clients.now.entries) }
@@ -60,7 +60,7 @@ fn first_link(links: &BTreeMap<u32, Port>) -> Option<u32>
 }
 
 /// The number of the least client to which something is due.
-fn first_client(clients: &BTreeMap<u32, Client>) -> Option<u32>
+pub(crate) fn first_client(clients: &BTreeMap<u32, Client>) -> Option<u32>
     ensures first { result ≡ first_number owes_client clients.now.entries }
     ensures rises { IsRising clients.now.entries }
 {

@@ -2,5 +2,7 @@
 #![tactic(auto)]
 
 mod due;
+#[cfg(test)]
+mod tests;
 
 pub use due::{Owner, next_due};
