@@ -1,0 +1,5 @@
+pub mod NamedRows
+pub mod NamedRules
+pub mod NamedPackets
+pub mod NamedStreams
+pub mod NamedLinks
