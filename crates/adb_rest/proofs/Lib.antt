@@ -3,3 +3,4 @@ pub mod NamedRules
 pub mod NamedPackets
 pub mod NamedStreams
 pub mod NamedLinks
+pub mod NamedIds

@@ -1,5 +1,5 @@
 -- Which streams the packets of a piece name in an OKAY, and what they leave of the streams and their clients (protocol.txt, READY).
-use Rattle.std.specs.Prelude.{ℕ, ◌≡◌, true, is_some, List, [], ◌∷◌, ◌++◌, Option, Some}
+use Rattle.std.specs.Prelude.{ℕ, ◌≡◌, ◌⊎◌, true, is_some, List, [], ◌∷◌, ◌++◌, Option, Some}
 use Rattle.adb_outside.specs.Framing.{Cut}
 use Rattle.adb_wire.specs.Cutting.{cut_packets}
 use Rattle.adb_wire.specs.declared.command.Command.{Command}
@@ -62,6 +62,12 @@ pub record KeepsStreams (packets : List Packet) (before after : State) : Type 0 
 pub record AreNamed (packets : List Packet) (t : ℕ) (s : State) (ids : List ℕ) : Type 0 where
   pub live : (l : ℕ) → IsAmong l ids → is_some (s.streams l) ≡ true
   pub all : (l : ℕ) (stream : Stream) → IsAmong l (named_by packets) → s.streams l ≡ Some stream → stream.link ≡ t → IsAmong l ids
+
+-- What one packet more adds to such ids: the stream that it names, where it is one of the link, and none that does not live.
+pub record Adds (p : Packet) (t : ℕ) (s : State) (ids next : List ℕ) : Type 0 where
+  pub stay : (l : ℕ) → IsAmong l ids → IsAmong l next
+  pub live : (l : ℕ) → IsAmong l next → IsAmong l ids ⊎ (is_some (s.streams l) ≡ true)
+  pub named : p.command ≡ Okay → (stream : Stream) → s.streams p.arg1 ≡ Some stream → stream.link ≡ t → IsAmong p.arg1 next
 
 -- What more bytes of a link leave of a state in which no stream has anything to send up: only the streams of the link may that an OKAY names.
 pub record LeavesStill (t : ℕ) (bytes : List ℕ) (link : Link) (s : State) : Type 0 where

@@ -16,8 +16,8 @@ pub fn streams_are_still_at_rest()
     ensures { (h : List Entry) → IsLegal h → (l : ℕ) → IsStill l (state h) }
 {}
 
-/// Whatever packets a link brings: every stream and client that is still there behind them was there
-/// before, and a stream that had nothing to send up and that no OKAY among them names has nothing.
+/// Whatever packets a link brings, each stream that is there behind them was there before; and
+/// of one that had nothing to send up nothing can be sent, where no OKAY among them names it.
 pub fn packets_keep_streams()
     ensures treated { (h : List Entry) → IsLegal h → (t : ℕ) (packets : List Packet)
         → KeepsStreams packets (state h) (treat_all t packets (state h)).state }
