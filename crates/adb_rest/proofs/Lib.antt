@@ -1,1 +1,4 @@
 pub mod RestingDevices
+pub mod RestingUp
+pub mod RestingRows
+pub mod RestingOpen
