@@ -1,5 +1,5 @@
 -- Changes of rows by which no stream may send that could not send before.
-use Rattle.std.proofs.Common.{ℕ, ◌+◌, ◌≡◌, ◌≢◌, ◌-◌, ◌<◌, zero, suc, Bool, true, false, cond, ◌&&◌, List, [], ◌∷◌, length, min, drop, Option, Some, None, refl, sym, ◌∙◌, ap, subst, arith, ◌⊎◌, inl, inr}
+use Rattle.std.proofs.Common.{ℕ, ◌+◌, ◌≡◌, ◌≢◌, ◌-◌, ◌<◌, zero, suc, Bool, true, false, cond, ◌&&◌, List, [], ◌∷◌, ◌++◌, length, min, drop, Option, Some, None, refl, sym, ◌∙◌, ap, subst, arith, ◌⊎◌, inl, inr}
 use Rattle.std.specs.Prelude.{option_and_then, option_map}
 use Rattle.std.proofs.lemmas.Bool.{ne_eqb, eq-eqb, cases_eq}
 use Rattle.adb_outside.specs.Tables.{Rows, change_row, put_row}
@@ -11,7 +11,7 @@ use Rattle.adb_stream.specs.declared.flow.Flow.TheVariants.{One, Credit}
 use Rattle.adb_stream.specs.declared.row.Stream.{Stream}
 use Rattle.adb_client.specs.declared.phase.Phase.{Phase}
 use Rattle.adb_client.specs.declared.phase.Phase.TheVariants.{Asking, Opening, Streaming, Binding, Tracking, Closing, Gone}
-use Rattle.adb_history.specs.Rows.{Client, State, new_client, to_client, to_stream, none_kept}
+use Rattle.adb_history.specs.Rows.{Client, State, new_client, to_client, to_stream, none_kept, with_due}
 use Rattle.adb_history.specs.Links.{maxdata_of}
 use Rattle.adb_history.specs.Clients.{closing, closing_with, closes}
 use Rattle.adb_history.specs.Streams.{draw}
@@ -19,6 +19,7 @@ use Rattle.adb_history.specs.Flow.{payloads, writes, write_len, write_before, is
 use Rattle.adb_history.specs.Tracking.{mark_all, marked, marked_in}
 use Rattle.adb_history.specs.Reading.{comes}
 use Rattle.adb_history.specs.Machine.{History, state, IsLegal}
+use Rattle.adb_rest.specs.Resting.{is_open_phase, has_open_stream}
 use Rattle.adb_history.proofs.Quiet.{IsCalm, IsCalmAt}
 use Rattle.adb_history.proofs.OrderlyStates.{orderly, rests_calm}
 
@@ -60,6 +61,11 @@ before_change n f rows q new is = by_place (cases_eq n q)
     by_place (inl same) = inl (same, was_changed f (rows q) new (sym (ap (λ b. cond b (option_and_then f (rows q)) (rows q)) (eq-eqb n q same)) ∙ is))
     by_place (inr other) = inr (sym (ap (λ b. cond b (option_and_then f (rows q)) (rows q)) (ne_eqb n q other)) ∙ is)
 
+pub here_change : {A : Type 0} (n : ℕ) (f : A → Option A) (rows : Rows (Option A)) (new : A)
+    → change_row n (option_and_then f) rows n ≡ Some new → WasChanged f (rows n) new
+here_change n f rows new is =
+    was_changed f (rows n) new (sym (ap (λ b. cond b (option_and_then f (rows n)) (rows n)) (eq-eqb n n refl)) ∙ is)
+
 -- a row after one was put is that one, or was there before
 before_put : {A : Type 0} (n : ℕ) (row : A) (rows : Rows (Option A)) (q : ℕ) (new : A)
     → put_row n (Some row) rows q ≡ Some new → ((n ≡ q) × (row ≡ new)) ⊎ (rows q ≡ Some new)
@@ -97,6 +103,48 @@ client_calm m c f s keeps h stream client there here streaming = by_row (before_
         let kept = keeps was.old client (ap s.clients same ∙ was.is) was.to streaming in
         same_calm s.devices stream m was.old client kept (h stream was.old there was.is kept.streaming)
     by_row (inr row) = h stream client there row streaming
+
+-- a change by which a client stays where it is, and holds what it held
+pub record StaysSame (old new : Client) : Type 0 where
+  pub phase : new.about.phase ≡ old.about.phase
+  pub held : new.held ≡ old.held
+  pub ended : new.about.ended ≡ old.about.ended
+
+pub stays_calm : (c : ℕ) (g : Client → Client) (s : State) → ((y : Client) → StaysSame y (g y)) → AllCalm s → AllCalm (to_client c (λ y. Some (g y)) s)
+stays_calm c g s same h m = client_calm m c (λ y. Some (g y)) s keeps (h m)
+  where
+    keeps : KeepsSending m c (λ y. Some (g y)) s
+    keeps old new is to streaming =
+        let made : g old ≡ new = cc in
+        record {
+          streaming = ap (is_streaming m) (sym (same old).phase) ∙ (ap (λ (y : Client). is_streaming m y.about.phase) made ∙ streaming);
+          held = ap (λ (y : Client). y.held) (sym made) ∙ (same old).held;
+          ended = ap (λ (y : Client). y.about.ended) (sym made) ∙ (same old).ended;
+        }
+
+pub due_calm : (c : ℕ) (bytes : List ℕ) (s : State) → AllCalm s → AllCalm (to_client c (with_due bytes) s)
+due_calm c bytes s h = stays_calm c (λ y. record y { due = y.due ++ bytes }) s (λ y. record { phase = refl; held = refl; ended = refl }) h
+
+-- a client that has no stream open, and stays where it is
+open_phase : (m : ℕ) (phase : Phase) → is_streaming m phase ≡ true → is_open_phase phase ≡ true
+open_phase m (Streaming l) is = refl
+open_phase m Asking is = absurd (let clash : false ≡ true = is in cc)
+open_phase m (Opening l) is = absurd (let clash : false ≡ true = is in cc)
+open_phase m Binding is = absurd (let clash : false ≡ true = is in cc)
+open_phase m Tracking is = absurd (let clash : false ≡ true = is in cc)
+open_phase m Closing is = absurd (let clash : false ≡ true = is in cc)
+open_phase m Gone is = absurd (let clash : false ≡ true = is in cc)
+
+pub unopened_calm : (c : ℕ) (g : Client → Client) (s : State) → ((y : Client) → (g y).about.phase ≡ y.about.phase)
+    → has_open_stream (s.clients c) ≡ false → AllCalm s → AllCalm (to_client c (λ y. Some (g y)) s)
+unopened_calm c g s same unopened h m = client_calm m c (λ y. Some (g y)) s keeps (h m)
+  where
+    keeps : KeepsSending m c (λ y. Some (g y)) s
+    keeps old new is to streaming =
+        let made : g old ≡ new = cc in
+        let was : is_streaming m old.about.phase ≡ true =
+        ap (is_streaming m) (sym (same old)) ∙ (ap (λ (y : Client). is_streaming m y.about.phase) made ∙ streaming) in
+        absurd (let clash : false ≡ true = sym unopened ∙ (ap has_open_stream is ∙ open_phase m old.about.phase was) in cc)
 
 -- a client that has no stream open then
 abbrev pub NeverStreams : (Client → Option Client) → Type 0
