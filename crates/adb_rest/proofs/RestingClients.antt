@@ -1,7 +1,7 @@
 -- Rules of clients by which no stream may send that could not send before.
 use Rattle.std.proofs.Common.{ℕ, ◌+◌, ◌≡◌, ◌≢◌, Bool, true, false, cond, List, [], ◌++◌, Option, Some, None, refl, sym, ◌∙◌, ap, subst}
-use Rattle.std.specs.Prelude.{nat_eq, ◌==◌, codes}
-use Rattle.adb_outside.specs.Tables.{at, without}
+use Rattle.std.specs.Prelude.{◌==◌, codes}
+use Rattle.adb_outside.specs.Tables.{without}
 use Rattle.adb_outside.specs.declared.kinds.Cause.{Cause}
 use Rattle.adb_outside.specs.declared.kinds.Cause.TheVariants.{Eof, Fault, Starved, NoThread}
 use Rattle.adb_forward.specs.declared.row.ForwardRow.{ForwardRow}
@@ -13,7 +13,7 @@ use Rattle.adb_reply.specs.Strings.{failed}
 use Rattle.adb_reply.specs.declared.answer.Next.{Next}
 use Rattle.adb_reply.specs.declared.answer.Next.TheVariants as what
 use Rattle.adb_history.specs.Rows.{Client, State, to_client, to_stream, none_kept, in_phase, with_due, with_stream_part}
-use Rattle.adb_history.specs.Events.{Made, quietly}
+use Rattle.adb_history.specs.Events.{quietly}
 use Rattle.adb_history.specs.Links.{is_connected, is_credit}
 use Rattle.adb_history.specs.Clients.{closes_with}
 use Rattle.adb_history.specs.Streams.{stream_ids, asks_for, no_ids_left, opens}

@@ -1,5 +1,5 @@
 -- No device takes more than the server: a CNXN alone says how much it takes, and no more is kept of it.
-use Rattle.std.proofs.Common.{ℕ, ◌+◌, ◌≡◌, ◌≤◌, Bool, true, false, cond, All, List, [], ◌∷◌, min, Option, Some, None, refl, sym, ◌∙◌, ap, subst, arith}
+use Rattle.std.proofs.Common.{ℕ, ◌+◌, ◌≡◌, ◌≤◌, Bool, true, false, cond, All, List, [], ◌∷◌, min, Option, Some, None, refl, sym, ◌∙◌, subst, arith}
 use Rattle.std.specs.Prelude.{option_map, unwrap_or}
 use Rattle.std.specs.Ordering.{nat_cmp, is_eq}
 use Rattle.std.proofs.lemmas.List.Elements.{All-nil, All-head, All-tail}
@@ -15,15 +15,13 @@ use Rattle.adb_stream.specs.declared.row.Stream.{Stream}
 use Rattle.adb_capture.specs.declared.entry.Entry.{Entry}
 use Rattle.adb_capture.specs.declared.entry.Entry.TheVariants.{Join, Enter, Read, End, Bound, Attach, Recv, Detach, Put, Send}
 use Rattle.adb_history.specs.Rows.{State, to_stream, none_kept}
-use Rattle.adb_history.specs.Events.{Made, Event, Ending, quietly, lost}
+use Rattle.adb_history.specs.Events.{Event, Ending, lost}
 use Rattle.adb_history.specs.Links.{is_connected, maxdata_of}
 use Rattle.adb_history.specs.Streams.{ends_row, all_end}
 use Rattle.adb_history.specs.Losing.{forgets, link_ends}
-use Rattle.adb_history.specs.Packets.{streams_end_first, goes_online}
-use Rattle.adb_history.specs.Tracking.{mark_all}
+use Rattle.adb_history.specs.Packets.{streams_end_first}
 use Rattle.adb_history.specs.Machine.{History, state}
 use Rattle.adb_history.specs.Moves.{After, Moves, connects_now}
-use Rattle.adb_history.proofs.Following.{after_quietly, after_then}
 use Rattle.adb_history.proofs.StreamMoves.{all_end_kept}
 use Rattle.adb_history.proofs.OwnedStep.{ends_state, client_loses_frame}
 use Rattle.adb_history.proofs.RuleMoves.{Begins, step_kept}

@@ -1,8 +1,8 @@
 -- Rules of links by which no stream may send that could not send before.
-use Rattle.std.proofs.Common.{ℕ, ◌+◌, ◌≡◌, ◌≢◌, Bool, true, false, List, [], ◌∷◌, ◌++◌, Option, Some, None, refl, sym, ◌∙◌, ap, subst, ◌⊎◌, inl, inr}
+use Rattle.std.proofs.Common.{ℕ, ◌+◌, ◌≡◌, ◌≢◌, Bool, true, false, List, [], ◌++◌, Option, Some, None, refl, sym, ◌∙◌, ap, subst, ◌⊎◌, inl, inr}
 use Rattle.std.specs.Prelude.{codes, unwrap_or, option_map}
 use Rattle.std.proofs.lemmas.Bool.{cases_eq}
-use Rattle.adb_outside.specs.Tables.{at, put_row, IsRising}
+use Rattle.adb_outside.specs.Tables.{put_row, IsRising}
 use Rattle.adb_outside.specs.Framing.{Cut}
 use Rattle.adb_outside.specs.declared.kinds.Kind.{Kind}
 use Rattle.adb_outside.proofs.TableLaws.{puts_put_at, puts_without}
@@ -18,7 +18,7 @@ use Rattle.adb_stream.specs.declared.row.Stream.{Stream}
 use Rattle.adb_client.specs.declared.phase.Phase.{Phase}
 use Rattle.adb_client.specs.declared.phase.Phase.TheVariants.{Asking, Opening, Streaming, Binding, Tracking, Closing, Gone}
 use Rattle.adb_history.specs.Rows.{Client, Link, State, new_link, to_link, to_stream, none_kept}
-use Rattle.adb_history.specs.Events.{Ending, quietly, lost}
+use Rattle.adb_history.specs.Events.{Ending, lost}
 use Rattle.adb_history.specs.Links.{maxdata_of}
 use Rattle.adb_history.specs.Streams.{loses, client_loses, ends_row, all_end}
 use Rattle.adb_history.specs.Losing.{forgets, link_ends}
@@ -111,8 +111,9 @@ nothing_cut t c s given sound =
     ∙ (ap (λ fault. (faulty t fault (to_link t (with_rest c.rest) s)).state) sound
     ∙ not_faulty ((to_link t (with_rest c.rest) s).links t) t (to_link t (with_rest c.rest) s))
 
-pub part_calm : (t : ℕ) (bytes : List ℕ) (link : Link) (s : State) → s.links t ≡ Some link → CompletesNone link bytes
-    → AllCalm s → AllCalm (receives_on (s.links t) t bytes s).state
-part_calm t bytes link s is none h =
-    let c = cut_packets (record { sums = link.sums }) (link.rest ++ bytes) in
-    subst AllCalm (sym (ap (λ (o : Option Link). (receives_on o t bytes s).state) is ∙ nothing_cut t c s none.given none.sound)) h
+module _ (s : State) (h : AllCalm s) where
+  pub part_calm : (t : ℕ) (bytes : List ℕ) (link : Link) → s.links t ≡ Some link → CompletesNone link bytes
+      → AllCalm (receives_on (s.links t) t bytes s).state
+  part_calm t bytes link is none =
+      let c = cut_packets (record { sums = link.sums }) (link.rest ++ bytes) in
+      subst AllCalm (sym (ap (λ (o : Option Link). (receives_on o t bytes s).state) is ∙ nothing_cut t c s none.given none.sound)) h

@@ -1,5 +1,5 @@
 -- What comes from a client that has its stream open goes up that stream alone.
-use Rattle.std.proofs.Common.{ℕ, ◌≡◌, ◌≢◌, ◌≤◌, ◌<◌, zero, suc, true, false, List, [], ◌++◌, Option, Some, None, refl, sym, ◌∙◌, ap, subst, arith, ◌⊎◌, inl, inr}
+use Rattle.std.proofs.Common.{ℕ, ◌≡◌, ◌≢◌, ◌≤◌, ◌<◌, zero, suc, true, List, [], ◌++◌, Option, Some, None, refl, sym, ◌∙◌, ap, subst, arith, ◌⊎◌, inl, inr}
 use Rattle.std.proofs.lemmas.Bool.{eqb-true}
 use Rattle.adb_outside.specs.Tables.{Rows}
 use Rattle.adb_outside.specs.declared.kinds.Cause.TheVariants.{Eof}
@@ -14,7 +14,7 @@ use Rattle.adb_history.specs.Reading.{reads_in, reads_from}
 use Rattle.adb_history.specs.Flow.{payloads, is_streaming, up, up_all}
 use Rattle.adb_history.specs.Machine.{History, state, rule, IsLegal}
 use Rattle.adb_history.specs.Moves.{IsClientIn}
-use Rattle.adb_history.specs.Orderly.{HasStream, IsQuiet, IsResting, IsDrawnOnly, IsOrderly}
+use Rattle.adb_history.specs.Orderly.{IsResting, IsDrawnOnly, IsOrderly}
 use Rattle.adb_history.proofs.OrderlyStates.{orderly}
 use Rattle.adb_history.proofs.Quiet.{IsCalmAt}
 use Rattle.adb_rest.specs.Resting.{StepGoesUp, GoesUpAlone}

@@ -15,31 +15,28 @@ use Rattle.adb_history.specs.Tracking.{offered}
 use Rattle.adb_rest.proofs.RestingRows.{AllCalm, SendsSame, LetsSame, KeepsPassing, closing_idle, client_calm, stays_calm, due_calm, stream_calm}
 
 -- ---- the client
-left_sends : (m n : ℕ) (phase : Phase) (old new : Client) → old.about.phase ≡ phase → left_in phase (drop n old.due) old ≡ Some new
-    → is_streaming m new.about.phase ≡ true → SendsSame m old new
-left_sends m n phase old new is to streaming = by_phase phase to
-  where
-    kept : Some (record old { due = drop n old.due }) ≡ Some new → SendsSame m old new
-    kept same =
-        let row : record old { due = drop n old.due } ≡ new = cc in
-        record {
-          streaming = ap (λ (x : Client). is_streaming m x.about.phase) row ∙ streaming;
-          held = ap (λ (x : Client). x.held) (sym row);
-          ended = ap (λ (x : Client). x.about.ended) (sym row);
-        }
+module _ (m n : ℕ) (old new : Client) (streaming : is_streaming m new.about.phase ≡ true) where
+  kept_sends : Some (record old { due = drop n old.due }) ≡ Some new → SendsSame m old new
+  kept_sends same =
+      let row : record old { due = drop n old.due } ≡ new = cc in
+      record {
+        streaming = ap (λ (x : Client). is_streaming m x.about.phase) row ∙ streaming;
+        held = ap (λ (x : Client). x.held) (sym row);
+        ended = ap (λ (x : Client). x.about.ended) (sym row);
+      }
 
-    by_phase : (phase : Phase) → left_in phase (drop n old.due) old ≡ Some new → SendsSame m old new
-    by_phase Closing same = absurd (closing_idle (drop n old.due) m (record old { due = drop n old.due }) new same streaming)
-    by_phase Asking same = kept same
-    by_phase (Opening k) same = kept same
-    by_phase (Streaming k) same = kept same
-    by_phase Binding same = kept same
-    by_phase Tracking same = kept same
-    by_phase Gone same = kept same
+  left_sends : (phase : Phase) → left_in phase (drop n old.due) old ≡ Some new → SendsSame m old new
+  left_sends Closing same = absurd (closing_idle (drop n old.due) m (record old { due = drop n old.due }) new same streaming)
+  left_sends Asking same = kept_sends same
+  left_sends (Opening k) same = kept_sends same
+  left_sends (Streaming k) same = kept_sends same
+  left_sends Binding same = kept_sends same
+  left_sends Tracking same = kept_sends same
+  left_sends Gone same = kept_sends same
 
 hands_calm : (c n : ℕ) (s : State) → AllCalm s → AllCalm (to_client c (hands n) s)
 hands_calm c n s h m =
-    client_calm m c (hands n) s (λ old new is to streaming. left_sends m n old.about.phase old new refl to streaming) (h m)
+    client_calm m c (hands n) s (λ old new is to streaming. left_sends m n old new streaming old.about.phase to) (h m)
 
 lists_calm : (c : ℕ) (due : List ℕ) (client : Client) (s : State) → AllCalm s → AllCalm (lists_first c due client s).state
 lists_calm c (b ∷ due) client s h = h

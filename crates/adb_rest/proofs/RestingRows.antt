@@ -1,5 +1,6 @@
 -- Changes of rows by which no stream may send that could not send before.
-use Rattle.std.proofs.Common.{ℕ, ◌+◌, ◌≡◌, ◌≢◌, ◌-◌, ◌<◌, zero, suc, Bool, true, false, cond, ◌&&◌, List, [], ◌∷◌, ◌++◌, length, min, drop, Option, Some, None, refl, sym, ◌∙◌, ap, subst, arith, ◌⊎◌, inl, inr}
+use Rattle.std.proofs.Common.{ℕ, ◌+◌, ◌≡◌, ◌≢◌, ◌-◌, zero, suc, Bool, true, false, cond, ◌&&◌, List, [], ◌∷◌, ◌++◌, length, drop, Option, Some, None, refl, sym}
+use Rattle.std.proofs.Common.{◌∙◌, ap, subst, arith, ◌⊎◌, inl, inr}
 use Rattle.std.specs.Prelude.{option_and_then, option_map}
 use Rattle.std.proofs.lemmas.Bool.{ne_eqb, eq-eqb, cases_eq}
 use Rattle.adb_outside.specs.Tables.{Rows, change_row, put_row}
@@ -83,13 +84,13 @@ pub record SendsSame (m : ℕ) (old new : Client) : Type 0 where
   pub held : new.held ≡ old.held
   pub ended : new.about.ended ≡ old.about.ended
 
-same_calm : (devices : DeviceTable) (stream : Stream) (m : ℕ) (old new : Client) → SendsSame m old new
-    → IsCalm devices old stream → IsCalm devices new stream
-same_calm devices stream m old new same h = record {
-  nothing = ap (payloads stream.part.flow (maxdata_of stream.link devices)) same.held ∙ h.nothing;
-  goes_on = ap (λ held. is_over new.about.ended held stream.part.flow) same.held
-      ∙ (ap (λ ended. is_over ended old.held stream.part.flow) same.ended ∙ h.goes_on);
-}
+module _ {m : ℕ} {old new : Client} (same : SendsSame m old new) where
+  same_calm : (devices : DeviceTable) (stream : Stream) → IsCalm devices old stream → IsCalm devices new stream
+  same_calm devices stream h = record {
+    nothing = ap (payloads stream.part.flow (maxdata_of stream.link devices)) same.held ∙ h.nothing;
+    goes_on = ap (λ held. is_over new.about.ended held stream.part.flow) same.held
+        ∙ (ap (λ ended. is_over ended old.held stream.part.flow) same.ended ∙ h.goes_on);
+  }
 
 -- what a change of a client leaves as it was
 abbrev pub KeepsSending : (m c : ℕ) → (Client → Option Client) → State → Type 0
@@ -101,7 +102,7 @@ client_calm m c f s keeps h stream client there here streaming = by_row (before_
     by_row : ((c ≡ stream.client) × WasChanged f (s.clients stream.client) client) ⊎ (s.clients stream.client ≡ Some client) → IsCalm s.devices client stream
     by_row (inl (same, was)) =
         let kept = keeps was.old client (ap s.clients same ∙ was.is) was.to streaming in
-        same_calm s.devices stream m was.old client kept (h stream was.old there was.is kept.streaming)
+        same_calm kept s.devices stream (h stream was.old there was.is kept.streaming)
     by_row (inr row) = h stream client there row streaming
 
 -- a change by which a client stays where it is, and holds what it held
@@ -194,7 +195,7 @@ marks_calm s h m stream client there here streaming = by_row (s.clients stream.c
         let row : marked old ≡ client = cc in
         let kept = marked_same m old.about.phase old refl (ap (λ (y : Client). is_streaming m y.about.phase) row ∙ streaming) in
         subst (λ (y : Client). IsCalm s.devices y stream) row
-        (same_calm s.devices stream m old (marked old) kept (h m stream old there is kept.streaming))
+        (same_calm kept s.devices stream (h m stream old there is kept.streaming))
 
 -- ---- a stream changes
 -- a flow that lets the same be sent

@@ -1,5 +1,5 @@
 -- By all entries but those of a client that has its stream open, and those that bring packets, nothing goes up.
-use Rattle.std.proofs.Common.{ℕ, ◌≡◌, ◌≢◌, ◌<◌, false, List, length, ap, None, Option, subst, sym, refl}
+use Rattle.std.proofs.Common.{ℕ, ◌≡◌, false, List, length, ap, None, Option, subst, sym}
 use Rattle.adb_outside.specs.Tables.{at}
 use Rattle.adb_outside.specs.declared.kinds.Cause.{Cause}
 use Rattle.adb_outside.specs.declared.kinds.Cause.TheVariants.{Eof, Fault, Starved, NoThread}
@@ -46,7 +46,7 @@ module _ (s : State) (h : AllCalm s) where
     attach = λ t kind serial. step_is_rule (Attach t kind serial) s (plugs_calm t kind serial s h);
     detach = λ t cause. step_is_rule (Detach t cause) s (unplugs_calm (s.links t) t s fits.rises h);
     gone = λ t bytes is. step_is_rule (Recv t bytes) s (received_gone t bytes is);
-    part = λ t bytes link is none. step_is_rule (Recv t bytes) s (part_calm t bytes link s is none h);
+    part = λ t bytes link is none. step_is_rule (Recv t bytes) s (part_calm s h t bytes link is none);
     put = λ c bytes. step_is_rule (Put c bytes) s (puts_calm (s.clients c) c (length bytes) s h);
     send = λ t bytes. step_is_rule (Send t bytes) s h;
   }
