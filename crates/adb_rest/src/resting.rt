@@ -6,8 +6,8 @@ ghost use Rattle.adb_capture.specs.declared.entry.Entry.{Entry};
 ghost use Rattle.adb_history.specs.Machine.{IsLegal, state};
 ghost use Rattle.adb_rest.specs.Resting.{AllSized, GoesUpAlone, SendsNothingBy};
 
-/// Nothing goes up but by what comes from a client that has its stream open, or by a device's
-/// packets: every other step is the rule of its entry.
+/// The step of an entry is its rule, and nothing goes up, but where a client that has its stream
+/// open wrote or ended in order, and where bytes of a device complete a packet or are wrong.
 pub fn most_entries_send_nothing()
     ensures { (history : List Entry) → IsLegal history → SendsNothingBy (state history) }
 {}
