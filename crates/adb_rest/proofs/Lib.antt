@@ -1,0 +1,14 @@
+pub mod NamedRows
+pub mod NamedRules
+pub mod NamedPackets
+pub mod NamedStreams
+pub mod NamedLinks
+pub mod NamedIds
+pub mod RestingDevices
+pub mod RestingUp
+pub mod RestingRows
+pub mod RestingOpen
+pub mod RestingClients
+pub mod RestingLinks
+pub mod RestingPuts
+pub mod RestingSteps
