@@ -6,3 +6,5 @@ pub mod RestingClients
 pub mod RestingLinks
 pub mod RestingPuts
 pub mod RestingSteps
+pub mod WantedRequests
+pub mod WantedAnswers
