@@ -8,3 +8,7 @@ pub mod RestingPuts
 pub mod RestingSteps
 pub mod WantedRequests
 pub mod WantedAnswers
+pub mod WantedReads
+pub mod WantedForwards
+pub mod WantedClients
+pub mod WantedStates

@@ -34,9 +34,9 @@ forwarded_port forwards zero none there = absurd (let clash : false ≡ true = s
 forwarded_port forwards (suc n) none there = omega arith
 
 module _ (rows : List (ℕ × Row)) where
-  -- what holds of each device that is chosen, and of each refusal, holds of the device that a request asks
-  module _ (P : _ → Type 0) (device : (by : Selector) (id : ℕ) → P (device_or by (Ok id))) (refused : (by : Selector) (why : Refusal) → P (device_or by (Err why)))
-      (gone : P (asked_device [] (Some 0) Own true)) where
+  -- what holds of each device that is chosen and of each refusal holds of the device that a request asks
+  module _ (P : _ → Type 0) (device : (by : Selector) (id : ℕ) → P (device_or by (Ok id)))
+      (refused : (by : Selector) (why : Refusal) → P (device_or by (Err why))) (gone : P (asked_device [] (Some 0) Own true)) where
     by_choice : (by : Selector) (chosen : Result ℕ Refusal) → P (device_or by chosen)
     by_choice by (Ok id) = device by id
     by_choice by (Err why) = refused by why
