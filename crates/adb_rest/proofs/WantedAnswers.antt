@@ -17,9 +17,8 @@ use Rattle.adb_request.specs.declared.request.Which.TheVariants.{Own, By}
 use Rattle.adb_request.specs.declared.request.Request.{Request}
 use Rattle.adb_request.specs.declared.request.Request.TheVariants as asks
 use Rattle.adb_reply.specs.Strings.{failed}
-use Rattle.adb_reply.specs.Refusals.{no_transport}
 use Rattle.adb_reply.specs.Chosen.{device_or, device_by, asked_device}
-use Rattle.adb_reply.specs.Answer.{selects, fact_at, tells, asks_ready, fact_answer, forwards_from, forwards_to, forwards_by, unbinds, opens_at, opens, answer}
+use Rattle.adb_reply.specs.Answer.{selects, fact_at, tells, forwards_from, forwards_to, forwards_by, unbinds, opens_at, opens, answer}
 use Rattle.adb_reply.specs.declared.answer.Next.TheVariants.{Open, Unbind}
 use Rattle.adb_rest.specs.Wanted.{IsRemote, IsService, CanFollow}
 use Rattle.adb_rest.proofs.WantedRequests.{IsSoundRequest}

@@ -1,9 +1,8 @@
 -- A client wants a forward only while it waits for the listener.
-use Rattle.std.proofs.Common.{ℕ, ◌+◌, ◌≡◌, ◌≢◌, Bool, true, false, cond, List, [], ◌∷◌, ◌++◌, drop, Option, Some, None, refl, sym, ◌∙◌, ap, subst, eqb}
+use Rattle.std.proofs.Common.{ℕ, ◌+◌, ◌≡◌, Bool, true, false, cond, List, [], ◌∷◌, ◌++◌, drop, Option, Some, None, refl, sym, ◌∙◌, ap, subst, eqb}
 use Rattle.std.proofs.Common.{◌⊎◌, inl, inr}
 use Rattle.std.specs.Prelude.{option_and_then, option_map, codes}
 use Rattle.adb_outside.specs.Tables.{Rows, change_row}
-use Rattle.adb_outside.specs.declared.identity.Identity.{Identity}
 use Rattle.adb_stream.specs.declared.row.Stream.{Stream}
 use Rattle.adb_client.specs.declared.phase.Phase.{Phase}
 use Rattle.adb_client.specs.declared.phase.Phase.TheVariants.{Asking, Opening, Streaming, Binding, Tracking, Closing, Gone}
@@ -11,17 +10,17 @@ use Rattle.adb_client.specs.declared.about.Want.{Want}
 use Rattle.adb_capture.specs.declared.entry.Entry.{Entry}
 use Rattle.adb_capture.specs.declared.entry.Entry.TheVariants.{Join, Enter, Read, End, Bound, Attach, Recv, Detach, Put, Send}
 use Rattle.adb_reply.specs.Strings.{failed}
-use Rattle.adb_history.specs.Rows.{Client, State, new_client, to_client, to_stream, none_kept, with_due, with_held, in_phase}
-use Rattle.adb_history.specs.Events.{Made, Event, Ending, lost}
+use Rattle.adb_history.specs.Rows.{Client, State, new_client, to_client, to_stream, none_kept, with_due, in_phase}
+use Rattle.adb_history.specs.Events.{Ending, lost}
 use Rattle.adb_history.specs.Links.{is_connected}
 use Rattle.adb_history.specs.Clients.{closing, closing_with}
 use Rattle.adb_history.specs.Streams.{loses, client_loses, ends_row, all_end}
 use Rattle.adb_history.specs.Tracking.{marked, marked_in}
-use Rattle.adb_history.specs.Losing.{forgets, input_ended, only_client}
+use Rattle.adb_history.specs.Losing.{forgets, only_client}
 use Rattle.adb_history.specs.Packets.{streams_end_first}
 use Rattle.adb_history.specs.Asking.{Asked, asks_with}
 use Rattle.adb_history.specs.Reading.{asked_before, has_asked, tracks, awaits, comes}
-use Rattle.adb_history.specs.Handing.{hands, left_in, unmarked}
+use Rattle.adb_history.specs.Handing.{hands, left_in}
 use Rattle.adb_history.specs.Machine.{History, state, May, IsLegal}
 use Rattle.adb_history.specs.Moves.{Moves}
 use Rattle.adb_history.specs.Orderly.{phase_for}
@@ -58,9 +57,9 @@ change_wants c f clients keeps h k x is = by_row (before_change c f clients k x 
 made_wants : (made new : Client) → Some made ≡ Some new → Wants made → Wants new
 made_wants made new e h = subst Wants (let same : made ≡ new = cc in same) h
 
--- of a client that is in this phase now
-asking_wants : (phase : Phase) (client : Client) → client.about.phase ≡ phase → Wants client → WantsIn phase client.about.want
-asking_wants phase client is h = subst (λ (p : Phase). WantsIn p client.about.want) is h
+-- what a client wants that is in this phase
+wants_there : (phase : Phase) (client : Client) → client.about.phase ≡ phase → Wants client → WantsIn phase client.about.want
+wants_there phase client is h = subst (λ (p : Phase). WantsIn p client.about.want) is h
 
 same_wants : (c : ℕ) (f : Client → Client) (clients : Rows (Option Client))
     → ((x : Client) → ((f x).about.phase ≡ x.about.phase) × ((f x).about.want ≡ x.about.want)) → AllWant clients
@@ -176,7 +175,7 @@ module _ (s : State) (h : IsWaited s) where
   tracks_wants : (c : ℕ) (client : Client) (long : Bool) → s.clients c ≡ Some client → client.about.phase ≡ Asking
       → AllWant (to_client c (tracks long) s).clients
   tracks_wants c client long is asking =
-      goes_wants c s.clients client is (asking_wants Asking client asking (h.wants c client is)) h.wants
+      goes_wants c s.clients client is (wants_there Asking client asking (h.wants c client is)) h.wants
       (λ x. record x { about = record x.about { phase = Tracking; long = long; mark = false }; held = [] }) (λ x none. none)
 
   awaits_wants : (c : ℕ) (want : Want) → AllWant (to_client c (awaits want) s).clients
@@ -186,7 +185,7 @@ module _ (s : State) (h : IsWaited s) where
   draws_wants : (c l : ℕ) (client : Client) → s.clients c ≡ Some client → client.about.phase ≡ Asking
       → AllWant (to_client c (in_phase (Opening l)) s).clients
   draws_wants c l client is asking =
-      goes_wants c s.clients client is (asking_wants Asking client asking (h.wants c client is)) h.wants
+      goes_wants c s.clients client is (wants_there Asking client asking (h.wants c client is)) h.wants
       (λ x. record x { about = record x.about { phase = Opening l } }) (λ x none. none)
 
   opens_wants : (l : ℕ) (stream : Stream) → s.streams l ≡ Some stream → (stream.part.remote ≡ 0) × (stream.part.orphan ≡ false)
@@ -194,7 +193,7 @@ module _ (s : State) (h : IsWaited s) where
   opens_wants l stream is new =
       let of = client_of s l stream is new.1 h.owned in
       let opening : of.client.about.phase ≡ Opening l = of.phase ∙ ap (phase_for l) new.0 in
-      goes_wants stream.client s.clients of.client of.is (asking_wants (Opening l) of.client opening (h.wants stream.client of.client of.is)) h.wants
+      goes_wants stream.client s.clients of.client of.is (wants_there (Opening l) of.client opening (h.wants stream.client of.client of.is)) h.wants
       (λ x. record x { about = record x.about { phase = Streaming l } }) (λ x none. none)
 
 -- A client wants a forward only while it waits for the listener, through each move.

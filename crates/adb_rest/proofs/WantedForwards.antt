@@ -1,8 +1,7 @@
 -- Each forward of a history is one that can be, and so is each that a client waits for.
-use Rattle.std.proofs.Common.{ℕ, ◌≡◌, ◌<◌, Bool, true, false, cond, All, List, [], ◌∷◌, ◌++◌, length, Option, Some, None, is_some, refl, sym, subst, arith, eqb}
+use Rattle.std.proofs.Common.{ℕ, ◌≡◌, ◌<◌, Bool, true, false, cond, List, [], ◌∷◌, ◌++◌, length, Option, Some, None, is_some, refl, sym, subst, arith, eqb}
 use Rattle.std.proofs.Common.{◌||◌, ◌&&◌, not, codes, zero, suc}
-use Rattle.std.specs.Prelude.{◌==◌, is_none, decimal}
-use Rattle.std.proofs.lemmas.Bool.{eq-eqb}
+use Rattle.std.specs.Prelude.{◌==◌, is_none}
 use Rattle.std.proofs.lemmas.List.Elements.{All-nil, All-filter}
 use Rattle.adb_outside.specs.Tables.{Rows, at, put_row}
 use Rattle.adb_outside.proofs.TableLaws.{All-put_at, All-without}

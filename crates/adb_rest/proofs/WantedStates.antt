@@ -1,10 +1,8 @@
 -- In every state that a legal history leaves, what clients wait for, and what they may ask next, can be done.
-use Rattle.std.proofs.Common.{ℕ, ◌≡◌, List, Option, Some, None, refl, sym, ◌∙◌, ap, subst}
-use Rattle.adb_outside.specs.Tables.{at}
+use Rattle.std.proofs.Common.{ℕ, ◌≡◌, List, Some, refl, sym, subst}
 use Rattle.adb_registry.specs.Registry.{DeviceTable}
 use Rattle.adb_forward.specs.Forwards.{IsForwardTable}
 use Rattle.adb_forward.specs.declared.row.ForwardRow.{ForwardRow}
-use Rattle.adb_client.specs.declared.about.Want.{Want}
 use Rattle.adb_client.specs.declared.phase.Phase.{Phase}
 use Rattle.adb_client.specs.declared.phase.Phase.TheVariants.{Asking, Opening, Streaming, Binding, Tracking, Closing, Gone}
 use Rattle.adb_history.specs.Rows.{Client}
@@ -12,7 +10,7 @@ use Rattle.adb_history.specs.Asking.{asks_with}
 use Rattle.adb_history.specs.Reading.{asked_before}
 use Rattle.adb_history.specs.Machine.{History, state, IsLegal}
 use Rattle.adb_history.proofs.Books.{all_books}
-use Rattle.adb_rest.specs.Wanted.{IsRemote, IsSoundNext, IsWanted, AreForwards, CanBeDone}
+use Rattle.adb_rest.specs.Wanted.{IsSoundNext, IsWanted, AreForwards, CanBeDone}
 use Rattle.adb_rest.proofs.WantedReads.{sound_asked, none_at_zero, table_forwards}
 use Rattle.adb_rest.proofs.WantedForwards.{book_sound}
 use Rattle.adb_rest.proofs.WantedClients.{WantsIn, all_want}

@@ -21,7 +21,7 @@ pub record IsRemote (remote : List ℕ) : Type 0 where
 abbrev pub IsService : List ℕ → Type 0
 IsService service = length service < 2 ^ 16
 
--- What follows a request can be done. Of a port that a listener chooses only the remote end is known.
+-- What follows a request can be done. Where a listener is to be bound, its port is known only when it stands.
 abbrev pub CanFollow : Next → Type 0
 CanFollow (Open transport service) = IsService service
 CanFollow (Bind transport local remote chosen) = IsRemote remote
