@@ -1,6 +1,6 @@
 -- What a shelf shows and finds.
 use Rattle.std.proofs.Common.{◌≡◌, ℕ, ◌<◌, ◌≤◌, ◌^◌, Bool, true, false, cond, List, [], ◌∷◌, Option, Some, None}
-use Rattle.std.proofs.Common.{refl, sym, ap, ◌∙◌, arith, subst, eqb, IsSome}
+use Rattle.std.proofs.Common.{refl, sym, ap, ◌∙◌, arith, subst, eqb, IsSome, length, suc}
 use Rattle.std.specs.Prelude.{is_some, option_map, MatchOption, IfSome}
 use Rattle.std.specs.Ordering.{nat_cmp, is_eq}
 use Rattle.std.specs.List.Sorted.{IsStrictlySortedBy}
@@ -28,6 +28,10 @@ shown_in rows id (entry ∷ entries) = go (is_eq (nat_cmp id entry.0)) (shown_in
         → cond b (Some (shown_at rows entry.1)) (at id (shown rows entries)) ≡ option_map (shown_at rows) (cond b (Some entry.1) (at id entries))
     go true later = refl
     go false later = later
+
+pub shown_length : (rows : Slab Stream) (entries : List (ℕ × ℕ)) → length (shown rows entries) ≡ length entries
+shown_length rows [] = refl
+shown_length rows (entry ∷ entries) = ap suc (shown_length rows entries)
 
 shown_ids : (rows : Slab Stream) (entries : List (ℕ × ℕ)) → map.keys_of (shown rows entries) ≡ map.keys_of entries
 shown_ids rows [] = refl

@@ -1,6 +1,6 @@
 //! The streams in a slab, with their keys by id, and by link and id.
 
-ghost use Rattle.std.specs.Prelude.{◌≡◌, ◌<◌, ◌≤◌, ◌^◌, ℕ, [], Some, None, IfOk, IfSome, OnErr, OnOk, IsSome, MatchOption, option_map};
+ghost use Rattle.std.specs.Prelude.{◌≡◌, ◌<◌, ◌≤◌, ◌^◌, ℕ, [], length, Some, None, IfOk, IfSome, OnErr, OnOk, IsSome, MatchOption, option_map};
 ghost use Rattle.std.specs.Option.{option_copied, option_copied_mut};
 ghost use Rattle.std.specs.Borrow.{sem};
 ghost use Rattle.adb_outside.specs.Tables.{IsRising, put_row};
@@ -145,6 +145,13 @@ impl Shelf {
         let key = self.index.get(&(link, id)).copied()?;
         let stream = self.rows.get_mut(key)?;
         Some(&mut stream.part)
+    }
+
+    /// How many streams it has.
+    pub(crate) fn len(&self) -> usize
+        ensures { result ≡ length self.now.keys.entries }
+    {
+        self.keys.len()
     }
 
     /// The least id of a link in the index.

@@ -1,6 +1,6 @@
 //! The streams that live.
 
-ghost use Rattle.std.specs.Prelude.{◌≡◌, ◌+◌, ◌↔◌, [], Err, IfOk, OnErr, MatchOption, option_map};
+ghost use Rattle.std.specs.Prelude.{◌≡◌, ◌+◌, ◌↔◌, [], length, Err, IfOk, OnErr, MatchOption, option_map};
 ghost use Rattle.std.specs.Option.{option_copied, option_copied_mut};
 ghost use Rattle.adb_outside.specs.Tables.{at, put_at, without};
 ghost use Rattle.adb_stream.specs.Flow.{new_flow};
@@ -128,6 +128,13 @@ impl Streams {
         ensures sound { IsSound self.new }
     {
         self.shelf.clear();
+    }
+
+    /// How many streams live.
+    pub fn len(&self) -> usize
+        ensures { result ≡ length self.now.streams }
+    {
+        self.shelf.len()
     }
 
     /// The least id of a stream of this link that lives.
