@@ -1,7 +1,7 @@
 //! Stubs.
 #![tactic(auto)]
 
-ghost use Rattle.std.specs.Prelude.{◌≡◌, ◌≢◌, ◌+◌, ◌<◌, ℕ, [], Some, None, Err, Ok, IfOk, OnOk, OnErr, MatchOption, take, option_map};
+ghost use Rattle.std.specs.Prelude.{◌≡◌, ◌≢◌, ◌+◌, ◌<◌, ◌^◌, ℕ, [], Some, None, Err, Ok, IfOk, OnOk, OnErr, MatchOption, take, option_map};
 ghost use Rattle.adb_outside.specs.Tables.{at};
 ghost use Rattle.adb_outside.specs.declared.kinds.Cause.{Cause};
 ghost use Rattle.adb_capture.specs.declared.entry.Entry.{Entry};
@@ -10,7 +10,7 @@ ghost use Rattle.adb_history.specs.Orderly.{IsDrawnOnly};
 ghost use Rattle.adb_history.specs.Drained.{next_out};
 ghost use Rattle.adb_rules.specs.Tables.{state_of};
 ghost use Rattle.adb_rules.specs.Fit.{IsFit, IsReached, Makes, Keeps};
-ghost use Rattle.adb_calls.specs.Calls.{PutsTo, SendsTo, owner_of};
+ghost use Rattle.adb_calls.specs.Handed.{IsFront, HandsOut, offered_to, due_on, owner_of};
 
 use adb_outside::{Cause, Kind, Text};
 use adb_registry::AttachError;
@@ -56,6 +56,7 @@ pub fn attach(rt: &impl Abort, tables: &mut Tables, kind: Kind, serial: &[u8]) -
     ensures refused { MatchOption (attach_refusal tables.old.devices serial.now)
         (result ≢ Err AttachError.Numbers × result ≢ Err AttachError.Full × result ≢ Err AttachError.BadSerial) (λ why. result ≡ Err why) }
     ensures id { IfOk result (λ id. id ≡ tables.old.devices.drawn + 1) }
+    ensures fits { IfOk result (λ id. id < 2 ^ 32) }
     ensures made { OnOk result (Makes (Entry.Attach (tables.old.devices.drawn + 1) kind serial.now) tables.old tables.new) }
     ensures kept { OnErr result (Keeps tables.old tables.new) }
 {
@@ -75,7 +76,9 @@ pub fn put(rt: &impl Abort, tables: &mut Tables, client: u32, max: usize) -> Res
     requires some { 0 < max }
     requires fit { IsFit tables.old }
     requires reached { IsReached (state_of tables.old) }
-    ensures put { IfOk result (λ given. PutsTo client max given tables.old tables.new) }
+    ensures bytes { IfOk result (IsFront max
+        (offered_to tables.old.devices ((state_of tables.old).clients client))) }
+    ensures made { IfOk result (λ bytes. HandsOut (Entry.Put client) bytes tables.old tables.new) }
     ensures kept { OnErr result (Keeps tables.old tables.new) }
 {
     rt.exit(1)
@@ -85,7 +88,8 @@ pub fn send(rt: &impl Abort, tables: &mut Tables, link: u32, max: usize) -> Resu
     requires some { 0 < max }
     requires fit { IsFit tables.old }
     requires reached { IsReached (state_of tables.old) }
-    ensures sent { IfOk result (λ given. SendsTo link max given tables.old tables.new) }
+    ensures bytes { IfOk result (IsFront max (due_on ((state_of tables.old).links link))) }
+    ensures made { IfOk result (λ bytes. HandsOut (Entry.Send link) bytes tables.old tables.new) }
     ensures kept { OnErr result (Keeps tables.old tables.new) }
 {
     rt.exit(1)

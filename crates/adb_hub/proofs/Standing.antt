@@ -22,12 +22,12 @@ same_rows rows others k drawn too same n =
     sym (shows rows k drawn.zero drawn.above n) ∙ (ap (at n) same ∙ shows others k too.zero too.above n)
 
 -- what is known of the rows of two states that show the same
-record AreDrawn (s : State) : Type 0 where
-  clients : IsDrawnOnly s.joined s.clients
-  links : IsDrawnOnly s.devices.drawn s.links
-  streams : IsDrawnOnly s.drawn s.streams
+pub record AreDrawn (s : State) : Type 0 where
+  pub clients : IsDrawnOnly s.joined s.clients
+  pub links : IsDrawnOnly s.devices.drawn s.links
+  pub streams : IsDrawnOnly s.drawn s.streams
 
-drawn_of : (s : State) → IsReached s → AreDrawn s
+pub drawn_of : (s : State) → IsReached s → AreDrawn s
 drawn_of s reached =
     subst AreDrawn (sym reached.is) (of_orderly (state reached.history) (orderly reached.history reached.legal))
   where
@@ -85,7 +85,7 @@ sound_after e old new sound given makes = record {
   fit = makes.fit;
   reached = record {
     history = e ∷ sound.reached.history;
-    legal = (sound.reached.legal, (given.range, subst (λ (s : State). May s e) sound.reached.is given.may));
+    legal = (sound.reached.legal, given.range, subst (λ (s : State). May s e) sound.reached.is given.may);
     is = makes.state ∙ ap (λ (s : State). (step s e).state) sound.reached.is;
   };
 }
@@ -95,7 +95,7 @@ pub lawful_after : (e : Entry) (old new : Tables) (h : History) → IsSound old 
 lawful_after e old new h sound given makes lawful =
     let is = stands_for old h sound lawful in
     record {
-      legal = (lawful.legal, (given.range, subst (λ (s : State). May s e) is given.may));
+      legal = (lawful.legal, given.range, subst (λ (s : State). May s e) is given.may);
       seen = ap kept (makes.state ∙ ap (λ (s : State). (step s e).state) is);
     }
 

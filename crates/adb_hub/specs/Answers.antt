@@ -1,5 +1,5 @@
 -- What the calls of a hub answer, over a history that it holds.
-use Rattle.std.specs.Prelude.{ℕ, Unit, tt, ◌+◌, ◌-◌, ◌^◌, ◌==◌, ◌≡◌, ◌≢◌, Bool, true, false, if◌then◌else◌, nat_le, List, [], ◌∷◌, length, take, Option, Some, None, Result, Ok, Err, option_map}
+use Rattle.std.specs.Prelude.{ℕ, ◌+◌, ◌-◌, ◌^◌, ◌==◌, ◌≡◌, ◌≢◌, Bool, true, false, if◌then◌else◌, nat_le, List, [], ◌∷◌, length, take, Option, Some, None, Result, Ok, Err, option_map}
 use Rattle.adb_outside.specs.Tables.{at}
 use Rattle.adb_registry.specs.Registry.{DeviceTable}
 use Rattle.adb_client.specs.declared.phase.Phase.{Phase}
@@ -67,7 +67,7 @@ HandsOut e max None handed.Nothing h old new = ⊥
 HandsOut e max None handed.Done h old new = new ≡ old
 
 abbrev pub handed_as : Option (List ℕ) → Life → Handed
-handed_as (Some bytes) life = handed.Bytes bytes
+handed_as (Some bytes) any = handed.Bytes bytes
 handed_as None life.Live = handed.Nothing
 handed_as None life.Gone = handed.Done
 

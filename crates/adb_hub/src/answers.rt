@@ -35,8 +35,8 @@ pub enum Room {
 /// made.
 #[derive(Clone, Copy, Debug, PartialEq, Eq, Drop)]
 pub struct Summary {
-    pub clients: usize,
-    pub links: usize,
-    pub streams: usize,
+    pub clients: u32,
+    pub links: u32,
+    pub streams: u32,
     pub stopped: bool,
 }

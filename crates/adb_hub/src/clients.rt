@@ -1,18 +1,20 @@
 //! Clients: how they come, what comes from them, and how they end.
 
-ghost use Rattle.std.specs.Prelude.{◌≡◌, ◌≢◌, ◌+◌, ◌<◌, List, OnErr, Err, if◌then◌else◌};
+ghost use Rattle.std.specs.Prelude.{◌≡◌, ◌≢◌, ◌+◌, ◌^◌, ◌<◌, List, IfOk, OnErr, Err, Some, if◌then◌else◌};
 ghost use Rattle.adb_capture.specs.declared.entry.Entry.{Entry};
 ghost use Rattle.adb_history.specs.Kept.{IsLawful};
 ghost use Rattle.adb_history.specs.Machine.{state};
 ghost use Rattle.adb_history.specs.Accepted.{is_drawn};
+ghost use Rattle.adb_rules.specs.Tables.{client_row, state_of};
 ghost use Rattle.adb_hub.specs.Refusal.{unless_stopped, unless_drawn};
 ghost use Rattle.adb_hub.specs.Answers.{Answers, AnswersClient, life_of, room_of, room_past, port_of, err_if, next_client};
 
 use crate::answers::{Life, Room};
 use crate::error::HubError;
 use crate::hub::{HELD_LIMIT, Hub};
-use adb_client::Phase;
+use adb_client::{Client, Phase};
 use adb_outside::Cause;
+use adb_rules::Tables;
 use std::process::Abort;
 
 impl Hub {
@@ -83,14 +85,7 @@ impl Hub {
         ensures { (h : List Entry) → IsLawful self.now h
             → result ≡ room_of ((state h).clients client) }
     {
-        let Some(row) = self.tables.clients.get(&client) else {
-            return Room::Shut;
-        };
-        match row.about().phase {
-            Phase::Closing | Phase::Gone => Room::Shut,
-            _ if row.about().ended => Room::Shut,
-            _ => room_past(row.held()),
-        }
+        room(&self.tables, client)
     }
 
     /// The port that a client waits for: 0 where any port serves. It takes no memory.
@@ -98,16 +93,13 @@ impl Hub {
         ensures { (h : List Entry) → IsLawful self.now h
             → result ≡ port_of ((state h).clients client) }
     {
-        let row = self.tables.clients.get(&client)?;
-        match (row.about().phase, &row.about().want) {
-            (Phase::Binding, Some(want)) => Some(want.local),
-            _ => None,
-        }
+        waiting_port(&self.tables, client)
     }
 
     /// The next client's number.
     fn next_client(&self) -> Result<u32, HubError>
-        ensures { result ≡ next_client self.now.stopped self.now.joined }
+        ensures next { result ≡ next_client self.now.stopped self.now.joined }
+        ensures fits { IfOk result (λ client. client < 2 ^ 32) }
     {
         if self.is_stopped() {
             return Err(HubError::Stopped);
@@ -144,6 +136,45 @@ impl Hub {
             → result ≡ life_of ((state h).clients client) }
     {
         life_if(self.tables.clients.contains_key(&client))
+    }
+}
+
+/// How much more a client may send.
+fn room(tables: &Tables, client: u32) -> Room
+    ensures { result ≡ room_of ((state_of tables.now).clients client) }
+{
+    match tables.clients.get(&client) {
+        Some(row) => room_in(row),
+        None => Room::Shut,
+    }
+}
+
+fn room_in(row: &Client) -> Room
+    ensures { result ≡ room_of (Some (client_row row.now)) }
+{
+    match row.about().phase {
+        Phase::Closing | Phase::Gone => Room::Shut,
+        _ if row.about().ended => Room::Shut,
+        _ => room_past(row.held()),
+    }
+}
+
+/// The port that a client waits for.
+fn waiting_port(tables: &Tables, client: u32) -> Option<u16>
+    ensures { result ≡ port_of ((state_of tables.now).clients client) }
+{
+    match tables.clients.get(&client) {
+        Some(row) => port_in(row),
+        None => None,
+    }
+}
+
+fn port_in(row: &Client) -> Option<u16>
+    ensures { result ≡ port_of (Some (client_row row.now)) }
+{
+    match row.about().phase {
+        Phase::Binding => row.about().want.as_ref().map(|want| want.local),
+        _ => None,
     }
 }
 

@@ -1,19 +1,18 @@
 //! Handing out what is due.
 
-ghost use Rattle.std.specs.Prelude.{◌≡◌, ◌<◌, List, OnErr, option_map};
+ghost use Rattle.std.specs.Prelude.{◌≡◌, ◌<◌, List, All, None, OnErr, option_map};
 ghost use Rattle.adb_capture.specs.declared.entry.Entry.{Entry};
 ghost use Rattle.adb_history.specs.Drained.{next_out};
 ghost use Rattle.adb_history.specs.Kept.{IsLawful};
 ghost use Rattle.adb_history.specs.Machine.{state};
 ghost use Rattle.adb_history.specs.Rows.{State};
-ghost use Rattle.adb_calls.specs.Calls.{owner_of};
-ghost use Rattle.adb_hub.specs.Answers.{Hands, offered_to, due_on};
+ghost use Rattle.adb_calls.specs.Handed.{owner_of};
+ghost use Rattle.adb_hub.specs.Answers.{Hands, offered_to, due_on, handed_as};
 
 use crate::answers::{Handed, Life};
 use crate::error::HubError;
 use crate::hub::Hub;
 use adb_calls::Owner;
-use adb_outside::Text;
 use std::process::Abort;
 
 impl Hub {
@@ -27,8 +26,13 @@ impl Hub {
         ensures err { OnErr result (self.new ≡ self.old) }
     {
         self.find_client(client)?;
-        let given = adb_calls::put(rt, &mut self.tables, client, max)?;
-        Ok(handed(given, self.client_life(client)))
+        match adb_calls::put(rt, &mut self.tables, client, max)? {
+            Some(bytes) => {
+                are_bytes(bytes.as_slice());
+                Ok(Handed::Bytes(bytes))
+            }
+            None => Ok(nothing(self.client_life(client))),
+        }
     }
 
     /// Hands out the first bytes that are due on a link, at most `max`. An error is `NoLink` or
@@ -40,8 +44,13 @@ impl Hub {
         ensures err { OnErr result (self.new ≡ self.old) }
     {
         self.find_link(link)?;
-        let given = adb_calls::send(rt, &mut self.tables, link, max)?;
-        Ok(handed(given, self.link_life(link)))
+        match adb_calls::send(rt, &mut self.tables, link, max)? {
+            Some(bytes) => {
+                are_bytes(bytes.as_slice());
+                Ok(Handed::Bytes(bytes))
+            }
+            None => Ok(nothing(self.link_life(link))),
+        }
     }
 
     /// Who is handed something next when all that is due is handed out: the least link to which
@@ -54,13 +63,17 @@ impl Hub {
     }
 }
 
-/// What was handed out, or why nothing was.
-fn handed(given: Option<Text>, life: Life) -> Handed
-    ensures { result ≡ handed_as given life }
+/// What is handed out of nothing.
+fn nothing(life: Life) -> Handed
+    ensures { result ≡ handed_as None life }
 {
-    match (given, life) {
-        (Some(bytes), _) => Handed::Bytes(bytes),
-        (None, Life::Live) => Handed::Nothing,
-        (None, Life::Gone) => Handed::Done,
+    match life {
+        Life::Live => Handed::Nothing,
+        Life::Gone => Handed::Done,
     }
 }
+
+/// What was handed out are bytes.
+fn are_bytes(bytes: &[u8])
+    ensures { All (λ b. b < 256) bytes.now }
+{}

@@ -1,11 +1,8 @@
 //! The hub.
 
-ghost use Rattle.std.specs.Prelude.{◌≡◌, nat_lt, nat_le, ◌&&◌, List, length, IfOk, OnErr, MatchResult, Ok, Err, Some, None};
-ghost use Rattle.adb_capture.specs.declared.entry.Entry.{Entry};
+ghost use Rattle.std.specs.Prelude.{◌≡◌, ◌≤◌, [], length};
 ghost use Rattle.adb_history.specs.Accepted.{is_drawn};
-ghost use Rattle.adb_history.specs.Kept.{kept, IsLawful};
-ghost use Rattle.adb_history.specs.Machine.{History, state};
-ghost use Rattle.adb_history.specs.Rows.{start};
+ghost use Rattle.adb_history.specs.Kept.{IsLawful};
 
 use crate::answers::Summary;
 use adb_forward::Forwards;
@@ -104,10 +101,18 @@ impl Hub {
         } }
     {
         Summary {
-            clients: self.tables.clients.len(),
-            links: self.tables.links.len(),
-            streams: self.tables.streams.len(),
+            clients: count(self.tables.clients.len(), self.joined()),
+            links: count(self.tables.links.len(), self.plugged()),
+            streams: count(self.tables.streams.len(), u32::MAX),
             stopped: self.tables.stopped,
         }
     }
+}
+
+/// A number that is at most another one.
+fn count(n: usize, most: u32) -> u32
+    requires { n ≤ most }
+    ensures { result ≡ n }
+{
+    n as u32
 }

@@ -132,7 +132,8 @@ impl Streams {
 
     /// How many streams live.
     pub fn len(&self) -> usize
-        ensures { result ≡ length self.now.streams }
+        ensures count { result ≡ length self.now.streams }
+        ensures sound { IsSound self.now }
     {
         self.shelf.len()
     }

@@ -21,16 +21,15 @@ abbrev pub due_on : Option Link → List ℕ
 due_on None = []
 due_on (Some link) = link.due
 
--- So many of the first bytes that were there were handed out; or there were none, and nothing changed.
-abbrev pub HandsOut : (List ℕ → Entry) → List ℕ → ℕ → Option (List ℕ) → Tables → Tables → Type 0
-HandsOut e all max None old new = (all ≡ []) × Keeps old new
-HandsOut e all max (Some bytes) old new = (bytes ≡ take max all) × (bytes ≢ []) × Makes (e bytes) old new
+-- The first bytes of what is due, at most so many; none exactly where nothing is due.
+abbrev pub IsFront : ℕ → List ℕ → Option (List ℕ) → Type 0
+IsFront max due None = due ≡ []
+IsFront max due (Some bytes) = (bytes ≡ take max due) × (bytes ≢ [])
 
-abbrev pub PutsTo : ℕ → ℕ → Option (List ℕ) → Tables → Tables → Type 0
-PutsTo c max given old new = HandsOut (Put c) (offered_to old.devices ((state_of old).clients c)) max given old new
-
-abbrev pub SendsTo : ℕ → ℕ → Option (List ℕ) → Tables → Tables → Type 0
-SendsTo t max given old new = HandsOut (Send t) (due_on ((state_of old).links t)) max given old new
+-- These bytes were handed out; where there are none nothing was made.
+abbrev pub HandsOut : (List ℕ → Entry) → Option (List ℕ) → Tables → Tables → Type 0
+HandsOut entry None old new = Keeps old new
+HandsOut entry (Some bytes) old new = Makes (entry bytes) old new
 
 -- whose entry it is that is handed out
 abbrev pub owner_of : Entry → Owner
