@@ -1,0 +1,25 @@
+//! Clients that come.
+
+ghost use Rattle.std.specs.Prelude.{◌≡◌, ◌+◌, OnOk, OnErr};
+ghost use Rattle.adb_capture.specs.declared.entry.Entry.TheVariants.{Join};
+ghost use Rattle.adb_rules.specs.Fit.{IsFit, IsReached, Keeps};
+ghost use Rattle.adb_rules.specs.Tables.{state_of};
+ghost use Rattle.adb_calls.specs.Rules.{MakesRule};
+
+use adb_client::Client;
+use adb_rules::Tables;
+use std::alloc::AllocError;
+
+/// A client comes, under the next number. After want of memory nothing has changed.
+pub fn join(tables: &mut Tables, client: u32) -> Result<(), AllocError>
+    requires fit { IsFit tables.old }
+    requires reached { IsReached (state_of tables.old) }
+    requires next { client ≡ tables.old.joined + 1 }
+    ensures made { OnOk result (MakesRule (Join client) tables.old tables.new) }
+    ensures kept { OnErr result (Keeps tables.old tables.new) }
+{
+    let row = Client::new(tables.alloc, client, false);
+    tables.clients.insert(client, row)?;
+    tables.joined = client;
+    Ok(())
+}

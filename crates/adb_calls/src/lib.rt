@@ -1,0 +1,7 @@
+//! What entries make of the tables that the server keeps, with the memory that they take: it is
+//! taken first, and what follows can't fail, so that after want of memory nothing has changed.
+#![tactic(auto)]
+
+mod joins;
+
+pub use joins::join;
