@@ -1,6 +1,7 @@
 //! Clients that come.
 
-ghost use Rattle.std.specs.Prelude.{◌≡◌, ◌+◌, OnOk, OnErr};
+ghost use Rattle.std.specs.Prelude.{◌≡◌, ◌+◌, Some, OnOk, OnErr};
+ghost use Rattle.adb_outside.specs.Tables.{Puts};
 ghost use Rattle.adb_capture.specs.declared.entry.Entry.TheVariants.{Join};
 ghost use Rattle.adb_rules.specs.Fit.{IsFit, IsReached, Keeps};
 ghost use Rattle.adb_rules.specs.Tables.{state_of};
@@ -9,6 +10,7 @@ ghost use Rattle.adb_calls.specs.Rules.{MakesRule};
 use adb_client::Client;
 use adb_rules::Tables;
 use std::alloc::AllocError;
+use std::collections::BTreeMap;
 
 /// A client comes, under the next number. After want of memory nothing has changed.
 pub fn join(tables: &mut Tables, client: u32) -> Result<(), AllocError>
@@ -19,7 +21,20 @@ pub fn join(tables: &mut Tables, client: u32) -> Result<(), AllocError>
     ensures kept { OnErr result (Keeps tables.old tables.new) }
 {
     let row = Client::new(tables.alloc, client, false);
-    tables.clients.insert(client, row)?;
+    put_client(&mut tables.clients, client, row)?;
     tables.joined = client;
+    Ok(())
+}
+
+/// A client's row stands under its number.
+fn put_client(
+    clients: &mut BTreeMap<u32, Client>,
+    id: u32,
+    client: Client,
+) -> Result<(), AllocError>
+    ensures put { OnOk result (Puts id (Some client) clients.old.entries clients.new.entries) }
+    ensures err { OnErr result (clients.new.entries ≡ clients.old.entries) }
+{
+    clients.insert(id, client)?;
     Ok(())
 }

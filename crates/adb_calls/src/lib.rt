@@ -2,6 +2,12 @@
 //! taken first, and what follows can't fail, so that after want of memory nothing has changed.
 #![tactic(auto)]
 
+mod detaches;
+mod ends;
 mod joins;
+mod sends;
 
+pub use detaches::detach;
+pub use ends::end;
 pub use joins::join;
+pub use sends::send;
