@@ -5,8 +5,7 @@ use Rattle.adb_registry.specs.Registry.{DeviceTable}
 use Rattle.adb_history.specs.Rows.{Client, Link}
 use Rattle.adb_history.specs.Tracking.{offered}
 use Rattle.adb_rules.specs.declared.tables.Tables.{Tables}
-use Rattle.adb_rules.specs.Fit.{Keeps}
-use Rattle.adb_calls.specs.Rules.{MakesRule}
+use Rattle.adb_rules.specs.Fit.{Makes, Keeps}
 
 -- what is due to a link, and nothing where it is not there
 abbrev pub due_on : Option Link → List ℕ
@@ -26,4 +25,4 @@ IsFront max due (Some bytes) = (bytes ≡ take max due) × (bytes ≢ [])
 -- These bytes were handed out; where there are none nothing was made.
 abbrev pub HandsOut : (List ℕ → Entry) → Option (List ℕ) → Tables → Tables → Type 0
 HandsOut entry None old new = Keeps old new
-HandsOut entry (Some bytes) old new = MakesRule (entry bytes) old new
+HandsOut entry (Some bytes) old new = Makes (entry bytes) old new

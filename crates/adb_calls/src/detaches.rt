@@ -4,9 +4,8 @@ ghost use Rattle.std.specs.Prelude.{◌≡◌, is_some};
 ghost use Rattle.adb_outside.specs.Tables.{at};
 ghost use Rattle.adb_outside.specs.declared.kinds.Cause.{Cause};
 ghost use Rattle.adb_capture.specs.declared.entry.Entry.TheVariants.{Detach};
-ghost use Rattle.adb_rules.specs.Fit.{IsFit, IsReached};
+ghost use Rattle.adb_rules.specs.Fit.{IsFit, IsReached, Makes};
 ghost use Rattle.adb_rules.specs.Tables.{state_of};
-ghost use Rattle.adb_calls.specs.Rules.{MakesRule};
 
 use adb_rules::Tables;
 
@@ -14,7 +13,7 @@ use adb_rules::Tables;
 pub fn detach(tables: &mut Tables, link: u32)
     requires fit { IsFit tables.old }
     requires reached { IsReached (state_of tables.old) }
-    ensures made { (cause : Cause) → MakesRule (Detach link cause) tables.old tables.new }
+    ensures made { (cause : Cause) → Makes (Detach link cause) tables.old tables.new }
 {
     if has_link(tables, link) {
         tables.end_link(link);

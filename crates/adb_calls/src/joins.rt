@@ -3,9 +3,8 @@
 ghost use Rattle.std.specs.Prelude.{◌≡◌, ◌+◌, Some, OnOk, OnErr};
 ghost use Rattle.adb_outside.specs.Tables.{Puts};
 ghost use Rattle.adb_capture.specs.declared.entry.Entry.TheVariants.{Join};
-ghost use Rattle.adb_rules.specs.Fit.{IsFit, IsReached, Keeps};
+ghost use Rattle.adb_rules.specs.Fit.{IsFit, IsReached, Makes, Keeps};
 ghost use Rattle.adb_rules.specs.Tables.{state_of};
-ghost use Rattle.adb_calls.specs.Rules.{MakesRule};
 
 use adb_client::Client;
 use adb_rules::Tables;
@@ -17,7 +16,7 @@ pub fn join(tables: &mut Tables, client: u32) -> Result<(), AllocError>
     requires fit { IsFit tables.old }
     requires reached { IsReached (state_of tables.old) }
     requires next { client ≡ tables.old.joined + 1 }
-    ensures made { OnOk result (MakesRule (Join client) tables.old tables.new) }
+    ensures made { OnOk result (Makes (Join client) tables.old tables.new) }
     ensures kept { OnErr result (Keeps tables.old tables.new) }
 {
     let row = Client::new(tables.alloc, client, false);

@@ -1,0 +1,6 @@
+mod Reached
+mod Rows
+mod Fitting
+mod Summing
+mod Turns
+mod Joining
