@@ -41,45 +41,22 @@ read_out_at (Some old) (Some port) read sums h = record {
   sums = ap (λ (i : Deframing). i.reading.sums) read ∙ (h.sums ∙ sym sums);
 }
 
--- ---- a rule that takes no places
-pub record Spends (e : Entry) (old new : Tables) : Type 0 where
-  pub uses : (t c : ℕ) → Uses t 0 c 0 old new
+-- ---- what is made
+-- The step of an entry was made, and what came in on links stays.
+pub record Leaves (e : Entry) (old new : Tables) : Type 0 where
+  pub provided : IsProvided new
+  pub read : (k : ℕ) → StaysRead (at k old.links.entries) (at k new.links.entries)
   pub state : state_of new ≡ (step (state_of old) e).state
   pub sums : (k : ℕ) → SumsStay ((state_of old).links k) ((step (state_of old) e).state.links k)
 
-pub made_by : (e : Entry) (old new : Tables) → IsFit old → Spends e old new → Makes e old new
+pub made_by : (e : Entry) (old new : Tables) → IsFit old → Leaves e old new → Makes e old new
 made_by e old new fit h = record {
   state = h.state;
   fit = record {
-    provided = provided_by old new h.uses fit.provided;
-    read_out = λ k. read_out_at (at k old.links.entries) (at k new.links.entries) ((h.uses 0 0).read k) (sums k) (fit.read_out k);
+    provided = h.provided;
+    read_out = λ k. read_out_at (at k old.links.entries) (at k new.links.entries) (h.read k) (sums k) (fit.read_out k);
   };
 }
   where
     sums : (k : ℕ) → SumsStay ((state_of old).links k) ((state_of new).links k)
     sums k = subst (λ (s : State). SumsStay ((state_of old).links k) (s.links k)) (sym h.state) (h.sums k)
-
--- ---- nothing was made
--- Rows and numbers are as they were.
-pub record IsAlike (old new : Tables) : Type 0 where
-  pub clients : new.clients.entries ≡ old.clients.entries
-  pub links : new.links.entries ≡ old.links.entries
-  pub trackers : new.trackers.keys ≡ old.trackers.keys
-  pub streams : new.streams ≡ old.streams
-  pub state : state_of new ≡ state_of old
-
-pub alike_keeps : (old new : Tables) → IsFit old → IsAlike old new → Keeps old new
-alike_keeps old new fit h = record {
-  state = h.state;
-  fit = record {
-    provided = record {
-      links = λ k. subst (λ entries. LinkRoom 0 (at k entries)) (sym h.links) (fit.provided.links k);
-      clients = λ c. subst (λ entries. ClientRoom 0 (at c entries)) (sym h.clients) (fit.provided.clients c);
-      counted = λ k. subst (λ (table : _). IsCountedAt k table.streams (at k new.links.entries)) (sym h.streams)
-          (subst (λ entries. IsCountedAt k old.streams.streams (at k entries)) (sym h.links) (fit.provided.counted k));
-      tracked = λ c. subst (λ keys. IsListedAt c keys (at c new.clients.entries)) (sym h.trackers)
-          (subst (λ entries. IsListedAt c old.trackers.keys (at c entries)) (sym h.clients) (fit.provided.tracked c));
-    };
-    read_out = λ k. subst (λ entries. IsReadOutAt (at k entries)) (sym h.links) (fit.read_out k);
-  };
-}

@@ -4,3 +4,5 @@ mod Fitting
 mod Summing
 mod Turns
 mod Joining
+mod Ending
+mod Widening

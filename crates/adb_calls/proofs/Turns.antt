@@ -13,6 +13,7 @@ use Rattle.adb_rules.specs.declared.tables.Tables.{Tables}
 use Rattle.adb_rules.specs.Tables.{state_of}
 use Rattle.adb_rules.specs.Places.{Uses}
 use Rattle.adb_rules.specs.Fit.{IsFit, IsReached, Makes}
+use Rattle.adb_rules.proofs.Using.{provided_by}
 use Rattle.adb_calls.proofs.Reached.{within, sends_nothing}
 use Rattle.adb_calls.proofs.Fitting.{SumsStay, same_sums, made_by}
 use Rattle.adb_calls.proofs.Summing.{sums_sends, sums_link_ends}
@@ -26,7 +27,8 @@ pub record Rules (e : Entry) (old new : Tables) : Type 0 where
 
 pub rule_made : (e : Entry) (old new : Tables) → IsFit old → Rules e old new → Makes e old new
 rule_made e old new fit h = made_by e old new fit (record {
-  uses = h.uses;
+  provided = provided_by old new h.uses fit.provided;
+  read = (h.uses 0 0).read;
   state = h.state ∙ sym h.rests;
   sums = λ k. subst (λ (s : State). SumsStay ((state_of old).links k) (s.links k)) (sym h.rests) (h.sums k);
 })
