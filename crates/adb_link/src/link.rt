@@ -14,6 +14,7 @@ ghost use Rattle.adb_link.specs.Linked.{IsHeadOf, packet_given, version_past, ve
 use crate::incoming::Incoming;
 use crate::outbox::Outbox;
 use crate::outgoing::{MAX_SHORT, Outgoing};
+use adb_outside::Text;
 use adb_wire::{Command, Head, Packet, WireError, byte_sum};
 use bytes::Bytes;
 use std::alloc::{AllocError, Global};
@@ -242,6 +243,13 @@ impl Link {
         ensures some { 0 < length self.now.due → 0 < length result.now }
     {
         self.outbox.front()
+    }
+
+    /// The first `max` bytes that are due, or all where there are fewer, copied. Nothing changes.
+    pub fn copy_front(&self, max: usize) -> Result<Text, AllocError>
+        ensures { IfOk result (λ text. text ≡ take max self.now.due) }
+    {
+        self.outbox.copy_front(self.alloc, max)
     }
 
     /// The first `n` bytes that are due were handed out, also beyond the front. It takes no memory.

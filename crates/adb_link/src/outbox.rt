@@ -1,8 +1,10 @@
 //! The packets that are due, in order.
 
 ghost use Rattle.std.specs.Prelude.{◌≡◌, ◌<◌, ◌≤◌, ◌+◌, ◌-◌, ◌++◌, [], length, take, drop, max, IfOk, OnOk, OnErr};
+ghost use Rattle.std.specs.List.{concat};
 
 use crate::outgoing::Outgoing;
+use adb_outside::Text;
 use adb_wire::MAX_PACKET;
 use std::alloc::{AllocError, Global};
 use std::collections::VecDeque;
@@ -101,6 +103,15 @@ impl Outbox {
         }
     }
 
+    /// The first `max` bytes that are due, or all where there are fewer, copied.
+    pub(crate) fn copy_front(&self, alloc: Global, max: usize) -> Result<Text, AllocError>
+        ensures { IfOk result (λ text. text ≡ take max self.now.due) }
+    {
+        let mut text = Text::from_vec(Vec::with_capacity(alloc, max.min(self.owed))?);
+        fill(&mut text, &self.packets, max)?;
+        Ok(text)
+    }
+
     /// The first `n` bytes were handed out. It takes no memory.
     pub(crate) fn hand(&mut self, n: usize)
         requires { n ≤ length self.old.due }
@@ -143,4 +154,18 @@ impl Outbox {
             spare: self.spare,
         })
     }
+}
+
+/// Fills an empty text up to `max` bytes from packets, and looks at none behind these.
+fn fill(text: &mut Text, packets: &VecDeque<Outgoing>, max: usize) -> Result<(), AllocError>
+    requires { text.old ≡ [] }
+    ensures { OnOk result (text.new ≡ take max (concat packets.now.items)) }
+{
+    for i in 0..packets.len() {
+        if text.len() >= max {
+            return Ok(());
+        }
+        packets[i].fill(text, max)?;
+    }
+    Ok(())
 }

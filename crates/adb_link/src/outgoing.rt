@@ -1,8 +1,9 @@
 //! One packet that is due.
 
-ghost use Rattle.std.specs.Prelude.{◌≡◌, ◌<◌, ◌≤◌, ◌+◌, ◌++◌, length, take, drop};
+ghost use Rattle.std.specs.Prelude.{◌≡◌, ◌<◌, ◌≤◌, ◌+◌, ◌-◌, ◌++◌, length, take, drop, OnOk};
 ghost use Rattle.adb_wire.specs.Header.{header_bytes};
 
+use adb_outside::Text;
 use adb_wire::{HEADER_LEN, Head, header};
 use bytes::Bytes;
 use std::alloc::AllocError;
@@ -45,6 +46,14 @@ fn put_at(out: &mut [u8; START_LEN], at: usize, bytes: &[u8])
     out[at..at + bytes.len()].copy_from_slice(bytes);
 }
 
+/// Fills a text up to `max` bytes from the front of others.
+fn fill_up(text: &mut Text, bytes: &[u8], max: usize) -> Result<(), AllocError>
+    ensures { OnOk result (text.new ≡ text.old ++ take (max - length text.old) bytes.now) }
+{
+    let n = max.saturating_sub(text.len()).min(bytes.len());
+    text.push_slice(&bytes[..n])
+}
+
 impl Outgoing {
     /// A packet of a header, a short payload and a shared payload. It takes no memory.
     pub(crate) fn new(head: &Head, short: &[u8], payload: Bytes) -> Outgoing
@@ -82,6 +91,14 @@ impl Outgoing {
         } else {
             self.payload.as_slice()
         }
+    }
+
+    /// Fills a text up to `max` bytes from the front of those that are still due.
+    pub(crate) fn fill(&self, text: &mut Text, max: usize) -> Result<(), AllocError>
+        ensures { OnOk result (text.new ≡ text.old ++ take (max - length text.old) self.now) }
+    {
+        fill_up(text, &self.start[self.from..self.to], max)?;
+        fill_up(text, self.payload.as_slice(), max)
     }
 
     /// The first `n` bytes were handed out. It takes no memory.

@@ -1,5 +1,5 @@
 -- What every registry keeps, when a row is put, changed or removed.
-use Rattle.std.proofs.Common.{ℕ, ◌≡◌, ◌≤◌, ◌<◌, ◌+◌, ◌^◌, ◌&&◌, nat_lt, nat_le, Bool, true, false, cond, List, length, Option, Some, None, ◌⊎◌, inl, inr}
+use Rattle.std.proofs.Common.{ℕ, ◌≡◌, ◌≢◌, ◌≤◌, ◌<◌, ◌+◌, ◌^◌, ◌-◌, ◌==◌, ◌&&◌, nat_lt, nat_le, Bool, true, false, cond, List, length, Option, Some, None, ◌⊎◌, inl, inr}
 use Rattle.std.proofs.Common.{refl, sym, ◌∙◌, ap, subst, arith}
 use Rattle.std.specs.Prelude.{option_map, is_some}
 use Rattle.std.proofs.lemmas.Bool.{cases_eq}
@@ -12,7 +12,8 @@ use Rattle.adb_outside.specs.declared.kinds.Kind.{Kind}
 use Rattle.adb_outside.specs.declared.serial.TheConstants.{MAX_SERIAL}
 use Rattle.adb_outside.proofs.TableLaws.{puts_is}
 use Rattle.adb_registry.specs.Row.{new_row, online_row, unauthorized_row}
-use Rattle.adb_registry.specs.Registry.{DeviceTable, IsRowAt, IsSound, changed}
+use Rattle.adb_registry.specs.Registry.{DeviceTable, IsRowAt, IsSound, attach_refusal, changed}
+use Rattle.adb_registry.specs.declared.registry.AttachError.TheVariants.{Numbers, Full, BadSerial}
 use Rattle.adb_registry.specs.declared.row.Row.{Row}
 use Rattle.adb_registry.specs.declared.registry.TheConstants.{MAX_DEVICES, MAX_FEATURES}
 
@@ -136,3 +137,31 @@ new_row_at id kind serial row from printed is =
       version = omega arith;
       maxdata = omega arith;
     })
+
+-- A device that is not refused gets an id and a place, and has a serial.
+pub record IsTaken (devices : DeviceTable) (serial : List ℕ) : Type 0 where
+  pub number : devices.drawn ≢ 2 ^ 32 - 1
+  pub place : length devices.rows ≢ MAX_DEVICES
+  pub graphic : is_serial serial ≡ true
+
+pub not_refused : (devices : DeviceTable) (serial : List ℕ) → attach_refusal devices serial ≡ None → IsTaken devices serial
+not_refused devices serial none = by_number (devices.drawn == 2 ^ 32 - 1) refl none
+  where
+    by_serial : (b : Bool) → is_serial serial ≡ b → cond b None (Some BadSerial) ≡ None → is_serial serial ≡ true
+    by_serial true is none = is
+    by_serial false is none = let clash : Some BadSerial ≡ None = none in cc
+
+    by_place : devices.drawn ≢ 2 ^ 32 - 1 → (b : Bool) → (length devices.rows == MAX_DEVICES) ≡ b
+        → cond b (Some Full) (cond (is_serial serial) None (Some BadSerial)) ≡ None → IsTaken devices serial
+    by_place number true is none = let clash : Some Full ≡ None = none in cc
+    by_place number false is none = record {
+      number = number;
+      place = grind (arith, nat_tests, is);
+      graphic = by_serial (is_serial serial) refl none;
+    }
+
+    by_number : (b : Bool) → (devices.drawn == 2 ^ 32 - 1) ≡ b
+        → cond b (Some Numbers) (cond (length devices.rows == MAX_DEVICES) (Some Full) (cond (is_serial serial) None (Some BadSerial))) ≡ None
+        → IsTaken devices serial
+    by_number true is none = let clash : Some Numbers ≡ None = none in cc
+    by_number false is none = by_place (grind (arith, nat_tests, is)) (length devices.rows == MAX_DEVICES) refl none

@@ -84,6 +84,31 @@ impl Registry {
         }
     }
 
+    /// How many ids were drawn.
+    pub fn drawn(&self) -> u32
+        ensures drawn { result ≡ self.now.drawn }
+        ensures sound { IsSound self.now }
+    {
+        self.drawn
+    }
+
+    /// Why a device of this serial is not taken in, where it isn't: the first cause that stands. It
+    /// takes no memory.
+    pub fn refusal(&self, serial: &[u8]) -> Option<AttachError>
+        ensures { result ≡ attach_refusal self.now serial.now }
+    {
+        if self.drawn == u32::MAX {
+            return Some(AttachError::Numbers);
+        }
+        if self.rows.len() == MAX_DEVICES {
+            return Some(AttachError::Full);
+        }
+        if !is_serial(serial) {
+            return Some(AttachError::BadSerial);
+        }
+        None
+    }
+
     /// Takes in a device that was plugged in, offline, under the next id, which it gives. Other
     /// devices may have the same serial. `Numbers` comes exactly where 2^32 - 1 ids were drawn,
     /// else `Full` exactly where 128 devices are plugged in, else `BadSerial` exactly where the
@@ -98,14 +123,8 @@ impl Registry {
         ensures err { OnErr result (self.new ≡ self.old) }
         ensures sound { IsSound self.new }
     {
-        if self.drawn == u32::MAX {
-            return Err(AttachError::Numbers);
-        }
-        if self.rows.len() == MAX_DEVICES {
-            return Err(AttachError::Full);
-        }
-        if !is_serial(serial) {
-            return Err(AttachError::BadSerial);
+        if let Some(refusal) = self.refusal(serial) {
+            return Err(refusal);
         }
         let id = self.drawn + 1;
         let row = Row::new(self.alloc, id, kind, serial)?;

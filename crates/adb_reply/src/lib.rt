@@ -16,3 +16,4 @@ mod tests;
 pub use answer::{Answer, Next};
 pub use laws::{replies_begin_right, texts_carry_their_length};
 pub use replies::reply;
+pub use strings::push_string;

@@ -9,7 +9,7 @@ use adb_request::hex4;
 use std::alloc::{AllocError, Global};
 
 /// Adds the four digits of a text's length, and the text.
-pub(crate) fn push_string(bytes: &mut Text, text: &[u8]) -> Result<(), AllocError>
+pub fn push_string(bytes: &mut Text, text: &[u8]) -> Result<(), AllocError>
     requires { length text.now < 2 ^ 16 }
     ensures { OnOk result (bytes.new ≡ bytes.old ++ string text.now) }
 {

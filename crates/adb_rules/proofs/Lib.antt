@@ -1,8 +1,8 @@
-mod Rows
+pub mod Rows
 mod Owing
 mod StreamRows
-mod Staying
-mod Using
+pub mod Staying
+pub mod Using
 mod Marks
 mod Closings
 mod Ending

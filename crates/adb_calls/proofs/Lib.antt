@@ -1,0 +1,8 @@
+mod Reached
+mod Rows
+mod Fitting
+mod Summing
+mod Turns
+mod Joining
+mod Ending
+mod Widening
