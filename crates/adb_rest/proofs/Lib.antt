@@ -1,3 +1,9 @@
+pub mod NamedRows
+pub mod NamedRules
+pub mod NamedPackets
+pub mod NamedStreams
+pub mod NamedLinks
+pub mod NamedIds
 pub mod RestingDevices
 pub mod RestingUp
 pub mod RestingRows
