@@ -12,3 +12,9 @@ pub mod RestingClients
 pub mod RestingLinks
 pub mod RestingPuts
 pub mod RestingSteps
+pub mod WantedRequests
+pub mod WantedAnswers
+pub mod WantedReads
+pub mod WantedForwards
+pub mod WantedClients
+pub mod WantedStates

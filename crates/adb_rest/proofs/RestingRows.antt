@@ -54,7 +54,7 @@ was_changed f None new is = absurd (let clash : None ≡ Some new = is in cc)
 was_changed f (Some old) new is = record { old = old; is = refl; to = is }
 
 -- a row after a change was changed, or was there before
-before_change : {A : Type 0} (n : ℕ) (f : A → Option A) (rows : Rows (Option A)) (q : ℕ) (new : A)
+pub before_change : {A : Type 0} (n : ℕ) (f : A → Option A) (rows : Rows (Option A)) (q : ℕ) (new : A)
     → change_row n (option_and_then f) rows q ≡ Some new → ((n ≡ q) × WasChanged f (rows q) new) ⊎ (rows q ≡ Some new)
 before_change n f rows q new is = by_place (cases_eq n q)
   where
@@ -68,7 +68,7 @@ here_change n f rows new is =
     was_changed f (rows n) new (sym (ap (λ b. cond b (option_and_then f (rows n)) (rows n)) (eq-eqb n n refl)) ∙ is)
 
 -- a row after one was put is that one, or was there before
-before_put : {A : Type 0} (n : ℕ) (row : A) (rows : Rows (Option A)) (q : ℕ) (new : A)
+pub before_put : {A : Type 0} (n : ℕ) (row : A) (rows : Rows (Option A)) (q : ℕ) (new : A)
     → put_row n (Some row) rows q ≡ Some new → ((n ≡ q) × (row ≡ new)) ⊎ (rows q ≡ Some new)
 before_put n row rows q new is = by_place (cases_eq n q)
   where
