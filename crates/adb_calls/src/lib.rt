@@ -6,8 +6,10 @@ mod detaches;
 mod ends;
 mod joins;
 mod sends;
+mod stubs;
 
 pub use detaches::detach;
 pub use ends::end;
 pub use joins::join;
 pub use sends::send;
+pub use stubs::{attach, bound, put};

@@ -15,24 +15,23 @@ use crate::hub::{HELD_LIMIT, Hub};
 use adb_client::{Client, Phase};
 use adb_outside::Cause;
 use adb_rules::Tables;
-use std::process::Abort;
 
 impl Hub {
     /// The next client comes, and asks. An error is `Stopped`, `Numbers` or want of memory.
-    pub fn join(&mut self, rt: &impl Abort) -> Result<u32, HubError>
+    pub fn join(&mut self) -> Result<u32, HubError>
         ensures joined { (h : List Entry) → IsLawful self.old h
             → let next = (state h).joined + 1 in
             Answers (Entry.Join next) (λ client. client ≡ next) result h self.new }
         ensures err { OnErr result (self.new ≡ self.old) }
     {
         let client = self.next_client()?;
-        adb_calls::join(rt, &mut self.tables, client)?;
+        adb_calls::join(&mut self.tables, client)?;
         Ok(client)
     }
 
     /// The next client comes through the forward of a local port; where that leads nowhere it is
     /// gone at once. An error is `Stopped`, `Numbers` or want of memory.
-    pub fn enter(&mut self, rt: &impl Abort, port: u16) -> Result<u32, HubError>
+    pub fn enter(&mut self, port: u16) -> Result<u32, HubError>
         requires { 0 < port }
         ensures entered { (h : List Entry) → IsLawful self.old h
             → let next = (state h).joined + 1 in
@@ -40,43 +39,43 @@ impl Hub {
         ensures err { OnErr result (self.new ≡ self.old) }
     {
         let client = self.next_client()?;
-        adb_reading::enter(rt, &mut self.tables, client, port)?;
+        adb_reading::enter(&mut self.tables, client, port)?;
         Ok(client)
     }
 
     /// Bytes come from a client. An error is `Stopped`, `NoClient` or want of memory.
-    pub fn read(&mut self, rt: &impl Abort, client: u32, piece: &[u8]) -> Result<Life, HubError>
+    pub fn read(&mut self, client: u32, piece: &[u8]) -> Result<Life, HubError>
         ensures read { (h : List Entry) → IsLawful self.old h
             → AnswersClient client (Entry.Read client piece.now) result h self.new }
         ensures err { OnErr result (self.new ≡ self.old) }
     {
         self.look_for_client(client)?;
-        adb_reading::read(rt, &mut self.tables, client, piece)?;
+        adb_reading::read(&mut self.tables, client, piece)?;
         Ok(self.client_life(client))
     }
 
     /// A client's input ended, in order or by a failure. An error is `Stopped` or `NoClient`; it
     /// takes no memory.
-    pub fn end(&mut self, rt: &impl Abort, client: u32, cause: Cause) -> Result<Life, HubError>
+    pub fn end(&mut self, client: u32, cause: Cause) -> Result<Life, HubError>
         ensures ended { (h : List Entry) → IsLawful self.old h
             → AnswersClient client (Entry.End client cause) result h self.new }
         ensures err { OnErr result (self.new ≡ self.old) }
         ensures memory { result ≢ Err HubError.OutOfMemory }
     {
         self.look_for_client(client)?;
-        adb_calls::end(rt, &mut self.tables, client, cause);
+        adb_calls::end(&mut self.tables, client, cause);
         Ok(self.client_life(client))
     }
 
     /// The listener for the forward that a client waits for stands at a port, or, at 0, could not
     /// be made. An error is `Stopped`, `NoClient` or want of memory.
-    pub fn bound(&mut self, rt: &impl Abort, client: u32, port: u16) -> Result<Life, HubError>
+    pub fn bound(&mut self, client: u32, port: u16) -> Result<Life, HubError>
         ensures bound { (h : List Entry) → IsLawful self.old h
             → AnswersClient client (Entry.Bound client port) result h self.new }
         ensures err { OnErr result (self.new ≡ self.old) }
     {
         self.look_for_client(client)?;
-        adb_calls::bound(rt, &mut self.tables, client, port)?;
+        adb_calls::bound(&mut self.tables, client, port)?;
         Ok(self.client_life(client))
     }
 

@@ -14,12 +14,11 @@ use crate::clients::life_if;
 use crate::error::HubError;
 use crate::hub::Hub;
 use adb_outside::{Cause, Kind};
-use std::process::Abort;
 
 impl Hub {
     /// A device is plugged in; the number of its link is its transport id. An error is `Stopped`,
     /// `Numbers`, `Full`, `BadSerial` or want of memory.
-    pub fn attach(&mut self, rt: &impl Abort, kind: Kind, serial: &[u8]) -> Result<u32, HubError>
+    pub fn attach(&mut self, kind: Kind, serial: &[u8]) -> Result<u32, HubError>
         ensures attached { (h : List Entry) → IsLawful self.old h
             → let next = (state h).devices.drawn + 1 in
             Answers (Entry.Attach next kind serial.now) (λ link. link ≡ next) result h self.new }
@@ -28,30 +27,30 @@ impl Hub {
         if self.is_stopped() {
             return Err(HubError::Stopped);
         }
-        Ok(adb_calls::attach(rt, &mut self.tables, kind, serial)?)
+        Ok(adb_calls::attach(&mut self.tables, kind, serial)?)
     }
 
     /// Bytes come on a link. An error is `Stopped`, `NoLink` or want of memory.
-    pub fn recv(&mut self, rt: &impl Abort, link: u32, piece: &[u8]) -> Result<Life, HubError>
+    pub fn recv(&mut self, link: u32, piece: &[u8]) -> Result<Life, HubError>
         ensures received { (h : List Entry) → IsLawful self.old h
             → AnswersLink link (Entry.Recv link piece.now) result h self.new }
         ensures err { OnErr result (self.new ≡ self.old) }
     {
         self.look_for_link(link)?;
-        adb_receiving::recv(rt, &mut self.tables, link, piece)?;
+        adb_receiving::recv(&mut self.tables, link, piece)?;
         Ok(self.link_life(link))
     }
 
     /// A device is unplugged, or its connection failed. An error is `Stopped` or `NoLink`; it takes
     /// no memory.
-    pub fn detach(&mut self, rt: &impl Abort, link: u32, cause: Cause) -> Result<Life, HubError>
+    pub fn detach(&mut self, link: u32, cause: Cause) -> Result<Life, HubError>
         ensures detached { (h : List Entry) → IsLawful self.old h
             → AnswersLink link (Entry.Detach link cause) result h self.new }
         ensures err { OnErr result (self.new ≡ self.old) }
         ensures memory { result ≢ Err HubError.OutOfMemory }
     {
         self.look_for_link(link)?;
-        adb_calls::detach(rt, &mut self.tables, link);
+        adb_calls::detach(&mut self.tables, link);
         Ok(self.link_life(link))
     }
 

@@ -180,13 +180,6 @@ impl Registry {
         self.rows.clear();
     }
 
-    /// How many ids were drawn.
-    pub fn drawn(&self) -> u32
-        ensures { result ≡ self.now.drawn }
-    {
-        self.drawn
-    }
-
     /// The device of this id, where there is one: its serial holds at most 64 bytes, its features
     /// at most 32,768.
     pub fn row(&self, id: u32) -> Option<&Row>

@@ -5,14 +5,14 @@ use Rattle.adb_hub.proofs.Steps.{open_link, detach_called, called_sound, called_
 use Rattle.adb_hub.proofs.hub.Hub.detach.Goals as goal
 
 pub invariant_of-self : goal.invariant_of-self
-invariant_of-self g c =
+invariant_of-self c =
     let t = c.self.inside.tables in
     let named = open_link t c.args.self.now c.self.view_is c.args.link c.ranges.link.fits c.in_ok-look_for_link.ensures in
     called_sound (Detach c.args.link c.args.cause) t c.detach.new.tables
     (detach_called c.args.link t c.detach.new.tables c.self.invariant c.args.cause named (c.detach.ensures.made c.args.cause))
 
 pub returns-clause-detached : goal.returns-clause-detached
-returns-clause-detached g c h lawful =
+returns-clause-detached c h lawful =
     let t = c.self.inside.tables in
     let named = open_link t c.args.self.now c.self.view_is c.args.link c.ranges.link.fits c.in_ok-look_for_link.ensures in
     let called = detach_called c.args.link t c.detach.new.tables c.self.invariant c.args.cause named (c.detach.ensures.made c.args.cause) in

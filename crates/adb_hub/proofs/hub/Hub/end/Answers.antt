@@ -5,14 +5,14 @@ use Rattle.adb_hub.proofs.Steps.{open_client, end_called, called_sound, called_l
 use Rattle.adb_hub.proofs.hub.Hub.end.Goals as goal
 
 pub invariant_of-self : goal.invariant_of-self
-invariant_of-self g c =
+invariant_of-self c =
     let t = c.self.inside.tables in
     let named = open_client t c.args.self.now c.self.view_is c.args.client c.ranges.client.fits c.in_ok-look_for_client.ensures in
     called_sound (End c.args.client c.args.cause) t c.end.new.tables
     (end_called c.args.client t c.end.new.tables c.self.invariant c.args.cause named c.end.ensures.made)
 
 pub returns-clause-ended : goal.returns-clause-ended
-returns-clause-ended g c h lawful =
+returns-clause-ended c h lawful =
     let t = c.self.inside.tables in
     let named = open_client t c.args.self.now c.self.view_is c.args.client c.ranges.client.fits c.in_ok-look_for_client.ensures in
     let called = end_called c.args.client t c.end.new.tables c.self.invariant c.args.cause named c.end.ensures.made in

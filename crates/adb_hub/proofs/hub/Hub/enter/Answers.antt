@@ -10,7 +10,7 @@ use Rattle.adb_hub.proofs.Steps.{next_of, enter_called, called_sound, called_law
 use Rattle.adb_hub.proofs.hub.Hub.enter.Goals as goal
 
 pub invariant_of-self-2 : goal.invariant_of-self-2
-invariant_of-self-2 g c =
+invariant_of-self-2 c =
     let t = c.self.inside.tables in
     let n = c.in_ok-client.client in
     let next = next_of n t.stopped t.joined
@@ -19,7 +19,7 @@ invariant_of-self-2 g c =
     (enter_called n t c.enter.new.tables c.self.invariant c.in_ok-client.ensures.fits next c.args.port c.requires c.ranges.port.fits c.in_ok-enter.ensures.made)
 
 pub returns-clause-entered : goal.returns-clause-entered
-returns-clause-entered g c h lawful =
+returns-clause-entered c h lawful =
     let t = c.self.inside.tables in
     let n = c.in_ok-client.client in
     let next = next_of n t.stopped t.joined

@@ -10,7 +10,7 @@ use Rattle.adb_hub.proofs.Steps.{next_of, join_called, called_sound, called_lawf
 use Rattle.adb_hub.proofs.hub.Hub.join.Goals as goal
 
 pub invariant_of-self-2 : goal.invariant_of-self-2
-invariant_of-self-2 g c =
+invariant_of-self-2 c =
     let t = c.self.inside.tables in
     let n = c.in_ok-client.client in
     let next = next_of n t.stopped t.joined
@@ -19,7 +19,7 @@ invariant_of-self-2 g c =
     (join_called n t c.join.new.tables c.self.invariant c.in_ok-client.ensures.fits next c.in_ok-join.ensures.made)
 
 pub returns-clause-joined : goal.returns-clause-joined
-returns-clause-joined g c h lawful =
+returns-clause-joined c h lawful =
     let t = c.self.inside.tables in
     let n = c.in_ok-client.client in
     let next = next_of n t.stopped t.joined

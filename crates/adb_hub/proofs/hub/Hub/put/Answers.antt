@@ -17,7 +17,7 @@ use Rattle.adb_hub.proofs.Steps.{heard, put_called, may_put, called_sound, calle
 use Rattle.adb_hub.proofs.hub.Hub.put.Goals as goal
 
 pub invariant_of-self-in-Some : goal.invariant_of-self-in-Some
-invariant_of-self-in-Some g c =
+invariant_of-self-in-Some c =
     let t = c.self.inside.tables in
     let n = c.args.client in
     let bytes = c.in-Some.bytes in
@@ -31,7 +31,7 @@ invariant_of-self-in-Some g c =
     called_sound (Put n bytes) t c.put.new.tables called
 
 pub returns-in-Some-clause-put : goal.returns-in-Some-clause-put
-returns-in-Some-clause-put g c h lawful =
+returns-in-Some-clause-put c h lawful =
     let t = c.self.inside.tables in
     let n = c.args.client in
     let bytes = c.in-Some.bytes in
@@ -52,7 +52,7 @@ returns-in-Some-clause-put g c h lawful =
     )
 
 pub returns-in-None-clause-put : goal.returns-in-None-clause-put
-returns-in-None-clause-put g c h lawful =
+returns-in-None-clause-put c h lawful =
     let t = c.self.inside.tables in
     let n = c.args.client in
     let known = heard n t.joined (NoClient n) c.ranges.client.fits

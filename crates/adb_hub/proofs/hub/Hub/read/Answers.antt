@@ -6,14 +6,14 @@ use Rattle.adb_hub.proofs.Steps.{open_client, read_called, called_sound, called_
 use Rattle.adb_hub.proofs.hub.Hub.read.Goals as goal
 
 pub invariant_of-self-2 : goal.invariant_of-self-2
-invariant_of-self-2 g c =
+invariant_of-self-2 c =
     let t = c.self.inside.tables in
     let named = open_client t c.args.self.now c.self.view_is c.args.client c.ranges.client.fits c.in_ok-look_for_client.ensures in
     called_sound (Read c.args.client c.args.piece.now) t c.read.new.tables
     (read_called c.args.client t c.read.new.tables c.self.invariant c.args.piece.now (All-from_get_or (λ b. b < 256) c.args.piece.now 0 (λ i within. omega (arith, c.type_inv.piece i))) named c.in_ok-read.ensures.made)
 
 pub returns-clause-read : goal.returns-clause-read
-returns-clause-read g c h lawful =
+returns-clause-read c h lawful =
     let t = c.self.inside.tables in
     let named = open_client t c.args.self.now c.self.view_is c.args.client c.ranges.client.fits c.in_ok-look_for_client.ensures in
     let called = read_called c.args.client t c.read.new.tables c.self.invariant c.args.piece.now (All-from_get_or (λ b. b < 256) c.args.piece.now 0 (λ i within. omega (arith, c.type_inv.piece i))) named c.in_ok-read.ensures.made in

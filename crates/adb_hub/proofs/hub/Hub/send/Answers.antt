@@ -17,7 +17,7 @@ use Rattle.adb_hub.proofs.Steps.{heard, send_called, may_send, called_sound, cal
 use Rattle.adb_hub.proofs.hub.Hub.send.Goals as goal
 
 pub invariant_of-self-in-Some : goal.invariant_of-self-in-Some
-invariant_of-self-in-Some g c =
+invariant_of-self-in-Some c =
     let t = c.self.inside.tables in
     let n = c.args.link in
     let bytes = c.in-Some.bytes in
@@ -31,7 +31,7 @@ invariant_of-self-in-Some g c =
     called_sound (Send n bytes) t c.send.new.tables called
 
 pub returns-in-Some-clause-sent : goal.returns-in-Some-clause-sent
-returns-in-Some-clause-sent g c h lawful =
+returns-in-Some-clause-sent c h lawful =
     let t = c.self.inside.tables in
     let n = c.args.link in
     let bytes = c.in-Some.bytes in
@@ -52,7 +52,7 @@ returns-in-Some-clause-sent g c h lawful =
     )
 
 pub returns-in-None-clause-sent : goal.returns-in-None-clause-sent
-returns-in-None-clause-sent g c h lawful =
+returns-in-None-clause-sent c h lawful =
     let t = c.self.inside.tables in
     let n = c.args.link in
     let known = heard n t.devices.drawn (NoLink n) c.ranges.link.fits
