@@ -4,19 +4,18 @@ use Rattle.std.proofs.Common.{inr, Bool, true, false, ◌<◌, ◌≤◌}
 use Rattle.std.specs.Prelude.{◌||◌}
 use Rattle.std.proofs.lemmas.List.{append_assoc, append-nil, reverse-append}
 use Rattle.adb_outside.specs.Outside.{Rises, Counted}
-use Rattle.adb_capture.specs.Records.{record_of, records_of, HasRecord, magic}
+use Rattle.adb_capture.specs.Records.{record_of, records_of, magic}
 use Rattle.adb_capture.specs.declared.entry.Entry.{Entry}
-use Rattle.adb_one_request.specs.Machine.{State, History, state, IsInRange, IsLegal}
-use Rattle.adb_one_request.specs.Kept.{Kept, kept, IsLawful, IsOrderly}
-use Rattle.adb_one_request.specs.Drained.{next_out, owed, drain_all}
-use Rattle.adb_one_request.proofs.Orderly.{orderly}
-use Rattle.adb_one_request.proofs.Draining.{drain_all_step, drain_all_over, next_may}
-use Rattle.adb_one_request.proofs.Accepting.{drain_adds}
+use Rattle.adb_history.specs.Machine.{History, state, IsLegal}
+use Rattle.adb_history.specs.Kept.{Kept, IsLawful}
+use Rattle.adb_history.specs.Drained.{next_out, owed, drain_all}
+use Rattle.adb_history.specs.Settling.{IsDrainedFrom}
 use Rattle.adb_top.specs.Machine.{HandsNext}
 use Rattle.adb_top.specs.Keeping.{Out, Keeps, KeepsEntry, LosesRest, IsLoss}
 use Rattle.adb_top.specs.Replay.{written_of, capture_of, IsFrontOf, GoesOn, Drains}
 use Rattle.adb_top.specs.declared.stop.Stop.{Stop}
 use Rattle.adb_top.specs.declared.stop.Stop.TheVariants.{ReadFault, WriteFault, OutOfMemory, Refused}
+use Rattle.adb_top.proofs.Accepting.{drain_adds}
 
 -- a fault that comes behind others
 rises_on : (x y z : ℕ) → x ≤ y → y ≤ z → Rises x y → Rises x z
@@ -53,9 +52,6 @@ counts_then a b c x y z false g first second = record {
   keeps = λ s. second.keeps (first.keeps s);
   steady = λ s. second.steady (first.keeps s);
 }
-
-pub record_in_range : (e : Entry) → HasRecord e → IsInRange e
-record_in_range e r = record { owner = r.owner; port = r.port; bytes = r.bytes }
 
 -- an entry more
 pub written_more : (e : Entry) (h : History) → written_of (e ∷ h) ≡ written_of h ++ record_of e
@@ -115,36 +111,7 @@ draining_first h out holds lawful = record { done = h; lawful = lawful; ends = r
 
 -- a machine made its next hand-out
 abbrev pub Hands : Kept → Option Entry → Kept → Type 0
-Hands holds out new = (s : State) → IsOrderly s → holds ≡ kept s → HandsNext s out new
-
-hands_now : (h : History) (holds new : Kept) (out : Option Entry) → IsLawful holds h → Hands holds out new → HandsNext (state h) out new
-hands_now h holds new out lawful hands = hands (state h) (orderly h lawful.legal) lawful.seen
-
-handed_legal : (h : History) (e : Entry) → IsLegal h → HasRecord e → Some e ≡ next_out (state h) → IsLegal (e ∷ h)
-handed_legal h e legal has next = (legal, record_in_range e has, next_may h e legal (sym next))
-
--- it was kept
-pub draining_on : (h : History) (before mid after : Out) (holds new : Kept) (e : Entry) → HasRecord e → Hands holds (Some e) new
-    → KeepsEntry (Ok tt) e mid after → Draining h before mid holds → Draining h before after new
-draining_on h before mid after holds new e has hands keeps d =
-    let n = hands_now d.done holds new (Some e) d.lawful hands in
-    record {
-      done = e ∷ d.done;
-      lawful = record { legal = handed_legal d.done e d.lawful.legal has n.0; seen = n.1 };
-      ends = d.ends ∙ drain_all_step d.done e (sym n.0);
-      kept = λ had k. entry_kept e d.done had mid after keeps (d.kept had k);
-    }
-
--- there is none
-pub draining_over : (h : History) (before now : Out) (holds new : Kept) → Hands holds None new → Draining h before now holds → Drains (Ok tt) h before now new
-draining_over h before now holds new hands d =
-    let n = hands_now d.done holds new None d.lawful hands in
-    let same : drain_all h ≡ d.done = d.ends ∙ drain_all_over d.done (sym n.0) in
-    record {
-      whole = d.done;
-      on = record { legal = d.lawful.legal; kept = d.kept };
-      to = (sym same, record { lawful = record { legal = d.lawful.legal; seen = n.1 }; rests = sym n.0 });
-    }
+Hands holds out new = (h : History) → IsLawful holds h → HandsNext h out new
 
 -- no memory for it
 pub draining_stopped : (h : History) (before now : Out) (holds new : Kept) → Draining h before now holds → Drains (Err OutOfMemory) h before now new
@@ -154,24 +121,49 @@ draining_stopped h before now holds new d = record {
   to = subst (λ (all : History). IsFrontOf d.done all) (sym d.ends) (drain_front d.done);
 }
 
--- it was not kept
-pub draining_lost : (h : History) (before mid after : Out) (holds new last : Kept) (e : Entry) (why : Stop) → HasRecord e → Hands holds (Some e) new
-    → IsLoss (Err why) → KeepsEntry (Err why) e mid after → Draining h before mid holds
-    → Drains (Err why) h before after last
-draining_lost h before mid after holds new last e why has hands loss keeps d =
-    let n = hands_now d.done holds new (Some e) d.lawful hands in
-    let l = loses why e d.done mid after (handed_legal d.done e d.lawful.legal has n.0) loss keeps in
-    record {
-      whole = l.whole;
-      on = goes_on (Err why) h d.done l.whole before mid after d.kept l.on;
-      to = subst (λ (all : History). IsFrontOf l.whole all) (sym d.ends) (part n.0 l.whole l.at);
-    }
-  where
-    part : Some e ≡ next_out (state d.done) → (whole : History) → (whole ≡ d.done) ⊎ (whole ≡ e ∷ d.done) → IsFrontOf whole (drain_all d.done)
-    part next whole (inl same) = subst (λ (w : History). IsFrontOf w (drain_all d.done)) (sym same) (drain_front d.done)
-    part next whole (inr same) =
-        subst (λ (w : History). IsFrontOf w (drain_all d.done)) (sym same)
-        (subst (λ (all : History). IsFrontOf (e ∷ d.done) all) (sym (drain_all_step d.done e (sym next))) (drain_front (e ∷ d.done)))
+-- ---- by the law of draining
+module _ (drains : (h : History) → IsLegal h → IsDrainedFrom h) where
+  -- it was kept
+  pub draining_on : (h : History) (before mid after : Out) (holds new : Kept) (e : Entry) → Hands holds (Some e) new
+      → KeepsEntry (Ok tt) e mid after → Draining h before mid holds → Draining h before after new
+  draining_on h before mid after holds new e hands keeps d =
+      let n = hands d.done d.lawful in
+      record {
+        done = e ∷ d.done;
+        lawful = n.1;
+        ends = d.ends ∙ (drains d.done d.lawful.legal).next e (sym n.0);
+        kept = λ had k. entry_kept e d.done had mid after keeps (d.kept had k);
+      }
+
+  -- there is none
+  pub draining_over : (h : History) (before now : Out) (holds new : Kept) → Hands holds None new → Draining h before now holds → Drains (Ok tt) h before now new
+  draining_over h before now holds new hands d =
+      let n = hands d.done d.lawful in
+      let same : drain_all h ≡ d.done = d.ends ∙ (drains d.done d.lawful.legal).over (sym n.0) in
+      record {
+        whole = d.done;
+        on = record { legal = d.lawful.legal; kept = d.kept };
+        to = (sym same, record { lawful = n.1; rests = sym n.0 });
+      }
+
+  -- it was not kept
+  pub draining_lost : (h : History) (before mid after : Out) (holds new last : Kept) (e : Entry) (why : Stop) → Hands holds (Some e) new
+      → IsLoss (Err why) → KeepsEntry (Err why) e mid after → Draining h before mid holds
+      → Drains (Err why) h before after last
+  draining_lost h before mid after holds new last e why hands loss keeps d =
+      let n = hands d.done d.lawful in
+      let l = loses why e d.done mid after n.1.legal loss keeps in
+      record {
+        whole = l.whole;
+        on = goes_on (Err why) h d.done l.whole before mid after d.kept l.on;
+        to = subst (λ (all : History). IsFrontOf l.whole all) (sym d.ends) (part n.0 l.whole l.at);
+      }
+    where
+      part : Some e ≡ next_out (state d.done) → (whole : History) → (whole ≡ d.done) ⊎ (whole ≡ e ∷ d.done) → IsFrontOf whole (drain_all d.done)
+      part next whole (inl same) = subst (λ (w : History). IsFrontOf w (drain_all d.done)) (sym same) (drain_front d.done)
+      part next whole (inr same) =
+          subst (λ (w : History). IsFrontOf w (drain_all d.done)) (sym same)
+          (subst (λ (all : History). IsFrontOf (e ∷ d.done) all) (sym ((drains d.done d.lawful.legal).next e (sym next))) (drain_front (e ∷ d.done)))
 
 -- what a loop of hand-outs keeps
 pub record HandingOut (start now : Kept) (before after : Out) (counted : Type 0) : Type 0 where

@@ -1,7 +1,5 @@
 pub mod Outputs
-pub mod Clients
-pub mod Owed
-pub mod Machines
+pub mod Accepting
 pub mod Drains
 pub mod Entries
 pub mod Records

@@ -13,19 +13,20 @@ use Rattle.adb_capture.specs.declared.error.FormFault.{FormFault}
 use Rattle.adb_capture.specs.declared.error.FormFault.TheVariants as form
 use Rattle.adb_capture.specs.declared.error.CaptureError.{CaptureError}
 use Rattle.adb_capture.specs.declared.error.CaptureError.TheVariants as capture
-use Rattle.adb_one_request.specs.Machine.{History, start, state}
-use Rattle.adb_one_request.specs.Kept.{Kept, kept}
-use Rattle.adb_one_request.specs.Drained.{drained_after, drained_from}
-use Rattle.adb_one_request.specs.Refusal.{refusal_by}
-use Rattle.adb_one_request.specs.Accepted.{Accepted, refusal_of, is_input, accept_by, accept_records}
-use Rattle.adb_one_request.specs.declared.refusal.Refusal.{Refusal}
+use Rattle.adb_history.specs.Rows.{start}
+use Rattle.adb_history.specs.Machine.{History, state}
+use Rattle.adb_history.specs.Kept.{Kept, kept}
+use Rattle.adb_history.specs.Drained.{drained_after, drained_from}
+use Rattle.adb_history.specs.Refusal.{refused_at, refusal_by}
+use Rattle.adb_history.specs.Accepted.{Accepted, is_input, ends_with, accept_by, unless_stopped, accept_records}
+use Rattle.adb_history.specs.declared.refusal.Refusal.{Refusal}
 use Rattle.std.proofs.lemmas.List.{append_assoc, take-append-drop, take_at, drop_at, length-take-le}
-use Rattle.adb_one_request.proofs.Accepting.{accept_front, accept_first, drained_adds}
 use Rattle.adb_top.specs.Keeping.{Out, Keeps, is_read_fault, is_write_fault}
 use Rattle.adb_top.specs.Stop.{stop_of}
 use Rattle.adb_top.specs.Replay.{capture_of, IsDrained, IsFrontOf, ReplaysEntry, EntryGives, IsReached, Reaches, EndsAs, Moment, IsAhead, Consumes, Replays}
 use Rattle.adb_top.specs.declared.stop.Stop.{Stop}
 use Rattle.adb_top.specs.declared.stop.Stop.TheVariants.{ReadFault, WriteFault, OutOfMemory, Refused}
+use Rattle.adb_top.proofs.Accepting.{accept_at, accept_entry, accept_front, accept_first, accept_stopped, nothing_given, nothing_refused, drained_adds}
 use Rattle.adb_top.proofs.Drains.{goes_on}
 
 -- what is still to come, of all that a capture gives
@@ -103,10 +104,6 @@ given_next : (now new : Moment) (result : Result (Option (ℕ × Entry)) Capture
     → GivesNext now.reader.offset before result new.reader.offset (ahead_of new.reader new.left)
 given_next now new result before gives sound was = (gives sound).records before was
 
--- what is accepted from a record on
-abbrev accept_at : ℕ → Entry → History → (History → Accepted) → Accepted
-accept_at offset e done others = accept_by (refusal_of (state done) offset e) (is_input e) done e others
-
 -- a record that the reader gave: the moments before and after its replay, its offset, and its entry
 pub record Turn : Type 0 where
   pub now : Moment
@@ -116,6 +113,10 @@ pub record Turn : Type 0 where
 
 abbrev pub IsGiven : Turn → Type 0
 IsGiven t = Gives t.now (Ok (Some (t.offset, t.entry))) t.new
+
+-- A history was not stopped by a kill.
+abbrev pub IsRunning : History → Type 0
+IsRunning h = (state h).stopped ≡ false
 
 -- A record came: what of all that a capture gives is accepted from it on.
 pub record CameOn (t : Turn) (done : History) (all : Accepted) : Type 0 where
@@ -127,14 +128,15 @@ pub record CameOn (t : Turn) (done : History) (all : Accepted) : Type 0 where
 -- from a record that came on, whatever follows it
 front_accepted : (t : Turn) (done : History) (before : List ℕ)
     → (g : GivesRecord t.now.reader.offset before (t.offset, t.entry) t.new.reader.offset (ahead_of t.new.reader t.new.left)) → (more : List ℕ)
-    → accept_records t.now.reader.offset (take g.size before ++ more) done ≡ accept_at t.offset t.entry done (accept_records t.new.reader.offset more)
-front_accepted t done before g more =
+    → IsRunning done → accept_records t.now.reader.offset (take g.size before ++ more) done ≡ accept_at t.offset t.entry done (accept_records t.new.reader.offset more)
+front_accepted t done before g more running =
     accept_first at bytes done
     ∙ (ap (λ f. accept_front at bytes f done) (framing.whole at front more g.size (framing.alone at before g.size g.whole))
     ∙ (ap (λ t. from (entry_in at t) (accept_records (offset_after at t) (drop g.size bytes))) (take_at front more g.size len)
     ∙ (ap (λ d. from (entry_in at front) (accept_records (offset_after at front) d)) (drop_at front more g.size len)
     ∙ (ap (λ (p : ℕ × Entry). from p (accept_records (offset_after at front) more)) (sym g.is)
-    ∙ ap (λ n. from (t.offset, t.entry) (accept_records n more)) (sym g.next_offset_is)))))
+    ∙ (ap (λ n. from (t.offset, t.entry) (accept_records n more)) (sym g.next_offset_is)
+    ∙ ap (λ b. unless_stopped b (accept_at t.offset t.entry done (accept_records t.new.reader.offset more))) running)))))
   where
     at : ℕ
     at = t.now.reader.offset
@@ -146,14 +148,14 @@ front_accepted t done before g more =
     bytes = take g.size before ++ more
 
     from : ℕ × Entry → (History → Accepted) → Accepted
-    from p others = accept_at p.0 p.1 done others
+    from p others = unless_stopped (state done).stopped (accept_entry p done others)
 
     len : length (take g.size before) ≡ g.size
     len = length-take-le g.size before (framing.fits t.now.reader.offset before g.size g.whole).1
 
 came_on : (t : Turn) (done : History) (all : Accepted) → IsGiven t
-    → t.now.reader.failed ≡ None → ComesOn t.now done all → CameOn t done all
-came_on t done all gives sound c = record {
+    → t.now.reader.failed ≡ None → IsRunning done → ComesOn t.now done all → CameOn t done all
+came_on t done all gives sound running c = record {
   others = drop g.size c.before;
   is = g.rest;
   inputs = c.inputs ∙ ap
@@ -166,21 +168,25 @@ came_on t done all gives sound c = record {
 
     given : accept_records t.now.reader.offset c.before done ≡ accept_at t.offset t.entry done (accept_records t.new.reader.offset (drop g.size c.before))
     given = ap (λ b. accept_records t.now.reader.offset b done) (sym (take-append-drop g.size c.before))
-        ∙ front_accepted t done c.before g (drop g.size c.before)
+        ∙ front_accepted t done c.before g (drop g.size c.before) running
 
 -- an input that is accepted, or a hand-out that is passed over
-accept_on : (b : Bool) (h : History) (e : Entry) (others : History → Accepted)
-    → (drained_from h (accept_by None b h e others).inputs ≡ drained_from (cond b (drained_after h e) h) (others (cond b (drained_after h e) h)).inputs)
-    × ((accept_by None b h e others).refused ≡ (others (cond b (drained_after h e) h)).refused)
-accept_on true h e others = (refl, refl)
-accept_on false h e others = (refl, refl)
+accept_on : (b : Bool) (h : History) (offset : ℕ) (e : Entry) (others : History → Accepted)
+    → (drained_from h (accept_by None b h offset e others).inputs ≡ drained_from (cond b (drained_after h e) h) (others (cond b (drained_after h e) h)).inputs)
+    × ((accept_by None b h offset e others).refused ≡ (others (cond b (drained_after h e) h)).refused)
+accept_on true h offset e others = (refl, refl)
+accept_on false h offset e others = (refl, refl)
+
+-- whether a kill was made is held
+held_stopped : (first now : Moment) (holds : Kept) (stopped : Bool) (r : Replaying first now holds) → holds.stopped ≡ stopped → (state r.done).stopped ≡ stopped
+held_stopped first now holds stopped r is = ap (λ (k : Kept). k.stopped) (sym r.drained.lawful.seen) ∙ is
 
 -- A record was replayed.
 pub replaying_on : (first : Moment) (t : Turn) (holds holds_new : Kept) → IsGiven t → t.new.reader.failed ≡ None
-    → t.new.reader.opened ≡ true → ((h : History) → IsDrained holds h → ReplaysEntry (Ok tt) t.offset t.entry h t.now.out t.new.out holds_new)
+    → t.new.reader.opened ≡ true → holds.stopped ≡ false → ((h : History) → IsDrained holds h → ReplaysEntry (Ok tt) t.offset t.entry h t.now.out t.new.out holds_new)
     → Replaying first t.now holds
     → Replaying first t.new holds_new
-replaying_on first t holds holds_new gives sound opened entry r = record {
+replaying_on first t holds holds_new gives sound opened running entry r = record {
   done = x.whole;
   drained = x.gives.2;
   sound = sound;
@@ -198,7 +204,7 @@ replaying_on first t holds holds_new gives sound opened entry r = record {
         on = λ more.
             let all = ap (λ b. accept_records first.reader.offset b []) (append_assoc c.used front more) in
             let so_far = c.on (front ++ more) in
-            let next = front_accepted t r.done c.rest g more in
+            let next = front_accepted t r.done c.rest g more (held_stopped first t.now holds false r running) in
             record {
               inputs = ap (λ (a : Accepted). drained_from [] a.inputs) all
                   ∙ (so_far.inputs ∙ (ap (λ (a : Accepted). drained_from r.done a.inputs) next ∙ (made (accept_records t.new.reader.offset more)).0));
@@ -215,10 +221,10 @@ replaying_on first t holds holds_new gives sound opened entry r = record {
         → (drained_from r.done (accept_at t.offset t.entry r.done others).inputs ≡ drained_from x.whole (others x.whole).inputs)
         × ((accept_at t.offset t.entry r.done others).refused ≡ (others x.whole).refused)
     made others =
-        let on = accept_on (is_input t.entry) r.done t.entry others in (
-          ap (λ why. drained_from r.done (accept_by why (is_input t.entry) r.done t.entry others).inputs) x.gives.0
+        let on = accept_on (is_input t.entry) r.done t.offset t.entry others in (
+          ap (λ why. drained_from r.done (accept_by why (is_input t.entry) r.done t.offset t.entry others).inputs) x.gives.0
               ∙ (on.0 ∙ ap (λ h. drained_from h (others h).inputs) (sym x.gives.1)),
-          ap (λ why. (accept_by why (is_input t.entry) r.done t.entry others).refused) x.gives.0 ∙ (on.1 ∙ ap (λ h. (others h).refused) (sym x.gives.1)),
+          ap (λ why. (accept_by why (is_input t.entry) r.done t.offset t.entry others).refused) x.gives.0 ∙ (on.1 ∙ ap (λ h. (others h).refused) (sym x.gives.1)),
         )
 
 -- the records end
@@ -239,18 +245,41 @@ replaying_over first now new holds same gives opened r = record {
   whole = r.done;
   on = record { legal = r.drained.lawful.legal; kept = λ had k. subst (λ (out : Out). Keeps had (capture_of r.done) out) same (r.kept had k) };
   reaches = λ before was. let c = comes first now holds r before was in
-      c.inputs ∙ ap (λ b. drained_from r.done (accept_records now.reader.offset b r.done).inputs) (over c).0;
+      c.inputs ∙ (ap (λ b. drained_from r.done (accept_records now.reader.offset b r.done).inputs) (over c).0
+          ∙ ap (drained_from r.done) (nothing_given (state r.done).stopped None));
   consumes = λ is before was. cc;
   ends = λ before was. let c = comes first now holds r before was in (
-    c.refused ∙ ap (λ b. (accept_records now.reader.offset b r.done).refused) (over c).0,
-    left_empty
-        new opened (over c).1,
+    c.refused ∙ (ap (λ b. (accept_records now.reader.offset b r.done).refused) (over c).0 ∙ nothing_refused (state r.done).stopped),
+    λ running. left_empty new opened (over c).1,
   );
 }
   where
     over : {all : Accepted} → (c : ComesOn now r.done all)
         → (c.before ≡ []) × (ahead_of new.reader new.left ≡ Some []) × (new.reader.offset ≡ now.reader.offset)
     over c = given_next now new (Ok None) c.before gives r.sound c.is
+
+-- A kill was made: what the records behind it are is nothing.
+pub replaying_killed : (first now : Moment) (holds : Kept) → holds.stopped ≡ true → Replaying first now holds → Replays first now (Ok tt)
+replaying_killed first now holds stopped r = record {
+  whole = r.done;
+  on = record { legal = r.drained.lawful.legal; kept = r.kept };
+  reaches = λ before was. reached (comes first now holds r before was);
+  consumes = λ is before was. cc;
+  ends = λ before was.
+      let c = comes first now holds r before was in (
+        c.refused ∙ ap (λ (a : Accepted). a.refused) (nothing c),
+        λ running. absurd (let clash : true ≡ false = sym killed ∙ (ap (λ h. (state h).stopped) (sym (reached c)) ∙ running) in cc),
+      );
+}
+  where
+    killed : (state r.done).stopped ≡ true
+    killed = held_stopped first now holds true r stopped
+
+    nothing : {all : Accepted} → (c : ComesOn now r.done all) → accept_records now.reader.offset c.before r.done ≡ ends_with None
+    nothing c = accept_stopped now.reader.offset c.before r.done killed
+
+    reached : {all : Accepted} → (c : ComesOn now r.done all) → drained_from [] all.inputs ≡ r.done
+    reached c = c.inputs ∙ ap (λ (a : Accepted). drained_from r.done a.inputs) (nothing c)
 
 -- what has come so far is the first part of all that comes
 front_so_far : (first now : Moment) (holds : Kept) (r : Replaying first now holds) (before : List ℕ) → IsAhead first before
@@ -262,27 +291,29 @@ front_so_far first now holds r before was =
 
 -- nothing is accepted, as an error of the reader says
 abbrev refused_as : CaptureError → Accepted
-refused_as why = record { inputs = []; refused = refusal_by why }
+refused_as why = ends_with (refusal_by why)
 
 refused_ahead : (offset : ℕ) (before : List ℕ) (h : History) (f : Front FormFault) (why : CaptureError) → record_at offset before ≡ f
-    → accept_front offset before f h ≡ refused_as why → accept_records offset before h ≡ refused_as why
-refused_ahead offset before h f why is front = accept_first offset before h ∙ (ap (λ k. accept_front offset before k h) is ∙ front)
+    → accept_front offset before f h ≡ unless_stopped (state h).stopped (refused_as why) → IsRunning h → accept_records offset before h ≡ refused_as why
+refused_ahead offset before h f why is front running =
+    accept_first offset before h ∙ (ap (λ k. accept_front offset before k h) is ∙ (front ∙ ap (λ b. unless_stopped b (refused_as why)) running))
 
 truncated_ahead : (offset at : ℕ) (before : List ℕ) (h : History) → before ≢ [] → at ≡ offset
-    → accept_front offset before More h ≡ refused_as (capture.Truncated at)
+    → accept_front offset before More h ≡ unless_stopped (state h).stopped (refused_as (capture.Truncated at))
 truncated_ahead offset at [] h some is = absurd (some refl)
-truncated_ahead offset at (b ∷ before) h some is = ap (λ n. refused_as (capture.Truncated n)) (sym is)
+truncated_ahead offset at (b ∷ before) h some is = ap (λ n. unless_stopped (state h).stopped (refused_as (capture.Truncated n))) (sym is)
 
 refusal_ahead : (offset : ℕ) (before : List ℕ) (h : History) (e : CaptureError) → refusal_by e ≢ None → IsRefused offset before e
-    → accept_records offset before h ≡ refused_as e
-refusal_ahead offset before h capture.BadMagic s r = absurd r
-refusal_ahead offset before h (capture.BadRecord at why) s r =
-    refused_ahead offset before h (Bad (form.BadRecord at why)) (capture.BadRecord at why) r refl
-refusal_ahead offset before h (capture.Truncated at) s r = refused_ahead offset before h More (capture.Truncated at) r.1
-    (truncated_ahead offset at before h r.0 r.2)
-refusal_ahead offset before h (capture.TooLong at) s r = refused_ahead offset before h (Bad (form.TooLong at)) (capture.TooLong at) r refl
-refusal_ahead offset before h capture.ReadFault s r = absurd (s refl)
-refusal_ahead offset before h capture.OutOfMemory s r = absurd (s refl)
+    → IsRunning h → accept_records offset before h ≡ refused_as e
+refusal_ahead offset before h capture.BadMagic s r running = absurd r
+refusal_ahead offset before h (capture.BadRecord at why) s r running =
+    refused_ahead offset before h (Bad (form.BadRecord at why)) (capture.BadRecord at why) r refl running
+refusal_ahead offset before h (capture.Truncated at) s r running = refused_ahead offset before h More (capture.Truncated at) r.1
+    (truncated_ahead offset at before h r.0 r.2) running
+refusal_ahead offset before h (capture.TooLong at) s r running =
+    refused_ahead offset before h (Bad (form.TooLong at)) (capture.TooLong at) r refl running
+refusal_ahead offset before h capture.ReadFault s r running = absurd (s refl)
+refusal_ahead offset before h capture.OutOfMemory s r running = absurd (s refl)
 
 -- what an option gives in front of which something stands
 pub split_front : (front whole : List ℕ) (o : Option (List ℕ)) → option_map (λ rest. front ++ rest) o ≡ Some whole
@@ -301,7 +332,7 @@ consumed first now new holds r stops before was = record {
   rest = k.0;
   is = c.is ∙ (ap (λ b. c.used ++ b) ahead_is ∙ sym (append_assoc c.used new.reader.held k.0));
   left = k.1;
-  reached = (c.on new.reader.held).inputs ∙ ap (λ (a : Accepted). drained_from r.done a.inputs) none;
+  reached = (c.on new.reader.held).inputs ∙ ap (drained_from r.done) none;
 }
   where
     c : Came first now r.done before
@@ -328,13 +359,15 @@ consumed first now new holds r stops before was = record {
     part : record_at now.reader.offset new.reader.held ≡ More
     part = ap (λ n. record_at n new.reader.held) (sym stops.offset) ∙ subst (λ b. IsPart b new.reader.offset new.reader.held) opened stops.part
 
-    none : accept_records now.reader.offset new.reader.held r.done ≡ accept_front now.reader.offset new.reader.held More r.done
-    none = accept_first now.reader.offset new.reader.held r.done ∙ ap (λ f. accept_front now.reader.offset new.reader.held f r.done) part
+    none : (accept_records now.reader.offset new.reader.held r.done).inputs ≡ []
+    none = ap (λ (a : Accepted). a.inputs) (accept_first now.reader.offset new.reader.held r.done
+        ∙ ap (λ f. accept_front now.reader.offset new.reader.held f r.done) part)
+        ∙ nothing_given (state r.done).stopped _
 
 -- The reader stopped.
 pub replaying_stopped : (first now new : Moment) (holds : Kept) (e : CaptureError) → now.out ≡ new.out → Gives now (Err e) new
-    → Replaying first now holds → Replays first new (Err (stop_of e))
-replaying_stopped first now new holds e same gives r = go e (λ c sound. given_next now new (Err e) c gives r.sound sound) (gives r.sound).fault
+    → holds.stopped ≡ false → Replaying first now holds → Replays first new (Err (stop_of e))
+replaying_stopped first now new holds e same gives running r = go e (λ c sound. given_next now new (Err e) c gives r.sound sound) (gives r.sound).fault
   where
     keeps : (had : List ℕ) → Keeps had (capture_of []) first.out → Keeps had (capture_of r.done) new.out
     keeps had k = subst (λ (out : Out). Keeps had (capture_of r.done) out) same (r.kept had k)
@@ -350,7 +383,7 @@ replaying_stopped first now new holds e same gives r = go e (λ c sound. given_n
     }
       where
         none : {all : Accepted} → (c : ComesOn now r.done all) → accept_records now.reader.offset c.before r.done ≡ refused_as e
-        none c = refusal_ahead now.reader.offset c.before r.done e stops (refused c.before c.is)
+        none c = refusal_ahead now.reader.offset c.before r.done e stops (refused c.before c.is) (held_stopped first now holds false r running)
 
     go : (e : CaptureError) → ((before : List ℕ) → IsAhead now before → IsRefused now.reader.offset before e)
         → (◌≡◌ {A = Result (Option (ℕ × Entry)) CaptureError} (Err e) (Err capture.ReadFault) → StopsWithin now.reader now.left new.reader new.left)
@@ -375,28 +408,28 @@ replaying_stopped first now new holds e same gives r = go e (λ c sound. given_n
     }
 
 -- What is reached of all that a capture gives, where a record was not replayed to its end.
-reached_front : (first : Moment) (t : Turn) (holds : Kept) → IsGiven t
-    → (r : Replaying first t.now holds) (whole : History) → IsReached t.offset t.entry r.done whole
+reached_front : (first : Moment) (t : Turn) (holds : Kept) → IsGiven t → holds.stopped ≡ false
+    → (r : Replaying first t.now holds) (whole : History) → IsReached t.entry r.done whole
     → (before : List ℕ) → IsAhead first before → IsFrontOf whole (drained_from [] (accept_records first.reader.offset before []).inputs)
-reached_front first t holds gives r whole (inl same) before was =
+reached_front first t holds gives running r whole (inl same) before was =
     subst (λ (h : History). IsFrontOf h (drained_from [] (accept_records first.reader.offset before []).inputs)) (sym same)
     (front_so_far first t.now holds r before was)
-reached_front first t holds gives r whole (inr on) before was =
-    let c = came_on t r.done _ gives r.sound (comes first t.now holds r before was) in
+reached_front first t holds gives running r whole (inr on) before was =
+    let c = came_on t r.done _ gives r.sound (held_stopped first t.now holds false r running) (comes first t.now holds r before was) in
     let others : History → Accepted = accept_records t.new.reader.offset c.others in
     let more = drained_adds (drained_after r.done t.entry) (others (drained_after r.done t.entry)).inputs in
     record {
       more = more.0 ++ on.2.more;
-      is = c.inputs ∙ (ap (λ why. drained_from r.done (accept_by why (is_input t.entry) r.done t.entry others).inputs) on.0
-          ∙ (ap (λ b. drained_from r.done (accept_by None b r.done t.entry others).inputs) on.1
+      is = c.inputs ∙ (ap (λ why. drained_from r.done (accept_by why (is_input t.entry) r.done t.offset t.entry others).inputs) on.0
+          ∙ (ap (λ b. drained_from r.done (accept_by None b r.done t.offset t.entry others).inputs) on.1
           ∙ (more.1 ∙ (ap (λ h. more.0 ++ h) on.2.is ∙ sym (append_assoc more.0 on.2.more whole)))));
     }
 
 -- A record was not replayed to its end.
-pub replaying_lost : (first : Moment) (t : Turn) (holds last : Kept) (why : Stop) → IsGiven t
+pub replaying_lost : (first : Moment) (t : Turn) (holds last : Kept) (why : Stop) → IsGiven t → holds.stopped ≡ false
     → ((h : History) → IsDrained holds h → ReplaysEntry (Err why) t.offset t.entry h t.now.out t.new.out last) → Replaying first t.now holds
     → Replays first t.new (Err why)
-replaying_lost first t holds last why gives entry r = record {
+replaying_lost first t holds last why gives running entry r = record {
   whole = x.whole;
   on = goes_on (Err why) [] r.done x.whole first.out t.now.out t.new.out r.kept x.on;
   reaches = λ before was. reaches why x.gives before was;
@@ -413,12 +446,12 @@ replaying_lost first t holds last why gives entry r = record {
     reaches : (w : Stop) → EntryGives (Err w) t.offset t.entry r.done x.whole last → (before : List ℕ) → IsAhead first before
         → Reaches (Err w) x.whole (all before)
     reaches ReadFault g before was = absurd g
-    reaches WriteFault g before was = reached_front first t holds gives r x.whole g before was
-    reaches OutOfMemory g before was = reached_front first t holds gives r x.whole g before was
+    reaches WriteFault g before was = reached_front first t holds gives running r x.whole g before was
+    reaches OutOfMemory g before was = reached_front first t holds gives running r x.whole g before was
     reaches (Refused named) g before was =
-        let c = came_on t r.done (all before) gives r.sound (comes first t.now holds r before was) in
-        c.inputs ∙ (ap (λ w. drained_from r.done (accept_by w (is_input t.entry) r.done t.entry (accept_records t.new.reader.offset c.others)).inputs) g.0
-        ∙ sym g.1)
+        let c = came_on t r.done (all before) gives r.sound (held_stopped first t.now holds false r running) (comes first t.now holds r before was) in
+        c.inputs ∙ (ap (λ w. drained_from r.done (accept_by w (is_input t.entry) r.done t.offset t.entry (accept_records t.new.reader.offset c.others)).inputs)
+        g.0.because ∙ sym g.1)
 
     consumes : (w : Stop) → EntryGives (Err w) t.offset t.entry r.done x.whole last → ◌≡◌ {A = Result (Unit {0}) Stop} (Err w) (Err ReadFault)
         → (before : List ℕ) → IsAhead first before → Consumes first t.new x.whole before
@@ -433,8 +466,9 @@ replaying_lost first t holds last why gives entry r = record {
     ends WriteFault g before was = tt
     ends OutOfMemory g before was = tt
     ends (Refused named) g before was =
-        let c = came_on t r.done (all before) gives r.sound (comes first t.now holds r before was) in
-        c.refused ∙ ap (λ w. (accept_by w (is_input t.entry) r.done t.entry (accept_records t.new.reader.offset c.others)).refused) g.0
+        let c = came_on t r.done (all before) gives r.sound (held_stopped first t.now holds false r running) (comes first t.now holds r before was) in
+        c.refused ∙ (ap (λ w. (accept_by w (is_input t.entry) r.done t.offset t.entry (accept_records t.new.reader.offset c.others)).refused) g.0.because
+        ∙ ap (λ n. refused_at n named.reason) (sym g.0.at))
 
 -- what a loop over records keeps: how far it has come, and that nothing failed
 pub record GoingOn (first now : Moment) (holds : Kept) (reads writes : Type 0) : Type 0 where

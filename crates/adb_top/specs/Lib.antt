@@ -1,7 +1,5 @@
-pub mod Client
-pub mod Refused
-pub mod Due
 pub mod Machine
+pub mod Owed
 pub mod Stop
 pub mod Replay
 pub mod Keeping

@@ -1,12 +1,12 @@
 //! Replaying a capture: its entries are made in order, and all that is due is handed out after
 //! each.
 
-ghost use Rattle.std.specs.Prelude.{◌≡◌, ◌≢◌, None, Err, not, true};
+ghost use Rattle.std.specs.Prelude.{◌≡◌, ◌≢◌, None, Err, not, true, false};
 ghost use Rattle.adb_outside.specs.Outside.{Counts};
 ghost use Rattle.adb_capture.specs.Records.{HasRecord};
-ghost use Rattle.adb_one_request.specs.Machine.{History};
-ghost use Rattle.adb_one_request.specs.Kept.{IsLawful};
-ghost use Rattle.adb_one_request.specs.Accepted.{is_input};
+ghost use Rattle.adb_history.specs.Machine.{History};
+ghost use Rattle.adb_history.specs.Kept.{IsLawful};
+ghost use Rattle.adb_history.specs.Accepted.{is_input};
 ghost use Rattle.adb_top.specs.Replay.{IsDrained, Drains, ReplaysEntry, Replays, moment};
 ghost use Rattle.adb_top.specs.Replayed.{ReplaysCapture};
 ghost use Rattle.adb_top.specs.Keeping.{KeepsEntry, CountsReads, IsLoss, is_write_fault, is_read_fault};
@@ -15,12 +15,19 @@ use crate::machine::Machine;
 use crate::output::Output;
 use crate::stop::Stop;
 use adb_capture::{CaptureReader, Entry};
+use adb_history::draining_ends;
 use adb_outside::{Sink, Source};
 use std::alloc::Global;
+use std::process::Abort;
 
 /// Replays the capture of a source, and writes the whole history to the sink as a capture. Nothing
 /// is written where the magic is bad.
-pub fn replay<S: Source, K: Sink>(alloc: Global, source: &mut S, sink: &mut K) -> Result<(), Stop>
+pub fn replay<S: Source, K: Sink>(
+    rt: &impl Abort,
+    alloc: Global,
+    source: &mut S,
+    sink: &mut K,
+) -> Result<(), Stop>
     ensures replays { ReplaysCapture (S.left source.old) (S.left source.new)
         (K.written sink.old) (K.written sink.new) result }
     ensures reads { CountsReads result (Counts S.steady S.faults source.old source.new) }
@@ -29,13 +36,14 @@ pub fn replay<S: Source, K: Sink>(alloc: Global, source: &mut S, sink: &mut K) -
     let mut reader = CaptureReader::new(alloc)?;
     reader.open(source)?;
     let mut output = Output::new(alloc)?;
-    let ended = replay_records(alloc, &mut reader, source, &mut output, sink);
+    let ended = replay_records(rt, alloc, &mut reader, source, &mut output, sink);
     output.write_out(sink)?;
     ended
 }
 
-/// Replays the records of a capture, whose magic was read.
+/// Replays the records of a capture, whose magic was read: all, or those up to a kill.
 fn replay_records<S: Source, K: Sink>(
+    rt: &impl Abort,
     alloc: Global,
     reader: &mut CaptureReader,
     source: &mut S,
@@ -51,39 +59,46 @@ fn replay_records<S: Source, K: Sink>(
     ensures writes { Counts K.steady K.faults sink.old sink.new (is_write_fault result) }
 {
     let mut machine = Machine::new(alloc);
-    while let Some((offset, entry)) = reader.next(source)? {
-        replay_entry(&mut machine, output, sink, offset, entry)?;
+    while !machine.is_stopped() {
+        let Some((offset, entry)) = reader.next(source)? else {
+            return Ok(());
+        };
+        replay_entry(rt, &mut machine, output, sink, offset, entry)?;
     }
     Ok(())
 }
 
 /// Replays one record, whose entry is dropped then.
 fn replay_entry<K: Sink>(
+    rt: &impl Abort,
     machine: &mut Machine,
     output: &mut Output,
     sink: &mut K,
     offset: u64,
     entry: Entry,
 ) -> Result<(), Stop>
-    requires { HasRecord entry }
+    requires form { HasRecord entry }
+    requires running { machine.old.stopped ≡ false }
     ensures replays { (h : History) → IsDrained machine.old h → ReplaysEntry result offset entry h
         (K.written sink.old, output.old) (K.written sink.new, output.new) machine.new }
     ensures source { result ≢ Err Stop.ReadFault }
     ensures counts { Counts K.steady K.faults sink.old sink.new (is_write_fault result) }
 {
-    replay_record(machine, output, sink, offset, &entry)
+    replay_record(rt, machine, output, sink, offset, &entry)
 }
 
 /// Replays one record: its entry is made and kept, and all that is due then is handed out. A
 /// hand-out that was recorded is passed over.
 fn replay_record<K: Sink>(
+    rt: &impl Abort,
     machine: &mut Machine,
     output: &mut Output,
     sink: &mut K,
     offset: u64,
     entry: &Entry,
 ) -> Result<(), Stop>
-    requires { HasRecord entry.now }
+    requires form { HasRecord entry.now }
+    requires running { machine.old.stopped ≡ false }
     ensures replays { (h : History) → IsDrained machine.old h
         → ReplaysEntry result offset entry.now h
         (K.written sink.old, output.old) (K.written sink.new, output.new) machine.new }
@@ -93,23 +108,30 @@ fn replay_record<K: Sink>(
     if is_hand_out(entry) {
         return Ok(());
     }
-    match machine.apply(entry) {
+    match machine.apply(rt, entry) {
         Err(why) => Err(why.at(offset)),
         Ok(()) => {
             output.keep(sink, entry)?;
-            drain(machine, output, sink)
+            drain(rt, machine, output, sink)
         }
     }
 }
 
-/// Hands out all that is due, whoever it is due to, and keeps each hand-out.
-fn drain<K: Sink>(machine: &mut Machine, output: &mut Output, sink: &mut K) -> Result<(), Stop>
+/// Hands out all that is due, whoever it is due to, and keeps each hand-out. It ends, by the law
+/// `draining_ends`, with nothing due.
+fn drain<K: Sink>(
+    rt: &impl Abort,
+    machine: &mut Machine,
+    output: &mut Output,
+    sink: &mut K,
+) -> Result<(), Stop>
     ensures drains { (h : History) → IsLawful machine.old h → Drains result h
         (K.written sink.old, output.old) (K.written sink.new, output.new) machine.new }
     ensures loss { IsLoss result }
     ensures counts { Counts K.steady K.faults sink.old sink.new (is_write_fault result) }
 {
-    while let Some(entry) = machine.hand_next()? {
+    draining_ends();
+    while let Some(entry) = machine.hand_next(rt)? {
         keep(output, sink, entry)?;
     }
     Ok(())

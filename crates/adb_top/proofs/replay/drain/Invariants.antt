@@ -1,6 +1,6 @@
 use Rattle.std.proofs.Common.{false}
 use Rattle.adb_outside.specs.Outside.{Counts}
-use Rattle.adb_top.specs.Due.{owed_in}
+use Rattle.adb_top.specs.Owed.{owed_in}
 use Rattle.adb_top.proofs.Drains.{HandingOut}
 use Rattle.adb_top.proofs.replay.drain.Given as goal
 

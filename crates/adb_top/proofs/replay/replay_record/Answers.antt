@@ -15,14 +15,14 @@ pub returns-in_err-keep-in-Ok-clause-replays : goal.returns-in_err-keep-in-Ok-cl
 returns-in_err-keep-in-Ok-clause-replays g c =
     let passed = err_from_is_err_and c.from_residual.result c.from_residual.ensures.1 in
     rw (passed.1, passed.2) (λ h drained.
-    let m = made c.args.machine.now c.apply.new.self c.args.offset c.args.entry.now h c.requires (sym c.is_hand_out.ensures ∙ c.if-is_hand_out.false)
+    let m = made c.args.machine.now c.apply.new.self c.args.entry.now h (sym c.is_hand_out.ensures ∙ c.if-is_hand_out.false)
     c.in-Ok.ensures drained in
     not_kept c.args.offset c.args.entry.now h c.apply.new.self c.apply.new.self _ _ c.in_err-keep-in-Ok.field-0.0 m c.in_err-keep-in-Ok.ensures.loss
     c.in_err-keep-in-Ok.ensures.kept)
 
 pub returns-in_ok-keep-in-Ok-clause-replays : goal.returns-in_ok-keep-in-Ok-clause-replays
 returns-in_ok-keep-in-Ok-clause-replays g c = λ h drained.
-    let m = made c.args.machine.now c.apply.new.self c.args.offset c.args.entry.now h c.requires (sym c.is_hand_out.ensures ∙ c.if-is_hand_out.false)
+    let m = made c.args.machine.now c.apply.new.self c.args.entry.now h (sym c.is_hand_out.ensures ∙ c.if-is_hand_out.false)
     c.in-Ok.ensures drained in
     kept_and_drained c.args.offset c.args.entry.now h c.apply.new.self c.drain.new.machine _ _ _ c.drain.result m c.in_ok-keep-in-Ok.ensures.kept
     c.drain.ensures.loss
