@@ -121,49 +121,59 @@ draining_stopped h before now holds new d = record {
   to = subst (λ (all : History). IsFrontOf d.done all) (sym d.ends) (drain_front d.done);
 }
 
--- ---- by the law of draining
-module _ (drains : (h : History) → IsLegal h → IsDrainedFrom h) where
-  -- it was kept
-  pub draining_on : (h : History) (before mid after : Out) (holds new : Kept) (e : Entry) → Hands holds (Some e) new
-      → KeepsEntry (Ok tt) e mid after → Draining h before mid holds → Draining h before after new
-  draining_on h before mid after holds new e hands keeps d =
-      let n = hands d.done d.lawful in
-      record {
-        done = e ∷ d.done;
-        lawful = n.1;
-        ends = d.ends ∙ (drains d.done d.lawful.legal).next e (sym n.0);
-        kept = λ had k. entry_kept e d.done had mid after keeps (d.kept had k);
-      }
+-- there is none
+pub draining_over : (h : History) (before now : Out) (holds new : Kept) → ((h : History) → IsLegal h → IsDrainedFrom h) → Hands holds None new
+    → Draining h before now holds → Drains (Ok tt) h before now new
+draining_over h before now holds new drains hands d =
+    let n = hands d.done d.lawful in
+    let same : drain_all h ≡ d.done = d.ends ∙ (drains d.done d.lawful.legal).over (sym n.0) in
+    record {
+      whole = d.done;
+      on = record { legal = d.lawful.legal; kept = d.kept };
+      to = (sym same, record { lawful = n.1; rests = sym n.0 });
+    }
 
-  -- there is none
-  pub draining_over : (h : History) (before now : Out) (holds new : Kept) → Hands holds None new → Draining h before now holds → Drains (Ok tt) h before now new
-  draining_over h before now holds new hands d =
-      let n = hands d.done d.lawful in
-      let same : drain_all h ≡ d.done = d.ends ∙ (drains d.done d.lawful.legal).over (sym n.0) in
-      record {
-        whole = d.done;
-        on = record { legal = d.lawful.legal; kept = d.kept };
-        to = (sym same, record { lawful = n.1; rests = sym n.0 });
-      }
+-- a hand-out, and what is held and kept before it and after it
+pub record HandOut : Type 0 where
+  pub held : Kept
+  pub kept : Out
+  pub entry : Entry
+  pub held_then : Kept
+  pub kept_then : Out
+
+module _ (h : History) (before : Out) (out : HandOut) (drains : (h : History) → IsLegal h → IsDrainedFrom h)
+    (hands : Hands out.held (Some out.entry) out.held_then) (d : Draining h before out.kept out.held) where
+  n : HandsNext d.done (Some out.entry) out.held_then
+  n = hands d.done d.lawful
+
+  next : drain_all h ≡ drain_all (out.entry ∷ d.done)
+  next = d.ends ∙ (drains d.done d.lawful.legal).next out.entry (sym n.0)
+
+  -- it was kept
+  pub draining_on : KeepsEntry (Ok tt) out.entry out.kept out.kept_then → Draining h before out.kept_then out.held_then
+  draining_on keeps = record {
+    done = out.entry ∷ d.done;
+    lawful = n.1;
+    ends = next;
+    kept = λ had k. entry_kept out.entry d.done had out.kept out.kept_then keeps (d.kept had k);
+  }
+
+  part : (whole : History) → (whole ≡ d.done) ⊎ (whole ≡ out.entry ∷ d.done) → IsFrontOf whole (drain_all h)
+  part whole (inl same) = subst (λ (w : History). IsFrontOf w (drain_all h)) (sym same)
+      (subst (λ (all : History). IsFrontOf d.done all) (sym d.ends) (drain_front d.done))
+  part whole (inr same) = subst (λ (w : History). IsFrontOf w (drain_all h)) (sym same)
+      (subst (λ (all : History). IsFrontOf (out.entry ∷ d.done) all) (sym next) (drain_front (out.entry ∷ d.done)))
 
   -- it was not kept
-  pub draining_lost : (h : History) (before mid after : Out) (holds new last : Kept) (e : Entry) (why : Stop) → Hands holds (Some e) new
-      → IsLoss (Err why) → KeepsEntry (Err why) e mid after → Draining h before mid holds
-      → Drains (Err why) h before after last
-  draining_lost h before mid after holds new last e why hands loss keeps d =
-      let n = hands d.done d.lawful in
-      let l = loses why e d.done mid after n.1.legal loss keeps in
+  pub draining_lost : (why : Stop) → IsLoss (Err why) → KeepsEntry (Err why) out.entry out.kept out.kept_then
+      → Drains (Err why) h before out.kept_then out.held_then
+  draining_lost why loss keeps =
+      let l = loses why out.entry d.done out.kept out.kept_then n.1.legal loss keeps in
       record {
         whole = l.whole;
-        on = goes_on (Err why) h d.done l.whole before mid after d.kept l.on;
-        to = subst (λ (all : History). IsFrontOf l.whole all) (sym d.ends) (part n.0 l.whole l.at);
+        on = goes_on (Err why) h d.done l.whole before out.kept out.kept_then d.kept l.on;
+        to = part l.whole l.at;
       }
-    where
-      part : Some e ≡ next_out (state d.done) → (whole : History) → (whole ≡ d.done) ⊎ (whole ≡ e ∷ d.done) → IsFrontOf whole (drain_all d.done)
-      part next whole (inl same) = subst (λ (w : History). IsFrontOf w (drain_all d.done)) (sym same) (drain_front d.done)
-      part next whole (inr same) =
-          subst (λ (w : History). IsFrontOf w (drain_all d.done)) (sym same)
-          (subst (λ (all : History). IsFrontOf (e ∷ d.done) all) (sym ((drains d.done d.lawful.legal).next e (sym next))) (drain_front (e ∷ d.done)))
 
 -- what a loop of hand-outs keeps
 pub record HandingOut (start now : Kept) (before after : Out) (counted : Type 0) : Type 0 where

@@ -3,7 +3,7 @@ use Rattle.std.proofs.Common.{ℕ, ◌≡◌, Bool, true, false, cond, ◌∷◌
 use Rattle.std.specs.Prelude.{not}
 use Rattle.adb_capture.specs.declared.entry.Entry.{Entry}
 use Rattle.adb_capture.specs.declared.entry.Entry.TheVariants.{Join, Enter, Read, End, Bound, Attach, Recv, Detach, Put, Send}
-use Rattle.adb_history.specs.Machine.{History, state}
+use Rattle.adb_history.specs.Machine.{History, state, IsLegal}
 use Rattle.adb_history.specs.Kept.{Kept, IsLawful}
 use Rattle.adb_history.specs.Drained.{drain_all, drained_after}
 use Rattle.adb_history.specs.Accepted.{refusal_of, is_input}
@@ -25,27 +25,9 @@ input_of e hand = flip (is_input e) hand
     flip true e = refl
     flip false e = cc
 
--- An entry was made of a drained history.
-pub record Made (e : Entry) (h : History) (now : Kept) : Type 0 where
-  pub none : refusal_of (state h) e ≡ None
-  pub lawful : IsLawful now (e ∷ h)
-  pub input : is_input e ≡ true
-  pub after : history_after e h ≡ drain_all (e ∷ h)
-
 -- a machine made an entry, or did not
 abbrev pub AppliesNow : Kept → Entry → Result (Unit {0}) machine.Refused → Kept → Type 0
 AppliesNow holds e result new = (h : History) → IsLawful holds h → Applies h e result new
-
-pub made : (old now : Kept) (e : Entry) (h : History) → not (is_input e) ≡ false → AppliesNow old e (Ok tt) now → IsDrained old h → Made e h now
-made old now e h hand applies drained =
-    let a = applies h drained.lawful in
-    let input = input_of e hand in
-    record {
-      none = a.0;
-      lawful = subst (λ (b : Bool). IsLawful now (cond b (e ∷ h) h)) input a.1;
-      input = input;
-      after = ap (λ b. cond b (drained_after h e) h) input;
-    }
 
 -- a hand-out that was recorded is passed over
 passed : (e : Entry) (h : History) → not (is_input e) ≡ true → (refusal_of (state h) e ≡ None) × (history_after e h ≡ h)
@@ -60,57 +42,71 @@ passed (Attach n kind serial) h hand = cc
 passed (Recv n bytes) h hand = cc
 passed (Detach n cause) h hand = cc
 
-pub passed_over : (offset : ℕ) (e : Entry) (h : History) (holds : Kept) (out : Out) → not (is_input e) ≡ true → IsDrained holds h
-    → ReplaysEntry (Ok tt) offset e h out out holds
-passed_over offset e h holds out hand drained =
-    let p = passed e h hand in
-    record {
-      whole = h;
-      on = record { legal = drained.lawful.legal; kept = λ had k. k };
-      gives = (p.0, sym p.1, drained);
-    }
+module _ (offset : ℕ) (e : Entry) (h : History) where
+  pub passed_over : (holds : Kept) (out : Out) → not (is_input e) ≡ true → IsDrained holds h → ReplaysEntry (Ok tt) offset e h out out holds
+  passed_over holds out hand drained =
+      let p = passed e h hand in
+      record {
+        whole = h;
+        on = record { legal = drained.lawful.legal; kept = λ had k. k };
+        gives = (p.0, sym p.1, drained);
+      }
 
--- an entry was not made
-pub not_made : (offset : ℕ) (e : Entry) (h : History) (holds new : Kept) (out : Out) (why : machine.Refused) → AppliesNow holds e (Err why) new
-    → IsDrained holds h → ReplaysEntry (Err (stop_at offset why)) offset e h out out new
-not_made offset e h holds new out why applies drained = go why (applies h drained.lawful)
-  where
-    go : (why : machine.Refused) → Applies h e (Err why) new → ReplaysEntry (Err (stop_at offset why)) offset e h out out new
-    go (refused.Because reason) a = record { whole = h; on = record { legal = drained.lawful.legal; kept = λ had k. k }; gives = (record { at = refl; because = a }, refl) }
-    go refused.OutOfMemory a = record { whole = h; on = record { legal = drained.lawful.legal; kept = λ had k. k }; gives = inl refl }
+  -- an entry was not made
+  pub not_made : (new : Kept) (out : Out) (why : machine.Refused) → IsLegal h → Applies h e (Err why) new
+      → ReplaysEntry (Err (stop_at offset why)) offset e h out out new
+  not_made new out (refused.Because reason) legal a =
+      record { whole = h; on = record { legal = legal; kept = λ had k. k }; gives = (record { at = refl; because = a }, refl) }
+  not_made new out refused.OutOfMemory legal a = record { whole = h; on = record { legal = legal; kept = λ had k. k }; gives = inl refl }
 
--- how far an entry that was made came
-made_reached : (e : Entry) (h : History) (now : Kept) → Made e h now → (whole : History) → IsFrontOf whole (drain_all (e ∷ h)) → IsReached e h whole
-made_reached e h now m whole front = inr (m.none, m.input, front)
+  -- An entry was made.
+  pub record Made (now : Kept) : Type 0 where
+    pub none : refusal_of (state h) e ≡ None
+    pub lawful : IsLawful now (e ∷ h)
+    pub input : is_input e ≡ true
+    pub after : history_after e h ≡ drain_all (e ∷ h)
 
-gives_part : (why : Stop) (offset : ℕ) (e : Entry) (h whole : History) (new : Kept) → IsLoss (Err why) → IsReached e h whole
-    → EntryGives (Err why) offset e h whole new
-gives_part ReadFault offset e h whole new loss reached = absurd loss
-gives_part WriteFault offset e h whole new loss reached = reached
-gives_part OutOfMemory offset e h whole new loss reached = reached
-gives_part (Refused why) offset e h whole new loss reached = absurd loss
+  pub made : (now : Kept) → not (is_input e) ≡ false → Applies h e (Ok tt) now → Made now
+  made now hand a =
+      let input = input_of e hand in
+      record {
+        none = a.0;
+        lawful = subst (λ (b : Bool). IsLawful now (cond b (e ∷ h) h)) input a.1;
+        input = input;
+        after = ap (λ b. cond b (drained_after h e) h) input;
+      }
 
--- it was made, and not kept
-pub not_kept : (offset : ℕ) (e : Entry) (h : History) (now new : Kept) (before after : Out) (why : Stop) → Made e h now → IsLoss (Err why)
-    → KeepsEntry (Err why) e before after → ReplaysEntry (Err why) offset e h before after new
-not_kept offset e h now new before after why m loss keeps =
-    let l = loses why e h before after m.lawful.legal loss keeps in
-    record { whole = l.whole; on = l.on; gives = gives_part why offset e h l.whole new loss (reached l.whole l.at) }
-  where
-    reached : (whole : History) → (whole ≡ h) ⊎ (whole ≡ e ∷ h) → IsReached e h whole
-    reached whole (inl same) = inl same
-    reached whole (inr same) = made_reached e h now m whole (subst (λ (w : History). IsFrontOf w (drain_all (e ∷ h))) (sym same) (drain_front (e ∷ h)))
+  -- how far it came
+  made_reached : (now : Kept) → Made now → (whole : History) → IsFrontOf whole (drain_all (e ∷ h)) → IsReached e h whole
+  made_reached now m whole front = inr (m.none, m.input, front)
 
--- it was kept, and what was due then was handed out, or a part of it
-pub kept_and_drained : (offset : ℕ) (e : Entry) (h : History) (now new : Kept) (before mid after : Out) (result : Result (Unit {0}) Stop)
-    → Made e h now → KeepsEntry (Ok tt) e before mid
-    → IsLoss result → Drains result (e ∷ h) mid after new → ReplaysEntry result offset e h before after new
-kept_and_drained offset e h now new before mid after result m keeps loss d = record {
-  whole = d.whole;
-  on = goes_on result h (e ∷ h) d.whole before mid after (λ had k. entry_kept e h had before mid keeps k) d.on;
-  gives = go result loss d.to;
-}
-  where
-    go : (r : Result (Unit {0}) Stop) → IsLoss r → DrainsTo r (e ∷ h) d.whole new → EntryGives r offset e h d.whole new
-    go (Ok done) l to = (m.none, to.0 ∙ sym m.after, to.1)
-    go (Err why) l to = gives_part why offset e h d.whole new l (made_reached e h now m d.whole to)
+  gives_part : (why : Stop) (whole : History) (new : Kept) → IsLoss (Err why) → IsReached e h whole → EntryGives (Err why) offset e h whole new
+  gives_part ReadFault whole new loss reached = absurd loss
+  gives_part WriteFault whole new loss reached = reached
+  gives_part OutOfMemory whole new loss reached = reached
+  gives_part (Refused why) whole new loss reached = absurd loss
+
+  -- it was not kept
+  pub not_kept : (now : Kept) (before after : Out) (why : Stop) → Made now → IsLoss (Err why) → KeepsEntry (Err why) e before after
+      → ReplaysEntry (Err why) offset e h before after now
+  not_kept now before after why m loss keeps =
+      let l = loses why e h before after m.lawful.legal loss keeps in
+      record { whole = l.whole; on = l.on; gives = gives_part why l.whole now loss (reached l.whole l.at) }
+    where
+      reached : (whole : History) → (whole ≡ h) ⊎ (whole ≡ e ∷ h) → IsReached e h whole
+      reached whole (inl same) = inl same
+      reached whole (inr same) = made_reached now m whole
+          (subst (λ (w : History). IsFrontOf w (drain_all (e ∷ h))) (sym same) (drain_front (e ∷ h)))
+
+  -- it was kept, and what was due then was handed out, or a part of it
+  pub kept_and_drained : (now new : Kept) (mid : Out) {before after : Out} (result : Result (Unit {0}) Stop) → Made now → KeepsEntry (Ok tt) e before mid
+      → IsLoss result → Drains result (e ∷ h) mid after new → ReplaysEntry result offset e h before after new
+  kept_and_drained now new mid {before} {after} result m keeps loss d = record {
+    whole = d.whole;
+    on = goes_on result h (e ∷ h) d.whole before mid after (λ had k. entry_kept e h had before mid keeps k) d.on;
+    gives = go result loss d.to;
+  }
+    where
+      go : (r : Result (Unit {0}) Stop) → IsLoss r → DrainsTo r (e ∷ h) d.whole new → EntryGives r offset e h d.whole new
+      go (Ok done) l to = (m.none, to.0 ∙ sym m.after, to.1)
+      go (Err why) l to = gives_part why d.whole new l (made_reached now m d.whole to)

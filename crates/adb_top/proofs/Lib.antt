@@ -1,5 +1,6 @@
 pub mod Outputs
 pub mod Accepting
+pub mod Remaining
 pub mod Drains
 pub mod Entries
 pub mod Records

@@ -1,5 +1,4 @@
 pub mod Machine
-pub mod Owed
 pub mod Stop
 pub mod Replay
 pub mod Keeping

@@ -1,12 +1,11 @@
 //! The machine: what each entry makes of the history so far, and what is to be handed out next.
 
-ghost use Rattle.std.specs.Prelude.{◌≡◌, ◌<◌, false, IfOk, IfSome};
+ghost use Rattle.std.specs.Prelude.{◌≡◌, false, IfOk, IfSome};
 ghost use Rattle.adb_capture.specs.Records.{HasRecord};
 ghost use Rattle.adb_history.specs.Rows.{start};
 ghost use Rattle.adb_history.specs.Machine.{History};
 ghost use Rattle.adb_history.specs.Kept.{kept, IsLawful};
 ghost use Rattle.adb_top.specs.Machine.{Applies, HandsNext};
-ghost use Rattle.adb_top.specs.Owed.{owed_in};
 ghost use Rattle.adb_top.specs.Stop.{stop_at};
 
 use crate::stop::Stop;
@@ -88,7 +87,6 @@ impl Machine {
         ensures next { IfOk result (λ out. (h : History) → IsLawful self.old h
             → HandsNext h out self.new) }
         ensures form { IfOk result (λ out. IfSome out HasRecord) }
-        ensures fewer { IfOk result (λ out. IfSome out (λ e. owed_in self.new < owed_in self.old)) }
     {
         rt.exit(1)
     }

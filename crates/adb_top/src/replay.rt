@@ -7,7 +7,7 @@ ghost use Rattle.adb_capture.specs.Records.{HasRecord};
 ghost use Rattle.adb_history.specs.Machine.{History};
 ghost use Rattle.adb_history.specs.Kept.{IsLawful};
 ghost use Rattle.adb_history.specs.Accepted.{is_input};
-ghost use Rattle.adb_top.specs.Replay.{IsDrained, Drains, ReplaysEntry, Replays, moment};
+ghost use Rattle.adb_top.specs.Replay.{IsHeld, IsDrained, Drains, ReplaysEntry, Replays, moment};
 ghost use Rattle.adb_top.specs.Replayed.{ReplaysCapture};
 ghost use Rattle.adb_top.specs.Keeping.{KeepsEntry, CountsReads, IsLoss, is_write_fault, is_read_fault};
 
@@ -78,6 +78,7 @@ fn replay_entry<K: Sink>(
     entry: Entry,
 ) -> Result<(), Stop>
     requires form { HasRecord entry }
+    requires held { IsHeld machine.old }
     requires running { machine.old.stopped ≡ false }
     ensures replays { (h : History) → IsDrained machine.old h → ReplaysEntry result offset entry h
         (K.written sink.old, output.old) (K.written sink.new, output.new) machine.new }
@@ -98,6 +99,7 @@ fn replay_record<K: Sink>(
     entry: &Entry,
 ) -> Result<(), Stop>
     requires form { HasRecord entry.now }
+    requires held { IsHeld machine.old }
     requires running { machine.old.stopped ≡ false }
     ensures replays { (h : History) → IsDrained machine.old h
         → ReplaysEntry result offset entry.now h
@@ -125,6 +127,7 @@ fn drain<K: Sink>(
     output: &mut Output,
     sink: &mut K,
 ) -> Result<(), Stop>
+    requires held { IsHeld machine.old }
     ensures drains { (h : History) → IsLawful machine.old h → Drains result h
         (K.written sink.old, output.old) (K.written sink.new, output.new) machine.new }
     ensures loss { IsLoss result }
