@@ -12,7 +12,6 @@ use crate::status::Status;
 use crate::words::is_replay;
 use adb_outside::{Sink, Source};
 use std::alloc::Global;
-use std::process::Abort;
 
 /// Does what the words behind the program's name say. The one command is `replay`: it reads a
 /// capture from the source, makes its entries in order, hands out all that is due after each, and
@@ -22,7 +21,6 @@ use std::process::Abort;
 /// Each status but Done writes its one line to the note. Where that write fails the status is
 /// WriteFault, whose own line is tried once.
 pub fn run<S: Source, K: Sink, N: Sink>(
-    rt: &impl Abort,
     alloc: Global,
     words: &[String],
     source: &mut S,
@@ -82,7 +80,7 @@ pub fn run<S: Source, K: Sink, N: Sink>(
     if !is_replay(words) {
         return say_usage(note);
     }
-    match replay(rt, alloc, source, sink) {
+    match replay(alloc, source, sink) {
         Ok(()) => Status::Done,
         Err(stop) => say_stop(alloc, note, stop),
     }

