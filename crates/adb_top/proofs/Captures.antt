@@ -24,7 +24,7 @@ use Rattle.adb_top.specs.Replayed.{WritesText, IsSpelled, SpellsHistory, GrowsSp
 use Rattle.adb_top.specs.declared.stop.Stop.{Stop}
 use Rattle.adb_top.specs.declared.stop.Stop.TheVariants.{ReadFault, WriteFault, OutOfMemory, Refused}
 use Rattle.adb_top.proofs.Drains.{capture_more}
-use Rattle.adb_top.proofs.Records.{split_front}
+use Rattle.adb_top.proofs.RecordEnds.{split_front}
 
 -- the records of a history that goes on begin with those that it had
 written_adds : (later done : History) → written_of (later ++ done) ≡ written_of done ++ records_of (reverse later)

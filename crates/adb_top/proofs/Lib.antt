@@ -4,6 +4,7 @@ pub mod Remaining
 pub mod Drains
 pub mod Entries
 pub mod Records
+pub mod RecordEnds
 pub mod Captures
 pub mod Runs
 pub mod Lines
