@@ -3,7 +3,6 @@ use Rattle.std.proofs.Common.{ℕ, ◌≡◌, List, [], ◌∷◌, ◌++◌, rev
 use Rattle.std.proofs.Common.{inr, Bool, true, false, ◌<◌, ◌≤◌}
 use Rattle.std.specs.Prelude.{◌||◌}
 use Rattle.std.proofs.lemmas.List.{append_assoc, append-nil, reverse-append}
-use Rattle.adb_outside.specs.Outside.{Rises, Counted}
 use Rattle.adb_capture.specs.Records.{record_of, records_of, magic}
 use Rattle.adb_capture.specs.declared.entry.Entry.{Entry}
 use Rattle.adb_history.specs.Machine.{History, state, IsLegal}
@@ -16,42 +15,6 @@ use Rattle.adb_top.specs.Replay.{written_of, capture_of, IsFrontOf, GoesOn, Drai
 use Rattle.adb_top.specs.declared.stop.Stop.{Stop}
 use Rattle.adb_top.specs.declared.stop.Stop.TheVariants.{ReadFault, WriteFault, OutOfMemory, Refused}
 use Rattle.adb_top.proofs.Accepting.{drain_adds}
-
--- a fault that comes behind others
-rises_on : (x y z : ℕ) → x ≤ y → y ≤ z → Rises x y → Rises x z
-rises_on x y z a b (inl less) = inl (omega (arith, less, b))
-rises_on x y z a b (inr last) = split (cases y z)
-  where
-    cases : (m n : ℕ) → (m < n) ⊎ (n ≤ m)
-    cases m n = grind arith
-
-    split : (y < z) ⊎ (z ≤ y) → Rises x z
-    split (inl more) = inl (omega (arith, more, a))
-    split (inr same) = inr (same_number ∙ last)
-      where
-        same_number : z ≡ y
-        same_number = omega (arith, same, b)
-
--- no call was made
-pub counts_first : (a : Type 0) (x : ℕ) → Counted a a x x false
-counts_first a x = record { count = omega arith; fault = λ e. (let clash : false ≡ true = e in cc); stands = λ e. refl; keeps = λ s. s; steady = λ s. refl }
-
--- counts of two parts
-pub counts_then : (a b c : Type 0) (x y z : ℕ) (f g : Bool) → Counted a b x y f → Counted b c y z g → Counted a c x z (f || g)
-counts_then a b c x y z true g first second = record {
-  count = omega (arith, first.count, second.count);
-  fault = λ e. rises_on x y z first.count second.count (first.fault refl);
-  stands = λ e. cc;
-  keeps = λ s. second.keeps (first.keeps s);
-  steady = λ s. (let clash : true ≡ false = first.steady s in cc);
-}
-counts_then a b c x y z false g first second = record {
-  count = omega (arith, first.count, second.count);
-  fault = λ e. subst (λ (n : ℕ). Rises n z) (first.stands refl) (second.fault e);
-  stands = λ e. second.stands e ∙ first.stands refl;
-  keeps = λ s. second.keeps (first.keeps s);
-  steady = λ s. second.steady (first.keeps s);
-}
 
 -- an entry more
 pub written_more : (e : Entry) (h : History) → written_of (e ∷ h) ≡ written_of h ++ record_of e

@@ -1,4 +1,5 @@
 pub mod Outputs
+pub mod Counting
 pub mod Accepting
 pub mod Remaining
 pub mod Drains

@@ -2,8 +2,9 @@ use Rattle.std.proofs.Common.{Option, subst}
 use Rattle.std.proofs.lemmas.Result.{err_from_is_err_and}
 use Rattle.adb_capture.specs.declared.entry.Entry.{Entry}
 use Rattle.adb_top.specs.Keeping.{Out}
+use Rattle.adb_top.proofs.Counting.{counts_then}
 use Rattle.adb_top.proofs.Remaining.{hands_fewer}
-use Rattle.adb_top.proofs.Drains.{Hands, HandOut, draining_on, draining_over, draining_stopped, draining_lost, counts_then}
+use Rattle.adb_top.proofs.Drains.{Hands, HandOut, draining_on, draining_over, draining_stopped, draining_lost}
 use Rattle.adb_top.proofs.replay.drain.Goals as goal
 
 pub returns-in_err-entry-clause-drains : goal.returns-in_err-entry-clause-drains
@@ -42,7 +43,8 @@ loop-entry-preserved g c =
     let hands = subst (λ (out : Option Entry). Hands c.loop-entry.machine out c.hand_next.new.self) c.in-Some.is c.in_ok-entry.ensures.next in
     record {
       draining = λ h lawful. draining_on h before out c.draining_ends.ensures hands (c.loop-entry.invariant.draining h lawful) c.in_ok-keep.ensures.kept;
-      counts = counts_then _ _ _ _ _ _ _ _ c.loop-entry.invariant.counts c.in_ok-keep.ensures.counts;
+      counts = counts_then g.K.Sink.steady g.K.Sink.faults c.args.sink.now c.loop-entry.sink c.keep.new.sink {g = false}
+          c.loop-entry.invariant.counts c.in_ok-keep.ensures.counts;
     }
 
 pub loop-entry-smaller : goal.loop-entry-smaller
