@@ -85,7 +85,7 @@ Reaches (Err WriteFault) whole a = IsFrontOf whole (drained_from [] a.inputs)
 Reaches (Err OutOfMemory) whole a = IsFrontOf whole (drained_from [] a.inputs)
 Reaches (Err (Refused why)) whole a = drained_from [] a.inputs ≡ whole
 
--- At the end nothing is left of a source whose capture holds no kill.
+-- Where the entries that a capture gives make no kill, nothing is left of its source.
 abbrev pub IsReadWhole : Accepted → Option (List ℕ) → Type 0
 IsReadWhole a left = (state (drained_from [] a.inputs)).stopped ≡ false → left ≡ Some []
 

@@ -92,7 +92,7 @@ abbrev pub CompletesBy : Status → Option Refusal → Type 0
 CompletesBy status None = (status ≡ Done) ⊎ (status ≡ OutOfMemory)
 CompletesBy status (Some why) = (status ≡ BadCapture) ⊎ (status ≡ OutOfMemory)
 
--- A capture that is whole is Done, and one that is refused is BadCapture, unless memory ran out.
+-- A capture of which nothing is refused is Done, and one that is refused is BadCapture, unless memory ran out.
 abbrev pub Completes : Status → Option (List ℕ) → Type 0
 Completes status left =
     (capture : List ℕ) → left ≡ Some capture → CompletesBy status (accepted capture).refused

@@ -70,7 +70,7 @@ pub fn run<S: Source, K: Sink, N: Sink>(
     ensures steady { S.steady source.old → K.steady sink.old → N.steady note.old
         → IsFaultless result }
 
-    // Where no count rose, a whole capture is Done and a refused one is BadCapture, but for memory.
+    // Where no count rose, a refused capture is BadCapture and any other is Done, but for memory.
     ensures complete { IsCommand words.now
         → ¬ Rose S.faults source.old source.new
         → ¬ Rose K.faults sink.old sink.new

@@ -1,4 +1,4 @@
-use Rattle.std.proofs.Common.{Option, subst}
+use Rattle.std.proofs.Common.{false, Option, subst}
 use Rattle.std.proofs.lemmas.Result.{err_from_is_err_and}
 use Rattle.adb_capture.specs.declared.entry.Entry.{Entry}
 use Rattle.adb_top.specs.Keeping.{Out}
