@@ -1,13 +1,12 @@
 -- Handing out all that is due.
-use Rattle.std.proofs.Common.{ℕ, ◌≡◌, List, [], ◌∷◌, ◌++◌, reverse, Option, Some, None, Result, Ok, Err, refl, sym, ◌∙◌, ap, subst, arith, ◌⊎◌, inl}
-use Rattle.std.proofs.Common.{inr, Bool, true, false, ◌<◌, ◌≤◌}
-use Rattle.std.specs.Prelude.{◌||◌}
+use Rattle.std.proofs.Common.{ℕ, ◌≡◌, List, [], ◌∷◌, ◌++◌, reverse, Option, Some, None, Result, Ok, Err, refl, sym, ◌∙◌, ap, subst, ◌⊎◌, inl}
+use Rattle.std.proofs.Common.{inr}
 use Rattle.std.proofs.lemmas.List.{append_assoc, append-nil, reverse-append}
 use Rattle.adb_capture.specs.Records.{record_of, records_of, magic}
 use Rattle.adb_capture.specs.declared.entry.Entry.{Entry}
 use Rattle.adb_history.specs.Machine.{History, state, IsLegal}
 use Rattle.adb_history.specs.Kept.{Kept, IsLawful}
-use Rattle.adb_history.specs.Drained.{next_out, owed, drain_all}
+use Rattle.adb_history.specs.Drained.{owed, drain_all}
 use Rattle.adb_history.specs.Settling.{IsDrainedFrom}
 use Rattle.adb_top.specs.Machine.{HandsNext}
 use Rattle.adb_top.specs.Keeping.{Out, Keeps, KeepsEntry, LosesRest, IsLoss}

@@ -53,7 +53,7 @@ replaying_over {first} {now} {holds} new same gives opened r = record {
   on = record { legal = r.drained.lawful.legal; kept = λ had k. subst (λ (out : Out). Keeps had (capture_of r.done) out) same (r.kept had k) };
   reaches = λ before was. let c = comes r before was in
       c.inputs ∙ (ap (λ b. drained_from r.done (accept_records now.reader.offset b r.done).inputs) (over c).0
-          ∙ ap (drained_from r.done) (nothing_given (state r.done).stopped None));
+      ∙ ap (drained_from r.done) (nothing_given (state r.done).stopped None));
   consumes = λ is before was. cc;
   ends = λ before was. let c = comes r before was in (
     c.refused ∙ (ap (λ b. (accept_records now.reader.offset b r.done).refused) (over c).0 ∙ nothing_refused (state r.done).stopped),

@@ -1,6 +1,6 @@
 -- Replaying the records of a reader: what has come so far, and what is still ahead.
 use Rattle.std.proofs.Common.{ℕ, ◌≡◌, Bool, true, false, cond, List, [], ◌++◌, take, drop, Option, Some, None, Result, Ok, refl, sym, ◌∙◌, ap, subst}
-use Rattle.std.specs.Prelude.{option_and_then, length}
+use Rattle.std.specs.Prelude.{length}
 use Rattle.std.proofs.lemmas.List.{append_assoc, take-append-drop, take_at, drop_at, length-take-le}
 use Rattle.adb_capture.specs.Records.{entry_in, offset_after}
 use Rattle.adb_capture.proofs.Fronts.{framing}

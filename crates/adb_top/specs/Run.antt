@@ -1,5 +1,5 @@
 -- What a run leaves, by its status.
-use Rattle.std.specs.Prelude.{ℕ, ◌≡◌, ◌⊎◌, true, false, List, [], ◌++◌, Option, Some, None, String}
+use Rattle.std.specs.Prelude.{ℕ, ◌≡◌, ◌⊎◌, true, false, List, ◌++◌, Option, Some, None, String}
 use Rattle.adb_history.specs.Accepted.{Accepted, accepted, replayed}
 use Rattle.adb_history.specs.declared.refusal.Refusal.{Refusal}
 use Rattle.adb_top.specs.Words.{is_replay}
