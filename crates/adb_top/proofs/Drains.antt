@@ -26,9 +26,9 @@ written_more e h = ap records_of (reverse-append (e ∷ []) h) ∙ two (reverse 
 pub capture_more : (e : Entry) (h : History) → capture_of h ++ record_of e ≡ capture_of (e ∷ h)
 capture_more e h = append_assoc magic (written_of h) (record_of e) ∙ ap (λ bytes. magic ++ bytes) (sym (written_more e h))
 
-pub entry_kept : (e : Entry) (h : History) (had : List ℕ) (before after : Out) → KeepsEntry (Ok tt) e before after → Keeps had (capture_of h) before
+pub entry_kept : (e : Entry) (h : History) (had : List ℕ) {before after : Out} → KeepsEntry (Ok tt) e before after → Keeps had (capture_of h) before
     → Keeps had (capture_of (e ∷ h)) after
-entry_kept e h had before after keeps k = subst (λ (t : List ℕ). Keeps had t after) (capture_more e h) (keeps had (capture_of h) k)
+entry_kept e h had {after = after} keeps k = subst (λ (t : List ℕ). Keeps had t after) (capture_more e h) (keeps had (capture_of h) k)
 
 -- What an entry that was not kept leaves: the history without it, or with it, where a front of its record may have gone out.
 pub record Loses (why : Stop) (e : Entry) (h : History) (before after : Out) : Type 0 where
@@ -36,26 +36,26 @@ pub record Loses (why : Stop) (e : Entry) (h : History) (before after : Out) : T
   pub at : (whole ≡ h) ⊎ (whole ≡ e ∷ h)
   pub on : GoesOn (Err why) h whole before after
 
-pub loses : (why : Stop) (e : Entry) (h : History) (before after : Out) → IsLegal (e ∷ h) → IsLoss (Err why) → KeepsEntry (Err why) e before after
+pub loses : (why : Stop) (e : Entry) (h : History) {before after : Out} → IsLegal (e ∷ h) → IsLoss (Err why) → KeepsEntry (Err why) e before after
     → Loses why e h before after
-loses ReadFault e h before after legal loss keeps = absurd loss
-loses WriteFault e h before after legal loss keeps = record {
+loses ReadFault e h {after = after} legal loss keeps = absurd loss
+loses WriteFault e h {after = after} legal loss keeps = record {
   whole = e ∷ h;
   at = inr refl;
   on = record { legal = legal; kept = λ had k. subst (λ (t : List ℕ). LosesRest had t after) (capture_more e h) (keeps had (capture_of h) k) };
 }
-loses OutOfMemory e h before after legal loss keeps = record {
+loses OutOfMemory e h {after = after} legal loss keeps = record {
   whole = h;
   at = inl refl;
   on = record { legal = legal.0; kept = λ had k. keeps had (capture_of h) k };
 }
-loses (Refused why) e h before after legal loss keeps = absurd loss
+loses (Refused why) e h {after = after} legal loss keeps = absurd loss
 
 -- what was kept up to a history, and on from there
-pub goes_on : (result : Result (Unit {0}) Stop) (h now whole : History) (before mid after : Out)
+pub goes_on : {result : Result (Unit {0}) Stop} {h now whole : History} {before mid after : Out}
     → ((had : List ℕ) → Keeps had (capture_of h) before → Keeps had (capture_of now) mid)
     → GoesOn result now whole mid after → GoesOn result h whole before after
-goes_on result h now whole before mid after first on = record { legal = on.legal; kept = λ had k. on.kept had (first had k) }
+goes_on first on = record { legal = on.legal; kept = λ had k. on.kept had (first had k) }
 
 -- what hand-outs add to a history
 pub drain_front : (h : History) → IsFrontOf h (drain_all h)
@@ -76,17 +76,18 @@ abbrev pub Hands : Kept → Option Entry → Kept → Type 0
 Hands holds out new = (h : History) → IsLawful holds h → HandsNext h out new
 
 -- no memory for it
-pub draining_stopped : (h : History) (before now : Out) (holds new : Kept) → Draining h before now holds → Drains (Err OutOfMemory) h before now new
-draining_stopped h before now holds new d = record {
+pub draining_stopped : {h : History} {before now : Out} {holds : Kept} (new : Kept) → Draining h before now holds
+    → Drains (Err OutOfMemory) h before now new
+draining_stopped new d = record {
   whole = d.done;
   on = record { legal = d.lawful.legal; kept = d.kept };
   to = subst (λ (all : History). IsFrontOf d.done all) (sym d.ends) (drain_front d.done);
 }
 
 -- there is none
-pub draining_over : (h : History) (before now : Out) (holds new : Kept) → ((h : History) → IsLegal h → IsDrainedFrom h) → Hands holds None new
+pub draining_over : {h : History} {before now : Out} {holds : Kept} (new : Kept) → ((h : History) → IsLegal h → IsDrainedFrom h) → Hands holds None new
     → Draining h before now holds → Drains (Ok tt) h before now new
-draining_over h before now holds new drains hands d =
+draining_over {h} new drains hands d =
     let n = hands d.done d.lawful in
     let same : drain_all h ≡ d.done = d.ends ∙ (drains d.done d.lawful.legal).over (sym n.0) in
     record {
@@ -117,7 +118,7 @@ module _ (h : History) (before : Out) (out : HandOut) (drains : (h : History) �
     done = out.entry ∷ d.done;
     lawful = n.1;
     ends = next;
-    kept = λ had k. entry_kept out.entry d.done had out.kept out.kept_then keeps (d.kept had k);
+    kept = λ had k. entry_kept out.entry d.done had keeps (d.kept had k);
   }
 
   part : (whole : History) → (whole ≡ d.done) ⊎ (whole ≡ out.entry ∷ d.done) → IsFrontOf whole (drain_all h)
@@ -130,10 +131,10 @@ module _ (h : History) (before : Out) (out : HandOut) (drains : (h : History) �
   pub draining_lost : (why : Stop) → IsLoss (Err why) → KeepsEntry (Err why) out.entry out.kept out.kept_then
       → Drains (Err why) h before out.kept_then out.held_then
   draining_lost why loss keeps =
-      let l = loses why out.entry d.done out.kept out.kept_then n.1.legal loss keeps in
+      let l = loses why out.entry d.done n.1.legal loss keeps in
       record {
         whole = l.whole;
-        on = goes_on (Err why) h d.done l.whole before out.kept out.kept_then d.kept l.on;
+        on = goes_on {now = d.done} d.kept l.on;
         to = part l.whole l.at;
       }
 

@@ -25,10 +25,6 @@ input_of e hand = flip (is_input e) hand
     flip true e = refl
     flip false e = cc
 
--- a machine made an entry, or did not
-abbrev pub AppliesNow : Kept → Entry → Result (Unit {0}) machine.Refused → Kept → Type 0
-AppliesNow holds e result new = (h : History) → IsLawful holds h → Applies h e result new
-
 -- a hand-out that was recorded is passed over
 passed : (e : Entry) (h : History) → not (is_input e) ≡ true → (refusal_of (state h) e ≡ None) × (history_after e h ≡ h)
 passed (Put n bytes) h hand = (refl, refl)
@@ -90,7 +86,7 @@ module _ (offset : ℕ) (e : Entry) (h : History) where
   pub not_kept : (now : Kept) (before after : Out) (why : Stop) → Made now → IsLoss (Err why) → KeepsEntry (Err why) e before after
       → ReplaysEntry (Err why) offset e h before after now
   not_kept now before after why m loss keeps =
-      let l = loses why e h before after m.lawful.legal loss keeps in
+      let l = loses why e h m.lawful.legal loss keeps in
       record { whole = l.whole; on = l.on; gives = gives_part why l.whole now loss (reached l.whole l.at) }
     where
       reached : (whole : History) → (whole ≡ h) ⊎ (whole ≡ e ∷ h) → IsReached e h whole
@@ -103,7 +99,7 @@ module _ (offset : ℕ) (e : Entry) (h : History) where
       → IsLoss result → Drains result (e ∷ h) mid after new → ReplaysEntry result offset e h before after new
   kept_and_drained now new mid {before} {after} result m keeps loss d = record {
     whole = d.whole;
-    on = goes_on result h (e ∷ h) d.whole before mid after (λ had k. entry_kept e h had before mid keeps k) d.on;
+    on = goes_on {now = e ∷ h} {mid = mid} (λ had k. entry_kept e h had keeps k) d.on;
     gives = go result loss d.to;
   }
     where

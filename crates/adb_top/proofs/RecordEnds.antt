@@ -231,7 +231,7 @@ pub replaying_lost : {first : Moment} {holds : Kept} (t : Turn) (last : Kept) (w
     → Replays first t.new (Err why)
 replaying_lost {first} {holds} t last why running entry r = record {
   whole = x.whole;
-  on = goes_on (Err why) [] r.done x.whole first.out t.now.out t.new.out r.kept x.on;
+  on = goes_on {now = r.done} r.kept x.on;
   reaches = λ before was. reaches why x.gives before was;
   ends = λ before was. ends why x.gives before was;
   consumes = consumes why x.gives;

@@ -12,7 +12,7 @@ returns-in_err-entry-clause-drains g c =
     let passed = err_from_is_err_and c.from_residual.result c.from_residual.ensures.1 in
     let before : Out = (g.K.Sink.written c.args.sink.now, c.args.output.now) in
     let now : Out = (g.K.Sink.written c.loop-entry.sink, c.loop-entry.output) in
-    rw (passed.1, passed.2) (λ h lawful. draining_stopped h before now c.loop-entry.machine c.hand_next.new.self (c.loop-entry.invariant.draining h lawful))
+    rw (passed.1, passed.2) (λ h lawful. draining_stopped {before = before} {now = now} c.hand_next.new.self (c.loop-entry.invariant.draining h lawful))
 
 pub returns-in_err-keep-clause-drains : goal.returns-in_err-keep-clause-drains
 returns-in_err-keep-clause-drains g c =
@@ -58,6 +58,6 @@ pub returns-clause-drains : goal.returns-clause-drains
 returns-clause-drains g c =
     let before : Out = (g.K.Sink.written c.args.sink.now, c.args.output.now) in
     let now : Out = (g.K.Sink.written c.loop-entry.sink, c.loop-entry.output) in
-    λ h lawful. draining_over h before now c.loop-entry.machine c.hand_next.new.self c.draining_ends.ensures
+    λ h lawful. draining_over {before = before} {now = now} c.hand_next.new.self c.draining_ends.ensures
     (subst (λ (out : Option Entry). Hands c.loop-entry.machine out c.hand_next.new.self) c.in_default.is c.in_ok-entry.ensures.next)
     (c.loop-entry.invariant.draining h lawful)
