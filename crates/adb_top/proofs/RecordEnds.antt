@@ -210,7 +210,8 @@ replaying_stopped {first} {now} {holds} new e same gives running r = go e (λ c 
 -- ---- a record was not replayed to its end
 -- What is reached of all that a capture gives, where a record was not replayed to its end.
 reached_front : {first : Moment} {holds : Kept} (t : Turn) (r : Replaying first t.now holds) → IsRunning r.done → (whole : History)
-    → IsReached t.entry r.done whole → (before : List ℕ) → IsAhead first before → IsFrontOf whole (drained_from [] (accept_records first.reader.offset before []).inputs)
+    → IsReached t.entry r.done whole → (before : List ℕ) → IsAhead first before
+    → IsFrontOf whole (drained_from [] (accept_records first.reader.offset before []).inputs)
 reached_front {first} {holds} t r running whole (inl same) before was =
     subst (λ (h : History). IsFrontOf h (drained_from [] (accept_records first.reader.offset before []).inputs)) (sym same)
     (front_so_far r before was)

@@ -16,11 +16,14 @@ returns-in_err-offset-clause-replays g c =
     c.in_err-offset.ensures.answers (sym c.is_stopped.ensures ∙ c.loop-machine-test.true) c.loop-machine.invariant.replaying)
 
 pub loop-machine-init : goal.loop-machine-init
-loop-machine-init g c = record {
-  replaying = replaying_first (moment c.args.reader.now (g.S.Source.left c.args.source.now) (g.K.Sink.written c.args.sink.now, c.args.output.now)) c.new-machine.result (starts c.new-machine.result c.new-machine.ensures) c.requires.sound c.requires.opened;
-  reads_counted = counts_first g.S.Source.steady g.S.Source.faults c.args.source.now;
-  writes_counted = counts_first g.K.Sink.steady g.K.Sink.faults c.args.sink.now;
-}
+loop-machine-init g c =
+    let first : Moment = moment c.args.reader.now (g.S.Source.left c.args.source.now) (g.K.Sink.written c.args.sink.now, c.args.output.now) in
+    record {
+      replaying = replaying_first first c.new-machine.result (starts c.new-machine.result c.new-machine.ensures)
+          c.requires.sound c.requires.opened;
+      reads_counted = counts_first g.S.Source.steady g.S.Source.faults c.args.source.now;
+      writes_counted = counts_first g.K.Sink.steady g.K.Sink.faults c.args.sink.now;
+    }
 
 pub loop-machine-preserved : goal.loop-machine-preserved
 loop-machine-preserved g c =
