@@ -1,6 +1,3 @@
-pub mod Client
-pub mod Refused
-pub mod Due
 pub mod Machine
 pub mod Stop
 pub mod Replay

@@ -2,7 +2,7 @@ use Rattle.std.proofs.Common.{◌-◌, false}
 use Rattle.adb_capture.specs.declared.limits.TheConstants.{CAPTURE_LIMIT}
 use Rattle.adb_outside.specs.Outside.{Counts}
 use Rattle.adb_top.specs.Replay.{moment}
-use Rattle.adb_top.proofs.Records.{GoingOn}
+use Rattle.adb_top.proofs.RecordEnds.{GoingOn}
 use Rattle.adb_top.proofs.replay.replay_records.Given as goal
 
 abbrev pub invariant-loop-machine : goal.invariant-loop-machine
