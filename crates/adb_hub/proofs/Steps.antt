@@ -248,6 +248,9 @@ some_of max all bytes h = record {
   front = (drop max all, ap (λ (b : List ℕ). b ++ drop max all) h.0 ∙ take-append-drop max all);
 }
 
+pub short_front : (max : ℕ) (all bytes : List ℕ) → IsFront max all (Some bytes) → length bytes ≤ max
+short_front max all bytes h = omega (arith, ap (λ (b : List ℕ). length b) h.0, length-take max all)
+
 pub may_put : (max : ℕ) (s : State) (row : Option Client) (bytes : List ℕ) → IsFront max (answers.offered_to s.devices row) (Some bytes) → MayPut s row bytes
 may_put max s None bytes h = absurd (h.1 (h.0 ∙ take-nil max))
 may_put max s (Some client) bytes h = some_of max (offered s.devices client) bytes h

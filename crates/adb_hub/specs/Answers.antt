@@ -1,5 +1,5 @@
 -- What the calls of a hub answer, over a history that it holds.
-use Rattle.std.specs.Prelude.{ℕ, ◌+◌, ◌-◌, ◌^◌, ◌==◌, ◌≡◌, ◌≢◌, Bool, true, false, if◌then◌else◌, nat_le, List, [], ◌∷◌, length, take, Option, Some, None, Result, Ok, Err, option_map}
+use Rattle.std.specs.Prelude.{ℕ, ◌+◌, ◌-◌, ◌≤◌, ◌<◌, All, ◌^◌, ◌==◌, ◌≡◌, ◌≢◌, Bool, true, false, if◌then◌else◌, nat_le, List, [], ◌∷◌, length, take, Option, Some, None, Result, Ok, Err, option_map}
 use Rattle.adb_outside.specs.Tables.{at}
 use Rattle.adb_registry.specs.Registry.{DeviceTable}
 use Rattle.adb_client.specs.declared.phase.Phase.{Phase}
@@ -65,6 +65,12 @@ HandsOut e max (Some all) handed.Done h old new = ⊥
 HandsOut e max None (handed.Bytes bytes) h old new = ⊥
 HandsOut e max None handed.Nothing h old new = ⊥
 HandsOut e max None handed.Done h old new = new ≡ old
+
+-- What is handed out has no more bytes than are asked for, and they are bytes.
+abbrev pub IsWithin : ℕ → Handed → Type 0
+IsWithin max (handed.Bytes bytes) = (length bytes ≤ max) × All (λ b. b < 256) bytes
+IsWithin max handed.Nothing = Unit {0}
+IsWithin max handed.Done = Unit {0}
 
 abbrev pub handed_as : Option (List ℕ) → Life → Handed
 handed_as (Some bytes) any = handed.Bytes bytes

@@ -1,13 +1,13 @@
 //! Handing out what is due.
 
-ghost use Rattle.std.specs.Prelude.{◌≡◌, ◌<◌, List, All, None, OnErr, option_and_then};
+ghost use Rattle.std.specs.Prelude.{◌≡◌, ◌<◌, List, All, None, IfOk, OnErr, option_and_then};
 ghost use Rattle.adb_capture.specs.declared.entry.Entry.{Entry};
 ghost use Rattle.adb_history.specs.Drained.{next_out};
 ghost use Rattle.adb_history.specs.Kept.{IsLawful};
 ghost use Rattle.adb_history.specs.Machine.{state};
 ghost use Rattle.adb_history.specs.Rows.{State};
 ghost use Rattle.adb_due.specs.NextDue.{owner_of, entry_of};
-ghost use Rattle.adb_hub.specs.Answers.{Hands, offered_to, due_on, handed_as};
+ghost use Rattle.adb_hub.specs.Answers.{Hands, offered_to, due_on, handed_as, IsWithin};
 
 use crate::answers::{Handed, Life};
 use crate::error::HubError;
@@ -22,6 +22,7 @@ impl Hub {
         requires { 0 < max }
         ensures put { (h : List Entry) → IsLawful self.old h → Hands (Entry.Put client) max
             (λ (s : State). offered_to s.devices (s.clients client)) result h self.old self.new }
+        ensures form { IfOk result (IsWithin max) }
         ensures err { OnErr result (self.new ≡ self.old) }
     {
         self.find_client(client)?;
@@ -40,6 +41,7 @@ impl Hub {
         requires { 0 < max }
         ensures sent { (h : List Entry) → IsLawful self.old h → Hands (Entry.Send link) max
             (λ (s : State). due_on (s.links link)) result h self.old self.new }
+        ensures form { IfOk result (IsWithin max) }
         ensures err { OnErr result (self.new ≡ self.old) }
     {
         self.find_link(link)?;

@@ -13,7 +13,7 @@ use Rattle.adb_hub.specs.Refusal.{unless_drawn}
 use Rattle.adb_hub.specs.Answers.{err_if, handed_as, HandsOut}
 use Rattle.adb_hub.specs.Answers as hub
 use Rattle.adb_hub.proofs.Standing.{stands_for, same_kept}
-use Rattle.adb_hub.proofs.Steps.{heard, put_called, may_put, called_sound, called_lawful, called_allowed, bytes_put, nothing_put}
+use Rattle.adb_hub.proofs.Steps.{heard, put_called, may_put, called_sound, called_lawful, called_allowed, bytes_put, nothing_put, short_front}
 use Rattle.adb_hub.proofs.hub.Hub.put.Goals as goal
 
 pub invariant_of-self-in-Some : goal.invariant_of-self-in-Some
@@ -70,3 +70,8 @@ returns-in-None-clause-put c h lawful =
       subst (λ (x : _). HandsOut (Put n) c.args.max (hub.offered_to (state h).devices ((state h).clients n)) x h c.args.self.now (kept (state_of c.put.new.tables))) (sym told)
       (nothing_put c.args.max (state h) ((state h).clients n) (Put n) h c.args.self.now (kept (state_of c.put.new.tables)) (subst (λ (x : State). IsFront c.args.max (answers.offered_to x.devices (x.clients n)) (None)) is front) (same ∙ c.self.view_is))
     )
+
+pub returns-in-Some-clause-form : goal.returns-in-Some-clause-form
+returns-in-Some-clause-form c =
+    let front = subst (λ (o : Option (List ℕ)). IsFront c.args.max (answers.offered_to c.self.inside.tables.devices ((state_of c.self.inside.tables).clients c.args.client)) o) c.in-Some.is c.in_ok-bytes.ensures.bytes in
+    (short_front c.args.max (answers.offered_to c.self.inside.tables.devices ((state_of c.self.inside.tables).clients c.args.client)) c.in-Some.bytes front, subst (All (λ b. b < 256)) c.as_slice.ensures c.are_bytes.ensures)

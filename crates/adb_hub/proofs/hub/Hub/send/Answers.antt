@@ -13,7 +13,7 @@ use Rattle.adb_hub.specs.Refusal.{unless_drawn}
 use Rattle.adb_hub.specs.Answers.{err_if, handed_as, HandsOut}
 use Rattle.adb_hub.specs.Answers as hub
 use Rattle.adb_hub.proofs.Standing.{stands_for, same_kept}
-use Rattle.adb_hub.proofs.Steps.{heard, send_called, may_send, called_sound, called_lawful, called_allowed, bytes_sent, nothing_sent}
+use Rattle.adb_hub.proofs.Steps.{heard, send_called, may_send, called_sound, called_lawful, called_allowed, bytes_sent, nothing_sent, short_front}
 use Rattle.adb_hub.proofs.hub.Hub.send.Goals as goal
 
 pub invariant_of-self-in-Some : goal.invariant_of-self-in-Some
@@ -70,3 +70,8 @@ returns-in-None-clause-sent c h lawful =
       subst (λ (x : _). HandsOut (Send n) c.args.max (hub.due_on ((state h).links n)) x h c.args.self.now (kept (state_of c.send.new.tables))) (sym told)
       (nothing_sent c.args.max ((state h).links n) (Send n) h c.args.self.now (kept (state_of c.send.new.tables)) (subst (λ (x : State). IsFront c.args.max (answers.due_on (x.links n)) (None)) is front) (same ∙ c.self.view_is))
     )
+
+pub returns-in-Some-clause-form : goal.returns-in-Some-clause-form
+returns-in-Some-clause-form c =
+    let front = subst (λ (o : Option (List ℕ)). IsFront c.args.max (answers.due_on ((state_of c.self.inside.tables).links c.args.link)) o) c.in-Some.is c.in_ok-bytes.ensures.bytes in
+    (short_front c.args.max (answers.due_on ((state_of c.self.inside.tables).links c.args.link)) c.in-Some.bytes front, subst (All (λ b. b < 256)) c.as_slice.ensures c.are_bytes.ensures)
