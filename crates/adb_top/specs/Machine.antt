@@ -1,9 +1,9 @@
 -- What the calls of a machine make of a history that it holds.
-use Rattle.std.specs.Prelude.{◌≡◌, if◌then◌else◌, ◌∷◌, Option, Some, None, Result, Ok, Err}
+use Rattle.std.specs.Prelude.{ℕ, ◌≡◌, if◌then◌else◌, ◌∷◌, Option, Some, None, Result, Ok, Err}
 use Rattle.adb_capture.specs.declared.entry.Entry.{Entry}
 use Rattle.adb_history.specs.Machine.{History, state}
 use Rattle.adb_history.specs.Kept.{Kept, IsLawful}
-use Rattle.adb_history.specs.Drained.{next_out}
+use Rattle.adb_history.specs.Drained.{next_out, put_to, send_on}
 use Rattle.adb_history.specs.Accepted.{refusal_of, is_input}
 use Rattle.adb_top.specs.declared.machine.Refused.{Refused}
 use Rattle.adb_top.specs.declared.machine.Refused.TheVariants as refused
@@ -26,3 +26,10 @@ after_out (Some e) h = e ∷ h
 -- The next hand-out of a history was made, where there is one.
 abbrev pub HandsNext : History → Option Entry → Kept → Type 0
 HandsNext h out new = (out ≡ next_out (state h)) × IsLawful new (after_out out h)
+
+-- The first bytes that are due to a client, or on a link, were handed out, or none are due.
+abbrev pub Puts : ℕ → History → Option Entry → Kept → Kept → Type 0
+Puts c h out old new = (out ≡ put_to (state h).devices c ((state h).clients c)) × IsLawful new (after_out out h)
+
+abbrev pub Sends : ℕ → History → Option Entry → Kept → Kept → Type 0
+Sends t h out old new = (out ≡ send_on t ((state h).links t)) × IsLawful new (after_out out h)
