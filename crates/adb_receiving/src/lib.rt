@@ -1,0 +1,5 @@
+//! The call by which bytes come on a device's link. It takes all its memory first, and then changes
+//! the tables by calls that take none.
+#![tactic(auto)]
+
+mod cutting;
