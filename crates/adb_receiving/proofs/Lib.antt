@@ -1,1 +1,5 @@
 mod Cuttings
+mod Namings
+mod More
+mod Preparations
+mod Reserved

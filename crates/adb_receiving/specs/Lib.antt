@@ -1,1 +1,4 @@
 pub mod Cutting
+pub mod Naming
+pub mod Counting
+pub mod Reserving

@@ -2,4 +2,8 @@
 //! the tables by calls that take none.
 #![tactic(auto)]
 
+mod counting;
 mod cutting;
+mod naming;
+mod preparing;
+mod reserving;
