@@ -1,6 +1,7 @@
 mod Rows
 mod Owing
 mod StreamRows
+mod Staying
 mod Using
 mod Marks
 mod Closings
