@@ -7,7 +7,7 @@ use Rattle.adb_receiving.proofs.reserving.reserve.Goals as goal
 pub returns-clause-reserved : goal.returns-clause-reserved
 returns-clause-reserved c =
     let places : c.in_ok-places.places ≡ c.in_ok-writes.writes + length c.args.packets.now.items =
-    c.in_ok-places.ensures ∙ ap (λ (n : ℕ). c.in_ok-writes.writes + n) c.len.ensures in
+    c.in_ok-places.ensures ∙ ap (λ (n : ℕ). c.in_ok-writes.writes + n) (c.len.ensures ∙ c.args.packets.now.ok.0) in
     is_reserved (record {
       named = c.in_ok-ids.ensures;
       counts = c.in_ok-counts.counts.entries;
