@@ -6,3 +6,9 @@ pub mod RestingClients
 pub mod RestingLinks
 pub mod RestingPuts
 pub mod RestingSteps
+pub mod NamedRows
+pub mod NamedRules
+pub mod NamedPackets
+pub mod NamedStreams
+pub mod NamedLinks
+pub mod NamedIds
