@@ -37,3 +37,12 @@ pub record HasTaken (old : Deframing) (packets : List Came) (now : Deframing) : 
   pub came : All IsCame packets
   pub given : packets_of packets ++ now.given ≡ old.given
   pub rest : now ≡ record old { given = now.given }
+
+-- What was cut off was taken, and it is known whether a byte behind it was wrong.
+pub record IsCutting (cutting : Cutting) : Type 0 where
+  pub came : All IsCame cutting.packets.items
+  pub broken : cutting.broken ≡ is_some cutting.incoming.fault
+
+-- what a piece was cut to
+abbrev pub cut_in : Cutting → Deframing
+cut_in cutting = record cutting.incoming { given = packets_of cutting.packets.items }

@@ -2,3 +2,4 @@ pub mod Cutting
 pub mod Naming
 pub mod Counting
 pub mod Reserving
+pub mod Settling

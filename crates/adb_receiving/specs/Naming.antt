@@ -1,21 +1,12 @@
 -- The streams that OKAYs name (protocol.txt, READY).
-use Rattle.std.specs.Prelude.{ℕ, ◌≡◌, true, is_some, List, [], ◌∷◌, ◌⊎◌, Bool, if◌then◌else◌, Option, Some, None, IsSome}
+use Rattle.std.specs.Prelude.{ℕ, ◌≡◌, true, is_some, List, ◌⊎◌, Bool, if◌then◌else◌, Option, Some, None}
 use Rattle.adb_stream.specs.declared.row.Stream.{Stream}
 use Rattle.adb_stream.specs.Streams.{found}
 use Rattle.adb_wire.specs.declared.command.Command.{Command}
 use Rattle.adb_wire.specs.declared.command.Command.TheVariants.{Okay}
 use Rattle.adb_wire.specs.declared.packets.Packet.{Packet}
 use Rattle.adb_rules.specs.Tracked.{IsAmong}
-
--- the stream that an OKAY names, before others
-abbrev pub named_also : Command → ℕ → List ℕ → List ℕ
-named_also Okay l others = l ∷ others
-named_also _ l others = others
-
--- the streams that the OKAYs among packets name, in order
-abbrev pub named_by : List Packet → List ℕ
-named_by [] = []
-named_by (p ∷ packets) = named_also p.command p.arg1 (named_by packets)
+use Rattle.adb_rest.specs.Named.{named_by}
 
 -- the stream that a packet names, where it lives and is one of that link
 abbrev pub named_if : Command → ℕ → Bool → Option ℕ

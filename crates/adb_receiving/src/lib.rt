@@ -6,4 +6,9 @@ mod counting;
 mod cutting;
 mod naming;
 mod preparing;
+mod receiving;
 mod reserving;
+mod settling;
+mod waiting;
+
+pub use receiving::recv;
