@@ -3,3 +3,7 @@ mod Namings
 mod More
 mod Preparations
 mod Reserved
+mod Keeping
+mod Putting
+mod Readying
+mod Settled

@@ -2,8 +2,8 @@
 use Rattle.std.specs.Prelude.{ℕ, ◌≡◌, ◌≢◌, List, ◌++◌, Option, Some, option_map}
 use Rattle.adb_outside.specs.Tables.{at}
 use Rattle.adb_wire.specs.Deframing.{Deframing}
-use Rattle.adb_history.specs.Rows.{State, to_link}
-use Rattle.adb_history.specs.Packets.{receives_cut, with_rest}
+use Rattle.adb_history.specs.Rows.{State}
+use Rattle.adb_history.specs.Packets.{receives_cut}
 use Rattle.adb_history.specs.Machine.{ups}
 use Rattle.adb_rules.specs.declared.ports.Port.{Port}
 use Rattle.adb_rules.specs.declared.tables.Tables.{Tables}
@@ -21,7 +21,6 @@ reading incoming port = record port { link = record port.link { incoming = incom
 
 -- Of one link something else came in.
 pub record PutsIncoming (link : ℕ) (incoming : Deframing) (old new : Tables) : Type 0 where
-  pub state : state_of new ≡ to_link link (with_rest incoming.rest) (state_of old)
   pub others : new ≡ record old { links = new.links }
   pub here : at link new.links.entries ≡ option_map (reading incoming) (at link old.links.entries)
   pub apart : (k : ℕ) → k ≢ link → at k new.links.entries ≡ at k old.links.entries

@@ -5,8 +5,7 @@ ghost use Rattle.adb_outside.specs.Tables.{at};
 ghost use Rattle.adb_wire.specs.Deframing.{Deframing};
 ghost use Rattle.adb_wire.specs.declared.format.PacketFault.{PacketFault};
 ghost use Rattle.adb_history.specs.Events.{then_also};
-ghost use Rattle.adb_history.specs.Packets.{faulty, treat_all, with_rest};
-ghost use Rattle.adb_history.specs.Rows.{to_link};
+ghost use Rattle.adb_history.specs.Packets.{faulty, treat_all};
 ghost use Rattle.adb_rules.specs.Came.{IsCame, packets_of, slices_in};
 ghost use Rattle.adb_rules.specs.Places.{ClientRoom, IsProvided, LinkRoom, Takes, Uses};
 ghost use Rattle.adb_rules.specs.Tables.{state_of};
@@ -16,8 +15,8 @@ ghost use Rattle.adb_receiving.specs.Settling.{HasSettled, LeavesNamed, reading}
 
 use crate::cutting::Cutting;
 use adb_link::Incoming;
-use adb_rules::{Came, Tables};
-use std::collections::{BTreeSet, VecDeque};
+use adb_rules::{Came, Port, Tables};
+use std::collections::{BTreeMap, BTreeSet, VecDeque};
 
 /// The packets of a link are treated, a byte that was wrong breaks it, and the streams of these
 /// ids are sent up.
@@ -33,22 +32,18 @@ pub(crate) fn settle(tables: &mut Tables, link: u32, cutting: Cutting, ids: &BTr
         packets,
         broken,
     } = cutting;
-    put_incoming(tables, link, incoming);
+    put_incoming(&mut tables.links, link, incoming);
     treat(tables, link, packets, broken);
     tables.up_each(ids);
 }
 
 /// Something else came in on a link.
-fn put_incoming(tables: &mut Tables, link: u32, incoming: Incoming)
-    ensures state { state_of tables.new
-        ≡ to_link link (with_rest incoming.rest) (state_of tables.old) }
-    ensures others { tables.new ≡ record tables.old { links = tables.new.links } }
-    ensures here { at link tables.new.links.entries
-        ≡ option_map (reading incoming) (at link tables.old.links.entries) }
-    ensures apart { (k : ℕ) → k ≢ link
-        → at k tables.new.links.entries ≡ at k tables.old.links.entries }
+fn put_incoming(links: &mut BTreeMap<u32, Port>, link: u32, incoming: Incoming)
+    ensures here { at link links.new.entries
+        ≡ option_map (reading incoming) (at link links.old.entries) }
+    ensures apart { (k : ℕ) → k ≢ link → at k links.new.entries ≡ at k links.old.entries }
 {
-    if let Some(port) = tables.links.get_mut(&link) {
+    if let Some(port) = links.get_mut(&link) {
         port.link.put_incoming(incoming);
     }
 }

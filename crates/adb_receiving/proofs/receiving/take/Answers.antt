@@ -1,0 +1,23 @@
+use Rattle.std.proofs.Common.{subst, sym}
+use Rattle.adb_history.specs.Rows.{State}
+use Rattle.adb_rules.specs.Fit.{Keeps}
+use Rattle.adb_receiving.specs.Cutting.{cut_in}
+use Rattle.adb_receiving.specs.Settling.{LeavesNamed}
+use Rattle.adb_receiving.proofs.Keeping.{kept_state, kept_provided, kept_fit, settled_reserved, on_err}
+use Rattle.adb_receiving.proofs.receiving.take.Goals as goal
+
+pub returns-in_err-ids-clause-kept : goal.returns-in_err-ids-clause-kept
+returns-in_err-ids-clause-kept c =
+    let old = c.args.tables.now in
+    let new = c.reserve.new.tables in
+    on_err c.from_residual.result (Keeps old new) (kept_fit old new c.reserve.ensures.more c.requires.fit)
+
+pub settle-requires-clause-provided : goal.settle-requires-clause-provided
+settle-requires-clause-provided c = kept_provided c.args.tables.now c.reserve.new.tables c.reserve.ensures.more c.requires.fit.provided
+
+pub settle-requires-clause-leaves : goal.settle-requires-clause-leaves
+settle-requires-clause-leaves c =
+    subst (LeavesNamed c.args.link (cut_in c.args.cutting)) (sym (kept_state c.args.tables.now c.reserve.new.tables c.reserve.ensures.more)) c.requires.leaves
+
+pub returns-clause-settled : goal.returns-clause-settled
+returns-clause-settled c = settled_reserved c.args.tables.now c.reserve.new.tables c.settle.new.tables c.reserve.ensures.more c.settle.ensures
