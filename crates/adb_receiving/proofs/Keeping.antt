@@ -108,6 +108,7 @@ settled_reserved {link} {cutting} old middle new h settled = record {
       read_reserved (at k old.links.entries) (at k middle.links.entries) (at k new.links.entries) (h.links k) (settled.apart k other);
 }
 
+-- what holds, holds at an error
 pub on_err : {T E : Type 0} (r : Result T E) (P : Type 0) → P → OnErr r P
 on_err (Ok x) P p = tt
 on_err (Err e) P p = p

@@ -7,3 +7,6 @@ mod Keeping
 mod Putting
 mod Readying
 mod Settled
+mod Lawful
+mod Received
+mod Waited

@@ -30,18 +30,16 @@ use Rattle.adb_receiving.specs.declared.cutting.Cutting.{Cutting}
 use Rattle.adb_receiving.specs.Cutting.{cut_in}
 use Rattle.adb_receiving.specs.Naming.{AreNamedOn}
 use Rattle.adb_receiving.specs.Reserving.{all_writes, IsReserved}
-use Rattle.adb_receiving.specs.Settling.{PutsIncoming, reading, behind, LeavesNamed, HasSettled}
+use Rattle.adb_receiving.specs.Settling.{PutsIncoming, reading, behind, CanSettle, HasSettled}
 use Rattle.adb_receiving.proofs.Putting.{put_state, put_room, put_places, put_provided}
 use Rattle.adb_receiving.proofs.Readying.{Behind, ready_behind}
 
 -- What came in was put in its place, and then packets were treated.
 pub record Settling (link : ℕ) (cutting : Cutting) (ids : List ℕ) (old middle new : Tables) : Type 0 where
+  pub can : CanSettle link cutting ids old
   pub puts : PutsIncoming link cutting.incoming old middle
   pub takes : Takes link (length cutting.packets.items) (slices_in (packets_of cutting.packets.items) middle.streams.streams) middle new
   pub state : state_of new ≡ (then_also (treat_all link (packets_of cutting.packets.items) (state_of middle)) (faulty link cutting.incoming.fault)).state
-  pub provided : IsProvided old
-  pub reserved : IsReserved link cutting.packets.items ids old
-  pub leaves : LeavesNamed link (cut_in cutting) (state_of old)
 
 module _ {link : ℕ} {packets : List Came} {ids : List ℕ} {old : Tables} (reserved : IsReserved link packets ids old) where
   -- the ids are those that the packets name
@@ -83,19 +81,19 @@ module _ {link : ℕ} {cutting : Cutting} {ids : List ℕ} {old middle new : Tab
   pub provided_behind : IsProvided new
   provided_behind =
       provided_after link (length cutting.packets.items) (slices_in (packets_of cutting.packets.items) middle.streams.streams) middle new h.takes
-      (put_provided link cutting.incoming old middle h.puts h.provided) (room_put h.reserved h.puts, places_put h.reserved h.puts)
+      (put_provided link cutting.incoming old middle h.puts h.can.provided) (room_put h.can.reserved h.puts, places_put h.can.reserved h.puts)
 
   pub sized_behind : IsSized new
-  sized_behind = subst (λ (s : State). (t : ℕ) → maxdata_of t s.devices ≤ MAX_PAYLOAD) (sym behind_is) h.leaves.sized
+  sized_behind = subst (λ (s : State). (t : ℕ) → maxdata_of t s.devices ≤ MAX_PAYLOAD) (sym behind_is) h.can.leaves.sized
 
   pub ready_each : IsReadyEach ids new
   ready_each =
-      ready_behind h.reserved (record {
-        stays = subst (AllStay (state_of old)) (sym behind_is) h.leaves.stays;
+      ready_behind h.can.reserved (record {
+        stays = subst (AllStay (state_of old)) (sym behind_is) h.can.leaves.stays;
         held = λ c. subst (λ (t : Tables). StaysHeld (at c t.clients.entries) (at c new.clients.entries)) h.puts.others (h.takes.held c);
       })
       (let all = all_writes (maxdata_of link old.devices) ids old.streams.streams old.clients.entries in
-      h.takes.on_link all (put_room link cutting.incoming old middle h.puts (all + length cutting.packets.items) link h.reserved.room))
+      h.takes.on_link all (put_room link cutting.incoming old middle h.puts (all + length cutting.packets.items) link h.can.reserved.room))
       provided_behind.links
 
   read_is : (before : Option Port) (port : Port) → StaysRead (option_map (reading cutting.incoming) before) (Some port)
@@ -112,7 +110,7 @@ module _ {link : ℕ} {cutting : Cutting} {ids : List ℕ} {old middle new : Tab
     settled all = record {
       state =
           all new.streams.drawn
-          (subst (λ (s : State). CoversUp ids s.drawn s) (sym behind_is) (h.leaves.covers ids (are_named h.reserved)))
+          (subst (λ (s : State). CoversUp ids s.drawn s) (sym behind_is) (h.can.leaves.covers ids (are_named h.can.reserved)))
           ∙ ap (λ (s : State). (ups s).state) behind_is;
       provided = record {
         links = λ k. uses.links 0 k (more_room (writes_on k ids new) (0 + writes_on k ids new) (at k new.links.entries) (omega arith) (ready_each.room k));

@@ -13,7 +13,8 @@ use Rattle.adb_rules.specs.Sweep.{CoversUp}
 use Rattle.adb_rest.specs.Named.{AllStay, AreNamed}
 use Rattle.adb_rest.specs.Resting.{AllSized}
 use Rattle.adb_receiving.specs.declared.cutting.Cutting.{Cutting}
-use Rattle.adb_receiving.specs.Cutting.{cut_in}
+use Rattle.adb_receiving.specs.Cutting.{IsCutting, cut_in}
+use Rattle.adb_receiving.specs.Reserving.{IsReserved}
 
 -- a link with something else that came in
 abbrev pub reading : Deframing → Port → Port
@@ -34,6 +35,13 @@ pub record LeavesNamed (link : ℕ) (c : Deframing) (s : State) : Type 0 where
   pub stays : AllStay s (behind link c s)
   pub sized : AllSized (behind link c s)
   pub covers : (ids : List ℕ) → AreNamed c.given link s ids → CoversUp ids (behind link c s).drawn (behind link c s)
+
+-- What a piece was cut to can be settled without memory.
+pub record CanSettle (link : ℕ) (cutting : Cutting) (ids : List ℕ) (t : Tables) : Type 0 where
+  pub cut : IsCutting cutting
+  pub provided : IsProvided t
+  pub reserved : IsReserved link cutting.packets.items ids t
+  pub leaves : LeavesNamed link (cut_in cutting) (state_of t)
 
 -- The packets of a link were treated, and then their fault, and the streams that they name went up.
 pub record HasSettled (link : ℕ) (cutting : Cutting) (old new : Tables) : Type 0 where

@@ -9,9 +9,7 @@ ghost use Rattle.adb_history.specs.Packets.{faulty, treat_all};
 ghost use Rattle.adb_rules.specs.Came.{IsCame, packets_of, slices_in};
 ghost use Rattle.adb_rules.specs.Places.{ClientRoom, IsProvided, LinkRoom, Takes, Uses};
 ghost use Rattle.adb_rules.specs.Tables.{state_of};
-ghost use Rattle.adb_receiving.specs.Cutting.{IsCutting, cut_in};
-ghost use Rattle.adb_receiving.specs.Reserving.{IsReserved};
-ghost use Rattle.adb_receiving.specs.Settling.{HasSettled, LeavesNamed, reading};
+ghost use Rattle.adb_receiving.specs.Settling.{CanSettle, HasSettled, reading};
 
 use crate::cutting::Cutting;
 use adb_link::Incoming;
@@ -21,10 +19,7 @@ use std::collections::{BTreeMap, BTreeSet, VecDeque};
 /// The packets of a link are treated, a byte that was wrong breaks it, and the streams of these
 /// ids are sent up.
 pub(crate) fn settle(tables: &mut Tables, link: u32, cutting: Cutting, ids: &BTreeSet<u32>)
-    requires cut { IsCutting cutting }
-    requires provided { IsProvided tables.old }
-    requires reserved { IsReserved link cutting.packets.items ids.now.keys tables.old }
-    requires leaves { LeavesNamed link (cut_in cutting) (state_of tables.old) }
+    requires { CanSettle link cutting ids.now.keys tables.old }
     ensures { HasSettled link cutting tables.old tables.new }
 {
     let Cutting {

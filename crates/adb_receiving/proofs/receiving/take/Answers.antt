@@ -1,5 +1,4 @@
 use Rattle.std.proofs.Common.{subst, sym}
-use Rattle.adb_history.specs.Rows.{State}
 use Rattle.adb_rules.specs.Fit.{Keeps}
 use Rattle.adb_receiving.specs.Cutting.{cut_in}
 use Rattle.adb_receiving.specs.Settling.{LeavesNamed}
@@ -12,12 +11,16 @@ returns-in_err-ids-clause-kept c =
     let new = c.reserve.new.tables in
     on_err c.from_residual.result (Keeps old new) (kept_fit old new c.reserve.ensures.more c.requires.fit)
 
-pub settle-requires-clause-provided : goal.settle-requires-clause-provided
-settle-requires-clause-provided c = kept_provided c.args.tables.now c.reserve.new.tables c.reserve.ensures.more c.requires.fit.provided
-
-pub settle-requires-clause-leaves : goal.settle-requires-clause-leaves
-settle-requires-clause-leaves c =
-    subst (LeavesNamed c.args.link (cut_in c.args.cutting)) (sym (kept_state c.args.tables.now c.reserve.new.tables c.reserve.ensures.more)) c.requires.leaves
+pub settle-requires : goal.settle-requires
+settle-requires c =
+    let old = c.args.tables.now in
+    let new = c.reserve.new.tables in
+    record {
+      cut = c.requires.cut;
+      provided = kept_provided old new c.reserve.ensures.more c.requires.fit.provided;
+      reserved = c.in_ok-ids.ensures.reserved;
+      leaves = subst (LeavesNamed c.args.link (cut_in c.args.cutting)) (sym (kept_state old new c.reserve.ensures.more)) c.requires.leaves;
+    }
 
 pub returns-clause-settled : goal.returns-clause-settled
 returns-clause-settled c = settled_reserved c.args.tables.now c.reserve.new.tables c.settle.new.tables c.reserve.ensures.more c.settle.ensures

@@ -10,8 +10,9 @@ pub treat-requires-clause-provided : goal.treat-requires-clause-provided
 treat-requires-clause-provided c =
     let old = c.args.tables.now in
     let middle : Tables = record old { links = c.put_incoming.new.links } in
-    put_provided c.args.link c.args.cutting.incoming old middle
-    (record { others = refl; here = c.put_incoming.ensures.here; apart = c.put_incoming.ensures.apart }) c.requires.provided
+    let puts : PutsIncoming c.args.link c.args.cutting.incoming old middle =
+    record { others = refl; here = c.put_incoming.ensures.here; apart = c.put_incoming.ensures.apart } in
+    put_provided c.args.link c.args.cutting.incoming old middle puts c.requires.provided
 
 pub treat-requires-clause-link : goal.treat-requires-clause-link
 treat-requires-clause-link c =
@@ -33,13 +34,13 @@ pub up_each-requires-clause-ready : goal.up_each-requires-clause-ready
 up_each-requires-clause-ready c =
     let old = c.args.tables.now in
     let middle : Tables = record old { links = c.put_incoming.new.links } in
+    let puts : PutsIncoming c.args.link c.args.cutting.incoming old middle =
+    record { others = refl; here = c.put_incoming.ensures.here; apart = c.put_incoming.ensures.apart } in
     let settling : Settling c.args.link c.args.cutting c.args.ids.now.keys old middle c.treat.new.tables = record {
-      puts = record { others = refl; here = c.put_incoming.ensures.here; apart = c.put_incoming.ensures.apart };
+      can = c.requires;
+      puts = puts;
       takes = c.treat.ensures.takes;
       state = c.treat.ensures.state (cut_in c.args.cutting) refl c.requires.cut.broken;
-      provided = c.requires.provided;
-      reserved = c.requires.reserved;
-      leaves = c.requires.leaves;
     } in
     ready_each settling
 
@@ -47,13 +48,13 @@ pub up_each-requires-clause-sized : goal.up_each-requires-clause-sized
 up_each-requires-clause-sized c =
     let old = c.args.tables.now in
     let middle : Tables = record old { links = c.put_incoming.new.links } in
+    let puts : PutsIncoming c.args.link c.args.cutting.incoming old middle =
+    record { others = refl; here = c.put_incoming.ensures.here; apart = c.put_incoming.ensures.apart } in
     let settling : Settling c.args.link c.args.cutting c.args.ids.now.keys old middle c.treat.new.tables = record {
-      puts = record { others = refl; here = c.put_incoming.ensures.here; apart = c.put_incoming.ensures.apart };
+      can = c.requires;
+      puts = puts;
       takes = c.treat.ensures.takes;
       state = c.treat.ensures.state (cut_in c.args.cutting) refl c.requires.cut.broken;
-      provided = c.requires.provided;
-      reserved = c.requires.reserved;
-      leaves = c.requires.leaves;
     } in
     sized_behind settling
 
@@ -61,13 +62,13 @@ pub up_each-requires-clause-counted : goal.up_each-requires-clause-counted
 up_each-requires-clause-counted c =
     let old = c.args.tables.now in
     let middle : Tables = record old { links = c.put_incoming.new.links } in
+    let puts : PutsIncoming c.args.link c.args.cutting.incoming old middle =
+    record { others = refl; here = c.put_incoming.ensures.here; apart = c.put_incoming.ensures.apart } in
     let settling : Settling c.args.link c.args.cutting c.args.ids.now.keys old middle c.treat.new.tables = record {
-      puts = record { others = refl; here = c.put_incoming.ensures.here; apart = c.put_incoming.ensures.apart };
+      can = c.requires;
+      puts = puts;
       takes = c.treat.ensures.takes;
       state = c.treat.ensures.state (cut_in c.args.cutting) refl c.requires.cut.broken;
-      provided = c.requires.provided;
-      reserved = c.requires.reserved;
-      leaves = c.requires.leaves;
     } in
     (provided_behind settling).counted
 
@@ -75,12 +76,12 @@ pub returns : goal.returns
 returns c =
     let old = c.args.tables.now in
     let middle : Tables = record old { links = c.put_incoming.new.links } in
+    let puts : PutsIncoming c.args.link c.args.cutting.incoming old middle =
+    record { others = refl; here = c.put_incoming.ensures.here; apart = c.put_incoming.ensures.apart } in
     let settling : Settling c.args.link c.args.cutting c.args.ids.now.keys old middle c.treat.new.tables = record {
-      puts = record { others = refl; here = c.put_incoming.ensures.here; apart = c.put_incoming.ensures.apart };
+      can = c.requires;
+      puts = puts;
       takes = c.treat.ensures.takes;
       state = c.treat.ensures.state (cut_in c.args.cutting) refl c.requires.cut.broken;
-      provided = c.requires.provided;
-      reserved = c.requires.reserved;
-      leaves = c.requires.leaves;
     } in
     settled settling c.up_each.new.self c.up_each.ensures.uses c.up_each.ensures.all
