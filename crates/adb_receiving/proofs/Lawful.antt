@@ -39,12 +39,11 @@ module _ (h : History) (link : ℕ) (piece : List ℕ) (row : Link) (here : (sta
   pub leaves_named : IsLegal h → LeavesNamed link (cut_behind row piece) (state h)
   leaves_named legal =
       let still = all_leave_still h legal link row here piece in
-      let after = behind link (cut_behind row piece) (state h) in
+      let ruled = (rule (Recv link piece) (state h)).state in
       record {
         stays = subst (AllStay (state h)) behind_piece still.stays;
-        sized = subst AllSized behind_piece (λ t.
-            subst (λ devices. maxdata_of t devices ≤ MAX_PAYLOAD) (up_all_devices (rule (Recv link piece) (state h)).state.drawn (rule (Recv link piece) (state h)).state)
-            (sized (Recv link piece ∷ h) t));
+        sized = subst AllSized behind_piece
+            (λ t. subst (λ devices. maxdata_of t devices ≤ MAX_PAYLOAD) (up_all_devices ruled.drawn ruled) (sized (Recv link piece ∷ h) t));
         covers = λ ids named. subst (λ (s : State). CoversUp ids s.drawn s) behind_piece (still.covers ids named);
       }
 

@@ -66,9 +66,6 @@ names_one named k old new is more =
 
 -- ---- the ids that packets name
 module _ (link : ℕ) (streams : List (ℕ × Stream)) where
-  lives : ℕ → Bool
-  lives l = is_some (found link l streams)
-
   lives_named : (command : Command) (q l : ℕ) → named_if command q (is_some (found link q streams)) ≡ Some l → is_some (found link l streams) ≡ true
   lives_named Okay q l e = by_row (is_some (found link q streams)) refl e
     where
@@ -94,9 +91,10 @@ module _ (link : ℕ) (streams : List (ℕ × Stream)) where
   named_first Auth q l others live there = inr there
   named_first Stls q l others live there = inr there
 
-  pub names_more : (packets rest : List Packet) (p : Packet) (old new : List ℕ) → AreNamedBefore link packets (p ∷ rest) streams old
+  -- one packet more was looked at
+  pub names_more : {packets rest : List Packet} {p : Packet} {old new : List ℕ} → AreNamedBefore link packets (p ∷ rest) streams old
       → NamesAlso (named_on link p streams) old new → AreNamedBefore link packets rest streams new
-  names_more packets rest p old new h also = record {
+  names_more {packets} {rest} {p} {old} {new} h also = record {
     live = λ l there. elim (also.only l there) as (λ _. is_some (found link l streams) ≡ true) [
       | inl before ↦ h.live l before
       | inr is ↦ lives_named p.command p.arg1 l is
@@ -109,6 +107,3 @@ module _ (link : ℕ) (streams : List (ℕ × Stream)) where
       ]
     ];
   }
-
-pub names_none : (link : ℕ) (packets : List Packet) (streams : List (ℕ × Stream)) → AreNamedBefore link packets packets streams []
-names_none link packets streams = record { live = λ l there. absurd there; all = λ l there live. inr there }

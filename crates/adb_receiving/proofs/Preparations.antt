@@ -51,19 +51,24 @@ served_one {counts} {left} {old} {now} {new} k n h more here = record {
         room_more (count_at (at c counts)) (at c now) (at c new) (more c) (h.room c (at_behind c k n left apart ∙ none))
 
 -- ---- what is held is ready
+-- how many writes were counted, and the clients then
+pub record Written : Type 0 where
+  pub writes : ℕ
+  pub clients : List (ℕ × SeenClient)
+
 -- What the clients of streams hold is ready, but for those that are left.
-pub record ArePrepared (maxdata : ℕ) (streams : List (ℕ × Stream)) (ids left : List ℕ) (old : List (ℕ × SeenClient)) (w : ℕ × List (ℕ × SeenClient)) : Type 0 where
-  pub more : HaveMore old w.1
-  pub cut : (l : ℕ) → IsAmong l ids → IsCutAt maxdata (at l streams) w.1 ⊎ IsAmong l left
-  pub writes : w.0 + all_writes maxdata left streams old ≡ all_writes maxdata ids streams old
+pub record ArePrepared (maxdata : ℕ) (streams : List (ℕ × Stream)) (ids left : List ℕ) (old : List (ℕ × SeenClient)) (done : Written) : Type 0 where
+  pub more : HaveMore old done.clients
+  pub cut : (l : ℕ) → IsAmong l ids → IsCutAt maxdata (at l streams) done.clients ⊎ IsAmong l left
+  pub writes : done.writes + all_writes maxdata left streams old ≡ all_writes maxdata ids streams old
 
 module _ (maxdata : ℕ) (streams : List (ℕ × Stream)) (ids : List ℕ) where
-  pub prepared_none : (old : List (ℕ × SeenClient)) → ArePrepared maxdata streams ids ids old (0, old)
+  pub prepared_none : (old : List (ℕ × SeenClient)) → ArePrepared maxdata streams ids ids old (record { writes = 0; clients = old })
   prepared_none old = record { more = λ c. more_stays (at c old); cut = λ l there. inr there; writes = omega arith }
 
-  pub prepared_one : {left : List ℕ} {old now new : List (ℕ × SeenClient)} (l before after : ℕ) → ArePrepared maxdata streams ids (l ∷ left) old (before, now)
+  pub prepared_one : {left : List ℕ} {old now new : List (ℕ × SeenClient)} (l before after : ℕ) → ArePrepared maxdata streams ids (l ∷ left) old (record { writes = before; clients = now })
       → HaveMore now new × IsCutAt maxdata (at l streams) new × (after ≡ before + writes_at maxdata (at l streams) now)
-      → ArePrepared maxdata streams ids left old (after, new)
+      → ArePrepared maxdata streams ids left old (record { writes = after; clients = new })
   prepared_one {left} {old} {now} {new} l before after h (more, cut, writes) = record {
     more = have_more_then old now new h.more more;
     cut = λ k there. by_place k (h.cut k there);

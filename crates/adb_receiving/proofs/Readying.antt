@@ -1,5 +1,6 @@
 -- What was made ready before packets is ready behind them.
-use Rattle.std.proofs.Common.{ℕ, ◌+◌, ◌/◌, ◌≡◌, ◌≢◌, ◌≤◌, ◌⊎◌, inl, inr, cond, Bool, true, false, List, [], ◌∷◌, length, Option, Some, None, eqb, refl, sym, ◌∙◌, ap, subst, arith}
+use Rattle.std.proofs.Common.{ℕ, ◌+◌, ◌≡◌, ◌≢◌, ◌≤◌, cond, Bool, true, false, List, [], ◌∷◌, length, Option, Some, None, eqb}
+use Rattle.std.proofs.Common.{◌⊎◌, inl, inr, refl, sym, ◌∙◌, ap, subst, arith}
 use Rattle.std.specs.Prelude.{option_map, is_some}
 use Rattle.std.proofs.lemmas.Bool.{cases_eq, eqb-true, eq-eqb, ne_eqb}
 use Rattle.adb_outside.specs.Tables.{at}
@@ -63,31 +64,33 @@ was_held l (Some old) now h ready = record {
   ready = ready;
 }
 
--- what a client has ready is as much as a stream of that kind may write
-ready_for : (flow before : Flow) (maxdata l : ℕ) (row : Option SeenClient) (now : SeenClient) → has_credit flow ≡ has_credit before → WasHeld l row now
-    → IsCutFor before maxdata row → is_for l now.about.phase ≡ true → IsCut flow maxdata now
-ready_for flow before maxdata l row now kind was cut has =
-    let old = was.old in
-    let full : IsCut before maxdata old = subst (IsCutFor before maxdata) was.is cut in
-    let same : length now.held ≡ length old.held = ap length (was.held has) in
-    let bytes = ap (up_bytes flow maxdata) same ∙ same_bytes flow before maxdata (length old.held) kind in
-    let pieces = ap (up_writes flow maxdata) same ∙ same_writes flow before maxdata (length old.held) kind in
-    record {
-      bytes = omega (arith, bytes, full.bytes, was.ready.ready same);
-      pieces = omega (arith, pieces, full.pieces, was.ready.cuts same);
-    }
+-- by a stream of one kind before and now
+module _ (flow before : Flow) (maxdata : ℕ) (kind : has_credit flow ≡ has_credit before)
+    {l : ℕ} {row : Option SeenClient} {now : SeenClient} (was : WasHeld l row now) where
+  -- what a client has ready is as much as the stream may write
+  ready_for : IsCutFor before maxdata row → is_for l now.about.phase ≡ true → IsCut flow maxdata now
+  ready_for cut has =
+      let old = was.old in
+      let full : IsCut before maxdata old = subst (IsCutFor before maxdata) was.is cut in
+      let same : length now.held ≡ length old.held = ap length (was.held has) in
+      let bytes = ap (up_bytes flow maxdata) same ∙ same_bytes flow before maxdata (length old.held) kind in
+      let pieces = ap (up_writes flow maxdata) same ∙ same_writes flow before maxdata (length old.held) kind in
+      record {
+        bytes = omega (arith, bytes, full.bytes, was.ready.ready same);
+        pieces = omega (arith, pieces, full.pieces, was.ready.cuts same);
+      }
 
-fewer_for : (flow before : Flow) (maxdata l : ℕ) (row : Option SeenClient) (now : SeenClient) → has_credit flow ≡ has_credit before → WasHeld l row now
-    → writes_for l flow maxdata (Some now) ≤ writes_of before maxdata row
-fewer_for flow before maxdata l row now kind was = by_case (is_for l now.about.phase) refl
-  where
-    by_case : (b : Bool) → is_for l now.about.phase ≡ b → cond b (up_writes flow maxdata (length now.held)) 0 ≤ writes_of before maxdata row
-    by_case false e = omega arith
-    by_case true e =
-        let same : length now.held ≡ length was.old.held = ap length (was.held e) in
-        let pieces = ap (up_writes flow maxdata) same ∙ same_writes flow before maxdata (length was.old.held) kind in
-        let at_row = ap (writes_of before maxdata) was.is in
-        omega (arith, pieces, at_row)
+  -- and it writes no more often
+  fewer_for : writes_for l flow maxdata (Some now) ≤ writes_of before maxdata row
+  fewer_for = by_case (is_for l now.about.phase) refl
+    where
+      by_case : (b : Bool) → is_for l now.about.phase ≡ b → cond b (up_writes flow maxdata (length now.held)) 0 ≤ writes_of before maxdata row
+      by_case false e = omega arith
+      by_case true e =
+          let same : length now.held ≡ length was.old.held = ap length (was.held e) in
+          let pieces = ap (up_writes flow maxdata) same ∙ same_writes flow before maxdata (length was.old.held) kind in
+          let at_row = ap (writes_of before maxdata) was.is in
+          omega (arith, pieces, at_row)
 
 within : (b : Bool) (n : ℕ) → cond b n 0 ≤ n
 within true n = omega arith
@@ -123,8 +126,7 @@ module _ {link : ℕ} {packets : List Came} {ids : List ℕ} {old new : Tables} 
     cut_now None here = tt
     cut_now (Some client) here = λ has.
         subst (λ (n : ℕ). IsCut now.part.flow n client) (sym maxdata_was)
-        (ready_for now.part.flow was.old.part.flow (maxdata_of link old.devices) l (at now.client old.clients.entries) client was.credit
-        (client_was client here) cut_was has)
+        (ready_for now.part.flow was.old.part.flow (maxdata_of link old.devices) was.credit (client_was client here) cut_was has)
 
     fewer_now : (row : Option SeenClient) → at now.client new.clients.entries ≡ row
         → writes_for l now.part.flow (maxdata_of now.link new.devices) row
@@ -132,8 +134,7 @@ module _ {link : ℕ} {packets : List Came} {ids : List ℕ} {old new : Tables} 
     fewer_now None here = omega arith
     fewer_now (Some client) here =
         let same = ap (λ (n : ℕ). writes_for l now.part.flow n (Some client)) maxdata_was in
-        let fewer = fewer_for now.part.flow was.old.part.flow (maxdata_of link old.devices) l (at now.client old.clients.entries) client was.credit
-        (client_was client here) in
+        let fewer = fewer_for now.part.flow was.old.part.flow (maxdata_of link old.devices) was.credit (client_was client here) in
         omega (arith, same, fewer)
 
     at_was : writes_of was.old.part.flow (maxdata_of link old.devices) (at now.client old.clients.entries)

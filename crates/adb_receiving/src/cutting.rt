@@ -19,15 +19,19 @@ use std::collections::VecDeque;
 /// What a piece that came in on a link was cut to: the packets, what is held behind them, and
 /// whether a byte there was wrong.
 #[derive(Drop)]
-pub struct Cutting {
-    pub incoming: Incoming,
-    pub packets: VecDeque<Came>,
-    pub broken: bool,
+pub(crate) struct Cutting {
+    pub(crate) incoming: Incoming,
+    pub(crate) packets: VecDeque<Came>,
+    pub(crate) broken: bool,
 }
 
 impl Cutting {
     /// Cuts a piece, behind what is held. An error is want of memory.
-    pub fn of(alloc: Global, mut incoming: Incoming, piece: &[u8]) -> Result<Cutting, AllocError>
+    pub(crate) fn of(
+        alloc: Global,
+        mut incoming: Incoming,
+        piece: &[u8],
+    ) -> Result<Cutting, AllocError>
         requires { IsClear incoming }
         ensures { IfOk result (IsCutTo (cut_of incoming piece.now)) }
     {

@@ -12,5 +12,4 @@ loop-came-preserved c =
     let all = packets_of c.args.packets.now.items in
     let ids = c.loop-came.ids.keys in
     let before = subst (λ (rest : List Came). AreNamedBefore c.args.link all (packets_of rest) streams ids) c.in-Some.ensures.steps c.loop-came.invariant in
-    names_more c.args.link streams all (packets_of (deque_iter_rest c.next.new.self)) (packet_of c.in-Some.came.now) ids c.name_also.new.ids.keys before
-    c.in_ok-name_also.ensures
+    names_more c.args.link streams before c.in_ok-name_also.ensures

@@ -3,4 +3,4 @@ use Rattle.adb_receiving.proofs.preparing.prepare_each.Given as goal
 
 abbrev pub invariant-loop-id : goal.invariant-loop-id
 invariant-loop-id l =
-    ArePrepared l.maxdata l.streams.streams l.ids.keys l.id-iterator l.fn.clients.entries (l.writes, l.clients.entries)
+    ArePrepared l.maxdata l.streams.streams l.ids.keys l.id-iterator l.fn.clients.entries (record { writes = l.writes; clients = l.clients.entries })
