@@ -1,5 +1,5 @@
 -- What is reserved changes nothing that the machine sees.
-use Rattle.std.proofs.Common.{ℕ, ◌+◌, ◌≡◌, ◌≤◌, ◌≢◌, ◌==◌, List, Option, Some, None, refl, sym, ◌∙◌, ap, subst, arith}
+use Rattle.std.proofs.Common.{ℕ, ◌≡◌, ◌==◌, List, Option, Some, None, refl, sym, ◌∙◌, ap, subst, arith}
 use Rattle.std.specs.Prelude.{option_map, Result, Ok, Err, OnErr}
 use Rattle.adb_outside.specs.Tables.{at}
 use Rattle.adb_client.specs.Client.{SeenClient}
@@ -12,7 +12,7 @@ use Rattle.adb_rules.specs.declared.ports.Port.{Port}
 use Rattle.adb_rules.specs.declared.tables.Tables.{Tables}
 use Rattle.adb_rules.specs.Tables.{client_row, link_row, state_of}
 use Rattle.adb_rules.specs.Tracked.{IsListedIn, IsListedAt}
-use Rattle.adb_rules.specs.Places.{LinkRoom, ClientRoom, IsCountedAt, IsProvided, StaysRead}
+use Rattle.adb_rules.specs.Places.{LinkRoom, IsCountedAt, IsProvided, StaysRead}
 use Rattle.adb_rules.specs.Fit.{IsReadOutAt, IsFit, Keeps}
 use Rattle.adb_receiving.specs.declared.cutting.Cutting.{Cutting}
 use Rattle.adb_receiving.specs.Cutting.{cut_in}

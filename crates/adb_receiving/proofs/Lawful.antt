@@ -1,23 +1,21 @@
 -- What laws on histories say of a piece that comes on a link.
-use Rattle.std.proofs.Common.{ℕ, ◌≡◌, ◌≢◌, ◌≤◌, Bool, List, ◌∷◌, ◌++◌, cond, zero, suc, Option, Some, None, refl, sym, ◌∙◌, ap, subst}
+use Rattle.std.proofs.Common.{ℕ, ◌≡◌, ◌≢◌, ◌≤◌, Bool, List, ◌∷◌, ◌++◌, cond, zero, suc, Option, Some, refl, sym, ◌∙◌, ap, subst}
 use Rattle.std.specs.Prelude.{◌&&◌, not}
 use Rattle.std.proofs.lemmas.Bool.{eq-eqb, ne_eqb}
 use Rattle.adb_outside.specs.Framing.{joined}
 use Rattle.adb_wire.specs.Cutting.{framed}
-use Rattle.adb_wire.specs.Deframing.{Deframing}
 use Rattle.adb_wire.specs.declared.headers.TheConstants.{MAX_PAYLOAD}
 use Rattle.adb_capture.specs.declared.entry.Entry.TheVariants.{Recv}
 use Rattle.adb_history.specs.Rows.{Link, State}
 use Rattle.adb_history.specs.Links.{maxdata_of}
 use Rattle.adb_history.specs.Flow.{up, up_all}
-use Rattle.adb_history.specs.Machine.{History, IsLegal, state, rule, ups}
+use Rattle.adb_history.specs.Machine.{History, IsLegal, state, rule}
 use Rattle.adb_history.specs.Bytes.{is_lost, bytes_received}
-use Rattle.adb_history.specs.Packets.{receives, receives_on}
-use Rattle.adb_history.specs.Tied.{IsReadAs}
-use Rattle.adb_history.proofs.Received.{ReadTie, framed_piece, received, all_rest_past_packets}
+use Rattle.adb_history.specs.Packets.{receives_on}
+use Rattle.adb_history.proofs.Received.{ReadTie, framed_piece, received}
 use Rattle.adb_history.proofs.Sweep.{up_to}
 use Rattle.adb_rules.specs.Sweep.{CoversUp}
-use Rattle.adb_rest.specs.Named.{AllStay, AreNamed, cut_behind}
+use Rattle.adb_rest.specs.Named.{AllStay, cut_behind}
 use Rattle.adb_rest.specs.Resting.{AllSized}
 use Rattle.adb_rest.proofs.NamedStreams.{all_leave_still}
 use Rattle.adb_rest.proofs.RestingDevices.{sized}

@@ -1,12 +1,12 @@
 -- Rows with more places, and with more ready.
-use Rattle.std.proofs.Common.{ℕ, ◌+◌, ◌≡◌, ◌≤◌, List, [], ◌∷◌, length, Option, Some, None, refl, sym, ◌∙◌, ap, subst, arith}
+use Rattle.std.proofs.Common.{ℕ, ◌≡◌, List, [], ◌∷◌, length, Option, Some, None, refl, ◌∙◌, ap, arith}
 use Rattle.adb_outside.specs.Tables.{at}
 use Rattle.adb_client.specs.Client.{SeenClient}
 use Rattle.adb_stream.specs.declared.flow.Flow.{Flow}
 use Rattle.adb_stream.specs.declared.row.Stream.{Stream}
 use Rattle.adb_history.specs.Rows.{Client}
 use Rattle.adb_rules.specs.Places.{ClientRoom, kept_places}
-use Rattle.adb_rules.specs.Up.{IsCut, up_bytes, up_writes}
+use Rattle.adb_rules.specs.Up.{up_bytes, up_writes}
 use Rattle.adb_receiving.specs.Reserving.{HasMore, HasMoreAt, HaveMore, IsCutFor, IsCutAt, writes_of, writes_at, all_writes}
 
 -- ---- one client

@@ -1,16 +1,15 @@
 -- What was made ready before packets is ready behind them.
-use Rattle.std.proofs.Common.{ℕ, ◌+◌, ◌≡◌, ◌≢◌, ◌≤◌, cond, Bool, true, false, List, [], ◌∷◌, length, Option, Some, None, eqb}
+use Rattle.std.proofs.Common.{ℕ, ◌≡◌, ◌≢◌, ◌≤◌, cond, Bool, true, false, List, [], ◌∷◌, length, Option, Some, None, eqb}
 use Rattle.std.proofs.Common.{◌⊎◌, inl, inr, refl, sym, ◌∙◌, ap, subst, arith}
 use Rattle.std.specs.Prelude.{option_map, is_some}
-use Rattle.std.proofs.lemmas.Bool.{cases_eq, eqb-true, eq-eqb, ne_eqb}
+use Rattle.std.proofs.lemmas.Bool.{cases_eq, ne_eqb}
 use Rattle.adb_outside.specs.Tables.{at}
 use Rattle.adb_client.specs.Client.{SeenClient}
-use Rattle.adb_stream.specs.Streams.{found}
 use Rattle.adb_stream.specs.Stream.{of_link}
 use Rattle.adb_stream.specs.declared.flow.Flow.{Flow}
 use Rattle.adb_stream.specs.declared.flow.Flow.TheVariants.{One, Credit}
 use Rattle.adb_stream.specs.declared.row.Stream.{Stream}
-use Rattle.adb_history.specs.Rows.{Client, State}
+use Rattle.adb_history.specs.Rows.{Client}
 use Rattle.adb_history.specs.Fifo.{has_credit}
 use Rattle.adb_history.specs.Links.{maxdata_of}
 use Rattle.adb_rules.specs.declared.came.Came.{Came}
@@ -20,10 +19,8 @@ use Rattle.adb_rules.specs.Tracked.{IsAmong}
 use Rattle.adb_rules.specs.Places.{LinkRoom, HoldsAsReady, StaysHeld}
 use Rattle.adb_rules.specs.Up.{up_bytes, up_writes, IsCut, is_for, IsCutFor as IsCutIn, IsCutOf, writes_for, writes_of as writes_in, writes_up}
 use Rattle.adb_rules.specs.Sweep.{writes_if_on, writes_on, IsReadyEach}
-use Rattle.adb_rules.proofs.GoingUp.{Shows, shown}
 use Rattle.adb_rules.proofs.Using.{more_room}
 use Rattle.adb_rest.specs.Named.{HoldsAs, StaysAs, AllStay}
-use Rattle.adb_receiving.specs.Naming.{AreNamedOn}
 use Rattle.adb_receiving.specs.Reserving.{IsCutFor, IsCutAt, writes_of, writes_at, all_writes, IsReserved}
 
 -- ---- flows of one kind may write alike

@@ -7,12 +7,10 @@ use Rattle.adb_outside.specs.Tables.{at}
 use Rattle.adb_outside.specs.Framing.{joined}
 use Rattle.adb_wire.specs.Cutting.{framed, cut_packets}
 use Rattle.adb_wire.specs.declared.packets.Packet.{Packet}
-use Rattle.adb_wire.specs.Deframing.{Deframing, Waits}
-use Rattle.adb_wire.specs.declared.format.PacketFormat.{PacketFormat}
+use Rattle.adb_wire.specs.Deframing.{Deframing}
 use Rattle.adb_capture.specs.declared.entry.Entry.TheVariants.{Recv}
-use Rattle.adb_link.specs.declared.link.TheConstants.{VERSION_WITH_SUMS}
-use Rattle.adb_history.specs.Rows.{Link, State}
-use Rattle.adb_history.specs.Machine.{History, IsLegal, IsInRange, May, state, rule, step, ups}
+use Rattle.adb_history.specs.Rows.{State}
+use Rattle.adb_history.specs.Machine.{History, IsLegal, IsInRange, May, state, step, ups}
 use Rattle.adb_history.specs.Bytes.{bytes_received}
 use Rattle.adb_history.specs.Tied.{IsReadAs}
 use Rattle.adb_history.proofs.Received.{all_rest_past_packets}

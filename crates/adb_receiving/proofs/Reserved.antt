@@ -1,5 +1,5 @@
 -- All is reserved that packets take.
-use Rattle.std.proofs.Common.{ℕ, ◌+◌, ◌≡◌, List, length, sym, ◌∙◌, ap, subst, arith}
+use Rattle.std.proofs.Common.{ℕ, ◌+◌, ◌≡◌, List, length, sym, ◌∙◌, ap, subst}
 use Rattle.adb_outside.specs.Tables.{at}
 use Rattle.adb_client.specs.Client.{SeenClient}
 use Rattle.adb_history.specs.Links.{maxdata_of}

@@ -1,13 +1,12 @@
 -- All that packets of a link leave, and the up rule behind them.
-use Rattle.std.proofs.Common.{ℕ, ◌+◌, ◌≡◌, ◌≢◌, ◌≤◌, ◌⊎◌, inl, inr, cond, Bool, true, false, List, length, Option, Some, None, refl, sym, ◌∙◌, ap, subst, arith}
+use Rattle.std.proofs.Common.{ℕ, ◌+◌, ◌≡◌, ◌≤◌, cond, Bool, true, List, length, Option, Some, None, refl, sym, ◌∙◌, ap, subst, arith}
 use Rattle.std.specs.Prelude.{option_map, is_some}
-use Rattle.std.proofs.lemmas.Bool.{cases_eq, eq-eqb}
+use Rattle.std.proofs.lemmas.Bool.{eq-eqb}
 use Rattle.adb_outside.specs.Tables.{at}
 use Rattle.adb_stream.specs.Stream.{of_link}
 use Rattle.adb_stream.specs.declared.row.Stream.{Stream}
 use Rattle.adb_wire.specs.Deframing.{Deframing}
 use Rattle.adb_wire.specs.declared.headers.TheConstants.{MAX_PAYLOAD}
-use Rattle.adb_wire.specs.declared.packets.Packet.{Packet}
 use Rattle.adb_history.specs.Rows.{State}
 use Rattle.adb_history.specs.Events.{then_also}
 use Rattle.adb_history.specs.Flow.{up_all}
@@ -28,11 +27,10 @@ use Rattle.adb_rules.proofs.Using.{more_room}
 use Rattle.adb_rest.specs.Named.{AllStay, AreNamed}
 use Rattle.adb_receiving.specs.declared.cutting.Cutting.{Cutting}
 use Rattle.adb_receiving.specs.Cutting.{cut_in}
-use Rattle.adb_receiving.specs.Naming.{AreNamedOn}
 use Rattle.adb_receiving.specs.Reserving.{all_writes, IsReserved}
 use Rattle.adb_receiving.specs.Settling.{PutsIncoming, reading, behind, CanSettle, HasSettled}
-use Rattle.adb_receiving.proofs.Putting.{put_state, put_room, put_places, put_provided}
-use Rattle.adb_receiving.proofs.Readying.{Behind, ready_behind}
+use Rattle.adb_receiving.proofs.Putting.{put_state, put_room, put_provided}
+use Rattle.adb_receiving.proofs.Readying.{ready_behind}
 
 -- What came in was put in its place, and then packets were treated.
 pub record Settling (link : ℕ) (cutting : Cutting) (ids : List ℕ) (old middle new : Tables) : Type 0 where

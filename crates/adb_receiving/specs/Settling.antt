@@ -1,5 +1,5 @@
 -- What packets of a link leave, and the up rule behind them.
-use Rattle.std.specs.Prelude.{ℕ, ◌≡◌, ◌≢◌, List, ◌++◌, Option, Some, option_map}
+use Rattle.std.specs.Prelude.{ℕ, ◌≡◌, ◌≢◌, List, ◌++◌, Some, option_map}
 use Rattle.adb_outside.specs.Tables.{at}
 use Rattle.adb_wire.specs.Deframing.{Deframing}
 use Rattle.adb_history.specs.Rows.{State}

@@ -1,7 +1,6 @@
 use Rattle.std.proofs.Common.{List, subst}
-use Rattle.std.specs.VecDeque.Iter.{deque_iter_rest}
 use Rattle.adb_rules.specs.declared.came.Came.{Came}
-use Rattle.adb_rules.specs.Came.{packet_of, packets_of}
+use Rattle.adb_rules.specs.Came.{packets_of}
 use Rattle.adb_receiving.specs.Naming.{AreNamedBefore}
 use Rattle.adb_receiving.proofs.Namings.{names_more}
 use Rattle.adb_receiving.proofs.naming.named.Goals as goal
