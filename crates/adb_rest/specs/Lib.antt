@@ -1,3 +1,2 @@
-pub mod Named
 pub mod Resting
-pub mod Wanted
+pub mod Named

@@ -8,12 +8,12 @@ mod Closings
 mod Ending
 mod Failing
 mod Naming
-mod Taking
+pub mod Taking
 mod UsingOf
 mod Handouts
 mod WritesUp
 mod Sending
-mod GoingUp
+pub mod GoingUp
 mod Sweeping
 mod RisingIds
 mod EachUp
