@@ -6,3 +6,4 @@ mod Turns
 mod Joining
 mod Ending
 mod Widening
+mod Putting

@@ -5,9 +5,13 @@
 mod detaches;
 mod ends;
 mod joins;
+mod lists;
+mod places;
+mod puts;
 mod sends;
 
 pub use detaches::detach;
 pub use ends::end;
 pub use joins::join;
+pub use puts::put;
 pub use sends::send;
