@@ -7,3 +7,4 @@ mod Joining
 mod Ending
 mod Widening
 mod Putting
+mod Plugging

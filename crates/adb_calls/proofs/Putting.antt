@@ -74,7 +74,7 @@ sums_puts s w c n (Some client) k = by_due client.due
     by_due : (due : List ℕ) → SumsStay (s.links k) ((then_also (lists_first c due client s) (λ (t : State). takes_of c n (t.clients c) t)).state.links k)
     by_due [] =
         let m = (lists_first c [] client s).state in
-        sums_takes m (record { came = w.came; plugged = w.plugged; all = w.all }) c n (m.clients c) k
+        sums_takes m (record { came = w.came; plugged = w.plugged; all = w.all; drawn = w.drawn }) c n (m.clients c) k
     by_due (b ∷ due) = sums_takes s w c n (s.clients c) k
 
 -- ---- what is due is handed out

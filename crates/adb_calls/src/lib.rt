@@ -2,6 +2,7 @@
 //! taken first, and what follows can't fail, so that after want of memory nothing has changed.
 #![tactic(auto)]
 
+mod attaches;
 mod detaches;
 mod ends;
 mod joins;
@@ -10,6 +11,7 @@ mod places;
 mod puts;
 mod sends;
 
+pub use attaches::attach;
 pub use detaches::detach;
 pub use ends::end;
 pub use joins::join;
