@@ -87,8 +87,8 @@ module _ (s : State) (reached : IsReached s) (c l : ℕ) (x : IsClientIn s c (St
       let now : (client_ends c Eof (s.clients c) s).state.streams l ≡ Some stream = sym (ap (λ (t : State). t.streams l) ruled) ∙ there in
       let devices : mid.devices ≡ s.devices = ap (λ (t : State). t.devices) noted_is in
       let held : held_at (at stream.client mid.clients.entries) ≡ x.client.held =
-          ap (λ (n : ℕ). held_at (at n mid.clients.entries)) (owner stream before)
-          ∙ (held_is (at c mid.clients.entries) ∙ (ap (λ (t : State). shown_held (t.clients c)) noted_is ∙ held_then)) in
+      ap (λ (n : ℕ). held_at (at n mid.clients.entries)) (owner stream before)
+      ∙ (held_is (at c mid.clients.entries) ∙ (ap (λ (t : State). shown_held (t.clients c)) noted_is ∙ held_then)) in
       ap (λ (bytes : List ℕ). payloads stream.part.flow (maxdata_of stream.link mid.devices) bytes) held
       ∙ (ap (λ (table : _). payloads stream.part.flow (maxdata_of stream.link table) x.client.held) devices
       ∙ (goes_up s reached).quiet c l x stream now)

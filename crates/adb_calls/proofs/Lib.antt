@@ -8,3 +8,4 @@ mod Ending
 mod Widening
 mod Putting
 mod Plugging
+mod Bounding

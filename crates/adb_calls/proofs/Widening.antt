@@ -90,9 +90,9 @@ port_read (Some old) (Some new) h read = record {
 shown : (old new : Tables) → Widens old new → state_of (record old { clients = new.clients; links = new.links }) ≡ state_of old
 shown old new h =
     let clients : (λ c. option_map client_row (at c new.clients.entries)) ≡ (λ c. option_map client_row (at c old.clients.entries)) =
-        λ i c. client_shown (at c old.clients.entries) (at c new.clients.entries) (h.clients c) i in
+    λ i c. client_shown (at c old.clients.entries) (at c new.clients.entries) (h.clients c) i in
     let links : (λ k. option_map link_row (at k new.links.entries)) ≡ (λ k. option_map link_row (at k old.links.entries)) =
-        λ i k. port_shown (at k old.links.entries) (at k new.links.entries) (h.links k) i in
+    λ i k. port_shown (at k old.links.entries) (at k new.links.entries) (h.links k) i in
     λ i. record (state_of old) { clients = clients i; links = links i }
 
 pub widened : (old new : Tables) → IsFit old → Widens old new → Keeps old new

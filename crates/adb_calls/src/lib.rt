@@ -3,6 +3,7 @@
 #![tactic(auto)]
 
 mod attaches;
+mod bounds;
 mod detaches;
 mod ends;
 mod joins;
@@ -12,6 +13,7 @@ mod puts;
 mod sends;
 
 pub use attaches::attach;
+pub use bounds::bound;
 pub use detaches::detach;
 pub use ends::end;
 pub use joins::join;

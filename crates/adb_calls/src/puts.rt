@@ -98,11 +98,7 @@ fn first(text: &[u8], max: usize) -> &[u8]
 }
 
 /// The list becomes due to a client of these, whose list is stale no longer.
-fn owe_list(
-    clients: &mut BTreeMap<u32, Client>,
-    id: u32,
-    list: &Text,
-) -> Result<(), AllocError>
+fn owe_list(clients: &mut BTreeMap<u32, Client>, id: u32, list: &Text) -> Result<(), AllocError>
     ensures ok { OnOk result (Lists id list.now clients.old.entries clients.new.entries) }
     ensures err { OnErr result ((c : ℕ) → at c clients.new.entries ≡ at c clients.old.entries) }
 {

@@ -36,7 +36,7 @@ returns-in-Ok-clause-made c =
     let rises = c.next_id-id.ensures.rises in
     let fit = plugged_fit old c.requires.reached rises id next c.requires.fit c.args.kind c.args.serial.now mid plugs in
     let made = attached_by old c.requires.reached rises id next c.requires.fit c.args.kind c.args.serial.now mid plugs c.mark_all.new.self
-        c.mark_all.ensures.uses c.mark_all.ensures.links (c.mark_all.ensures.state fit.provided.tracked) in
+    c.mark_all.ensures.uses c.mark_all.ensures.links (c.mark_all.ensures.state fit.provided.tracked) in
     subst (λ (n : ℕ). Makes (Attach n c.args.kind c.args.serial.now) old c.mark_all.new.self) (next ∙ sym c.in-Ok.ensures.id) made
 
 pub returns-in-Err-clause-kept : goal.returns-in-Err-clause-kept
@@ -46,7 +46,7 @@ returns-in-Err-clause-kept c =
     let new = record old { links = c.take_port.new.links; devices = c.attach.new.self } in
     let row = subst (λ (port : Port). Puts id (Some port) old.links.entries c.put_port.new.links.entries) c.in_ok-port.ensures c.in_ok-put_port.ensures.put in
     let same = taken_out old c.requires.reached c.next_id-id.ensures.rises id c.next_id-id.ensures.id c.put_port.new.links.entries new.links.entries row
-        c.take_port.ensures in
+    c.take_port.ensures in
     widened old new c.requires.fit (record {
       clients = λ k. same_client (at k old.clients.entries);
       links = like_ports old.links.entries new.links.entries same;
