@@ -1,5 +1,5 @@
 -- A client's input ends.
-use Rattle.std.proofs.Common.{ℕ, ◌≡◌, ◌≢◌, Bool, true, false, cond, eqb, List, [], Option, Some, None, refl, sym, ◌∙◌, ap, subst}
+use Rattle.std.proofs.Common.{ℕ, ◌≡◌, ◌≢◌, Bool, false, cond, List, [], Option, Some, None, refl, sym, ◌∙◌, ap, subst}
 use Rattle.std.specs.Prelude.{option_map, option_and_then}
 use Rattle.std.proofs.lemmas.Bool.{eq-eqb}
 use Rattle.adb_outside.specs.Tables.{at}
@@ -15,7 +15,6 @@ use Rattle.adb_history.specs.Rows.{Client, State, to_client}
 use Rattle.adb_history.specs.Links.{maxdata_of}
 use Rattle.adb_history.specs.Flow.{payloads, up}
 use Rattle.adb_history.specs.Losing.{client_ends, input_ends, input_ended}
-use Rattle.adb_history.specs.Machine.{rule}
 use Rattle.adb_history.specs.Moves.{IsClientIn}
 use Rattle.adb_history.specs.Orderly.{IsResting, HasStream}
 use Rattle.adb_rules.specs.declared.tables.Tables.{Tables}

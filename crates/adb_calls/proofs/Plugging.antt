@@ -12,7 +12,7 @@ use Rattle.adb_capture.specs.declared.entry.Entry.TheVariants.{Attach}
 use Rattle.adb_registry.specs.Registry.{attached}
 use Rattle.adb_stream.specs.declared.row.Stream.{Stream}
 use Rattle.adb_wire.specs.Packet.{spelling}
-use Rattle.adb_history.specs.Rows.{Link, State, new_link, with_link_due}
+use Rattle.adb_history.specs.Rows.{Link, new_link, with_link_due}
 use Rattle.adb_history.specs.Links.{server_cnxn, check_on}
 use Rattle.adb_history.specs.Reading.{plugs_in}
 use Rattle.adb_history.specs.Tracking.{mark_all}
@@ -21,7 +21,7 @@ use Rattle.adb_rules.specs.declared.ports.Port.{Port}
 use Rattle.adb_rules.specs.declared.tables.Tables.{Tables}
 use Rattle.adb_rules.specs.Tables.{link_row, state_of}
 use Rattle.adb_rules.specs.Places.{LinkRoom, is_on, streams_on, IsCountedAt, Uses}
-use Rattle.adb_rules.specs.Fit.{IsReadOutAt, IsFit, IsReached, Makes, Keeps}
+use Rattle.adb_rules.specs.Fit.{IsReadOutAt, IsFit, IsReached, Makes}
 use Rattle.adb_rules.proofs.Using.{provided_by}
 use Rattle.adb_calls.specs.Plugged.{greeted}
 use Rattle.adb_calls.proofs.Reached.{within, is_orderly, sends_nothing}

@@ -1,8 +1,8 @@
 -- Bytes are handed out to a client.
-use Rattle.std.proofs.Common.{ℕ, ◌≡◌, ◌≢◌, ◌+◌, Bool, true, false, cond, eqb, List, [], ◌∷◌, ◌++◌, length, Option, Some, None, refl, sym, ◌∙◌, ap, subst, ◌⊎◌, inl, inr}
+use Rattle.std.proofs.Common.{ℕ, ◌≡◌, ◌≢◌, Bool, true, false, cond, eqb, List, [], ◌∷◌, length, Option, Some, None, refl, sym, ◌∙◌, ap, subst, ◌⊎◌, inl, inr}
 use Rattle.std.specs.Prelude.{option_map, option_and_then}
 use Rattle.std.proofs.lemmas.Bool.{ne_eqb, eq-eqb, cases_eq}
-use Rattle.adb_outside.specs.Tables.{at, Rows, put_row, change_row}
+use Rattle.adb_outside.specs.Tables.{at, Rows}
 use Rattle.adb_capture.specs.declared.entry.Entry.TheVariants.{Put}
 use Rattle.adb_client.specs.Client.{SeenClient}
 use Rattle.adb_client.specs.declared.phase.Phase.{Phase}
@@ -10,11 +10,10 @@ use Rattle.adb_client.specs.declared.phase.Phase.TheVariants.{Tracking}
 use Rattle.adb_registry.specs.Registry.{DeviceTable}
 use Rattle.adb_stream.specs.declared.row.Stream.{Stream}
 use Rattle.adb_rest.specs.Resting.{StepIsRule}
-use Rattle.adb_history.specs.Rows.{Client, Link, State, to_client, with_due}
+use Rattle.adb_history.specs.Rows.{Client, State, with_due}
 use Rattle.adb_history.specs.Events.{then_also}
 use Rattle.adb_history.specs.Handing.{takes_of, lists_first, unmarked, puts_to}
 use Rattle.adb_history.specs.Tracking.{offered, tracked_list, list_if_stale, due_or}
-use Rattle.adb_history.specs.Machine.{rule}
 use Rattle.adb_rules.specs.declared.tables.Tables.{Tables}
 use Rattle.adb_rules.specs.Tables.{client_row, state_of}
 use Rattle.adb_rules.specs.Tracked.{IsListedAt}

@@ -4,7 +4,6 @@ use Rattle.adb_rest.specs.Resting.{SendsNothingBy, GoesUpAlone}
 use Rattle.adb_rest.proofs.RestingSteps.{all_send_nothing}
 use Rattle.adb_rest.proofs.RestingOpen.{goes_up_alone}
 use Rattle.adb_history.specs.Rows.{State}
-use Rattle.adb_history.specs.Machine.{History, state}
 use Rattle.adb_history.specs.Orderly.{IsOrderly}
 use Rattle.adb_history.specs.Book.{plugged_count}
 use Rattle.adb_history.specs.Tied.{came_count}

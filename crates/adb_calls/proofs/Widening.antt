@@ -1,15 +1,14 @@
 -- Where places are reserved, tables stay fit, and show the same state.
-use Rattle.std.proofs.Common.{ℕ, ◌≡◌, ◌+◌, ◌==◌, ◌≤◌, List, Option, Some, None, refl, sym, ◌∙◌, ap, subst, arith}
+use Rattle.std.proofs.Common.{ℕ, ◌≡◌, ◌==◌, List, Option, Some, None, refl, sym, ◌∙◌, ap, subst, arith}
 use Rattle.std.specs.Prelude.{option_map}
-use Rattle.adb_outside.specs.Tables.{at, Rows}
+use Rattle.adb_outside.specs.Tables.{at}
 use Rattle.adb_client.specs.Client.{SeenClient}
 use Rattle.adb_client.specs.declared.about.About.{About}
-use Rattle.adb_client.specs.declared.phase.Phase.{Phase}
 use Rattle.adb_link.specs.declared.link.TheConstants.{VERSION_WITH_SUMS}
 use Rattle.adb_wire.specs.Deframing.{Deframing}
 use Rattle.adb_stream.specs.declared.row.Stream.{Stream}
 use Rattle.adb_capture.specs.declared.entry.Entry.{Entry}
-use Rattle.adb_history.specs.Rows.{Client, Link, State}
+use Rattle.adb_history.specs.Rows.{State}
 use Rattle.adb_history.specs.Machine.{step}
 use Rattle.adb_rules.specs.declared.ports.Port.{Port}
 use Rattle.adb_rules.specs.declared.tables.Tables.{Tables}

@@ -1,6 +1,6 @@
 -- What is handed out to a link or a client.
 use Rattle.std.specs.Prelude.{ℕ, ◌≡◌, ◌≢◌, Bool, false, if◌then◌else◌, List, [], ◌∷◌, ◌++◌, take, Option, Some, None, option_map}
-use Rattle.adb_outside.specs.Tables.{at, Rows, Puts}
+use Rattle.adb_outside.specs.Tables.{at, Puts}
 use Rattle.adb_capture.specs.declared.entry.Entry.{Entry}
 use Rattle.adb_client.specs.Client.{SeenClient}
 use Rattle.adb_registry.specs.Registry.{DeviceTable}

@@ -3,9 +3,7 @@ use Rattle.adb_outside.specs.Tables.{at, Puts}
 use Rattle.adb_registry.specs.Registry.{DeviceTable}
 use Rattle.adb_capture.specs.declared.entry.Entry.TheVariants.{Attach}
 use Rattle.adb_rules.specs.declared.ports.Port.{Port}
-use Rattle.adb_rules.specs.declared.tables.Tables.{Tables}
 use Rattle.adb_rules.specs.Fit.{Makes}
-use Rattle.adb_calls.specs.Plugged.{greeted}
 use Rattle.adb_calls.proofs.Widening.{widened, same_client, like_ports}
 use Rattle.adb_calls.proofs.Plugging.{Plugs, taken_out, plugged_fit, attached_by}
 use Rattle.adb_calls.proofs.attaches.plug_in.Goals as goal

@@ -4,7 +4,6 @@ use Rattle.adb_capture.specs.declared.entry.Entry.TheVariants.{Bound}
 use Rattle.adb_forward.specs.declared.row.ForwardRow.{ForwardRow}
 use Rattle.adb_history.specs.Rows.{State}
 use Rattle.adb_history.specs.Clients.{closes}
-use Rattle.adb_rules.specs.declared.tables.Tables.{Tables}
 use Rattle.adb_rules.specs.Tables.{state_of}
 use Rattle.adb_rules.specs.Places.{Uses}
 use Rattle.adb_rules.specs.Fit.{Keeps}

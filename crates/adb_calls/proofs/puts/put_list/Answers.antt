@@ -1,4 +1,4 @@
-use Rattle.std.proofs.Common.{rules, ◌≡◌, ◌∙◌, ap, refl, sym, subst, Option}
+use Rattle.std.proofs.Common.{rules, ◌∙◌, ap, refl, sym, subst, Option}
 use Rattle.adb_outside.specs.Tables.{at}
 use Rattle.adb_stream.specs.declared.row.Stream.{Stream}
 use Rattle.adb_history.specs.Handing.{takes_of}
