@@ -1,5 +1,5 @@
 -- A client's input ends.
-use Rattle.std.proofs.Common.{ℕ, ◌≡◌, ◌≢◌, Bool, true, false, cond, eqb, List, [], Option, Some, None, refl, sym, ◌∙◌, ap, subst}
+use Rattle.std.proofs.Common.{ℕ, ◌≡◌, ◌≢◌, Bool, false, cond, List, [], Option, Some, None, refl, sym, ◌∙◌, ap, subst}
 use Rattle.std.specs.Prelude.{option_map, option_and_then}
 use Rattle.std.proofs.lemmas.Bool.{eq-eqb}
 use Rattle.adb_outside.specs.Tables.{at}
@@ -15,7 +15,6 @@ use Rattle.adb_history.specs.Rows.{Client, State, to_client}
 use Rattle.adb_history.specs.Links.{maxdata_of}
 use Rattle.adb_history.specs.Flow.{payloads, up}
 use Rattle.adb_history.specs.Losing.{client_ends, input_ends, input_ended}
-use Rattle.adb_history.specs.Machine.{rule}
 use Rattle.adb_history.specs.Moves.{IsClientIn}
 use Rattle.adb_history.specs.Orderly.{IsResting, HasStream}
 use Rattle.adb_rules.specs.declared.tables.Tables.{Tables}
@@ -87,8 +86,8 @@ module _ (s : State) (reached : IsReached s) (c l : ℕ) (x : IsClientIn s c (St
       let now : (client_ends c Eof (s.clients c) s).state.streams l ≡ Some stream = sym (ap (λ (t : State). t.streams l) ruled) ∙ there in
       let devices : mid.devices ≡ s.devices = ap (λ (t : State). t.devices) noted_is in
       let held : held_at (at stream.client mid.clients.entries) ≡ x.client.held =
-          ap (λ (n : ℕ). held_at (at n mid.clients.entries)) (owner stream before)
-          ∙ (held_is (at c mid.clients.entries) ∙ (ap (λ (t : State). shown_held (t.clients c)) noted_is ∙ held_then)) in
+      ap (λ (n : ℕ). held_at (at n mid.clients.entries)) (owner stream before)
+      ∙ (held_is (at c mid.clients.entries) ∙ (ap (λ (t : State). shown_held (t.clients c)) noted_is ∙ held_then)) in
       ap (λ (bytes : List ℕ). payloads stream.part.flow (maxdata_of stream.link mid.devices) bytes) held
       ∙ (ap (λ (table : _). payloads stream.part.flow (maxdata_of stream.link table) x.client.held) devices
       ∙ (goes_up s reached).quiet c l x stream now)

@@ -5,15 +5,13 @@ use Rattle.adb_outside.specs.Tables.{at}
 use Rattle.adb_wire.specs.Deframing.{Deframing}
 use Rattle.adb_capture.specs.declared.entry.Entry.{Entry}
 use Rattle.adb_history.specs.Rows.{Link, State}
-use Rattle.adb_history.specs.Machine.{state, step}
+use Rattle.adb_history.specs.Machine.{step}
 use Rattle.adb_history.proofs.Growing.{RowStep, LinkStays}
 use Rattle.adb_rules.specs.declared.ports.Port.{Port}
 use Rattle.adb_rules.specs.declared.tables.Tables.{Tables}
 use Rattle.adb_rules.specs.Tables.{link_row, state_of}
-use Rattle.adb_rules.specs.Tracked.{IsListedAt}
-use Rattle.adb_rules.specs.Places.{LinkRoom, ClientRoom, IsCountedAt, IsProvided, StaysRead, Uses}
-use Rattle.adb_rules.specs.Fit.{IsReadOutAt, IsFit, IsReached, Makes, Keeps}
-use Rattle.adb_rules.proofs.Using.{provided_by}
+use Rattle.adb_rules.specs.Places.{IsProvided, StaysRead}
+use Rattle.adb_rules.specs.Fit.{IsReadOutAt, IsFit, Makes}
 
 -- ---- what came in
 -- of a link that lives check words are looked at as before

@@ -1,9 +1,9 @@
 -- A client comes.
-use Rattle.std.proofs.Common.{ℕ, ◌≡◌, ◌+◌, Bool, false, List, [], Option, Some, sym, ◌∙◌, ap, subst, arith}
-use Rattle.adb_outside.specs.Tables.{at, Rows, Puts}
+use Rattle.std.proofs.Common.{ℕ, ◌≡◌, ◌+◌, false, [], Option, Some, sym, ◌∙◌, ap, subst, arith}
+use Rattle.adb_outside.specs.Tables.{Rows, Puts}
 use Rattle.adb_client.specs.Client.{SeenClient, new_about}
 use Rattle.adb_capture.specs.declared.entry.Entry.TheVariants.{Join}
-use Rattle.adb_history.specs.Rows.{Client, State}
+use Rattle.adb_history.specs.Rows.{Client}
 use Rattle.adb_history.specs.Reading.{comes}
 use Rattle.adb_rules.specs.declared.tables.Tables.{Tables}
 use Rattle.adb_rules.specs.Tables.{client_row, state_of}

@@ -6,3 +6,6 @@ mod Turns
 mod Joining
 mod Ending
 mod Widening
+mod Putting
+mod Plugging
+mod Bounding

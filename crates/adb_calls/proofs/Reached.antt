@@ -1,10 +1,9 @@
 -- What is known of a state that a legal history leaves.
-use Rattle.std.proofs.Common.{ℕ, sym, subst}
+use Rattle.std.proofs.Common.{ℕ, ◌≡◌, sym, subst}
 use Rattle.adb_rest.specs.Resting.{SendsNothingBy, GoesUpAlone}
 use Rattle.adb_rest.proofs.RestingSteps.{all_send_nothing}
 use Rattle.adb_rest.proofs.RestingOpen.{goes_up_alone}
 use Rattle.adb_history.specs.Rows.{State}
-use Rattle.adb_history.specs.Machine.{History, state}
 use Rattle.adb_history.specs.Orderly.{IsOrderly}
 use Rattle.adb_history.specs.Book.{plugged_count}
 use Rattle.adb_history.specs.Tied.{came_count}
@@ -18,6 +17,7 @@ pub record IsWithin (s : State) : Type 0 where
   pub came : ℕ
   pub plugged : ℕ
   pub all : AreWithin came plugged s.streams
+  pub drawn : s.devices.drawn ≡ plugged
 
 module _ (s : State) (reached : IsReached s) where
   pub within : IsWithin s
@@ -25,6 +25,7 @@ module _ (s : State) (reached : IsReached s) where
     came = came_count reached.history;
     plugged = plugged_count reached.history;
     all = (tied reached.history reached.legal).streams;
+    drawn = (tied reached.history reached.legal).drawn;
   })
 
   pub is_orderly : IsOrderly s

@@ -1,12 +1,12 @@
 -- On links that live check words are looked at as before.
-use Rattle.std.proofs.Common.{ℕ, ◌≡◌, Bool, true, false, cond, eqb, List, [], ◌∷◌, length, drop, Option, Some, None, refl}
+use Rattle.std.proofs.Common.{ℕ, Bool, true, false, cond, eqb, length, drop, Option, Some, None, refl}
 use Rattle.std.specs.Prelude.{option_and_then}
 use Rattle.adb_outside.specs.declared.kinds.Cause.{Cause}
-use Rattle.adb_capture.specs.declared.entry.Entry.TheVariants.{End, Put, Send}
+use Rattle.adb_capture.specs.declared.entry.Entry.TheVariants.{End}
 use Rattle.adb_history.specs.Rows.{Client, Link, State, to_client}
 use Rattle.adb_history.specs.Events.{Ending}
 use Rattle.adb_history.specs.Losing.{client_ends, link_ends}
-use Rattle.adb_history.specs.Handing.{link_hands, sends, hands, client_left, takes_of, lists_first, puts_to}
+use Rattle.adb_history.specs.Handing.{link_hands, sends, hands, client_left, takes_of}
 use Rattle.adb_history.specs.Machine.{step, ups}
 use Rattle.adb_history.proofs.Growing.{keeps_then}
 use Rattle.adb_history.proofs.GrowingRules.{keeps_client_ends, keeps_up_all}

@@ -1,5 +1,5 @@
 -- What a rule that takes no places makes, by which nothing goes up.
-use Rattle.std.proofs.Common.{ℕ, ◌≡◌, Bool, true, false, refl, List, length, Option, Some, None, sym, ◌∙◌, ap, subst, is_some}
+use Rattle.std.proofs.Common.{ℕ, ◌≡◌, true, false, refl, List, length, Option, Some, None, sym, ◌∙◌, subst, is_some}
 use Rattle.adb_outside.specs.declared.kinds.Cause.{Cause}
 use Rattle.adb_capture.specs.declared.entry.Entry.{Entry}
 use Rattle.adb_capture.specs.declared.entry.Entry.TheVariants.{Send, Detach}
@@ -8,14 +8,14 @@ use Rattle.adb_history.specs.Rows.{Link, State}
 use Rattle.adb_history.specs.Events.{lost}
 use Rattle.adb_history.specs.Handing.{sends}
 use Rattle.adb_history.specs.Losing.{link_ends}
-use Rattle.adb_history.specs.Machine.{rule, step, unplugs_on}
+use Rattle.adb_history.specs.Machine.{rule, unplugs_on}
 use Rattle.adb_rules.specs.declared.tables.Tables.{Tables}
 use Rattle.adb_rules.specs.Tables.{state_of}
 use Rattle.adb_rules.specs.Places.{Uses}
 use Rattle.adb_rules.specs.Fit.{IsFit, IsReached, Makes}
 use Rattle.adb_rules.proofs.Using.{provided_by}
 use Rattle.adb_calls.proofs.Reached.{within, sends_nothing}
-use Rattle.adb_calls.proofs.Fitting.{SumsStay, same_sums, made_by}
+use Rattle.adb_calls.proofs.Fitting.{SumsStay, made_by}
 use Rattle.adb_calls.proofs.Summing.{sums_sends, sums_link_ends}
 
 -- The rule of an entry was made, and took no places.

@@ -1,15 +1,14 @@
 -- Where places are reserved, tables stay fit, and show the same state.
-use Rattle.std.proofs.Common.{ℕ, ◌≡◌, ◌+◌, ◌==◌, ◌≤◌, List, Option, Some, None, refl, sym, ◌∙◌, ap, subst, arith}
+use Rattle.std.proofs.Common.{ℕ, ◌≡◌, ◌==◌, List, Option, Some, None, refl, sym, ◌∙◌, ap, subst, arith}
 use Rattle.std.specs.Prelude.{option_map}
-use Rattle.adb_outside.specs.Tables.{at, Rows}
+use Rattle.adb_outside.specs.Tables.{at}
 use Rattle.adb_client.specs.Client.{SeenClient}
 use Rattle.adb_client.specs.declared.about.About.{About}
-use Rattle.adb_client.specs.declared.phase.Phase.{Phase}
 use Rattle.adb_link.specs.declared.link.TheConstants.{VERSION_WITH_SUMS}
 use Rattle.adb_wire.specs.Deframing.{Deframing}
 use Rattle.adb_stream.specs.declared.row.Stream.{Stream}
 use Rattle.adb_capture.specs.declared.entry.Entry.{Entry}
-use Rattle.adb_history.specs.Rows.{Client, Link, State}
+use Rattle.adb_history.specs.Rows.{State}
 use Rattle.adb_history.specs.Machine.{step}
 use Rattle.adb_rules.specs.declared.ports.Port.{Port}
 use Rattle.adb_rules.specs.declared.tables.Tables.{Tables}
@@ -90,9 +89,9 @@ port_read (Some old) (Some new) h read = record {
 shown : (old new : Tables) → Widens old new → state_of (record old { clients = new.clients; links = new.links }) ≡ state_of old
 shown old new h =
     let clients : (λ c. option_map client_row (at c new.clients.entries)) ≡ (λ c. option_map client_row (at c old.clients.entries)) =
-        λ i c. client_shown (at c old.clients.entries) (at c new.clients.entries) (h.clients c) i in
+    λ i c. client_shown (at c old.clients.entries) (at c new.clients.entries) (h.clients c) i in
     let links : (λ k. option_map link_row (at k new.links.entries)) ≡ (λ k. option_map link_row (at k old.links.entries)) =
-        λ i k. port_shown (at k old.links.entries) (at k new.links.entries) (h.links k) i in
+    λ i k. port_shown (at k old.links.entries) (at k new.links.entries) (h.links k) i in
     λ i. record (state_of old) { clients = clients i; links = links i }
 
 pub widened : (old new : Tables) → IsFit old → Widens old new → Keeps old new

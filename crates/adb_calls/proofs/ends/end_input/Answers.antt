@@ -1,8 +1,8 @@
-use Rattle.std.proofs.Common.{sym, ◌∙◌}
+use Rattle.std.proofs.Common.{◌∙◌}
 use Rattle.adb_outside.specs.declared.kinds.Cause.TheVariants.{Eof}
 use Rattle.adb_rules.specs.Tables.{state_of}
 use Rattle.adb_calls.proofs.Reached.{sends_nothing}
-use Rattle.adb_calls.proofs.Ending.{no_open, open_there, ended_by}
+use Rattle.adb_calls.proofs.Ending.{no_open, ended_by}
 use Rattle.adb_calls.proofs.ends.end_input.Goals as goal
 
 pub returns-in_default : goal.returns-in_default
