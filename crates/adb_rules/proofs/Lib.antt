@@ -1,7 +1,7 @@
-mod Rows
+pub mod Rows
 mod Owing
 mod StreamRows
-mod Using
+pub mod Using
 mod Marks
 mod Closings
 mod Ending
