@@ -1,10 +1,10 @@
 -- How clients close.
-use Rattle.std.proofs.Common.{ℕ, ◌≡◌, ◌++◌, List, [], ◌∷◌, Bool, true, false, Option, Some, None, refl, sym, ◌∙◌, ap, cond, eqb}
+use Rattle.std.proofs.Common.{ℕ, ◌≡◌, ◌++◌, List, [], ◌∷◌, Bool, true, false, Option, Some, None, refl, sym, ap, cond, eqb}
 use Rattle.std.specs.Prelude.{option_and_then, codes}
 use Rattle.adb_outside.specs.Tables.{Rows, change_row}
 use Rattle.adb_reply.specs.Strings.{failed}
 use Rattle.adb_stream.specs.declared.row.Stream.{Stream}
-use Rattle.adb_history.specs.Rows.{Client, State, to_stream, none_kept, with_due}
+use Rattle.adb_history.specs.Rows.{Client, State, to_stream, none_kept}
 use Rattle.adb_history.specs.Events.{Ending}
 use Rattle.adb_history.specs.Links.{close_packet, owe_link}
 use Rattle.adb_history.specs.Clients.{closing_with}

@@ -13,12 +13,13 @@ use Rattle.adb_history.specs.Flow.{up}
 use Rattle.adb_rules.specs.declared.tables.Tables.{Tables}
 use Rattle.adb_rules.specs.Tables.{state_of}
 use Rattle.adb_rules.specs.Tracked.{IsAmong, IsTracked}
-use Rattle.adb_rules.specs.Places.{LinkRoom, ClientRoom, IsCounted, StaysOwned}
+use Rattle.adb_rules.specs.Places.{LinkRoom, ClientRoom, IsCounted, StaysOwned, StaysRead}
 use Rattle.adb_rules.specs.Handing.{UsesOf, HasRoom}
 use Rattle.adb_rules.specs.Up.{IsSized, IsReadyUp, StaysReady, writes_up}
 use Rattle.adb_rules.specs.Sweep.{up_each, writes_if_on, writes_on, IsReadyEach, UsesEach}
 use Rattle.adb_rules.proofs.RisingIds.{above, rises_behind}
-use Rattle.adb_rules.proofs.Using.{stays, owned_then, more_room}
+use Rattle.adb_rules.proofs.Staying.{stays, owned_then, read_stays, read_then}
+use Rattle.adb_rules.proofs.Using.{more_room}
 
 -- What the up rule for one id leaves.
 pub record LeavesOne (id : ℕ) (old new : Tables) : Type 0 where
@@ -33,6 +34,7 @@ record LeavesRest (old new : Tables) : Type 0 where
   pub counted : IsCounted old → IsCounted new
   pub tracked : IsTracked old → IsTracked new
   pub owned : (l : ℕ) → StaysOwned (at l old.streams.streams) (at l new.streams.streams)
+  pub read : (k : ℕ) → StaysRead (at k old.links.entries) (at k new.links.entries)
 
 no_more : (n : ℕ) → n + 0 ≡ n
 no_more n = omega arith
@@ -43,12 +45,14 @@ leaves_rest None k old new uses = record {
   counted = (uses 0 0).counted;
   tracked = (uses 0 0).tracked;
   owned = (uses 0 0).owned;
+  read = (uses 0 0).read;
 }
 leaves_rest (Some stream) k old new uses = record {
   clients = λ n c room. (uses c).of_client n (subst (λ (q : ℕ). ClientRoom q (at c old.clients.entries)) (sym (no_more n)) room);
   counted = (uses 0).counted;
   tracked = (uses 0).tracked;
   owned = (uses 0).owned;
+  read = (uses 0).read;
 }
 
 -- ids behind the first are others
@@ -136,6 +140,7 @@ pub record Swept (ids rest : List ℕ) (old now : Tables) : Type 0 where
   pub counted : IsCounted old → IsCounted now
   pub tracked : IsTracked old → IsTracked now
   pub owned : (l : ℕ) → StaysOwned (at l old.streams.streams) (at l now.streams.streams)
+  pub read : (k : ℕ) → StaysRead (at k old.links.entries) (at k now.links.entries)
 
 pub swept_none : (ids : List ℕ) (t : Tables) → IsStrictlySortedBy nat_cmp ids → IsReadyEach ids t → IsSized t → Swept ids ids t t
 swept_none ids t rises ready sized = record {
@@ -149,6 +154,7 @@ swept_none ids t rises ready sized = record {
   counted = λ counted. counted;
   tracked = λ tracked. tracked;
   owned = λ l. stays (at l t.streams.streams);
+  read = λ k. read_stays (at k t.links.entries);
 }
 
 pub swept_one : (ids behind : List ℕ) (id : ℕ) {old now new : Tables} → Swept ids (id ∷ behind) old now → LeavesOne id now new → Swept ids behind old new
@@ -165,6 +171,7 @@ swept_one ids behind id {old} {now} {new} h one =
       counted = λ counted. others.counted (h.counted counted);
       tracked = λ tracked. others.tracked (h.tracked tracked);
       owned = λ l. owned_then (at l old.streams.streams) (at l now.streams.streams) (at l new.streams.streams) (h.owned l) (others.owned l);
+      read = λ k. read_then (at k old.links.entries) (at k now.links.entries) (at k new.links.entries) (h.read k) (others.read k);
     }
 
 pub swept_uses : (ids : List ℕ) (old new : Tables) → Swept ids [] old new → UsesEach ids old new
@@ -174,4 +181,5 @@ swept_uses ids old new h = record {
   counted = h.counted;
   tracked = h.tracked;
   owned = h.owned;
+  read = h.read;
 }

@@ -1,6 +1,7 @@
 pub mod Rows
 mod Owing
 mod StreamRows
+mod Staying
 pub mod Using
 mod Marks
 mod Closings

@@ -1,7 +1,7 @@
 -- All clients that track are marked.
-use Rattle.std.proofs.Common.{ℕ, ◌≡◌, ◌≢◌, List, [], ◌∷◌, Option, Some, None, refl, sym, ◌∙◌, ap, subst, cond, eqb, true, false, Bool, ◌⊎◌, inl, inr}
+use Rattle.std.proofs.Common.{ℕ, ◌≡◌, List, [], ◌∷◌, Option, Some, None, refl, sym, ◌∙◌, ap, cond, eqb, true, false, Bool, ◌⊎◌, inl, inr}
 use Rattle.std.specs.Prelude.{option_map}
-use Rattle.std.proofs.lemmas.Bool.{ne_eqb, eq-eqb, cases_eq}
+use Rattle.std.proofs.lemmas.Bool.{eq-eqb}
 use Rattle.adb_outside.specs.Tables.{at, Rows, change_row}
 use Rattle.adb_client.specs.Client.{SeenClient}
 use Rattle.adb_client.specs.declared.phase.Phase.{Phase}

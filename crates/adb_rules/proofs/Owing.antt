@@ -1,5 +1,5 @@
 -- A packet that becomes due, by the row of its link.
-use Rattle.std.proofs.Common.{ℕ, ◌≡◌, ◌≢◌, Option, Some, None, refl, sym, ◌∙◌, ap, cond, eqb, ◌⊎◌, inl, inr}
+use Rattle.std.proofs.Common.{ℕ, ◌≡◌, ◌≢◌, Option, Some, None, refl, sym, ◌∙◌, ap, cond, ◌⊎◌, inl, inr}
 use Rattle.std.specs.Prelude.{option_and_then}
 use Rattle.std.proofs.lemmas.Bool.{ne_eqb, eq-eqb, cases_eq}
 use Rattle.adb_outside.specs.Tables.{Rows, change_row}

@@ -1,8 +1,8 @@
 -- Tables, as functions from numbers.
-use Rattle.std.proofs.Common.{ℕ, ◌≡◌, ◌≢◌, List, Option, Some, None, refl, sym, ◌∙◌, ap, cond, eqb, ◌⊎◌, inl, inr}
+use Rattle.std.proofs.Common.{ℕ, ◌≡◌, ◌≢◌, List, Option, sym, ◌∙◌, ap, cond, eqb, ◌⊎◌, inl, inr}
 use Rattle.std.specs.Prelude.{option_and_then}
 use Rattle.std.proofs.lemmas.Bool.{ne_eqb, eq-eqb, cases_eq}
-use Rattle.adb_outside.specs.Tables.{at, IsRising, put_at, without, Puts, put_row, change_row}
+use Rattle.adb_outside.specs.Tables.{at, Puts, put_row, change_row}
 
 module _ {X : Type 0} where
   -- what a table with another row at a number shows

@@ -14,7 +14,8 @@ use Rattle.adb_rules.specs.Tables.{state_of}
 use Rattle.adb_rules.specs.Places.{Uses}
 use Rattle.adb_rules.specs.Up.{held_at, may_send, CanCut, cut_off, unsent, CanCutAll, all_written, all_sent, Sends}
 use Rattle.adb_rules.proofs.Closings.{fused}
-use Rattle.adb_rules.proofs.Using.{stays, spares_uses, uses_then}
+use Rattle.adb_rules.proofs.Staying.{stays, held_stays, read_stays}
+use Rattle.adb_rules.proofs.Using.{spares_uses, uses_then}
 use Rattle.adb_rules.proofs.WritesUp.{one_let, within}
 
 -- a write is the first of all that are made
@@ -117,6 +118,8 @@ module _ (l : ℕ) (stream : Stream) (m : ℕ) where
       counted = λ counted. counted;
       tracked = λ tracked. tracked;
       owned = λ k. stays (at k w.1.streams.streams);
+      held = λ c. held_stays (at c w.1.clients.entries);
+      read = λ k. read_stays (at k w.1.links.entries);
     }) stream.link c);
     cut = λ can. can;
     streams = refl;

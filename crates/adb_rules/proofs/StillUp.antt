@@ -10,7 +10,7 @@ use Rattle.adb_stream.specs.declared.row.Stream.{Stream}
 use Rattle.adb_history.specs.Rows.{Client, State, to_stream, with_held, with_stream_part}
 use Rattle.adb_history.specs.Events.{quietly}
 use Rattle.adb_history.specs.Links.{maxdata_of}
-use Rattle.adb_history.specs.Flow.{payloads, with_flow, noted, closes_if, sends_up, is_streaming, up_client, up_stream, up, up_all}
+use Rattle.adb_history.specs.Flow.{payloads, with_flow, noted, is_over, closes_if, sends_up, is_streaming, up_client, up_stream, up, up_all}
 use Rattle.adb_rules.specs.Tracked.{IsAmong}
 use Rattle.adb_rules.specs.Sweep.{up_each, HasNothingUp, IsStillFor, IsStillOf, IsStill, CoversUp}
 use Rattle.adb_rules.proofs.RisingIds.{above, rises_behind}
@@ -37,6 +37,15 @@ module _ (l : ℕ) (stream : Stream) (s : State) (here : s.streams l ≡ Some st
       ap (λ ps. (sends_up l stream client ps s).state) h.nothing
       ∙ (ap (λ b. (closes_if b l ((noted l stream client.held [] s).streams l) (noted l stream client.held [] s)).state) h.goes_on
       ∙ (not_closed l ((noted l stream client.held [] s).streams l) (noted l stream client.held [] s) ∙ noted_none client owner))
+
+  -- where nothing is sent, what is left of the rule is the end
+  pub end_alone : (client : Client) (ps : List (List ℕ)) → s.clients stream.client ≡ Some client → ps ≡ []
+      → (closes_if (is_over client.about.ended client.held stream.part.flow) l (Some stream) s).state ≡ (sends_up l stream client ps s).state
+  end_alone client ps owner none =
+      let over = is_over client.about.ended client.held stream.part.flow in
+      ap (λ (row : Option Stream). (closes_if over l row s).state) (sym here)
+      ∙ (ap (λ (now : State). (closes_if over l (now.streams l) now).state) (sym (noted_none client owner))
+      ∙ ap (λ ps. (sends_up l stream client ps s).state) (sym none))
 
   client_still : (row : Option Client) → s.clients stream.client ≡ row → IsStillFor l s.devices stream row → (up_client l stream row s).state ≡ s
   client_still None owner still = refl

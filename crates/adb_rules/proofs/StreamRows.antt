@@ -1,12 +1,12 @@
 -- What a change of a stream's row makes of the rows that are shown, and of the places.
-use Rattle.std.proofs.Common.{ℕ, ◌+◌, ◌≡◌, ◌≢◌, ◌≤◌, ◌<◌, List, Option, Some, None, refl, sym, ◌∙◌, ap, subst, cond, eqb, true, arith}
+use Rattle.std.proofs.Common.{ℕ, ◌+◌, ◌≡◌, List, Option, Some, None, refl, sym, ◌∙◌, ap, cond, eqb, arith}
 use Rattle.std.specs.Prelude.{option_and_then, option_map, unwrap_or}
 use Rattle.std.specs.BTreeMap.{is_at}
 use Rattle.std.specs.Ordering.{nat_cmp}
 use Rattle.std.proofs.lemmas.Bool.{eq-eqb}
 use Rattle.std.proofs.lemmas.Cmp.{nat_cmp_total}
 use Rattle.std.proofs.lemmas.Map.Entries.{sum_by-remove_entry, sum_by-insert_entry}
-use Rattle.adb_outside.specs.Tables.{at, IsRising, put_at, without, Puts, change_row}
+use Rattle.adb_outside.specs.Tables.{at, IsRising, put_at, without, change_row}
 use Rattle.adb_outside.proofs.TableLaws.{puts_put_at, puts_without}
 use Rattle.adb_stream.specs.Stream.{with_part, of_link}
 use Rattle.adb_stream.specs.Streams.{put_part_at, found}

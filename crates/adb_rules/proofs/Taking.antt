@@ -3,7 +3,6 @@ use Rattle.std.proofs.Common.{ℕ, ◌+◌, ◌≡◌, ◌≢◌, ◌≤◌, Boo
 use Rattle.std.specs.Prelude.{unwrap_or}
 use Rattle.std.proofs.lemmas.Bool.{eq-eqb, ne_eqb, cases_eq}
 use Rattle.adb_outside.specs.Tables.{at}
-use Rattle.adb_client.specs.Client.{SeenClient}
 use Rattle.adb_wire.specs.declared.packets.Packet.{Packet}
 use Rattle.adb_stream.specs.Stream.{of_link}
 use Rattle.adb_stream.specs.declared.row.Stream.{Stream}
@@ -14,7 +13,8 @@ use Rattle.adb_rules.specs.declared.came.Came.{Came}
 use Rattle.adb_rules.specs.declared.tables.Tables.{Tables}
 use Rattle.adb_rules.specs.Places.{LinkRoom, ClientRoom, StaysOwned, IsProvided, Uses, Takes, TakesAll}
 use Rattle.adb_rules.specs.Came.{packet_of, packets_of, takes_slice, slices_of, slices_for, slices_in}
-use Rattle.adb_rules.proofs.Using.{more_room, more_places, owned_then, stays}
+use Rattle.adb_rules.proofs.Staying.{stays, owned_then, held_stays, held_then, read_stays, read_then}
+use Rattle.adb_rules.proofs.Using.{more_room, more_places}
 
 -- what a rule takes of one client, a packet takes of it
 module _ {link client a b : ℕ} {old new : Tables} (h : Uses link a client b old new) where
@@ -26,6 +26,8 @@ module _ {link client a b : ℕ} {old new : Tables} (h : Uses link a client b ol
     counted = h.counted;
     tracked = h.tracked;
     owned = h.owned;
+    held = h.held;
+    read = h.read;
   }
     where
       of_client : (n c : ℕ) → ◌⊎◌ (c ≡ client) (c ≢ client) → ClientRoom (n + slices c) (at c old.clients.entries) → ClientRoom n (at c new.clients.entries)
@@ -121,6 +123,8 @@ module _ {link total : ℕ} {first : ℕ → ℕ} {items : List Came} {old now :
     counted = λ counted. k.counted (h.takes.counted counted);
     tracked = λ tracked. k.tracked (h.takes.tracked tracked);
     owned = λ l. owned_then (at l old.streams.streams) (at l now.streams.streams) (at l new.streams.streams) (h.takes.owned l) (k.owned l);
+    held = λ c. held_then (at c old.clients.entries) (at c now.clients.entries) (at c new.clients.entries) (h.takes.held c) (k.held c);
+    read = λ l. read_then (at l old.links.entries) (at l now.links.entries) (at l new.links.entries) (h.takes.read l) (k.read l);
   }
 
 -- nothing is taken yet
@@ -132,6 +136,8 @@ takes_none link packets slices t = record {
   counted = λ counted. counted;
   tracked = λ tracked. tracked;
   owned = λ l. stays (at l t.streams.streams);
+  held = λ c. held_stays (at c t.clients.entries);
+  read = λ k. read_stays (at k t.links.entries);
 }
 
 -- all are taken
@@ -143,6 +149,21 @@ takes_over link packets slices old new h = record {
   counted = h.counted;
   tracked = h.tracked;
   owned = h.owned;
+  held = h.held;
+  read = h.read;
+}
+
+-- a packet of which nothing is made takes nothing
+pub takes_nothing : (link : ℕ) (slices : ℕ → ℕ) (t : Tables) → Takes link 1 slices t t
+takes_nothing link slices t = record {
+  on_link = λ n room. more_room (n + 1) n (at link t.links.entries) (omega arith) room;
+  on_links = λ n l other room. room;
+  of_clients = λ n c room. more_places (n + slices c) n (at c t.clients.entries) (omega arith) room;
+  counted = λ counted. counted;
+  tracked = λ tracked. tracked;
+  owned = λ l. stays (at l t.streams.streams);
+  held = λ c. held_stays (at c t.clients.entries);
+  read = λ k. read_stays (at k t.links.entries);
 }
 
 -- what is provided stays so by packets for which there is room

@@ -1,16 +1,16 @@
 -- What changes of streams leave of the places.
-use Rattle.std.proofs.Common.{ℕ, ◌+◌, ◌-◌, ◌≡◌, ◌≢◌, ◌≤◌, ◌<◌, List, Option, Some, None, refl, sym, ◌∙◌, ap, subst, [], ◌∷◌, Bool, true, false, cond, eqb, arith, ◌⊎◌, inl, inr}
+use Rattle.std.proofs.Common.{ℕ, ◌+◌, ◌≡◌, ◌≢◌, ◌≤◌, List, Option, Some, None, refl, sym, ◌∙◌, ap, subst, [], ◌∷◌, Bool, true, false, cond, eqb, arith, ◌⊎◌, inl, inr}
 use Rattle.std.specs.Prelude.{option_map, option_and_then}
 use Rattle.std.proofs.lemmas.Bool.{ne_eqb, eq-eqb, cases_eq}
 use Rattle.std.specs.BTreeMap.{is_at}
 use Rattle.std.specs.Ordering.{nat_cmp, is_eq}
 use Rattle.std.specs.Set.{remove_key}
 use Rattle.std.proofs.lemmas.Bool.Decides.{nat_tests}
-use Rattle.adb_outside.specs.Tables.{at, IsRising, without, Puts}
+use Rattle.adb_outside.specs.Tables.{at, without, Puts}
 use Rattle.adb_client.specs.Client.{SeenClient}
 use Rattle.adb_client.specs.declared.phase.Phase.{Phase}
 use Rattle.adb_client.specs.declared.phase.Phase.TheVariants.{Asking, Opening, Streaming, Binding, Tracking, Closing, Gone}
-use Rattle.adb_stream.specs.Stream.{with_part, of_link}
+use Rattle.adb_stream.specs.Stream.{with_part}
 use Rattle.adb_stream.specs.Streams.{put_part_at, found, IsSound, with_part_in}
 use Rattle.adb_stream.specs.declared.row.Part.{Part}
 use Rattle.adb_stream.specs.declared.row.Stream.{Stream}
@@ -18,13 +18,9 @@ use Rattle.adb_history.specs.Rows.{none_kept, with_stream_part}
 use Rattle.adb_rules.specs.declared.ports.Port.{Port}
 use Rattle.adb_rules.specs.declared.tables.Tables.{Tables}
 use Rattle.adb_rules.specs.Tracked.{IsTracked, IsAmong, IsListedIn, IsListedAt}
-use Rattle.adb_rules.specs.Places.{LinkRoom, ClientRoom, is_on, streams_on, IsCountedAt, IsCounted, StaysOwned, IsProvided, Uses, freed}
+use Rattle.adb_rules.specs.Places.{LinkRoom, ClientRoom, is_on, IsCountedAt, IsCounted, StaysOwned, StaysHeld, StaysRead, IsProvided, Uses, freed}
 use Rattle.adb_rules.proofs.StreamRows.{part_rows, part_counts, gone_rows, gone_counts}
-
--- a stream keeps its owners
-pub stays : (row : Option Stream) → StaysOwned row row
-stays None = tt
-stays (Some stream) = (refl, refl)
+use Rattle.adb_rules.proofs.Staying.{stays, owned_then, held_stays, held_then, read_stays, read_then}
 
 -- what a rule leaves that takes no places at all
 pub record Spares (old new : Tables) : Type 0 where
@@ -33,6 +29,8 @@ pub record Spares (old new : Tables) : Type 0 where
   pub counted : IsCounted old → IsCounted new
   pub tracked : IsTracked old → IsTracked new
   pub owned : (l : ℕ) → StaysOwned (at l old.streams.streams) (at l new.streams.streams)
+  pub held : (c : ℕ) → StaysHeld (at c old.clients.entries) (at c new.clients.entries)
+  pub read : (k : ℕ) → StaysRead (at k old.links.entries) (at k new.links.entries)
 
 no_more : (n : ℕ) → n + 0 ≡ n
 no_more n = omega arith
@@ -46,6 +44,8 @@ spares_uses old new h t c = record {
   counted = h.counted;
   tracked = h.tracked;
   owned = h.owned;
+  held = h.held;
+  read = h.read;
 }
 
 -- of a row that is not kept nothing is left
@@ -87,6 +87,8 @@ part_spares old id stream here sound part = record {
   counted = λ counted k. fewer k (at k old.links.entries) (counted k);
   tracked = λ tracked. tracked;
   owned = owned_part old.streams.streams id stream here part;
+  held = λ c. held_stays (at c old.clients.entries);
+  read = λ k. read_stays (at k old.links.entries);
 }
   where
     fewer : (k : ℕ) (port : Option Port) → IsCountedAt k old.streams.streams port
@@ -105,6 +107,10 @@ pub record Frees (link id : ℕ) (old new : Tables) : Type 0 where
 freed_room : (n : ℕ) (port : Option Port) → LinkRoom n port → LinkRoom n (option_map freed port)
 freed_room n None room = tt
 freed_room n (Some port) room = omega (arith, room)
+
+freed_read : (port : Option Port) → StaysRead port (option_map freed port)
+freed_read None = tt
+freed_read (Some port) = refl
 
 -- where a stream stood on a link, its place is free now
 freed_place : (link : ℕ) (streams : List (ℕ × Stream)) (id : ℕ) (stream : Stream) → at id streams ≡ Some stream → stream.link ≡ link → (port : Option Port)
@@ -141,6 +147,8 @@ module _ (old new : Tables) (id : ℕ) (stream : Stream) (here : at id old.strea
     tracked = λ tracked c. subst (λ (table : _). IsListedAt c new.trackers.keys (at c table.entries)) (sym h.clients)
         (subst (λ keys. IsListedAt c keys (at c old.clients.entries)) (sym h.trackers) (tracked c));
     owned = λ l. subst (λ (table : _). StaysOwned (at l old.streams.streams) (at l table.streams)) (sym h.streams) (owned l (cases_eq id l));
+    held = λ c. subst (λ (table : _). StaysHeld (at c old.clients.entries) (at c table.entries)) (sym h.clients) (held_stays (at c old.clients.entries));
+    read = λ k. reads k (cases_eq k stream.link);
   }
     where
       keeps : (n k : ℕ) → ◌⊎◌ (k ≡ stream.link) (k ≢ stream.link) → LinkRoom n (at k old.links.entries) → LinkRoom n (at k new.links.entries)
@@ -149,6 +157,12 @@ module _ (old new : Tables) (id : ℕ) (stream : Stream) (here : at id old.strea
           subst (λ (q : ℕ). LinkRoom n (at q new.links.entries)) (sym is)
           (subst (LinkRoom n) (sym h.here) (freed_room n (at stream.link old.links.entries) at_link))
       keeps n k (inr other) room = subst (LinkRoom n) (sym (h.others k other)) room
+
+      reads : (k : ℕ) → ◌⊎◌ (k ≡ stream.link) (k ≢ stream.link) → StaysRead (at k old.links.entries) (at k new.links.entries)
+      reads k (inl is) =
+          subst (λ (q : ℕ). StaysRead (at q old.links.entries) (at q new.links.entries)) (sym is)
+          (subst (StaysRead (at stream.link old.links.entries)) (sym h.here) (freed_read (at stream.link old.links.entries)))
+      reads k (inr other) = subst (StaysRead (at k old.links.entries)) (sym (h.others k other)) (read_stays (at k old.links.entries))
 
       counts : (k : ℕ) → ◌⊎◌ (k ≡ stream.link) (k ≢ stream.link) → IsCountedAt k old.streams.streams (at k old.links.entries)
           → IsCountedAt k (without id old.streams.streams) (at k new.links.entries)
@@ -182,13 +196,6 @@ pub more_places : (m n : ℕ) (client : Option SeenClient) → n ≤ m → Clien
 more_places m n None le room = tt
 more_places m n (Some client) le room = omega (arith, le, room)
 
-pub owned_then : (first second third : Option Stream) → StaysOwned first second → StaysOwned second third → StaysOwned first third
-owned_then first second None h k = tt
-owned_then None None (Some stream) h k = absurd k
-owned_then None (Some middle) (Some stream) h k = absurd h
-owned_then (Some old) None (Some stream) h k = absurd k
-owned_then (Some old) (Some middle) (Some stream) h k = (k.0 ∙ h.0, k.1 ∙ h.1)
-
 module _ {link client : ℕ} {old middle new : Tables} where
   -- two rules, with what both take
   pub uses_then : {a b p q : ℕ} → Uses link a client p old middle → Uses link b client q middle new → Uses link (a + b) client (p + q) old new
@@ -200,6 +207,8 @@ module _ {link client : ℕ} {old middle new : Tables} where
     counted = λ counted. k.counted (h.counted counted);
     tracked = λ tracked. k.tracked (h.tracked tracked);
     owned = λ l. owned_then (at l old.streams.streams) (at l middle.streams.streams) (at l new.streams.streams) (h.owned l) (k.owned l);
+    held = λ c. held_then (at c old.clients.entries) (at c middle.clients.entries) (at c new.clients.entries) (h.held c) (k.held c);
+    read = λ l. read_then (at l old.links.entries) (at l middle.links.entries) (at l new.links.entries) (h.read l) (k.read l);
   }
 
 -- ---- a client that goes
@@ -242,11 +251,17 @@ lost_spares client old new h = record {
       (subst (λ (table : _). IsCountedAt k table.streams (at k old.links.entries)) (sym h.streams) (counted k));
   tracked = λ tracked c. lists c (cases_eq c client) (tracked c);
   owned = λ l. subst (λ (table : _). StaysOwned (at l old.streams.streams) (at l table.streams)) (sym h.streams) (stays (at l old.streams.streams));
+  held = λ c. holds c (cases_eq c client);
+  read = λ k. subst (λ (table : _). StaysRead (at k old.links.entries) (at k table.entries)) (sym h.links) (read_stays (at k old.links.entries));
 }
   where
     keeps : (n c : ℕ) → ◌⊎◌ (c ≡ client) (c ≢ client) → ClientRoom n (at c old.clients.entries) → ClientRoom n (at c new.clients.entries)
     keeps n c (inl is) room = subst (ClientRoom n) (sym (ap (λ q. at q new.clients.entries) is ∙ h.row.here)) tt
     keeps n c (inr other) room = subst (ClientRoom n) (sym (h.row.others c other)) room
+
+    holds : (c : ℕ) → ◌⊎◌ (c ≡ client) (c ≢ client) → StaysHeld (at c old.clients.entries) (at c new.clients.entries)
+    holds c (inl is) = subst (StaysHeld (at c old.clients.entries)) (sym (ap (λ q. at q new.clients.entries) is ∙ h.row.here)) tt
+    holds c (inr other) = subst (StaysHeld (at c old.clients.entries)) (sym (h.row.others c other)) (held_stays (at c old.clients.entries))
 
     lists : (c : ℕ) → ◌⊎◌ (c ≡ client) (c ≢ client) → IsListedAt c old.trackers.keys (at c old.clients.entries)
         → IsListedAt c new.trackers.keys (at c new.clients.entries)
@@ -263,6 +278,7 @@ pub record ChangesClients (old new : Tables) : Type 0 where
   pub trackers : new.trackers ≡ old.trackers
   pub room : (n c : ℕ) → ClientRoom n (at c old.clients.entries) → ClientRoom n (at c new.clients.entries)
   pub listed : (c : ℕ) (trackers : List ℕ) → IsListedAt c trackers (at c old.clients.entries) → IsListedAt c trackers (at c new.clients.entries)
+  pub held : (c : ℕ) → StaysHeld (at c old.clients.entries) (at c new.clients.entries)
 
 pub clients_spares : (old new : Tables) → ChangesClients old new → Spares old new
 clients_spares old new h = record {
@@ -272,6 +288,8 @@ clients_spares old new h = record {
       (subst (λ (table : _). IsCountedAt k table.streams (at k old.links.entries)) (sym h.streams) (counted k));
   tracked = λ tracked c. subst (λ (table : _). IsListedAt c table.keys (at c new.clients.entries)) (sym h.trackers) (h.listed c old.trackers.keys (tracked c));
   owned = λ l. subst (λ (table : _). StaysOwned (at l old.streams.streams) (at l table.streams)) (sym h.streams) (stays (at l old.streams.streams));
+  held = h.held;
+  read = λ k. subst (λ (table : _). StaysRead (at k old.links.entries) (at k table.entries)) (sym h.links) (read_stays (at k old.links.entries));
 }
 
 -- a place that became free is taken again
@@ -286,6 +304,8 @@ uses_freed link client old middle new freed (h, k) = record {
   counted = λ counted. k.counted (h.counted counted);
   tracked = λ tracked. k.tracked (h.tracked tracked);
   owned = λ l. owned_then (at l old.streams.streams) (at l middle.streams.streams) (at l new.streams.streams) (h.owned l) (k.owned l);
+  held = λ c. held_then (at c old.clients.entries) (at c middle.clients.entries) (at c new.clients.entries) (h.held c) (k.held c);
+  read = λ l. read_then (at l old.links.entries) (at l middle.links.entries) (at l new.links.entries) (h.read l) (k.read l);
 }
 
 -- what is provided stays so by rules that take no places
@@ -305,6 +325,8 @@ spares_of link client old new h = record {
   counted = h.counted;
   tracked = h.tracked;
   owned = h.owned;
+  held = h.held;
+  read = h.read;
 }
   where
     on_link : (n k : ℕ) → ◌⊎◌ (k ≡ link) (k ≢ link) → LinkRoom n (at k old.links.entries) → LinkRoom n (at k new.links.entries)
@@ -332,4 +354,6 @@ module _ {link client a p : ℕ} {old new : Tables} (h : Uses link a client p ol
     counted = h.counted;
     tracked = h.tracked;
     owned = h.owned;
+    held = h.held;
+    read = h.read;
   }

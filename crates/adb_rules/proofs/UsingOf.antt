@@ -21,6 +21,8 @@ module _ {old new : Tables} where
     counted = h.counted;
     tracked = h.tracked;
     owned = h.owned;
+    held = h.held;
+    read = h.read;
   }
 
   -- and one that takes none

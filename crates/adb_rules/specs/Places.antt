@@ -1,5 +1,5 @@
 -- Places for what becomes due without memory.
-use Rattle.std.specs.Prelude.{ℕ, ◌+◌, ◌-◌, ◌≡◌, ◌≢◌, ◌≤◌, nat_eq, if◌then◌else◌, List, Option, Some, None}
+use Rattle.std.specs.Prelude.{ℕ, ◌+◌, ◌-◌, ◌≡◌, ◌≢◌, ◌≤◌, nat_eq, if◌then◌else◌, List, length, Option, Some, None}
 use Rattle.std.specs.List.{sum_by}
 use Rattle.std.specs.Map.{values_of}
 use Rattle.adb_outside.specs.Tables.{at}
@@ -47,6 +47,23 @@ StaysOwned old None = Unit {0}
 StaysOwned None (Some new) = ⊥
 StaysOwned (Some old) (Some new) = (new.client ≡ old.client) × (new.link ≡ old.link)
 
+-- A client holds no more than before; where it holds as much, as much of it is ready, in as many pieces.
+pub record HoldsAsReady (old new : SeenClient) : Type 0 where
+  pub held : length new.held ≤ length old.held
+  pub ready : length new.held ≡ length old.held → old.ready ≤ new.ready
+  pub cuts : length new.held ≡ length old.held → old.cuts ≤ new.cuts
+
+abbrev pub StaysHeld : Option SeenClient → Option SeenClient → Type 0
+StaysHeld old None = Unit {0}
+StaysHeld None (Some new) = ⊥
+StaysHeld (Some old) (Some new) = HoldsAsReady old new
+
+-- what came in on a link that lives stays as it was
+abbrev pub StaysRead : Option Port → Option Port → Type 0
+StaysRead old None = Unit {0}
+StaysRead None (Some new) = ⊥
+StaysRead (Some old) (Some new) = new.link.incoming ≡ old.link.incoming
+
 -- What a rule leaves of the places, where it takes at most so many of a link and of a client.
 pub record Uses (link packets client slices : ℕ) (old new : Tables) : Type 0 where
   pub on_link : (n : ℕ) → LinkRoom (n + packets) (at link old.links.entries) → LinkRoom n (at link new.links.entries)
@@ -56,6 +73,8 @@ pub record Uses (link packets client slices : ℕ) (old new : Tables) : Type 0 w
   pub counted : IsCounted old → IsCounted new
   pub tracked : IsTracked old → IsTracked new
   pub owned : (l : ℕ) → StaysOwned (at l old.streams.streams) (at l new.streams.streams)
+  pub held : (c : ℕ) → StaysHeld (at c old.clients.entries) (at c new.clients.entries)
+  pub read : (k : ℕ) → StaysRead (at k old.links.entries) (at k new.links.entries)
 
 -- a link of which a stream less is counted
 abbrev pub freed : Port → Port
@@ -82,6 +101,8 @@ pub record Takes (link packets : ℕ) (slices : ℕ → ℕ) (old new : Tables) 
   pub counted : IsCounted old → IsCounted new
   pub tracked : IsTracked old → IsTracked new
   pub owned : (l : ℕ) → StaysOwned (at l old.streams.streams) (at l new.streams.streams)
+  pub held : (c : ℕ) → StaysHeld (at c old.clients.entries) (at c new.clients.entries)
+  pub read : (k : ℕ) → StaysRead (at k old.links.entries) (at k new.links.entries)
 
 -- the client of a stream has places for so many slices
 abbrev pub StreamRoom : ℕ → Tables → Option Stream → Type 0
@@ -96,3 +117,5 @@ pub record TakesAll (link : ℕ) (packets more : ℕ) (slices rest : ℕ → ℕ
   pub counted : IsCounted old → IsCounted new
   pub tracked : IsTracked old → IsTracked new
   pub owned : (l : ℕ) → StaysOwned (at l old.streams.streams) (at l new.streams.streams)
+  pub held : (c : ℕ) → StaysHeld (at c old.clients.entries) (at c new.clients.entries)
+  pub read : (k : ℕ) → StaysRead (at k old.links.entries) (at k new.links.entries)

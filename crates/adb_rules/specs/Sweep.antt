@@ -9,7 +9,7 @@ use Rattle.adb_history.specs.Links.{maxdata_of}
 use Rattle.adb_history.specs.Flow.{payloads, is_over, is_streaming, up}
 use Rattle.adb_rules.specs.declared.tables.Tables.{Tables}
 use Rattle.adb_rules.specs.Tracked.{IsAmong, IsTracked}
-use Rattle.adb_rules.specs.Places.{LinkRoom, ClientRoom, IsCounted, StaysOwned}
+use Rattle.adb_rules.specs.Places.{LinkRoom, ClientRoom, IsCounted, StaysOwned, StaysRead}
 use Rattle.adb_rules.specs.Up.{IsCutUp, writes_up}
 
 -- the up rule for the streams of these ids
@@ -39,6 +39,7 @@ pub record UsesEach (ids : List ℕ) (old new : Tables) : Type 0 where
   pub counted : IsCounted old → IsCounted new
   pub tracked : IsTracked old → IsTracked new
   pub owned : (l : ℕ) → StaysOwned (at l old.streams.streams) (at l new.streams.streams)
+  pub read : (k : ℕ) → StaysRead (at k old.links.entries) (at k new.links.entries)
 
 -- ---- streams of which nothing goes up
 -- What a client holds of a stream can't go up now, and the stream goes on.

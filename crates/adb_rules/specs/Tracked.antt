@@ -35,9 +35,16 @@ IsListedAt c trackers (Some client) = IsListedIn client.about.phase c trackers
 abbrev pub IsTracked : Tables → Type 0
 IsTracked t = (c : ℕ) → IsListedAt c t.trackers.keys (at c t.clients.entries)
 
--- A client keeps its phase and its places.
+-- A client keeps its phase, its places and what it holds.
+pub record IsAs (old new : SeenClient) : Type 0 where
+  pub phase : new.about.phase ≡ old.about.phase
+  pub places : new.places ≡ old.places
+  pub held : new.held ≡ old.held
+  pub ready : new.ready ≡ old.ready
+  pub cuts : new.cuts ≡ old.cuts
+
 abbrev pub IsAlike : Option SeenClient → Option SeenClient → Type 0
 IsAlike None None = Unit {0}
 IsAlike None (Some new) = ⊥
 IsAlike (Some old) None = ⊥
-IsAlike (Some old) (Some new) = (new.about.phase ≡ old.about.phase) × (new.places ≡ old.places)
+IsAlike (Some old) (Some new) = IsAs old new

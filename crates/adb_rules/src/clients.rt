@@ -12,7 +12,7 @@ ghost use Rattle.adb_history.specs.Clients.{owe_client, closing, closes, closes_
 ghost use Rattle.adb_history.specs.Losing.{input_ended};
 ghost use Rattle.adb_rules.specs.Tables.{client_row, shut_row, refused, state_of};
 ghost use Rattle.adb_rules.specs.Tracked.{clients_of, IsListedAt};
-ghost use Rattle.adb_rules.specs.Places.{IsWaiting, ClientRoom, kept_places, Uses};
+ghost use Rattle.adb_rules.specs.Places.{IsWaiting, ClientRoom, kept_places, HoldsAsReady, StaysHeld, Uses};
 
 use crate::tables::Tables;
 use adb_client::{Client, Phase};
@@ -20,8 +20,9 @@ use bytes::Bytes;
 use std::collections::BTreeMap;
 
 impl Tables {
-    /// Bytes become due to a client, in a place that was kept.
-    pub(crate) fn owe_client(&mut self, client: u32, bytes: Bytes)
+    /// Bytes become due to a client, in a place that was kept: one place for a slice of that
+    /// client is taken, and none of a link.
+    pub fn owe_client(&mut self, client: u32, bytes: Bytes)
         requires place { ClientRoom 1 (at client self.old.clients.entries) }
         requires size { length bytes ≤ MAX_SLICE }
         ensures state { state_of self.new ≡ (owe_client client bytes (state_of self.old)).state }
@@ -59,8 +60,9 @@ impl Tables {
         }
     }
 
-    /// A client is read no more; where nothing is due to it, nothing of it is kept.
-    pub(crate) fn close_client(&mut self, client: u32)
+    /// A client is read no more; where nothing is due to it, nothing of it is kept. No place is
+    /// taken.
+    pub fn close_client(&mut self, client: u32)
         ensures state { state_of self.new ≡ closes client (state_of self.old) }
         ensures streams { self.new.streams ≡ self.old.streams }
         ensures links { self.new.links ≡ self.old.links }
@@ -102,8 +104,8 @@ impl Tables {
         close_in(&mut self.clients, client)
     }
 
-    /// Of a client nothing is kept.
-    pub(crate) fn drop_client(&mut self, client: u32)
+    /// Of a client nothing is kept. No place is taken.
+    pub fn drop_client(&mut self, client: u32)
         ensures state { state_of self.new ≡ to_client client none_kept (state_of self.old) }
         ensures streams { self.new.streams ≡ self.old.streams }
         ensures links { self.new.links ≡ self.old.links }
@@ -138,6 +140,7 @@ fn close_in(clients: &mut BTreeMap<u32, Client>, id: u32) -> bool
     ensures others { (c : ℕ) → c ≢ id → at c clients.new.entries ≡ at c clients.old.entries }
     ensures room { (n c : ℕ) → ClientRoom n (at c clients.old.entries)
         → ClientRoom n (at c clients.new.entries) }
+    ensures held { (c : ℕ) → StaysHeld (at c clients.old.entries) (at c clients.new.entries) }
     ensures listed { (c : ℕ) (trackers : List ℕ) → IsListedAt c trackers (at c clients.old.entries)
         → IsListedAt c trackers (at c clients.new.entries) }
 {
@@ -155,6 +158,7 @@ fn refuse_in(clients: &mut BTreeMap<u32, Client>, id: u32)
     ensures others { (c : ℕ) → c ≢ id → at c clients.new.entries ≡ at c clients.old.entries }
     ensures room { (n c : ℕ) → ClientRoom n (at c clients.old.entries)
         → ClientRoom n (at c clients.new.entries) }
+    ensures held { (c : ℕ) → StaysHeld (at c clients.old.entries) (at c clients.new.entries) }
     ensures listed { (c : ℕ) (trackers : List ℕ) → IsListedAt c trackers (at c clients.old.entries)
         → IsListedAt c trackers (at c clients.new.entries) }
 {
@@ -170,6 +174,7 @@ fn refuse(client: &mut Client)
     ensures listed { (c : ℕ) (trackers : List ℕ) → IsListedAt c trackers (Some client.old)
         → IsListedAt c trackers (Some client.new) }
     ensures places { client.new.places + 1 ≡ client.old.places }
+    ensures held { HoldsAsReady client.old client.new }
     ensures kept_places { kept_places client.new.about.phase + 1
         ≡ kept_places client.old.about.phase }
 {
@@ -183,6 +188,7 @@ fn close(client: &mut Client) -> bool
     ensures kept { closing (client_row client.old)
         ≡ (if result then Some (client_row client.new) else None) }
     ensures places { client.new.places ≡ client.old.places }
+    ensures held { HoldsAsReady client.old client.new }
     ensures kept_places { kept_places client.new.about.phase
         ≤ kept_places client.old.about.phase }
     ensures listed { (c : ℕ) (trackers : List ℕ) → IsListedAt c trackers (Some client.old)
@@ -199,6 +205,7 @@ fn close(client: &mut Client) -> bool
 fn shut(client: &mut Client)
     ensures row { client_row client.new ≡ shut_row (client_row client.old) }
     ensures places { client.new.places ≡ client.old.places }
+    ensures held { HoldsAsReady client.old client.new }
 {
     drop_held(client);
     let about = client.about_mut();
@@ -211,6 +218,7 @@ fn shut(client: &mut Client)
 fn drop_held(client: &mut Client)
     ensures row { client_row client.new ≡ record (client_row client.old) { held = [] } }
     ensures places { client.new.places ≡ client.old.places }
+    ensures held { HoldsAsReady client.old client.new }
 {
     let n = client.held();
     client.pass_over(n);

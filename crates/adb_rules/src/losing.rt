@@ -69,7 +69,7 @@ impl Tables {
     }
 
     /// The phase of a client, of which nothing may be kept.
-    pub(crate) fn phase_of(&self, client: u32) -> Phase
+    pub fn phase_of(&self, client: u32) -> Phase
         ensures { result ≡ phase_in ((state_of self.now).clients client) }
     {
         match self.clients.get(&client) {

@@ -26,6 +26,7 @@ impl Port {
             ≡ owing_row (packet_under head.now payload.now) (link_row self.old) }
         ensures place { self.new.link.spare ≡ self.old.link.spare - 1 }
         ensures kept { self.new.kept ≡ self.old.kept }
+        ensures read { self.new.link.incoming ≡ self.old.link.incoming }
     {
         self.link.owe_short_spare(head, payload);
     }
@@ -38,6 +39,7 @@ impl Port {
             ≡ owing_row (packet_under head.now payload) (link_row self.old) }
         ensures place { self.new.link.spare ≡ self.old.link.spare - 1 }
         ensures kept { self.new.kept ≡ self.old.kept }
+        ensures read { self.new.link.incoming ≡ self.old.link.incoming }
     {
         self.link.owe_slice_spare(head, payload);
     }

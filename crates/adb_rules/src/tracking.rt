@@ -4,7 +4,7 @@ ghost use Rattle.std.specs.Prelude.{◌≡◌, ℕ, option_map};
 ghost use Rattle.adb_outside.specs.Tables.{at, change_row};
 ghost use Rattle.adb_history.specs.Tracking.{marked, mark_all};
 ghost use Rattle.adb_rules.specs.Tables.{client_row, state_of};
-ghost use Rattle.adb_rules.specs.Tracked.{clients_of, marked_each, IsTracked, IsAlike};
+ghost use Rattle.adb_rules.specs.Tracked.{clients_of, marked_each, IsTracked, IsAs, IsAlike};
 ghost use Rattle.adb_rules.specs.Places.{Uses};
 
 use crate::tables::Tables;
@@ -12,8 +12,8 @@ use adb_client::{Client, Phase};
 use std::collections::{BTreeMap, BTreeSet};
 
 impl Tables {
-    /// The devices changed: each tracker's list is stale.
-    pub(crate) fn mark_all(&mut self)
+    /// The devices changed: each tracker's list is stale. No place is taken.
+    pub fn mark_all(&mut self)
         ensures state { IsTracked self.old
             → state_of self.new ≡ mark_all (state_of self.old) }
         ensures streams { self.new.streams ≡ self.old.streams }
@@ -47,8 +47,7 @@ fn mark_one(clients: &mut BTreeMap<u32, Client>, id: u32)
 
 fn mark(client: &mut Client)
     ensures row { client_row client.new ≡ marked (client_row client.old) }
-    ensures phase { client.new.about.phase ≡ client.old.about.phase }
-    ensures places { client.new.places ≡ client.old.places }
+    ensures alike { IsAs client.old client.new }
 {
     if client.about().phase == Phase::Tracking {
         client.about_mut().mark = true;

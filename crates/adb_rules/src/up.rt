@@ -8,7 +8,7 @@ ghost use Rattle.adb_stream.specs.declared.row.Stream.{Stream};
 ghost use Rattle.adb_history.specs.Rows.{to_client, to_stream, with_held, with_stream_part};
 ghost use Rattle.adb_history.specs.Flow.{write_len, wrote, is_idle, is_over, is_streaming, with_flow, goes_up, payloads, flow_after, all_go_up, noted, closes_if, sends_up, up};
 ghost use Rattle.adb_rules.specs.Tables.{client_row, state_of};
-ghost use Rattle.adb_rules.specs.Places.{LinkRoom, IsCounted, Uses};
+ghost use Rattle.adb_rules.specs.Places.{LinkRoom, IsCounted, IsProvided, Uses};
 ghost use Rattle.adb_rules.specs.Handing.{UsesOf};
 ghost use Rattle.adb_rules.specs.Up.{IsReadyUp, IsSized, StaysReady, writes_up, held_at, may_send, LetsGo, CanCut, cut_off, unsent, all_unsent, has_open, CanSend, IsReadyToSend, Sends};
 
@@ -34,6 +34,22 @@ impl Tables {
             && self.has_open(stream.client, id)
         {
             self.send_up(id, &stream);
+        }
+    }
+
+    /// The up rule for a stream of which nothing can be sent: it takes no places but that of its
+    /// end.
+    pub fn close_idle(&mut self, id: u32)
+        requires provided { IsProvided self.old }
+        requires idle { (stream : Stream) → at id self.old.streams.streams ≡ Some stream
+            → all_unsent stream self.old ≡ [] }
+        ensures state { state_of self.new ≡ (up id (state_of self.old)).state }
+        ensures uses { (t c : ℕ) → Uses t 0 c 0 self.old self.new }
+    {
+        if let Some(stream) = self.streams.get(id).copied()
+            && self.has_open(stream.client, id)
+        {
+            self.close_over(id, &stream);
         }
     }
 
@@ -181,6 +197,8 @@ impl Tables {
     fn write_one(&mut self, id: u32, stream: &Stream, n: usize)
         requires size { n ≤ MAX_PAYLOAD }
         requires cut { CanCut n (at stream.now.client self.old.clients.entries) }
+        requires some { 0 < n }
+        requires held { n ≤ length (held_at (at stream.now.client self.old.clients.entries)) }
         requires room { LinkRoom 1 (at stream.now.link self.old.links.entries) }
         ensures state { let held = held_at (at stream.now.client self.old.clients.entries) in
             state_of self.new ≡ (goes_up id stream.now (take n held)
@@ -199,7 +217,9 @@ impl Tables {
 
     /// The first bytes that a client holds, which are held no more.
     fn cut(&mut self, client: u32, n: usize) -> Option<Bytes>
-        requires { CanCut n (at client self.old.clients.entries) }
+        requires cut { CanCut n (at client self.old.clients.entries) }
+        requires some { 0 < n }
+        requires held { n ≤ length (held_at (at client self.old.clients.entries)) }
         ensures piece { result
             ≡ option_map (λ row. take n row.held) (at client self.old.clients.entries) }
         ensures state { let held = held_at (at client self.old.clients.entries) in

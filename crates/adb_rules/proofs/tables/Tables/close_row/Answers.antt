@@ -1,5 +1,5 @@
 use Rattle.std.proofs.Common.{ap, refl, Option}
-use Rattle.adb_outside.specs.Tables.{at, Rows}
+use Rattle.adb_outside.specs.Tables.{Rows}
 use Rattle.adb_history.specs.Rows.{Client}
 use Rattle.adb_rules.specs.Tables.{state_of}
 use Rattle.adb_rules.proofs.Using.{clients_spares, spares_uses}
@@ -21,4 +21,5 @@ returns-clause-uses c =
       trackers = refl;
       room = c.close_in.ensures.room;
       listed = c.close_in.ensures.listed;
+      held = c.close_in.ensures.held;
     }))

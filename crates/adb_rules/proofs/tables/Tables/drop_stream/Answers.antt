@@ -1,7 +1,6 @@
-use Rattle.std.proofs.Common.{ℕ, ◌∙◌, ◌≡◌, ap, subst, Option, sym}
+use Rattle.std.proofs.Common.{◌∙◌, ap, Option}
 use Rattle.std.specs.Prelude.{option_map}
 use Rattle.adb_outside.specs.Tables.{Rows, at}
-use Rattle.adb_stream.specs.Streams.{StreamTable}
 use Rattle.adb_stream.specs.declared.row.Stream.{Stream}
 use Rattle.adb_rules.specs.declared.tables.Tables.{Tables}
 use Rattle.adb_rules.specs.Tables.{state_of}

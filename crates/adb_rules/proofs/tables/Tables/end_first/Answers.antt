@@ -1,7 +1,6 @@
-use Rattle.std.proofs.Common.{ℕ, Some, ◌≡◌, ◌∙◌, ap, sym, cond, arith}
+use Rattle.std.proofs.Common.{Some, ◌≡◌, ◌∙◌, ap, sym, cond, arith}
 use Rattle.std.proofs.lemmas.Bool.{eq-eqb}
 use Rattle.adb_outside.specs.Tables.{at, without}
-use Rattle.adb_stream.specs.Stream.{of_link}
 use Rattle.adb_stream.specs.Streams.{StreamTable}
 use Rattle.adb_history.specs.Rows.{State}
 use Rattle.adb_history.specs.Streams.{all_end}

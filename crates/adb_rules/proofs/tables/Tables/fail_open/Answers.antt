@@ -1,7 +1,6 @@
-use Rattle.std.proofs.Common.{Some, ◌≡◌, ◌∙◌, ap, sym, Option}
+use Rattle.std.proofs.Common.{Some, ◌≡◌, ◌∙◌, ap, sym}
 use Rattle.adb_outside.specs.Tables.{at}
 use Rattle.adb_client.specs.declared.phase.Phase.TheVariants.{Streaming}
-use Rattle.adb_stream.specs.declared.row.Stream.{Stream}
 use Rattle.adb_history.specs.Rows.{State}
 use Rattle.adb_history.specs.Links.{close_packet, owe_link}
 use Rattle.adb_history.specs.Losing.{stream_fails}

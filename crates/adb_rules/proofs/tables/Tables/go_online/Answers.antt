@@ -1,5 +1,4 @@
 use Rattle.std.proofs.Common.{◌∙◌, ap}
-use Rattle.adb_history.specs.Rows.{State}
 use Rattle.adb_history.specs.Tracking.{mark_all}
 use Rattle.adb_rules.specs.Came.{named}
 use Rattle.adb_rules.proofs.Using.{uses_then}

@@ -25,4 +25,5 @@ returns-clause-uses c =
       trackers = refl;
       room = c.refuse_in.ensures.room;
       listed = c.refuse_in.ensures.listed;
+      held = c.refuse_in.ensures.held;
     }))

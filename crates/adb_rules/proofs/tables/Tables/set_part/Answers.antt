@@ -1,4 +1,4 @@
-use Rattle.std.proofs.Common.{ℕ, ◌∙◌, ◌≡◌, ap, subst, Option, sym}
+use Rattle.std.proofs.Common.{◌∙◌, ap, subst, Option, sym}
 use Rattle.adb_outside.specs.Tables.{Rows}
 use Rattle.adb_stream.specs.declared.row.Stream.{Stream}
 use Rattle.adb_rules.specs.Tables.{state_of}

@@ -1,4 +1,4 @@
-use Rattle.std.proofs.Common.{ℕ, List, [], ◌≡◌, ◌∷◌, ◌∙◌, ap, sym, subst, length, All}
+use Rattle.std.proofs.Common.{List, ◌∙◌, ap, sym, subst, length, All}
 use Rattle.std.proofs.lemmas.List.Elements.{All-head, All-tail}
 use Rattle.adb_history.specs.Rows.{State}
 use Rattle.adb_history.specs.Packets.{treat_all}

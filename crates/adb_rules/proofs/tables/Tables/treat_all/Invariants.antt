@@ -1,4 +1,4 @@
-use Rattle.std.proofs.Common.{ℕ, ◌≡◌, length, All}
+use Rattle.std.proofs.Common.{◌≡◌, length, All}
 use Rattle.adb_history.specs.Packets.{treat_all}
 use Rattle.adb_rules.specs.Tables.{state_of}
 use Rattle.adb_rules.specs.Came.{IsCame, packets_of, slices_in}

@@ -1,6 +1,6 @@
 use Rattle.std.proofs.Common.{arith}
 use Rattle.adb_rules.specs.Came.{packet_of, slices_for}
-use Rattle.adb_rules.proofs.Taking.{takes_from}
+use Rattle.adb_rules.proofs.Taking.{takes_from, takes_nothing}
 use Rattle.adb_rules.proofs.tables.Tables.treat_any.Goals as goal
 
 pub returns-in-Cnxn-clause-takes : goal.returns-in-Cnxn-clause-takes
@@ -10,3 +10,6 @@ returns-in-Cnxn-clause-takes c =
 pub returns-in-Auth-clause-takes : goal.returns-in-Auth-clause-takes
 returns-in-Auth-clause-takes c =
     takes_from (c.take_login.ensures.uses c.args.link 0) (slices_for (packet_of c.args.came) c.args.self.now.streams.streams) (omega arith) (omega arith)
+
+pub returns-in_default-2-clause-takes : goal.returns-in_default-2-clause-takes
+returns-in_default-2-clause-takes c = takes_nothing c.args.link (slices_for (packet_of c.args.came) c.args.self.now.streams.streams) c.args.self.now
