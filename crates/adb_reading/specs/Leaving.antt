@@ -1,5 +1,5 @@
 -- What rules leave of the tables, and the places that are made before them.
-use Rattle.std.specs.Prelude.{ℕ, ◌+◌, ◌^◌, ◌≡◌, ◌≤◌, ◌<◌, List, Option, Some, None}
+use Rattle.std.specs.Prelude.{ℕ, ◌+◌, ◌^◌, ◌≡◌, ◌≤◌, ◌<◌, List, length, Option, Some, None}
 use Rattle.adb_client.specs.Client.{SeenClient}
 use Rattle.adb_stream.specs.declared.row.Stream.{Stream}
 use Rattle.adb_history.specs.Rows.{State}
@@ -33,3 +33,12 @@ pub record IsPlaced (c : ℕ) (trackers : List ℕ) (client : Option SeenClient)
 -- a link of which a stream more is counted
 abbrev pub counting : Port → Port
 counting port = record port { kept = port.kept + 1 }
+
+-- What is kept of a client is on no list, and on any.
+abbrev pub IsOnAny : ℕ → Option SeenClient → Type 0
+IsOnAny c client = (trackers : List ℕ) → IsListedAt c trackers client
+
+-- A client holds at least so many bytes.
+abbrev pub HoldsAtLeast : ℕ → Option SeenClient → Type 0
+HoldsAtLeast n None = Unit {0}
+HoldsAtLeast n (Some client) = n ≤ length client.held

@@ -1,1 +1,4 @@
 pub mod Leaving
+pub mod Entering
+pub mod Stopping
+pub mod Taking

@@ -2,7 +2,10 @@
 //! asked for, and the kill. Memory comes first: after want of it nothing has changed.
 #![tactic(auto)]
 
+mod entering;
 mod opening;
 mod places;
+mod stopping;
 
 pub use opening::{Asker, open, open_payload};
+pub use stopping::stop;
