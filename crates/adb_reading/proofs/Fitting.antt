@@ -71,3 +71,15 @@ few_kept Gone = omega arith
 pub one_spare : (client : Option SeenClient) → HasSlices 2 client → ClientRoom 1 client
 one_spare None has = tt
 one_spare (Some client) has = omega (arith, has, few_kept client.about.phase)
+
+-- how many clients came is no matter of places
+pub joined_fit : (t : Tables) (n : ℕ) → IsFit t → IsFit (record t { joined = n })
+joined_fit t n fit = record {
+  provided = record {
+    links = fit.provided.links;
+    clients = fit.provided.clients;
+    counted = fit.provided.counted;
+    tracked = fit.provided.tracked;
+  };
+  read_out = fit.read_out;
+}

@@ -1,2 +1,4 @@
 mod Fitting
 mod Opened
+mod Entered
+mod Stopped

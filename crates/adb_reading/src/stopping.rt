@@ -39,7 +39,7 @@ fn forget_others(tables: &mut Tables, client: u32)
 
 /// Of these clients one alone stays.
 fn keep_only(clients: &mut BTreeMap<u32, Client>, client: u32)
-    ensures { clients.new.entries ≡ filter (λ entry. nat_eq client entry.0) clients.old.entries }
+    ensures { clients.new.entries ≡ filter (λ entry. nat_eq entry.0 client) clients.old.entries }
 {
     clients.retain(|number, _| *number == client);
 }
