@@ -23,6 +23,12 @@ use Rattle.adb_rules.specs.Tracked.{IsListedAt}
 use Rattle.adb_rules.specs.Fit.{IsFit, IsReadOutAt}
 use Rattle.adb_rules.proofs.Rows.{rows_put}
 use Rattle.adb_reading.specs.Leaving.{HasPlaces, counting}
+use Rattle.adb_reading.specs.Asking.{hears, CanHearAt}
+use Rattle.adb_reading.specs.Opening.{IsNextId, drawn_for, asked_for}
+use Rattle.adb_reading.specs.declared.hearing.Heard.{Heard}
+use Rattle.adb_reading.specs.declared.opening.Asker.{Asker}
+use Rattle.adb_client.specs.declared.phase.Phase.TheVariants.{Opening}
+use Rattle.adb_history.specs.Links.{open_packet, owe_link, is_credit}
 
 -- ---- how many streams a link has then
 put_adds : {X : Type 0} (f : X → ℕ) (n : ℕ) (row : X) (es : List (ℕ × X)) → sum_by f (values_of (put_at n row es)) ≤ sum_by f (values_of es) + f row
@@ -115,12 +121,47 @@ drawn_state old id c t credit is =
     ∙ ap (λ (n : ℕ). record s { drawn = n; streams = put_row n (Some (new_stream n c t (new_flow credit))) s.streams }) is
 
 -- what follows a draw, by whether an id is left
-pub asked_for : (forwarded : Bool) (c t : ℕ) (service : List ℕ) (s : State) → s.drawn ≢ stream_ids
+pub asks_then : (forwarded : Bool) (c t : ℕ) (service : List ℕ) (s : State) → s.drawn ≢ stream_ids
     → asks_for (s.drawn + 1) c t service s ≡ opens forwarded c t service s
-asked_for forwarded c t service s left =
+asks_then forwarded c t service s left =
     ap (λ b. cond b (no_ids_left forwarded c s) (asks_for (s.drawn + 1) c t service s)) (sym (ne_eqb s.drawn stream_ids left))
 
-pub none_left : (forwarded : Bool) (c t : ℕ) (service : List ℕ) (s : State) → s.drawn ≡ stream_ids
+pub none_then : (forwarded : Bool) (c t : ℕ) (service : List ℕ) (s : State) → s.drawn ≡ stream_ids
     → no_ids_left forwarded c s ≡ opens forwarded c t service s
-none_left forwarded c t service s none =
+none_then forwarded c t service s none =
     ap (λ b. cond b (no_ids_left forwarded c s) (asks_for (s.drawn + 1) c t service s)) (sym (eq-eqb s.drawn stream_ids none))
+
+-- this is the next id of a state that is the same
+pub next_id : (id : ℕ) (s now : State) → now ≡ s → now.drawn ≢ stream_ids → id ≡ now.drawn + 1 → IsNextId (Some id) s
+next_id id s now same left is = subst (IsNextId (Some id)) same (left, is)
+
+pub no_id : (s now : State) → now ≡ s → now.drawn ≡ stream_ids → IsNextId None s
+no_id s now same none = subst (IsNextId None) same none
+
+-- a stream is asked for, or its client is told that none is left
+pub opened : (id : Option ℕ) (asker : Asker) (service : List ℕ) (s : State) → IsNextId id s
+    → asked_for id asker service (drawn_for id asker s) ≡ (opens asker.forwarded asker.client asker.link service s).state
+opened None asker service s none = ap (λ (m : Made). m.state) (none_then asker.forwarded asker.client asker.link service s none)
+opened (Some id) asker service s next =
+    ap (λ (n : ℕ). (owe_link asker.link (open_packet (is_credit asker.link s.devices) n service)
+    (to_client asker.client (in_phase (Opening n)) (draw (is_credit asker.link s.devices) asker.client asker.link s))).state) next.1
+    ∙ ap (λ (m : Made). m.state) (asks_then asker.forwarded asker.client asker.link service s next.0)
+
+-- what is heard of a client before its stream is drawn, or behind that
+pub drawn_behind : (id : Option ℕ) (asker : Asker) (heard : Heard) (s : State)
+    → hears heard asker.client (drawn_for id asker s) ≡ drawn_for id asker (hears heard asker.client s)
+drawn_behind None asker heard s = refl
+drawn_behind (Some id) asker heard s = refl
+
+-- no id is drawn by what is heard
+pub next_heard : (id : Option ℕ) (c : ℕ) (heard : Heard) (s : State) → IsNextId id s → IsNextId id (hears heard c s)
+next_heard None c heard s next = next
+next_heard (Some id) c heard s next = next
+
+-- places that were made for other things are no matter of what can be heard
+pub still_ready : (client : ℕ) (heard : Heard) (old first last new : Tables) → (first.clients ≡ old.clients) × (new.clients ≡ last.clients)
+    → (CanHearAt heard (at client first.clients.entries) → CanHearAt heard (at client last.clients.entries))
+    → CanHearAt heard (at client old.clients.entries) → CanHearAt heard (at client new.clients.entries)
+still_ready client heard old first last new same ready has =
+    subst (λ (table : _). CanHearAt heard (at client table.entries)) (sym same.1)
+    (ready (subst (λ (table : _). CanHearAt heard (at client table.entries)) (sym same.0) has))

@@ -10,12 +10,16 @@ ghost use Rattle.adb_stream.specs.declared.streams.DrawError.TheVariants.{NoIds}
 ghost use Rattle.adb_history.specs.Rows.{to_client, to_link, in_phase};
 ghost use Rattle.adb_history.specs.Clients.{closes_with};
 ghost use Rattle.adb_history.specs.Links.{open_packet, owe_link, is_credit};
-ghost use Rattle.adb_history.specs.Streams.{draw, asks_for, no_ids_left, opens, stream_ids};
+ghost use Rattle.adb_history.specs.Streams.{draw, no_ids_left, opens, stream_ids};
 ghost use Rattle.adb_rules.specs.Fit.{IsFit};
 ghost use Rattle.adb_rules.specs.Tables.{state_of, link_row, owing_row, owes_packet};
 ghost use Rattle.adb_rules.specs.Places.{LinkRoom};
 ghost use Rattle.adb_reading.specs.Leaving.{Leaves, HasPlaces, HasSlices, counting};
+ghost use Rattle.adb_reading.specs.Asking.{hears, CanHearAt};
+ghost use Rattle.adb_reading.specs.Opening.{IsNextId, drawn_for, asked_for};
+ghost use Rattle.adb_reading.specs.declared.hearing.Heard.{Heard};
 
+use crate::hearing::{Heard, hear};
 use crate::places::{reserve_packets, reserve_slices};
 use adb_client::Phase;
 use adb_rules::{Port, Tables};
@@ -55,18 +59,65 @@ pub fn open(tables: &mut Tables, asker: &Asker, payload: Bytes) -> Result<(), Al
         (state_of tables.old)).state tables.new) }
     ensures kept { OnErr result (Leaves (state_of tables.old) tables.new) }
 {
+    let id = draw_for(tables, asker)?;
+    ask_device(tables, asker, id, payload);
+    Ok(())
+}
+
+/// A stream is asked for by the last of requests that are heard.
+pub(crate) fn open_behind(
+    tables: &mut Tables,
+    asker: &Asker,
+    heard: &Heard,
+    payload: Bytes,
+) -> Result<(), AllocError>
+    requires fit { IsFit tables.old }
+    requires size { length payload ≤ MAX_PAYLOAD }
+    requires ready { CanHearAt heard.now (at asker.now.client tables.old.clients.entries) }
+    ensures made { OnOk result ((service : List ℕ) → payload ≡ service ++ 0 ∷ []
+        → Leaves (opens asker.now.forwarded asker.now.client asker.now.link service
+        (hears heard.now asker.now.client (state_of tables.old))).state tables.new) }
+    ensures kept { OnErr result (Leaves (state_of tables.old) tables.new) }
+{
+    let id = draw_for(tables, asker)?;
+    hear(tables, asker.client, heard);
+    ask_device(tables, asker, id, payload);
+    Ok(())
+}
+
+/// Memory is taken for a stream, and its id drawn, where one is left.
+fn draw_for(tables: &mut Tables, asker: &Asker) -> Result<Option<u32>, AllocError>
+    requires { IsFit tables.old }
+    ensures next { IfOk result (λ id. IsNextId id (state_of tables.old)) }
+    ensures made { IfOk result (λ id.
+        Leaves (drawn_for id asker.now (state_of tables.old)) tables.new) }
+    ensures kept { OnErr result (Leaves (state_of tables.old) tables.new) }
+    ensures room { OnOk result (LinkRoom 1 (at asker.now.link tables.new.links.entries)) }
+    ensures slices { OnOk result (HasSlices 2 (at asker.now.client tables.new.clients.entries)) }
+    ensures ready { (heard : Heard) → CanHearAt heard (at asker.now.client tables.old.clients.entries)
+        → CanHearAt heard (at asker.now.client tables.new.clients.entries) }
+{
     reserve_packets(tables, asker.link, 2)?;
     reserve_slices(tables, asker.client, 2)?;
     match add_stream(tables, asker) {
-        Ok(id) => {
-            begin(tables, asker, id, payload);
-            Ok(())
-        }
-        Err(DrawError::NoIds) => {
-            refuse(tables, asker);
-            Ok(())
-        }
+        Ok(id) => Ok(Some(id)),
+        Err(DrawError::NoIds) => Ok(None),
         Err(DrawError::OutOfMemory) => Err(AllocError),
+    }
+}
+
+/// The device is asked for the stream that was drawn; where none was, the client is told so.
+fn ask_device(tables: &mut Tables, asker: &Asker, id: Option<u32>, payload: Bytes)
+    requires fit { IsFit tables.old }
+    requires size { length payload ≤ MAX_PAYLOAD }
+    requires link { LinkRoom 1 (at asker.now.link tables.old.links.entries) }
+    requires client { HasSlices 2 (at asker.now.client tables.old.clients.entries) }
+    ensures { (service : List ℕ) → payload ≡ service ++ 0 ∷ []
+        → Leaves (asked_for id asker.now service (state_of tables.old)) tables.new }
+{
+    match id {
+        Some(id) => begin(tables, asker, id, payload),
+        None => refuse(tables, asker),
     }
 }
 

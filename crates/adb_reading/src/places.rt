@@ -6,6 +6,8 @@ ghost use Rattle.adb_rules.specs.Fit.{IsFit};
 ghost use Rattle.adb_rules.specs.Tables.{state_of};
 ghost use Rattle.adb_rules.specs.Tracked.{clients_of};
 ghost use Rattle.adb_reading.specs.Leaving.{Leaves, HasPlaces, HasSlices, IsPlaced};
+ghost use Rattle.adb_reading.specs.Asking.{CanHearAt};
+ghost use Rattle.adb_reading.specs.declared.hearing.Heard.{Heard};
 
 use adb_client::Client;
 use adb_rules::{Port, Tables};
@@ -52,6 +54,8 @@ pub(crate) fn reserve_slices(
     ensures made { Leaves (state_of tables.old) tables.new }
     ensures others { tables.new ≡ record tables.old { clients = tables.new.clients } }
     ensures room { OnOk result (HasSlices slices (at client tables.new.clients.entries)) }
+    ensures ready { (heard : Heard) → CanHearAt heard (at client tables.old.clients.entries)
+        → CanHearAt heard (at client tables.new.clients.entries) }
 {
     reserve_in(&mut tables.clients, client, slices)
 }
@@ -65,6 +69,8 @@ fn reserve_in(
     ensures placed { (c : ℕ) (trackers : List ℕ) → IsPlaced c trackers (at c clients.old.entries)
         → IsPlaced c trackers (at c clients.new.entries) }
     ensures room { OnOk result (HasSlices slices (at client clients.new.entries)) }
+    ensures ready { (heard : Heard) → CanHearAt heard (at client clients.old.entries)
+        → CanHearAt heard (at client clients.new.entries) }
 {
     match clients.get_mut(&client) {
         Some(row) => row.reserve_slices(slices),

@@ -1,25 +1,15 @@
-use Rattle.std.proofs.Common.{◌∙◌, ap, ℕ}
-use Rattle.adb_client.specs.declared.phase.Phase.TheVariants.{Opening}
-use Rattle.adb_history.specs.Rows.{State, to_client, in_phase}
-use Rattle.adb_history.specs.Links.{open_packet, owe_link, is_credit}
-use Rattle.adb_history.specs.Streams.{draw, opens}
+use Rattle.std.proofs.Common.{◌∙◌, ap}
 use Rattle.adb_rules.specs.Tables.{state_of}
-use Rattle.adb_reading.proofs.Opened.{asked_for}
+use Rattle.adb_reading.specs.Opening.{asked_for}
+use Rattle.adb_reading.proofs.Opened.{opened}
 use Rattle.adb_reading.proofs.opening.open.Goals as goal
 
-pub returns-in-Ok-clause-made : goal.returns-in-Ok-clause-made
-returns-in-Ok-clause-made c = λ service is.
+pub returns-clause-made : goal.returns-clause-made
+returns-clause-made c = λ service is.
     let asker = c.args.asker.now in
-    let now = c.reserve_slices.new.tables in
-    let begun = c.begin.ensures service is in
-    let begins = λ (id : ℕ) (s : State). (owe_link asker.link (open_packet (is_credit asker.link s.devices) id service)
-    (to_client asker.client (in_phase (Opening id)) s)).state in
+    let asked = c.ask_device.ensures service is in
+    let drawn = c.in_ok-id.ensures in
     record {
-      state = begun.state
-      ∙ (ap (begins c.in-Ok.id) c.in-Ok.ensures.made.state
-      ∙ (ap (λ (id : ℕ). begins id (draw (is_credit asker.link now.devices) asker.client asker.link (state_of now))) c.in-Ok.ensures.drawn
-      ∙ (ap (λ (m : _). m.state) (asked_for asker.forwarded asker.client asker.link service (state_of now) c.in-Ok.ensures.left)
-      ∙ ap (λ (s : State). (opens asker.forwarded asker.client asker.link service s).state)
-      (c.reserve_slices.ensures.made.state ∙ c.reserve_packets.ensures.made.state))));
-      fit = begun.fit;
+      state = asked.state ∙ (ap (asked_for c.in_ok-id.id asker service) drawn.made.state ∙ opened c.in_ok-id.id asker service (state_of c.args.tables.now) drawn.next);
+      fit = asked.fit;
     }
