@@ -30,8 +30,6 @@ use Rattle.adb_reply.specs.Answer.{selects, fact_at, tells, forwards_from, forwa
 use Rattle.adb_reply.specs.declared.answer.Answer.{Answer}
 use Rattle.adb_reply.specs.declared.answer.Next.{Next}
 use Rattle.adb_reply.specs.declared.answer.Next.TheVariants as nexts
-use Rattle.adb_reply.specs.declared.about_devices.Fact.{Fact}
-use Rattle.adb_reply.specs.declared.about_devices.Fact.TheVariants.{Serialno, Devpath, GetState, Features}
 use Rattle.adb_history.specs.Links.{maxdata_of}
 use Rattle.adb_history.specs.Asking.{Asked, replied, after_next, after_found, reads_on}
 use Rattle.adb_reading.specs.Asking.{FitsNext}
@@ -54,7 +52,7 @@ module _ (rows : List (ℕ × Row)) where
   selecting tell_id by (Ok id) = tt
   selecting tell_id by (Err why) = tt
 
-  telling_of : (fact : Fact) (by : Selector) (chosen : Result ℕ Refusal) → FitsDevice rows (tells rows fact (device_or by chosen)).next
+  telling_of : (fact : _) (by : Selector) (chosen : Result ℕ Refusal) → FitsDevice rows (tells rows fact (device_or by chosen)).next
   telling_of fact by (Ok id) = go (at id rows)
     where
       go : (row : Option Row) → FitsDevice rows (fact_at fact row).next
@@ -62,7 +60,7 @@ module _ (rows : List (ℕ × Row)) where
       go (Some row) = tt
   telling_of fact by (Err why) = tt
 
-  telling : (fact : Fact) (selected : Option ℕ) (on : Which) (ready : Bool) → FitsDevice rows (tells rows fact (asked_device rows selected on ready)).next
+  telling : (fact : _) (selected : Option ℕ) (on : Which) (ready : Bool) → FitsDevice rows (tells rows fact (asked_device rows selected on ready)).next
   telling fact selected (By by) ready = telling_of fact by (choice (values_of rows) by ready)
   telling fact None Own ready = telling_of fact Any (choice (values_of rows) Any ready)
   telling fact (Some id) Own ready =
@@ -124,10 +122,10 @@ module _ (rows : List (ℕ × Row)) where
   answer_fits forwards selected (asks.Devices long) = tt
   answer_fits forwards selected (asks.Track long) = tt
   answer_fits forwards selected (asks.Transport by tell_id) = selecting tell_id by (choice (values_of rows) by true)
-  answer_fits forwards selected (asks.Serialno on) = telling Serialno selected on false
-  answer_fits forwards selected (asks.Devpath on) = telling Devpath selected on false
-  answer_fits forwards selected (asks.GetState on) = telling GetState selected on false
-  answer_fits forwards selected (asks.Features on) = telling Features selected on true
+  answer_fits forwards selected (asks.Serialno on) = search telling
+  answer_fits forwards selected (asks.Devpath on) = search telling
+  answer_fits forwards selected (asks.GetState on) = search telling
+  answer_fits forwards selected (asks.Features on) = search telling
   answer_fits forwards selected (asks.Forward on norebind local remote) =
       forwarding forwards norebind local remote selected on
   answer_fits forwards selected asks.BadForward = tt

@@ -63,6 +63,20 @@ has_phase : (s : State) (c : ℕ) (phase : Phase) (found : Option Client) → s.
 has_phase s c phase None here is there = let clash : true ≡ false = ap is_gone is ∙ there in cc
 has_phase s c phase (Some row) here is there = record { row = row; here = here; is = is }
 
+-- whether nothing is read of a client in this phase
+abbrev is_deaf : Phase → Bool
+is_deaf Binding = true
+is_deaf Tracking = true
+is_deaf Closing = true
+is_deaf Gone = true
+is_deaf _ = false
+
+pub deaf_of : (phase : Phase) → ◌⊎◌ (phase ≡ Binding) (◌⊎◌ (phase ≡ Tracking) (◌⊎◌ (phase ≡ Closing) (phase ≡ Gone))) → is_deaf phase ≡ true
+deaf_of phase (inl is) = ap is_deaf is
+deaf_of phase (inr (inl is)) = ap is_deaf is
+deaf_of phase (inr (inr (inl is))) = ap is_deaf is
+deaf_of phase (inr (inr (inr is))) = ap is_deaf is
+
 module _ (s : State) (c : ℕ) (bytes : List ℕ) where
   -- what comes of a client in a phase
   reads_by : {phase : Phase} (h : HasPhase s c phase) → (reads c bytes s).state ≡ (reads_in phase c bytes h.row s).state
@@ -107,14 +121,6 @@ module _ (s : State) (c : ℕ) (bytes : List ℕ) where
         let h = has_phase s c (Streaming l) (s.clients c) refl is refl in
         ap (λ (then : State). (up l then).state) (holds_more h.row h.here ∙ sym (reads_by h))
         ∙ sym ((goes_alone s reached).read c l bytes (record { client = h.row; here = h.here; in_phase = h.is }))
-
-    -- whether nothing is read of a client in this phase
-    abbrev pub is_deaf : Phase → Bool
-    is_deaf Binding = true
-    is_deaf Tracking = true
-    is_deaf Closing = true
-    is_deaf Gone = true
-    is_deaf _ = false
 
     deaf_row : (phase : Phase) (row : Client) → is_deaf phase ≡ true → (reads_in phase c bytes row s).state ≡ s
     deaf_row Asking row deaf = let clash : true ≡ false = sym deaf in cc

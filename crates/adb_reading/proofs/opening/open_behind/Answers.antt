@@ -19,3 +19,9 @@ returns-clause-made c = λ service is.
       ∙ opened id asker service (hears heard asker.client s) (next_heard id asker.client heard s drawn.next));
       fit = asked.fit;
     }
+
+pub hear-requires-clause-ready : goal.hear-requires-clause-ready
+hear-requires-clause-ready c = c.in_ok-id.ensures.ready c.args.heard.now c.requires.ready
+
+pub ask_device-requires-clause-client : goal.ask_device-requires-clause-client
+ask_device-requires-clause-client c = c.hear.ensures.slices 2 c.in_ok-id.ensures.slices
