@@ -1,5 +1,6 @@
 -- What follows a request: a service that is opened fits in a packet of its device, a forward that changes is there.
-use Rattle.std.proofs.Common.{ℕ, ◌≡◌, ◌+◌, ◌≤◌, ◌++◌, zero, suc, take, drop, Bool, true, false, cond, List, [], length, codes, Option, Some, None, is_some, Result, Ok, Err, refl, sym, ap, subst, arith}
+use Rattle.std.proofs.Common.{ℕ, ◌≡◌, ◌+◌, ◌≤◌, ◌++◌, zero, suc, take, drop, Bool, true, false, cond, List, [], length, codes, Option, Some, None, is_some}
+use Rattle.std.proofs.Common.{Result, Ok, Err, refl, sym, ap, subst, arith}
 use Rattle.std.proofs.Common.{nat_lt, nat_eq, not, ◌&&◌}
 use Rattle.std.specs.Prelude.{unwrap_or, option_map}
 use Rattle.std.proofs.lemmas.Bool.Decides.{nat_tests}
@@ -64,7 +65,8 @@ module _ (rows : List (ℕ × Row)) where
   telling fact selected (By by) ready = telling_of fact by (choice (values_of rows) by ready)
   telling fact None Own ready = telling_of fact Any (choice (values_of rows) Any ready)
   telling fact (Some id) Own ready =
-      either (λ device. FitsDevice rows (tells rows fact device).next) _ _ (is_some (at id rows)) (telling_of fact (Id id) (choice (values_of rows) (Id id) ready)) tt
+      either (λ device. FitsDevice rows (tells rows fact device).next) _ _ (is_some (at id rows))
+      (telling_of fact (Id id) (choice (values_of rows) (Id id) ready)) tt
 
   forwarding_to : (forwards : List (ℕ × ForwardRow)) (norebind : Bool) (transport local : ℕ) (remote : List ℕ)
       → FitsDevice rows (forwards_to forwards norebind transport local remote).next

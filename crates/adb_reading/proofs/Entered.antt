@@ -1,5 +1,6 @@
 -- Clients that come through forwards.
-use Rattle.std.proofs.Common.{ℕ, ◌+◌, ◌-◌, ◌≡◌, ◌≢◌, ◌≤◌, ◌<◌, ◌++◌, List, [], ◌∷◌, length, All, Bool, true, false, Option, Some, None, Result, Ok, Err, refl, sym, ◌∙◌, ap, subst, cond, eqb, arith, ◌⊎◌, inl, inr}
+use Rattle.std.proofs.Common.{ℕ, ◌+◌, ◌-◌, ◌≡◌, ◌≢◌, ◌≤◌, ◌<◌, ◌++◌, List, [], ◌∷◌, length, All, Bool, true, false, Option, Some, None, Result, Ok, Err, refl}
+use Rattle.std.proofs.Common.{sym, ◌∙◌, ap, subst, cond, eqb, arith, ◌⊎◌, inl, inr}
 use Rattle.std.specs.Prelude.{OnOk, IfSome, option_and_then}
 use Rattle.std.specs.BTreeMap.{is_at}
 use Rattle.std.specs.Ordering.{nat_cmp}
@@ -66,9 +67,11 @@ comes_back c s old fresh next came =
         by_place : ◌⊎◌ (c ≡ k) (c ≢ k)
             → change_row c (option_and_then (none_kept {A = Client})) (put_row c (Some (new_client true c)) s.clients) k ≡ s.clients k
         by_place (inl is) =
-            ap (λ b. cond b (option_and_then (none_kept {A = Client}) (cond b (Some (new_client true c)) (s.clients k))) (cond b (Some (new_client true c)) (s.clients k)))
+            ap (λ b. cond b (option_and_then (none_kept {A = Client}) (cond b (Some (new_client true c)) (s.clients k)))
+            (cond b (Some (new_client true c)) (s.clients k)))
             (eq-eqb c k is)
             ∙ (sym fresh ∙ ap s.clients is)
         by_place (inr other) =
-            ap (λ b. cond b (option_and_then (none_kept {A = Client}) (cond b (Some (new_client true c)) (s.clients k))) (cond b (Some (new_client true c)) (s.clients k)))
+            ap (λ b. cond b (option_and_then (none_kept {A = Client}) (cond b (Some (new_client true c)) (s.clients k)))
+            (cond b (Some (new_client true c)) (s.clients k)))
             (ne_eqb c k other)

@@ -1,38 +1,38 @@
 -- What stays fit for the next entry.
 use Rattle.std.proofs.Common.{ℕ, ◌+◌, ◌≡◌, ◌≢◌, ◌≤◌, ◌<◌, Option, Some, None, refl, sym, ◌∙◌, ap, subst, arith, ◌⊎◌, inl, inr}
 use Rattle.std.proofs.lemmas.Bool.{cases_eq}
-use Rattle.adb_outside.specs.Tables.{at}
+use Rattle.adb_outside.specs.Tables.{at, Rows}
 use Rattle.adb_client.specs.Client.{SeenClient}
 use Rattle.adb_client.specs.declared.phase.Phase.{Phase}
 use Rattle.adb_client.specs.declared.phase.Phase.TheVariants.{Asking, Opening, Streaming, Binding, Tracking, Closing, Gone}
+use Rattle.adb_history.specs.Rows.{Client}
 use Rattle.adb_rules.specs.declared.tables.Tables.{Tables}
+use Rattle.adb_rules.specs.Tables.{state_of}
 use Rattle.adb_rules.specs.Places.{LinkRoom, ClientRoom, IsCountedAt, kept_places, Uses, IsProvided}
-use Rattle.adb_rules.specs.Tracked.{IsListedAt}
+use Rattle.adb_rules.specs.Tracked.{IsListedAt, clients_of}
 use Rattle.adb_rules.specs.Fit.{IsFit, IsReadOutAt}
 use Rattle.adb_rules.proofs.Using.{provided_by}
-use Rattle.adb_reading.specs.Leaving.{HasSlices, IsPlaced}
+use Rattle.adb_reading.specs.Leaving.{Leaves, HasSlices, IsPlaced}
 
--- Of the tables that of the clients alone changed.
-pub record ChangesPlaced (old new : Tables) : Type 0 where
-  pub trackers : new.trackers ≡ old.trackers
-  pub links : new.links ≡ old.links
-  pub streams : new.streams ≡ old.streams
-  pub placed : (c : ℕ) → IsPlaced c old.trackers.keys (at c old.clients.entries) → IsPlaced c old.trackers.keys (at c new.clients.entries)
-
-pub clients_fit : (old new : Tables) → ChangesPlaced old new → IsFit old → IsFit new
-clients_fit old new h fit = record {
-  provided = record {
-    links = λ k. subst (λ (table : _). LinkRoom 0 (at k table.entries)) (sym h.links) (fit.provided.links k);
-    clients = λ c. (placed c).room;
-    counted = λ k. subst (λ (table : _). IsCountedAt k new.streams.streams (at k table.entries)) (sym h.links)
-        (subst (λ (table : _). IsCountedAt k table.streams (at k old.links.entries)) (sym h.streams) (fit.provided.counted k));
-    tracked = λ c. subst (λ (table : _). IsListedAt c table.keys (at c new.clients.entries)) (sym h.trackers) (placed c).listed;
+-- another table of the clients, whose rows have their places
+pub clients_leave : (old new : Tables) (rows : Rows (Option Client)) → clients_of new.clients.entries ≡ rows
+    → ((c : ℕ) → IsPlaced c old.trackers.keys (at c old.clients.entries) → IsPlaced c old.trackers.keys (at c new.clients.entries)) → IsFit old
+    → Leaves (record (state_of old) { clients = rows }) (record old { clients = new.clients })
+clients_leave old new rows is stay fit = record {
+  state = ap (λ (rows : Rows (Option Client)). record (state_of old) { clients = rows }) is;
+  fit = record {
+    provided = record {
+      links = fit.provided.links;
+      clients = λ c. (placed c).room;
+      counted = fit.provided.counted;
+      tracked = λ c. (placed c).listed;
+    };
+    read_out = fit.read_out;
   };
-  read_out = λ k. subst (λ (table : _). IsReadOutAt (at k table.entries)) (sym h.links) (fit.read_out k);
 }
   where
     placed : (c : ℕ) → IsPlaced c old.trackers.keys (at c new.clients.entries)
-    placed c = h.placed c (record { room = fit.provided.clients c; listed = fit.provided.tracked c })
+    placed c = stay c (record { room = fit.provided.clients c; listed = fit.provided.tracked c })
 
 -- a rule that takes no places and touches no link
 pub spares_fit : (old new : Tables) → ((t c : ℕ) → Uses t 0 c 0 old new) → new.links ≡ old.links → IsFit old → IsFit new

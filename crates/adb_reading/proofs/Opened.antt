@@ -1,5 +1,6 @@
 -- Streams that are drawn.
-use Rattle.std.proofs.Common.{ℕ, ◌+◌, ◌≡◌, ◌≢◌, ◌≤◌, ◌<◌, List, [], ◌∷◌, Bool, true, false, Option, Some, None, Ordering, refl, sym, ◌∙◌, ap, subst, cond, arith, ◌⊎◌, inl, inr}
+use Rattle.std.proofs.Common.{ℕ, ◌+◌, ◌≡◌, ◌≢◌, ◌≤◌, ◌<◌, List, [], ◌∷◌, Bool, true, false, Option, Some, None, Ordering, refl, sym, ◌∙◌, ap, subst, cond}
+use Rattle.std.proofs.Common.{arith, ◌⊎◌, inl, inr}
 use Rattle.std.specs.Prelude.{option_map, nat_eq}
 use Rattle.std.specs.List.{sum_by}
 use Rattle.std.specs.Map.{values_of}

@@ -1,5 +1,6 @@
 -- What a client asks is answered.
-use Rattle.std.proofs.Common.{ℕ, ◌+◌, ◌≡◌, ◌≢◌, ◌≤◌, ◌++◌, List, [], length, drop, Bool, true, false, Option, Some, None, refl, sym, ◌∙◌, ap, subst, cond, eqb, ◌⊎◌, inl, inr}
+use Rattle.std.proofs.Common.{ℕ, ◌+◌, ◌≡◌, ◌≢◌, ◌≤◌, ◌++◌, List, [], length, drop, Bool, true, false, Option, Some, None, refl, sym, ◌∙◌, ap, subst, cond}
+use Rattle.std.proofs.Common.{eqb, ◌⊎◌, inl, inr}
 use Rattle.std.specs.Prelude.{option_map, option_and_then}
 use Rattle.std.proofs.lemmas.Bool.{eqb-true, eq-eqb}
 use Rattle.adb_outside.specs.Tables.{at, change_row}
@@ -35,7 +36,8 @@ heard_is plan c row s here i = record s { clients = λ k. at_place k i }
     q = asked_by plan row.held
 
     by_row : (found : Option Client) → found ≡ Some row
-        → option_and_then (after_requests (heard_of plan)) found ≡ option_and_then (with_due plan.replies) (option_and_then (has_asked (asked_by plan row.held)) found)
+        → option_and_then (after_requests (heard_of plan)) found
+        ≡ option_and_then (with_due plan.replies) (option_and_then (has_asked (asked_by plan row.held)) found)
     by_row found is =
         subst (λ (found : Option Client). option_and_then (after_requests (heard_of plan)) found
         ≡ option_and_then (with_due plan.replies) (option_and_then (has_asked (asked_by plan row.held)) found)) (sym is) refl
@@ -52,7 +54,8 @@ heard_is plan c row s here i = record s { clients = λ k. at_place k i }
     at_place k = by_test k (eqb c k) (λ same. ap s.clients (sym (eqb-true c k same)) ∙ here)
 
 -- a client that is there, as its table has it
-seen_row : (c : ℕ) (t : Tables) (row : Client) (found : Option SeenClient) → option_map client_row found ≡ Some row → (plan : Plan) → PlansAt t found (Some plan)
+seen_row : (c : ℕ) (t : Tables) (row : Client) (found : Option SeenClient) → option_map client_row found ≡ Some row
+    → (plan : Plan) → PlansAt t found (Some plan)
     → asked_by plan row.held ≡ reads_on t.devices t.forwards (length row.held) (asking row.held row.about.selected)
 seen_row c t row None is plan plans = absurd plans
 seen_row c t row (Some client) is plan plans =
@@ -88,7 +91,8 @@ plan_within plan t (Some client) plans = plans.within
 -- ---- a piece that is held before
 -- what is asked replaces what was held
 pub asks_anew : (q : Asked) (c : ℕ) (piece : List ℕ) (s : State) → (asks q c (takes_in c piece s)).state ≡ (asks q c s).state
-asks_anew q c piece s = ap (λ (then : State). (goes_on q.next c (owe_client c q.replies then).state).state) (λ i. record s { clients = λ k. by_test (eqb c k) (s.clients k) i })
+asks_anew q c piece s =
+    ap (λ (then : State). (goes_on q.next c (owe_client c q.replies then).state).state) (λ i. record s { clients = λ k. by_test (eqb c k) (s.clients k) i })
   where
     by_row : (row : Option Client) → option_and_then (has_asked q) (option_and_then (holding piece) row) ≡ option_and_then (has_asked q) row
     by_row None = refl
@@ -111,7 +115,8 @@ abbrev holds_in : ℕ → Option Client → Type 0
 holds_in n None = Unit {0}
 holds_in n (Some row) = n ≤ length row.held
 
-pub holds_same : (n c : ℕ) (old new : Tables) → state_of new ≡ state_of old → HoldsAtLeast n (at c old.clients.entries) → HoldsAtLeast n (at c new.clients.entries)
+pub holds_same : (n c : ℕ) (old new : Tables) → state_of new ≡ state_of old → HoldsAtLeast n (at c old.clients.entries)
+    → HoldsAtLeast n (at c new.clients.entries)
 holds_same n c old new same holds =
     back (at c new.clients.entries) (subst (holds_in n) (sym (ap (λ (s : State). s.clients c) same)) (forth (at c old.clients.entries) holds))
   where

@@ -1,5 +1,6 @@
 -- What the up rule leaves fit.
-use Rattle.std.proofs.Common.{ℕ, ◌+◌, ◌≡◌, ◌≢◌, ◌≤◌, ◌==◌, Bool, true, false, cond, Option, Some, None, refl, sym, ◌∙◌, ap, subst, arith, length, ◌⊎◌, inl, inr}
+use Rattle.std.proofs.Common.{ℕ, ◌+◌, ◌≡◌, ◌≢◌, ◌≤◌, ◌==◌, Bool, true, false, cond, Option, Some, None, refl, sym, ◌∙◌, ap, subst, arith, length, ◌⊎◌, inl}
+use Rattle.std.proofs.Common.{inr}
 use Rattle.std.specs.Prelude.{option_map}
 use Rattle.std.proofs.lemmas.Bool.{cases_eq}
 use Rattle.adb_outside.specs.Tables.{at}
@@ -23,7 +24,8 @@ use Rattle.adb_reading.specs.Sending.{IsPrepared, IsPreparedAt}
 use Rattle.adb_reading.proofs.Sums.{up_sums, sums_at, SumsStay}
 
 -- ---- what was read of a link
-read_out : (old new : Option Port) → StaysRead old new → option_map (λ link. link.sums) (option_map link_row new) ≡ option_map (λ link. link.sums) (option_map link_row old)
+read_out : (old new : Option Port) → StaysRead old new
+    → option_map (λ link. link.sums) (option_map link_row new) ≡ option_map (λ link. link.sums) (option_map link_row old)
     → IsReadOutAt old → IsReadOutAt new
 read_out old None stays sums out = tt
 read_out None (Some new) stays sums out = absurd stays
@@ -74,7 +76,8 @@ raised_fit id old new fit room uses is = record {
 }
 
 -- ---- what is ready
-few_writes : (id : ℕ) (flow : Flow) (maxdata writes : ℕ) (row : Option SeenClient) → IsPreparedAt writes flow maxdata row → writes_for id flow maxdata row ≤ writes
+few_writes : (id : ℕ) (flow : Flow) (maxdata writes : ℕ) (row : Option SeenClient) → IsPreparedAt writes flow maxdata row
+    → writes_for id flow maxdata row ≤ writes
 few_writes id flow maxdata writes None is = omega arith
 few_writes id flow maxdata writes (Some client) is = by_test (is_for id client.about.phase)
   where

@@ -1,5 +1,6 @@
 -- The step of what comes from a client, and of a client that comes through a forward.
-use Rattle.std.proofs.Common.{ℕ, ◌+◌, ◌≡◌, ◌≢◌, ◌≤◌, ◌<◌, ◌++◌, List, Bool, true, false, Option, Some, None, refl, sym, ◌∙◌, ap, subst, cond, eqb, arith, ◌⊎◌, inl, inr}
+use Rattle.std.proofs.Common.{ℕ, ◌+◌, ◌≡◌, ◌≢◌, ◌≤◌, ◌<◌, ◌++◌, List, Bool, true, false, Option, Some, None, refl, sym, ◌∙◌, ap, subst, cond, eqb, arith, ◌⊎◌}
+use Rattle.std.proofs.Common.{inl, inr}
 use Rattle.std.specs.Prelude.{option_and_then}
 use Rattle.std.proofs.lemmas.Bool.{eqb-true, eq-eqb}
 use Rattle.adb_outside.specs.Tables.{change_row}
@@ -59,7 +60,8 @@ abbrev is_gone : Phase → Bool
 is_gone Gone = true
 is_gone _ = false
 
-has_phase : (s : State) (c : ℕ) (phase : Phase) (found : Option Client) → s.clients c ≡ found → phase_in found ≡ phase → is_gone phase ≡ false → HasPhase s c phase
+has_phase : (s : State) (c : ℕ) (phase : Phase) (found : Option Client) → s.clients c ≡ found → phase_in found ≡ phase → is_gone phase ≡ false
+    → HasPhase s c phase
 has_phase s c phase None here is there = let clash : true ≡ false = ap is_gone is ∙ there in cc
 has_phase s c phase (Some row) here is there = record { row = row; here = here; is = is }
 
@@ -87,12 +89,15 @@ module _ (s : State) (c : ℕ) (bytes : List ℕ) where
   holds_more row here i = record s { clients = λ k. at_place k i }
     where
       by_test : (k : ℕ) (b : Bool) → (b ≡ true → s.clients k ≡ Some row)
-          → cond b (option_and_then (holding bytes) (s.clients k)) (s.clients k) ≡ cond b (option_and_then (with_held (row.held ++ bytes)) (s.clients k)) (s.clients k)
+          → cond b (option_and_then (holding bytes) (s.clients k)) (s.clients k)
+          ≡ cond b (option_and_then (with_held (row.held ++ bytes)) (s.clients k)) (s.clients k)
       by_test k true same =
-          subst (λ (found : Option Client). option_and_then (holding bytes) found ≡ option_and_then (with_held (row.held ++ bytes)) found) (sym (same refl)) refl
+          subst (λ (found : Option Client). option_and_then (holding bytes) found ≡ option_and_then (with_held (row.held ++ bytes)) found)
+          (sym (same refl)) refl
       by_test k false same = refl
 
-      at_place : (k : ℕ) → change_row c (option_and_then (holding bytes)) s.clients k ≡ change_row c (option_and_then (with_held (row.held ++ bytes))) s.clients k
+      at_place : (k : ℕ) → change_row c (option_and_then (holding bytes)) s.clients k
+          ≡ change_row c (option_and_then (with_held (row.held ++ bytes))) s.clients k
       at_place k = by_test k (eqb c k) (λ same. ap s.clients (sym (eqb-true c k same)) ∙ here)
 
   -- the step of what comes from a client, in a state that a legal history leaves

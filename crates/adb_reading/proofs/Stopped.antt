@@ -102,7 +102,8 @@ closed_on_any c (Some client) None is trackers = let clash : Some (client_row cl
 closed_on_any c (Some client) (Some was) is trackers = closed_row c (Some client) was.due was is trackers
 
 -- the row of a client that closed
-pub closed_at : (c : ℕ) (new : Tables) (s : State) → state_of new ≡ closes c s → option_map client_row (at c new.clients.entries) ≡ option_and_then closing (s.clients c)
+pub closed_at : (c : ℕ) (new : Tables) (s : State) → state_of new ≡ closes c s
+    → option_map client_row (at c new.clients.entries) ≡ option_and_then closing (s.clients c)
 closed_at c new s is =
     ap (λ (then : State). then.clients c) is ∙ ap (λ b. cond b (option_and_then closing (s.clients c)) (s.clients c)) (eq-eqb c c refl)
 

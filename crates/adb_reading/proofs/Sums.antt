@@ -10,7 +10,8 @@ use Rattle.adb_history.specs.Rows.{Client, Link, State, to_stream, none_kept, wi
 use Rattle.adb_history.specs.Events.{Ending, client_closed}
 use Rattle.adb_history.specs.Links.{write_packet, close_packet, owe_link, check_on, wants_sums, maxdata_of}
 use Rattle.adb_history.specs.Streams.{loses, client_loses, tells_end, ends_row, ends_telling}
-use Rattle.adb_history.specs.Flow.{payloads, noted, goes_up, all_go_up, closes_if, sends_up, is_over, flow_after, total, is_streaming, up_client, up_stream, up}
+use Rattle.adb_history.specs.Flow.{payloads, noted, goes_up, all_go_up, closes_if, sends_up, is_over, flow_after, total, is_streaming, up_client, up_stream}
+use Rattle.adb_history.specs.Flow.{up}
 
 -- what a link's check words are, where it lives
 abbrev pub sums_at : ℕ → State → Option Bool

@@ -1,5 +1,6 @@
 -- A piece that is held, and goes again.
-use Rattle.std.proofs.Common.{ℕ, ◌+◌, ◌-◌, ◌≡◌, ◌≢◌, ◌++◌, List, length, take, Bool, true, false, Option, Some, None, refl, sym, ◌∙◌, ap, subst, cond, eqb, arith}
+use Rattle.std.proofs.Common.{ℕ, ◌+◌, ◌-◌, ◌≡◌, ◌≢◌, ◌++◌, List, length, take, Bool, true, false, Option, Some, None, refl, sym, ◌∙◌, ap, subst, cond, eqb}
+use Rattle.std.proofs.Common.{arith}
 use Rattle.std.specs.Prelude.{option_and_then}
 use Rattle.std.proofs.lemmas.List.{length-append}
 use Rattle.std.proofs.Math.Seq.{take-append_seam}

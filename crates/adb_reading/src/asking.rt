@@ -23,8 +23,8 @@ pub(crate) fn ask(tables: &mut Tables, client: u32, piece: &[u8]) -> Result<(), 
     requires fit { IsFit tables.old }
     requires sized { IsSized tables.old }
     ensures made { OnOk result ((row : Row) → (state_of tables.old).clients client ≡ Some row
-        → Leaves (asks (asks_with tables.old.devices tables.old.forwards piece.now (asked_before row))
-        client (state_of tables.old)).state tables.new) }
+        → let s = state_of tables.old in Leaves (asks (asks_with s.devices s.forwards piece.now
+        (asked_before row)) client s).state tables.new) }
     ensures kept { OnErr result (Leaves (state_of tables.old) tables.new) }
 {
     take_in(tables, client, piece)?;

@@ -67,8 +67,8 @@ fn come_by(tables: &mut Tables, client: u32, way: Way) -> Result<(), AllocError>
     requires fresh { (state_of tables.old).clients client ≡ None }
     requires size { length way.payload ≤ MAX_PAYLOAD }
     ensures made { OnOk result ((service : List ℕ) → way.payload ≡ service ++ 0 ∷ []
-        → Leaves (opens true client way.link service (comes true client (state_of tables.old))).state
-        tables.new) }
+        → Leaves (opens true client way.link service
+        (comes true client (state_of tables.old))).state tables.new) }
     ensures kept { OnErr result (Leaves (state_of tables.old) tables.new) }
 {
     add_client(tables, client)?;

@@ -40,18 +40,40 @@ pub(crate) fn follow(
     ensures kept { OnErr result (Leaves (state_of tables.old) tables.new) }
 {
     match next {
-        None | Some(Next::Select(_)) => hear(tables, client, heard),
-        Some(Next::Close) => close(tables, client, heard),
-        Some(Next::Track { long }) => return track(tables, client, heard, long),
-        Some(Next::Open { transport, service }) => {
+        Some(next) => follow_next(tables, client, heard, next),
+        None => {
+            hear(tables, client, heard);
+            Ok(())
+        }
+    }
+}
+
+fn follow_next(
+    tables: &mut Tables,
+    client: u32,
+    heard: &Heard,
+    next: Next,
+) -> Result<(), AllocError>
+    requires fit { IsFit tables.old }
+    requires ready { CanHearAt heard.now (at client tables.old.clients.entries) }
+    requires fits { FitsNext (Some next) }
+    ensures made { OnOk result (Leaves (goes_on (Some next) client
+        (hears heard.now client (state_of tables.old))).state tables.new) }
+    ensures kept { OnErr result (Leaves (state_of tables.old) tables.new) }
+{
+    match next {
+        Next::Select(_) => hear(tables, client, heard),
+        Next::Close => close(tables, client, heard),
+        Next::Track { long } => return track(tables, client, heard, long),
+        Next::Open { transport, service } => {
             return open(tables, client, heard, transport, &service);
         }
-        Some(Next::Bind {
+        Next::Bind {
             transport,
             local,
             remote,
             chosen: _,
-        }) => bind(
+        } => bind(
             tables,
             client,
             heard,
@@ -61,14 +83,14 @@ pub(crate) fn follow(
                 remote,
             },
         ),
-        Some(Next::Rebind {
+        Next::Rebind {
             transport,
             local,
             remote,
-        }) => return rebind(tables, client, heard, transport, local, &remote),
-        Some(Next::Unbind(local)) => unbind(tables, client, heard, local),
-        Some(Next::UnbindAll) => unbind_all(tables, client, heard),
-        Some(Next::Stop) => end(tables, client, heard),
+        } => return rebind(tables, client, heard, transport, local, &remote),
+        Next::Unbind(local) => unbind(tables, client, heard, local),
+        Next::UnbindAll => unbind_all(tables, client, heard),
+        Next::Stop => end(tables, client, heard),
     }
     Ok(())
 }

@@ -49,8 +49,8 @@ pub fn open_payload(alloc: Global, service: &[u8]) -> Result<Bytes, AllocError>
 }
 
 /// A stream is asked for: the next id is drawn, the OPEN with that payload becomes due to the link,
-/// and the client waits for the device's answer. Where no id is left, a client is told so, unless it
-/// came through a forward.
+/// and the client waits for the device's answer. Where no id is left, a client is told so, unless
+/// it came through a forward.
 pub fn open(tables: &mut Tables, asker: &Asker, payload: Bytes) -> Result<(), AllocError>
     requires fit { IsFit tables.old }
     requires size { length payload ≤ MAX_PAYLOAD }
@@ -94,7 +94,8 @@ fn draw_for(tables: &mut Tables, asker: &Asker) -> Result<Option<u32>, AllocErro
     ensures kept { OnErr result (Leaves (state_of tables.old) tables.new) }
     ensures room { OnOk result (LinkRoom 1 (at asker.now.link tables.new.links.entries)) }
     ensures slices { OnOk result (HasSlices 2 (at asker.now.client tables.new.clients.entries)) }
-    ensures ready { (heard : Heard) → CanHearAt heard (at asker.now.client tables.old.clients.entries)
+    ensures ready { (heard : Heard)
+        → CanHearAt heard (at asker.now.client tables.old.clients.entries)
         → CanHearAt heard (at asker.now.client tables.new.clients.entries) }
 {
     reserve_packets(tables, asker.link, 2)?;
@@ -231,7 +232,8 @@ fn put_packet(tables: &mut Tables, link: u32, head: &Head, payload: Bytes)
 fn put_on(port: &mut Port, head: &Head, payload: Bytes)
     requires place { 0 < port.old.link.spare }
     requires head { IsHeadOf head.now payload }
-    ensures row { link_row port.new ≡ owing_row (packet_under head.now payload) (link_row port.old) }
+    ensures row { link_row port.new
+        ≡ owing_row (packet_under head.now payload) (link_row port.old) }
     ensures place { port.new.link.spare ≡ port.old.link.spare - 1 }
     ensures kept { port.new.kept ≡ port.old.kept }
     ensures incoming { port.new.link.incoming ≡ port.old.link.incoming }

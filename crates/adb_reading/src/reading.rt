@@ -13,9 +13,9 @@ use adb_client::Phase;
 use adb_rules::Tables;
 use std::alloc::AllocError;
 
-/// A client came through the forward of a port: a stream is asked for on the device that the forward
-/// leads to. Where it leads nowhere, nothing is kept of the client. After want of memory all is as
-/// before.
+/// A client came through the forward of a port: a stream is asked for on the device that the
+/// forward leads to. Where it leads nowhere, nothing is kept of the client. After want of memory
+/// all is as before.
 pub fn enter(tables: &mut Tables, client: u32, port: u16) -> Result<(), AllocError>
     requires fit { IsFit tables.old }
     requires reached { IsReached (state_of tables.old) }

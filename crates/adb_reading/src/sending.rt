@@ -96,7 +96,12 @@ fn prepare(tables: &mut Tables, stream: &Stream, maxdata: usize) -> Result<usize
     ensures ready { IfOk result (λ writes. IsPreparedAt writes stream.now.part.flow maxdata
         (at stream.now.client tables.new.clients.entries)) }
 {
-    prepare_in(&mut tables.clients, stream.client, &stream.part.flow, maxdata)
+    prepare_in(
+        &mut tables.clients,
+        stream.client,
+        &stream.part.flow,
+        maxdata,
+    )
 }
 
 fn prepare_in(

@@ -27,13 +27,9 @@ pub(crate) fn take_in(tables: &mut Tables, client: u32, piece: &[u8]) -> Result<
     add_to(&mut tables.clients, client, piece)
 }
 
-fn add_to(
-    clients: &mut BTreeMap<u32, Client>,
-    client: u32,
-    piece: &[u8],
-) -> Result<(), AllocError>
-    ensures ok { OnOk result (clients_of clients.new.entries
-        ≡ change_row client (option_and_then (holding piece.now)) (clients_of clients.old.entries)) }
+fn add_to(clients: &mut BTreeMap<u32, Client>, client: u32, piece: &[u8]) -> Result<(), AllocError>
+    ensures ok { OnOk result (clients_of clients.new.entries ≡ change_row client
+        (option_and_then (holding piece.now)) (clients_of clients.old.entries)) }
     ensures err { OnErr result (clients_of clients.new.entries ≡ clients_of clients.old.entries) }
     ensures holds { OnOk result
         (HoldsAtLeast (length piece.now) (at client clients.new.entries)) }

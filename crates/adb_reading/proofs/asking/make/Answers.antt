@@ -21,7 +21,7 @@ returns-in-Ok-clause-made c =
     let plan = c.args.plan in
     on_ok_weaker c.follow.result (λ leaves row here. record {
       state = leaves.state
-      ∙ (ap (λ (s : State). (goes_on plan.next c.args.client (hears (heard_of plan) c.args.client s)).state) c.in-Ok.ensures.made.state
-      ∙ planned plan c.args.client row old c.requires.plan here);
+          ∙ (ap (λ (s : State). (goes_on plan.next c.args.client (hears (heard_of plan) c.args.client s)).state) c.in-Ok.ensures.made.state
+          ∙ planned plan c.args.client row old c.requires.plan here);
       fit = leaves.fit;
     }) c.follow.ensures.made

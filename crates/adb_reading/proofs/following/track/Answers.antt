@@ -7,7 +7,7 @@ use Rattle.adb_reading.proofs.following.track.Goals as goal
 pub returns-clause-made : goal.returns-clause-made
 returns-clause-made c = record {
   state = c.set_tracking.ensures.state
-  ∙ ap (to_client c.args.client (tracks c.args.long))
-  (c.hear.ensures.made.state ∙ ap (hears c.args.heard.now c.args.client) c.in_ok-list.ensures.made.state);
+      ∙ ap (to_client c.args.client (tracks c.args.long))
+      (c.hear.ensures.made.state ∙ ap (hears c.args.heard.now c.args.client) c.in_ok-list.ensures.made.state);
   fit = c.set_tracking.ensures.fit;
 }

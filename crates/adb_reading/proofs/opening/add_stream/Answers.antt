@@ -19,9 +19,9 @@ returns-clause-made c =
     let row = new_stream id asker.client asker.link (new_flow c.is_credit-credit.result) in
     record {
       state = counted.state
-      ∙ (ap (λ (table : StreamTable). state_of (record old { streams = table })) c.in_ok-id.ensures.after
-      ∙ (drawn_state old id asker.client asker.link c.is_credit-credit.result c.in_ok-id.ensures.id
-      ∙ ap (λ (credit : Bool). draw credit asker.client asker.link (state_of old)) c.is_credit-credit.ensures));
+          ∙ (ap (λ (table : StreamTable). state_of (record old { streams = table })) c.in_ok-id.ensures.after
+          ∙ (drawn_state old id asker.client asker.link c.is_credit-credit.result c.in_ok-id.ensures.id
+          ∙ ap (λ (credit : Bool). draw credit asker.client asker.link (state_of old)) c.is_credit-credit.ensures));
       fit = drawn_fit {stream = row} {old = old} (record {
         clients = ap (λ (t : Tables). t.clients) counted.tables;
         trackers = ap (λ (t : Tables). t.trackers) counted.tables;

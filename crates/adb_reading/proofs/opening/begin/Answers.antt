@@ -9,6 +9,6 @@ returns c = λ service is.
     let link = c.args.asker.now.link in
     record {
       state = owed.state
-      ∙ ap (λ (s : State). (owe_link link (open_packet (is_credit link s.devices) c.args.id service) s).state) c.wait.ensures.state;
+          ∙ ap (λ (s : State). (owe_link link (open_packet (is_credit link s.devices) c.args.id service) s).state) c.wait.ensures.state;
       fit = owed.fit;
     }

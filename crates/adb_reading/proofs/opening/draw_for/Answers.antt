@@ -7,13 +7,14 @@ use Rattle.adb_reading.proofs.opening.draw_for.Goals as goal
 
 pub returns-in-Ok-clause-next : goal.returns-in-Ok-clause-next
 returns-in-Ok-clause-next c =
-    next_id c.in-Ok.id (state_of c.args.tables.now) (state_of c.reserve_slices.new.tables) (c.reserve_slices.ensures.made.state ∙ c.reserve_packets.ensures.made.state)
+    next_id c.in-Ok.id (state_of c.args.tables.now) (state_of c.reserve_slices.new.tables)
+    (c.reserve_slices.ensures.made.state ∙ c.reserve_packets.ensures.made.state)
     c.in-Ok.ensures.left c.in-Ok.ensures.drawn
 
 pub returns-in-Ok-clause-made : goal.returns-in-Ok-clause-made
 returns-in-Ok-clause-made c = record {
   state = c.in-Ok.ensures.made.state
-  ∙ ap (drawn_for (Some c.in-Ok.id) c.args.asker.now) (c.reserve_slices.ensures.made.state ∙ c.reserve_packets.ensures.made.state);
+      ∙ ap (drawn_for (Some c.in-Ok.id) c.args.asker.now) (c.reserve_slices.ensures.made.state ∙ c.reserve_packets.ensures.made.state);
   fit = c.in-Ok.ensures.made.fit;
 }
 

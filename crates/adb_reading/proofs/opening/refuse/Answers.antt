@@ -9,6 +9,6 @@ returns-then-asker c =
     let old = c.args.tables.now in
     record {
       state = c.drop_client.ensures.state
-      ∙ ap (λ (forwarded : Bool). (no_ids_left forwarded c.args.asker.now.client (state_of old)).state) (sym c.if-asker.true);
+          ∙ ap (λ (forwarded : Bool). (no_ids_left forwarded c.args.asker.now.client (state_of old)).state) (sym c.if-asker.true);
       fit = spares_fit old c.drop_client.new.self c.drop_client.ensures.uses c.drop_client.ensures.links c.requires.fit;
     }

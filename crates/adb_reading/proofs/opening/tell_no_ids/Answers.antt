@@ -13,8 +13,9 @@ returns c =
     let client = c.args.client in
     record {
       state = c.close_client.ensures.state
-      ∙ ap (closes client) (c.owe_client.ensures.state
-      ∙ ap (λ (bytes : List ℕ). (owe_client client bytes (state_of old)).state) c.from_static.ensures);
+          ∙ ap (closes client) (c.owe_client.ensures.state
+          ∙ ap (λ (bytes : List ℕ). (owe_client client bytes (state_of old)).state) c.from_static.ensures);
       fit = spares_fit told c.close_client.new.self c.close_client.ensures.uses c.close_client.ensures.links
-          (takes_fit client old told c.owe_client.ensures.uses c.owe_client.ensures.links (one_spare (at client old.clients.entries) c.requires.client) c.requires.fit);
+          (takes_fit client old told c.owe_client.ensures.uses c.owe_client.ensures.links
+          (one_spare (at client old.clients.entries) c.requires.client) c.requires.fit);
     }

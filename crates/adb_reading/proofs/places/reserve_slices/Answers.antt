@@ -1,15 +1,7 @@
-use Rattle.std.proofs.Common.{ap, refl, Option}
-use Rattle.adb_outside.specs.Tables.{Rows}
-use Rattle.adb_history.specs.Rows.{Client}
-use Rattle.adb_rules.specs.Tables.{state_of}
-use Rattle.adb_reading.proofs.Fitting.{clients_fit}
+use Rattle.adb_reading.proofs.Fitting.{clients_leave}
 use Rattle.adb_reading.proofs.places.reserve_slices.Goals as goal
 
 pub returns-clause-made : goal.returns-clause-made
 returns-clause-made c =
     let old = c.args.tables.now in
-    let new = record old { clients = c.reserve_in.new.clients } in
-    record {
-      state = ap (λ (rows : Rows (Option Client)). record (state_of old) { clients = rows }) c.reserve_in.ensures.rows;
-      fit = clients_fit old new (record { trackers = refl; links = refl; streams = refl; placed = λ k. c.reserve_in.ensures.placed k old.trackers.keys }) c.requires;
-    }
+    clients_leave old (record old { clients = c.reserve_in.new.clients }) _ c.reserve_in.ensures.rows (λ k. c.reserve_in.ensures.placed k old.trackers.keys) c.requires

@@ -19,7 +19,8 @@ returns-in-Asking-clause-made c =
     let phase = sym c.phase_of.ensures ∙ c.in-Asking.is in
     let h = asking_row s c.args.client bytes c.requires.reached phase in
     on_ok_weaker c.ask.result
-    (λ leaves. makes (Read c.args.client bytes) old c.ask.new.tables _ (asking_step s c.args.client bytes c.requires.reached phase h.row h.here) (leaves h.row h.here))
+    (λ leaves. makes (Read c.args.client bytes) old c.ask.new.tables _
+    (asking_step s c.args.client bytes c.requires.reached phase h.row h.here) (leaves h.row h.here))
     c.ask.ensures.made
 
 pub returns-in-Opening-clause-made : goal.returns-in-Opening-clause-made
@@ -28,7 +29,8 @@ returns-in-Opening-clause-made c =
     let bytes = c.args.piece.now in
     let phase = sym c.phase_of.ensures ∙ c.in-Opening.is in
     on_ok_weaker c.take_in.result
-    (makes (Read c.args.client bytes) old c.take_in.new.tables _ (opening_step (state_of old) c.args.client bytes c.requires.reached c.in-Opening.field-0 phase))
+    (makes (Read c.args.client bytes) old c.take_in.new.tables _
+    (opening_step (state_of old) c.args.client bytes c.requires.reached c.in-Opening.field-0 phase))
     c.take_in.ensures.made
 
 pub returns-in-Streaming-clause-made : goal.returns-in-Streaming-clause-made
