@@ -1,6 +1,6 @@
 -- What follows a request: a service that is opened fits in a packet of its device, a forward that changes is there.
 use Rattle.std.proofs.Common.{ℕ, ◌≡◌, ◌+◌, ◌≤◌, ◌++◌, zero, suc, take, drop, Bool, true, false, cond, List, [], length, codes, Option, Some, None, is_some}
-use Rattle.std.proofs.Common.{Result, Ok, Err, refl, sym, ap, subst, arith}
+use Rattle.std.proofs.Common.{Result, Ok, Err, refl, sym, subst, arith}
 use Rattle.std.proofs.Common.{nat_lt, nat_eq, not, ◌&&◌}
 use Rattle.std.specs.Prelude.{unwrap_or, option_map}
 use Rattle.std.proofs.lemmas.Bool.Decides.{nat_tests}
@@ -25,10 +25,8 @@ use Rattle.adb_request.specs.declared.request.Which.TheVariants.{Own, By}
 use Rattle.adb_request.specs.declared.request.Request.{Request}
 use Rattle.adb_request.specs.declared.request.Request.TheVariants as asks
 use Rattle.adb_reply.specs.Strings.{failed}
-use Rattle.adb_reply.specs.Refusals.{no_transport}
-use Rattle.adb_reply.specs.Chosen.{device_or, device_by, asked_device}
+use Rattle.adb_reply.specs.Chosen.{device_or, asked_device}
 use Rattle.adb_reply.specs.Answer.{selects, fact_at, tells, forwards_from, forwards_to, forwards_by, unbinds, opens_at, opens, answer}
-use Rattle.adb_reply.specs.declared.answer.Answer.{Answer}
 use Rattle.adb_reply.specs.declared.answer.Next.{Next}
 use Rattle.adb_reply.specs.declared.answer.Next.TheVariants as nexts
 use Rattle.adb_history.specs.Links.{maxdata_of}

@@ -1,6 +1,6 @@
 -- Clients that come through forwards.
-use Rattle.std.proofs.Common.{ℕ, ◌+◌, ◌-◌, ◌≡◌, ◌≢◌, ◌≤◌, ◌<◌, ◌++◌, List, [], ◌∷◌, length, All, Bool, true, false, Option, Some, None, Result, Ok, Err, refl}
-use Rattle.std.proofs.Common.{sym, ◌∙◌, ap, subst, cond, eqb, arith, ◌⊎◌, inl, inr}
+use Rattle.std.proofs.Common.{ℕ, ◌+◌, ◌-◌, ◌≡◌, ◌≢◌, ◌≤◌, ◌++◌, List, [], ◌∷◌, length, true, Option, Some, None, Result, Ok, Err}
+use Rattle.std.proofs.Common.{sym, ◌∙◌, ap, subst, cond, arith, ◌⊎◌, inl, inr}
 use Rattle.std.specs.Prelude.{OnOk, IfSome, option_and_then}
 use Rattle.std.specs.BTreeMap.{is_at}
 use Rattle.std.specs.Ordering.{nat_cmp}
@@ -8,20 +8,18 @@ use Rattle.std.proofs.lemmas.Bool.{cases_eq, eq-eqb, ne_eqb}
 use Rattle.std.proofs.lemmas.List.{length-append}
 use Rattle.std.proofs.lemmas.List.Elements.{All-weaker}
 use Rattle.std.proofs.lemmas.Map.Entries.{All-lookup}
-use Rattle.adb_outside.specs.Tables.{at, put_row, change_row, Rows}
+use Rattle.adb_outside.specs.Tables.{at, put_row, change_row}
 use Rattle.adb_wire.specs.declared.headers.TheConstants.{MAX_PAYLOAD}
 use Rattle.adb_forward.specs.Forwards.{IsForwardTable, IsRow}
 use Rattle.adb_forward.specs.declared.row.ForwardRow.{ForwardRow}
 use Rattle.adb_forward.specs.declared.table.TheConstants.{MAX_REMOTE}
 use Rattle.adb_history.specs.Rows.{Client, State, to_client, none_kept, new_client}
-use Rattle.adb_history.specs.Events.{Made}
-use Rattle.adb_history.specs.Links.{is_connected}
 use Rattle.adb_history.specs.Streams.{opens}
 use Rattle.adb_history.specs.Reading.{comes, comes_in_vain, enters_by}
 use Rattle.adb_rules.specs.declared.tables.Tables.{Tables}
 use Rattle.adb_reading.specs.Leaving.{Leaves}
 use Rattle.adb_reading.specs.declared.entering.Way.{Way}
-use Rattle.adb_reading.specs.Entering.{LeadsTo, Leads}
+use Rattle.adb_reading.specs.Entering.{Leads}
 
 -- ---- the way of a forward
 

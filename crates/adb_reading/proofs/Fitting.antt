@@ -1,5 +1,5 @@
 -- What stays fit for the next entry.
-use Rattle.std.proofs.Common.{ℕ, ◌+◌, ◌≡◌, ◌≢◌, ◌≤◌, ◌<◌, Option, Some, None, refl, sym, ◌∙◌, ap, subst, arith, ◌⊎◌, inl, inr}
+use Rattle.std.proofs.Common.{ℕ, ◌≡◌, ◌≢◌, ◌≤◌, Option, Some, None, sym, ap, subst, arith, ◌⊎◌, inl, inr}
 use Rattle.std.proofs.lemmas.Bool.{cases_eq}
 use Rattle.adb_outside.specs.Tables.{at, Rows}
 use Rattle.adb_client.specs.Client.{SeenClient}
@@ -8,8 +8,8 @@ use Rattle.adb_client.specs.declared.phase.Phase.TheVariants.{Asking, Opening, S
 use Rattle.adb_history.specs.Rows.{Client}
 use Rattle.adb_rules.specs.declared.tables.Tables.{Tables}
 use Rattle.adb_rules.specs.Tables.{state_of}
-use Rattle.adb_rules.specs.Places.{LinkRoom, ClientRoom, IsCountedAt, kept_places, Uses, IsProvided}
-use Rattle.adb_rules.specs.Tracked.{IsListedAt, clients_of}
+use Rattle.adb_rules.specs.Places.{ClientRoom, kept_places, Uses}
+use Rattle.adb_rules.specs.Tracked.{clients_of}
 use Rattle.adb_rules.specs.Fit.{IsFit, IsReadOutAt}
 use Rattle.adb_rules.proofs.Using.{provided_by}
 use Rattle.adb_reading.specs.Leaving.{Leaves, HasSlices, IsPlaced}

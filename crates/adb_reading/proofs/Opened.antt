@@ -1,5 +1,5 @@
 -- Streams that are drawn.
-use Rattle.std.proofs.Common.{ℕ, ◌+◌, ◌≡◌, ◌≢◌, ◌≤◌, ◌<◌, List, [], ◌∷◌, Bool, true, false, Option, Some, None, Ordering, refl, sym, ◌∙◌, ap, subst, cond}
+use Rattle.std.proofs.Common.{ℕ, ◌+◌, ◌≡◌, ◌≢◌, ◌≤◌, List, [], ◌∷◌, Bool, true, false, Option, Some, None, Ordering, refl, sym, ◌∙◌, ap, subst, cond}
 use Rattle.std.proofs.Common.{arith, ◌⊎◌, inl, inr}
 use Rattle.std.specs.Prelude.{option_map, nat_eq}
 use Rattle.std.specs.List.{sum_by}
@@ -19,7 +19,7 @@ use Rattle.adb_history.specs.Streams.{draw, asks_for, no_ids_left, opens, stream
 use Rattle.adb_rules.specs.declared.ports.Port.{Port}
 use Rattle.adb_rules.specs.declared.tables.Tables.{Tables}
 use Rattle.adb_rules.specs.Tables.{state_of}
-use Rattle.adb_rules.specs.Places.{LinkRoom, ClientRoom, IsCountedAt, is_on, streams_on}
+use Rattle.adb_rules.specs.Places.{LinkRoom, ClientRoom, IsCountedAt, is_on}
 use Rattle.adb_rules.specs.Tracked.{IsListedAt}
 use Rattle.adb_rules.specs.Fit.{IsFit, IsReadOutAt}
 use Rattle.adb_rules.proofs.Rows.{rows_put}

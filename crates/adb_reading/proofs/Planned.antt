@@ -1,13 +1,11 @@
 -- What a client asks is answered.
-use Rattle.std.proofs.Common.{ℕ, ◌+◌, ◌≡◌, ◌≢◌, ◌≤◌, ◌++◌, List, [], length, drop, Bool, true, false, Option, Some, None, refl, sym, ◌∙◌, ap, subst, cond}
-use Rattle.std.proofs.Common.{eqb, ◌⊎◌, inl, inr}
+use Rattle.std.proofs.Common.{ℕ, ◌≡◌, ◌≤◌, ◌++◌, List, length, Bool, true, false, Option, Some, None, refl, sym, ◌∙◌, ap, subst, cond}
+use Rattle.std.proofs.Common.{eqb}
 use Rattle.std.specs.Prelude.{option_map, option_and_then}
 use Rattle.std.proofs.lemmas.Bool.{eqb-true, eq-eqb}
 use Rattle.adb_outside.specs.Tables.{at, change_row}
-use Rattle.adb_wire.specs.declared.headers.TheConstants.{MAX_PAYLOAD}
 use Rattle.adb_client.specs.Client.{SeenClient}
 use Rattle.adb_history.specs.Rows.{Client, State, to_client, with_due}
-use Rattle.adb_history.specs.Links.{maxdata_of}
 use Rattle.adb_history.specs.Clients.{owe_client}
 use Rattle.adb_history.specs.Asking.{Asked, reads_on}
 use Rattle.adb_history.specs.Reading.{has_asked, asks, goes_on}
@@ -19,7 +17,7 @@ use Rattle.adb_rules.specs.Up.{IsSized}
 use Rattle.adb_reading.specs.Leaving.{HoldsAtLeast}
 use Rattle.adb_reading.specs.Taking.{takes_in, holding}
 use Rattle.adb_reading.specs.Asking.{after_requests, hears, FitsNext}
-use Rattle.adb_reading.specs.Planning.{Plans, PlansAt, answered}
+use Rattle.adb_reading.specs.Planning.{PlansAt, answered}
 use Rattle.adb_reading.specs.declared.hearing.Heard.{Heard}
 use Rattle.adb_reading.proofs.Answering.{next_fits}
 

@@ -1,5 +1,5 @@
 -- What the up rule leaves fit.
-use Rattle.std.proofs.Common.{ℕ, ◌+◌, ◌≡◌, ◌≢◌, ◌≤◌, ◌==◌, Bool, true, false, cond, Option, Some, None, refl, sym, ◌∙◌, ap, subst, arith, length, ◌⊎◌, inl}
+use Rattle.std.proofs.Common.{ℕ, ◌+◌, ◌≡◌, ◌≢◌, ◌≤◌, ◌==◌, Bool, true, false, cond, Option, Some, None, sym, ◌∙◌, ap, subst, arith, length, ◌⊎◌, inl}
 use Rattle.std.proofs.Common.{inr}
 use Rattle.std.specs.Prelude.{option_map}
 use Rattle.std.proofs.lemmas.Bool.{cases_eq}
@@ -8,20 +8,19 @@ use Rattle.adb_link.specs.declared.link.TheConstants.{VERSION_WITH_SUMS}
 use Rattle.adb_client.specs.Client.{SeenClient}
 use Rattle.adb_stream.specs.declared.flow.Flow.{Flow}
 use Rattle.adb_stream.specs.declared.row.Stream.{Stream}
-use Rattle.adb_history.specs.Rows.{State}
 use Rattle.adb_history.specs.Links.{maxdata_of}
 use Rattle.adb_history.specs.Flow.{up}
 use Rattle.adb_rules.specs.declared.ports.Port.{Port}
 use Rattle.adb_rules.specs.declared.tables.Tables.{Tables}
 use Rattle.adb_rules.specs.Tables.{state_of, link_row}
-use Rattle.adb_rules.specs.Places.{LinkRoom, ClientRoom, StaysRead, Uses, IsProvided}
+use Rattle.adb_rules.specs.Places.{LinkRoom, StaysRead, IsProvided}
 use Rattle.adb_rules.specs.Handing.{HasRoom, UsesOf}
 use Rattle.adb_rules.specs.Up.{up_writes, is_for, IsCutFor, IsCutOf, writes_for, writes_of, writes_up, IsReadyUp}
 use Rattle.adb_rules.specs.Fit.{IsFit, IsReadOutAt}
 use Rattle.adb_rules.proofs.Using.{provided_by, more_room}
 use Rattle.adb_reading.specs.Leaving.{HasPlaces}
-use Rattle.adb_reading.specs.Sending.{IsPrepared, IsPreparedAt}
-use Rattle.adb_reading.proofs.Sums.{up_sums, sums_at, SumsStay}
+use Rattle.adb_reading.specs.Sending.{IsPreparedAt}
+use Rattle.adb_reading.proofs.Sums.{up_sums, sums_at}
 
 -- ---- what was read of a link
 read_out : (old new : Option Port) → StaysRead old new

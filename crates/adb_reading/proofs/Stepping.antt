@@ -1,20 +1,19 @@
 -- The step of what comes from a client, and of a client that comes through a forward.
-use Rattle.std.proofs.Common.{ℕ, ◌+◌, ◌≡◌, ◌≢◌, ◌≤◌, ◌<◌, ◌++◌, List, Bool, true, false, Option, Some, None, refl, sym, ◌∙◌, ap, subst, cond, eqb, arith, ◌⊎◌}
+use Rattle.std.proofs.Common.{ℕ, ◌+◌, ◌≡◌, ◌++◌, List, Bool, true, false, Option, Some, None, refl, sym, ◌∙◌, ap, subst, cond, eqb, arith, ◌⊎◌}
 use Rattle.std.proofs.Common.{inl, inr}
 use Rattle.std.specs.Prelude.{option_and_then}
-use Rattle.std.proofs.lemmas.Bool.{eqb-true, eq-eqb}
+use Rattle.std.proofs.lemmas.Bool.{eqb-true}
 use Rattle.adb_outside.specs.Tables.{change_row}
 use Rattle.adb_client.specs.declared.phase.Phase.{Phase}
 use Rattle.adb_client.specs.declared.phase.Phase.TheVariants.{Asking, Opening, Streaming, Binding, Tracking, Closing, Gone}
 use Rattle.adb_capture.specs.declared.entry.Entry.{Entry}
-use Rattle.adb_capture.specs.declared.entry.Entry.TheVariants.{Enter, Read}
+use Rattle.adb_capture.specs.declared.entry.Entry.TheVariants.{Read}
 use Rattle.adb_history.specs.Rows.{Client, State, to_client, with_held}
 use Rattle.adb_history.specs.Flow.{up}
 use Rattle.adb_history.specs.Asking.{asks_with}
 use Rattle.adb_history.specs.Reading.{asked_before, asks, reads_in, reads_from, reads}
 use Rattle.adb_history.specs.Machine.{step}
 use Rattle.adb_history.specs.Orderly.{IsOrderly}
-use Rattle.adb_history.specs.Moves.{IsClientIn}
 use Rattle.adb_history.proofs.OrderlyStates.{orderly}
 use Rattle.adb_rest.specs.Resting.{SendsNothingBy, GoesUpAlone, AllSized, has_open_stream, is_open_phase}
 use Rattle.adb_rest.proofs.RestingSteps.{all_send_nothing}
@@ -22,7 +21,7 @@ use Rattle.adb_rest.proofs.RestingOpen.{goes_up_alone}
 use Rattle.adb_rest.proofs.RestingDevices.{sized}
 use Rattle.adb_rules.specs.declared.tables.Tables.{Tables}
 use Rattle.adb_rules.specs.Tables.{state_of, phase_in}
-use Rattle.adb_rules.specs.Fit.{IsFit, IsReached, Makes, Keeps}
+use Rattle.adb_rules.specs.Fit.{IsReached, Makes, Keeps}
 use Rattle.adb_reading.specs.Leaving.{Leaves}
 use Rattle.adb_reading.specs.Taking.{takes_in, holding}
 

@@ -9,7 +9,7 @@ use Rattle.adb_client.specs.declared.phase.Phase.TheVariants.{Asking, Opening, S
 use Rattle.adb_history.specs.Rows.{Client, Link, State, to_stream, none_kept, with_link_due}
 use Rattle.adb_history.specs.Events.{Ending, client_closed}
 use Rattle.adb_history.specs.Links.{write_packet, close_packet, owe_link, check_on, wants_sums, maxdata_of}
-use Rattle.adb_history.specs.Streams.{loses, client_loses, tells_end, ends_row, ends_telling}
+use Rattle.adb_history.specs.Streams.{loses, client_loses, tells_end, ends_telling}
 use Rattle.adb_history.specs.Flow.{payloads, noted, goes_up, all_go_up, closes_if, sends_up, is_over, flow_after, total, is_streaming, up_client, up_stream}
 use Rattle.adb_history.specs.Flow.{up}
 

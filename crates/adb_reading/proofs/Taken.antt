@@ -1,13 +1,11 @@
 -- A piece that is held, and goes again.
-use Rattle.std.proofs.Common.{ℕ, ◌+◌, ◌-◌, ◌≡◌, ◌≢◌, ◌++◌, List, length, take, Bool, true, false, Option, Some, None, refl, sym, ◌∙◌, ap, subst, cond, eqb}
+use Rattle.std.proofs.Common.{ℕ, ◌-◌, ◌≡◌, ◌++◌, List, length, take, Bool, true, false, Option, Some, None, refl, ◌∙◌, ap, cond, eqb}
 use Rattle.std.proofs.Common.{arith}
 use Rattle.std.specs.Prelude.{option_and_then}
 use Rattle.std.proofs.lemmas.List.{length-append}
 use Rattle.std.proofs.Math.Seq.{take-append_seam}
-use Rattle.adb_outside.specs.Tables.{Rows, change_row}
+use Rattle.adb_outside.specs.Tables.{change_row}
 use Rattle.adb_history.specs.Rows.{Client, State}
-use Rattle.adb_rules.specs.declared.tables.Tables.{Tables}
-use Rattle.adb_rules.specs.Tables.{state_of}
 use Rattle.adb_reading.specs.Taking.{holding, takes_in, without_last}
 
 front_back : (held piece : List ℕ) (n : ℕ) → length piece ≡ n → take (length (held ++ piece) - n) (held ++ piece) ≡ held

@@ -1,9 +1,7 @@
 -- What a client that asked was heard to ask, and what follows.
-use Rattle.std.specs.Prelude.{ℕ, ◌+◌, ◌≡◌, ◌≤◌, ◌++◌, drop, length, List, Option, Some, None, IsSome}
-use Rattle.adb_outside.specs.Tables.{at}
+use Rattle.std.specs.Prelude.{ℕ, ◌+◌, ◌≤◌, ◌++◌, drop, length, Option, Some, None}
 use Rattle.adb_wire.specs.declared.headers.TheConstants.{MAX_PAYLOAD}
 use Rattle.adb_client.specs.Client.{SeenClient}
-use Rattle.adb_forward.specs.declared.row.ForwardRow.{ForwardRow}
 use Rattle.adb_reply.specs.declared.answer.Next.{Next}
 use Rattle.adb_reply.specs.declared.answer.Next.TheVariants.{Open}
 use Rattle.adb_history.specs.Rows.{Client, State, to_client}

@@ -1,14 +1,13 @@
 -- What rules leave of the tables, and the places that are made before them.
 use Rattle.std.specs.Prelude.{ℕ, ◌+◌, ◌^◌, ◌≡◌, ◌≤◌, ◌<◌, List, length, Option, Some, None}
 use Rattle.adb_client.specs.Client.{SeenClient}
-use Rattle.adb_stream.specs.declared.row.Stream.{Stream}
 use Rattle.adb_history.specs.Rows.{State}
 use Rattle.adb_rules.specs.declared.ports.Port.{Port}
 use Rattle.adb_rules.specs.declared.tables.Tables.{Tables}
 use Rattle.adb_rules.specs.Tables.{state_of}
 use Rattle.adb_rules.specs.Tracked.{IsListedAt}
-use Rattle.adb_rules.specs.Places.{LinkRoom, ClientRoom, IsCountedAt}
-use Rattle.adb_rules.specs.Fit.{IsFit, IsReadOutAt}
+use Rattle.adb_rules.specs.Places.{ClientRoom}
+use Rattle.adb_rules.specs.Fit.{IsFit}
 
 -- The tables show this state, and are fit for the next entry.
 pub record Leaves (s : State) (t : Tables) : Type 0 where

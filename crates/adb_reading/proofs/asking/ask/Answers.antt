@@ -1,4 +1,4 @@
-use Rattle.std.proofs.Common.{ap, ◌∙◌, ◌++◌, refl, length, subst, sym}
+use Rattle.std.proofs.Common.{ap, ◌∙◌, ◌++◌, refl, length}
 use Rattle.adb_history.specs.Rows.{State}
 use Rattle.adb_history.specs.Asking.{asks_with}
 use Rattle.adb_history.specs.Reading.{asked_before}

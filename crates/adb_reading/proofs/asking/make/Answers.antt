@@ -1,9 +1,8 @@
-use Rattle.std.proofs.Common.{ap, ◌∙◌, sym, subst, Some}
+use Rattle.std.proofs.Common.{ap, ◌∙◌}
 use Rattle.std.proofs.lemmas.Result.{on_ok_weaker}
 use Rattle.adb_outside.specs.Tables.{at}
 use Rattle.adb_history.specs.Rows.{State}
 use Rattle.adb_history.specs.Reading.{goes_on}
-use Rattle.adb_rules.specs.Tables.{state_of}
 use Rattle.adb_reading.specs.Asking.{hears}
 use Rattle.adb_reading.proofs.Planned.{planned, plan_fits, plan_within, heard_of}
 use Rattle.adb_reading.proofs.asking.make.Goals as goal

@@ -1,4 +1,4 @@
-use Rattle.std.proofs.Common.{subst, Some, Option}
+use Rattle.std.proofs.Common.{subst, Option}
 use Rattle.adb_outside.specs.Tables.{at}
 use Rattle.adb_rules.specs.Tables.{state_of}
 use Rattle.adb_reading.specs.declared.entering.Way.{Way}

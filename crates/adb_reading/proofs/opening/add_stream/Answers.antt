@@ -1,9 +1,7 @@
-use Rattle.std.proofs.Common.{◌∙◌, ap, subst, sym, refl, Bool, ℕ}
-use Rattle.adb_outside.specs.Tables.{at, put_at}
+use Rattle.std.proofs.Common.{◌∙◌, ap, Bool}
 use Rattle.adb_stream.specs.Flow.{new_flow}
 use Rattle.adb_stream.specs.Stream.{new_stream}
 use Rattle.adb_stream.specs.Streams.{StreamTable}
-use Rattle.adb_history.specs.Links.{is_credit}
 use Rattle.adb_history.specs.Streams.{draw}
 use Rattle.adb_rules.specs.declared.tables.Tables.{Tables}
 use Rattle.adb_rules.specs.Tables.{state_of}

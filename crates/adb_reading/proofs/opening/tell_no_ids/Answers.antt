@@ -1,6 +1,5 @@
 use Rattle.std.proofs.Common.{◌∙◌, ap, List, ℕ}
 use Rattle.adb_outside.specs.Tables.{at}
-use Rattle.adb_history.specs.Rows.{State}
 use Rattle.adb_history.specs.Clients.{owe_client, closes}
 use Rattle.adb_rules.specs.Tables.{state_of}
 use Rattle.adb_reading.proofs.Fitting.{spares_fit, takes_fit, one_spare}

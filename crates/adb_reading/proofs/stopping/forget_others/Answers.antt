@@ -1,5 +1,4 @@
 use Rattle.std.proofs.Common.{refl}
-use Rattle.adb_rules.specs.declared.tables.Tables.{Tables}
 use Rattle.adb_reading.proofs.Stopped.{Forgets, forgotten_state, forgotten_fit}
 use Rattle.adb_reading.proofs.stopping.forget_others.Goals as goal
 
