@@ -1,7 +1,7 @@
 pub mod Rows
 mod Owing
 mod StreamRows
-pub mod Staying
+mod Staying
 pub mod Using
 mod Marks
 mod Closings
