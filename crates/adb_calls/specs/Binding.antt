@@ -8,6 +8,7 @@ use Rattle.adb_forward.specs.declared.row.ForwardRow.{ForwardRow}
 use Rattle.adb_forward.specs.declared.table.TheConstants.{MAX_REMOTE}
 use Rattle.adb_history.specs.Rows.{Client}
 use Rattle.adb_history.specs.Forwarding.{bound_by}
+use Rattle.adb_rest.specs.Wanted.{IsRemote}
 use Rattle.adb_rules.specs.declared.tables.Tables.{Tables}
 
 abbrev pub is_binding : Phase → Bool
@@ -23,12 +24,6 @@ waits (Some client) = is_binding client.about.phase && is_some client.about.want
 abbrev pub want_of : Option Client → Option Want
 want_of None = None
 want_of (Some client) = client.about.want
-
--- A remote end that a forward may have.
-pub record IsRemote (remote : List ℕ) : Type 0 where
-  pub some : 0 < length remote
-  pub short : length remote ≤ MAX_REMOTE
-  pub graphic : is_graphic remote ≡ true
 
 abbrev pub IsWanted : Option Want → Type 0
 IsWanted None = Unit {0}

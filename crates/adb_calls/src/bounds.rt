@@ -6,7 +6,8 @@ ghost use Rattle.adb_capture.specs.declared.entry.Entry.TheVariants.{Bound};
 ghost use Rattle.adb_history.specs.Forwarding.{is_unbound, bound_by, told_port};
 ghost use Rattle.adb_rules.specs.Fit.{IsFit, IsReached, Makes, Keeps};
 ghost use Rattle.adb_rules.specs.Tables.{state_of};
-ghost use Rattle.adb_calls.specs.Binding.{waits, want_of, IsRemote, WantsForward, IsBound};
+ghost use Rattle.adb_calls.specs.Binding.{waits, want_of, WantsForward, IsBound};
+ghost use Rattle.adb_rest.specs.Wanted.{IsRemote};
 
 use crate::places::keep_slice;
 use adb_client::{Phase, Want};
@@ -22,6 +23,16 @@ use std::alloc::{AllocError, Global};
 /// The listener of a client that waits for one stands at a port, or could not be made where that is
 /// 0: the client is told so, and is closing. After want of memory nothing has changed.
 pub fn bound(tables: &mut Tables, client: u32, port: u16) -> Result<(), AllocError>
+    requires fit { IsFit tables.old }
+    requires reached { IsReached (state_of tables.old) }
+    ensures made { OnOk result (Makes (Bound client port) tables.old tables.new) }
+    ensures kept { OnErr result (Keeps tables.old tables.new) }
+{
+    bind_client(tables, client, port)
+}
+
+/// The same of a client that wants a forward that there may be, if it wants one.
+fn bind_client(tables: &mut Tables, client: u32, port: u16) -> Result<(), AllocError>
     requires fit { IsFit tables.old }
     requires reached { IsReached (state_of tables.old) }
     requires wants { WantsForward ((state_of tables.old).clients client) }

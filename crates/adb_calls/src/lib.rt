@@ -11,7 +11,6 @@ mod lists;
 mod places;
 mod puts;
 mod sends;
-mod stubs;
 
 pub use attaches::attach;
 pub use bounds::bound;
@@ -20,4 +19,3 @@ pub use ends::end;
 pub use joins::join;
 pub use puts::put;
 pub use sends::send;
-pub use stubs::{attach, bound, put};

@@ -1,3 +1,9 @@
+pub mod NamedRows
+pub mod NamedRules
+pub mod NamedPackets
+pub mod NamedStreams
+pub mod NamedLinks
+pub mod NamedIds
 pub mod RestingDevices
 pub mod RestingUp
 pub mod RestingRows
@@ -6,9 +12,9 @@ pub mod RestingClients
 pub mod RestingLinks
 pub mod RestingPuts
 pub mod RestingSteps
-pub mod NamedRows
-pub mod NamedRules
-pub mod NamedPackets
-pub mod NamedStreams
-pub mod NamedLinks
-pub mod NamedIds
+pub mod WantedRequests
+pub mod WantedAnswers
+pub mod WantedReads
+pub mod WantedForwards
+pub mod WantedClients
+pub mod WantedStates

@@ -1,2 +1,3 @@
-pub mod Resting
 pub mod Named
+pub mod Resting
+pub mod Wanted

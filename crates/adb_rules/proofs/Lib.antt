@@ -1,7 +1,7 @@
 pub mod Rows
 mod Owing
 mod StreamRows
-mod Staying
+pub mod Staying
 pub mod Using
 mod Marks
 mod Closings
