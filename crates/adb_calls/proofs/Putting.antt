@@ -197,7 +197,8 @@ module _ (old mid : Tables) (fit : IsFit old) (reached : IsReached (state_of old
     put_at_test k b = option_map client_row (cond b (option_map (listed list) (at c old.clients.entries)) (at k old.clients.entries))
 
     abbrev unmarked_at_test : ℕ → Bool → Option Client
-    unmarked_at_test k b = cond b (option_and_then unmarked (option_map client_row (at k old.clients.entries))) (option_map client_row (at k old.clients.entries))
+    unmarked_at_test k b =
+        cond b (option_and_then unmarked (option_map client_row (at k old.clients.entries))) (option_map client_row (at k old.clients.entries))
 
     abbrev due_at_test : ℕ → Bool → Option Client
     due_at_test k b = cond b (option_and_then (with_due (offered old.devices client)) (unmarked_at_test k b)) (unmarked_at_test k b)
@@ -207,7 +208,8 @@ module _ (old mid : Tables) (fit : IsFit old) (reached : IsReached (state_of old
         let there : at k old.clients.entries ≡ Some row.seen = ap (λ (q : ℕ). at q old.clients.entries) (sym here) ∙ row.here in
         ap (λ (o : Option SeenClient). option_map client_row (option_map (listed list) o)) row.here
         ∙ (ap (λ (l : List ℕ). option_and_then (with_due l) (unmarked client)) row.stale.list_is
-        ∙ ap (λ (o : Option SeenClient). option_and_then (with_due (offered old.devices client)) (option_and_then unmarked (option_map client_row o))) (sym there))
+        ∙ ap (λ (o : Option SeenClient). option_and_then (with_due (offered old.devices client)) (option_and_then unmarked (option_map client_row o)))
+        (sym there))
 
     rows : (k : ℕ) → option_map client_row (at k mid.clients.entries) ≡ due_then k
     rows k =

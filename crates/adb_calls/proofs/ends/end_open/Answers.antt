@@ -17,7 +17,8 @@ close_idle-requires-clause-idle c =
 pub returns : goal.returns
 returns c = record {
   made =
-      let uses : (t k : ℕ) → Uses t 0 k 0 c.args.tables.now c.close_idle.new.self = λ t k. uses_then (c.end_client.ensures.uses t k) (c.close_idle.ensures.uses t k) in
+      let uses : (t k : ℕ) → Uses t 0 k 0 c.args.tables.now c.close_idle.new.self =
+      λ t k. uses_then (c.end_client.ensures.uses t k) (c.close_idle.ensures.uses t k) in
       let state = c.close_idle.ensures.state ∙ ap (λ (s : State). (up c.args.stream s).state) c.end_client.ensures.state in
       ended_open c.args.tables.now c.close_idle.new.self c.requires.fit c.requires.reached uses c.args.client c.args.stream c.requires.open state;
 }
