@@ -1,6 +1,6 @@
 //! Devices that are plugged in.
 
-ghost use Rattle.std.specs.Prelude.{◌≡◌, ◌≢◌, ◌+◌, None, Some, IfOk, IsOkUnless, MatchOption, OnOk, OnErr};
+ghost use Rattle.std.specs.Prelude.{◌<◌, ◌^◌, ◌≡◌, ◌≢◌, ◌+◌, None, Some, IfOk, IsOkUnless, MatchOption, OnOk, OnErr};
 ghost use Rattle.adb_outside.specs.Tables.{IsRising, Puts};
 ghost use Rattle.adb_registry.specs.Registry.{attach_refusal};
 ghost use Rattle.adb_wire.specs.declared.command.Command.TheVariants.{Cnxn};
@@ -27,6 +27,7 @@ pub fn attach(tables: &mut Tables, kind: Kind, serial: &[u8]) -> Result<u32, Att
     ensures refused { MatchOption (attach_refusal tables.old.devices serial.now)
         (IsOkUnless result AttachError.OutOfMemory) (λ refusal. result ≡ Err refusal) }
     ensures id { IfOk result (λ id. id ≡ tables.old.devices.drawn + 1) }
+    ensures fits { IfOk result (λ id. id < 2 ^ 32) }
     ensures made { IfOk result (λ id. Makes (Attach id kind serial.now) tables.old tables.new) }
     ensures kept { OnErr result (Keeps tables.old tables.new) }
 {
@@ -43,6 +44,7 @@ fn plug_in(tables: &mut Tables, kind: Kind, serial: &[u8]) -> Result<u32, Attach
     requires taken { attach_refusal tables.old.devices serial.now ≡ None }
     ensures memory { IsOkUnless result AttachError.OutOfMemory }
     ensures id { IfOk result (λ id. id ≡ tables.old.devices.drawn + 1) }
+    ensures fits { IfOk result (λ id. id < 2 ^ 32) }
     ensures made { IfOk result (λ id. Makes (Attach id kind serial.now) tables.old tables.new) }
     ensures kept { OnErr result (Keeps tables.old tables.new) }
 {

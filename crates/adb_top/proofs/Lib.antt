@@ -10,3 +10,4 @@ pub mod Captures
 pub mod Runs
 pub mod Lines
 pub mod Attaching
+pub mod Handing

@@ -1,10 +1,12 @@
 -- What the calls of a machine make of a history that it holds.
-use Rattle.std.specs.Prelude.{ℕ, ◌≡◌, if◌then◌else◌, ◌∷◌, Option, Some, None, Result, Ok, Err}
+use Rattle.std.specs.Prelude.{ℕ, List, ◌≡◌, if◌then◌else◌, ◌∷◌, Option, Some, None, Result, Ok, Err}
 use Rattle.adb_capture.specs.declared.entry.Entry.{Entry}
 use Rattle.adb_history.specs.Machine.{History, state}
 use Rattle.adb_history.specs.Kept.{Kept, IsLawful}
 use Rattle.adb_history.specs.Drained.{next_out, put_to, send_on}
 use Rattle.adb_history.specs.Accepted.{refusal_of, is_input}
+use Rattle.adb_hub.specs.declared.answers.Handed.{Handed}
+use Rattle.adb_hub.specs.declared.answers.Handed.TheVariants as handed
 use Rattle.adb_top.specs.declared.machine.Refused.{Refused}
 use Rattle.adb_top.specs.declared.machine.Refused.TheVariants as refused
 
@@ -33,3 +35,9 @@ Puts c h out old new = (out ≡ put_to (state h).devices c ((state h).clients c)
 
 abbrev pub Sends : ℕ → History → Option Entry → Kept → Kept → Type 0
 Sends t h out old new = (out ≡ send_on t ((state h).links t)) × IsLawful new (after_out out h)
+
+-- what was handed out
+abbrev pub bytes_of : Handed → Option (List ℕ)
+bytes_of (handed.Bytes bytes) = Some bytes
+bytes_of handed.Nothing = None
+bytes_of handed.Done = None

@@ -1,12 +1,12 @@
 //! The machine: what each entry makes of the history so far, and what is to be handed out next.
 
-ghost use Rattle.std.specs.Prelude.{◌≡◌, ◌+◌, ◌<◌, nat_eq, false, IfOk, IfSome};
+ghost use Rattle.std.specs.Prelude.{◌≡◌, ◌+◌, ◌<◌, nat_eq, false, IfOk, IfSome, option_map};
 ghost use Rattle.adb_capture.specs.declared.entry.Entry.{Entry};
 ghost use Rattle.adb_capture.specs.Records.{HasRecord};
 ghost use Rattle.adb_history.specs.Rows.{start};
 ghost use Rattle.adb_history.specs.Machine.{History};
 ghost use Rattle.adb_history.specs.Kept.{kept, IsLawful};
-ghost use Rattle.adb_top.specs.Machine.{Applies, HandsNext, Puts, Sends};
+ghost use Rattle.adb_top.specs.Machine.{Applies, HandsNext, Puts, Sends, bytes_of};
 ghost use Rattle.adb_top.specs.Refused.{applied_as};
 ghost use Rattle.adb_top.specs.Stop.{stop_at};
 
@@ -163,11 +163,10 @@ impl Machine {
             → Puts client h out self.old self.new) }
         ensures form { IfOk result (λ out. IfSome out HasRecord) }
     {
-        match self.hub.put(client, HAND_OUT) {
-            Ok(Handed::Bytes(bytes)) => Ok(Some(Entry::Put { client, bytes })),
-            Ok(Handed::Nothing) | Ok(Handed::Done) => Ok(None),
-            Err(_) => Err(AllocError),
-        }
+        let Ok(handed) = self.hub.put(client, HAND_OUT) else {
+            return Err(AllocError);
+        };
+        Ok(put_of(client, handed))
     }
 
     /// Sends the first bytes that are due on a link.
@@ -176,11 +175,30 @@ impl Machine {
             → Sends link h out self.old self.new) }
         ensures form { IfOk result (λ out. IfSome out HasRecord) }
     {
-        match self.hub.send(link, HAND_OUT) {
-            Ok(Handed::Bytes(bytes)) => Ok(Some(Entry::Send { link, bytes })),
-            Ok(Handed::Nothing) | Ok(Handed::Done) => Ok(None),
-            Err(_) => Err(AllocError),
-        }
+        let Ok(handed) = self.hub.send(link, HAND_OUT) else {
+            return Err(AllocError);
+        };
+        Ok(send_of(link, handed))
+    }
+}
+
+/// The entry of what was put to a client, where anything was.
+fn put_of(client: u32, handed: Handed) -> Option<Entry>
+    ensures { result ≡ option_map (Entry.Put client) (bytes_of handed) }
+{
+    match handed {
+        Handed::Bytes(bytes) => Some(Entry::Put { client, bytes }),
+        Handed::Nothing | Handed::Done => None,
+    }
+}
+
+/// The entry of what was sent on a link, where anything was.
+fn send_of(link: u32, handed: Handed) -> Option<Entry>
+    ensures { result ≡ option_map (Entry.Send link) (bytes_of handed) }
+{
+    match handed {
+        Handed::Bytes(bytes) => Some(Entry::Send { link, bytes }),
+        Handed::Nothing | Handed::Done => None,
     }
 }
 

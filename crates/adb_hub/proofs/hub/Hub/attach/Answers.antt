@@ -4,6 +4,7 @@ use Rattle.adb_capture.specs.declared.entry.Entry.TheVariants.{Attach}
 use Rattle.adb_history.specs.Kept.{Kept, kept, IsLawful}
 use Rattle.adb_history.specs.Machine.{state}
 use Rattle.adb_history.specs.Rows.{State}
+use Rattle.adb_rules.specs.Fit.{Makes}
 use Rattle.adb_rules.specs.Tables.{state_of}
 use Rattle.adb_hub.proofs.Standing.{stands_for}
 use Rattle.adb_hub.proofs.Steps.{Called, IsPlugged, plugged_by, attach_called, called_sound, called_lawful, called_allowed}
@@ -17,7 +18,8 @@ called c =
     let going : t.stopped ≡ false = ap (λ (k : Kept). k.stopped) c.self.view_is ∙ (sym c.is_stopped.ensures ∙ c.if-is_stopped.false) in
     let range : t.devices.drawn + 1 < 2 ^ 32 = subst (λ (n : ℕ). n < 2 ^ 32) c.in_ok-attach.ensures.id c.in_ok-attach.ensures.fits in
     attach_called c.args.kind c.args.serial.now t c.attach.new.tables c.self.invariant
-    (plugged_by c.args.serial.now t c.in_ok-attach.field-0 range are going _ c.in_ok-attach.ensures.refused) c.in_ok-attach.ensures.made
+    (plugged_by c.args.serial.now t c.in_ok-attach.field-0 range are going _ c.in_ok-attach.ensures.refused)
+    (subst (λ (n : ℕ). Makes (Attach n c.args.kind c.args.serial.now) t c.attach.new.tables) c.in_ok-attach.ensures.id c.in_ok-attach.ensures.made)
 
 pub invariant_of-self-2 : goal.invariant_of-self-2
 invariant_of-self-2 c =
