@@ -1,19 +1,19 @@
-mod Rows
+pub mod Rows
 mod Owing
 mod StreamRows
-mod Staying
-mod Using
+pub mod Staying
+pub mod Using
 mod Marks
 mod Closings
 mod Ending
 mod Failing
 mod Naming
-mod Taking
+pub mod Taking
 mod UsingOf
 mod Handouts
 mod WritesUp
 mod Sending
-mod GoingUp
+pub mod GoingUp
 mod Sweeping
 mod RisingIds
 mod EachUp

@@ -10,11 +10,13 @@ use Rattle.adb_capture.specs.Reading.{Reading, ahead, to_give, past_magic, taken
 use Rattle.adb_capture.specs.declared.entry.Entry.{Entry}
 use Rattle.adb_capture.specs.declared.error.CaptureError.{CaptureError}
 use Rattle.adb_capture.specs.declared.error.CaptureError.TheVariants as capture
-use Rattle.adb_one_request.specs.Machine.{History, IsLegal}
-use Rattle.adb_one_request.specs.Drained.{drained, drained_from}
-use Rattle.adb_one_request.specs.Refusal.{refusal_by}
-use Rattle.adb_one_request.specs.Accepted.{Accepted, accepted, accept_records, has_magic, replayed}
-use Rattle.adb_promise.proofs.Answers.{all_answered}
+use Rattle.adb_history.specs.Machine.{History, IsLegal}
+use Rattle.adb_history.specs.Drained.{drained, drained_from}
+use Rattle.adb_history.specs.Refusal.{refusal_by}
+use Rattle.adb_history.specs.Accepted.{Accepted, accepted, ends_with, accept_records, has_magic, replayed}
+use Rattle.adb_answered.proofs.ServedLaws.{answered}
+use Rattle.adb_causes.proofs.AllCauses.{all_causes}
+use Rattle.adb_headline.proofs.Fifo.{all_fifo}
 use Rattle.adb_top.specs.Stop.{stop_of}
 use Rattle.adb_top.specs.Keeping.{Out, Keeps, HasFront, KeepsAs}
 use Rattle.adb_top.specs.Replay.{written_of, capture_of, IsFrontOf, Reaches, EndsAs, Moment, IsAhead, Consumes, Replays}
@@ -22,7 +24,7 @@ use Rattle.adb_top.specs.Replayed.{WritesText, IsSpelled, SpellsHistory, GrowsSp
 use Rattle.adb_top.specs.declared.stop.Stop.{Stop}
 use Rattle.adb_top.specs.declared.stop.Stop.TheVariants.{ReadFault, WriteFault, OutOfMemory, Refused}
 use Rattle.adb_top.proofs.Drains.{capture_more}
-use Rattle.adb_top.proofs.Records.{split_front}
+use Rattle.adb_top.proofs.RecordEnds.{split_front}
 
 -- the records of a history that goes on begin with those that it had
 written_adds : (later done : History) → written_of (later ++ done) ≡ written_of done ++ records_of (reverse later)
@@ -72,7 +74,9 @@ history_spelled : (h : History) (bytes : List ℕ) → IsLegal h → bytes ≡ c
 history_spelled h bytes legal is = record {
   history = h;
   legal = legal;
-  answered = all_answered h legal;
+  fifo = all_fifo h legal;
+  causes = all_causes h legal;
+  answered = answered h legal;
   part = [];
   is = is ∙ ap (λ x. magic ++ x)
       (sym (append-nil (written_of h)));
@@ -92,7 +96,9 @@ front_spelled (e ∷ h) front legal p = go (cut_front front (capture_of h) (reco
     past q (inr more) = record {
       history = h;
       legal = legal.0;
-      answered = all_answered h legal.0;
+      fifo = all_fifo h legal.0;
+      causes = all_causes h legal.0;
+      answered = answered h legal.0;
       part = q.part;
       is = q.is ∙ append_assoc magic (written_of h) q.part;
       rest = inr (record { entry = e; legal = legal; rest = q.front_of.0; more = more; is = q.front_of.1 });
@@ -137,7 +143,7 @@ no_magic bytes e = go (bytes_eq (take 8 bytes) magic) refl e
     go false is same = is
 
 accepted_with : (bytes : List ℕ) → has_magic bytes ≡ true → accepted bytes ≡ accept_records 8 (drop 8 bytes) []
-accepted_with bytes e = ap (λ b. cond b (accept_records 8 (drop 8 bytes) []) (record { inputs = []; refused = refusal_by capture.BadMagic })) e
+accepted_with bytes e = ap (λ b. cond b (accept_records 8 (drop 8 bytes) []) (ends_with (refusal_by capture.BadMagic))) e
 
 all_front : (had text : List ℕ) (written : Option (List ℕ)) → written ≡ Some (had ++ text) → HasFront had text written
 all_front had text written is = record { growth = text; is = is; front = ([], append-nil text) }
@@ -342,7 +348,7 @@ pub capture_unopened : (opened : Reading) (left_first left_opened written : Opti
 capture_unopened opened left_first left_opened written capture.BadMagic o = record {
   writes = λ bytes had told has. has ∙ ap Some (sym (append-nil had) ∙ ap (λ x. had ++ x)
       (sym (ap (λ b. cond b (magic ++ records_of (drained (accepted bytes).inputs)) []) (no_magic bytes (o bytes told)))));
-  ends = λ bytes told. ap (λ b. (cond b (accept_records 8 (drop 8 bytes) []) (record { inputs = []; refused = refusal_by capture.BadMagic })).refused)
+  ends = λ bytes told. ap (λ b. (cond b (accept_records 8 (drop 8 bytes) []) (ends_with (refusal_by capture.BadMagic))).refused)
       (no_magic bytes (o bytes told));
   spells = λ had has. nothing_spelled had written has;
   whole = λ other had has. inl has;

@@ -1,61 +1,19 @@
 -- Handing out all that is due.
-use Rattle.std.proofs.Common.{ℕ, ◌≡◌, List, [], ◌∷◌, ◌++◌, reverse, Option, Some, None, Result, Ok, Err, refl, sym, ◌∙◌, ap, subst, arith, ◌⊎◌, inl}
-use Rattle.std.proofs.Common.{inr, Bool, true, false, ◌<◌, ◌≤◌}
-use Rattle.std.specs.Prelude.{◌||◌}
+use Rattle.std.proofs.Common.{ℕ, ◌≡◌, List, [], ◌∷◌, ◌++◌, reverse, Option, Some, None, Result, Ok, Err, refl, sym, ◌∙◌, ap, subst, ◌⊎◌, inl}
+use Rattle.std.proofs.Common.{inr}
 use Rattle.std.proofs.lemmas.List.{append_assoc, append-nil, reverse-append}
-use Rattle.adb_outside.specs.Outside.{Rises, Counted}
-use Rattle.adb_capture.specs.Records.{record_of, records_of, HasRecord, magic}
+use Rattle.adb_capture.specs.Records.{record_of, records_of, magic}
 use Rattle.adb_capture.specs.declared.entry.Entry.{Entry}
-use Rattle.adb_one_request.specs.Machine.{State, History, state, IsInRange, IsLegal}
-use Rattle.adb_one_request.specs.Kept.{Kept, kept, IsLawful, IsOrderly}
-use Rattle.adb_one_request.specs.Drained.{next_out, owed, drain_all}
-use Rattle.adb_one_request.proofs.Orderly.{orderly}
-use Rattle.adb_one_request.proofs.Draining.{drain_all_step, drain_all_over, next_may}
-use Rattle.adb_one_request.proofs.Accepting.{drain_adds}
+use Rattle.adb_history.specs.Machine.{History, state, IsLegal}
+use Rattle.adb_history.specs.Kept.{Kept, IsLawful}
+use Rattle.adb_history.specs.Drained.{owed, drain_all}
+use Rattle.adb_history.specs.Settling.{IsDrainedFrom}
 use Rattle.adb_top.specs.Machine.{HandsNext}
 use Rattle.adb_top.specs.Keeping.{Out, Keeps, KeepsEntry, LosesRest, IsLoss}
 use Rattle.adb_top.specs.Replay.{written_of, capture_of, IsFrontOf, GoesOn, Drains}
 use Rattle.adb_top.specs.declared.stop.Stop.{Stop}
 use Rattle.adb_top.specs.declared.stop.Stop.TheVariants.{ReadFault, WriteFault, OutOfMemory, Refused}
-
--- a fault that comes behind others
-rises_on : (x y z : ℕ) → x ≤ y → y ≤ z → Rises x y → Rises x z
-rises_on x y z a b (inl less) = inl (omega (arith, less, b))
-rises_on x y z a b (inr last) = split (cases y z)
-  where
-    cases : (m n : ℕ) → (m < n) ⊎ (n ≤ m)
-    cases m n = grind arith
-
-    split : (y < z) ⊎ (z ≤ y) → Rises x z
-    split (inl more) = inl (omega (arith, more, a))
-    split (inr same) = inr (same_number ∙ last)
-      where
-        same_number : z ≡ y
-        same_number = omega (arith, same, b)
-
--- no call was made
-pub counts_first : (a : Type 0) (x : ℕ) → Counted a a x x false
-counts_first a x = record { count = omega arith; fault = λ e. (let clash : false ≡ true = e in cc); stands = λ e. refl; keeps = λ s. s; steady = λ s. refl }
-
--- counts of two parts
-pub counts_then : (a b c : Type 0) (x y z : ℕ) (f g : Bool) → Counted a b x y f → Counted b c y z g → Counted a c x z (f || g)
-counts_then a b c x y z true g first second = record {
-  count = omega (arith, first.count, second.count);
-  fault = λ e. rises_on x y z first.count second.count (first.fault refl);
-  stands = λ e. cc;
-  keeps = λ s. second.keeps (first.keeps s);
-  steady = λ s. (let clash : true ≡ false = first.steady s in cc);
-}
-counts_then a b c x y z false g first second = record {
-  count = omega (arith, first.count, second.count);
-  fault = λ e. subst (λ (n : ℕ). Rises n z) (first.stands refl) (second.fault e);
-  stands = λ e. second.stands e ∙ first.stands refl;
-  keeps = λ s. second.keeps (first.keeps s);
-  steady = λ s. second.steady (first.keeps s);
-}
-
-pub record_in_range : (e : Entry) → HasRecord e → IsInRange e
-record_in_range e r = record { owner = r.owner; port = r.port; bytes = r.bytes }
+use Rattle.adb_top.proofs.Accepting.{drain_adds}
 
 -- an entry more
 pub written_more : (e : Entry) (h : History) → written_of (e ∷ h) ≡ written_of h ++ record_of e
@@ -68,9 +26,9 @@ written_more e h = ap records_of (reverse-append (e ∷ []) h) ∙ two (reverse 
 pub capture_more : (e : Entry) (h : History) → capture_of h ++ record_of e ≡ capture_of (e ∷ h)
 capture_more e h = append_assoc magic (written_of h) (record_of e) ∙ ap (λ bytes. magic ++ bytes) (sym (written_more e h))
 
-pub entry_kept : (e : Entry) (h : History) (had : List ℕ) (before after : Out) → KeepsEntry (Ok tt) e before after → Keeps had (capture_of h) before
+pub entry_kept : (e : Entry) (h : History) (had : List ℕ) {before after : Out} → KeepsEntry (Ok tt) e before after → Keeps had (capture_of h) before
     → Keeps had (capture_of (e ∷ h)) after
-entry_kept e h had before after keeps k = subst (λ (t : List ℕ). Keeps had t after) (capture_more e h) (keeps had (capture_of h) k)
+entry_kept e h had {after = after} keeps k = subst (λ (t : List ℕ). Keeps had t after) (capture_more e h) (keeps had (capture_of h) k)
 
 -- What an entry that was not kept leaves: the history without it, or with it, where a front of its record may have gone out.
 pub record Loses (why : Stop) (e : Entry) (h : History) (before after : Out) : Type 0 where
@@ -78,26 +36,26 @@ pub record Loses (why : Stop) (e : Entry) (h : History) (before after : Out) : T
   pub at : (whole ≡ h) ⊎ (whole ≡ e ∷ h)
   pub on : GoesOn (Err why) h whole before after
 
-pub loses : (why : Stop) (e : Entry) (h : History) (before after : Out) → IsLegal (e ∷ h) → IsLoss (Err why) → KeepsEntry (Err why) e before after
+pub loses : (why : Stop) (e : Entry) (h : History) {before after : Out} → IsLegal (e ∷ h) → IsLoss (Err why) → KeepsEntry (Err why) e before after
     → Loses why e h before after
-loses ReadFault e h before after legal loss keeps = absurd loss
-loses WriteFault e h before after legal loss keeps = record {
+loses ReadFault e h {after = after} legal loss keeps = absurd loss
+loses WriteFault e h {after = after} legal loss keeps = record {
   whole = e ∷ h;
   at = inr refl;
   on = record { legal = legal; kept = λ had k. subst (λ (t : List ℕ). LosesRest had t after) (capture_more e h) (keeps had (capture_of h) k) };
 }
-loses OutOfMemory e h before after legal loss keeps = record {
+loses OutOfMemory e h {after = after} legal loss keeps = record {
   whole = h;
   at = inl refl;
   on = record { legal = legal.0; kept = λ had k. keeps had (capture_of h) k };
 }
-loses (Refused why) e h before after legal loss keeps = absurd loss
+loses (Refused why) e h {after = after} legal loss keeps = absurd loss
 
 -- what was kept up to a history, and on from there
-pub goes_on : (result : Result (Unit {0}) Stop) (h now whole : History) (before mid after : Out)
+pub goes_on : {result : Result (Unit {0}) Stop} {h now whole : History} {before mid after : Out}
     → ((had : List ℕ) → Keeps had (capture_of h) before → Keeps had (capture_of now) mid)
     → GoesOn result now whole mid after → GoesOn result h whole before after
-goes_on result h now whole before mid after first on = record { legal = on.legal; kept = λ had k. on.kept had (first had k) }
+goes_on first on = record { legal = on.legal; kept = λ had k. on.kept had (first had k) }
 
 -- what hand-outs add to a history
 pub drain_front : (h : History) → IsFrontOf h (drain_all h)
@@ -115,63 +73,70 @@ draining_first h out holds lawful = record { done = h; lawful = lawful; ends = r
 
 -- a machine made its next hand-out
 abbrev pub Hands : Kept → Option Entry → Kept → Type 0
-Hands holds out new = (s : State) → IsOrderly s → holds ≡ kept s → HandsNext s out new
-
-hands_now : (h : History) (holds new : Kept) (out : Option Entry) → IsLawful holds h → Hands holds out new → HandsNext (state h) out new
-hands_now h holds new out lawful hands = hands (state h) (orderly h lawful.legal) lawful.seen
-
-handed_legal : (h : History) (e : Entry) → IsLegal h → HasRecord e → Some e ≡ next_out (state h) → IsLegal (e ∷ h)
-handed_legal h e legal has next = (legal, record_in_range e has, next_may h e legal (sym next))
-
--- it was kept
-pub draining_on : (h : History) (before mid after : Out) (holds new : Kept) (e : Entry) → HasRecord e → Hands holds (Some e) new
-    → KeepsEntry (Ok tt) e mid after → Draining h before mid holds → Draining h before after new
-draining_on h before mid after holds new e has hands keeps d =
-    let n = hands_now d.done holds new (Some e) d.lawful hands in
-    record {
-      done = e ∷ d.done;
-      lawful = record { legal = handed_legal d.done e d.lawful.legal has n.0; seen = n.1 };
-      ends = d.ends ∙ drain_all_step d.done e (sym n.0);
-      kept = λ had k. entry_kept e d.done had mid after keeps (d.kept had k);
-    }
-
--- there is none
-pub draining_over : (h : History) (before now : Out) (holds new : Kept) → Hands holds None new → Draining h before now holds → Drains (Ok tt) h before now new
-draining_over h before now holds new hands d =
-    let n = hands_now d.done holds new None d.lawful hands in
-    let same : drain_all h ≡ d.done = d.ends ∙ drain_all_over d.done (sym n.0) in
-    record {
-      whole = d.done;
-      on = record { legal = d.lawful.legal; kept = d.kept };
-      to = (sym same, record { lawful = record { legal = d.lawful.legal; seen = n.1 }; rests = sym n.0 });
-    }
+Hands holds out new = (h : History) → IsLawful holds h → HandsNext h out new
 
 -- no memory for it
-pub draining_stopped : (h : History) (before now : Out) (holds new : Kept) → Draining h before now holds → Drains (Err OutOfMemory) h before now new
-draining_stopped h before now holds new d = record {
+pub draining_stopped : {h : History} {before now : Out} {holds : Kept} (new : Kept) → Draining h before now holds
+    → Drains (Err OutOfMemory) h before now new
+draining_stopped new d = record {
   whole = d.done;
   on = record { legal = d.lawful.legal; kept = d.kept };
   to = subst (λ (all : History). IsFrontOf d.done all) (sym d.ends) (drain_front d.done);
 }
 
--- it was not kept
-pub draining_lost : (h : History) (before mid after : Out) (holds new last : Kept) (e : Entry) (why : Stop) → HasRecord e → Hands holds (Some e) new
-    → IsLoss (Err why) → KeepsEntry (Err why) e mid after → Draining h before mid holds
-    → Drains (Err why) h before after last
-draining_lost h before mid after holds new last e why has hands loss keeps d =
-    let n = hands_now d.done holds new (Some e) d.lawful hands in
-    let l = loses why e d.done mid after (handed_legal d.done e d.lawful.legal has n.0) loss keeps in
+-- there is none
+pub draining_over : {h : History} {before now : Out} {holds : Kept} (new : Kept) → ((h : History) → IsLegal h → IsDrainedFrom h) → Hands holds None new
+    → Draining h before now holds → Drains (Ok tt) h before now new
+draining_over {h} new drains hands d =
+    let n = hands d.done d.lawful in
+    let same : drain_all h ≡ d.done = d.ends ∙ (drains d.done d.lawful.legal).over (sym n.0) in
     record {
-      whole = l.whole;
-      on = goes_on (Err why) h d.done l.whole before mid after d.kept l.on;
-      to = subst (λ (all : History). IsFrontOf l.whole all) (sym d.ends) (part n.0 l.whole l.at);
+      whole = d.done;
+      on = record { legal = d.lawful.legal; kept = d.kept };
+      to = (sym same, record { lawful = n.1; rests = sym n.0 });
     }
-  where
-    part : Some e ≡ next_out (state d.done) → (whole : History) → (whole ≡ d.done) ⊎ (whole ≡ e ∷ d.done) → IsFrontOf whole (drain_all d.done)
-    part next whole (inl same) = subst (λ (w : History). IsFrontOf w (drain_all d.done)) (sym same) (drain_front d.done)
-    part next whole (inr same) =
-        subst (λ (w : History). IsFrontOf w (drain_all d.done)) (sym same)
-        (subst (λ (all : History). IsFrontOf (e ∷ d.done) all) (sym (drain_all_step d.done e (sym next))) (drain_front (e ∷ d.done)))
+
+-- a hand-out, and what is held and kept before it and after it
+pub record HandOut : Type 0 where
+  pub held : Kept
+  pub kept : Out
+  pub entry : Entry
+  pub held_then : Kept
+  pub kept_then : Out
+
+module _ (h : History) (before : Out) (out : HandOut) (drains : (h : History) → IsLegal h → IsDrainedFrom h)
+    (hands : Hands out.held (Some out.entry) out.held_then) (d : Draining h before out.kept out.held) where
+  n : HandsNext d.done (Some out.entry) out.held_then
+  n = hands d.done d.lawful
+
+  next : drain_all h ≡ drain_all (out.entry ∷ d.done)
+  next = d.ends ∙ (drains d.done d.lawful.legal).next out.entry (sym n.0)
+
+  -- it was kept
+  pub draining_on : KeepsEntry (Ok tt) out.entry out.kept out.kept_then → Draining h before out.kept_then out.held_then
+  draining_on keeps = record {
+    done = out.entry ∷ d.done;
+    lawful = n.1;
+    ends = next;
+    kept = λ had k. entry_kept out.entry d.done had keeps (d.kept had k);
+  }
+
+  part : (whole : History) → (whole ≡ d.done) ⊎ (whole ≡ out.entry ∷ d.done) → IsFrontOf whole (drain_all h)
+  part whole (inl same) = subst (λ (w : History). IsFrontOf w (drain_all h)) (sym same)
+      (subst (λ (all : History). IsFrontOf d.done all) (sym d.ends) (drain_front d.done))
+  part whole (inr same) = subst (λ (w : History). IsFrontOf w (drain_all h)) (sym same)
+      (subst (λ (all : History). IsFrontOf (out.entry ∷ d.done) all) (sym next) (drain_front (out.entry ∷ d.done)))
+
+  -- it was not kept
+  pub draining_lost : (why : Stop) → IsLoss (Err why) → KeepsEntry (Err why) out.entry out.kept out.kept_then
+      → Drains (Err why) h before out.kept_then out.held_then
+  draining_lost why loss keeps =
+      let l = loses why out.entry d.done n.1.legal loss keeps in
+      record {
+        whole = l.whole;
+        on = goes_on {now = d.done} d.kept l.on;
+        to = part l.whole l.at;
+      }
 
 -- what a loop of hand-outs keeps
 pub record HandingOut (start now : Kept) (before after : Out) (counted : Type 0) : Type 0 where

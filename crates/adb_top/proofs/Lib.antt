@@ -1,10 +1,13 @@
 pub mod Outputs
-pub mod Clients
-pub mod Owed
-pub mod Machines
+pub mod Counting
+pub mod Accepting
+pub mod Remaining
 pub mod Drains
 pub mod Entries
 pub mod Records
+pub mod RecordEnds
 pub mod Captures
 pub mod Runs
 pub mod Lines
+pub mod Attaching
+pub mod Handing

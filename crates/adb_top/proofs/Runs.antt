@@ -2,8 +2,8 @@
 use Rattle.std.proofs.Common.{ℕ, ◌≡◌, ◌≢◌, ◌⊎◌, true, false, List, [], ◌++◌, Option, Some, None, Result, Err, refl, sym, ◌∙◌, ap, subst, inl, inr}
 use Rattle.std.proofs.lemmas.List.{append-nil}
 use Rattle.adb_capture.specs.Records.{magic}
-use Rattle.adb_one_request.specs.Accepted.{Accepted}
-use Rattle.adb_one_request.specs.declared.refusal.Refusal.{Refusal}
+use Rattle.adb_history.specs.Accepted.{Accepted}
+use Rattle.adb_history.specs.declared.refusal.Refusal.{Refusal}
 use Rattle.adb_outside.specs.Outside.{Rises, Counted}
 use Rattle.adb_top.specs.Faults.{IsFaultless}
 use Rattle.adb_top.specs.Notes.{EndsIn, bad_capture_line}

@@ -1,6 +1,3 @@
-pub mod Client
-pub mod Refused
-pub mod Due
 pub mod Machine
 pub mod Stop
 pub mod Replay
@@ -11,3 +8,4 @@ pub mod Faults
 pub mod Notes
 pub mod Replayed
 pub mod Run
+pub mod Refused

@@ -1,8 +1,8 @@
 -- The lines of the note.
 use Rattle.std.specs.Prelude.{ℕ, ◌≡◌, ◌⊎◌, List, ◌++◌, Option, Some, codes, decimal}
 use Rattle.adb_outside.specs.Bytes.{IsPrefixOf}
-use Rattle.adb_one_request.specs.Refusal.{reason_text}
-use Rattle.adb_one_request.specs.declared.refusal.Refusal.{Refusal}
+use Rattle.adb_history.specs.Refusal.{reason_text}
+use Rattle.adb_history.specs.declared.refusal.Refusal.{Refusal}
 use Rattle.adb_top.specs.Faults.{Rose}
 use Rattle.adb_top.specs.declared.stop.Stop.{Stop}
 use Rattle.adb_top.specs.declared.stop.Stop.TheVariants as stop

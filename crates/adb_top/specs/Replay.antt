@@ -1,12 +1,13 @@
 -- How much of a history was replayed: what is kept of it, and what of a capture came to it.
-use Rattle.std.specs.Prelude.{ℕ, ◌≡◌, ◌⊎◌, true, if◌then◌else◌, List, [], ◌++◌, reverse, Option, Some, None, Result, Ok, Err}
+use Rattle.std.specs.Prelude.{ℕ, ◌≡◌, ◌⊎◌, true, false, if◌then◌else◌, List, [], ◌++◌, reverse, Option, Some, None, Result, Ok, Err}
 use Rattle.adb_capture.specs.Records.{magic, records_of}
 use Rattle.adb_capture.specs.declared.entry.Entry.{Entry}
 use Rattle.adb_capture.specs.Reading.{Reading, ahead_of}
-use Rattle.adb_one_request.specs.Machine.{History, state, IsLegal}
-use Rattle.adb_one_request.specs.Kept.{Kept, IsLawful}
-use Rattle.adb_one_request.specs.Drained.{next_out, drain_all, drained_after, drained_from}
-use Rattle.adb_one_request.specs.Accepted.{Accepted, refusal_of, is_input, accept_records}
+use Rattle.adb_history.specs.Machine.{History, state, IsLegal}
+use Rattle.adb_history.specs.Kept.{Kept, IsLawful}
+use Rattle.adb_history.specs.Drained.{next_out, drain_all, drained_after, drained_from}
+use Rattle.adb_history.specs.Accepted.{Accepted, refusal_of, is_input, accept_records}
+use Rattle.adb_history.specs.declared.refusal.Refusal.{Refusal}
 use Rattle.adb_top.specs.Keeping.{Out, Keeps, KeepsAs}
 use Rattle.adb_top.specs.declared.stop.Stop.{Stop}
 use Rattle.adb_top.specs.declared.stop.Stop.TheVariants.{ReadFault, WriteFault, OutOfMemory, Refused}
@@ -18,6 +19,10 @@ written_of h = records_of (reverse h)
 -- its capture
 abbrev pub capture_of : History → List ℕ
 capture_of h = magic ++ written_of h
+
+-- a legal history is held
+abbrev pub IsHeld : Kept → Type 0
+IsHeld holds = (h : History) × IsLawful holds h
 
 -- a history that a server holds, and that is drained
 pub record IsDrained (holds : Kept) (h : History) : Type 0 where
@@ -50,16 +55,21 @@ abbrev pub history_after : Entry → History → History
 history_after e h = if is_input e then drained_after h e else h
 
 -- how far a history came where a record was not replayed to its end
-abbrev pub IsReached : ℕ → Entry → History → History → Type 0
-IsReached offset e h whole = (whole ≡ h) ⊎ ((refusal_of (state h) offset e ≡ None) × (is_input e ≡ true) × IsFrontOf whole (drained_after h e))
+abbrev pub IsReached : Entry → History → History → Type 0
+IsReached e h whole = (whole ≡ h) ⊎ ((refusal_of (state h) e ≡ None) × (is_input e ≡ true) × IsFrontOf whole (drained_after h e))
+
+-- a history's state refuses the record of an entry, at its offset
+pub record IsRefusedAt (offset : ℕ) (e : Entry) (h : History) (why : Refusal) : Type 0 where
+  pub at : why.offset ≡ offset
+  pub because : refusal_of (state h) e ≡ Some why.reason
 
 -- Where the replay of a record came to.
 abbrev pub EntryGives : Result (Unit {0}) Stop → ℕ → Entry → History → History → Kept → Type 0
-EntryGives (Ok done) offset e h whole new = (refusal_of (state h) offset e ≡ None) × (whole ≡ history_after e h) × IsDrained new whole
+EntryGives (Ok done) offset e h whole new = (refusal_of (state h) e ≡ None) × (whole ≡ history_after e h) × IsDrained new whole
 EntryGives (Err ReadFault) offset e h whole new = ⊥
-EntryGives (Err WriteFault) offset e h whole new = IsReached offset e h whole
-EntryGives (Err OutOfMemory) offset e h whole new = IsReached offset e h whole
-EntryGives (Err (Refused why)) offset e h whole new = (refusal_of (state h) offset e ≡ Some why) × (whole ≡ h)
+EntryGives (Err WriteFault) offset e h whole new = IsReached e h whole
+EntryGives (Err OutOfMemory) offset e h whole new = IsReached e h whole
+EntryGives (Err (Refused why)) offset e h whole new = IsRefusedAt offset e h why × (whole ≡ h)
 
 -- A record was replayed.
 pub record ReplaysEntry (result : Result (Unit {0}) Stop) (offset : ℕ) (e : Entry) (h : History) (before after : Out) (new : Kept) : Type 0 where
@@ -75,9 +85,13 @@ Reaches (Err WriteFault) whole a = IsFrontOf whole (drained_from [] a.inputs)
 Reaches (Err OutOfMemory) whole a = IsFrontOf whole (drained_from [] a.inputs)
 Reaches (Err (Refused why)) whole a = drained_from [] a.inputs ≡ whole
 
+-- Where the entries that a capture gives make no kill, nothing is left of its source.
+abbrev pub IsReadWhole : Accepted → Option (List ℕ) → Type 0
+IsReadWhole a left = (state (drained_from [] a.inputs)).stopped ≡ false → left ≡ Some []
+
 -- How a capture's replay ended, and how the capture ends.
 abbrev pub EndsAs : Result (Unit {0}) Stop → Accepted → Option (List ℕ) → Type 0
-EndsAs (Ok done) a left = (a.refused ≡ None) × (left ≡ Some [])
+EndsAs (Ok done) a left = (a.refused ≡ None) × IsReadWhole a left
 EndsAs (Err ReadFault) a left = Unit {0}
 EndsAs (Err WriteFault) a left = Unit {0}
 EndsAs (Err OutOfMemory) a left = Unit {0}

@@ -3,9 +3,11 @@ use Rattle.std.specs.Prelude.{ℕ, ◌≡◌, ◌≢◌, ◌⊎◌, List, [], �
 use Rattle.adb_capture.specs.Records.{magic, record_of}
 use Rattle.adb_capture.specs.declared.entry.Entry.{Entry}
 use Rattle.adb_outside.specs.Bytes.{IsPrefixOf}
-use Rattle.adb_one_request.specs.Machine.{History, IsLegal}
-use Rattle.adb_one_request.specs.Answered.{IsAnswered}
-use Rattle.adb_one_request.specs.Accepted.{accepted, replayed}
+use Rattle.adb_history.specs.Machine.{History, IsLegal}
+use Rattle.adb_history.specs.Fifo.{IsFifo}
+use Rattle.adb_history.specs.Causes.{HasCauses}
+use Rattle.adb_history.specs.Answered.{IsAnswered}
+use Rattle.adb_history.specs.Accepted.{accepted, replayed}
 use Rattle.adb_top.specs.Keeping.{HasFront}
 use Rattle.adb_top.specs.Replay.{written_of, capture_of, EndsAs}
 use Rattle.adb_top.specs.declared.stop.Stop.{Stop}
@@ -27,10 +29,12 @@ pub record IsPartOfRecord (h : History) (part : List ℕ) : Type 0 where
   pub more : rest ≢ []
   pub is : part ++ rest ≡ record_of entry
 
--- The bytes of a capture spell a history: it is legal, so its clients are answered.
+-- The bytes of a capture spell a history: it is legal, so what the server promises holds of it.
 pub record SpellsHistory (bytes : List ℕ) : Type 0 where
   pub history : History
   pub legal : IsLegal history
+  pub fifo : IsFifo history
+  pub causes : HasCauses history
   pub answered : IsAnswered history
   pub part : List ℕ
   pub is : bytes ≡ magic ++ (written_of history ++ part)

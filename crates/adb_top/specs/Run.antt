@@ -1,10 +1,11 @@
 -- What a run leaves, by its status.
-use Rattle.std.specs.Prelude.{ℕ, ◌≡◌, ◌⊎◌, true, false, List, [], ◌++◌, Option, Some, None, String}
-use Rattle.adb_one_request.specs.Accepted.{Accepted, accepted, replayed}
-use Rattle.adb_one_request.specs.declared.refusal.Refusal.{Refusal}
+use Rattle.std.specs.Prelude.{ℕ, ◌≡◌, ◌⊎◌, true, false, List, ◌++◌, Option, Some, None, String}
+use Rattle.adb_history.specs.Accepted.{Accepted, accepted, replayed}
+use Rattle.adb_history.specs.declared.refusal.Refusal.{Refusal}
 use Rattle.adb_top.specs.Words.{is_replay}
 use Rattle.adb_top.specs.Notes.{bad_capture_line}
 use Rattle.adb_top.specs.Keeping.{HasFront}
+use Rattle.adb_top.specs.Replay.{IsReadWhole}
 use Rattle.adb_top.specs.Replayed.{GrowsSpelled, GrowsWhole, WritesConsumed}
 use Rattle.adb_top.specs.declared.status.Status.{Status}
 use Rattle.adb_top.specs.declared.status.Status.TheVariants.{Done, Usage, ReadFault, WriteFault, BadCapture, OutOfMemory}
@@ -32,7 +33,7 @@ WritesHistory status left written old new =
     (capture had : List ℕ) → left ≡ Some capture → written old ≡ Some had
     → WritesBy status (replayed capture) had (written new)
 
--- The whole records that went out spell a legal history, whose clients are answered.
+-- The whole records that went out spell a legal history, which is fifo, has its causes and is answered.
 abbrev pub WritesLegal : {K : Type 0} → (K → Option (List ℕ)) → K → K → Type 0
 WritesLegal written old new =
     (had : List ℕ) → written old ≡ Some had → GrowsSpelled had (written new)
@@ -52,9 +53,9 @@ WritesRead left source_old source_new written sink_old sink_new =
 abbrev pub IsRefusedCapture : Accepted → Type 0
 IsRefusedCapture a = (why : Refusal) × (a.refused ≡ Some why)
 
--- Done: the capture is whole, and the source was read to its end. BadCapture: it is refused.
+-- Done: nothing of the capture is refused, and the source was read to its end, or to a kill. BadCapture: it is refused.
 abbrev pub EndsBy : Status → Accepted → Option (List ℕ) → Type 0
-EndsBy Done a left = (a.refused ≡ None) × (left ≡ Some [])
+EndsBy Done a left = (a.refused ≡ None) × IsReadWhole a left
 EndsBy BadCapture a left = IsRefusedCapture a
 EndsBy Usage a left = Unit {0}
 EndsBy ReadFault a left = Unit {0}
@@ -91,7 +92,7 @@ abbrev pub CompletesBy : Status → Option Refusal → Type 0
 CompletesBy status None = (status ≡ Done) ⊎ (status ≡ OutOfMemory)
 CompletesBy status (Some why) = (status ≡ BadCapture) ⊎ (status ≡ OutOfMemory)
 
--- A capture that is whole is Done, and one that is refused is BadCapture, unless memory ran out.
+-- A capture of which nothing is refused is Done, and one that is refused is BadCapture, unless memory ran out.
 abbrev pub Completes : Status → Option (List ℕ) → Type 0
 Completes status left =
     (capture : List ℕ) → left ≡ Some capture → CompletesBy status (accepted capture).refused

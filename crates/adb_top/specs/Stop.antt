@@ -2,8 +2,8 @@
 use Rattle.std.specs.Prelude.{ℕ, Option, Some, None}
 use Rattle.adb_capture.specs.declared.error.CaptureError.{CaptureError}
 use Rattle.adb_capture.specs.declared.error.CaptureError.TheVariants as capture
-use Rattle.adb_one_request.specs.Refusal.{refusal_by}
-use Rattle.adb_one_request.specs.declared.refusal.Refusal.{Refusal}
+use Rattle.adb_history.specs.Refusal.{refusal_by}
+use Rattle.adb_history.specs.declared.refusal.Refusal.{Refusal}
 use Rattle.adb_top.specs.declared.machine.Refused.TheVariants as refused
 use Rattle.adb_top.specs.declared.machine.Refused as machine
 use Rattle.adb_top.specs.declared.stop.Stop.{Stop}

@@ -15,7 +15,8 @@ use std::alloc::Global;
 
 /// Does what the words behind the program's name say. The one command is `replay`: it reads a
 /// capture from the source, makes its entries in order, hands out all that is due after each, and
-/// writes the whole history to the sink as a capture. Put and Send records are passed over.
+/// writes the whole history to the sink as a capture. Put and Send records are passed over. After a
+/// kill no further record is read.
 ///
 /// Each status but Done writes its one line to the note. Where that write fails the status is
 /// WriteFault, whose own line is tried once.
@@ -38,13 +39,15 @@ pub fn run<S: Source, K: Sink, N: Sink>(
     ensures consumed { result ≡ Status.ReadFault
         → WritesRead S.left source.old source.new K.written sink.old sink.new }
 
-    // Whatever the source tells, what went out spells a legal history, whose clients are answered.
+    // Whatever the source tells, what went out spells a legal history, which is fifo, has its
+    // causes and is answered.
     ensures legal { WritesLegal K.written sink.old sink.new }
 
     // No record is torn but where a write failed.
     ensures whole { result ≢ Status.WriteFault → WritesWhole K.written sink.old sink.new }
 
-    // Done: the capture is whole and was read to its end. BadCapture: it is refused.
+    // Done: nothing is refused, and the capture was read to its end, or to a kill. BadCapture: it
+    // is refused.
     ensures ends { EndsCapture result S.left source.old source.new }
 
     // The note has the one line of the status; where it failed itself, what went out of its lines.
@@ -67,7 +70,7 @@ pub fn run<S: Source, K: Sink, N: Sink>(
     ensures steady { S.steady source.old → K.steady sink.old → N.steady note.old
         → IsFaultless result }
 
-    // Where no count rose, a whole capture is Done and a refused one is BadCapture, but for memory.
+    // Where no count rose, a refused capture is BadCapture and any other is Done, but for memory.
     ensures complete { IsCommand words.now
         → ¬ Rose S.faults source.old source.new
         → ¬ Rose K.faults sink.old sink.new

@@ -1,7 +1,6 @@
 //! The commands of `adbhub`.
 #![tactic(auto)]
 
-mod client;
 mod command;
 mod machine;
 mod note;

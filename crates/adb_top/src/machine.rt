@@ -1,23 +1,21 @@
-//! The machine: the clients that live, and what each entry makes of them.
+//! The machine: what each entry makes of the history so far, and what is to be handed out next.
 
-ghost use Rattle.std.specs.Prelude.{◌≡◌, ◌≢◌, ◌<◌, ◌≤◌, ◌+◌, ◌∷◌, ℕ, List, Ok, Some, None, nat_eq, nat_lt, nat_le, ◌&&◌, if◌then◌else◌, false, length, All, IfOk, OnOk, IfSome, IfNone};
-ghost use Rattle.adb_outside.specs.declared.kinds.Kind.{Kind};
-ghost use Rattle.adb_outside.specs.Tables.{at};
+ghost use Rattle.std.specs.Prelude.{◌≡◌, ◌+◌, ◌<◌, nat_eq, false, IfOk, IfSome, option_map};
 ghost use Rattle.adb_capture.specs.declared.entry.Entry.{Entry};
-ghost use Rattle.adb_one_request.specs.Machine.{State, Client as Row, fresh, start, step, settled, ended};
-ghost use Rattle.adb_one_request.specs.Kept.{Kept, kept, kept_of, IsResting, IsOrderly};
-ghost use Rattle.adb_top.specs.Stop.{stop_at};
-ghost use Rattle.adb_top.specs.Due.{due_at, owed_in};
-ghost use Rattle.adb_top.specs.Machine.{ChangesOne, Becomes, ReadsRow, ReadsNone, HandsRow, Applies, Puts, HandsNext};
 ghost use Rattle.adb_capture.specs.Records.{HasRecord};
+ghost use Rattle.adb_history.specs.Rows.{start};
+ghost use Rattle.adb_history.specs.Machine.{History};
+ghost use Rattle.adb_history.specs.Kept.{kept, IsLawful};
+ghost use Rattle.adb_top.specs.Machine.{Applies, HandsNext, Puts, Sends, bytes_of};
+ghost use Rattle.adb_top.specs.Refused.{applied_as};
+ghost use Rattle.adb_top.specs.Stop.{stop_at};
 
-use crate::client::{Client, Unread};
 use crate::stop::Stop;
 use adb_capture::Entry;
-use adb_one_request::{HAND_OUT, Reason, Refusal};
-use adb_outside::{Cause, Text, is_serial};
+use adb_history::{HAND_OUT, Reason, Refusal};
+use adb_hub::{Handed, Hub, HubError, Life, Owner};
+use adb_outside::Kind;
 use std::alloc::{AllocError, Global};
-use std::collections::{BTreeMap, BTreeSet};
 use std::marker::Model;
 
 /// Why an entry is not made.
@@ -40,295 +38,189 @@ impl Refused {
     }
 }
 
-impl From<AllocError> for Refused {
+impl From<HubError> for Refused {
     ghost use Rattle.std.specs.Prelude.{◌≡◌};
-    ghost use Rattle.adb_top.specs.declared.machine.Refused.TheVariants.{OutOfMemory};
+    ghost use Rattle.adb_top.specs.Refused.{refused_by};
 
-    ghost from_gives = { λ _ e. e ≡ OutOfMemory };
+    ghost from_gives = { λ why e. e ≡ refused_by why };
 
-    fn from(_error: AllocError) -> Refused {
-        Refused::OutOfMemory
-    }
-}
-
-impl From<Unread> for Refused {
-    ghost use Rattle.std.specs.Prelude.{◌≡◌};
-    ghost use Rattle.adb_top.specs.Refused.{refused_for};
-
-    ghost from_gives = { λ why e. e ≡ refused_for why };
-
-    fn from(why: Unread) -> Refused {
+    fn from(why: HubError) -> Refused {
         match why {
-            Unread::NotBuilt => Refused::Because(Reason::NotBuilt),
-            Unread::OutOfMemory => Refused::OutOfMemory,
+            HubError::Full => Refused::Because(Reason::TooManyDevices),
+            HubError::BadSerial => Refused::Because(Reason::BadSerial),
+            HubError::OutOfMemory => Refused::OutOfMemory,
+            HubError::Stopped | HubError::NoClient(_) | HubError::NoLink(_) | HubError::Numbers => {
+                Refused::Because(Reason::NotDrawn)
+            }
         }
     }
 }
 
-/// Bytes that were handed out, and whether nothing of their client is to be kept.
-#[derive(Drop)]
-pub struct HandOut {
-    bytes: Text,
-    gone: bool,
-}
-
-/// The clients that live, by their numbers; of one that is gone nothing is kept.
+/// A hub that is given the entries of a history, one after another.
 #[derive(Drop)]
 pub struct Machine {
-    alloc: Global,
-    joined: u32,
-    clients: BTreeMap<u32, Client>,
-    /// The clients that have bytes due, and some that have none.
-    due: BTreeSet<u32>,
+    hub: Hub,
 }
 
 impl Model for Machine {
-    ghost use Rattle.adb_one_request.specs.Kept.{Kept};
-    ghost use Rattle.adb_top.specs.Due.{CoversDue};
+    ghost use Rattle.adb_history.specs.Kept.{Kept};
 
     ghost Value = { Kept };
 
-    ghost view = { λ m. record { joined = m.joined; clients = m.clients.entries } };
-
-    ghost invariant = { λ m. CoversDue m.due.keys m.clients.entries };
+    ghost view = { λ m. m.hub };
 }
 
 impl Machine {
-    /// No client came yet. It takes no memory.
+    /// Nothing came yet. It takes no memory.
     pub fn new(alloc: Global) -> Machine
         ensures { result ≡ kept start }
     {
         Machine {
-            alloc,
-            joined: 0,
-            clients: BTreeMap::new(alloc),
-            due: BTreeSet::new(alloc),
+            hub: Hub::new(alloc),
         }
+    }
+
+    /// Whether a kill was made: after that no entry comes any more.
+    pub fn is_stopped(&self) -> bool
+        ensures { result ≡ self.now.stopped }
+    {
+        self.hub.is_stopped()
     }
 
     /// Makes an entry. A hand-out that was recorded is passed over.
     pub fn apply(&mut self, entry: &Entry) -> Result<(), Refused>
-        ensures { (s : State) → IsOrderly s → self.old ≡ kept s
-            → Applies s entry.now result self.new }
+        requires form { HasRecord entry.now }
+        requires running { self.old.stopped ≡ false }
+        ensures { (h : History) → IsLawful self.old h → Applies h entry.now result self.new }
     {
         match entry {
             Entry::Join { client } => self.join(*client),
-            Entry::Read { client, bytes } => self.read(*client, bytes.as_slice()),
-            Entry::End { client, cause } => self.end(*client, *cause),
-            Entry::Enter { client, port: _ } if self.is_next(*client) => Err(Refused::Because(
-                Reason::NotBuilt,
-            )),
-            Entry::Enter { .. } => Err(Refused::Because(Reason::NotDrawn)),
-            Entry::Bound { client, port: _ } if self.is_drawn(*client) => Err(Refused::Because(
-                Reason::NotBuilt,
-            )),
-            Entry::Bound { .. } => Err(Refused::Because(Reason::NotDrawn)),
-            Entry::Attach {
-                link,
-                kind: _,
-                serial,
-            } => attach(*link, serial),
-            Entry::Recv { .. } => Err(Refused::Because(Reason::NotDrawn)),
-            Entry::Detach { .. } => Err(Refused::Because(Reason::NotDrawn)),
-            Entry::Put { .. } => Ok(()),
-            Entry::Send { .. } => Ok(()),
+            Entry::Enter { client, port } => self.enter(*client, *port),
+            Entry::Read { client, bytes } => lived(self.hub.read(*client, bytes.as_slice())),
+            Entry::End { client, cause } => lived(self.hub.end(*client, *cause)),
+            Entry::Bound { client, port } => lived(self.hub.bound(*client, *port)),
+            Entry::Attach { link, kind, serial } => self.attach(*link, *kind, serial.as_slice()),
+            Entry::Recv { link, bytes } => lived(self.hub.recv(*link, bytes.as_slice())),
+            Entry::Detach { link, cause } => lived(self.hub.detach(*link, *cause)),
+            Entry::Put { .. } | Entry::Send { .. } => Ok(()),
         }
     }
 
-    /// Makes the next hand-out: at most 65,536 bytes, to the first client to which bytes are due;
-    /// `None` where there is none.
-    pub fn hand_next(&mut self) -> Result<Option<Entry>, AllocError>
-        ensures next { IfOk result (λ out. (s : State) → IsOrderly s → self.old ≡ kept s
-            → HandsNext s out self.new) }
-        ensures form { IfOk result (λ out. IfSome out HasRecord) }
-        ensures fewer { IfOk result (λ out. IfSome out (λ e. owed_in self.new < owed_in self.old)) }
-    {
-        match self.next_due() {
-            None => Ok(None),
-            Some(client) => {
-                let bytes = self.put(client)?;
-                Ok(Some(Entry::Put { client, bytes }))
-            }
-        }
-    }
-
-    /// The first of the clients to which bytes are due.
-    fn next_due(&mut self) -> Option<u32>
-        ensures same { self.new ≡ self.old }
-        ensures none { IfNone result ((n : ℕ) → due_at n self.old ≡ 0) }
-        ensures some { IfSome result (λ client. 0 < due_at client self.old) }
-        ensures first { IfSome result (λ client. (n : ℕ) → n < client → due_at n self.old ≡ 0) }
-    {
-        while let Some(client) = self.due.first().copied() {
-            match self.clients.get(&client) {
-                Some(row) if row.is_owed() => return Some(client),
-                _ => {
-                    self.due.remove(&client);
-                }
-            }
-        }
-        None
-    }
-
-    /// Puts the first of the bytes that are due to a client.
-    fn put(&mut self, client: u32) -> Result<Text, AllocError>
-        requires { 0 < due_at client self.old }
-        ensures puts { IfOk result (λ bytes. (s : State) → IsOrderly s → self.old ≡ kept s
-            → Puts s client bytes self.new) }
-        ensures in_range { IfOk result (All (λ b. b < 256)) }
-        ensures short { IfOk result (λ bytes. length bytes ≤ HAND_OUT) }
-        ensures fewer { OnOk result (owed_in self.new < owed_in self.old) }
-    {
-        let out = self.row_hands(client)?;
-        self.drop_if(client, out.gone);
-        Ok(out.bytes)
-    }
-
-    /// A client comes.
+    /// A client comes, under the number that its record names.
     fn join(&mut self, client: u32) -> Result<(), Refused>
-        ensures { (s : State) → IsOrderly s → self.old ≡ kept s
-            → Applies s (Entry.Join client) result self.new }
+        requires { self.old.stopped ≡ false }
+        ensures { (h : History) → IsLawful self.old h
+            → Applies h (Entry.Join client) result self.new }
     {
-        if !self.is_next(client) {
+        if !is_next(self.hub.joined(), client) {
             return Err(Refused::Because(Reason::NotDrawn));
         }
-        self.add_row(client)?;
-        self.joined = client;
-        Ok(())
+        came(self.hub.join())
     }
 
-    /// Bytes come from a client.
-    fn read(&mut self, client: u32, bytes: &[u8]) -> Result<(), Refused>
-        ensures { (s : State) → IsOrderly s → self.old ≡ kept s
-            → Applies s (Entry.Read client bytes.now) result self.new }
+    /// A client comes through the forward of a port, under the number that its record names.
+    fn enter(&mut self, client: u32, port: u16) -> Result<(), Refused>
+        requires running { self.old.stopped ≡ false }
+        requires port { 0 < port }
+        ensures { (h : History) → IsLawful self.old h
+            → Applies h (Entry.Enter client port) result self.new }
     {
-        if !self.is_drawn(client) {
+        if !is_next(self.hub.joined(), client) {
             return Err(Refused::Because(Reason::NotDrawn));
         }
-        let gone = self.row_reads(client, bytes)?;
-        self.drop_if(client, gone);
-        Ok(())
+        came(self.hub.enter(port))
     }
 
-    /// A client's input ends.
-    fn end(&mut self, client: u32, cause: Cause) -> Result<(), Refused>
-        ensures { (s : State) → IsOrderly s → self.old ≡ kept s
-            → Applies s (Entry.End client cause) result self.new }
+    /// A device is plugged in, under the number that its record names.
+    fn attach(&mut self, link: u32, kind: Kind, serial: &[u8]) -> Result<(), Refused>
+        requires { self.old.stopped ≡ false }
+        ensures { (h : History) → IsLawful self.old h
+            → Applies h (Entry.Attach link kind serial.now) result self.new }
     {
-        if !self.is_drawn(client) {
+        if !is_next(self.hub.plugged(), link) {
             return Err(Refused::Because(Reason::NotDrawn));
         }
-        let gone = self.row_ends(client, cause);
-        self.drop_if(client, gone);
-        Ok(())
+        came(self.hub.attach(kind, serial))
     }
 
-    /// Whether a client's number was drawn.
-    fn is_drawn(&self, client: u32) -> bool
-        ensures { result ≡ (nat_lt 0 client && nat_le client self.now.joined) }
+    /// Makes the next hand-out: at most 65,536 bytes, to the first link to which bytes are due, or
+    /// else to the first client; `None` where nothing is due.
+    pub fn hand_next(&mut self) -> Result<Option<Entry>, AllocError>
+        ensures next { IfOk result (λ out. (h : History) → IsLawful self.old h
+            → HandsNext h out self.new) }
+        ensures form { IfOk result (λ out. IfSome out HasRecord) }
     {
-        0 < client && client <= self.joined
-    }
-
-    /// Whether a number is the next client's.
-    fn is_next(&self, client: u32) -> bool
-        ensures { result ≡ nat_eq client (self.now.joined + 1) }
-    {
-        self.joined.checked_add(1) == Some(client)
-    }
-
-    /// A client's row is added.
-    fn add_row(&mut self, client: u32) -> Result<(), AllocError>
-        ensures here { OnOk result (at client self.new.clients ≡ Some (kept_of fresh)) }
-        ensures others { OnOk result (ChangesOne self.old client self.new) }
-    {
-        self.clients.insert(client, Client::new(self.alloc))?;
-        Ok(())
-    }
-
-    /// Bytes come to a client's row; answers whether nothing of it is to be kept.
-    fn row_reads(&mut self, client: u32, bytes: &[u8]) -> Result<bool, Refused>
-        ensures row { (row : Row) → IsResting row.phase row.unread
-            → at client self.old.clients ≡ Some (kept_of row)
-            → ReadsRow row bytes.now result (at client self.new.clients) }
-        ensures absent { at client self.old.clients ≡ None
-            → ReadsNone result (at client self.new.clients) }
-        ensures others { OnOk result (ChangesOne self.old client self.new) }
-    {
-        if self.due.insert(client).is_err() {
-            return Err(Refused::OutOfMemory);
-        }
-        match self.clients.get_mut(&client) {
-            None => Ok(false),
-            Some(row) => {
-                row.read(self.alloc, bytes)?;
-                Ok(row.is_gone())
-            }
+        match self.hub.next_due() {
+            Some(Owner::Link(link)) => self.send(link),
+            Some(Owner::Client(client)) => self.put(client),
+            None => Ok(None),
         }
     }
 
-    /// The input of a client's row ends; answers whether nothing of it is to be kept.
-    fn row_ends(&mut self, client: u32, cause: Cause) -> bool
-        ensures row { (row : Row) → at client self.old.clients ≡ Some (kept_of row)
-            → Becomes (settled (ended cause row)) result (at client self.new.clients) }
-        ensures absent { at client self.old.clients ≡ None
-            → (result ≡ false) × (at client self.new.clients ≡ None) }
-        ensures others { ChangesOne self.old client self.new }
+    /// Puts the first bytes that are due to a client.
+    fn put(&mut self, client: u32) -> Result<Option<Entry>, AllocError>
+        ensures put { IfOk result (λ out. (h : History) → IsLawful self.old h
+            → Puts client h out self.old self.new) }
+        ensures form { IfOk result (λ out. IfSome out HasRecord) }
     {
-        match self.clients.get_mut(&client) {
-            None => false,
-            Some(row) => {
-                row.end(cause);
-                row.is_gone()
-            }
-        }
+        let Ok(handed) = self.hub.put(client, HAND_OUT) else {
+            return Err(AllocError);
+        };
+        Ok(put_of(client, handed))
     }
 
-    /// The first bytes that are due to a client's row are handed out.
-    fn row_hands(&mut self, client: u32) -> Result<HandOut, AllocError>
-        requires { 0 < due_at client self.old }
-        ensures row { IfOk result (λ out. (row : Row)
-            → at client self.old.clients ≡ Some (kept_of row)
-            → HandsRow row out (at client self.new.clients)) }
-        ensures others { OnOk result (ChangesOne self.old client self.new) }
-        ensures in_range { IfOk result (λ out. All (λ b. b < 256) out.bytes) }
-        ensures short { IfOk result (λ out. length out.bytes ≤ HAND_OUT) }
-        ensures fewer { OnOk result (owed_in self.new < owed_in self.old) }
+    /// Sends the first bytes that are due on a link.
+    fn send(&mut self, link: u32) -> Result<Option<Entry>, AllocError>
+        ensures sent { IfOk result (λ out. (h : History) → IsLawful self.old h
+            → Sends link h out self.old self.new) }
+        ensures form { IfOk result (λ out. IfSome out HasRecord) }
     {
-        match self.clients.get_mut(&client) {
-            None => unreachable!(),
-            Some(row) => {
-                let bytes = row.hand(self.alloc, HAND_OUT)?;
-                let gone = row.is_gone();
-                Ok(HandOut { bytes, gone })
-            }
-        }
-    }
-
-    /// Drops a client's row where nothing of it is to be kept.
-    #[tactic(auto, using(crate::proofs::Owed::dropped_no_more))]
-    fn drop_if(&mut self, client: u32, gone: bool)
-        ensures here { at client self.new.clients ≡
-            (if gone then None else at client self.old.clients) }
-        ensures others { ChangesOne self.old client self.new }
-        ensures no_more { owed_in self.new ≤ owed_in self.old }
-    {
-        if gone {
-            self.clients.remove(&client);
-        }
+        let Ok(handed) = self.hub.send(link, HAND_OUT) else {
+            return Err(AllocError);
+        };
+        Ok(send_of(link, handed))
     }
 }
 
-/// A device is plugged in. No link was drawn yet, so the next one is 1.
-fn attach(link: u32, serial: &Text) -> Result<(), Refused>
-    ensures { (s : State) (kind : Kind) → (new : Kept)
-        → Applies s (Entry.Attach link kind serial.now) result new }
+/// The entry of what was put to a client, where anything was.
+fn put_of(client: u32, handed: Handed) -> Option<Entry>
+    ensures { result ≡ option_map (Entry.Put client) (bytes_of handed) }
 {
-    if link != 1 {
-        Err(Refused::Because(Reason::NotDrawn))
-    } else if is_serial(serial.as_slice()) {
-        Err(Refused::Because(Reason::NotBuilt))
-    } else {
-        Err(Refused::Because(Reason::BadSerial))
+    match handed {
+        Handed::Bytes(bytes) => Some(Entry::Put { client, bytes }),
+        Handed::Nothing | Handed::Done => None,
     }
+}
+
+/// The entry of what was sent on a link, where anything was.
+fn send_of(link: u32, handed: Handed) -> Option<Entry>
+    ensures { result ≡ option_map (Entry.Send link) (bytes_of handed) }
+{
+    match handed {
+        Handed::Bytes(bytes) => Some(Entry::Send { link, bytes }),
+        Handed::Nothing | Handed::Done => None,
+    }
+}
+
+/// Whether a number is the next after those that were drawn.
+fn is_next(drawn: u32, number: u32) -> bool
+    ensures { result ≡ nat_eq number (drawn + 1) }
+{
+    drawn.checked_add(1) == Some(number)
+}
+
+/// What a call about a client or a link that came before answers of its entry.
+fn lived(answer: Result<Life, HubError>) -> Result<(), Refused>
+    ensures { result ≡ applied_as answer }
+{
+    answer?;
+    Ok(())
+}
+
+/// What a call that draws a number answers of its entry.
+fn came(answer: Result<u32, HubError>) -> Result<(), Refused>
+    ensures { result ≡ applied_as answer }
+{
+    answer?;
+    Ok(())
 }

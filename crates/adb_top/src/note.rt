@@ -3,14 +3,14 @@
 ghost use Rattle.std.specs.Prelude.{◌≡◌, ◌≢◌, ◌<◌, ◌++◌, ◌⊎◌, IfOk, OnOk, length, decimal};
 ghost use Rattle.adb_outside.specs.Outside.{Counts};
 ghost use Rattle.adb_outside.specs.Sink.{TellsWrite, is_failed_write};
-ghost use Rattle.adb_one_request.specs.declared.refusal.Refusal.{Refusal};
+ghost use Rattle.adb_history.specs.declared.refusal.Refusal.{Refusal};
 ghost use Rattle.adb_top.specs.Faults.{Rose, Stood, tells_write_fault};
 ghost use Rattle.adb_top.specs.Notes.{write_fault_line, bad_capture_line};
 ghost use Rattle.adb_top.specs.Notes.{IsLine, EndsIn, WritesNote};
 
 use crate::status::Status;
 use crate::stop::Stop;
-use adb_one_request::Refusal;
+use adb_history::Refusal;
 use adb_outside::{Sink, Text, Wrote};
 use itoa::Buffer;
 use std::alloc::{AllocError, Global};

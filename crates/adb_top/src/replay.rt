@@ -1,13 +1,13 @@
 //! Replaying a capture: its entries are made in order, and all that is due is handed out after
 //! each.
 
-ghost use Rattle.std.specs.Prelude.{◌≡◌, ◌≢◌, None, Err, not, true};
+ghost use Rattle.std.specs.Prelude.{◌≡◌, ◌≢◌, None, Err, not, true, false};
 ghost use Rattle.adb_outside.specs.Outside.{Counts};
 ghost use Rattle.adb_capture.specs.Records.{HasRecord};
-ghost use Rattle.adb_one_request.specs.Machine.{History};
-ghost use Rattle.adb_one_request.specs.Kept.{IsLawful};
-ghost use Rattle.adb_one_request.specs.Accepted.{is_input};
-ghost use Rattle.adb_top.specs.Replay.{IsDrained, Drains, ReplaysEntry, Replays, moment};
+ghost use Rattle.adb_history.specs.Machine.{History};
+ghost use Rattle.adb_history.specs.Kept.{IsLawful};
+ghost use Rattle.adb_history.specs.Accepted.{is_input};
+ghost use Rattle.adb_top.specs.Replay.{IsHeld, IsDrained, Drains, ReplaysEntry, Replays, moment};
 ghost use Rattle.adb_top.specs.Replayed.{ReplaysCapture};
 ghost use Rattle.adb_top.specs.Keeping.{KeepsEntry, CountsReads, IsLoss, is_write_fault, is_read_fault};
 
@@ -15,6 +15,7 @@ use crate::machine::Machine;
 use crate::output::Output;
 use crate::stop::Stop;
 use adb_capture::{CaptureReader, Entry};
+use adb_history::draining_ends;
 use adb_outside::{Sink, Source};
 use std::alloc::Global;
 
@@ -34,7 +35,7 @@ pub fn replay<S: Source, K: Sink>(alloc: Global, source: &mut S, sink: &mut K) -
     ended
 }
 
-/// Replays the records of a capture, whose magic was read.
+/// Replays the records of a capture, whose magic was read: all, or those up to a kill.
 fn replay_records<S: Source, K: Sink>(
     alloc: Global,
     reader: &mut CaptureReader,
@@ -51,7 +52,10 @@ fn replay_records<S: Source, K: Sink>(
     ensures writes { Counts K.steady K.faults sink.old sink.new (is_write_fault result) }
 {
     let mut machine = Machine::new(alloc);
-    while let Some((offset, entry)) = reader.next(source)? {
+    while !machine.is_stopped() {
+        let Some((offset, entry)) = reader.next(source)? else {
+            return Ok(());
+        };
         replay_entry(&mut machine, output, sink, offset, entry)?;
     }
     Ok(())
@@ -65,7 +69,9 @@ fn replay_entry<K: Sink>(
     offset: u64,
     entry: Entry,
 ) -> Result<(), Stop>
-    requires { HasRecord entry }
+    requires form { HasRecord entry }
+    requires held { IsHeld machine.old }
+    requires running { machine.old.stopped ≡ false }
     ensures replays { (h : History) → IsDrained machine.old h → ReplaysEntry result offset entry h
         (K.written sink.old, output.old) (K.written sink.new, output.new) machine.new }
     ensures source { result ≢ Err Stop.ReadFault }
@@ -83,7 +89,9 @@ fn replay_record<K: Sink>(
     offset: u64,
     entry: &Entry,
 ) -> Result<(), Stop>
-    requires { HasRecord entry.now }
+    requires form { HasRecord entry.now }
+    requires held { IsHeld machine.old }
+    requires running { machine.old.stopped ≡ false }
     ensures replays { (h : History) → IsDrained machine.old h
         → ReplaysEntry result offset entry.now h
         (K.written sink.old, output.old) (K.written sink.new, output.new) machine.new }
@@ -102,13 +110,16 @@ fn replay_record<K: Sink>(
     }
 }
 
-/// Hands out all that is due, whoever it is due to, and keeps each hand-out.
+/// Hands out all that is due, whoever it is due to, and keeps each hand-out. It ends, by the law
+/// `draining_ends`, with nothing due.
 fn drain<K: Sink>(machine: &mut Machine, output: &mut Output, sink: &mut K) -> Result<(), Stop>
+    requires held { IsHeld machine.old }
     ensures drains { (h : History) → IsLawful machine.old h → Drains result h
         (K.written sink.old, output.old) (K.written sink.new, output.new) machine.new }
     ensures loss { IsLoss result }
     ensures counts { Counts K.steady K.faults sink.old sink.new (is_write_fault result) }
 {
+    draining_ends();
     while let Some(entry) = machine.hand_next()? {
         keep(output, sink, entry)?;
     }

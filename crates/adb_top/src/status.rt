@@ -6,7 +6,7 @@ ghost use Rattle.adb_top.specs.Status.{code_of};
 /// How a command ends.
 #[derive(Clone, Copy, Debug, PartialEq, Eq, Drop)]
 pub enum Status {
-    /// All was done, and the source was read to its end.
+    /// All was done: the source was read to its end, or to the record that holds a kill.
     Done,
     /// The words are no command. Nothing was read.
     Usage,

@@ -1,7 +1,7 @@
 //! Why a replay stops before the end of its capture.
 
 use adb_capture::CaptureError;
-use adb_one_request::Refusal;
+use adb_history::Refusal;
 use std::alloc::AllocError;
 
 /// Why a replay stops before the end of its capture.

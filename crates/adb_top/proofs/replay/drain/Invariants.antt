@@ -1,6 +1,6 @@
 use Rattle.std.proofs.Common.{false}
 use Rattle.adb_outside.specs.Outside.{Counts}
-use Rattle.adb_top.specs.Due.{owed_in}
+use Rattle.adb_top.proofs.Remaining.{remaining}
 use Rattle.adb_top.proofs.Drains.{HandingOut}
 use Rattle.adb_top.proofs.replay.drain.Given as goal
 
@@ -10,4 +10,4 @@ invariant-loop-entry g l =
     (Counts g.K.Sink.steady g.K.Sink.faults l.fn.sink l.sink false)
 
 abbrev pub decreases-loop-entry : goal.decreases-loop-entry
-decreases-loop-entry g l = owed_in l.machine
+decreases-loop-entry g l = remaining l.machine

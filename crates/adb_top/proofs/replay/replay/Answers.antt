@@ -5,7 +5,7 @@ use Rattle.adb_capture.specs.Reading.{Reading, Opens}
 use Rattle.adb_top.specs.Keeping.{is_read_fault}
 use Rattle.adb_top.specs.Replay.{Moment, moment}
 use Rattle.adb_top.proofs.Outputs.{write_fault_of}
-use Rattle.adb_top.proofs.Drains.{counts_then}
+use Rattle.adb_top.proofs.Counting.{counts_then}
 use Rattle.adb_top.proofs.Captures.{opened_first, capture_replayed, capture_lost, capture_unopened, capture_unread}
 use Rattle.adb_top.proofs.replay.replay.Goals as goal
 
@@ -45,8 +45,11 @@ returns-in_err-write_out-clause-reads g c =
     let passed = err_from_is_err_and c.from_residual-in_err-write_out.result c.from_residual-in_err-write_out.ensures.1 in
     let opens = subst (λ (r : Reading). r.failed ≡ None → Counts g.S.Source.steady g.S.Source.faults c.args.source.now c.open.new.source false)
     c.in_ok-reader.ensures c.in_ok-open.ensures.counts refl in
-    rw (passed.1, passed.2, write_fault_of c.in_err-write_out.field-0.0 c.in_err-write_out.ensures.fault)
-    (is_read_fault c.replay_records-ended.result, counts_then _ _ _ _ _ _ _ _ opens c.replay_records-ended.ensures.reads)
+    rw (passed.1, passed.2, write_fault_of c.in_err-write_out.field-0.0 c.in_err-write_out.ensures.fault) (
+      is_read_fault c.replay_records-ended.result,
+      counts_then g.S.Source.steady g.S.Source.faults c.args.source.now c.open.new.source
+          c.replay_records-ended.new.source {g = is_read_fault c.replay_records-ended.result} opens c.replay_records-ended.ensures.reads,
+    )
 
 pub returns-in_err-output-clause-replays : goal.returns-in_err-output-clause-replays
 returns-in_err-output-clause-replays g c =

@@ -2,15 +2,15 @@ use Rattle.std.proofs.Common.{◌-◌, false}
 use Rattle.adb_capture.specs.declared.limits.TheConstants.{CAPTURE_LIMIT}
 use Rattle.adb_outside.specs.Outside.{Counts}
 use Rattle.adb_top.specs.Replay.{moment}
-use Rattle.adb_top.proofs.Records.{GoingOn}
+use Rattle.adb_top.proofs.RecordEnds.{GoingOn}
 use Rattle.adb_top.proofs.replay.replay_records.Given as goal
 
-abbrev pub invariant-loop-machine : goal.invariant-loop-machine
-invariant-loop-machine g l =
+abbrev pub invariant-loop-reader : goal.invariant-loop-reader
+invariant-loop-reader g l =
     GoingOn (moment l.fn.reader (g.S.Source.left l.fn.source) (g.K.Sink.written l.fn.sink, l.fn.output))
     (moment l.reader (g.S.Source.left l.source) (g.K.Sink.written l.sink, l.output)) l.machine
     (Counts g.S.Source.steady g.S.Source.faults l.fn.source l.source false)
     (Counts g.K.Sink.steady g.K.Sink.faults l.fn.sink l.sink false)
 
-abbrev pub decreases-loop-machine : goal.decreases-loop-machine
-decreases-loop-machine g l = CAPTURE_LIMIT - l.reader.offset
+abbrev pub decreases-loop-reader : goal.decreases-loop-reader
+decreases-loop-reader g l = CAPTURE_LIMIT - l.reader.offset

@@ -1,7 +1,14 @@
-use Rattle.adb_top.proofs.Machines.{puts}
+use Rattle.std.proofs.Common.{◌≡◌, Option, sym, subst}
+use Rattle.adb_capture.specs.declared.entry.Entry.{Entry}
+use Rattle.adb_history.specs.Drained.{put_to}
+use Rattle.adb_history.specs.Kept.{Kept, IsLawful}
+use Rattle.adb_history.specs.Machine.{state}
+use Rattle.adb_top.specs.Machine.{after_out}
+use Rattle.adb_top.proofs.Handing.{puts}
 use Rattle.adb_top.proofs.machine.Machine.put.Goals as goal
 
-pub returns-clause-puts : goal.returns-clause-puts
-returns-clause-puts c = λ s ok same.
-    puts s c.args.client ok c.args.self.now c.row_hands.new.self c.drop_if.new.self c.in_ok-out.out same c.requires
-    (c.in_ok-out.ensures.row (s.clients c.args.client)) c.in_ok-out.ensures.others c.drop_if.ensures.here c.drop_if.ensures.others
+pub returns-clause-put : goal.returns-clause-put
+returns-clause-put c h lawful =
+    let before = subst (λ (k : Kept). IsLawful k h) (sym c.self.view_is) lawful in
+    let made = puts h c.self.inside.hub c.put.new.self before c.args.client (state h).devices ((state h).clients c.args.client) c.in-Ok.handed (c.in-Ok.ensures.put h before).1 in
+    subst (λ (out : Option Entry). (out ≡ put_to (state h).devices c.args.client ((state h).clients c.args.client)) × IsLawful c.put.new.self (after_out out h)) (sym c.put_of.ensures) made

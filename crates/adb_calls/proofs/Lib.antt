@@ -1,0 +1,11 @@
+mod Reached
+mod Rows
+mod Fitting
+mod Summing
+mod Turns
+mod Joining
+mod Ending
+mod Widening
+mod Putting
+mod Plugging
+mod Bounding

@@ -1,0 +1,35 @@
+use Rattle.std.proofs.Common.{ℕ, ◌+◌, ◌∷◌, ◌≡◌, Ok, sym, ◌∙◌, ap, subst}
+use Rattle.adb_capture.specs.declared.entry.Entry.TheVariants.{Join}
+use Rattle.adb_history.specs.Kept.{Kept, kept, IsLawful}
+use Rattle.adb_history.specs.Machine.{state}
+use Rattle.adb_history.specs.Rows.{State}
+use Rattle.adb_rules.specs.Tables.{state_of}
+use Rattle.adb_hub.specs.Answers.{next_client}
+use Rattle.adb_hub.proofs.Standing.{stands_for}
+use Rattle.adb_hub.proofs.Steps.{next_of, join_called, called_sound, called_lawful, called_allowed}
+use Rattle.adb_hub.proofs.hub.Hub.join.Goals as goal
+
+pub invariant_of-self-2 : goal.invariant_of-self-2
+invariant_of-self-2 c =
+    let t = c.self.inside.tables in
+    let n = c.in_ok-client.client in
+    let next = next_of n t.stopped t.joined
+    (subst (λ (k : Kept). Ok n ≡ next_client k.stopped k.joined) (sym c.self.view_is) c.in_ok-client.ensures.next) in
+    called_sound (Join n) t c.join.new.tables
+    (join_called n t c.join.new.tables c.self.invariant c.in_ok-client.ensures.fits next c.in_ok-join.ensures.made)
+
+pub returns-clause-joined : goal.returns-clause-joined
+returns-clause-joined c h lawful =
+    let t = c.self.inside.tables in
+    let n = c.in_ok-client.client in
+    let next = next_of n t.stopped t.joined
+    (subst (λ (k : Kept). Ok n ≡ next_client k.stopped k.joined) (sym c.self.view_is) c.in_ok-client.ensures.next) in
+    let called = join_called n t c.join.new.tables c.self.invariant c.in_ok-client.ensures.fits next c.in_ok-join.ensures.made in
+    let before = subst (λ (k : Kept). IsLawful k h) (sym c.self.view_is) lawful in
+    let is : n ≡ (state h).joined + 1 = next.is ∙ ap (λ (s : State). s.joined + 1) (stands_for t h c.self.invariant before) in
+    let after = called_lawful (Join n) t c.join.new.tables called h before in
+    (
+      called_allowed (Join n) t c.join.new.tables called h before,
+      subst (λ (k : ℕ). IsLawful (kept (state_of c.join.new.tables)) (Join k ∷ h)) is after,
+      is
+    )

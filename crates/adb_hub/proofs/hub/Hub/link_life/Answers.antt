@@ -1,0 +1,16 @@
+use Rattle.std.proofs.Common.{sym, subst, ap, ◌∙◌}
+use Rattle.adb_outside.specs.Tables.{at}
+use Rattle.adb_history.specs.Kept.{Kept, IsLawful}
+use Rattle.adb_history.specs.Rows.{State}
+use Rattle.adb_rules.specs.Tables.{link_row}
+use Rattle.adb_hub.specs.Answers.{life_of}
+use Rattle.adb_hub.proofs.Standing.{stands_for}
+use Rattle.adb_hub.proofs.Steps.{life_if_there}
+use Rattle.adb_hub.proofs.hub.Hub.link_life.Goals as goal
+
+pub returns : goal.returns
+returns c h lawful =
+    let t = c.self.inside.tables in
+    let is = stands_for t h c.self.invariant (subst (λ (k : Kept). IsLawful k h) (sym c.self.view_is) lawful) in
+    life_if_there link_row (at c.args.link t.links.entries) c.contains_key.result c.life_if.result c.contains_key.ensures c.life_if.ensures
+    ∙ ap (λ (s : State). life_of (s.links c.args.link)) is

@@ -1,0 +1,3 @@
+pub mod Sound
+pub mod Refusal
+pub mod Answers

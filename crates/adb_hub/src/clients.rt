@@ -1,0 +1,196 @@
+//! Clients: how they come, what comes from them, and how they end.
+
+ghost use Rattle.std.specs.Prelude.{◌≡◌, ◌≢◌, ◌+◌, ◌^◌, ◌<◌, List, IfOk, OnErr, Err, Some, if◌then◌else◌};
+ghost use Rattle.adb_capture.specs.declared.entry.Entry.{Entry};
+ghost use Rattle.adb_history.specs.Kept.{IsLawful};
+ghost use Rattle.adb_history.specs.Machine.{state};
+ghost use Rattle.adb_history.specs.Accepted.{is_drawn};
+ghost use Rattle.adb_rules.specs.Tables.{client_row, state_of};
+ghost use Rattle.adb_hub.specs.Refusal.{unless_stopped, unless_drawn};
+ghost use Rattle.adb_hub.specs.Answers.{Answers, AnswersClient, life_of, room_of, room_past, port_of, err_if, next_client};
+
+use crate::answers::{Life, Room};
+use crate::error::HubError;
+use crate::hub::{HELD_LIMIT, Hub};
+use adb_client::{Client, Phase};
+use adb_outside::Cause;
+use adb_rules::Tables;
+
+impl Hub {
+    /// The next client comes, and asks. An error is `Stopped`, `Numbers` or want of memory.
+    pub fn join(&mut self) -> Result<u32, HubError>
+        ensures joined { (h : List Entry) → IsLawful self.old h
+            → let next = (state h).joined + 1 in
+            Answers (Entry.Join next) (λ client. client ≡ next) result h self.new }
+        ensures err { OnErr result (self.new ≡ self.old) }
+    {
+        let client = self.next_client()?;
+        adb_calls::join(&mut self.tables, client)?;
+        Ok(client)
+    }
+
+    /// The next client comes through the forward of a local port; where that leads nowhere it is
+    /// gone at once. An error is `Stopped`, `Numbers` or want of memory.
+    pub fn enter(&mut self, port: u16) -> Result<u32, HubError>
+        requires { 0 < port }
+        ensures entered { (h : List Entry) → IsLawful self.old h
+            → let next = (state h).joined + 1 in
+            Answers (Entry.Enter next port) (λ client. client ≡ next) result h self.new }
+        ensures err { OnErr result (self.new ≡ self.old) }
+    {
+        let client = self.next_client()?;
+        adb_reading::enter(&mut self.tables, client, port)?;
+        Ok(client)
+    }
+
+    /// Bytes come from a client. An error is `Stopped`, `NoClient` or want of memory.
+    pub fn read(&mut self, client: u32, piece: &[u8]) -> Result<Life, HubError>
+        ensures read { (h : List Entry) → IsLawful self.old h
+            → AnswersClient client (Entry.Read client piece.now) result h self.new }
+        ensures err { OnErr result (self.new ≡ self.old) }
+    {
+        self.look_for_client(client)?;
+        adb_reading::read(&mut self.tables, client, piece)?;
+        Ok(self.client_life(client))
+    }
+
+    /// A client's input ended, in order or by a failure. An error is `Stopped` or `NoClient`; it
+    /// takes no memory.
+    pub fn end(&mut self, client: u32, cause: Cause) -> Result<Life, HubError>
+        ensures ended { (h : List Entry) → IsLawful self.old h
+            → AnswersClient client (Entry.End client cause) result h self.new }
+        ensures err { OnErr result (self.new ≡ self.old) }
+        ensures memory { result ≢ Err HubError.OutOfMemory }
+    {
+        self.look_for_client(client)?;
+        adb_calls::end(&mut self.tables, client, cause);
+        Ok(self.client_life(client))
+    }
+
+    /// The listener for the forward that a client waits for stands at a port, or, at 0, could not
+    /// be made. An error is `Stopped`, `NoClient` or want of memory.
+    pub fn bound(&mut self, client: u32, port: u16) -> Result<Life, HubError>
+        ensures bound { (h : List Entry) → IsLawful self.old h
+            → AnswersClient client (Entry.Bound client port) result h self.new }
+        ensures err { OnErr result (self.new ≡ self.old) }
+    {
+        self.look_for_client(client)?;
+        adb_calls::bound(&mut self.tables, client, port)?;
+        Ok(self.client_life(client))
+    }
+
+    /// How much more a client may send before some of it was sent on. It takes no memory.
+    pub fn room(&self, client: u32) -> Room
+        ensures { (h : List Entry) → IsLawful self.now h
+            → result ≡ room_of ((state h).clients client) }
+    {
+        room(&self.tables, client)
+    }
+
+    /// The port that a client waits for: 0 where any port serves. It takes no memory.
+    pub fn waiting_port(&self, client: u32) -> Option<u16>
+        ensures { (h : List Entry) → IsLawful self.now h
+            → result ≡ port_of ((state h).clients client) }
+    {
+        waiting_port(&self.tables, client)
+    }
+
+    /// The next client's number.
+    fn next_client(&self) -> Result<u32, HubError>
+        ensures next { result ≡ next_client self.now.stopped self.now.joined }
+        ensures fits { IfOk result (λ client. client < 2 ^ 32) }
+    {
+        if self.is_stopped() {
+            return Err(HubError::Stopped);
+        }
+        self.joined().checked_add(1).ok_or(HubError::Numbers)
+    }
+
+    /// Whether something may come from a client.
+    fn look_for_client(&self, client: u32) -> Result<(), HubError>
+        ensures { result ≡ err_if (unless_stopped self.now.stopped
+            (unless_drawn (is_drawn self.now.joined client) (HubError.NoClient client))) }
+    {
+        if self.is_stopped() {
+            return Err(HubError::Stopped);
+        }
+        self.find_client(client)
+    }
+
+    /// Whether a client's number was drawn.
+    pub(crate) fn find_client(&self, client: u32) -> Result<(), HubError>
+        ensures { result ≡ err_if
+            (unless_drawn (is_drawn self.now.joined client) (HubError.NoClient client)) }
+    {
+        if self.is_client(client) {
+            Ok(())
+        } else {
+            Err(HubError::NoClient(client))
+        }
+    }
+
+    /// Whether a client lives.
+    pub(crate) fn client_life(&self, client: u32) -> Life
+        ensures { (h : List Entry) → IsLawful self.now h
+            → result ≡ life_of ((state h).clients client) }
+    {
+        life_if(self.tables.clients.contains_key(&client))
+    }
+}
+
+/// How much more a client may send.
+fn room(tables: &Tables, client: u32) -> Room
+    ensures { result ≡ room_of ((state_of tables.now).clients client) }
+{
+    match tables.clients.get(&client) {
+        Some(row) => room_in(row),
+        None => Room::Shut,
+    }
+}
+
+fn room_in(row: &Client) -> Room
+    ensures { result ≡ room_of (Some (client_row row.now)) }
+{
+    match row.about().phase {
+        Phase::Closing | Phase::Gone => Room::Shut,
+        _ if row.about().ended => Room::Shut,
+        _ => room_past(row.held()),
+    }
+}
+
+/// The port that a client waits for.
+fn waiting_port(tables: &Tables, client: u32) -> Option<u16>
+    ensures { result ≡ port_of ((state_of tables.now).clients client) }
+{
+    match tables.clients.get(&client) {
+        Some(row) => port_in(row),
+        None => None,
+    }
+}
+
+fn port_in(row: &Client) -> Option<u16>
+    ensures { result ≡ port_of (Some (client_row row.now)) }
+{
+    match row.about().phase {
+        Phase::Binding => row.about().want.as_ref().map(|want| want.local),
+        _ => None,
+    }
+}
+
+/// How much more may be held, of so much that is.
+fn room_past(held: usize) -> Room
+    ensures { result ≡ room_past held }
+{
+    if held >= HELD_LIMIT {
+        Room::Later
+    } else {
+        Room::Bytes(HELD_LIMIT - held)
+    }
+}
+
+/// Whether who is there lives.
+pub(crate) fn life_if(there: bool) -> Life
+    ensures { result ≡ (if there then Life.Live else Life.Gone) }
+{
+    if there { Life::Live } else { Life::Gone }
+}

@@ -1,0 +1,82 @@
+//! Handing out what is due.
+
+ghost use Rattle.std.specs.Prelude.{◌≡◌, ◌<◌, List, All, None, IfOk, OnErr, option_and_then};
+ghost use Rattle.adb_capture.specs.declared.entry.Entry.{Entry};
+ghost use Rattle.adb_history.specs.Drained.{next_out};
+ghost use Rattle.adb_history.specs.Kept.{IsLawful};
+ghost use Rattle.adb_history.specs.Machine.{state};
+ghost use Rattle.adb_history.specs.Rows.{State};
+ghost use Rattle.adb_due.specs.NextDue.{owner_of, entry_of};
+ghost use Rattle.adb_hub.specs.Answers.{Hands, offered_to, due_on, handed_as, IsWithin};
+
+use crate::answers::{Handed, Life};
+use crate::error::HubError;
+use crate::hub::Hub;
+use adb_due::Owner;
+
+impl Hub {
+    /// Hands out the first bytes that are due to a client, at most `max`; a tracker whose list is
+    /// stale is owed the present one where nothing else is due. An error is `NoClient` or want of
+    /// memory.
+    pub fn put(&mut self, client: u32, max: usize) -> Result<Handed, HubError>
+        requires { 0 < max }
+        ensures put { (h : List Entry) → IsLawful self.old h → Hands (Entry.Put client) max
+            (λ (s : State). offered_to s.devices (s.clients client)) result h self.old self.new }
+        ensures form { IfOk result (IsWithin max) }
+        ensures err { OnErr result (self.new ≡ self.old) }
+    {
+        self.find_client(client)?;
+        match adb_calls::put(&mut self.tables, client, max)? {
+            Some(bytes) => {
+                are_bytes(bytes.as_slice());
+                Ok(Handed::Bytes(bytes))
+            }
+            None => Ok(nothing(self.client_life(client))),
+        }
+    }
+
+    /// Hands out the first bytes that are due on a link, at most `max`. An error is `NoLink` or
+    /// want of memory.
+    pub fn send(&mut self, link: u32, max: usize) -> Result<Handed, HubError>
+        requires { 0 < max }
+        ensures sent { (h : List Entry) → IsLawful self.old h → Hands (Entry.Send link) max
+            (λ (s : State). due_on (s.links link)) result h self.old self.new }
+        ensures form { IfOk result (IsWithin max) }
+        ensures err { OnErr result (self.new ≡ self.old) }
+    {
+        self.find_link(link)?;
+        match adb_calls::send(&mut self.tables, link, max)? {
+            Some(bytes) => {
+                are_bytes(bytes.as_slice());
+                Ok(Handed::Bytes(bytes))
+            }
+            None => Ok(nothing(self.link_life(link))),
+        }
+    }
+
+    /// Who is handed something next when all that is due is handed out: the least link to which
+    /// something is due, or else the least client. It takes no memory.
+    pub fn next_due(&self) -> Option<Owner>
+        ensures owner { (h : List Entry) → IsLawful self.now h
+            → result ≡ option_and_then owner_of (next_out (state h)) }
+        ensures entry { (h : List Entry) → IsLawful self.now h
+            → next_out (state h) ≡ entry_of result (state h) }
+    {
+        adb_due::next_due(&self.tables)
+    }
+}
+
+/// What is handed out of nothing.
+fn nothing(life: Life) -> Handed
+    ensures { result ≡ handed_as None life }
+{
+    match life {
+        Life::Live => Handed::Nothing,
+        Life::Gone => Handed::Done,
+    }
+}
+
+/// What was handed out are bytes.
+fn are_bytes(bytes: &[u8])
+    ensures { All (λ b. b < 256) bytes.now }
+{}

@@ -1,0 +1,15 @@
+//! The hub: the machine between many clients and many devices (OVERVIEW.TXT). Each call makes one
+//! entry of a history, or none, and contracts speak of the history so far.
+#![tactic(auto)]
+
+mod answers;
+mod clients;
+mod error;
+mod hand_outs;
+mod hub;
+mod links;
+
+pub use adb_due::Owner;
+pub use answers::{Handed, Life, Room, Summary};
+pub use error::HubError;
+pub use hub::{HELD_LIMIT, Hub};

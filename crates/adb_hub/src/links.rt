@@ -1,0 +1,87 @@
+//! Links to devices: how they come, what comes on them, and how they go.
+
+ghost use Rattle.std.specs.Prelude.{◌≡◌, ◌≢◌, ◌+◌, List, OnErr, Err};
+ghost use Rattle.adb_outside.specs.declared.kinds.Kind.{Kind};
+ghost use Rattle.adb_capture.specs.declared.entry.Entry.{Entry};
+ghost use Rattle.adb_history.specs.Accepted.{is_drawn};
+ghost use Rattle.adb_history.specs.Kept.{IsLawful};
+ghost use Rattle.adb_history.specs.Machine.{state};
+ghost use Rattle.adb_hub.specs.Refusal.{unless_stopped, unless_drawn};
+ghost use Rattle.adb_hub.specs.Answers.{Answers, AnswersLink, life_of, err_if};
+
+use crate::answers::Life;
+use crate::clients::life_if;
+use crate::error::HubError;
+use crate::hub::Hub;
+use adb_outside::{Cause, Kind};
+
+impl Hub {
+    /// A device is plugged in; the number of its link is its transport id. An error is `Stopped`,
+    /// `Numbers`, `Full`, `BadSerial` or want of memory.
+    pub fn attach(&mut self, kind: Kind, serial: &[u8]) -> Result<u32, HubError>
+        ensures attached { (h : List Entry) → IsLawful self.old h
+            → let next = (state h).devices.drawn + 1 in
+            Answers (Entry.Attach next kind serial.now) (λ link. link ≡ next) result h self.new }
+        ensures err { OnErr result (self.new ≡ self.old) }
+    {
+        if self.is_stopped() {
+            return Err(HubError::Stopped);
+        }
+        Ok(adb_calls::attach(&mut self.tables, kind, serial)?)
+    }
+
+    /// Bytes come on a link. An error is `Stopped`, `NoLink` or want of memory.
+    pub fn recv(&mut self, link: u32, piece: &[u8]) -> Result<Life, HubError>
+        ensures received { (h : List Entry) → IsLawful self.old h
+            → AnswersLink link (Entry.Recv link piece.now) result h self.new }
+        ensures err { OnErr result (self.new ≡ self.old) }
+    {
+        self.look_for_link(link)?;
+        adb_receiving::recv(&mut self.tables, link, piece)?;
+        Ok(self.link_life(link))
+    }
+
+    /// A device is unplugged, or its connection failed. An error is `Stopped` or `NoLink`; it takes
+    /// no memory.
+    pub fn detach(&mut self, link: u32, cause: Cause) -> Result<Life, HubError>
+        ensures detached { (h : List Entry) → IsLawful self.old h
+            → AnswersLink link (Entry.Detach link cause) result h self.new }
+        ensures err { OnErr result (self.new ≡ self.old) }
+        ensures memory { result ≢ Err HubError.OutOfMemory }
+    {
+        self.look_for_link(link)?;
+        adb_calls::detach(&mut self.tables, link);
+        Ok(self.link_life(link))
+    }
+
+    /// Whether something may come on a link.
+    fn look_for_link(&self, link: u32) -> Result<(), HubError>
+        ensures { result ≡ err_if (unless_stopped self.now.stopped
+            (unless_drawn (is_drawn self.now.devices.drawn link) (HubError.NoLink link))) }
+    {
+        if self.is_stopped() {
+            return Err(HubError::Stopped);
+        }
+        self.find_link(link)
+    }
+
+    /// Whether a link's number was drawn.
+    pub(crate) fn find_link(&self, link: u32) -> Result<(), HubError>
+        ensures { result ≡ err_if
+            (unless_drawn (is_drawn self.now.devices.drawn link) (HubError.NoLink link)) }
+    {
+        if self.is_link(link) {
+            Ok(())
+        } else {
+            Err(HubError::NoLink(link))
+        }
+    }
+
+    /// Whether a link lives.
+    pub(crate) fn link_life(&self, link: u32) -> Life
+        ensures { (h : List Entry) → IsLawful self.now h
+            → result ≡ life_of ((state h).links link) }
+    {
+        life_if(self.tables.links.contains_key(&link))
+    }
+}

@@ -1,0 +1,11 @@
+mod Fitting
+mod Opened
+mod Entered
+mod Stopped
+mod Taken
+mod Sums
+mod Raised
+mod Answering
+mod Listed
+mod Planned
+mod Stepping

@@ -1,0 +1,159 @@
+//! Bytes of a client that has its stream open: they go up.
+
+ghost use Rattle.std.specs.Prelude.{◌≡◌, ◌≤◌, List, ℕ, length, IfOk, IfSome, OnOk, OnErr, Some};
+ghost use Rattle.adb_outside.specs.Tables.{at};
+ghost use Rattle.adb_client.specs.Client.{SeenClient};
+ghost use Rattle.adb_history.specs.Flow.{up};
+ghost use Rattle.adb_rules.specs.Fit.{IsFit};
+ghost use Rattle.adb_rules.specs.Tables.{state_of, client_row};
+ghost use Rattle.adb_rules.specs.Tracked.{clients_of};
+ghost use Rattle.adb_rules.specs.Up.{IsReadyUp, IsSized, up_bytes, up_writes};
+ghost use Rattle.adb_reading.specs.Leaving.{Leaves, IsPlaced, HoldsAtLeast};
+ghost use Rattle.adb_reading.specs.Taking.{takes_in};
+ghost use Rattle.adb_reading.specs.Sending.{IsPrepared, IsPreparedAt};
+
+use crate::places::reserve_packets;
+use crate::taking::{take_back, take_in};
+use adb_client::Client;
+use adb_rules::Tables;
+use adb_stream::{Flow, Stream};
+use std::alloc::AllocError;
+use std::collections::BTreeMap;
+
+/// A piece came from a client that has the stream of an id open: it goes up, as far as the stream
+/// lets it.
+pub(crate) fn send(
+    tables: &mut Tables,
+    client: u32,
+    id: u32,
+    piece: &[u8],
+) -> Result<(), AllocError>
+    requires fit { IsFit tables.old }
+    requires sized { IsSized tables.old }
+    ensures made { OnOk result
+        (Leaves (up id (takes_in client piece.now (state_of tables.old))).state tables.new) }
+    ensures kept { OnErr result (Leaves (state_of tables.old) tables.new) }
+{
+    take_in(tables, client, piece)?;
+    match make_ready(tables, id) {
+        Ok(()) => {
+            go_up(tables, id);
+            Ok(())
+        }
+        Err(error) => {
+            take_back(tables, client, piece.len());
+            Err(error)
+        }
+    }
+}
+
+/// What is held of the client of a stream goes up, as far as the stream lets it.
+fn go_up(tables: &mut Tables, id: u32)
+    requires fit { IsFit tables.old }
+    requires ready { IsReadyUp id tables.old }
+    requires sized { IsSized tables.old }
+    ensures { Leaves (up id (state_of tables.old)).state tables.new }
+{
+    tables.up(id);
+}
+
+/// Makes ready what is held of the client of a stream, and places on its link for what it may send.
+fn make_ready(tables: &mut Tables, id: u32) -> Result<(), AllocError>
+    requires { IsFit tables.old }
+    ensures made { Leaves (state_of tables.old) tables.new }
+    ensures devices { tables.new.devices ≡ tables.old.devices }
+    ensures held { (c n : ℕ) → HoldsAtLeast n (at c tables.old.clients.entries)
+        → HoldsAtLeast n (at c tables.new.clients.entries) }
+    ensures ready { OnOk result (IsReadyUp id tables.new) }
+{
+    match tables.streams.get(id).copied() {
+        Some(stream) => make_stream_ready(tables, id, &stream),
+        None => Ok(()),
+    }
+}
+
+fn make_stream_ready(tables: &mut Tables, id: u32, stream: &Stream) -> Result<(), AllocError>
+    requires fit { IsFit tables.old }
+    requires here { at id tables.old.streams.streams ≡ Some stream.now }
+    ensures made { Leaves (state_of tables.old) tables.new }
+    ensures devices { tables.new.devices ≡ tables.old.devices }
+    ensures held { (c n : ℕ) → HoldsAtLeast n (at c tables.old.clients.entries)
+        → HoldsAtLeast n (at c tables.new.clients.entries) }
+    ensures ready { OnOk result (IsReadyUp id tables.new) }
+{
+    let maxdata = tables.maxdata_of(stream.link);
+    let writes = prepare(tables, stream, maxdata)?;
+    reserve_packets(tables, stream.link, writes)
+}
+
+/// Makes ready what the client of a stream holds; says in how many writes at most it can go up.
+fn prepare(tables: &mut Tables, stream: &Stream, maxdata: usize) -> Result<usize, AllocError>
+    requires { IsFit tables.old }
+    ensures made { Leaves (state_of tables.old) tables.new }
+    ensures others { tables.new ≡ record tables.old { clients = tables.new.clients } }
+    ensures held { (c n : ℕ) → HoldsAtLeast n (at c tables.old.clients.entries)
+        → HoldsAtLeast n (at c tables.new.clients.entries) }
+    ensures ready { IfOk result (λ writes. IsPreparedAt writes stream.now.part.flow maxdata
+        (at stream.now.client tables.new.clients.entries)) }
+{
+    prepare_in(
+        &mut tables.clients,
+        stream.client,
+        &stream.part.flow,
+        maxdata,
+    )
+}
+
+fn prepare_in(
+    clients: &mut BTreeMap<u32, Client>,
+    client: u32,
+    flow: &Flow,
+    maxdata: usize,
+) -> Result<usize, AllocError>
+    ensures rows { clients_of clients.new.entries ≡ clients_of clients.old.entries }
+    ensures placed { (c : ℕ) (trackers : List ℕ) → IsPlaced c trackers (at c clients.old.entries)
+        → IsPlaced c trackers (at c clients.new.entries) }
+    ensures held { (c n : ℕ) → HoldsAtLeast n (at c clients.old.entries)
+        → HoldsAtLeast n (at c clients.new.entries) }
+    ensures ready { IfOk result (λ writes. IsPreparedAt writes flow.now maxdata
+        (at client clients.new.entries)) }
+{
+    match clients.get_mut(&client) {
+        Some(row) => prepare_row(row, flow, maxdata),
+        None => Ok(0),
+    }
+}
+
+fn prepare_row(row: &mut Client, flow: &Flow, maxdata: usize) -> Result<usize, AllocError>
+    ensures row { client_row row.new ≡ client_row row.old }
+    ensures places { row.new.places ≡ row.old.places }
+    ensures ready { IfOk result (λ writes. IsPrepared writes flow.now maxdata row.new) }
+{
+    let held = row.held();
+    let Some(writes) = up_writes(flow, maxdata, held) else {
+        return Err(AllocError);
+    };
+    row.prepare_cuts(up_bytes(flow, maxdata, held), writes)?;
+    Ok(writes)
+}
+
+/// How many of so many bytes a stream may send at once, at most.
+fn up_bytes(flow: &Flow, maxdata: usize, held: usize) -> usize
+    ensures bytes { result ≡ up_bytes flow.now maxdata held }
+    ensures within { result ≤ held }
+{
+    match flow {
+        Flow::One(_) => maxdata.min(held),
+        Flow::Credit(_) => held,
+    }
+}
+
+/// In how many writes at most, where that can be counted.
+fn up_writes(flow: &Flow, maxdata: usize, held: usize) -> Option<usize>
+    ensures { IfSome result (λ writes. writes ≡ up_writes flow.now maxdata held) }
+{
+    match flow {
+        Flow::One(_) => Some(1),
+        Flow::Credit(_) => held.checked_div(maxdata).unwrap_or(0).checked_add(1),
+    }
+}

@@ -1,0 +1,12 @@
+mod Cuttings
+mod Namings
+mod More
+mod Preparations
+mod Reserved
+mod Keeping
+mod Putting
+mod Readying
+mod Settled
+mod Lawful
+mod Received
+mod Waited

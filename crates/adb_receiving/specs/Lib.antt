@@ -1,0 +1,5 @@
+pub mod Cutting
+pub mod Naming
+pub mod Counting
+pub mod Reserving
+pub mod Settling

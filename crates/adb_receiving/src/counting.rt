@@ -1,0 +1,63 @@
+//! How many slices become due to each client, at most, by packets.
+
+ghost use Rattle.std.specs.Prelude.{◌≡◌, ◌+◌, ℕ, IfOk, OnOk};
+ghost use Rattle.adb_outside.specs.Tables.{at};
+ghost use Rattle.adb_rules.specs.Came.{packet_of, packets_of, slices_for, slices_in};
+ghost use Rattle.adb_receiving.specs.Counting.{count_at, fed_client};
+
+use adb_rules::Came;
+use adb_stream::Streams;
+use adb_wire::Command;
+use std::alloc::{AllocError, Global};
+use std::collections::{BTreeMap, VecDeque};
+
+/// How many slices become due to each client, at most, by packets.
+pub(crate) fn count(
+    alloc: Global,
+    streams: &Streams,
+    packets: &VecDeque<Came>,
+) -> Result<BTreeMap<u32, usize>, AllocError>
+    ensures { IfOk result (λ counts. (c : ℕ) → count_at (at c counts.entries)
+        ≡ slices_in (packets_of packets.now.items) streams.now.streams c) }
+{
+    let mut counts = BTreeMap::new(alloc);
+    for came in packets.iter() {
+        count_also(&mut counts, streams, came)?;
+    }
+    Ok(counts)
+}
+
+/// A packet is counted too.
+fn count_also(
+    counts: &mut BTreeMap<u32, usize>,
+    streams: &Streams,
+    came: &Came,
+) -> Result<(), AllocError>
+    ensures { OnOk result ((c : ℕ) → count_at (at c counts.new.entries)
+        ≡ count_at (at c counts.old.entries)
+        + slices_for (packet_of came.now) streams.now.streams c) }
+{
+    if let Some(client) = fed_client(streams, came) {
+        let before = counts.get(&client).copied().unwrap_or(0);
+        let now = sum(before, 1)?;
+        counts.insert(client, now)?;
+    }
+    Ok(())
+}
+
+/// The client to which a packet may make something due.
+fn fed_client(streams: &Streams, came: &Came) -> Option<u32>
+    ensures { result ≡ fed_client (packet_of came.now) streams.now.streams }
+{
+    match came.head.command {
+        Command::Okay | Command::Wrte => { streams.get(came.head.arg1).map(|stream| stream.client) }
+        _ => None,
+    }
+}
+
+/// The sum of two counts. What can't be counted would not have memory either.
+pub(crate) fn sum(a: usize, b: usize) -> Result<usize, AllocError>
+    ensures { IfOk result (λ sum. sum ≡ a + b) }
+{
+    a.checked_add(b).ok_or(AllocError)
+}
