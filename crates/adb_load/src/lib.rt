@@ -1,0 +1,15 @@
+//! A large load: clients and devices whose doings are drawn from a seed, as the entries of a history
+//! that come from outside.
+#![tactic(auto)]
+
+mod act;
+mod course;
+mod entries;
+mod live;
+mod load;
+mod names;
+mod numbers;
+mod patterns;
+mod texts;
+
+pub use load::Load;
