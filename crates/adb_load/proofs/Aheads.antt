@@ -42,6 +42,7 @@ turn_ahead p = go (turn_goes p)
         → acts_of_turns turns p ≡ acts_due (turn p).act ++ acts_of_turns (turns_left (turn p).after) (turn p).after
     first zero is fewer = absurd (omega (arith, is, fewer))
     first (suc turns) is fewer = ap (λ acts. acts_due (turn p).act ++ acts) (enough turns _ (turn p).after (omega (arith, is, fewer)) (omega arith))
+
     go : Goes p (turn p) → ahead None p ≡ ahead (turn p).act (turn p).after
     go (inl over) = sym (ap (λ (t : Turn). ahead t.act t.after) over)
     go (inr brings) = first (turns_left p) refl brings.fewer
@@ -54,6 +55,7 @@ turn_over p = go (turn_goes p)
     some : (act : Option Act) (acts : List Act) → IsSome act → IsOver act acts
     some None acts h = grind (arith, h)
     some (Some act) acts h = tt
+
     go : Goes p (turn p) → IsOver (turn p).act (ahead (turn p).act (turn p).after)
     go (inl over) = rw over (over_stays (turns_left p) p over)
     go (inr brings) = some (turn p).act _ brings.some

@@ -98,8 +98,12 @@ asked_short stream = record {
   bytes = joined_bytes (codes "0013host:transport-id:" ++ decimal link) (codes "0005echo:")
       (joined_bytes (codes "0013host:transport-id:") (decimal link) (literal_bytes (codes "0013host:transport-id:") refl) (decimal_bytes link (omega (arith, link_small stream))))
       (literal_bytes (codes "0005echo:") refl);
-  size = omega (arith, length-append (codes "0013host:transport-id:" ++ decimal link) (codes "0005echo:"),
-      length-append (codes "0013host:transport-id:") (decimal link), length-decimal-le 10 link (omega arith) (omega (arith, link_small stream)) (omega (arith, link_small stream)));
+  size = omega (
+    arith,
+    length-append (codes "0013host:transport-id:" ++ decimal link) (codes "0005echo:"),
+    length-append (codes "0013host:transport-id:") (decimal link),
+    length-decimal-le 10 link (omega arith) (omega (arith, link_small stream)) (omega (arith, link_small stream)),
+  );
 }
   where
     link : ℕ

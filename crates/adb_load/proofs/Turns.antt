@@ -47,7 +47,7 @@ moved_less word live = go (goes_up word live) (nat_lt 0 live.down) (λ h. below 
   where
     go : (up down : Bool) → (up ≡ true → 0 < live.up) → (down ≡ true → 0 < live.down)
         → TakesLess (if up then moved_up (portion word live.up) live
-            else (if down then moved_down word (portion word live.down) live else ended word live)).after live
+        else (if down then moved_down word (portion word live.down) live else ended word live)).after live
     go true down some_up some_down = up_less word live (some_up refl)
     go false true some_up some_down = down_less word live (some_down refl)
     go false false some_up some_down = tt
@@ -83,6 +83,7 @@ move_brings word place p words within = go (slice_get_cases p.live place).1
       some = refl;
       fewer = omega (arith, streams_less place live (moved word live).after p.live within same (moved_less word live));
     })
+
     go : ((live : Live) × (place < length p.live) × (slice_get p.live place ≡ Some live) × (get_or p.live place live ≡ live))
         ⊎ ((length p.live ≤ place) × (slice_get p.live place ≡ None))
         → Brings p (move_at word place (slice_get p.live place) (record p { words = words }))

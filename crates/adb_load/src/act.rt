@@ -7,19 +7,35 @@ ghost use Rattle.adb_load.specs.Acts.{acts_due, acts_from};
 #[derive(Clone, Copy, Drop)]
 pub(crate) enum Act {
     /// A device is plugged in.
-    Plug { link: u16 },
+    Plug {
+        link: u16,
+    },
     /// It says who it is.
-    Greet { link: u16 },
+    Greet {
+        link: u16,
+    },
     /// A stream's client comes.
-    Come { stream: u16 },
+    Come {
+        stream: u16,
+    },
     /// It selects its device and asks for the service.
-    Ask { stream: u16 },
+    Ask {
+        stream: u16,
+    },
     /// The device opens the stream.
-    Accept { stream: u16 },
+    Accept {
+        stream: u16,
+    },
     /// The client writes so many bytes, from that place of its own on.
-    Write { stream: u16, from: u16, count: u16 },
+    Write {
+        stream: u16,
+        from: u16,
+        count: u16,
+    },
     /// The device acknowledges them.
-    Acknowledge { stream: u16 },
+    Acknowledge {
+        stream: u16,
+    },
     /// The device writes so many bytes, from that place of its own on: the packet, or a piece of it.
     Answer {
         stream: u16,
@@ -28,9 +44,13 @@ pub(crate) enum Act {
         piece: Piece,
     },
     /// The client goes.
-    Leave { stream: u16 },
+    Leave {
+        stream: u16,
+    },
     /// The device closes the stream.
-    Close { stream: u16 },
+    Close {
+        stream: u16,
+    },
 }
 
 /// How much of a packet comes at once.

@@ -10,6 +10,8 @@ mod load;
 mod names;
 mod numbers;
 mod patterns;
+#[cfg(test)]
+mod tests;
 mod texts;
 
 pub use load::Load;

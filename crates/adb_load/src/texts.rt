@@ -46,7 +46,12 @@ pub(crate) fn asked_of(alloc: Global, stream: u16) -> Result<Text, AllocError>
 
 /// So many of the bytes that a stream's client writes, from a place on.
 #[tactic(auto, using(crate::proofs::Records::cycle_short))]
-pub(crate) fn up_bytes(alloc: Global, stream: u16, from: u16, count: u16) -> Result<Text, AllocError>
+pub(crate) fn up_bytes(
+    alloc: Global,
+    stream: u16,
+    from: u16,
+    count: u16,
+) -> Result<Text, AllocError>
     ensures is { IfOk result (λ t. t ≡ up_bytes stream from count) }
     ensures short { IfOk result IsShort }
 {
@@ -92,15 +97,17 @@ fn device_packet(
     requires { length payload ≤ MAX_PAYLOAD }
     ensures { IfOk result (λ t. t ≡ device_packet command stream payload) }
 {
-    packet_of(alloc, command, remote_of(stream), client_of(stream), payload)
+    packet_of(
+        alloc,
+        command,
+        remote_of(stream),
+        client_of(stream),
+        payload,
+    )
 }
 
 /// The same without a payload.
-pub(crate) fn bare_packet(
-    alloc: Global,
-    command: Command,
-    stream: u16,
-) -> Result<Text, AllocError>
+pub(crate) fn bare_packet(alloc: Global, command: Command, stream: u16) -> Result<Text, AllocError>
     ensures is { IfOk result (λ t. t ≡ device_packet command stream []) }
     ensures short { IfOk result IsShort }
 {

@@ -14,6 +14,6 @@ returns-clause-short c =
     let written = cycle_short (2 * c.from.result) c.args.from c.args.count c.ranges.count.fits in
     let payload = subst IsShort (sym c.in_ok-bytes.ensures) written in
     let packet = packet_short Wrte (remote_of c.args.stream) (client_of c.args.stream) c.in_ok-bytes.bytes payload.bytes
-            (omega (arith, ap length c.in_ok-bytes.ensures, cycle_length (2 * c.from.result) c.args.from c.args.count, c.ranges.count.fits)) in
+    (omega (arith, ap length c.in_ok-bytes.ensures, cycle_length (2 * c.from.result) c.args.from c.args.count, c.ranges.count.fits)) in
     short_by c.piece_of.result (piece_of c.args.piece c.in_ok-packet.packet)
-        (piece_short c.args.piece c.in_ok-packet.packet (subst IsShort (sym c.in_ok-packet.ensures) packet)) c.piece_of.ensures
+    (piece_short c.args.piece c.in_ok-packet.packet (subst IsShort (sym c.in_ok-packet.ensures) packet)) c.piece_of.ensures

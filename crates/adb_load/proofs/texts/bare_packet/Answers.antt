@@ -8,4 +8,4 @@ pub returns-clause-short : goal.returns-clause-short
 returns-clause-short c =
     let bare = packet_short c.args.command (remote_of c.args.stream) (client_of c.args.stream) [] (All-nil (λ b. b < 256)) (omega arith) in
     short_by c.device_packet.result (device_packet c.args.command c.args.stream c.new.result)
-        (subst (λ payload. IsShort (device_packet c.args.command c.args.stream payload)) (sym c.new.ensures) bare) c.device_packet.ensures
+    (subst (λ payload. IsShort (device_packet c.args.command c.args.stream payload)) (sym c.new.ensures) bare) c.device_packet.ensures
