@@ -1,11 +1,11 @@
 -- What is to come of a load does not depend on the bound on its turns, and a turn takes its acts off the front.
-use Rattle.std.proofs.Common.{ℕ, zero, suc, ◌+◌, ◌≡◌, ◌<◌, ◌≤◌, ◌⊎◌, inl, inr, List, [], ◌∷◌, ◌++◌, refl, sym, ap, ◌∙◌, subst, arith}
+use Rattle.std.proofs.Common.{ℕ, zero, suc, ◌≡◌, ◌<◌, ◌≤◌, inl, inr, List, [], ◌++◌, refl, sym, ap, ◌∙◌, subst, arith}
 use Rattle.std.specs.Prelude.{Option, Some, None, IsSome}
 use Rattle.adb_load.specs.declared.act.Act.{Act}
 use Rattle.adb_load.specs.Acts.{acts_due}
 use Rattle.adb_load.specs.Course.{Progress, Turn, turn, stopped, turns_left}
 use Rattle.adb_load.specs.Load.{acts_of_turns, acts_ahead, ahead, IsOver}
-use Rattle.adb_load.proofs.Turns.{Goes, Brings, turn_goes}
+use Rattle.adb_load.proofs.Turns.{Goes, turn_goes}
 
 -- where the load is over nothing comes, in however many turns
 over_stays : (turns : ℕ) (p : Progress) → turn p ≡ stopped p → acts_of_turns turns p ≡ []

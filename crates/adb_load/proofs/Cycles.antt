@@ -7,11 +7,9 @@ use Rattle.adb_load.specs.Acts.{cycle}
 pub cycle_more : (shift from step : ℕ) → cycle shift from (step + 1) ≡ cycle shift from step ++ (from + step + shift) % 251 ∷ []
 cycle_more shift from step = map-range_with_len_more (λ i. (i + shift) % 251) from step (from + step) refl
 
--- the same, where the last byte was put behind those so far
-pub one_more : (shift from step : ℕ) (so_far now : List ℕ) (byte : ℕ) → so_far ≡ cycle shift from step → now ≡ so_far ++ byte ∷ []
-    → byte ≡ (from + step + shift) % 251 → now ≡ cycle shift from (step + 1)
-one_more shift from step so_far now byte before is last = is ∙ ap (λ front. front ++ byte ∷ []) before
-    ∙ ap (λ b. cycle shift from step ++ b ∷ []) last ∙ sym (cycle_more shift from step)
+-- the same behind the bytes so far
+pub one_more : (shift from step : ℕ) (so_far : List ℕ) → so_far ≡ cycle shift from step → so_far ++ (from + step + shift) % 251 ∷ [] ≡ cycle shift from (step + 1)
+one_more shift from step so_far is = ap (λ front. front ++ (from + step + shift) % 251 ∷ []) is ∙ sym (cycle_more shift from step)
 
 pub cycle_length : (shift from count : ℕ) → length (cycle shift from count) ≡ count
 cycle_length shift from count = length-map-range_with_len (λ i. (i + shift) % 251) from count

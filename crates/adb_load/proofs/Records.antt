@@ -1,7 +1,7 @@
 -- Every entry of a load has a record.
-use Rattle.std.proofs.Common.{ℕ, zero, suc, ◌+◌, ◌*◌, ◌%◌, ◌/◌, ◌^◌, ◌≡◌, ◌<◌, ◌≤◌, List, [], ◌∷◌, ◌++◌, length, take, drop, min, refl, sym, ap, ◌∙◌, arith, lit<, lit≤, get_or, nat_lt, true, subst, Result, Ok, Err}
+use Rattle.std.proofs.Common.{ℕ, ◌+◌, ◌*◌, ◌%◌, ◌^◌, ◌≡◌, ◌<◌, ◌≤◌, List, [], ◌∷◌, ◌++◌, length, refl, sym, arith, lit<, lit≤, get_or, nat_lt, true, subst, Result, Ok, Err}
 use Rattle.std.specs.Result.{IfOk}
-use Rattle.std.specs.List.{All, flat_map, list_all, range_with_len}
+use Rattle.std.specs.List.{flat_map, list_all, range_with_len}
 use Rattle.std.specs.Prelude.{codes}
 use Rattle.std.specs.Fmt.{decimal}
 use Rattle.std.proofs.Math.Nat.{mod-lt}
@@ -15,7 +15,6 @@ use Rattle.adb_outside.specs.Bytes.{AreBytes}
 use Rattle.adb_outside.specs.declared.kinds.Kind.TheVariants.{Usb}
 use Rattle.adb_outside.specs.declared.kinds.Cause.TheVariants.{Eof}
 use Rattle.adb_capture.specs.declared.entry.Entry.TheVariants.{Join, Read, End, Attach, Recv}
-use Rattle.adb_capture.specs.declared.limits.TheConstants.{DATA_LIMIT}
 use Rattle.adb_capture.specs.Records.{HasRecord}
 use Rattle.adb_wire.specs.declared.command.Command.{Command}
 use Rattle.adb_wire.specs.declared.command.Command.TheVariants.{Cnxn}
@@ -129,6 +128,9 @@ attach_has link serial small short = record {
 
 pub recv_has : (link : ℕ) (bytes : List ℕ) → link < 2 ^ 32 → IsShort bytes → HasRecord (Recv link bytes)
 recv_has link bytes small short = record { owner = small; port = tt; bytes = short.bytes; size = omega (arith, short.size) }
+
+-- the laws of entries
+pub ruleset have_records = (join_has, read_has, end_has, attach_has, recv_has)
 
 -- what a result is, is short
 pub short_by : {E : Type 0} (r : Result (List ℕ) E) (text : List ℕ) → IsShort text → IfOk r (λ t. t ≡ text) → IfOk r IsShort

@@ -1,16 +1,16 @@
 -- Each turn of a load brings something and leaves fewer turns, or the load is over.
-use Rattle.std.proofs.Common.{ℕ, zero, suc, ◌+◌, ◌-◌, ◌*◌, ◌%◌, ◌/◌, ◌≡◌, ◌<◌, ◌≤◌, ◌⊎◌, inl, inr, Bool, true, false, List, [], ◌∷◌, ◌++◌, length}
-use Rattle.std.proofs.Common.{refl, sym, ap, ◌∙◌, arith, rules, get_or, ◌&&◌, nat_lt, nat_eq, if◌then◌else◌}
-use Rattle.std.specs.Prelude.{Option, Some, None, IsSome, min}
-use Rattle.std.specs.List.{slice_get, slice_set, remove, sum_by}
+use Rattle.std.proofs.Common.{ℕ, ◌-◌, ◌%◌, ◌≡◌, ◌<◌, ◌≤◌, ◌⊎◌, inl, inr, Bool, true, false, List, length}
+use Rattle.std.proofs.Common.{refl, ap, arith, get_or, ◌&&◌, nat_lt, nat_eq, if◌then◌else◌}
+use Rattle.std.specs.Prelude.{Option, Some, None, IsSome}
+use Rattle.std.specs.List.{slice_get, sum_by}
 use Rattle.std.proofs.lemmas.List.Sums.{sum_by_push, sum_by-set, sum_by-remove}
-use Rattle.std.proofs.lemmas.Option.{slice_get_cases}
+use Rattle.std.proofs.lemmas.Option.{slice_get_cases, slice_get_within, get_or_from_slice_get}
 use Rattle.rand_pcg.specs.Lcg.{Lcg}
 use Rattle.rand_pcg.specs.Pcg.{pcg32}
 use Rattle.adb_load.specs.declared.live.Live.{Live}
 use Rattle.adb_load.specs.declared.numbers.TheConstants.{DEVICES, MOST_LIVE}
 use Rattle.adb_load.specs.Streams.{live_at_first, portion, goes_up, moved_up, moved_down, ended, moved}
-use Rattle.adb_load.specs.Course.{Progress, Turn, turn, stopped, plug_in, begin, draw, move_at, move_with, streams_after, turns_of, turns_left}
+use Rattle.adb_load.specs.Course.{Progress, Turn, turn, stopped, plug_in, begin, draw, move_at, streams_after, turns_of, turns_left}
 
 -- something goes, and no more than is left
 pub portion_bounds : (word left : ℕ) → 0 < left → (0 < portion word left) × (portion word left ≤ left)
@@ -53,11 +53,16 @@ moved_less word live = go (goes_up word live) (nat_lt 0 live.down) (λ h. below 
     go false false some_up some_down = tt
 
 -- what the live streams still take falls where one of them moves
-pub streams_less : (place : ℕ) (live : Live) (after : Option Live) (streams : List Live) → place < length streams → get_or streams place live ≡ live
-    → TakesLess after live → sum_by turns_of (streams_after place after streams) < sum_by turns_of streams
-streams_less place live None streams within is less = omega (arith, sum_by-remove turns_of streams place live within, ap turns_of is)
-streams_less place live (Some after) streams within is less =
-    omega (arith, sum_by-set turns_of streams place after live within, ap turns_of is, less)
+streams_less : (place : ℕ) (live : Live) (after : Option Live) (streams : List Live) → slice_get streams place ≡ Some live → TakesLess after live
+    → sum_by turns_of (streams_after place after streams) < sum_by turns_of streams
+streams_less place live None streams is less =
+    let within = slice_get_within streams place live is in
+    let same = get_or_from_slice_get streams place live live is in
+    omega (arith, sum_by-remove turns_of streams place live within, ap turns_of same)
+streams_less place live (Some after) streams is less =
+    let within = slice_get_within streams place live is in
+    let same = get_or_from_slice_get streams place live live is in
+    omega (arith, sum_by-set turns_of streams place after live within, ap turns_of same, less)
 
 -- A turn brings something, and leaves fewer turns.
 pub record Brings (p : Progress) (t : Turn) : Type 0 where
@@ -77,17 +82,16 @@ move_brings : (word place : ℕ) (p : Progress) (words : Lcg) → place < length
     → Brings p (move_at word place (slice_get p.live place) (record p { words = words }))
 move_brings word place p words within = go (slice_get_cases p.live place).1
   where
-    found : (live : Live) → slice_get p.live place ≡ Some live → get_or p.live place live ≡ live
-        → Brings p (move_at word place (slice_get p.live place) (record p { words = words }))
-    found live is same = rw is (record {
+    found : (live : Live) → slice_get p.live place ≡ Some live → Brings p (move_at word place (slice_get p.live place) (record p { words = words }))
+    found live is = rw is (record {
       some = refl;
-      fewer = omega (arith, streams_less place live (moved word live).after p.live within same (moved_less word live));
+      fewer = omega (arith, streams_less place live (moved word live).after p.live is (moved_less word live));
     })
 
     go : ((live : Live) × (place < length p.live) × (slice_get p.live place ≡ Some live) × (get_or p.live place live ≡ live))
         ⊎ ((length p.live ≤ place) × (slice_get p.live place ≡ None))
         → Brings p (move_at word place (slice_get p.live place) (record p { words = words }))
-    go (inl one) = found one.0 one.2 one.3
+    go (inl one) = found one.0 one.2
     go (inr past) = absurd (omega (arith, past.0, within))
 
 draw_brings : (p : Progress) → 0 < length p.live → Brings p (draw p)

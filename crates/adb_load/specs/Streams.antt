@@ -1,6 +1,5 @@
 -- A live stream of a load, and what a drawn word makes of it.
-use Rattle.std.specs.Prelude.{ℕ, ◌+◌, ◌-◌, ◌/◌, ◌%◌, ◌^◌, ◌==◌, ◌&&◌, ◌||◌, Bool, not, nat_lt, if◌then◌else◌, Option, Some, None, min}
-use Rattle.adb_load.specs.declared.act.Act.{Act}
+use Rattle.std.specs.Prelude.{ℕ, ◌+◌, ◌-◌, ◌/◌, ◌%◌, ◌^◌, ◌==◌, ◌&&◌, ◌||◌, Bool, not, nat_lt, if◌then◌else◌, Some, None, min}
 use Rattle.adb_load.specs.declared.act.Act.TheVariants.{Write, Answer, Leave, Close}
 use Rattle.adb_load.specs.declared.act.Piece.TheVariants.{Whole, Head}
 use Rattle.adb_load.specs.declared.live.Live.{Live}

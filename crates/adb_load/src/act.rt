@@ -36,7 +36,7 @@ pub(crate) enum Act {
     Acknowledge {
         stream: u16,
     },
-    /// The device writes so many bytes, from that place of its own on: the packet, or a piece of it.
+    /// The device writes so many bytes, from that place of its own on: the packet, or a piece.
     Answer {
         stream: u16,
         from: u16,

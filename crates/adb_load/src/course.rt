@@ -54,8 +54,8 @@ impl Course {
         })
     }
 
-    /// Takes a turn, and says what it brings; nothing where the load is over. After want of memory the
-    /// load is as before.
+    /// Takes a turn, and says what it brings; nothing where the load is over. After want of memory
+    /// the load is as before.
     #[tactic(auto, unfolding(crate::specs::Course::turn))]
     pub(crate) fn turn(&mut self) -> Result<Option<Act>, AllocError>
         ensures ok { IfOk result (λ act. record { act = act; after = self.new } ≡ turn self.old) }
@@ -85,7 +85,8 @@ impl Course {
     /// The next stream begins. After want of memory it has not.
     fn begin(&mut self) -> Result<Act, AllocError>
         requires { self.old.begun < self.old.streams }
-        ensures ok { IfOk result (λ act. record { act = Some act; after = self.new } ≡ begin self.old) }
+        ensures ok { IfOk result
+            (λ act. record { act = Some act; after = self.new } ≡ begin self.old) }
         ensures err { OnErr result (self.new ≡ self.old) }
     {
         let stream = self.begun;

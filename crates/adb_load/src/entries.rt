@@ -13,7 +13,7 @@ use adb_wire::Command;
 use std::alloc::{AllocError, Global};
 
 /// The entry of an act. It has a record.
-#[tactic(auto, using(crate::proofs::Records::attach_has, crate::proofs::Records::recv_has, crate::proofs::Records::read_has, crate::proofs::Records::join_has, crate::proofs::Records::end_has))]
+#[tactic(auto, using(crate::proofs::Records::have_records))]
 pub(crate) fn entry(alloc: Global, act: Act) -> Result<Entry, AllocError>
     ensures told { IfOk result (λ e. e ≡ entry_of act) }
     ensures form { IfOk result HasRecord }

@@ -1,10 +1,11 @@
-//! A large load: clients and devices whose doings are drawn from a seed, as the entries of a history
-//! that come from outside.
+//! A large load: clients and devices whose doings are drawn from a seed, as the entries of a
+//! history that come from outside.
 #![tactic(auto)]
 
 mod act;
 mod course;
 mod entries;
+mod laws;
 mod live;
 mod load;
 mod names;
@@ -14,4 +15,5 @@ mod patterns;
 mod tests;
 mod texts;
 
+pub use laws::no_turn_is_cut_off;
 pub use load::Load;

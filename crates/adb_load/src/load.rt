@@ -12,7 +12,8 @@ use std::alloc::{AllocError, Global};
 use std::marker::Model;
 
 /// A load, of which some entries may be given already. Contracts see it as the list of the entries
-/// that are still to come. It holds the live streams, at most 16, and nothing of those that are over.
+/// that are still to come. It holds the live streams, at most 16, and nothing of those that are
+/// over.
 #[derive(Drop)]
 pub struct Load {
     alloc: Global,
@@ -43,7 +44,8 @@ impl Load {
         })
     }
 
-    /// The next entry, or none where all were given. After want of memory the next call gives the same.
+    /// The next entry, or none where all were given. After want of memory the next call gives the
+    /// same. Each entry has a record in a capture.
     pub fn next(&mut self) -> Result<Option<Entry>, AllocError>
         ensures first { GivesFirst self.old self.new result }
         ensures form { IfOk result (λ given. IfSome given HasRecord) }
@@ -58,8 +60,8 @@ impl Load {
     }
 }
 
-/// The act that comes next, where one is due already or a turn brings one. What is to come stays the
-/// same, and so does the load after want of memory.
+/// The act that comes next, where one is due already or a turn brings one. What is to come stays
+/// the same, and so does the load after want of memory.
 #[tactic(auto, using(crate::proofs::Aheads::same_ahead, crate::proofs::Aheads::is_over))]
 fn next_due(due: Option<Act>, course: &mut Course) -> Result<Option<Act>, AllocError>
     ensures ok { IfOk result (λ act. ahead act course.new ≡ ahead due course.old) }
