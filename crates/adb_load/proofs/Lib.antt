@@ -1,0 +1,4 @@
+mod Aheads
+mod Cycles
+mod Records
+mod Turns

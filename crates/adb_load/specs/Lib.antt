@@ -1,0 +1,4 @@
+pub mod Acts
+pub mod Streams
+pub mod Course
+pub mod Load

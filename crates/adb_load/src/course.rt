@@ -1,0 +1,122 @@
+//! How a load goes on, turn by turn.
+
+ghost use Rattle.std.specs.Prelude.{◌≡◌, ◌<◌, ◌≤◌, Some, IfOk, OnOk, OnErr, length};
+ghost use Rattle.std.specs.List.{slice_get};
+ghost use Rattle.adb_load.specs.Course.{begin, draw, draw_with, move_with, plug_in, start, turn, streams_after};
+
+use crate::act::Act;
+use crate::live::{Live, Moved};
+use crate::numbers::{DEVICES, MOST_LIVE};
+use rand_core::SeedableRng;
+use rand_core::utils::NextWord;
+use rand_pcg::Pcg32;
+use std::alloc::{AllocError, Global};
+use std::marker::Model;
+
+/// How far a load is. Contracts see it as its `Progress`.
+#[derive(Drop)]
+pub(crate) struct Course {
+    plugged: u16,
+    streams: u16,
+    begun: u16,
+    live: Vec<Live>,
+    words: Pcg32,
+}
+
+impl Model for Course {
+    ghost use Rattle.std.specs.Prelude.{◌<◌, ◌^◌};
+    ghost use Rattle.adb_load.specs.Course.{Progress};
+
+    ghost Value = { Progress };
+
+    ghost view = { λ course. record {
+      plugged = course.plugged;
+      streams = course.streams;
+      begun = course.begun;
+      live = course.live.items;
+      words = course.words;
+    } };
+
+    ghost invariant = { λ course. course.streams < 2 ^ 16 };
+}
+
+impl Course {
+    /// A load of so many streams before its first turn.
+    pub(crate) fn new(alloc: Global, seed: u64, streams: u16) -> Result<Course, AllocError>
+        ensures { IfOk result (λ course. course ≡ start seed streams) }
+    {
+        Ok(Course {
+            plugged: 0,
+            streams,
+            begun: 0,
+            live: Vec::with_capacity(alloc, MOST_LIVE)?,
+            words: Pcg32::seed_from_u64(seed),
+        })
+    }
+
+    /// Takes a turn, and says what it brings; nothing where the load is over. After want of memory
+    /// the load is as before.
+    #[tactic(auto, unfolding(crate::specs::Course::turn))]
+    pub(crate) fn turn(&mut self) -> Result<Option<Act>, AllocError>
+        ensures ok { IfOk result (λ act. record { act = act; after = self.new } ≡ turn self.old) }
+        ensures err { OnErr result (self.new ≡ self.old) }
+    {
+        if self.plugged < DEVICES {
+            return Ok(Some(self.plug_in()));
+        }
+        if self.live.len() < MOST_LIVE && self.begun < self.streams {
+            return Ok(Some(self.begin()?));
+        }
+        if self.live.is_empty() {
+            return Ok(None);
+        }
+        Ok(Some(self.draw()))
+    }
+
+    /// The next device is plugged in.
+    fn plug_in(&mut self) -> Act
+        requires { self.old.plugged < DEVICES }
+        ensures { record { act = Some result; after = self.new } ≡ plug_in self.old }
+    {
+        self.plugged += 1;
+        Act::Plug { link: self.plugged }
+    }
+
+    /// The next stream begins. After want of memory it has not.
+    fn begin(&mut self) -> Result<Act, AllocError>
+        requires { self.old.begun < self.old.streams }
+        ensures ok { IfOk result
+            (λ act. record { act = Some act; after = self.new } ≡ begin self.old) }
+        ensures err { OnErr result (self.new ≡ self.old) }
+    {
+        let stream = self.begun;
+        self.live.push(Live::new(stream))?;
+        self.begun += 1;
+        Ok(Act::Come { stream })
+    }
+
+    /// A word is drawn, and one of the live streams moves.
+    fn draw(&mut self) -> Act
+        requires { 0 < length self.old.live }
+        ensures { record { act = Some result; after = self.new } ≡ draw self.old }
+    {
+        let word = self.words.next_word();
+        let place = word as usize % self.live.len();
+        let moved = self.live[place].moved(word);
+        self.set(place, moved.after);
+        moved.act
+    }
+
+    /// The stream at a place moved, or ended.
+    fn set(&mut self, place: usize, after: Option<Live>)
+        requires { place < length self.old.live }
+        ensures { self.new ≡ record self.old { live = streams_after place after self.old.live } }
+    {
+        match after {
+            Some(live) => self.live[place] = live,
+            None => {
+                self.live.remove(place);
+            }
+        }
+    }
+}
