@@ -36,7 +36,7 @@ use Rattle.adb_daemon.specs.declared.link.TheConstants.{OLDEST_VERSION, LEAST_PA
 use Rattle.adb_device.specs.Serving.{Serving, Sent, with_sum, bytes_of, sent_bytes, owing, granted, sent_writes, sent_ack, sent_close, settled_as, settled}
 use Rattle.adb_device.specs.Serving.{named, closable, is_taken, kind_for, credit_of, open_as, written_to, acked_to, closed_to, served, gone}
 use Rattle.adb_device.specs.Device.{Device, Setting, step, treated, linked_to, served_on, first_device, device_behind, own_cnxn}
-use Rattle.adb_device.specs.Daemon.{HasDone, owed}
+use Rattle.adb_device.specs.Daemon.{HasDone, HasDoneFront, owed}
 use Rattle.adb_device.specs.declared.daemon.Daemon.{Daemon}
 use Rattle.adb_device.specs.Allowed.{okay_most, close_most, writes_most, lets_out, let_out_by, let_out}
 use Rattle.adb_device.proofs.Rules.{named_is, closable_is}
@@ -337,3 +337,20 @@ pub owed_was_let_out : (setting : Setting) (fed taken : List ℕ) (daemon : Daem
     → length taken + length (owed daemon) ≤ let_out setting (parts_of fed).packets
 owed_was_let_out setting fed taken daemon done =
     omega (arith, ap (length {A = ℕ}) done.stands.holds.due, length-append taken (owed daemon), due_was_let_out setting (parts_of fed).packets)
+
+let_out_front : (most : ℕ) (front rest : List Packet) → let_out_by most front ≤ let_out_by most (front ++ rest)
+let_out_front most [] rest = omega arith
+let_out_front most (p ∷ more) rest = omega (arith, let_out_front most more rest)
+
+-- and in one that ran out of memory
+pub front_was_let_out : (setting : Setting) (fed taken : List ℕ) (daemon : Daemon) → HasDoneFront setting fed taken daemon
+    → length taken + length (owed daemon) ≤ let_out setting (parts_of fed).packets
+front_was_let_out setting fed taken daemon done =
+    omega (
+      arith,
+      ap (length {A = ℕ}) done.given_out,
+      length-append taken (owed daemon),
+      due_was_let_out setting done.front,
+      let_out_front setting.most done.front done.rest,
+      ap (let_out_by setting.most) done.is,
+    )
