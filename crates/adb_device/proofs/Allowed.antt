@@ -1,5 +1,5 @@
 -- What is due, and what streams may still write, is no more than what the packets of the host let out.
-use Rattle.std.specs.Prelude.{ℕ, ◌≡◌, ◌≢◌, ◌≤◌, ◌+◌, ◌*◌, ◌-◌, ◌==◌, ◌||◌, min, nat_lt, cond, if◌then◌else◌, Bool, true, false}
+use Rattle.std.specs.Prelude.{ℕ, ◌≡◌, ◌≢◌, ◌≤◌, ◌+◌, ◌*◌, ◌==◌, ◌||◌, min, nat_lt, cond, if◌then◌else◌, Bool, true, false}
 use Rattle.std.specs.Prelude.{List, [], ◌∷◌, ◌++◌, length, take, map, fold, zero, suc, Option, Some, None, unwrap_or}
 use Rattle.std.proofs.Common.{Ordering, refl, sym, ◌∙◌, ap, subst, arith}
 use Rattle.std.specs.List.Sorted.{IsStrictlySortedBy}
@@ -20,7 +20,7 @@ use Rattle.adb_wire.specs.Header.{header_bytes}
 use Rattle.adb_wire.specs.Cutting.{parts_of}
 use Rattle.adb_wire.specs.declared.command.Command.{Command}
 use Rattle.adb_wire.specs.declared.command.Command.TheVariants as commands
-use Rattle.adb_wire.specs.declared.headers.TheConstants.{HEADER_LEN, MAX_PAYLOAD}
+use Rattle.adb_wire.specs.declared.headers.TheConstants.{HEADER_LEN}
 use Rattle.adb_wire.specs.declared.packets.Packet.{Packet}
 use Rattle.adb_stream.specs.declared.flow.Flow.{Flow}
 use Rattle.adb_stream.specs.declared.flow.Flow.TheVariants as flows
@@ -34,12 +34,12 @@ use Rattle.adb_daemon.specs.Link.{credit_word_in, link_of, link_to}
 use Rattle.adb_daemon.specs.declared.link.Link.{Link}
 use Rattle.adb_daemon.specs.declared.link.TheConstants.{OLDEST_VERSION, LEAST_PAYLOAD}
 use Rattle.adb_device.specs.Serving.{Serving, Sent, with_sum, bytes_of, sent_bytes, owing, granted, sent_writes, sent_ack, sent_close, settled_as, settled}
-use Rattle.adb_device.specs.Serving.{named, closable, is_taken, kind_for, credit_of, open_as, written_to, acked_to, closed_to, served, gone}
+use Rattle.adb_device.specs.Serving.{named, closable, is_taken, kind_for, credit_of, open_as, written_to, acked_to, closed_to, served}
 use Rattle.adb_device.specs.Device.{Device, Setting, step, treated, linked_to, served_on, first_device, device_behind, own_cnxn}
 use Rattle.adb_device.specs.Daemon.{HasDone, HasDoneFront, owed}
 use Rattle.adb_device.specs.declared.daemon.Daemon.{Daemon}
 use Rattle.adb_device.specs.Allowed.{okay_most, close_most, writes_most, lets_out, let_out_by, let_out}
-use Rattle.adb_device.proofs.Rules.{named_is, closable_is}
+use Rattle.adb_device.proofs.Rules.{named_is}
 
 -- the bytes of packets that became due
 abbrev size_of : List Sent → ℕ
