@@ -46,9 +46,9 @@ pub fn streams_are_settled()
 
 /// A device holds no more for its host than that let out, whether it reads or not: all that was
 /// taken and is out is at most the device's own CNXN and what each packet of the host lets become
-/// due. An OPEN and a WRTE are answered; an OPEN and an OKAY let their stream write, on a plain link
-/// one write and else their credit; and each of the three may end its stream. After want of memory
-/// it is so too.
+/// due. An OPEN and a WRTE are answered; an OPEN and an OKAY let their stream write, on a plain
+/// link one write and else their credit; and each of the three may end its stream. It is so too
+/// after want of memory.
 pub fn what_is_owed_was_let_out()
     ensures due { (setting : Setting) (packets : List Packet)
         → length (sent_bytes (device_behind setting packets).serving.made)

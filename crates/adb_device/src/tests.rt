@@ -1,5 +1,5 @@
-//! What no clause says: the bytes of sessions on each kind of link, each fault once, each command of
-//! a shell and each refusal of it in both modes, and a push and a pull through packets in pieces.
+//! What no clause says: the bytes of sessions on each kind of link, each fault once, each command
+//! of a shell and each refusal of it in both modes, and a push and a pull through packets in pieces.
 
 use crate::{Daemon, DaemonError};
 use adb_files::{File, Files};
