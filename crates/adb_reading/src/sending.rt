@@ -1,13 +1,13 @@
 //! Bytes of a client that has its stream open: they go up.
 
-ghost use Rattle.std.specs.Prelude.{◌≡◌, ◌≤◌, List, ℕ, length, IfOk, IfSome, OnOk, OnErr, Some, false};
+ghost use Rattle.std.specs.Prelude.{◌≡◌, ◌≤◌, List, ℕ, length, IfOk, OnOk, OnErr, Some, false};
 ghost use Rattle.adb_outside.specs.Tables.{at};
 ghost use Rattle.adb_client.specs.Client.{SeenClient};
 ghost use Rattle.adb_history.specs.Flow.{up};
 ghost use Rattle.adb_rules.specs.Fit.{IsFit};
 ghost use Rattle.adb_rules.specs.Tables.{state_of, client_row};
 ghost use Rattle.adb_rules.specs.Tracked.{clients_of};
-ghost use Rattle.adb_rules.specs.Up.{IsReadyUp, IsSized, up_bytes, up_writes};
+ghost use Rattle.adb_rules.specs.Up.{IsReadyUp, IsSized};
 ghost use Rattle.adb_reading.specs.Leaving.{Leaves, IsPlaced, HoldsAtLeast};
 ghost use Rattle.adb_reading.specs.Taking.{takes_in};
 ghost use Rattle.adb_reading.specs.Sending.{IsPrepared, IsPreparedAt, can_send, can_send_at};
@@ -15,7 +15,7 @@ ghost use Rattle.adb_reading.specs.Sending.{IsPrepared, IsPreparedAt, can_send, 
 use crate::places::reserve_packets;
 use crate::taking::{take_back, take_in};
 use adb_client::Client;
-use adb_rules::Tables;
+use adb_rules::{Tables, up_bytes, up_writes};
 use adb_stream::{Flow, Stream};
 use std::alloc::AllocError;
 use std::collections::BTreeMap;
@@ -179,25 +179,4 @@ fn prepare_row(row: &mut Client, flow: &Flow, maxdata: usize) -> Result<usize, A
     };
     row.prepare_cuts(up_bytes(flow, maxdata, held), writes)?;
     Ok(writes)
-}
-
-/// How many of so many bytes a stream may send at once, at most.
-fn up_bytes(flow: &Flow, maxdata: usize, held: usize) -> usize
-    ensures bytes { result ≡ up_bytes flow.now maxdata held }
-    ensures within { result ≤ held }
-{
-    match flow {
-        Flow::One(_) => maxdata.min(held),
-        Flow::Credit(_) => held,
-    }
-}
-
-/// In how many writes at most, where that can be counted.
-fn up_writes(flow: &Flow, maxdata: usize, held: usize) -> Option<usize>
-    ensures { IfSome result (λ writes. writes ≡ up_writes flow.now maxdata held) }
-{
-    match flow {
-        Flow::One(_) => Some(1),
-        Flow::Credit(_) => held.checked_div(maxdata).unwrap_or(0).checked_add(1),
-    }
 }
