@@ -28,7 +28,8 @@ use Rattle.adb_outside.specs.declared.identity.Identity.{Identity}
 use Rattle.adb_banner.specs.Banner.{identity_of}
 use Rattle.adb_daemon.specs.Asked.{Kind}
 use Rattle.adb_daemon.specs.Service.{came_over, files_fed, files_opened}
-use Rattle.adb_daemon.specs.Stream.{Row, unsent, next_payload, row_past, row_past_all, row_written, writes_at, writes, room_of, flow_past, flow_acked, first_flow}
+use Rattle.adb_daemon.specs.Stream.{Row, unsent, next_payload, row_past, row_past_all, row_written}
+use Rattle.adb_daemon.specs.Stream.{writes_at, writes, room_of, flow_past, flow_acked, first_flow}
 use Rattle.adb_daemon.specs.Stream.{row_took, row_acked, opened, is_done, wrte, okay, clse, opening_word}
 use Rattle.adb_daemon.specs.Link.{credit_word_in, link_of, link_to}
 use Rattle.adb_daemon.specs.declared.link.Link.{Link}
@@ -61,7 +62,8 @@ abbrev writes_size : List (List ℕ) → ℕ
 writes_size [] = 0
 writes_size (payload ∷ more) = (HEADER_LEN + length payload) + writes_size more
 
-sent_size : (sums : Bool) (own host : ℕ) (payloads : List (List ℕ)) → size_of (map (λ payload. with_sum sums (wrte own host payload)) payloads) ≡ writes_size payloads
+sent_size : (sums : Bool) (own host : ℕ) (payloads : List (List ℕ))
+    → size_of (map (λ payload. with_sum sums (wrte own host payload)) payloads) ≡ writes_size payloads
 sent_size sums own host [] = refl
 sent_size sums own host (payload ∷ more) = omega (arith, sent_size sums own host more)
 
@@ -102,7 +104,12 @@ module _ (most : ℕ) where
           + may_write (row_past_all (if t then [] else next_payload limit row ∷ writes_at k limit next) row).flow ≤ may_write row.flow
       go true is later = omega arith
       go false is later =
-          omega (arith, later, past_one row.flow limit (length (next_payload limit row)) (unsent row) fits refl (false-eqb (length (next_payload limit row)) 0 (sym is)))
+          omega (
+            arith,
+            later,
+            past_one row.flow limit (length (next_payload limit row)) (unsent row) fits refl
+                (false-eqb (length (next_payload limit row)) 0 (sym is)),
+          )
 
   first_within : (given : Option ℕ) → may_write (first_flow given) ≤ writes_most most (unwrap_or given 0)
   first_within None = omega arith
@@ -228,7 +235,8 @@ module _ (most : ℕ) (link : Link) (fits : link.most ≤ most) where
         go true = omega arith
         go false = omega arith
 
-    writes_to : (found : Option Row) → named p.arg0 (at p.arg1 s.rows) ≡ found → IsWithin most (bound + lets_out most commands.Wrte p) (written_to link p found s)
+    writes_to : (found : Option Row) → named p.arg0 (at p.arg1 s.rows) ≡ found → IsWithin most (bound + lets_out most commands.Wrte p)
+        (written_to link p found s)
     writes_to None is = within_more most bound (lets_out most commands.Wrte p) s w
     writes_to (Some row) is =
         let came = came_over p.payload s.files in

@@ -1,5 +1,6 @@
 -- What the up rule leaves fit.
-use Rattle.std.proofs.Common.{ℕ, ◌+◌, ◌-◌, ◌≡◌, ◌≢◌, ◌≤◌, ◌==◌, Bool, true, false, cond, List, [], Option, Some, None, refl, sym, ◌∙◌, ap, subst, arith, length, ◌⊎◌, inl}
+use Rattle.std.proofs.Common.{ℕ, ◌+◌, ◌-◌, ◌≡◌, ◌≢◌, ◌≤◌, ◌==◌, Bool, true, false, cond, List}
+use Rattle.std.proofs.Common.{[], Option, Some, None, refl, sym, ◌∙◌, ap, subst, arith, length, ◌⊎◌, inl}
 use Rattle.std.proofs.Common.{inr, zero, suc, drop}
 use Rattle.std.specs.Prelude.{option_map, not}
 use Rattle.std.proofs.lemmas.Bool.{cases_eq}
