@@ -57,11 +57,11 @@ module _ (mid new : Tables) (c : ℕ) where
       of k (inl here) = subst (λ (q : ℕ). ClientRoom 0 (at q new.clients.entries)) (sym here) (uses.of_client 0 (h.clients c))
       of k (inr other) = uses.of_clients 0 k other (h.clients k)
 
-  pub provided_then : (row : Option Stream) → IsProvided mid → HasRoom 1 row mid → UsesOf row 1 c 0 mid new → IsProvided new
+  pub provided_then : (kept : Option Stream) → IsProvided mid → HasRoom 1 kept mid → UsesOf kept 1 c 0 mid new → IsProvided new
   provided_then None h room uses = provided_none h uses
   provided_then (Some stream) h room uses = provided_one stream.link h room uses
 
-  pub read_then : (row : Option Stream) → UsesOf row 1 c 0 mid new → (k : ℕ) → StaysRead (at k mid.links.entries) (at k new.links.entries)
+  pub read_then : (kept : Option Stream) → UsesOf kept 1 c 0 mid new → (k : ℕ) → StaysRead (at k mid.links.entries) (at k new.links.entries)
   read_then None uses = (uses 0).read
   read_then (Some stream) uses = uses.read
 
@@ -91,16 +91,16 @@ module _ (old new : Tables) (fit : IsFit old) (reached : IsReached (state_of old
   s = state_of old
 
   -- Bytes of what is due were handed out, and the device was told of it in a place that was kept.
-  pub record Hands (row : Option Stream) : Type 0 where
+  pub record Hands (kept : Option Stream) : Type 0 where
     pub some : due_to (s.clients c) ≢ []
-    pub room : HasRoom 1 row old
-    pub uses : UsesOf row 1 c 0 old new
+    pub room : HasRoom 1 kept old
+    pub uses : UsesOf kept 1 c 0 old new
     pub state : state_of new ≡ (takes_of c (length bytes) (s.clients c) s).state
 
-  pub put_of_due : (row : Option Stream) → Hands row → Makes (Put c bytes) old new
-  put_of_due row h = made_by (Put c bytes) old new fit (record {
-    provided = provided_then old new c row fit.provided h.room h.uses;
-    read = read_then old new c row h.uses;
+  pub put_of_due : (kept : Option Stream) → Hands kept → Makes (Put c bytes) old new
+  put_of_due kept h = made_by (Put c bytes) old new fit (record {
+    provided = provided_then old new c kept fit.provided h.room h.uses;
+    read = read_then old new c kept h.uses;
     state = h.state ∙ (puts_due c (length bytes) s (s.clients c) h.some ∙ sym rests);
     sums = λ k. subst (λ (t : State). SumsStay (s.links k) (t.links k)) (sym rests) (sums_puts s (within s reached) c (length bytes) (s.clients c) k);
   })

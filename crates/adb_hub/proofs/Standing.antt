@@ -16,10 +16,10 @@ use Rattle.adb_rules.specs.Fit.{IsFit, IsReached, Makes, Keeps}
 use Rattle.adb_hub.specs.Sound.{IsSound}
 
 -- ---- what a hub shows of a state says what the state is
-same_rows : {A : Type 0} (rows others : Rows (Option A)) (k : ℕ) → IsDrawnOnly k rows → IsDrawnOnly k others
-    → listed rows 1 k ≡ listed others 1 k → (n : ℕ) → rows n ≡ others n
-same_rows rows others k drawn too same n =
-    sym (shows rows k drawn.zero drawn.above n) ∙ (ap (at n) same ∙ shows others k too.zero too.above n)
+same_rows : {A : Type 0} (these others : Rows (Option A)) (k : ℕ) → IsDrawnOnly k these → IsDrawnOnly k others
+    → listed these 1 k ≡ listed others 1 k → (n : ℕ) → these n ≡ others n
+same_rows these others k drawn too same n =
+    sym (shows these k drawn.zero drawn.above n) ∙ (ap (at n) same ∙ shows others k too.zero too.above n)
 
 -- what is known of the rows of two states that show the same
 pub record AreDrawn (s : State) : Type 0 where
