@@ -1,11 +1,8 @@
 -- A hub to which nobody came.
-use Rattle.std.proofs.Common.{ℕ, ◌≡◌, false, List, [], Option, None, refl, sym, ap, subst}
+use Rattle.std.proofs.Common.{ℕ, ◌≡◌, false, [], None, sym, ap, subst}
 use Rattle.std.specs.Prelude.{option_map}
 use Rattle.adb_outside.specs.Tables.{at}
-use Rattle.adb_stream.specs.declared.row.Stream.{Stream}
-use Rattle.adb_client.specs.Client.{SeenClient}
-use Rattle.adb_history.specs.Rows.{Client, Link, State, start}
-use Rattle.adb_rules.specs.declared.ports.Port.{Port}
+use Rattle.adb_history.specs.Rows.{start}
 use Rattle.adb_rules.specs.declared.tables.Tables.{Tables}
 use Rattle.adb_rules.specs.Tables.{client_row, link_row, state_of}
 use Rattle.adb_rules.specs.Tracked.{IsListedAt}

@@ -1,18 +1,16 @@
 -- What a hub shows of its tables, and the state that they stand for.
-use Rattle.std.proofs.Common.{ℕ, ◌+◌, ◌^◌, ◌≡◌, ◌<◌, ◌≤◌, List, ◌∷◌, All, Option, refl, sym, ◌∙◌, ap, subst, arith}
+use Rattle.std.proofs.Common.{ℕ, ◌≡◌, ◌∷◌, Option, refl, sym, ◌∙◌, ap, subst}
 use Rattle.adb_outside.specs.Tables.{at, Rows, listed}
 use Rattle.adb_outside.proofs.TableLaws.{shows}
-use Rattle.adb_client.specs.declared.phase.Phase.{Phase}
-use Rattle.adb_stream.specs.declared.row.Stream.{Stream}
 use Rattle.adb_capture.specs.declared.entry.Entry.{Entry}
-use Rattle.adb_history.specs.Rows.{Client, Link, State}
+use Rattle.adb_history.specs.Rows.{State}
 use Rattle.adb_history.specs.Orderly.{IsDrawnOnly, IsOrderly}
-use Rattle.adb_history.specs.Machine.{History, IsLegal, IsInRange, May, state, step}
+use Rattle.adb_history.specs.Machine.{History, IsInRange, May, state, step}
 use Rattle.adb_history.specs.Kept.{Kept, kept, IsLawful}
 use Rattle.adb_history.proofs.OrderlyStates.{orderly}
 use Rattle.adb_rules.specs.declared.tables.Tables.{Tables}
 use Rattle.adb_rules.specs.Tables.{state_of}
-use Rattle.adb_rules.specs.Fit.{IsFit, IsReached, Makes, Keeps}
+use Rattle.adb_rules.specs.Fit.{IsReached, Makes, Keeps}
 use Rattle.adb_hub.specs.Sound.{IsSound}
 
 -- ---- what a hub shows of a state says what the state is

@@ -1,9 +1,8 @@
 -- What the calls of a hub answer, over a history that it holds.
 use Rattle.std.specs.Prelude.{ℕ, ◌+◌, ◌-◌, ◌≤◌, ◌<◌, All, ◌^◌, ◌==◌, ◌≡◌, ◌≢◌, Bool, true, false, if◌then◌else◌, nat_le, List, [], ◌∷◌, length, take, Option, Some, None, Result, Ok, Err, option_map}
-use Rattle.adb_outside.specs.Tables.{at}
 use Rattle.adb_registry.specs.Registry.{DeviceTable}
 use Rattle.adb_client.specs.declared.phase.Phase.{Phase}
-use Rattle.adb_client.specs.declared.phase.Phase.TheVariants.{Asking, Opening, Streaming, Binding, Tracking, Closing, Gone}
+use Rattle.adb_client.specs.declared.phase.Phase.TheVariants.{Binding, Closing, Gone}
 use Rattle.adb_client.specs.declared.about.Want.{Want}
 use Rattle.adb_capture.specs.declared.entry.Entry.{Entry}
 use Rattle.adb_history.specs.Rows.{Client, Link, State}

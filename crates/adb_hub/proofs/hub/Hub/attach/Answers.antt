@@ -7,7 +7,7 @@ use Rattle.adb_history.specs.Rows.{State}
 use Rattle.adb_rules.specs.Fit.{Makes}
 use Rattle.adb_rules.specs.Tables.{state_of}
 use Rattle.adb_hub.proofs.Standing.{stands_for}
-use Rattle.adb_hub.proofs.Steps.{Called, IsPlugged, plugged_by, attach_called, called_sound, called_lawful, called_allowed}
+use Rattle.adb_hub.proofs.Steps.{Called, plugged_by, attach_called, called_sound, called_lawful, called_allowed}
 use Rattle.adb_hub.proofs.hub.Hub.attach.Goals as goal
 
 called : (c : goal.In_ok-attach)
@@ -31,10 +31,9 @@ returns-clause-attached c h lawful =
     let t = c.self.inside.tables in
     let e = Attach (t.devices.drawn + 1) c.args.kind c.args.serial.now in
     let before = subst (λ (k : Kept). IsLawful k h) (sym c.self.view_is) lawful in
-    let is : t.devices.drawn + 1 ≡ (state h).devices.drawn + 1 = ap (λ (s : State). s.devices.drawn + 1) (stands_for t h c.self.invariant before) in
-    (
+    let is : t.devices.drawn + 1 ≡ (state h).devices.drawn + 1 = ap (λ (s : State). s.devices.drawn + 1) (stands_for t h c.self.invariant before) in (
       called_allowed e t c.attach.new.tables (called c) h before,
       subst (λ (k : ℕ). IsLawful (kept (state_of c.attach.new.tables)) (Attach k c.args.kind c.args.serial.now ∷ h)) is
-      (called_lawful e t c.attach.new.tables (called c) h before),
-      c.in_ok-attach.ensures.id ∙ is
+          (called_lawful e t c.attach.new.tables (called c) h before),
+      c.in_ok-attach.ensures.id ∙ is,
     )

@@ -27,9 +27,8 @@ returns-clause-entered c h lawful =
     let called = enter_called n t c.enter.new.tables c.self.invariant c.in_ok-client.ensures.fits next c.args.port c.requires c.ranges.port.fits c.in_ok-enter.ensures.made in
     let before = subst (λ (k : Kept). IsLawful k h) (sym c.self.view_is) lawful in
     let is : n ≡ (state h).joined + 1 = next.is ∙ ap (λ (s : State). s.joined + 1) (stands_for t h c.self.invariant before) in
-    let after = called_lawful (Enter n c.args.port) t c.enter.new.tables called h before in
-    (
+    let after = called_lawful (Enter n c.args.port) t c.enter.new.tables called h before in (
       called_allowed (Enter n c.args.port) t c.enter.new.tables called h before,
       subst (λ (k : ℕ). IsLawful (kept (state_of c.enter.new.tables)) (Enter k c.args.port ∷ h)) is after,
-      is
+      is,
     )

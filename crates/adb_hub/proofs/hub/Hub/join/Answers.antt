@@ -27,9 +27,8 @@ returns-clause-joined c h lawful =
     let called = join_called n t c.join.new.tables c.self.invariant c.in_ok-client.ensures.fits next c.in_ok-join.ensures.made in
     let before = subst (λ (k : Kept). IsLawful k h) (sym c.self.view_is) lawful in
     let is : n ≡ (state h).joined + 1 = next.is ∙ ap (λ (s : State). s.joined + 1) (stands_for t h c.self.invariant before) in
-    let after = called_lawful (Join n) t c.join.new.tables called h before in
-    (
+    let after = called_lawful (Join n) t c.join.new.tables called h before in (
       called_allowed (Join n) t c.join.new.tables called h before,
       subst (λ (k : ℕ). IsLawful (kept (state_of c.join.new.tables)) (Join k ∷ h)) is after,
-      is
+      is,
     )

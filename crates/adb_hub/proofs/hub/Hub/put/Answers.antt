@@ -1,4 +1,4 @@
-use Rattle.std.proofs.Common.{ℕ, ◌∷◌, ◌≡◌, ◌<◌, List, Option, Ok, Some, None, sym, ◌∙◌, ap, subst}
+use Rattle.std.proofs.Common.{ℕ, ◌≡◌, ◌<◌, List, Option, Ok, Some, None, sym, ◌∙◌, ap, subst}
 use Rattle.std.specs.Prelude.{All}
 use Rattle.adb_capture.specs.declared.entry.Entry.TheVariants.{Put}
 use Rattle.adb_history.specs.Accepted.{is_drawn}
@@ -44,11 +44,10 @@ returns-in-Some-clause-put c h lawful =
     let called = put_called n bytes t c.put.new.tables c.self.invariant are known (may_put c.args.max (state_of t) ((state_of t).clients n) bytes front) made in
     let before = subst (λ (k : Kept). IsLawful k h) (sym c.self.view_is) lawful in
     let after = called_lawful (Put n bytes) t c.put.new.tables called h before in
-    let is = stands_for t h c.self.invariant before in
-    (
+    let is = stands_for t h c.self.invariant before in (
       called_allowed (Put n bytes) t c.put.new.tables called h before,
       bytes_put c.args.max (state h) ((state h).clients n) (Put n) h bytes c.args.self.now (kept (state_of c.put.new.tables))
-      (subst (λ (x : State). IsFront c.args.max (answers.offered_to x.devices (x.clients n)) (Some bytes)) is front) after
+          (subst (λ (x : State). IsFront c.args.max (answers.offered_to x.devices (x.clients n)) (Some bytes)) is front) after,
     )
 
 pub returns-in-None-clause-put : goal.returns-in-None-clause-put
@@ -64,11 +63,10 @@ returns-in-None-clause-put c h lawful =
     let is = stands_for t h c.self.invariant before in
     let same = same_kept t c.put.new.tables keeps in
     let life = c.client_life.ensures h (subst (λ (k : Kept). IsLawful k h) (sym same) before) in
-    let told = c.nothing.ensures ∙ ap (handed_as None) life in
-    (
+    let told = c.nothing.ensures ∙ ap (handed_as None) life in (
       ap (λ (s : State). unless_drawn (is_drawn s.joined n) (NoClient n)) (sym is) ∙ ap (λ b. unless_drawn b (NoClient n)) known.is,
       subst (λ (x : _). HandsOut (Put n) c.args.max (hub.offered_to (state h).devices ((state h).clients n)) x h c.args.self.now (kept (state_of c.put.new.tables))) (sym told)
-      (nothing_put c.args.max (state h) ((state h).clients n) (Put n) h c.args.self.now (kept (state_of c.put.new.tables)) (subst (λ (x : State). IsFront c.args.max (answers.offered_to x.devices (x.clients n)) (None)) is front) (same ∙ c.self.view_is))
+          (nothing_put c.args.max (state h) ((state h).clients n) (Put n) h c.args.self.now (kept (state_of c.put.new.tables)) (subst (λ (x : State). IsFront c.args.max (answers.offered_to x.devices (x.clients n)) (None)) is front) (same ∙ c.self.view_is)),
     )
 
 pub returns-in-Some-clause-form : goal.returns-in-Some-clause-form

@@ -1,4 +1,4 @@
-use Rattle.std.proofs.Common.{ℕ, ◌∷◌, ◌≡◌, ◌<◌, List, Option, Ok, Some, None, sym, ◌∙◌, ap, subst}
+use Rattle.std.proofs.Common.{ℕ, ◌≡◌, ◌<◌, List, Option, Ok, Some, None, sym, ◌∙◌, ap, subst}
 use Rattle.std.specs.Prelude.{All}
 use Rattle.adb_capture.specs.declared.entry.Entry.TheVariants.{Send}
 use Rattle.adb_history.specs.Accepted.{is_drawn}
@@ -44,11 +44,10 @@ returns-in-Some-clause-sent c h lawful =
     let called = send_called n bytes t c.send.new.tables c.self.invariant are known (may_send c.args.max ((state_of t).links n) bytes front) made in
     let before = subst (λ (k : Kept). IsLawful k h) (sym c.self.view_is) lawful in
     let after = called_lawful (Send n bytes) t c.send.new.tables called h before in
-    let is = stands_for t h c.self.invariant before in
-    (
+    let is = stands_for t h c.self.invariant before in (
       called_allowed (Send n bytes) t c.send.new.tables called h before,
       bytes_sent c.args.max ((state h).links n) (Send n) h bytes c.args.self.now (kept (state_of c.send.new.tables))
-      (subst (λ (x : State). IsFront c.args.max (answers.due_on (x.links n)) (Some bytes)) is front) after
+          (subst (λ (x : State). IsFront c.args.max (answers.due_on (x.links n)) (Some bytes)) is front) after,
     )
 
 pub returns-in-None-clause-sent : goal.returns-in-None-clause-sent
@@ -64,11 +63,10 @@ returns-in-None-clause-sent c h lawful =
     let is = stands_for t h c.self.invariant before in
     let same = same_kept t c.send.new.tables keeps in
     let life = c.link_life.ensures h (subst (λ (k : Kept). IsLawful k h) (sym same) before) in
-    let told = c.nothing.ensures ∙ ap (handed_as None) life in
-    (
+    let told = c.nothing.ensures ∙ ap (handed_as None) life in (
       ap (λ (s : State). unless_drawn (is_drawn s.devices.drawn n) (NoLink n)) (sym is) ∙ ap (λ b. unless_drawn b (NoLink n)) known.is,
       subst (λ (x : _). HandsOut (Send n) c.args.max (hub.due_on ((state h).links n)) x h c.args.self.now (kept (state_of c.send.new.tables))) (sym told)
-      (nothing_sent c.args.max ((state h).links n) (Send n) h c.args.self.now (kept (state_of c.send.new.tables)) (subst (λ (x : State). IsFront c.args.max (answers.due_on (x.links n)) (None)) is front) (same ∙ c.self.view_is))
+          (nothing_sent c.args.max ((state h).links n) (Send n) h c.args.self.now (kept (state_of c.send.new.tables)) (subst (λ (x : State). IsFront c.args.max (answers.due_on (x.links n)) (None)) is front) (same ∙ c.self.view_is)),
     )
 
 pub returns-in-Some-clause-form : goal.returns-in-Some-clause-form

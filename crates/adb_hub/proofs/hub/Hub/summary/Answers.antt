@@ -1,5 +1,5 @@
-use Rattle.std.proofs.Common.{ℕ, ◌≡◌, ◌≤◌, sym, ◌∙◌, ap, subst, arith, length}
-use Rattle.adb_outside.specs.Tables.{listed, IsRising}
+use Rattle.std.proofs.Common.{ℕ, ◌≡◌, sym, ◌∙◌, ap, arith, length}
+use Rattle.adb_outside.specs.Tables.{IsRising}
 use Rattle.adb_history.specs.Kept.{Kept, kept}
 use Rattle.adb_rules.specs.declared.tables.Tables.{Tables}
 use Rattle.adb_rules.specs.Tables.{client_row, link_row, state_of}
@@ -54,5 +54,5 @@ returns c =
     same_summary c.count.result c.count-2.result c.count-3.result (kept (state_of t)) (
       c.count.ensures ∙ (c.len.ensures.len ∙ clients t c.self.invariant c.len.ensures.ordered),
       c.count-2.ensures ∙ (c.len-2.ensures.len ∙ links t c.self.invariant c.len-2.ensures.ordered),
-      c.count-3.ensures ∙ (c.len-3.ensures.count ∙ streams t c.self.invariant c.len-3.ensures.sound.rises)
+      c.count-3.ensures ∙ (c.len-3.ensures.count ∙ streams t c.self.invariant c.len-3.ensures.sound.rises),
     ) ∙ known
