@@ -1,5 +1,6 @@
 -- What a hub's call answers when it made its entry.
-use Rattle.std.proofs.Common.{ℕ, ◌+◌, ◌-◌, ◌^◌, ◌/◌, ◌%◌, ◌≡◌, ◌≢◌, ◌<◌, ◌≤◌, Bool, true, false, cond, List, [], ◌∷◌, ◌++◌, length, take, drop, Option, Some, None, Ok, Err, refl, sym, ◌∙◌, ap, subst, arith}
+use Rattle.std.proofs.Common.{ℕ, ◌+◌, ◌-◌, ◌^◌, ◌/◌, ◌%◌, ◌≡◌, ◌≢◌, ◌<◌, ◌≤◌, Bool, true, false, cond, List, []}
+use Rattle.std.proofs.Common.{◌∷◌, ◌++◌, length, take, drop, Option, Some, None, Ok, Err, refl, sym, ◌∙◌, ap, subst, arith}
 use Rattle.std.specs.Prelude.{◌==◌, ◌&&◌, nat_lt, nat_le, is_some, option_map, MatchOption, All}
 use Rattle.std.proofs.lemmas.List.Elements.{All-cons, All-nil}
 use Rattle.std.proofs.lemmas.List.{take-append-drop, length-take}
@@ -307,7 +308,8 @@ a_letter Usb = omega arith
 a_letter Local = omega arith
 
 -- a device that comes
-pub attach_called : (kind : Kind) (serial : List ℕ) (old new : Tables) → IsSound old → IsPlugged serial old → Makes (Attach (old.devices.drawn + 1) kind serial) old new
+pub attach_called : (kind : Kind) (serial : List ℕ) (old new : Tables) → IsSound old → IsPlugged serial old → Makes
+    (Attach (old.devices.drawn + 1) kind serial) old new
     → Called (Attach (old.devices.drawn + 1) kind serial) old new
 attach_called kind serial old new sound plugged made = record {
   sound = sound;

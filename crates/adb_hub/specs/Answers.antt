@@ -1,5 +1,6 @@
 -- What the calls of a hub answer, over a history that it holds.
-use Rattle.std.specs.Prelude.{ℕ, ◌+◌, ◌-◌, ◌≤◌, ◌<◌, All, ◌^◌, ◌==◌, ◌≡◌, ◌≢◌, Bool, true, false, if◌then◌else◌, nat_le, List, [], ◌∷◌, length, take, Option, Some, None, Result, Ok, Err, option_map}
+use Rattle.std.specs.Prelude.{ℕ, ◌+◌, ◌-◌, ◌≤◌, ◌<◌, All, ◌^◌, ◌==◌, ◌≡◌, ◌≢◌, Bool, true, false}
+use Rattle.std.specs.Prelude.{if◌then◌else◌, nat_le, List, [], ◌∷◌, length, take, Option, Some, None, Result, Ok, Err, option_map}
 use Rattle.adb_registry.specs.Registry.{DeviceTable}
 use Rattle.adb_client.specs.declared.phase.Phase.{Phase}
 use Rattle.adb_client.specs.declared.phase.Phase.TheVariants.{Binding, Closing, Gone}

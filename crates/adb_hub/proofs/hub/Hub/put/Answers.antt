@@ -65,11 +65,16 @@ returns-in-None-clause-put c h lawful =
     let life = c.client_life.ensures h (subst (λ (k : Kept). IsLawful k h) (sym same) before) in
     let told = c.nothing.ensures ∙ ap (handed_as None) life in (
       ap (λ (s : State). unless_drawn (is_drawn s.joined n) (NoClient n)) (sym is) ∙ ap (λ b. unless_drawn b (NoClient n)) known.is,
-      subst (λ (x : _). HandsOut (Put n) c.args.max (hub.offered_to (state h).devices ((state h).clients n)) x h c.args.self.now (kept (state_of c.put.new.tables))) (sym told)
-          (nothing_put c.args.max (state h) ((state h).clients n) (Put n) h c.args.self.now (kept (state_of c.put.new.tables)) (subst (λ (x : State). IsFront c.args.max (answers.offered_to x.devices (x.clients n)) (None)) is front) (same ∙ c.self.view_is)),
+      subst (λ (x : _). HandsOut (Put n) c.args.max (hub.offered_to (state h).devices ((state h).clients n)) x h c.args.self.now
+          (kept (state_of c.put.new.tables))) (sym told)
+          (nothing_put c.args.max (state h) ((state h).clients n) (Put n) h c.args.self.now (kept (state_of c.put.new.tables))
+              (subst (λ (x : State). IsFront c.args.max (answers.offered_to x.devices (x.clients n)) (None)) is front) (same ∙ c.self.view_is)),
     )
 
 pub returns-in-Some-clause-form : goal.returns-in-Some-clause-form
 returns-in-Some-clause-form c =
-    let front = subst (λ (o : Option (List ℕ)). IsFront c.args.max (answers.offered_to c.self.inside.tables.devices ((state_of c.self.inside.tables).clients c.args.client)) o) c.in-Some.is c.in_ok-bytes.ensures.bytes in
-    (short_front c.args.max (answers.offered_to c.self.inside.tables.devices ((state_of c.self.inside.tables).clients c.args.client)) c.in-Some.bytes front, subst (All (λ b. b < 256)) c.as_slice.ensures c.are_bytes.ensures)
+    let t = c.self.inside.tables in
+    let n = c.args.client in
+    let due = answers.offered_to t.devices ((state_of t).clients n) in
+    let front = subst (λ (o : Option (List ℕ)). IsFront c.args.max due o) c.in-Some.is c.in_ok-bytes.ensures.bytes in
+    (short_front c.args.max due c.in-Some.bytes front, subst (All (λ b. b < 256)) c.as_slice.ensures c.are_bytes.ensures)

@@ -66,10 +66,14 @@ returns-in-None-clause-sent c h lawful =
     let told = c.nothing.ensures ∙ ap (handed_as None) life in (
       ap (λ (s : State). unless_drawn (is_drawn s.devices.drawn n) (NoLink n)) (sym is) ∙ ap (λ b. unless_drawn b (NoLink n)) known.is,
       subst (λ (x : _). HandsOut (Send n) c.args.max (hub.due_on ((state h).links n)) x h c.args.self.now (kept (state_of c.send.new.tables))) (sym told)
-          (nothing_sent c.args.max ((state h).links n) (Send n) h c.args.self.now (kept (state_of c.send.new.tables)) (subst (λ (x : State). IsFront c.args.max (answers.due_on (x.links n)) (None)) is front) (same ∙ c.self.view_is)),
+          (nothing_sent c.args.max ((state h).links n) (Send n) h c.args.self.now (kept (state_of c.send.new.tables))
+              (subst (λ (x : State). IsFront c.args.max (answers.due_on (x.links n)) (None)) is front) (same ∙ c.self.view_is)),
     )
 
 pub returns-in-Some-clause-form : goal.returns-in-Some-clause-form
 returns-in-Some-clause-form c =
-    let front = subst (λ (o : Option (List ℕ)). IsFront c.args.max (answers.due_on ((state_of c.self.inside.tables).links c.args.link)) o) c.in-Some.is c.in_ok-bytes.ensures.bytes in
-    (short_front c.args.max (answers.due_on ((state_of c.self.inside.tables).links c.args.link)) c.in-Some.bytes front, subst (All (λ b. b < 256)) c.as_slice.ensures c.are_bytes.ensures)
+    let t = c.self.inside.tables in
+    let n = c.args.link in
+    let due = answers.due_on ((state_of t).links n) in
+    let front = subst (λ (o : Option (List ℕ)). IsFront c.args.max due o) c.in-Some.is c.in_ok-bytes.ensures.bytes in
+    (short_front c.args.max due c.in-Some.bytes front, subst (All (λ b. b < 256)) c.as_slice.ensures c.are_bytes.ensures)

@@ -10,5 +10,7 @@ use Rattle.adb_top.proofs.machine.Machine.send.Goals as goal
 pub returns-clause-sent : goal.returns-clause-sent
 returns-clause-sent c h lawful =
     let before = subst (λ (k : Kept). IsLawful k h) (sym c.self.view_is) lawful in
-    let made = sends h c.self.inside.hub c.send.new.self before c.args.link ((state h).links c.args.link) c.in-Ok.handed (c.in-Ok.ensures.sent h before).1 in
-    subst (λ (out : Option Entry). (out ≡ send_on c.args.link ((state h).links c.args.link)) × IsLawful c.send.new.self (after_out out h)) (sym c.send_of.ensures) made
+    let row = (state h).links c.args.link in
+    let given = (c.in-Ok.ensures.sent h before).1 in
+    let made = sends h c.self.inside.hub c.send.new.self before c.args.link row c.in-Ok.handed given in
+    subst (λ (out : Option Entry). (out ≡ send_on c.args.link row) × IsLawful c.send.new.self (after_out out h)) (sym c.send_of.ensures) made
