@@ -14,3 +14,4 @@ pub mod Standing
 pub mod Rules
 pub mod Quiet
 pub mod Acks
+pub mod Allowed

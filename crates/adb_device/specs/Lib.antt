@@ -5,3 +5,4 @@ pub mod Behind
 pub mod Daemon
 pub mod Link
 pub mod Streams
+pub mod Allowed

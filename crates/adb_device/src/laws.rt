@@ -1,14 +1,18 @@
 //! What holds of a model device behind any packets of its host. Each function does nothing: its
 //! contract is the law.
 
-ghost use Rattle.std.specs.Prelude.{◌≡◌, ◌<◌, ◌++◌, ℕ, List, Some, Err};
+ghost use Rattle.std.specs.Prelude.{◌≡◌, ◌<◌, ◌≤◌, ◌+◌, ◌++◌, ℕ, List, length, Some, Err};
 ghost use Rattle.adb_outside.specs.Tables.{at};
 ghost use Rattle.adb_wire.specs.declared.packets.Packet.{Packet};
 ghost use Rattle.adb_daemon.specs.Stream.{Row};
 ghost use Rattle.adb_daemon.specs.declared.link.Link.{Link};
 ghost use Rattle.adb_wire.specs.Header.{IsBytes};
+ghost use Rattle.adb_wire.specs.Cutting.{parts_of};
 ghost use Rattle.adb_device.specs.declared.error.DaemonError.{DaemonError};
-ghost use Rattle.adb_device.specs.Daemon.{answer_to};
+ghost use Rattle.adb_device.specs.declared.daemon.Daemon.{Daemon};
+ghost use Rattle.adb_device.specs.Serving.{sent_bytes};
+ghost use Rattle.adb_device.specs.Daemon.{HasDone, HasDoneFront, answer_to, owed};
+ghost use Rattle.adb_device.specs.Allowed.{let_out};
 ghost use Rattle.adb_device.specs.Device.{Setting, device_behind};
 ghost use Rattle.adb_device.specs.Streams.{Writes, IsAcked, HasSettled, over_at};
 
@@ -38,6 +42,23 @@ pub fn streams_are_settled()
         → (device_behind setting packets).link ≡ Some link
         → at own (device_behind setting packets).serving.rows ≡ Some row
         → HasSettled link.most row }
+{}
+
+/// A device holds no more for its host than that let out, whether it reads or not: all that was
+/// taken and is out is at most the device's own CNXN and what each packet of the host lets become
+/// due. An OPEN and a WRTE are answered; an OPEN and an OKAY let their stream write, on a plain
+/// link one write and else their credit; and each of the three may end its stream. It is so too
+/// after want of memory.
+pub fn what_is_owed_was_let_out()
+    ensures due { (setting : Setting) (packets : List Packet)
+        → length (sent_bytes (device_behind setting packets).serving.made)
+        ≤ let_out setting packets }
+    ensures owed { (setting : Setting) (fed taken : List ℕ) (daemon : Daemon)
+        → HasDone setting fed taken daemon
+        → length taken + length (owed daemon) ≤ let_out setting (parts_of fed).packets }
+    ensures front { (setting : Setting) (fed taken : List ℕ) (daemon : Daemon)
+        → HasDoneFront setting fed taken daemon
+        → length taken + length (owed daemon) ≤ let_out setting (parts_of fed).packets }
 {}
 
 /// The refusal of a CNXN and a fault of the bytes stay, whatever follows.

@@ -14,5 +14,6 @@ mod tests;
 pub use daemon::Daemon;
 pub use error::DaemonError;
 pub use laws::{
-    refusals_stay, streams_are_settled, streams_write_their_answers, writes_are_acknowledged,
+    refusals_stay, streams_are_settled, streams_write_their_answers, what_is_owed_was_let_out,
+    writes_are_acknowledged,
 };

@@ -1,8 +1,8 @@
-//! What no clause says: the bytes of sessions on each kind of link, each refusal once, and a push
-//! and a pull through packets in pieces.
+//! What no clause says: the bytes of sessions on each kind of link, each fault once, each command
+//! of a shell and each refusal of it in both modes, and a push and a pull through packets in pieces.
 
 use crate::{Daemon, DaemonError};
-use adb_files::Files;
+use adb_files::{File, Files};
 use adb_outside::Text;
 use adb_wire::{Command, Deframer, HeadFault, Packet, WireError, frame};
 use std::alloc::Global;
@@ -81,15 +81,34 @@ const PLAIN_LINK: [(&[u8], &[u8]); 8] = [
     ),
 ];
 
+/// What a host sends on a link with credit in bytes, and what the device owes then.
+const CREDIT_LINK: [(&[u8], &[u8]); 3] = [
+    (HOST, b""),
+    (
+        b"OPEN\x01\0\0\0\0\0\x04\0\x06\0\0\0\0\0\0\0\xb0\xaf\xba\xb1echo:\0",
+        b"OKAY\x01\0\0\0\x01\0\0\0\x04\0\0\0\0\0\0\0\xb0\xb4\xbe\xa6\0\0\x04\0",
+    ),
+    (
+        b"WRTE\x01\0\0\0\x01\0\0\0\x03\0\0\0\0\0\0\0\xa8\xad\xab\xbaabc",
+        b"OKAY\x01\0\0\0\x01\0\0\0\x04\0\0\0\0\0\0\0\xb0\xb4\xbe\xa6\x03\0\0\0\
+        WRTE\x01\0\0\0\x01\0\0\0\x03\0\0\0\0\0\0\0\xa8\xad\xab\xbaabc",
+    ),
+];
+
 #[test]
-fn shell_v2_packets(rt: HostRuntime) -> Result<(), Fail> {
+fn links_answer_byte_for_byte(rt: HostRuntime) -> Result<(), Fail> {
     let alloc = rt.alloc();
-    let mut daemon = Daemon::plain(alloc, Files::new(alloc), 4096)?;
-    taken_once(&rt, &mut daemon, PLAIN_CNXN);
+    let mut plain = Daemon::plain(alloc, Files::new(alloc), 4096)?;
+    taken_once(&rt, &mut plain, PLAIN_CNXN);
     for (bytes, owed) in &PLAIN_LINK {
-        assert_owes(&rt, &mut daemon, bytes, owed);
+        assert_owes(&rt, &mut plain, bytes, owed);
     }
-    assert!(rt; daemon.files().get(b"/a").is_none());
+    let mut credit = Daemon::new(alloc, Files::new(alloc), 4096)?;
+    taken_once(&rt, &mut credit, CREDIT_CNXN);
+    for (bytes, owed) in &CREDIT_LINK {
+        assert_owes(&rt, &mut credit, bytes, owed);
+    }
+    assert!(rt; credit.files().get(b"/a").is_none());
     Ok(())
 }
 
@@ -107,28 +126,6 @@ fn faults_stay(rt: HostRuntime) -> Result<(), Fail> {
     let cnxn = b"CNXN\x01\0\0\x01\xff\x0f\0\0\x06\0\0\0\0\0\0\0\xbc\xb1\xa7\xb1host::";
     assert!(rt; refused.feed(cnxn) == Err(DaemonError::BadCnxn));
     assert!(rt; refused.feed(PLAIN_HOST) == Err(DaemonError::BadCnxn));
-    Ok(())
-}
-
-#[test]
-fn credit_is_given_and_given_back(rt: HostRuntime) -> Result<(), Fail> {
-    let alloc = rt.alloc();
-    let mut daemon = Daemon::new(alloc, Files::new(alloc), 4096)?;
-    taken_once(&rt, &mut daemon, CREDIT_CNXN);
-    assert_owes(&rt, &mut daemon, HOST, b"");
-    assert_owes(
-        &rt,
-        &mut daemon,
-        b"OPEN\x01\0\0\0\0\0\x04\0\x06\0\0\0\0\0\0\0\xb0\xaf\xba\xb1echo:\0",
-        b"OKAY\x01\0\0\0\x01\0\0\0\x04\0\0\0\0\0\0\0\xb0\xb4\xbe\xa6\0\0\x04\0",
-    );
-    assert_owes(
-        &rt,
-        &mut daemon,
-        b"WRTE\x01\0\0\0\x01\0\0\0\x03\0\0\0\0\0\0\0\xa8\xad\xab\xbaabc",
-        b"OKAY\x01\0\0\0\x01\0\0\0\x04\0\0\0\0\0\0\0\xb0\xb4\xbe\xa6\x03\0\0\0\
-        WRTE\x01\0\0\0\x01\0\0\0\x03\0\0\0\0\0\0\0\xa8\xad\xab\xbaabc",
-    );
     Ok(())
 }
 
@@ -234,6 +231,190 @@ fn a_file_is_pushed_and_pulled(rt: HostRuntime) -> Result<(), Fail> {
         let mut credit = Daemon::new(alloc, Files::new(alloc), 4096)?;
         assert!(rt; credit.feed(HOST).is_ok());
         push_and_pull(&rt, alloc, &mut credit, true, most);
+    }
+    Ok(())
+}
+
+/// A command, and what it writes to a stream of bytes and to one of packets. Each is run over what
+/// those before it left of the files `/a` and `/d/f`.
+const COMMANDS: [(&[u8], &[u8], &[u8]); 33] = [
+    (b"", b"", b"\x03\x01\0\0\0\0"),
+    (b"   ", b"", b"\x03\x01\0\0\0\0"),
+    (b"echo", b"\n", b"\x01\x01\0\0\0\n\x03\x01\0\0\0\0"),
+    (
+        b"  echo  a   b ",
+        b"a b\n",
+        b"\x01\x04\0\0\0a b\n\x03\x01\0\0\0\0",
+    ),
+    (b"cat", b"", b"\x01\x02\0\0\0in\x03\x01\0\0\0\0"),
+    (b"cat /a", b"hi", b"\x01\x02\0\0\0hi\x03\x01\0\0\0\0"),
+    (
+        b"cat /",
+        b"cat: is a directory\n",
+        b"\x02\x14\0\0\0cat: is a directory\n\x03\x01\0\0\0\x01",
+    ),
+    (
+        b"cat a",
+        b"cat: bad path\n",
+        b"\x02\x0e\0\0\0cat: bad path\n\x03\x01\0\0\0\x01",
+    ),
+    (
+        b"cat /n",
+        b"cat: no such file\n",
+        b"\x02\x12\0\0\0cat: no such file\n\x03\x01\0\0\0\x01",
+    ),
+    (
+        b"cat /a /a",
+        b"cat: bad words\n",
+        b"\x02\x0f\0\0\0cat: bad words\n\x03\x01\0\0\0\x02",
+    ),
+    (b"ls /", b"a\nd\n", b"\x01\x04\0\0\0a\nd\n\x03\x01\0\0\0\0"),
+    (b"ls /a", b"/a\n", b"\x01\x03\0\0\0/a\n\x03\x01\0\0\0\0"),
+    (
+        b"ls /n",
+        b"ls: no such file\n",
+        b"\x02\x11\0\0\0ls: no such file\n\x03\x01\0\0\0\x01",
+    ),
+    (
+        b"ls a",
+        b"ls: bad path\n",
+        b"\x02\x0d\0\0\0ls: bad path\n\x03\x01\0\0\0\x01",
+    ),
+    (
+        b"ls",
+        b"ls: bad words\n",
+        b"\x02\x0e\0\0\0ls: bad words\n\x03\x01\0\0\0\x02",
+    ),
+    (
+        b"ls / /",
+        b"ls: bad words\n",
+        b"\x02\x0e\0\0\0ls: bad words\n\x03\x01\0\0\0\x02",
+    ),
+    (
+        b"rm /d",
+        b"rm: is a directory\n",
+        b"\x02\x13\0\0\0rm: is a directory\n\x03\x01\0\0\0\x01",
+    ),
+    (
+        b"rm a",
+        b"rm: bad path\n",
+        b"\x02\x0d\0\0\0rm: bad path\n\x03\x01\0\0\0\x01",
+    ),
+    (
+        b"rm /n",
+        b"rm: no such file\n",
+        b"\x02\x11\0\0\0rm: no such file\n\x03\x01\0\0\0\x01",
+    ),
+    (
+        b"rm",
+        b"rm: bad words\n",
+        b"\x02\x0e\0\0\0rm: bad words\n\x03\x01\0\0\0\x02",
+    ),
+    (
+        b"rm /a /a",
+        b"rm: bad words\n",
+        b"\x02\x0e\0\0\0rm: bad words\n\x03\x01\0\0\0\x02",
+    ),
+    (b"exit 0", b"", b"\x03\x01\0\0\0\0"),
+    (b"exit 255", b"", b"\x03\x01\0\0\0\xff"),
+    (
+        b"exit 256",
+        b"exit: bad words\n",
+        b"\x02\x10\0\0\0exit: bad words\n\x03\x01\0\0\0\x02",
+    ),
+    (
+        b"exit 07",
+        b"exit: bad words\n",
+        b"\x02\x10\0\0\0exit: bad words\n\x03\x01\0\0\0\x02",
+    ),
+    (
+        b"exit",
+        b"exit: bad words\n",
+        b"\x02\x10\0\0\0exit: bad words\n\x03\x01\0\0\0\x02",
+    ),
+    (
+        b"exit 1 2",
+        b"exit: bad words\n",
+        b"\x02\x10\0\0\0exit: bad words\n\x03\x01\0\0\0\x02",
+    ),
+    (
+        b"nope /a",
+        b"nope: not found\n",
+        b"\x02\x10\0\0\0nope: not found\n\x03\x01\0\0\0\x7f",
+    ),
+    (b"rm /a", b"", b"\x03\x01\0\0\0\0"),
+    (
+        b"rm /a",
+        b"rm: no such file\n",
+        b"\x02\x11\0\0\0rm: no such file\n\x03\x01\0\0\0\x01",
+    ),
+    (b"cat /d/f", b"hi", b"\x01\x02\0\0\0hi\x03\x01\0\0\0\0"),
+    (b"rm /d/f", b"", b"\x03\x01\0\0\0\0"),
+    (b"ls /", b"", b"\x03\x01\0\0\0\0"),
+];
+
+/// What every command is written: a packet of input, and the close of it.
+const INPUT: &[u8] = b"\0\x02\0\0\0in\x04\0\0\0\0";
+
+/// A device with the files `/a` and `/d/f`, of two bytes each, and a host that gives credit.
+fn device_with_files(rt: &impl Abort, alloc: Global) -> Daemon {
+    let mut files = Files::new(alloc);
+    for path in [b"/a".as_slice(), b"/d/f"] {
+        let file = File {
+            mode: 33_188,
+            mtime: 1,
+            bytes: Text::from_slice(alloc, b"hi").expect(rt, "memory"),
+        };
+        files.put(path, file).expect(rt, "a place");
+    }
+    let mut daemon = Daemon::new(alloc, files, 4096).expect(rt, "memory");
+    assert!(rt; daemon.feed(HOST).is_ok());
+    daemon
+}
+
+/// A stream of the device's id is opened and written to, and this is all that it writes. It is
+/// closed then, so that the host may use its id anew.
+fn assert_writes(rt: &impl Abort, alloc: Global, daemon: &mut Daemon, own: u32, answer: &[u8]) {
+    let input = spelled(rt, alloc, Command::Wrte, own, INPUT);
+    assert!(rt; daemon.feed(input.as_slice()).is_ok());
+    let mut wrote = Text::new(alloc);
+    hear(
+        rt,
+        alloc,
+        daemon,
+        &mut Deframer::new(alloc),
+        &mut wrote,
+        true,
+    );
+    assert!(rt; wrote.as_slice() == answer, "{own}");
+}
+
+/// Opens the service of a prefix and a command.
+fn open_command(
+    rt: &impl Abort,
+    alloc: Global,
+    daemon: &mut Daemon,
+    prefix: &[u8],
+    command: &[u8],
+) {
+    let mut name = Text::from_slice(alloc, prefix).expect(rt, "memory");
+    name.push_slice(command).expect(rt, "memory");
+    let open = spelled(rt, alloc, Command::Open, 4096, name.as_slice());
+    assert!(rt; daemon.feed(open.as_slice()).is_ok());
+}
+
+#[test]
+fn commands_answer_in_both_modes(rt: HostRuntime) -> Result<(), Fail> {
+    let alloc = rt.alloc();
+    let mut bytes = device_with_files(&rt, alloc);
+    let mut packets = device_with_files(&rt, alloc);
+    let mut own: u32 = 0;
+    for (command, in_bytes, in_packets) in &COMMANDS {
+        own = own.saturating_add(1);
+        open_command(&rt, alloc, &mut bytes, b"shell:", command);
+        assert_writes(&rt, alloc, &mut bytes, own, in_bytes);
+        open_command(&rt, alloc, &mut packets, b"shell,v2,raw:", command);
+        assert_writes(&rt, alloc, &mut packets, own, in_packets);
     }
     Ok(())
 }

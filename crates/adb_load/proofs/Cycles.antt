@@ -8,7 +8,8 @@ pub cycle_more : (shift from step : ℕ) → cycle shift from (step + 1) ≡ cyc
 cycle_more shift from step = map-range_with_len_more (λ i. (i + shift) % 251) from step (from + step) refl
 
 -- the same behind the bytes so far
-pub one_more : (shift from step : ℕ) (so_far : List ℕ) → so_far ≡ cycle shift from step → so_far ++ (from + step + shift) % 251 ∷ [] ≡ cycle shift from (step + 1)
+pub one_more : (shift from step : ℕ) (so_far : List ℕ) → so_far ≡ cycle shift from step
+    → so_far ++ (from + step + shift) % 251 ∷ [] ≡ cycle shift from (step + 1)
 one_more shift from step so_far is = ap (λ front. front ++ (from + step + shift) % 251 ∷ []) is ∙ sym (cycle_more shift from step)
 
 pub cycle_length : (shift from count : ℕ) → length (cycle shift from count) ≡ count

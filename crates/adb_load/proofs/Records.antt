@@ -1,5 +1,6 @@
 -- Every entry of a load has a record.
-use Rattle.std.proofs.Common.{ℕ, ◌+◌, ◌*◌, ◌%◌, ◌^◌, ◌≡◌, ◌<◌, ◌≤◌, List, [], ◌∷◌, ◌++◌, length, refl, sym, arith, lit<, lit≤, get_or, nat_lt, true, subst, Result, Ok, Err}
+use Rattle.std.proofs.Common.{ℕ, ◌+◌, ◌*◌, ◌%◌, ◌^◌, ◌≡◌, ◌<◌, ◌≤◌, List, [], ◌∷◌, ◌++◌}
+use Rattle.std.proofs.Common.{length, refl, sym, arith, lit<, lit≤, get_or, nat_lt, true, subst, Result, Ok, Err}
 use Rattle.std.specs.Result.{IfOk}
 use Rattle.std.specs.List.{flat_map, list_all, range_with_len}
 use Rattle.std.specs.Prelude.{codes}
@@ -57,7 +58,8 @@ words_length : (words : List ℕ) → length (flat_map (little_bytes 4) words) �
 words_length [] = refl
 words_length (word ∷ words) = omega (arith, words_length words)
 
-pub packet_short : (command : Command) (arg0 arg1 : ℕ) (payload : List ℕ) → AreBytes payload → length payload ≤ 2 ^ 16 → IsShort (packet_of command arg0 arg1 payload)
+pub packet_short : (command : Command) (arg0 arg1 : ℕ) (payload : List ℕ) → AreBytes payload → length payload ≤ 2 ^ 16
+    → IsShort (packet_of command arg0 arg1 payload)
 packet_short command arg0 arg1 payload are small = record {
   bytes = joined_bytes (flat_map (little_bytes 4) words) payload (words_bytes words) are;
   size = omega (arith, length-append (flat_map (little_bytes 4) words) payload, words_length words);
@@ -95,7 +97,8 @@ link_small stream = omega (arith, mod-lt stream {m = 8} (omega arith))
 pub asked_short : (stream : ℕ) → IsShort (asked_of stream)
 asked_short stream = record {
   bytes = joined_bytes (codes "0013host:transport-id:" ++ decimal link) (codes "0005echo:")
-      (joined_bytes (codes "0013host:transport-id:") (decimal link) (literal_bytes (codes "0013host:transport-id:") refl) (decimal_bytes link (omega (arith, link_small stream))))
+      (joined_bytes (codes "0013host:transport-id:") (decimal link) (literal_bytes (codes "0013host:transport-id:") refl)
+      (decimal_bytes link (omega (arith, link_small stream))))
       (literal_bytes (codes "0005echo:") refl);
   size = omega (
     arith,

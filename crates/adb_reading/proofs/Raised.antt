@@ -1,25 +1,28 @@
 -- What the up rule leaves fit.
-use Rattle.std.proofs.Common.{ℕ, ◌+◌, ◌≡◌, ◌≢◌, ◌≤◌, ◌==◌, Bool, true, false, cond, Option, Some, None, sym, ◌∙◌, ap, subst, arith, length, ◌⊎◌, inl}
-use Rattle.std.proofs.Common.{inr}
-use Rattle.std.specs.Prelude.{option_map}
+use Rattle.std.proofs.Common.{ℕ, ◌+◌, ◌-◌, ◌≡◌, ◌≢◌, ◌≤◌, ◌==◌, Bool, true, false, cond, List}
+use Rattle.std.proofs.Common.{[], Option, Some, None, refl, sym, ◌∙◌, ap, subst, arith, length, ◌⊎◌, inl}
+use Rattle.std.proofs.Common.{inr, zero, suc, drop}
+use Rattle.std.specs.Prelude.{option_map, not}
 use Rattle.std.proofs.lemmas.Bool.{cases_eq}
+use Rattle.std.proofs.lemmas.Bool.Decides.{nat_tests}
 use Rattle.adb_outside.specs.Tables.{at}
 use Rattle.adb_link.specs.declared.link.TheConstants.{VERSION_WITH_SUMS}
 use Rattle.adb_client.specs.Client.{SeenClient}
 use Rattle.adb_stream.specs.declared.flow.Flow.{Flow}
+use Rattle.adb_stream.specs.declared.flow.Flow.TheVariants.{One, Credit}
 use Rattle.adb_stream.specs.declared.row.Stream.{Stream}
 use Rattle.adb_history.specs.Links.{maxdata_of}
-use Rattle.adb_history.specs.Flow.{up}
+use Rattle.adb_history.specs.Flow.{up, payloads, writes, write_len, write_before}
 use Rattle.adb_rules.specs.declared.ports.Port.{Port}
 use Rattle.adb_rules.specs.declared.tables.Tables.{Tables}
 use Rattle.adb_rules.specs.Tables.{state_of, link_row}
-use Rattle.adb_rules.specs.Places.{LinkRoom, StaysRead, IsProvided}
+use Rattle.adb_rules.specs.Places.{LinkRoom, StaysRead, IsProvided, Uses}
 use Rattle.adb_rules.specs.Handing.{HasRoom, UsesOf}
-use Rattle.adb_rules.specs.Up.{up_writes, is_for, IsCutFor, IsCutOf, writes_for, writes_of, writes_up, IsReadyUp}
+use Rattle.adb_rules.specs.Up.{up_writes, is_for, IsCutFor, IsCutOf, writes_for, writes_of, writes_up, IsReadyUp, all_unsent, held_at}
 use Rattle.adb_rules.specs.Fit.{IsFit, IsReadOutAt}
 use Rattle.adb_rules.proofs.Using.{provided_by, more_room}
 use Rattle.adb_reading.specs.Leaving.{HasPlaces}
-use Rattle.adb_reading.specs.Sending.{IsPreparedAt}
+use Rattle.adb_reading.specs.Sending.{IsPreparedAt, can_send, can_send_at}
 use Rattle.adb_reading.proofs.Sums.{up_sums, sums_at}
 
 -- ---- what was read of a link
@@ -73,6 +76,36 @@ raised_fit id old new fit room uses is = record {
   read_out = λ k. read_out (at k old.links.entries) (at k new.links.entries) (stays_read (writes_up id old) old new (at id old.streams.streams) uses k)
       (ap (sums_at k) is ∙ up_sums id (state_of old) k) (fit.read_out k);
 }
+
+-- a stream of which nothing can be sent
+pub idle_fit : (id : ℕ) (old new : Tables) → IsFit old → ((t c : ℕ) → Uses t 0 c 0 old new) → state_of new ≡ (up id (state_of old)).state → IsFit new
+idle_fit id old new fit uses is = record {
+  provided = provided_by old new uses fit.provided;
+  read_out = λ k. read_out (at k old.links.entries) (at k new.links.entries) ((uses 0 0).read k)
+      (ap (sums_at k) is ∙ up_sums id (state_of old) k) (fit.read_out k);
+}
+
+-- where a flow lets nothing go, no writes are made
+no_writes : (k maxdata : ℕ) (held : List ℕ) → writes k maxdata 0 held ≡ []
+no_writes zero maxdata held = refl
+no_writes (suc k) maxdata held =
+    let none : write_len maxdata 0 held ≡ 0 = omega arith in
+    ap (λ n. write_before n held (writes k maxdata (0 - write_len maxdata 0 held) (drop (write_len maxdata 0 held) held))) none
+
+none_of : (flow : Flow) (maxdata : ℕ) (held : List ℕ) → can_send flow ≡ false → payloads flow maxdata held ≡ []
+none_of (One window) maxdata held is = by_test window.outstanding is
+  where
+    by_test : (b : Bool) → not b ≡ false → cond b [] (writes 1 maxdata maxdata held) ≡ []
+    by_test true is = refl
+    by_test false is = absurd (let clash : true ≡ false = is in cc)
+none_of (Credit credit) maxdata held is =
+    let none : credit.to_send ≡ 0 = grind (arith, nat_tests) in
+    ap (λ n. writes (length held) maxdata n held) none ∙ no_writes (length held) maxdata held
+
+pub idle : (id : ℕ) (t : Tables) → can_send_at (at id t.streams.streams) ≡ false
+    → (stream : Stream) → at id t.streams.streams ≡ Some stream → all_unsent stream t ≡ []
+idle id t is stream here =
+    none_of stream.part.flow (maxdata_of stream.link t.devices) (held_at (at stream.client t.clients.entries)) (ap can_send_at (sym here) ∙ is)
 
 -- ---- what is ready
 few_writes : (id : ℕ) (flow : Flow) (maxdata writes : ℕ) (row : Option SeenClient) → IsPreparedAt writes flow maxdata row

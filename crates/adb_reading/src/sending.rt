@@ -1,21 +1,21 @@
 //! Bytes of a client that has its stream open: they go up.
 
-ghost use Rattle.std.specs.Prelude.{◌≡◌, ◌≤◌, List, ℕ, length, IfOk, IfSome, OnOk, OnErr, Some};
+ghost use Rattle.std.specs.Prelude.{◌≡◌, ◌≤◌, List, ℕ, length, IfOk, OnOk, OnErr, Some, false};
 ghost use Rattle.adb_outside.specs.Tables.{at};
 ghost use Rattle.adb_client.specs.Client.{SeenClient};
 ghost use Rattle.adb_history.specs.Flow.{up};
 ghost use Rattle.adb_rules.specs.Fit.{IsFit};
 ghost use Rattle.adb_rules.specs.Tables.{state_of, client_row};
 ghost use Rattle.adb_rules.specs.Tracked.{clients_of};
-ghost use Rattle.adb_rules.specs.Up.{IsReadyUp, IsSized, up_bytes, up_writes};
+ghost use Rattle.adb_rules.specs.Up.{IsReadyUp, IsSized};
 ghost use Rattle.adb_reading.specs.Leaving.{Leaves, IsPlaced, HoldsAtLeast};
 ghost use Rattle.adb_reading.specs.Taking.{takes_in};
-ghost use Rattle.adb_reading.specs.Sending.{IsPrepared, IsPreparedAt};
+ghost use Rattle.adb_reading.specs.Sending.{IsPrepared, IsPreparedAt, can_send, can_send_at};
 
 use crate::places::reserve_packets;
 use crate::taking::{take_back, take_in};
 use adb_client::Client;
-use adb_rules::Tables;
+use adb_rules::{Tables, up_bytes, up_writes};
 use adb_stream::{Flow, Stream};
 use std::alloc::AllocError;
 use std::collections::BTreeMap;
@@ -35,16 +35,60 @@ pub(crate) fn send(
     ensures kept { OnErr result (Leaves (state_of tables.old) tables.new) }
 {
     take_in(tables, client, piece)?;
-    match make_ready(tables, id) {
-        Ok(()) => {
-            go_up(tables, id);
-            Ok(())
-        }
+    match advance(tables, id) {
+        Ok(()) => Ok(()),
         Err(error) => {
             take_back(tables, client, piece.len());
             Err(error)
         }
     }
+}
+
+/// What is held of the client of a stream goes up, as far as the stream lets it. Where it lets
+/// nothing go now, nothing is made ready.
+fn advance(tables: &mut Tables, id: u32) -> Result<(), AllocError>
+    requires fit { IsFit tables.old }
+    requires sized { IsSized tables.old }
+    ensures made { OnOk result (Leaves (up id (state_of tables.old)).state tables.new) }
+    ensures kept { OnErr result (Leaves (state_of tables.old) tables.new) }
+    ensures held { OnErr result ((c n : ℕ) → HoldsAtLeast n (at c tables.old.clients.entries)
+        → HoldsAtLeast n (at c tables.new.clients.entries)) }
+{
+    if !can_send(tables, id) {
+        rest(tables, id);
+        return Ok(());
+    }
+    make_ready(tables, id)?;
+    go_up(tables, id);
+    Ok(())
+}
+
+/// Whether the stream of an id lets anything be sent now.
+fn can_send(tables: &Tables, id: u32) -> bool
+    ensures { result ≡ can_send_at (at id tables.now.streams.streams) }
+{
+    match tables.streams.get(id) {
+        Some(stream) => lets_go(&stream.part.flow),
+        None => false,
+    }
+}
+
+fn lets_go(flow: &Flow) -> bool
+    ensures { result ≡ can_send flow.now }
+{
+    match flow {
+        Flow::One(window) => window.can_write(),
+        Flow::Credit(credit) => credit.can_send() > 0,
+    }
+}
+
+/// The up rule for a stream that lets nothing be sent now.
+fn rest(tables: &mut Tables, id: u32)
+    requires fit { IsFit tables.old }
+    requires idle { can_send_at (at id tables.old.streams.streams) ≡ false }
+    ensures { Leaves (up id (state_of tables.old)).state tables.new }
+{
+    tables.close_idle(id);
 }
 
 /// What is held of the client of a stream goes up, as far as the stream lets it.
@@ -135,25 +179,4 @@ fn prepare_row(row: &mut Client, flow: &Flow, maxdata: usize) -> Result<usize, A
     };
     row.prepare_cuts(up_bytes(flow, maxdata, held), writes)?;
     Ok(writes)
-}
-
-/// How many of so many bytes a stream may send at once, at most.
-fn up_bytes(flow: &Flow, maxdata: usize, held: usize) -> usize
-    ensures bytes { result ≡ up_bytes flow.now maxdata held }
-    ensures within { result ≤ held }
-{
-    match flow {
-        Flow::One(_) => maxdata.min(held),
-        Flow::Credit(_) => held,
-    }
-}
-
-/// In how many writes at most, where that can be counted.
-fn up_writes(flow: &Flow, maxdata: usize, held: usize) -> Option<usize>
-    ensures { IfSome result (λ writes. writes ≡ up_writes flow.now maxdata held) }
-{
-    match flow {
-        Flow::One(_) => Some(1),
-        Flow::Credit(_) => held.checked_div(maxdata).unwrap_or(0).checked_add(1),
-    }
 }

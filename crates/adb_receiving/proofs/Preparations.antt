@@ -66,7 +66,8 @@ module _ (maxdata : ℕ) (streams : List (ℕ × Stream)) (ids : List ℕ) where
   pub prepared_none : (old : List (ℕ × SeenClient)) → ArePrepared maxdata streams ids ids old (record { writes = 0; clients = old })
   prepared_none old = record { more = λ c. more_stays (at c old); cut = λ l there. inr there; writes = omega arith }
 
-  pub prepared_one : {left : List ℕ} {old now new : List (ℕ × SeenClient)} (l before after : ℕ) → ArePrepared maxdata streams ids (l ∷ left) old (record { writes = before; clients = now })
+  pub prepared_one : {left : List ℕ} {old now new : List (ℕ × SeenClient)} (l before after : ℕ) → ArePrepared maxdata streams ids (l ∷ left) old
+      (record { writes = before; clients = now })
       → HaveMore now new × IsCutAt maxdata (at l streams) new × (after ≡ before + writes_at maxdata (at l streams) now)
       → ArePrepared maxdata streams ids left old (record { writes = after; clients = new })
   prepared_one {left} {old} {now} {new} l before after h (more, cut, writes) = record {

@@ -3,13 +3,14 @@
 ghost use Rattle.std.specs.Prelude.{◌≡◌, ◌+◌, ◌≤◌, ℕ, length, IfOk, OnOk};
 ghost use Rattle.adb_outside.specs.Tables.{at};
 ghost use Rattle.adb_rules.specs.Places.{ClientRoom, kept_places};
-ghost use Rattle.adb_rules.specs.Up.{IsCut, up_bytes, up_writes};
+ghost use Rattle.adb_rules.specs.Up.{IsCut, up_writes};
 ghost use Rattle.adb_rules.specs.Tracked.{IsAmong};
 ghost use Rattle.adb_receiving.specs.Counting.{count_at};
 ghost use Rattle.adb_receiving.specs.Reserving.{HasMore, HaveMore, IsCutAt, IsCutFor, writes_at, writes_of, all_writes};
 
 use crate::counting::sum;
 use adb_client::{Client, Phase};
+use adb_rules::{up_bytes, up_writes};
 use adb_stream::{Flow, Stream, Streams};
 use std::alloc::AllocError;
 use std::collections::{BTreeMap, BTreeSet};
@@ -130,30 +131,14 @@ fn prepare(client: &mut Client, flow: &Flow, maxdata: usize) -> Result<usize, Al
         ≡ up_writes flow.now maxdata (length client.old.held)) }
 {
     let held = client.held();
-    let writes = up_writes(flow, maxdata, held)?;
+    let writes = most_writes(flow, maxdata, held)?;
     client.prepare_cuts(up_bytes(flow, maxdata, held), writes)?;
     Ok(writes)
 }
 
-/// How many bytes a stream may write at most, of so many that are held.
-fn up_bytes(flow: &Flow, maxdata: usize, held: usize) -> usize
-    ensures { result ≡ up_bytes flow.now maxdata held }
-{
-    match flow {
-        Flow::One(_) => maxdata.min(held),
-        Flow::Credit(_) => held,
-    }
-}
-
 /// In how many writes at most.
-fn up_writes(flow: &Flow, maxdata: usize, held: usize) -> Result<usize, AllocError>
+fn most_writes(flow: &Flow, maxdata: usize, held: usize) -> Result<usize, AllocError>
     ensures { IfOk result (λ writes. writes ≡ up_writes flow.now maxdata held) }
 {
-    match flow {
-        Flow::One(_) => Ok(1),
-        Flow::Credit(_) => {
-            let whole = held.checked_div(maxdata).unwrap_or(0);
-            sum(whole, 1)
-        }
-    }
+    up_writes(flow, maxdata, held).ok_or(AllocError)
 }

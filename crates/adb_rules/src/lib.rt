@@ -23,3 +23,4 @@ mod writes;
 pub use came::Came;
 pub use ports::Port;
 pub use tables::Tables;
+pub use up::{up_bytes, up_writes};

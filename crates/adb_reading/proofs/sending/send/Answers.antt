@@ -9,10 +9,10 @@ take_back-requires-clause-holds c = c.in-Err.ensures.held c.args.client (length 
 
 pub returns-in-Ok-clause-made : goal.returns-in-Ok-clause-made
 returns-in-Ok-clause-made c = record {
-  state = c.go_up.ensures.state ∙ ap (λ (s : State). (up c.args.id s).state) (c.in-Ok.ensures.made.state ∙ c.in_ok-take_in.ensures.made.state);
-  fit = c.go_up.ensures.fit;
+  state = c.in-Ok.ensures.made.state ∙ ap (λ (s : State). (up c.args.id s).state) c.in_ok-take_in.ensures.made.state;
+  fit = c.in-Ok.ensures.made.fit;
 }
 
 pub returns-in-Err-clause-kept : goal.returns-in-Err-clause-kept
 returns-in-Err-clause-kept c =
-    c.take_back.ensures c.args.piece.now (state_of c.args.tables.now) refl (c.in-Err.ensures.made.state ∙ c.in_ok-take_in.ensures.made.state)
+    c.take_back.ensures c.args.piece.now (state_of c.args.tables.now) refl (c.in-Err.ensures.kept.state ∙ c.in_ok-take_in.ensures.made.state)

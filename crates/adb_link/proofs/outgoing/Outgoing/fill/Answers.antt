@@ -13,4 +13,5 @@ returns c =
     let all : start ++ own.payload ≡ c.args.self.now = search rules in
     let both = filled_both text start own.payload max ∙ ap (λ (bytes : List ℕ). filled text max bytes) all in
     let last : c.as_slice.result.now ≡ own.payload = c.as_slice.ensures in
-    on_ok_weaker c.fill_up-2.result (λ is. is ∙ (ap (filled c.fill_up.new.text max) last ∙ (ap (λ (t : List ℕ). filled t max own.payload) first ∙ both))) c.fill_up-2.ensures
+    on_ok_weaker c.fill_up-2.result (λ is. is ∙
+    (ap (filled c.fill_up.new.text max) last ∙ (ap (λ (t : List ℕ). filled t max own.payload) first ∙ both))) c.fill_up-2.ensures
