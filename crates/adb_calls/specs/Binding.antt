@@ -1,11 +1,9 @@
 -- Clients that wait for the listener of a forward.
-use Rattle.std.specs.Prelude.{ℕ, ◌≡◌, ◌≤◌, ◌<◌, ◌&&◌, Bool, true, false, List, length, is_some, Option, Some, None}
-use Rattle.adb_outside.specs.Bytes.{is_graphic}
+use Rattle.std.specs.Prelude.{ℕ, ◌≡◌, ◌&&◌, Bool, true, false, List, is_some, Option, Some, None}
 use Rattle.adb_client.specs.declared.about.Want.{Want}
 use Rattle.adb_client.specs.declared.phase.Phase.{Phase}
 use Rattle.adb_client.specs.declared.phase.Phase.TheVariants.{Binding}
 use Rattle.adb_forward.specs.declared.row.ForwardRow.{ForwardRow}
-use Rattle.adb_forward.specs.declared.table.TheConstants.{MAX_REMOTE}
 use Rattle.adb_history.specs.Rows.{Client}
 use Rattle.adb_history.specs.Forwarding.{bound_by}
 use Rattle.adb_rest.specs.Wanted.{IsRemote}

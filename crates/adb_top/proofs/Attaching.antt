@@ -1,5 +1,5 @@
 -- What a machine answers of a device that is plugged in.
-use Rattle.std.proofs.Common.{ℕ, ◌+◌, ◌≡◌, Bool, true, false, cond, List, ◌∷◌, Option, Some, None, Result, Ok, Err, refl, sym, ◌∙◌, ap, subst, nat_eq}
+use Rattle.std.proofs.Common.{ℕ, ◌+◌, ◌≡◌, false, cond, List, Option, Some, None, Result, Ok, Err, refl, sym, ◌∙◌, ap, subst}
 use Rattle.std.specs.Prelude.{option_map, OnErr}
 use Rattle.std.proofs.lemmas.Bool.{eq-eqb}
 use Rattle.adb_outside.specs.declared.kinds.Kind.{Kind}
@@ -8,7 +8,6 @@ use Rattle.adb_registry.specs.declared.registry.AttachError.{AttachError}
 use Rattle.adb_registry.specs.declared.registry.AttachError.TheVariants as plugging
 use Rattle.adb_capture.specs.declared.entry.Entry.TheVariants.{Attach}
 use Rattle.adb_history.specs.Accepted.{refusal_of, attach_reason}
-use Rattle.adb_history.specs.declared.refusal.Reason.{Reason}
 use Rattle.adb_history.specs.declared.refusal.Reason.TheVariants.{NotDrawn}
 use Rattle.adb_history.specs.Machine.{History, state}
 use Rattle.adb_history.specs.Kept.{Kept, IsLawful}

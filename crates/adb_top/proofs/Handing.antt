@@ -1,20 +1,18 @@
 -- What a machine hands out is what is handed out next.
-use Rattle.std.proofs.Common.{ℕ, ◌≡◌, ◌≤◌, ◌<◌, List, [], ◌∷◌, take, length, Option, Some, None, refl, sym, ◌∙◌, ap, subst, arith}
-use Rattle.std.specs.Prelude.{option_map, All, IfSome}
+use Rattle.std.proofs.Common.{ℕ, ◌≡◌, List, [], ◌∷◌, take, Option, Some, None, refl, sym, ◌∙◌, ap, subst}
+use Rattle.std.specs.Prelude.{option_map}
 use Rattle.std.proofs.Math.Seq.{take-nil}
 use Rattle.adb_registry.specs.Registry.{DeviceTable}
-use Rattle.adb_capture.specs.Records.{HasRecord}
-use Rattle.adb_capture.specs.declared.entry.Entry.{Entry}
 use Rattle.adb_capture.specs.declared.entry.Entry.TheVariants.{Put, Send}
 use Rattle.adb_history.specs.Rows.{Client, Link}
 use Rattle.adb_history.specs.Tracking.{offered}
-use Rattle.adb_history.specs.Machine.{History, state}
+use Rattle.adb_history.specs.Machine.{History}
 use Rattle.adb_history.specs.Kept.{Kept, IsLawful}
 use Rattle.adb_history.specs.Drained.{put_of, put_to, send_of, send_on}
 use Rattle.adb_history.specs.declared.hand_out.TheConstants.{HAND_OUT}
 use Rattle.adb_hub.specs.declared.answers.Handed.{Handed}
 use Rattle.adb_hub.specs.declared.answers.Handed.TheVariants.{Bytes, Nothing, Done}
-use Rattle.adb_hub.specs.Answers.{HandsOut, IsWithin, offered_to, due_on}
+use Rattle.adb_hub.specs.Answers.{HandsOut, offered_to, due_on}
 use Rattle.adb_top.specs.Machine.{after_out, bytes_of}
 
 module _ (h : History) (old new : Kept) (lawful : IsLawful old h) where

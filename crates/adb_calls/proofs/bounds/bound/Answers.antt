@@ -1,6 +1,5 @@
 use Rattle.std.proofs.Common.{◌≡◌, Option, Some, None, refl, sym, subst}
 use Rattle.adb_client.specs.declared.about.Want.{Want}
-use Rattle.adb_history.specs.Machine.{state}
 use Rattle.adb_history.specs.Rows.{Client, State}
 use Rattle.adb_rest.specs.Wanted.{CanBeDone}
 use Rattle.adb_rest.proofs.WantedStates.{can_be_done}

@@ -17,9 +17,8 @@ returns-clause-detached c h lawful =
     let named = open_link t c.args.self.now c.self.view_is c.args.link c.ranges.link.fits c.in_ok-look_for_link.ensures in
     let called = detach_called c.args.link t c.detach.new.tables c.self.invariant c.args.cause named (c.detach.ensures.made c.args.cause) in
     let before = subst (λ (k : Kept). IsLawful k h) (sym c.self.view_is) lawful in
-    let after = called_lawful (Detach c.args.link c.args.cause) t c.detach.new.tables called h before in
-    (
+    let after = called_lawful (Detach c.args.link c.args.cause) t c.detach.new.tables called h before in (
       called_allowed (Detach c.args.link c.args.cause) t c.detach.new.tables called h before,
       after,
-      c.link_life.ensures (Detach c.args.link c.args.cause ∷ h) after
+      c.link_life.ensures (Detach c.args.link c.args.cause ∷ h) after,
     )

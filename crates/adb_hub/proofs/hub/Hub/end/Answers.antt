@@ -17,9 +17,8 @@ returns-clause-ended c h lawful =
     let named = open_client t c.args.self.now c.self.view_is c.args.client c.ranges.client.fits c.in_ok-look_for_client.ensures in
     let called = end_called c.args.client t c.end.new.tables c.self.invariant c.args.cause named c.end.ensures.made in
     let before = subst (λ (k : Kept). IsLawful k h) (sym c.self.view_is) lawful in
-    let after = called_lawful (End c.args.client c.args.cause) t c.end.new.tables called h before in
-    (
+    let after = called_lawful (End c.args.client c.args.cause) t c.end.new.tables called h before in (
       called_allowed (End c.args.client c.args.cause) t c.end.new.tables called h before,
       after,
-      c.client_life.ensures (End c.args.client c.args.cause ∷ h) after
+      c.client_life.ensures (End c.args.client c.args.cause ∷ h) after,
     )

@@ -68,7 +68,7 @@ returns-in-None-clause-put c h lawful =
       subst (λ (x : _). HandsOut (Put n) c.args.max (hub.offered_to (state h).devices ((state h).clients n)) x h c.args.self.now
           (kept (state_of c.put.new.tables))) (sym told)
           (nothing_put c.args.max (state h) ((state h).clients n) (Put n) h c.args.self.now (kept (state_of c.put.new.tables))
-              (subst (λ (x : State). IsFront c.args.max (answers.offered_to x.devices (x.clients n)) (None)) is front) (same ∙ c.self.view_is)),
+          (subst (λ (x : State). IsFront c.args.max (answers.offered_to x.devices (x.clients n)) (None)) is front) (same ∙ c.self.view_is)),
     )
 
 pub returns-in-Some-clause-form : goal.returns-in-Some-clause-form

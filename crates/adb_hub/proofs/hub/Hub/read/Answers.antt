@@ -20,9 +20,8 @@ returns-clause-read c h lawful =
     let are = All-from_get_or (λ b. b < 256) c.args.piece.now 0 (λ i within. omega (arith, c.type_inv.piece i)) in
     let called = read_called c.args.client t c.read.new.tables c.self.invariant c.args.piece.now are named c.in_ok-read.ensures.made in
     let before = subst (λ (k : Kept). IsLawful k h) (sym c.self.view_is) lawful in
-    let after = called_lawful (Read c.args.client c.args.piece.now) t c.read.new.tables called h before in
-    (
+    let after = called_lawful (Read c.args.client c.args.piece.now) t c.read.new.tables called h before in (
       called_allowed (Read c.args.client c.args.piece.now) t c.read.new.tables called h before,
       after,
-      c.client_life.ensures (Read c.args.client c.args.piece.now ∷ h) after
+      c.client_life.ensures (Read c.args.client c.args.piece.now ∷ h) after,
     )

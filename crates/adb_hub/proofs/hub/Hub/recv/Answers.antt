@@ -20,9 +20,8 @@ returns-clause-received c h lawful =
     let are = All-from_get_or (λ b. b < 256) c.args.piece.now 0 (λ i within. omega (arith, c.type_inv.piece i)) in
     let called = recv_called c.args.link t c.recv.new.tables c.self.invariant c.args.piece.now are named c.in_ok-recv.ensures.made in
     let before = subst (λ (k : Kept). IsLawful k h) (sym c.self.view_is) lawful in
-    let after = called_lawful (Recv c.args.link c.args.piece.now) t c.recv.new.tables called h before in
-    (
+    let after = called_lawful (Recv c.args.link c.args.piece.now) t c.recv.new.tables called h before in (
       called_allowed (Recv c.args.link c.args.piece.now) t c.recv.new.tables called h before,
       after,
-      c.link_life.ensures (Recv c.args.link c.args.piece.now ∷ h) after
+      c.link_life.ensures (Recv c.args.link c.args.piece.now ∷ h) after,
     )

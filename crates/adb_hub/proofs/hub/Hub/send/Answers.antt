@@ -67,7 +67,7 @@ returns-in-None-clause-sent c h lawful =
       ap (λ (s : State). unless_drawn (is_drawn s.devices.drawn n) (NoLink n)) (sym is) ∙ ap (λ b. unless_drawn b (NoLink n)) known.is,
       subst (λ (x : _). HandsOut (Send n) c.args.max (hub.due_on ((state h).links n)) x h c.args.self.now (kept (state_of c.send.new.tables))) (sym told)
           (nothing_sent c.args.max ((state h).links n) (Send n) h c.args.self.now (kept (state_of c.send.new.tables))
-              (subst (λ (x : State). IsFront c.args.max (answers.due_on (x.links n)) (None)) is front) (same ∙ c.self.view_is)),
+          (subst (λ (x : State). IsFront c.args.max (answers.due_on (x.links n)) (None)) is front) (same ∙ c.self.view_is)),
     )
 
 pub returns-in-Some-clause-form : goal.returns-in-Some-clause-form

@@ -1,4 +1,4 @@
-use Rattle.std.proofs.Common.{ℕ, ◌+◌, ◌≡◌, false, Ok, Result, sym, ◌∙◌, ap, subst}
+use Rattle.std.proofs.Common.{ℕ, ◌+◌, ◌≡◌, false, Result, sym, ◌∙◌, ap, subst}
 use Rattle.std.proofs.lemmas.Bool.{eqb-true}
 use Rattle.adb_capture.specs.declared.entry.Entry.TheVariants.{Attach}
 use Rattle.adb_history.specs.Kept.{Kept, IsLawful}
