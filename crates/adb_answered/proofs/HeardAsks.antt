@@ -36,7 +36,7 @@ use Rattle.adb_history.proofs.Asked.{behind, EndsReading, asks_ends}
 use Rattle.adb_history.proofs.OwnedStep.{owned_moves, begins_owned}
 use Rattle.adb_history.proofs.Booked.{said, asks_in, asks_now, SameAsked, IsAs}
 use Rattle.adb_history.proofs.BookTurns.{IsBooked}
-use Rattle.adb_history.proofs.BookEntries.{devices_now}
+use Rattle.adb_history.proofs.BookClients.{devices_now}
 use Rattle.adb_history.proofs.BookReads.{none_next, newly_same, and_parts, asked_all, replied_state, replied_row, replied_is}
 use Rattle.adb_history.proofs.Books.{booked}
 use Rattle.adb_answered.specs.Turns.{everywhere, Turns}

@@ -26,7 +26,7 @@ use Rattle.adb_history.proofs.Growing.{owed_append}
 use Rattle.adb_history.proofs.OwnedStep.{owned_moves, begins_owned}
 use Rattle.adb_history.proofs.Booked.{wants_in, wants_now}
 use Rattle.adb_history.proofs.BookTurns.{IsBooked}
-use Rattle.adb_history.proofs.BookEntries.{devices_now}
+use Rattle.adb_history.proofs.BookClients.{devices_now}
 use Rattle.adb_history.proofs.Books.{booked}
 use Rattle.adb_answered.specs.Heard.{Heard, heard, after_replies, asks_stream, asks_bind, IsUnbound, PhaseSays, Owes, Answers}
 use Rattle.adb_answered.proofs.HeardMoves.{prefix_more}

@@ -24,7 +24,7 @@ use Rattle.adb_history.proofs.Following.{after_quietly, after_then, changed_here
 use Rattle.adb_history.proofs.Growing.{owed_append}
 use Rattle.adb_history.proofs.OutputEntries.{all_due_past_put}
 use Rattle.adb_history.proofs.OwnedStep.{owned_moves}
-use Rattle.adb_history.proofs.BookEntries.{devices_now}
+use Rattle.adb_history.proofs.BookClients.{devices_now}
 use Rattle.adb_history.proofs.Books.{booked}
 use Rattle.adb_answered.specs.Turns.{everywhere, Turns}
 use Rattle.adb_answered.specs.Heard.{Heard, heard, after_replies, asks_stream, IsTold, PhaseSays, RowSays, Owes, Answers}

@@ -32,7 +32,7 @@ use Rattle.adb_history.proofs.BookReads.{led_next, goes_on_forwards, none_next, 
 use Rattle.adb_history.proofs.BookReads.{stopped_idle}
 use Rattle.adb_history.specs.Book.{Book}
 use Rattle.adb_history.proofs.BookTurns.{IsUnheard, all_unheard, IsBooked}
-use Rattle.adb_history.proofs.BookEntries.{is_other, booked_owns, devices_now}
+use Rattle.adb_history.proofs.BookClients.{is_other, booked_owns, devices_now}
 
 or_false : (x : Bool) → (x || false) ≡ x
 or_false true = refl

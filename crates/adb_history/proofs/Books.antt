@@ -20,8 +20,8 @@ use Rattle.adb_history.proofs.Waiting.{is_waiting, leaves_up_all}
 use Rattle.adb_history.proofs.Booked.{said, asks_in, asks_now, wants_in, wants_now}
 use Rattle.adb_history.proofs.BookReads.{none_next, and_parts}
 use Rattle.adb_history.proofs.BookTurns.{IsBooked, booked_still, still_keeps}
-use Rattle.adb_history.proofs.BookEntries.{booked_put, booked_send, booked_attach, booked_recv, booked_detach, booked_join, booked_enter, booked_end}
-use Rattle.adb_history.proofs.BookEntries.{booked_bound}
+use Rattle.adb_history.proofs.BookEntries.{booked_put, booked_send, booked_attach, booked_recv, booked_detach, booked_join, booked_enter}
+use Rattle.adb_history.proofs.BookClients.{booked_end, booked_bound}
 use Rattle.adb_history.proofs.BookRead.{booked_read}
 
 booked_rule : (e : Entry) (older : History) → IsLegal (e ∷ older) → IsBooked (state older) older → IsBooked (rule e (state older)).state (e ∷ older)

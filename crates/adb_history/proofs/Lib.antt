@@ -52,6 +52,7 @@ pub mod Booked
 pub mod BookReads
 pub mod BookTurns
 pub mod BookEntries
+pub mod BookClients
 pub mod BookRead
 pub mod Books
 pub mod Pieces
