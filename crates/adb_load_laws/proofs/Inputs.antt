@@ -1,0 +1,1 @@
+-- What a history says of requests, packets and streams is said by the entries that came alone: hand-outs say nothing of it.

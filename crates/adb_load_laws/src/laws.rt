@@ -1,0 +1,22 @@
+//! What holds of every load, entry after entry, with all that is due handed out after each.
+
+ghost use Rattle.std.specs.Prelude.{◌≡◌, ◌∷◌, ◌++◌, ℕ, List, []};
+ghost use Rattle.adb_capture.specs.declared.entry.Entry.{Entry};
+ghost use Rattle.adb_history.specs.Drained.{drained_from};
+ghost use Rattle.adb_history.specs.Machine.{IsLegal};
+ghost use Rattle.adb_load.specs.Load.{load};
+ghost use Rattle.adb_load_laws.specs.Taken.{IsTaken};
+ghost use Rattle.adb_load_laws.specs.Totals.{down_of, past_leads};
+
+/// Each entry of a load may come when it comes, and none of them stops the server.
+pub fn loads_are_accepted()
+    ensures { (seed streams : ℕ) (front rest : List Entry) (e : Entry)
+        → load seed streams ≡ front ++ e ∷ rest
+        → IsLegal (drained_from [] front) → IsTaken (drained_from [] front) e }
+{}
+
+/// What is put to the clients of a load past the two replies that lead it is what devices wrote.
+pub fn totals_of_loads()
+    ensures { (seed streams : ℕ) → let h = drained_from [] (load seed streams) in
+        IsLegal h → down_of h ≡ past_leads h }
+{}
