@@ -1,58 +1,32 @@
 -- What an entry of one client, other than bytes that are read from it, makes of a state is what it says of a history.
-use Rattle.std.proofs.Common.{ℕ, ◌+◌, ◌≡◌, ◌≢◌, ◌≤◌, ◌<◌, Bool, true, false, cond, List, [], ◌∷◌, ◌++◌, length, drop, Option, Some, None, is_some}
-use Rattle.std.proofs.Common.{refl, sym, ◌∙◌, ap, subst, arith, eqb, inl, inr, ◌⊎◌}
-use Rattle.std.proofs.lemmas.Bool.{eqb-true, eq-eqb, ne_eqb, cases_eq}
-use Rattle.std.proofs.lemmas.List.Elements.{All-weaker}
+use Rattle.std.proofs.Common.{ℕ, ◌≡◌, Bool, true, false, cond, List, ◌∷◌, ◌++◌, length, Option, Some, None}
+use Rattle.std.proofs.Common.{refl, sym, ◌∙◌, ap, subst, arith, eqb}
+use Rattle.std.proofs.lemmas.Bool.{eqb-true, eq-eqb}
 use Rattle.std.specs.Prelude.{◌&&◌, ◌||◌, not, is_none}
-use Rattle.adb_outside.specs.Tables.{at, put_row, put_at}
+use Rattle.adb_outside.specs.Tables.{at}
 use Rattle.adb_outside.specs.declared.kinds.Cause.{Cause}
-use Rattle.adb_outside.specs.declared.kinds.Kind.{Kind}
-use Rattle.adb_outside.proofs.TableLaws.{puts_put_at}
-use Rattle.adb_registry.specs.Registry.{DeviceTable, attached}
-use Rattle.adb_registry.specs.Row.{new_row}
-use Rattle.adb_registry.specs.declared.row.Row.{Row}
+use Rattle.adb_registry.specs.Registry.{DeviceTable}
 use Rattle.adb_forward.specs.declared.row.ForwardRow.{ForwardRow}
-use Rattle.adb_wire.specs.Cutting.{cut_packets}
-use Rattle.adb_stream.specs.declared.row.Stream.{Stream}
 use Rattle.adb_client.specs.declared.phase.Phase.{Phase}
 use Rattle.adb_client.specs.declared.phase.Phase.TheVariants.{Asking, Opening, Streaming, Binding, Tracking, Closing, Gone}
 use Rattle.adb_client.specs.declared.about.Want.{Want}
-use Rattle.adb_capture.specs.declared.entry.Entry.{Entry}
-use Rattle.adb_capture.specs.declared.entry.Entry.TheVariants.{Join, Enter, End, Bound, Attach, Recv, Detach, Put, Send}
-use Rattle.adb_history.specs.Rows.{Client, Link, State, new_client, new_link, to_client}
-use Rattle.adb_history.specs.Events as ending
-use Rattle.adb_history.specs.Events.{Made, Event, quietly, then_also, owed_to}
-use Rattle.adb_history.specs.Links.{server_cnxn, is_connected}
-use Rattle.adb_history.specs.Streams.{opens}
-use Rattle.adb_history.specs.Tracking.{mark_all}
+use Rattle.adb_capture.specs.declared.entry.Entry.TheVariants.{End, Bound}
+use Rattle.adb_history.specs.Rows.{Client, State}
+use Rattle.adb_history.specs.Events.{Made, quietly}
 use Rattle.adb_history.specs.Forwarding.{Binding as Bound_to, bound_by, is_unbound, put_forward}
-use Rattle.adb_history.specs.Asking.{Asked, nothing_asked}
-use Rattle.adb_history.specs.Losing.{link_ends, client_ends}
-use Rattle.adb_history.specs.Packets.{receives_on, receives}
-use Rattle.adb_history.specs.Reading.{comes, comes_in_vain, enters_by, enters, plugs_in, bound_to, bound_for, bound_in, bound_at, bound}
-use Rattle.adb_history.specs.Handing.{lists_first, hands, takes_of, puts_to, puts, sends}
-use Rattle.adb_history.specs.Machine.{unplugs_on, unplugs, rule, History, state, May, MayPut, IsLegal}
+use Rattle.adb_history.specs.Losing.{client_ends}
+use Rattle.adb_history.specs.Reading.{bound_to, bound_for, bound_in, bound_at, bound}
+use Rattle.adb_history.specs.Machine.{History, state, May, IsLegal}
 use Rattle.adb_history.specs.Bytes.{has_joined, has_ended}
-use Rattle.adb_history.specs.Book.{plugged_count, devices_if, book, asked, still_asks, led_by, bound_turn, bound_with}
+use Rattle.adb_history.specs.Book.{plugged_count, devices_if, book, asked, still_asks, bound_turn, bound_with}
 use Rattle.adb_history.specs.Tied.{bytes_asked, came_count}
-use Rattle.adb_history.proofs.Growing.{RowStep, IsWithin, AreWithin, keeps_over, keeps_owe_link}
-use Rattle.adb_history.proofs.GrowingRules.{keeps_up_all, keeps_client_ends, keeps_opens, keeps_closes_with}
-use Rattle.adb_history.proofs.GrowingPackets.{keeps_mark_all, keeps_lists_first, keeps_client_left}
-use Rattle.adb_history.proofs.LinkChanges.{changes_link_ends}
-use Rattle.adb_history.proofs.AnswersWithin.{row_within}
-use Rattle.adb_history.proofs.OutputEntries.{IsTied, tied_rule, tied, row_below, connected_is}
-use Rattle.adb_history.proofs.Received.{received}
-use Rattle.adb_history.proofs.DeviceTurns.{IsGood, turns_link_ends, turns_cut}
-use Rattle.adb_history.proofs.TableStays.{puts_tables}
-use Rattle.adb_history.proofs.Devices.{ShowsDevices, shows_devices, shows_rule, all_devices}
-use Rattle.adb_history.proofs.Waiting.{NoneWaits, AreFree, Leaves, leaves_all, leaves_over, free_after, none_waits_after}
-use Rattle.adb_history.proofs.WaitingPackets.{leaves_mark_all, leaves_receives, leaves_link_ends, leaves_puts}
-use Rattle.adb_history.proofs.Asked.{Unused}
-use Rattle.adb_history.proofs.OwnEntries.{Owns, owns_over, owns_all, owns_free, owns_opens, opened_row, owns_closes_with, closed_with_row, owns_ends}
+use Rattle.adb_history.proofs.GrowingRules.{keeps_client_ends, keeps_closes_with}
+use Rattle.adb_history.proofs.OutputEntries.{IsTied, tied}
+use Rattle.adb_history.proofs.Devices.{all_devices}
+use Rattle.adb_history.proofs.OwnEntries.{Owns, owns_over, owns_all, owns_free, owns_closes_with, closed_with_row, owns_ends}
 use Rattle.adb_history.proofs.OwnEntries.{ended_waits}
-use Rattle.adb_history.proofs.ForwardTurns.{AreLed, Leads, leads_link_ends, leads_cut, led_after, led_filter}
-use Rattle.adb_history.proofs.Booked.{Said, said, asks_in, asks_now, wants_in, wants_now, SameAsked, IsAs, Holds, holds, holds_same, idle_is}
-use Rattle.adb_history.proofs.Booked.{idle_says, is_stays, holds_receives, holds_puts}
+use Rattle.adb_history.proofs.ForwardTurns.{AreLed}
+use Rattle.adb_history.proofs.Booked.{Said, said, asks_in, asks_now, wants_in, wants_now, IsAs, idle_is}
 use Rattle.adb_history.proofs.BookReads.{led_put}
 use Rattle.std.specs.Prelude.{codes, ◌==◌}
 use Rattle.adb_forward.specs.declared.table.TheConstants.{MAX_FORWARDS}
@@ -60,7 +34,7 @@ use Rattle.adb_reply.specs.Strings.{failed}
 use Rattle.adb_reply.specs.Refusals.{no_transport}
 use Rattle.adb_history.specs.Forwarding.{told_port}
 use Rattle.adb_history.specs.Book.{Book}
-use Rattle.adb_history.proofs.BookTurns.{IsUnheard, all_unheard, IsBooked, booked_still, still_keeps}
+use Rattle.adb_history.proofs.BookTurns.{IsBooked}
 
 -- a client that does not ask now, as before
 pub is_other : (o : Option Client) (r next : Said) → asks_now o ≡ false → next.asking ≡ r.asking → next.waits ≡ r.waits → IsAs o r → IsAs o next
