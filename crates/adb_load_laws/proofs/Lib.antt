@@ -1,2 +1,4 @@
 pub mod Turns
 pub mod Inputs
+pub mod Links
+pub mod Online
