@@ -5,3 +5,4 @@ pub mod Online
 pub mod Opened
 pub mod Sums
 pub mod Quiet
+pub mod Begins

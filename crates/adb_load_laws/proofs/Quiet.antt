@@ -14,7 +14,7 @@ use Rattle.adb_history.specs.Machine.{History}
 use Rattle.adb_history.specs.Bytes.{has_joined, has_ended}
 use Rattle.adb_history.specs.Book.{still_asks, newly, kills, asked, asked_with, is_asking, book, devices, forwards, is_killed}
 use Rattle.adb_history.specs.Births.{births, births_at, birth_by}
-use Rattle.adb_load_laws.proofs.Sums.{AreOpenedFrom, all_stay}
+use Rattle.adb_load_laws.proofs.Sums.{AreFrom, all_stay}
 
 -- An entry says nothing of requests.
 pub record IsQuiet (e : Entry) (h : History) : Type 0 where
@@ -73,7 +73,7 @@ pub record IsAnswered (q : Asked) : Type 0 where
 
 -- So many clients asked for a stream, one after another, and the device of each opened it; no other has asked or is gone, and no kill stands.
 pub record HasStreams (n : ℕ) (h : History) : Type 0 where
-  pub opened : AreOpenedFrom h 1 (births h)
+  pub streams : AreFrom 0 (births h) h
   pub counted : length (births h) ≡ n
   pub answered : (c : ℕ) → 0 < c → c ≤ n → IsAnswered (asked c h)
   pub fresh : (c : ℕ) → n < c → asked c h ≡ nothing_asked
@@ -82,7 +82,7 @@ pub record HasStreams (n : ℕ) (h : History) : Type 0 where
 
 pub streams_at_first : HasStreams 0 []
 streams_at_first = record {
-  opened = tt;
+  streams = tt;
   counted = refl;
   answered = λ c some le. absurd (omega (arith, some, le));
   fresh = λ c above. refl;
@@ -94,7 +94,7 @@ streams_at_first = record {
 pub streams_stay : (n : ℕ) (e : Entry) (h : History) → IsQuiet e h → ((c : ℕ) → n < c → has_ended c (e ∷ h) ≡ has_ended c h) → HasStreams n h
     → HasStreams n (e ∷ h)
 streams_stay n e h quiet ends has = record {
-  opened = subst (AreOpenedFrom (e ∷ h) 1) (sym same) (all_stay e h 1 (births h) has.opened);
+  streams = subst (λ bs. AreFrom 0 bs (e ∷ h)) (sym same) (all_stay 0 (births h) e h has.streams);
   counted = ap (length {A = _}) same ∙ has.counted;
   answered = λ c some le. subst IsAnswered (sym (quiet.asked c)) (has.answered c some le);
   fresh = λ c above. quiet.asked c ∙ has.fresh c above;

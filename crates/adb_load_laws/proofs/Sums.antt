@@ -1,77 +1,74 @@
--- What the streams of clients that came one after another were handed, together: what was put past the leads.
+-- What the streams of a load were handed, together: what was put to their clients past the leads.
 use Rattle.std.proofs.Common.{ℕ, suc, ◌+◌, ◌-◌, ◌≡◌, ◌<◌, ◌≤◌, Bool, true, false, cond, List, [], ◌∷◌, ◌++◌, length, drop}
-use Rattle.std.proofs.Common.{refl, sym, ap, subst, ◌∙◌, arith, length-drop}
-use Rattle.std.specs.Prelude.{is_some, Option, Some, None}
+use Rattle.std.proofs.Common.{ap, subst, ◌∙◌, arith, length-drop}
+use Rattle.std.specs.Prelude.{is_some}
 use Rattle.adb_capture.specs.declared.entry.Entry.{Entry}
 use Rattle.adb_history.specs.Machine.{History}
 use Rattle.adb_history.specs.Bytes.{bytes_put}
 use Rattle.adb_history.specs.Book.{asked}
-use Rattle.adb_history.specs.Births.{Birth, births, Opening, opening_of, lead_of, handed_to}
+use Rattle.adb_history.specs.Births.{Birth, births, opening_of, lead_of, handed_to}
 use Rattle.adb_history.specs.Tied.{came_count}
-use Rattle.adb_births.specs.Brought.{opening_grows}
+use Rattle.adb_load.specs.Acts.{client_of}
 use Rattle.adb_load_laws.specs.Totals.{sum_to, handed_from, down_of, lead_len, past_leads}
+use Rattle.adb_load_laws.proofs.Opened.{IsOpened, opened_some, opened_stays}
 
--- A stream is that of the client of the same number, which came by itself, and its device opened it.
-pub record IsOpenedBy (h : History) (l : ℕ) (b : Birth) : Type 0 where
-  pub client : b.client ≡ l
+-- A birth is that of a stream: its client came by itself, and its device opened it.
+pub record IsOf (stream : ℕ) (b : Birth) (h : History) : Type 0 where
+  pub client : b.client ≡ client_of stream
   pub own : b.forwarded ≡ false
-  pub opened : is_some (opening_of l b h) ≡ true
+  pub opened : IsOpened stream b h
 
--- So are all streams of a list, the first of which has this id.
-abbrev pub AreOpenedFrom : History → ℕ → List Birth → Type 0
-AreOpenedFrom h l [] = Unit {0}
-AreOpenedFrom h l (b ∷ others) = IsOpenedBy h l b × AreOpenedFrom h (suc l) others
+-- So is each of some births, the first of which is that of this stream.
+abbrev pub AreFrom : ℕ → List Birth → History → Type 0
+AreFrom stream [] h = Unit {0}
+AreFrom stream (b ∷ others) h = IsOf stream b h × AreFrom (suc stream) others h
 
--- ---- they stay so
-opened_stays : (l : ℕ) (b : Birth) (e : Entry) (h : History) → is_some (opening_of l b h) ≡ true → is_some (opening_of l b (e ∷ h)) ≡ true
-opened_stays l b e h opened = go (opening_of l b h) refl opened
-  where
-    go : (o : Option Opening) → opening_of l b h ≡ o → is_some o ≡ true → is_some (opening_of l b (e ∷ h)) ≡ true
-    go None is some = absurd (let clash : false ≡ true = some in cc)
-    go (Some o) is some = ap is_some (opening_grows l b e h o is).1
-
-pub all_stay : (e : Entry) (h : History) (l : ℕ) (bs : List Birth) → AreOpenedFrom h l bs → AreOpenedFrom (e ∷ h) l bs
-all_stay e h l [] opened = tt
-all_stay e h l (b ∷ others) opened = (
-  record { client = opened.0.client; own = opened.0.own; opened = opened_stays l b e h opened.0.opened },
-  all_stay e h (suc l) others opened.1,
+-- they stay so, whatever comes
+pub all_stay : (stream : ℕ) (bs : List Birth) (e : Entry) (h : History) → AreFrom stream bs h → AreFrom stream bs (e ∷ h)
+all_stay stream [] e h are = tt
+all_stay stream (b ∷ others) e h are = (
+  record { client = are.0.client; own = are.0.own; opened = opened_stays stream b h e are.0.opened },
+  all_stay (suc stream) others e h are.1,
 )
 
--- one more is opened
-pub all_then : (h : History) (l last : ℕ) (bs : List Birth) (b : Birth) → AreOpenedFrom h l bs → last ≡ l + length bs → IsOpenedBy h last b
-    → AreOpenedFrom h l (bs ++ b ∷ [])
-all_then h l last [] b opened at one = let place : last ≡ l = omega (arith, at) in (subst (λ (n : ℕ). IsOpenedBy h n b) place one, tt)
-all_then h l last (first ∷ others) b opened at one = (opened.0, all_then h (suc l) last others b opened.1 (omega (arith, at)) one)
+-- and one more comes behind them
+pub all_then : (stream last : ℕ) (bs : List Birth) (b : Birth) (h : History) → AreFrom stream bs h → last ≡ stream + length bs → IsOf last b h
+    → AreFrom stream (bs ++ b ∷ []) h
+all_then stream last [] b h are at one = let same : last ≡ stream = omega (arith, at) in (subst (λ (k : ℕ). IsOf k b h) same one, tt)
+all_then stream last (first ∷ others) b h are at one = (are.0, all_then (suc stream) last others b h are.1 (omega (arith, at)) one)
 
 -- ---- what they were handed
 -- what was put to a client past the replies that lead it
 abbrev past : History → ℕ → ℕ
 past h c = length (bytes_put c h) - lead_len
 
-handed_len : (h : History) (l : ℕ) (b : Birth) → IsOpenedBy h l b → length (asked l h).replies ≡ 4 → length (handed_to l b h) ≡ past h l
-handed_len h l b is replies =
-    ap (λ (open_now : Bool). length (cond open_now (drop (lead_of b h) (bytes_put b.client h)) [])) is.opened
+-- one `OKAY` was the reply to each client after the first k, up to the last
+abbrev AreReplied : History → (k last : ℕ) → Type 0
+AreReplied h k last = (c : ℕ) → k < c → c ≤ last → length (asked c h).replies ≡ 4
+
+handed_len : (stream : ℕ) (b : Birth) (h : History) → IsOf stream b h → length (asked (client_of stream) h).replies ≡ 4
+    → length (handed_to (client_of stream) b h) ≡ past h (client_of stream)
+handed_len stream b h is replied =
+    ap (λ (opened : Bool). length (cond opened (drop (lead_of b h) (bytes_put b.client h)) [])) (opened_some stream b h is.opened)
     ∙ (ap (λ (forwarded : Bool). length (drop (cond forwarded 0 (length (asked b.client h).replies + 4)) (bytes_put b.client h))) is.own
     ∙ (ap (λ (c : ℕ). length (drop (length (asked c h).replies + 4) (bytes_put c h))) is.client
-    ∙ (ap (λ (n : ℕ). length (drop (n + 4) (bytes_put l h))) replies ∙ length-drop 8 (bytes_put l h))))
+    ∙ (ap (λ (n : ℕ). length (drop (n + 4) (bytes_put (client_of stream) h))) replied ∙ length-drop 8 (bytes_put (client_of stream) h))))
 
--- one `OKAY` was the reply to each of the clients after the first k, up to the last
-abbrev AreAnswered : History → (k last : ℕ) → Type 0
-AreAnswered h k last = (c : ℕ) → k < c → c ≤ last → length (asked c h).replies ≡ 4
-
-handed_sum : (h : History) (k : ℕ) (bs : List Birth) → AreOpenedFrom h (suc k) bs → AreAnswered h k (k + length bs)
-    → handed_from (suc k) bs h + sum_to (past h) k ≡ sum_to (past h) (k + length bs)
-handed_sum h k [] opened answered = let place : k ≡ k + length {A = Birth} [] = omega arith in omega (arith, ap (sum_to (past h)) place)
-handed_sum h k (b ∷ others) opened answered =
-    let here = handed_len h (suc k) b opened.0 (answered (suc k) (omega arith) (omega arith)) in
-    let later = handed_sum h (suc k) others opened.1 (λ c above within. answered c (omega (arith, above)) (omega (arith, within))) in
-    let place : suc k + length others ≡ k + length (b ∷ others) = omega arith in
+handed_sum : (stream : ℕ) (bs : List Birth) (h : History) → AreFrom stream bs h → AreReplied h stream (stream + length bs)
+    → handed_from (suc stream) bs h + sum_to (past h) stream ≡ sum_to (past h) (stream + length bs)
+handed_sum stream [] h are replied = let place : stream ≡ stream + length {A = Birth} [] = omega arith in omega (arith, ap (sum_to (past h)) place)
+handed_sum stream (b ∷ others) h are replied =
+    let number : client_of stream ≡ suc stream = omega arith in
+    let here = subst (λ (l : ℕ). length (handed_to l b h) ≡ past h l) number
+        (handed_len stream b h are.0 (replied (client_of stream) (omega arith) (omega arith))) in
+    let later = handed_sum (suc stream) others h are.1 (λ c above within. replied c (omega (arith, above)) (omega (arith, within))) in
+    let place : suc stream + length others ≡ stream + length (b ∷ others) = omega arith in
     omega (arith, here, later, ap (sum_to (past h)) place)
 
--- What the streams were handed is what was put to their clients past the leads, where all that came have one.
-pub handed_is_past : (h : History) → AreOpenedFrom h 1 (births h) → AreAnswered h 0 (length (births h)) → length (births h) ≡ came_count h
+-- What the streams were handed is what was put to the clients past the leads, where each that came has one.
+pub handed_is_past : (h : History) → AreFrom 0 (births h) h → AreReplied h 0 (length (births h)) → length (births h) ≡ came_count h
     → down_of h ≡ past_leads h
-handed_is_past h opened answered count =
-    let all = handed_sum h 0 (births h) opened (λ c above within. answered c above (omega (arith, within))) in
-    let start : 0 + length (births h) ≡ length (births h) = omega arith in
-    omega (arith, all, ap (sum_to (past h)) count, ap (sum_to (past h)) start)
+handed_is_past h are replied counted =
+    let all = handed_sum 0 (births h) h are (λ c above within. replied c above (omega (arith, within))) in
+    let place : 0 + length (births h) ≡ length (births h) = omega arith in
+    omega (arith, all, ap (sum_to (past h)) counted, ap (sum_to (past h)) place)
