@@ -3,3 +3,5 @@ pub mod Inputs
 pub mod Links
 pub mod Online
 pub mod Opened
+pub mod Silent
+pub mod Runs
