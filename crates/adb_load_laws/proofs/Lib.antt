@@ -6,3 +6,5 @@ pub mod Opened
 pub mod Sums
 pub mod Quiet
 pub mod Begins
+pub mod Silent
+pub mod Runs

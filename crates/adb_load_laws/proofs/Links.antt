@@ -169,10 +169,12 @@ module _ (t : ℕ) (packets : List Packet) (h : History) (has : HasBrought t pac
       both : (received ++ first) ++ second ≡ received ++ spelling p 0
       both = append_assoc received first second ∙ ap (λ (s : List ℕ). received ++ s) is
 
-      go : (here : Bool) → framed (cond (here && not (is_lost t h)) (after_first (here && not (is_lost t h)) ++ second) (after_first (here && not (is_lost t h))))
-          ≡ read_whole (packets ++ cond here (p ∷ []) [])
+      after_both : Bool → List ℕ
+      after_both more = cond more (after_first more ++ second) (after_first more)
+
+      go : (here : Bool) → framed (after_both (here && not (is_lost t h))) ≡ read_whole (packets ++ cond here (p ∷ []) [])
       go true =
-          ap (λ (lost : Bool). framed (cond (not lost) (after_first (not lost) ++ second) (after_first (not lost)))) has.kept
+          ap (λ (lost : Bool). framed (after_both (not lost))) has.kept
           ∙ (ap framed both ∙ received_more p fits)
       go false = has.cut ∙ ap read_whole (sym (append-nil packets))
 
@@ -208,8 +210,8 @@ pieces_join : (bytes : List ℕ) → piece_of Head bytes ++ piece_of Tail bytes 
 pieces_join bytes = search (take-append-drop)
 
 -- what it brought after both pieces of a packet
-pub pieces_bring : (t : ℕ) (packets : List Packet) (h : History) (stream from count : ℕ) → HasBrought t packets h → remote_of stream < 2 ^ 32 → count ≤ MAX_PAYLOAD
-    → HasBrought t (packets ++ packets_by t (Answer stream from count Tail))
+pub pieces_bring : (t : ℕ) (packets : List Packet) (h : History) (stream from count : ℕ) → HasBrought t packets h
+    → remote_of stream < 2 ^ 32 → count ≤ MAX_PAYLOAD → HasBrought t (packets ++ packets_by t (Answer stream from count Tail))
     (entry_of (Answer stream from count Tail) ∷ entry_of (Answer stream from count Head) ∷ h)
 pieces_bring t packets h stream from count has small short =
     recv_pieces t packets h has (link_of stream) p (piece_of Head (spelling p 0)) (piece_of Tail (spelling p 0)) (read_write stream from count small short)
