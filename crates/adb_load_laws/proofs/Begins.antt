@@ -1,15 +1,14 @@
 -- A stream of a load begins: its client asks for it, and its device opens it.
 use Rattle.std.proofs.Common.{ℕ, ◌+◌, ◌^◌, ◌≡◌, ◌<◌, ◌≤◌, Bool, true, false, cond, List, [], ◌∷◌, ◌++◌, length, Option, Some, None}
 use Rattle.std.proofs.Common.{refl, sym, ap, subst, ◌∙◌, arith, eqb}
-use Rattle.std.specs.Prelude.{nat_eq, not, ◌&&◌, ◌||◌, is_none, codes}
+use Rattle.std.specs.Prelude.{not, ◌&&◌, ◌||◌, codes}
 use Rattle.std.proofs.lemmas.Bool.{eqb-false, eq-eqb, ne_eqb}
 use Rattle.std.proofs.lemmas.List.{append-nil, length-append}
 use Rattle.adb_wire.specs.declared.packets.Packet.{Packet}
-use Rattle.adb_registry.specs.Registry.{DeviceTable}
 use Rattle.adb_forward.specs.declared.row.ForwardRow.{ForwardRow}
 use Rattle.adb_reply.specs.declared.answer.Next.{Next}
 use Rattle.adb_reply.specs.declared.answer.Next.TheVariants as what
-use Rattle.adb_history.specs.Links.{is_connected, is_credit}
+use Rattle.adb_history.specs.Links.{is_credit}
 use Rattle.adb_history.specs.Asking.{Asked, nothing_asked, asks_with}
 use Rattle.adb_history.specs.Machine.{History}
 use Rattle.adb_history.specs.Bytes.{has_joined, has_ended, brought}
@@ -19,21 +18,12 @@ use Rattle.adb_load.specs.declared.act.Act.TheVariants.{Come, Ask, Accept}
 use Rattle.adb_load.specs.Acts.{client_of, link_of, remote_of, asked_of, entry_of}
 use Rattle.adb_load_laws.proofs.Links.{HasBrought}
 use Rattle.adb_load_laws.proofs.Opened.{begun_on, opened_now}
+use Rattle.adb_load_laws.proofs.Asks.{asks_on}
 use Rattle.adb_load_laws.proofs.Sums.{AreFrom, all_stay, all_then}
 use Rattle.adb_load_laws.proofs.Quiet.{IsAnswered, HasStreams}
 
--- Requests were answered with one `OKAY`, and the last of them asks for a service of a device.
-pub record AsksFor (transport : ℕ) (service : List ℕ) (q : Asked) : Type 0 where
-  pub replies : q.replies ≡ codes "OKAY"
-  pub next : q.next ≡ Some (what.Open transport service)
-
--- So are those of the client of a stream, where its device is connected.
-abbrev pub IsAskedFor : (stream : ℕ) → List ℕ → Type 0
-IsAskedFor stream service = (table : DeviceTable) (rows : List (ℕ × ForwardRow)) → is_connected (link_of stream) table ≡ true
-    → AsksFor (link_of stream) service (asks_with table rows (asked_of stream) nothing_asked)
-
-for_answered : (transport : ℕ) (service : List ℕ) (q : Asked) → AsksFor transport service q → IsAnswered q
-for_answered transport service q for = record { replies = ap (length {A = ℕ}) for.replies; over = ap is_none for.next }
+asks_answered : (link : ℕ) → IsAnswered (asks_on link)
+asks_answered link = record { replies = refl; over = refl }
 
 all_three : (a b c : Bool) → a ≡ true → b ≡ false → c ≡ true → ((a && not b) && c) ≡ true
 all_three a b c yes_a not_b yes_c = ap (λ x. (x && not b) && c) yes_a ∙ (ap (λ x. not x && c) not_b ∙ yes_c)
@@ -68,10 +58,14 @@ module _ (stream : ℕ) (h : History) (has : HasStreams stream h) where
   own : asked c asked_now ≡ q
   own = ap (λ b. cond b q (asked c h)) (eq-eqb c c refl)
 
-  module _ (service : List ℕ) (for : IsAskedFor stream service) (connected : is_connected (link_of stream) (devices_if false h) ≡ true) where
-    answer : AsksFor (link_of stream) service q
-    answer = subst (AsksFor (link_of stream) service) (sym asked_is)
-        (for (devices came) (forwards came) (ap (λ b. is_connected (link_of stream) (devices_if b came)) has.runs ∙ connected))
+  -- what the client of the stream asks over the devices that are there
+  abbrev Asks : Type 0
+  Asks = (rows : List (ℕ × ForwardRow)) → asks_with (devices_if false h) rows (asked_of stream) nothing_asked ≡ asks_on (link_of stream)
+
+  module _ (asks : Asks) where
+    answer : q ≡ asks_on (link_of stream)
+    answer =
+        asked_is ∙ (ap (λ b. asks_with (devices_if b came) (forwards came) (asked_of stream) nothing_asked) has.runs ∙ asks (forwards came))
 
     abbrev birth : Birth
     birth = record {
@@ -79,15 +73,15 @@ module _ (stream : ℕ) (h : History) (has : HasStreams stream h) where
       link = link_of stream;
       credit = is_credit (link_of stream) (devices came);
       forwarded = false;
-      service = service;
+      service = codes "echo:";
       head = (asked c asked_now).used;
       packets_before = length (brought (link_of stream) came);
     }
 
-    newly_opens : newly (asked c came).next (asked c asked_now).next ≡ Some (what.Open (link_of stream) service)
+    newly_opens : newly (asked c came).next (asked c asked_now).next ≡ Some (what.Open (link_of stream) (codes "echo:"))
     newly_opens =
         ap (λ (before : Asked). newly before.next (asked c asked_now).next) fresh
-        ∙ (ap (λ (after : Asked). after.next) own ∙ answer.next)
+        ∙ (ap (λ (after : Asked). after.next) own ∙ ap (λ (after : Asked). after.next) answer)
 
     born : births_at (entry_of (Ask stream)) came ≡ birth ∷ []
     born = ap (birth_by c (asked c asked_now).used came) newly_opens
@@ -107,7 +101,7 @@ module _ (stream : ℕ) (h : History) (has : HasStreams stream h) where
           (record { client = refl; own = refl; opened = opened_now stream birth packets h small brings (record { link = refl; before = refl }) })
 
       answered_at : (n : ℕ) (here : Bool) → eqb c n ≡ here → 0 < n → n ≤ stream + 1 → IsAnswered (cond here q (asked n h))
-      answered_at n true is some le = for_answered (link_of stream) service q answer
+      answered_at n true is some le = subst IsAnswered (sym answer) (asks_answered (link_of stream))
       answered_at n false is some le = has.answered n some (omega (arith, le, eqb-false c n is))
 
       -- one more client has its stream

@@ -8,3 +8,6 @@ pub mod Quiet
 pub mod Begins
 pub mod Silent
 pub mod Runs
+pub mod Clients
+pub mod Asks
+pub mod Handed

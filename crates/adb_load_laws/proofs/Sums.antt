@@ -1,15 +1,16 @@
 -- What the streams of a load were handed, together: what was put to their clients past the leads.
 use Rattle.std.proofs.Common.{ℕ, suc, ◌+◌, ◌-◌, ◌≡◌, ◌<◌, ◌≤◌, Bool, true, false, cond, List, [], ◌∷◌, ◌++◌, length, drop}
-use Rattle.std.proofs.Common.{ap, subst, ◌∙◌, arith, length-drop}
+use Rattle.std.proofs.Common.{sym, ap, subst, ◌∙◌, arith, length-drop}
 use Rattle.std.specs.Prelude.{is_some}
 use Rattle.adb_capture.specs.declared.entry.Entry.{Entry}
 use Rattle.adb_history.specs.Machine.{History}
-use Rattle.adb_history.specs.Bytes.{bytes_put}
+use Rattle.adb_history.specs.Bytes.{bytes_put, brought}
 use Rattle.adb_history.specs.Book.{asked}
-use Rattle.adb_history.specs.Births.{Birth, births, opening_of, lead_of, handed_to}
+use Rattle.adb_history.specs.Births.{Birth, births, opening_in, opening_of, lead_of, handed_to}
 use Rattle.adb_history.specs.Tied.{came_count}
 use Rattle.adb_load.specs.Acts.{client_of}
 use Rattle.adb_load_laws.specs.Totals.{sum_to, handed_from, down_of, lead_len, past_leads}
+use Rattle.adb_load_laws.proofs.Inputs.{SameCame, same_packets}
 use Rattle.adb_load_laws.proofs.Opened.{IsOpened, opened_some, opened_stays}
 
 -- A birth is that of a stream: its client came by itself, and its device opened it.
@@ -37,6 +38,24 @@ pub all_then : (stream last : ℕ) (bs : List Birth) (b : Birth) (h : History) �
 all_then stream last [] b h are at one = let same : last ≡ stream = omega (arith, at) in (subst (λ (k : ℕ). IsOf k b h) same one, tt)
 all_then stream last (first ∷ others) b h are at one = (are.0, all_then (suc stream) last others b h are.1 (omega (arith, at)) one)
 
+-- they are so of whatever history brought the same
+all_same : (stream : ℕ) (bs : List Birth) (h g : History) → ((t : ℕ) → brought t h ≡ brought t g) → AreFrom stream bs g → AreFrom stream bs h
+all_same stream [] h g same are = tt
+all_same stream (b ∷ others) h g same are = (
+  record {
+    client = are.0.client;
+    own = are.0.own;
+    opened = record {
+      later = are.0.opened.later;
+      is = ap (λ packets. opening_in (client_of stream) (drop b.packets_before packets)) (same b.link) ∙ are.0.opened.is;
+    };
+  },
+  all_same (suc stream) others h g same are.1,
+)
+
+pub same_from : (h g : History) → SameCame h g → AreFrom 0 (births g) g → AreFrom 0 (births h) h
+same_from h g same are = subst (λ bs. AreFrom 0 bs h) (sym same.births) (all_same 0 (births g) h g (same_packets h g same.brings) are)
+
 -- ---- what they were handed
 -- what was put to a client past the replies that lead it
 abbrev past : History → ℕ → ℕ
@@ -60,7 +79,7 @@ handed_sum stream [] h are replied = let place : stream ≡ stream + length {A =
 handed_sum stream (b ∷ others) h are replied =
     let number : client_of stream ≡ suc stream = omega arith in
     let here = subst (λ (l : ℕ). length (handed_to l b h) ≡ past h l) number
-        (handed_len stream b h are.0 (replied (client_of stream) (omega arith) (omega arith))) in
+    (handed_len stream b h are.0 (replied (client_of stream) (omega arith) (omega arith))) in
     let later = handed_sum (suc stream) others h are.1 (λ c above within. replied c (omega (arith, above)) (omega (arith, within))) in
     let place : suc stream + length others ≡ stream + length (b ∷ others) = omega arith in
     omega (arith, here, later, ap (sum_to (past h)) place)

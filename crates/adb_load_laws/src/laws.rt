@@ -1,6 +1,6 @@
 //! What holds of every load, entry after entry, with all that is due handed out after each.
 
-ghost use Rattle.std.specs.Prelude.{◌≡◌, ◌∷◌, ◌++◌, ℕ, List, []};
+ghost use Rattle.std.specs.Prelude.{◌≡◌, ◌<◌, ◌^◌, ◌∷◌, ◌++◌, ℕ, List, []};
 ghost use Rattle.adb_capture.specs.declared.entry.Entry.{Entry};
 ghost use Rattle.adb_history.specs.Drained.{drained_from};
 ghost use Rattle.adb_history.specs.Machine.{IsLegal};
@@ -17,6 +17,6 @@ pub fn loads_are_accepted()
 
 /// What is put to the clients of a load past the two replies that lead it is what devices wrote.
 pub fn totals_of_loads()
-    ensures { (seed streams : ℕ) → let h = drained_from [] (load seed streams) in
-        IsLegal h → down_of h ≡ past_leads h }
+    ensures { (seed streams : ℕ) → streams < 2 ^ 16
+        → let h = drained_from [] (load seed streams) in down_of h ≡ past_leads h }
 {}
