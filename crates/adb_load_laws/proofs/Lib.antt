@@ -1,3 +1,4 @@
 pub mod Turns
 pub mod Inputs
 pub mod Asking
+pub mod Taking
