@@ -11,3 +11,5 @@ pub mod Runs
 pub mod Clients
 pub mod Asks
 pub mod Handed
+pub mod Asking
+pub mod Taking
