@@ -5,3 +5,4 @@ pub mod Online
 pub mod Opened
 pub mod Silent
 pub mod Runs
+pub mod Asks

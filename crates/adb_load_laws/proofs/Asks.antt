@@ -1,0 +1,79 @@
+-- What the clients of a load ask: the device of their stream, and its service, at once.
+use Rattle.std.proofs.Common.{ℕ, zero, suc, ◌+◌, ◌%◌, ◌≡◌, ◌<◌, ◌≤◌, false, List, [], ◌∷◌, ◌++◌, Option, Some, None, refl, sym, ◌∙◌, ap, subst, arith}
+use Rattle.std.specs.Prelude.{codes}
+use Rattle.std.specs.Fmt.{decimal, digits}
+use Rattle.adb_outside.specs.Tables.{listed, listed_at}
+use Rattle.adb_registry.specs.Registry.{DeviceTable}
+use Rattle.adb_registry.specs.declared.row.Row.{Row}
+use Rattle.adb_forward.specs.declared.row.ForwardRow.{ForwardRow}
+use Rattle.adb_request.specs.Meaning.{meaning}
+use Rattle.adb_reply.specs.declared.answer.Next.TheVariants.{Open}
+use Rattle.adb_history.specs.Asking.{Asked, nothing_asked, asks_with}
+use Rattle.adb_history.specs.Book.{device_of, devices_if}
+use Rattle.adb_load.specs.declared.act.Act.{Act}
+use Rattle.adb_load.specs.Acts.{link_of, asked_of}
+use Rattle.adb_load.specs.Course.{Progress}
+use Rattle.adb_load_laws.proofs.Turns.{all_devices}
+use Rattle.adb_load_laws.proofs.Links.{past_of}
+use Rattle.adb_load_laws.proofs.Online.{device_row, device_there}
+use Rattle.adb_load_laws.proofs.Runs.{HasLinks, HasRun}
+
+-- ---- all devices
+-- the table of the devices of a load, when all are plugged in
+abbrev pub all_online : DeviceTable
+all_online = record {
+  drawn = 8;
+  rows = (1, device_row 1) ∷ (2, device_row 2) ∷ (3, device_row 3) ∷ (4, device_row 4) ∷ (5, device_row 5) ∷ (6, device_row 6) ∷ (7, device_row 7)
+      ∷ (8, device_row 8) ∷ [];
+}
+
+-- where so many rows are these, their table is of these
+listed_online : (rows : ℕ → Option Row) (first k : ℕ) → ((t : ℕ) → first ≤ t → t < first + k → rows t ≡ Some (device_row t))
+    → listed rows first k ≡ listed (λ t. Some (device_row t)) first k
+listed_online rows first zero are = refl
+listed_online rows first (suc k) are =
+    ap (λ (o : Option Row). listed_at first o (listed rows (suc first) k)) (are first (omega arith) (omega arith))
+    ∙ ap (λ (others : List (ℕ × Row)). (first, device_row first) ∷ others)
+    (listed_online rows (suc first) k (λ t from below. are t (omega (arith, from)) (omega (arith, below))))
+
+-- The devices of a load, when all are plugged in.
+pub devices_online : (done : List Act) → HasLinks 8 done → devices_if false (past_of done) ≡ all_online
+devices_online done has =
+    ap (λ (n : ℕ). record { drawn = n; rows = listed (λ t. device_of t (past_of done)) 1 n }) has.online.counted
+    ∙ ap (λ (rows : List (ℕ × Row)). record { drawn = 8; rows = rows })
+    (listed_online (λ t. device_of t (past_of done)) 1 8
+    (λ t from below. device_there t done (has.brings t) (has.online.there t (omega (arith, from)) (omega (arith, below)))))
+
+-- The same how far the load may be.
+pub run_online : (done : List Act) (p : Progress) → HasRun done p → all_devices ≤ p.plugged → devices_if false (past_of done) ≡ all_online
+run_online done p run all =
+    devices_online done (subst (λ (n : ℕ). HasLinks n done) (omega (arith, all, run.way.plugged)) run.links)
+
+-- ---- a client's requests
+-- What a client asked that selected a device and asked for its service: it was answered once, and its stream is to be opened.
+abbrev pub asks_on : ℕ → Asked
+asks_on link = record {
+  replies = codes "OKAY";
+  used = 32;
+  rest = [];
+  selected = Some link;
+  next = Some (Open link (codes "echo:"));
+}
+
+each_asks : (forwards : List (ℕ × ForwardRow)) (link : ℕ) → link < 8
+    → asks_with all_online forwards (codes "0013host:transport-id:" ++ decimal (link + 1) ++ codes "0005echo:") nothing_asked ≡ asks_on (link + 1)
+unfolding meaning digits
+each_asks forwards zero small = refl
+each_asks forwards (suc zero) small = refl
+each_asks forwards (suc (suc zero)) small = refl
+each_asks forwards (suc (suc (suc zero))) small = refl
+each_asks forwards (suc (suc (suc (suc zero)))) small = refl
+each_asks forwards (suc (suc (suc (suc (suc zero))))) small = refl
+each_asks forwards (suc (suc (suc (suc (suc (suc zero)))))) small = refl
+each_asks forwards (suc (suc (suc (suc (suc (suc (suc zero))))))) small = refl
+each_asks forwards (suc (suc (suc (suc (suc (suc (suc (suc link)))))))) small = absurd (omega (arith, small))
+
+-- A client that asked nothing before asks so, where all devices are plugged in.
+pub client_asks : (forwards : List (ℕ × ForwardRow)) (stream : ℕ)
+    → asks_with all_online forwards (asked_of stream) nothing_asked ≡ asks_on (link_of stream)
+client_asks forwards stream = each_asks forwards (stream % 8) (omega arith)
