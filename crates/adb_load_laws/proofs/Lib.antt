@@ -1,5 +1,6 @@
 pub mod Turns
 pub mod Inputs
+pub mod Asking
 pub mod Links
 pub mod Online
 pub mod Opened
