@@ -9,7 +9,7 @@ use Rattle.adb_registry.specs.Registry.{DeviceTable}
 use Rattle.adb_registry.specs.declared.row.Row.{Row}
 use Rattle.adb_forward.specs.declared.row.ForwardRow.{ForwardRow}
 use Rattle.adb_reply.specs.declared.answer.Next.TheVariants.{Open}
-use Rattle.adb_history.specs.Asking.{nothing_asked, asks_with}
+use Rattle.adb_history.specs.Asking.{Asked, nothing_asked, asks_with}
 use Rattle.adb_history.specs.Book.{device_of, devices_if}
 use Rattle.adb_load.specs.declared.act.Act.{Act}
 use Rattle.adb_load.specs.Acts.{link_of, asked_of}
@@ -68,10 +68,19 @@ each_chosen (suc (suc (suc (suc (suc (suc zero)))))) small = record { chosen = r
 each_chosen (suc (suc (suc (suc (suc (suc (suc zero))))))) small = record { chosen = refl; there = refl }
 each_chosen (suc (suc (suc (suc (suc (suc (suc (suc link)))))))) small = absurd (omega (arith, small))
 
--- A client that asked nothing before is answered once, and asks for the service of its device, where all devices are plugged in.
+-- What a client asked that selected a device and asked for its service: it was answered once, and its stream is to be opened.
+abbrev pub asks_on : ℕ → Asked
+asks_on link = record {
+  replies = codes "OKAY";
+  used = 32;
+  rest = [];
+  selected = Some link;
+  next = Some (Open link (codes "echo:"));
+}
+
+-- A client that asked nothing before asks so, where all devices are plugged in.
 pub client_asks : (forwards : List (ℕ × ForwardRow)) (stream : ℕ)
-    → asks_with all_online forwards (asked_of stream) nothing_asked
-    ≡ record { replies = codes "OKAY"; used = 32; rest = []; selected = Some (link_of stream); next = Some (Open (link_of stream) (codes "echo:")) }
+    → asks_with all_online forwards (asked_of stream) nothing_asked ≡ asks_on (link_of stream)
 client_asks forwards stream =
     let is : IsChosen (link_of stream) = each_chosen (stream % 8) (omega arith) in
     asked_connected stream all_online forwards (device_row (link_of stream)) is.chosen is.there refl
