@@ -1,12 +1,13 @@
 -- What the clients of a load ask: the device of their stream, and its service, at once.
-use Rattle.std.proofs.Common.{ℕ, zero, suc, ◌+◌, ◌%◌, ◌≡◌, ◌<◌, ◌≤◌, false, List, [], ◌∷◌, ◌++◌, Option, Some, None, refl, sym, ◌∙◌, ap, subst, arith}
+use Rattle.std.proofs.Common.{ℕ, zero, suc, ◌+◌, ◌%◌, ◌≡◌, ◌<◌, ◌≤◌, true, false, List, [], ◌∷◌, Option, Some, Ok, refl, ◌∙◌, ap, subst, arith}
 use Rattle.std.specs.Prelude.{codes}
-use Rattle.std.specs.Fmt.{decimal, digits}
-use Rattle.adb_outside.specs.Tables.{listed, listed_at}
+use Rattle.std.specs.Map.{values_of}
+use Rattle.adb_outside.specs.Tables.{at, listed, listed_at}
+use Rattle.adb_outside.specs.declared.kinds.Selector.TheVariants.{Id}
+use Rattle.adb_registry.specs.Choice.{choice}
 use Rattle.adb_registry.specs.Registry.{DeviceTable}
 use Rattle.adb_registry.specs.declared.row.Row.{Row}
 use Rattle.adb_forward.specs.declared.row.ForwardRow.{ForwardRow}
-use Rattle.adb_request.specs.Meaning.{meaning}
 use Rattle.adb_reply.specs.declared.answer.Next.TheVariants.{Open}
 use Rattle.adb_history.specs.Asking.{Asked, nothing_asked, asks_with}
 use Rattle.adb_history.specs.Book.{device_of, devices_if}
@@ -14,6 +15,7 @@ use Rattle.adb_load.specs.declared.act.Act.{Act}
 use Rattle.adb_load.specs.Acts.{link_of, asked_of}
 use Rattle.adb_load.specs.Course.{Progress}
 use Rattle.adb_load_laws.proofs.Turns.{all_devices}
+use Rattle.adb_load_laws.proofs.Asking.{asked_connected}
 use Rattle.adb_load_laws.proofs.Links.{past_of}
 use Rattle.adb_load_laws.proofs.Online.{device_row, device_there}
 use Rattle.adb_load_laws.proofs.Runs.{HasLinks, HasRun}
@@ -50,6 +52,22 @@ run_online done p run all =
     devices_online done (subst (λ (n : ℕ). HasLinks n done) (omega (arith, all, run.way.plugged)) run.links)
 
 -- ---- a client's requests
+-- A link's device is chosen by its number, and its row stands in the table.
+record IsChosen (link : ℕ) : Type 0 where
+  chosen : choice (values_of all_online.rows) (Id link) true ≡ Ok link
+  there : at link all_online.rows ≡ Some (device_row link)
+
+each_chosen : (link : ℕ) → link < 8 → IsChosen (link + 1)
+each_chosen zero small = record { chosen = refl; there = refl }
+each_chosen (suc zero) small = record { chosen = refl; there = refl }
+each_chosen (suc (suc zero)) small = record { chosen = refl; there = refl }
+each_chosen (suc (suc (suc zero))) small = record { chosen = refl; there = refl }
+each_chosen (suc (suc (suc (suc zero)))) small = record { chosen = refl; there = refl }
+each_chosen (suc (suc (suc (suc (suc zero))))) small = record { chosen = refl; there = refl }
+each_chosen (suc (suc (suc (suc (suc (suc zero)))))) small = record { chosen = refl; there = refl }
+each_chosen (suc (suc (suc (suc (suc (suc (suc zero))))))) small = record { chosen = refl; there = refl }
+each_chosen (suc (suc (suc (suc (suc (suc (suc (suc link)))))))) small = absurd (omega (arith, small))
+
 -- What a client asked that selected a device and asked for its service: it was answered once, and its stream is to be opened.
 abbrev pub asks_on : ℕ → Asked
 asks_on link = record {
@@ -60,20 +78,9 @@ asks_on link = record {
   next = Some (Open link (codes "echo:"));
 }
 
-each_asks : (forwards : List (ℕ × ForwardRow)) (link : ℕ) → link < 8
-    → asks_with all_online forwards (codes "0013host:transport-id:" ++ decimal (link + 1) ++ codes "0005echo:") nothing_asked ≡ asks_on (link + 1)
-unfolding meaning digits
-each_asks forwards zero small = refl
-each_asks forwards (suc zero) small = refl
-each_asks forwards (suc (suc zero)) small = refl
-each_asks forwards (suc (suc (suc zero))) small = refl
-each_asks forwards (suc (suc (suc (suc zero)))) small = refl
-each_asks forwards (suc (suc (suc (suc (suc zero))))) small = refl
-each_asks forwards (suc (suc (suc (suc (suc (suc zero)))))) small = refl
-each_asks forwards (suc (suc (suc (suc (suc (suc (suc zero))))))) small = refl
-each_asks forwards (suc (suc (suc (suc (suc (suc (suc (suc link)))))))) small = absurd (omega (arith, small))
-
 -- A client that asked nothing before asks so, where all devices are plugged in.
 pub client_asks : (forwards : List (ℕ × ForwardRow)) (stream : ℕ)
     → asks_with all_online forwards (asked_of stream) nothing_asked ≡ asks_on (link_of stream)
-client_asks forwards stream = each_asks forwards (stream % 8) (omega arith)
+client_asks forwards stream =
+    let is : IsChosen (link_of stream) = each_chosen (stream % 8) (omega arith) in
+    asked_connected stream all_online forwards (device_row (link_of stream)) is.chosen is.there refl

@@ -1,5 +1,5 @@
 -- What the links of a load brought: whole packets, whose check words nobody looks at.
-use Rattle.std.proofs.Common.{ℕ, ◌^◌, ◌≡◌, ◌<◌, ◌≤◌, Bool, true, false, cond, List, [], ◌∷◌, ◌++◌, length, take, drop, reverse, map, None, refl, sym, ◌∙◌, ap, subst, arith}
+use Rattle.std.proofs.Common.{ℕ, ◌^◌, ◌≡◌, ◌<◌, ◌≤◌, Bool, true, false, cond, List, [], ◌∷◌, ◌++◌, length, reverse, None, refl, sym, ◌∙◌, ap, subst, arith}
 use Rattle.std.specs.Prelude.{nat_eq, not, ◌&&◌, if◌then◌else◌, codes}
 use Rattle.std.specs.List.{flat_map}
 use Rattle.std.proofs.lemmas.List.{append-nil, append_assoc, reverse-append, map-append, take-append-drop}
@@ -22,7 +22,7 @@ use Rattle.adb_wire.proofs.CuttingLaws.{item, after}
 use Rattle.adb_births.proofs.Framed.{plain, IsReadPlainly, IsReadEvent, spelled_cut}
 use Rattle.adb_capture.specs.declared.entry.Entry.{Entry}
 use Rattle.adb_capture.specs.declared.entry.Entry.TheVariants.{Recv}
-use Rattle.adb_history.specs.Events.{Event, due_to_link}
+use Rattle.adb_history.specs.Events.{due_to_link}
 use Rattle.adb_history.specs.Machine.{History}
 use Rattle.adb_history.specs.Bytes.{is_lost, bytes_received, brought}
 use Rattle.adb_load.specs.declared.act.Act.{Act}

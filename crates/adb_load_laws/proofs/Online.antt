@@ -1,13 +1,13 @@
 -- The device of a link of a load is there, as it said who it is.
-use Rattle.std.proofs.Common.{ℕ, ◌+◌, ◌≡◌, ◌<◌, ◌≤◌, ◌⊎◌, inl, inr, Bool, true, false, cond, List, [], ◌∷◌, ◌++◌, reverse, find, Option, Some, None, is_some}
+use Rattle.std.proofs.Common.{ℕ, ◌+◌, ◌≡◌, ◌<◌, ◌≤◌, ◌⊎◌, inl, inr, Bool, true, false, cond, List, [], ◌∷◌, ◌++◌, find, Option, Some, None, is_some}
 use Rattle.std.proofs.Common.{refl, sym, ◌∙◌, ap, subst, arith}
 use Rattle.std.specs.Prelude.{nat_eq, ◌||◌, codes, option_map, unwrap_or}
 use Rattle.std.specs.List.{list_any}
-use Rattle.std.proofs.lemmas.Bool.{eqb-true, eq-eqb, ne_eqb, cases_eq}
+use Rattle.std.proofs.lemmas.Bool.{eq-eqb, ne_eqb, cases_eq}
 use Rattle.std.proofs.lemmas.List.{append-nil, append_assoc, reverse-append}
 use Rattle.std.proofs.lemmas.List.Folds.{list_any-append}
 use Rattle.adb_outside.specs.Framing.{Cut}
-use Rattle.adb_outside.specs.Tables.{at, listed}
+use Rattle.adb_outside.specs.Tables.{at}
 use Rattle.adb_outside.proofs.TableLaws.{shows}
 use Rattle.adb_outside.specs.declared.kinds.Kind.TheVariants.{Usb}
 use Rattle.adb_outside.specs.declared.identity.Identity.{Identity}
@@ -28,8 +28,8 @@ use Rattle.adb_history.specs.Book.{plugged, plugged_count, is_refused, last_cnxn
 use Rattle.adb_load.specs.declared.act.Act.{Act}
 use Rattle.adb_load.specs.declared.act.Act.TheVariants.{Plug, Greet, Come, Ask, Accept, Write, Acknowledge, Answer, Leave, Close}
 use Rattle.adb_load.specs.declared.act.Piece.TheVariants.{Whole, Head, Tail}
-use Rattle.adb_load.specs.Acts.{serial_of, link_of, down_bytes, entry_of, acts_from}
-use Rattle.adb_load_laws.proofs.Links.{past_of, past_then, greeting_packet, packet_to, on_link, packets_by, packets_on, packets_then, read_whole, HasBrought, BringsOn, IsTurn}
+use Rattle.adb_load.specs.Acts.{serial_of, link_of, down_bytes, acts_from}
+use Rattle.adb_load_laws.proofs.Links.{past_of, past_then, greeting_packet, packet_to, on_link, packets_by, packets_on, packets_then, BringsOn}
 
 abbrev Cutting : Type 0
 Cutting = Cut PacketFormat Packet PacketFault

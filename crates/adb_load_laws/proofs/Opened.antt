@@ -1,6 +1,6 @@
 -- The streams of a load are opened: the device says so right behind the birth, and whatever comes after changes nothing of it.
-use Rattle.std.proofs.Common.{ℕ, ◌≡◌, ◌<◌, ◌^◌, true, Bool, cond, List, [], ◌∷◌, ◌++◌, length, drop, Option, Some, None, is_some, refl, sym, ◌∙◌, ap, subst, arith}
-use Rattle.std.specs.Prelude.{nat_eq, not, ◌&&◌, ◌==◌}
+use Rattle.std.proofs.Common.{ℕ, ◌≡◌, ◌<◌, ◌^◌, true, Bool, cond, List, [], ◌∷◌, ◌++◌, length, drop, Some, None, is_some, refl, sym, ◌∙◌, ap, subst, arith}
+use Rattle.std.specs.Prelude.{not, ◌&&◌, ◌==◌}
 use Rattle.std.proofs.lemmas.Bool.{eq-eqb, ne_eqb}
 use Rattle.std.proofs.lemmas.List.{append-nil, drop_at}
 use Rattle.adb_wire.specs.declared.packets.Packet.{Packet}
@@ -8,7 +8,7 @@ use Rattle.adb_wire.specs.declared.command.Command.TheVariants.{Okay}
 use Rattle.adb_capture.specs.declared.entry.Entry.{Entry}
 use Rattle.adb_history.specs.Machine.{History}
 use Rattle.adb_history.specs.Bytes.{brought}
-use Rattle.adb_history.specs.Births.{Birth, Opening, opening_in, opening_of}
+use Rattle.adb_history.specs.Births.{Birth, opening_in, opening_of}
 use Rattle.adb_births.specs.Brought.{opening_grows}
 use Rattle.adb_load.specs.declared.act.Act.{Act}
 use Rattle.adb_load.specs.declared.act.Act.TheVariants.{Come, Ask, Accept}

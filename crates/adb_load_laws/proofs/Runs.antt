@@ -1,15 +1,12 @@
 -- What the links of a load are after any number of its turns.
-use Rattle.std.proofs.Common.{ℕ, ◌+◌, ◌%◌, ◌^◌, ◌≡◌, ◌<◌, ◌≤◌, Bool, true, false, List, [], ◌∷◌, ◌++◌, sym, refl, subst, arith, ◌∙◌, if◌then◌else◌}
-use Rattle.std.specs.Prelude.{Option, Some, None}
-use Rattle.std.specs.List.{slice_get}
+use Rattle.std.proofs.Common.{ℕ, ◌+◌, ◌^◌, ◌<◌, ◌≤◌, Bool, true, false, List, [], ◌++◌, sym, refl, subst, arith, if◌then◌else◌}
 use Rattle.std.proofs.lemmas.List.{append-nil}
-use Rattle.rand_pcg.specs.Lcg.{Lcg}
 use Rattle.adb_wire.specs.declared.headers.TheConstants.{MAX_PAYLOAD}
 use Rattle.adb_load.specs.declared.act.Act.{Act}
 use Rattle.adb_load.specs.declared.act.Act.TheVariants.{Plug, Come, Write, Answer, Leave, Close}
 use Rattle.adb_load.specs.declared.act.Piece.TheVariants.{Whole, Head}
 use Rattle.adb_load.specs.declared.live.Live.{Live}
-use Rattle.adb_load.specs.Acts.{link_of, remote_of, up_size, down_size, acts_from, acts_due}
+use Rattle.adb_load.specs.Acts.{link_of, remote_of, acts_from, acts_due}
 use Rattle.adb_load.specs.Streams.{is_set, moved}
 use Rattle.adb_load.specs.Course.{Progress, Turn, turn, start}
 use Rattle.adb_load.specs.Load.{acts_of_turns}
