@@ -1,5 +1,5 @@
 -- A stream of a load begins: its client asks for it, and its device opens it.
-use Rattle.std.proofs.Common.{ℕ, ◌+◌, ◌^◌, ◌≡◌, ◌<◌, ◌≤◌, Bool, true, false, cond, List, [], ◌∷◌, ◌++◌, length, Option, Some, None}
+use Rattle.std.proofs.Common.{ℕ, ◌+◌, ◌^◌, ◌≡◌, ◌<◌, ◌≤◌, Bool, true, false, cond, List, [], ◌∷◌, ◌++◌, length, Option, Some}
 use Rattle.std.proofs.Common.{refl, sym, ap, subst, ◌∙◌, arith, eqb}
 use Rattle.std.specs.Prelude.{not, ◌&&◌, ◌||◌, codes}
 use Rattle.std.proofs.lemmas.Bool.{eqb-false, eq-eqb, ne_eqb}
@@ -11,7 +11,7 @@ use Rattle.adb_reply.specs.declared.answer.Next.TheVariants as what
 use Rattle.adb_history.specs.Links.{is_credit}
 use Rattle.adb_history.specs.Asking.{Asked, nothing_asked, asks_with}
 use Rattle.adb_history.specs.Machine.{History}
-use Rattle.adb_history.specs.Bytes.{has_joined, has_ended, brought}
+use Rattle.adb_history.specs.Bytes.{has_joined, brought}
 use Rattle.adb_history.specs.Book.{still_asks, newly, kills, asked, asked_with, is_asking, book, devices_if, devices, forwards, is_killed}
 use Rattle.adb_history.specs.Births.{Birth, births, births_at, birth_by}
 use Rattle.adb_load.specs.declared.act.Act.TheVariants.{Come, Ask, Accept}
@@ -112,6 +112,8 @@ module _ (stream : ℕ) (h : History) (has : HasStreams stream h) where
         answered = λ n some le. answered_at n (eqb c n) refl some le;
         fresh = λ n above. ap (λ b. cond b q (asked n h)) (ne_eqb c n (λ is. omega (arith, is, above))) ∙ has.fresh n (omega (arith, above));
         stays = λ n above. has.stays n (omega (arith, above));
-        runs = ap (λ (next : Option Next). is_killed h || kills next) (ap (newly (asked c came).next) (sym (ap (λ (after : Asked). after.next) own)) ∙ newly_opens)
+        runs =
+            ap (λ (next : Option Next). is_killed h || kills next)
+            (ap (λ (after : Asked). newly (asked c came).next after.next) (sym own) ∙ newly_opens)
             ∙ ap (λ b. b || false) has.runs;
       }

@@ -1,10 +1,8 @@
 -- The clients of a load after any number of its turns: each that came has its stream.
-use Rattle.std.proofs.Common.{ℕ, ◌+◌, ◌^◌, ◌≡◌, ◌<◌, ◌≤◌, Bool, true, false, List, [], ◌∷◌, ◌++◌, refl, sym, ap, subst, ◌∙◌, arith, if◌then◌else◌}
+use Rattle.std.proofs.Common.{ℕ, ◌+◌, ◌≡◌, ◌<◌, ◌≤◌, Bool, true, false, List, [], ◌∷◌, ◌++◌, refl, sym, ap, subst, ◌∙◌, arith, if◌then◌else◌}
 use Rattle.std.specs.Prelude.{◌||◌}
-use Rattle.std.specs.List.{slice_get}
 use Rattle.std.proofs.lemmas.Bool.{ne_eqb}
 use Rattle.std.proofs.lemmas.List.{append-nil}
-use Rattle.rand_pcg.specs.Lcg.{Lcg}
 use Rattle.adb_capture.specs.declared.entry.Entry.TheVariants.{Recv}
 use Rattle.adb_forward.specs.declared.row.ForwardRow.{ForwardRow}
 use Rattle.adb_history.specs.Asking.{nothing_asked, asks_with}
@@ -14,7 +12,6 @@ use Rattle.adb_history.specs.Book.{devices_if}
 use Rattle.adb_history.specs.Tied.{came_count}
 use Rattle.adb_load.specs.declared.act.Act.{Act}
 use Rattle.adb_load.specs.declared.act.Act.TheVariants.{Plug, Greet, Come, Ask, Accept, Write, Acknowledge, Answer, Leave, Close}
-use Rattle.adb_load.specs.declared.act.Piece.{Piece}
 use Rattle.adb_load.specs.declared.act.Piece.TheVariants.{Whole, Head, Tail}
 use Rattle.adb_load.specs.declared.live.Live.{Live}
 use Rattle.adb_load.specs.Acts.{client_of, link_of, asked_of, up_bytes, entry_of, acts_from, acts_due}
@@ -24,7 +21,7 @@ use Rattle.adb_load.specs.Load.{acts_of_turns}
 use Rattle.adb_load_laws.proofs.Turns.{all_devices, after_turns, turns_keep, by_turn, by_moved, IsBegun, live_begun}
 use Rattle.adb_load_laws.proofs.Links.{past_of, past_then, packets_on}
 use Rattle.adb_load_laws.proofs.Runs.{most_streams, HasLinks, HasRun, run_at_first, turn_runs}
-use Rattle.adb_load_laws.proofs.Quiet.{IsQuiet, attach_quiet, recv_quiet, end_quiet, read_quiet, HasStreams, streams_at_first, streams_stay}
+use Rattle.adb_load_laws.proofs.Quiet.{attach_quiet, recv_quiet, end_quiet, read_quiet, HasStreams, streams_at_first, streams_stay}
 use Rattle.adb_load_laws.proofs.Asks.{asks_on, devices_online, client_asks}
 use Rattle.adb_load_laws.proofs.Begins.{stream_begins}
 

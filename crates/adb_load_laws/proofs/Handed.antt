@@ -1,5 +1,5 @@
 -- What the streams of a load were handed, with all that is due handed out after each entry.
-use Rattle.std.proofs.Common.{ℕ, ◌≡◌, ◌<◌, ◌≤◌, List, [], ◌++◌, length, sym, ap, subst, ◌∙◌, arith}
+use Rattle.std.proofs.Common.{ℕ, ◌≡◌, ◌<◌, ◌≤◌, List, [], length, sym, ap, subst, ◌∙◌, arith}
 use Rattle.std.proofs.lemmas.List.{append-nil}
 use Rattle.adb_history.specs.Machine.{History}
 use Rattle.adb_history.specs.Book.{Book, asked}
@@ -9,7 +9,7 @@ use Rattle.adb_load.specs.declared.act.Act.{Act}
 use Rattle.adb_load.specs.Course.{start, turns_left}
 use Rattle.adb_load.specs.Load.{acts_ahead, entries_of, load}
 use Rattle.adb_load_laws.specs.Totals.{down_of, past_leads}
-use Rattle.adb_load_laws.proofs.Inputs.{SameCame, drained_same, came_onto, onto_reverse}
+use Rattle.adb_load_laws.proofs.Inputs.{SameCame, drained_same, onto_reverse}
 use Rattle.adb_load_laws.proofs.Links.{past_of}
 use Rattle.adb_load_laws.proofs.Runs.{most_streams}
 use Rattle.adb_load_laws.proofs.Sums.{same_from, handed_is_past}
@@ -40,5 +40,6 @@ same_handed n h g same has =
 pub load_handed : (seed streams : ℕ) → streams < most_streams
     → down_of (drained_from [] (load seed streams)) ≡ past_leads (drained_from [] (load seed streams))
 load_handed seed streams few =
+    let acts = acts_ahead (start seed streams) in
     let clients = load_clients seed streams few in
-    same_handed clients.0 (drained_from [] (load seed streams)) (past_of (acts_ahead (start seed streams))) (acts_same (acts_ahead (start seed streams))) clients.1
+    same_handed clients.0 (drained_from [] (entries_of acts)) (past_of acts) (acts_same acts) clients.1

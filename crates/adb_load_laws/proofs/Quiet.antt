@@ -1,7 +1,7 @@
 -- Entries that say nothing of requests: no stream begins by them, and no client asks by them.
 use Rattle.std.proofs.Common.{ℕ, ◌+◌, ◌≡◌, ◌<◌, ◌≤◌, Bool, true, false, cond, List, [], ◌∷◌, ◌++◌, length, Option, Some, None}
 use Rattle.std.proofs.Common.{refl, sym, ap, subst, ◌∙◌, arith, eqb}
-use Rattle.std.specs.Prelude.{nat_eq, not, ◌&&◌, ◌||◌, is_none}
+use Rattle.std.specs.Prelude.{not, ◌&&◌, ◌||◌, is_none}
 use Rattle.std.proofs.lemmas.Bool.{eqb-true}
 use Rattle.std.proofs.lemmas.List.{append-nil}
 use Rattle.adb_outside.specs.declared.kinds.Kind.{Kind}

@@ -1,12 +1,11 @@
 -- What the streams of a load were handed, together: what was put to their clients past the leads.
-use Rattle.std.proofs.Common.{ℕ, suc, ◌+◌, ◌-◌, ◌≡◌, ◌<◌, ◌≤◌, Bool, true, false, cond, List, [], ◌∷◌, ◌++◌, length, drop}
+use Rattle.std.proofs.Common.{ℕ, suc, ◌+◌, ◌-◌, ◌≡◌, ◌<◌, ◌≤◌, Bool, false, cond, List, [], ◌∷◌, ◌++◌, length, drop}
 use Rattle.std.proofs.Common.{sym, ap, subst, ◌∙◌, arith, length-drop}
-use Rattle.std.specs.Prelude.{is_some}
 use Rattle.adb_capture.specs.declared.entry.Entry.{Entry}
 use Rattle.adb_history.specs.Machine.{History}
 use Rattle.adb_history.specs.Bytes.{bytes_put, brought}
 use Rattle.adb_history.specs.Book.{asked}
-use Rattle.adb_history.specs.Births.{Birth, births, opening_in, opening_of, lead_of, handed_to}
+use Rattle.adb_history.specs.Births.{Birth, births, opening_in, lead_of, handed_to}
 use Rattle.adb_history.specs.Tied.{came_count}
 use Rattle.adb_load.specs.Acts.{client_of}
 use Rattle.adb_load_laws.specs.Totals.{sum_to, handed_from, down_of, lead_len, past_leads}
