@@ -2,3 +2,4 @@ pub mod Turns
 pub mod Inputs
 pub mod Asking
 pub mod Taking
+pub mod Standing
