@@ -55,7 +55,7 @@ chosen_by t devices (Err why) = record {
 }
 
 -- the links of a load one by one
-by_link : (P : ℕ → Type 0) → P 1 → P 2 → P 3 → P 4 → P 5 → P 6 → P 7 → P 8 → (n : ℕ) → n < 8 → P (n + 1)
+pub by_link : (P : ℕ → Type 0) → P 1 → P 2 → P 3 → P 4 → P 5 → P 6 → P 7 → P 8 → (n : ℕ) → n < 8 → P (n + 1)
 by_link P a b c d e f g h zero small = a
 by_link P a b c d e f g h (suc zero) small = b
 by_link P a b c d e f g h (suc (suc zero)) small = c

@@ -13,3 +13,4 @@ pub mod Quiet
 pub mod Begins
 pub mod Clients
 pub mod Handed
+pub mod Standing
