@@ -31,7 +31,7 @@ use Rattle.adb_load.specs.declared.act.Piece.TheVariants.{Whole, Head, Tail}
 use Rattle.adb_load.specs.Acts.{client_of, link_of, remote_of, down_bytes, piece_of, entry_of, acts_from}
 use Rattle.adb_load.specs.Load.{entries_of}
 
-abbrev Cutting : Type 0
+abbrev pub Cutting : Type 0
 Cutting = Cut PacketFormat Packet PacketFault
 
 -- ---- acts as a history

@@ -6,7 +6,6 @@ use Rattle.std.specs.List.{list_any}
 use Rattle.std.proofs.lemmas.Bool.{eq-eqb, ne_eqb, cases_eq}
 use Rattle.std.proofs.lemmas.List.{append-nil, append_assoc, reverse-append}
 use Rattle.std.proofs.lemmas.List.Folds.{list_any-append}
-use Rattle.adb_outside.specs.Framing.{Cut}
 use Rattle.adb_outside.specs.Tables.{at}
 use Rattle.adb_outside.proofs.TableLaws.{shows}
 use Rattle.adb_outside.specs.declared.kinds.Kind.TheVariants.{Usb}
@@ -17,8 +16,6 @@ use Rattle.adb_registry.specs.Row.{new_row}
 use Rattle.adb_registry.specs.declared.row.Row.{Row}
 use Rattle.adb_wire.specs.declared.packets.Packet.{Packet}
 use Rattle.adb_wire.specs.declared.command.Command.TheVariants.{Okay, Wrte, Clse}
-use Rattle.adb_wire.specs.declared.format.PacketFault.{PacketFault}
-use Rattle.adb_wire.specs.declared.format.PacketFormat.{PacketFormat}
 use Rattle.adb_wire.specs.Format.{is_cnxn}
 use Rattle.adb_wire.specs.Cutting.{framed}
 use Rattle.adb_history.specs.Links.{is_connected, is_connected_row, is_credit, is_credit_row, maxdata_of}
@@ -29,10 +26,7 @@ use Rattle.adb_load.specs.declared.act.Act.{Act}
 use Rattle.adb_load.specs.declared.act.Act.TheVariants.{Plug, Greet, Come, Ask, Accept, Write, Acknowledge, Answer, Leave, Close}
 use Rattle.adb_load.specs.declared.act.Piece.TheVariants.{Whole, Head, Tail}
 use Rattle.adb_load.specs.Acts.{serial_of, link_of, down_bytes, acts_from}
-use Rattle.adb_load_laws.proofs.Links.{past_of, past_then, greeting_packet, packet_to, on_link, packets_by, packets_on, packets_then, BringsOn}
-
-abbrev Cutting : Type 0
-Cutting = Cut PacketFormat Packet PacketFault
+use Rattle.adb_load_laws.proofs.Links.{Cutting, past_of, past_then, greeting_packet, packet_to, on_link, packets_by, packets_on, packets_then, BringsOn}
 
 -- ---- who a device says that it is
 abbrev pub identity : Identity

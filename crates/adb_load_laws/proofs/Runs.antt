@@ -10,7 +10,8 @@ use Rattle.adb_load.specs.Acts.{link_of, remote_of, acts_from, acts_due}
 use Rattle.adb_load.specs.Streams.{is_set, moved}
 use Rattle.adb_load.specs.Course.{Progress, Turn, turn, start}
 use Rattle.adb_load.specs.Load.{acts_of_turns}
-use Rattle.adb_load_laws.proofs.Turns.{all_devices, after_turns, turns_keep, by_turn, by_moved, IsBegun, IsUnderWay, under_way_at_first, live_begun, turn_under_way, turn_streams}
+use Rattle.adb_load_laws.proofs.Turns.{all_devices, after_turns, turns_keep, by_turn, by_moved}
+use Rattle.adb_load_laws.proofs.Turns.{IsBegun, IsUnderWay, under_way_at_first, live_begun, turn_under_way, turn_streams}
 use Rattle.adb_load_laws.proofs.Links.{IsTurn, BringsOn, brought_at_first, turn_brings}
 use Rattle.adb_load_laws.proofs.Online.{AreOnline, online_at_first, PlugsNext, plugged_after, turn_online}
 use Rattle.adb_load_laws.proofs.Silent.{IsPluggedIn, IsSilent, turn_silent}
