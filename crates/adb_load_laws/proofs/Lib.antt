@@ -3,3 +3,4 @@ pub mod Inputs
 pub mod Asking
 pub mod Taking
 pub mod Standing
+pub mod Following
