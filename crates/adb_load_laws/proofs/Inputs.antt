@@ -4,7 +4,7 @@ use Rattle.std.specs.Prelude.{Option, Some, None, reverse, not, ◌&&◌, ◌||�
 use Rattle.std.specs.Option.{option_or}
 use Rattle.std.specs.List.{list_any}
 use Rattle.std.proofs.Math.Path.{fun_ext}
-use Rattle.std.proofs.lemmas.List.{append-nil, append_assoc}
+use Rattle.std.proofs.lemmas.List.{append-nil, append_assoc, map-append}
 use Rattle.std.proofs.lemmas.Grind.{reverse_onto}
 use Rattle.adb_outside.specs.Tables.{Rows, listed, at, put_row}
 use Rattle.adb_registry.specs.Registry.{DeviceTable}
@@ -28,6 +28,9 @@ use Rattle.adb_history.specs.Tracking.{offered}
 use Rattle.adb_history.specs.Accepted.{is_input}
 use Rattle.adb_history.specs.Drained.{send_of, send_on, first_send, put_of, put_to, first_put, next_out, or_stay, drain, drain_all, drained_after}
 use Rattle.adb_history.specs.Drained.{drained_from, owed}
+use Rattle.adb_load.specs.declared.act.Act.{Act}
+use Rattle.adb_load.specs.Acts.{entry_of}
+use Rattle.adb_load.specs.Load.{entries_of}
 
 -- ---- what each entry adds
 joined_on : (c : ℕ) (e : Entry) (h g : History) → has_joined c h ≡ has_joined c g → has_joined c (e ∷ h) ≡ has_joined c (e ∷ g)
@@ -408,3 +411,15 @@ drained_onto (e ∷ inputs) h g same =
 -- What came into a drained history is the entries that were put in, the newest first.
 pub drained_same : (inputs : List Entry) → SameCame (drained_from [] inputs) (came_onto inputs [])
 drained_same inputs = drained_onto inputs [] [] (same_refl [])
+
+-- ---- acts
+-- what came with some acts, the newest entry first
+abbrev pub came : List Act → History
+came acts = came_onto (entries_of acts) []
+
+pub came_more : (done acts : List Act) → came (done ++ acts) ≡ came_onto (entries_of acts) (came done)
+came_more done acts = ap (λ inputs. came_onto inputs []) (map-append entry_of done acts) ∙ onto_more (entries_of done) (entries_of acts) []
+
+-- What came into the drained history of a load is what came with its acts.
+pub load_same : (acts : List Act) → SameCame (drained_from [] (entries_of acts)) (came acts)
+load_same acts = drained_same (entries_of acts)

@@ -14,3 +14,4 @@ pub mod Begins
 pub mod Clients
 pub mod Handed
 pub mod Standing
+pub mod Following
