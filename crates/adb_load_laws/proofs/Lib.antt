@@ -14,3 +14,4 @@ pub mod Sums
 pub mod Births
 pub mod Clients
 pub mod Handed
+pub mod WorkedTotals
