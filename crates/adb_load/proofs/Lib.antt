@@ -1,4 +1,4 @@
-mod Aheads
-mod Cycles
-mod Records
-mod Turns
+pub mod Aheads
+pub mod Cycles
+pub mod Records
+pub mod Turns

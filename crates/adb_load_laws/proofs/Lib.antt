@@ -1,2 +1,17 @@
 pub mod Turns
 pub mod Inputs
+pub mod Links
+pub mod Online
+pub mod Opened
+pub mod Silent
+pub mod Runs
+pub mod Asking
+pub mod Taking
+pub mod Standing
+pub mod Following
+pub mod Asks
+pub mod Sums
+pub mod Births
+pub mod Clients
+pub mod Handed
+pub mod WorkedTotals

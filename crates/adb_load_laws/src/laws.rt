@@ -1,6 +1,6 @@
 //! What holds of every load, entry after entry, with all that is due handed out after each.
 
-ghost use Rattle.std.specs.Prelude.{◌≡◌, ◌∷◌, ◌++◌, ℕ, List, []};
+ghost use Rattle.std.specs.Prelude.{◌≡◌, ◌<◌, ◌^◌, ◌∷◌, ◌++◌, ℕ, List, []};
 ghost use Rattle.adb_capture.specs.declared.entry.Entry.{Entry};
 ghost use Rattle.adb_history.specs.Drained.{drained_from};
 ghost use Rattle.adb_history.specs.Machine.{IsLegal};
@@ -15,8 +15,9 @@ pub fn loads_are_accepted()
         → IsLegal (drained_from [] front) → IsTaken (drained_from [] front) e }
 {}
 
-/// What is put to the clients of a load past the two replies that lead it is what devices wrote.
+/// What is put to the clients of a load past the two replies that lead it is what their devices
+/// wrote to their streams. A load has fewer than 65,536 streams, as whoever makes one has to see to.
 pub fn totals_of_loads()
-    ensures { (seed streams : ℕ) → let h = drained_from [] (load seed streams) in
-        IsLegal h → down_of h ≡ past_leads h }
+    ensures { (seed streams : ℕ) → streams < 2 ^ 16
+        → let h = drained_from [] (load seed streams) in down_of h ≡ past_leads h }
 {}
