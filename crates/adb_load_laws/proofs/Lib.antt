@@ -4,3 +4,4 @@ pub mod Asking
 pub mod Taking
 pub mod Standing
 pub mod Following
+pub mod Texts
