@@ -15,3 +15,4 @@ pub mod Births
 pub mod Clients
 pub mod Handed
 pub mod WorkedTotals
+pub mod Texts
