@@ -5,3 +5,5 @@ pub mod Taking
 pub mod Standing
 pub mod Following
 pub mod Texts
+pub mod TextRules
+pub mod TextSteps
