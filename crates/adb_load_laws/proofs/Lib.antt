@@ -7,3 +7,4 @@ pub mod Following
 pub mod Texts
 pub mod TextRules
 pub mod TextSteps
+pub mod AskTexts

@@ -37,7 +37,8 @@ use Rattle.adb_history.specs.Streams.{ends_row, ends_telling, all_end}
 use Rattle.adb_history.specs.Flow as flows
 use Rattle.adb_history.specs.Losing.{link_ends, input_ended, input_ends}
 use Rattle.adb_history.specs.Packets as packets
-use Rattle.adb_load_laws.proofs.Texts.{no_bytes, both_bytes, front_bytes, back_bytes, literal_bytes, word_bytes, IsNoTracker, HasTexts, ClientTexts}
+use Rattle.adb_load.proofs.Records.{literal_bytes}
+use Rattle.adb_load_laws.proofs.Texts.{no_bytes, both_bytes, front_bytes, back_bytes, IsNoTracker, HasTexts, ClientTexts}
 use Rattle.adb_load_laws.proofs.Texts.{HasLinkTexts, LinkTexts, Texts, client_texts, link_texts, owe_texts, due_texts, held_texts, phase_texts, closing_texts}
 use Rattle.adb_load_laws.proofs.Texts.{closes_texts, ends_row_texts, ends_telling_texts, all_end_texts, mark_all_texts, link_ends_texts}
 

@@ -17,6 +17,7 @@ use Rattle.adb_client.specs.declared.phase.Phase.{Phase}
 use Rattle.adb_client.specs.declared.phase.Phase.TheVariants.{Asking, Opening, Streaming, Binding, Tracking, Closing, Gone}
 use Rattle.adb_stream.specs.declared.row.Stream.{Stream}
 use Rattle.adb_reply.specs.Strings.{failed}
+use Rattle.adb_load.proofs.Records.{literal_bytes, words_bytes}
 use Rattle.adb_history.specs.Rows.{Client, Link, State, to_client, to_link, to_stream, none_kept, with_due, with_held, in_phase, with_link_due}
 use Rattle.adb_history.specs.Events.{Made, Ending, then_also, quietly}
 use Rattle.adb_history.specs.Links.{open_packet, close_packet, owe_link, is_credit}
@@ -38,19 +39,6 @@ front_bytes n text = All-take (λ b. b < 256) n text
 
 pub back_bytes : (n : ℕ) (text : List ℕ) → AreBytes text → AreBytes (drop n text)
 back_bytes n text = All-drop (λ b. b < 256) n text
-
-pub literal_bytes : (text : List ℕ) → list_all (λ b. nat_lt b 256) text ≡ true → AreBytes text
-literal_bytes text h k d within = ltb-true _ 256 (AllPass-from_list_all (λ b. nat_lt b 256) text h k d within)
-
-byte_of : (n : ℕ) → n % 256 < 256
-byte_of n = mod-lt n (lit< tt)
-
-pub word_bytes : (word : ℕ) → AreBytes (little_bytes 4 word)
-word_bytes word = All-from_recursion (λ b. b < 256) (little_bytes 4 word) (byte_of _, (byte_of _, (byte_of _, (byte_of _, tt))))
-
-words_bytes : (words : List ℕ) → AreBytes (flat_map (little_bytes 4) words)
-words_bytes [] = no_bytes
-words_bytes (word ∷ words) = both_bytes (little_bytes 4 word) (flat_map (little_bytes 4) words) (word_bytes word) (words_bytes words)
 
 pub spelled_bytes : (p : Packet) (check : ℕ) → AreBytes p.payload → AreBytes (spelling p check)
 spelled_bytes p check payload =
