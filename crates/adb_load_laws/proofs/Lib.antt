@@ -8,3 +8,4 @@ pub mod Texts
 pub mod TextRules
 pub mod TextSteps
 pub mod AskTexts
+pub mod Legal

@@ -1,6 +1,6 @@
 //! What holds of every load, entry after entry, with all that is due handed out after each.
 
-ghost use Rattle.std.specs.Prelude.{◌≡◌, ◌∷◌, ◌++◌, ℕ, List, []};
+ghost use Rattle.std.specs.Prelude.{◌≡◌, ◌<◌, ◌^◌, ◌∷◌, ◌++◌, ℕ, List, []};
 ghost use Rattle.adb_capture.specs.declared.entry.Entry.{Entry};
 ghost use Rattle.adb_history.specs.Drained.{drained_from};
 ghost use Rattle.adb_history.specs.Machine.{IsLegal};
@@ -13,6 +13,15 @@ pub fn loads_are_accepted()
     ensures { (seed streams : ℕ) (front rest : List Entry) (e : Entry)
         → load seed streams ≡ front ++ e ∷ rest
         → IsLegal (drained_from [] front) → IsTaken (drained_from [] front) e }
+{}
+
+/// What a server makes of a load, with all that is due handed out after each entry, is a legal
+/// history, and so is what it makes of any of its first entries.
+pub fn loads_are_legal()
+    ensures whole { (seed streams : ℕ) → streams < 2 ^ 32
+        → IsLegal (drained_from [] (load seed streams)) }
+    ensures fronts { (seed streams : ℕ) (front rest : List Entry) → streams < 2 ^ 32
+        → load seed streams ≡ front ++ rest → IsLegal (drained_from [] front) }
 {}
 
 /// What is put to the clients of a load past the two replies that lead it is what devices wrote.
