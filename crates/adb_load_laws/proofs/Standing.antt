@@ -28,7 +28,7 @@ eqb_self : (n : ℕ) → eqb n n ≡ true
 eqb_self n = grind arith
 
 -- putting the row that stands there changes no row
-same_row : {A : Type 0} (rows : Rows A) (c k : ℕ) → cond (eqb c k) (rows c) (rows k) ≡ rows k
+pub same_row : {A : Type 0} (rows : Rows A) (c k : ℕ) → cond (eqb c k) (rows c) (rows k) ≡ rows k
 same_row {A} rows c k = go (eqb c k) refl
   where
     go : (b : Bool) → eqb c k ≡ b → cond b (rows c) (rows k) ≡ rows k
@@ -93,7 +93,7 @@ module _ (begun plugged : ℕ) (g : History) (at : Stands begun plugged g) where
   }
 
   -- ---- a read of a client that asks no more
-  no_more : (c : ℕ) (bytes : List ℕ) → is_none (asked c g).next ≡ false
+  pub no_more : (c : ℕ) (bytes : List ℕ) → is_none (asked c g).next ≡ false
       → book (Read c bytes ∷ g) ≡ read_turn c (devices g) (asked c g) None (book g)
   no_more c bytes over =
       ap (λ (q : Asked). read_turn c (devices g) q (newly (asked c g).next q.next) (book g)) same
@@ -127,10 +127,10 @@ module _ (begun plugged : ℕ) (g : History) (at : Stands begun plugged g) where
 
   -- ---- the next client comes and asks
   -- what it asked
-  first_asked : Asked
+  unfoldable pub first_asked : Asked
   first_asked = asks_with (devices g) (forwards g) (asked_of begun) nothing_asked
 
-  first_book : book (Read (client_of begun) (asked_of begun) ∷ Join (client_of begun) ∷ g)
+  pub first_book : book (Read (client_of begun) (asked_of begun) ∷ Join (client_of begun) ∷ g)
       ≡ read_turn (client_of begun) (devices g) first_asked first_asked.next (book g)
   unfolding first_asked
   first_book =

@@ -24,8 +24,9 @@ pub fn loads_are_legal()
         → load seed streams ≡ front ++ rest → IsLegal (drained_from [] front) }
 {}
 
-/// What is put to the clients of a load past the two replies that lead it is what devices wrote.
+/// What is put to the clients of a load past the two replies that lead it is what their devices
+/// wrote to their streams. A load has fewer than 65,536 streams, as whoever makes one has to see to.
 pub fn totals_of_loads()
-    ensures { (seed streams : ℕ) → let h = drained_from [] (load seed streams) in
-        IsLegal h → down_of h ≡ past_leads h }
+    ensures { (seed streams : ℕ) → streams < 2 ^ 16
+        → let h = drained_from [] (load seed streams) in down_of h ≡ past_leads h }
 {}
