@@ -1,5 +1,5 @@
 -- What a client of a load asks is of bytes: its requests, the replies to them, and the service that it opens.
-use Rattle.std.proofs.Common.{ℕ, ◌+◌, ◌%◌, ◌≡◌, ◌<◌, Bool, true, false, List, [], ◌∷◌, ◌++◌, refl, sym, subst, arith}
+use Rattle.std.proofs.Common.{ℕ, ◌+◌, ◌%◌, ◌<◌, Bool, true, false, List, refl, sym, subst, arith}
 use Rattle.std.specs.Prelude.{Option, Some, None, codes, nat_lt, Result, Ok, Err}
 use Rattle.std.specs.Fmt.{digits}
 use Rattle.std.specs.Map.{values_of}
@@ -14,8 +14,8 @@ use Rattle.adb_registry.specs.declared.choice.Refusal.{Refusal}
 use Rattle.adb_registry.specs.declared.choice.Refusal.TheVariants as why
 use Rattle.adb_forward.specs.declared.row.ForwardRow.{ForwardRow}
 use Rattle.adb_reply.specs.Strings.{failed}
-use Rattle.adb_reply.specs.Refusals.{refusal_text, no_transport}
-use Rattle.adb_history.specs.Asking.{Asked, nothing_asked, asks_with}
+use Rattle.adb_reply.specs.Refusals.{refusal_text}
+use Rattle.adb_history.specs.Asking.{nothing_asked, asks_with}
 use Rattle.adb_load.specs.Acts.{asked_of, link_of}
 use Rattle.adb_load.proofs.Records.{literal_bytes}
 use Rattle.adb_load_laws.proofs.Asking.{by_link, echo, served_if, served_at, chosen_by, asked_reads}

@@ -1,7 +1,6 @@
 -- Each entry of a load may come behind those before it.
-use Rattle.std.proofs.Common.{ℕ, ◌+◌, ◌%◌, ◌≡◌, ◌<◌, ◌≤◌, Bool, true, false, List, [], ◌∷◌, ◌++◌, zero, suc, refl, sym, ◌∙◌, ap, subst, arith, if◌then◌else◌}
-use Rattle.std.specs.Prelude.{Option, Some, None, ◌-◌, ◌*◌, is_none}
-use Rattle.std.specs.List.{slice_get}
+use Rattle.std.proofs.Common.{ℕ, ◌+◌, ◌≡◌, ◌<◌, ◌≤◌, Bool, true, false, List, [], ◌∷◌, ◌++◌, refl, sym, ◌∙◌, ap, subst, arith, if◌then◌else◌}
+use Rattle.std.specs.Prelude.{Option, None, ◌-◌, ◌*◌, is_none}
 use Rattle.std.specs.Fmt.{digits}
 use Rattle.std.proofs.Math.Nat.{mod-lt}
 use Rattle.std.proofs.lemmas.List.{map-append}
@@ -12,12 +11,11 @@ use Rattle.adb_wire.specs.declared.command.Command.TheVariants.{Okay, Wrte, Clse
 use Rattle.adb_capture.specs.declared.entry.Entry.{Entry}
 use Rattle.adb_capture.specs.declared.entry.Entry.TheVariants.{Join, Read, End, Attach, Recv}
 use Rattle.adb_history.specs.Machine.{History, IsDrawn, IsLegal}
-use Rattle.adb_history.specs.Book.{asked, plugged_count}
+use Rattle.adb_history.specs.Book.{asked}
 use Rattle.adb_outside.specs.Bytes.{AreBytes}
 use Rattle.adb_wire.specs.declared.command.Command.{Command}
 use Rattle.adb_history.specs.Drained.{drained_from}
 use Rattle.adb_history.specs.Tied.{came_count}
-use Rattle.rand_pcg.specs.Lcg.{Lcg}
 use Rattle.adb_load.specs.declared.act.Act.{Act}
 use Rattle.adb_load.specs.declared.act.Act.TheVariants.{Answer, Leave, Close}
 use Rattle.adb_load.specs.declared.act.Piece.TheVariants.{Whole, Head, Tail}
@@ -25,16 +23,16 @@ use Rattle.adb_load.specs.declared.live.Live.{Live}
 use Rattle.adb_load.specs.Acts.{entry_of, acts_from, acts_due, asked_of, client_of, link_of, serial_of, greeting, device_packet, up_bytes, down_bytes}
 use Rattle.adb_load.specs.Acts.{up_size, down_size, piece_of, remote_of}
 use Rattle.adb_load.specs.Streams.{is_set, moved}
-use Rattle.adb_load.specs.Course.{Progress, Turn, turn, start, turns_left}
+use Rattle.adb_load.specs.Course.{Progress, turn, start, turns_left}
 use Rattle.adb_load.specs.Load.{acts_of_turns, acts_ahead, entries_of, load}
 use Rattle.adb_load_laws.specs.Taken.{IsTaken}
 use Rattle.adb_load_laws.proofs.Turns.{all_devices, turns_keep, after_turns, by_turn, by_moved, IsUnderWay, turn_under_way, under_way_at_first, live_begun}
-use Rattle.adb_load_laws.proofs.Inputs.{came_onto, came, came_more, load_same, drained_same}
+use Rattle.adb_load_laws.proofs.Inputs.{came_onto, came, came_more, drained_same}
 use Rattle.adb_load_laws.proofs.Asking.{by_link}
 use Rattle.adb_load.proofs.Records.{literal_bytes, cycle_bytes, serial_short, asked_short, greeting_short}
 use Rattle.adb_load_laws.proofs.Texts.{no_bytes, both_bytes, front_bytes, back_bytes, spelled_bytes}
 use Rattle.adb_load_laws.proofs.AskTexts.{asked_texts}
-use Rattle.adb_load_laws.proofs.Taking.{MayCome, AsksFirst, AllMayCome, IsPlugged, all_more, each_may, taken}
+use Rattle.adb_load_laws.proofs.Taking.{MayCome, AsksFirst, AllMayCome, all_more, each_may, taken}
 use Rattle.adb_load_laws.proofs.Standing as stand
 use Rattle.adb_load_laws.proofs.Standing.{Stands}
 

@@ -1,28 +1,25 @@
 -- What a server makes of a load is a legal history: each entry may come, and so may all that is handed out after it.
-use Rattle.std.proofs.Common.{ℕ, ◌+◌, ◌^◌, ◌≡◌, ◌≢◌, ◌<◌, ◌≤◌, Bool, true, false, List, [], ◌∷◌, ◌++◌, length, take, drop, zero, suc, refl, sym, ◌∙◌, ap, subst, arith, lit<}
-use Rattle.std.specs.Prelude.{Option, Some, None, is_none, All}
+use Rattle.std.proofs.Common.{ℕ, ◌+◌, ◌^◌, ◌≡◌, ◌≢◌, ◌<◌, ◌≤◌, List, [], ◌∷◌, ◌++◌, take, drop, zero, suc, refl, sym, ◌∙◌, ap, subst, arith, lit<}
+use Rattle.std.specs.Prelude.{Option, Some, None}
 use Rattle.std.specs.Option.{option_or}
 use Rattle.std.proofs.lemmas.List.{take-append-drop}
 use Rattle.adb_outside.specs.Bytes.{AreBytes}
-use Rattle.adb_outside.specs.Tables.{Rows}
 use Rattle.adb_outside.specs.declared.kinds.Cause.TheVariants.{Eof, Fault, Starved, NoThread}
-use Rattle.adb_client.specs.declared.phase.Phase.TheVariants.{Asking}
-use Rattle.adb_registry.specs.Registry.{DeviceTable}
 use Rattle.adb_capture.specs.declared.entry.Entry.{Entry}
 use Rattle.adb_capture.specs.declared.entry.Entry.TheVariants.{Join, Enter, Read, End, Bound, Attach, Recv, Detach, Put, Send}
-use Rattle.adb_capture.specs.Records.{number_of, data_of, HasPort}
+use Rattle.adb_capture.specs.Records.{data_of}
 use Rattle.adb_history.specs.declared.hand_out.TheConstants.{HAND_OUT}
 use Rattle.adb_history.specs.Rows.{Client, Link, State}
 use Rattle.adb_history.specs.Asking.{Asked, nothing_asked, asks_with}
 use Rattle.adb_history.specs.Reading.{asked_before}
-use Rattle.adb_history.specs.Machine.{History, state, step, May, MayPut, MaySend, IsSomeOf, IsInRange, IsLegal}
+use Rattle.adb_history.specs.Machine.{History, state, MayPut, MaySend, IsSomeOf, IsInRange, IsLegal}
 use Rattle.adb_history.specs.Book.{Book, asked, plugged_count}
 use Rattle.adb_history.specs.Tied.{came_count, IsAskedAs}
 use Rattle.adb_history.specs.Tracking.{offered}
-use Rattle.adb_history.specs.Drained.{send_of, send_on, first_send, put_of, put_to, first_put, next_out, or_stay, drain, drain_all, drained_after, drained_from, owed}
+use Rattle.adb_history.specs.Drained.{send_of, send_on, first_send, put_of, put_to, first_put, next_out, or_stay, drain, drained_after, drained_from, owed}
 use Rattle.adb_history.proofs.Books.{all_unread}
 use Rattle.adb_history.proofs.Numbers.{counted}
-use Rattle.adb_load_laws.proofs.Texts.{no_bytes, front_bytes, HasTexts, ClientTexts, HasLinkTexts, LinkTexts, Texts}
+use Rattle.adb_load_laws.proofs.Texts.{front_bytes, ClientTexts, LinkTexts, Texts}
 use Rattle.adb_load_laws.proofs.TextSteps.{HasAskedTexts, AsksTexts, BringsTexts, step_texts, offered_bytes}
 use Rattle.adb_load_laws.proofs.Inputs.{SameCame, same_refl, same_on, same_out, drain_same, IsOut, came_onto, onto_more}
 use Rattle.adb_load_laws.proofs.Taking.{MayCome, AllMayCome, Wants, Reads, AsksFirst, mays}

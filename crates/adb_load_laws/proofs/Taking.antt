@@ -1,23 +1,19 @@
 -- When a server takes in an entry, in the words of what came before it.
-use Rattle.std.proofs.Common.{ℕ, ◌+◌, ◌≡◌, ◌<◌, ◌≤◌, Bool, true, false, cond, List, [], ◌∷◌, ◌++◌, length, zero, suc, refl, sym, ◌∙◌, ap, subst, arith, eqb}
-use Rattle.std.proofs.Common.{nat_lt, nat_le, nat_eq, ◌&&◌}
+use Rattle.std.proofs.Common.{ℕ, ◌+◌, ◌≡◌, ◌<◌, ◌≤◌, true, false, cond, List, [], ◌∷◌, ◌++◌, length, zero, suc, sym, ◌∙◌, ap, subst, arith, eqb}
 use Rattle.std.specs.Prelude.{Option, Some, None}
-use Rattle.std.proofs.lemmas.Bool.{ne_eqb}
 use Rattle.adb_outside.specs.Tables.{Rows, listed, listed_at}
 use Rattle.adb_outside.specs.Serial.{is_serial}
 use Rattle.adb_registry.specs.Registry.{DeviceTable, attach_refusal}
 use Rattle.adb_capture.specs.declared.entry.Entry.{Entry}
 use Rattle.adb_capture.specs.declared.entry.Entry.TheVariants.{Join, Enter, Read, End, Bound, Attach, Recv, Detach, Put, Send}
-use Rattle.adb_history.specs.Rows.{State}
 use Rattle.adb_outside.specs.Bytes.{AreBytes}
 use Rattle.adb_outside.specs.declared.kinds.Cause.TheVariants.{Eof, Fault, Starved, NoThread}
 use Rattle.adb_forward.specs.declared.row.ForwardRow.{ForwardRow}
 use Rattle.adb_capture.specs.Records.{data_of}
 use Rattle.adb_history.specs.Asking.{nothing_asked, asks_with}
 use Rattle.adb_history.specs.Machine.{History, state, May, IsDrawn, IsLegal}
-use Rattle.adb_history.specs.Book.{Book, device_of, devices_if, plugged_count, devices, asked, is_killed}
-use Rattle.adb_history.specs.Tied.{came_count, IsBookOf}
-use Rattle.adb_history.specs.Order.{IsCounted}
+use Rattle.adb_history.specs.Book.{Book, device_of, devices_if, plugged_count, asked, is_killed}
+use Rattle.adb_history.specs.Tied.{came_count}
 use Rattle.adb_history.specs.Accepted.{refusal_of, is_drawn, unless_drawn, attach_reason}
 use Rattle.adb_history.specs.declared.refusal.Reason.TheVariants.{NotDrawn}
 use Rattle.adb_history.proofs.Books.{all_books}

@@ -1,7 +1,6 @@
 -- What devices bring, what goes up and what is handed out leaves every text of bytes.
-use Rattle.std.proofs.Common.{ℕ, ◌+◌, ◌-◌, ◌≡◌, Bool, true, false, cond, List, [], ◌∷◌, ◌++◌, length, take, drop, zero, suc, refl, sym, ◌∙◌, ap, subst, eqb}
+use Rattle.std.proofs.Common.{ℕ, ◌-◌, Bool, true, false, cond, List, [], ◌∷◌, ◌++◌, length, take, drop, zero, suc, refl, eqb}
 use Rattle.std.specs.Prelude.{Option, Some, None, codes, not, ◌==◌, ◌||◌, nat_lt, Result, Ok, Err}
-use Rattle.byteorder.specs.Endian.{little_bytes}
 use Rattle.adb_outside.specs.Bytes.{AreBytes}
 use Rattle.adb_outside.specs.Tables.{at}
 use Rattle.adb_outside.specs.Framing.{Cut, cut_by, cut_at}
@@ -24,23 +23,22 @@ use Rattle.adb_wire.specs.declared.format.PacketFormat.{PacketFormat}
 use Rattle.adb_wire.specs.Format.{front_of, packet_of, packet_with, format_after, has_sums}
 use Rattle.adb_wire.specs.Header.{head_at}
 use Rattle.adb_wire.specs.Cutting.{cut_packets}
-use Rattle.adb_client.specs.declared.phase.Phase.{Phase}
-use Rattle.adb_client.specs.declared.phase.Phase.TheVariants.{Asking, Opening, Streaming, Binding, Tracking, Closing, Gone}
+use Rattle.adb_client.specs.declared.phase.Phase.TheVariants.{Streaming}
 use Rattle.adb_stream.specs.declared.flow.Flow.{Flow}
 use Rattle.adb_stream.specs.declared.flow.Flow.TheVariants.{One, Credit}
 use Rattle.adb_stream.specs.declared.row.Stream.{Stream}
-use Rattle.adb_history.specs.Rows.{Client, Link, State, to_client, to_link, to_stream, none_kept, with_due, with_held, in_phase, with_link_due, with_stream_part}
-use Rattle.adb_history.specs.Events.{Made, Ending, then_also, quietly, lost, broken, client_closed, out_of_turn, peer_closed}
-use Rattle.adb_history.specs.Links.{close_packet, okay_packet, credit_packet, write_packet, owe_link, is_connected, credit_word, maxdata_of}
-use Rattle.adb_history.specs.Clients.{owe_client, closing, closes}
+use Rattle.adb_history.specs.Rows.{Client, Link, State, to_link, to_stream, none_kept}
+use Rattle.adb_history.specs.Events.{Made, then_also, quietly, lost, broken, client_closed, out_of_turn, peer_closed}
+use Rattle.adb_history.specs.Links.{close_packet, okay_packet, write_packet, owe_link, is_connected, credit_word, maxdata_of}
+use Rattle.adb_history.specs.Clients.{owe_client}
 use Rattle.adb_history.specs.Streams.{ends_row, ends_telling, all_end}
 use Rattle.adb_history.specs.Flow as flows
-use Rattle.adb_history.specs.Losing.{link_ends, input_ended, input_ends}
+use Rattle.adb_history.specs.Losing.{link_ends}
 use Rattle.adb_history.specs.Packets as packets
 use Rattle.adb_load.proofs.Records.{literal_bytes}
-use Rattle.adb_load_laws.proofs.Texts.{no_bytes, both_bytes, front_bytes, back_bytes, IsNoTracker, HasTexts, ClientTexts}
-use Rattle.adb_load_laws.proofs.Texts.{HasLinkTexts, LinkTexts, Texts, client_texts, link_texts, owe_texts, due_texts, held_texts, phase_texts, closing_texts}
-use Rattle.adb_load_laws.proofs.Texts.{closes_texts, ends_row_texts, ends_telling_texts, all_end_texts, mark_all_texts, link_ends_texts}
+use Rattle.adb_load_laws.proofs.Texts.{no_bytes, both_bytes, front_bytes, back_bytes, ClientTexts}
+use Rattle.adb_load_laws.proofs.Texts.{LinkTexts, Texts, link_texts, owe_texts, due_texts, held_texts, phase_texts}
+use Rattle.adb_load_laws.proofs.Texts.{ends_row_texts, ends_telling_texts, all_end_texts, mark_all_texts, link_ends_texts}
 
 -- ---- what goes up
 abbrev EachOfBytes : List (List ℕ) → Type 0
@@ -117,7 +115,8 @@ EachPayload (p ∷ packets) = AreBytes p.payload × EachPayload packets
 
 online_texts : (t version maxdata : ℕ) (identity : Identity) (s : State) → Texts s → Texts (packets.goes_online t version maxdata identity s)
 online_texts t version maxdata identity s h =
-    mark_all_texts (to_link t (packets.with_sums (has_sums version)) s) (link_texts t (packets.with_sums (has_sums version)) s (λ x texts. record { rest = texts.rest; due = texts.due }) h)
+    mark_all_texts (to_link t (packets.with_sums (has_sums version)) s)
+    (link_texts t (packets.with_sums (has_sums version)) s (λ x texts. record { rest = texts.rest; due = texts.due }) h)
 
 connects_texts : (t version maxdata : ℕ) (identity : Option Identity) (s : State) → Texts s → Texts (packets.connects t version maxdata identity s).state
 connects_texts t version maxdata None s h = link_ends_texts t broken s h

@@ -1,9 +1,8 @@
 -- What each entry of a load makes of a server leaves every text of bytes.
-use Rattle.std.proofs.Common.{ℕ, ◌+◌, ◌-◌, ◌≡◌, Bool, true, false, cond, List, [], ◌∷◌, ◌++◌, length, take, drop, zero, suc, refl, sym, ◌∙◌, ap, subst, eqb}
-use Rattle.std.specs.Prelude.{Option, Some, None, codes, min}
-use Rattle.byteorder.specs.Endian.{little_bytes}
+use Rattle.std.proofs.Common.{ℕ, ◌≡◌, Bool, true, false, cond, List, [], ◌∷◌, ◌++◌, length, drop, zero, suc, refl, sym, subst, eqb}
+use Rattle.std.specs.Prelude.{Option, Some, None, min}
 use Rattle.adb_outside.specs.Bytes.{AreBytes}
-use Rattle.adb_outside.specs.Tables.{Rows, put_row}
+use Rattle.adb_outside.specs.Tables.{put_row}
 use Rattle.adb_outside.specs.declared.kinds.Kind.{Kind}
 use Rattle.adb_outside.specs.declared.kinds.Cause.TheVariants.{Eof}
 use Rattle.adb_registry.specs.Registry.{DeviceTable, attached}
@@ -16,21 +15,21 @@ use Rattle.adb_reply.specs.declared.answer.Next.{Next}
 use Rattle.adb_reply.specs.declared.answer.Next.TheVariants as what
 use Rattle.adb_capture.specs.declared.entry.Entry.{Entry}
 use Rattle.adb_capture.specs.declared.entry.Entry.TheVariants.{Join, Enter, Read, End, Bound, Attach, Recv, Detach, Put, Send}
-use Rattle.adb_history.specs.Rows.{Client, Link, State, new_client, new_link, to_client, to_link, to_stream, with_due, with_held, with_stream_part}
-use Rattle.adb_history.specs.Events.{Made, then_also, quietly}
-use Rattle.adb_history.specs.Links.{okay_packet, credit_packet, owe_link, server_cnxn}
-use Rattle.adb_history.specs.Clients.{owe_client, closing, closes}
-use Rattle.adb_history.specs.Flow.{with_flow, up_all}
+use Rattle.adb_history.specs.Rows.{Client, State, new_client, new_link, to_client, to_stream, with_stream_part}
+use Rattle.adb_history.specs.Events.{quietly}
+use Rattle.adb_history.specs.Links.{okay_packet, credit_packet, server_cnxn}
+use Rattle.adb_history.specs.Clients.{owe_client}
+use Rattle.adb_history.specs.Flow.{with_flow}
 use Rattle.adb_history.specs.Losing.{input_ended, input_ends, client_ends}
 use Rattle.adb_history.specs.Tracking.{offered, list_if_stale, due_or, mark_all}
-use Rattle.adb_history.specs.Handing.{unmarked, lists_first, left_in, hands, to_hand, handed_to, credit_back, tells_credit, tells_handed, stream_hands, stream_left}
-use Rattle.adb_history.specs.Handing.{client_left, takes_of, puts_to, puts, sends, link_hands}
+use Rattle.adb_history.specs.Handing.{unmarked, lists_first, left_in, hands, to_hand, handed_to, credit_back, tells_credit, tells_handed}
+use Rattle.adb_history.specs.Handing.{stream_hands, stream_left, client_left, takes_of, puts_to, sends, link_hands}
 use Rattle.adb_history.specs.Asking.{Asked, asks_with}
 use Rattle.adb_history.specs.Reading.{comes, plugs_in, goes_on, asked_before, has_asked, asks, reads_in, reads_from, reads}
-use Rattle.adb_history.specs.Machine.{rule, step, ups}
+use Rattle.adb_history.specs.Machine.{rule, step}
 use Rattle.adb_load.proofs.Records.{literal_bytes, word_bytes}
-use Rattle.adb_load_laws.proofs.Texts.{no_bytes, both_bytes, back_bytes, IsNoTracker, HasTexts, ClientTexts, HasLinkTexts}
-use Rattle.adb_load_laws.proofs.Texts.{LinkTexts, AreTexts, Texts, client_texts, link_texts, owe_texts, due_texts, held_texts, closing_texts, closes_texts}
+use Rattle.adb_load_laws.proofs.Texts.{no_bytes, both_bytes, back_bytes, HasTexts, ClientTexts}
+use Rattle.adb_load_laws.proofs.Texts.{LinkTexts, Texts, client_texts, link_texts, owe_texts, due_texts, held_texts, closing_texts, closes_texts}
 use Rattle.adb_load_laws.proofs.Texts.{opens_texts, mark_all_texts}
 use Rattle.adb_load_laws.proofs.TextRules.{ups_texts, receives_texts}
 

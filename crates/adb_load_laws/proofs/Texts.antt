@@ -1,15 +1,12 @@
 -- Every text that a server of a load keeps is of bytes: what becomes due is of bytes too.
-use Rattle.std.proofs.Common.{ℕ, ◌+◌, ◌*◌, ◌%◌, ◌≡◌, ◌<◌, Bool, true, false, cond, List, [], ◌∷◌, ◌++◌, length, take, drop, zero, suc, refl, sym, ◌∙◌, ap, subst}
-use Rattle.std.proofs.Common.{arith, eqb, lit<, nat_lt}
-use Rattle.std.specs.Prelude.{Option, Some, None, codes, option_and_then, option_map, All, ◌==◌}
-use Rattle.std.specs.List.{flat_map, list_all}
-use Rattle.std.proofs.Math.Nat.{mod-lt}
-use Rattle.std.proofs.lemmas.Bool.{ltb-true}
-use Rattle.std.proofs.lemmas.List.Elements.{All-append, All-nil, All-take, All-drop, All-from_recursion}
-use Rattle.std.proofs.lemmas.List.Sums.{AllPass-from_list_all}
+use Rattle.std.proofs.Common.{ℕ, ◌+◌, ◌≡◌, ◌<◌, Bool, true, false, cond, List, [], ◌∷◌, ◌++◌, take, drop, zero, suc, refl, ◌∙◌, ap}
+use Rattle.std.proofs.Common.{arith, eqb}
+use Rattle.std.specs.Prelude.{Option, Some, None, codes, option_and_then, option_map, ◌==◌}
+use Rattle.std.specs.List.{flat_map}
+use Rattle.std.proofs.lemmas.List.Elements.{All-append, All-nil, All-take, All-drop}
 use Rattle.byteorder.specs.Endian.{little_bytes}
 use Rattle.adb_outside.specs.Bytes.{AreBytes}
-use Rattle.adb_outside.specs.Tables.{Rows, change_row}
+use Rattle.adb_outside.specs.Tables.{Rows}
 use Rattle.adb_wire.specs.declared.packets.Packet.{Packet}
 use Rattle.adb_wire.specs.Packet.{spelling, head_for}
 use Rattle.adb_wire.specs.Header.{words_of}
@@ -19,9 +16,9 @@ use Rattle.adb_stream.specs.declared.row.Stream.{Stream}
 use Rattle.adb_reply.specs.Strings.{failed}
 use Rattle.adb_load.proofs.Records.{literal_bytes, words_bytes}
 use Rattle.adb_history.specs.Rows.{Client, Link, State, to_client, to_link, to_stream, none_kept, with_due, with_held, in_phase, with_link_due}
-use Rattle.adb_history.specs.Events.{Made, Ending, then_also, quietly}
+use Rattle.adb_history.specs.Events.{Ending, then_also, quietly}
 use Rattle.adb_history.specs.Links.{open_packet, close_packet, owe_link, is_credit}
-use Rattle.adb_history.specs.Clients.{owe_client, closing_with, closing, closes, closes_with}
+use Rattle.adb_history.specs.Clients.{closing_with, closing, closes, closes_with}
 use Rattle.adb_history.specs.Streams.{opens, asks_for, no_ids_left, draw, loses, client_loses, tells_end, ends_row, ends_telling, ends_if_of, ends_of, all_end}
 use Rattle.adb_history.specs.Streams.{stream_ids}
 use Rattle.adb_history.specs.Tracking.{marked, marked_in, mark_all}

@@ -25,7 +25,8 @@ pub fn loads_are_legal()
 {}
 
 /// What is put to the clients of a load past the two replies that lead it is what their devices
-/// wrote to their streams. A load has fewer than 65,536 streams, as whoever makes one has to see to.
+/// wrote to their streams. A load has fewer than 65,536 streams, which whoever makes one has to see
+/// to.
 pub fn totals_of_loads()
     ensures { (seed streams : ℕ) → streams < 2 ^ 16
         → let h = drained_from [] (load seed streams) in down_of h ≡ past_leads h }
