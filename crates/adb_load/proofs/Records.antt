@@ -32,22 +32,22 @@ use Rattle.adb_load.proofs.Cycles.{cycle_length}
 byte_of : (n : ℕ) → n % 256 < 256
 byte_of n = mod-lt n (lit< tt)
 
-word_bytes : (word : ℕ) → AreBytes (little_bytes 4 word)
+pub word_bytes : (word : ℕ) → AreBytes (little_bytes 4 word)
 word_bytes word = All-from_recursion (λ b. b < 256) (little_bytes 4 word) (byte_of _, (byte_of _, (byte_of _, (byte_of _, tt))))
 
-words_bytes : (words : List ℕ) → AreBytes (flat_map (little_bytes 4) words)
+pub words_bytes : (words : List ℕ) → AreBytes (flat_map (little_bytes 4) words)
 words_bytes [] = All-nil (λ b. b < 256)
 words_bytes (word ∷ words) = All-append (λ b. b < 256) (little_bytes 4 word) (flat_map (little_bytes 4) words) (word_bytes word) (words_bytes words)
 
-cycle_bytes : (shift from count : ℕ) → AreBytes (cycle shift from count)
+pub cycle_bytes : (shift from count : ℕ) → AreBytes (cycle shift from count)
 cycle_bytes shift from count = All-map (λ b. b < 256) (λ i. (i + shift) % 251) (range_with_len from count)
     (λ k d within. omega (arith, mod-lt (get_or (range_with_len from count) k d + shift) {m = 251} (omega arith)))
 
 -- a literal of bytes
-literal_bytes : (text : List ℕ) → list_all (λ b. nat_lt b 256) text ≡ true → AreBytes text
+pub literal_bytes : (text : List ℕ) → list_all (λ b. nat_lt b 256) text ≡ true → AreBytes text
 literal_bytes text h k d within = ltb-true _ 256 (AllPass-from_list_all (λ b. nat_lt b 256) text h k d within)
 
-decimal_bytes : (n : ℕ) → n < 2 ^ 64 → AreBytes (decimal n)
+pub decimal_bytes : (n : ℕ) → n < 2 ^ 64 → AreBytes (decimal n)
 decimal_bytes n small = All-from_get_or (λ b. b < 256) (decimal n) 0 (λ i within. omega (arith, IsAscii-decimal n small i))
 
 joined_bytes : (front back : List ℕ) → AreBytes front → AreBytes back → AreBytes (front ++ back)

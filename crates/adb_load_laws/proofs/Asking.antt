@@ -1,5 +1,5 @@
 -- What a client of a load asks, whatever the devices are: its first read has two requests, behind which nothing more is asked.
-use Rattle.std.proofs.Common.{ℕ, ◌+◌, ◌%◌, ◌≡◌, ◌<◌, Bool, true, false, cond, List, [], ◌∷◌, ◌++◌, length, drop, zero, suc, refl, sym, ◌∙◌, ap, subst, arith}
+use Rattle.std.proofs.Common.{ℕ, ◌+◌, ◌%◌, ◌≡◌, ◌<◌, Bool, true, false, cond, List, [], ◌++◌, drop, zero, suc, refl, sym, ◌∙◌, ap, subst, arith}
 use Rattle.std.specs.Prelude.{Option, Some, None, codes, nat_lt, Result, Ok, Err, is_none}
 use Rattle.std.specs.Fmt.{decimal, digits}
 use Rattle.std.specs.Map.{values_of}

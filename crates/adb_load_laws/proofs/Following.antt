@@ -1,7 +1,6 @@
 -- Each entry of a load may come behind those before it.
-use Rattle.std.proofs.Common.{ℕ, ◌+◌, ◌%◌, ◌≡◌, ◌<◌, ◌≤◌, Bool, true, false, List, [], ◌∷◌, ◌++◌, zero, suc, refl, sym, ◌∙◌, ap, subst, arith, if◌then◌else◌}
-use Rattle.std.specs.Prelude.{Option, Some, None, ◌-◌}
-use Rattle.std.specs.List.{slice_get}
+use Rattle.std.proofs.Common.{ℕ, ◌+◌, ◌≡◌, ◌<◌, ◌≤◌, Bool, true, false, List, [], ◌∷◌, ◌++◌, refl, sym, ◌∙◌, ap, subst, arith, if◌then◌else◌}
+use Rattle.std.specs.Prelude.{Option, None, ◌-◌, ◌*◌, is_none}
 use Rattle.std.specs.Fmt.{digits}
 use Rattle.std.proofs.Math.Nat.{mod-lt}
 use Rattle.std.proofs.lemmas.List.{map-append}
@@ -12,24 +11,28 @@ use Rattle.adb_wire.specs.declared.command.Command.TheVariants.{Okay, Wrte, Clse
 use Rattle.adb_capture.specs.declared.entry.Entry.{Entry}
 use Rattle.adb_capture.specs.declared.entry.Entry.TheVariants.{Join, Read, End, Attach, Recv}
 use Rattle.adb_history.specs.Machine.{History, IsDrawn, IsLegal}
-use Rattle.adb_history.specs.Book.{plugged_count}
+use Rattle.adb_history.specs.Book.{asked}
+use Rattle.adb_outside.specs.Bytes.{AreBytes}
+use Rattle.adb_wire.specs.declared.command.Command.{Command}
 use Rattle.adb_history.specs.Drained.{drained_from}
 use Rattle.adb_history.specs.Tied.{came_count}
-use Rattle.rand_pcg.specs.Lcg.{Lcg}
 use Rattle.adb_load.specs.declared.act.Act.{Act}
 use Rattle.adb_load.specs.declared.act.Act.TheVariants.{Answer, Leave, Close}
 use Rattle.adb_load.specs.declared.act.Piece.TheVariants.{Whole, Head, Tail}
 use Rattle.adb_load.specs.declared.live.Live.{Live}
 use Rattle.adb_load.specs.Acts.{entry_of, acts_from, acts_due, asked_of, client_of, link_of, serial_of, greeting, device_packet, up_bytes, down_bytes}
-use Rattle.adb_load.specs.Acts.{up_size, down_size, piece_of}
+use Rattle.adb_load.specs.Acts.{up_size, down_size, piece_of, remote_of}
 use Rattle.adb_load.specs.Streams.{is_set, moved}
-use Rattle.adb_load.specs.Course.{Progress, Turn, turn, start, turns_left}
+use Rattle.adb_load.specs.Course.{Progress, turn, start, turns_left}
 use Rattle.adb_load.specs.Load.{acts_of_turns, acts_ahead, entries_of, load}
 use Rattle.adb_load_laws.specs.Taken.{IsTaken}
 use Rattle.adb_load_laws.proofs.Turns.{all_devices, turns_keep, after_turns, by_turn, by_moved, IsUnderWay, turn_under_way, under_way_at_first, live_begun}
-use Rattle.adb_load_laws.proofs.Inputs.{came_onto, came, came_more, load_same, drained_same}
+use Rattle.adb_load_laws.proofs.Inputs.{came_onto, came, came_more, drained_same}
 use Rattle.adb_load_laws.proofs.Asking.{by_link}
-use Rattle.adb_load_laws.proofs.Taking.{MayCome, AllMayCome, IsPlugged, all_more, each_may, taken}
+use Rattle.adb_load.proofs.Records.{literal_bytes, cycle_bytes, serial_short, asked_short, greeting_short}
+use Rattle.adb_load_laws.proofs.Texts.{no_bytes, both_bytes, front_bytes, back_bytes, spelled_bytes}
+use Rattle.adb_load_laws.proofs.AskTexts.{asked_texts}
+use Rattle.adb_load_laws.proofs.Taking.{MayCome, AsksFirst, AllMayCome, all_more, each_may, taken}
 use Rattle.adb_load_laws.proofs.Standing as stand
 use Rattle.adb_load_laws.proofs.Standing.{Stands}
 
@@ -52,53 +55,90 @@ and_before begun plugged e inputs g may others = record { may = (may, others.may
 nothing : (begun plugged : ℕ) (g : History) → Stands begun plugged g → Arrives begun plugged [] g
 nothing begun plugged g at = record { may = tt; stands = at }
 
+-- what the device of a stream says on it, of bytes
+says_bytes : (command : Command) (stream : ℕ) (payload : List ℕ) → AreBytes payload → AreBytes (device_packet command stream payload)
+says_bytes command stream payload are =
+    spelled_bytes (record { command = command; arg0 = remote_of stream; arg1 = client_of stream; payload = payload }) 0 are
+
+bare_bytes : (command : Command) (stream : ℕ) → AreBytes (device_packet command stream [])
+bare_bytes command stream = says_bytes command stream [] no_bytes
+
+answer_bytes : (stream from count : ℕ) → AreBytes (device_packet Wrte stream (down_bytes stream from count))
+answer_bytes stream from count = says_bytes Wrte stream (down_bytes stream from count) (cycle_bytes (2 * stream) from count)
+
 module _ (begun : ℕ) where
   -- what the device of any stream says
-  device_says : (g : History) → Stands begun all_devices g → (stream : ℕ) (bytes : List ℕ) (inputs : List Entry)
-      → Arrives begun all_devices inputs (Recv (link_of stream) bytes ∷ g) → Arrives begun all_devices (Recv (link_of stream) bytes ∷ inputs) g
-  device_says g at stream bytes inputs others = and_before begun all_devices (Recv (link_of stream) bytes) inputs g (record {
+  says_may : (g : History) → Stands begun all_devices g → (stream : ℕ) (bytes : List ℕ) → AreBytes bytes → MayCome g (Recv (link_of stream) bytes)
+  says_may g at stream bytes are = record {
     wants = (omega arith, omega (arith, mod-lt stream {m = 8} (omega arith), at.links));
+    reads = tt;
+    bytes = are;
     killed = at.killed;
-  }) others
+  }
 
-  says_last : (g : History) → Stands begun all_devices g → (stream : ℕ) (bytes : List ℕ) → Arrives begun all_devices (Recv (link_of stream) bytes ∷ []) g
-  says_last g at stream bytes = device_says g at stream bytes [] (nothing begun all_devices (Recv (link_of stream) bytes ∷ g)
-      (stand.received begun all_devices g at (link_of stream) bytes))
+  says_last : (g : History) → Stands begun all_devices g → (stream : ℕ) (bytes : List ℕ) → AreBytes bytes
+      → Arrives begun all_devices (Recv (link_of stream) bytes ∷ []) g
+  says_last g at stream bytes are = and_before begun all_devices (Recv (link_of stream) bytes) [] g (says_may g at stream bytes are)
+      (nothing begun all_devices (Recv (link_of stream) bytes ∷ g) (stand.received begun all_devices g at (link_of stream) bytes))
 
-  says_twice : (g : History) → Stands begun all_devices g → (stream : ℕ) (bytes more : List ℕ)
+  says_twice : (g : History) → Stands begun all_devices g → (stream : ℕ) (bytes more : List ℕ) → AreBytes bytes → AreBytes more
       → Arrives begun all_devices (Recv (link_of stream) bytes ∷ Recv (link_of stream) more ∷ []) g
-  says_twice g at stream bytes more = device_says g at stream bytes (Recv (link_of stream) more ∷ [])
-      (says_last (Recv (link_of stream) bytes ∷ g) (stand.received begun all_devices g at (link_of stream) bytes) stream more)
+  says_twice g at stream bytes more are others =
+      and_before begun all_devices (Recv (link_of stream) bytes) (Recv (link_of stream) more ∷ []) g (says_may g at stream bytes are)
+      (says_last (Recv (link_of stream) bytes ∷ g) (stand.received begun all_devices g at (link_of stream) bytes) stream more others)
 
-  -- the client of a stream that has begun
+  -- the client of a stream that has begun asks no more
   client_drawn : (g : History) → Stands begun all_devices g → (stream : ℕ) → stream < begun → IsDrawn (came_count g) (client_of stream)
   client_drawn g at stream own = (omega arith, omega (arith, own, at.came))
 
-  writes : (g : History) → Stands begun all_devices g → (stream : ℕ) → stream < begun → (bytes answer : List ℕ)
+  no_more : (g : History) → Stands begun all_devices g → (stream : ℕ) → stream < begun → (bytes : List ℕ)
+      → (asked (client_of stream) g).next ≡ None → AsksFirst (client_of stream) bytes g
+  no_more g at stream own bytes none =
+      absurd (let clash : true ≡ false = sym (ap is_none none) ∙ at.over (client_of stream) (omega arith) (omega (arith, own)) in cc)
+
+  writes : (g : History) → Stands begun all_devices g → (stream : ℕ) → stream < begun → (bytes answer : List ℕ) → AreBytes bytes → AreBytes answer
       → Arrives begun all_devices (Read (client_of stream) bytes ∷ Recv (link_of stream) answer ∷ []) g
-  writes g at stream own bytes answer =
+  writes g at stream own bytes answer are others =
       and_before begun all_devices (Read (client_of stream) bytes) (Recv (link_of stream) answer ∷ []) g
-      (record { wants = client_drawn g at stream own; killed = at.killed })
+      (record { wants = client_drawn g at stream own; reads = no_more g at stream own bytes; bytes = are; killed = at.killed })
       (says_last (Read (client_of stream) bytes ∷ g)
-      (stand.written begun all_devices g at (client_of stream) bytes (omega arith) (omega (arith, own))) stream answer)
+      (stand.written begun all_devices g at (client_of stream) bytes (omega arith) (omega (arith, own))) stream answer others)
 
   leaves : (g : History) → Stands begun all_devices g → (stream : ℕ) → stream < begun → Arrives begun all_devices (End (client_of stream) Eof ∷ []) g
   leaves g at stream own =
-      and_before begun all_devices (End (client_of stream) Eof) [] g (record { wants = client_drawn g at stream own; killed = at.killed })
+      and_before begun all_devices (End (client_of stream) Eof) [] g
+      (record { wants = client_drawn g at stream own; reads = tt; bytes = literal_bytes (0 ∷ []) refl; killed = at.killed })
       (nothing begun all_devices (End (client_of stream) Eof ∷ g) (stand.ended begun all_devices g at (client_of stream) Eof (omega (arith, own))))
 
   -- a stream begins
-  comes : (g : History) → Stands begun all_devices g → (answer : List ℕ)
-      → Arrives (begun + 1) all_devices (Join (client_of begun) ∷ Read (client_of begun) (asked_of begun) ∷ Recv (link_of begun) answer ∷ []) g
-  comes g at answer = record {
+  asks_first : (g : History) → Stands begun all_devices g → AsksFirst (client_of begun) (asked_of begun) (Join (client_of begun) ∷ g)
+  asks_first g at = record { nothing = at.fresh (client_of begun) (omega arith); texts = asked_texts begun }
+
+  comes : (g : History) → Stands begun all_devices g
+      → Arrives (begun + 1) all_devices (Join (client_of begun) ∷ Read (client_of begun) (asked_of begun)
+      ∷ Recv (link_of begun) (device_packet Okay begun []) ∷ []) g
+  comes g at = record {
     may = (
-      record { wants = ap (λ n. n + 1) (sym at.came); killed = at.killed },
+      record { wants = ap (λ n. n + 1) (sym at.came); reads = tt; bytes = no_bytes; killed = at.killed },
       (
-        record { wants = (omega arith, omega (arith, at.came)); killed = at.killed },
-        (record { wants = (omega arith, omega (arith, mod-lt begun {m = 8} (omega arith), at.links)); killed = after.killed }, tt),
+        record {
+          wants = (omega arith, omega (arith, at.came));
+          reads = λ none. asks_first g at;
+          bytes = (asked_short begun).bytes;
+          killed = at.killed;
+        },
+        (
+          record {
+            wants = (omega arith, omega (arith, mod-lt begun {m = 8} (omega arith), at.links));
+            reads = tt;
+            bytes = bare_bytes Okay begun;
+            killed = after.killed;
+          },
+          tt,
+        ),
       ),
     );
-    stands = stand.received (begun + 1) all_devices _ after (link_of begun) answer;
+    stands = stand.received (begun + 1) all_devices _ after (link_of begun) (device_packet Okay begun []);
   }
     where
       after : Stands (begun + 1) all_devices (Read (client_of begun) (asked_of begun) ∷ Join (client_of begun) ∷ g)
@@ -111,9 +151,11 @@ plugs begun plugged g at few = record {
   may = (
     record {
       wants = record { next = ap (λ n. n + 1) (sym at.links); few = omega (arith, at.links, few); spelled = serials plugged few };
+      reads = tt;
+      bytes = both_bytes (117 ∷ []) (serial_of (plugged + 1)) (literal_bytes (117 ∷ []) refl) (serial_short (plugged + 1) (omega (arith, few))).bytes;
       killed = at.killed;
     },
-    (record { wants = (omega arith, omega (arith, at.links)); killed = at.killed }, tt),
+    (record { wants = (omega arith, omega (arith, at.links)); reads = tt; bytes = greeting_short.bytes; killed = at.killed }, tt),
   );
   stands = stand.received begun (plugged + 1) _ (stand.attached begun plugged g at (plugged + 1) Usb (serial_of (plugged + 1))) (plugged + 1) greeting;
 }
@@ -139,26 +181,28 @@ module _ (g : History) (p : Progress) (way : IsUnderWay p) (at : Stands p.begun 
   moves live own few word = from_all few p.begun (entries_of (acts_from (moved word live).act))
       (by_moved (λ act after. Arrives p.begun all_devices (entries_of (acts_from act)) g) word live (record {
         up = λ count some most. writes p.begun g (all_at few) live.number own (up_bytes live.number (up_size live.number - live.up) count)
-            (device_packet Okay live.number []);
+            (device_packet Okay live.number []) (cycle_bytes live.number (up_size live.number - live.up) count) (bare_bytes Okay live.number);
         down = λ count some most. down (is_set word 5) (down_size live.number - live.down) count;
         ends = λ up down. ends (is_set word 4);
       }))
     where
+      packet : (from count : ℕ) → List ℕ
+      packet from count = device_packet Wrte live.number (down_bytes live.number from count)
+
       down : (split : Bool) (from count : ℕ)
           → Arrives p.begun all_devices (entries_of (acts_from (Answer live.number from count (if split then Head else Whole)))) g
-      down true from count = says_twice p.begun g (all_at few) live.number
-          (piece_of Head (device_packet Wrte live.number (down_bytes live.number from count)))
-          (piece_of Tail (device_packet Wrte live.number (down_bytes live.number from count)))
-      down false from count = says_last p.begun g (all_at few) live.number (device_packet Wrte live.number (down_bytes live.number from count))
+      down true from count = says_twice p.begun g (all_at few) live.number (piece_of Head (packet from count)) (piece_of Tail (packet from count))
+          (front_bytes 11 (packet from count) (answer_bytes live.number from count)) (back_bytes 11 (packet from count) (answer_bytes live.number from count))
+      down false from count = says_last p.begun g (all_at few) live.number (packet from count) (answer_bytes live.number from count)
 
       ends : (closes : Bool) → Arrives p.begun all_devices (entries_of (acts_from (if closes then Close live.number else Leave live.number))) g
-      ends true = says_last p.begun g (all_at few) live.number (device_packet Clse live.number [])
+      ends true = says_last p.begun g (all_at few) live.number (device_packet Clse live.number []) (bare_bytes Clse live.number)
       ends false = leaves p.begun g (all_at few) live.number own
 
   turn_arrives : ArriveBy (turn p).after (turn p).act g
   turn_arrives = by_turn (λ t. ArriveBy t.after t.act g) p (record {
     plugs = λ some. plugs p.begun p.plugged g at some;
-    begins = λ few room left. from_all few (p.begun + 1) _ (comes p.begun g (all_at few) (device_packet Okay p.begun []));
+    begins = λ few room left. from_all few (p.begun + 1) _ (comes p.begun g (all_at few));
     over = λ few empty left. nothing p.begun p.plugged g at;
     moves = λ few words word place live is. moves live (live_begun p way place live is).number few word;
   })

@@ -1,5 +1,5 @@
 -- What a history says of requests, packets and streams is said by the entries that came alone: hand-outs say nothing of it.
-use Rattle.std.proofs.Common.{ℕ, ◌+◌, ◌≡◌, Bool, true, false, cond, List, [], ◌∷◌, ◌++◌, length, zero, suc, refl, sym, ◌∙◌, ap, subst, eqb, map}
+use Rattle.std.proofs.Common.{ℕ, ◌+◌, ◌≡◌, Bool, true, false, cond, List, [], ◌∷◌, ◌++◌, length, zero, suc, refl, sym, ◌∙◌, ap, eqb}
 use Rattle.std.specs.Prelude.{Option, Some, None, reverse, not, ◌&&◌, ◌||◌, option_map, is_some}
 use Rattle.std.specs.Option.{option_or}
 use Rattle.std.specs.List.{list_any}
@@ -25,8 +25,7 @@ use Rattle.adb_history.specs.Book.{still_asks, asked_with, reads_turn, bound_tur
 use Rattle.adb_history.specs.Births.{Birth, birth_by, birth_through, births, births_at}
 use Rattle.adb_history.specs.Tied.{bytes_asked, came_count}
 use Rattle.adb_history.specs.Tracking.{offered}
-use Rattle.adb_history.specs.Accepted.{is_input}
-use Rattle.adb_history.specs.Drained.{send_of, send_on, first_send, put_of, put_to, first_put, next_out, or_stay, drain, drain_all, drained_after}
+use Rattle.adb_history.specs.Drained.{send_of, send_on, first_send, put_of, put_to, first_put, next_out, or_stay, drain, drained_after}
 use Rattle.adb_history.specs.Drained.{drained_from, owed}
 use Rattle.adb_load.specs.declared.act.Act.{Act}
 use Rattle.adb_load.specs.Acts.{entry_of}
@@ -81,7 +80,8 @@ received_on t (Read n bytes) h g lost is = is
 received_on t (End n cause) h g lost is = is
 received_on t (Bound n port) h g lost is = is
 received_on t (Attach n kind serial) h g lost is = is
-received_on t (Recv n bytes) h g lost is = ap (λ (b : Bool). more_if (eqb n t) b bytes (bytes_received t h)) lost ∙ ap (more_if (eqb n t) (is_lost t g) bytes) is
+received_on t (Recv n bytes) h g lost is =
+    ap (λ (b : Bool). more_if (eqb n t) b bytes (bytes_received t h)) lost ∙ ap (more_if (eqb n t) (is_lost t g) bytes) is
 received_on t (Detach n cause) h g lost is = is
 received_on t (Put n bytes) h g lost is = is
 received_on t (Send n bytes) h g lost is = is

@@ -16,3 +16,7 @@ pub mod Clients
 pub mod Handed
 pub mod WorkedTotals
 pub mod Texts
+pub mod TextRules
+pub mod TextSteps
+pub mod AskTexts
+pub mod Legal

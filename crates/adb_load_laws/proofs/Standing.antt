@@ -1,27 +1,21 @@
 -- What stands of a load after each turn: how many clients and devices came, who asked, and that no kill stands; so each entry may come.
-use Rattle.std.proofs.Common.{ℕ, ◌+◌, ◌%◌, ◌≡◌, ◌<◌, ◌≤◌, Bool, true, false, cond, List, [], ◌∷◌, ◌++◌, length, zero, suc, refl, sym, ◌∙◌, ap, subst, arith, eqb}
-use Rattle.std.proofs.Common.{map, lit≤}
-use Rattle.std.specs.Prelude.{Option, Some, None, not, ◌&&◌, ◌||◌, is_none, codes}
-use Rattle.std.specs.Fmt.{digits}
-use Rattle.std.proofs.Math.Nat.{mod-lt}
+use Rattle.std.proofs.Common.{ℕ, ◌+◌, ◌≡◌, ◌<◌, ◌≤◌, Bool, true, false, cond, List, [], ◌∷◌, refl, ◌∙◌, ap, arith, eqb}
+use Rattle.std.specs.Prelude.{Option, Some, None, not, ◌&&◌, ◌||◌, is_none}
 use Rattle.std.proofs.lemmas.Bool.{ne_eqb}
 use Rattle.adb_outside.specs.Tables.{Rows}
-use Rattle.adb_outside.specs.Serial.{is_serial}
 use Rattle.adb_outside.specs.declared.kinds.Kind.{Kind}
-use Rattle.adb_outside.specs.declared.kinds.Kind.TheVariants.{Usb}
 use Rattle.adb_outside.specs.declared.kinds.Cause.{Cause}
 use Rattle.adb_registry.specs.Registry.{DeviceTable}
 use Rattle.adb_reply.specs.declared.answer.Next.{Next}
-use Rattle.adb_capture.specs.declared.entry.Entry.{Entry}
 use Rattle.adb_capture.specs.declared.entry.Entry.TheVariants.{Join, Read, End, Attach, Recv}
 use Rattle.adb_history.specs.Asking.{Asked, nothing_asked, asks_with}
-use Rattle.adb_history.specs.Machine.{History, IsDrawn}
+use Rattle.adb_history.specs.Machine.{History}
 use Rattle.adb_history.specs.Bytes.{has_joined, has_ended}
-use Rattle.adb_history.specs.Book.{Book, book, asked, asked_with, still_asks, kills, newly, read_turn, is_asking, devices_if, devices, forwards, is_killed, plugged_count}
+use Rattle.adb_history.specs.Book.{Book, book, asked, devices_if, devices, forwards, is_killed, plugged_count}
+use Rattle.adb_history.specs.Book.{asked_with, still_asks, kills, newly, read_turn, is_asking}
 use Rattle.adb_history.specs.Tied.{came_count}
-use Rattle.adb_load.specs.Acts.{asked_of, client_of, serial_of, greeting}
-use Rattle.adb_load_laws.proofs.Asking.{by_link, IsQuiet, asked_quiet}
-use Rattle.adb_load_laws.proofs.Taking.{MayCome, IsPlugged}
+use Rattle.adb_load.specs.Acts.{asked_of, client_of}
+use Rattle.adb_load_laws.proofs.Asking.{IsQuiet, asked_quiet}
 
 -- ---- rows under numbers
 eqb_self : (n : ℕ) → eqb n n ≡ true

@@ -1,15 +1,12 @@
 -- Every text that a server of a load keeps is of bytes: what becomes due is of bytes too.
-use Rattle.std.proofs.Common.{ℕ, ◌+◌, ◌*◌, ◌%◌, ◌≡◌, ◌<◌, Bool, true, false, cond, List, [], ◌∷◌, ◌++◌, length, take, drop, zero, suc, refl, sym, ◌∙◌, ap, subst}
-use Rattle.std.proofs.Common.{arith, eqb, lit<, nat_lt}
-use Rattle.std.specs.Prelude.{Option, Some, None, codes, option_and_then, option_map, All, ◌==◌}
-use Rattle.std.specs.List.{flat_map, list_all}
-use Rattle.std.proofs.Math.Nat.{mod-lt}
-use Rattle.std.proofs.lemmas.Bool.{ltb-true}
-use Rattle.std.proofs.lemmas.List.Elements.{All-append, All-nil, All-take, All-drop, All-from_recursion}
-use Rattle.std.proofs.lemmas.List.Sums.{AllPass-from_list_all}
+use Rattle.std.proofs.Common.{ℕ, ◌+◌, ◌≡◌, ◌<◌, Bool, true, false, cond, List, [], ◌∷◌, ◌++◌, take, drop, zero, suc, refl, ◌∙◌, ap}
+use Rattle.std.proofs.Common.{arith, eqb}
+use Rattle.std.specs.Prelude.{Option, Some, None, codes, option_and_then, option_map, ◌==◌}
+use Rattle.std.specs.List.{flat_map}
+use Rattle.std.proofs.lemmas.List.Elements.{All-append, All-nil, All-take, All-drop}
 use Rattle.byteorder.specs.Endian.{little_bytes}
 use Rattle.adb_outside.specs.Bytes.{AreBytes}
-use Rattle.adb_outside.specs.Tables.{Rows, change_row}
+use Rattle.adb_outside.specs.Tables.{Rows}
 use Rattle.adb_wire.specs.declared.packets.Packet.{Packet}
 use Rattle.adb_wire.specs.Packet.{spelling, head_for}
 use Rattle.adb_wire.specs.Header.{words_of}
@@ -17,10 +14,11 @@ use Rattle.adb_client.specs.declared.phase.Phase.{Phase}
 use Rattle.adb_client.specs.declared.phase.Phase.TheVariants.{Asking, Opening, Streaming, Binding, Tracking, Closing, Gone}
 use Rattle.adb_stream.specs.declared.row.Stream.{Stream}
 use Rattle.adb_reply.specs.Strings.{failed}
+use Rattle.adb_load.proofs.Records.{literal_bytes, words_bytes}
 use Rattle.adb_history.specs.Rows.{Client, Link, State, to_client, to_link, to_stream, none_kept, with_due, with_held, in_phase, with_link_due}
-use Rattle.adb_history.specs.Events.{Made, Ending, then_also, quietly}
+use Rattle.adb_history.specs.Events.{Ending, then_also, quietly}
 use Rattle.adb_history.specs.Links.{open_packet, close_packet, owe_link, is_credit}
-use Rattle.adb_history.specs.Clients.{owe_client, closing_with, closing, closes, closes_with}
+use Rattle.adb_history.specs.Clients.{closing_with, closing, closes, closes_with}
 use Rattle.adb_history.specs.Streams.{opens, asks_for, no_ids_left, draw, loses, client_loses, tells_end, ends_row, ends_telling, ends_if_of, ends_of, all_end}
 use Rattle.adb_history.specs.Streams.{stream_ids}
 use Rattle.adb_history.specs.Tracking.{marked, marked_in, mark_all}
@@ -38,19 +36,6 @@ front_bytes n text = All-take (λ b. b < 256) n text
 
 pub back_bytes : (n : ℕ) (text : List ℕ) → AreBytes text → AreBytes (drop n text)
 back_bytes n text = All-drop (λ b. b < 256) n text
-
-pub literal_bytes : (text : List ℕ) → list_all (λ b. nat_lt b 256) text ≡ true → AreBytes text
-literal_bytes text h k d within = ltb-true _ 256 (AllPass-from_list_all (λ b. nat_lt b 256) text h k d within)
-
-byte_of : (n : ℕ) → n % 256 < 256
-byte_of n = mod-lt n (lit< tt)
-
-pub word_bytes : (word : ℕ) → AreBytes (little_bytes 4 word)
-word_bytes word = All-from_recursion (λ b. b < 256) (little_bytes 4 word) (byte_of _, (byte_of _, (byte_of _, (byte_of _, tt))))
-
-words_bytes : (words : List ℕ) → AreBytes (flat_map (little_bytes 4) words)
-words_bytes [] = no_bytes
-words_bytes (word ∷ words) = both_bytes (little_bytes 4 word) (flat_map (little_bytes 4) words) (word_bytes word) (words_bytes words)
 
 pub spelled_bytes : (p : Packet) (check : ℕ) → AreBytes p.payload → AreBytes (spelling p check)
 spelled_bytes p check payload =

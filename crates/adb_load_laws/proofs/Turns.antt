@@ -1,8 +1,9 @@
 -- What each turn of a load keeps holds after any number of turns; what a turn is; and how far a load can be.
-use Rattle.std.proofs.Common.{ℕ, ◌+◌, ◌-◌, ◌≡◌, ◌<◌, ◌≤◌, Bool, true, false, ◌%◌, List, [], ◌∷◌, ◌++◌, length, take, drop, zero, suc, sym, refl, subst, arith, get_or}
+use Rattle.std.proofs.Common.{ℕ, ◌+◌, ◌≡◌, ◌<◌, ◌≤◌, Bool, true, false, ◌%◌, List, [], ◌∷◌, ◌++◌, length, take, drop, zero, suc, sym, refl}
+use Rattle.std.proofs.Common.{subst, arith, get_or}
 use Rattle.std.proofs.Common.{inl, inr, ◌⊎◌, ◌∙◌, lit≤, ◌&&◌, nat_lt, nat_eq, if◌then◌else◌}
 use Rattle.std.specs.Prelude.{Option, Some, None, All}
-use Rattle.std.specs.List.{slice_get, slice_set, remove}
+use Rattle.std.specs.List.{slice_get}
 use Rattle.std.proofs.lemmas.List.{append-nil, append_assoc}
 use Rattle.std.proofs.lemmas.List.Elements.{All-append, All-from_recursion, All-nil, All-take, All-drop, All-set, All-get_or}
 use Rattle.std.proofs.lemmas.Option.{slice_get_cases, slice_get_within, get_or_from_slice_get}
@@ -11,7 +12,7 @@ use Rattle.rand_pcg.specs.Pcg.{pcg32}
 use Rattle.adb_load.specs.declared.act.Act.{Act}
 use Rattle.adb_load.specs.declared.live.Live.{Live}
 use Rattle.adb_load.specs.Acts.{acts_due, up_size, down_size}
-use Rattle.adb_load.specs.Streams.{live_at_first, portion, goes_up, is_set, moved_up, moved_down, ended, moved}
+use Rattle.adb_load.specs.Streams.{live_at_first, portion, goes_up, moved_up, moved_down, ended, moved}
 use Rattle.adb_load.specs.Course.{Progress, Turn, turn, start, stopped, plug_in, begin, draw, move_at, move_with, streams_after}
 use Rattle.adb_load.specs.Load.{acts_of_turns}
 

@@ -15,8 +15,18 @@ pub fn loads_are_accepted()
         → IsLegal (drained_from [] front) → IsTaken (drained_from [] front) e }
 {}
 
+/// What a server makes of a load, with all that is due handed out after each entry, is a legal
+/// history, and so is what it makes of any of its first entries.
+pub fn loads_are_legal()
+    ensures whole { (seed streams : ℕ) → streams < 2 ^ 32
+        → IsLegal (drained_from [] (load seed streams)) }
+    ensures fronts { (seed streams : ℕ) (front rest : List Entry) → streams < 2 ^ 32
+        → load seed streams ≡ front ++ rest → IsLegal (drained_from [] front) }
+{}
+
 /// What is put to the clients of a load past the two replies that lead it is what their devices
-/// wrote to their streams. A load has fewer than 65,536 streams, as whoever makes one has to see to.
+/// wrote to their streams. A load has fewer than 65,536 streams, which whoever makes one has to see
+/// to.
 pub fn totals_of_loads()
     ensures { (seed streams : ℕ) → streams < 2 ^ 16
         → let h = drained_from [] (load seed streams) in down_of h ≡ past_leads h }

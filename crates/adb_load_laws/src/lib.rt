@@ -5,4 +5,4 @@
 
 mod laws;
 
-pub use laws::{loads_are_accepted, totals_of_loads};
+pub use laws::{loads_are_accepted, loads_are_legal, totals_of_loads};
