@@ -5,29 +5,17 @@ ghost use Rattle.adb_outside.specs.Memory.{HasPort};
 
 use super::*;
 use std::alloc::{AllocError, Global};
-use std::process::Abort;
 use std::test::Fail;
 
-/// It is so.
-fn is(rt: &impl Abort, so: bool) {
-    assert!(rt; so);
-}
-
-/// The bytes are these.
-fn same(rt: &impl Abort, bytes: &[u8], want: &[u8]) {
-    assert_eq!(rt; bytes, want);
-}
-
-#[test]
-fn texts(rt: HostRuntime) -> Result<(), Fail> {
-    let mut text = Text::from_slice(rt.alloc(), b"host:")?;
+/// Whether a text is put together, cut, and handed over.
+fn text_is_cut(alloc: Global) -> Result<bool, AllocError> {
+    let mut text = Text::from_slice(alloc, b"host:")?;
     text.push_slice(b"version")?;
-    same(&rt, text.copy()?.as_slice(), b"host:version");
+    let whole = text.copy()?.as_slice() == b"host:version".as_slice();
     text.truncate(4);
-    is(&rt, text.len() == 4);
-    is(&rt, !text.is_empty());
-    same(&rt, Text::from_vec(text.into_vec()).as_slice(), b"host");
-    Ok(())
+    let cut = text.len() == 4 && !text.is_empty();
+    let given = Text::from_vec(text.into_vec());
+    Ok(whole && cut && given.as_slice() == b"host".as_slice())
 }
 
 /// A queue that let go of its first bytes.
@@ -40,60 +28,63 @@ fn halved(alloc: Global) -> Result<ByteQueue, AllocError> {
     Ok(queue)
 }
 
-#[test]
-fn queues(rt: HostRuntime) -> Result<(), Fail> {
-    let mut queue = halved(rt.alloc())?;
+/// Whether a queue holds what it did not let go of, and nothing once it is cleared.
+fn queue_is_cleared(alloc: Global) -> Result<bool, AllocError> {
+    let mut queue = halved(alloc)?;
     queue.give_back();
-    same(&rt, queue.as_slice(), b"version");
+    let held = queue.as_slice() == b"version".as_slice();
     queue.truncate(3);
     queue.clear();
-    is(&rt, queue.is_empty());
-    is(&rt, ByteQueue::new(rt.alloc()).spare() == 0);
+    Ok(held && queue.is_empty() && ByteQueue::new(alloc).spare() == 0)
+}
+
+#[test]
+fn texts_and_queues(rt: HostRuntime) -> Result<(), Fail> {
+    assert!(rt; text_is_cut(rt.alloc())?);
+    assert!(rt; queue_is_cleared(rt.alloc())?);
     Ok(())
 }
 
-/// What a source gives of a buffer of four bytes, and what stands in the buffer.
-fn gives(rt: &impl Abort, source: &mut impl Source, got: Got, bytes: &[u8]) {
+/// Whether a source gives this to a buffer of four bytes, and leaves these bytes in it.
+fn gives(source: &mut impl Source, got: Got, bytes: &[u8]) -> bool {
     let mut into = *b"....";
-    is(rt, source.read(&mut into) == got);
-    same(rt, &into, bytes);
+    source.read(&mut into) == got && into.as_slice() == bytes
 }
 
-#[test]
-fn sources_give(rt: HostRuntime) -> Result<(), Fail> {
-    let text = Text::from_slice(rt.alloc(), b"sync:")?;
-    gives(
-        &rt,
-        &mut MemorySource::new(text, 3, Vec::new(rt.alloc())),
-        Got::Bytes(3),
-        b"syn.",
-    );
-    let text = Text::from_slice(rt.alloc(), b"sync:")?;
-    gives(&rt, &mut NeverSource::new(text, 8), Got::Bytes(4), b"sync");
-    Ok(())
+/// Whether a source in memory gives no more than it may, and one that never fails all that fits.
+fn sources_give(alloc: Global) -> Result<bool, AllocError> {
+    let text = Text::from_slice(alloc, b"sync:")?;
+    let mut never = NeverSource::new(text.copy()?, 8);
+    let mut memory = MemorySource::new(text, 3, Vec::new(alloc));
+    Ok(gives(&mut memory, Got::Bytes(3), b"syn.") && gives(&mut never, Got::Bytes(4), b"sync"))
 }
 
-#[test]
-fn sinks_take(rt: HostRuntime) {
-    let mut sink = MemorySink::new(rt.alloc(), Vec::new(rt.alloc()));
-    is(&rt, sink.write(b"OKAY") == Wrote::All);
-    same(&rt, sink.bytes(), b"OKAY");
-    is(&rt, NeverSink::new().write(b"OKAY") == Wrote::All);
+/// Whether a sink in memory keeps what is written, and one that never fails takes it.
+fn sinks_take(alloc: Global) -> bool {
+    let mut sink = MemorySink::new(alloc, Vec::new(alloc));
+    let took = sink.write(b"OKAY") == Wrote::All && sink.bytes() == b"OKAY".as_slice();
+    took && NeverSink::new().write(b"OKAY") == Wrote::All
 }
 
-#[test]
-fn ports_read(rt: HostRuntime) {
-    let mut input = MemoryIn::new(Text::new(rt.alloc()), 1, Vec::new(rt.alloc()));
-    is(&rt, input.read(&mut [0]) == Got::End);
-}
-
-#[test]
-fn ports_write(rt: HostRuntime) {
-    let mut output = MemoryOut::new(rt.alloc(), Vec::new(rt.alloc()));
-    is(&rt, output.write(b"OKAY") == Wrote::All);
+/// Whether a port that was written to and closed tells so.
+fn port_is_closed(alloc: Global) -> bool {
+    let mut output = MemoryOut::new(alloc, Vec::new(alloc));
+    let took = output.write(b"OKAY") == Wrote::All;
     output.close();
-    is(&rt, output.is_closed());
-    same(&rt, output.bytes(), b"OKAY");
+    took && output.is_closed() && output.bytes() == b"OKAY".as_slice()
+}
+
+/// Whether a device that was written to and unplugged tells so.
+fn device_is_unplugged(alloc: Global) -> bool {
+    let mut output = MemoryDeviceOut::new(alloc, Vec::new(alloc));
+    let took = output.write(b"OPEN") == Wrote::All;
+    output.unplug();
+    took && output.is_unplugged() && output.bytes() == b"OPEN".as_slice()
+}
+
+/// A port without bytes.
+fn silent_port(alloc: Global) -> MemoryIn {
+    MemoryIn::new(Text::new(alloc), 1, Vec::new(alloc))
 }
 
 /// A device without bytes.
@@ -101,82 +92,87 @@ fn silent(alloc: Global, plug: Plug) -> MemoryDeviceIn {
     MemoryDeviceIn::new(alloc, plug, Text::new(alloc), 1, Vec::new(alloc))
 }
 
-/// A device answers `plug` as it was made.
-fn answers(rt: &impl Abort, alloc: Global, plug: Plug) {
-    let mut device = silent(alloc, plug);
-    is(rt, device.plug() == plug);
-    is(
-        rt,
-        device.plugs().is_some_and(|told| told == [plug].as_slice()),
-    );
+/// What a device without bytes gives that is behind a box.
+fn boxed_end(alloc: Global) -> Result<Got, AllocError> {
+    let mut input: Box<dyn DeviceIn + Send> = Box::new(alloc, silent(alloc, Plug::Here))?;
+    Ok(input.read(&mut [0]))
 }
 
 #[test]
-fn devices_are_plugged_in(rt: HostRuntime) {
-    answers(&rt, rt.alloc(), Plug::Here);
-    answers(&rt, rt.alloc(), Plug::Never);
-    answers(&rt, rt.alloc(), Plug::Failed);
-}
-
-#[test]
-fn devices_are_boxed(rt: HostRuntime) -> Result<(), Fail> {
-    let mut input: Box<dyn DeviceIn + Send> = Box::new(rt.alloc(), silent(rt.alloc(), Plug::Here))?;
-    is(&rt, input.read(&mut [0]) == Got::End);
+fn memory_reads_and_writes(rt: HostRuntime) -> Result<(), Fail> {
+    assert!(rt; sources_give(rt.alloc())?);
+    assert!(rt; sinks_take(rt.alloc()));
+    assert!(rt; port_is_closed(rt.alloc()));
+    assert!(rt; device_is_unplugged(rt.alloc()));
+    assert!(rt; silent_port(rt.alloc()).read(&mut [0]) == Got::End);
+    assert!(rt; boxed_end(rt.alloc())? == Got::End);
     Ok(())
 }
 
-#[test]
-fn devices_write(rt: HostRuntime) {
-    let mut output = MemoryDeviceOut::new(rt.alloc(), Vec::new(rt.alloc()));
-    is(&rt, output.write(b"OPEN") == Wrote::All);
-    output.unplug();
-    is(&rt, output.is_unplugged());
-    same(&rt, output.bytes(), b"OPEN");
+const PLUGS: &[Plug] = &[Plug::Here, Plug::Never, Plug::Failed];
+
+/// Whether a device answers `plug` as it was made, and tells so.
+fn is_plugged(alloc: Global, plug: Plug) -> bool {
+    let mut device = silent(alloc, plug);
+    device.plug() == plug && device.plugs() == Some([plug].as_slice())
 }
 
 /// A client that says nothing, and one that comes through a forward.
 fn callers(alloc: Global) -> Result<Vec<Caller<MemoryIn, MemoryOut>>, AllocError>
     ensures { IfOk result (λ list. All HasPort list.items) }
 {
-    let input = MemoryIn::new(Text::new(alloc), 1, Vec::new(alloc));
-    let client = Caller::Client(input, MemoryOut::new(alloc, Vec::new(alloc)));
-    let input = MemoryIn::new(Text::new(alloc), 1, Vec::new(alloc));
-    let forwarded = Caller::Forwarded(40_000, input, MemoryOut::new(alloc, Vec::new(alloc)));
-    Ok(Vec::from_array(alloc, [client, forwarded])?)
+    let mut callers = Vec::new(alloc);
+    let output = MemoryOut::new(alloc, Vec::new(alloc));
+    callers.push(Caller::Client(silent_port(alloc), output))?;
+    let output = MemoryOut::new(alloc, Vec::new(alloc));
+    callers.push(Caller::Forwarded(40_000, silent_port(alloc), output))?;
+    Ok(callers)
 }
 
-/// A door answers by its callers in order, fails at its second call, and closes.
-fn opens(rt: &impl Abort, door: MemoryDoor<MemoryIn, MemoryOut>) {
-    let mut door = door;
-    for _ in 0..4 {
+const ARRIVALS: &[Arrival] = &[
+    Arrival::Port,
+    Arrival::Failed,
+    Arrival::Forward(40_000),
+    Arrival::Closed,
+];
+
+/// Whether a door answers by its callers in order, fails at its second call, and closes.
+fn door_opens(alloc: Global) -> Result<bool, AllocError> {
+    let failing = Vec::from_slice(alloc, &[2])?;
+    let mut door = MemoryDoor::new(alloc, callers(alloc)?, failing);
+    for _ in ARRIVALS {
         let _ = door.accept();
     }
-    let came = [
-        Arrival::Port,
-        Arrival::Failed,
-        Arrival::Forward(40_000),
-        Arrival::Closed,
-    ];
-    is(rt, door.came().is_some_and(|told| told == came.as_slice()));
+    Ok(door.came() == Some(ARRIVALS))
 }
 
 #[test]
-fn doors_open_and_close(rt: HostRuntime) -> Result<(), Fail> {
-    let callers = callers(rt.alloc())?;
-    let failing = Vec::from_slice(rt.alloc(), &[2])?;
-    opens(&rt, MemoryDoor::new(rt.alloc(), callers, failing));
+fn devices_and_callers_come(rt: HostRuntime) -> Result<(), Fail> {
+    for &plug in PLUGS {
+        assert!(rt; is_plugged(rt.alloc(), plug), "{plug:?}");
+    }
+    assert!(rt; door_opens(rt.alloc())?);
     Ok(())
 }
 
-#[test]
-fn gates_and_bells(rt: HostRuntime) {
-    is(&rt, Place::ClientReader as u8 == 1);
-    is(&rt, Place::ClientWriter as u8 == 2);
-    is(&rt, Place::DeviceReader as u8 == 3);
-    is(&rt, Place::DeviceWriter as u8 == 4);
-    OpenGate::new().pass(Place::DeviceWriter as u8, 1);
-    SilentBell::new().ring();
-}
+const PLACES: &[(Place, u8)] = &[
+    (Place::ClientReader, 1),
+    (Place::ClientWriter, 2),
+    (Place::DeviceReader, 3),
+    (Place::DeviceWriter, 4),
+];
+
+/// States, their texts, and whether a device is in a state that names it as its system.
+const STATES: &[(State, &[u8], bool)] = &[
+    (State::Device, b"device", true),
+    (State::Bootloader, b"bootloader", true),
+    (State::Recovery, b"recovery", true),
+    (State::Sideload, b"sideload", true),
+    (State::Rescue, b"rescue", true),
+    (State::Host, b"host", true),
+    (State::Offline, b"offline", false),
+    (State::Unauthorized, b"unauthorized", false),
+];
 
 /// What a device says that names only its system.
 fn system(alloc: Global, system: &[u8]) -> Result<Identity, AllocError> {
@@ -190,22 +186,22 @@ fn system(alloc: Global, system: &[u8]) -> Result<Identity, AllocError> {
     })
 }
 
-/// A device that names this system is in this state, whose name it is.
-fn names(rt: &impl Abort, alloc: Global, name: &[u8], state: State) -> Result<(), AllocError> {
-    is(rt, state_of(&system(alloc, name)?) == state);
-    same(rt, state_text(state), name);
-    Ok(())
+/// The state of a device that names this system.
+fn state_by(alloc: Global, name: &[u8]) -> Result<State, AllocError> {
+    let identity = system(alloc, name)?;
+    Ok(state_of(&identity))
 }
 
 #[test]
-fn states_by_name(rt: HostRuntime) -> Result<(), Fail> {
-    names(&rt, rt.alloc(), b"device", State::Device)?;
-    names(&rt, rt.alloc(), b"bootloader", State::Bootloader)?;
-    names(&rt, rt.alloc(), b"recovery", State::Recovery)?;
-    names(&rt, rt.alloc(), b"sideload", State::Sideload)?;
-    names(&rt, rt.alloc(), b"rescue", State::Rescue)?;
-    names(&rt, rt.alloc(), b"host", State::Host)?;
-    same(&rt, state_text(State::Offline), b"offline");
-    same(&rt, state_text(State::Unauthorized), b"unauthorized");
+fn places_and_states(rt: HostRuntime) -> Result<(), Fail> {
+    for &(place, number) in PLACES {
+        OpenGate::new().pass(place as u8, 1);
+        assert!(rt; place as u8 == number);
+    }
+    SilentBell::new().ring();
+    for &(state, text, is_named) in STATES {
+        assert!(rt; state_text(state) == text, "{state:?}");
+        assert!(rt; (state_by(rt.alloc(), text)? == state) == is_named, "{state:?}");
+    }
     Ok(())
 }
