@@ -1,6 +1,7 @@
 //! Listeners that stand, or could not be made.
 
-ghost use Rattle.std.specs.Prelude.{◌≡◌, ◌≤◌, ◌<◌, ◌++◌, codes, true, length, Some, IfOk, OnOk, OnErr};
+ghost use Rattle.std.specs.Prelude.{◌≡◌, ◌≤◌, ◌<◌, ◌++◌, codes, true, length, Some};
+ghost use Rattle.std.specs.Prelude.{IfOk, OnOk, OnErr};
 ghost use Rattle.adb_client.specs.declared.about.Want.{Want};
 ghost use Rattle.adb_capture.specs.declared.entry.Entry.TheVariants.{Bound};
 ghost use Rattle.adb_history.specs.Forwarding.{is_unbound, bound_by, told_port};
