@@ -73,7 +73,7 @@ fn bind(tables: &mut Tables, client: u32, port: u16) -> Result<Bytes, AllocError
     ensures err { OnErr result (tables.new.forwards ≡ tables.old.forwards) }
 {
     let Some(row) = tables.clients.get(&client) else {
-        return Err(AllocError);
+        unreachable!()
     };
     match &row.about().want {
         Some(want) => forward(
@@ -83,7 +83,7 @@ fn bind(tables: &mut Tables, client: u32, port: u16) -> Result<Bytes, AllocError
             want,
             port,
         ),
-        None => Err(AllocError),
+        None => unreachable!(),
     }
 }
 
