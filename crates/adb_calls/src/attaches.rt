@@ -1,6 +1,7 @@
 //! Devices that are plugged in.
 
-ghost use Rattle.std.specs.Prelude.{◌<◌, ◌^◌, ◌≡◌, ◌≢◌, ◌+◌, None, Some, IfOk, IsOkUnless, MatchOption, OnOk, OnErr};
+ghost use Rattle.std.specs.Prelude.{◌<◌, ◌^◌, ◌≡◌, ◌≢◌, ◌+◌, None, Some};
+ghost use Rattle.std.specs.Prelude.{IfOk, IsOkUnless, MatchOption, OnOk, OnErr};
 ghost use Rattle.adb_outside.specs.Tables.{IsRising, Puts};
 ghost use Rattle.adb_registry.specs.Registry.{attach_refusal};
 ghost use Rattle.adb_wire.specs.declared.command.Command.TheVariants.{Cnxn};

@@ -1,6 +1,7 @@
 //! Listeners that stand, or could not be made.
 
-ghost use Rattle.std.specs.Prelude.{◌≡◌, ◌≤◌, ◌<◌, ◌++◌, codes, true, length, Some, IfOk, OnOk, OnErr};
+ghost use Rattle.std.specs.Prelude.{◌≡◌, ◌≤◌, ◌<◌, ◌++◌, codes, true, length, Some};
+ghost use Rattle.std.specs.Prelude.{IfOk, OnOk, OnErr};
 ghost use Rattle.adb_client.specs.declared.about.Want.{Want};
 ghost use Rattle.adb_capture.specs.declared.entry.Entry.TheVariants.{Bound};
 ghost use Rattle.adb_history.specs.Forwarding.{is_unbound, bound_by, told_port};
@@ -72,7 +73,7 @@ fn bind(tables: &mut Tables, client: u32, port: u16) -> Result<Bytes, AllocError
     ensures err { OnErr result (tables.new.forwards ≡ tables.old.forwards) }
 {
     let Some(row) = tables.clients.get(&client) else {
-        return Err(AllocError);
+        unreachable!()
     };
     match &row.about().want {
         Some(want) => forward(
@@ -82,7 +83,7 @@ fn bind(tables: &mut Tables, client: u32, port: u16) -> Result<Bytes, AllocError
             want,
             port,
         ),
-        None => Err(AllocError),
+        None => unreachable!(),
     }
 }
 

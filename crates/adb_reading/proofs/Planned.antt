@@ -11,6 +11,8 @@ use Rattle.adb_history.specs.Asking.{Asked, reads_on}
 use Rattle.adb_history.specs.Reading.{has_asked, asks, goes_on}
 use Rattle.adb_asking.specs.Plan.{asking, asked_by}
 use Rattle.adb_asking.specs.declared.plan.Plan.{Plan}
+use Rattle.adb_rest.specs.Wanted.{IsSoundNext}
+use Rattle.adb_rest.proofs.WantedReads.{sound_next}
 use Rattle.adb_rules.specs.declared.tables.Tables.{Tables}
 use Rattle.adb_rules.specs.Tables.{client_row, state_of}
 use Rattle.adb_rules.specs.Up.{IsSized}
@@ -80,6 +82,17 @@ plan_fits plan c t plans sized = by_row (at c t.clients.entries) plans
     by_row (Some client) plans =
         subst (λ (q : Asked). FitsNext q.next) (sym plans.asked)
         (next_fits t.devices sized t.forwards (length client.held) (asking client.held client.about.selected) tt)
+
+-- what follows a plan can be done
+pub plan_follows : (plan : Plan) (c : ℕ) (t : Tables) → PlansAt t (at c t.clients.entries) (Some plan) → at 0 t.forwards ≡ None
+    → IsSoundNext t.forwards plan.next
+plan_follows plan c t plans none = by_row (at c t.clients.entries) plans
+  where
+    by_row : (found : Option SeenClient) → PlansAt t found (Some plan) → IsSoundNext t.forwards plan.next
+    by_row None plans = absurd plans
+    by_row (Some client) plans =
+        subst (λ (q : Asked). IsSoundNext t.forwards q.next) (sym plans.asked)
+        (sound_next t.devices t.forwards none (length client.held) (asking client.held client.about.selected) tt)
 
 -- the requests of a plan are held
 pub plan_within : (plan : Plan) (t : Tables) (found : Option SeenClient) → PlansAt t found (Some plan) → HoldsAtLeast plan.used found

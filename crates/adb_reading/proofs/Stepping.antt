@@ -3,7 +3,7 @@ use Rattle.std.proofs.Common.{ℕ, ◌+◌, ◌≡◌, ◌++◌, List, Bool, tru
 use Rattle.std.proofs.Common.{inl, inr}
 use Rattle.std.specs.Prelude.{option_and_then}
 use Rattle.std.proofs.lemmas.Bool.{eqb-true}
-use Rattle.adb_outside.specs.Tables.{change_row}
+use Rattle.adb_outside.specs.Tables.{at, change_row}
 use Rattle.adb_client.specs.declared.phase.Phase.{Phase}
 use Rattle.adb_client.specs.declared.phase.Phase.TheVariants.{Asking, Opening, Streaming, Binding, Tracking, Closing, Gone}
 use Rattle.adb_capture.specs.declared.entry.Entry.{Entry}
@@ -16,9 +16,12 @@ use Rattle.adb_history.specs.Machine.{step}
 use Rattle.adb_history.specs.Orderly.{IsOrderly}
 use Rattle.adb_history.proofs.OrderlyStates.{orderly}
 use Rattle.adb_rest.specs.Resting.{SendsNothingBy, GoesUpAlone, AllSized, has_open_stream, is_open_phase}
+use Rattle.adb_rest.specs.Wanted.{CanBeDone}
 use Rattle.adb_rest.proofs.RestingSteps.{all_send_nothing}
 use Rattle.adb_rest.proofs.RestingOpen.{goes_up_alone}
 use Rattle.adb_rest.proofs.RestingDevices.{sized}
+use Rattle.adb_rest.proofs.WantedReads.{none_at_zero}
+use Rattle.adb_rest.proofs.WantedStates.{can_be_done}
 use Rattle.adb_rules.specs.declared.tables.Tables.{Tables}
 use Rattle.adb_rules.specs.Tables.{state_of, phase_in}
 use Rattle.adb_rules.specs.Fit.{IsReached, Makes, Keeps}
@@ -34,6 +37,12 @@ goes_alone s h = subst GoesUpAlone (sym h.is) (goes_up_alone h.history h.legal)
 
 pub all_sized : (s : State) → IsReached s → AllSized s
 all_sized s h = subst AllSized (sym h.is) (sized h.history)
+
+can_all_be_done : (s : State) → IsReached s → CanBeDone s
+can_all_be_done s h = subst CanBeDone (sym h.is) (can_be_done h.history h.legal)
+
+pub no_forward_at_zero : (s : State) → IsReached s → at 0 s.forwards ≡ None
+no_forward_at_zero s h = none_at_zero s.forwards (can_all_be_done s h).forwards
 
 in_order : (s : State) → IsReached s → IsOrderly s
 in_order s h = subst IsOrderly (sym h.is) (orderly h.history h.legal)

@@ -1,6 +1,6 @@
 //! Bytes of a client that asks: its whole requests are answered (OVERVIEW.TXT, "Protocol details").
 
-ghost use Rattle.std.specs.Prelude.{◌≡◌, ◌++◌, Some, IfOk, OnOk, OnErr};
+ghost use Rattle.std.specs.Prelude.{◌≡◌, ◌++◌, Some, None, IfOk, OnOk, OnErr};
 ghost use Rattle.adb_outside.specs.Tables.{at};
 ghost use Rattle.adb_history.specs.Rows.{Client as Row};
 ghost use Rattle.adb_history.specs.Asking.{asks_with};
@@ -22,6 +22,7 @@ use std::alloc::AllocError;
 pub(crate) fn ask(tables: &mut Tables, client: u32, piece: &[u8]) -> Result<(), AllocError>
     requires fit { IsFit tables.old }
     requires sized { IsSized tables.old }
+    requires ports { at 0 tables.old.forwards ≡ None }
     ensures made { OnOk result ((row : Row) → (state_of tables.old).clients client ≡ Some row
         → let s = state_of tables.old in Leaves (asks (asks_with s.devices s.forwards piece.now
         (asked_before row)) client s).state tables.new) }
@@ -41,6 +42,7 @@ pub(crate) fn ask(tables: &mut Tables, client: u32, piece: &[u8]) -> Result<(), 
 fn answer(tables: &mut Tables, client: u32) -> Result<(), AllocError>
     requires fit { IsFit tables.old }
     requires sized { IsSized tables.old }
+    requires ports { at 0 tables.old.forwards ≡ None }
     ensures made { OnOk result ((row : Row) → (state_of tables.old).clients client ≡ Some row
         → Leaves (answered client row (state_of tables.old)) tables.new) }
     ensures kept { OnErr result (Leaves (state_of tables.old) tables.new) }
@@ -70,6 +72,7 @@ fn make(tables: &mut Tables, client: u32, plan: Plan) -> Result<(), AllocError>
     requires fit { IsFit tables.old }
     requires plan { PlansAt tables.old (at client tables.old.clients.entries) (Some plan) }
     requires sized { IsSized tables.old }
+    requires ports { at 0 tables.old.forwards ≡ None }
     ensures made { OnOk result ((row : Row) → (state_of tables.old).clients client ≡ Some row
         → Leaves (answered client row (state_of tables.old)) tables.new) }
     ensures kept { OnErr result (Leaves (state_of tables.old) tables.new) }

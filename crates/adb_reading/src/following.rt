@@ -1,7 +1,8 @@
 //! What follows the last request of a client, each case a function: memory first, then the replies,
 //! and then what follows.
 
-ghost use Rattle.std.specs.Prelude.{◌≡◌, ◌+◌, ◌≤◌, ◌++◌, ◌∷◌, [], List, ℕ, length, Some, None, false, option_and_then, OnOk, OnErr};
+ghost use Rattle.std.specs.Prelude.{◌≡◌, ◌+◌, ◌≤◌, ◌++◌, ◌∷◌, [], List, ℕ, length, Some, None, false};
+ghost use Rattle.std.specs.Prelude.{option_and_then, OnOk, OnErr};
 ghost use Rattle.adb_outside.specs.Tables.{at, change_row, without};
 ghost use Rattle.adb_wire.specs.declared.headers.TheConstants.{MAX_PAYLOAD};
 ghost use Rattle.adb_history.specs.Rows.{to_client};
@@ -9,6 +10,7 @@ ghost use Rattle.adb_history.specs.Clients.{closes};
 ghost use Rattle.adb_history.specs.Forwarding.{put_forward};
 ghost use Rattle.adb_history.specs.Streams.{opens};
 ghost use Rattle.adb_history.specs.Reading.{tracks, awaits, goes_on};
+ghost use Rattle.adb_rest.specs.Wanted.{IsSoundNext, IsRebound};
 ghost use Rattle.adb_rules.specs.Fit.{IsFit};
 ghost use Rattle.adb_rules.specs.Tables.{state_of, client_row};
 ghost use Rattle.adb_rules.specs.Tracked.{clients_of, IsAmong};
@@ -19,6 +21,7 @@ use crate::hearing::{Heard, hear};
 use crate::opening::{Asker, open_behind, open_payload};
 use crate::stopping::stop;
 use adb_client::{Client, Phase, Want};
+use adb_forward::ForwardError;
 use adb_outside::Text;
 use adb_reply::Next;
 use adb_rules::Tables;
@@ -35,6 +38,7 @@ pub(crate) fn follow(
     requires fit { IsFit tables.old }
     requires ready { CanHearAt heard.now (at client tables.old.clients.entries) }
     requires fits { FitsNext next }
+    requires follows { IsSoundNext tables.old.forwards next }
     ensures made { OnOk result (Leaves (goes_on next client
         (hears heard.now client (state_of tables.old))).state tables.new) }
     ensures kept { OnErr result (Leaves (state_of tables.old) tables.new) }
@@ -57,6 +61,7 @@ fn follow_next(
     requires fit { IsFit tables.old }
     requires ready { CanHearAt heard.now (at client tables.old.clients.entries) }
     requires fits { FitsNext (Some next) }
+    requires follows { IsSoundNext tables.old.forwards (Some next) }
     ensures made { OnOk result (Leaves (goes_on (Some next) client
         (hears heard.now client (state_of tables.old))).state tables.new) }
     ensures kept { OnErr result (Leaves (state_of tables.old) tables.new) }
@@ -259,6 +264,7 @@ fn rebind(
 ) -> Result<(), AllocError>
     requires fit { IsFit tables.old }
     requires ready { CanHearAt heard.now (at client tables.old.clients.entries) }
+    requires follows { IsRebound local remote.now tables.old.forwards }
     ensures made { OnOk result (Leaves (goes_on (Some (Next.Rebind transport local remote.now))
         client (hears heard.now client (state_of tables.old))).state tables.new) }
     ensures kept { OnErr result (Leaves (state_of tables.old) tables.new) }
@@ -268,14 +274,16 @@ fn rebind(
     Ok(())
 }
 
-/// The forward of a port leads to a device and an end; a device that is gone gives none.
+/// The forward of a port leads to a device and an end from now on; a device that is gone gives
+/// none.
 fn put_forward(
     tables: &mut Tables,
     transport: u32,
     local: u16,
     remote: &Text,
 ) -> Result<(), AllocError>
-    requires { IsFit tables.old }
+    requires fit { IsFit tables.old }
+    requires follows { IsRebound local remote.now tables.old.forwards }
     ensures made { OnOk result (Leaves (record (state_of tables.old) {
       forwards = put_forward local transport remote.now tables.old.devices tables.old.forwards;
     }) tables.new) }
@@ -294,7 +302,8 @@ fn put_forward(
     );
     match put {
         Ok(()) => Ok(()),
-        Err(_) => Err(AllocError),
+        Err(ForwardError::OutOfMemory) => Err(AllocError),
+        Err(_) => unreachable!(),
     }
 }
 

@@ -32,7 +32,7 @@ forwarded_port : (forwards : List (ℕ × ForwardRow)) (local : ℕ) → at 0 fo
 forwarded_port forwards zero none there = absurd (let clash : false ≡ true = sym (ap is_some none) ∙ there in cc)
 forwarded_port forwards (suc n) none there = omega arith
 
-module _ (rows : List (ℕ × Row)) where
+module _ (rows : List (ℕ × Row)) (forwards : List (ℕ × ForwardRow)) where
   -- what holds of each device that is chosen and of each refusal holds of the device that a request asks
   module _ (P : _ → Type 0) (device : (by : Selector) (id : ℕ) → P (device_or by (Ok id)))
       (refused : (by : Selector) (why : Refusal) → P (device_or by (Err why))) (gone : P (asked_device [] (Some 0) Own true)) where
@@ -49,63 +49,63 @@ module _ (rows : List (ℕ × Row)) where
         by_test true = by_choice (Id id) (choice (values_of rows) (Id id) ready)
         by_test false = gone
 
-  selecting : (tell_id : Bool) (selected : Option ℕ) (on : Which) → CanFollow (selects tell_id (asked_device rows selected on true)).next
+  selecting : (tell_id : Bool) (selected : Option ℕ) (on : Which) → CanFollow forwards (selects tell_id (asked_device rows selected on true)).next
   selecting tell_id selected on =
-      of_device (λ chosen. CanFollow (selects tell_id chosen).next) (λ by id. tt) (λ by why. tt) tt selected on true
+      of_device (λ chosen. CanFollow forwards (selects tell_id chosen).next) (λ by id. tt) (λ by why. tt) tt selected on true
 
-  telling : (fact : _) (selected : Option ℕ) (on : Which) (ready : Bool) → CanFollow (tells rows fact (asked_device rows selected on ready)).next
+  telling : (fact : _) (selected : Option ℕ) (on : Which) (ready : Bool) → CanFollow forwards (tells rows fact (asked_device rows selected on ready)).next
   telling fact selected on ready =
-      of_device (λ chosen. CanFollow (tells rows fact chosen).next) (λ by id. by_row (at id rows)) (λ by why. tt) tt selected on ready
+      of_device (λ chosen. CanFollow forwards (tells rows fact chosen).next) (λ by id. by_row (at id rows)) (λ by why. tt) tt selected on ready
     where
-      by_row : (row : Option Row) → CanFollow (fact_at fact row).next
+      by_row : (row : Option Row) → CanFollow forwards (fact_at fact row).next
       by_row None = tt
       by_row (Some row) = tt
 
-  opening : (selected : Option ℕ) (text : List ℕ) → IsService text → CanFollow (opens rows selected text).next
+  opening : (selected : Option ℕ) (text : List ℕ) → IsService text → CanFollow forwards (opens rows selected text).next
   opening None text short = tt
   opening (Some id) text short = by_row (at id rows)
     where
-      fits : (b : Bool) → CanFollow (cond b (failed (codes "service name too long")) (record { bytes = []; next = Open id text })).next
+      fits : (b : Bool) → CanFollow forwards (cond b (failed (codes "service name too long")) (record { bytes = []; next = Open id text })).next
       fits true = tt
       fits false = short
 
-      by_row : (o : Option Row) → CanFollow (opens_at id text o).next
+      by_row : (o : Option Row) → CanFollow forwards (opens_at id text o).next
       by_row None = tt
       by_row (Some row) = fits (nat_lt row.maxdata (length text + 1))
 
-  module _ (forwards : List (ℕ × ForwardRow)) (none : at 0 forwards ≡ None) where
+  module _ (none : at 0 forwards ≡ None) where
     forwarding_to : (norebind : Bool) (transport local : ℕ) (remote : List ℕ) → IsRemote remote
-        → CanFollow (forwards_to forwards norebind transport local remote).next
+        → CanFollow forwards (forwards_to forwards norebind transport local remote).next
     forwarding_to norebind transport local remote sound =
         by_tests (is_some (at local forwards)) refl (is_some (at local forwards) && norebind)
         (not (is_some (at local forwards)) && nat_eq (length forwards) MAX_FORWARDS)
       where
-        from : (there : Bool) → is_some (at local forwards) ≡ there → CanFollow (forwards_from there transport local remote).next
-        from true is = specified local remote (forwarded_port forwards local none is) sound
+        from : (there : Bool) → is_some (at local forwards) ≡ there → CanFollow forwards (forwards_from there transport local remote).next
+        from true is = record { specification = specified local remote (forwarded_port forwards local none is) sound; there = is }
         from false is = sound
 
         by_tests : (there : Bool) → is_some (at local forwards) ≡ there → (again full : Bool)
-            → CanFollow (cond again (failed (codes "cannot rebind existing socket"))
+            → CanFollow forwards (cond again (failed (codes "cannot rebind existing socket"))
             (cond full (failed (codes "too many forwards")) (forwards_from there transport local remote))).next
         by_tests there is true full = tt
         by_tests there is false true = tt
         by_tests there is false false = from there is
 
     forwarding : (norebind : Bool) (local : ℕ) (remote : List ℕ) (selected : Option ℕ) (on : Which) → IsRemote remote
-        → CanFollow (forwards_by forwards norebind local remote (asked_device rows selected on true)).next
+        → CanFollow forwards (forwards_by forwards norebind local remote (asked_device rows selected on true)).next
     forwarding norebind local remote selected on sound =
-        of_device (λ chosen. CanFollow (forwards_by forwards norebind local remote chosen).next)
+        of_device (λ chosen. CanFollow forwards (forwards_by forwards norebind local remote chosen).next)
         (λ by id. forwarding_to norebind id local remote sound) (λ by why. tt) tt selected on true
 
-    unbinding : (port : ℕ) → CanFollow (unbinds forwards port).next
+    unbinding : (port : ℕ) → CanFollow forwards (unbinds forwards port).next
     unbinding port = by_test (is_some (at port forwards)) (codes "listener 'tcp:" ++ decimal port ++ codes "' not found")
       where
-        by_test : (there : Bool) (why : List ℕ) → CanFollow (cond there (record { bytes = codes "OKAYOKAY"; next = Unbind port }) (failed why)).next
+        by_test : (there : Bool) (why : List ℕ) → CanFollow forwards (cond there (record { bytes = codes "OKAYOKAY"; next = Unbind port }) (failed why)).next
         by_test true why = tt
         by_test false why = tt
 
     -- What follows a request that can be done can be done.
-    pub answer_sound : (selected : Option ℕ) (request : Request) → IsSoundRequest request → CanFollow (answer rows forwards selected request).next
+    pub answer_sound : (selected : Option ℕ) (request : Request) → IsSoundRequest request → CanFollow forwards (answer rows forwards selected request).next
     answer_sound selected asks.Version sound = tt
     answer_sound selected asks.Kill sound = tt
     answer_sound selected (asks.Devices long) sound = tt

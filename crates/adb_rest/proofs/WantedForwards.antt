@@ -37,14 +37,14 @@ module _ (devices : DeviceTable) (forwards : List (ℕ × ForwardRow)) (all : Ar
       by_row None = all
       by_row (Some row) = All-put_at IsForward forwards local (forward_row local transport row.serial remote) can all
 
-  next_forwards : (next : Option Next) → IsSoundNext next → AreForwards (forwards_by next devices forwards)
+  next_forwards : (next : Option Next) → IsSoundNext forwards next → AreForwards (forwards_by next devices forwards)
   next_forwards None can = all
   next_forwards (Some Close) can = all
   next_forwards (Some (Select id)) can = all
   next_forwards (Some (Track long)) can = all
   next_forwards (Some (Open transport service)) can = all
   next_forwards (Some (Bind transport local remote chosen)) can = all
-  next_forwards (Some (Rebind transport local remote)) can = put_forwards local transport remote can
+  next_forwards (Some (Rebind transport local remote)) can = put_forwards local transport remote can.specification
   next_forwards (Some (Unbind local)) can = All-without IsForward local forwards all
   next_forwards (Some UnbindAll) can = All-nil IsForward
   next_forwards (Some Stop) can = All-nil IsForward
@@ -73,22 +73,23 @@ module _ (devices : DeviceTable) (forwards : List (ℕ × ForwardRow)) (all : Ar
           put_forwards port want.transport want.remote (specified port want.remote some remote)
 
 -- ---- what a client waits for
-wanted_next : (next : Option Next) (waits : Option Want) → IsSoundNext next → IsWanted waits → IsWanted (wanted_by next waits)
-wanted_next None waits can h = h
-wanted_next (Some Close) waits can h = h
-wanted_next (Some (Select id)) waits can h = h
-wanted_next (Some (Track long)) waits can h = h
-wanted_next (Some (Open transport service)) waits can h = h
-wanted_next (Some (Bind transport local remote chosen)) waits can h = can
-wanted_next (Some (Rebind transport local remote)) waits can h = h
-wanted_next (Some (Unbind local)) waits can h = h
-wanted_next (Some UnbindAll) waits can h = h
-wanted_next (Some Stop) waits can h = h
+wanted_next : (forwards : List (ℕ × ForwardRow)) (next : Option Next) (waits : Option Want) → IsSoundNext forwards next → IsWanted waits → IsWanted (wanted_by next waits)
+wanted_next forwards None waits can h = h
+wanted_next forwards (Some Close) waits can h = h
+wanted_next forwards (Some (Select id)) waits can h = h
+wanted_next forwards (Some (Track long)) waits can h = h
+wanted_next forwards (Some (Open transport service)) waits can h = h
+wanted_next forwards (Some (Bind transport local remote chosen)) waits can h = can
+wanted_next forwards (Some (Rebind transport local remote)) waits can h = h
+wanted_next forwards (Some (Unbind local)) waits can h = h
+wanted_next forwards (Some UnbindAll) waits can h = h
+wanted_next forwards (Some Stop) waits can h = h
 
 -- what follows a request that is whole only now
-newly_sound : (before after : Option Next) → (before ≡ None → IsSoundNext after) → IsSoundNext (newly before after)
-newly_sound None after h = h refl
-newly_sound (Some next) after h = tt
+newly_sound : (forwards : List (ℕ × ForwardRow)) (before after : Option Next) → (before ≡ None → IsSoundNext forwards after)
+    → IsSoundNext forwards (newly before after)
+newly_sound forwards None after h = h refl
+newly_sound forwards (Some next) after h = tt
 
 put_wanted : (c : ℕ) (o : Option Want) (waits : Rows (Option Want)) → IsWanted o → ((k : ℕ) → IsWanted (waits k)) → (k : ℕ) → IsWanted (put_row c o waits k)
 put_wanted c o waits can all k = by_test (eqb c k)
@@ -108,20 +109,20 @@ module _ (older : History) (b : Book) (h : IsSoundBook b) where
   abbrev devices : DeviceTable
   devices = devices_if b.killed older
 
-  asked_sound : (asking : Bool) (bytes : List ℕ) (q : Asked) → q.next ≡ None → IsSoundNext (asked_with asking devices b.forwards bytes q).next
+  asked_sound : (asking : Bool) (bytes : List ℕ) (q : Asked) → q.next ≡ None → IsSoundNext b.forwards (asked_with asking devices b.forwards bytes q).next
   asked_sound true bytes q none =
-      sound_asked devices b.forwards (none_at_zero b.forwards h.forwards) bytes q (subst IsSoundNext (sym none) tt)
-  asked_sound false bytes q none = subst IsSoundNext (sym none) tt
+      sound_asked devices b.forwards (none_at_zero b.forwards h.forwards) bytes q (subst (IsSoundNext b.forwards) (sym none) tt)
+  asked_sound false bytes q none = subst (IsSoundNext b.forwards) (sym none) tt
 
   read_sound : (c : ℕ) (bytes : List ℕ) → IsSoundBook (turn (Read c bytes) older devices b)
   read_sound c bytes =
       let asking = is_asking c older b in
       let q = asked_with asking devices b.forwards bytes (b.asked c) in
-      let can = newly_sound (b.asked c).next q.next (asked_sound asking bytes (b.asked c)) in
+      let can = newly_sound b.forwards (b.asked c).next q.next (asked_sound asking bytes (b.asked c)) in
       record {
         forwards = next_forwards devices b.forwards h.forwards (newly (b.asked c).next q.next) can;
         waits = put_wanted c (wanted_by (newly (b.asked c).next q.next) (b.waits c)) b.waits
-            (wanted_next (newly (b.asked c).next q.next) (b.waits c) can (h.waits c)) h.waits;
+            (wanted_next b.forwards (newly (b.asked c).next q.next) (b.waits c) can (h.waits c)) h.waits;
       }
 
   bound_sound : (c port : ℕ) (o : Option Want) → IsWanted o → IsSoundBook (bound_turn c port devices o b)

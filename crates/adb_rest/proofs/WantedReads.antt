@@ -84,11 +84,12 @@ text_short : (len : ℕ) (bytes : List ℕ) → len < 2 ^ 16 → IsService (take
 text_short len bytes short = omega (arith, length-take len bytes, short)
 
 -- ---- the requests of a client
-abbrev KeepsSound : (Asked → Asked) → Type 0
-KeepsSound others = (q : Asked) → IsSoundNext q.next → IsSoundNext (others q).next
+abbrev KeepsSound : List (ℕ × ForwardRow) → (Asked → Asked) → Type 0
+KeepsSound forwards others = (q : Asked) → IsSoundNext forwards q.next → IsSoundNext forwards (others q).next
 
-module _ (others : Asked → Asked) (later : KeepsSound others) (q : Asked) (h : IsSoundNext q.next) where
-  next_sound : (next : Next) (reply : List ℕ) (size : ℕ) → CanFollow next → IsSoundNext (after_next next reply size others q).next
+module _ (forwards : List (ℕ × ForwardRow)) (others : Asked → Asked) (later : KeepsSound forwards others) (q : Asked)
+    (h : IsSoundNext forwards q.next) where
+  next_sound : (next : Next) (reply : List ℕ) (size : ℕ) → CanFollow forwards next → IsSoundNext forwards (after_next next reply size others q).next
   next_sound (Select id) reply size can = later (record (replied reply size q) { selected = Some id }) h
   next_sound Close reply size can = can
   next_sound (Track long) reply size can = can
@@ -100,22 +101,22 @@ module _ (others : Asked → Asked) (later : KeepsSound others) (q : Asked) (h :
   next_sound Stop reply size can = can
 
 module _ (devices : DeviceTable) (forwards : List (ℕ × ForwardRow)) (none : at 0 forwards ≡ None) where
-  found_sound : (others : Asked → Asked) → KeepsSound others → (found : Found) → IsShortFound found
-      → KeepsSound (after_found devices forwards found others)
+  found_sound : (others : Asked → Asked) → KeepsSound forwards others → (found : Found) → IsShortFound found
+      → KeepsSound forwards (after_found devices forwards found others)
   found_sound others later More short q h = h
   found_sound others later Malformed short q h = tt
   found_sound others later (Whole len) short q h =
       let text = take len (drop 4 q.rest) in
       let a = answer devices.rows forwards q.selected (meaning text) in
-      next_sound others later q h a.next a.bytes (4 + len)
+      next_sound forwards others later q h a.next a.bytes (4 + len)
       (answer_sound devices.rows forwards none q.selected (meaning text) (meaning_sound text (text_short len (drop 4 q.rest) short)))
 
   -- What follows the requests that are read can be done.
-  pub sound_next : (k : ℕ) (q : Asked) → IsSoundNext q.next → IsSoundNext (reads_on devices forwards k q).next
+  pub sound_next : (k : ℕ) (q : Asked) → IsSoundNext forwards q.next → IsSoundNext forwards (reads_on devices forwards k q).next
   sound_next zero q h = h
   sound_next (suc k) q h = found_sound (reads_on devices forwards k) (λ x now. sound_next k x now) (request_at q.rest) (request_short q.rest) q h
 
-  pub sound_asked : (bytes : List ℕ) (q : Asked) → IsSoundNext q.next → IsSoundNext (asks_with devices forwards bytes q).next
+  pub sound_asked : (bytes : List ℕ) (q : Asked) → IsSoundNext forwards q.next → IsSoundNext forwards (asks_with devices forwards bytes q).next
   sound_asked bytes q h = sound_next (length (q.rest ++ bytes)) (record q { rest = q.rest ++ bytes }) h
 
 -- ---- no forward stands at port 0

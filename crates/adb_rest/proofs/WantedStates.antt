@@ -17,7 +17,7 @@ use Rattle.adb_rest.proofs.WantedClients.{WantsIn, all_want}
 
 -- What follows what a client asks can be done, over a table of forwards.
 pub sound_over_table : (devices : DeviceTable) (forwards : List (ℕ × ForwardRow)) → IsForwardTable forwards → (client : Client) (bytes : List ℕ)
-    → IsSoundNext (asks_with devices forwards bytes (asked_before client)).next
+    → IsSoundNext forwards (asks_with devices forwards bytes (asked_before client)).next
 sound_over_table devices forwards table client bytes =
     sound_asked devices forwards (none_at_zero forwards (table_forwards forwards table)) bytes (asked_before client) tt
 

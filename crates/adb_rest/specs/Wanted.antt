@@ -1,5 +1,6 @@
 -- What follows a request can be done: a service fits its OPEN, and the ends of a forward can be one.
-use Rattle.std.specs.Prelude.{ℕ, ◌≡◌, ◌≤◌, ◌<◌, ◌^◌, true, List, length, All, Option, Some, None}
+use Rattle.std.specs.Prelude.{ℕ, ◌≡◌, ◌≤◌, ◌<◌, ◌^◌, true, is_some, List, length, All, Option, Some, None}
+use Rattle.adb_outside.specs.Tables.{at}
 use Rattle.adb_outside.specs.Bytes.{is_graphic}
 use Rattle.adb_forward.specs.Forwards.{IsSpecification}
 use Rattle.adb_forward.specs.declared.row.ForwardRow.{ForwardRow}
@@ -21,16 +22,21 @@ pub record IsRemote (remote : List ℕ) : Type 0 where
 abbrev pub IsService : List ℕ → Type 0
 IsService service = length service < 2 ^ 16
 
--- What follows a request can be done. Where a listener is to be bound, its port is known only when it stands.
-abbrev pub CanFollow : Next → Type 0
-CanFollow (Open transport service) = IsService service
-CanFollow (Bind transport local remote chosen) = IsRemote remote
-CanFollow (Rebind transport local remote) = IsSpecification local remote
-CanFollow _ = Unit {0}
+-- a forward of a port that is there, and may lead to this remote end from now on
+pub record IsRebound (local : ℕ) (remote : List ℕ) (forwards : List (ℕ × ForwardRow)) : Type 0 where
+  pub specification : IsSpecification local remote
+  pub there : is_some (at local forwards) ≡ true
 
-abbrev pub IsSoundNext : Option Next → Type 0
-IsSoundNext None = Unit {0}
-IsSoundNext (Some next) = CanFollow next
+-- What follows a request can be done, with these forwards. Where a listener is to be bound, its port is known only when it stands.
+abbrev pub CanFollow : List (ℕ × ForwardRow) → Next → Type 0
+CanFollow forwards (Open transport service) = IsService service
+CanFollow forwards (Bind transport local remote chosen) = IsRemote remote
+CanFollow forwards (Rebind transport local remote) = IsRebound local remote forwards
+CanFollow forwards _ = Unit {0}
+
+abbrev pub IsSoundNext : List (ℕ × ForwardRow) → Option Next → Type 0
+IsSoundNext forwards None = Unit {0}
+IsSoundNext forwards (Some next) = CanFollow forwards next
 
 -- Each forward is one that can be.
 abbrev pub AreForwards : List (ℕ × ForwardRow) → Type 0
@@ -45,4 +51,4 @@ IsWanted (Some want) = IsRemote want.remote
 pub record CanBeDone (s : State) : Type 0 where
   pub wanted : (c : ℕ) (client : Client) → s.clients c ≡ Some client → (want : Want) → client.about.want ≡ Some want → IsRemote want.remote
   pub forwards : AreForwards s.forwards
-  pub follows : (client : Client) (bytes : List ℕ) → IsSoundNext (asks_with s.devices s.forwards bytes (asked_before client)).next
+  pub follows : (client : Client) (bytes : List ℕ) → IsSoundNext s.forwards (asks_with s.devices s.forwards bytes (asked_before client)).next

@@ -1,5 +1,6 @@
-//! What follows a request can be done: a service fits its OPEN, and the ends of a forward can be
-//! those of one. Each function does nothing: its contract is the law.
+//! What follows a request can be done: a service fits its OPEN, the ends of a forward can be those
+//! of one, and a forward that is to lead elsewhere is there. Each function does nothing: its contract
+//! is the law.
 
 ghost use Rattle.std.specs.Prelude.{ℕ, ◌≡◌, ◌<◌, List, None};
 ghost use Rattle.adb_outside.specs.Tables.{at};
@@ -17,11 +18,11 @@ ghost use Rattle.adb_rest.specs.Wanted.{CanBeDone, IsRemote, IsSoundNext};
 /// over every table of forwards.
 pub fn what_follows_can_be_done()
     ensures read { (devices : DeviceTable) (forwards : List (ℕ × ForwardRow))
-        → at 0 forwards ≡ None → (k : ℕ) (q : Asked) → IsSoundNext q.next
-        → IsSoundNext (reads_on devices forwards k q).next }
+        → at 0 forwards ≡ None → (k : ℕ) (q : Asked) → IsSoundNext forwards q.next
+        → IsSoundNext forwards (reads_on devices forwards k q).next }
     ensures asked { (devices : DeviceTable) (forwards : List (ℕ × ForwardRow))
         → IsForwardTable forwards → (client : Client) (bytes : List ℕ)
-        → IsSoundNext (asks_with devices forwards bytes (asked_before client)).next }
+        → IsSoundNext forwards (asks_with devices forwards bytes (asked_before client)).next }
 {}
 
 /// After any legal history the forward that a client waits for is one that can stand, and what it

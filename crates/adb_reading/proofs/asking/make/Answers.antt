@@ -1,10 +1,12 @@
-use Rattle.std.proofs.Common.{ap, ◌∙◌}
+use Rattle.std.proofs.Common.{ap, ◌∙◌, sym, subst}
 use Rattle.std.proofs.lemmas.Result.{on_ok_weaker}
 use Rattle.adb_outside.specs.Tables.{at}
 use Rattle.adb_history.specs.Rows.{State}
 use Rattle.adb_history.specs.Reading.{goes_on}
+use Rattle.adb_rest.specs.Wanted.{IsSoundNext}
+use Rattle.adb_rules.specs.declared.tables.Tables.{Tables}
 use Rattle.adb_reading.specs.Asking.{hears}
-use Rattle.adb_reading.proofs.Planned.{planned, plan_fits, plan_within, heard_of}
+use Rattle.adb_reading.proofs.Planned.{planned, plan_fits, plan_follows, plan_within, heard_of}
 use Rattle.adb_reading.proofs.asking.make.Goals as goal
 
 pub reserve_replies-requires-clause-held : goal.reserve_replies-requires-clause-held
@@ -13,6 +15,12 @@ reserve_replies-requires-clause-held c =
 
 pub follow-requires-clause-fits : goal.follow-requires-clause-fits
 follow-requires-clause-fits c = plan_fits c.args.plan c.args.client c.args.tables.now c.requires.plan c.requires.sized
+
+pub follow-requires-clause-follows : goal.follow-requires-clause-follows
+follow-requires-clause-follows c =
+    let plan = c.args.plan in
+    subst (λ (t : Tables). IsSoundNext t.forwards plan.next) (sym c.reserve_replies.ensures.others)
+    (plan_follows plan c.args.client c.args.tables.now c.requires.plan c.requires.ports)
 
 pub returns-in-Ok-clause-made : goal.returns-in-Ok-clause-made
 returns-in-Ok-clause-made c =

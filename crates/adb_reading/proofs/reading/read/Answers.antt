@@ -2,11 +2,14 @@ use Rattle.std.proofs.Common.{◌∙◌, sym, refl}
 use Rattle.std.proofs.lemmas.Result.{on_ok_weaker}
 use Rattle.adb_capture.specs.declared.entry.Entry.TheVariants.{Read}
 use Rattle.adb_rules.specs.Tables.{state_of}
-use Rattle.adb_reading.proofs.Stepping.{all_sized, makes, asking_row, asking_step, opening_step, streaming_step, deaf_step, deaf_of}
+use Rattle.adb_reading.proofs.Stepping.{all_sized, no_forward_at_zero, makes, asking_row, asking_step, opening_step, streaming_step, deaf_step, deaf_of}
 use Rattle.adb_reading.proofs.reading.read.Goals as goal
 
 pub ask-requires-clause-sized : goal.ask-requires-clause-sized
 ask-requires-clause-sized c = all_sized (state_of c.args.tables.now) c.requires.reached
+
+pub ask-requires-clause-ports : goal.ask-requires-clause-ports
+ask-requires-clause-ports c = no_forward_at_zero (state_of c.args.tables.now) c.requires.reached
 
 pub send-requires-clause-sized : goal.send-requires-clause-sized
 send-requires-clause-sized c = all_sized (state_of c.args.tables.now) c.requires.reached
