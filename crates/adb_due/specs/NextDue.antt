@@ -17,11 +17,6 @@ owes_link port = nat_lt 0 (length port.link.due)
 abbrev pub owes_client : SeenClient → Bool
 owes_client client = nat_lt 0 (length client.due) || client.about.mark
 
--- the first number of a table at which this holds
-abbrev pub first_number : {X : Type 0} → (X → Bool) → List (ℕ × X) → Option ℕ
-first_number holds [] = None
-first_number holds (e ∷ table) = if holds e.1 then Some e.0 else first_number holds table
-
 -- to whom an entry hands something
 abbrev pub owner_of : Entry → Option Owner
 owner_of (Send t bytes) = Some (Link t)
