@@ -1,5 +1,5 @@
 -- Who is handed something next.
-use Rattle.std.specs.Prelude.{ℕ, nat_lt, ◌||◌, Bool, if◌then◌else◌, List, [], ◌∷◌, length, Option, Some, None}
+use Rattle.std.specs.Prelude.{nat_lt, ◌||◌, Bool, length, Option, Some, None}
 use Rattle.adb_client.specs.Client.{SeenClient}
 use Rattle.adb_capture.specs.declared.entry.Entry.{Entry}
 use Rattle.adb_capture.specs.declared.entry.Entry.TheVariants.{Put, Send}
