@@ -52,7 +52,7 @@ const STEPS: &[(Act, u32, u32)] = &[
     (Act::Pay, 64, 0),
 ];
 
-fn act(roster: &mut Roster<Debt>, act: Act, number: u32) -> Result<(), Fail> {
+fn take_step(roster: &mut Roster<Debt>, act: Act, number: u32) -> Result<(), Fail> {
     match act {
         Act::Insert => {
             roster
@@ -79,7 +79,7 @@ fn set(roster: &mut Roster<Debt>, number: u32, due: bool) {
 fn the_least_is_first(rt: HostRuntime) -> Result<(), Fail> {
     let mut roster = Roster::new(rt.alloc());
     for (what, number, first) in STEPS {
-        act(&mut roster, *what, *number)?;
+        take_step(&mut roster, *what, *number)?;
         assert_eq!(rt;
             roster.first_owed().unwrap_or(0),
             *first,
