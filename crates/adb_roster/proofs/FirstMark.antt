@@ -1,6 +1,6 @@
 -- The first mark is the least.
-use Rattle.std.proofs.Common.{ℕ, ◌≡◌, ◌≢◌, ◌<◌, ◌*◌, ◌+◌, ◌^◌, ◌/◌, ◌%◌, Bool, true, false, cond, List, [], ◌∷◌, length, Option, Some, None, refl, sym, ◌∙◌, ap, subst, arith, ◌⊎◌, inl, inr}
-use Rattle.std.specs.Prelude.{eqb, MatchOption}
+use Rattle.std.proofs.Common.{ℕ, ◌≡◌, ◌≢◌, ◌<◌, ◌*◌, ◌+◌, ◌^◌, ◌/◌, ◌%◌, Bool, true, false, cond, List, [], ◌∷◌, Option, Some, None, refl, sym, ◌∙◌, ap, arith, ◌⊎◌, inl, inr}
+use Rattle.std.specs.Prelude.{eqb}
 use Rattle.std.specs.Int.{bit_at, trailing_zeros, w64}
 use Rattle.std.specs.Option.{option_map_or}
 use Rattle.std.specs.List.Sorted.{IsStrictlySortedBy}
@@ -10,7 +10,7 @@ use Rattle.std.proofs.lemmas.Nat.Bits.{bit_at-zero, bit_at-trailing_zeros}
 use Rattle.adb_outside.specs.Tables.{at, IsRising}
 use Rattle.adb_roster.specs.declared.marks.Block.{Block}
 use Rattle.adb_roster.specs.First.{first_number, owes_at}
-use Rattle.adb_roster.specs.Marked.{mark_in, mark, first_mark, IsBlock, AreBlocks, IsMarkedAt, IsMarked}
+use Rattle.adb_roster.specs.Marked.{mark_in, mark, first_mark, IsBlock, AreBlocks, IsMarked}
 use Rattle.adb_roster.proofs.Rows.{at_head, at_tail, below_head, past_head, none_owed, least_owed}
 
 -- no number is marked, or this one is and none below it

@@ -1,6 +1,6 @@
 -- A change of one block leaves each row known, and marked where something is due to it.
-use Rattle.std.proofs.Common.{ℕ, ◌≡◌, ◌≢◌, ◌<◌, ◌*◌, ◌+◌, ◌^◌, ◌/◌, ◌%◌, Bool, true, false, cond, List, [], ◌∷◌, filter, Option, Some, None, refl, sym, ◌∙◌, ap, subst, arith, ◌⊎◌, inl, inr}
-use Rattle.std.specs.Prelude.{bit_and, bit_or, eqb, nat_eq, option_map}
+use Rattle.std.proofs.Common.{ℕ, ◌≡◌, ◌≢◌, ◌<◌, ◌^◌, ◌/◌, ◌%◌, Bool, true, false, cond, List, filter, Option, Some, None, refl, sym, ◌∙◌, ap, subst, arith, ◌⊎◌, inl, inr}
+use Rattle.std.specs.Prelude.{bit_and, eqb, nat_eq, option_map}
 use Rattle.std.specs.Int.{bit_at, bit_not, w64}
 use Rattle.std.specs.BTreeMap.{is_at}
 use Rattle.std.specs.Ordering.{nat_cmp}
@@ -12,7 +12,7 @@ use Rattle.std.proofs.lemmas.Nat.{or_lt, and_le_l}
 use Rattle.std.proofs.lemmas.Nat.Bits.{bit_at-zero, bit_at_set_same, bit_at_set_other, bit_at_clear_same, bit_at_clear_other}
 use Rattle.adb_outside.specs.Tables.{at, Puts}
 use Rattle.adb_roster.specs.declared.marks.Block.{Block}
-use Rattle.adb_roster.specs.Marked.{bit, new_block, with_place, with_mark, without_mark, without_place, known, kept, forgotten, place_in, mark_in, place, mark}
+use Rattle.adb_roster.specs.Marked.{bit, new_block, with_place, with_mark, without_mark, without_place, known, forgotten, place_in, mark_in, place, mark}
 use Rattle.adb_roster.specs.Marked.{IsBlock, AreBlocks, IsMarkedAt, IsMarked, weight}
 use Rattle.adb_roster.proofs.Rows.{written_other, written_none, left_at}
 

@@ -1,5 +1,5 @@
 -- What a contract sees of a roster: its rows by rising number.
-use Rattle.std.specs.Prelude.{ℕ, ◌≡◌, false, cond, List, length, Option, Some, None, IsSome, refl}
+use Rattle.std.specs.Prelude.{ℕ, ◌≡◌, false, cond, List, length, Option, Some, IsSome, refl}
 use Rattle.std.specs.Coded.{Coded, code_by, coded×, coded_list, coded_ℕ}
 use Rattle.std.specs.declared.cmp.Ordering.{Ordering}
 use Rattle.std.specs.Ordering.{nat_cmp, eq_by_cmp}

@@ -1,9 +1,6 @@
-use Rattle.std.proofs.Common.{ℕ, List, Option, subst, sym, ap, ◌∙◌, ◌≡◌, ◌∷◌, arith}
+use Rattle.std.proofs.Common.{ℕ, List, subst, arith}
 use Rattle.std.proofs.lemmas.Bool.Decides.{nat_tests}
-use Rattle.std.specs.Prelude.{eqb}
-use Rattle.adb_outside.specs.Tables.{IsRising}
 use Rattle.adb_roster.specs.declared.marks.Block.{Block}
-use Rattle.adb_roster.specs.Marked.{AreBlocks, first_mark}
 use Rattle.adb_roster.proofs.FirstMark.{Left, left_behind, first_block, place_fits}
 use Rattle.adb_roster.proofs.marks.first.Goals as goal
 

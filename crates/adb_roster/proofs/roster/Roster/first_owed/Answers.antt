@@ -1,4 +1,4 @@
-use Rattle.std.proofs.Common.{subst, sym, ap, ◌∙◌, ◌≡◌, Some, None, ℕ, Option}
+use Rattle.std.proofs.Common.{subst, sym, ap, ◌∙◌, ◌≡◌, ℕ, Option}
 use Rattle.adb_outside.specs.Tables.{IsRising}
 use Rattle.adb_roster.specs.First.{first_number}
 use Rattle.adb_roster.proofs.FirstMark.{IsLeast, first_is_least, nobody, somebody, seen}
