@@ -13,11 +13,11 @@ ghost use Rattle.adb_calls.specs.Plugged.{greeted, greeting};
 use adb_link::Link;
 use adb_outside::Kind;
 use adb_registry::AttachError;
+use adb_roster::Roster;
 use adb_rules::{Port, Tables};
 use adb_wire::{Command, Head, MAX_PAYLOAD, VERSION_WITHOUT_SUMS};
 use bytes::Bytes;
 use std::alloc::{AllocError, Global};
-use std::collections::BTreeMap;
 
 /// A device is plugged in, under the next id, which it gives; the server says to it who it is, and
 /// each tracker's list is stale. The registry's refusals come in its order, whatever memory there
@@ -100,7 +100,7 @@ fn greeting() -> Head
 }
 
 /// A link stands under its id.
-fn put_port(links: &mut BTreeMap<u32, Port>, id: u32, port: Port) -> Result<(), AllocError>
+fn put_port(links: &mut Roster<Port>, id: u32, port: Port) -> Result<(), AllocError>
     ensures put { OnOk result (Puts id (Some port) links.old.entries links.new.entries) }
     ensures err { OnErr result (links.new.entries ≡ links.old.entries) }
 {
@@ -109,7 +109,7 @@ fn put_port(links: &mut BTreeMap<u32, Port>, id: u32, port: Port) -> Result<(), 
 }
 
 /// No link stands under that id.
-fn take_port(links: &mut BTreeMap<u32, Port>, id: u32)
+fn take_port(links: &mut Roster<Port>, id: u32)
     ensures { Puts id None links.old.entries links.new.entries }
 {
     links.remove(&id);

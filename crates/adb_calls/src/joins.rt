@@ -7,9 +7,9 @@ ghost use Rattle.adb_rules.specs.Fit.{IsFit, IsReached, Makes, Keeps};
 ghost use Rattle.adb_rules.specs.Tables.{state_of};
 
 use adb_client::Client;
+use adb_roster::Roster;
 use adb_rules::Tables;
 use std::alloc::AllocError;
-use std::collections::BTreeMap;
 
 /// A client comes, under the next number. After want of memory nothing has changed.
 pub fn join(tables: &mut Tables, client: u32) -> Result<(), AllocError>
@@ -26,11 +26,7 @@ pub fn join(tables: &mut Tables, client: u32) -> Result<(), AllocError>
 }
 
 /// A client's row stands under its number.
-fn put_client(
-    clients: &mut BTreeMap<u32, Client>,
-    id: u32,
-    client: Client,
-) -> Result<(), AllocError>
+fn put_client(clients: &mut Roster<Client>, id: u32, client: Client) -> Result<(), AllocError>
     ensures put { OnOk result (Puts id (Some client) clients.old.entries clients.new.entries) }
     ensures err { OnErr result (clients.new.entries ≡ clients.old.entries) }
 {

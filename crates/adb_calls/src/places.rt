@@ -7,9 +7,9 @@ ghost use Rattle.adb_rules.specs.Handing.{HasRoom, open_stream};
 ghost use Rattle.adb_calls.specs.Widening.{WidensClient, WidensPort, WidensRow, Widens};
 
 use adb_client::{Client, Phase};
+use adb_roster::Roster;
 use adb_rules::{Port, Tables};
 use std::alloc::AllocError;
-use std::collections::BTreeMap;
 
 /// A place is reserved for what the device of a client's open stream is told.
 pub(crate) fn keep_answer(tables: &mut Tables, client: u32) -> Result<(), AllocError>
@@ -46,7 +46,7 @@ fn link_of(tables: &Tables, id: u32) -> Option<u32>
 }
 
 /// A place is reserved on a link, beside those that are kept for the ends of its streams.
-fn keep_on_link(links: &mut BTreeMap<u32, Port>, link: u32) -> Result<(), AllocError>
+fn keep_on_link(links: &mut Roster<Port>, link: u32) -> Result<(), AllocError>
     ensures room { OnOk result (LinkRoom 1 (at link links.new.entries)) }
     ensures widens { (k : ℕ)
         → WidensRow WidensPort (at k links.old.entries) (at k links.new.entries) }
@@ -69,7 +69,7 @@ fn keep_on(port: &mut Port) -> Result<(), AllocError>
 
 /// A place is reserved for a slice that becomes due to a client, beside the one that is kept for
 /// the answer to it.
-pub(crate) fn keep_slice(clients: &mut BTreeMap<u32, Client>, client: u32) -> Result<(), AllocError>
+pub(crate) fn keep_slice(clients: &mut Roster<Client>, client: u32) -> Result<(), AllocError>
     ensures room { OnOk result (ClientRoom 1 (at client clients.new.entries)) }
     ensures widens { (c : ℕ)
         → WidensRow WidensClient (at c clients.old.entries) (at c clients.new.entries) }

@@ -13,9 +13,9 @@ use crate::lists::list_for;
 use crate::places::keep_answer;
 use adb_client::Client;
 use adb_outside::Text;
+use adb_roster::Roster;
 use adb_rules::Tables;
 use std::alloc::AllocError;
-use std::collections::BTreeMap;
 
 /// The first bytes that may be handed out to a client, at most `max`, are: of what is due, or where
 /// nothing is, of the present list of the devices, where the one that the client has is stale. It
@@ -99,7 +99,7 @@ fn first(text: &[u8], max: usize) -> &[u8]
 }
 
 /// The list becomes due to a client of these, whose list is stale no longer.
-fn owe_list(clients: &mut BTreeMap<u32, Client>, id: u32, list: &Text) -> Result<(), AllocError>
+fn owe_list(clients: &mut Roster<Client>, id: u32, list: &Text) -> Result<(), AllocError>
     ensures ok { OnOk result (Lists id list.now clients.old.entries clients.new.entries) }
     ensures err { OnErr result ((c : ℕ) → at c clients.new.entries ≡ at c clients.old.entries) }
 {

@@ -17,7 +17,8 @@ use Rattle.adb_history.specs.Orderly.{IsDrawnOnly}
 use Rattle.adb_rules.specs.Tables.{client_row, link_row, state_of}
 use Rattle.adb_rules.specs.declared.ports.Port.{Port}
 use Rattle.adb_rules.specs.declared.tables.Tables.{Tables}
-use Rattle.adb_due.specs.NextDue.{owes_link, owes_client, first_number, owner_of, entry_of}
+use Rattle.adb_roster.specs.First.{first_number}
+use Rattle.adb_due.specs.NextDue.{owes_link, owes_client, owner_of, entry_of}
 use Rattle.adb_due.specs.declared.due.Owner.{Owner}
 use Rattle.adb_due.specs.declared.due.Owner.TheVariants.{Link, Client}
 

@@ -1,5 +1,5 @@
 -- Who is handed something next.
-use Rattle.std.specs.Prelude.{ℕ, nat_lt, ◌||◌, Bool, if◌then◌else◌, List, [], ◌∷◌, length, Option, Some, None}
+use Rattle.std.specs.Prelude.{nat_lt, ◌||◌, Bool, length, Option, Some, None}
 use Rattle.adb_client.specs.Client.{SeenClient}
 use Rattle.adb_capture.specs.declared.entry.Entry.{Entry}
 use Rattle.adb_capture.specs.declared.entry.Entry.TheVariants.{Put, Send}
@@ -16,11 +16,6 @@ owes_link port = nat_lt 0 (length port.link.due)
 -- whether bytes are due to a client, or the list of the devices that it has is stale
 abbrev pub owes_client : SeenClient → Bool
 owes_client client = nat_lt 0 (length client.due) || client.about.mark
-
--- the first number of a table at which this holds
-abbrev pub first_number : {X : Type 0} → (X → Bool) → List (ℕ × X) → Option ℕ
-first_number holds [] = None
-first_number holds (e ∷ table) = if holds e.1 then Some e.0 else first_number holds table
 
 -- to whom an entry hands something
 abbrev pub owner_of : Entry → Option Owner

@@ -2,15 +2,15 @@
 
 ghost use Rattle.std.specs.Prelude.{◌≡◌, []};
 
-use crate::due::first_client;
 use crate::next_due;
 use adb_client::Client;
 use adb_forward::Forwards;
 use adb_registry::Registry;
+use adb_roster::Roster;
 use adb_rules::Tables;
 use adb_stream::Streams;
 use std::alloc::{AllocError, Global};
-use std::collections::{BTreeMap, BTreeSet};
+use std::collections::BTreeSet;
 use std::test::Fail;
 
 /// What is due to the clients 1 and 2; whether the list of the second is stale; and who is next, or
@@ -30,9 +30,9 @@ fn nobody(alloc: Global) -> Tables
     Tables {
         alloc,
         joined: 0,
-        clients: BTreeMap::new(alloc),
+        clients: Roster::new(alloc),
         trackers: BTreeSet::new(alloc),
-        links: BTreeMap::new(alloc),
+        links: Roster::new(alloc),
         streams: Streams::new(alloc),
         devices: Registry::new(alloc),
         forwards: Forwards::new(alloc),
@@ -49,20 +49,21 @@ fn client(alloc: Global, number: u32, due: &[u8], mark: bool) -> Result<Client, 
 
 /// Who is next of the two clients of a row.
 fn next_of(alloc: Global, row: &(&[u8], &[u8], bool, u32)) -> Result<u32, Fail> {
-    let mut clients = BTreeMap::new(alloc);
+    let mut clients = Roster::new(alloc);
     clients
         .insert(1, client(alloc, 1, row.0, false)?)
         .map_err(|_| "insert")?;
     clients
         .insert(2, client(alloc, 2, row.1, row.2)?)
         .map_err(|_| "insert")?;
-    Ok(first_client(&clients).unwrap_or(0))
+    Ok(clients.first_owed().unwrap_or(0))
 }
 
 #[test]
 fn the_least_is_next(rt: HostRuntime) -> Result<(), Fail> {
     let alloc = rt.alloc();
-    assert!(rt; next_due(&nobody(alloc)).is_none(), "nobody came");
+    let mut server = nobody(alloc);
+    assert!(rt; next_due(&mut server).is_none(), "nobody came");
     for row in ROWS {
         assert_eq!(rt;
             next_of(alloc, row)?,

@@ -55,14 +55,16 @@ impl Hub {
     }
 
     /// Who is handed something next when all that is due is handed out: the least link to which
-    /// something is due, or else the least client. It takes no memory.
-    pub fn next_due(&self) -> Option<Owner>
-        ensures owner { (h : List Entry) → IsLawful self.now h
+    /// something is due, or else the least client. Nothing changes that contracts see, and it takes
+    /// no memory. Its cost is that of those that may have come to be owed since the last call.
+    pub fn next_due(&mut self) -> Option<Owner>
+        ensures owner { (h : List Entry) → IsLawful self.old h
             → result ≡ option_and_then owner_of (next_out (state h)) }
-        ensures entry { (h : List Entry) → IsLawful self.now h
+        ensures entry { (h : List Entry) → IsLawful self.old h
             → next_out (state h) ≡ entry_of result (state h) }
+        ensures same { self.new ≡ self.old }
     {
-        adb_due::next_due(&self.tables)
+        adb_due::next_due(&mut self.tables)
     }
 }
 

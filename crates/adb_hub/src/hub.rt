@@ -7,10 +7,11 @@ ghost use Rattle.adb_history.specs.Kept.{IsLawful};
 use crate::answers::Summary;
 use adb_forward::Forwards;
 use adb_registry::Registry;
+use adb_roster::Roster;
 use adb_rules::Tables;
 use adb_stream::Streams;
 use std::alloc::Global;
-use std::collections::{BTreeMap, BTreeSet};
+use std::collections::BTreeSet;
 use std::marker::Model;
 
 /// How many bytes of a client are held at most before it has no room.
@@ -45,9 +46,9 @@ impl Hub {
             tables: Tables {
                 alloc,
                 joined: 0,
-                clients: BTreeMap::new(alloc),
+                clients: Roster::new(alloc),
                 trackers: BTreeSet::new(alloc),
-                links: BTreeMap::new(alloc),
+                links: Roster::new(alloc),
                 streams: Streams::new(alloc),
                 devices: Registry::new(alloc),
                 forwards: Forwards::new(alloc),

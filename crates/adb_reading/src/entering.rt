@@ -13,10 +13,10 @@ ghost use Rattle.adb_reading.specs.Entering.{Leads, new_entrant};
 
 use crate::opening::{Asker, open, open_payload};
 use adb_client::Client;
+use adb_roster::Roster;
 use adb_rules::Tables;
 use bytes::Bytes;
 use std::alloc::{AllocError, Global};
-use std::collections::BTreeMap;
 
 /// The way to a device: its link, and the payload of the OPEN that asks for a service there.
 #[derive(Drop)]
@@ -99,7 +99,7 @@ fn add_client(tables: &mut Tables, client: u32) -> Result<(), AllocError>
 }
 
 /// A client is among these that came through a forward.
-fn insert(clients: &mut BTreeMap<u32, Client>, alloc: Global, client: u32) -> Result<(), AllocError>
+fn insert(clients: &mut Roster<Client>, alloc: Global, client: u32) -> Result<(), AllocError>
     ensures ok { OnOk result (Puts client (Some (new_entrant client))
         clients.old.entries clients.new.entries) }
     ensures err { OnErr result (clients.new.entries ≡ clients.old.entries) }

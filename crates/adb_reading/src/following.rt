@@ -24,9 +24,10 @@ use adb_client::{Client, Phase, Want};
 use adb_forward::ForwardError;
 use adb_outside::Text;
 use adb_reply::Next;
+use adb_roster::Roster;
 use adb_rules::Tables;
 use std::alloc::AllocError;
-use std::collections::{BTreeMap, BTreeSet};
+use std::collections::BTreeSet;
 
 /// Requests of a client are heard, and then what follows the last of them.
 pub(crate) fn follow(
@@ -158,7 +159,7 @@ fn set_tracking(tables: &mut Tables, client: u32, long: bool)
     track_in(&mut tables.clients, client, long);
 }
 
-fn track_in(clients: &mut BTreeMap<u32, Client>, client: u32, long: bool)
+fn track_in(clients: &mut Roster<Client>, client: u32, long: bool)
     ensures rows { clients_of clients.new.entries
         ≡ change_row client (option_and_then (tracks long)) (clients_of clients.old.entries) }
     ensures placed { (c : ℕ) (trackers : List ℕ) → IsAmong client trackers
@@ -232,7 +233,7 @@ fn set_waiting(tables: &mut Tables, client: u32, want: Want)
     wait_in(&mut tables.clients, client, want);
 }
 
-fn wait_in(clients: &mut BTreeMap<u32, Client>, client: u32, want: Want)
+fn wait_in(clients: &mut Roster<Client>, client: u32, want: Want)
     ensures rows { clients_of clients.new.entries
         ≡ change_row client (option_and_then (awaits want)) (clients_of clients.old.entries) }
     ensures placed { (c : ℕ) (trackers : List ℕ) → IsPlaced c trackers (at c clients.old.entries)

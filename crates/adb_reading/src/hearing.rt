@@ -10,9 +10,9 @@ ghost use Rattle.adb_reading.specs.Asking.{after_requests, hears, CanHear, CanHe
 
 use adb_client::Client;
 use adb_outside::Text;
+use adb_roster::Roster;
 use adb_rules::Tables;
 use std::alloc::AllocError;
-use std::collections::BTreeMap;
 
 /// Requests that were heard: the replies to them, how many bytes they have, and the transport that
 /// they selected.
@@ -35,7 +35,7 @@ pub(crate) fn hear(tables: &mut Tables, client: u32, heard: &Heard)
     hear_in(&mut tables.clients, client, heard);
 }
 
-fn hear_in(clients: &mut BTreeMap<u32, Client>, client: u32, heard: &Heard)
+fn hear_in(clients: &mut Roster<Client>, client: u32, heard: &Heard)
     requires { CanHearAt heard.now (at client clients.old.entries) }
     ensures rows { clients_of clients.new.entries ≡ change_row client
         (option_and_then (after_requests heard.now)) (clients_of clients.old.entries) }
@@ -77,11 +77,7 @@ pub(crate) fn reserve_replies(
     reserve_in(&mut tables.clients, client, heard)
 }
 
-fn reserve_in(
-    clients: &mut BTreeMap<u32, Client>,
-    client: u32,
-    heard: &Heard,
-) -> Result<(), AllocError>
+fn reserve_in(clients: &mut Roster<Client>, client: u32, heard: &Heard) -> Result<(), AllocError>
     requires { HoldsAtLeast heard.now.used (at client clients.old.entries) }
     ensures rows { clients_of clients.new.entries ≡ clients_of clients.old.entries }
     ensures placed { (c : ℕ) (trackers : List ℕ) → IsPlaced c trackers (at c clients.old.entries)

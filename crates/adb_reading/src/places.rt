@@ -10,9 +10,9 @@ ghost use Rattle.adb_reading.specs.Asking.{CanHearAt};
 ghost use Rattle.adb_reading.specs.declared.hearing.Heard.{Heard};
 
 use adb_client::Client;
+use adb_roster::Roster;
 use adb_rules::{Port, Tables};
 use std::alloc::AllocError;
-use std::collections::BTreeMap;
 
 /// Makes places on a link for so many packets, beside those that its streams' ends want.
 pub(crate) fn reserve_packets(
@@ -60,11 +60,7 @@ pub(crate) fn reserve_slices(
     reserve_in(&mut tables.clients, client, slices)
 }
 
-fn reserve_in(
-    clients: &mut BTreeMap<u32, Client>,
-    client: u32,
-    slices: usize,
-) -> Result<(), AllocError>
+fn reserve_in(clients: &mut Roster<Client>, client: u32, slices: usize) -> Result<(), AllocError>
     ensures rows { clients_of clients.new.entries ≡ clients_of clients.old.entries }
     ensures placed { (c : ℕ) (trackers : List ℕ) → IsPlaced c trackers (at c clients.old.entries)
         → IsPlaced c trackers (at c clients.new.entries) }

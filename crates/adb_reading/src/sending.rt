@@ -15,10 +15,10 @@ ghost use Rattle.adb_reading.specs.Sending.{IsPrepared, IsPreparedAt, can_send, 
 use crate::places::reserve_packets;
 use crate::taking::{take_back, take_in};
 use adb_client::Client;
+use adb_roster::Roster;
 use adb_rules::{Tables, up_bytes, up_writes};
 use adb_stream::{Flow, Stream};
 use std::alloc::AllocError;
-use std::collections::BTreeMap;
 
 /// A piece came from a client that has the stream of an id open: it goes up, as far as the stream
 /// lets it.
@@ -149,7 +149,7 @@ fn prepare(tables: &mut Tables, stream: &Stream, maxdata: usize) -> Result<usize
 }
 
 fn prepare_in(
-    clients: &mut BTreeMap<u32, Client>,
+    clients: &mut Roster<Client>,
     client: u32,
     flow: &Flow,
     maxdata: usize,

@@ -10,9 +10,9 @@ ghost use Rattle.adb_reading.specs.Leaving.{Leaves, IsPlaced, HoldsAtLeast};
 ghost use Rattle.adb_reading.specs.Taking.{holding, takes_in, without_last};
 
 use adb_client::Client;
+use adb_roster::Roster;
 use adb_rules::Tables;
 use std::alloc::AllocError;
-use std::collections::BTreeMap;
 
 /// A piece is held of a client, behind what was.
 pub(crate) fn take_in(tables: &mut Tables, client: u32, piece: &[u8]) -> Result<(), AllocError>
@@ -27,7 +27,7 @@ pub(crate) fn take_in(tables: &mut Tables, client: u32, piece: &[u8]) -> Result<
     add_to(&mut tables.clients, client, piece)
 }
 
-fn add_to(clients: &mut BTreeMap<u32, Client>, client: u32, piece: &[u8]) -> Result<(), AllocError>
+fn add_to(clients: &mut Roster<Client>, client: u32, piece: &[u8]) -> Result<(), AllocError>
     ensures ok { OnOk result (clients_of clients.new.entries ≡ change_row client
         (option_and_then (holding piece.now)) (clients_of clients.old.entries)) }
     ensures err { OnErr result (clients_of clients.new.entries ≡ clients_of clients.old.entries) }
@@ -52,7 +52,7 @@ pub(crate) fn take_back(tables: &mut Tables, client: u32, n: usize)
     drop_last(&mut tables.clients, client, n);
 }
 
-fn drop_last(clients: &mut BTreeMap<u32, Client>, client: u32, n: usize)
+fn drop_last(clients: &mut Roster<Client>, client: u32, n: usize)
     requires { HoldsAtLeast n (at client clients.old.entries) }
     ensures rows { clients_of clients.new.entries
         ≡ change_row client (option_and_then (without_last n)) (clients_of clients.old.entries) }

@@ -10,6 +10,7 @@ ghost use Rattle.adb_receiving.specs.Reserving.{HasMore, HaveMore, IsCutAt, IsCu
 
 use crate::counting::sum;
 use adb_client::{Client, Phase};
+use adb_roster::Roster;
 use adb_rules::{up_bytes, up_writes};
 use adb_stream::{Flow, Stream, Streams};
 use std::alloc::AllocError;
@@ -17,7 +18,7 @@ use std::collections::{BTreeMap, BTreeSet};
 
 /// Makes places for so many slices for each client, with those that it keeps.
 pub(crate) fn reserve_each(
-    clients: &mut BTreeMap<u32, Client>,
+    clients: &mut Roster<Client>,
     counts: &BTreeMap<u32, usize>,
 ) -> Result<(), AllocError>
     requires { (c : ℕ) → ClientRoom 0 (at c clients.old.entries) }
@@ -31,11 +32,7 @@ pub(crate) fn reserve_each(
     Ok(())
 }
 
-fn reserve_at(
-    clients: &mut BTreeMap<u32, Client>,
-    client: u32,
-    count: usize,
-) -> Result<(), AllocError>
+fn reserve_at(clients: &mut Roster<Client>, client: u32, count: usize) -> Result<(), AllocError>
     ensures more { HaveMore clients.old.entries clients.new.entries }
     ensures room { OnOk result (ClientRoom count (at client clients.new.entries)) }
 {
@@ -68,7 +65,7 @@ fn kept_places(phase: Phase) -> usize
 /// Makes ready what the clients of these streams hold, as much as each stream may write; says in
 /// how many writes at most. The device of all of them takes `maxdata` bytes in one packet.
 pub(crate) fn prepare_each(
-    clients: &mut BTreeMap<u32, Client>,
+    clients: &mut Roster<Client>,
     streams: &Streams,
     ids: &BTreeSet<u32>,
     maxdata: usize,
@@ -88,7 +85,7 @@ pub(crate) fn prepare_each(
 
 /// Makes ready what the client of a stream holds; adds its writes to those of others.
 fn prepare_also(
-    clients: &mut BTreeMap<u32, Client>,
+    clients: &mut Roster<Client>,
     stream: Option<Stream>,
     maxdata: usize,
     before: usize,
@@ -106,7 +103,7 @@ fn prepare_also(
 }
 
 fn prepare_at(
-    clients: &mut BTreeMap<u32, Client>,
+    clients: &mut Roster<Client>,
     stream: &Stream,
     maxdata: usize,
 ) -> Result<usize, AllocError>

@@ -9,9 +9,10 @@ ghost use Rattle.adb_receiving.specs.Reserving.{HasMorePlaces, HasMorePlacesAt, 
 use crate::counting::{count, sum};
 use crate::naming::named;
 use crate::preparing::{prepare_each, reserve_each};
+use adb_roster::Roster;
 use adb_rules::{Came, Port, Tables};
 use std::alloc::AllocError;
-use std::collections::{BTreeMap, BTreeSet, VecDeque};
+use std::collections::{BTreeSet, VecDeque};
 
 /// Takes the memory with which packets of a link can be treated, and the streams sent up that
 /// OKAYs among them name; gives the ids of these.
@@ -37,7 +38,7 @@ pub(crate) fn reserve(
 
 /// Makes places for so many packets on a link, with those that are kept for the ends of its
 /// streams.
-fn reserve_on(links: &mut BTreeMap<u32, Port>, link: u32, packets: usize) -> Result<(), AllocError>
+fn reserve_on(links: &mut Roster<Port>, link: u32, packets: usize) -> Result<(), AllocError>
     ensures more { (k : ℕ) → HasMorePlacesAt (at k links.old.entries) (at k links.new.entries) }
     ensures room { OnOk result (LinkRoom packets (at link links.new.entries)) }
 {

@@ -8,17 +8,13 @@ ghost use Rattle.adb_receiving.specs.Cutting.{IsClear};
 ghost use Rattle.adb_receiving.specs.Settling.{waiting};
 
 use adb_link::Link;
+use adb_roster::Roster;
 use adb_rules::Port;
 use adb_wire::WireError;
 use std::alloc::AllocError;
-use std::collections::BTreeMap;
 
 /// A piece that completes no packet is held behind what is held of a link.
-pub(crate) fn wait(
-    links: &mut BTreeMap<u32, Port>,
-    link: u32,
-    piece: &[u8],
-) -> Result<(), AllocError>
+pub(crate) fn wait(links: &mut Roster<Port>, link: u32, piece: &[u8]) -> Result<(), AllocError>
     requires clear { (port : Port) → at link links.old.entries ≡ Some port
         → IsClear port.link.incoming }
     requires short { (port : Port) → at link links.old.entries ≡ Some port

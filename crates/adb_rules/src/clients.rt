@@ -16,8 +16,8 @@ ghost use Rattle.adb_rules.specs.Places.{IsWaiting, ClientRoom, kept_places, Hol
 
 use crate::tables::Tables;
 use adb_client::{Client, Phase};
+use adb_roster::Roster;
 use bytes::Bytes;
-use std::collections::BTreeMap;
 
 impl Tables {
     /// Bytes become due to a client, in a place that was kept: one place for a slice of that
@@ -131,7 +131,7 @@ impl Tables {
 }
 
 /// A client of these is read no more; says whether nothing of it is to be kept.
-fn close_in(clients: &mut BTreeMap<u32, Client>, id: u32) -> bool
+fn close_in(clients: &mut Roster<Client>, id: u32) -> bool
     ensures stays { result ≡ false → clients_of clients.new.entries
         ≡ change_row id (option_and_then closing) (clients_of clients.old.entries) }
     ensures goes { result ≡ true → change_row id (option_and_then none_kept)
@@ -151,7 +151,7 @@ fn close_in(clients: &mut BTreeMap<u32, Client>, id: u32) -> bool
 }
 
 /// A client of these that waits for its stream is told that there is none.
-fn refuse_in(clients: &mut BTreeMap<u32, Client>, id: u32)
+fn refuse_in(clients: &mut Roster<Client>, id: u32)
     requires { IsWaiting (at id clients.old.entries) }
     ensures rows { clients_of clients.new.entries
         ≡ change_row id (option_and_then refused) (clients_of clients.old.entries) }

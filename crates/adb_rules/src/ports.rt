@@ -1,11 +1,12 @@
 //! A device's link, with the places that are kept for the ends of its streams.
 
-ghost use Rattle.std.specs.Prelude.{◌≡◌, ◌<◌, ◌≤◌, ◌-◌, length};
+ghost use Rattle.std.specs.Prelude.{◌≡◌, ◌<◌, ◌≤◌, ◌-◌, length, nat_lt};
 ghost use Rattle.adb_wire.specs.Format.{packet_under};
 ghost use Rattle.adb_link.specs.Linked.{IsHeadOf};
 ghost use Rattle.adb_rules.specs.Tables.{link_row, owing_row};
 
 use adb_link::{Link, MAX_SHORT};
+use adb_roster::Owes;
 use adb_wire::Head;
 use bytes::Bytes;
 
@@ -42,5 +43,14 @@ impl Port {
         ensures read { self.new.link.incoming ≡ self.old.link.incoming }
     {
         self.link.owe_slice_spare(head, payload);
+    }
+}
+
+/// Bytes are due to a link.
+impl Owes for Port {
+    ghost owed = { λ port. nat_lt 0 (length port.link.due) };
+
+    fn owes(&self) -> bool {
+        self.link.owed() > 0
     }
 }

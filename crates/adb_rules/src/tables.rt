@@ -4,9 +4,10 @@ use crate::ports::Port;
 use adb_client::Client;
 use adb_forward::Forwards;
 use adb_registry::Registry;
+use adb_roster::Roster;
 use adb_stream::Streams;
 use std::alloc::Global;
-use std::collections::{BTreeMap, BTreeSet};
+use std::collections::BTreeSet;
 
 /// What the server keeps: the clients, links and streams that live, the devices and the forwards.
 #[derive(Drop)]
@@ -14,10 +15,10 @@ pub struct Tables {
     pub alloc: Global,
     /// How many client numbers were drawn.
     pub joined: u32,
-    pub clients: BTreeMap<u32, Client>,
+    pub clients: Roster<Client>,
     /// The clients that track the list of the devices, and some that did.
     pub trackers: BTreeSet<u32>,
-    pub links: BTreeMap<u32, Port>,
+    pub links: Roster<Port>,
     pub streams: Streams,
     pub devices: Registry,
     pub forwards: Forwards,

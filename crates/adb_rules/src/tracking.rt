@@ -9,7 +9,8 @@ ghost use Rattle.adb_rules.specs.Places.{Uses};
 
 use crate::tables::Tables;
 use adb_client::{Client, Phase};
-use std::collections::{BTreeMap, BTreeSet};
+use adb_roster::Roster;
+use std::collections::BTreeSet;
 
 impl Tables {
     /// The devices changed: each tracker's list is stale. No place is taken.
@@ -25,7 +26,7 @@ impl Tables {
 }
 
 /// These clients are marked.
-fn mark_each(clients: &mut BTreeMap<u32, Client>, trackers: &BTreeSet<u32>)
+fn mark_each(clients: &mut Roster<Client>, trackers: &BTreeSet<u32>)
     ensures rows { clients_of clients.new.entries
         ≡ marked_each trackers.now.keys (clients_of clients.old.entries) }
     ensures alike { (c : ℕ) → IsAlike (at c clients.old.entries) (at c clients.new.entries) }
@@ -35,7 +36,7 @@ fn mark_each(clients: &mut BTreeMap<u32, Client>, trackers: &BTreeSet<u32>)
     }
 }
 
-fn mark_one(clients: &mut BTreeMap<u32, Client>, id: u32)
+fn mark_one(clients: &mut Roster<Client>, id: u32)
     ensures rows { clients_of clients.new.entries
         ≡ change_row id (option_map marked) (clients_of clients.old.entries) }
     ensures alike { (c : ℕ) → IsAlike (at c clients.old.entries) (at c clients.new.entries) }

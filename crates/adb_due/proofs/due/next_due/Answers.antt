@@ -1,5 +1,6 @@
 use Rattle.std.proofs.Common.{refl}
-use Rattle.adb_due.specs.NextDue.{owes_client, first_number}
+use Rattle.adb_roster.specs.First.{first_number}
+use Rattle.adb_due.specs.NextDue.{owes_client}
 use Rattle.adb_due.proofs.FirstDue.{link_next, client_next, clients_first}
 use Rattle.adb_due.proofs.due.next_due.Goals as goal
 

@@ -5,6 +5,7 @@ use Rattle.adb_history.specs.Kept.{Kept, IsLawful}
 use Rattle.adb_history.specs.Rows.{State}
 use Rattle.adb_due.specs.NextDue.{owner_of, entry_of}
 use Rattle.adb_rules.specs.Tables.{state_of}
+use Rattle.adb_hub.specs.Sound.{IsSound}
 use Rattle.adb_hub.proofs.Standing.{stands_for, drawn_of}
 use Rattle.adb_hub.proofs.hub.Hub.next_due.Goals as goal
 
@@ -23,3 +24,6 @@ pub returns-clause-entry : goal.returns-clause-entry
 returns-clause-entry c h lawful =
     let is = stands_for c.self.inside.tables h c.self.invariant (subst (λ (k : Kept). IsLawful k h) (sym c.self.view_is) lawful) in
     subst (λ (s : State). next_out s ≡ entry_of c.next_due.result s) is c.next_due.ensures.entry
+
+pub invariant_of-self : goal.invariant_of-self
+invariant_of-self c = subst IsSound (sym c.next_due.ensures.same) c.self.invariant

@@ -1,0 +1,4 @@
+pub mod First
+pub mod Lending
+pub mod Marked
+pub mod Table

@@ -1,0 +1,11 @@
+//! Rows under numbers, and the least to which something is due.
+#![tactic(auto)]
+
+mod marks;
+mod owes;
+mod roster;
+#[cfg(test)]
+mod tests;
+
+pub use owes::Owes;
+pub use roster::Roster;
