@@ -1,6 +1,5 @@
 -- What a capture gives, record by record.
 use Rattle.std.proofs.Common.{ℕ, ◌≡◌, Bool, true, false, List, [], ◌∷◌, ◌++◌, take, drop, Option, Some, None, refl, sym, ◌∙◌, ap, zero, suc}
-use Rattle.std.proofs.lemmas.List.{append_assoc}
 use Rattle.adb_outside.specs.declared.framer.Front.{Front}
 use Rattle.adb_outside.specs.declared.framer.Front.TheVariants.{More, Bad, Whole}
 use Rattle.adb_outside.specs.Framing.{Cut, cut, cut_by}
@@ -11,7 +10,7 @@ use Rattle.adb_capture.specs.declared.entry.Entry.{Entry}
 use Rattle.adb_capture.specs.Faults.{error_of}
 use Rattle.adb_capture.specs.declared.error.FormFault.{FormFault}
 use Rattle.adb_history.specs.Machine.{History, state}
-use Rattle.adb_history.specs.Drained.{or_stay, drain, drained_after, drained_from, next_out, owed}
+use Rattle.adb_history.specs.Drained.{drained_after}
 use Rattle.adb_history.specs.Refusal.{refusal_by}
 use Rattle.adb_history.specs.declared.refusal.Refusal.{Refusal}
 use Rattle.adb_history.specs.Accepted.{Accepted, refusal_of, is_input, ends_with, accept_by, unless_stopped, accept_from, accept_cut, accept_records, end_of}
@@ -62,23 +61,3 @@ nothing_given false refused = refl
 pub nothing_refused : (stopped : Bool) → (unless_stopped stopped (ends_with None)).refused ≡ None
 nothing_refused true = refl
 nothing_refused false = refl
-
--- ---- what draining adds
--- What follows a drained history is put before it, newest first.
-pub drain_adds : (k : ℕ) (h : History) → (more : History) × (drain k h ≡ more ++ h)
-drain_adds zero h = ([], refl)
-drain_adds (suc k) h = go (next_out (state h)) (λ e. drain_adds k (e ∷ h))
-  where
-    go : (o : Option Entry) → ((e : Entry) → (more : History) × (drain k (e ∷ h) ≡ more ++ e ∷ h))
-        → (more : History) × (or_stay o h (λ e. drain k (e ∷ h)) ≡ more ++ h)
-    go None others = ([], refl)
-    go (Some e) others = let m = others e in (m.0 ++ e ∷ [], m.1 ∙ sym (append_assoc m.0 (e ∷ []) h))
-
-pub drained_adds : (h : History) (inputs : List Entry) → (more : History) × (drained_from h inputs ≡ more ++ h)
-drained_adds h [] = ([], refl)
-drained_adds h (e ∷ inputs) =
-    let first = drain_adds (owed (state (e ∷ h))) (e ∷ h) in
-    let others = drained_adds (drained_after h e) inputs in (
-      others.0 ++ (first.0 ++ e ∷ []),
-      others.1 ∙ (ap (λ g. others.0 ++ g) (first.1 ∙ sym (append_assoc first.0 (e ∷ []) h)) ∙ sym (append_assoc others.0 (first.0 ++ e ∷ []) h)),
-    )

@@ -1,7 +1,6 @@
 pub mod Outputs
 pub mod Counting
 pub mod Accepting
-pub mod Remaining
 pub mod Drains
 pub mod Entries
 pub mod Records
@@ -9,5 +8,3 @@ pub mod RecordEnds
 pub mod Captures
 pub mod Runs
 pub mod Lines
-pub mod Attaching
-pub mod Handing

@@ -7,14 +7,14 @@ use Rattle.adb_capture.proofs.Fronts.{framing}
 use Rattle.adb_capture.specs.Reading.{ahead_of, AnswersNext, GivesNext, GivesRecord}
 use Rattle.adb_capture.specs.declared.entry.Entry.{Entry}
 use Rattle.adb_capture.specs.declared.error.CaptureError.{CaptureError}
-use Rattle.adb_history.specs.Rows.{start}
 use Rattle.adb_history.specs.Machine.{History, state}
-use Rattle.adb_history.specs.Kept.{Kept, kept}
+use Rattle.adb_history.specs.Kept.{Kept, IsLawful}
 use Rattle.adb_history.specs.Drained.{drained_after, drained_from}
 use Rattle.adb_history.specs.Accepted.{Accepted, is_input, accept_by, unless_stopped, accept_records}
 use Rattle.adb_top.specs.Keeping.{Keeps}
 use Rattle.adb_top.specs.Replay.{capture_of, IsDrained, IsFrontOf, ReplaysEntry, Moment, IsAhead}
-use Rattle.adb_top.proofs.Accepting.{accept_at, accept_entry, accept_front, accept_first, drained_adds}
+use Rattle.adb_machine.proofs.Adding.{drained_adds}
+use Rattle.adb_top.proofs.Accepting.{accept_at, accept_entry, accept_front, accept_first}
 
 -- what is still to come, of all that a capture gives
 pub record ComesOn (now : Moment) (done : History) (all : Accepted) : Type 0 where
@@ -87,8 +87,8 @@ replaying_first first holds drained sound opened = record {
   };
 }
 
-pub starts : (holds : Kept) → holds ≡ kept start → IsDrained holds []
-starts holds is = record { lawful = record { legal = tt; seen = is }; rests = refl }
+pub starts : (holds : Kept) → IsLawful holds [] → IsDrained holds []
+starts holds lawful = record { lawful = lawful; rests = refl }
 
 -- ---- a record that comes
 -- what a call of the reader says of what is ahead

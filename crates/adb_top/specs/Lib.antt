@@ -1,4 +1,3 @@
-pub mod Machine
 pub mod Stop
 pub mod Replay
 pub mod Keeping
@@ -8,4 +7,3 @@ pub mod Faults
 pub mod Notes
 pub mod Replayed
 pub mod Run
-pub mod Refused

@@ -20,10 +20,6 @@ written_of h = records_of (reverse h)
 abbrev pub capture_of : History → List ℕ
 capture_of h = magic ++ written_of h
 
--- a legal history is held
-abbrev pub IsHeld : Kept → Type 0
-IsHeld holds = (h : History) × IsLawful holds h
-
 -- a history that a server holds, and that is drained
 pub record IsDrained (holds : Kept) (h : History) : Type 0 where
   pub lawful : IsLawful holds h

@@ -2,7 +2,6 @@
 #![tactic(auto)]
 
 mod command;
-mod machine;
 mod note;
 mod output;
 mod replay;

@@ -7,15 +7,17 @@ ghost use Rattle.adb_capture.specs.Records.{HasRecord};
 ghost use Rattle.adb_history.specs.Machine.{History};
 ghost use Rattle.adb_history.specs.Kept.{IsLawful};
 ghost use Rattle.adb_history.specs.Accepted.{is_input};
-ghost use Rattle.adb_top.specs.Replay.{IsHeld, IsDrained, Drains, ReplaysEntry, Replays, moment};
+ghost use Rattle.adb_machine.specs.Machine.{IsHeld};
+ghost use Rattle.adb_top.specs.Replay.{IsDrained, Drains, ReplaysEntry, Replays, moment};
 ghost use Rattle.adb_top.specs.Replayed.{ReplaysCapture};
 ghost use Rattle.adb_top.specs.Keeping.{KeepsEntry, CountsReads, IsLoss, is_write_fault, is_read_fault};
 
-use crate::machine::Machine;
 use crate::output::Output;
 use crate::stop::Stop;
 use adb_capture::{CaptureReader, Entry};
 use adb_history::draining_ends;
+use adb_hub::Hub;
+use adb_machine::{apply, hand_next};
 use adb_outside::{Sink, Source};
 use std::alloc::Global;
 
@@ -51,76 +53,76 @@ fn replay_records<S: Source, K: Sink>(
     ensures reads { Counts S.steady S.faults source.old source.new (is_read_fault result) }
     ensures writes { Counts K.steady K.faults sink.old sink.new (is_write_fault result) }
 {
-    let mut machine = Machine::new(alloc);
-    while !machine.is_stopped() {
+    let mut hub = Hub::new(alloc);
+    while !hub.is_stopped() {
         let Some((offset, entry)) = reader.next(source)? else {
             return Ok(());
         };
-        replay_entry(&mut machine, output, sink, offset, entry)?;
+        replay_entry(&mut hub, output, sink, offset, entry)?;
     }
     Ok(())
 }
 
 /// Replays one record, whose entry is dropped then.
 fn replay_entry<K: Sink>(
-    machine: &mut Machine,
+    hub: &mut Hub,
     output: &mut Output,
     sink: &mut K,
     offset: u64,
     entry: Entry,
 ) -> Result<(), Stop>
     requires form { HasRecord entry }
-    requires held { IsHeld machine.old }
-    requires running { machine.old.stopped ≡ false }
-    ensures replays { (h : History) → IsDrained machine.old h → ReplaysEntry result offset entry h
-        (K.written sink.old, output.old) (K.written sink.new, output.new) machine.new }
+    requires held { IsHeld hub.old }
+    requires running { hub.old.stopped ≡ false }
+    ensures replays { (h : History) → IsDrained hub.old h → ReplaysEntry result offset entry h
+        (K.written sink.old, output.old) (K.written sink.new, output.new) hub.new }
     ensures source { result ≢ Err Stop.ReadFault }
     ensures counts { Counts K.steady K.faults sink.old sink.new (is_write_fault result) }
 {
-    replay_record(machine, output, sink, offset, &entry)
+    replay_record(hub, output, sink, offset, &entry)
 }
 
 /// Replays one record: its entry is made and kept, and all that is due then is handed out. A
 /// hand-out that was recorded is passed over.
 fn replay_record<K: Sink>(
-    machine: &mut Machine,
+    hub: &mut Hub,
     output: &mut Output,
     sink: &mut K,
     offset: u64,
     entry: &Entry,
 ) -> Result<(), Stop>
     requires form { HasRecord entry.now }
-    requires held { IsHeld machine.old }
-    requires running { machine.old.stopped ≡ false }
-    ensures replays { (h : History) → IsDrained machine.old h
+    requires held { IsHeld hub.old }
+    requires running { hub.old.stopped ≡ false }
+    ensures replays { (h : History) → IsDrained hub.old h
         → ReplaysEntry result offset entry.now h
-        (K.written sink.old, output.old) (K.written sink.new, output.new) machine.new }
+        (K.written sink.old, output.old) (K.written sink.new, output.new) hub.new }
     ensures source { result ≢ Err Stop.ReadFault }
     ensures counts { Counts K.steady K.faults sink.old sink.new (is_write_fault result) }
 {
     if is_hand_out(entry) {
         return Ok(());
     }
-    match machine.apply(entry) {
-        Err(why) => Err(why.at(offset)),
+    match apply(hub, entry) {
+        Err(why) => Err(Stop::at(offset, why)),
         Ok(()) => {
             output.keep(sink, entry)?;
-            drain(machine, output, sink)
+            drain(hub, output, sink)
         }
     }
 }
 
 /// Hands out all that is due, whoever it is due to, and keeps each hand-out. It ends, by the law
 /// `draining_ends`, with nothing due.
-fn drain<K: Sink>(machine: &mut Machine, output: &mut Output, sink: &mut K) -> Result<(), Stop>
-    requires held { IsHeld machine.old }
-    ensures drains { (h : History) → IsLawful machine.old h → Drains result h
-        (K.written sink.old, output.old) (K.written sink.new, output.new) machine.new }
+fn drain<K: Sink>(hub: &mut Hub, output: &mut Output, sink: &mut K) -> Result<(), Stop>
+    requires held { IsHeld hub.old }
+    ensures drains { (h : History) → IsLawful hub.old h → Drains result h
+        (K.written sink.old, output.old) (K.written sink.new, output.new) hub.new }
     ensures loss { IsLoss result }
     ensures counts { Counts K.steady K.faults sink.old sink.new (is_write_fault result) }
 {
     draining_ends();
-    while let Some(entry) = machine.hand_next()? {
+    while let Some(entry) = hand_next(hub)? {
         keep(output, sink, entry)?;
     }
     Ok(())

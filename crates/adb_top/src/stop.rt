@@ -1,7 +1,11 @@
 //! Why a replay stops before the end of its capture.
 
+ghost use Rattle.std.specs.Prelude.{◌≡◌};
+ghost use Rattle.adb_top.specs.Stop.{stop_at};
+
 use adb_capture::CaptureError;
 use adb_history::Refusal;
+use adb_machine::Refused;
 use std::alloc::AllocError;
 
 /// Why a replay stops before the end of its capture.
@@ -15,6 +19,18 @@ pub enum Stop {
     OutOfMemory,
     /// The capture is refused.
     Refused(Refusal),
+}
+
+impl Stop {
+    /// Why a replay stops at the record of that offset, whose entry is not made.
+    pub fn at(offset: u64, why: Refused) -> Stop
+        ensures { result ≡ stop_at offset why }
+    {
+        match why {
+            Refused::Because(reason) => Stop::Refused(Refusal { offset, reason }),
+            Refused::OutOfMemory => Stop::OutOfMemory,
+        }
+    }
 }
 
 impl From<AllocError> for Stop {

@@ -19,7 +19,7 @@ pub loop-reader-init : goal.loop-reader-init
 loop-reader-init g c =
     let first : Moment = moment c.args.reader.now (g.S.Source.left c.args.source.now) (g.K.Sink.written c.args.sink.now, c.args.output.now) in
     record {
-      replaying = replaying_first first c.new-machine.result (starts c.new-machine.result c.new-machine.ensures)
+      replaying = replaying_first first c.new-hub.result (starts c.new-hub.result c.new-hub.ensures)
           c.requires.sound c.requires.opened;
       reads_counted = counts_first g.S.Source.steady g.S.Source.faults c.args.source.now;
       writes_counted = counts_first g.K.Sink.steady g.K.Sink.faults c.args.sink.now;
@@ -32,9 +32,9 @@ loop-reader-preserved g c =
     let new : Moment = moment c.next.new.self (g.S.Source.left c.next.new.source) (g.K.Sink.written c.replay_entry.new.sink, c.replay_entry.new.output) in
     let given = given_as now new c.in_ok-offset.field-0 (Some (c.in-Some.offset, c.in-Some.entry)) c.in-Some.is c.in_ok-offset.ensures.answers in
     let turn : Turn = record { now = now; new = new; offset = c.in-Some.offset; entry = c.in-Some.entry; given = given } in
-    let running : c.loop-reader.machine.stopped ≡ false = sym c.is_stopped.ensures ∙ c.loop-reader-test.true in
+    let running : c.loop-reader.hub.stopped ≡ false = sym c.is_stopped.ensures ∙ c.loop-reader-test.true in
     record {
-      replaying = replaying_on {first = first} turn c.replay_entry.new.machine c.in_ok-offset.ensures.ok running c.in_ok-replay_entry.ensures.replays
+      replaying = replaying_on {first = first} turn c.replay_entry.new.hub c.in_ok-offset.ensures.ok running c.in_ok-replay_entry.ensures.replays
           c.loop-reader.invariant.replaying;
       reads_counted = counts_then g.S.Source.steady g.S.Source.faults c.args.source.now c.loop-reader.source c.next.new.source {g = false}
           c.loop-reader.invariant.reads_counted (c.in_ok-offset.ensures.counts c.loop-reader.invariant.replaying.sound);
@@ -50,9 +50,9 @@ returns-in_err-replay_entry-clause-replays g c =
     let new : Moment = moment c.next.new.self (g.S.Source.left c.next.new.source) (g.K.Sink.written c.replay_entry.new.sink, c.replay_entry.new.output) in
     let given = given_as now new c.in_ok-offset.field-0 (Some (c.in-Some.offset, c.in-Some.entry)) c.in-Some.is c.in_ok-offset.ensures.answers in
     let turn : Turn = record { now = now; new = new; offset = c.in-Some.offset; entry = c.in-Some.entry; given = given } in
-    let running : c.loop-reader.machine.stopped ≡ false = sym c.is_stopped.ensures ∙ c.loop-reader-test.true in
+    let running : c.loop-reader.hub.stopped ≡ false = sym c.is_stopped.ensures ∙ c.loop-reader-test.true in
     rw (passed.1, passed.2)
-    (replaying_lost {first = first} turn c.replay_entry.new.machine c.in_err-replay_entry.field-0.0 running c.in_err-replay_entry.ensures.replays
+    (replaying_lost {first = first} turn c.replay_entry.new.hub c.in_err-replay_entry.field-0.0 running c.in_err-replay_entry.ensures.replays
     c.loop-reader.invariant.replaying)
 
 pub returns-in_default-clause-replays : goal.returns-in_default-clause-replays

@@ -8,7 +8,7 @@ use Rattle.adb_top.proofs.replay.replay_records.Given as goal
 abbrev pub invariant-loop-reader : goal.invariant-loop-reader
 invariant-loop-reader g l =
     GoingOn (moment l.fn.reader (g.S.Source.left l.fn.source) (g.K.Sink.written l.fn.sink, l.fn.output))
-    (moment l.reader (g.S.Source.left l.source) (g.K.Sink.written l.sink, l.output)) l.machine
+    (moment l.reader (g.S.Source.left l.source) (g.K.Sink.written l.sink, l.output)) l.hub
     (Counts g.S.Source.steady g.S.Source.faults l.fn.source l.source false)
     (Counts g.K.Sink.steady g.K.Sink.faults l.fn.sink l.sink false)
 

@@ -15,8 +15,8 @@ use Rattle.adb_hub.specs.declared.error.HubError.{HubError}
 use Rattle.adb_hub.specs.declared.error.HubError.TheVariants.{Stopped, NoClient, NoLink, Numbers, Full, BadSerial, OutOfMemory}
 use Rattle.adb_hub.specs.Refusal.{unless_stopped, attach_error}
 use Rattle.adb_hub.specs.Answers.{Answers}
-use Rattle.adb_top.specs.Machine.{Applies}
-use Rattle.adb_top.specs.Refused.{refused_by, applied_as}
+use Rattle.adb_machine.specs.Machine.{Applies}
+use Rattle.adb_machine.specs.Refused.{refused_by, applied_as}
 
 module _ (h : History) (kind : Kind) (serial : List ℕ) (new : Kept) (going : (state h).stopped ≡ false) where
   abbrev next : ℕ

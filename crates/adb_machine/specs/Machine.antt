@@ -7,8 +7,12 @@ use Rattle.adb_history.specs.Drained.{next_out, put_to, send_on}
 use Rattle.adb_history.specs.Accepted.{refusal_of, is_input}
 use Rattle.adb_hub.specs.declared.answers.Handed.{Handed}
 use Rattle.adb_hub.specs.declared.answers.Handed.TheVariants as handed
-use Rattle.adb_top.specs.declared.machine.Refused.{Refused}
-use Rattle.adb_top.specs.declared.machine.Refused.TheVariants as refused
+use Rattle.adb_machine.specs.declared.refused.Refused.{Refused}
+use Rattle.adb_machine.specs.declared.refused.Refused.TheVariants as refused
+
+-- Some legal history is held. Every hub holds one.
+abbrev pub IsHeld : Kept → Type 0
+IsHeld holds = (h : History) × IsLawful holds h
 
 -- the history with an entry that came; a hand-out that was recorded is passed over
 abbrev pub history_with : Entry → History → History

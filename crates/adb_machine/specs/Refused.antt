@@ -3,8 +3,8 @@ use Rattle.std.specs.Prelude.{Result, Ok, Err}
 use Rattle.adb_history.specs.declared.refusal.Reason.TheVariants.{NotDrawn, TooManyDevices, BadSerial as BadSerialReason}
 use Rattle.adb_hub.specs.declared.error.HubError.{HubError}
 use Rattle.adb_hub.specs.declared.error.HubError.TheVariants.{Stopped, NoClient, NoLink, Numbers, Full, BadSerial, OutOfMemory}
-use Rattle.adb_top.specs.declared.machine.Refused.{Refused}
-use Rattle.adb_top.specs.declared.machine.Refused.TheVariants as refused
+use Rattle.adb_machine.specs.declared.refused.Refused.{Refused}
+use Rattle.adb_machine.specs.declared.refused.Refused.TheVariants as refused
 
 abbrev pub refused_by : HubError → Refused
 refused_by Stopped = refused.Because NotDrawn

@@ -13,7 +13,7 @@ use Rattle.adb_history.specs.declared.hand_out.TheConstants.{HAND_OUT}
 use Rattle.adb_hub.specs.declared.answers.Handed.{Handed}
 use Rattle.adb_hub.specs.declared.answers.Handed.TheVariants.{Bytes, Nothing, Done}
 use Rattle.adb_hub.specs.Answers.{HandsOut, offered_to, due_on}
-use Rattle.adb_top.specs.Machine.{after_out, bytes_of}
+use Rattle.adb_machine.specs.Machine.{after_out, bytes_of}
 
 module _ (h : History) (old new : Kept) (lawful : IsLawful old h) where
   as_before : new ≡ old → IsLawful new h

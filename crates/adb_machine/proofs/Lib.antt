@@ -1,0 +1,4 @@
+pub mod Attaching
+pub mod HandOuts
+pub mod Fewer
+pub mod Adding

@@ -1,0 +1,11 @@
+//! The machine over a hub: what the entries of a history make of it, one after another, and what is
+//! to be handed out next.
+#![tactic(auto)]
+
+mod applying;
+mod handing;
+mod refused;
+
+pub use applying::apply;
+pub use handing::hand_next;
+pub use refused::Refused;
