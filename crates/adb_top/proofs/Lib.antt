@@ -11,3 +11,4 @@ pub mod Runs
 pub mod Lines
 pub mod Attaching
 pub mod Handing
+pub mod Loads

@@ -2,6 +2,7 @@
 #![tactic(auto)]
 
 mod command;
+mod generating;
 mod machine;
 mod note;
 mod output;
@@ -10,7 +11,7 @@ mod status;
 mod stop;
 #[cfg(test)]
 mod tests;
-mod words;
+mod texts;
 
 pub use command::run;
 pub use note::say_out_of_memory;
