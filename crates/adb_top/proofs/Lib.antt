@@ -8,3 +8,4 @@ pub mod RecordEnds
 pub mod Captures
 pub mod Runs
 pub mod Lines
+pub mod Loads

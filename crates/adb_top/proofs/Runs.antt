@@ -20,7 +20,7 @@ use Rattle.adb_top.specs.declared.status.Status.TheVariants.{Done, Usage, ReadFa
 all_out : (text had : List ℕ) (written : Option (List ℕ)) → written ≡ Some (had ++ text) → HasFront had text written
 all_out text had written is = record { growth = text; is = is; front = ([], append-nil text) }
 
-none_out : (text had : List ℕ) (written : Option (List ℕ)) → written ≡ Some had → HasFront had text written
+pub none_out : (text had : List ℕ) (written : Option (List ℕ)) → written ≡ Some had → HasFront had text written
 none_out text had written is = record { growth = []; is = is ∙ ap Some (sym (append-nil had)); front = (text, refl) }
 
 front_out : (why : Stop) (text had : List ℕ) (written : Option (List ℕ)) → WritesText (Err why) text had written → HasFront had text written
@@ -60,15 +60,15 @@ names_by why OutOfMemory a left had after e ends line = tt
 
 -- nothing was read, and nothing went out
 pub unread_writes : (status : Status) (text had : List ℕ) (written : Option (List ℕ))
-    → (status ≡ Usage) ⊎ (status ≡ WriteFault) → written ≡ Some had → WritesBy status text had written
-unread_writes status text had written (inl usage) is = subst (λ (s : Status). WritesBy s text had written) (sym usage) is
+    → (status ≡ OutOfMemory) ⊎ (status ≡ WriteFault) → written ≡ Some had → WritesBy status text had written
+unread_writes status text had written (inl memory) is = subst (λ (s : Status). WritesBy s text had written) (sym memory) (none_out text had written is)
 unread_writes status text had written (inr fault) is = subst (λ (s : Status). WritesBy s text had written) (sym fault) (none_out text had written is)
 
 pub unread_spells : (had : List ℕ) (written : Option (List ℕ)) → written ≡ Some had → GrowsSpelled had written
 unread_spells had written is = record { growth = []; is = is ∙ ap Some (sym (append-nil had)); spelled = inl (magic, refl) }
 
-pub unread_ends : (status : Status) (a : Accepted) (left : Option (List ℕ)) → (status ≡ Usage) ⊎ (status ≡ WriteFault) → EndsBy status a left
-unread_ends status a left (inl usage) = subst (λ (s : Status). EndsBy s a left) (sym usage) tt
+pub unread_ends : (status : Status) (a : Accepted) (left : Option (List ℕ)) → (status ≡ OutOfMemory) ⊎ (status ≡ WriteFault) → EndsBy status a left
+unread_ends status a left (inl memory) = subst (λ (s : Status). EndsBy s a left) (sym memory) tt
 unread_ends status a left (inr fault) = subst (λ (s : Status). EndsBy s a left) (sym fault) tt
 
 pub unread_names : (status : Status) (a : Accepted) (had : List ℕ) (after : Option (List ℕ))

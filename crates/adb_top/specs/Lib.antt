@@ -7,3 +7,4 @@ pub mod Faults
 pub mod Notes
 pub mod Replayed
 pub mod Run
+pub mod Loads

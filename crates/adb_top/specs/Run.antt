@@ -1,8 +1,7 @@
 -- What a run leaves, by its status.
-use Rattle.std.specs.Prelude.{ℕ, ◌≡◌, ◌⊎◌, true, false, List, ◌++◌, Option, Some, None, String}
+use Rattle.std.specs.Prelude.{ℕ, ◌≡◌, ◌⊎◌, List, ◌++◌, Option, Some, None}
 use Rattle.adb_history.specs.Accepted.{Accepted, accepted, replayed}
 use Rattle.adb_history.specs.declared.refusal.Refusal.{Refusal}
-use Rattle.adb_top.specs.Words.{is_replay}
 use Rattle.adb_top.specs.Notes.{bad_capture_line}
 use Rattle.adb_top.specs.Keeping.{HasFront}
 use Rattle.adb_top.specs.Replay.{IsReadWhole}
@@ -10,12 +9,9 @@ use Rattle.adb_top.specs.Replayed.{GrowsSpelled, GrowsWhole, WritesConsumed}
 use Rattle.adb_top.specs.declared.status.Status.{Status}
 use Rattle.adb_top.specs.declared.status.Status.TheVariants.{Done, Usage, ReadFault, WriteFault, BadCapture, OutOfMemory}
 
--- The words are the one command that is built.
-abbrev pub IsCommand : {A : Type 0} → List (String A) → Type 0
-IsCommand words = is_replay words ≡ true
-
-abbrev pub IsNoCommand : {A : Type 0} → List (String A) → Type 0
-IsNoCommand words = is_replay words ≡ false
+-- The words are no command, or the note failed, or memory ran out over them.
+abbrev pub IsUnheard : Status → Type 0
+IsUnheard status = (status ≡ Usage) ⊎ (status ≡ WriteFault) ⊎ (status ≡ OutOfMemory)
 
 -- What went out of a text: at Done and BadCapture all of it, at Usage nothing, else a front.
 abbrev pub WritesBy : Status → List ℕ → List ℕ → Option (List ℕ) → Type 0

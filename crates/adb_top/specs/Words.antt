@@ -1,8 +1,16 @@
--- Which words are a command.
-use Rattle.std.specs.Prelude.{Bool, false, List, [], ◌∷◌, String, string_bytes, codes, bytes_eq}
+-- Which command the words behind a program's name are.
+use Rattle.std.specs.Prelude.{ℕ, ◌≡◌, List, Some, None, String}
+use Rattle.adb_words.specs.Words.{command_of, texts}
+use Rattle.adb_words.specs.declared.command.Command.TheVariants.{Replay, Gen}
 
--- the one word replay
-abbrev pub is_replay : {A : Type 0} → List (String A) → Bool
-is_replay [] = false
-is_replay (word ∷ []) = bytes_eq (string_bytes word) (codes "replay")
-is_replay (word ∷ other ∷ words) = false
+-- they are none
+abbrev pub IsNoCommand : {A : Type 0} → List (String A) → Type 0
+IsNoCommand words = command_of (texts words) ≡ None
+
+-- a replay
+abbrev pub IsReplay : {A : Type 0} → List (String A) → Type 0
+IsReplay words = command_of (texts words) ≡ Some Replay
+
+-- a load of this seed and so many streams
+abbrev pub IsLoad : {A : Type 0} → (seed streams : ℕ) → List (String A) → Type 0
+IsLoad seed streams words = command_of (texts words) ≡ Some (Gen seed streams)

@@ -1,22 +1,30 @@
 //! The top call.
 
-ghost use Rattle.std.specs.Prelude.{◌≡◌, ◌≢◌, ◌⊎◌};
+ghost use Rattle.std.specs.Prelude.{◌≡◌, ◌≢◌, ◌⊎◌, ℕ};
 ghost use Rattle.adb_top.specs.Faults.{Rose, Stood, IsFaultless};
+ghost use Rattle.adb_top.specs.Loads.{IsLoadSize, IsPromised, WritesLoad, made};
 ghost use Rattle.adb_top.specs.Notes.{WritesNote};
-ghost use Rattle.adb_top.specs.Run.{IsCommand, IsNoCommand, WritesHistory, WritesRead, WritesLegal, WritesWhole};
-ghost use Rattle.adb_top.specs.Run.{EndsCapture, NamesRefusal, Completes};
+ghost use Rattle.adb_top.specs.Run.{WritesHistory, WritesRead, WritesLegal, WritesWhole};
+ghost use Rattle.adb_top.specs.Run.{EndsCapture, NamesRefusal, Completes, IsUnheard};
+ghost use Rattle.adb_top.specs.Words.{IsNoCommand, IsReplay, IsLoad};
 
-use crate::note::{say_stop, say_usage};
+use crate::generating::generate;
+use crate::note::{say_out_of_memory, say_stop, say_usage};
 use crate::replay::replay;
 use crate::status::Status;
-use crate::words::is_replay;
 use adb_outside::{Sink, Source};
+use adb_words::{Command, WordsError, read_words};
 use std::alloc::Global;
 
-/// Does what the words behind the program's name say. The one command is `replay`: it reads a
-/// capture from the source, makes its entries in order, hands out all that is due after each, and
-/// writes the whole history to the sink as a capture. Put and Send records are passed over. After a
-/// kill no further record is read.
+/// Does what the words behind the program's name say.
+///
+/// `replay` reads a capture from the source, makes its entries in order, hands out all that is due
+/// after each, and writes the whole history to the sink as a capture. Put and Send records are
+/// passed over. After a kill no further record is read.
+///
+/// `gen <seed> <streams>` makes the load of that seed and so many streams, hands out all that is
+/// due after each of its entries, and writes four lines: `streams`, `up` and `down`, the bytes that
+/// went up and down the streams, and `entries`, how many entries the history has. It reads nothing.
 ///
 /// Each status but Done writes its one line to the note. Where that write fails the status is
 /// WriteFault, whose own line is tried once.
@@ -28,12 +36,13 @@ pub fn run<S: Source, K: Sink, N: Sink>(
     note: &mut N,
 ) -> Status
     // Words that are no command: nothing is read, and nothing goes out.
-    ensures usage { IsNoCommand words.now → (result ≡ Status.Usage) ⊎ (result ≡ Status.WriteFault) }
+    ensures usage { IsNoCommand words.now → IsUnheard result }
     ensures untouched { IsNoCommand words.now → (source.new ≡ source.old) × (sink.new ≡ sink.old) }
-    ensures command { IsCommand words.now → result ≢ Status.Usage }
+    ensures command { result ≡ Status.Usage → IsNoCommand words.now }
 
     // The drained history of the capture goes out: at Done and BadCapture all of it, else a front.
-    ensures writes { WritesHistory result (S.left source.old) K.written sink.old sink.new }
+    ensures writes { IsReplay words.now
+        → WritesHistory result (S.left source.old) K.written sink.old sink.new }
 
     // At ReadFault all that the bytes give that were read of the capture.
     ensures consumed { result ≡ Status.ReadFault
@@ -41,14 +50,26 @@ pub fn run<S: Source, K: Sink, N: Sink>(
 
     // Whatever the source tells, what went out spells a legal history, which is fifo, has its
     // causes and is answered.
-    ensures legal { WritesLegal K.written sink.old sink.new }
+    ensures legal { IsReplay words.now → WritesLegal K.written sink.old sink.new }
 
     // No record is torn but where a write failed.
-    ensures whole { result ≢ Status.WriteFault → WritesWhole K.written sink.old sink.new }
+    ensures whole { IsReplay words.now → result ≢ Status.WriteFault
+        → WritesWhole K.written sink.old sink.new }
 
     // Done: nothing is refused, and the capture was read to its end, or to a kill. BadCapture: it
     // is refused.
-    ensures ends { EndsCapture result S.left source.old source.new }
+    ensures ends { IsReplay words.now → EndsCapture result S.left source.old source.new }
+
+    // The lines of a load go out, whose numbers are those of its drained history: all of them where
+    // the run is done, and nothing where memory ran out. Nothing is read.
+    ensures load { (seed streams : ℕ) → IsLoad seed streams words.now
+        → WritesLoad result seed streams K.written sink.old sink.new }
+    ensures unread { (seed streams : ℕ) → IsLoad seed streams words.now
+        → source.new ≡ source.old }
+
+    // That history is legal, so it is fifo, has its causes and is answered.
+    ensures promised { (seed streams : ℕ) → IsLoad seed streams words.now
+        → result ≡ Status.Done → IsPromised (made seed streams) }
 
     // The note has the one line of the status; where it failed itself, what went out of its lines.
     ensures notes { WritesNote result N.faults N.written note.old note.new }
@@ -70,17 +91,83 @@ pub fn run<S: Source, K: Sink, N: Sink>(
     ensures steady { S.steady source.old → K.steady sink.old → N.steady note.old
         → IsFaultless result }
 
-    // Where no count rose, a refused capture is BadCapture and any other is Done, but for memory.
-    ensures complete { IsCommand words.now
+    // Where no count rose, a refused capture is BadCapture and any other is Done, but for memory;
+    ensures complete { IsReplay words.now
         → ¬ Rose S.faults source.old source.new
         → ¬ Rose K.faults sink.old sink.new
         → ¬ Rose N.faults note.old note.new
         → Completes result (S.left source.old) }
+
+    // and a load is done, but for memory.
+    ensures makes { (seed streams : ℕ) → IsLoad seed streams words.now
+        → ¬ Rose K.faults sink.old sink.new
+        → ¬ Rose N.faults note.old note.new
+        → (result ≡ Status.Done) ⊎ (result ≡ Status.OutOfMemory) }
 {
-    if !is_replay(words) {
-        return say_usage(note);
+    match read_words(alloc, words) {
+        Ok(Command::Replay) => run_replay(alloc, source, sink, note),
+        Ok(Command::Gen { seed, streams }) => run_gen(alloc, seed, streams, sink, note),
+        Err(WordsError::Usage) => say_usage(note),
+        Err(WordsError::OutOfMemory) => say_out_of_memory(note),
     }
+}
+
+/// Replays the capture of a source, and tells the note how it ended where it is not done.
+fn run_replay<S: Source, K: Sink, N: Sink>(
+    alloc: Global,
+    source: &mut S,
+    sink: &mut K,
+    note: &mut N,
+) -> Status
+    ensures command { result ≢ Status.Usage }
+    ensures writes { WritesHistory result (S.left source.old) K.written sink.old sink.new }
+    ensures consumed { result ≡ Status.ReadFault
+        → WritesRead S.left source.old source.new K.written sink.old sink.new }
+    ensures legal { WritesLegal K.written sink.old sink.new }
+    ensures whole { result ≢ Status.WriteFault → WritesWhole K.written sink.old sink.new }
+    ensures ends { EndsCapture result S.left source.old source.new }
+    ensures notes { WritesNote result N.faults N.written note.old note.new }
+    ensures names { NamesRefusal result (S.left source.old) N.written note.old note.new }
+    ensures read_fault { result ≡ Status.ReadFault → Rose S.faults source.old source.new }
+    ensures write_fault { result ≡ Status.WriteFault
+        → Rose K.faults sink.old sink.new ⊎ Rose N.faults note.old note.new }
+    ensures source_stood { IsFaultless result → Stood S.faults source.old source.new }
+    ensures sink_stood { result ≢ Status.WriteFault → Stood K.faults sink.old sink.new }
+    ensures note_stood { result ≢ Status.WriteFault → Stood N.faults note.old note.new }
+    ensures steady { S.steady source.old → K.steady sink.old → N.steady note.old
+        → IsFaultless result }
+    ensures complete { ¬ Rose S.faults source.old source.new
+        → ¬ Rose K.faults sink.old sink.new
+        → ¬ Rose N.faults note.old note.new
+        → Completes result (S.left source.old) }
+{
     match replay(alloc, source, sink) {
+        Ok(()) => Status::Done,
+        Err(stop) => say_stop(alloc, note, stop),
+    }
+}
+
+/// Makes a load, and tells the note how that ended where it is not done.
+fn run_gen<K: Sink, N: Sink>(
+    alloc: Global,
+    seed: u64,
+    streams: u16,
+    sink: &mut K,
+    note: &mut N,
+) -> Status
+    requires size { IsLoadSize streams }
+    ensures load { WritesLoad result seed streams K.written sink.old sink.new }
+    ensures status { (result ≡ Status.Done) ⊎ (result ≡ Status.WriteFault)
+        ⊎ (result ≡ Status.OutOfMemory) }
+    ensures promised { result ≡ Status.Done → IsPromised (made seed streams) }
+    ensures notes { WritesNote result N.faults N.written note.old note.new }
+    ensures write_fault { result ≡ Status.WriteFault
+        → Rose K.faults sink.old sink.new ⊎ Rose N.faults note.old note.new }
+    ensures sink_stood { result ≢ Status.WriteFault → Stood K.faults sink.old sink.new }
+    ensures note_stood { result ≢ Status.WriteFault → Stood N.faults note.old note.new }
+    ensures steady { K.steady sink.old → N.steady note.old → IsFaultless result }
+{
+    match generate(alloc, seed, streams, sink) {
         Ok(()) => Status::Done,
         Err(stop) => say_stop(alloc, note, stop),
     }

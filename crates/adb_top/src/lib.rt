@@ -2,6 +2,7 @@
 #![tactic(auto)]
 
 mod command;
+mod generating;
 mod note;
 mod output;
 mod replay;
@@ -9,7 +10,7 @@ mod status;
 mod stop;
 #[cfg(test)]
 mod tests;
-mod words;
+mod texts;
 
 pub use command::run;
 pub use note::say_out_of_memory;

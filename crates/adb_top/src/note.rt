@@ -1,6 +1,6 @@
 //! The lines of the note: one for each status but Done.
 
-ghost use Rattle.std.specs.Prelude.{◌≡◌, ◌≢◌, ◌<◌, ◌++◌, ◌⊎◌, IfOk, OnOk, length, decimal};
+ghost use Rattle.std.specs.Prelude.{◌≡◌, ◌≢◌, ◌<◌, ◌⊎◌, IfOk, length};
 ghost use Rattle.adb_outside.specs.Outside.{Counts};
 ghost use Rattle.adb_outside.specs.Sink.{TellsWrite, is_failed_write};
 ghost use Rattle.adb_history.specs.declared.refusal.Refusal.{Refusal};
@@ -10,9 +10,9 @@ ghost use Rattle.adb_top.specs.Notes.{IsLine, EndsIn, WritesNote};
 
 use crate::status::Status;
 use crate::stop::Stop;
+use crate::texts::push_number;
 use adb_history::Refusal;
 use adb_outside::{Sink, Text, Wrote};
-use itoa::Buffer;
 use std::alloc::{AllocError, Global};
 
 /// Tells the note that the words are no command.
@@ -28,7 +28,7 @@ pub fn say_usage<N: Sink>(note: &mut N) -> Status
     )
 }
 
-/// Tells the note why a replay stopped.
+/// Tells the note why a command stopped.
 pub fn say_stop<N: Sink>(alloc: Global, note: &mut N, stop: Stop) -> Status
     ensures status { EndsIn stop result }
     ensures told { WritesNote result N.faults N.written note.old note.new }
@@ -102,11 +102,4 @@ fn refusal_line(alloc: Global, refusal: Refusal) -> Result<Text, AllocError>
     line.push_slice(refusal.reason.text())?;
     line.push_slice(b"\n")?;
     Ok(line)
-}
-
-fn push_number(line: &mut Text, number: u64) -> Result<(), AllocError>
-    ensures { OnOk result (line.new ≡ line.old ++ decimal number) }
-{
-    let mut digits = Buffer::new();
-    line.push_slice(digits.format(number).as_bytes())
 }

@@ -1,13 +1,13 @@
 use Rattle.std.proofs.Common.{inl, inr}
 use Rattle.adb_top.proofs.Runs.{writes_by, completes_stopped, reads_rose, write_fault_is}
-use Rattle.adb_top.proofs.command.run.Goals as goal
+use Rattle.adb_top.proofs.command.run_replay.Goals as goal
 
 pub returns-in-Err-clause-writes : goal.returns-in-Err-clause-writes
 returns-in-Err-clause-writes g c = λ bytes had told has. writes_by c.in-Err.stop c.say_stop.result _ had _ c.say_stop.ensures.status
     (c.in-Err.ensures.replays.writes bytes had told has)
 
 pub returns-in-Err-clause-complete : goal.returns-in-Err-clause-complete
-returns-in-Err-clause-complete g c = λ right no_read no_write no_note bytes told.
+returns-in-Err-clause-complete g c = λ no_read no_write no_note bytes told.
     completes_stopped c.in-Err.stop c.say_stop.result _ _ c.say_stop.ensures.status (c.in-Err.ensures.replays.ends bytes told)
     (λ e. no_read (reads_rose c.in-Err.stop _ _ _ _ c.in-Err.ensures.reads e))
     (λ e. elim (c.say_stop.ensures.fault e) [ inl w ↦ no_write (c.in-Err.ensures.writes.fault (write_fault_is c.in-Err.stop w)) | inr n ↦ no_note n ])
