@@ -7,11 +7,11 @@ use Rattle.adb_top.proofs.generating.generate.Goals as goal
 
 pub returns-in-All-clause-promised : goal.returns-in-All-clause-promised
 returns-in-All-clause-promised g c = λ e.
-    subst (λ (n : ℕ). IsPromised (made c.args.seed n)) c.from.ensures (promised (made c.args.seed c.from.result) c.in_ok-totals.ensures.done.0.legal)
+    subst (λ (n : ℕ). IsPromised (made c.args.seed n)) c.from.ensures (promised (made c.args.seed c.from.result) c.in_ok-totals.ensures.done.lawful.legal)
 
 pub returns-clause-writes : goal.returns-clause-writes
 returns-clause-writes g c = λ had has.
     part_out _ c.as_slice.result.now had c.in-Failed.taken _
     (c.as_slice.ensures ∙ (c.in_ok-lines.ensures.lines ∙ ap (λ (t : Totals). lines_of c.args.streams t)
-        (c.in_ok-totals.ensures.done.1 ∙ ap (λ (n : ℕ). totals_of (made c.args.seed n)) c.from.ensures)))
+        (c.in_ok-totals.ensures.done.told ∙ ap (λ (n : ℕ). totals_of (made c.args.seed n)) c.from.ensures)))
     (c.in-Failed.ensures.told had has)
