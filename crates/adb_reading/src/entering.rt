@@ -1,6 +1,7 @@
 //! How clients come through forwards (SERVICES.TXT, `<host-prefix>:forward`).
 
-ghost use Rattle.std.specs.Prelude.{◌≡◌, ◌≤◌, ◌<◌, ◌+◌, ◌++◌, ◌∷◌, [], ℕ, List, length, true, None, Some, IfOk, OnOk, OnErr};
+ghost use Rattle.std.specs.Prelude.{◌≡◌, ◌≤◌, ◌<◌, ◌+◌, ◌++◌, ◌∷◌, [], ℕ, List, length, true};
+ghost use Rattle.std.specs.Prelude.{None, Some, IfOk, OnOk, OnErr};
 ghost use Rattle.adb_outside.specs.Tables.{at, Puts};
 ghost use Rattle.adb_wire.specs.declared.headers.TheConstants.{MAX_PAYLOAD};
 ghost use Rattle.adb_history.specs.Rows.{State};

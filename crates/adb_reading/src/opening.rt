@@ -1,6 +1,7 @@
 //! How streams are asked for (protocol.txt, OPEN).
 
-ghost use Rattle.std.specs.Prelude.{◌≡◌, ◌≢◌, ◌≤◌, ◌<◌, ◌++◌, ◌∷◌, [], ◌+◌, ◌-◌, ℕ, List, length, codes, Err, IfOk, OnOk, OnErr, option_map};
+ghost use Rattle.std.specs.Prelude.{◌≡◌, ◌≢◌, ◌≤◌, ◌<◌, ◌++◌, ◌∷◌, [], ◌+◌, ◌-◌, ℕ, List, length};
+ghost use Rattle.std.specs.Prelude.{codes, Err, IfOk, OnOk, OnErr, option_map};
 ghost use Rattle.adb_outside.specs.Tables.{at};
 ghost use Rattle.adb_wire.specs.declared.headers.TheConstants.{MAX_PAYLOAD};
 ghost use Rattle.adb_wire.specs.Format.{packet_under};
