@@ -1,5 +1,5 @@
-//! Plays each worked exchange of the folder that it is run in with a model device, and tells whether
-//! the device answers as told.
+//! Plays each worked exchange of the folder that it is run in with a model device, and tells
+//! whether the device answers as told.
 #![tactic(auto)]
 
 mod told;
@@ -11,8 +11,8 @@ use told::told;
 /// What the host sends comes in pieces of at most so many bytes.
 const PIECES: [usize; 4] = [1, 5, 24, 65_536];
 
-/// Writes a line for each exchange, in the order of their names. Ends with status 1 where one does not
-/// go as told.
+/// Writes a line for each exchange, in the order of their names. Ends with status 1 where one does
+/// not go as told.
 fn main(rt: HostRuntime) -> io::Result<ExitCode> {
     let mut all = true;
     for name in &names(&rt)? {
