@@ -177,7 +177,7 @@ fn push_okay(
         arg1: host,
         payload: Text::from_slice(alloc, payload)?,
     };
-    push_packet(alloc, &packet, outgoing.sums, due)
+    push_packet(&packet, outgoing.sums, due)
 }
 
 /// Adds a CLSE to what is due. After want of memory what is due is as before.
@@ -197,7 +197,7 @@ fn push_close(
         arg1: host,
         payload: Text::new(alloc),
     };
-    push_packet(alloc, &packet, outgoing.sums, due)
+    push_packet(&packet, outgoing.sums, due)
 }
 
 /// A credit word: four bytes, the lowest first.

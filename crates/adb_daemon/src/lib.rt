@@ -7,8 +7,6 @@ mod due;
 mod link;
 mod service;
 mod stream;
-#[cfg(test)]
-mod tests;
 mod writes;
 
 pub use answers::{answer_okay, answer_open, answer_write};

@@ -34,14 +34,13 @@ pub fn push_writes(
     ensures grows { Grows due.old.bytes due.new.bytes }
 {
     while let Some(payload) = stream.next_write(alloc, outgoing.most as usize)? {
-        push_write(alloc, outgoing, stream.host, payload, due)?;
+        push_write(outgoing, stream.host, payload, due)?;
     }
     Ok(())
 }
 
 /// Adds a write to what is due. After want of memory what is due is as before.
 fn push_write(
-    alloc: Global,
     outgoing: Outgoing,
     host: u32,
     payload: Text,
@@ -59,5 +58,5 @@ fn push_write(
         arg1: host,
         payload,
     };
-    push_packet(alloc, &packet, outgoing.sums, due)
+    push_packet(&packet, outgoing.sums, due)
 }

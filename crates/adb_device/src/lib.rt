@@ -8,8 +8,6 @@ mod laws;
 mod machine;
 mod services;
 mod table;
-#[cfg(test)]
-mod tests;
 
 pub use daemon::Daemon;
 pub use error::DaemonError;

@@ -176,7 +176,7 @@ fn first_due(alloc: Global, most: u32, credit: bool) -> Result<ByteQueue, AllocE
         payload: Text::from_slice(alloc, identity_text(credit))?,
     };
     let mut due = ByteQueue::new(alloc);
-    push_packet(alloc, &packet, true, &mut due)?;
+    push_packet(&packet, true, &mut due)?;
     Ok(due)
 }
 

@@ -17,9 +17,14 @@ use adb_daemon::{
 };
 use adb_files::Files;
 use adb_outside::{ByteQueue, Text};
+use adb_stream::CREDIT_WINDOW;
 use adb_wire::{Command, MAX_PAYLOAD, Packet};
 use std::alloc::{AllocError, Global};
 use std::collections::BTreeMap;
+
+/// How many bytes of memory are kept where nothing is due: what a stream's credit lets become due at
+/// once, and as much again.
+const KEPT: usize = 2 * CREDIT_WINDOW as usize;
 
 /// The live streams with their services, the files, and what is due to the host.
 #[derive(Drop)]
@@ -192,7 +197,17 @@ impl Services {
         ensures files { self.new.files ≡ self.old.files }
     {
         self.due.take(n);
-        self.due.give_back();
+        give_back(&mut self.due);
+    }
+}
+
+/// Gives back memory that only serves bytes that were taken, but for a little of it where none are
+/// left, which serves the next packets. It takes no memory.
+fn give_back(due: &mut ByteQueue)
+    ensures { due.new.bytes ≡ due.old.bytes }
+{
+    if !due.is_empty() || due.spare() > KEPT {
+        due.give_back();
     }
 }
 
@@ -229,7 +244,7 @@ fn refuse(alloc: Global, link: Link, host: u32, due: &mut ByteQueue) -> Result<(
         arg1: host,
         payload: Text::new(alloc),
     };
-    push_packet(alloc, &packet, link.sums, due)
+    push_packet(&packet, link.sums, due)
 }
 
 /// A WRTE to a live stream: it is acknowledged and taken, and the stream settles. Says whether the
