@@ -98,7 +98,7 @@ module _ (h g : History) (legal : IsLegal h) (same : SameCame h g) where
   drawn_is_plugged : (state h).devices.drawn ≡ plugged_count g
   drawn_is_plugged = (counted h).plugged ∙ same.brings.plugged_count
 
-  stopped_is : is_killed g ≡ false → (state h).stopped ≡ false
+  pub stopped_is : is_killed g ≡ false → (state h).stopped ≡ false
   stopped_is killed = (all_books h legal).killed ∙ (ap (λ (b : Book). b.killed) same.book ∙ killed)
 
   devices_are : is_killed g ≡ false → (state h).devices ≡ devices_if false g
