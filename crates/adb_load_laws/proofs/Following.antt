@@ -12,7 +12,6 @@ use Rattle.adb_capture.specs.declared.entry.Entry.{Entry}
 use Rattle.adb_capture.specs.declared.entry.Entry.TheVariants.{Join, Read, End, Attach, Recv}
 use Rattle.adb_history.specs.Machine.{History, IsDrawn, IsLegal}
 use Rattle.adb_history.specs.Book.{asked}
-use Rattle.adb_outside.specs.Bytes.{AreBytes}
 use Rattle.adb_wire.specs.declared.command.Command.{Command}
 use Rattle.adb_history.specs.Drained.{drained_from}
 use Rattle.adb_history.specs.Tied.{came_count}
@@ -26,12 +25,13 @@ use Rattle.adb_load.specs.Streams.{is_set, moved}
 use Rattle.adb_load.specs.Course.{Progress, turn, start, turns_left}
 use Rattle.adb_load.specs.Load.{acts_of_turns, acts_ahead, entries_of, load}
 use Rattle.adb_load_laws.specs.Taken.{IsTaken}
-use Rattle.adb_load_laws.proofs.Turns.{all_devices, turns_keep, after_turns, by_turn, by_moved, IsUnderWay, turn_under_way, under_way_at_first, live_begun, IsBegun}
+use Rattle.adb_load_laws.proofs.Turns.{all_devices, turns_keep, after_turns, by_turn, by_moved}
+use Rattle.adb_load_laws.proofs.Turns.{IsUnderWay, turn_under_way, under_way_at_first, live_begun, IsBegun}
 use Rattle.adb_load_laws.proofs.Inputs.{came_onto, came, came_more, drained_same}
 use Rattle.adb_load_laws.proofs.Asking.{by_link}
 use Rattle.adb_load.proofs.Cycles.{cycle_length}
 use Rattle.adb_load.proofs.Records.{literal_bytes, cycle_bytes, cycle_short, packet_short, piece_short, serial_short, asked_short, greeting_short}
-use Rattle.adb_load_laws.proofs.Texts.{no_bytes, both_bytes, front_bytes, back_bytes, spelled_bytes}
+use Rattle.adb_load_laws.proofs.Texts.{no_bytes, both_bytes}
 use Rattle.adb_load_laws.proofs.AskTexts.{asked_texts}
 use Rattle.adb_load_laws.proofs.Taking.{MayCome, AsksFirst, AllMayCome, all_more, each_may, taken}
 use Rattle.adb_load_laws.proofs.Standing as stand
@@ -103,7 +103,13 @@ module _ (begun : ℕ) where
       → Arrives begun all_devices (Read (client_of stream) bytes ∷ Recv (link_of stream) answer ∷ []) g
   writes g at stream own bytes answer are others =
       and_before begun all_devices (Read (client_of stream) bytes) (Recv (link_of stream) answer ∷ []) g
-      (record { wants = client_drawn g at stream own; reads = no_more g at stream own bytes; bytes = are.bytes; size = omega (arith, are.size); killed = at.killed })
+      (record {
+        wants = client_drawn g at stream own;
+        reads = no_more g at stream own bytes;
+        bytes = are.bytes;
+        size = omega (arith, are.size);
+        killed = at.killed;
+      })
       (says_last (Read (client_of stream) bytes ∷ g)
       (stand.written begun all_devices g at (client_of stream) bytes (omega arith) (omega (arith, own))) stream answer others)
 
@@ -161,7 +167,16 @@ plugs begun plugged g at few = record {
       size = omega (arith, (serial_short (plugged + 1) (omega (arith, few))).size);
       killed = at.killed;
     },
-    (record { wants = (omega arith, omega (arith, at.links)); reads = tt; bytes = greeting_short.bytes; size = omega (arith, greeting_short.size); killed = at.killed }, tt),
+    (
+      record {
+        wants = (omega arith, omega (arith, at.links));
+        reads = tt;
+        bytes = greeting_short.bytes;
+        size = omega (arith, greeting_short.size);
+        killed = at.killed;
+      },
+      tt,
+    ),
   );
   stands = stand.received begun (plugged + 1) _ (stand.attached begun plugged g at (plugged + 1) Usb (serial_of (plugged + 1))) (plugged + 1) greeting;
 }
@@ -187,7 +202,8 @@ module _ (g : History) (p : Progress) (way : IsUnderWay p) (at : Stands p.begun 
   moves live own few word = from_all few p.begun (entries_of (acts_from (moved word live).act))
       (by_moved (λ act after. Arrives p.begun all_devices (entries_of (acts_from act)) g) word live (record {
         up = λ count some most. writes p.begun g (all_at few) live.number own.number (up_bytes live.number (up_size live.number - live.up) count)
-            (device_packet Okay live.number []) (up_short live.number (up_size live.number - live.up) count (omega (arith, most, own.up))) (bare_short Okay live.number);
+            (device_packet Okay live.number []) (up_short live.number (up_size live.number - live.up) count (omega (arith, most, own.up)))
+            (bare_short Okay live.number);
         down = λ count some most. down (is_set word 5) (down_size live.number - live.down) count (omega (arith, most, own.down));
         ends = λ up down. ends (is_set word 4);
       }))

@@ -1,10 +1,8 @@
 -- The capture of a load is taken whole by a server that replays it.
-use Rattle.std.proofs.Common.{ℕ, ◌+◌, ◌^◌, ◌≡◌, ◌<◌, ◌≤◌, Bool, true, false, List, [], ◌∷◌, ◌++◌, length, take, drop, refl, sym, ◌∙◌, ap, arith}
-use Rattle.std.specs.Prelude.{Option, Some, None}
+use Rattle.std.proofs.Common.{ℕ, ◌+◌, ◌^◌, ◌≡◌, ◌<◌, ◌≤◌, true, false, List, [], ◌∷◌, ◌++◌, length, drop, refl, ◌∙◌, ap, arith}
+use Rattle.std.specs.Prelude.{None}
 use Rattle.std.proofs.lemmas.List.{take_at, drop_at, length-append}
 use Rattle.adb_outside.specs.Framing.{Cut, joined, cut_by, cut}
-use Rattle.adb_outside.specs.declared.framer.Front.TheVariants.{Whole}
-use Rattle.adb_outside.specs.declared.kinds.Cause.TheVariants.{Eof, Fault, Starved, NoThread}
 use Rattle.adb_outside.proofs.FramingLaws.{cut_first}
 use Rattle.adb_capture.specs.declared.entry.Entry.{Entry}
 use Rattle.adb_capture.specs.declared.entry.Entry.TheVariants.{Join, Enter, Read, End, Bound, Attach, Recv, Detach, Put, Send}
@@ -16,11 +14,12 @@ use Rattle.adb_capture.proofs.Spellings.{spelled_whole, spelled_again}
 use Rattle.adb_history.specs.Machine.{History, state}
 use Rattle.adb_history.specs.Book.{is_killed}
 use Rattle.adb_history.specs.Drained.{drained_after}
-use Rattle.adb_history.specs.Accepted.{Accepted, accepted, accept_from, accept_cut, accept_by, unless_stopped, with_input, ends_with, end_of, is_input, refusal_of}
+use Rattle.adb_history.specs.Accepted.{Accepted, accepted, accept_from, accept_cut, accept_by}
+use Rattle.adb_history.specs.Accepted.{unless_stopped, with_input, ends_with, end_of, is_input, refusal_of}
 use Rattle.adb_load.specs.Course.{start, turns_left}
 use Rattle.adb_load.specs.Load.{acts_ahead, load}
 use Rattle.adb_load_laws.proofs.Inputs.{SameCame, same_refl, came_onto}
-use Rattle.adb_load_laws.proofs.Taking.{MayCome, AllMayCome, Wants, taken, stopped_is}
+use Rattle.adb_load_laws.proofs.Taking.{AllMayCome, Wants, taken, stopped_is}
 use Rattle.adb_load_laws.proofs.Following.{turns_follow, load_follows}
 use Rattle.adb_load_laws.proofs.Legal.{IsFine, IsFew, in_range, few_first, after_same, after_fine, fine_at_first, load_few}
 
