@@ -12,7 +12,6 @@ use Rattle.adb_capture.specs.declared.entry.Entry.{Entry}
 use Rattle.adb_capture.specs.declared.entry.Entry.TheVariants.{Join, Read, End, Attach, Recv}
 use Rattle.adb_history.specs.Machine.{History, IsDrawn, IsLegal}
 use Rattle.adb_history.specs.Book.{asked}
-use Rattle.adb_outside.specs.Bytes.{AreBytes}
 use Rattle.adb_wire.specs.declared.command.Command.{Command}
 use Rattle.adb_history.specs.Drained.{drained_from}
 use Rattle.adb_history.specs.Tied.{came_count}
@@ -20,17 +19,19 @@ use Rattle.adb_load.specs.declared.act.Act.{Act}
 use Rattle.adb_load.specs.declared.act.Act.TheVariants.{Answer, Leave, Close}
 use Rattle.adb_load.specs.declared.act.Piece.TheVariants.{Whole, Head, Tail}
 use Rattle.adb_load.specs.declared.live.Live.{Live}
-use Rattle.adb_load.specs.Acts.{entry_of, acts_from, acts_due, asked_of, client_of, link_of, serial_of, greeting, device_packet, up_bytes, down_bytes}
+use Rattle.adb_load.specs.Acts.{IsShort, entry_of, acts_from, acts_due, asked_of, client_of, link_of, serial_of, greeting, device_packet, up_bytes, down_bytes}
 use Rattle.adb_load.specs.Acts.{up_size, down_size, piece_of, remote_of}
 use Rattle.adb_load.specs.Streams.{is_set, moved}
 use Rattle.adb_load.specs.Course.{Progress, turn, start, turns_left}
 use Rattle.adb_load.specs.Load.{acts_of_turns, acts_ahead, entries_of, load}
 use Rattle.adb_load_laws.specs.Taken.{IsTaken}
-use Rattle.adb_load_laws.proofs.Turns.{all_devices, turns_keep, after_turns, by_turn, by_moved, IsUnderWay, turn_under_way, under_way_at_first, live_begun}
+use Rattle.adb_load_laws.proofs.Turns.{all_devices, turns_keep, after_turns, by_turn, by_moved}
+use Rattle.adb_load_laws.proofs.Turns.{IsUnderWay, turn_under_way, under_way_at_first, live_begun, IsBegun}
 use Rattle.adb_load_laws.proofs.Inputs.{came_onto, came, came_more, drained_same}
 use Rattle.adb_load_laws.proofs.Asking.{by_link}
-use Rattle.adb_load.proofs.Records.{literal_bytes, cycle_bytes, serial_short, asked_short, greeting_short}
-use Rattle.adb_load_laws.proofs.Texts.{no_bytes, both_bytes, front_bytes, back_bytes, spelled_bytes}
+use Rattle.adb_load.proofs.Cycles.{cycle_length}
+use Rattle.adb_load.proofs.Records.{literal_bytes, cycle_bytes, cycle_short, packet_short, piece_short, serial_short, asked_short, greeting_short}
+use Rattle.adb_load_laws.proofs.Texts.{no_bytes, both_bytes}
 use Rattle.adb_load_laws.proofs.AskTexts.{asked_texts}
 use Rattle.adb_load_laws.proofs.Taking.{MayCome, AsksFirst, AllMayCome, all_more, each_may, taken}
 use Rattle.adb_load_laws.proofs.Standing as stand
@@ -55,33 +56,35 @@ and_before begun plugged e inputs g may others = record { may = (may, others.may
 nothing : (begun plugged : ℕ) (g : History) → Stands begun plugged g → Arrives begun plugged [] g
 nothing begun plugged g at = record { may = tt; stands = at }
 
--- what the device of a stream says on it, of bytes
-says_bytes : (command : Command) (stream : ℕ) (payload : List ℕ) → AreBytes payload → AreBytes (device_packet command stream payload)
-says_bytes command stream payload are =
-    spelled_bytes (record { command = command; arg0 = remote_of stream; arg1 = client_of stream; payload = payload }) 0 are
+-- what the device of a stream says on it
+bare_short : (command : Command) (stream : ℕ) → IsShort (device_packet command stream [])
+bare_short command stream = packet_short command (remote_of stream) (client_of stream) [] no_bytes (omega arith)
 
-bare_bytes : (command : Command) (stream : ℕ) → AreBytes (device_packet command stream [])
-bare_bytes command stream = says_bytes command stream [] no_bytes
+answer_short : (stream from count : ℕ) → count ≤ down_size stream → IsShort (device_packet Wrte stream (down_bytes stream from count))
+answer_short stream from count small = packet_short Wrte (remote_of stream) (client_of stream) (down_bytes stream from count)
+    (cycle_bytes (2 * stream) from count)
+    (omega (arith, cycle_length (2 * stream) from count, small, mod-lt stream {m = 100} (omega arith)))
 
-answer_bytes : (stream from count : ℕ) → AreBytes (device_packet Wrte stream (down_bytes stream from count))
-answer_bytes stream from count = says_bytes Wrte stream (down_bytes stream from count) (cycle_bytes (2 * stream) from count)
+up_short : (stream from count : ℕ) → count ≤ up_size stream → IsShort (up_bytes stream from count)
+up_short stream from count small = cycle_short stream from count (omega (arith, small, mod-lt stream {m = 100} (omega arith)))
 
 module _ (begun : ℕ) where
   -- what the device of any stream says
-  says_may : (g : History) → Stands begun all_devices g → (stream : ℕ) (bytes : List ℕ) → AreBytes bytes → MayCome g (Recv (link_of stream) bytes)
-  says_may g at stream bytes are = record {
+  says_may : (g : History) → Stands begun all_devices g → (stream : ℕ) (bytes : List ℕ) → IsShort bytes → MayCome g (Recv (link_of stream) bytes)
+  says_may g at stream bytes short = record {
     wants = (omega arith, omega (arith, mod-lt stream {m = 8} (omega arith), at.links));
     reads = tt;
-    bytes = are;
+    bytes = short.bytes;
+    size = omega (arith, short.size);
     killed = at.killed;
   }
 
-  says_last : (g : History) → Stands begun all_devices g → (stream : ℕ) (bytes : List ℕ) → AreBytes bytes
+  says_last : (g : History) → Stands begun all_devices g → (stream : ℕ) (bytes : List ℕ) → IsShort bytes
       → Arrives begun all_devices (Recv (link_of stream) bytes ∷ []) g
   says_last g at stream bytes are = and_before begun all_devices (Recv (link_of stream) bytes) [] g (says_may g at stream bytes are)
       (nothing begun all_devices (Recv (link_of stream) bytes ∷ g) (stand.received begun all_devices g at (link_of stream) bytes))
 
-  says_twice : (g : History) → Stands begun all_devices g → (stream : ℕ) (bytes more : List ℕ) → AreBytes bytes → AreBytes more
+  says_twice : (g : History) → Stands begun all_devices g → (stream : ℕ) (bytes more : List ℕ) → IsShort bytes → IsShort more
       → Arrives begun all_devices (Recv (link_of stream) bytes ∷ Recv (link_of stream) more ∷ []) g
   says_twice g at stream bytes more are others =
       and_before begun all_devices (Recv (link_of stream) bytes) (Recv (link_of stream) more ∷ []) g (says_may g at stream bytes are)
@@ -96,18 +99,24 @@ module _ (begun : ℕ) where
   no_more g at stream own bytes none =
       absurd (let clash : true ≡ false = sym (ap is_none none) ∙ at.over (client_of stream) (omega arith) (omega (arith, own)) in cc)
 
-  writes : (g : History) → Stands begun all_devices g → (stream : ℕ) → stream < begun → (bytes answer : List ℕ) → AreBytes bytes → AreBytes answer
+  writes : (g : History) → Stands begun all_devices g → (stream : ℕ) → stream < begun → (bytes answer : List ℕ) → IsShort bytes → IsShort answer
       → Arrives begun all_devices (Read (client_of stream) bytes ∷ Recv (link_of stream) answer ∷ []) g
   writes g at stream own bytes answer are others =
       and_before begun all_devices (Read (client_of stream) bytes) (Recv (link_of stream) answer ∷ []) g
-      (record { wants = client_drawn g at stream own; reads = no_more g at stream own bytes; bytes = are; killed = at.killed })
+      (record {
+        wants = client_drawn g at stream own;
+        reads = no_more g at stream own bytes;
+        bytes = are.bytes;
+        size = omega (arith, are.size);
+        killed = at.killed;
+      })
       (says_last (Read (client_of stream) bytes ∷ g)
       (stand.written begun all_devices g at (client_of stream) bytes (omega arith) (omega (arith, own))) stream answer others)
 
   leaves : (g : History) → Stands begun all_devices g → (stream : ℕ) → stream < begun → Arrives begun all_devices (End (client_of stream) Eof ∷ []) g
   leaves g at stream own =
       and_before begun all_devices (End (client_of stream) Eof) [] g
-      (record { wants = client_drawn g at stream own; reads = tt; bytes = literal_bytes (0 ∷ []) refl; killed = at.killed })
+      (record { wants = client_drawn g at stream own; reads = tt; bytes = literal_bytes (0 ∷ []) refl; size = omega arith; killed = at.killed })
       (nothing begun all_devices (End (client_of stream) Eof ∷ g) (stand.ended begun all_devices g at (client_of stream) Eof (omega (arith, own))))
 
   -- a stream begins
@@ -119,19 +128,21 @@ module _ (begun : ℕ) where
       ∷ Recv (link_of begun) (device_packet Okay begun []) ∷ []) g
   comes g at = record {
     may = (
-      record { wants = ap (λ n. n + 1) (sym at.came); reads = tt; bytes = no_bytes; killed = at.killed },
+      record { wants = ap (λ n. n + 1) (sym at.came); reads = tt; bytes = no_bytes; size = omega arith; killed = at.killed },
       (
         record {
           wants = (omega arith, omega (arith, at.came));
           reads = λ none. asks_first g at;
           bytes = (asked_short begun).bytes;
+          size = omega (arith, (asked_short begun).size);
           killed = at.killed;
         },
         (
           record {
             wants = (omega arith, omega (arith, mod-lt begun {m = 8} (omega arith), at.links));
             reads = tt;
-            bytes = bare_bytes Okay begun;
+            bytes = (bare_short Okay begun).bytes;
+            size = omega (arith, (bare_short Okay begun).size);
             killed = after.killed;
           },
           tt,
@@ -153,9 +164,19 @@ plugs begun plugged g at few = record {
       wants = record { next = ap (λ n. n + 1) (sym at.links); few = omega (arith, at.links, few); spelled = serials plugged few };
       reads = tt;
       bytes = both_bytes (117 ∷ []) (serial_of (plugged + 1)) (literal_bytes (117 ∷ []) refl) (serial_short (plugged + 1) (omega (arith, few))).bytes;
+      size = omega (arith, (serial_short (plugged + 1) (omega (arith, few))).size);
       killed = at.killed;
     },
-    (record { wants = (omega arith, omega (arith, at.links)); reads = tt; bytes = greeting_short.bytes; killed = at.killed }, tt),
+    (
+      record {
+        wants = (omega arith, omega (arith, at.links));
+        reads = tt;
+        bytes = greeting_short.bytes;
+        size = omega (arith, greeting_short.size);
+        killed = at.killed;
+      },
+      tt,
+    ),
   );
   stands = stand.received begun (plugged + 1) _ (stand.attached begun plugged g at (plugged + 1) Usb (serial_of (plugged + 1))) (plugged + 1) greeting;
 }
@@ -176,35 +197,37 @@ module _ (g : History) (p : Progress) (way : IsUnderWay p) (at : Stands p.begun 
   from_all : all_devices ≤ p.plugged → (begun : ℕ) (inputs : List Entry) → Arrives begun all_devices inputs g → Arrives begun p.plugged inputs g
   from_all few begun inputs come = subst (λ n. Arrives begun n inputs g) (all_plugged few) come
 
-  moves : (live : Live) → live.number < p.begun → all_devices ≤ p.plugged → (word : ℕ)
+  moves : (live : Live) → IsBegun p.begun live → all_devices ≤ p.plugged → (word : ℕ)
       → Arrives p.begun p.plugged (entries_of (acts_from (moved word live).act)) g
   moves live own few word = from_all few p.begun (entries_of (acts_from (moved word live).act))
       (by_moved (λ act after. Arrives p.begun all_devices (entries_of (acts_from act)) g) word live (record {
-        up = λ count some most. writes p.begun g (all_at few) live.number own (up_bytes live.number (up_size live.number - live.up) count)
-            (device_packet Okay live.number []) (cycle_bytes live.number (up_size live.number - live.up) count) (bare_bytes Okay live.number);
-        down = λ count some most. down (is_set word 5) (down_size live.number - live.down) count;
+        up = λ count some most. writes p.begun g (all_at few) live.number own.number (up_bytes live.number (up_size live.number - live.up) count)
+            (device_packet Okay live.number []) (up_short live.number (up_size live.number - live.up) count (omega (arith, most, own.up)))
+            (bare_short Okay live.number);
+        down = λ count some most. down (is_set word 5) (down_size live.number - live.down) count (omega (arith, most, own.down));
         ends = λ up down. ends (is_set word 4);
       }))
     where
       packet : (from count : ℕ) → List ℕ
       packet from count = device_packet Wrte live.number (down_bytes live.number from count)
 
-      down : (split : Bool) (from count : ℕ)
+      down : (split : Bool) (from count : ℕ) → count ≤ down_size live.number
           → Arrives p.begun all_devices (entries_of (acts_from (Answer live.number from count (if split then Head else Whole)))) g
-      down true from count = says_twice p.begun g (all_at few) live.number (piece_of Head (packet from count)) (piece_of Tail (packet from count))
-          (front_bytes 11 (packet from count) (answer_bytes live.number from count)) (back_bytes 11 (packet from count) (answer_bytes live.number from count))
-      down false from count = says_last p.begun g (all_at few) live.number (packet from count) (answer_bytes live.number from count)
+      down true from count small = let short = answer_short live.number from count small in
+          says_twice p.begun g (all_at few) live.number (piece_of Head (packet from count)) (piece_of Tail (packet from count))
+          (piece_short Head (packet from count) short) (piece_short Tail (packet from count) short)
+      down false from count small = says_last p.begun g (all_at few) live.number (packet from count) (answer_short live.number from count small)
 
       ends : (closes : Bool) → Arrives p.begun all_devices (entries_of (acts_from (if closes then Close live.number else Leave live.number))) g
-      ends true = says_last p.begun g (all_at few) live.number (device_packet Clse live.number []) (bare_bytes Clse live.number)
-      ends false = leaves p.begun g (all_at few) live.number own
+      ends true = says_last p.begun g (all_at few) live.number (device_packet Clse live.number []) (bare_short Clse live.number)
+      ends false = leaves p.begun g (all_at few) live.number own.number
 
   turn_arrives : ArriveBy (turn p).after (turn p).act g
   turn_arrives = by_turn (λ t. ArriveBy t.after t.act g) p (record {
     plugs = λ some. plugs p.begun p.plugged g at some;
     begins = λ few room left. from_all few (p.begun + 1) _ (comes p.begun g (all_at few));
     over = λ few empty left. nothing p.begun p.plugged g at;
-    moves = λ few words word place live is. moves live (live_begun p way place live is).number few word;
+    moves = λ few words word place live is. moves live (live_begun p way place live is) few word;
   })
 
 -- What was done so far may have come, and this stands now.

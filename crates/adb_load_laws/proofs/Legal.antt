@@ -188,7 +188,7 @@ brings h g legal same (Put c bytes) wants reads are = absurd wants
 brings h g legal same (Send t bytes) wants reads are = absurd wants
 
 -- its number is small where few come
-in_range : (g : History) (e : Entry) → Wants g e → AreBytes (data_of e) → IsFew (e ∷ g) → IsInRange e
+pub in_range : (g : History) (e : Entry) → Wants g e → AreBytes (data_of e) → IsFew (e ∷ g) → IsInRange e
 in_range g (Join c) wants are few = record { owner = omega (arith, wants, few.clients); port = tt; bytes = are }
 in_range g (Read c bytes) wants are few = record { owner = omega (arith, wants.1, few.clients); port = tt; bytes = are }
 in_range g (End c Eof) wants are few = record { owner = omega (arith, wants.1, few.clients); port = tt; bytes = are }
@@ -222,32 +222,31 @@ few_before (Detach t cause) g few = record { clients = few.clients; links = few.
 few_before (Put c bytes) g few = record { clients = few.clients; links = few.links }
 few_before (Send t bytes) g few = record { clients = few.clients; links = few.links }
 
-few_first : (inputs : List Entry) (g : History) → IsFew (came_onto inputs g) → IsFew g
+pub few_first : (inputs : List Entry) (g : History) → IsFew (came_onto inputs g) → IsFew g
 few_first [] g few = few
 few_first (e ∷ inputs) g few = few_before e g (few_first inputs (e ∷ g) few)
+
+-- after all that is handed out behind it
+pub after_same : (h g : History) (e : Entry) → SameCame h g → SameCame (drained_after h e) (e ∷ g)
+after_same h g e same = drain_same (owed (state (e ∷ h))) (e ∷ h) (e ∷ g) (same_on e h g same)
+
+pub after_fine : (h g : History) (e : Entry) → SameCame h g → IsFine h → MayCome g e → IsFew (e ∷ g) → IsFine (drained_after h e)
+after_fine h g e same fine may few =
+    drain_fine (owed (state (e ∷ h))) (e ∷ h) (e ∷ g) (same_on e h g same) few (fine_on h g e same fine may few)
 
 drained_fine : (inputs : List Entry) (h g : History) → SameCame h g → AllMayCome inputs g → IsFew (came_onto inputs g) → IsFine h
     → IsFine (drained_from h inputs)
 drained_fine [] h g same may few fine = fine
-drained_fine (e ∷ inputs) h g same may few fine =
-    drained_fine inputs (drained_after h e) (e ∷ g) (drain_same all (e ∷ h) (e ∷ g) now) may.1 few (drain_fine all (e ∷ h) (e ∷ g) now first
-    (fine_on h g e same fine may.0 first))
-  where
-    all : ℕ
-    all = owed (state (e ∷ h))
+drained_fine (e ∷ inputs) h g same may few fine = drained_fine inputs (drained_after h e) (e ∷ g) (after_same h g e same) may.1 few
+    (after_fine h g e same fine may.0 (few_first inputs (e ∷ g) few))
 
-    now : SameCame (e ∷ h) (e ∷ g)
-    now = same_on e h g same
-
-    first : IsFew (e ∷ g)
-    first = few_first inputs (e ∷ g) few
+-- nothing came yet
+pub fine_at_first : IsFine []
+fine_at_first = record { legal = tt; texts = record { clients = λ c. tt; links = λ t. tt } }
 
 -- Entries each of which may come make a legal history, with all that is handed out after each.
 pub drained_legal : (inputs : List Entry) → AllMayCome inputs [] → IsFew (came_onto inputs []) → IsLegal (drained_from [] inputs)
-drained_legal inputs may few = (drained_fine inputs [] [] (same_refl []) may few (record {
-  legal = tt;
-  texts = record { clients = λ c. tt; links = λ t. tt };
-})).legal
+drained_legal inputs may few = (drained_fine inputs [] [] (same_refl []) may few fine_at_first).legal
 
 -- ---- a load
 -- as many streams are to begin however many turns went
@@ -256,7 +255,7 @@ unfolding after_turns
 after_streams zero p = refl
 after_streams (suc turns) p = after_streams turns (turn p).after ∙ turn_streams p
 
-load_few : (seed streams : ℕ) → streams < 2 ^ 32 → IsFew (came_onto (load seed streams) [])
+pub load_few : (seed streams : ℕ) → streams < 2 ^ 32 → IsFew (came_onto (load seed streams) [])
 unfolding acts_ahead
 load_few seed streams few = record {
   clients = omega (arith, done.stands.came, done.way.begun, after_streams turns (start seed streams), few);

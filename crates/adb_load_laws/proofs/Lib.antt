@@ -20,3 +20,4 @@ pub mod TextRules
 pub mod TextSteps
 pub mod AskTexts
 pub mod Legal
+pub mod Replays

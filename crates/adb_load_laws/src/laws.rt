@@ -1,7 +1,10 @@
 //! What holds of every load, entry after entry, with all that is due handed out after each.
 
-ghost use Rattle.std.specs.Prelude.{◌≡◌, ◌<◌, ◌^◌, ◌∷◌, ◌++◌, ℕ, List, []};
+ghost use Rattle.std.specs.Prelude.{◌≡◌, ◌<◌, ◌≤◌, ◌^◌, ◌∷◌, ◌++◌, ℕ, List, [], length, None};
 ghost use Rattle.adb_capture.specs.declared.entry.Entry.{Entry};
+ghost use Rattle.adb_capture.specs.declared.limits.TheConstants.{CAPTURE_LIMIT};
+ghost use Rattle.adb_capture.specs.Records.{magic, records_of};
+ghost use Rattle.adb_history.specs.Accepted.{accepted};
 ghost use Rattle.adb_history.specs.Drained.{drained_from};
 ghost use Rattle.adb_history.specs.Machine.{IsLegal};
 ghost use Rattle.adb_load.specs.Load.{load};
@@ -22,6 +25,14 @@ pub fn loads_are_legal()
         → IsLegal (drained_from [] (load seed streams)) }
     ensures fronts { (seed streams : ℕ) (front rest : List Entry) → streams < 2 ^ 32
         → load seed streams ≡ front ++ rest → IsLegal (drained_from [] front) }
+{}
+
+/// The capture of a load is read to its end by whoever replays it: each of its records gives an
+/// entry that comes, and none is refused. A capture has at most `CAPTURE_LIMIT` bytes.
+pub fn captures_of_loads_are_accepted()
+    ensures { (seed streams : ℕ) → streams < 2 ^ 32
+        → let capture = magic ++ records_of (load seed streams) in length capture ≤ CAPTURE_LIMIT
+        → accepted capture ≡ record { inputs = load seed streams; refused = None } }
 {}
 
 /// What is put to the clients of a load past the two replies that lead it is what their devices
