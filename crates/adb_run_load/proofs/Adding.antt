@@ -1,5 +1,5 @@
 -- A history is counted, entry by entry.
-use Rattle.std.proofs.Common.{ℕ, ◌+◌, ◌≡◌, ◌∷◌, length, sym, ◌∙◌, ap, arith, suc}
+use Rattle.std.proofs.Common.{ℕ, ◌+◌, ◌≡◌, ◌∷◌, length, ◌∙◌, ap, arith, suc}
 use Rattle.adb_capture.specs.declared.entry.Entry.{Entry}
 use Rattle.adb_history.specs.Machine.{History, IsLegal}
 use Rattle.adb_run_load.specs.Totals.{told}

@@ -1,8 +1,8 @@
 -- Who is handed something came before.
-use Rattle.std.proofs.Common.{ℕ, ◌+◌, ◌≡◌, ◌≢◌, ◌≤◌, ◌<◌, ◌⊎◌, inl, inr, Bool, true, false, leb, List, [], ◌∷◌, Option, Some, None, refl, sym, ◌∙◌, ap, subst, arith, zero, suc}
+use Rattle.std.proofs.Common.{ℕ, ◌≡◌, ◌≤◌, ◌<◌, ◌⊎◌, inl, inr, true, false, leb, List, ◌∷◌, Option, Some, None, refl, sym, ◌∙◌, subst, arith, zero, suc}
 use Rattle.std.proofs.lemmas.Bool.Decides.{leb_tells}
 use Rattle.adb_capture.specs.declared.entry.Entry.TheVariants.{Put, Send}
-use Rattle.adb_history.specs.Rows.{Client, Link, State}
+use Rattle.adb_history.specs.Rows.{Client, Link}
 use Rattle.adb_history.specs.Machine.{History, state, IsLegal, MayPut, MaySend}
 use Rattle.adb_history.specs.Orderly.{IsDrawnOnly}
 use Rattle.adb_history.specs.Book.{plugged_count}

@@ -1,12 +1,12 @@
 -- How far a load came.
-use Rattle.std.proofs.Common.{ℕ, ◌+◌, ◌≡◌, ◌<◌, true, false, cond, List, [], ◌∷◌, ◌++◌, length, map, Option, Some, None, Result, Ok, Err, refl, sym, ◌∙◌, ap, subst, arith, Bool}
+use Rattle.std.proofs.Common.{ℕ, ◌+◌, ◌≡◌, true, cond, List, [], ◌∷◌, ◌++◌, Option, Some, None, Result, Ok, Err, refl, sym, ◌∙◌, ap, subst, Bool}
 use Rattle.std.specs.Prelude.{OnErr}
 use Rattle.std.proofs.lemmas.List.{append_assoc, append-nil}
 use Rattle.adb_capture.specs.declared.entry.Entry.{Entry}
 use Rattle.adb_history.specs.Machine.{History, state, IsLegal}
-use Rattle.adb_history.specs.Accepted.{is_input, refusal_of}
+use Rattle.adb_history.specs.Accepted.{is_input}
 use Rattle.adb_history.specs.Kept.{Kept, IsLawful}
-use Rattle.adb_history.specs.Drained.{owed, drain_all, drained_after, drained_from, next_out}
+use Rattle.adb_history.specs.Drained.{owed, drain_all, drained_after, drained_from}
 use Rattle.adb_history.specs.Settling.{IsDrainedFrom}
 use Rattle.adb_load.specs.declared.act.Act.{Act}
 use Rattle.adb_load.specs.declared.act.Act.TheVariants.{Plug, Greet, Come, Ask, Accept, Write, Acknowledge, Answer, Leave, Close}
@@ -17,7 +17,7 @@ use Rattle.adb_load_laws.specs.Taken.{IsTaken}
 use Rattle.adb_machine.specs.Machine.{Applies, HandsNext}
 use Rattle.adb_machine.proofs.Adding.{drain_adds, drained_adds}
 use Rattle.adb_run_load.specs.Counted.{IsCount}
-use Rattle.adb_run_load.specs.Fronts.{HoldsFront, StandsForFront, Reaches, IsReady, IsCounted}
+use Rattle.adb_run_load.specs.Fronts.{HoldsFront, StandsForFront, IsReady}
 use Rattle.adb_run_load.specs.declared.count.Count.{Count}
 
 -- ---- answers

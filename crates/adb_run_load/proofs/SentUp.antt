@@ -1,5 +1,6 @@
 -- What went up is counted, entry by entry.
-use Rattle.std.proofs.Common.{ℕ, ◌+◌, ◌-◌, ◌≡◌, ◌≢◌, ◌≤◌, ◌<◌, ◌⊎◌, inl, inr, Bool, true, false, cond, eqb, List, [], ◌∷◌, ◌++◌, length, Option, Some, None, refl, sym, ◌∙◌, ap, subst, arith}
+use Rattle.std.proofs.Common.{ℕ, ◌+◌, ◌-◌, ◌≡◌, ◌≢◌, ◌≤◌, ◌<◌, ◌⊎◌, inl, inr, true, false, cond, eqb, List, [], ◌∷◌, ◌++◌}
+use Rattle.std.proofs.Common.{Option, Some, None, refl, sym, ◌∙◌, ap, subst, arith}
 use Rattle.std.proofs.lemmas.Bool.{eq-eqb, ne_eqb}
 use Rattle.std.proofs.lemmas.Bool.Decides.{eqb_tells}
 use Rattle.adb_outside.specs.Tables.{at}
@@ -14,7 +15,7 @@ use Rattle.adb_history.specs.Bytes.{bytes_sent, sent}
 use Rattle.adb_history.specs.Book.{plugged_count}
 use Rattle.adb_load_laws.specs.Totals.{sum_to, up_of, wrote_in}
 use Rattle.adb_run_load.specs.Totals.{told}
-use Rattle.adb_run_load.specs.Counted.{IsUp, AddsUp, HasRead, HasReadAt, HasBegun, Begins, Writes, WritesAt, Wrote, WroteOn}
+use Rattle.adb_run_load.specs.Counted.{IsUp, AddsUp, HasRead, HasReadAt, HasBegun, Writes, WritesAt, Wrote, WroteOn}
 use Rattle.adb_run_load.specs.declared.up.Up.{Up}
 use Rattle.adb_run_load.proofs.Sums.{told_both, sum_grown, sum_longer, wrote_append}
 use Rattle.adb_run_load.proofs.Drawn.{link_came}
@@ -112,10 +113,17 @@ up_added (Send t bytes) h old new legal u adds = sent_up h t bytes old new u (li
 up_added (Attach t kind serial) h old new legal u adds =
     subst (λ (x : Up). IsUp (Attach t kind serial ∷ h) x) (sym adds) (plugged_up h old u t kind serial)
 up_added (Join c) h old new legal u adds = subst (λ (x : Up). IsUp (Join c ∷ h) x) (sym adds) (record { total = u.total; links = u.links; later = u.later })
-up_added (Enter c port) h old new legal u adds = subst (λ (x : Up). IsUp (Enter c port ∷ h) x) (sym adds) (record { total = u.total; links = u.links; later = u.later })
-up_added (Put c bytes) h old new legal u adds = subst (λ (x : Up). IsUp (Put c bytes ∷ h) x) (sym adds) (record { total = u.total; links = u.links; later = u.later })
-up_added (Read c bytes) h old new legal u adds = subst (λ (x : Up). IsUp (Read c bytes ∷ h) x) (sym adds) (record { total = u.total; links = u.links; later = u.later })
-up_added (End c cause) h old new legal u adds = subst (λ (x : Up). IsUp (End c cause ∷ h) x) (sym adds) (record { total = u.total; links = u.links; later = u.later })
-up_added (Bound c port) h old new legal u adds = subst (λ (x : Up). IsUp (Bound c port ∷ h) x) (sym adds) (record { total = u.total; links = u.links; later = u.later })
-up_added (Recv t bytes) h old new legal u adds = subst (λ (x : Up). IsUp (Recv t bytes ∷ h) x) (sym adds) (record { total = u.total; links = u.links; later = u.later })
-up_added (Detach t cause) h old new legal u adds = subst (λ (x : Up). IsUp (Detach t cause ∷ h) x) (sym adds) (record { total = u.total; links = u.links; later = u.later })
+up_added (Enter c port) h old new legal u adds =
+    subst (λ (x : Up). IsUp (Enter c port ∷ h) x) (sym adds) (record { total = u.total; links = u.links; later = u.later })
+up_added (Put c bytes) h old new legal u adds =
+    subst (λ (x : Up). IsUp (Put c bytes ∷ h) x) (sym adds) (record { total = u.total; links = u.links; later = u.later })
+up_added (Read c bytes) h old new legal u adds =
+    subst (λ (x : Up). IsUp (Read c bytes ∷ h) x) (sym adds) (record { total = u.total; links = u.links; later = u.later })
+up_added (End c cause) h old new legal u adds =
+    subst (λ (x : Up). IsUp (End c cause ∷ h) x) (sym adds) (record { total = u.total; links = u.links; later = u.later })
+up_added (Bound c port) h old new legal u adds =
+    subst (λ (x : Up). IsUp (Bound c port ∷ h) x) (sym adds) (record { total = u.total; links = u.links; later = u.later })
+up_added (Recv t bytes) h old new legal u adds =
+    subst (λ (x : Up). IsUp (Recv t bytes ∷ h) x) (sym adds) (record { total = u.total; links = u.links; later = u.later })
+up_added (Detach t cause) h old new legal u adds =
+    subst (λ (x : Up). IsUp (Detach t cause ∷ h) x) (sym adds) (record { total = u.total; links = u.links; later = u.later })

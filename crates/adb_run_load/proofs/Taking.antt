@@ -1,5 +1,5 @@
 -- The packets of a deframer are taken, one after another.
-use Rattle.std.proofs.Common.{ℕ, ◌+◌, ◌≡◌, Bool, true, false, cond, List, [], ◌∷◌, ◌++◌, length, Option, Some, None, refl, sym, ◌∙◌, ap, subst, arith}
+use Rattle.std.proofs.Common.{ℕ, ◌+◌, ◌≡◌, Bool, true, false, cond, List, [], ◌∷◌, ◌++◌, length, Some, refl, sym, ◌∙◌, ap, subst, arith}
 use Rattle.std.proofs.lemmas.List.{append_assoc, append-nil}
 use Rattle.adb_wire.specs.Deframing.{Deframing, StandsFor, Gives}
 use Rattle.adb_wire.specs.declared.packets.Packet.{Packet}
@@ -43,7 +43,8 @@ module _ {old now : Deframing} {total : ℕ} (t : Taking old now total) where
         are = t.are ∙ (ap (λ (ps : List Packet). t.taken ++ ps) first ∙ sym (append_assoc t.taken (p ∷ []) new.given));
         counted = is ∙ (ap (λ n. told (n + size)) t.counted ∙ (told_more (wrote_in t.taken) size ∙ ap told (sym whole)));
         stands = λ fed before s.
-            subst (λ (ps : List Packet). StandsFor fed ps new) (append_assoc before t.taken (p ∷ [])) (g.stands fed (before ++ t.taken) (t.stands fed before s));
+            subst (λ (ps : List Packet). StandsFor fed ps new) (append_assoc before t.taken (p ∷ []))
+            (g.stands fed (before ++ t.taken) (t.stands fed before s));
       }
 
   pub taken_all : now.given ≡ [] → old.given ≡ t.taken

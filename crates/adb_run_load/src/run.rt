@@ -1,6 +1,6 @@
 //! Running a load.
 
-ghost use Rattle.std.specs.Prelude.{◌≡◌, ◌<◌, ◌≤◌, ◌∷◌, [], IfOk, OnOk, OnErr};
+ghost use Rattle.std.specs.Prelude.{◌<◌, ◌≤◌, ◌∷◌, [], IfOk, OnOk, OnErr};
 ghost use Rattle.adb_capture.specs.Records.{HasRecord};
 ghost use Rattle.adb_history.specs.Drained.{drain_all, drained_after};
 ghost use Rattle.adb_history.specs.Kept.{IsLawful};

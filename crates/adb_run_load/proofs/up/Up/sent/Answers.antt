@@ -1,4 +1,4 @@
-use Rattle.std.proofs.Common.{◌≡◌, refl, ◌∙◌}
+use Rattle.std.proofs.Common.{refl, ◌∙◌}
 use Rattle.adb_outside.specs.Tables.{at}
 use Rattle.adb_run_load.proofs.SentUp.{wrote_on}
 use Rattle.adb_run_load.proofs.up.Up.sent.Goals as goal
