@@ -1,5 +1,5 @@
 -- What a capture gives, record by record.
-use Rattle.std.proofs.Common.{ℕ, ◌≡◌, Bool, true, false, List, [], ◌∷◌, ◌++◌, take, drop, Option, Some, None, refl, sym, ◌∙◌, ap, zero, suc}
+use Rattle.std.proofs.Common.{ℕ, ◌≡◌, Bool, true, false, List, [], take, drop, Option, None, refl, ◌∙◌, ap}
 use Rattle.adb_outside.specs.declared.framer.Front.{Front}
 use Rattle.adb_outside.specs.declared.framer.Front.TheVariants.{More, Bad, Whole}
 use Rattle.adb_outside.specs.Framing.{Cut, cut, cut_by}
@@ -10,7 +10,6 @@ use Rattle.adb_capture.specs.declared.entry.Entry.{Entry}
 use Rattle.adb_capture.specs.Faults.{error_of}
 use Rattle.adb_capture.specs.declared.error.FormFault.{FormFault}
 use Rattle.adb_history.specs.Machine.{History, state}
-use Rattle.adb_history.specs.Drained.{drained_after}
 use Rattle.adb_history.specs.Refusal.{refusal_by}
 use Rattle.adb_history.specs.declared.refusal.Refusal.{Refusal}
 use Rattle.adb_history.specs.Accepted.{Accepted, refusal_of, is_input, ends_with, accept_by, unless_stopped, accept_from, accept_cut, accept_records, end_of}

@@ -73,6 +73,12 @@ const READ_FAULT: &[u8] = b"adbhub: read fault\n";
 
 const WRITE_FAULT: &[u8] = b"adbhub: write fault\n";
 
+/// The capture of most cases: a client asks for the version.
+const ASKED: &[&[u8]] = &[MAGIC, JOIN, ASK];
+
+/// Its history.
+const ANSWERED: &[&[u8]] = &[MAGIC, JOIN, ASK, ANSWER];
+
 /// A run over a capture and so many clients more that join, at which calls its source, its sink and
 /// its note fail, and how it ends: how many bytes of the history go out, to which the joins belong.
 #[derive(Drop)]
@@ -90,82 +96,210 @@ struct Case {
     note: &'static [u8],
 }
 
-/// A client asks for the version, and nothing fails.
-const REPLAY: Case = Case {
-    words: &["replay"],
-    capture: &[MAGIC, JOIN, ASK],
-    history: &[MAGIC, JOIN, ASK, ANSWER],
-    joins: 0,
-    reads: &[],
-    writes: &[],
-    notes: &[],
-    status: Status::Done,
-    code: 0,
-    written: 63,
-    note: b"",
-};
-
-const NO_COMMAND: Case = Case {
-    words: &[],
-    status: Status::Usage,
-    code: 2,
-    written: 0,
-    note: USAGE,
-    ..REPLAY
-};
-
-const WHOLE_SHELL: Case = Case {
-    capture: &[MAGIC, ATTACH, CONNECT, JOIN, SHELL, WHOLE],
-    history: &[
-        MAGIC, ATTACH, GREETING, CONNECT, JOIN, SHELL, OPEN, CHOSEN, WHOLE, HANDED,
-    ],
-    written: 330,
-    ..REPLAY
-};
-
-const FORWARD_ENTERED: Case = Case {
-    capture: &[MAGIC, ATTACH, CONNECT, JOIN, FORWARD, BOUND, ENTER],
-    history: &[
-        MAGIC, ATTACH, GREETING, CONNECT, JOIN, FORWARD, BOUND, FORWARDED, ENTER, CARRIED,
-    ],
-    written: 253,
-    ..REPLAY
-};
-
-/// What follows the kill is no capture, and is not read.
-const KILLED: Case = Case {
-    capture: &[MAGIC, JOIN, KILL, MAGIC],
-    history: &[MAGIC, JOIN, KILL, STOPPED],
-    written: 52,
-    ..REPLAY
-};
-
-/// The first client joins twice.
-const JOINED_TWICE: Case = Case {
-    capture: &[MAGIC, JOIN, ASK, JOIN],
-    status: Status::BadCapture,
-    code: 5,
-    note: b"adbhub: bad capture at byte 42: number not drawn\n",
-    ..REPLAY
-};
-
-const FAILING_SOURCE: Case = Case {
-    reads: &[2],
-    status: Status::ReadFault,
-    code: 3,
-    written: 0,
-    note: READ_FAULT,
-    ..REPLAY
-};
-
-const FAILING_SINK: Case = Case {
-    writes: &[1],
-    status: Status::WriteFault,
-    code: 4,
-    written: 0,
-    note: WRITE_FAULT,
-    ..REPLAY
-};
+const CASES: &[Case] = &[
+    Case {
+        words: &["replay"],
+        capture: ASKED,
+        history: ANSWERED,
+        joins: 0,
+        reads: &[],
+        writes: &[],
+        notes: &[],
+        status: Status::Done,
+        code: 0,
+        written: 63,
+        note: b"",
+    },
+    Case {
+        words: &["replay"],
+        capture: &[MAGIC, ATTACH, CONNECT, JOIN, SHELL, WHOLE],
+        history: &[
+            MAGIC, ATTACH, GREETING, CONNECT, JOIN, SHELL, OPEN, CHOSEN, WHOLE, HANDED,
+        ],
+        joins: 0,
+        reads: &[],
+        writes: &[],
+        notes: &[],
+        status: Status::Done,
+        code: 0,
+        written: 330,
+        note: b"",
+    },
+    Case {
+        words: &["replay"],
+        capture: &[MAGIC, ATTACH, CONNECT, JOIN, FORWARD, BOUND, ENTER],
+        history: &[
+            MAGIC, ATTACH, GREETING, CONNECT, JOIN, FORWARD, BOUND, FORWARDED, ENTER, CARRIED,
+        ],
+        joins: 0,
+        reads: &[],
+        writes: &[],
+        notes: &[],
+        status: Status::Done,
+        code: 0,
+        written: 253,
+        note: b"",
+    },
+    // What follows the kill is no capture, and is not read.
+    Case {
+        words: &["replay"],
+        capture: &[MAGIC, JOIN, KILL, MAGIC],
+        history: &[MAGIC, JOIN, KILL, STOPPED],
+        joins: 0,
+        reads: &[],
+        writes: &[],
+        notes: &[],
+        status: Status::Done,
+        code: 0,
+        written: 52,
+        note: b"",
+    },
+    // The first client joins twice.
+    Case {
+        words: &["replay"],
+        capture: &[MAGIC, JOIN, ASK, JOIN],
+        history: ANSWERED,
+        joins: 0,
+        reads: &[],
+        writes: &[],
+        notes: &[],
+        status: Status::BadCapture,
+        code: 5,
+        written: 63,
+        note: b"adbhub: bad capture at byte 42: number not drawn\n",
+    },
+    Case {
+        words: &[],
+        capture: ASKED,
+        history: ANSWERED,
+        joins: 0,
+        reads: &[],
+        writes: &[],
+        notes: &[],
+        status: Status::Usage,
+        code: 2,
+        written: 0,
+        note: USAGE,
+    },
+    Case {
+        words: &["replay", "x"],
+        capture: ASKED,
+        history: ANSWERED,
+        joins: 0,
+        reads: &[],
+        writes: &[],
+        notes: &[],
+        status: Status::Usage,
+        code: 2,
+        written: 0,
+        note: USAGE,
+    },
+    Case {
+        words: &["replay"],
+        capture: ASKED,
+        history: ANSWERED,
+        joins: 0,
+        reads: &[2],
+        writes: &[],
+        notes: &[],
+        status: Status::ReadFault,
+        code: 3,
+        written: 0,
+        note: READ_FAULT,
+    },
+    Case {
+        words: &["replay"],
+        capture: ASKED,
+        history: ANSWERED,
+        joins: 0,
+        reads: &[5],
+        writes: &[],
+        notes: &[],
+        status: Status::ReadFault,
+        code: 3,
+        written: 17,
+        note: READ_FAULT,
+    },
+    Case {
+        words: &["replay"],
+        capture: ASKED,
+        history: ANSWERED,
+        joins: 0,
+        reads: &[],
+        writes: &[1],
+        notes: &[],
+        status: Status::WriteFault,
+        code: 4,
+        written: 0,
+        note: WRITE_FAULT,
+    },
+    // The first piece has the records up to the one that makes it 65,536 bytes.
+    Case {
+        words: &["replay"],
+        capture: ASKED,
+        history: ANSWERED,
+        joins: 8_000,
+        reads: &[],
+        writes: &[2],
+        notes: &[],
+        status: Status::WriteFault,
+        code: 4,
+        written: 65_538,
+        note: WRITE_FAULT,
+    },
+    Case {
+        words: &["replay"],
+        capture: ASKED,
+        history: ANSWERED,
+        joins: 0,
+        reads: &[],
+        writes: &[1],
+        notes: &[1],
+        status: Status::WriteFault,
+        code: 4,
+        written: 0,
+        note: b"",
+    },
+    Case {
+        words: &[],
+        capture: ASKED,
+        history: ANSWERED,
+        joins: 0,
+        reads: &[],
+        writes: &[],
+        notes: &[1],
+        status: Status::WriteFault,
+        code: 4,
+        written: 0,
+        note: WRITE_FAULT,
+    },
+    Case {
+        words: &["replay"],
+        capture: ASKED,
+        history: ANSWERED,
+        joins: 0,
+        reads: &[2],
+        writes: &[],
+        notes: &[1],
+        status: Status::WriteFault,
+        code: 4,
+        written: 0,
+        note: WRITE_FAULT,
+    },
+    Case {
+        words: &["replay"],
+        capture: ASKED,
+        history: ANSWERED,
+        joins: 0,
+        reads: &[2],
+        writes: &[],
+        notes: &[1, 2],
+        status: Status::WriteFault,
+        code: 4,
+        written: 0,
+        note: b"",
+    },
+];
 
 fn words_of(alloc: Global, words: &[&str]) -> Result<Vec<String>, AllocError> {
     let mut owned = Vec::new(alloc);
@@ -207,57 +341,7 @@ fn ends(rt: &impl Abort, alloc: Global, case: &Case) -> Result<(), Fail> {
 
 #[test]
 fn replays_wrong_words_and_failing_streams(rt: HostRuntime) -> Result<(), Fail> {
-    let cases = [
-        REPLAY,
-        WHOLE_SHELL,
-        FORWARD_ENTERED,
-        KILLED,
-        JOINED_TWICE,
-        NO_COMMAND,
-        Case {
-            words: &["replay", "x"],
-            ..NO_COMMAND
-        },
-        FAILING_SOURCE,
-        Case {
-            reads: &[5],
-            written: 17,
-            ..FAILING_SOURCE
-        },
-        FAILING_SINK,
-        // The first piece has the records up to the one that makes it 65,536 bytes.
-        Case {
-            joins: 8_000,
-            writes: &[2],
-            written: 65_538,
-            ..FAILING_SINK
-        },
-        Case {
-            notes: &[1],
-            note: b"",
-            ..FAILING_SINK
-        },
-        Case {
-            words: &[],
-            writes: &[],
-            notes: &[1],
-            ..FAILING_SINK
-        },
-        Case {
-            reads: &[2],
-            writes: &[],
-            notes: &[1],
-            ..FAILING_SINK
-        },
-        Case {
-            reads: &[2],
-            writes: &[],
-            notes: &[1, 2],
-            note: b"",
-            ..FAILING_SINK
-        },
-    ];
-    for case in &cases {
+    for case in CASES {
         ends(&rt, rt.alloc(), case)?;
     }
     Ok(())

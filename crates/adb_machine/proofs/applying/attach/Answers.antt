@@ -1,7 +1,7 @@
 use Rattle.std.proofs.Common.{ℕ, ◌+◌, ◌≡◌, false, Result, sym, ◌∙◌, ap, subst}
 use Rattle.std.proofs.lemmas.Bool.{eqb-true}
 use Rattle.adb_capture.specs.declared.entry.Entry.TheVariants.{Attach}
-use Rattle.adb_history.specs.Kept.{Kept, IsLawful}
+use Rattle.adb_history.specs.Kept.{Kept}
 use Rattle.adb_history.specs.Machine.{state}
 use Rattle.adb_machine.specs.declared.refused.Refused.{Refused}
 use Rattle.adb_machine.specs.Machine.{Applies}

@@ -1,0 +1,58 @@
+-- The packets of a deframer are taken, one after another.
+use Rattle.std.proofs.Common.{ℕ, ◌+◌, ◌≡◌, Bool, true, false, cond, List, [], ◌∷◌, ◌++◌, length, Some, refl, sym, ◌∙◌, ap, subst, arith}
+use Rattle.std.proofs.lemmas.List.{append_assoc, append-nil}
+use Rattle.adb_wire.specs.Deframing.{Deframing, StandsFor, Gives}
+use Rattle.adb_wire.specs.declared.packets.Packet.{Packet}
+use Rattle.adb_history.specs.Births.{is_wrte}
+use Rattle.adb_load_laws.specs.Totals.{wrote_in}
+use Rattle.adb_run_load.specs.Totals.{told}
+use Rattle.adb_run_load.proofs.Sums.{told_more, wrote_append}
+
+-- These were taken so far.
+pub record Taking (old now : Deframing) (total : ℕ) : Type 0 where
+  pub taken : List Packet
+  pub are : old.given ≡ taken ++ now.given
+  pub counted : total ≡ told (wrote_in taken)
+  pub stands : (fed : List ℕ) (before : List Packet) → StandsFor fed before old → StandsFor fed (before ++ taken) now
+
+pub taking_first : (old : Deframing) → Taking old old 0
+taking_first old = record {
+  taken = [];
+  are = refl;
+  counted = refl;
+  stands = λ fed before s. subst (λ (ps : List Packet). StandsFor fed ps old) (sym (append-nil before)) s;
+}
+
+wrote_one : (p : Packet) → wrote_in (p ∷ []) ≡ cond (is_wrte p.command) (length p.payload) 0
+wrote_one p = go (is_wrte p.command)
+  where
+    go : (b : Bool) → cond b (length p.payload + 0) 0 ≡ cond b (length p.payload) 0
+    go true = omega arith
+    go false = refl
+
+module _ {old now : Deframing} {total : ℕ} (t : Taking old now total) where
+  pub taking_on : (new : Deframing) (p : Packet) (next : ℕ) → Gives now new (Some p) → next ≡ told (total + cond (is_wrte p.command) (length p.payload) 0)
+      → Taking old new next
+  taking_on new p next g is =
+      let first : now.given ≡ p ∷ new.given = ap (λ (d : Deframing). d.given) g.some in
+      let size = cond (is_wrte p.command) (length p.payload) 0 in
+      let whole : wrote_in (t.taken ++ p ∷ []) ≡ wrote_in t.taken + size =
+      wrote_append t.taken (p ∷ []) ∙ ap (λ n. wrote_in t.taken + n) (wrote_one p) in
+      record {
+        taken = t.taken ++ p ∷ [];
+        are = t.are ∙ (ap (λ (ps : List Packet). t.taken ++ ps) first ∙ sym (append_assoc t.taken (p ∷ []) new.given));
+        counted = is ∙ (ap (λ n. told (n + size)) t.counted ∙ (told_more (wrote_in t.taken) size ∙ ap told (sym whole)));
+        stands = λ fed before s.
+            subst (λ (ps : List Packet). StandsFor fed ps new) (append_assoc before t.taken (p ∷ []))
+            (g.stands fed (before ++ t.taken) (t.stands fed before s));
+      }
+
+  pub taken_all : now.given ≡ [] → old.given ≡ t.taken
+  taken_all none = t.are ∙ (ap (λ (ps : List Packet). t.taken ++ ps) none ∙ append-nil t.taken)
+
+  pub taking_counted : now.given ≡ [] → total ≡ told (wrote_in old.given)
+  taking_counted none = t.counted ∙ ap (λ (ps : List Packet). told (wrote_in ps)) (sym (taken_all none))
+
+  pub taking_stands : now.given ≡ [] → (fed : List ℕ) (before : List Packet) → StandsFor fed before old → StandsFor fed (before ++ old.given) now
+  taking_stands none fed before s =
+      subst (λ (ps : List Packet). StandsFor fed (before ++ ps) now) (sym (taken_all none)) (t.stands fed before s)

@@ -1,0 +1,87 @@
+//! Counting what goes up the streams.
+
+ghost use Rattle.std.specs.Prelude.{◌≡◌, ◌≢◌, ℕ, [], IfOk, OnOk};
+ghost use Rattle.adb_outside.specs.Tables.{at};
+ghost use Rattle.adb_run_load.specs.Counted.{AddsUp, Begins, IsUp, Writes, WritesAt};
+
+use crate::writes::written;
+use adb_capture::Entry;
+use adb_wire::Deframer;
+use std::alloc::{AllocError, Global};
+use std::collections::BTreeMap;
+
+/// The payload bytes of the writes that were sent to links, and what is held of each link that was
+/// sent to: the bytes past its last whole packet.
+#[derive(Drop)]
+pub(crate) struct Up {
+    pub alloc: Global,
+    pub total: u64,
+    pub links: BTreeMap<u32, Deframer>,
+}
+
+impl Up {
+    /// Nothing was sent yet.
+    pub(crate) fn new(alloc: Global) -> Up
+        ensures { IsUp [] result }
+    {
+        Up {
+            alloc,
+            total: 0,
+            links: BTreeMap::new(alloc),
+        }
+    }
+
+    /// Counts the next entry.
+    pub(crate) fn add(&mut self, entry: &Entry) -> Result<(), AllocError>
+        ensures { OnOk result (AddsUp entry.now self.old self.new) }
+    {
+        match entry {
+            Entry::Send { link, bytes } => self.sent(*link, bytes.as_slice()),
+            Entry::Join { .. }
+            | Entry::Enter { .. }
+            | Entry::Read { .. }
+            | Entry::End { .. }
+            | Entry::Bound { .. }
+            | Entry::Attach { .. }
+            | Entry::Recv { .. }
+            | Entry::Detach { .. }
+            | Entry::Put { .. } => Ok(()),
+        }
+    }
+
+    /// Counts what was sent to a link.
+    fn sent(&mut self, link: u32, bytes: &[u8]) -> Result<(), AllocError>
+        ensures { OnOk result (Writes link bytes.now self.old self.new) }
+    {
+        begin(&mut self.links, self.alloc, link)?;
+        let written = written_on(&mut self.links, link, bytes)?;
+        self.total = self.total.saturating_add(written);
+        Ok(())
+    }
+}
+
+/// A link that was not sent to before has a deframer too.
+fn begin(links: &mut BTreeMap<u32, Deframer>, alloc: Global, link: u32) -> Result<(), AllocError>
+    ensures { OnOk result (Begins link links.old.entries links.new.entries) }
+{
+    if !links.contains_key(&link) {
+        links.insert(link, Deframer::new(alloc))?;
+    }
+    Ok(())
+}
+
+/// How many bytes the writes have that became whole on a link.
+fn written_on(
+    links: &mut BTreeMap<u32, Deframer>,
+    link: u32,
+    bytes: &[u8],
+) -> Result<u64, AllocError>
+    ensures here { IfOk result (λ written. WritesAt bytes.now written
+        (at link links.old.entries) (at link links.new.entries)) }
+    ensures others { (t : ℕ) → t ≢ link → at t links.new.entries ≡ at t links.old.entries }
+{
+    match links.get_mut(&link) {
+        Some(cutter) => written(cutter, bytes),
+        None => Ok(0),
+    }
+}
