@@ -201,7 +201,10 @@ fn places_and_states(rt: HostRuntime) -> Result<(), Fail> {
     SilentBell::new().ring();
     for &(state, text, is_named) in STATES {
         assert!(rt; state_text(state) == text, "{state:?}");
-        assert!(rt; (state_by(rt.alloc(), text)? == state) == is_named, "{state:?}");
+        assert!(rt;
+            (state_by(rt.alloc(), text)? == state) == is_named,
+            "{state:?}"
+        );
     }
     Ok(())
 }

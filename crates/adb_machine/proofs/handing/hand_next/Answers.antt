@@ -14,7 +14,7 @@ returns-in-Some-Link-clause-fewer c =
     c.in-Some-Link.field-0-is c.in-Some-Link.ensures.entry in
     fewer_sent c.draining_ends.ensures c.args.hub.now c.send.new.hub c.requires c.in-Some-Link.link entry c.send.result
     (subst (λ (k : Kept). IfOk c.send.result (λ out. (h : History) → IsLawful k h → Sends c.in-Some-Link.link h out k c.send.new.hub))
-        c.next_due.ensures.same c.send.ensures.sent)
+    c.next_due.ensures.same c.send.ensures.sent)
 
 pub returns-in-Some-Client-clause-fewer : goal.returns-in-Some-Client-clause-fewer
 returns-in-Some-Client-clause-fewer c =
@@ -22,4 +22,4 @@ returns-in-Some-Client-clause-fewer c =
     c.in-Some-Client.field-0-is c.in-Some-Client.ensures.entry in
     fewer_put c.draining_ends.ensures c.args.hub.now c.put.new.hub c.requires c.in-Some-Client.client entry c.put.result
     (subst (λ (k : Kept). IfOk c.put.result (λ out. (h : History) → IsLawful k h → Puts c.in-Some-Client.client h out k c.put.new.hub))
-        c.next_due.ensures.same c.put.ensures.put)
+    c.next_due.ensures.same c.put.ensures.put)

@@ -13,5 +13,5 @@ pub returns-clause-writes : goal.returns-clause-writes
 returns-clause-writes g c = λ had has.
     part_out _ c.as_slice.result.now had c.in-Failed.taken _
     (c.as_slice.ensures ∙ (c.in_ok-lines.ensures.lines ∙ ap (λ (t : Totals). lines_of c.args.streams t)
-        (c.in_ok-totals.ensures.done.told ∙ ap (λ (n : ℕ). totals_of (made c.args.seed n)) c.from.ensures)))
+    (c.in_ok-totals.ensures.done.told ∙ ap (λ (n : ℕ). totals_of (made c.args.seed n)) c.from.ensures)))
     (c.in-Failed.ensures.told had has)
