@@ -5,22 +5,6 @@ use adb_outside::Text;
 use std::alloc::{AllocError, Global};
 use std::test::Fail;
 
-/// What a service answers to a stream that comes in pieces of `size`.
-fn answer_of(
-    alloc: Global,
-    files: &mut Files,
-    asked: &[u8],
-    size: usize,
-) -> Result<(Text, bool), AllocError> {
-    let mut service = SyncService::new(alloc);
-    let mut answer = Text::new(alloc);
-    for piece in asked.chunks(size.max(1)) {
-        service.feed(files, piece)?;
-        drain(&mut service, &mut answer)?;
-    }
-    Ok((answer, service.ended()))
-}
-
 /// Takes all that a service answered.
 fn drain(service: &mut SyncService, answer: &mut Text) -> Result<(), AllocError> {
     loop {
@@ -34,24 +18,40 @@ fn drain(service: &mut SyncService, answer: &mut Text) -> Result<(), AllocError>
     }
 }
 
+/// Feeds a service a stream in pieces of `size`, and takes all that it answers.
+fn serve(
+    service: &mut SyncService,
+    files: &mut Files,
+    asked: &[u8],
+    size: usize,
+    answer: &mut Text,
+) -> Result<(), AllocError> {
+    for piece in asked.chunks(size.max(1)) {
+        service.feed(files, piece)?;
+        drain(service, answer)?;
+    }
+    Ok(())
+}
+
+/// A stream, what is answered to it, and whether that ends the service.
+type Row<'a> = (&'a [u8], &'a [u8], bool);
+
+/// Whether a service answers as the row says to the stream in pieces of `size`.
+fn answers(alloc: Global, files: &mut Files, row: &Row, size: usize) -> Result<bool, AllocError> {
+    let mut service = SyncService::new(alloc);
+    let mut answer = Text::new(alloc);
+    serve(&mut service, files, row.0, size, &mut answer)?;
+    Ok(answer.as_slice() == row.1 && service.ended() == row.2)
+}
+
+/// The sizes of the pieces that a stream comes in.
+const SIZES: &[usize] = &[1, 4096];
+
 /// Adds a chunk, as either side spells it.
 fn spell_chunk(chunk: &[u8], text: &mut Text) -> Result<(), AllocError> {
     text.push_slice(b"DATA")?;
     text.push_slice(&chunk.len().to_le_bytes()[..4])?;
     text.push_slice(chunk)
-}
-
-/// The request that pushes `/n`, and what a service answers to it and to a pull of it.
-fn push_and_pull(alloc: Global, bytes: &[u8]) -> Result<(Text, Text), AllocError> {
-    let mut asked = Text::from_slice(alloc, b"SEND\x06\0\0\0/n,420")?;
-    let mut answer = Text::from_slice(alloc, b"OKAY\0\0\0\0")?;
-    for chunk in bytes.chunks(65_536) {
-        spell_chunk(chunk, &mut asked)?;
-        spell_chunk(chunk, &mut answer)?;
-    }
-    asked.push_slice(b"DONE\x05\0\0\0RECV\x02\0\0\0/n")?;
-    answer.push_slice(b"DONE\0\0\0\0")?;
-    Ok((asked, answer))
 }
 
 /// A file of the time 1.
@@ -71,9 +71,8 @@ fn two_files(alloc: Global) -> Result<Files, Fail> {
     Ok(files)
 }
 
-/// What is asked over `two_files`, one after the other, what is answered, and whether that ends the
-/// service.
-const ANSWERS: [(&[u8], &[u8], bool); 18] = [
+/// What is asked over `two_files`, one after the other.
+const ANSWERS: &[Row<'static>] = &[
     (
         b"STAT\x02\0\0\0/a",
         b"STAT\xa4\x81\0\0\0\0\0\0\x01\0\0\0",
@@ -132,38 +131,65 @@ const ANSWERS: [(&[u8], &[u8], bool); 18] = [
 
 #[test]
 fn answers_byte_for_byte(rt: HostRuntime) -> Result<(), Fail> {
-    let alloc = rt.alloc();
-    let mut files = two_files(alloc)?;
-    for (asked, answer, ended) in &ANSWERS {
-        for size in [1, 4096] {
-            let (told, over) = answer_of(alloc, &mut files, asked, size)?;
+    let mut files = two_files(rt.alloc())?;
+    for row in ANSWERS {
+        for &size in SIZES {
             assert!(rt;
-                told.as_slice() == *answer,
-                "{:?} to {asked:?}",
-                told.as_slice()
+                answers(rt.alloc(), &mut files, row, size)?,
+                "to {:?}",
+                row.0
             );
-            assert_eq!(rt; over, *ended, "after {asked:?}");
         }
     }
     Ok(())
 }
 
+/// So many bytes, each its place's rest by 251.
+fn bytes_of(alloc: Global, length: usize) -> Result<Text, AllocError> {
+    let mut bytes = Vec::new(alloc);
+    for place in 0..length {
+        bytes.push((place % 251) as u8)?;
+    }
+    Ok(Text::from_vec(bytes))
+}
+
+/// Bytes in chunks, between how a request or an answer begins and how it ends.
+fn spell(alloc: Global, head: &[u8], bytes: &[u8], end: &[u8]) -> Result<Text, AllocError> {
+    let mut text = Text::from_slice(alloc, head)?;
+    for chunk in bytes.chunks(65_536) {
+        spell_chunk(chunk, &mut text)?;
+    }
+    text.push_slice(end)?;
+    Ok(text)
+}
+
+/// Whether the bytes are what `/n` holds.
+fn is_stored(files: &Files, bytes: &[u8]) -> bool {
+    match files.get(b"/n") {
+        Some(file) => file.bytes.as_slice() == bytes,
+        None => false,
+    }
+}
+
+/// Whether bytes that are pushed and pulled in pieces of `size` are stored, and come back.
+fn come_back(alloc: Global, bytes: &[u8], size: usize) -> Result<bool, AllocError> {
+    let end = b"DONE\x05\0\0\0RECV\x02\0\0\0/n";
+    let asked = spell(alloc, b"SEND\x06\0\0\0/n,420", bytes, end)?;
+    let answer = spell(alloc, b"OKAY\0\0\0\0", bytes, b"DONE\0\0\0\0")?;
+    let mut files = Files::new(alloc);
+    let row = (asked.as_slice(), answer.as_slice(), false);
+    Ok(answers(alloc, &mut files, &row, size)? && is_stored(&files, bytes))
+}
+
+const LENGTHS: &[usize] = &[0, 65_536, 65_537];
+
 #[test]
 fn pushes_are_pulled(rt: HostRuntime) -> Result<(), Fail> {
-    let alloc = rt.alloc();
-    for length in [0, 65_536, 65_537] {
-        let bytes: Vec<u8> = (0..length).map(|i| (i % 251) as u8).collect(alloc)?;
-        let (asked, answer) = push_and_pull(alloc, bytes.as_slice())?;
-        for size in [1, 4096] {
-            let mut files = Files::new(alloc);
-            let (told, ended) = answer_of(alloc, &mut files, asked.as_slice(), size)?;
-            assert!(rt; told.as_slice() == answer.as_slice(), "of {length} bytes");
-            assert!(rt; !ended);
-            let stored = files.get(b"/n").ok_or("no file")?;
-            assert!(rt;
-                stored.bytes.as_slice() == bytes.as_slice(),
-                "of {length} bytes"
-            );
+    for &length in LENGTHS {
+        let bytes = bytes_of(rt.alloc(), length)?;
+        for &size in SIZES {
+            let so = come_back(rt.alloc(), bytes.as_slice(), size)?;
+            assert!(rt; so, "{length} bytes by {size}");
         }
     }
     Ok(())

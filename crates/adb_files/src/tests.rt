@@ -1,5 +1,7 @@
 //! A map of files: its refusals, its order, and its lists.
 
+ghost use Rattle.std.specs.Prelude.{◌<◌, ◌^◌, length};
+
 use crate::files::MOST_BYTES;
 use crate::{File, FileError, Files};
 use adb_outside::Text;
@@ -15,8 +17,15 @@ fn file_of(alloc: Global, size: usize) -> Result<File, AllocError> {
     })
 }
 
-/// Paths, what a put of a file answers, what a read before it is told, and the next path behind it.
-const PATHS: [(&[u8], Result<(), FileError>, &[u8], Option<&[u8]>); 9] = [
+/// A path, what a put of a file answers, what a read before it is told, and the next path behind it.
+type Row = (
+    &'static [u8],
+    Result<(), FileError>,
+    &'static [u8],
+    Option<&'static [u8]>,
+);
+
+const PATHS: &[Row] = &[
     (b"/a", Ok(()), b"no such file", None),
     (b"/d/e", Ok(()), b"no such file", None),
     (b"/d-e", Ok(()), b"no such file", Some(b"/d/e")),
@@ -48,31 +57,57 @@ const PATHS: [(&[u8], Result<(), FileError>, &[u8], Option<&[u8]>); 9] = [
     (b"/a", Ok(()), b"", Some(b"/d-e")),
 ];
 
+/// What a read of a path is told that is refused, and nothing where it is not.
+fn refusal(files: &Files, path: &[u8]) -> &'static [u8] {
+    match files.read_refusal(path) {
+        Some(error) => error.text(),
+        None => b"",
+    }
+}
+
+/// What a put of a file of so many bytes answers.
+fn put(
+    alloc: Global,
+    files: &mut Files,
+    path: &[u8],
+    size: usize,
+) -> Result<Result<(), FileError>, AllocError>
+    requires { length path.now < 2 ^ 32 }
+{
+    let file = file_of(alloc, size)?;
+    Ok(files.put(path, file))
+}
+
+/// Whether this is the next path behind another.
+fn is_next(files: &Files, after: &[u8], next: Option<&[u8]>) -> bool {
+    files.next_path(after) == next
+}
+
+/// Whether a map of files answers as the row says, whose path has at most 100 bytes.
+fn answers(alloc: Global, files: &mut Files, row: &Row) -> Result<bool, AllocError> {
+    if row.0.len() > 100 {
+        return Ok(false);
+    }
+    let told = refusal(files, row.0) == row.2;
+    let answer = put(alloc, files, row.0, 1)?;
+    Ok(told && answer == row.1 && is_next(files, row.0, row.3))
+}
+
+/// Whether a file is gone once it is removed, and its directory with it.
+fn is_removed(files: &mut Files) -> bool {
+    let removed = files.remove(b"/d/e") == Ok(());
+    removed && !files.is_directory(b"/d") && files.get(b"/d/e").is_none()
+}
+
 #[test]
 fn a_map_of_files(rt: HostRuntime) -> Result<(), Fail> {
     let alloc = rt.alloc();
     let mut files = Files::new(alloc);
-    for (path, put, read, next) in &PATHS {
-        let refusal = files
-            .read_refusal(path)
-            .map_or(b"".as_slice(), FileError::text);
-        assert!(rt; refusal == *read, "read at {path:?}");
-        if path.len() <= 100 {
-            assert_eq!(rt;
-                files.put(path, file_of(alloc, 1)?),
-                *put,
-                "put at {path:?}"
-            );
-        }
-        assert!(rt; files.next_path(path) == *next, "after {path:?}");
+    for row in PATHS {
+        assert!(rt; answers(alloc, &mut files, row)?, "at {:?}", row.0);
     }
-    assert_eq!(rt;
-        files.put(b"/a", file_of(alloc, MOST_BYTES)?),
-        Err(FileError::NoSpace)
-    );
-    assert_eq!(rt; files.list(b"/")?.len(), 3);
-    assert_eq!(rt; files.remove(b"/d/e"), Ok(()));
-    assert!(rt; !files.is_directory(b"/d"));
-    assert!(rt; files.get(b"/d/e").is_none());
+    assert!(rt; put(alloc, &mut files, b"/a", MOST_BYTES)? == Err(FileError::NoSpace));
+    assert!(rt; files.list(b"/")?.len() == 3);
+    assert!(rt; is_removed(&mut files));
     Ok(())
 }
