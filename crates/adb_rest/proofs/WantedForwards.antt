@@ -73,7 +73,8 @@ module _ (devices : DeviceTable) (forwards : List (ℕ × ForwardRow)) (all : Ar
           put_forwards port want.transport want.remote (specified port want.remote some remote)
 
 -- ---- what a client waits for
-wanted_next : (forwards : List (ℕ × ForwardRow)) (next : Option Next) (waits : Option Want) → IsSoundNext forwards next → IsWanted waits → IsWanted (wanted_by next waits)
+wanted_next : (forwards : List (ℕ × ForwardRow)) (next : Option Next) (waits : Option Want) → IsSoundNext forwards next → IsWanted waits
+    → IsWanted (wanted_by next waits)
 wanted_next forwards None waits can h = h
 wanted_next forwards (Some Close) waits can h = h
 wanted_next forwards (Some (Select id)) waits can h = h
