@@ -8,7 +8,7 @@ use Rattle.std.proofs.lemmas.Bool.{cases_eq}
 use Rattle.std.proofs.lemmas.Bool.Decides.{nat_tests}
 use Rattle.std.proofs.lemmas.Nat.Bits.{bit_at-zero, bit_at-trailing_zeros}
 use Rattle.adb_outside.specs.Tables.{at, IsRising}
-use Rattle.adb_roster.specs.declared.marks.Block.{Block}
+use Rattle.adb_roster.specs.declared.words.Block.{Block}
 use Rattle.adb_roster.specs.First.{first_number, owes_at}
 use Rattle.adb_roster.specs.Marked.{mark_in, mark, first_mark, IsBlock, AreBlocks, IsMarked}
 use Rattle.adb_roster.proofs.Rows.{at_head, at_tail, below_head, past_head, none_owed, least_owed}

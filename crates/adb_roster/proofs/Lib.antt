@@ -1,3 +1,4 @@
 mod Marking
 mod FirstMark
 mod Rows
+mod Grouping

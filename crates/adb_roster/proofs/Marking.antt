@@ -11,7 +11,7 @@ use Rattle.std.proofs.lemmas.Bool.Decides.{nat_tests}
 use Rattle.std.proofs.lemmas.Nat.{or_lt, and_le_l}
 use Rattle.std.proofs.lemmas.Nat.Bits.{bit_at-zero, bit_at_set_same, bit_at_set_other, bit_at_clear_same, bit_at_clear_other}
 use Rattle.adb_outside.specs.Tables.{at, Puts}
-use Rattle.adb_roster.specs.declared.marks.Block.{Block}
+use Rattle.adb_roster.specs.declared.words.Block.{Block}
 use Rattle.adb_roster.specs.Marked.{bit, new_block, with_place, with_mark, without_mark, without_place, known, forgotten, place_in, mark_in, place, mark}
 use Rattle.adb_roster.specs.Marked.{IsBlock, AreBlocks, IsMarkedAt, IsMarked, weight}
 use Rattle.adb_roster.proofs.Rows.{written_other, written_none, left_at}
@@ -168,6 +168,10 @@ module _ {X : Type 0} {owed : X → Bool} (number : ℕ) (fits : number < 2 ^ 32
         go None none row is = absurd (let clash : None ≡ Some row = sym (written_none number w rows none) ∙ is in cc)
         go (Some old) was row is = now_marked old row was
 
+    pub touched : (after : List (ℕ × X)) → ((n : ℕ) → n ≢ number → at n after ≡ at n rows)
+        → ((row : X) → at number after ≡ Some row → (old : X) × (at number rows ≡ Some old)) → IsMarked owed others after
+    touched after same was = turned lends marked same (λ row is. let old = was row is in now_marked old.0 row old.1)
+
     pub unlent : IsMarked owed others rows
     unlent = turned lends marked (λ n apart. refl) (λ row is. now_marked row row is)
 
@@ -247,6 +251,20 @@ module _ {X : Type 0} {owed : X → Bool} (number : ℕ) (fits : number < 2 ^ 32
               at_blocks (n / 64) ∙ ap (λ (b : Bool). cond b (at (n / 64) blocks) None) (same_number (number / 64) (n / 64) (ap (λ k. k / 64) one)) in
               record { known = ap (λ o. place_in o (n % 64)) stays ∙ was.known; marked = λ due. ap (λ o. mark_in o (n % 64)) stays ∙ was.marked due }
           go false off clash = cc
+
+-- ---- what a change of the rows alone leaves
+module _ {X : Type 0} {owed : X → Bool} (number : ℕ) {blocks : List (ℕ × Block)} {rows : List (ℕ × X)} (marked : IsMarked owed blocks rows) where
+  -- A row to which nothing is due that was not due before needs no mark.
+  pub lowered : (after : List (ℕ × X)) (new : Option X) → Puts number new rows after
+      → ((row : X) → new ≡ Some row → (old : X) × (at number rows ≡ Some old) × (owed row ≡ true → owed old ≡ true)) → IsMarked owed blocks after
+  lowered after new puts was = record { blocked = marked.blocked; each = λ n row is. go n row is (cases_eq n number) }
+    where
+      go : (n : ℕ) (row : X) → at n after ≡ Some row → (n ≡ number) ⊎ (n ≡ number → ⊥) → IsMarkedAt owed blocks n row
+      go n row is (inl same) =
+          let old = was row (sym puts.here ∙ (ap (λ k. at k after) (sym same) ∙ is)) in
+          let before = marked.each n old.0 (ap (λ k. at k rows) same ∙ old.1) in
+          record { known = before.known; marked = λ due. before.marked (old.2 due) }
+      go n row is (inr apart) = marked.each n row (sym (puts.others n apart) ∙ is)
 
 -- ---- a mark that is taken away makes the marks less
 less_without : (marked i : ℕ) → i < 64 → bit_at marked i ≡ 1 → bit_and marked (bit_not w64 (bit i)) < marked

@@ -1,10 +1,10 @@
 -- Numbers that are known, and those of them that are marked, in blocks of 64.
-use Rattle.std.specs.Prelude.{ℕ, ◌≡◌, ◌<◌, ◌*◌, ◌+◌, ◌^◌, ◌/◌, ◌%◌, Bool, true, false, eqb, if◌then◌else◌, List, [], ◌∷◌, Option, Some, None, bit_and, bit_or}
+use Rattle.std.specs.Prelude.{ℕ, ◌≡◌, ◌<◌, ◌*◌, ◌+◌, ◌^◌, ◌/◌, ◌%◌, Bool, true, false, not, eqb, if◌then◌else◌, List, [], ◌∷◌, Option, Some, None, bit_and, bit_or}
 use Rattle.std.specs.List.{sum_by}
 use Rattle.std.specs.Map.{values_of}
 use Rattle.std.specs.Int.{bit_at, bit_not, trailing_zeros, w64}
 use Rattle.adb_outside.specs.Tables.{at}
-use Rattle.adb_roster.specs.declared.marks.Block.{Block}
+use Rattle.adb_roster.specs.declared.words.Block.{Block}
 
 -- the i-th bit alone
 abbrev pub bit : ℕ → ℕ
@@ -71,6 +71,15 @@ mark blocks n = mark_in (at (n / 64) blocks) (n % 64)
 abbrev pub first_mark : List (ℕ × Block) → Option ℕ
 first_mark [] = None
 first_mark (e ∷ blocks) = if eqb e.1.marked 0 then first_mark blocks else Some (e.0 * 64 + trailing_zeros w64 e.1.marked)
+
+-- whether any number of a block is marked
+abbrev pub has_marks : Block → Bool
+has_marks block = not (eqb block.marked 0)
+
+-- the least number that is marked in a block
+abbrev pub first_at : ℕ → Option Block → Option ℕ
+first_at high None = None
+first_at high (Some block) = if eqb block.marked 0 then None else Some (high * 64 + trailing_zeros w64 block.marked)
 
 -- the marks of all blocks as numbers, summed
 abbrev pub weight : List (ℕ × Block) → ℕ

@@ -6,6 +6,7 @@ mod owes;
 mod roster;
 #[cfg(test)]
 mod tests;
+mod words;
 
 pub use owes::Owes;
 pub use roster::Roster;

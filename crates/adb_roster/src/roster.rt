@@ -7,7 +7,6 @@ ghost use Rattle.std.specs.Borrow.{sem};
 ghost use Rattle.adb_outside.specs.Tables.{at, put_at, without, IsRising, Puts};
 ghost use Rattle.adb_roster.specs.First.{first_number, owes_at};
 
-use crate::marks;
 use crate::marks::Marks;
 use crate::owes::Owes;
 use std::alloc::{AllocError, Global};
@@ -45,7 +44,7 @@ impl<V: Owes> Roster<V> {
     {
         Roster {
             rows: BTreeMap::new(alloc),
-            marks: BTreeMap::new(alloc),
+            marks: Marks::new(alloc),
         }
     }
 
@@ -78,7 +77,7 @@ impl<V: Owes> Roster<V> {
         ensures value { option_copied_mut result ≡ at id.now self.old.entries }
         ensures ordered { IsRising self.old.entries }
     {
-        marks::mark(&mut self.marks, *id);
+        self.marks.mark(*id);
         self.rows.get_mut(id)
     }
 
@@ -92,11 +91,11 @@ impl<V: Owes> Roster<V> {
         if self.rows.len() == 0 {
             return None;
         }
-        while let Some(id) = marks::first(&self.marks) {
+        while let Some(id) = self.marks.first() {
             if is_owed(&self.rows, id) {
                 return Some(id);
             }
-            marks::unmark(&mut self.marks, id);
+            self.marks.unmark(id);
         }
         None
     }
@@ -111,11 +110,11 @@ impl<V: Owes + Drop> Roster<V> {
         ensures entries { OnOk result (self.new.entries ≡ put_at id row self.old.entries) }
         ensures err { OnErr result (self.new.entries ≡ self.old.entries) }
     {
-        marks::know(&mut self.marks, id)?;
+        self.marks.know(id)?;
         match put_row(&mut self.rows, id, row) {
             Ok(old) => Ok(old),
             Err(error) => {
-                marks::forget(&mut self.marks, id);
+                self.marks.forget(id);
                 Err(error)
             }
         }
@@ -128,7 +127,7 @@ impl<V: Owes + Drop> Roster<V> {
         ensures entries { self.new.entries ≡ without id.now self.old.entries }
     {
         let row = take_row(&mut self.rows, *id);
-        marks::forget(&mut self.marks, *id);
+        self.marks.forget(*id);
         row
     }
 
@@ -145,7 +144,7 @@ impl<V: Owes + Drop> Roster<V> {
         ensures { self.new.entries ≡ filter (λ row. nat_eq row.0 id) self.old.entries }
     {
         keep_row(&mut self.rows, id);
-        marks::keep_only(&mut self.marks, id);
+        self.marks.keep_only(id);
     }
 }
 

@@ -1,6 +1,7 @@
-use Rattle.std.proofs.Common.{subst, sym, ap, ◌∙◌, ◌≡◌, ℕ, Option}
+use Rattle.std.proofs.Common.{subst, sym, ap, ◌∙◌, ◌≡◌, ◌<◌, ℕ, Option}
 use Rattle.adb_outside.specs.Tables.{IsRising}
 use Rattle.adb_roster.specs.First.{first_number}
+use Rattle.adb_roster.specs.Marked.{mark, weight, IsMarked}
 use Rattle.adb_roster.proofs.FirstMark.{IsLeast, first_is_least, nobody, somebody, seen}
 use Rattle.adb_roster.proofs.Marking.{cleared}
 use Rattle.adb_roster.proofs.roster.Roster.first_owed.Goals as goal
@@ -19,13 +20,14 @@ pub loop-id-smaller : goal.loop-id-smaller
 loop-id-smaller g c =
     let blocks = c.loop-id.self-inside.marks.entries in
     let least = subst (λ (first : Option ℕ). IsLeast blocks first) (sym c.in-Some.ensures.first) (first_is_least blocks c.in-Some.ensures.rises c.loop-id.invariant.1.blocked) in
-    c.unmark.ensures.falls least.0
+    let falls = subst (λ (m : _). mark m.entries c.in-Some.id ≡ 1 → weight c.unmark.new.self.entries < weight m.entries) c.first.ensures.same c.unmark.ensures.falls in
+    falls least.0
 
 pub loop-id-preserved : goal.loop-id-preserved
 loop-id-preserved g c =
     let nothing = sym c.is_owed.ensures ∙ c.if-is_owed.false in (
       c.loop-id.invariant.0,
-      cleared c.in-Some.id c.unmark.ensures.fits c.loop-id.invariant.1 c.unmark.ensures.block
+      cleared c.in-Some.id c.unmark.ensures.fits (subst (λ (m : _). IsMarked g.V.Owes.owed m.entries c.loop-id.self-inside.rows.entries) (sym c.first.ensures.same) c.loop-id.invariant.1) c.unmark.ensures.block
           (seen g.V.Owes.owed c.in-Some.id c.loop-id.self-inside.rows.entries nothing),
     )
 

@@ -1,8 +1,8 @@
 use Rattle.std.proofs.Common.{ℕ, List, subst, arith}
 use Rattle.std.proofs.lemmas.Bool.Decides.{nat_tests}
-use Rattle.adb_roster.specs.declared.marks.Block.{Block}
+use Rattle.adb_roster.specs.declared.words.Block.{Block}
 use Rattle.adb_roster.proofs.FirstMark.{Left, left_behind, first_block, place_fits}
-use Rattle.adb_roster.proofs.marks.first.Goals as goal
+use Rattle.adb_roster.proofs.words.first.Goals as goal
 
 pub overflow_mul-result : goal.overflow_mul-result
 overflow_mul-result c =

@@ -1,5 +1,5 @@
 use Rattle.adb_roster.proofs.FirstMark.{Left}
-use Rattle.adb_roster.proofs.marks.first.Given as goal
+use Rattle.adb_roster.proofs.words.first.Given as goal
 
 -- the first mark of the blocks that are left is the first of all
 abbrev pub invariant-loop-high : goal.invariant-loop-high

@@ -4,7 +4,7 @@ use Rattle.std.specs.Ordering.{nat_cmp}
 use Rattle.std.specs.BTreeMap.{is_at}
 use Rattle.std.proofs.Common.{◌/◌}
 use Rattle.adb_roster.proofs.Marking.{lighter}
-use Rattle.adb_roster.proofs.marks.unmark.Goals as goal
+use Rattle.adb_roster.proofs.words.unmark.Goals as goal
 
 pub returns-in-Some-clause-falls : goal.returns-in-Some-clause-falls
 returns-in-Some-clause-falls c =
