@@ -30,7 +30,8 @@ module _ (number : ℕ) (fits : number < 2 ^ 32) {groups blocks : List (ℕ × B
       → IsMarked has_marks others after
   mark_grouped {after} puts {others} grouped = touched (number / 64) (high_below number fits) marked grouped after puts.others (λ row is. go (at (number / 64) blocks) refl row (sym puts.here ∙ is))
     where
-      go : (o : Option Block) → at (number / 64) blocks ≡ o → (row : Block) → option_map (with_mark (number % 64)) o ≡ Some row → (old : Block) × (at (number / 64) blocks ≡ Some old)
+      go : (o : Option Block) → at (number / 64) blocks ≡ o → (row : Block) → option_map (with_mark (number % 64)) o ≡ Some row
+          → (old : Block) × (at (number / 64) blocks ≡ Some old)
       go None is row made = absurd (let clash : None ≡ Some row = made in cc)
       go (Some old) is row made = (old, is)
 

@@ -85,7 +85,8 @@ high_fits : (number : ℕ) → number < 2 ^ 32 → number / 64 < 2 ^ 26
 high_fits number fits = omega (arith, fits)
 
 module _ (number : ℕ) (fits : number < 2 ^ 32) where
-  marks_block : (o : Option Block) → IsBlockOf (number / 64) o → KeepsOthers (number % 64) o (option_map (with_mark (number % 64)) o) × IsBlockOf (number / 64) (option_map (with_mark (number % 64)) o)
+  marks_block : (o : Option Block) → IsBlockOf (number / 64) o
+      → KeepsOthers (number % 64) o (option_map (with_mark (number % 64)) o) × IsBlockOf (number / 64) (option_map (with_mark (number % 64)) o)
   marks_block None is = (λ j below apart none. cc, λ block clash. cc)
   marks_block (Some b) is = (
     λ j below apart known. (known, bit_at_set_other w64 b.marked (number % 64) (low number) j apart),
@@ -93,7 +94,8 @@ module _ (number : ℕ) (fits : number < 2 ^ 32) where
         (record { within = high_fits number fits; fits = or_lt 64 b.marked (bit (number % 64)) (is b refl).fits (bit_fits (number % 64)) }),
   )
 
-  knows_block : (o : Option Block) → IsBlockOf (number / 64) o → KeepsOthers (number % 64) o (Some (known (number % 64) o)) × IsBlockOf (number / 64) (Some (known (number % 64) o))
+  knows_block : (o : Option Block) → IsBlockOf (number / 64) o
+      → KeepsOthers (number % 64) o (Some (known (number % 64) o)) × IsBlockOf (number / 64) (Some (known (number % 64) o))
   knows_block None is = (
     λ j below apart none. cc,
     λ block made. subst (IsBlock (number / 64)) (let same : new_block (number % 64) ≡ block = cc in same)
@@ -105,7 +107,8 @@ module _ (number : ℕ) (fits : number < 2 ^ 32) where
         (record { within = high_fits number fits; fits = or_lt 64 b.marked (bit (number % 64)) (is b refl).fits (bit_fits (number % 64)) }),
   )
 
-  unmarks_block : (o : Option Block) → IsBlockOf (number / 64) o → KeepsOthers (number % 64) o (option_map (without_mark (number % 64)) o) × IsBlockOf (number / 64) (option_map (without_mark (number % 64)) o)
+  unmarks_block : (o : Option Block) → IsBlockOf (number / 64) o
+      → KeepsOthers (number % 64) o (option_map (without_mark (number % 64)) o) × IsBlockOf (number / 64) (option_map (without_mark (number % 64)) o)
   unmarks_block None is = (λ j below apart none. cc, λ block clash. cc)
   unmarks_block (Some b) is = (
     λ j below apart known. (known, bit_at_clear_other w64 b.marked (number % 64) (low number) j below apart),
@@ -113,7 +116,8 @@ module _ (number : ℕ) (fits : number < 2 ^ 32) where
         (record { within = high_fits number fits; fits = omega (arith, and_le_l b.marked (bit_not w64 (bit (number % 64))), (is b refl).fits) }),
   )
 
-  forgets_block : (o : Option Block) → IsBlockOf (number / 64) o → KeepsOthers (number % 64) o (forgotten (number % 64) o) × IsBlockOf (number / 64) (forgotten (number % 64) o)
+  forgets_block : (o : Option Block) → IsBlockOf (number / 64) o
+      → KeepsOthers (number % 64) o (forgotten (number % 64) o) × IsBlockOf (number / 64) (forgotten (number % 64) o)
   forgets_block None is = (λ j below apart none. cc, λ block clash. cc)
   forgets_block (Some b) is = go (eqb (without_place (number % 64) b).places 0) refl
     where
@@ -164,7 +168,8 @@ module _ {X : Type 0} {owed : X → Bool} (number : ℕ) (fits : number < 2 ^ 32
     pub lent : (w : X) → IsMarked owed others (set_value (is_at (nat_cmp number)) rows w)
     lent w = turned lends marked (λ n apart. written_other n number apart w rows) (λ row is. go (at number rows) refl row is)
       where
-        go : (o : Option X) → at number rows ≡ o → (row : X) → at number (set_value (is_at (nat_cmp number)) rows w) ≡ Some row → IsMarkedAt owed others number row
+        go : (o : Option X) → at number rows ≡ o → (row : X) → at number (set_value (is_at (nat_cmp number)) rows w) ≡ Some row
+            → IsMarkedAt owed others number row
         go None none row is = absurd (let clash : None ≡ Some row = sym (written_none number w rows none) ∙ is in cc)
         go (Some old) was row is = now_marked old row was
 
