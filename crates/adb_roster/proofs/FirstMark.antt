@@ -1,5 +1,6 @@
 -- The first mark is the least.
-use Rattle.std.proofs.Common.{ℕ, ◌≡◌, ◌≢◌, ◌<◌, ◌*◌, ◌+◌, ◌^◌, ◌/◌, ◌%◌, Bool, true, false, cond, List, [], ◌∷◌, Option, Some, None, refl, sym, ◌∙◌, ap, arith, ◌⊎◌, inl, inr}
+use Rattle.std.proofs.Common.{ℕ, ◌≡◌, ◌≢◌, ◌<◌, ◌*◌, ◌+◌, ◌^◌, ◌/◌, ◌%◌, Bool, true, false, cond, List, [], ◌∷◌, Option, Some, None, refl, sym, ◌∙◌}
+use Rattle.std.proofs.Common.{ap, arith, ◌⊎◌, inl, inr}
 use Rattle.std.specs.Prelude.{eqb}
 use Rattle.std.specs.Int.{bit_at, trailing_zeros, w64}
 use Rattle.std.specs.Option.{option_map_or}
@@ -114,7 +115,8 @@ pub record Left (all left : List (ℕ × Block)) : Type 0 where
 pub left_behind : (all : List (ℕ × Block)) (e : ℕ × Block) (blocks : List (ℕ × Block)) → e.1.marked ≡ 0 → Left all (e ∷ blocks) → Left all blocks
 left_behind all e blocks none left =
     let rest = behind e blocks left.rises left.blocks in
-    let passed : first_mark (e ∷ blocks) ≡ first_mark blocks = ap (λ (b : Bool). cond b (first_mark blocks) (Some (e.0 * 64 + trailing_zeros w64 e.1.marked))) (zero_is e.1.marked none) in
+    let passed : first_mark (e ∷ blocks) ≡ first_mark blocks = ap (λ (b : Bool). cond b (first_mark blocks)
+    (Some (e.0 * 64 + trailing_zeros w64 e.1.marked))) (zero_is e.1.marked none) in
     record { first = sym passed ∙ left.first; rises = rest.0; blocks = rest.1 }
   where
     zero_is : (n : ℕ) → n ≡ 0 → eqb n 0 ≡ true

@@ -1,5 +1,6 @@
 -- A change of a block leaves it known among the groups, and marked there where it has marks.
-use Rattle.std.proofs.Common.{ℕ, ◌≡◌, ◌<◌, ◌≤◌, ◌*◌, ◌+◌, ◌^◌, ◌/◌, ◌%◌, Bool, true, false, cond, List, [], ◌∷◌, Option, Some, None, refl, sym, ◌∙◌, ap, subst, arith, ◌⊎◌, inl, inr}
+use Rattle.std.proofs.Common.{ℕ, ◌≡◌, ◌<◌, ◌≤◌, ◌*◌, ◌+◌, ◌^◌, ◌/◌, ◌%◌, Bool, true, false, cond, List, [], ◌∷◌, Option, Some, None, refl, sym, ◌∙◌}
+use Rattle.std.proofs.Common.{ap, subst, arith, ◌⊎◌, inl, inr}
 use Rattle.std.specs.Prelude.{eqb, not, is_some, option_map}
 use Rattle.std.specs.Int.{bit_not, trailing_zeros, w64}
 use Rattle.std.proofs.lemmas.Bool.Decides.{nat_tests}
@@ -28,7 +29,8 @@ module _ (number : ℕ) (fits : number < 2 ^ 32) {groups blocks : List (ℕ × B
   pub mark_grouped : {after : List (ℕ × Block)} → Puts (number / 64) (option_map (with_mark (number % 64)) (at (number / 64) blocks)) blocks after
       → {others : List (ℕ × Block)} → Puts (number / 64 / 64) (option_map (with_mark (number / 64 % 64)) (at (number / 64 / 64) groups)) groups others
       → IsMarked has_marks others after
-  mark_grouped {after} puts {others} grouped = touched (number / 64) (high_below number fits) marked grouped after puts.others (λ row is. go (at (number / 64) blocks) refl row (sym puts.here ∙ is))
+  mark_grouped {after} puts {others} grouped = touched (number / 64) (high_below number fits) marked grouped after puts.others
+      (λ row is. go (at (number / 64) blocks) refl row (sym puts.here ∙ is))
     where
       go : (o : Option Block) → at (number / 64) blocks ≡ o → (row : Block) → option_map (with_mark (number % 64)) o ≡ Some row
           → (old : Block) × (at (number / 64) blocks ≡ Some old)

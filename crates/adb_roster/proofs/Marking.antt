@@ -1,5 +1,6 @@
 -- A change of one block leaves each row known, and marked where something is due to it.
-use Rattle.std.proofs.Common.{ℕ, ◌≡◌, ◌≢◌, ◌<◌, ◌^◌, ◌/◌, ◌%◌, Bool, true, false, cond, List, filter, Option, Some, None, refl, sym, ◌∙◌, ap, subst, arith, ◌⊎◌, inl, inr}
+use Rattle.std.proofs.Common.{ℕ, ◌≡◌, ◌≢◌, ◌<◌, ◌^◌, ◌/◌, ◌%◌, Bool, true, false, cond, List, filter, Option, Some, None, refl, sym, ◌∙◌, ap, subst}
+use Rattle.std.proofs.Common.{arith, ◌⊎◌, inl, inr}
 use Rattle.std.specs.Prelude.{bit_and, eqb, nat_eq, option_map}
 use Rattle.std.specs.Int.{bit_at, bit_not, w64}
 use Rattle.std.specs.BTreeMap.{is_at}
@@ -46,7 +47,8 @@ module _ {number : ℕ} {new : Option Block} {blocks others : List (ℕ × Block
           let was : place_in (at (number / 64) blocks) (n % 64) ≡ 1 = ap (λ k. place_in (at k blocks) (n % 64)) (sym same) ∙ here in
           let is = h.keeps (n % 64) (low n) (apart_in n number apart same) was in (
             ap (λ k. place_in (at k others) (n % 64)) same ∙ (ap (λ o. place_in o (n % 64)) h.puts.here ∙ is.0),
-            ap (λ k. mark_in (at k others) (n % 64)) same ∙ (ap (λ o. mark_in o (n % 64)) h.puts.here ∙ (is.1 ∙ ap (λ k. mark_in (at k blocks) (n % 64)) (sym same))),
+            ap (λ k. mark_in (at k others) (n % 64)) same ∙ (ap (λ o. mark_in o (n % 64)) h.puts.here
+                ∙ (is.1 ∙ ap (λ k. mark_in (at k blocks) (n % 64)) (sym same))),
           )
       go (inr off) here =
           let is = h.puts.others (n / 64) off in
@@ -102,7 +104,11 @@ module _ (number : ℕ) (fits : number < 2 ^ 32) where
         (record { within = high_fits number fits; fits = bit_fits (number % 64) }),
   )
   knows_block (Some b) is = (
-    λ j below apart was. (bit_at_set_other w64 b.places (number % 64) (low number) j apart ∙ was, bit_at_set_other w64 b.marked (number % 64) (low number) j apart),
+    λ j below apart was. (
+      bit_at_set_other w64 b.places (number % 64) (low number) j apart
+          ∙ was,
+      bit_at_set_other w64 b.marked (number % 64) (low number) j apart,
+    ),
     λ block made. subst (IsBlock (number / 64)) (let same : with_place (number % 64) b ≡ block = cc in same)
         (record { within = high_fits number fits; fits = or_lt 64 b.marked (bit (number % 64)) (is b refl).fits (bit_fits (number % 64)) }),
   )
@@ -149,11 +155,13 @@ block_at number blocks = at (number / 64) blocks
 same_number : (a b : ℕ) → a ≡ b → nat_eq a b ≡ true
 same_number a b same = grind (arith, nat_tests)
 
-module _ {X : Type 0} {owed : X → Bool} (number : ℕ) (fits : number < 2 ^ 32) {blocks others : List (ℕ × Block)} {rows : List (ℕ × X)} (marked : IsMarked owed blocks rows) where
+module _ {X : Type 0} {owed : X → Bool} (number : ℕ) (fits : number < 2 ^ 32) {blocks others : List (ℕ × Block)} {rows : List (ℕ × X)}
+    (marked : IsMarked owed blocks rows) where
   -- A row that is lent is marked first: then all rows are marked, whatever is written.
   module _ (puts : Puts (number / 64) (option_map (with_mark (number % 64)) (block_at number blocks)) blocks others) where
     lends : Turns number (option_map (with_mark (number % 64)) (block_at number blocks)) blocks others
-    lends = let is_so = marks_block number fits (block_at number blocks) (marked.blocked (number / 64)) in record { puts = puts; keeps = is_so.0; is_block = is_so.1 }
+    lends = let is_so = marks_block number fits (block_at number blocks) (marked.blocked (number / 64))
+        in record { puts = puts; keeps = is_so.0; is_block = is_so.1 }
 
     now_marked : (old row : X) → at number rows ≡ Some old → IsMarkedAt owed others number row
     now_marked old row was =
@@ -183,9 +191,14 @@ module _ {X : Type 0} {owed : X → Bool} (number : ℕ) (fits : number < 2 ^ 32
   -- A number that is known and marked may have any row, or none.
   pub grown : Puts (number / 64) (Some (known (number % 64) (block_at number blocks))) blocks others → (after : List (ℕ × X))
       → ((n : ℕ) → n ≢ number → at n after ≡ at n rows) → IsMarked owed others after
-  grown puts after same = turned turns marked same (λ row is. record { known = place_now turns ∙ (both (block_at number blocks)).0; marked = λ due. mark_now turns ∙ (both (block_at number blocks)).1 })
+  grown puts after same = turned turns marked same (λ row is. record {
+    known = place_now turns
+        ∙ (both (block_at number blocks)).0;
+    marked = λ due. mark_now turns ∙ (both (block_at number blocks)).1;
+  })
     where
-      is_so : KeepsOthers (number % 64) (block_at number blocks) (Some (known (number % 64) (block_at number blocks))) × IsBlockOf (number / 64) (Some (known (number % 64) (block_at number blocks)))
+      is_so : KeepsOthers (number % 64) (block_at number blocks) (Some (known (number % 64) (block_at number blocks)))
+          × IsBlockOf (number / 64) (Some (known (number % 64) (block_at number blocks)))
       is_so = knows_block number fits (block_at number blocks) (marked.blocked (number / 64))
 
       turns : Turns number (Some (known (number % 64) (block_at number blocks))) blocks others
@@ -203,7 +216,8 @@ module _ {X : Type 0} {owed : X → Bool} (number : ℕ) (fits : number < 2 ^ 32
       → ((n : ℕ) → n ≢ number → at n after ≡ at n rows) → at number after ≡ None → IsMarked owed others after
   dropped puts after same none = turned turns marked same (λ row is. absurd (let clash : None ≡ Some row = sym none ∙ is in cc))
     where
-      is_so : KeepsOthers (number % 64) (block_at number blocks) (forgotten (number % 64) (block_at number blocks)) × IsBlockOf (number / 64) (forgotten (number % 64) (block_at number blocks))
+      is_so : KeepsOthers (number % 64) (block_at number blocks) (forgotten (number % 64) (block_at number blocks))
+          × IsBlockOf (number / 64) (forgotten (number % 64) (block_at number blocks))
       is_so = forgets_block number fits (block_at number blocks) (marked.blocked (number / 64))
 
       turns : Turns number (forgotten (number % 64) (block_at number blocks)) blocks others
@@ -217,7 +231,8 @@ module _ {X : Type 0} {owed : X → Bool} (number : ℕ) (fits : number < 2 ^ 32
     marked = λ due. absurd (let clash : true ≡ false = sym due ∙ nothing row is in cc);
   })
     where
-      is_so : KeepsOthers (number % 64) (block_at number blocks) (option_map (without_mark (number % 64)) (block_at number blocks)) × IsBlockOf (number / 64) (option_map (without_mark (number % 64)) (block_at number blocks))
+      is_so : KeepsOthers (number % 64) (block_at number blocks) (option_map (without_mark (number % 64)) (block_at number blocks))
+          × IsBlockOf (number / 64) (option_map (without_mark (number % 64)) (block_at number blocks))
       is_so = unmarks_block number fits (block_at number blocks) (marked.blocked (number / 64))
 
       turns : Turns number (option_map (without_mark (number % 64)) (block_at number blocks)) blocks others
@@ -230,7 +245,11 @@ module _ {X : Type 0} {owed : X → Bool} (number : ℕ) (fits : number < 2 ^ 32
   -- One row alone stays, with its block.
   pub alone : others ≡ filter (λ block. nat_eq block.0 (number / 64)) blocks → (after : List (ℕ × X)) → after ≡ filter (λ row. nat_eq row.0 number) rows
       → IsMarked owed others after
-  alone is after left = record { blocked = λ high block here. blocks_left high block (sym (at_blocks high) ∙ here); each = λ n row here. rows_left n row (sym (at_rows n) ∙ here) }
+  alone is after left = record {
+    blocked = λ high block here. blocks_left high block
+        (sym (at_blocks high) ∙ here);
+    each = λ n row here. rows_left n row (sym (at_rows n) ∙ here);
+  }
     where
       at_blocks : (high : ℕ) → at high others ≡ cond (nat_eq (number / 64) high) (at high blocks) None
       at_blocks high = ap (at high) is ∙ left_at (number / 64) high blocks

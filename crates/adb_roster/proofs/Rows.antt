@@ -97,7 +97,8 @@ module _ {X : Type 0} where
         later n row is under (inr apart) = below n row (at_tail n e es apart ∙ is) under
 
         go : (e.0 < id) ⊎ ((id < e.0) ⊎ (e.0 ≡ id))
-            → (at id es ≡ Some found → owed found ≡ true → ((n : ℕ) (row : X) → at n es ≡ Some row → n < id → owed row ≡ false) → first_number owed es ≡ Some id)
+            → (at id es ≡ Some found → owed found ≡ true → ((n : ℕ) (row : X) → at n es ≡ Some row → n < id → owed row ≡ false)
+            → first_number owed es ≡ Some id)
             → first_number owed (e ∷ es) ≡ Some id
         go (inl under) among =
             rw (below e.0 e.1 (at_head e es) under)

@@ -10,4 +10,5 @@ use Rattle.adb_roster.specs.contracts.roster.Roster.{the_row}
 -- The rows have, at the number that the query finds, what was last written through the result, and are as before where it is `None`.
 abbrev pub lends_row : (V : RattleType) (g : owes.Ghosts V.Denot) → MutBor (Table V.Denot) → (ℕ → Ordering) → Option (MutBor V.Denot) → Fml
 lends_row V g roster compare r =
-    follows_so (the_row V g) V roster.ghost_name (ghost_name_of r) (λ row new. WritesThrough compare roster.now.entries row new.entries) (λ new. new ≡ roster.now)
+    follows_so (the_row V g) V roster.ghost_name (ghost_name_of r) (λ row new. WritesThrough compare roster.now.entries row new.entries)
+    (λ new. new ≡ roster.now)

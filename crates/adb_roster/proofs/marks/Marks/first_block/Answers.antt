@@ -11,7 +11,8 @@ returns-then-is_marked-clause-first c =
     let blocks = c.loop-high.self-inside.groups.entries in
     let rows = c.loop-high.self-inside.blocks.entries in
     let owed = has_marks in
-    let least = subst (λ (first : Option ℕ). IsLeast blocks first) (sym c.in-Some.ensures.first) (first_is_least blocks c.in-Some.ensures.rises c.loop-high.invariant.1.blocked) in
+    let least = subst (λ (first : Option ℕ). IsLeast blocks first) (sym c.in-Some.ensures.first)
+    (first_is_least blocks c.in-Some.ensures.rises c.loop-high.invariant.1.blocked) in
     let same : rows ≡ c.args.self.now.entries = ap (λ (m : _). m.entries) c.loop-high.invariant.0 ∙ ap (λ (t : _). t.entries) c.self.view_is in
     let rises = subst (λ (m : _). IsRising m.entries) (sym c.loop-high.invariant.0) c.len.ensures.ordered in
     somebody c.loop-high.invariant.1 rises c.in-Some.high least (sym c.is_marked.ensures ∙ c.if-is_marked.true) ∙ ap (first_number owed) same
@@ -19,7 +20,8 @@ returns-then-is_marked-clause-first c =
 pub loop-high-smaller : goal.loop-high-smaller
 loop-high-smaller c =
     let blocks = c.loop-high.self-inside.groups.entries in
-    let least = subst (λ (first : Option ℕ). IsLeast blocks first) (sym c.in-Some.ensures.first) (first_is_least blocks c.in-Some.ensures.rises c.loop-high.invariant.1.blocked) in
+    let least = subst (λ (first : Option ℕ). IsLeast blocks first) (sym c.in-Some.ensures.first)
+    (first_is_least blocks c.in-Some.ensures.rises c.loop-high.invariant.1.blocked) in
     c.unmark.ensures.falls least.0
 
 pub loop-high-preserved : goal.loop-high-preserved
@@ -34,7 +36,8 @@ pub returns-clause-first : goal.returns-clause-first
 returns-clause-first c =
     let blocks = c.loop-high.self-inside.groups.entries in
     let rows = c.loop-high.self-inside.blocks.entries in
-    let least = subst (λ (first : Option ℕ). IsLeast blocks first) (sym c.in_default.ensures.first) (first_is_least blocks c.in_default.ensures.rises c.loop-high.invariant.1.blocked) in
+    let least = subst (λ (first : Option ℕ). IsLeast blocks first) (sym c.in_default.ensures.first)
+    (first_is_least blocks c.in_default.ensures.rises c.loop-high.invariant.1.blocked) in
     let same : rows ≡ c.args.self.now.entries = ap (λ (m : _). m.entries) c.loop-high.invariant.0 ∙ ap (λ (t : _). t.entries) c.self.view_is in
     let rises = subst (λ (m : _). IsRising m.entries) (sym c.loop-high.invariant.0) c.len.ensures.ordered in
     nobody c.loop-high.invariant.1 rises least ∙ ap (first_number has_marks) same

@@ -10,5 +10,6 @@ invariant_of-self c = forget_grouped c.args.number c.ranges.number.fits c.self.i
 pub invariant_of-self-2 : goal.invariant_of-self-2
 invariant_of-self-2 c =
     let high = c.args.number / 64 in
-    dropped high (high_below c.args.number c.ranges.number.fits) c.self.invariant c.forget-2.ensures.block c.forget.new.marks.entries c.forget.ensures.block.others
+    dropped high (high_below c.args.number c.ranges.number.fits) c.self.invariant c.forget-2.ensures.block
+    c.forget.new.marks.entries c.forget.ensures.block.others
     (none_there (at high c.forget.new.marks.entries) (sym c.contains_key.ensures ∙ c.if-contains_key.false))

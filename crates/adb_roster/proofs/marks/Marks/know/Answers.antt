@@ -6,7 +6,8 @@ use Rattle.adb_roster.proofs.marks.Marks.know.Goals as goal
 
 pub invariant_of-self-in-Ok : goal.invariant_of-self-in-Ok
 invariant_of-self-in-Ok c =
-    grown (c.args.number / 64) (high_below c.args.number c.ranges.number.fits) c.self.invariant c.in_ok-know.ensures.ok c.know-2.new.marks.entries c.in-Ok.ensures.ok.others
+    grown (c.args.number / 64) (high_below c.args.number c.ranges.number.fits) c.self.invariant c.in_ok-know.ensures.ok
+    c.know-2.new.marks.entries c.in-Ok.ensures.ok.others
 
 pub invariant_of-self-in-Err : goal.invariant_of-self-in-Err
 invariant_of-self-in-Err c =
