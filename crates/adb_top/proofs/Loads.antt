@@ -1,5 +1,5 @@
 -- What a run of a load leaves.
-use Rattle.std.proofs.Common.{ℕ, ◌≡◌, ◌∙◌, List, ◌++◌, take, drop, Option, Some, Result, Err, subst}
+use Rattle.std.proofs.Common.{ℕ, ◌≡◌, ◌∙◌, List, ◌++◌, take, drop, Option, Some, Err, subst}
 use Rattle.std.proofs.lemmas.List.{take-append-drop}
 use Rattle.adb_history.specs.Machine.{History, IsLegal}
 use Rattle.adb_answered.proofs.ServedLaws.{answered}
