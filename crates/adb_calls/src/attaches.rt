@@ -70,7 +70,7 @@ fn next_id(tables: &Tables) -> u32
     ensures id { result ≡ tables.now.devices.drawn + 1 }
     ensures rises { IsRising tables.now.streams.streams }
 {
-    tables.streams.get(0);
+    tables.streams.are_sound();
     tables.devices.drawn() + 1
 }
 

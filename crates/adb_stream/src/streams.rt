@@ -138,6 +138,13 @@ impl Streams {
         self.shelf.len()
     }
 
+    /// What the streams of every server keep. It does nothing: its contract is the law.
+    pub fn are_sound(&self)
+        ensures { IsSound self.now }
+    {
+        let _ = &self.drawn;
+    }
+
     /// The least id of a stream of this link that lives.
     pub fn first_of(&self, link: u32) -> Option<u32>
         ensures first { MatchOption result
