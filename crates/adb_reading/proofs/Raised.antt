@@ -113,7 +113,7 @@ few_writes : (id : ℕ) (flow : Flow) (maxdata writes : ℕ) (row : Option SeenC
 few_writes id flow maxdata writes None is = omega arith
 few_writes id flow maxdata writes (Some client) is = by_test (is_for id client.about.phase)
   where
-    by_test : (b : Bool) → cond b (up_writes flow maxdata (length client.held)) 0 ≤ writes
+    by_test : (b : Bool) → cond b (up_writes flow 0 maxdata (length client.held)) 0 ≤ writes
     by_test true = is.within
     by_test false = omega arith
 

@@ -44,8 +44,8 @@ pub(crate) fn send(
     }
 }
 
-/// What is held of the client of a stream goes up, as far as the stream lets it. Where it lets
-/// nothing go now, nothing is made ready.
+/// What is held of the client of a stream goes up, as far as the stream lets it. No more is made
+/// ready, and nothing where it lets nothing go now.
 fn advance(tables: &mut Tables, id: u32) -> Result<(), AllocError>
     requires fit { IsFit tables.old }
     requires sized { IsSized tables.old }
@@ -174,9 +174,9 @@ fn prepare_row(row: &mut Client, flow: &Flow, maxdata: usize) -> Result<usize, A
     ensures ready { IfOk result (λ writes. IsPrepared writes flow.now maxdata row.new) }
 {
     let held = row.held();
-    let Some(writes) = up_writes(flow, maxdata, held) else {
+    let Some(writes) = up_writes(flow, 0, maxdata, held) else {
         return Err(AllocError);
     };
-    row.prepare_cuts(up_bytes(flow, maxdata, held), writes)?;
+    row.prepare_cuts(up_bytes(flow, 0, maxdata, held), writes)?;
     Ok(writes)
 }

@@ -15,7 +15,7 @@ use Rattle.adb_history.specs.Packets.{receives_on}
 use Rattle.adb_history.proofs.Received.{ReadTie, framed_piece, received}
 use Rattle.adb_history.proofs.Sweep.{up_to}
 use Rattle.adb_rules.specs.Sweep.{CoversUp}
-use Rattle.adb_rest.specs.Named.{AllStay, cut_behind}
+use Rattle.adb_rest.specs.Named.{granted, AllStay, cut_behind}
 use Rattle.adb_rest.specs.Resting.{AllSized}
 use Rattle.adb_rest.proofs.NamedStreams.{all_leave_still}
 use Rattle.adb_rest.proofs.RestingDevices.{sized}
@@ -39,7 +39,7 @@ module _ (h : History) (link : ℕ) (piece : List ℕ) (row : Link) (here : (sta
       let still = all_leave_still h legal link row here piece in
       let ruled = (rule (Recv link piece) (state h)).state in
       record {
-        stays = subst (AllStay (state h)) behind_piece still.stays;
+        stays = subst (AllStay (granted (cut_behind row piece).given) (state h)) behind_piece still.stays;
         sized = subst AllSized behind_piece
             (λ t. subst (λ devices. maxdata_of t devices ≤ MAX_PAYLOAD) (up_all_devices ruled.drawn ruled) (sized (Recv link piece ∷ h) t));
         covers = λ ids named. subst (λ (s : State). CoversUp ids s.drawn s) behind_piece (still.covers ids named);

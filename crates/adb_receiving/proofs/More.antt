@@ -37,39 +37,42 @@ room_more n (Some old) (Some new) h room =
     let same : kept_places new.about.phase ≡ kept_places old.about.phase = ap (λ (c : Client). kept_places c.about.phase) h.row in
     omega (arith, same, h.places, room)
 
-pub cut_more : (flow : Flow) (maxdata : ℕ) (old new : Option SeenClient) → HasMoreAt old new → IsCutFor flow maxdata old → IsCutFor flow maxdata new
-cut_more flow maxdata None None h cut = tt
-cut_more flow maxdata None (Some new) h cut = absurd h
-cut_more flow maxdata (Some old) None h cut = absurd h
-cut_more flow maxdata (Some old) (Some new) h cut =
-    let bytes = ap (up_bytes flow maxdata) (same_held h) in
-    let writes = ap (up_writes flow maxdata) (same_held h) in
+pub cut_more : (flow : Flow) (more maxdata : ℕ) (old new : Option SeenClient) → HasMoreAt old new → IsCutFor flow more maxdata old
+    → IsCutFor flow more maxdata new
+cut_more flow more maxdata None None h cut = tt
+cut_more flow more maxdata None (Some new) h cut = absurd h
+cut_more flow more maxdata (Some old) None h cut = absurd h
+cut_more flow more maxdata (Some old) (Some new) h cut =
+    let bytes = ap (up_bytes flow more maxdata) (same_held h) in
+    let writes = ap (up_writes flow more maxdata) (same_held h) in
     record { bytes = omega (arith, bytes, cut.bytes, h.ready); pieces = omega (arith, writes, cut.pieces, h.cuts) }
 
-pub same_writes : (flow : Flow) (maxdata : ℕ) (old new : Option SeenClient) → HasMoreAt old new → writes_of flow maxdata new ≡ writes_of flow maxdata old
-same_writes flow maxdata None None h = refl
-same_writes flow maxdata None (Some new) h = absurd h
-same_writes flow maxdata (Some old) None h = absurd h
-same_writes flow maxdata (Some old) (Some new) h = ap (up_writes flow maxdata) (same_held h)
+pub same_writes : (flow : Flow) (more maxdata : ℕ) (old new : Option SeenClient) → HasMoreAt old new
+    → writes_of flow more maxdata new ≡ writes_of flow more maxdata old
+same_writes flow more maxdata None None h = refl
+same_writes flow more maxdata None (Some new) h = absurd h
+same_writes flow more maxdata (Some old) None h = absurd h
+same_writes flow more maxdata (Some old) (Some new) h = ap (up_writes flow more maxdata) (same_held h)
 
 -- ---- all clients
-module _ (old new : List (ℕ × SeenClient)) (more : HaveMore old new) where
-  pub cut_at_more : (maxdata : ℕ) (row : Option Stream) → IsCutAt maxdata row old → IsCutAt maxdata row new
-  cut_at_more maxdata None cut = tt
-  cut_at_more maxdata (Some stream) cut =
-      cut_more stream.part.flow maxdata (at stream.client old) (at stream.client new) (more stream.client) cut
+module _ (old new : List (ℕ × SeenClient)) (have : HaveMore old new) where
+  pub cut_at_more : (more maxdata : ℕ) (row : Option Stream) → IsCutAt more maxdata row old → IsCutAt more maxdata row new
+  cut_at_more more maxdata None cut = tt
+  cut_at_more more maxdata (Some stream) cut =
+      cut_more stream.part.flow more maxdata (at stream.client old) (at stream.client new) (have stream.client) cut
 
-  pub same_writes_at : (maxdata : ℕ) (row : Option Stream) → writes_at maxdata row new ≡ writes_at maxdata row old
-  same_writes_at maxdata None = refl
-  same_writes_at maxdata (Some stream) = same_writes stream.part.flow maxdata (at stream.client old) (at stream.client new) (more stream.client)
+  pub same_writes_at : (more maxdata : ℕ) (row : Option Stream) → writes_at more maxdata row new ≡ writes_at more maxdata row old
+  same_writes_at more maxdata None = refl
+  same_writes_at more maxdata (Some stream) =
+      same_writes stream.part.flow more maxdata (at stream.client old) (at stream.client new) (have stream.client)
 
 pub have_more_then : (old now new : List (ℕ × SeenClient)) → HaveMore old now → HaveMore now new → HaveMore old new
 have_more_then old now new h k = λ c. more_then (at c old) (at c now) (at c new) (h c) (k c)
 
-pub same_all_writes : (old new : List (ℕ × SeenClient)) → HaveMore old new → (maxdata : ℕ) (ids : List ℕ) (streams : List (ℕ × Stream))
-    → all_writes maxdata ids streams new ≡ all_writes maxdata ids streams old
-same_all_writes old new more maxdata [] streams = refl
-same_all_writes old new more maxdata (l ∷ ids) streams =
-    let first = same_writes_at old new more maxdata (at l streams) in
-    let others = same_all_writes old new more maxdata ids streams in
+pub same_all_writes : (old new : List (ℕ × SeenClient)) → HaveMore old new → (more : ℕ → ℕ) (maxdata : ℕ) (ids : List ℕ) (streams : List (ℕ × Stream))
+    → all_writes more maxdata ids streams new ≡ all_writes more maxdata ids streams old
+same_all_writes old new have more maxdata [] streams = refl
+same_all_writes old new have more maxdata (l ∷ ids) streams =
+    let first = same_writes_at old new have (more l) maxdata (at l streams) in
+    let others = same_all_writes old new have more maxdata ids streams in
     omega (arith, first, others)

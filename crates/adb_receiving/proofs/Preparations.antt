@@ -57,26 +57,27 @@ pub record Written : Type 0 where
   pub clients : List (ℕ × SeenClient)
 
 -- What the clients of streams hold is ready, but for those that are left.
-pub record ArePrepared (maxdata : ℕ) (streams : List (ℕ × Stream)) (ids left : List ℕ) (old : List (ℕ × SeenClient)) (done : Written) : Type 0 where
+pub record ArePrepared (credit : ℕ → ℕ) (maxdata : ℕ) (streams : List (ℕ × Stream)) (ids left : List ℕ) (old : List (ℕ × SeenClient))
+    (done : Written) : Type 0 where
   pub more : HaveMore old done.clients
-  pub cut : (l : ℕ) → IsAmong l ids → IsCutAt maxdata (at l streams) done.clients ⊎ IsAmong l left
-  pub writes : done.writes + all_writes maxdata left streams old ≡ all_writes maxdata ids streams old
+  pub cut : (l : ℕ) → IsAmong l ids → IsCutAt (credit l) maxdata (at l streams) done.clients ⊎ IsAmong l left
+  pub writes : done.writes + all_writes credit maxdata left streams old ≡ all_writes credit maxdata ids streams old
 
-module _ (maxdata : ℕ) (streams : List (ℕ × Stream)) (ids : List ℕ) where
-  pub prepared_none : (old : List (ℕ × SeenClient)) → ArePrepared maxdata streams ids ids old (record { writes = 0; clients = old })
+module _ (credit : ℕ → ℕ) (maxdata : ℕ) (streams : List (ℕ × Stream)) (ids : List ℕ) where
+  pub prepared_none : (old : List (ℕ × SeenClient)) → ArePrepared credit maxdata streams ids ids old (record { writes = 0; clients = old })
   prepared_none old = record { more = λ c. more_stays (at c old); cut = λ l there. inr there; writes = omega arith }
 
-  pub prepared_one : {left : List ℕ} {old now new : List (ℕ × SeenClient)} (l before after : ℕ) → ArePrepared maxdata streams ids (l ∷ left) old
+  pub prepared_one : {left : List ℕ} {old now new : List (ℕ × SeenClient)} (l before after : ℕ) → ArePrepared credit maxdata streams ids (l ∷ left) old
       (record { writes = before; clients = now })
-      → HaveMore now new × IsCutAt maxdata (at l streams) new × (after ≡ before + writes_at maxdata (at l streams) now)
-      → ArePrepared maxdata streams ids left old (record { writes = after; clients = new })
+      → HaveMore now new × IsCutAt (credit l) maxdata (at l streams) new × (after ≡ before + writes_at (credit l) maxdata (at l streams) now)
+      → ArePrepared credit maxdata streams ids left old (record { writes = after; clients = new })
   prepared_one {left} {old} {now} {new} l before after h (more, cut, writes) = record {
     more = have_more_then old now new h.more more;
     cut = λ k there. by_place k (h.cut k there);
-    writes = let same = same_writes_at old now h.more maxdata (at l streams) in omega (arith, same, writes, h.writes);
+    writes = let same = same_writes_at old now h.more (credit l) maxdata (at l streams) in omega (arith, same, writes, h.writes);
   }
     where
-      by_place : (k : ℕ) → IsCutAt maxdata (at k streams) now ⊎ IsAmong k (l ∷ left) → IsCutAt maxdata (at k streams) new ⊎ IsAmong k left
-      by_place k (inl done) = inl (cut_at_more now new more maxdata (at k streams) done)
-      by_place k (inr (inl is)) = inl (subst (λ (q : ℕ). IsCutAt maxdata (at q streams) new) is cut)
+      by_place : (k : ℕ) → IsCutAt (credit k) maxdata (at k streams) now ⊎ IsAmong k (l ∷ left) → IsCutAt (credit k) maxdata (at k streams) new ⊎ IsAmong k left
+      by_place k (inl done) = inl (cut_at_more now new more (credit k) maxdata (at k streams) done)
+      by_place k (inr (inl is)) = inl (subst (λ (q : ℕ). IsCutAt (credit q) maxdata (at q streams) new) is cut)
       by_place k (inr (inr later)) = inr later

@@ -8,7 +8,8 @@ use Rattle.adb_rules.specs.declared.tables.Tables.{Tables}
 use Rattle.adb_rules.specs.Came.{packets_of, slices_in}
 use Rattle.adb_rules.specs.Places.{LinkRoom, ClientRoom}
 use Rattle.adb_rules.specs.Tracked.{IsAmong}
-use Rattle.adb_receiving.specs.Counting.{count_at}
+use Rattle.adb_rest.specs.Named.{granted}
+use Rattle.adb_receiving.specs.Counting.{count_at, credit_in}
 use Rattle.adb_receiving.specs.Naming.{AreNamedOn}
 use Rattle.adb_receiving.specs.Reserving.{HaveMore, IsCutAt, all_writes, IsReserved}
 use Rattle.adb_receiving.proofs.More.{room_more, same_all_writes}
@@ -22,9 +23,11 @@ pub record Reserving (link : ℕ) (packets : List Came) (ids : List ℕ) (middle
   pub more : HaveMore middle t.clients.entries
   pub maxdata : ℕ
   pub size : maxdata ≡ maxdata_of link t.devices
-  pub cut : (l : ℕ) → IsAmong l ids → IsCutAt maxdata (at l t.streams.streams) t.clients.entries
+  pub words : List (ℕ × ℕ)
+  pub given : (l : ℕ) → credit_in words l ≡ granted (packets_of packets) l
+  pub cut : (l : ℕ) → IsAmong l ids → IsCutAt (credit_in words l) maxdata (at l t.streams.streams) t.clients.entries
   pub writes : ℕ
-  pub written : writes ≡ all_writes maxdata ids t.streams.streams middle
+  pub written : writes ≡ all_writes (credit_in words) maxdata ids t.streams.streams middle
   pub room : LinkRoom (writes + length packets) (at link t.links.entries)
 
 pub is_reserved : {link : ℕ} {packets : List Came} {ids : List ℕ} {middle : List (ℕ × SeenClient)} {t : Tables} → Reserving link packets ids middle t
@@ -34,9 +37,15 @@ is_reserved {link} {packets} {ids} {middle} {t} h = record {
   clients = λ c.
       subst (λ (n : ℕ). ClientRoom n (at c t.clients.entries)) (h.counted c)
       (room_more (count_at (at c h.counts)) (at c middle) (at c t.clients.entries) (h.more c) (h.served c));
-  cut = λ l there. subst (λ (n : ℕ). IsCutAt n (at l t.streams.streams) t.clients.entries) h.size (h.cut l there);
+  cut = λ l there.
+      subst (λ (n : ℕ). IsCutAt (granted (packets_of packets) l) n (at l t.streams.streams) t.clients.entries) h.size
+      (subst (λ (n : ℕ). IsCutAt n h.maxdata (at l t.streams.streams) t.clients.entries) (h.given l) (h.cut l there));
   room =
-      let same = same_all_writes middle t.clients.entries h.more (maxdata_of link t.devices) ids t.streams.streams in
-      let writes = h.written ∙ (ap (λ (n : ℕ). all_writes n ids t.streams.streams middle) h.size ∙ sym same) in
+      let given : credit_in h.words ≡ granted (packets_of packets) = λ i. λ l. h.given l i in
+      let same = same_all_writes middle t.clients.entries h.more (granted (packets_of packets)) (maxdata_of link t.devices) ids t.streams.streams in
+      let writes =
+      h.written
+      ∙ (ap (λ (credit : ℕ → ℕ). all_writes credit h.maxdata ids t.streams.streams middle) given
+      ∙ (ap (λ (n : ℕ). all_writes (granted (packets_of packets)) n ids t.streams.streams middle) h.size ∙ sym same)) in
       subst (λ (n : ℕ). LinkRoom (n + length packets) (at link t.links.entries)) writes h.room;
 }

@@ -24,7 +24,7 @@ use Rattle.adb_rules.specs.Up.{IsSized}
 use Rattle.adb_rules.proofs.Staying.{read_then}
 use Rattle.adb_rules.proofs.Taking.{provided_after}
 use Rattle.adb_rules.proofs.Using.{more_room}
-use Rattle.adb_rest.specs.Named.{AllStay, AreNamed}
+use Rattle.adb_rest.specs.Named.{granted, AllStay, AreNamed}
 use Rattle.adb_receiving.specs.declared.cutting.Cutting.{Cutting}
 use Rattle.adb_receiving.specs.Cutting.{cut_in}
 use Rattle.adb_receiving.specs.Reserving.{all_writes, IsReserved}
@@ -61,7 +61,7 @@ module _ {link : ℕ} {packets : List Came} {ids : List ℕ} {old : Tables} (res
   module _ {incoming : Deframing} {middle : Tables} (puts : PutsIncoming link incoming old middle) where
     pub room_put : LinkRoom (length packets) (at link middle.links.entries)
     room_put =
-        let all = all_writes (maxdata_of link old.devices) ids old.streams.streams old.clients.entries in
+        let all = all_writes (granted (packets_of packets)) (maxdata_of link old.devices) ids old.streams.streams old.clients.entries in
         put_room link incoming old middle puts (length packets) link
         (more_room (all + length packets) (length packets) (at link old.links.entries) (omega arith) reserved.room)
 
@@ -87,10 +87,10 @@ module _ {link : ℕ} {cutting : Cutting} {ids : List ℕ} {old middle new : Tab
   pub ready_each : IsReadyEach ids new
   ready_each =
       ready_behind h.can.reserved (record {
-        stays = subst (AllStay (state_of old)) (sym behind_is) h.can.leaves.stays;
+        stays = subst (AllStay (granted (packets_of cutting.packets.items)) (state_of old)) (sym behind_is) h.can.leaves.stays;
         held = λ c. subst (λ (t : Tables). StaysHeld (at c t.clients.entries) (at c new.clients.entries)) h.puts.others (h.takes.held c);
       })
-      (let all = all_writes (maxdata_of link old.devices) ids old.streams.streams old.clients.entries in
+      (let all = all_writes (granted (packets_of cutting.packets.items)) (maxdata_of link old.devices) ids old.streams.streams old.clients.entries in
       h.takes.on_link all (put_room link cutting.incoming old middle h.puts (all + length cutting.packets.items) link h.can.reserved.room))
       provided_behind.links
 

@@ -10,6 +10,10 @@ abbrev pub count_at : Option ℕ → ℕ
 count_at None = 0
 count_at (Some n) = n
 
+-- how much credit was counted for the stream of each id
+abbrev pub credit_in : List (ℕ × ℕ) → ℕ → ℕ
+credit_in words l = count_at (at l words)
+
 -- the client to which a packet may make something due
 abbrev pub fed_if : Bool → Option Stream → Option ℕ
 fed_if false row = None

@@ -13,6 +13,7 @@ use Rattle.adb_rules.specs.Places.{LinkRoom, ClientRoom}
 use Rattle.adb_rules.specs.Tables.{client_row}
 use Rattle.adb_rules.specs.Tracked.{IsAmong}
 use Rattle.adb_rules.specs.Up.{IsCut, up_writes}
+use Rattle.adb_rest.specs.Named.{granted}
 use Rattle.adb_receiving.specs.Naming.{AreNamedOn}
 
 -- ---- clients
@@ -32,27 +33,27 @@ HasMoreAt (Some old) (Some new) = HasMore old new
 abbrev pub HaveMore : (old new : List (ℕ × SeenClient)) → Type 0
 HaveMore old new = (c : ℕ) → HasMoreAt (at c old) (at c new)
 
--- Of what a client holds so much is ready as a stream of that flow may write, whatever the client waits for.
-abbrev pub IsCutFor : Flow → (maxdata : ℕ) → Option SeenClient → Type 0
-IsCutFor flow maxdata None = Unit {0}
-IsCutFor flow maxdata (Some client) = IsCut flow maxdata client
+-- Of what a client holds so much is ready as a stream of that flow may write behind credit for so much more, whatever the client waits for.
+abbrev pub IsCutFor : Flow → (more maxdata : ℕ) → Option SeenClient → Type 0
+IsCutFor flow more maxdata None = Unit {0}
+IsCutFor flow more maxdata (Some client) = IsCut flow more maxdata client
 
-abbrev pub IsCutAt : (maxdata : ℕ) → Option Stream → List (ℕ × SeenClient) → Type 0
-IsCutAt maxdata None clients = Unit {0}
-IsCutAt maxdata (Some stream) clients = IsCutFor stream.part.flow maxdata (at stream.client clients)
+abbrev pub IsCutAt : (more maxdata : ℕ) → Option Stream → List (ℕ × SeenClient) → Type 0
+IsCutAt more maxdata None clients = Unit {0}
+IsCutAt more maxdata (Some stream) clients = IsCutFor stream.part.flow more maxdata (at stream.client clients)
 
 -- in how many writes at most
-abbrev pub writes_of : Flow → (maxdata : ℕ) → Option SeenClient → ℕ
-writes_of flow maxdata None = 0
-writes_of flow maxdata (Some client) = up_writes flow maxdata (length client.held)
+abbrev pub writes_of : Flow → (more maxdata : ℕ) → Option SeenClient → ℕ
+writes_of flow more maxdata None = 0
+writes_of flow more maxdata (Some client) = up_writes flow more maxdata (length client.held)
 
-abbrev pub writes_at : (maxdata : ℕ) → Option Stream → List (ℕ × SeenClient) → ℕ
-writes_at maxdata None clients = 0
-writes_at maxdata (Some stream) clients = writes_of stream.part.flow maxdata (at stream.client clients)
+abbrev pub writes_at : (more maxdata : ℕ) → Option Stream → List (ℕ × SeenClient) → ℕ
+writes_at more maxdata None clients = 0
+writes_at more maxdata (Some stream) clients = writes_of stream.part.flow more maxdata (at stream.client clients)
 
-abbrev pub all_writes : (maxdata : ℕ) → List ℕ → List (ℕ × Stream) → List (ℕ × SeenClient) → ℕ
-all_writes maxdata [] streams clients = 0
-all_writes maxdata (l ∷ ids) streams clients = writes_at maxdata (at l streams) clients + all_writes maxdata ids streams clients
+abbrev pub all_writes : (more : ℕ → ℕ) (maxdata : ℕ) → List ℕ → List (ℕ × Stream) → List (ℕ × SeenClient) → ℕ
+all_writes more maxdata [] streams clients = 0
+all_writes more maxdata (l ∷ ids) streams clients = writes_at (more l) maxdata (at l streams) clients + all_writes more maxdata ids streams clients
 
 -- ---- links
 -- A link is as it was, but for places, of which there may be more.
@@ -78,5 +79,8 @@ pub record AreReserved (old new : Tables) : Type 0 where
 pub record IsReserved (link : ℕ) (packets : List Came) (ids : List ℕ) (t : Tables) : Type 0 where
   pub named : AreNamedOn link (packets_of packets) t.streams.streams ids
   pub clients : (c : ℕ) → ClientRoom (slices_in (packets_of packets) t.streams.streams c) (at c t.clients.entries)
-  pub cut : (l : ℕ) → IsAmong l ids → IsCutAt (maxdata_of link t.devices) (at l t.streams.streams) t.clients.entries
-  pub room : LinkRoom (all_writes (maxdata_of link t.devices) ids t.streams.streams t.clients.entries + length packets) (at link t.links.entries)
+  pub cut : (l : ℕ) → IsAmong l ids
+      → IsCutAt (granted (packets_of packets) l) (maxdata_of link t.devices) (at l t.streams.streams) t.clients.entries
+  pub room : LinkRoom
+      (all_writes (granted (packets_of packets)) (maxdata_of link t.devices) ids t.streams.streams t.clients.entries + length packets)
+      (at link t.links.entries)

@@ -10,7 +10,7 @@ use Rattle.adb_rules.specs.declared.tables.Tables.{Tables}
 use Rattle.adb_rules.specs.Tables.{state_of}
 use Rattle.adb_rules.specs.Places.{IsProvided, StaysRead}
 use Rattle.adb_rules.specs.Sweep.{CoversUp}
-use Rattle.adb_rest.specs.Named.{AllStay, AreNamed}
+use Rattle.adb_rest.specs.Named.{granted, AllStay, AreNamed}
 use Rattle.adb_rest.specs.Resting.{AllSized}
 use Rattle.adb_receiving.specs.declared.cutting.Cutting.{Cutting}
 use Rattle.adb_receiving.specs.Cutting.{IsCutting, cut_in}
@@ -30,9 +30,9 @@ pub record PutsIncoming (link : ℕ) (incoming : Deframing) (old new : Tables) :
 abbrev pub behind : ℕ → Deframing → State → State
 behind link c s = (receives_cut link c s).state
 
--- Behind them no device takes more than the server, each stream that is still there is as it was, and only those may send that they name.
+-- Behind them no device takes more than the server, each stream that is still there is as it was but for its credit, and only those may send that they name.
 pub record LeavesNamed (link : ℕ) (c : Deframing) (s : State) : Type 0 where
-  pub stays : AllStay s (behind link c s)
+  pub stays : AllStay (granted c.given) s (behind link c s)
   pub sized : AllSized (behind link c s)
   pub covers : (ids : List ℕ) → AreNamed c.given link s ids → CoversUp ids (behind link c s).drawn (behind link c s)
 

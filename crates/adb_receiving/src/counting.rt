@@ -1,6 +1,6 @@
 //! How many slices become due to each client, at most, by packets.
 
-ghost use Rattle.std.specs.Prelude.{◌≡◌, ◌+◌, ℕ, IfOk, OnOk};
+ghost use Rattle.std.specs.Prelude.{◌≡◌, ◌+◌, ℕ, if◌then◌else◌, nat_eq, IfOk, OnOk};
 ghost use Rattle.adb_outside.specs.Tables.{at};
 ghost use Rattle.adb_rules.specs.Came.{packet_of, packets_of, slices_for, slices_in};
 ghost use Rattle.adb_receiving.specs.Counting.{count_at, fed_client};
@@ -37,12 +37,10 @@ fn count_also(
         ≡ count_at (at c counts.old.entries)
         + slices_for (packet_of came.now) streams.now.streams c) }
 {
-    if let Some(client) = fed_client(streams, came) {
-        let before = counts.get(&client).copied().unwrap_or(0);
-        let now = sum(before, 1)?;
-        counts.insert(client, now)?;
+    match fed_client(streams, came) {
+        Some(client) => add(counts, client, 1),
+        None => Ok(()),
     }
-    Ok(())
 }
 
 /// The client to which a packet may make something due.
@@ -53,6 +51,27 @@ fn fed_client(streams: &Streams, came: &Came) -> Option<u32>
         Command::Okay | Command::Wrte => { streams.get(came.head.arg1).map(|stream| stream.client) }
         _ => None,
     }
+}
+
+/// So many more are counted for a number.
+pub(crate) fn add(
+    counts: &mut BTreeMap<u32, usize>,
+    number: u32,
+    n: usize,
+) -> Result<(), AllocError>
+    ensures { OnOk result ((k : ℕ) → count_at (at k counts.new.entries)
+        ≡ count_at (at k counts.old.entries) + (if nat_eq number k then n else 0)) }
+{
+    let now = sum(counted(counts, number), n)?;
+    counts.insert(number, now)?;
+    Ok(())
+}
+
+/// How many were counted for a number.
+pub(crate) fn counted(counts: &BTreeMap<u32, usize>, number: u32) -> usize
+    ensures { result ≡ count_at (at number counts.now.entries) }
+{
+    counts.get(&number).copied().unwrap_or(0)
 }
 
 /// The sum of two counts. What can't be counted would not have memory either.

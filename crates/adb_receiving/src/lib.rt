@@ -4,6 +4,7 @@
 
 mod counting;
 mod cutting;
+mod granting;
 mod naming;
 mod preparing;
 mod receiving;

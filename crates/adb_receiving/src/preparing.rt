@@ -5,10 +5,10 @@ ghost use Rattle.adb_outside.specs.Tables.{at};
 ghost use Rattle.adb_rules.specs.Places.{ClientRoom, kept_places};
 ghost use Rattle.adb_rules.specs.Up.{IsCut, up_writes};
 ghost use Rattle.adb_rules.specs.Tracked.{IsAmong};
-ghost use Rattle.adb_receiving.specs.Counting.{count_at};
+ghost use Rattle.adb_receiving.specs.Counting.{count_at, credit_in};
 ghost use Rattle.adb_receiving.specs.Reserving.{HasMore, HaveMore, IsCutAt, IsCutFor, writes_at, writes_of, all_writes};
 
-use crate::counting::sum;
+use crate::counting::{counted, sum};
 use adb_client::{Client, Phase};
 use adb_roster::Roster;
 use adb_rules::{up_bytes, up_writes};
@@ -62,23 +62,27 @@ fn kept_places(phase: Phase) -> usize
     }
 }
 
-/// Makes ready what the clients of these streams hold, as much as each stream may write; says in
-/// how many writes at most. The device of all of them takes `maxdata` bytes in one packet.
+/// Makes ready what the clients of these streams hold, as much as each stream may write behind the
+/// credit that it is given; says in how many writes at most. The device of all of them takes
+/// `maxdata` bytes in one packet.
 pub(crate) fn prepare_each(
     clients: &mut Roster<Client>,
     streams: &Streams,
     ids: &BTreeSet<u32>,
+    given: &BTreeMap<u32, usize>,
     maxdata: usize,
 ) -> Result<usize, AllocError>
     ensures more { HaveMore clients.old.entries clients.new.entries }
     ensures cut { OnOk result ((l : ℕ) → IsAmong l ids.now.keys
-        → IsCutAt maxdata (at l streams.now.streams) clients.new.entries) }
-    ensures writes { IfOk result (λ writes. writes
-        ≡ all_writes maxdata ids.now.keys streams.now.streams clients.old.entries) }
+        → IsCutAt (credit_in given.now.entries l) maxdata
+        (at l streams.now.streams) clients.new.entries) }
+    ensures writes { IfOk result (λ writes. writes ≡ all_writes (credit_in given.now.entries)
+        maxdata ids.now.keys streams.now.streams clients.old.entries) }
 {
     let mut writes = 0usize;
     for id in ids.iter() {
-        writes = prepare_also(clients, streams.get(*id).copied(), maxdata, writes)?;
+        let more = counted(given, *id);
+        writes = prepare_also(clients, streams.get(*id).copied(), more, maxdata, writes)?;
     }
     Ok(writes)
 }
@@ -87,55 +91,55 @@ pub(crate) fn prepare_each(
 fn prepare_also(
     clients: &mut Roster<Client>,
     stream: Option<Stream>,
+    more: usize,
     maxdata: usize,
     before: usize,
 ) -> Result<usize, AllocError>
     ensures more { HaveMore clients.old.entries clients.new.entries }
-    ensures cut { OnOk result (IsCutAt maxdata stream clients.new.entries) }
+    ensures cut { OnOk result (IsCutAt more maxdata stream clients.new.entries) }
     ensures writes { IfOk result (λ writes. writes
-        ≡ before + writes_at maxdata stream clients.old.entries) }
+        ≡ before + writes_at more maxdata stream clients.old.entries) }
 {
     let Some(stream) = stream else {
         return Ok(before);
     };
-    let writes = prepare_at(clients, &stream, maxdata)?;
+    let writes = prepare_at(clients, &stream, more, maxdata)?;
     sum(before, writes)
 }
 
 fn prepare_at(
     clients: &mut Roster<Client>,
     stream: &Stream,
+    more: usize,
     maxdata: usize,
 ) -> Result<usize, AllocError>
     ensures more { HaveMore clients.old.entries clients.new.entries }
-    ensures cut { OnOk result (IsCutFor stream.now.part.flow maxdata
+    ensures cut { OnOk result (IsCutFor stream.now.part.flow more maxdata
         (at stream.now.client clients.new.entries)) }
-    ensures writes { IfOk result (λ writes. writes ≡ writes_of stream.now.part.flow maxdata
+    ensures writes { IfOk result (λ writes. writes ≡ writes_of stream.now.part.flow more maxdata
         (at stream.now.client clients.old.entries)) }
 {
     match clients.get_mut(&stream.client) {
-        Some(row) => prepare(row, &stream.part.flow, maxdata),
+        Some(row) => prepare(row, &stream.part.flow, more, maxdata),
         None => Ok(0),
     }
 }
 
-/// Makes ready what a client holds, as much as a stream of that flow may write; says in how many
-/// writes at most.
-fn prepare(client: &mut Client, flow: &Flow, maxdata: usize) -> Result<usize, AllocError>
+/// Makes ready what a client holds, as much as a stream of that flow may write behind credit for so
+/// many bytes more; says in how many writes at most.
+fn prepare(
+    client: &mut Client,
+    flow: &Flow,
+    more: usize,
+    maxdata: usize,
+) -> Result<usize, AllocError>
     ensures more { HasMore client.old client.new }
-    ensures cut { OnOk result (IsCut flow.now maxdata client.new) }
+    ensures cut { OnOk result (IsCut flow.now more maxdata client.new) }
     ensures writes { IfOk result (λ writes. writes
-        ≡ up_writes flow.now maxdata (length client.old.held)) }
+        ≡ up_writes flow.now more maxdata (length client.old.held)) }
 {
     let held = client.held();
-    let writes = most_writes(flow, maxdata, held)?;
-    client.prepare_cuts(up_bytes(flow, maxdata, held), writes)?;
+    let writes = up_writes(flow, more, maxdata, held).ok_or(AllocError)?;
+    client.prepare_cuts(up_bytes(flow, more, maxdata, held), writes)?;
     Ok(writes)
-}
-
-/// In how many writes at most.
-fn most_writes(flow: &Flow, maxdata: usize, held: usize) -> Result<usize, AllocError>
-    ensures { IfOk result (λ writes. writes ≡ up_writes flow.now maxdata held) }
-{
-    up_writes(flow, maxdata, held).ok_or(AllocError)
 }

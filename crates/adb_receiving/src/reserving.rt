@@ -7,6 +7,7 @@ ghost use Rattle.adb_rules.specs.Fit.{IsFit};
 ghost use Rattle.adb_receiving.specs.Reserving.{HasMorePlaces, HasMorePlacesAt, AreReserved, IsReserved};
 
 use crate::counting::{count, sum};
+use crate::granting::granted;
 use crate::naming::named;
 use crate::preparing::{prepare_each, reserve_each};
 use adb_roster::Roster;
@@ -27,10 +28,11 @@ pub(crate) fn reserve(
         IsReserved link packets.now.items ids.keys tables.new) }
 {
     let ids = named(tables.alloc, &tables.streams, link, packets)?;
+    let given = granted(tables.alloc, packets)?;
     let counts = count(tables.alloc, &tables.streams, packets)?;
     reserve_each(&mut tables.clients, &counts)?;
     let maxdata = tables.maxdata_of(link);
-    let writes = prepare_each(&mut tables.clients, &tables.streams, &ids, maxdata)?;
+    let writes = prepare_each(&mut tables.clients, &tables.streams, &ids, &given, maxdata)?;
     let places = sum(writes, packets.len())?;
     reserve_on(&mut tables.links, link, places)?;
     Ok(ids)

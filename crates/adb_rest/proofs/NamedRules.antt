@@ -1,7 +1,7 @@
 -- What the rules of a packet make of the rows, and of the devices of the streams that are still there.
-use Rattle.std.proofs.Common.{ℕ, ◌≡◌, Bool, true, false, cond, not, ◌&&◌, ◌||◌, zero, suc, List, [], ◌∷◌, ◌++◌, length, min, Option, Some, None, refl, sym}
+use Rattle.std.proofs.Common.{ℕ, ◌+◌, ◌≡◌, ◌≤◌, arith, Bool, true, false, cond, not, ◌&&◌, ◌||◌, zero, suc, List, [], ◌∷◌, ◌++◌, length, min, Option, Some, None, refl, sym}
 use Rattle.std.proofs.Common.{◌∙◌, ap, subst, eqb}
-use Rattle.std.specs.Prelude.{codes, nat_eq, nat_lt}
+use Rattle.std.specs.Prelude.{codes, nat_eq, nat_lt, unwrap_or}
 use Rattle.std.proofs.lemmas.Bool.{eqb-true}
 use Rattle.adb_outside.specs.Tables.{at}
 use Rattle.adb_outside.proofs.TableLaws.{puts_without}
@@ -42,7 +42,9 @@ use Rattle.adb_history.proofs.Linking.{changed_other_at}
 use Rattle.adb_history.proofs.LinkMoves.{IsCleared, all_cleared, first_cleared}
 use Rattle.adb_history.proofs.PacketMoves.{hears_streams}
 use Rattle.adb_rules.specs.Tracked.{IsAmong}
-use Rattle.adb_rest.proofs.NamedRows.{kept_of, LetsSame, AllWere, all_same, all_then, owes_were, closes_were, opens_were, marks_were, goes_were, parts_were}
+use Rattle.adb_rest.specs.Named.{credit_to_send, no_credit}
+use Rattle.adb_rest.proofs.NamedRows.{kept_of, LetsSame, Follows, AllWere, all_same, all_then, more_then, none_before, none_behind, all_within}
+use Rattle.adb_rest.proofs.NamedRows.{owes_were, closes_were, opens_were, marks_were, goes_were, parts_were}
 
 -- ---- flows
 credit_first : (word : Option ℕ) (flow : Flow) → has_credit (first_credit word flow) ≡ has_credit flow
@@ -62,6 +64,20 @@ same_over : (old now : Flow) → is_idle now ≡ is_idle old → (ended : Bool) 
 same_over old now same ended [] = ap (λ b. ended && b) same
 same_over old now same ended (b ∷ held) = refl
 
+-- credit is given by an OKAY
+more_first : (word : Option ℕ) (flow : Flow) → credit_to_send (first_credit word flow) ≤ credit_to_send flow + unwrap_or word 0
+more_first word (One window) = omega arith
+more_first word (Credit credit) = omega arith
+
+more_acknowledged : (word : Option ℕ) (flow : Flow) → credit_to_send (acknowledged word flow) ≤ credit_to_send flow + unwrap_or word 0
+more_acknowledged word (One window) = omega arith
+more_acknowledged None (Credit credit) = omega arith
+more_acknowledged (Some n) (Credit credit) = omega arith
+
+more_accepted : (n : ℕ) (flow : Flow) → credit_to_send (accepted n flow) ≤ credit_to_send flow + 0
+more_accepted n (One window) = omega arith
+more_accepted n (Credit credit) = omega arith
+
 -- what was accepted changes nothing of what may go up
 lets_accepted : (n : ℕ) (flow : Flow) → LetsSame flow (accepted n flow)
 lets_accepted n (One window) = record { payloads = λ maxdata held. refl; over = same_over (One window) (accepted n (One window)) refl }
@@ -69,31 +85,68 @@ lets_accepted n (Credit credit) = record { payloads = λ maxdata held. refl; ove
 
 module _ (ids : List ℕ) where
   abbrev pub Were : State → State → Type 0
-  Were s now = AllWere ids (kept_of s) (kept_of now)
+  Were s now = AllWere ids no_credit (kept_of s) (kept_of now)
 
-  -- The rows were there before, and of the streams that are still there the devices are as they were.
-  pub record Passes (s now : State) : Type 0 where
-    pub rows : AllWere ids (kept_of s) (kept_of now)
+  -- The rows were there before, the streams with so much credit more at most, and of the streams that are still there the devices are as they were.
+  pub record PassesWith (more : ℕ → ℕ) (s now : State) : Type 0 where
+    pub rows : AllWere ids more (kept_of s) (kept_of now)
     pub devices : (l : ℕ) (stream : Stream) → now.streams l ≡ Some stream → at stream.link now.devices.rows ≡ at stream.link s.devices.rows
 
-  pub passes_plain : (s now : State) → now.devices ≡ s.devices → Were s now → Passes s now
+  -- No credit was given.
+  abbrev pub Passes : State → State → Type 0
+  Passes s now = PassesWith no_credit s now
+
+  pub passes_plain : {more : ℕ → ℕ} (s now : State) → now.devices ≡ s.devices → AllWere ids more (kept_of s) (kept_of now) → PassesWith more s now
   passes_plain s now same rows = record { rows = rows; devices = λ l stream is. ap (λ devices. at stream.link devices.rows) same }
 
-  pub passes_same : (s : State) → Passes s s
+  pub passes_same : {more : ℕ → ℕ} (s : State) → PassesWith more s s
   passes_same s = passes_plain s s refl (all_same ids (kept_of s))
 
-  pub passes_then : (a b c : State) → Passes a b → Passes b c → Passes a c
-  passes_then a b c h k = record {
-    rows = all_then ids (kept_of a) (kept_of b) (kept_of c) h.rows k.rows;
+  pub more_passes : {m n : ℕ → ℕ} (a b c : State) → PassesWith m a b → PassesWith n b c → PassesWith (λ l. m l + n l) a c
+  more_passes a b c h k = record {
+    rows = more_then ids (kept_of a) (kept_of b) (kept_of c) h.rows k.rows;
     devices = λ l stream is.
         let was = k.rows.streams l stream is in
         k.devices l stream is
         ∙ subst (λ (t : ℕ). at t b.devices.rows ≡ at t a.devices.rows) (sym was.link) (h.devices l was.old was.is);
   }
 
-  pub passes_if : (s : State) (b : Bool) (m n : Made) → (b ≡ true → Passes s m.state) → (b ≡ false → Passes s n.state) → Passes s (cond b m n).state
+  pub passes_then : (a b c : State) → Passes a b → Passes b c → Passes a c
+  passes_then a b c h k = more_passes a b c h k
+
+  -- no credit before some, or behind it
+  pub passes_before : {more : ℕ → ℕ} (a b c : State) → Passes a b → PassesWith more b c → PassesWith more a c
+  passes_before {more} a b c h k =
+      let both : PassesWith (λ l. 0 + more l) a c = more_passes a b c h k in
+      record { rows = none_before ids (kept_of a) (kept_of b) (kept_of c) h.rows k.rows; devices = both.devices }
+
+  pub passes_behind : {more : ℕ → ℕ} (a b c : State) → PassesWith more a b → Passes b c → PassesWith more a c
+  passes_behind {more} a b c h k =
+      let both : PassesWith (λ l. more l + 0) a c = more_passes a b c h k in
+      record { rows = none_behind ids (kept_of a) (kept_of b) (kept_of c) h.rows k.rows; devices = both.devices }
+
+  -- where no credit was given, no more was than any
+  pub passes_within : {more : ℕ → ℕ} (s now : State) → Passes s now → PassesWith more s now
+  passes_within s now h = record { rows = all_within ids (kept_of s) (kept_of now) h.rows; devices = h.devices }
+
+  pub passes_if : {more : ℕ → ℕ} (s : State) (b : Bool) (m n : Made) → (b ≡ true → PassesWith more s m.state) → (b ≡ false → PassesWith more s n.state)
+      → PassesWith more s (cond b m n).state
   passes_if s true m n one other = one refl
   passes_if s false m n one other = other refl
+
+  -- ---- flows
+  follows_accepted : (l n : ℕ) (flow : Flow) → Follows ids l 0 flow (accepted n flow)
+  follows_accepted l n flow = record { credit = credit_accepted n flow; most = more_accepted n flow; lets = λ none. lets_accepted n flow }
+
+  follows_first : (l : ℕ) {more : ℕ} (word : Option ℕ) (flow : Flow) → IsAmong l ids → unwrap_or word 0 ≤ more
+      → Follows ids l more flow (first_credit word flow)
+  follows_first l word flow named enough =
+      record { credit = credit_first word flow; most = omega (arith, more_first word flow, enough); lets = λ none. absurd (none named) }
+
+  follows_acknowledged : (l : ℕ) {more : ℕ} (word : Option ℕ) (flow : Flow) → IsAmong l ids → unwrap_or word 0 ≤ more
+      → Follows ids l more flow (acknowledged word flow)
+  follows_acknowledged l word flow named enough =
+      record { credit = credit_acknowledged word flow; most = omega (arith, more_acknowledged word flow, enough); lets = λ none. absurd (none named) }
 
   -- ---- a stream ends
   loses_were : (forwarded : Bool) (phase : Phase) (c : ℕ) (s : State) → Were s (loses forwarded phase c s).state
@@ -122,7 +175,7 @@ module _ (ids : List ℕ) where
   ends_row_were l ending stream s =
       let gone : State = to_stream l none_kept s in
       let now : State = (client_loses (s.clients stream.client) stream.client gone).state in
-      subst (λ (x : State). AllWere ids (kept_of s) (kept_of x)) (sym (ends_state l ending stream s))
+      subst (λ (x : State). AllWere ids no_credit (kept_of s) (kept_of x)) (sym (ends_state l ending stream s))
       (all_then ids (kept_of s) (kept_of gone) (kept_of now) (goes_were ids l (kept_of s)) (client_loses_were (s.clients stream.client) stream.client gone))
 
   ends_row_devices : (l : ℕ) (ending : Ending) (stream : Stream) (s : State) → (ends_row l ending stream s).state.devices ≡ s.devices
@@ -145,7 +198,7 @@ module _ (ids : List ℕ) where
   ends_if_were t l ending None s = all_same ids (kept_of s)
   ends_if_were t l ending (Some stream) s = go (nat_eq stream.link t)
     where
-      go : (b : Bool) → AllWere ids (kept_of s) (kept_of (cond b (ends_row l ending stream s) (quietly s)).state)
+      go : (b : Bool) → AllWere ids no_credit (kept_of s) (kept_of (cond b (ends_row l ending stream s) (quietly s)).state)
       go true = ends_row_were l ending stream s
       go false = all_same ids (kept_of s)
 
@@ -238,8 +291,9 @@ module _ (ids : List ℕ) where
         passes_if s (eqb id 0) (quietly s) (owe_link t (close_packet 0 id) s) (λ e. passes_same s)
         (λ e. passes_plain s (owe_link t (close_packet 0 id) s).state refl (all_same ids (kept_of s)))
 
-    pub at_stream_passes : (t l : ℕ) (o : Option Stream) (rule : Stream → State → Made) → s.streams l ≡ o
-        → ((stream : Stream) → s.streams l ≡ Some stream → stream.link ≡ t → Passes s (rule stream s).state) → Passes s (at_stream t o rule s).state
+    pub at_stream_passes : {more : ℕ → ℕ} (t l : ℕ) (o : Option Stream) (rule : Stream → State → Made) → s.streams l ≡ o
+        → ((stream : Stream) → s.streams l ≡ Some stream → stream.link ≡ t → PassesWith more s (rule stream s).state)
+        → PassesWith more s (at_stream t o rule s).state
     at_stream_passes t l None rule is makes = passes_same s
     at_stream_passes t l (Some stream) rule is makes =
         passes_if s (nat_eq stream.link t) (rule stream s) (quietly s) (λ e. makes stream is (eqb-true stream.link t e)) (λ e. passes_same s)
@@ -257,7 +311,7 @@ module _ (ids : List ℕ) where
         let taken : State = to_stream l (with_stream_part part) s in
         passes_plain s (accepts l (b ∷ payload) stream s).state refl
         (all_then ids (kept_of s) (kept_of taken) (kept_of (accepts l (b ∷ payload) stream s).state)
-        (parts_were ids l stream part (kept_of s) is (credit_accepted n stream.part.flow, λ none. lets_accepted n stream.part.flow))
+        (parts_were ids l stream part (kept_of s) is (follows_accepted l n stream.part.flow))
         (owes_were ids stream.client (b ∷ payload) (kept_of taken)))
 
     pub write_passes : (l remote : ℕ) (payload : List ℕ) (stream : Stream) → s.streams l ≡ Some stream → Passes s (takes_write l remote payload stream s).state
@@ -274,7 +328,8 @@ module _ (ids : List ℕ) where
         (λ e. ends_passes l peer_closed stream s) (λ e. passes_same s)
 
     -- ---- OKAY
-    module _ (l remote : ℕ) (word : Option ℕ) (stream : Stream) (is : s.streams l ≡ Some stream) (named : IsAmong l ids) where
+    module _ (l remote : ℕ) (word : Option ℕ) (stream : Stream) (is : s.streams l ≡ Some stream) (named : IsAmong l ids)
+        (more : ℕ → ℕ) (enough : unwrap_or word 0 ≤ more l) where
       hears_passes : (o : Option Client) (c : ℕ) → Passes s (hears_okay o c s).state
       hears_passes None c = passes_same s
       hears_passes (Some client) c = passes_if s client.about.forwarded (quietly s) (owe_client c (codes "OKAY") s) (λ e. passes_same s)
@@ -303,10 +358,10 @@ module _ (ids : List ℕ) where
           let same : owner.client ≡ client = (let both : Some owner.client ≡ Some client = sym owner.is ∙ there in cc) in
           ap (λ (x : Client). x.about.phase) (sym same) ∙ (owner.phase ∙ ap (phase_for l) new)
 
-      opened_passes : stream.part.orphan ≡ false → stream.part.remote ≡ 0 → Passes s (opened l remote word stream s).state
-      opened_passes owned new = passes_then s heard now (hears_passes (s.clients stream.client) stream.client)
-          (passes_plain heard now refl (all_then ids (kept_of heard) (kept_of put) (kept_of now)
-          (parts_were ids l stream part (kept_of heard) here (credit_first word stream.part.flow, λ none. absurd (none named)))
+      opened_passes : stream.part.orphan ≡ false → stream.part.remote ≡ 0 → PassesWith more s (opened l remote word stream s).state
+      opened_passes owned new = passes_before s heard now (hears_passes (s.clients stream.client) stream.client)
+          (passes_plain heard now refl (none_behind ids (kept_of heard) (kept_of put) (kept_of now)
+          (parts_were ids l stream part (kept_of heard) here (follows_first l word stream.part.flow named enough))
           (opens_were ids stream.client l (kept_of put) named asked)))
         where
           part : Part
@@ -328,16 +383,18 @@ module _ (ids : List ℕ) where
           asked : (old : Client) → (hears_okay (s.clients stream.client) stream.client s).state.clients stream.client ≡ Some old → old.about.phase ≡ Opening l
           asked = hears_asked (s.clients stream.client) stream.client refl (asked_for owned new)
 
-      first_passes : (orphan : Bool) → stream.part.orphan ≡ orphan → stream.part.remote ≡ 0 → Passes s (okay_first orphan l remote word stream s).state
-      first_passes true orphan new = passes_plain s (orphan_opened l remote stream s).state refl (goes_were ids l (kept_of s))
+      first_passes : (orphan : Bool) → stream.part.orphan ≡ orphan → stream.part.remote ≡ 0
+          → PassesWith more s (okay_first orphan l remote word stream s).state
+      first_passes true orphan new = passes_within s (orphan_opened l remote stream s).state
+          (passes_plain s (orphan_opened l remote stream s).state refl (goes_were ids l (kept_of s)))
       first_passes false owned new = opened_passes owned new
 
-      okay_open_passes : Passes s (okay_open l word stream s).state
+      okay_open_passes : PassesWith more s (okay_open l word stream s).state
       okay_open_passes = passes_plain s (okay_open l word stream s).state refl
           (parts_were ids l stream (with_flow (acknowledged word stream.part.flow) stream.part) (kept_of s) is
-          (credit_acknowledged word stream.part.flow, λ none. absurd (none named)))
+          (follows_acknowledged l word stream.part.flow named enough))
 
-      pub okay_passes : Passes s (takes_okay l remote word stream s).state
+      pub okay_passes : PassesWith more s (takes_okay l remote word stream s).state
       okay_passes =
           let first : Made = okay_first stream.part.orphan l remote word stream s in
           let again : Made = okay_open l word stream s in

@@ -19,9 +19,9 @@ use Rattle.adb_history.proofs.Sweep.{Sending}
 use Rattle.adb_rules.specs.Tracked.{IsAmong}
 use Rattle.adb_rules.specs.Up.{is_for}
 use Rattle.adb_rules.specs.Sweep.{HasNothingUp, IsStillFor, IsStillOf, IsStill, CoversUp}
-use Rattle.adb_rest.specs.Named.{named_by, cut_behind, HoldsAs, AllStay, KeepsStreams, AreNamed, LeavesStill}
+use Rattle.adb_rest.specs.Named.{named_by, granted, cut_behind, HoldsAs, AllStay, KeepsStreams, AreNamed, LeavesStill}
 use Rattle.adb_rest.proofs.NamedRows.{LetsSame, StreamWas, ClientWas}
-use Rattle.adb_rest.proofs.NamedRules.{Passes}
+use Rattle.adb_rest.proofs.NamedRules.{PassesWith}
 use Rattle.adb_rest.proofs.NamedPackets.{AllNamed, treats_all, rests_treat, receives_passes}
 
 -- ---- at rest
@@ -56,11 +56,11 @@ has_open l Tracking is = absurd (let clash : false ≡ true = is in cc)
 has_open l Closing is = absurd (let clash : false ≡ true = is in cc)
 has_open l Gone is = absurd (let clash : false ≡ true = is in cc)
 
-module _ (ids : List ℕ) (s now : State) (h : Passes ids s now) where
+module _ (ids : List ℕ) (more : ℕ → ℕ) (s now : State) (h : PassesWith ids more s now) where
   same_maxdata : (l : ℕ) (stream : Stream) → now.streams l ≡ Some stream → maxdata_of stream.link now.devices ≡ maxdata_of stream.link s.devices
   same_maxdata l stream is = ap (λ (o : Option Row). unwrap_or (option_map (λ row. row.maxdata) o) 0) (h.devices l stream is)
 
-  pub all_stay : AllStay s now
+  pub all_stay : AllStay more s now
   all_stay l stream is =
       let was = h.rows.streams l stream is in
       record {
@@ -70,6 +70,7 @@ module _ (ids : List ℕ) (s now : State) (h : Passes ids s now) where
         link = was.link;
         id = was.id;
         credit = was.credit;
+        most = was.most;
         maxdata = same_maxdata l stream is;
         owner = λ client there. holds (h.rows.clients stream.client client there);
       }
@@ -90,7 +91,7 @@ module _ (ids : List ℕ) (s now : State) (h : Passes ids s now) where
           ∙ (ap (λ bytes. is_over owner.old.about.ended bytes was.old.part.flow) held ∙ before.goes_on));
     }
       where
-        was : StreamWas ids l (s.streams l) stream
+        was : StreamWas ids l (more l) (s.streams l) stream
         was = h.rows.streams l stream is
 
         owner : ClientWas ids (s.clients stream.client) client
@@ -126,9 +127,11 @@ module _ (ids : List ℕ) (s now : State) (h : Passes ids s now) where
 all_among : (t : ℕ) (s : State) (named : List ℕ) → AllNamed named t s named
 all_among t s named l among stream is of = among
 
-keeps_streams : (packets : List Packet) (s now : State) → Passes (named_by packets) s now → KeepsStreams packets s now
-keeps_streams packets s now h =
-    record { stays = all_stay (named_by packets) s now h; still = λ l none still. stays_still (named_by packets) s now h l none still }
+keeps_streams : (packets : List Packet) (s now : State) → PassesWith (named_by packets) (granted packets) s now → KeepsStreams packets s now
+keeps_streams packets s now h = record {
+  stays = all_stay (named_by packets) (granted packets) s now h;
+  still = λ l none still. stays_still (named_by packets) (granted packets) s now h l none still;
+}
 
 pub treated_keep : (t : ℕ) (packets : List Packet) (s : State) → IsLinked s → KeepsStreams packets s (treat_all t packets s).state
 treated_keep t packets s h =
@@ -171,10 +174,10 @@ module _ (t : ℕ) (bytes : List ℕ) (link : Link) (s : State) (h : IsLinked s)
   covers : ((l : ℕ) → IsStill l s) → (ids : List ℕ) → AreNamed (cut_behind link bytes).given t s ids → CoversUp ids now.drawn now
   covers still ids are = record {
     within = λ l among. (let drawn = drawn_live s h l (are.live l among) in (drawn.0, omega (arith, drawn.1, passes.rows.drawn)));
-    still = λ l none. stays_still ids s now passes l none (still l);
+    still = λ l none. stays_still ids (granted (cut_behind link bytes).given) s now passes l none (still l);
   }
     where
-      passes : Passes ids s (receives t bytes s).state
+      passes : PassesWith ids (granted (cut_behind link bytes).given) s (receives t bytes s).state
       passes = receives_passes ids t bytes link s h here (λ l among stream is of. are.all l stream among is of)
 
   pub leaves_still : ((l : ℕ) → IsStill l s) → LeavesStill t bytes link s

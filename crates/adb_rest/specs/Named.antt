@@ -1,5 +1,5 @@
 -- Which streams the packets of a piece name in an OKAY, and what they leave of the streams and their clients (protocol.txt, READY).
-use Rattle.std.specs.Prelude.{ℕ, ◌≡◌, ◌⊎◌, true, is_some, List, [], ◌∷◌, ◌++◌, Option, Some}
+use Rattle.std.specs.Prelude.{ℕ, ◌+◌, ◌≡◌, ◌≤◌, ◌⊎◌, true, is_some, nat_eq, if◌then◌else◌, unwrap_or, List, [], ◌∷◌, ◌++◌, Option, Some}
 use Rattle.adb_outside.specs.Framing.{Cut}
 use Rattle.adb_wire.specs.Cutting.{cut_packets}
 use Rattle.adb_wire.specs.declared.command.Command.{Command}
@@ -7,9 +7,11 @@ use Rattle.adb_wire.specs.declared.command.Command.TheVariants.{Okay}
 use Rattle.adb_wire.specs.declared.packets.Packet.{Packet}
 use Rattle.adb_wire.specs.declared.format.PacketFault.{PacketFault}
 use Rattle.adb_wire.specs.declared.format.PacketFormat.{PacketFormat}
+use Rattle.adb_stream.specs.declared.flow.Flow.{Flow}
+use Rattle.adb_stream.specs.declared.flow.Flow.TheVariants.{One, Credit}
 use Rattle.adb_stream.specs.declared.row.Stream.{Stream}
 use Rattle.adb_history.specs.Rows.{Client, Link, State}
-use Rattle.adb_history.specs.Links.{maxdata_of}
+use Rattle.adb_history.specs.Links.{maxdata_of, credit_word}
 use Rattle.adb_history.specs.Packets.{receives}
 use Rattle.adb_history.specs.Fifo.{has_credit}
 use Rattle.adb_rules.specs.Tracked.{IsAmong}
@@ -27,6 +29,26 @@ abbrev pub named_by : List Packet → List ℕ
 named_by [] = []
 named_by (p ∷ packets) = named_also p.command p.arg1 (named_by packets)
 
+-- ---- the credit that they give
+-- how many bytes a flow has credit for
+abbrev pub credit_to_send : Flow → ℕ
+credit_to_send (One window) = 0
+credit_to_send (Credit credit) = credit.to_send
+
+-- how much credit no packet gives the stream of any id
+abbrev pub no_credit : ℕ → ℕ
+no_credit l = 0
+
+-- how much a packet may give the stream of an id: an OKAY that names it its credit word
+abbrev pub granted_by : Command → Packet → ℕ → ℕ
+granted_by Okay p l = if nat_eq p.arg1 l then unwrap_or (credit_word p.payload) 0 else 0
+granted_by _ p l = 0
+
+-- how much packets may give it, together
+abbrev pub granted : List Packet → ℕ → ℕ
+granted [] l = 0
+granted (p ∷ packets) l = granted_by p.command p l + granted packets l
+
 -- the packets of more bytes of a link, behind what it keeps
 abbrev pub cut_behind : Link → List ℕ → Cut PacketFormat Packet PacketFault
 cut_behind link bytes = cut_packets (record { sums = link.sums }) (link.rest ++ bytes)
@@ -38,24 +60,25 @@ pub record HoldsAs (l : ℕ) (before : Option Client) (now : Client) : Type 0 wh
   pub is : before ≡ Some old
   pub held : is_for l now.about.phase ≡ true → now.held ≡ old.held
 
--- What a stream was that is still there, and its client: its device takes as many bytes in one packet.
-pub record StaysAs (l : ℕ) (before after : State) (now : Stream) : Type 0 where
+-- What a stream was that is still there, and its client: its device takes as many bytes in one packet, and gave credit for no more than so many.
+pub record StaysAs (l more : ℕ) (before after : State) (now : Stream) : Type 0 where
   pub old : Stream
   pub is : before.streams l ≡ Some old
   pub client : now.client ≡ old.client
   pub link : now.link ≡ old.link
   pub id : now.id ≡ old.id
   pub credit : has_credit now.part.flow ≡ has_credit old.part.flow
+  pub most : credit_to_send now.part.flow ≤ credit_to_send old.part.flow + more
   pub maxdata : maxdata_of now.link after.devices ≡ maxdata_of now.link before.devices
   pub owner : (client : Client) → after.clients now.client ≡ Some client → HoldsAs l (before.clients now.client) client
 
--- Each stream that is still there was there before.
-abbrev pub AllStay : State → State → Type 0
-AllStay before after = (l : ℕ) (now : Stream) → after.streams l ≡ Some now → StaysAs l before after now
+-- Each stream that is still there was there before, with no more than so much credit for it.
+abbrev pub AllStay : (ℕ → ℕ) → State → State → Type 0
+AllStay more before after = (l : ℕ) (now : Stream) → after.streams l ≡ Some now → StaysAs l (more l) before after now
 
 -- What packets leave of a state: what is still there was there before, and a stream that none of them names stays still.
 pub record KeepsStreams (packets : List Packet) (before after : State) : Type 0 where
-  pub stays : AllStay before after
+  pub stays : AllStay (granted packets) before after
   pub still : (l : ℕ) → (IsAmong l (named_by packets) → ⊥) → IsStill l before → IsStill l after
 
 -- These ids are of streams that live, and all of those of a link that packets name are among them.
@@ -71,7 +94,7 @@ pub record Adds (p : Packet) (t : ℕ) (s : State) (ids next : List ℕ) : Type 
 
 -- What more bytes of a link leave of a state in which no stream has anything to send up: only the streams of the link may that an OKAY names.
 pub record LeavesStill (t : ℕ) (bytes : List ℕ) (link : Link) (s : State) : Type 0 where
-  pub stays : AllStay s (receives t bytes s).state
+  pub stays : AllStay (granted (cut_behind link bytes).given) s (receives t bytes s).state
   pub still : (l : ℕ) → (IsAmong l (named_by (cut_behind link bytes).given) → ⊥) → IsStill l (receives t bytes s).state
   pub covers : (ids : List ℕ) → AreNamed (cut_behind link bytes).given t s ids
       → CoversUp ids (receives t bytes s).state.drawn (receives t bytes s).state

@@ -38,7 +38,7 @@ streams_it l Gone is = absurd (subst IsNot is tt)
 pub for_it : (l : ℕ) (phase : Phase) → is_streaming l phase ≡ true → is_for l phase ≡ true
 for_it l phase is = ap (is_for l) (streams_it l phase is) ∙ eq-eqb l l refl
 
-enough_cut : (flow : Flow) (m : ℕ) (seen : SeenClient) → IsCut flow m seen → CanCutAll (payloads flow m seen.held) (Some seen)
+enough_cut : (flow : Flow) (m : ℕ) (seen : SeenClient) → IsCut flow 0 m seen → CanCutAll (payloads flow m seen.held) (Some seen)
 enough_cut flow m seen cut = (omega (arith, few_bytes flow m seen.held, cut.bytes), omega (arith, few_writes flow m seen.held, cut.pieces))
 
 can_all : (l : ℕ) (flow : Flow) (m : ℕ) (row : Option SeenClient) → has_open l row ≡ true → IsCutFor l flow m row
@@ -50,8 +50,8 @@ few_for : (l : ℕ) (flow : Flow) (m : ℕ) (row : Option SeenClient) → has_op
     → length (payloads flow m (held_at row)) ≤ writes_for l flow m row
 few_for l flow m None is = absurd (subst IsNot is tt)
 few_for l flow m (Some seen) is =
-    let writes : writes_for l flow m (Some seen) ≡ up_writes flow m (length seen.held) =
-    ap (λ b. cond b (up_writes flow m (length seen.held)) 0) (for_it l seen.about.phase is) in
+    let writes : writes_for l flow m (Some seen) ≡ up_writes flow 0 m (length seen.held) =
+    ap (λ b. cond b (up_writes flow 0 m (length seen.held)) 0) (for_it l seen.about.phase is) in
     omega (arith, writes, few_writes flow m seen.held)
 
 module _ (l : ℕ) (stream : Stream) (t : Tables) (here : at l t.streams.streams ≡ Some stream)
@@ -96,7 +96,7 @@ cut_closed l flow m (Some seen) is = λ here. absurd (subst IsNot (sym is ∙ he
 
 no_writes : (l : ℕ) (flow : Flow) (m : ℕ) (row : Option SeenClient) → has_stream l row ≡ false → writes_for l flow m row ≡ 0
 no_writes l flow m None is = refl
-no_writes l flow m (Some seen) is = ap (λ b. cond b (up_writes flow m (length seen.held)) 0) is
+no_writes l flow m (Some seen) is = ap (λ b. cond b (up_writes flow 0 m (length seen.held)) 0) is
 
 pub stays_ready : (l client : ℕ) (old new : Tables) → LeavesBe l client old new → StaysReady l old new
 stays_ready l client old new h = record {

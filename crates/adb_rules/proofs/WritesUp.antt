@@ -74,25 +74,27 @@ one_let (Credit credit) m held n is some = by_length (length held) refl
         ∙ ap (λ others. take n held ∷ others) (enough k (length (drop n held)) m (c - n) (drop n held) (omega (arith, e, less, some), omega arith)))
 
 -- ---- how many there are at most
-all_held : (k m c : ℕ) (held : List ℕ) → total (writes k m c held) ≤ length held
-all_held zero m c held = omega arith
-all_held (suc k) m c held = by_len (write_len m c held) (within m c held) (λ q. all_held k m (c - q) (drop q held))
+all_within : (k m c : ℕ) (held : List ℕ) → total (writes k m c held) ≤ min c (length held)
+all_within zero m c held = omega arith
+all_within (suc k) m c held = by_len (write_len m c held) refl (λ q. all_within k m (c - q) (drop q held))
   where
-    by_len : (n : ℕ) → n ≤ length held → ((q : ℕ) → total (writes k m (c - q) (drop q held)) ≤ length (drop q held))
-        → total (write_before n held (writes k m (c - n) (drop n held))) ≤ length held
-    by_len zero le behind = omega arith
-    by_len (suc n) le behind =
+    by_len : (n : ℕ) → write_len m c held ≡ n → ((q : ℕ) → total (writes k m (c - q) (drop q held)) ≤ min (c - q) (length (drop q held)))
+        → total (write_before n held (writes k m (c - n) (drop n held))) ≤ min c (length held)
+    by_len zero is behind = omega arith
+    by_len (suc n) is behind =
         let less : length (drop (suc n) held) ≡ length held - suc n = length-drop (suc n) held in
-        let front : length (take (suc n) held) ≡ suc n = length-take-le (suc n) held le in
-        omega (arith, le, less, front, behind (suc n))
+        let front : length (take (suc n) held) ≡ suc n = length-take-le (suc n) held (omega (arith, is)) in
+        omega (arith, is, less, front, behind (suc n))
 
 -- whole writes but the last one
-few : (k m c : ℕ) (held : List ℕ) (p : ℕ) → length held < p * m → length (writes k m c held) ≤ p
+few : (k m c : ℕ) (held : List ℕ) (p : ℕ) → min c (length held) < p * m → length (writes k m c held) ≤ p
 few zero m c held p less = omega arith
 few (suc k) m c held zero less = absurd (omega (arith, less))
-few (suc k) m c held (suc p) less = by_len (write_len m c held) refl (λ q. few k m (c - q) (drop q held) p)
+few (suc k) m c held (suc p) less = by_len (write_len m c held) refl
+    (λ q. few k m (c - q) (drop q held) p)
   where
-    by_len : (n : ℕ) → write_len m c held ≡ n → ((q : ℕ) → length (drop q held) < p * m → length (writes k m (c - q) (drop q held)) ≤ p)
+    by_len : (n : ℕ) → write_len m c held ≡ n
+        → ((q : ℕ) → min (c - q) (length (drop q held)) < p * m → length (writes k m (c - q) (drop q held)) ≤ p)
         → length (write_before n held (writes k m (c - n) (drop n held))) ≤ suc p
     by_len zero is behind = omega arith
     by_len (suc n) is behind = by_room (nat_lt (suc n) m) refl
@@ -106,19 +108,27 @@ few (suc k) m c held (suc p) less = by_len (write_len m c held) refl (λ q. few 
         by_room false full =
             let left : length (drop (suc n) held) ≡ length held - suc n = length-drop (suc n) held in
             let whole : suc n ≡ m = grind (arith, nat_tests, full, is) in
-            let shorter : length (drop (suc n) held) < p * m = omega (arith, less, left, whole, suc-mul p m) in
+            let shorter : min (c - suc n) (length (drop (suc n) held)) < p * m = omega (arith, less, left, whole, suc-mul p m) in
             omega (arith, behind (suc n) shorter)
 
-few_of : (m c : ℕ) (held : List ℕ) → length (writes (length held) m c held) ≤ length held / m + 1
+few_of : (m c : ℕ) (held : List ℕ) → length (writes (length held) m c held) ≤ min c (length held) / m + 1
 few_of zero c held =
     let nothing : length (writes (length held) 0 c held) ≡ 0 = ap length (no_write (length held) 0 c held (omega arith)) in
     omega (arith, nothing)
-few_of (suc m) c held = few (length held) (suc m) c held (length held / suc m + 1) (below (length held / suc m) (lt-div-mul-add (omega arith)))
+few_of (suc m) c held =
+    few (length held) (suc m) c held (most / suc m + 1) (below (most / suc m) (lt-div-mul-add (omega arith)))
   where
-    below : (q : ℕ) → length held < q * suc m + suc m → length held < (q + 1) * suc m
+    most : ℕ
+    most = min c (length held)
+
+    below : (q : ℕ) → min c (length held) < q * suc m + suc m → min c (length held) < (q + 1) * suc m
     below q less = omega (arith, less, suc-mul q (suc m))
 
-pub few_writes : (flow : Flow) (m : ℕ) (held : List ℕ) → length (payloads flow m held) ≤ up_writes flow m (length held)
+-- no credit more
+none_more : (c : ℕ) → c + 0 ≡ c
+none_more c = omega arith
+
+pub few_writes : (flow : Flow) (m : ℕ) (held : List ℕ) → length (payloads flow m held) ≤ up_writes flow 0 m (length held)
 few_writes (One window) m held = by_test window.outstanding
   where
     by_test : (b : Bool) → length (cond b [] (writes 1 m m held)) ≤ 1
@@ -128,9 +138,10 @@ few_writes (One window) m held = by_test window.outstanding
         by_len : (n : ℕ) → length (write_before n held []) ≤ 1
         by_len zero = omega arith
         by_len (suc n) = omega arith
-few_writes (Credit credit) m held = few_of m credit.to_send held
+few_writes (Credit credit) m held =
+    subst (λ (c : ℕ). length (payloads (Credit credit) m held) ≤ min c (length held) / m + 1) (sym (none_more credit.to_send)) (few_of m credit.to_send held)
 
-pub few_bytes : (flow : Flow) (m : ℕ) (held : List ℕ) → total (payloads flow m held) ≤ up_bytes flow m (length held)
+pub few_bytes : (flow : Flow) (m : ℕ) (held : List ℕ) → total (payloads flow m held) ≤ up_bytes flow 0 m (length held)
 few_bytes (One window) m held = by_test window.outstanding
   where
     by_test : (b : Bool) → total (cond b [] (writes 1 m m held)) ≤ min m (length held)
@@ -142,4 +153,6 @@ few_bytes (One window) m held = by_test window.outstanding
         by_len (suc n) is =
             let front : length (take (suc n) held) ≡ suc n = length-take-le (suc n) held (omega (arith, is)) in
             omega (arith, is, front)
-few_bytes (Credit credit) m held = all_held (length held) m credit.to_send held
+few_bytes (Credit credit) m held =
+    subst (λ (c : ℕ). total (payloads (Credit credit) m held) ≤ min c (length held)) (sym (none_more credit.to_send))
+    (all_within (length held) m credit.to_send held)

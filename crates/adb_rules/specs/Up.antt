@@ -17,20 +17,20 @@ use Rattle.adb_rules.specs.Places.{LinkRoom, Uses}
 use Rattle.adb_rules.specs.Handing.{HasRoom}
 
 -- ---- what a stream may write
--- how many bytes at most, of so many that are held
-abbrev pub up_bytes : Flow → (maxdata held : ℕ) → ℕ
-up_bytes (One window) maxdata held = min maxdata held
-up_bytes (Credit credit) maxdata held = held
+-- how many bytes at most, of so many that are held, behind credit for so many more
+abbrev pub up_bytes : Flow → (more maxdata held : ℕ) → ℕ
+up_bytes (One window) more maxdata held = min maxdata held
+up_bytes (Credit credit) more maxdata held = min (credit.to_send + more) held
 
 -- in how many writes at most
-abbrev pub up_writes : Flow → (maxdata held : ℕ) → ℕ
-up_writes (One window) maxdata held = 1
-up_writes (Credit credit) maxdata held = held / maxdata + 1
+abbrev pub up_writes : Flow → (more maxdata held : ℕ) → ℕ
+up_writes (One window) more maxdata held = 1
+up_writes (Credit credit) more maxdata held = min (credit.to_send + more) held / maxdata + 1
 
--- Of what a client holds so much is ready, in so many pieces, as its stream may write.
-pub record IsCut (flow : Flow) (maxdata : ℕ) (client : SeenClient) : Type 0 where
-  pub bytes : up_bytes flow maxdata (length client.held) ≤ client.ready
-  pub pieces : up_writes flow maxdata (length client.held) ≤ client.cuts
+-- Of what a client holds so much is ready, in so many pieces, as its stream may write behind credit for so many bytes more.
+pub record IsCut (flow : Flow) (more maxdata : ℕ) (client : SeenClient) : Type 0 where
+  pub bytes : up_bytes flow more maxdata (length client.held) ≤ client.ready
+  pub pieces : up_writes flow more maxdata (length client.held) ≤ client.cuts
 
 -- whether a client in this phase has the stream of an id, asked for or open
 abbrev pub is_for : ℕ → Phase → Bool
@@ -46,7 +46,7 @@ has_stream l (Some client) = is_for l client.about.phase
 -- So much is ready, where the client has the stream: it can be made so as soon as the stream is asked for.
 abbrev pub IsCutFor : ℕ → Flow → ℕ → Option SeenClient → Type 0
 IsCutFor l flow maxdata None = Unit {0}
-IsCutFor l flow maxdata (Some client) = is_for l client.about.phase ≡ true → IsCut flow maxdata client
+IsCutFor l flow maxdata (Some client) = is_for l client.about.phase ≡ true → IsCut flow 0 maxdata client
 
 abbrev pub IsCutOf : ℕ → Option Stream → Tables → Type 0
 IsCutOf l None t = Unit {0}
@@ -59,7 +59,7 @@ IsCutUp l t = IsCutOf l (at l t.streams.streams) t
 -- how many writes a stream may make, where the client has it
 abbrev pub writes_for : ℕ → Flow → ℕ → Option SeenClient → ℕ
 writes_for l flow maxdata None = 0
-writes_for l flow maxdata (Some client) = if is_for l client.about.phase then up_writes flow maxdata (length client.held) else 0
+writes_for l flow maxdata (Some client) = if is_for l client.about.phase then up_writes flow 0 maxdata (length client.held) else 0
 
 abbrev pub writes_of : ℕ → Option Stream → Tables → ℕ
 writes_of l None t = 0

@@ -23,4 +23,5 @@ mod writes;
 pub use came::Came;
 pub use ports::Port;
 pub use tables::Tables;
+pub use treating::credit_word;
 pub use up::{up_bytes, up_writes};

@@ -162,7 +162,7 @@ fn next_of(packets: &mut VecDeque<Came>) -> Option<Came>
 }
 
 /// The credit that the payload of an OKAY gives, where it is a credit word.
-fn credit_word(payload: &[u8]) -> Option<u32>
+pub fn credit_word(payload: &[u8]) -> Option<u32>
     ensures { result ≡ credit_word payload.now }
 {
     match payload {

@@ -237,24 +237,28 @@ impl Tables {
     }
 }
 
-/// How many of so many bytes that are held a stream may send up at once, at most.
-pub fn up_bytes(flow: &Flow, maxdata: usize, held: usize) -> usize
-    ensures bytes { result ≡ up_bytes flow.now maxdata held }
+/// How many of so many bytes that are held a stream may send up at once, at most, behind credit
+/// for so many bytes more.
+pub fn up_bytes(flow: &Flow, more: usize, maxdata: usize, held: usize) -> usize
+    ensures bytes { result ≡ up_bytes flow.now more maxdata held }
     ensures within { result ≤ held }
 {
     match flow {
         Flow::One(_) => maxdata.min(held),
-        Flow::Credit(_) => held,
+        Flow::Credit(credit) => (credit.can_send() as usize).saturating_add(more).min(held),
     }
 }
 
 /// In how many writes at most, where that can be counted.
-pub fn up_writes(flow: &Flow, maxdata: usize, held: usize) -> Option<usize>
-    ensures { IfSome result (λ writes. writes ≡ up_writes flow.now maxdata held) }
+pub fn up_writes(flow: &Flow, more: usize, maxdata: usize, held: usize) -> Option<usize>
+    ensures { IfSome result (λ writes. writes ≡ up_writes flow.now more maxdata held) }
 {
     match flow {
         Flow::One(_) => Some(1),
-        Flow::Credit(_) => held.checked_div(maxdata).unwrap_or(0).checked_add(1),
+        Flow::Credit(_) => {
+            let most = up_bytes(flow, more, maxdata, held);
+            most.checked_div(maxdata).unwrap_or(0).checked_add(1)
+        }
     }
 }
 

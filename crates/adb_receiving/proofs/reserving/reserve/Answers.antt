@@ -10,6 +10,8 @@ returns-clause-reserved c =
     c.in_ok-places.ensures ∙ ap (λ (n : ℕ). c.in_ok-writes.writes + n) (c.len.ensures ∙ c.args.packets.now.ok.0) in
     is_reserved (record {
       named = c.in_ok-ids.ensures;
+      words = c.in_ok-given.given.entries;
+      given = c.in_ok-given.ensures;
       counts = c.in_ok-counts.counts.entries;
       counted = c.in_ok-counts.ensures;
       served = c.in_ok-reserve_each.ensures.room;
