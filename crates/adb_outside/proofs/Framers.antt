@@ -4,7 +4,7 @@ use Rattle.std.proofs.lemmas.List.{length-drop, length-take, take-append-le, dro
 use Rattle.std.proofs.Math.Seq.{take-length}
 use Rattle.adb_outside.specs.declared.framer.Front.{Front}
 use Rattle.adb_outside.specs.declared.framer.Front.TheVariants.{More, Bad, Whole}
-use Rattle.adb_outside.specs.Framing.{Cut, uncut, joined, cut_by, cut, IsFraming, fault_of}
+use Rattle.adb_outside.specs.Framing.{uncut, joined, cut_by, cut, IsFraming, fault_of}
 use Rattle.adb_outside.proofs.FramingLaws.{cut_first}
 
 -- the bytes of a slice from a place on

@@ -3,7 +3,7 @@
 ghost use Rattle.std.specs.Prelude.{◌≡◌, ◌++◌, [], List, ℕ, IfOk, length, Option, Some, None, Ok, true, ◌≢◌};
 ghost use Rattle.adb_outside.specs.Framing.{cut, joined, fault_of, answer_of, Takes, Gives, Stands};
 
-use crate::behind::{advance, Behind};
+use crate::behind::{Behind, advance};
 use crate::gather::Gather;
 use bytes::Bytes;
 use std::alloc::{AllocError, Global};
@@ -167,7 +167,13 @@ impl<V: Drop, F: Copy, S: Format<V, F>> Framer<S, V, F> {
             Err(_) => return Err(FeedError::OutOfMemory),
         }
         let before = self.ready.len();
-        match advance(self.alloc, self.format, &mut self.held, &mut self.ready, piece) {
+        match advance(
+            self.alloc,
+            self.format,
+            &mut self.held,
+            &mut self.ready,
+            piece,
+        ) {
             Ok(behind) => self.go_on(behind),
             Err(_) => {
                 self.ready.truncate(before);

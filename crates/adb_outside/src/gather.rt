@@ -1,7 +1,6 @@
 //! Bytes that are gathered to a whole, and then shared.
 
 ghost use Rattle.std.specs.Prelude.{◌≡◌, ◌==◌, ◌≤◌, ◌++◌, [], length, take, OnOk, OnErr, IfOk, MatchResult};
-
 ghost use Rattle.adb_outside.specs.Gathered.{IsApart};
 
 use bytes::{Bytes, BytesMut};

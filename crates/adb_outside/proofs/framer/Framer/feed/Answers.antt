@@ -1,6 +1,6 @@
-use Rattle.std.proofs.Common.{◌≡◌, ◌++◌, None, Ok, Err, true, sym, ◌∙◌, ap, refl}
+use Rattle.std.proofs.Common.{◌≡◌, ◌++◌, None, Ok, sym, ◌∙◌, ap}
 use Rattle.adb_outside.specs.declared.framer.Front.TheVariants.{More}
-use Rattle.adb_outside.specs.Framing.{Cut, cut, joined}
+use Rattle.adb_outside.specs.Framing.{cut, joined}
 use Rattle.adb_outside.proofs.FramingLaws.{takes_nothing, takes_piece}
 use Rattle.adb_outside.proofs.FurtherLaws.{stands_behind}
 use Rattle.adb_outside.proofs.framer.Framer.feed.Goals as goal
