@@ -1,6 +1,6 @@
 //! The packets of a stream that comes in pieces.
 
-ghost use Rattle.std.specs.Prelude.{◌≡◌, ◌≢◌, ◌<◌, ◌≤◌, ◌++◌, [], List, ℕ, length, Some, None, IfOk, IfSome, MatchOption};
+ghost use Rattle.std.specs.Prelude.{◌≡◌, ◌≢◌, ◌<◌, ◌≤◌, ◌++◌, [], List, ℕ, length, Some, None, is_some, IfOk, IfSome, MatchOption};
 ghost use Rattle.adb_wire.specs.declared.headers.TheConstants.{MAX_PAYLOAD};
 
 use crate::format::{PacketFault, PacketFormat};
@@ -104,6 +104,13 @@ impl Deframer {
             None => need(self.framer.rest()),
             Some(_) => usize::MAX,
         }
+    }
+
+    /// Whether the bytes that were fed have a fault.
+    pub fn is_broken(&self) -> bool
+        ensures { result ≡ is_some self.now.fault }
+    {
+        self.framer.fault().is_some()
     }
 
     /// Another that holds what this one does, but for its packets, and a further piece; this one
