@@ -12,10 +12,11 @@ use crate::due::push_packet;
 use crate::stream::Stream;
 use crate::writes::{Outgoing, push_writes};
 use adb_files::Files;
-use adb_outside::{ByteQueue, Text};
+use adb_outside::ByteQueue;
 use adb_stream::{CREDIT_WINDOW, Flow};
 use adb_wire::{Command, MAX_PAYLOAD, Packet};
 use byteorder::{ByteOrder, LittleEndian};
+use bytes::Bytes;
 use std::alloc::{AllocError, Global};
 
 /// An OPEN of a known service: the stream is opened and told so, and its service answers. Says whether
@@ -113,7 +114,7 @@ fn settle(
     if !stream.is_done() {
         return Ok(false);
     }
-    push_close(alloc, outgoing, stream.host, due)?;
+    push_close(outgoing, stream.host, due)?;
     Ok(true)
 }
 
@@ -175,18 +176,13 @@ fn push_okay(
         command: Command::Okay,
         arg0: outgoing.own,
         arg1: host,
-        payload: Text::from_slice(alloc, payload)?,
+        payload: Bytes::copy_from_slice(alloc, payload)?,
     };
     push_packet(&packet, outgoing.sums, due)
 }
 
 /// Adds a CLSE to what is due. After want of memory what is due is as before.
-fn push_close(
-    alloc: Global,
-    outgoing: Outgoing,
-    host: u32,
-    due: &mut ByteQueue,
-) -> Result<(), AllocError>
+fn push_close(outgoing: Outgoing, host: u32, due: &mut ByteQueue) -> Result<(), AllocError>
     ensures ok { OnOk result (due.new.bytes ≡ due.old.bytes
         ++ packet_bytes outgoing.sums (clse outgoing.own host)) }
     ensures grows { Grows due.old.bytes due.new.bytes }
@@ -195,7 +191,7 @@ fn push_close(
         command: Command::Clse,
         arg0: outgoing.own,
         arg1: host,
-        payload: Text::new(alloc),
+        payload: Bytes::new(),
     };
     push_packet(&packet, outgoing.sums, due)
 }

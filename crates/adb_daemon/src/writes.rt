@@ -8,6 +8,7 @@ use crate::due::push_packet;
 use crate::stream::Stream;
 use adb_outside::{ByteQueue, Text};
 use adb_wire::{Command, MAX_PAYLOAD, Packet};
+use bytes::Bytes;
 use std::alloc::{AllocError, Global};
 
 /// How the packets of a stream are spelled: the device's id, the most bytes of a write, and whether
@@ -56,7 +57,7 @@ fn push_write(
         command: Command::Wrte,
         arg0: outgoing.own,
         arg1: host,
-        payload,
+        payload: Bytes::from_vec(payload.into_vec())?,
     };
     push_packet(&packet, outgoing.sums, due)
 }

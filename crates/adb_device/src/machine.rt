@@ -14,8 +14,9 @@ use crate::services::Services;
 use crate::table::Table;
 use adb_daemon::{Link, push_packet, read_cnxn};
 use adb_files::Files;
-use adb_outside::{ByteQueue, Text};
+use adb_outside::ByteQueue;
 use adb_wire::{Command, MAX_PAYLOAD, Packet};
+use bytes::Bytes;
 use std::alloc::{AllocError, Global};
 use std::marker::Model;
 
@@ -173,7 +174,7 @@ fn first_due(alloc: Global, most: u32, credit: bool) -> Result<ByteQueue, AllocE
         command: Command::Cnxn,
         arg0: VERSION,
         arg1: most,
-        payload: Text::from_slice(alloc, identity_text(credit))?,
+        payload: Bytes::from_static(identity_text(credit)),
     };
     let mut due = ByteQueue::new(alloc);
     push_packet(&packet, true, &mut due)?;

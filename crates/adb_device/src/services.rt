@@ -16,9 +16,10 @@ use adb_daemon::{
     push_packet, read_service, service_name,
 };
 use adb_files::Files;
-use adb_outside::{ByteQueue, Text};
+use adb_outside::ByteQueue;
 use adb_stream::CREDIT_WINDOW;
 use adb_wire::{Command, MAX_PAYLOAD, Packet};
+use bytes::Bytes;
 use std::alloc::{AllocError, Global};
 use std::collections::BTreeMap;
 
@@ -73,11 +74,11 @@ impl Services {
             return Ok(());
         }
         if self.table.drawn == u32::MAX {
-            return refuse(alloc, link, packet.arg0, &mut self.due);
+            return refuse(link, packet.arg0, &mut self.due);
         }
         match read_service(service_name(packet.payload.as_slice())) {
             Some(asked) => self.open_as(alloc, link, packet, asked),
-            None => refuse(alloc, link, packet.arg0, &mut self.due),
+            None => refuse(link, packet.arg0, &mut self.due),
         }
     }
 
@@ -233,7 +234,7 @@ fn credit_of(link: Link, packet: &Packet) -> Option<u32>
 }
 
 /// Tells the host that its stream is refused. After want of memory what is due is as before.
-fn refuse(alloc: Global, link: Link, host: u32, due: &mut ByteQueue) -> Result<(), AllocError>
+fn refuse(link: Link, host: u32, due: &mut ByteQueue) -> Result<(), AllocError>
     ensures ok { OnOk result
         (due.new.bytes ≡ due.old.bytes ++ packet_bytes link.sums (clse 0 host)) }
     ensures err { OnErr result (due.new.bytes ≡ due.old.bytes) }
@@ -242,7 +243,7 @@ fn refuse(alloc: Global, link: Link, host: u32, due: &mut ByteQueue) -> Result<(
         command: Command::Clse,
         arg0: 0,
         arg1: host,
-        payload: Text::new(alloc),
+        payload: Bytes::new(),
     };
     push_packet(&packet, link.sums, due)
 }

@@ -1,4 +1,3 @@
 pub mod Outgoing
 pub mod Outbox
-pub mod Incoming
 pub mod Linked

@@ -1,11 +1,11 @@
 -- What a link holds, and what becomes due on it.
-use Rattle.std.specs.Prelude.{ℕ, ◌-◌, ◌≡◌, ◌≤◌, if◌then◌else◌, List, [], ◌++◌, length, reverse, find, Option, Some, None, option_map}
+use Rattle.std.specs.Prelude.{ℕ, ◌-◌, ◌≡◌, ◌≤◌, if◌then◌else◌, List, [], ◌++◌, length, reverse, find, Option, Some, None}
 use Rattle.adb_wire.specs.declared.command.Command.{Command}
 use Rattle.adb_wire.specs.declared.headers.Head.{Head}
 use Rattle.adb_wire.specs.declared.headers.TheConstants.{MAX_PAYLOAD}
 use Rattle.adb_wire.specs.declared.packets.Packet.{Packet}
 use Rattle.adb_wire.specs.Packet.{spelling, check_of}
-use Rattle.adb_wire.specs.Format.{is_cnxn, packet_under}
+use Rattle.adb_wire.specs.Format.{is_cnxn}
 use Rattle.adb_wire.specs.Cutting.{goes_with_sum}
 use Rattle.adb_wire.specs.Deframing.{Deframing, no_bytes}
 
@@ -61,13 +61,3 @@ placing link p = record {
 pub record IsHeadOf (head : Head) (payload : List ℕ) : Type 0 where
   pub len : head.length ≡ length payload
   pub size : length payload ≤ MAX_PAYLOAD
-
--- the packet that a header and its payload are
-abbrev pub packet_given : Option (Head × List ℕ) → Option Packet
-packet_given given = option_map (λ (g : Head × List ℕ). packet_under g.0 g.1) given
-
--- A packet is given as that header and payload; its check word was looked at, and is 0.
-pub record IsShared (p : Packet) (head : Head) (payload : List ℕ) : Type 0 where
-  pub packet : packet_under head payload ≡ p
-  pub head_of : IsHeadOf head payload
-  pub check : head.check ≡ 0

@@ -1,13 +1,11 @@
 //! A device's link: the packets that come in on it, and the bytes that are due to it.
 #![tactic(auto)]
 
-mod incoming;
 mod link;
 mod outbox;
 mod outgoing;
 #[cfg(test)]
 mod tests;
 
-pub use incoming::Incoming;
 pub use link::{Link, VERSION_WITH_SUMS};
 pub use outgoing::MAX_SHORT;

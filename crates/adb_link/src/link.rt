@@ -7,15 +7,14 @@ ghost use Rattle.adb_wire.specs.declared.headers.TheConstants.{MAX_PAYLOAD};
 ghost use Rattle.adb_wire.specs.declared.deframer.WireError.{WireError};
 ghost use Rattle.adb_wire.specs.Packet.{head_for, check_of};
 ghost use Rattle.adb_wire.specs.Format.{packet_under};
-ghost use Rattle.adb_wire.specs.Cutting.{goes_with_sum};
+ghost use Rattle.adb_wire.specs.Cutting.{cut_packets, goes_with_sum};
 ghost use Rattle.adb_wire.specs.Slicing.{need_of};
-ghost use Rattle.adb_link.specs.Linked.{IsHeadOf, packet_given, version_past, version_after, version_behind};
+ghost use Rattle.adb_link.specs.Linked.{IsHeadOf, version_past, version_after, version_behind};
 
-use crate::incoming::Incoming;
 use crate::outbox::Outbox;
 use crate::outgoing::{MAX_SHORT, Outgoing};
 use adb_outside::Text;
-use adb_wire::{Command, Head, Packet, WireError, byte_sum};
+use adb_wire::{Command, Deframer, Head, Packet, WireError, byte_sum};
 use bytes::Bytes;
 use std::alloc::{AllocError, Global};
 use std::marker::Model;
@@ -33,7 +32,7 @@ pub const VERSION_WITH_SUMS: u32 = 0x0100_0000;
 #[derive(Drop)]
 pub struct Link {
     alloc: Global,
-    incoming: Incoming,
+    incoming: Deframer,
     version: u32,
     outbox: Outbox,
 }
@@ -62,7 +61,7 @@ impl Link {
     {
         Link {
             alloc,
-            incoming: Incoming::new(alloc),
+            incoming: Deframer::new(alloc),
             version: 0,
             outbox: Outbox::new(alloc),
         }
@@ -116,31 +115,7 @@ impl Link {
         packet
     }
 
-    /// The next packet, as its header and a payload that can be shared: its bytes are not copied.
-    /// The header's check word is 0, since it was looked at. A CNXN fixes the link's version. After
-    /// want of memory all is as before, and that packet is still the next.
-    pub fn next_slice(&mut self) -> Result<Option<(Head, Bytes)>, AllocError>
-        ensures given { IfOk result (λ given.
-            Gives self.old.incoming self.new.incoming (packet_given given)) }
-        ensures head { IfOk result (λ given. IfSome given (λ (head, payload).
-            IsHeadOf head payload × (head.check ≡ 0))) }
-        ensures others { IfOk result (λ given. self.new ≡ record self.old {
-          incoming = self.new.incoming;
-          version = version_after self.old.version (packet_given given);
-        }) }
-        ensures last { IfOk result (λ given. (before : List Packet)
-            → self.old.version ≡ version_behind before
-            → self.new.version ≡ version_behind (before ++ option_to_list (packet_given given))) }
-        ensures err { OnErr result (self.new ≡ self.old) }
-    {
-        let given = self.incoming.next_slice()?;
-        if let Some((head, _)) = &given {
-            self.version = version_past(self.version, head.command, head.arg0);
-        }
-        Ok(given)
-    }
-
-    /// A packet with that header was taken from a copy of what comes in: a CNXN fixes the link's
+    /// A packet with that header was taken from what came in with a piece: a CNXN fixes the link's
     /// version. It takes no memory.
     pub fn took(&mut self, head: &Head)
         ensures { self.new ≡ record self.old {
@@ -150,27 +125,31 @@ impl Link {
         self.version = version_past(self.version, head.command, head.arg0);
     }
 
-    /// A copy of what comes in.
-    pub fn incoming(&self) -> Result<Incoming, AllocError>
-        ensures { IfOk result (λ incoming. incoming ≡ self.now.incoming) }
+    /// What comes in with a further piece, but for the packets that were not given before; of the
+    /// link nothing changes. No payload is copied twice.
+    pub fn with_piece(&mut self, piece: &[u8]) -> Result<Deframer, AllocError>
+        requires { self.old.incoming.fault ≡ None }
+        ensures stays { self.new ≡ self.old }
+        ensures next { IfOk result (λ incoming. incoming
+            ≡ cut_packets self.old.incoming.reading (self.old.incoming.rest ++ piece.now)) }
     {
-        self.incoming.copy()
+        self.incoming.with_piece(piece)
     }
 
     /// Puts that in the place of what comes in. It takes no memory.
-    pub fn put_incoming(&mut self, incoming: Incoming)
+    pub fn put_incoming(&mut self, incoming: Deframer)
         ensures { self.new ≡ record self.old { incoming = incoming } }
     {
         self.incoming = incoming;
     }
 
-    /// A packet is due next; its payload is copied. After want of memory all is as before.
+    /// A packet is due next; its payload is shared. After want of memory all is as before.
     pub fn owe(&mut self, packet: &Packet) -> Result<(), AllocError>
         requires { length packet.now.payload ≤ MAX_PAYLOAD }
         ensures ok { OnOk result (self.new ≡ owing self.old packet.now) }
         ensures err { OnErr result (self.new ≡ self.old) }
     {
-        let payload = Bytes::copy_from_slice(self.alloc, packet.payload.as_slice())?;
+        let payload = packet.payload.clone()?;
         self.owe_slice(&head_of(packet), payload)
     }
 

@@ -1,6 +1,6 @@
 //! What is due to a link, byte for byte.
 
-ghost use Rattle.std.specs.Prelude.{◌≡◌, IfOk};
+ghost use Rattle.std.specs.Prelude.{◌≡◌, None, IfOk};
 
 use super::*;
 use adb_outside::Text;
@@ -43,7 +43,7 @@ fn packet(alloc: Global, command: Command, payload: &[u8]) -> Result<Packet, All
         command,
         arg0: 7,
         arg1: 1,
-        payload: Text::from_slice(alloc, payload)?,
+        payload: Bytes::copy_from_slice(alloc, payload)?,
     })
 }
 
@@ -112,15 +112,15 @@ fn connect(rt: &impl Abort, link: &mut Link, said: &[u8]) {
     assert_eq!(rt; device.payload.as_slice(), b"device::".as_slice());
 }
 
-/// The same, taken as a slice.
-fn connect_by_slice(rt: &impl Abort, link: &mut Link, said: &[u8]) {
-    link.feed(said).expect(rt, "no fault");
-    let (device, payload) = link
-        .next_slice()
-        .expect(rt, "memory")
-        .expect(rt, "a packet");
-    assert_eq!(rt; (device.command, device.length), (Command::Cnxn, 8));
-    assert_eq!(rt; payload.as_slice(), b"device::".as_slice());
+/// The same, put in the place of what came in.
+fn connect_beside(rt: &impl Abort, link: &mut Link, said: &[u8])
+    requires { link.old.incoming.fault ≡ None }
+{
+    let incoming = link.with_piece(said).expect(rt, "memory");
+    assert!(rt; link.next().is_none());
+    link.put_incoming(incoming);
+    let device = link.next().expect(rt, "a packet");
+    assert_eq!(rt; device.payload.as_slice(), b"device::".as_slice());
 }
 
 #[test]
@@ -130,7 +130,7 @@ fn check_words_follow_the_last_cnxn(rt: HostRuntime) {
     owe_write_twice(&rt, alloc, &mut link);
     connect(&rt, &mut link, OLD_DEVICE);
     owe_three(&rt, alloc, &mut link);
-    connect_by_slice(&rt, &mut link, NEW_DEVICE);
+    connect(&rt, &mut link, NEW_DEVICE);
     owe_write_twice(&rt, alloc, &mut link);
     link.took(&Head {
         arg0: VERSION_WITH_SUMS,
@@ -152,21 +152,16 @@ fn a_cnxn_goes_out_with_its_sum(rt: HostRuntime) {
         command: Command::Cnxn,
         arg0: 0x0100_0001,
         arg1: 1_048_576,
-        payload: Text::from_slice(rt.alloc(), payload).expect(&rt, "memory"),
+        payload: Bytes::from_static(payload),
     };
     link.owe(&connect).expect(&rt, "memory");
     are_due(&rt, rt.alloc(), &mut link, &[CONNECT]);
 }
 
-/// What comes in on the link is put in its place with a packet more, and all but the last byte of
-/// another with a wrong check word.
-fn feed_beside(rt: &impl Abort, link: &mut Link) {
-    let mut incoming = link.incoming().expect(rt, "memory");
-    incoming.feed(WRITE).expect(rt, "no fault");
-    incoming
-        .feed(&WRITE_WITHOUT_SUM[..26])
-        .expect(rt, "no fault");
-    link.put_incoming(incoming);
+/// A packet comes in, and all but the last byte of another with a wrong check word.
+fn feed_twice(rt: &impl Abort, link: &mut Link) {
+    link.feed(WRITE).expect(rt, "no fault");
+    link.feed(&WRITE_WITHOUT_SUM[..26]).expect(rt, "no fault");
 }
 
 /// The rest of such a link, to which all but the first ten bytes of three packets are due.
@@ -183,9 +178,9 @@ fn goes_on(rt: &impl Abort, alloc: Global, link: &mut Link) {
 fn a_copy_goes_on_alike(rt: HostRuntime) {
     let alloc = rt.alloc();
     let mut link = Link::new(alloc);
-    connect(&rt, &mut link, OLD_DEVICE);
+    connect_beside(&rt, &mut link, OLD_DEVICE);
     owe_three(&rt, alloc, &mut link);
-    feed_beside(&rt, &mut link);
+    feed_twice(&rt, &mut link);
     assert!(rt; 10 <= link.owed());
     link.hand(10);
     let mut copy = link.copy().expect(&rt, "memory");

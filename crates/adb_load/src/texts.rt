@@ -10,6 +10,7 @@ use crate::numbers::HEAD_LEN;
 use crate::patterns::cycle;
 use adb_outside::Text;
 use adb_wire::{Command, MAX_PAYLOAD, Packet, frame};
+use bytes::Bytes;
 use itoa::Buffer;
 use std::alloc::{AllocError, Global};
 
@@ -129,7 +130,7 @@ fn packet_of(
         command,
         arg0,
         arg1,
-        payload,
+        payload: Bytes::from_vec(payload.into_vec())?,
     };
     let mut bytes = Text::new(alloc);
     frame(alloc, &packet, false, &mut bytes)?;

@@ -1,5 +1,6 @@
 pub mod FramingLaws
 pub mod Framers
+pub mod FurtherLaws
 pub mod TableLaws
 pub mod ByteLaws
 pub mod CutLaws

@@ -5,7 +5,9 @@ pub mod Device
 pub mod Door
 pub mod Identity
 pub mod Framing
+pub mod Further
 pub mod Queued
+pub mod Gathered
 pub mod Memory
 pub mod Decimal
 pub mod Tables

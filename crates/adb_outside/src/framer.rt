@@ -1,9 +1,11 @@
 //! Cutting a stream of bytes into frames, in whatever pieces it comes.
 
-ghost use Rattle.std.specs.Prelude.{◌≡◌, ◌++◌, [], List, ℕ, IfOk, OnErr, OnOk, take, drop, length, Option, Some, None, ◌≤◌, ◌≢◌};
+ghost use Rattle.std.specs.Prelude.{◌≡◌, ◌++◌, [], List, ℕ, IfOk, length, Option, Some, None, Ok, true, ◌≢◌};
 ghost use Rattle.adb_outside.specs.Framing.{cut, joined, fault_of, answer_of, Takes, Gives, Stands};
 
-use crate::byte_queue::ByteQueue;
+use crate::behind::{Behind, advance};
+use crate::gather::Gather;
+use bytes::Bytes;
 use std::alloc::{AllocError, Global};
 use std::collections::VecDeque;
 use std::marker::Model;
@@ -21,7 +23,7 @@ pub enum Front<F> {
 
 impl<F: Copy> Front<F> {
     /// The fault, where it is one.
-    fn fault(self) -> Option<F>
+    pub(crate) fn fault(self) -> Option<F>
         ensures { result ≡ fault_of self }
     {
         match self {
@@ -57,6 +59,20 @@ pub trait Format<V, F>: Copy {
         requires { find self.now frame.now ≡ Front.Whole (length frame.now) }
         ensures { IfOk result (λ v. v ≡ item self.now frame.now) };
 
+    /// The same, where the frame is gathered already, and may be kept.
+    fn keep(&self, alloc: Global, frame: Bytes) -> Result<V, AllocError>
+        requires { find self.now frame ≡ Front.Whole (length frame) }
+        ensures { IfOk result (λ v. v ≡ item self.now frame) }
+    {
+        self.read(alloc, frame.as_slice())
+    }
+
+    /// How many bytes are missing at least to a frame that begins so, where that is known: no more
+    /// are gathered with it.
+    fn missing(&self, _bytes: &[u8]) -> Option<usize> {
+        None
+    }
+
     /// How the bytes after a whole frame are read.
     fn past(&self, frame: &[u8]) -> Self
         requires { find self.now frame.now ≡ Front.Whole (length frame.now) }
@@ -81,7 +97,7 @@ pub enum FeedError<F> {
 pub struct Framer<S: Drop, V: Drop, F: Drop> {
     alloc: Global,
     format: S,
-    held: ByteQueue,
+    held: Gather,
     ready: VecDeque<V>,
     fault: Option<F>,
 }
@@ -91,7 +107,7 @@ impl<S: Drop, V: Drop, F: Drop> Model for Framer<S, V, F> {
 
     ghost Value = { Cut S V F };
 
-    ghost view = { λ f. record { given = f.ready.items; reading = f.format; rest = f.held.bytes; fault = f.fault } };
+    ghost view = { λ f. record { given = f.ready.items; reading = f.format; rest = f.held; fault = f.fault } };
 }
 
 impl<V: Drop, F: Copy, S: Format<V, F>> Framer<S, V, F> {
@@ -103,7 +119,7 @@ impl<V: Drop, F: Copy, S: Format<V, F>> Framer<S, V, F> {
         Framer {
             alloc,
             format,
-            held: ByteQueue::new(alloc),
+            held: Gather::new(alloc),
             ready: VecDeque::new(alloc),
             fault: None,
         }
@@ -145,14 +161,24 @@ impl<V: Drop, F: Copy, S: Format<V, F>> Framer<S, V, F> {
         if let Some(fault) = self.fault {
             return Err(FeedError::Fault(fault));
         }
-        let (held, ready) = (self.held.len(), self.ready.len());
-        if self.held.push(piece).is_err() {
-            return Err(FeedError::OutOfMemory);
+        match self.wait(piece) {
+            Ok(true) => return Ok(()),
+            Ok(false) => {}
+            Err(_) => return Err(FeedError::OutOfMemory),
         }
-        if self.cut_held().is_err() {
-            self.held.truncate(held);
-            self.ready.truncate(ready);
-            return Err(FeedError::OutOfMemory);
+        let before = self.ready.len();
+        match advance(
+            self.alloc,
+            self.format,
+            &mut self.held,
+            &mut self.ready,
+            piece,
+        ) {
+            Ok(behind) => self.go_on(behind),
+            Err(_) => {
+                self.ready.truncate(before);
+                return Err(FeedError::OutOfMemory);
+            }
         }
         match self.fault {
             None => Ok(()),
@@ -160,30 +186,58 @@ impl<V: Drop, F: Copy, S: Format<V, F>> Framer<S, V, F> {
         }
     }
 
-    /// Cuts what is held into frames.
-    fn cut_held(&mut self) -> Result<(), AllocError>
-        ensures ok { self.old.fault ≡ None → OnOk result (self.new ≡ joined self.old.given
-            (cut S.find S.item S.after self.old.reading self.old.rest)) }
-        ensures err { OnErr result (
-            (take (length self.old.given) self.new.given ≡ self.old.given)
-            × (self.new ≡ record self.old { given = self.new.given })) }
+    /// A piece that completes nothing, as far as the format knows, is gathered; says whether it was.
+    fn wait(&mut self, piece: &[u8]) -> Result<bool, AllocError>
+        ensures waits { result ≡ Ok true
+            → (self.new ≡ record self.old { rest = self.old.rest ++ piece.now })
+            × (S.find self.old.reading (self.old.rest ++ piece.now) ≡ Front.More) }
+        ensures stays { result ≢ Ok true → self.new ≡ self.old }
     {
-        let mut format = self.format;
-        let mut at = 0;
-        let mut front = format.front(self.held.as_slice());
-        while let Front::Whole(n) = front {
-            let frame = &self.held.as_slice()[at..at + n];
-            let item = format.read(self.alloc, frame)?;
-            self.ready.push_back(item)?;
-            format = format.past(frame);
-            at += n;
-            front = format.front(&self.held.as_slice()[at..]);
+        let held = self.held.as_slice();
+        let before = held.len();
+        match self.format.missing(held) {
+            Some(n) if piece.len() < n => {}
+            _ => return Ok(false),
         }
-        self.held.take(at);
-        self.held.give_back();
-        self.format = format;
-        self.fault = front.fault();
-        Ok(())
+        self.held.push(piece)?;
+        if let Front::More = self.format.front(self.held.as_slice()) {
+            return Ok(true);
+        }
+        self.held.truncate(before);
+        Ok(false)
+    }
+
+    /// Another that holds what this one does, but for its frames, and a further piece; this one
+    /// stays as it is.
+    pub fn with_piece(&mut self, piece: &[u8]) -> Result<Framer<S, V, F>, AllocError>
+        requires { self.old.fault ≡ None }
+        ensures stays { self.new ≡ self.old }
+        ensures next { IfOk result (λ next. next
+            ≡ cut S.find S.item S.after self.old.reading (self.old.rest ++ piece.now)) }
+    {
+        let mut ready = VecDeque::new(self.alloc);
+        let behind = advance(self.alloc, self.format, &mut self.held, &mut ready, piece)?;
+        Ok(Framer {
+            alloc: self.alloc,
+            format: behind.format,
+            held: behind.held,
+            ready,
+            fault: behind.fault,
+        })
+    }
+
+    /// What is behind a piece takes the place of what was held.
+    fn go_on(&mut self, behind: Behind<S, F>)
+        ensures { self.new ≡ record {
+          given = self.old.given;
+          reading = behind.format;
+          rest = behind.held;
+          fault = behind.fault;
+        } }
+    {
+        self.format = behind.format;
+        self.held = behind.held;
+        self.fault = behind.fault;
     }
 }
 
@@ -193,12 +247,10 @@ impl<V: Clone, F: Copy, S: Format<V, F>> Framer<S, V, F> {
         ensures same { IfOk result (λ copy. ((v clone : V) → V.is_clone v clone → clone ≡ v)
             → copy ≡ self.now) }
     {
-        let mut held = ByteQueue::new(self.alloc);
-        held.push(self.held.as_slice())?;
         Ok(Framer {
             alloc: self.alloc,
             format: self.format,
-            held,
+            held: self.held.copy()?,
             ready: self.ready.clone()?,
             fault: self.fault,
         })

@@ -3,6 +3,7 @@
 #![tactic(auto)]
 
 mod answers;
+mod behind;
 mod byte_queue;
 mod decimal;
 mod device;
@@ -10,6 +11,7 @@ mod door;
 mod failing;
 mod framer;
 mod gate;
+mod gather;
 mod identity;
 mod kinds;
 mod memory;
@@ -34,6 +36,7 @@ pub use door::{Arrival, Bell, Came, Door, SilentBell};
 pub use failing::Failing;
 pub use framer::{FeedError, Format, Framer, Front};
 pub use gate::{Gate, OpenGate, Place};
+pub use gather::Gather;
 pub use identity::{Identity, State, state_of, state_text};
 pub use kinds::{Cause, Kind, Selector};
 pub use memory::{MemorySink, MemorySource};

@@ -7,13 +7,14 @@ use Rattle.adb_stream.specs.declared.row.Stream.{Stream}
 use Rattle.adb_link.specs.Linked.{Linked}
 use Rattle.adb_link.specs.declared.link.TheConstants.{VERSION_WITH_SUMS}
 use Rattle.adb_history.specs.Rows.{Client, State}
-use Rattle.adb_history.specs.Machine.{ups}
+use Rattle.adb_capture.specs.declared.entry.Entry.{Entry}
+use Rattle.adb_history.specs.Machine.{step, ups}
 use Rattle.adb_rules.specs.declared.ports.Port.{Port}
 use Rattle.adb_rules.specs.declared.tables.Tables.{Tables}
 use Rattle.adb_rules.specs.Tables.{client_row, link_row, state_of}
 use Rattle.adb_rules.specs.Tracked.{IsListedIn, IsListedAt}
 use Rattle.adb_rules.specs.Places.{LinkRoom, IsCountedAt, IsProvided, StaysRead}
-use Rattle.adb_rules.specs.Fit.{IsReadOutAt, IsFit, Keeps}
+use Rattle.adb_rules.specs.Fit.{IsReadOutAt, IsFit, Keeps, Makes}
 use Rattle.adb_receiving.specs.declared.cutting.Cutting.{Cutting}
 use Rattle.adb_receiving.specs.Cutting.{cut_in}
 use Rattle.adb_receiving.specs.Reserving.{HasMoreAt, HasMorePlacesAt, AreReserved}
@@ -90,6 +91,13 @@ module _ (old new : Tables) (h : AreReserved old new) where
       read_out = λ k. read_kept (at k old.links.entries) (at k new.links.entries) (h.links k) (fit.read_out k);
     };
   }
+
+-- ---- one after another
+pub keeps_then : {old middle new : Tables} → Keeps old middle → Keeps middle new → Keeps old new
+keeps_then h k = record { state = k.state ∙ h.state; fit = k.fit }
+
+pub makes_then : {e : Entry} {old middle new : Tables} → Keeps old middle → Makes e middle new → Makes e old new
+makes_then {e} h made = record { state = made.state ∙ ap (λ (s : State). (step s e).state) h.state; fit = made.fit }
 
 -- what came in stays as it was, also behind places that were reserved
 read_reserved : (old middle new : Option Port) → HasMorePlacesAt old middle → StaysRead middle new → StaysRead old new

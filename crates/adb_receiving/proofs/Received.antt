@@ -19,7 +19,7 @@ use Rattle.adb_rules.specs.declared.tables.Tables.{Tables}
 use Rattle.adb_rules.specs.Came.{packets_of}
 use Rattle.adb_rules.specs.Tables.{link_row, state_of}
 use Rattle.adb_rules.specs.Places.{StaysRead}
-use Rattle.adb_rules.specs.Fit.{IsReadOut, IsReadOutAt, IsFit, IsReached, Makes}
+use Rattle.adb_rules.specs.Fit.{IsReadOut, IsReadOutAt, IsFit, IsReached, Keeps, Makes}
 use Rattle.adb_rest.specs.Named.{cut_behind}
 use Rattle.adb_receiving.specs.declared.cutting.Cutting.{Cutting}
 use Rattle.adb_receiving.specs.Cutting.{IsCutTo, cut_of, cut_in}
@@ -37,6 +37,17 @@ pub record Comes (link : ℕ) (piece : List ℕ) (old : Tables) (port : Port) : 
   pub may : May (state_of old) (Recv link piece)
   pub range : IsInRange (Recv link piece)
   pub here : at link old.links.entries ≡ Some port
+
+-- it does, of tables that were kept
+pub comes_kept : {link : ℕ} {piece : List ℕ} {old now : Tables} {port : Port} → Comes link piece old port → Keeps old now → at link now.links.entries ≡ Some port
+    → Comes link piece now port
+comes_kept {link} {piece} h kept here = record {
+  fit = kept.fit;
+  reached = subst IsReached (sym kept.state) h.reached;
+  may = subst (λ (s : State). May s (Recv link piece)) (sym kept.state) h.may;
+  range = h.range;
+  here = here;
+}
 
 module _ {link : ℕ} {piece : List ℕ} {old : Tables} {port : Port} (h : Comes link piece old port) where
   past : History

@@ -1,41 +1,38 @@
 //! What comes in on a link, cut to packets (protocol.txt).
 
-ghost use Rattle.std.specs.Prelude.{◌≡◌, ◌≤◌, [], All, IfOk, OnOk, IfSome, length, is_some};
+ghost use Rattle.std.specs.Prelude.{◌≡◌, ◌≤◌, [], ℕ, All, Some, IfOk, OnOk, IfSome, length};
+ghost use Rattle.adb_outside.specs.Tables.{at};
 ghost use Rattle.adb_banner.specs.Banner.{identity_of};
 ghost use Rattle.adb_registry.specs.declared.registry.TheConstants.{MAX_FEATURES};
-ghost use Rattle.adb_rules.specs.Came.{IsCame, packets_of};
+ghost use Rattle.adb_rules.specs.declared.ports.Port.{Port};
+ghost use Rattle.adb_rules.specs.Came.{IsCame, packet_of, packets_of};
 ghost use Rattle.adb_wire.specs.declared.command.Command.TheVariants.{Cnxn};
+ghost use Rattle.adb_wire.specs.declared.headers.TheConstants.{MAX_PAYLOAD};
 ghost use Rattle.adb_receiving.specs.Cutting.{IsClear, IsCutTo, TakesNext, cut_of};
 
 use adb_banner::IdentityError;
-use adb_link::Incoming;
 use adb_outside::Identity;
-use adb_rules::Came;
-use adb_wire::{Command, Head, WireError};
-use bytes::Bytes;
+use adb_roster::Roster;
+use adb_rules::{Came, Port};
+use adb_wire::{Command, Deframer, Head, Packet};
 use std::alloc::{AllocError, Global};
 use std::collections::VecDeque;
 
-/// What a piece that came in on a link was cut to: the packets, what is held behind them, and
-/// whether a byte there was wrong.
+/// What came in on a link with a piece: the packets, what is held behind them, and whether a byte
+/// there was wrong.
 #[derive(Drop)]
 pub(crate) struct Cutting {
-    pub(crate) incoming: Incoming,
+    pub(crate) incoming: Deframer,
     pub(crate) packets: VecDeque<Came>,
     pub(crate) broken: bool,
 }
 
 impl Cutting {
-    /// Cuts a piece, behind what is held. An error is want of memory.
-    pub(crate) fn of(
-        alloc: Global,
-        mut incoming: Incoming,
-        piece: &[u8],
-    ) -> Result<Cutting, AllocError>
-        requires { IsClear incoming }
-        ensures { IfOk result (IsCutTo (cut_of incoming piece.now)) }
+    /// Takes the packets out of what came in.
+    pub(crate) fn of(alloc: Global, mut incoming: Deframer) -> Result<Cutting, AllocError>
+        ensures { IfOk result (IsCutTo incoming) }
     {
-        let broken = feed(&mut incoming, piece)?;
+        let broken = incoming.is_broken();
         let packets = take_all(alloc, &mut incoming)?;
         Ok(Cutting {
             incoming,
@@ -45,22 +42,27 @@ impl Cutting {
     }
 }
 
-/// Feeds a piece; says whether a byte was wrong.
-fn feed(incoming: &mut Incoming, piece: &[u8]) -> Result<bool, AllocError>
-    requires { IsClear incoming.old }
-    ensures held { OnOk result (incoming.new ≡ cut_of incoming.old piece.now) }
-    ensures broken { IfOk result (λ broken.
-        broken ≡ is_some (cut_of incoming.old piece.now).fault) }
+/// What comes in on a link with a further piece; of the link nothing changes.
+pub(crate) fn with_piece(
+    alloc: Global,
+    links: &mut Roster<Port>,
+    link: u32,
+    piece: &[u8],
+) -> Result<Deframer, AllocError>
+    requires clear { (port : Port) → at link links.old.entries ≡ Some port
+        → IsClear port.link.incoming }
+    ensures stays { (k : ℕ) → at k links.new.entries ≡ at k links.old.entries }
+    ensures next { (port : Port) → at link links.old.entries ≡ Some port
+        → IfOk result (λ incoming. incoming ≡ cut_of port.link.incoming piece.now) }
 {
-    match incoming.feed(piece) {
-        Ok(()) => Ok(false),
-        Err(WireError::OutOfMemory) => Err(AllocError),
-        Err(WireError::Broken(_) | WireError::BadSum { .. }) => Ok(true),
+    match links.get_mut(&link) {
+        Some(port) => port.link.with_piece(piece),
+        None => Ok(Deframer::new(alloc)),
     }
 }
 
 /// Takes all packets that are whole.
-fn take_all(alloc: Global, incoming: &mut Incoming) -> Result<VecDeque<Came>, AllocError>
+fn take_all(alloc: Global, incoming: &mut Deframer) -> Result<VecDeque<Came>, AllocError>
     ensures came { IfOk result (λ packets. All IsCame packets.items) }
     ensures packets { IfOk result (λ packets.
         packets_of packets.items ≡ incoming.old.given) }
@@ -74,18 +76,34 @@ fn take_all(alloc: Global, incoming: &mut Incoming) -> Result<VecDeque<Came>, Al
 }
 
 /// Takes the next packet that is whole, if there is one.
-fn next_came(alloc: Global, incoming: &mut Incoming) -> Result<Option<Came>, AllocError>
+fn next_came(alloc: Global, incoming: &mut Deframer) -> Result<Option<Came>, AllocError>
     ensures { IfOk result (TakesNext incoming.old incoming.new) }
 {
-    let Some((head, payload)) = incoming.next_slice()? else {
-        return Ok(None);
+    match incoming.next() {
+        Some(packet) => Ok(Some(came(alloc, packet)?)),
+        None => Ok(None),
+    }
+}
+
+/// A packet that came; its check word was looked at.
+fn came(alloc: Global, packet: Packet) -> Result<Came, AllocError>
+    requires { length packet.payload ≤ MAX_PAYLOAD }
+    ensures came { IfOk result IsCame }
+    ensures packet { IfOk result (λ came. packet_of came ≡ packet) }
+{
+    let head = Head {
+        command: packet.command,
+        arg0: packet.arg0,
+        arg1: packet.arg1,
+        length: packet.payload.len() as u32,
+        check: 0,
     };
-    let identity = identity_in(alloc, &head, payload.as_slice())?;
-    Ok(Some(Came {
+    let identity = identity_in(alloc, &head, packet.payload.as_slice())?;
+    Ok(Came {
         head,
-        payload,
+        payload: packet.payload,
         identity,
-    }))
+    })
 }
 
 /// Who a device says that it is, by a CNXN; `None` where that is no identity, or it is no CNXN.

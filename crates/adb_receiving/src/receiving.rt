@@ -8,7 +8,7 @@ ghost use Rattle.adb_rules.specs.Tables.{state_of};
 ghost use Rattle.adb_receiving.specs.Cutting.{IsCutting, cut_in};
 ghost use Rattle.adb_receiving.specs.Settling.{HasSettled, LeavesNamed};
 
-use crate::cutting::Cutting;
+use crate::cutting::{Cutting, with_piece};
 use crate::reserving::reserve;
 use crate::settling::settle;
 use crate::waiting::wait;
@@ -32,7 +32,8 @@ pub fn recv(tables: &mut Tables, link: u32, piece: &[u8]) -> Result<(), AllocErr
     if piece.len() < port.link.missing() {
         return wait(&mut tables.links, link, piece);
     }
-    let cutting = Cutting::of(tables.alloc, port.link.incoming()?, piece)?;
+    let incoming = with_piece(tables.alloc, &mut tables.links, link, piece)?;
+    let cutting = Cutting::of(tables.alloc, incoming)?;
     take(tables, link, cutting)
 }
 

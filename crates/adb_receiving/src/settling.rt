@@ -12,9 +12,9 @@ ghost use Rattle.adb_rules.specs.Tables.{state_of};
 ghost use Rattle.adb_receiving.specs.Settling.{CanSettle, HasSettled, reading};
 
 use crate::cutting::Cutting;
-use adb_link::Incoming;
 use adb_roster::Roster;
 use adb_rules::{Came, Port, Tables};
+use adb_wire::Deframer;
 use std::collections::{BTreeSet, VecDeque};
 
 /// The packets of a link are treated, a byte that was wrong breaks it, and the streams of these
@@ -34,7 +34,7 @@ pub(crate) fn settle(tables: &mut Tables, link: u32, cutting: Cutting, ids: &BTr
 }
 
 /// Something else came in on a link.
-fn put_incoming(links: &mut Roster<Port>, link: u32, incoming: Incoming)
+fn put_incoming(links: &mut Roster<Port>, link: u32, incoming: Deframer)
     ensures here { at link links.new.entries
         ≡ option_map (reading incoming) (at link links.old.entries) }
     ensures apart { (k : ℕ) → k ≢ link → at k links.new.entries ≡ at k links.old.entries }

@@ -1,9 +1,9 @@
 -- What a deframer holds begins with no whole packet, and how many bytes are missing to one.
-use Rattle.std.proofs.Common.{ℕ, ◌≡◌, ◌≤◌, ◌<◌, List, ◌∷◌, ◌++◌, length, take, drop, Option, Some, None, Result, Ok, Err, IfSome, refl, sym, ◌∙◌, ap, subst, arith, inl, inr}
+use Rattle.std.proofs.Common.{ℕ, ◌≡◌, ◌≤◌, ◌<◌, List, [], ◌∷◌, ◌++◌, length, take, drop, Option, Some, None, Result, Ok, Err, IfSome, refl, sym, ◌∙◌, ap, subst, arith, inl, inr}
 use Rattle.std.proofs.lemmas.Bool.{cases_lt}
 use Rattle.std.specs.List.{All}
 use Rattle.std.proofs.lemmas.List.{length-append, length-take, length-drop, take-append-drop, append-nil}
-use Rattle.std.proofs.lemmas.List.Elements.{All-append, All-rest, All-head}
+use Rattle.std.proofs.lemmas.List.Elements.{All-nil, All-append, All-rest, All-head}
 use Rattle.adb_outside.specs.declared.framer.Front.TheVariants.{More, Bad, Whole}
 use Rattle.adb_outside.specs.Framing.{joined}
 use Rattle.adb_outside.specs.Framing as framing
@@ -18,6 +18,7 @@ use Rattle.adb_wire.specs.declared.format.PacketFormat.{PacketFormat}
 use Rattle.adb_wire.specs.Header.{head_at}
 use Rattle.adb_wire.specs.Format.{sum_fault, payload_at, packet_len, whole_front, front_of, packet_with, packet_of}
 use Rattle.adb_wire.specs.FormatLaws.{is_whole, head_same, front_short, front_headed, front_partial, short, broken, partial, full, shows, packets_are_framed}
+use Rattle.adb_wire.specs.Cutting.{cut_packets}
 use Rattle.adb_wire.specs.Slicing.{headed_len, need_of}
 use Rattle.adb_wire.specs.Deframing.{Deframing, held_after, IsOpen, IsSound, Waits, Gives}
 use Rattle.adb_wire.proofs.CuttingLaws.{item, after, cut_step, same_held}
@@ -69,6 +70,16 @@ pub fed_sound : (old : Deframing) (piece : List ℕ) (new : Deframing) → IsSou
 fed_sound old piece new sound t =
     let is = t.held ∙ same_held old piece old.fault in
     record { sized = held_sized old piece new sound.sized is; opened = held_open old piece new sound.opened is }
+
+-- and what is cut of them and a piece, without the packets before
+pub fresh_sound : (old : Deframing) (piece : List ℕ) → IsSound old → old.fault ≡ None → IsSound (cut_packets old.reading (old.rest ++ piece))
+fresh_sound old piece sound none =
+    let fresh : Deframing = record old { given = [] } in
+    let is : cut_packets old.reading (old.rest ++ piece) ≡ held_after fresh piece old.fault = sym (ap (held_after fresh piece) none) in
+    record {
+      sized = held_sized fresh piece (cut_packets old.reading (old.rest ++ piece)) (All-nil IsSized) is;
+      opened = held_open fresh piece (cut_packets old.reading (old.rest ++ piece)) sound.opened is;
+    }
 
 -- after a packet was given too
 pub given_sound : (old new : Deframing) (given : Option Packet) → IsSound old → Gives old new given → IsSound new × IfSome given IsSized

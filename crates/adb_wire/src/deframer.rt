@@ -1,6 +1,6 @@
 //! The packets of a stream that comes in pieces.
 
-ghost use Rattle.std.specs.Prelude.{◌≡◌, ◌≢◌, ◌<◌, ◌≤◌, [], List, ℕ, length, Some, None, IfOk, IfSome, MatchOption};
+ghost use Rattle.std.specs.Prelude.{◌≡◌, ◌≢◌, ◌<◌, ◌≤◌, ◌++◌, [], List, ℕ, length, Some, None, is_some, IfOk, IfSome, MatchOption};
 ghost use Rattle.adb_wire.specs.declared.headers.TheConstants.{MAX_PAYLOAD};
 
 use crate::format::{PacketFault, PacketFormat};
@@ -44,6 +44,7 @@ impl Model for Deframer {
 impl Deframer {
     ghost use Rattle.adb_wire.specs.Deframing.{StandsFor, Takes, Gives, Waits, answer_of, no_bytes};
     ghost use Rattle.adb_wire.specs.Slicing.{need_of};
+    ghost use Rattle.adb_wire.specs.Cutting.{cut_packets};
 
     /// Nothing was fed yet. It takes no memory.
     pub fn new(alloc: Global) -> Deframer
@@ -103,6 +104,26 @@ impl Deframer {
             None => need(self.framer.rest()),
             Some(_) => usize::MAX,
         }
+    }
+
+    /// Whether the bytes that were fed have a fault.
+    pub fn is_broken(&self) -> bool
+        ensures { result ≡ is_some self.now.fault }
+    {
+        self.framer.fault().is_some()
+    }
+
+    /// Another that holds what this one does, but for its packets, and a further piece; this one
+    /// stays as it is. No payload is copied twice.
+    pub fn with_piece(&mut self, piece: &[u8]) -> Result<Deframer, AllocError>
+        requires { self.old.fault ≡ None }
+        ensures stays { self.new ≡ self.old }
+        ensures next { IfOk result (λ next.
+            next ≡ cut_packets self.old.reading (self.old.rest ++ piece.now)) }
+    {
+        Ok(Deframer {
+            framer: self.framer.with_piece(piece)?,
+        })
     }
 
     /// A deframer that stands for the same, in memory of its own.

@@ -8,7 +8,9 @@ ghost use Rattle.adb_wire.specs.Format.{front_of, packet_of, format_after, sum_f
 use crate::command::Command;
 use crate::headers::{HEADER_LEN, Head, HeadFault, byte_sum, read_head};
 use crate::packets::Packet;
-use adb_outside::{Format, Front, Text};
+use crate::slicer::need;
+use adb_outside::{Format, Front};
+use bytes::Bytes;
 use std::alloc::{AllocError, Global};
 
 /// The first version in which check words are not looked at.
@@ -100,8 +102,24 @@ impl Format<Packet, PacketFault> for PacketFormat {
             command: head.command,
             arg0: head.arg0,
             arg1: head.arg1,
-            payload: Text::from_slice(alloc, &frame[HEADER_LEN..])?,
+            payload: Bytes::copy_from_slice(alloc, &frame[HEADER_LEN..])?,
         })
+    }
+
+    fn keep(&self, _alloc: Global, frame: Bytes) -> Result<Packet, AllocError> {
+        let head = self.head_of(frame.as_slice());
+        let mut payload = frame;
+        payload.advance(HEADER_LEN);
+        Ok(Packet {
+            command: head.command,
+            arg0: head.arg0,
+            arg1: head.arg1,
+            payload,
+        })
+    }
+
+    fn missing(&self, bytes: &[u8]) -> Option<usize> {
+        Some(need(bytes))
     }
 
     fn past(&self, frame: &[u8]) -> PacketFormat {

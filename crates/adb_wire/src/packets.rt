@@ -8,16 +8,18 @@ ghost use Rattle.adb_wire.specs.Cutting.{Adds};
 use crate::command::Command;
 use crate::headers::{HEADER_LEN, Head, MAX_PAYLOAD, byte_sum, header};
 use adb_outside::Text;
+use bytes::Bytes;
 use std::alloc::{AllocError, Global};
 use std::mem;
 
-/// A packet (protocol.txt, "MESSAGES"). What its arguments mean, its command says.
+/// A packet (protocol.txt, "MESSAGES"). What its arguments mean, its command says. A copy shares the
+/// payload.
 #[derive(Drop)]
 pub struct Packet {
     pub command: Command,
     pub arg0: u32,
     pub arg1: u32,
-    pub payload: Text,
+    pub payload: Bytes,
 }
 
 impl Clone for Packet {
@@ -28,7 +30,7 @@ impl Clone for Packet {
             command: self.command,
             arg0: self.arg0,
             arg1: self.arg1,
-            payload: self.payload.copy()?,
+            payload: self.payload.clone()?,
         })
     }
 }

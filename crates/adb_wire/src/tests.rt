@@ -4,6 +4,7 @@ ghost use Rattle.std.specs.Prelude.{◌<◌, ◌≤◌, length};
 
 use super::*;
 use adb_outside::Text;
+use bytes::Bytes;
 use std::alloc::{AllocError, Global};
 use std::process::Abort;
 use std::test::Fail;
@@ -52,7 +53,7 @@ fn spelled(
         command,
         arg0: args[0],
         arg1: args[1],
-        payload: Text::from_slice(alloc, payload)?,
+        payload: Bytes::copy_from_slice(alloc, payload)?,
     };
     let mut out = Text::new(alloc);
     frame(alloc, &packet, sums, &mut out)?;
