@@ -52,7 +52,8 @@ module _ {S V F : Type 0} (find : S → List ℕ → Front F) (item : S → List
   fault_holds k s [] y fault h e = cc
   fault_holds zero s (b ∷ x) y fault h e = absurd (omega (arith, h))
   fault_holds (suc k) s (b ∷ x) y fault h e =
-      subst (λ (c : Cut S V F). c.fault ≡ Some fault → cut_here s ((b ∷ x) ++ y) ≡ record c { rest = c.rest ++ y }) (sym (cut_first find item after laws s (b ∷ x)))
+      subst (λ (c : Cut S V F). c.fault ≡ Some fault → cut_here s ((b ∷ x) ++ y) ≡ record c { rest = c.rest ++ y })
+      (sym (cut_first find item after laws s (b ∷ x)))
       (go (find s (b ∷ x)) refl (λ t c. fault_holds k t c y fault)) e
     where
       go : (f : Front F) → find s (b ∷ x) ≡ f
@@ -86,7 +87,8 @@ module _ {S V F : Type 0} (find : S → List ℕ → Front F) (item : S → List
       of_cut : (k : Cut S V F) (fault : Option F) → k.fault ≡ fault → cut_here c.reading (c.rest ++ x) ≡ k
           → further_at find item after (joined c.given k) (b ∷ y) fault ≡ joined c.given (cut_here c.reading (c.rest ++ all))
       of_cut k None none is =
-          let piece = cut_piece find item after laws (length (c.rest ++ x)) c.reading (c.rest ++ x) (b ∷ y) (omega arith) (ap (λ (k : Cut S V F). k.fault) is ∙ none) in
+          let piece = cut_piece find item after laws (length (c.rest ++ x)) c.reading (c.rest ++ x) (b ∷ y) (omega arith)
+          (ap (λ (k : Cut S V F). k.fault) is ∙ none) in
           let whole : cut_here c.reading (c.rest ++ all) ≡ joined k.given (cut_here k.reading (k.rest ++ b ∷ y)) =
           ap (cut_here c.reading) (sym (append_assoc c.rest x (b ∷ y)))
           ∙ (piece ∙ ap (λ (k : Cut S V F). joined k.given (cut_here k.reading (k.rest ++ b ∷ y))) is) in

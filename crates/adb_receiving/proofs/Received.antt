@@ -39,8 +39,8 @@ pub record Comes (link : ℕ) (piece : List ℕ) (old : Tables) (port : Port) : 
   pub here : at link old.links.entries ≡ Some port
 
 -- it does, of tables that were kept
-pub comes_kept : {link : ℕ} {piece : List ℕ} {old now : Tables} {port : Port} → Comes link piece old port → Keeps old now → at link now.links.entries ≡ Some port
-    → Comes link piece now port
+pub comes_kept : {link : ℕ} {piece : List ℕ} {old now : Tables} {port : Port} → Comes link piece old port → Keeps old now
+    → at link now.links.entries ≡ Some port → Comes link piece now port
 comes_kept {link} {piece} h kept here = record {
   fit = kept.fit;
   reached = subst IsReached (sym kept.state) h.reached;
