@@ -1,12 +1,11 @@
 //! A client.
 
 ghost use Rattle.std.specs.Prelude.{◌≡◌, ◌<◌, ◌≤◌, ◌+◌, ◌-◌, ◌++◌, [], length, take, drop, max, IsOk, IfOk, OnOk, OnErr};
-ghost use Rattle.bytes.specs.Unread.{IsChunkOf};
 ghost use Rattle.adb_client.specs.Ask.{asked_in};
 ghost use Rattle.adb_client.specs.Client.{new_about};
 
-use crate::about::{About, Want};
-use crate::ask::{Ask, Asked};
+use crate::about::About;
+use crate::ask::Asked;
 use crate::input::Input;
 use crate::output::{MAX_SLICE, Output};
 use crate::phase::Phase;
@@ -128,39 +127,11 @@ impl Client {
         self.input.pass_over(n);
     }
 
-    /// Takes a whole request off the front of what is held, where one stands there.
-    pub fn next_request(&mut self) -> Result<Ask, AllocError>
-        ensures ask { IfOk result (λ ask. ask ≡ (asked_in self.old.held).ask) }
-        ensures ok { let len = (asked_in self.old.held).len in
-            OnOk result (self.new ≡ record self.old {
-              held = drop len self.old.held;
-              ready = self.old.ready - len;
-            }) }
-        ensures err { OnErr result (self.new ≡ self.old) }
-    {
-        let asked = self.input.ask_from(0)?;
-        self.input.pass_over(asked.len);
-        Ok(asked.ask)
-    }
-
     /// How many bytes are held.
     pub fn held(&self) -> usize
         ensures { result ≡ length self.now.held }
     {
         self.input.len()
-    }
-
-    /// Takes the first `n` bytes held off, as a shared slice; the rest is not copied.
-    pub fn cut_up(&mut self, n: usize) -> Result<Bytes, AllocError>
-        requires { n ≤ length self.old.held }
-        ensures piece { IfOk result (λ piece. piece ≡ take n self.old.held) }
-        ensures ok { OnOk result (self.new ≡ record self.old {
-          held = drop n self.old.held;
-          ready = self.old.ready - n;
-        }) }
-        ensures err { OnErr result (self.new ≡ self.old) }
-    {
-        self.input.cut_up(n)
     }
 
     /// Makes at least the first `n` bytes held ready to be cut off, in at least `cuts` pieces,
@@ -201,16 +172,8 @@ impl Client {
         self.output.owe(bytes)
     }
 
-    /// A slice becomes due; no byte is copied. After an error it is dropped.
-    pub fn owe_slice(&mut self, bytes: Bytes) -> Result<(), AllocError>
-        ensures ok { OnOk result (self.new ≡ record self.old { due = self.old.due ++ bytes }) }
-        ensures err { OnErr result (self.new ≡ self.old) }
-    {
-        self.output.owe_slice(bytes)
-    }
-
-    /// Makes the spare at least `n`: so many bytes can become due by `owe_spare`. No other call but
-    /// that and `finish` lowers it.
+    /// Makes the spare at least `n`: so many bytes can become due by `owe_spare`, which alone lowers
+    /// it.
     pub fn reserve(&mut self, n: usize) -> Result<(), AllocError>
         ensures ok { OnOk result (self.new ≡ record self.old { spare = max n self.old.spare }) }
         ensures err { OnErr result (self.new ≡ self.old) }
@@ -230,8 +193,8 @@ impl Client {
         self.output.owe_spare(bytes);
     }
 
-    /// Makes the places at least `n`: so many slices can become due by `owe_slice_spare`. No other
-    /// call but that and `finish` lowers them.
+    /// Makes the places at least `n`: so many slices can become due by `owe_slice_spare`, which alone
+    /// lowers them.
     pub fn reserve_slices(&mut self, n: usize) -> Result<(), AllocError>
         ensures ok { OnOk result (self.new ≡ record self.old { places = max n self.old.places }) }
         ensures err { OnErr result (self.new ≡ self.old) }
@@ -259,13 +222,6 @@ impl Client {
         self.output.owed()
     }
 
-    /// The first bytes that are due: at least one where any are, and perhaps not all.
-    pub fn front(&self) -> &[u8]
-        ensures { IsChunkOf result.now self.now.due }
-    {
-        self.output.front()
-    }
-
     /// The first `max` bytes that are due, or all where there are fewer, copied. Nothing changes.
     pub fn copy_front(&self, max: usize) -> Result<Text, AllocError>
         ensures { IfOk result (λ text. text ≡ take max self.now.due) }
@@ -280,64 +236,4 @@ impl Client {
     {
         self.output.hand(n);
     }
-
-    /// The client is gone: nothing of it is held, due or reserved. It takes no memory.
-    pub fn finish(&mut self)
-        ensures { self.new ≡ record {
-          about = record self.old.about { phase = Phase.Gone };
-          held = [];
-          ready = 0;
-          cuts = 0;
-          due = [];
-          spare = 0;
-          places = 0;
-        } }
-    {
-        self.about.phase = Phase::Gone;
-        self.input.clear();
-        self.output.clear();
-    }
-
-    /// Another client that holds the same, with the same places, and of which nothing is ready.
-    /// Slices that are due are shared.
-    pub fn copy(&self) -> Result<Client, AllocError>
-        ensures { IfOk result (λ client. client ≡ record self.now { ready = 0; cuts = 0 }) }
-    {
-        Ok(Client {
-            about: copy_about(&self.about)?,
-            input: self.input.copy()?,
-            output: self.output.copy()?,
-        })
-    }
-}
-
-/// The same, in memory of its own.
-fn copy_about(about: &About) -> Result<About, AllocError>
-    ensures { IfOk result (λ copy. copy ≡ about.now) }
-{
-    let want = match &about.want {
-        Some(want) => Some(copy_want(want)?),
-        None => None,
-    };
-    Ok(About {
-        number: about.number,
-        forwarded: about.forwarded,
-        phase: about.phase,
-        selected: about.selected,
-        ended: about.ended,
-        mark: about.mark,
-        long: about.long,
-        want,
-    })
-}
-
-/// The same, in memory of its own.
-fn copy_want(want: &Want) -> Result<Want, AllocError>
-    ensures { IfOk result (λ copy. copy ≡ want.now) }
-{
-    Ok(Want {
-        transport: want.transport,
-        local: want.local,
-        remote: want.remote.copy()?,
-    })
 }

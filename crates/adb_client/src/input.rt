@@ -131,6 +131,7 @@ impl Input {
     {
         if self.front.is_empty() {
             self.handles.clear();
+            self.front = Bytes::new();
         }
         if self.rest.is_empty() {
             self.rest = BytesMut::new(self.alloc);
@@ -217,40 +218,6 @@ impl Input {
         self.cuts -= 1;
         self.give_back();
         piece
-    }
-
-    /// The first `n` bytes go as a slice.
-    pub(crate) fn cut_up(&mut self, n: usize) -> Result<Bytes, AllocError>
-        requires { n ≤ length self.old.held }
-        ensures piece { IfOk result (λ piece. piece ≡ take n self.old.held) }
-        ensures ok { OnOk result (self.new ≡ record self.old {
-          held = drop n self.old.held;
-          ready = self.old.ready - n;
-        }) }
-        ensures err { OnErr result (self.new ≡ self.old) }
-    {
-        self.cut_front(n)?;
-        let piece = self.share_first(n)?;
-        self.pass_over(n);
-        Ok(piece)
-    }
-
-    /// Nothing is held any more. It takes no memory.
-    pub(crate) fn clear(&mut self)
-        ensures { self.new ≡ record { held = []; ready = 0; cuts = 0 } }
-    {
-        *self = Input::new(self.alloc);
-    }
-
-    /// Another that holds the same bytes, of which none are ready.
-    pub(crate) fn copy(&self) -> Result<Input, AllocError>
-        ensures { IfOk result (λ input.
-            input ≡ record { held = self.now.held; ready = 0; cuts = 0 }) }
-    {
-        let mut copy = Input::new(self.alloc);
-        copy.take_in(self.front.as_slice())?;
-        copy.take_in(self.rest.as_slice())?;
-        Ok(copy)
     }
 }
 

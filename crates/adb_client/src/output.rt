@@ -1,9 +1,8 @@
 //! What is due to a client.
 
 ghost use Rattle.std.specs.Prelude.{◌≡◌, ◌<◌, ◌≤◌, ◌+◌, ◌-◌, ◌++◌, [], length, take, drop, max, IsOk, IfOk, OnOk, OnErr};
-ghost use Rattle.bytes.specs.Unread.{IsChunkOf};
 
-use crate::slices::{Slice, fill, first, put_back, share_all};
+use crate::slices::{Slice, fill, put_back};
 use adb_outside::Text;
 use bytes::{Bytes, BytesMut};
 use std::alloc::{AllocError, Global};
@@ -116,28 +115,6 @@ impl Output {
         Ok(())
     }
 
-    /// A slice is due, copied nowhere.
-    pub(crate) fn owe_slice(&mut self, bytes: Bytes) -> Result<(), AllocError>
-        ensures ok { OnOk result (self.new ≡ record self.old { due = self.old.due ++ bytes }) }
-        ensures err { OnErr result (self.new ≡ self.old) }
-    {
-        let shared = self.shared.saturating_add(bytes.len());
-        if shared > MOST - MAX_SLICE * self.places {
-            return Err(AllocError);
-        }
-        if bytes.is_empty() {
-            return Ok(());
-        }
-        self.slices.reserve(self.places + 1)?;
-        self.slices.push_back_reserved(Slice {
-            before: self.own.len() - self.before,
-            bytes,
-        });
-        self.before = self.own.len();
-        self.shared = shared;
-        Ok(())
-    }
-
     /// Bytes are due, in reserved places. It takes no memory.
     pub(crate) fn owe_spare(&mut self, bytes: &[u8])
         requires { length bytes.now ≤ self.old.spare }
@@ -169,17 +146,6 @@ impl Output {
             bytes,
         });
         self.before = self.own.len();
-    }
-
-    /// The first bytes that are due, some where any are.
-    pub(crate) fn front(&self) -> &[u8]
-        ensures { IsChunkOf result.now self.now.due }
-    {
-        match self.slices.front() {
-            Some(slice) if slice.before > 0 => first(self.own.as_slice(), slice.before),
-            Some(slice) => slice.bytes.as_slice(),
-            None => self.own.as_slice(),
-        }
     }
 
     /// The first `max` bytes that are due, or all where there are fewer, copied.
@@ -246,30 +212,5 @@ impl Output {
         {
             self.own = own;
         }
-    }
-
-    /// Nothing is due or reserved any more. It takes no memory.
-    pub(crate) fn clear(&mut self)
-        ensures { self.new ≡ record { due = []; spare = 0; places = 0 } }
-    {
-        *self = Output::new(self.alloc);
-    }
-
-    /// Another that holds the same. The slices are shared.
-    pub(crate) fn copy(&self) -> Result<Output, AllocError>
-        ensures { IfOk result (λ output. output ≡ self.now) }
-    {
-        let mut own = BytesMut::new(self.alloc);
-        own.extend_from_slice(self.own.as_slice())?;
-        own.reserve(self.spare)?;
-        Ok(Output {
-            alloc: self.alloc,
-            slices: share_all(self.alloc, &self.slices, self.places)?,
-            shared: self.shared,
-            places: self.places,
-            own,
-            before: self.before,
-            spare: self.spare,
-        })
     }
 }

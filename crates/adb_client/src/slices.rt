@@ -56,33 +56,6 @@ pub(crate) fn put_back(slices: &mut VecDeque<Slice>, slice: Slice)
     }
 }
 
-/// Other owners of the same slices, with so many places behind them.
-pub(crate) fn share_all(
-    alloc: Global,
-    slices: &VecDeque<Slice>,
-    places: usize,
-) -> Result<VecDeque<Slice>, AllocError>
-    ensures items { IfOk result (λ shared. shared.items ≡ slices.now.items) }
-    ensures room { IfOk result (λ shared. deque_len shared + places ≤ deque_capacity shared) }
-{
-    let mut shared = VecDeque::with_capacity(alloc, slices.len())?;
-    for i in 0..slices.len() {
-        shared.push_back(share_one(&slices[i])?)?;
-    }
-    shared.reserve(places)?;
-    Ok(shared)
-}
-
-/// Another owner of the same slice.
-fn share_one(slice: &Slice) -> Result<Slice, AllocError>
-    ensures { IfOk result (λ shared. shared ≡ slice.now) }
-{
-    Ok(Slice {
-        before: slice.before,
-        bytes: share(&slice.bytes)?,
-    })
-}
-
 /// Fills an empty text up to `max` bytes from own bytes with the slices among them, and looks at
 /// none behind these.
 pub(crate) fn fill(

@@ -18,7 +18,7 @@ pub mod Linking
 pub mod LinkMoves
 pub mod Unread
 pub mod OrderlyStates
-mod Calm
+pub mod Calm
 mod HandOuts
 mod Drains
 mod Settled

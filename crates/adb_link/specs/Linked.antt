@@ -1,5 +1,5 @@
 -- What a link holds, and what becomes due on it.
-use Rattle.std.specs.Prelude.{ℕ, ◌-◌, ◌≡◌, ◌≤◌, if◌then◌else◌, List, [], ◌++◌, length, reverse, find, Option, Some, None}
+use Rattle.std.specs.Prelude.{ℕ, ◌-◌, ◌≡◌, ◌≤◌, if◌then◌else◌, List, [], ◌++◌, length}
 use Rattle.adb_wire.specs.declared.command.Command.{Command}
 use Rattle.adb_wire.specs.declared.headers.Head.{Head}
 use Rattle.adb_wire.specs.declared.headers.TheConstants.{MAX_PAYLOAD}
@@ -24,20 +24,6 @@ new_link = record { incoming = no_bytes; version = 0; due = []; spare = 0 }
 -- the version after a packet with that command and first argument was taken: a CNXN says it
 abbrev pub version_past : ℕ → Command → ℕ → ℕ
 version_past version command arg0 = if is_cnxn command then arg0 else version
-
--- the version after that packet was taken, or none
-abbrev pub version_after : ℕ → Option Packet → ℕ
-version_after version None = version
-version_after version (Some p) = version_past version p.command p.arg0
-
--- the version of that CNXN, or 0
-abbrev pub version_of : Option Packet → ℕ
-version_of None = 0
-version_of (Some cnxn) = cnxn.arg0
-
--- the version of the last CNXN among these packets, 0 where there is none
-abbrev pub version_behind : List Packet → ℕ
-version_behind packets = version_of (find (λ p. is_cnxn p.command) (reverse packets))
 
 -- the link with a packet that is due next, with the check word that the link's version fixes now
 abbrev pub owing : Linked → Packet → Linked

@@ -1,20 +1,18 @@
 //! A device's link.
 
-ghost use Rattle.std.specs.Prelude.{◌≡◌, ◌≢◌, ◌<◌, ◌≤◌, ◌++◌, [], List, ℕ, length, take, drop, max, Some, None, option_to_list, IfOk, IfSome, OnOk, OnErr, MatchOption, if◌then◌else◌};
+ghost use Rattle.std.specs.Prelude.{◌≡◌, ◌≢◌, ◌<◌, ◌≤◌, ◌++◌, [], List, ℕ, length, take, drop, max, Some, None, IfOk, OnOk, OnErr, MatchOption};
 ghost use Rattle.adb_wire.specs.declared.format.PacketFault.{PacketFault};
-ghost use Rattle.adb_wire.specs.declared.packets.Packet.{Packet};
-ghost use Rattle.adb_wire.specs.declared.headers.TheConstants.{MAX_PAYLOAD};
 ghost use Rattle.adb_wire.specs.declared.deframer.WireError.{WireError};
 ghost use Rattle.adb_wire.specs.Packet.{head_for, check_of};
 ghost use Rattle.adb_wire.specs.Format.{packet_under};
 ghost use Rattle.adb_wire.specs.Cutting.{cut_packets, goes_with_sum};
 ghost use Rattle.adb_wire.specs.Slicing.{need_of};
-ghost use Rattle.adb_link.specs.Linked.{IsHeadOf, version_past, version_after, version_behind};
+ghost use Rattle.adb_link.specs.Linked.{IsHeadOf, version_past};
 
 use crate::outbox::Outbox;
 use crate::outgoing::{MAX_SHORT, Outgoing};
 use adb_outside::Text;
-use adb_wire::{Command, Deframer, Head, Packet, WireError, byte_sum};
+use adb_wire::{Command, Deframer, Head, WireError, byte_sum};
 use bytes::Bytes;
 use std::alloc::{AllocError, Global};
 use std::marker::Model;
@@ -25,7 +23,7 @@ pub const VERSION_WITH_SUMS: u32 = 0x0100_0000;
 /// A device's link: what comes in on it is cut into packets, and packets become due on it, with the
 /// check word that protocol.txt has for its version ("MESSAGES"). A packet that becomes due keeps
 /// its check word: a CNXN goes out with its sum, and another packet does where the last CNXN that
-/// was taken from the link had the version 0x01000000.
+/// the link was told of had the version 0x01000000.
 ///
 /// Places for packets can be reserved, to owe them later without memory; a place holds one packet,
 /// whatever its payload. Only the calls that take a place lower their number.
@@ -51,7 +49,7 @@ impl Model for Link {
 }
 
 impl Link {
-    ghost use Rattle.adb_wire.specs.Deframing.{StandsFor, Takes, Gives, Waits, answer_of};
+    ghost use Rattle.adb_wire.specs.Deframing.{StandsFor, Takes, Waits, answer_of};
     ghost use Rattle.adb_link.specs.Linked.{new_link, owing, placing};
 
     /// Nothing was fed yet, nothing is due, and no place is reserved. It takes no memory.
@@ -68,9 +66,8 @@ impl Link {
     }
 
     /// Takes the next piece of what comes in, of any length. `Broken` and `BadSum` come exactly
-    /// where all the bytes fed so far have that fault first; the packets before it are still given,
-    /// and from then on every call answers it and takes nothing. After want of memory all is as
-    /// before.
+    /// where all the bytes fed so far have that fault first; from then on every call answers it and
+    /// takes nothing. After want of memory all is as before.
     pub fn feed(&mut self, piece: &[u8]) -> Result<(), WireError>
         ensures answer { result ≢ Err WireError.OutOfMemory
             → result ≡ answer_of self.new.incoming.fault }
@@ -94,25 +91,6 @@ impl Link {
             → Waits self.now.incoming piece }
     {
         self.incoming.missing()
-    }
-
-    /// The next packet that was not yet given; `None` exactly where no further whole packet was
-    /// fed. A CNXN fixes the link's version. It takes no memory.
-    pub fn next(&mut self) -> Option<Packet>
-        ensures given { Gives self.old.incoming self.new.incoming result }
-        ensures sized { IfSome result (λ packet. length packet.payload ≤ MAX_PAYLOAD) }
-        ensures others { self.new ≡ record self.old {
-          incoming = self.new.incoming;
-          version = version_after self.old.version result;
-        } }
-        ensures last { (before : List Packet) → self.old.version ≡ version_behind before
-            → self.new.version ≡ version_behind (before ++ option_to_list result) }
-    {
-        let packet = self.incoming.next();
-        if let Some(packet) = &packet {
-            self.version = version_past(self.version, packet.command, packet.arg0);
-        }
-        packet
     }
 
     /// A packet with that header was taken from what came in with a piece: a CNXN fixes the link's
@@ -143,16 +121,6 @@ impl Link {
         self.incoming = incoming;
     }
 
-    /// A packet is due next; its payload is shared. After want of memory all is as before.
-    pub fn owe(&mut self, packet: &Packet) -> Result<(), AllocError>
-        requires { length packet.now.payload ≤ MAX_PAYLOAD }
-        ensures ok { OnOk result (self.new ≡ owing self.old packet.now) }
-        ensures err { OnErr result (self.new ≡ self.old) }
-    {
-        let payload = packet.payload.clone()?;
-        self.owe_slice(&head_of(packet), payload)
-    }
-
     /// A packet of that header and shared payload is due next, with the link's check word in the
     /// place of the header's. After want of memory all is as before, and the payload is dropped.
     pub fn owe_slice(&mut self, head: &Head, payload: Bytes) -> Result<(), AllocError>
@@ -172,15 +140,6 @@ impl Link {
         ensures err { OnErr result (self.new ≡ self.old) }
     {
         self.outbox.reserve(packets)
-    }
-
-    /// A packet without payload is due next, in a reserved place. It takes no memory.
-    pub fn owe_spare(&mut self, packet: &Packet)
-        requires place { 0 < self.old.spare }
-        requires empty { packet.now.payload ≡ [] }
-        ensures { self.new ≡ placing self.old packet.now }
-    {
-        self.owe_short_spare(&head_of(packet), packet.payload.as_slice());
     }
 
     /// A packet of that header and a payload of at most `MAX_SHORT` bytes, which are copied into
@@ -214,16 +173,6 @@ impl Link {
         self.outbox.owed()
     }
 
-    /// The first bytes that are due: some where any are, up to the end of a header or a payload. It
-    /// takes no memory.
-    pub fn front(&self) -> &[u8]
-        ensures within { length result.now ≤ length self.now.due }
-        ensures front { result.now ≡ take (length result.now) self.now.due }
-        ensures some { 0 < length self.now.due → 0 < length result.now }
-    {
-        self.outbox.front()
-    }
-
     /// The first `max` bytes that are due, or all where there are fewer, copied. Nothing changes.
     pub fn copy_front(&self, max: usize) -> Result<Text, AllocError>
         ensures { IfOk result (λ text. text ≡ take max self.now.due) }
@@ -238,19 +187,6 @@ impl Link {
     {
         self.outbox.hand(n);
     }
-
-    /// A link that holds the same and has as many places. Payloads that are due are shared, and the
-    /// packets that came in are copied.
-    pub fn copy(&self) -> Result<Link, AllocError>
-        ensures { IfOk result (λ copy. copy ≡ self.now) }
-    {
-        Ok(Link {
-            alloc: self.alloc,
-            incoming: self.incoming.copy()?,
-            version: self.version,
-            outbox: self.outbox.copy()?,
-        })
-    }
 }
 
 /// The version of a link after a packet was taken from it: a CNXN says it.
@@ -260,21 +196,6 @@ fn version_past(version: u32, command: Command, arg0: u32) -> u32
     match command {
         Command::Cnxn => arg0,
         _ => version,
-    }
-}
-
-/// The header of a packet, without its check word.
-fn head_of(packet: &Packet) -> Head
-    requires { length packet.now.payload ≤ MAX_PAYLOAD }
-    ensures head { result ≡ head_for packet.now 0 }
-    ensures of { IsHeadOf result packet.now.payload }
-{
-    Head {
-        command: packet.command,
-        arg0: packet.arg0,
-        arg1: packet.arg1,
-        length: packet.payload.len() as u32,
-        check: 0,
     }
 }
 

@@ -91,18 +91,6 @@ impl Outbox {
         self.owed
     }
 
-    /// The first bytes that are due, some where any are.
-    pub(crate) fn front(&self) -> &[u8]
-        ensures within { length result.now ≤ length self.now.due }
-        ensures front { result.now ≡ take (length result.now) self.now.due }
-        ensures some { 0 < length self.now.due → 0 < length result.now }
-    {
-        match self.packets.front() {
-            Some(packet) => packet.front(),
-            None => &[],
-        }
-    }
-
     /// The first `max` bytes that are due, or all where there are fewer, copied.
     pub(crate) fn copy_front(&self, alloc: Global, max: usize) -> Result<Text, AllocError>
         ensures { IfOk result (λ text. text ≡ take max self.now.due) }
@@ -140,19 +128,6 @@ impl Outbox {
             self.packets.push_front_reserved(packet);
         }
         taken
-    }
-
-    /// An outbox that holds the same.
-    pub(crate) fn copy(&self) -> Result<Outbox, AllocError>
-        ensures { IfOk result (λ copy. copy ≡ self.now) }
-    {
-        let mut packets = self.packets.clone()?;
-        packets.reserve(self.spare)?;
-        Ok(Outbox {
-            packets,
-            owed: self.owed,
-            spare: self.spare,
-        })
     }
 }
 

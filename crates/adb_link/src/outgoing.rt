@@ -80,19 +80,6 @@ impl Outgoing {
         self.to - self.from + self.payload.len()
     }
 
-    /// The first bytes that are still due, some where any are.
-    pub(crate) fn front(&self) -> &[u8]
-        ensures within { length result.now ≤ length self.now }
-        ensures front { result.now ≡ take (length result.now) self.now }
-        ensures some { 0 < length self.now → 0 < length result.now }
-    {
-        if self.from < self.to {
-            &self.start[self.from..self.to]
-        } else {
-            self.payload.as_slice()
-        }
-    }
-
     /// Fills a text up to `max` bytes from the front of those that are still due.
     pub(crate) fn fill(&self, text: &mut Text, max: usize) -> Result<(), AllocError>
         ensures { OnOk result (text.new ≡ text.old ++ take (max - length text.old) self.now) }
@@ -109,18 +96,5 @@ impl Outgoing {
         let of_start = n.min(self.to - self.from);
         self.from += of_start;
         self.payload.advance(n - of_start);
-    }
-}
-
-impl Clone for Outgoing {
-    ghost is_clone = { λ packet clone. clone ≡ packet };
-
-    fn clone(&self) -> Result<Outgoing, AllocError> {
-        Ok(Outgoing {
-            start: self.start,
-            from: self.from,
-            to: self.to,
-            payload: self.payload.clone()?,
-        })
     }
 }

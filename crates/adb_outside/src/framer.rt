@@ -240,19 +240,3 @@ impl<V: Drop, F: Copy, S: Format<V, F>> Framer<S, V, F> {
         self.fault = behind.fault;
     }
 }
-
-impl<V: Clone, F: Copy, S: Format<V, F>> Framer<S, V, F> {
-    /// A framer that holds the same, in memory of its own.
-    pub fn copy(&self) -> Result<Framer<S, V, F>, AllocError>
-        ensures same { IfOk result (λ copy. ((v clone : V) → V.is_clone v clone → clone ≡ v)
-            → copy ≡ self.now) }
-    {
-        Ok(Framer {
-            alloc: self.alloc,
-            format: self.format,
-            held: self.held.copy()?,
-            ready: self.ready.clone()?,
-            fault: self.fault,
-        })
-    }
-}

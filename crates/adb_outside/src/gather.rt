@@ -11,7 +11,7 @@ use std::mem;
 /// Bytes that come at the end, until all of them are shared as one slice with no copy. Contracts see
 /// them as a list. It may still hold a front of what it shared.
 #[derive(Drop)]
-pub struct Gather {
+pub(crate) struct Gather {
     alloc: Global,
     /// What was shared; then nothing grows.
     shared: Bytes,
@@ -31,14 +31,14 @@ impl Model for Gather {
 
 impl Gather {
     /// No bytes. It takes no memory.
-    pub fn new(alloc: Global) -> Gather
+    pub(crate) fn new(alloc: Global) -> Gather
         ensures { result ≡ [] }
     {
         Gather::of(alloc, Bytes::new())
     }
 
     /// Bytes that are shared. It takes no memory.
-    pub fn of(alloc: Global, shared: Bytes) -> Gather
+    pub(crate) fn of(alloc: Global, shared: Bytes) -> Gather
         ensures { result ≡ shared }
     {
         Gather {
@@ -49,7 +49,7 @@ impl Gather {
     }
 
     /// The bytes.
-    pub fn as_slice(&self) -> &[u8]
+    pub(crate) fn as_slice(&self) -> &[u8]
         ensures { result.now ≡ self.now }
     {
         if self.shared.is_empty() {
@@ -60,14 +60,14 @@ impl Gather {
     }
 
     /// Whether there are no bytes.
-    pub fn is_empty(&self) -> bool
+    pub(crate) fn is_empty(&self) -> bool
         ensures { result ≡ (length self.now == 0) }
     {
         self.as_slice().is_empty()
     }
 
     /// Adds bytes at the end. After want of memory the bytes are as before.
-    pub fn push(&mut self, piece: &[u8]) -> Result<(), AllocError>
+    pub(crate) fn push(&mut self, piece: &[u8]) -> Result<(), AllocError>
         ensures ok { OnOk result (self.new ≡ self.old ++ piece.now) }
         ensures err { OnErr result (self.new ≡ self.old) }
     {
@@ -75,7 +75,7 @@ impl Gather {
     }
 
     /// All bytes behind the first `n` go. It takes no memory.
-    pub fn truncate(&mut self, n: usize)
+    pub(crate) fn truncate(&mut self, n: usize)
         ensures { self.new ≡ take n self.old }
     {
         self.growing.truncate(n.saturating_sub(self.shared.len()));
@@ -84,7 +84,7 @@ impl Gather {
 
     /// The bytes, and a piece behind them, as one slice; none of the bytes is copied, but where
     /// others still share them. They stay.
-    pub fn join(&mut self, piece: &[u8]) -> Result<Bytes, AllocError>
+    pub(crate) fn join(&mut self, piece: &[u8]) -> Result<Bytes, AllocError>
         ensures all { IfOk result (λ all. all ≡ self.old ++ piece.now) }
         ensures stays { self.new ≡ self.old }
     {
@@ -99,15 +99,6 @@ impl Gather {
                 Err(AllocError)
             }
         }
-    }
-
-    /// The same bytes in memory of its own.
-    pub fn copy(&self) -> Result<Gather, AllocError>
-        ensures { IfOk result (λ copy. copy ≡ self.now) }
-    {
-        let mut copy = Gather::new(self.alloc);
-        copy.push(self.as_slice())?;
-        Ok(copy)
     }
 }
 

@@ -36,7 +36,6 @@ pub use door::{Arrival, Bell, Came, Door, SilentBell};
 pub use failing::Failing;
 pub use framer::{FeedError, Format, Framer, Front};
 pub use gate::{Gate, OpenGate, Place};
-pub use gather::Gather;
 pub use identity::{Identity, State, state_of, state_text};
 pub use kinds::{Cause, Kind, Selector};
 pub use memory::{MemorySink, MemorySource};

@@ -10,7 +10,6 @@ pub mod RestingRows
 pub mod RestingOpen
 pub mod RestingClients
 pub mod RestingLinks
-pub mod RestingPuts
 pub mod RestingSteps
 pub mod WantedRequests
 pub mod WantedAnswers

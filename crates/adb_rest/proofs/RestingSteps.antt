@@ -12,12 +12,12 @@ use Rattle.adb_history.specs.Packets.{receives_on}
 use Rattle.adb_history.specs.Machine.{History, state, rule, IsLegal}
 use Rattle.adb_history.specs.Orderly.{IsOrderly}
 use Rattle.adb_history.proofs.OrderlyStates.{orderly}
+use Rattle.adb_history.proofs.Calm.{calm_puts}
 use Rattle.adb_history.proofs.Quiet.{all_still}
 use Rattle.adb_rest.specs.Resting.{StepIsRule, has_open_stream, SendsNothingBy}
 use Rattle.adb_rest.proofs.RestingRows.{AllCalm, calm_is, comes_calm, all_calm}
 use Rattle.adb_rest.proofs.RestingClients.{enters_calm, bound_calm, reads_calm, eof_calm, fails_calm}
 use Rattle.adb_rest.proofs.RestingLinks.{plugs_calm, unplugs_calm, part_calm}
-use Rattle.adb_rest.proofs.RestingPuts.{puts_calm}
 
 -- Where its rule leaves no stream that may send, the step of an entry is its rule.
 step_is_rule : (e : Entry) (s : State) → AllCalm (rule e s).state → StepIsRule e s
@@ -47,7 +47,7 @@ module _ (s : State) (h : AllCalm s) where
     detach = λ t cause. step_is_rule (Detach t cause) s (unplugs_calm (s.links t) t s fits.rises h);
     gone = λ t bytes is. step_is_rule (Recv t bytes) s (received_gone t bytes is);
     part = λ t bytes link is none. step_is_rule (Recv t bytes) s (part_calm s h t bytes link is none);
-    put = λ c bytes. step_is_rule (Put c bytes) s (puts_calm (s.clients c) c (length bytes) s h);
+    put = λ c bytes. step_is_rule (Put c bytes) s (calm_puts c (length bytes) s h);
     send = λ t bytes. step_is_rule (Send t bytes) s h;
   }
 

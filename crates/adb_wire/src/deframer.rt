@@ -125,13 +125,4 @@ impl Deframer {
             framer: self.framer.with_piece(piece)?,
         })
     }
-
-    /// A deframer that stands for the same, in memory of its own.
-    pub fn copy(&self) -> Result<Deframer, AllocError>
-        ensures { IfOk result (λ copy. copy ≡ self.now) }
-    {
-        Ok(Deframer {
-            framer: self.framer.copy()?,
-        })
-    }
 }

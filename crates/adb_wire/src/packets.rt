@@ -12,27 +12,13 @@ use bytes::Bytes;
 use std::alloc::{AllocError, Global};
 use std::mem;
 
-/// A packet (protocol.txt, "MESSAGES"). What its arguments mean, its command says. A copy shares the
-/// payload.
+/// A packet (protocol.txt, "MESSAGES"). What its arguments mean, its command says.
 #[derive(Drop)]
 pub struct Packet {
     pub command: Command,
     pub arg0: u32,
     pub arg1: u32,
     pub payload: Bytes,
-}
-
-impl Clone for Packet {
-    ghost is_clone = { λ packet clone. clone ≡ packet };
-
-    fn clone(&self) -> Result<Packet, AllocError> {
-        Ok(Packet {
-            command: self.command,
-            arg0: self.arg0,
-            arg1: self.arg1,
-            payload: self.payload.clone()?,
-        })
-    }
 }
 
 /// Adds a packet at the end of `out`. Its check word is the sum of the payload's bytes where

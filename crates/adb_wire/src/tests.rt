@@ -223,26 +223,8 @@ fn a_megabyte_takes_no_long_time(rt: HostRuntime) -> Result<(), Fail> {
     Ok(())
 }
 
-/// The packets of a deframer that holds an OPEN, a CNXN of an old version, and all but the last
-/// byte of a WRTE with a wrong check word.
-fn goes_on(rt: &impl Abort, deframer: &mut Deframer) -> Result<(), Fail> {
-    assert_eq!(rt; deframer.missing(), 1);
-    let open = deframer.next().ok_or("no packet")?;
-    assert_eq!(rt; open.payload.as_slice(), b"shell:echo hi\x00".as_slice());
-    let connect = deframer.next().ok_or("no second packet")?;
-    assert_eq!(rt;
-        (connect.command, connect.arg0),
-        (Command::Cnxn, 0x0100_0000)
-    );
-    assert!(rt; deframer.next().is_none());
-    let (said, is) = (0xda, 0xdb);
-    assert_eq!(rt; deframer.feed(b"\n"), Err(WireError::BadSum { said, is }));
-    assert_eq!(rt; deframer.missing(), usize::MAX);
-    Ok(())
-}
-
 #[test]
-fn a_copy_goes_on_alike(rt: HostRuntime) -> Result<(), Fail> {
+fn missing_bytes_are_counted(rt: HostRuntime) -> Result<(), Fail> {
     let mut deframer = Deframer::new(rt.alloc());
     for (piece, missing) in [
         (&OPEN[..20], 4),
@@ -254,9 +236,10 @@ fn a_copy_goes_on_alike(rt: HostRuntime) -> Result<(), Fail> {
         deframer.feed(piece)?;
         assert_eq!(rt; deframer.missing(), missing);
     }
-    let mut copy = deframer.copy()?;
-    goes_on(&rt, &mut deframer)?;
-    goes_on(&rt, &mut copy)
+    let (said, is) = (0xda, 0xdb);
+    assert_eq!(rt; deframer.feed(b"\n"), Err(WireError::BadSum { said, is }));
+    assert_eq!(rt; deframer.missing(), usize::MAX);
+    Ok(())
 }
 
 /// The slices of a stream that comes in pieces of that many bytes, and what is held then.
