@@ -65,16 +65,6 @@ module _ (l c : ℕ) (Live : Type 0) where
             live = λ e. was.live (ap (λ (z : Stream). z.part.orphan) (sym it) ∙ (sym orphan ∙ e));
           })
 
-  -- a part changes of an orphan
-  pub own_orphan : (n : ℕ) (part : Part) (streams : Rows (Option Stream)) → part.orphan ≡ true → ((x : Stream) → streams l ≡ Some x → IsItsOwn c Live x)
-      → (y : Stream) → change_row n (option_and_then (with_stream_part part)) streams l ≡ Some y → IsItsOwn c Live y
-  own_orphan n part streams orphan h =
-      own_change l (IsItsOwn c Live) n (with_stream_part part) streams (λ x y here same e was. (let row : record x { part = part } ≡ y = cc in
-      subst (IsItsOwn c Live) row (record { client = was.client; live = λ e. absurd (clash e) }))) h
-    where
-      clash : part.orphan ≡ false → ⊥
-      clash e = let both : true ≡ false = sym orphan ∙ e in cc
-
 -- ---- what became due
 module _ (c l : ℕ) (replies : List ℕ) where
   -- nothing becomes due, and no end is told of that its client hears

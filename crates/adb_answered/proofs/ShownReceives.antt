@@ -146,9 +146,6 @@ module _ (x : Subject) where
         go (Some link) = cut_apart (cut_packets (record { sums = link.sums }) (link.rest ++ bytes)) s w h
 
 -- ---- a link that may be gone
-abbrev pub with_cut : Bool → Subject → Subject
-with_cut cut x = record x { cut = cut }
-
 pub allow_cut : (x : Subject) (heard : Bool) (a : Seen) (s : State) (w : List Event) → IsShown heard x a s w → IsShown heard (record x { cut = true }) a s w
 allow_cut x heard a s w h = record {
   owned = h.owned;

@@ -68,10 +68,6 @@ pub heard_remote : (l remote : ℕ) (ps : List Packet) → IsHeard l remote ps �
 heard_remote l zero ps h = ap remote_in (ap (opening_in l) (sym (append-nil ps)) ∙ h [])
 heard_remote l (suc remote) ps h = ap remote_in h.is ∙ h.remote_is
 
--- whether the device has opened it
-pub heard_opening : (l : ℕ) (ps : List Packet) → IsHeard l 0 ps → opening_in l ps ≡ None
-heard_opening l ps h = ap (opening_in l) (sym (append-nil ps)) ∙ h []
-
 -- What packets add to what was said of a stream.
 abbrev pub Hears : (l : ℕ) → List Packet → (before after : ℕ) → Type 0
 Hears l more before after = (ps : List Packet) → IsHeard l before ps → IsHeard l after (ps ++ more)

@@ -55,9 +55,6 @@ client_there : (s : State) (c l : ℕ) (row : Option Client) → s.clients c ≡
 client_there s c l None here phase = let clash : Gone ≡ Streaming l = phase in cc
 client_there s c l (Some client) here phase = record { client = client; here = here; in_phase = phase }
 
-pub open_there : (s : State) (c l : ℕ) → phase_in (s.clients c) ≡ Streaming l → IsClientIn s c (Streaming l)
-open_there s c l phase = client_there s c l (s.clients c) refl phase
-
 module _ (s : State) (reached : IsReached s) (c l : ℕ) (x : IsClientIn s c (Streaming l)) where
   -- the rule notes that the input ended
   noted : (client_ends c Eof (s.clients c) s).state ≡ to_client c input_ended s

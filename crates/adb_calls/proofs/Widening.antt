@@ -115,8 +115,5 @@ kept_then e old mid new kept made = record {
   fit = made.fit;
 }
 
-pub kept_twice : (old mid new : Tables) → Keeps old mid → Keeps mid new → Keeps old new
-kept_twice old mid new first second = record { state = second.state ∙ first.state; fit = second.fit }
-
 pub still_reached : (old mid : Tables) → Keeps old mid → IsReached (state_of old) → IsReached (state_of mid)
 still_reached old mid kept reached = subst IsReached (sym kept.state) reached

@@ -1,7 +1,6 @@
 //! Devices that are unplugged.
 
 ghost use Rattle.std.specs.Prelude.{◌≡◌, is_some};
-ghost use Rattle.adb_outside.specs.Tables.{at};
 ghost use Rattle.adb_outside.specs.declared.kinds.Cause.{Cause};
 ghost use Rattle.adb_capture.specs.declared.entry.Entry.TheVariants.{Detach};
 ghost use Rattle.adb_rules.specs.Fit.{IsFit, IsReached, Makes};

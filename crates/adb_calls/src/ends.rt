@@ -1,6 +1,5 @@
 //! Clients whose input ends.
 
-ghost use Rattle.std.specs.Prelude.{◌≡◌};
 ghost use Rattle.adb_outside.specs.declared.kinds.Cause.TheVariants.{Eof};
 ghost use Rattle.adb_capture.specs.declared.entry.Entry.TheVariants.{End};
 ghost use Rattle.adb_client.specs.declared.phase.Phase.TheVariants.{Streaming};

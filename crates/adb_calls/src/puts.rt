@@ -3,11 +3,10 @@
 ghost use Rattle.std.specs.Prelude.{◌≡◌, ◌<◌, ℕ, [], None, Some, take, IfOk, OnOk, OnErr};
 ghost use Rattle.adb_outside.specs.Tables.{at};
 ghost use Rattle.adb_capture.specs.declared.entry.Entry.TheVariants.{Put};
-ghost use Rattle.adb_rules.specs.Fit.{IsFit, IsReached, Makes, Keeps};
-ghost use Rattle.adb_rules.specs.Tables.{state_of, client_row};
+ghost use Rattle.adb_rules.specs.Fit.{IsFit, IsReached, Keeps};
+ghost use Rattle.adb_rules.specs.Tables.{state_of};
 ghost use Rattle.adb_calls.specs.Handed.{due_to, offered_to, list_to, listed};
 ghost use Rattle.adb_calls.specs.Handed.{Lists, IsFront, HandsOut};
-ghost use Rattle.adb_calls.specs.Widening.{WidensClient, WidensRow, Widens};
 
 use crate::lists::list_for;
 use crate::places::keep_answer;

@@ -1,9 +1,8 @@
 //! Bytes that are handed out to links.
 
 ghost use Rattle.std.specs.Prelude.{◌≡◌, ◌<◌, take, IfOk, OnErr};
-ghost use Rattle.adb_outside.specs.Tables.{at};
 ghost use Rattle.adb_capture.specs.declared.entry.Entry.TheVariants.{Send};
-ghost use Rattle.adb_rules.specs.Fit.{IsFit, IsReached, Makes, Keeps};
+ghost use Rattle.adb_rules.specs.Fit.{IsFit, IsReached, Keeps};
 ghost use Rattle.adb_rules.specs.Tables.{state_of};
 ghost use Rattle.adb_calls.specs.Handed.{due_on, IsFront, HandsOut};
 

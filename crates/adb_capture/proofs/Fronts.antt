@@ -13,7 +13,7 @@ use Rattle.adb_capture.specs.declared.entry.Entry.{Entry}
 use Rattle.adb_capture.specs.declared.limits.TheConstants.{HEADER_LEN, DATA_LIMIT, CAPTURE_LIMIT}
 use Rattle.adb_capture.specs.declared.error.FormFault.{FormFault}
 use Rattle.adb_capture.specs.declared.error.FormFault.TheVariants.{BadRecord, TooLong}
-use Rattle.adb_capture.specs.declared.error.Why.TheVariants.{UnknownKind, BadForm, TooLarge}
+use Rattle.adb_capture.specs.declared.error.Why.TheVariants.{UnknownKind, TooLarge}
 use Rattle.adb_capture.specs.Records.{record_at, formed, is_kind, kind_in, owner_in, size_in, data_in, entry_at, entry_in, offset_after}
 
 -- the entry of a record's kind, number and data
@@ -165,10 +165,6 @@ whole_alone offset x n h =
       entry = w.entry;
       formed = sym (entry_before (take n x) (drop n x) (omega (arith, s, w.size, len))) ∙ (ap entry_of parts ∙ w.formed);
     })
-
-formed_bad : (offset size : ℕ) (e : Option Entry) (error : FormFault) → formed offset size e ≡ Bad error → (e ≡ None) × (error ≡ BadRecord offset BadForm)
-formed_bad offset size None error h = (refl, cc)
-formed_bad offset size (Some e) error h = cc
 
 -- a refusal stays, whatever follows
 pub bad_stays : (offset : ℕ) (x y : List ℕ) (error : FormFault) → record_at offset x ≡ Bad error → record_at offset (x ++ y) ≡ Bad error

@@ -1,6 +1,6 @@
 //! Reading on until what is wanted is held.
 
-ghost use Rattle.std.specs.Prelude.{◌≡◌, ◌≤◌, Ok, Err};
+ghost use Rattle.std.specs.Prelude.{◌≤◌, Ok, Err};
 ghost use Rattle.adb_outside.specs.Outside.{Counts};
 ghost use Rattle.adb_capture.specs.Counting.{KeepsBytes, is_fault};
 ghost use Rattle.adb_capture.specs.declared.limits.TheConstants.{CAPTURE_LIMIT};

@@ -1,6 +1,6 @@
 //! What the data of a record are, by its kind.
 
-ghost use Rattle.std.specs.Prelude.{◌≡◌, ◌<◌, ◌^◌, ℕ, Some, IfOk, IfSome, drop, option_map};
+ghost use Rattle.std.specs.Prelude.{◌≡◌, ◌<◌, ℕ, Some, IfOk, drop, option_map};
 ghost use Rattle.adb_capture.specs.Records.{cause_at, port_at, plug_at, entry_at};
 ghost use Rattle.adb_capture.specs.Forms.{entry_by};
 

@@ -1,6 +1,6 @@
 //! The bytes that were read from a source and not yet taken.
 
-ghost use Rattle.std.specs.Prelude.{◌≡◌, ◌<◌, ◌≤◌, ◌+◌, ◌++◌, ℕ, List, [], length, take, drop, Some, IfOk, OnOk, OnErr};
+ghost use Rattle.std.specs.Prelude.{◌≡◌, ◌<◌, ◌≤◌, ℕ, List, [], length, take, drop, IfOk};
 ghost use Rattle.adb_outside.specs.Outside.{Counts};
 ghost use Rattle.adb_capture.specs.Counting.{KeepsBytes, is_failed};
 ghost use Rattle.adb_capture.specs.Awaiting.{ReadsMore};

@@ -4,7 +4,7 @@ ghost use Rattle.std.specs.Prelude.{◌≡◌, ◌<◌, ◌≤◌, ◌+◌, ◌+
 ghost use Rattle.adb_outside.specs.Outside.{Counts};
 ghost use Rattle.adb_outside.specs.Sink.{FitsPiece, TellsWrite, is_failed_write};
 ghost use Rattle.adb_capture.specs.declared.limits.TheConstants.{HEADER_LEN};
-ghost use Rattle.adb_capture.specs.Records.{magic, kind_of, data_of, record_of, cause_byte, plug_letter, HasRecord};
+ghost use Rattle.adb_capture.specs.Records.{magic, kind_of, record_of, cause_byte, plug_letter, HasRecord};
 ghost use Rattle.adb_capture.specs.Pieces.{text_of, word_of};
 
 use crate::awaiting::MAGIC;

@@ -25,7 +25,6 @@ use Rattle.adb_history.proofs.Following.{changed_here}
 use Rattle.adb_history.proofs.OutputEntries.{tied}
 use Rattle.adb_history.proofs.LinkMoves.{all_linked}
 use Rattle.adb_history.specs.Handing.{puts, left_in, hands, lists_first, takes_of, client_left, puts_to}
-use Rattle.adb_history.specs.Owned.{IsOwned}
 use Rattle.adb_causes.proofs.OtherCauses.{bound_killed}
 use Rattle.adb_causes.proofs.UpRuns.{u_up, up_apart}
 use Rattle.adb_history.proofs.Booked.{said}
@@ -180,9 +179,6 @@ after_up e older c k legal here r =
 -- ---- by entries of others
 module _ (e : Entry) (older : History) (c : ℕ) (k0 : Client) (legal : IsLegal (e ∷ older)) (row : ((state older).clients c ≡ Some k0) × (k0.about.phase
     ≡ Asking)) where
-  owned_before : IsOwned (state older)
-  owned_before = (all_linked older legal.0).owned
-
   others_ask : AsksAsTold older c k0 → IsOthers c k0 (state older) (all_linked older legal.0).owned row.0 row.1 e
       → ((bytes : List ℕ) → e ≢ Read c bytes) → is_some ((rule e (state older)).state.clients c) ≡ true → AskRuled e older c
   others_ask t far other on =

@@ -6,9 +6,6 @@ use Rattle.std.proofs.Math.Seq.{drop-append_seam}
 use Rattle.std.proofs.lemmas.List.Elements.{All-pop, All-weaker}
 use Rattle.adb_client.specs.Input.{EndsWith}
 
-pub ends_itself : (xs : List ℕ) → EndsWith xs xs
-ends_itself xs = record { start = []; is = refl }
-
 -- what ends with a list ends with less of it
 pub ends_less : (n : ℕ) (end all : List ℕ) → EndsWith end all → EndsWith (drop n end) all
 ends_less n end all h = record {

@@ -1,6 +1,6 @@
 //! What a client sent that is held.
 
-ghost use Rattle.std.specs.Prelude.{◌≡◌, ◌<◌, ◌≤◌, ◌+◌, ◌-◌, ◌++◌, ◌==◌, [], List, ℕ, length, take, drop, max, vec_len, All, IsOk, IfOk, OnOk, OnErr};
+ghost use Rattle.std.specs.Prelude.{◌≡◌, ◌<◌, ◌≤◌, ◌+◌, ◌-◌, ◌++◌, [], ℕ, length, take, drop, max, vec_len, All, IsOk, IfOk, OnOk, OnErr};
 ghost use Rattle.adb_client.specs.Ask.{asked_in};
 ghost use Rattle.adb_client.specs.Input.{EndsWith};
 

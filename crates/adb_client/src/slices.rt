@@ -6,7 +6,7 @@ ghost use Rattle.adb_client.specs.Slices.{woven, own_before, IsCounted};
 
 use adb_outside::Text;
 use bytes::Bytes;
-use std::alloc::{AllocError, Global};
+use std::alloc::AllocError;
 use std::collections::VecDeque;
 
 /// A slice that is due, and how many bytes that are no slice's are due between the one before it and

@@ -117,7 +117,10 @@ fn owe(client: &mut Client, debt: Debt) -> Result<(), AllocError> {
     match debt {
         Debt::Owe(bytes) => client.owe(bytes)?,
         Debt::Spare(bytes) => client.owe_spare(&bytes[..bytes.len().min(4)]),
-        Debt::Slice(bytes) => client.owe_slice_spare(Bytes::from_static(bytes)),
+        Debt::Slice(bytes) => {
+            let some = &bytes[..bytes.len().min(MAX_SLICE)];
+            client.owe_slice_spare(Bytes::from_static(some));
+        }
         Debt::Hand(n) => client.hand(n.min(client.owed())),
     }
     Ok(())

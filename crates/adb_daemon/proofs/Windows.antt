@@ -83,9 +83,6 @@ module _ (outgoing : Outgoing) (first : Row) where
     pub rest : now.due ++ bytes_of (writes outgoing.most row) ≡ due ++ bytes_of (writes outgoing.most first)
     pub last : row_written outgoing.most row ≡ row_written outgoing.most first
 
-  pub writing_none : (start : Moment) → StandsFor first start.stream → Writing start.due start
-  writing_none start stands = record { row = first; stands = stands; host = refl; rest = refl; last = refl }
-
   -- one more was made
   pub writing_step : {due : List ℕ} {now next : Moment} (payload : List ℕ) → (all : Writing due now)
       → MakesWrite outgoing.most all.row next.stream (Some payload)

@@ -6,7 +6,7 @@ use Rattle.adb_files.specs.Requests.{Request, requests_in}
 use Rattle.adb_files.specs.Served.{Served, serve_all}
 use Rattle.adb_files.specs.Service.{StandsFor}
 use Rattle.adb_shell_service.specs.Commands.{words_of, files_left}
-use Rattle.adb_shell_service.specs.Service.{Answer, Opening, shell_answer}
+use Rattle.adb_shell_service.specs.Service.{Answer, shell_answer}
 use Rattle.adb_shell_service.specs.Service as shell
 use Rattle.adb_daemon.specs.Asked.{Kind, Echoes, Syncs, Shells}
 use Rattle.adb_daemon.specs.declared.service.Service.{Service}

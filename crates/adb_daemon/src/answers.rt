@@ -1,6 +1,6 @@
 //! What the host's packets make due on a stream.
 
-ghost use Rattle.std.specs.Prelude.{◌≡◌, ◌≤◌, ◌⊎◌, ◌++◌, [], List, ℕ, length, IfOk, OnOk, OnErr};
+ghost use Rattle.std.specs.Prelude.{◌≡◌, ◌≤◌, ◌⊎◌, ◌++◌, [], ℕ, length, IfOk, OnOk, OnErr};
 ghost use Rattle.byteorder.specs.Endian.{little_bytes};
 ghost use Rattle.adb_daemon.specs.Asked.{kind_of};
 ghost use Rattle.adb_daemon.specs.Service.{came_over, files_opened, files_fed, HasFrontOfFiles};

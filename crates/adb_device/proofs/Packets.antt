@@ -30,14 +30,6 @@ pub record Live (host : ℕ) (found : Option Row) (held : Option Stream) : Type 
 named_if : (host : ℕ) (row : Row) (t : Bool) → (row.host == host) ≡ t → named host (Some row) ≡ (if t then Some row else None)
 named_if host row t is = ap (λ (b : Bool). if b then Some row else None) is
 
--- what the code finds at an id is what stands there
-pub is_unnamed : (host : ℕ) (found : Option Row) (held : Option Stream) → StandsAt found held
-    → is_named host (option_map (λ (stream : Stream). stream.host) held) ≡ false → named host found ≡ None
-is_unnamed host None None stands is = refl
-is_unnamed host None (Some stream) stands is = absurd stands
-is_unnamed host (Some row) None stands is = absurd stands
-is_unnamed host (Some row) (Some stream) stands is = named_if host row false (ap (λ (n : ℕ). n == host) (sym stands.host) ∙ is)
-
 pub is_live : (host : ℕ) (found : Option Row) (held : Option Stream) → StandsAt found held
     → is_named host (option_map (λ (stream : Stream). stream.host) held) ≡ true → Live host found held
 is_live host None None stands is = absurd (true≢false (sym is))
@@ -61,17 +53,6 @@ acks_are link own host (flows.Credit credit) n = go (n == 0)
     go false = sym (append-nil (packet_bytes link.sums (okay own host (little_bytes 4 n))))
 
 module _ (link : Link) (p : Packet) (s : Serving) (taken : List ℕ) (view : View) (h : Holds s taken view) where
-  -- no live stream has both ids
-  pub ignored_write : is_named p.arg0 (host_at p.arg1 view.streams) ≡ false → Holds (on_write link p s) taken view
-  ignored_write is =
-      let none = is_unnamed p.arg0 (at p.arg1 s.rows) (at p.arg1 view.streams) (h.table.stands p.arg1) is in
-      subst (λ (r : Option Row). Holds (written_to link p r s) taken view) (sym none) h
-
-  pub ignored_okay : is_named p.arg0 (host_at p.arg1 view.streams) ≡ false → Holds (on_okay link p s) taken view
-  ignored_okay is =
-      let none = is_unnamed p.arg0 (at p.arg1 s.rows) (at p.arg1 view.streams) (h.table.stands p.arg1) is in
-      subst (λ (r : Option Row). Holds (acked_to link p r s) taken view) (sym none) h
-
   pub live : is_named p.arg0 (host_at p.arg1 view.streams) ≡ true → Live p.arg0 (at p.arg1 s.rows) (at p.arg1 view.streams)
   live is = is_live p.arg0 (at p.arg1 s.rows) (at p.arg1 view.streams) (h.table.stands p.arg1) is
 

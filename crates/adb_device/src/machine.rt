@@ -1,7 +1,7 @@
 //! What each packet of the host makes of the device.
 
-ghost use Rattle.std.specs.Prelude.{◌≡◌, ◌≤◌, ◌++◌, [], ℕ, List, length, Some, None, IfOk, OnOk, OnErr};
-ghost use Rattle.adb_device.specs.Device.{Device, Setting, first_device, identity_text, own_cnxn, step, treated, linked_to};
+ghost use Rattle.std.specs.Prelude.{◌≡◌, ◌≤◌, [], ℕ, List, length, Some, None, IfOk, OnOk, OnErr};
+ghost use Rattle.adb_device.specs.Device.{Device, first_device, identity_text, own_cnxn, step, treated, linked_to};
 ghost use Rattle.adb_device.specs.Serving.{bytes_of};
 ghost use Rattle.adb_device.specs.Behind.{Stands, setting_in, setting_of};
 ghost use Rattle.adb_device.specs.Link.{Fits};

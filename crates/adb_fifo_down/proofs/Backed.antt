@@ -10,7 +10,7 @@ use Rattle.byteorder.specs.Endian.{little_bytes, little_number}
 use Rattle.adb_wire.specs.declared.packets.Packet.{Packet}
 use Rattle.adb_history.specs.Links.{credit_word, credit_packet}
 use Rattle.adb_history.specs.Births as birth
-use Rattle.adb_history.specs.Births.{opening_in, told_in, joined, is_okay}
+use Rattle.adb_history.specs.Births.{opening_in, told_in, joined}
 use Rattle.adb_history.specs.Fifo.{whole_within, credit_of}
 use Rattle.adb_fifo_down.specs.Window.{IsBackedBy, IsBacked}
 use Rattle.adb_fifo_down.proofs.Openings.{opening_stays, told_append}

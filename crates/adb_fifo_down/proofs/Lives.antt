@@ -10,10 +10,10 @@ use Rattle.adb_client.specs.declared.phase.Phase.{Phase}
 use Rattle.adb_client.specs.declared.phase.Phase.TheVariants.{Opening, Streaming, Closing}
 use Rattle.adb_history.specs.Events.{Ending, client_closed, peer_closed, lost, broken, client_failed, stopped}
 use Rattle.adb_history.specs.Births as birth
-use Rattle.adb_history.specs.Births.{opening_in, told_in, before_close, joined}
+use Rattle.adb_history.specs.Births.{opening_in, told_in, joined}
 use Rattle.adb_history.proofs.Outputs.{handed_off}
 use Rattle.adb_fifo_down.specs.Line.{Line, SeenStream, SeenClient, View, IsOpenIn, first_of, closing_seen, fail_bytes, loss, lost_by, over}
-use Rattle.adb_fifo_down.specs.Turned.{IsInLine, IsStop, IsServed, row_fails, failed_by, killed, row_left, more_okays, credit_told, whole_told, left_told}
+use Rattle.adb_fifo_down.specs.Turned.{IsInLine, IsStop, row_fails, failed_by, killed, row_left, more_okays, credit_told, left_told}
 use Rattle.adb_fifo_down.specs.Turned.{stream_left_as, row_handed, handed_in, handed_out}
 use Rattle.adb_fifo_down.specs.Life.{Cradle, lead, NeverOpens, unopened_output, IsNotByPeer, heard, IsWaiting, IsUnheard, IsOpened, IsClosedAt}
 use Rattle.adb_fifo_down.specs.Life.{WasOpen, IsDone, Story, LivesAs, LivesIn, TiedTo, Life}

@@ -16,9 +16,6 @@ allowed false l o = allowed_writes l o
 allowed true l o = allowed_bytes l o
 
 -- ---- an opening stays, and what comes later is behind it
-later_with : Opening → List Packet → Opening
-later_with o qs = record o { later = o.later ++ qs }
-
 by_more : (command : Command) (l : ℕ) (p : Packet) (ps qs : List Packet) (o : Opening) → opening_by command l p ps (opening_in l ps) ≡ Some o
     → (opening_in l ps ≡ Some o → opening_in l (ps ++ qs) ≡ Some (record o { later = o.later ++ qs }))
     → opening_by command l p (ps ++ qs) (opening_in l (ps ++ qs)) ≡ Some (record o { later = o.later ++ qs })

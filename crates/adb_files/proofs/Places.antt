@@ -125,11 +125,3 @@ begins_where_stands {path} {files} {i} s = record {
   where
     at : (k : ℕ) (d : Entry) → i ≡ k → (slice_index_or files k d).path ≡ path
     at k d is = subst (λ (n : ℕ). (slice_index_or files n d).path ≡ path) is (s.here d)
-
--- what fits begins what is behind it
-pub begins_where_fits : {path : List ℕ} {files : List Entry} {i : ℕ} → FitsAt path files i → BeginsAt path files i
-begins_where_fits f = record {
-  within = f.within;
-  less = f.less;
-  others = λ k d l m e. let more = f.greater k d l m in cc;
-}

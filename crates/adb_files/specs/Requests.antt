@@ -1,5 +1,5 @@
 -- The whole requests of the bytes that a sync service was fed (SYNC.TXT): a SEND with its DATA and its DONE is one, and a fault of the bytes is one.
-use Rattle.std.specs.Prelude.{ℕ, Bool, true, false, List, [], ◌∷◌, ◌++◌, Option, Some, None}
+use Rattle.std.specs.Prelude.{ℕ, List, [], ◌∷◌, ◌++◌, Option, Some, None}
 use Rattle.adb_sync.specs.declared.ask.SyncAsk.{SyncAsk}
 use Rattle.adb_sync.specs.declared.ask.SyncAsk.TheVariants as asks
 use Rattle.adb_sync.specs.declared.error.SyncFault.{SyncFault}
@@ -67,12 +67,3 @@ fault_request (Some fault) = Fails fault ∷ []
 -- all the whole requests of bytes, in order
 abbrev pub requests_in : List ℕ → List Request
 requests_in bytes = requests_of None (asks_in bytes) ++ fault_request (ask_fault_in bytes)
-
--- whether a request ends the service
-abbrev pub is_end : Request → Bool
-is_end (Stats path) = false
-is_end (Lists path) = false
-is_end (Receives path) = false
-is_end (Sends path mode bytes mtime) = false
-is_end Quits = true
-is_end (Fails fault) = true

@@ -1,9 +1,6 @@
 //! What a whole request is answered.
 
-ghost use Rattle.std.specs.Prelude.{◌≡◌, ◌≤◌, ◌<◌, ◌^◌, ◌++◌, length, map, All, Option, OnOk, OnErr, IfOk};
-ghost use Rattle.adb_sync.specs.declared.answer.Dirent.{Dirent};
-ghost use Rattle.adb_files.specs.Files.{is_directory};
-ghost use Rattle.adb_sync.specs.Chunk.{chunk_bytes};
+ghost use Rattle.std.specs.Prelude.{◌≡◌, ◌≤◌, ◌<◌, ◌++◌, length, OnOk, OnErr};
 ghost use Rattle.adb_files.specs.Served.{fault_text, fail_bytes, stat_in, stat_bytes_of, list_bytes, recv_bytes};
 ghost use Rattle.adb_files.specs.Listing.{listing};
 ghost use Rattle.adb_files.specs.Service.{TellsFront};

@@ -2,7 +2,7 @@
 
 ghost use Rattle.std.specs.Arc.{arc_value};
 ghost use Rattle.std.specs.Option.{option_copied};
-ghost use Rattle.std.specs.Prelude.{◌≡◌, ◌+◌, ◌^◌, ◌<◌, ◌≤◌, [], length, map, All, Option, Some, None, OnOk, OnErr, IfOk, MatchResult};
+ghost use Rattle.std.specs.Prelude.{◌≡◌, ◌+◌, ◌^◌, ◌<◌, ◌≤◌, [], length, All, Option, Some, None, OnOk, OnErr, IfOk, MatchResult};
 ghost use Rattle.std.specs.List.{list_any};
 ghost use Rattle.adb_files.specs.declared.file.FileError.{FileError};
 ghost use Rattle.adb_files.specs.Paths.{is_below};

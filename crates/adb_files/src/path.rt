@@ -1,6 +1,6 @@
 //! The form of a path.
 
-ghost use Rattle.std.specs.Prelude.{◌≡◌, ◌++◌, ◌==◌, length};
+ghost use Rattle.std.specs.Prelude.{◌≡◌, ◌++◌, ◌==◌};
 ghost use Rattle.adb_files.specs.Paths.{path_cmp, is_name, is_path, slash_behind, is_below};
 
 use std::cmp::Ordering;

@@ -1,6 +1,6 @@
 //! The service that answers sync requests.
 
-ghost use Rattle.std.specs.Prelude.{◌≡◌, ◌≤◌, ◌++◌, ◌⊎◌, [], List, ℕ, length, take, drop, true, false, Ok, Err, None, ◌≢◌, IfOk, OnOk, OnErr, IsErr};
+ghost use Rattle.std.specs.Prelude.{◌≡◌, ◌≤◌, ◌++◌, [], List, ℕ, length, take, drop, true, false, Ok, Err, None, ◌≢◌, IfOk, OnOk, OnErr, IsErr};
 ghost use Rattle.adb_outside.specs.Framing.{answer_of};
 ghost use Rattle.adb_sync.specs.Messages.{error_of};
 ghost use Rattle.std.specs.List.{AllByRecursion};

@@ -1,11 +1,11 @@
 //! Serving whole requests, in order.
 
-ghost use Rattle.std.specs.Prelude.{◌≡◌, ◌≤◌, ◌++◌, ◌⊎◌, [], length, true, false, Option, Some, None, OnOk, OnErr, IfOk};
+ghost use Rattle.std.specs.Prelude.{◌≡◌, ◌≤◌, ◌++◌, ◌⊎◌, [], length, true, false, Option, Some, None, OnOk, OnErr};
 ghost use Rattle.std.specs.List.{AllByRecursion};
 ghost use Rattle.adb_sync.specs.declared.error.SyncFault.{SyncFault};
 ghost use Rattle.adb_files.specs.declared.session.Sending.{Sending};
-ghost use Rattle.adb_files.specs.Requests.{OpenSend, Sends, Fails, completed, continued, open_past, requests_of};
-ghost use Rattle.adb_files.specs.Served.{serve_one, serve_all, fail_bytes, fault_text};
+ghost use Rattle.adb_files.specs.Requests.{OpenSend, Sends, completed, open_past, requests_of};
+ghost use Rattle.adb_files.specs.Served.{serve_one, fail_bytes, fault_text};
 ghost use Rattle.adb_files.specs.Service.{IsKept, KeepsSend, moment, run, Serves, ServesGiven, ServesFront, HasShortPath, HasShortSend};
 
 use crate::answers::{answer_list, answer_recv, answer_stat, fail, fault_text};

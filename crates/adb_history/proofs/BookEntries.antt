@@ -18,7 +18,7 @@ use Rattle.adb_capture.specs.declared.entry.Entry.{Entry}
 use Rattle.adb_capture.specs.declared.entry.Entry.TheVariants.{Join, Enter, Attach, Recv, Detach, Put, Send}
 use Rattle.adb_history.specs.Rows.{Client, Link, State, new_client, new_link, to_client}
 use Rattle.adb_history.specs.Events as ending
-use Rattle.adb_history.specs.Events.{Made, Event, quietly, then_also, owed_to}
+use Rattle.adb_history.specs.Events.{quietly, owed_to}
 use Rattle.adb_history.specs.Links.{server_cnxn, is_connected}
 use Rattle.adb_history.specs.Streams.{opens}
 use Rattle.adb_history.specs.Tracking.{mark_all}

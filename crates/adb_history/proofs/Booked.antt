@@ -12,7 +12,6 @@ use Rattle.adb_client.specs.declared.phase.Phase.TheVariants.{Asking, Opening, S
 use Rattle.adb_client.specs.declared.about.Want.{Want}
 use Rattle.adb_history.specs.Rows.{Client, Link, State, to_client, to_link}
 use Rattle.adb_history.specs.Events.{owed_to}
-use Rattle.adb_history.specs.Clients.{closing_with}
 use Rattle.adb_history.specs.Asking.{Asked}
 use Rattle.adb_history.specs.Handing.{lists_first, left_in, hands, client_left, takes_of, puts_to}
 use Rattle.adb_history.specs.Packets.{treat_all, faulty, with_rest, receives_cut, receives_on}
@@ -135,12 +134,6 @@ idle_is (Some a) r none asking waits = record {
   same = λ b e f. let clash : true ≡ false = sym (ap is_waiting f) ∙ none b e in cc;
 }
 
--- a client that does not wait does not ask
-pub idle_says : (o : Option Client) (r : Said) → NoneWaits o → IsAs o r → (r.asking ≡ false) × (r.waits ≡ None)
-idle_says None r none h = (sym h.asks, sym h.waits)
-idle_says (Some a) r none h =
-    (sym h.asks ∙ asks_not a.about.phase (none a refl), sym h.waits ∙ wants_not a.about.phase a.about.want (none a refl))
-
 pub is_stays : (o p : Option Client) (r : Said) → WaitStep o p → RowStep Holds o p [] → IsAs o r → IsAs p r
 is_stays None None r w h is = is
 is_stays None (Some b) r w h is = absurd w
@@ -187,10 +180,6 @@ module _ (came plugged : ℕ) where
       → RowStep Holds (s.clients k) ((receives_on o t bytes s).state.clients k) []
   holds_receives None t bytes s le all k = holds_same (s.clients k)
   holds_receives (Some link) t bytes s le all k = holds_cut t (cut_packets (record { sums = link.sums }) (link.rest ++ bytes)) s le all k
-
-  holds_closing : (due : List ℕ) (a : Client) → RowStep Holds (Some a) (closing_with due a) []
-  holds_closing [] a = tt
-  holds_closing (b ∷ due) a = record { asks = λ e. let clash : Closing ≡ Asking = e in cc; binds = λ e. let clash : Closing ≡ Binding = e in cc }
 
   holds_left : (phase : Phase) (due : List ℕ) (a : Client) → RowStep Holds (Some a) (left_in phase due a) []
   holds_left Closing [] a = tt

@@ -25,7 +25,7 @@ use Rattle.adb_capture.specs.declared.entry.Entry.{Entry}
 use Rattle.adb_capture.specs.declared.entry.Entry.TheVariants.{Join, Enter, Read, End, Bound, Attach, Recv, Detach, Put, Send}
 use Rattle.adb_history.specs.Rows.{Client, Link, State, new_link}
 use Rattle.adb_history.specs.Events as ending
-use Rattle.adb_history.specs.Events.{Made, Event, quietly, then_also}
+use Rattle.adb_history.specs.Events.{Made, quietly}
 use Rattle.adb_history.specs.Links.{server_cnxn}
 use Rattle.adb_history.specs.Tracking.{mark_all}
 use Rattle.adb_history.specs.Losing.{link_ends, client_ends}

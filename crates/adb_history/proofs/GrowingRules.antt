@@ -12,7 +12,7 @@ use Rattle.adb_client.specs.declared.phase.Phase.{Phase}
 use Rattle.adb_client.specs.declared.phase.Phase.TheVariants.{Asking, Opening, Streaming, Binding, Tracking, Closing, Gone}
 use Rattle.adb_reply.specs.Strings.{failed}
 use Rattle.adb_history.specs.Rows.{Client, State, to_client, to_stream, none_kept, with_held, in_phase, with_stream_part}
-use Rattle.adb_history.specs.Events.{Made, Ending, ended, quietly, client_closed, client_failed}
+use Rattle.adb_history.specs.Events.{Ending, ended, quietly, client_closed, client_failed}
 use Rattle.adb_history.specs.Links.{open_packet, close_packet, write_packet, owe_link, is_credit, maxdata_of}
 use Rattle.adb_history.specs.Clients.{owe_client, closing_with, closing, closes, closes_with}
 use Rattle.adb_history.specs.Streams.{stream_ids, draw, asks_for, no_ids_left, opens, loses, client_loses, tells_end, ends_row, ends_telling}
@@ -33,10 +33,6 @@ pub stays_closing : (due : List ℕ) (a : Client) → a.due ≡ due → RowStep 
 stays_closing [] a e = tt
 stays_closing (b ∷ due) a e =
     stays_other a (record { about = record a.about { phase = Closing; mark = false; want = None }; held = []; due = b ∷ due }) (sym e) (λ e. cc) (λ e. cc)
-
--- what holds of the streams after a rule
-within_after : (came plugged : ℕ) (s : State) (m : Made) → Keeps came plugged s m → AreWithin came plugged s.streams → AreWithin came plugged m.state.streams
-within_after came plugged s m h within = h.streams within
 
 module _ (came plugged : ℕ) where
   -- ---- clients

@@ -9,7 +9,7 @@ use Rattle.adb_outside.specs.Bytes.{IsPrefixOf}
 use Rattle.adb_outside.specs.Tables.{at, IsRising, put_row, change_row}
 use Rattle.adb_outside.specs.declared.kinds.Kind.{Kind}
 use Rattle.adb_outside.proofs.TableLaws.{puts_put_at, put_at_rises}
-use Rattle.adb_registry.specs.Registry.{DeviceTable, attached}
+use Rattle.adb_registry.specs.Registry.{attached}
 use Rattle.adb_registry.specs.Row.{new_row}
 use Rattle.adb_registry.specs.declared.row.Row.{Row}
 use Rattle.adb_forward.specs.declared.row.ForwardRow.{ForwardRow}
@@ -51,9 +51,6 @@ within_above came plugged next next_drawn streams le drawn_le h l = go (streams 
     go : (o : Option Stream) → IsWithin came plugged o → IsWithin next next_drawn o
     go None i = tt
     go (Some stream) i = (omega (arith, i.0, le), omega (arith, i.1, drawn_le))
-
-rows_above : (plugged next : ℕ) (devices : DeviceTable) → plugged ≤ next → HasRowsWithin plugged devices → HasRowsWithin next devices
-rows_above plugged next devices le h = record { rises = h.rises; above = λ t lt. h.above t (omega (arith, lt, le)) }
 
 -- nothing was told or handed out to who did not come yet
 nothing_due : (output out : List ℕ) → output ≡ [] → out ≡ [] → output ≡ out ++ []

@@ -19,7 +19,7 @@ use Rattle.adb_registry.specs.Registry.{attached}
 use Rattle.adb_capture.specs.declared.entry.Entry.{Entry}
 use Rattle.adb_capture.specs.declared.entry.Entry.TheVariants.{Join, Enter, Read, End, Bound, Attach, Recv, Detach, Put, Send}
 use Rattle.adb_history.specs.Rows.{Client, Link, State, new_link, to_client, to_link}
-use Rattle.adb_history.specs.Events.{Made, Event, quietly, then_also, owed_to, spelled_to}
+use Rattle.adb_history.specs.Events.{Made, quietly, spelled_to}
 use Rattle.adb_history.specs.Packets.{treat_all, faulty, with_rest, receives_cut, receives_on, receives}
 use Rattle.adb_history.specs.Machine.{rule, ups, History, state, May, IsLegal}
 use Rattle.adb_history.specs.Bytes.{is_lost, bytes_received}

@@ -156,10 +156,6 @@ leaves_link_ends t ending s =
     leaves_then s m (λ x. quietly (mark_all x)) (leaves_over s gone m (leaves_all s (quietly gone) refl refl) (leaves_all_end t ending gone))
     (leaves_mark_all m.state)
 
--- the devices change, and their list is stale
-leaves_marks : (s next : State) → next.clients ≡ s.clients → next.streams ≡ s.streams → Leaves s (quietly (mark_all next))
-leaves_marks s next clients streams = leaves_over s next (quietly (mark_all next)) (leaves_all s (quietly next) clients streams) (leaves_mark_all next)
-
 leaves_connects : (t version maxdata : ℕ) (o : Option Identity) (s : State) → Leaves s (connects t version maxdata o s)
 leaves_connects t version maxdata None s = leaves_link_ends t broken s
 leaves_connects t version maxdata (Some identity) s =

@@ -97,8 +97,5 @@ lawful_after e old new h sound given makes lawful =
       seen = ap kept (makes.state ∙ ap (λ (s : State). (step s e).state) is);
     }
 
-pub sound_kept : (old new : Tables) → IsSound old → Keeps old new → IsSound new
-sound_kept old new sound keeps = record { fit = keeps.fit; reached = subst IsReached (sym keeps.state) sound.reached }
-
 pub same_kept : (old new : Tables) → Keeps old new → kept (state_of new) ≡ kept (state_of old)
 same_kept old new keeps = ap kept keeps.state

@@ -33,7 +33,7 @@ use Rattle.adb_hub.specs.declared.answers.Life.TheVariants.{Live, Gone}
 use Rattle.adb_hub.specs.declared.answers.Handed.TheVariants.{Bytes}
 use Rattle.adb_hub.specs.Sound.{IsSound}
 use Rattle.adb_hub.specs.Refusal.{unless_stopped, unless_drawn, unless_worn, attach_error, refusal}
-use Rattle.adb_hub.specs.Answers.{Answers, err_if, life_of, next_client, HandsOut, handed_as}
+use Rattle.adb_hub.specs.Answers.{err_if, life_of, next_client, HandsOut, handed_as}
 use Rattle.adb_hub.specs.Answers as hub
 use Rattle.adb_hub.proofs.Standing.{IsGiven, stands_for, sound_after, lawful_after}
 

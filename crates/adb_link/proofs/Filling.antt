@@ -50,6 +50,3 @@ module _ (packets : List (List ℕ)) (max i : ℕ) (text : List ℕ) (f : IsFill
   pub filled_all : length packets ≤ i → text ≡ take max (concat packets)
   filled_all last =
       sym (filled_none text max) ∙ (ap (λ (l : List (List ℕ)). filled text max (concat l)) (sym (drop_all i packets last)) ∙ f)
-
-  pub filled_enough : max ≤ length text → text ≡ take max (concat packets)
-  filled_enough full = sym (filled_up text (concat (drop i packets)) max full) ∙ f

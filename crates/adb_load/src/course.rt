@@ -1,8 +1,7 @@
 //! How a load goes on, turn by turn.
 
-ghost use Rattle.std.specs.Prelude.{◌≡◌, ◌<◌, ◌≤◌, Some, IfOk, OnOk, OnErr, length};
-ghost use Rattle.std.specs.List.{slice_get};
-ghost use Rattle.adb_load.specs.Course.{begin, draw, draw_with, move_with, plug_in, start, turn, streams_after};
+ghost use Rattle.std.specs.Prelude.{◌≡◌, ◌<◌, Some, IfOk, OnErr, length};
+ghost use Rattle.adb_load.specs.Course.{begin, draw, plug_in, start, turn, streams_after};
 
 use crate::act::Act;
 use crate::live::{Live, Moved};

@@ -1,7 +1,6 @@
 //! What the clients and the devices of a load say.
 
-ghost use Rattle.std.specs.Prelude.{◌≡◌, ◌≤◌, ◌++◌, [], length, codes, IfOk};
-ghost use Rattle.std.specs.Fmt.{decimal};
+ghost use Rattle.std.specs.Prelude.{◌≡◌, ◌≤◌, [], length, IfOk};
 ghost use Rattle.adb_load.specs.Acts.{IsShort, asked_of, device_packet, greeting, packet_of, piece_of, serial_of, up_bytes, down_bytes};
 
 use crate::act::Piece;

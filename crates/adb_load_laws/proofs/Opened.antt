@@ -1,5 +1,5 @@
 -- The streams of a load are opened: the device says so right behind the birth, and whatever comes after changes nothing of it.
-use Rattle.std.proofs.Common.{ℕ, ◌≡◌, ◌<◌, ◌^◌, true, Bool, cond, List, [], ◌∷◌, ◌++◌, length, drop, Some, None, is_some, refl, sym, ◌∙◌, ap, subst, arith}
+use Rattle.std.proofs.Common.{ℕ, ◌≡◌, ◌<◌, ◌^◌, true, Bool, cond, List, [], ◌∷◌, ◌++◌, length, drop, Some, None, is_some, refl, sym, ◌∙◌, ap, arith}
 use Rattle.std.specs.Prelude.{not, ◌&&◌, ◌==◌}
 use Rattle.std.proofs.lemmas.Bool.{eq-eqb, ne_eqb}
 use Rattle.std.proofs.lemmas.List.{append-nil, drop_at}
@@ -10,10 +10,9 @@ use Rattle.adb_history.specs.Machine.{History}
 use Rattle.adb_history.specs.Bytes.{brought}
 use Rattle.adb_history.specs.Births.{Birth, opening_in, opening_of}
 use Rattle.adb_births.specs.Brought.{opening_grows}
-use Rattle.adb_load.specs.declared.act.Act.{Act}
 use Rattle.adb_load.specs.declared.act.Act.TheVariants.{Come, Ask, Accept}
-use Rattle.adb_load.specs.Acts.{client_of, link_of, remote_of, entry_of, acts_from}
-use Rattle.adb_load_laws.proofs.Links.{past_of, past_then, packet_to, on_link, packets_on, HasBrought, brought_is, act_brings, BringsOn}
+use Rattle.adb_load.specs.Acts.{client_of, link_of, remote_of, entry_of}
+use Rattle.adb_load_laws.proofs.Links.{packet_to, on_link, HasBrought, brought_is, act_brings}
 
 -- A stream of a load was opened, by its device's id of it, and these packets came after.
 pub record IsOpened (stream : ℕ) (b : Birth) (h : History) : Type 0 where
@@ -79,15 +78,3 @@ opened_now stream b packets h small has born = record {
         ∙ (ap (λ (ps : List Packet). (ps ++ []) ++ on_link t t okay) (append-nil packets)
         ∙ (ap (λ (ps : List Packet). ps ++ on_link t t okay) (append-nil packets)
         ∙ ap (λ (here : Bool). packets ++ cond here (okay ∷ []) []) (eq-eqb t t refl)))
-
--- the same in the history of some acts
-pub opened_behind : (stream : ℕ) (b : Birth) (done : List Act) → remote_of stream < 2 ^ 32 → BringsOn (link_of stream) done
-    → IsBornOn stream b (past_of done) → IsOpened stream b (past_of (done ++ acts_from (Come stream)))
-opened_behind stream b done small has born =
-    subst (IsOpened stream b) (sym (past_then done (acts_from (Come stream))))
-    (opened_now stream b (packets_on (link_of stream) done) (past_of done) small has born)
-
--- and whatever acts come after
-pub opened_after : (stream : ℕ) (b : Birth) (done acts : List Act) → IsOpened stream b (past_of done) → IsOpened stream b (past_of (done ++ acts))
-opened_after stream b done acts opened =
-    subst (IsOpened stream b) (sym (past_then done acts)) (opened_all stream b (past_of done) (past_of acts) opened)

@@ -9,8 +9,7 @@ use Rattle.adb_load.specs.declared.live.Live.{Live}
 use Rattle.adb_load.specs.Acts.{link_of, remote_of, acts_from, acts_due}
 use Rattle.adb_load.specs.Streams.{is_set, moved}
 use Rattle.adb_load.specs.Course.{Progress, Turn, turn, start}
-use Rattle.adb_load.specs.Load.{acts_of_turns}
-use Rattle.adb_load_laws.proofs.Turns.{all_devices, after_turns, turns_keep, by_turn, by_moved}
+use Rattle.adb_load_laws.proofs.Turns.{all_devices, by_turn, by_moved}
 use Rattle.adb_load_laws.proofs.Turns.{IsBegun, IsUnderWay, under_way_at_first, live_begun, turn_under_way, turn_streams}
 use Rattle.adb_load_laws.proofs.Links.{IsTurn, BringsOn, brought_at_first, turn_brings}
 use Rattle.adb_load_laws.proofs.Online.{AreOnline, online_at_first, PlugsNext, plugged_after, turn_online}
@@ -104,8 +103,3 @@ turn_runs done p has = record {
   few = subst (λ (n : ℕ). n < most_streams) (sym (turn_streams p)) has.few;
   links = turn_links done p has;
 }
-
--- After any number of turns of a load.
-pub has_run : (seed streams turns : ℕ) → streams < most_streams
-    → HasRun (acts_of_turns turns (start seed streams)) (after_turns turns (start seed streams))
-has_run seed streams turns few = turns_keep HasRun turn_runs turns [] (start seed streams) (run_at_first seed streams few)

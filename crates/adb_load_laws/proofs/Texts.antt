@@ -97,9 +97,6 @@ link_texts t f s keeps h = record { clients = h.clients; links = λ k. go k (eqb
     go k true = by_row (s.links k) (h.links k)
     go k false = h.links k
 
-pub drops_client : (c : ℕ) (s : State) → Texts s → Texts (to_client c none_kept s)
-drops_client c s h = client_texts c none_kept s (λ x is texts. tt) h
-
 pub owe_texts : (t : ℕ) (p : Packet) (s : State) → AreBytes p.payload → Texts s → Texts (owe_link t p s).state
 owe_texts t p s payload h = link_texts t (with_link_due (spelling p _)) s (λ x texts. record {
   rest = texts.rest;

@@ -1,7 +1,6 @@
 -- Tables in rising number: what they have, what a change leaves, and the table of some rows.
 use Rattle.std.proofs.Common.{ℕ, ◌+◌, ◌≡◌, ◌≢◌, ◌≤◌, ◌<◌, zero, suc, Bool, true, false, cond, List, [], ◌∷◌, All, get_or, Option, Some, None, Ordering}
 use Rattle.std.proofs.Common.{refl, sym, ◌∙◌, ap, subst, arith, ◌⊎◌, inl, inr}
-use Rattle.std.specs.Prelude.{IsSome, option_map}
 use Rattle.std.proofs.lemmas.Bool.{cases_eq}
 use Rattle.std.proofs.lemmas.Bool.Decides.{nat_tests}
 use Rattle.std.proofs.lemmas.Cmp.{nat_cmp_total}
@@ -18,9 +17,9 @@ use Rattle.std.specs.Ordering.{nat_cmp, is_eq, match_ordering}
 use Rattle.std.specs.declared.cmp.Ordering.TheVariants.{Less, Equal, Greater}
 use Rattle.std.specs.Map.{keys_of, values_of}
 use Rattle.std.specs.BTreeMap.{is_at}
-use Rattle.adb_outside.specs.Tables.{at, IsRising, put_at, without, set_at, change_at, Puts, Rows, listed, listed_at}
+use Rattle.adb_outside.specs.Tables.{at, IsRising, put_at, without, set_at, Puts, Rows, listed, listed_at}
 
-less : (a b : ℕ) → a < b → nat_cmp a b ≡ Less
+pub less : (a b : ℕ) → a < b → nat_cmp a b ≡ Less
 less a b h = grind (arith, nat_tests)
 
 under : (a b : ℕ) → nat_cmp a b ≡ Less → a < b
@@ -29,16 +28,16 @@ under a b e = grind (arith, nat_tests)
 over : (a b : ℕ) → nat_cmp a b ≡ Greater → b < a
 over a b e = grind (arith, nat_tests)
 
-at_same : (q : ℕ) → is_eq (nat_cmp q q) ≡ true
+pub at_same : (q : ℕ) → is_eq (nat_cmp q q) ≡ true
 at_same q = grind (arith, nat_tests)
 
-at_other : (q n : ℕ) → q ≢ n → is_eq (nat_cmp q n) ≡ false
+pub at_other : (q n : ℕ) → q ≢ n → is_eq (nat_cmp q n) ≡ false
 at_other q n h = grind (arith, nat_tests)
 
-same_at : (a b : ℕ) → is_eq (nat_cmp a b) ≡ true → a ≡ b
+pub same_at : (a b : ℕ) → is_eq (nat_cmp a b) ≡ true → a ≡ b
 same_at a b e = grind (arith, nat_tests)
 
-order : (a b : ℕ) → (a < b) ⊎ ((b < a) ⊎ (a ≡ b))
+pub order : (a b : ℕ) → (a < b) ⊎ ((b < a) ⊎ (a ≡ b))
 order a b = grind arith
 
 module _ {X : Type 0} where
@@ -54,16 +53,16 @@ module _ {X : Type 0} where
       → (table : List (ℕ × X)) → All P table → All Q (values_of table)
   each_row P Q step table all = All-map Q (λ (e : ℕ × X). e.1) table (All-weaker P (λ (e : ℕ × X). Q e.1) step table all)
 
-  at_head : (e : ℕ × X) (es : List (ℕ × X)) → at e.0 (e ∷ es) ≡ Some e.1
+  pub at_head : (e : ℕ × X) (es : List (ℕ × X)) → at e.0 (e ∷ es) ≡ Some e.1
   at_head e es = rw (at_same e.0) refl
 
-  at_tail : (q : ℕ) (e : ℕ × X) (es : List (ℕ × X)) → q ≢ e.0 → at q (e ∷ es) ≡ at q es
+  pub at_tail : (q : ℕ) (e : ℕ × X) (es : List (ℕ × X)) → q ≢ e.0 → at q (e ∷ es) ≡ at q es
   at_tail q e es apart = rw (at_other q e.0 apart) refl
 
-  below_head : (q : ℕ) (e : ℕ × X) (es : List (ℕ × X)) → IsRising (e ∷ es) → q < e.0 → at q (e ∷ es) ≡ None
+  pub below_head : (q : ℕ) (e : ℕ × X) (es : List (ℕ × X)) → IsRising (e ∷ es) → q < e.0 → at q (e ∷ es) ≡ None
   below_head q e es rises h = lookup-none (is_at (nat_cmp q)) (e ∷ es) (none_below_head nat_cmp_total q e es rises (less q e.0 h))
 
-  past_head : (e : ℕ × X) (es : List (ℕ × X)) → IsRising (e ∷ es) → at e.0 es ≡ None
+  pub past_head : (e : ℕ × X) (es : List (ℕ × X)) → IsRising (e ∷ es) → at e.0 es ≡ None
   past_head e es rises =
       let distinct = IsDistinct-from_sorted nat_cmp (keys_of (e ∷ es)) rises in
       lookup-none (is_at (nat_cmp e.0)) es (none_past_head (eq_by_cmp_equiv nat_cmp_total) e.0 e es distinct (at_same e.0))
@@ -208,14 +207,6 @@ module _ {X : Type 0} (n : ℕ) where
   pub set_at_rises : (row : Option X) (table : List (ℕ × X)) → IsRising table → IsRising (set_at n row table)
   set_at_rises None table rises = without_rises table rises
   set_at_rises (Some row) table rises = put_at_rises n row table rises
-
-  -- A row that is there changes alone.
-  pub puts_change_at : (f : X → X) (table : List (ℕ × X)) → IsSome (at n table) → Puts n (option_map f (at n table)) table (change_at n f table)
-  puts_change_at f table there = go (at n table) there
-    where
-      go : (o : Option X) → IsSome o → Puts n (option_map f o) table (set_at n (option_map f o) table)
-      go None some = cc
-      go (Some row) some = puts_put_at n (f row) table
 
   -- What is changed at one number alone is the table with that there.
   pub puts_is : (row : Option X) (old new : List (ℕ × X)) → IsRising old → IsRising new → Puts n row old new → new ≡ set_at n row old

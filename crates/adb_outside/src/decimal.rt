@@ -2,7 +2,7 @@
 
 ghost use Rattle.std.specs.Prelude.{◌≡◌, ◌≤◌, length};
 ghost use Rattle.std.specs.List.{list_all};
-ghost use Rattle.adb_outside.specs.Decimal.{is_digit, is_digits, digits_value, number_in};
+ghost use Rattle.adb_outside.specs.Decimal.{is_digit, digits_value, number_in};
 
 /// The number that a text of 1 to `most` decimal digits is, leading zeros included; `None` where the
 /// text is none. It takes no memory.

@@ -1,7 +1,7 @@
 //! Cutting a stream of bytes into frames, in whatever pieces it comes.
 
 ghost use Rattle.std.specs.Prelude.{◌≡◌, ◌++◌, [], List, ℕ, IfOk, length, Option, Some, None, Ok, true, ◌≢◌};
-ghost use Rattle.adb_outside.specs.Framing.{cut, joined, fault_of, answer_of, Takes, Gives, Stands};
+ghost use Rattle.adb_outside.specs.Framing.{cut, fault_of, answer_of, Takes, Gives, Stands};
 
 use crate::behind::{Behind, advance};
 use crate::gather::Gather;

@@ -82,9 +82,6 @@ counted_else k streams stream other (Some port) counted =
     omega (arith, counted, put_adds (is_on k) stream.id stream streams, none)
 
 module _ {stream : Stream} {old new : Tables} (h : Draws stream old new) (fit : IsFit old) (has : HasPlaces 2 (at stream.link old.links.entries)) where
-  pub drawn_room : LinkRoom 1 (at stream.link new.links.entries)
-  drawn_room = subst (LinkRoom 1) (sym h.here) (counted_room (at stream.link old.links.entries) has)
-
   -- what holds of each link, by whether it is that of the stream
   at_link : (P : ℕ → Option Port → Type 0) → P stream.link (option_map counting (at stream.link old.links.entries))
       → ((k : ℕ) → k ≢ stream.link → P k (at k old.links.entries)) → (k : ℕ) → P k (at k new.links.entries)
@@ -135,9 +132,6 @@ none_then forwarded c t service s none =
 -- this is the next id of a state that is the same
 pub next_id : (id : ℕ) (s now : State) → now ≡ s → now.drawn ≢ stream_ids → id ≡ now.drawn + 1 → IsNextId (Some id) s
 next_id id s now same left is = subst (IsNextId (Some id)) same (left, is)
-
-pub no_id : (s now : State) → now ≡ s → now.drawn ≡ stream_ids → IsNextId None s
-no_id s now same none = subst (IsNextId None) same none
 
 -- a stream is asked for, or its client is told that none is left
 pub opened : (id : Option ℕ) (asker : Asker) (service : List ℕ) (s : State) → IsNextId id s

@@ -1,6 +1,6 @@
 //! Bytes of a client that asks: its whole requests are answered (OVERVIEW.TXT, "Protocol details").
 
-ghost use Rattle.std.specs.Prelude.{◌≡◌, ◌++◌, Some, None, IfOk, OnOk, OnErr};
+ghost use Rattle.std.specs.Prelude.{◌≡◌, Some, None, IfOk, OnOk, OnErr};
 ghost use Rattle.adb_outside.specs.Tables.{at};
 ghost use Rattle.adb_history.specs.Rows.{Client as Row};
 ghost use Rattle.adb_history.specs.Asking.{asks_with};

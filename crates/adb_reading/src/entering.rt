@@ -6,7 +6,7 @@ ghost use Rattle.adb_outside.specs.Tables.{at, Puts};
 ghost use Rattle.adb_wire.specs.declared.headers.TheConstants.{MAX_PAYLOAD};
 ghost use Rattle.adb_history.specs.Rows.{State};
 ghost use Rattle.adb_history.specs.Streams.{opens};
-ghost use Rattle.adb_history.specs.Reading.{comes, enters, enters_by};
+ghost use Rattle.adb_history.specs.Reading.{comes, enters};
 ghost use Rattle.adb_rules.specs.Fit.{IsFit};
 ghost use Rattle.adb_rules.specs.Tables.{state_of};
 ghost use Rattle.adb_reading.specs.Leaving.{Leaves};

@@ -1,7 +1,7 @@
 //! What follows the last request of a client, each case a function: memory first, then the replies,
 //! and then what follows.
 
-ghost use Rattle.std.specs.Prelude.{◌≡◌, ◌+◌, ◌≤◌, ◌++◌, ◌∷◌, [], List, ℕ, length, Some, None};
+ghost use Rattle.std.specs.Prelude.{◌≡◌, ◌+◌, ◌≤◌, [], List, ℕ, length, Some, None};
 ghost use Rattle.std.specs.Prelude.{false, option_and_then, OnOk, OnErr};
 ghost use Rattle.adb_outside.specs.Tables.{at, change_row, without};
 ghost use Rattle.adb_wire.specs.declared.headers.TheConstants.{MAX_PAYLOAD};

@@ -1,6 +1,6 @@
 //! Requests that a client asked: the replies to them become due.
 
-ghost use Rattle.std.specs.Prelude.{◌≡◌, ◌≤◌, List, ℕ, length, Some, option_and_then, OnOk};
+ghost use Rattle.std.specs.Prelude.{◌≡◌, List, ℕ, Some, option_and_then, OnOk};
 ghost use Rattle.adb_outside.specs.Tables.{at, change_row};
 ghost use Rattle.adb_rules.specs.Fit.{IsFit};
 ghost use Rattle.adb_rules.specs.Tables.{state_of, client_row};

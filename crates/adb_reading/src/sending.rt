@@ -1,8 +1,7 @@
 //! Bytes of a client that has its stream open: they go up.
 
-ghost use Rattle.std.specs.Prelude.{◌≡◌, ◌≤◌, List, ℕ, length, IfOk, OnOk, OnErr, Some, false};
+ghost use Rattle.std.specs.Prelude.{◌≡◌, List, ℕ, IfOk, OnOk, OnErr, Some, false};
 ghost use Rattle.adb_outside.specs.Tables.{at};
-ghost use Rattle.adb_client.specs.Client.{SeenClient};
 ghost use Rattle.adb_history.specs.Flow.{up};
 ghost use Rattle.adb_rules.specs.Fit.{IsFit};
 ghost use Rattle.adb_rules.specs.Tables.{state_of, client_row};

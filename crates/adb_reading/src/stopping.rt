@@ -1,6 +1,5 @@
 //! How the server stops (SERVICES.TXT, `host:kill`).
 
-ghost use Rattle.std.specs.Prelude.{◌≡◌};
 ghost use Rattle.adb_outside.specs.Tables.{at};
 ghost use Rattle.adb_history.specs.Losing.{stops};
 ghost use Rattle.adb_rules.specs.Fit.{IsFit};

@@ -1,6 +1,6 @@
 //! Bytes that come from a client, and are held.
 
-ghost use Rattle.std.specs.Prelude.{◌≡◌, ◌≤◌, List, ℕ, length, option_and_then, OnOk, OnErr};
+ghost use Rattle.std.specs.Prelude.{◌≡◌, List, ℕ, length, option_and_then, OnOk, OnErr};
 ghost use Rattle.adb_outside.specs.Tables.{at, change_row};
 ghost use Rattle.adb_history.specs.Rows.{State};
 ghost use Rattle.adb_rules.specs.Fit.{IsFit};

@@ -6,8 +6,8 @@ use Rattle.adb_stream.specs.declared.flow.Flow.{Flow}
 use Rattle.adb_stream.specs.declared.row.Stream.{Stream}
 use Rattle.adb_history.specs.Rows.{Client}
 use Rattle.adb_rules.specs.Places.{ClientRoom, kept_places}
-use Rattle.adb_rules.specs.Up.{up_bytes, up_writes}
-use Rattle.adb_receiving.specs.Reserving.{HasMore, HasMoreAt, HaveMore, IsCutFor, IsCutAt, writes_of, writes_at, all_writes}
+use Rattle.adb_rules.specs.Up.{up_writes}
+use Rattle.adb_receiving.specs.Reserving.{HasMore, HasMoreAt, HaveMore, writes_of, writes_at, all_writes}
 
 -- ---- one client
 pub more_stays : (row : Option SeenClient) → HasMoreAt row row
@@ -37,16 +37,6 @@ room_more n (Some old) (Some new) h room =
     let same : kept_places new.about.phase ≡ kept_places old.about.phase = ap (λ (c : Client). kept_places c.about.phase) h.row in
     omega (arith, same, h.places, room)
 
-pub cut_more : (flow : Flow) (more maxdata : ℕ) (old new : Option SeenClient) → HasMoreAt old new → IsCutFor flow more maxdata old
-    → IsCutFor flow more maxdata new
-cut_more flow more maxdata None None h cut = tt
-cut_more flow more maxdata None (Some new) h cut = absurd h
-cut_more flow more maxdata (Some old) None h cut = absurd h
-cut_more flow more maxdata (Some old) (Some new) h cut =
-    let bytes = ap (up_bytes flow more maxdata) (same_held h) in
-    let writes = ap (up_writes flow more maxdata) (same_held h) in
-    record { bytes = omega (arith, bytes, cut.bytes, h.ready); pieces = omega (arith, writes, cut.pieces, h.cuts) }
-
 pub same_writes : (flow : Flow) (more maxdata : ℕ) (old new : Option SeenClient) → HasMoreAt old new
     → writes_of flow more maxdata new ≡ writes_of flow more maxdata old
 same_writes flow more maxdata None None h = refl
@@ -56,11 +46,6 @@ same_writes flow more maxdata (Some old) (Some new) h = ap (up_writes flow more 
 
 -- ---- all clients
 module _ (old new : List (ℕ × SeenClient)) (have : HaveMore old new) where
-  pub cut_at_more : (more maxdata : ℕ) (row : Option Stream) → IsCutAt more maxdata row old → IsCutAt more maxdata row new
-  cut_at_more more maxdata None cut = tt
-  cut_at_more more maxdata (Some stream) cut =
-      cut_more stream.part.flow more maxdata (at stream.client old) (at stream.client new) (have stream.client) cut
-
   pub same_writes_at : (more maxdata : ℕ) (row : Option Stream) → writes_at more maxdata row new ≡ writes_at more maxdata row old
   same_writes_at more maxdata None = refl
   same_writes_at more maxdata (Some stream) =

@@ -9,8 +9,8 @@ use Rattle.adb_stream.specs.declared.row.Stream.{Stream}
 use Rattle.adb_rules.specs.Places.{ClientRoom}
 use Rattle.adb_rules.specs.Tracked.{IsAmong}
 use Rattle.adb_receiving.specs.Counting.{count_at}
-use Rattle.adb_receiving.specs.Reserving.{HaveMore, IsCutAt, writes_at, all_writes}
-use Rattle.adb_receiving.proofs.More.{more_stays, room_more, cut_at_more, same_writes_at, have_more_then}
+use Rattle.adb_receiving.specs.Reserving.{HaveMore, IsCutAt, all_writes}
+use Rattle.adb_receiving.proofs.More.{more_stays, room_more, have_more_then}
 
 -- Places were made for what was counted, but for those that are left.
 pub record AreServed (counts left : List (ℕ × ℕ)) (old now : List (ℕ × SeenClient)) : Type 0 where
@@ -62,22 +62,3 @@ pub record ArePrepared (credit : ℕ → ℕ) (maxdata : ℕ) (streams : List (�
   pub more : HaveMore old done.clients
   pub cut : (l : ℕ) → IsAmong l ids → IsCutAt (credit l) maxdata (at l streams) done.clients ⊎ IsAmong l left
   pub writes : done.writes + all_writes credit maxdata left streams old ≡ all_writes credit maxdata ids streams old
-
-module _ (credit : ℕ → ℕ) (maxdata : ℕ) (streams : List (ℕ × Stream)) (ids : List ℕ) where
-  pub prepared_none : (old : List (ℕ × SeenClient)) → ArePrepared credit maxdata streams ids ids old (record { writes = 0; clients = old })
-  prepared_none old = record { more = λ c. more_stays (at c old); cut = λ l there. inr there; writes = omega arith }
-
-  pub prepared_one : {left : List ℕ} {old now new : List (ℕ × SeenClient)} (l before after : ℕ) → ArePrepared credit maxdata streams ids (l ∷ left) old
-      (record { writes = before; clients = now })
-      → HaveMore now new × IsCutAt (credit l) maxdata (at l streams) new × (after ≡ before + writes_at (credit l) maxdata (at l streams) now)
-      → ArePrepared credit maxdata streams ids left old (record { writes = after; clients = new })
-  prepared_one {left} {old} {now} {new} l before after h (more, cut, writes) = record {
-    more = have_more_then old now new h.more more;
-    cut = λ k there. by_place k (h.cut k there);
-    writes = let same = same_writes_at old now h.more (credit l) maxdata (at l streams) in omega (arith, same, writes, h.writes);
-  }
-    where
-      by_place : (k : ℕ) → IsCutAt (credit k) maxdata (at k streams) now ⊎ IsAmong k (l ∷ left) → IsCutAt (credit k) maxdata (at k streams) new ⊎ IsAmong k left
-      by_place k (inl done) = inl (cut_at_more now new more (credit k) maxdata (at k streams) done)
-      by_place k (inr (inl is)) = inl (subst (λ (q : ℕ). IsCutAt (credit q) maxdata (at q streams) new) is cut)
-      by_place k (inr (inr later)) = inr later

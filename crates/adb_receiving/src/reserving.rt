@@ -1,6 +1,6 @@
 //! The memory that the packets of a link take, before they are treated.
 
-ghost use Rattle.std.specs.Prelude.{◌≡◌, ◌≤◌, ◌+◌, ℕ, IfOk, OnOk};
+ghost use Rattle.std.specs.Prelude.{◌≤◌, ◌+◌, ℕ, IfOk, OnOk};
 ghost use Rattle.adb_outside.specs.Tables.{at};
 ghost use Rattle.adb_rules.specs.Places.{LinkRoom};
 ghost use Rattle.adb_rules.specs.Fit.{IsFit};

@@ -1,5 +1,5 @@
 -- The lists of all devices are shorter than 65,536 bytes.
-use Rattle.std.proofs.Common.{ℕ, ◌≡◌, ◌≤◌, ◌<◌, ◌+◌, ◌-◌, ◌^◌, List, [], ◌++◌, All, length, take, map, replicate, codes, Option, Some, None, Bool, true, false, cond, eqb}
+use Rattle.std.proofs.Common.{ℕ, ◌≡◌, ◌≤◌, ◌<◌, ◌+◌, ◌-◌, ◌^◌, List, [], ◌++◌, All, length, take, map, codes, Option, Some, None, Bool, true, false, cond, eqb}
 use Rattle.std.proofs.Common.{arith, length-append, subst, sym}
 use Rattle.std.specs.Prelude.{Result, IfOk}
 use Rattle.std.proofs.lemmas.List.{length-map, length-take, length-replicate}
@@ -18,13 +18,9 @@ use Rattle.adb_outside.specs.declared.serial.TheConstants.{MAX_SERIAL}
 use Rattle.adb_outside.specs.Tables.{at}
 use Rattle.adb_outside.proofs.TableLaws.{at_each, each_row}
 use Rattle.adb_registry.specs.Registry.{DeviceTable, IsSound}
-use Rattle.adb_registry.specs.Lists.{padded, field, name_byte, model_byte, make_of, short_line, long_line, short_list, long_list, space}
+use Rattle.adb_registry.specs.Lists.{field, name_byte, model_byte, make_of, short_line, long_line, short_list, long_list, space}
 use Rattle.adb_registry.specs.declared.lists.TheConstants.{SERIAL_WIDTH, VALUE_LIMIT}
 use Rattle.adb_registry.specs.declared.row.Row.{Row}
-
--- no part of a line is long
-length-padded : (text : List ℕ) → length text ≤ MAX_SERIAL → length (padded text) ≤ MAX_SERIAL
-length-padded text short = omega (arith, length-append text (replicate (SERIAL_WIDTH - length text) space), length-replicate (SERIAL_WIDTH - length text) space)
 
 length-state : (state : State) → length (text_of_state state) ≤ 12
 length-state Offline = omega arith

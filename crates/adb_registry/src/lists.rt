@@ -1,6 +1,6 @@
 //! The lists of devices, as replies print them.
 
-ghost use Rattle.std.specs.Prelude.{◌≡◌, ◌++◌, ◌∷◌, [], ◌==◌, OnOk, IfOk, map, take, decimal, codes};
+ghost use Rattle.std.specs.Prelude.{◌≡◌, ◌++◌, ◌∷◌, [], OnOk, IfOk, take, decimal, codes};
 ghost use Rattle.std.specs.Map.{values_of};
 ghost use Rattle.adb_registry.specs.Lists.{short_line, long_line, padded, field, name_byte, model_byte, make_of, newline, short_list, long_list};
 

@@ -16,13 +16,12 @@ use Rattle.adb_request.specs.declared.request.Request.{Request}
 use Rattle.adb_request.specs.declared.request.Request.TheVariants as asks
 use Rattle.std.specs.Fmt.{decimal}
 use Rattle.std.specs.Map.{values_of}
-use Rattle.adb_reply.specs.Strings.{string, okay, told, failed}
+use Rattle.adb_reply.specs.Strings.{string, told, failed}
 use Rattle.adb_reply.specs.Refusals.{no_transport, refusal_text}
 use Rattle.adb_reply.specs.Chosen.{device_or, device_by, asked_device}
-use Rattle.adb_reply.specs.Answer.{device_list, told_id, selects, fact_of, asks_ready, fact_at, tells, fact_answer, forwards_from, forwards_to}
+use Rattle.adb_reply.specs.Answer.{device_list, told_id, selects, fact_of, fact_at, tells, forwards_from, forwards_to}
 use Rattle.adb_reply.specs.Answer.{forwards_by, unbinds, opens_at, opens, answer}
-use Rattle.adb_reply.specs.Laws.{BeginsBy, BeginsRight}
-use Rattle.adb_reply.specs.declared.answer.Answer.{Answer}
+use Rattle.adb_reply.specs.Laws.{BeginsRight}
 use Rattle.adb_reply.specs.declared.answer.Next.TheVariants.{Close, Open, Unbind}
 use Rattle.adb_reply.specs.declared.chosen.Chosen.{Chosen}
 use Rattle.adb_reply.specs.declared.chosen.Chosen.TheVariants.{Device, Refused}

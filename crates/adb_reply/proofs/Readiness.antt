@@ -21,7 +21,6 @@ use Rattle.adb_reply.specs.Refusals.{no_transport}
 use Rattle.adb_reply.specs.Chosen.{device_or, device_by, asked_device}
 use Rattle.adb_reply.specs.Answer.{selects, fact_at, tells, forwards_from, forwards_to, forwards_by, unbinds, opens_at, opens, answer}
 use Rattle.adb_reply.specs.Laws.{OpensReady}
-use Rattle.adb_reply.specs.declared.answer.Answer.{Answer}
 use Rattle.adb_reply.specs.declared.answer.Next.TheVariants.{Open, Unbind}
 use Rattle.adb_reply.specs.declared.chosen.Chosen.{Chosen}
 use Rattle.adb_reply.specs.declared.chosen.Chosen.TheVariants.{Device, Refused}

@@ -17,11 +17,10 @@ use Rattle.adb_request.specs.declared.request.Which.{Which}
 use Rattle.adb_request.specs.declared.request.Which.TheVariants.{By}
 use Rattle.adb_request.specs.declared.request.Request.{Request}
 use Rattle.adb_request.specs.declared.request.Request.TheVariants as asks
-use Rattle.adb_reply.specs.Strings.{string, okay, told, failed}
+use Rattle.adb_reply.specs.Strings.{okay, told, failed}
 use Rattle.adb_reply.specs.Refusals.{no_transport}
 use Rattle.adb_reply.specs.Chosen.{asked_device}
 use Rattle.adb_reply.specs.declared.answer.Answer.{Answer}
-use Rattle.adb_reply.specs.declared.answer.Next.{Next}
 use Rattle.adb_reply.specs.declared.answer.Next.TheVariants.{Close, Select, Track, Open, Bind, Rebind, Unbind, UnbindAll, Stop}
 use Rattle.adb_reply.specs.declared.chosen.Chosen.{Chosen}
 use Rattle.adb_reply.specs.declared.chosen.Chosen.TheVariants.{Device, Refused}

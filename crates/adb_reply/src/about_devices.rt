@@ -4,7 +4,7 @@ ghost use Rattle.std.specs.Prelude.{◌≡◌, ◌<◌, ◌^◌, length, true, I
 ghost use Rattle.adb_outside.specs.Tables.{at};
 ghost use Rattle.adb_reply.specs.Strings.{told};
 ghost use Rattle.adb_reply.specs.Chosen.{device_by};
-ghost use Rattle.adb_reply.specs.Answer.{device_list, selects, path_of, fact_of, asks_ready, fact_at, fact_answer, opens};
+ghost use Rattle.adb_reply.specs.Answer.{device_list, selects, path_of, asks_ready, fact_at, fact_answer, opens};
 
 use crate::answer::{Answer, Next};
 use crate::chosen::{Chosen, choose, choose_by, no_transport};

@@ -3,7 +3,7 @@
 ghost use Rattle.std.specs.Prelude.{◌≡◌, IfOk};
 ghost use Rattle.adb_reply.specs.Refusals.{no_transport};
 ghost use Rattle.adb_reply.specs.Strings.{failed};
-ghost use Rattle.adb_reply.specs.Chosen.{asked_device, device_by, device_or};
+ghost use Rattle.adb_reply.specs.Chosen.{asked_device, device_by};
 
 use crate::answer::Answer;
 use crate::refusals::refusal_text;

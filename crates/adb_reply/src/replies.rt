@@ -1,7 +1,7 @@
 //! What each request is answered with.
 
 ghost use Rattle.std.specs.Prelude.{◌≡◌, IfOk, codes};
-ghost use Rattle.adb_reply.specs.Answer.{answer, forwards_by};
+ghost use Rattle.adb_reply.specs.Answer.{answer};
 
 use crate::about_devices::{self, Fact};
 use crate::about_forwards;

@@ -1,14 +1,13 @@
 -- A text is one of the forms behind a prefix exactly where a row fits it.
-use Rattle.std.proofs.Common.{ℕ, ◌≡◌, ◌||◌, ◌++◌, length, drop, Bool, true, false, cond, codes, List, Option, Some, None, is_some, refl, sym, ◌∙◌, ap, nat_eq}
+use Rattle.std.proofs.Common.{ℕ, ◌≡◌, ◌||◌, ◌++◌, length, drop, Bool, true, false, cond, codes, List, Option, Some, None, is_some, refl, ◌∙◌, ap, nat_eq}
 use Rattle.std.specs.Prelude.{Result, Ok, Err, IfOk}
 use Rattle.std.specs.Option.{option_or, option_map}
 use Rattle.std.specs.Str.{bytes_eq}
 use Rattle.std.specs.List.{starts_with}
 use Rattle.std.proofs.lemmas.Slice.Eq.{starts_is}
 use Rattle.std.proofs.lemmas.Bool.Decides.{Decides-eqb}
-use Rattle.adb_request.specs.Forms.{behind, row, form, fixed_form, forward_form, forward_of, killed_at, local_in, is_fixed, is_form}
+use Rattle.adb_request.specs.Forms.{form, fixed_form, forward_form, forward_of, killed_at, local_in, is_fixed, is_form}
 use Rattle.adb_request.specs.declared.request.Which.{Which}
-use Rattle.adb_request.specs.declared.request.Request.{Request}
 
 module _ {A : Type 0} where
   -- a row more

@@ -1,13 +1,13 @@
 -- Where a text is cut at a byte that stands in no number.
 use Rattle.std.proofs.Common.{◌||◌, append_assoc, is_some, ℕ, ◌+◌, ◌≡◌, ◌<◌, ◌==◌, ◌&&◌, Bool, true, false, cond, nat_le, nat_lt, List, [], ◌∷◌, ◌++◌}
-use Rattle.std.proofs.Common.{length, take, drop, codes, Option, Some, None, refl, sym, ◌∙◌, ap, arith, suc, position, get_or}
+use Rattle.std.proofs.Common.{length, take, drop, Option, Some, None, refl, sym, ◌∙◌, ap, arith, suc, position}
 use Rattle.std.specs.Prelude.{option_and_then}
 use Rattle.std.proofs.lemmas.Bool.{lt-ltb, ne_eqb}
 use Rattle.std.proofs.lemmas.List.{take_at, length-append, append-nil}
 use Rattle.std.specs.List.{list_any, list_all, position_or_len, find}
 use Rattle.adb_outside.specs.Decimal.{is_digit, is_digits, digits_value, number_in}
 use Rattle.adb_request.specs.Forms.{at_most, is_form, form, local_in, is_remote, semicolon, forward_of, forward_at, forward_between}
-use Rattle.adb_request.specs.Meaning.{Split, splits_behind, colon}
+use Rattle.adb_request.specs.Meaning.{splits_behind, colon}
 use Rattle.adb_request.specs.declared.request.Which.{Which}
 use Rattle.adb_request.specs.declared.request.Request.{Request}
 use Rattle.adb_request.specs.declared.request.Request.TheVariants.{Forward, BadForward}

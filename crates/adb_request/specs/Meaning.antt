@@ -1,12 +1,10 @@
 -- What a request's text means: the table of requests, whose rows are tried as whole texts (SERVICES.TXT, "HOST SERVICES").
-use Rattle.std.specs.Prelude.{ℕ, ◌+◌, ◌==◌, Bool, true, false, if◌then◌else◌, List, [], ◌∷◌, ◌++◌, take, drop, Option, Some, None, codes, unwrap_or}
+use Rattle.std.specs.Prelude.{ℕ, ◌+◌, ◌==◌, true, false, if◌then◌else◌, List, [], ◌∷◌, ◌++◌, take, drop, Option, codes, unwrap_or}
 use Rattle.std.specs.Prelude.{option_and_then, option_map, position, find}
 use Rattle.std.specs.Option.{option_or}
 use Rattle.adb_outside.specs.Decimal.{number_in}
-use Rattle.adb_outside.specs.declared.kinds.Selector.{Selector}
 use Rattle.adb_outside.specs.declared.kinds.Selector.TheVariants.{Any, Usb, Local, Serial, Id}
 use Rattle.adb_request.specs.Forms.{behind, at_most, row, form, is_form}
-use Rattle.adb_request.specs.declared.request.Which.{Which}
 use Rattle.adb_request.specs.declared.request.Which.TheVariants.{Own, By}
 use Rattle.adb_request.specs.declared.request.Request.{Request}
 use Rattle.adb_request.specs.declared.request.Request.TheVariants.{Version, Kill, Devices, Track, Transport, Service, UnknownHost}

@@ -5,7 +5,7 @@ use Rattle.adb_request.specs.declared.request.Which.{Which}
 use Rattle.adb_request.specs.declared.request.Which.TheVariants.{Own, By}
 use Rattle.adb_request.specs.declared.request.Request.{Request}
 use Rattle.adb_request.specs.declared.request.Request.TheVariants.{Version, Kill, Devices, Track, Transport, Serialno, Devpath, GetState, Features}
-use Rattle.adb_request.specs.declared.request.Request.TheVariants.{KillAll, ListForward, UnknownHost}
+use Rattle.adb_request.specs.declared.request.Request.TheVariants.{KillAll, ListForward}
 
 abbrev pub host_rows : List (List ℕ × Request)
 host_rows =

@@ -1,7 +1,7 @@
 //! Laws of the definitions of requests, as functions that do nothing. They say of each row of the
 //! table of requests that its texts are read by that row and by no other.
 
-ghost use Rattle.std.specs.Prelude.{◌≡◌, ◌<◌, ◌++◌, ◌∷◌, ◌^◌, ℕ, List, Some, true, false, codes, ◌==◌};
+ghost use Rattle.std.specs.Prelude.{◌≡◌, ◌<◌, ◌++◌, ◌∷◌, ℕ, List, Some, true, false, codes, ◌==◌};
 ghost use Rattle.std.specs.List.{AllByRecursion, list_any};
 ghost use Rattle.adb_outside.specs.declared.kinds.Selector.TheVariants.{Serial, Id};
 ghost use Rattle.adb_request.specs.Requests.{hex_digits, hex_number};

@@ -111,9 +111,6 @@ module _ (ids : List ℕ) where
         ∙ subst (λ (t : ℕ). at t b.devices.rows ≡ at t a.devices.rows) (sym was.link) (h.devices l was.old was.is);
   }
 
-  pub passes_then : (a b c : State) → Passes a b → Passes b c → Passes a c
-  passes_then a b c h k = more_passes a b c h k
-
   -- no credit before some, or behind it
   pub passes_before : {more : ℕ → ℕ} (a b c : State) → Passes a b → PassesWith more b c → PassesWith more a c
   passes_before {more} a b c h k =

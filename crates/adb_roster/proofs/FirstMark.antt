@@ -12,7 +12,8 @@ use Rattle.adb_outside.specs.Tables.{at, IsRising}
 use Rattle.adb_roster.specs.declared.words.Block.{Block}
 use Rattle.adb_roster.specs.First.{first_number, owes_at}
 use Rattle.adb_roster.specs.Marked.{mark_in, mark, first_mark, IsBlock, AreBlocks, IsMarked}
-use Rattle.adb_roster.proofs.Rows.{at_head, at_tail, below_head, past_head, none_owed, least_owed}
+use Rattle.adb_outside.proofs.TableLaws.{at_head, at_tail, below_head, past_head}
+use Rattle.adb_roster.proofs.Rows.{none_owed, least_owed}
 
 -- no number is marked, or this one is and none below it
 abbrev pub IsLeast : List (ℕ × Block) → Option ℕ → Type 0

@@ -11,7 +11,7 @@ use Rattle.adb_roster.specs.declared.words.Block.{Block}
 use Rattle.adb_roster.specs.First.{first_number}
 use Rattle.adb_roster.specs.Marked.{bit, with_mark, without_mark, without_place, forgotten, has_marks, first_at, first_mark, IsMarked}
 use Rattle.std.proofs.lemmas.Bool.{cases_eq}
-use Rattle.adb_roster.proofs.Rows.{at_head, at_tail, past_head}
+use Rattle.adb_outside.proofs.TableLaws.{at_head, at_tail, past_head}
 use Rattle.adb_roster.proofs.Marking.{touched, lowered}
 
 pub high_below : (number : ℕ) → number < 2 ^ 32 → number / 64 < 2 ^ 32

@@ -7,45 +7,12 @@ use Rattle.std.specs.List.Sorted.{IsStrictlySortedBy}
 use Rattle.std.specs.Map.{set_value}
 use Rattle.std.proofs.lemmas.Bool.{cases_eq}
 use Rattle.std.proofs.lemmas.Bool.Decides.{nat_tests}
-use Rattle.std.proofs.lemmas.Cmp.{nat_cmp_total}
-use Rattle.std.proofs.lemmas.Map.{lookup-none}
-use Rattle.std.proofs.lemmas.Map.Entries.{none_below_head, none_past_head, lookup-filter-keys}
-use Rattle.std.proofs.lemmas.Map.Keys.{IsDistinct-from_sorted}
-use Rattle.std.specs.Cmp.{eq_by_cmp_equiv}
-use Rattle.std.specs.declared.cmp.Ordering.TheVariants.{Less}
+use Rattle.std.proofs.lemmas.Map.Entries.{lookup-filter-keys}
 use Rattle.adb_outside.specs.Tables.{at, IsRising}
+use Rattle.adb_outside.proofs.TableLaws.{at_other, same_at, order, at_head, at_tail, below_head, past_head}
 use Rattle.adb_roster.specs.First.{first_number}
 
-pub at_same : (q : ℕ) → is_eq (nat_cmp q q) ≡ true
-at_same q = grind (arith, nat_tests)
-
-pub at_other : (q n : ℕ) → q ≢ n → is_eq (nat_cmp q n) ≡ false
-at_other q n h = grind (arith, nat_tests)
-
-same_at : (a b : ℕ) → is_eq (nat_cmp a b) ≡ true → a ≡ b
-same_at a b e = grind (arith, nat_tests)
-
-less : (a b : ℕ) → a < b → nat_cmp a b ≡ Less
-less a b h = grind (arith, nat_tests)
-
-order : (a b : ℕ) → (a < b) ⊎ ((b < a) ⊎ (a ≡ b))
-order a b = grind arith
-
 module _ {X : Type 0} where
-  pub at_head : (e : ℕ × X) (es : List (ℕ × X)) → at e.0 (e ∷ es) ≡ Some e.1
-  at_head e es = rw (at_same e.0) refl
-
-  pub at_tail : (q : ℕ) (e : ℕ × X) (es : List (ℕ × X)) → q ≢ e.0 → at q (e ∷ es) ≡ at q es
-  at_tail q e es apart = rw (at_other q e.0 apart) refl
-
-  pub below_head : (q : ℕ) (e : ℕ × X) (es : List (ℕ × X)) → IsRising (e ∷ es) → q < e.0 → at q (e ∷ es) ≡ None
-  below_head q e es rises h = lookup-none (is_at (nat_cmp q)) (e ∷ es) (none_below_head nat_cmp_total q e es rises (less q e.0 h))
-
-  pub past_head : (e : ℕ × X) (es : List (ℕ × X)) → IsRising (e ∷ es) → at e.0 es ≡ None
-  past_head e es rises =
-      let distinct = IsDistinct-from_sorted nat_cmp (_ ∷ _) rises in
-      lookup-none (is_at (nat_cmp e.0)) es (none_past_head (eq_by_cmp_equiv nat_cmp_total) e.0 e es distinct (at_same e.0))
-
   -- what stands at another number than the one that was written
   pub written_other : (n number : ℕ) → n ≢ number → (w : X) (es : List (ℕ × X)) → at n (set_value (is_at (nat_cmp number)) es w) ≡ at n es
   written_other n number apart w [] = refl

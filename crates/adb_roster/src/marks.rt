@@ -2,7 +2,7 @@
 
 ghost use Rattle.std.specs.Prelude.{◌≡◌, ◌/◌, ◌%◌, ◌<◌, ◌^◌, [], Some, None, OnErr, OnOk, filter, nat_eq, option_map};
 ghost use Rattle.adb_outside.specs.Tables.{at, IsRising, Puts};
-ghost use Rattle.adb_roster.specs.First.{first_number, owes_at};
+ghost use Rattle.adb_roster.specs.First.{first_number};
 ghost use Rattle.adb_roster.specs.Marked.{AreBlocks, with_mark, without_mark, forgotten, first_mark, has_marks, known, mark, weight};
 
 use crate::words;
@@ -20,7 +20,7 @@ pub(crate) struct Marks {
 }
 
 impl Model for Marks {
-    ghost use Rattle.adb_roster.specs.Table.{Table, table, table_code};
+    ghost use Rattle.adb_roster.specs.Table.{Table, table};
     ghost use Rattle.adb_roster.specs.declared.words.Block.{Block};
     ghost use Rattle.adb_roster.specs.Marked.{IsMarked, has_marks};
 

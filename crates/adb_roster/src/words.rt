@@ -5,7 +5,7 @@ ghost use Rattle.adb_outside.specs.Tables.{at, IsRising, Puts};
 ghost use Rattle.adb_roster.specs.First.{owes_at};
 ghost use Rattle.adb_roster.specs.Marked.{AreBlocks, first_at, has_marks, with_mark, with_place, without_mark, without_place, forgotten, first_mark, is_empty, known, mark, new_block, weight};
 
-use std::alloc::{AllocError, Global};
+use std::alloc::AllocError;
 use std::collections::BTreeMap;
 
 /// Of the 64 numbers of a block those that are known, and those that are marked, as bits.

@@ -18,7 +18,7 @@ use Rattle.adb_rules.specs.Handing.{UsesOf, HasRoom}
 use Rattle.adb_rules.specs.Up.{IsSized, IsReadyUp, StaysReady, writes_up}
 use Rattle.adb_rules.specs.Sweep.{up_each, writes_if_on, writes_on, IsReadyEach, UsesEach}
 use Rattle.adb_rules.proofs.RisingIds.{above, rises_behind}
-use Rattle.adb_rules.proofs.Staying.{stays, owned_then, read_stays, read_then}
+use Rattle.adb_rules.proofs.Staying.{owned_then, read_then}
 use Rattle.adb_rules.proofs.Using.{more_room}
 
 -- What the up rule for one id leaves.
@@ -141,21 +141,6 @@ pub record Swept (ids rest : List ℕ) (old now : Tables) : Type 0 where
   pub tracked : IsTracked old → IsTracked now
   pub owned : (l : ℕ) → StaysOwned (at l old.streams.streams) (at l now.streams.streams)
   pub read : (k : ℕ) → StaysRead (at k old.links.entries) (at k now.links.entries)
-
-pub swept_none : (ids : List ℕ) (t : Tables) → IsStrictlySortedBy nat_cmp ids → IsReadyEach ids t → IsSized t → Swept ids ids t t
-swept_none ids t rises ready sized = record {
-  rises = rises;
-  state = refl;
-  ready = ready;
-  sized = sized;
-  devices = refl;
-  links = λ n link room. room;
-  clients = λ n c room. room;
-  counted = λ counted. counted;
-  tracked = λ tracked. tracked;
-  owned = λ l. stays (at l t.streams.streams);
-  read = λ k. read_stays (at k t.links.entries);
-}
 
 pub swept_one : (ids behind : List ℕ) (id : ℕ) {old now new : Tables} → Swept ids (id ∷ behind) old now → LeavesOne id now new → Swept ids behind old new
 swept_one ids behind id {old} {now} {new} h one =

@@ -14,8 +14,7 @@ use Rattle.adb_rules.specs.Tables.{state_of}
 use Rattle.adb_rules.specs.Places.{Uses}
 use Rattle.adb_rules.specs.Up.{held_at, may_send, CanCut, cut_off, unsent, CanCutAll, all_written, all_sent, Sends}
 use Rattle.adb_rules.proofs.Closings.{fused}
-use Rattle.adb_rules.proofs.Staying.{stays, held_stays, read_stays}
-use Rattle.adb_rules.proofs.Using.{spares_uses, uses_then}
+use Rattle.adb_rules.proofs.Using.{uses_then}
 use Rattle.adb_rules.proofs.WritesUp.{one_let, within}
 
 -- a write is the first of all that are made
@@ -105,29 +104,6 @@ module _ (l : ℕ) (stream : Stream) (m : ℕ) where
             ∙ (ap (λ (k : ℕ). all_written l stream behind (drop k before)
             (goes_up l stream (take n before) (to_client stream.client (with_held (drop k before)) (state_of old))).state) (sym size)
             ∙ sym (written_first l stream (take n before) behind before (state_of old)))))
-
-  -- nothing was written
-  pub sends_none : (w : Flow × Tables) → Sends l stream m w w
-  sends_none w = record {
-    state = refl;
-    flow = refl;
-    fewer = omega arith;
-    uses = λ c. subst (λ (k : ℕ). Uses stream.link k c 0 w.1 w.1) (sym (nothing (length (unsent stream m w)))) (spares_uses w.1 w.1 (record {
-      links = λ n k room. room;
-      clients = λ n k room. room;
-      counted = λ counted. counted;
-      tracked = λ tracked. tracked;
-      owned = λ k. stays (at k w.1.streams.streams);
-      held = λ c. held_stays (at c w.1.clients.entries);
-      read = λ k. read_stays (at k w.1.links.entries);
-    }) stream.link c);
-    cut = λ can. can;
-    streams = refl;
-    others = λ c other. refl;
-  }
-    where
-      nothing : (k : ℕ) → k - k ≡ 0
-      nothing k = omega arith
 
   -- some writes, and then others
   pub sends_then : {a b c : Flow × Tables} → Sends l stream m a b → Sends l stream m b c → Sends l stream m a c

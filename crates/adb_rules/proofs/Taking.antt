@@ -127,19 +127,6 @@ module _ {link total : ℕ} {first : ℕ → ℕ} {items : List Came} {old now :
     read = λ l. read_then (at l old.links.entries) (at l now.links.entries) (at l new.links.entries) (h.takes.read l) (k.read l);
   }
 
--- nothing is taken yet
-pub takes_none : (link : ℕ) (packets : ℕ) (slices : ℕ → ℕ) (t : Tables) → TakesAll link packets packets slices slices t t
-takes_none link packets slices t = record {
-  on_link = λ n room. room;
-  on_links = λ n l other room. room;
-  of_clients = λ n c room. room;
-  counted = λ counted. counted;
-  tracked = λ tracked. tracked;
-  owned = λ l. stays (at l t.streams.streams);
-  held = λ c. held_stays (at c t.clients.entries);
-  read = λ k. read_stays (at k t.links.entries);
-}
-
 -- all are taken
 pub takes_over : (link packets : ℕ) (slices : ℕ → ℕ) (old new : Tables) → TakesAll link packets 0 slices (λ _. 0) old new → Takes link packets slices old new
 takes_over link packets slices old new h = record {

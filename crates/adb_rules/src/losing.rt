@@ -1,7 +1,7 @@
 //! How links are lost and broken, how clients fail, and how the server stops.
 
 ghost use Rattle.std.specs.Prelude.{◌≡◌, ℕ, is_some};
-ghost use Rattle.adb_outside.specs.Tables.{at, Puts};
+ghost use Rattle.adb_outside.specs.Tables.{Puts};
 ghost use Rattle.adb_registry.specs.Registry.{detached};
 ghost use Rattle.adb_history.specs.Events.{Ending};
 ghost use Rattle.adb_history.specs.Forwarding.{forwards_without};

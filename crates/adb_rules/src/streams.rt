@@ -1,6 +1,6 @@
 //! The rows of the streams.
 
-ghost use Rattle.std.specs.Prelude.{◌≡◌, ◌≢◌, ◌+◌, ◌-◌, ℕ, Some, option_map};
+ghost use Rattle.std.specs.Prelude.{◌≡◌, ◌≢◌, ◌+◌, ℕ, Some, option_map};
 ghost use Rattle.adb_outside.specs.Tables.{at, without};
 ghost use Rattle.adb_stream.specs.Streams.{IsSound, with_part_in};
 ghost use Rattle.adb_history.specs.Rows.{to_stream, none_kept, with_stream_part};

@@ -1,7 +1,7 @@
 -- How far a load came.
 use Rattle.std.proofs.Common.{ℕ, ◌+◌, ◌≡◌, true, cond, List, [], ◌∷◌, ◌++◌, Option, Some, None, Result, Ok, Err, refl, sym, ◌∙◌, ap, subst, Bool}
 use Rattle.std.specs.Prelude.{OnErr}
-use Rattle.std.proofs.lemmas.List.{append_assoc, append-nil}
+use Rattle.std.proofs.lemmas.List.{append_assoc}
 use Rattle.adb_capture.specs.declared.entry.Entry.{Entry}
 use Rattle.adb_history.specs.Machine.{History, state, IsLegal}
 use Rattle.adb_history.specs.Accepted.{is_input}
@@ -143,10 +143,6 @@ pub record Running (seed streams : ℕ) (ahead : List Entry) (holds : Kept) (cou
   pub lawful : IsLawful holds (drained_from [] inputs)
   pub counted : IsCount (drained_from [] inputs) count
 
-pub running_first : (seed streams : ℕ) (ahead : List Entry) (holds : Kept) (count : Count) → ahead ≡ load seed streams → IsLawful holds [] → IsCount [] count
-    → Running seed streams ahead holds count
-running_first seed streams ahead holds count is lawful counted = record { inputs = []; is = sym is; lawful = lawful; counted = counted }
-
 module _ {seed streams : ℕ} {ahead : List Entry} {holds : Kept} {count : Count} (r : Running seed streams ahead holds count) where
   whole_is : drained_from [] (load seed streams) ≡ drained_from (drained_from [] r.inputs) ahead
   whole_is = ap (drained_from []) r.is ∙ drained_parts [] r.inputs ahead
@@ -155,14 +151,6 @@ module _ {seed streams : ℕ} {ahead : List Entry} {holds : Kept} {count : Count
   pub running_stopped : StandsForFront (load seed streams) holds
   running_stopped = subst (λ (whole : History). HoldsFront whole holds) (sym whole_is)
       (then_more (drained_from [] r.inputs) ahead holds (whole_front (drained_from [] r.inputs) holds r.lawful))
-
-  -- nothing is to come
-  pub running_over : ahead ≡ [] → IsLawful holds (drained_from [] (load seed streams)) × IsCount (drained_from [] (load seed streams)) count
-  running_over none =
-      let same : load seed streams ≡ r.inputs = r.is ∙ (ap (λ (x : List Entry). r.inputs ++ x) none ∙ append-nil r.inputs) in (
-        subst (λ (x : List Entry). IsLawful holds (drained_from [] x)) (sym same) r.lawful,
-        subst (λ (x : List Entry). IsCount (drained_from [] x) count) (sym same) r.counted,
-      )
 
   module _ (e : Entry) (rest : List Entry) (first : ahead ≡ e ∷ rest) where
     split : load seed streams ≡ r.inputs ++ e ∷ rest

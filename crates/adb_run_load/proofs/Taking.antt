@@ -1,6 +1,6 @@
 -- The packets of a deframer are taken, one after another.
 use Rattle.std.proofs.Common.{ℕ, ◌+◌, ◌≡◌, Bool, true, false, cond, List, [], ◌∷◌, ◌++◌, length, Some, refl, sym, ◌∙◌, ap, subst, arith}
-use Rattle.std.proofs.lemmas.List.{append_assoc, append-nil}
+use Rattle.std.proofs.lemmas.List.{append_assoc}
 use Rattle.adb_wire.specs.Deframing.{Deframing, StandsFor, Gives}
 use Rattle.adb_wire.specs.declared.packets.Packet.{Packet}
 use Rattle.adb_history.specs.Births.{is_wrte}
@@ -14,14 +14,6 @@ pub record Taking (old now : Deframing) (total : ℕ) : Type 0 where
   pub are : old.given ≡ taken ++ now.given
   pub counted : total ≡ told (wrote_in taken)
   pub stands : (fed : List ℕ) (before : List Packet) → StandsFor fed before old → StandsFor fed (before ++ taken) now
-
-pub taking_first : (old : Deframing) → Taking old old 0
-taking_first old = record {
-  taken = [];
-  are = refl;
-  counted = refl;
-  stands = λ fed before s. subst (λ (ps : List Packet). StandsFor fed ps old) (sym (append-nil before)) s;
-}
 
 wrote_one : (p : Packet) → wrote_in (p ∷ []) ≡ cond (is_wrte p.command) (length p.payload) 0
 wrote_one p = go (is_wrte p.command)
@@ -46,13 +38,3 @@ module _ {old now : Deframing} {total : ℕ} (t : Taking old now total) where
             subst (λ (ps : List Packet). StandsFor fed ps new) (append_assoc before t.taken (p ∷ []))
             (g.stands fed (before ++ t.taken) (t.stands fed before s));
       }
-
-  pub taken_all : now.given ≡ [] → old.given ≡ t.taken
-  taken_all none = t.are ∙ (ap (λ (ps : List Packet). t.taken ++ ps) none ∙ append-nil t.taken)
-
-  pub taking_counted : now.given ≡ [] → total ≡ told (wrote_in old.given)
-  taking_counted none = t.counted ∙ ap (λ (ps : List Packet). told (wrote_in ps)) (sym (taken_all none))
-
-  pub taking_stands : now.given ≡ [] → (fed : List ℕ) (before : List Packet) → StandsFor fed before old → StandsFor fed (before ++ old.given) now
-  taking_stands none fed before s =
-      subst (λ (ps : List Packet). StandsFor fed (before ++ ps) now) (sym (taken_all none)) (t.stands fed before s)

@@ -21,8 +21,7 @@ pub struct ShellFormat {
 }
 
 impl Format<ShellPacket, ShellFault> for ShellFormat {
-    ghost use Rattle.std.specs.Prelude.{◌≡◌, List, ℕ, IfOk, length};
-    ghost use Rattle.adb_outside.specs.Framing.{IsFraming};
+    ghost use Rattle.std.specs.Prelude.{ℕ, length};
     ghost use Rattle.adb_shell.specs.Packets.{front, packet_of, past};
     ghost use Rattle.adb_shell.specs.Framed.{packets_are_framed};
 

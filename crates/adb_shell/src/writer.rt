@@ -1,6 +1,6 @@
 //! Spelling packets.
 
-ghost use Rattle.std.specs.Prelude.{◌≡◌, ◌≤◌, ◌++◌, ◌∷◌, length, OnOk, OnErr, IfOk};
+ghost use Rattle.std.specs.Prelude.{◌≡◌, ◌≤◌, ◌++◌, ◌∷◌, length, OnOk, OnErr};
 ghost use Rattle.byteorder.specs.Endian.{little_bytes};
 ghost use Rattle.adb_shell.specs.Packets.{spelling};
 

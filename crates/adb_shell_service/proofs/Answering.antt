@@ -12,7 +12,7 @@ use Rattle.adb_shell.specs.declared.packet.ShellFault.{ShellFault}
 use Rattle.adb_shell.specs.Packets.{Reading, front, packet_of, past, start, cut_from, packets_in, fault_in, StandsFor}
 use Rattle.adb_shell.specs.Framed.{packets_are_framed}
 use Rattle.adb_files.specs.Service.{TellsUpTo, TellsFront}
-use Rattle.adb_shell_service.specs.declared.output.TheConstants.{STDIN, STDOUT, CLOSE_STDIN}
+use Rattle.adb_shell_service.specs.declared.output.TheConstants.{STDIN, STDOUT}
 use Rattle.adb_shell_service.specs.Output.{output_bytes, exit_bytes}
 use Rattle.adb_shell_service.specs.Service.{Answer, Opening, Held, then_answered, packet_answer, input_answer, reads_input, command_answer, shell_answer}
 use Rattle.adb_shell_service.specs.Service.{IsReading, Reads, HasAnswered, Answers, AnswersGiven}
@@ -29,11 +29,9 @@ by_id : ShellPacket → Bool → Answer
 by_id packet t = cond t (record { bytes = exit_bytes 0; ended = true })
     (record { bytes = cond (packet.id == STDIN) (output_bytes STDOUT packet.bytes) []; ended = false })
 
-pub packet_goes_on : (packet : ShellPacket) → (packet.id == CLOSE_STDIN) ≡ false → (packet_answer packet).ended ≡ false
 unfolding by_id
 packet_goes_on packet e = ap (λ t. (by_id packet t).ended) e
 
-pub packet_closes : (packet : ShellPacket) → (packet.id == CLOSE_STDIN) ≡ true → (packet_answer packet).ended ≡ true
 unfolding by_id
 packet_closes packet e = ap (λ t. (by_id packet t).ended) e
 
@@ -194,71 +192,10 @@ pub record Answering (first now : Moment) : Type 0 where
   pub ends : (input_answer first.reader.given None).ended ≡ (input_answer now.reader.given None).ended
   pub same : now.reader ≡ record first.reader { given = now.reader.given }
 
-pub answering_none : (first : Moment) → Answering first first
-answering_none first = record { told = record { said = []; behind = sym (append-nil first.out); within = refl }; ends = refl; same = refl }
-
--- a packet is taken, and what is left is the same reader without it
-pub same_left : (now left : Reading) (packet : ShellPacket) → now ≡ record left { given = packet ∷ left.given } → left ≡ record now { given = left.given }
-same_left now left packet is = sym (ap (λ (r : Reading). record r { given = left.given }) is)
-
 -- the next packet is taken and answered
 pub record Turn (now next : Moment) (packet : ShellPacket) : Type 0 where
   pub is : now.reader ≡ record next.reader { given = packet ∷ next.reader.given }
   pub push : next.out ≡ now.out ++ (packet_answer packet).bytes
-
--- and the service goes on
-pub answering_step : {first now next : Moment} (packet : ShellPacket) → Answering first now → Turn now next packet
-    → (packet.id == CLOSE_STDIN) ≡ false → Answering first next
-answering_step {first} {now} {next} packet all turn on =
-    let left = next.reader in
-    let given : now.reader.given ≡ packet ∷ left.given = ap (λ (r : Reading). r.given) turn.is in
-    let further = ap (λ (ps : List ShellPacket). input_answer ps None) given
-    ∙ then_open (packet_answer packet) (input_answer left.given None) (packet_goes_on packet on) in
-    let bytes = (packet_answer packet).bytes in
-    record {
-      told = record {
-        said = all.told.said ++ bytes;
-        behind = turn.push ∙ (ap (λ (o : List ℕ). o ++ bytes) all.told.behind ∙ append_assoc first.out all.told.said bytes);
-        within = all.told.within
-            ∙ (ap (λ (a : Answer). all.told.said ++ a.bytes) further ∙ sym (append_assoc all.told.said bytes (input_answer left.given None).bytes));
-      };
-      ends = all.ends ∙ ap (λ (a : Answer). a.ended) further;
-      same = same_left now.reader left packet turn.is ∙ ap (λ (r : Reading). record r { given = left.given }) all.same;
-    }
-
--- it was the end of the input
-pub answering_closed : {first now next : Moment} (packet : ShellPacket) → Answering first now → Turn now next packet
-    → (packet.id == CLOSE_STDIN) ≡ true → AnswersGiven first.reader next.reader first.out next.out true
-answering_closed {first} {now} {next} packet all turn over =
-    let left = next.reader in
-    let given : now.reader.given ≡ packet ∷ left.given = ap (λ (r : Reading). r.given) turn.is in
-    let further = ap (λ (ps : List ShellPacket). input_answer ps None) given
-    ∙ then_over (packet_answer packet) (input_answer left.given None) (packet_closes packet over) in
-    let bytes = (packet_answer packet).bytes in
-    record {
-      answer = turn.push ∙ (ap (λ (o : List ℕ). o ++ bytes) all.told.behind ∙ (append_assoc first.out all.told.said bytes
-          ∙ ap (λ (o : List ℕ). first.out ++ o) (sym (all.told.within ∙ ap (λ (a : Answer). all.told.said ++ a.bytes) further))));
-      ends = sym (all.ends ∙ (ap (λ (a : Answer). a.ended) further ∙ packet_closes packet over));
-      empty = λ open_. absurd (true≢false open_);
-    }
-
--- no packet is left
-pub answering_done : {first now : Moment} {left : Reading} → Answering first now → now.reader.given ≡ [] → left ≡ now.reader
-    → AnswersGiven first.reader left first.out now.out false
-answering_done {first} {now} {left} all none same =
-    let next = ap (λ (ps : List ShellPacket). input_answer ps None) none in
-    record {
-      answer = all.told.behind ∙ ap (λ (o : List ℕ). first.out ++ o) (sym (all.told.within
-          ∙ (ap (λ (a : Answer). all.told.said ++ a.bytes) next ∙ append-nil all.told.said)));
-      ends = sym (all.ends ∙ ap (λ (a : Answer). a.ended) next);
-      empty = λ open_. same ∙ (all.same ∙ ap (λ (ps : List ShellPacket). record first.reader { given = ps }) none);
-    }
-
--- memory ran out: what was told stays
-pub answering_front : {first now : Moment} (out : List ℕ) → Answering first now → out ≡ now.out
-    → TellsFront (input_answer first.reader.given None).bytes first.out out
-answering_front {now = now} out all same =
-    ((input_answer now.reader.given None).bytes, record { said = all.told.said; behind = same ∙ all.told.behind; within = all.told.within })
 
 -- A piece came to a service that goes on: how it was opened, what it was fed and what was taken of its answer before, the answer that it held, and
 -- its reader before and behind the piece.

@@ -1,6 +1,6 @@
 //! How what a command writes is spelled.
 
-ghost use Rattle.std.specs.Prelude.{◌≡◌, ◌≤◌, ◌++◌, length, IfOk, OnOk};
+ghost use Rattle.std.specs.Prelude.{◌≡◌, ◌≤◌, ◌++◌, IfOk, OnOk};
 ghost use Rattle.adb_shell_service.specs.Output.{output_bytes, exit_bytes, spelled};
 
 use crate::outcome::Outcome;

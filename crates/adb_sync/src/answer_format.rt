@@ -33,8 +33,7 @@ impl AnswerFormat {
 }
 
 impl Format<SyncAnswer, SyncFault> for AnswerFormat {
-    ghost use Rattle.std.specs.Prelude.{◌≡◌, List, ℕ, IfOk, length};
-    ghost use Rattle.adb_outside.specs.Framing.{IsFraming};
+    ghost use Rattle.std.specs.Prelude.{◌≡◌, ℕ, IfOk};
     ghost use Rattle.adb_sync.specs.Answers.{answer_front, answer_of_bytes, past_answer};
     ghost use Rattle.adb_sync.specs.Framed.{answers_are_framed};
 

@@ -35,8 +35,7 @@ impl AskFormat {
 }
 
 impl Format<SyncAsk, SyncFault> for AskFormat {
-    ghost use Rattle.std.specs.Prelude.{◌≡◌, List, ℕ, IfOk, length};
-    ghost use Rattle.adb_outside.specs.Framing.{IsFraming};
+    ghost use Rattle.std.specs.Prelude.{◌≡◌, List, ℕ, IfOk};
     ghost use Rattle.adb_sync.specs.Asks.{ask_front, ask_of, past_ask};
     ghost use Rattle.adb_sync.specs.Framed.{asks_are_framed};
 

@@ -1,32 +1,18 @@
 -- What is read means, answer by answer and piece by piece, what the bytes mean.
-use Rattle.std.proofs.Common.{ℕ, ◌≡◌, Bool, List, ◌∷◌, ◌++◌, Option, Some, None, length, Result, sym, refl, ◌∙◌, ap, append_assoc, arith}
+use Rattle.std.proofs.Common.{ℕ, ◌≡◌, List, ◌∷◌, ◌++◌, Option, Some, None, length, Result, sym, refl, ◌∙◌, ap, append_assoc, arith}
 use Rattle.adb_outside.specs.Framing.{Cut, cut, held_after, joined, answer_of}
 use Rattle.adb_outside.specs.declared.framer.FeedError.{FeedError}
 use Rattle.adb_outside.specs.declared.framer.FeedError.TheVariants.{Fault}
 use Rattle.adb_outside.proofs.FramingLaws.{cut_piece, fault_stays}
 use Rattle.adb_sync.specs.declared.answer.SyncAnswer.{SyncAnswer}
 use Rattle.adb_sync_client.specs.declared.expected.Expected.{Expected}
-use Rattle.adb_sync_client.specs.declared.told.Next.TheVariants.{GoesOn}
 use Rattle.adb_sync_client.specs.Expected.{expected_front, expected_answer, past_expected}
 use Rattle.adb_sync_client.specs.Framed.{expected_are_framed}
-use Rattle.adb_sync_client.specs.Values.{Said, told_by, next_of, ended_or, meant}
+use Rattle.adb_sync_client.specs.Values.{ended_or, meant}
 use Rattle.adb_sync_client.specs.Reading.{Read, MeansSame, Gathers, Continues, with_more, meaning, meaning_with}
 
 abbrev pub Held : Type 0
 Held = Cut Expected SyncAnswer ℕ
-
--- the first answer that is held is told
-told_later : (said : Said) (answer : SyncAnswer) (held : Held) (fault : Option ℕ) (spent : Bool) (more : List ℕ)
-    → let now : Held = record held { fault = fault } in
-    meaning_with (record { cut = now; said = told_by said answer; next = next_of answer; spent = spent }) more
-    ≡ meaning_with (record { cut = record now { given = answer ∷ held.given }; said = said; next = GoesOn; spent = spent }) more
-told_later said answer held None spent more = refl
-told_later said answer held (Some fault) spent more = refl
-
-pub first_told : (said : Said) (answer : SyncAnswer) (held : Held) (spent : Bool)
-    → MeansSame (record { cut = record held { given = answer ∷ held.given }; said = said; next = GoesOn; spent = spent })
-    (record { cut = held; said = told_by said answer; next = next_of answer; spent = spent })
-first_told said answer held spent = record { now = refl; later = told_later said answer held held.fault spent }
 
 pub same_on : (a b c : Read) → MeansSame a b → MeansSame b c → MeansSame a c
 same_on a b c h k = record { now = k.now ∙ h.now; later = λ more. k.later more ∙ h.later more }

@@ -30,8 +30,7 @@ impl Expected {
 }
 
 impl Format<SyncAnswer, u64> for Expected {
-    ghost use Rattle.std.specs.Prelude.{◌≡◌, List, ℕ, IfOk, length};
-    ghost use Rattle.adb_outside.specs.Framing.{IsFraming};
+    ghost use Rattle.std.specs.Prelude.{◌≡◌, List, ℕ};
     ghost use Rattle.adb_sync_client.specs.Expected.{expected_front, expected_answer};
     ghost use Rattle.adb_sync_client.specs.Expected.{past_expected};
     ghost use Rattle.adb_sync_client.specs.Framed.{expected_are_framed};

@@ -1,7 +1,7 @@
 -- What is kept goes out in pieces.
-use Rattle.std.proofs.Common.{ℕ, ◌≡◌, List, [], ◌++◌, take, drop, Option, Some, Result, Ok, Err, sym, refl, ◌∙◌, ap, Bool, false}
+use Rattle.std.proofs.Common.{ℕ, ◌≡◌, List, [], ◌++◌, take, drop, Option, Some, Result, Ok, Err, sym, refl, ◌∙◌, ap}
 use Rattle.std.proofs.lemmas.List.{append_assoc, append-nil, take-append-drop}
-use Rattle.adb_top.specs.Keeping.{Out, Keeps, HasFront, KeepsMore, WritesOut, IsWriteEnd, CountsReads, is_read_fault}
+use Rattle.adb_top.specs.Keeping.{Out, Keeps, HasFront, KeepsMore, WritesOut, IsWriteEnd}
 use Rattle.adb_top.specs.declared.stop.Stop.{Stop}
 use Rattle.adb_top.specs.declared.stop.Stop.TheVariants.{ReadFault, WriteFault, OutOfMemory, Refused}
 
@@ -61,11 +61,3 @@ write_fault_of ReadFault e = absurd e
 write_fault_of WriteFault e = refl
 write_fault_of OutOfMemory e = absurd e
 write_fault_of (Refused why) e = absurd e
-
--- reads were counted, and what is said of the sink says nothing of them
-pub counts_reads : (result : Result (Unit {0}) Stop) (counts : Bool → Type 0) → counts (is_read_fault result) → CountsReads result counts
-counts_reads (Ok done) counts c = c
-counts_reads (Err ReadFault) counts c = c
-counts_reads (Err WriteFault) counts c = (false, c)
-counts_reads (Err OutOfMemory) counts c = c
-counts_reads (Err (Refused why)) counts c = c

@@ -7,7 +7,6 @@ use Rattle.adb_outside.specs.declared.framer.Front.{Front}
 use Rattle.adb_outside.specs.declared.framer.Front.TheVariants.{More, Bad}
 use Rattle.adb_capture.specs.Records.{magic, record_at}
 use Rattle.adb_capture.specs.Reading.{ahead, ahead_of, to_give, IsRefused, IsPart, StopsWithin, Reading, taken_by}
-use Rattle.adb_capture.specs.Counting.{is_fault}
 use Rattle.adb_capture.specs.declared.entry.Entry.{Entry}
 use Rattle.adb_capture.specs.declared.error.FormFault.{FormFault}
 use Rattle.adb_capture.specs.declared.error.FormFault.TheVariants as form
@@ -19,7 +18,7 @@ use Rattle.adb_history.specs.Drained.{drained_after, drained_from}
 use Rattle.adb_history.specs.Refusal.{refused_at, refusal_by}
 use Rattle.adb_history.specs.Accepted.{Accepted, is_input, ends_with, accept_by, unless_stopped, accept_records}
 use Rattle.adb_history.specs.declared.refusal.Refusal.{Refusal}
-use Rattle.adb_top.specs.Keeping.{Out, Keeps, is_read_fault, is_write_fault}
+use Rattle.adb_top.specs.Keeping.{Out, Keeps}
 use Rattle.adb_top.specs.Stop.{stop_of}
 use Rattle.adb_top.specs.Replay.{capture_of, IsDrained, IsFrontOf, ReplaysEntry, EntryGives, IsReached, Reaches, EndsAs, Moment, IsAhead, Consumes, Replays}
 use Rattle.adb_top.specs.declared.stop.Stop.{Stop}
@@ -280,26 +279,3 @@ pub record GoingOn (first now : Moment) (holds : Kept) (reads writes : Type 0) :
   pub replaying : Replaying first now holds
   pub reads_counted : reads
   pub writes_counted : writes
-
--- whether the source failed, by the reader's error
-pub read_fault_of : (e : CaptureError) → is_fault {T = Unit {0}} (Err e) ≡ is_read_fault (Err (stop_of e))
-read_fault_of capture.BadMagic = refl
-read_fault_of (capture.BadRecord at why) = refl
-read_fault_of (capture.Truncated at) = refl
-read_fault_of (capture.TooLong at) = refl
-read_fault_of capture.ReadFault = refl
-read_fault_of capture.OutOfMemory = refl
-
-pub no_write_fault : (e : CaptureError) → is_write_fault (Err (stop_of e)) ≡ false
-no_write_fault capture.BadMagic = refl
-no_write_fault (capture.BadRecord at why) = refl
-no_write_fault (capture.Truncated at) = refl
-no_write_fault (capture.TooLong at) = refl
-no_write_fault capture.ReadFault = refl
-no_write_fault capture.OutOfMemory = refl
-
-pub no_read_fault : (why : Stop) → ◌≢◌ {A = Result (Unit {0}) Stop} (Err why) (Err ReadFault) → is_read_fault (Err why) ≡ false
-no_read_fault ReadFault e = absurd (e refl)
-no_read_fault WriteFault e = refl
-no_read_fault OutOfMemory e = refl
-no_read_fault (Refused w) e = refl

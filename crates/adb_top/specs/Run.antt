@@ -1,7 +1,8 @@
 -- What a run leaves, by its status.
-use Rattle.std.specs.Prelude.{ℕ, ◌≡◌, ◌⊎◌, List, ◌++◌, Option, Some, None}
+use Rattle.std.specs.Prelude.{ℕ, ◌≡◌, ◌⊎◌, true, List, ◌++◌, Option, Some, None, String}
 use Rattle.adb_history.specs.Accepted.{Accepted, accepted, replayed}
 use Rattle.adb_history.specs.declared.refusal.Refusal.{Refusal}
+use Rattle.adb_words.specs.Words.{names_command, texts}
 use Rattle.adb_top.specs.Notes.{bad_capture_line}
 use Rattle.adb_top.specs.Keeping.{HasFront}
 use Rattle.adb_top.specs.Replay.{IsReadWhole}
@@ -9,9 +10,10 @@ use Rattle.adb_top.specs.Replayed.{GrowsSpelled, GrowsWhole, WritesConsumed}
 use Rattle.adb_top.specs.declared.status.Status.{Status}
 use Rattle.adb_top.specs.declared.status.Status.TheVariants.{Done, Usage, ReadFault, WriteFault, BadCapture, OutOfMemory}
 
--- The words are no command, or the note failed, or memory ran out over them.
-abbrev pub IsUnheard : Status → Type 0
-IsUnheard status = (status ≡ Usage) ⊎ (status ≡ WriteFault) ⊎ (status ≡ OutOfMemory)
+-- The words are no command, or the note failed, or memory ran out over them, where the first is a command's name.
+abbrev pub IsUnheard : {A : Type 0} → List (String A) → Status → Type 0
+IsUnheard words status =
+    (status ≡ Usage) ⊎ (status ≡ WriteFault) ⊎ ((status ≡ OutOfMemory) × (names_command (texts words) ≡ true))
 
 -- What went out of a text: at Done and BadCapture all of it, at Usage nothing, else a front.
 abbrev pub WritesBy : Status → List ℕ → List ℕ → Option (List ℕ) → Type 0

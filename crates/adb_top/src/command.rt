@@ -35,8 +35,9 @@ pub fn run<S: Source, K: Sink, N: Sink>(
     sink: &mut K,
     note: &mut N,
 ) -> Status
-    // Words that are no command: nothing is read, and nothing goes out.
-    ensures usage { IsNoCommand words.now → IsUnheard result }
+    // Words that are no command: nothing is read, and nothing goes out. Memory is wanted only
+    // behind the name of one.
+    ensures usage { IsNoCommand words.now → IsUnheard words.now result }
     ensures untouched { IsNoCommand words.now → (source.new ≡ source.old) × (sink.new ≡ sink.old) }
     ensures command { result ≡ Status.Usage → IsNoCommand words.now }
 

@@ -1,9 +1,9 @@
 //! How a stream of packets is cut.
 
-ghost use Rattle.std.specs.Prelude.{◌≡◌, ◌≤◌, ◌+◌, Ok, length};
+ghost use Rattle.std.specs.Prelude.{◌≡◌, ◌+◌, Ok, length};
 ghost use Rattle.adb_outside.specs.declared.framer.Front.{Front};
-ghost use Rattle.adb_wire.specs.Header.{byte_sum_of, head_at};
-ghost use Rattle.adb_wire.specs.Format.{front_of, packet_of, format_after, sum_fault, whole_front};
+ghost use Rattle.adb_wire.specs.Header.{head_at};
+ghost use Rattle.adb_wire.specs.Format.{front_of, packet_of, format_after, sum_fault};
 
 use crate::command::Command;
 use crate::headers::{HEADER_LEN, Head, HeadFault, byte_sum, read_head};

@@ -1,7 +1,7 @@
 //! What holds of packets and their cutting, over all streams. Each function does nothing: its
 //! contract is the law.
 
-ghost use Rattle.std.specs.Prelude.{◌≡◌, ◌^◌, ◌<◌, ◌≤◌, ◌++◌, List, ℕ, Some, Ok, IsTrue, drop, length};
+ghost use Rattle.std.specs.Prelude.{◌≡◌, ◌^◌, ◌<◌, ◌≤◌, ◌++◌, List, ℕ, Ok, IsTrue, drop, length};
 ghost use Rattle.adb_wire.specs.declared.headers.Head.{Head};
 ghost use Rattle.adb_wire.specs.declared.packets.Packet.{Packet};
 ghost use Rattle.adb_wire.specs.declared.headers.TheConstants.{HEADER_LEN};

@@ -1,5 +1,5 @@
 -- Which words are a command, and which one.
-use Rattle.std.specs.Prelude.{ℕ, ◌^◌, ◌-◌, ◌==◌, ◌&&◌, Bool, true, not, nat_le, if◌then◌else◌, List, [], ◌∷◌, map, String}
+use Rattle.std.specs.Prelude.{ℕ, ◌^◌, ◌-◌, ◌==◌, ◌&&◌, ◌||◌, Bool, true, false, not, nat_le, if◌then◌else◌, List, [], ◌∷◌, map, String}
 use Rattle.std.specs.Prelude.{string_bytes, codes, bytes_eq, Option, Some, None, option_and_then}
 use Rattle.std.specs.List.{list_all}
 use Rattle.adb_outside.specs.Decimal.{number_in}
@@ -40,6 +40,11 @@ command_named name words =
 abbrev pub command_of : List (List ℕ) → Option Command
 command_of [] = None
 command_of (name ∷ words) = command_named name words
+
+-- whether words begin with the name of a command
+abbrev pub names_command : List (List ℕ) → Bool
+names_command [] = false
+names_command (name ∷ words) = bytes_eq name (codes "replay") || bytes_eq name (codes "gen")
 
 -- a word that begins with a hyphen is an option, or nothing
 abbrev pub is_operand : List ℕ → Bool

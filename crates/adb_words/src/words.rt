@@ -1,9 +1,9 @@
 //! The command that words are.
 
-ghost use Rattle.std.specs.Prelude.{◌≡◌, ◌≢◌, Err, ok_or};
+ghost use Rattle.std.specs.Prelude.{◌≡◌, ◌≢◌, Err, ok_or, true};
 ghost use Rattle.clap.specs.Words.{app_of};
 ghost use Rattle.adb_words.specs.Apps.{replay_app};
-ghost use Rattle.adb_words.specs.Words.{command_of, replay_of, texts};
+ghost use Rattle.adb_words.specs.Words.{command_of, names_command, replay_of, texts};
 
 use crate::command::{Command, WordsError};
 use crate::load::read_load;
@@ -11,10 +11,12 @@ use crate::operands::operands_of;
 use std::alloc::Global;
 
 /// The command that the words behind the program's name are. Where memory ran out it may be that
-/// they are none.
+/// they are none; it is wanted only behind the name of a command.
 pub fn read_words(alloc: Global, words: &[String]) -> Result<Command, WordsError>
-    ensures { result ≢ Err WordsError.OutOfMemory
+    ensures command { result ≢ Err WordsError.OutOfMemory
         → result ≡ ok_or (command_of (texts words.now)) WordsError.Usage }
+    ensures named { result ≡ Err WordsError.OutOfMemory
+        → names_command (texts words.now) ≡ true }
 {
     let [name, words @ ..] = words else {
         return Err(WordsError::Usage);

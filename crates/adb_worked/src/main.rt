@@ -3,7 +3,6 @@
 
 mod told;
 
-use std::alloc::Global;
 use std::process::ExitCode;
 use std::{fs, io};
 use told::told;

@@ -1,6 +1,6 @@
 //! How the replay of a capture ends.
 
-ghost use Rattle.std.specs.Prelude.{◌≡◌, ◌≤◌, List, ℕ, IfOk};
+ghost use Rattle.std.specs.Prelude.{◌≡◌, ◌≤◌, ℕ, IfOk};
 ghost use Rattle.adb_worked.specs.Told.{told_as};
 
 use adb_outside::{MemorySink, MemorySource, Text};
