@@ -1,6 +1,6 @@
 -- What each move keeps, the packets of a device keep, where one client alone is answered.
-use Rattle.std.proofs.Common.{◌≡◌, ◌≢◌, ℕ, Bool, true, false, cond, not, ◌||◌, List, [], ◌∷◌, ◌++◌, length, Option, Some, None, refl, ap, subst}
-use Rattle.std.proofs.Common.{arith, inl, inr, eqb}
+use Rattle.std.proofs.Common.{◌≡◌, ◌≢◌, ℕ, Bool, true, false, cond, not, ◌||◌, List, [], ◌∷◌, ◌++◌, length, Option, Some, None, refl, ap}
+use Rattle.std.proofs.Common.{inl, inr, eqb}
 use Rattle.std.specs.Prelude.{is_some, nat_eq, nat_lt}
 use Rattle.std.proofs.lemmas.Bool.{eqb-true, eqb-false}
 use Rattle.adb_outside.specs.Tables.{at}
@@ -29,24 +29,11 @@ use Rattle.adb_history.specs.Packets.{least_version, least_maxdata, connects, cn
 use Rattle.adb_history.specs.Packets.{orphan_opened, acknowledged, okay_open, okay_first, takes_okay, is_out_of_turn}
 use Rattle.adb_history.specs.Packets.{accepts_none, accepts, takes_write, takes_close, treat_open, treat_any, treat_on, treat, treat_all, faulty_on}
 use Rattle.adb_history.specs.Packets.{faulty, with_rest, receives_cut, receives_on, receives}
-use Rattle.adb_history.specs.Moves.{After, IsLike}
+use Rattle.adb_history.specs.Moves.{After}
 use Rattle.adb_history.proofs.Following.{after_quietly, after_then, after_if}
 use Rattle.adb_answered.specs.Turns.{Scope, names_stream, Allows, Turns}
 use Rattle.adb_answered.proofs.TurnStreams.{owes_kept, ends_telling_kept}
-
-like_acknowledged : (word : Option ℕ) (flow : Flow) → IsLike flow (acknowledged word flow)
-like_acknowledged word (One window) = record { credit = refl; left = omega arith; sound = λ h. h }
-like_acknowledged None (Credit credit) = record { credit = refl; left = omega arith; sound = λ h. h }
-like_acknowledged (Some n) (Credit credit) =
-    record { credit = refl; left = omega arith; sound = λ h. record { window = h.window; few = h.few; none = h.none } }
-
--- what the test of a write says where it passes
-always : (b : Bool) → (b || not b) ≡ false → ⊥
-always true e = cc
-always false e = cc
-
-written_to : (remote own : ℕ) → (eqb remote 0 || not (eqb remote own)) ≡ false → own ≢ 0
-written_to remote own e is = always (eqb remote 0) (subst (λ (n : ℕ). (eqb remote 0 || not (eqb remote n)) ≡ false) is e)
+use Rattle.adb_history.proofs.PacketMoves.{like_acknowledged, written_to}
 
 module _ {scope : Scope} {asker : ℕ} {P : State → List Event → Type 0} (k : Turns scope asker P) where
   module _ (s : State) (w : List Event) (h : P s w) where

@@ -1,31 +1,25 @@
 -- What each move keeps, the requests of the client keep that alone is answered, the listeners that stand for it, and the ends of all.
-use Rattle.std.proofs.Common.{append_assoc, ◌≡◌, ℕ, Bool, true, false, cond, All, List, [], ◌∷◌, ◌++◌, length, Option, Some, None, refl, sym, ap, subst, ◌∙◌}
-use Rattle.std.proofs.Common.{inl, inr, eqb}
-use Rattle.std.specs.Prelude.{codes, is_some, is_none}
+use Rattle.std.proofs.Common.{append_assoc, ◌≡◌, ℕ, false, List, [], ◌∷◌, ◌++◌, Option, Some, None, refl, sym, ap, subst, ◌∙◌}
+use Rattle.std.proofs.Common.{inl, inr}
+use Rattle.std.specs.Prelude.{is_some}
 use Rattle.std.proofs.lemmas.List.Elements.{All-nil}
-use Rattle.adb_outside.specs.Tables.{at, without}
-use Rattle.adb_outside.proofs.TableLaws.{All-put_at, All-without}
+use Rattle.adb_outside.specs.Tables.{without}
+use Rattle.adb_outside.proofs.TableLaws.{All-without}
 use Rattle.adb_outside.specs.declared.kinds.Cause.{Cause}
 use Rattle.adb_outside.specs.declared.kinds.Cause.TheVariants.{Eof, Fault, Starved, NoThread}
-use Rattle.adb_registry.specs.Registry.{DeviceTable}
-use Rattle.adb_registry.specs.declared.row.Row.{Row}
-use Rattle.adb_forward.specs.Forwards.{forward_row}
 use Rattle.adb_forward.specs.declared.row.ForwardRow.{ForwardRow}
-use Rattle.adb_forward.specs.declared.table.TheConstants.{MAX_FORWARDS}
 use Rattle.adb_wire.specs.declared.packets.Packet.{Packet}
 use Rattle.adb_stream.specs.declared.row.Stream.{Stream}
 use Rattle.adb_client.specs.declared.phase.Phase.{Phase}
 use Rattle.adb_client.specs.declared.phase.Phase.TheVariants.{Asking, Opening, Streaming, Binding, Tracking, Closing, Gone}
 use Rattle.adb_client.specs.declared.about.Want.{Want}
-use Rattle.adb_reply.specs.Strings.{failed}
-use Rattle.adb_reply.specs.Refusals.{no_transport}
 use Rattle.adb_reply.specs.declared.answer.Next.{Next}
 use Rattle.adb_reply.specs.declared.answer.Next.TheVariants.{Close, Select, Track, Open, Bind, Rebind, Unbind, UnbindAll, Stop}
 use Rattle.adb_history.specs.Rows.{Client, State, to_client, to_stream, none_kept, with_due, with_held}
 use Rattle.adb_history.specs.Events.{Made, Event, quietly, ended, client_failed}
 use Rattle.adb_history.specs.Links.{owe_link, close_packet}
 use Rattle.adb_history.specs.Clients.{owe_client, closes}
-use Rattle.adb_history.specs.Forwarding.{Binding as Bound, forwards_with, put_forward, told_port, is_unbound, bound_by}
+use Rattle.adb_history.specs.Forwarding.{Binding as Bound, put_forward, bound_by}
 use Rattle.adb_history.specs.Asking.{Asked, asks_with}
 use Rattle.adb_history.specs.Losing.{stream_fails, stream_of, input_ends, client_ends}
 use Rattle.adb_history.specs.Reading.{tracks, awaits, goes_on, asked_before, has_asked, asks, reads_in, bound_for, bound_in, bound_at}
@@ -36,34 +30,9 @@ use Rattle.adb_history.proofs.StreamMoves.{asks_free}
 use Rattle.adb_history.proofs.Readiness.{IsAskedReady, asks_ready}
 use Rattle.adb_answered.specs.Turns.{Scope, Turns}
 use Rattle.adb_answered.proofs.TurnStreams.{owes_kept, closes_with_kept, service_kept}
+use Rattle.adb_history.proofs.ReadMoves.{led_bound, led_put}
 
 -- ---- each forward leads to a device, after a change
-led_put : (local transport : ℕ) (remote : List ℕ) (devices : DeviceTable) (forwards : List (ℕ × ForwardRow))
-    → All (IsLed devices) forwards → All (IsLed devices) (put_forward local transport remote devices forwards)
-led_put local transport remote devices forwards all = go (at transport devices.rows) refl
-  where
-    go : (o : Option Row) → at transport devices.rows ≡ o → All (IsLed devices) (forwards_with local transport remote o forwards)
-    go None is = all
-    go (Some row) is = All-put_at (IsLed devices) forwards local (forward_row local transport row.serial remote) (ap is_some is) all
-
-led_bound : (want : Want) (port : ℕ) (devices : DeviceTable) (forwards : List (ℕ × ForwardRow))
-    → All (IsLed devices) forwards → All (IsLed devices) (bound_by want port devices forwards).forwards
-led_bound want port devices forwards all =
-    go (is_unbound want.local port forwards) (is_none (at want.transport devices.rows)) (eqb (length forwards) MAX_FORWARDS)
-  where
-    go : (taken gone full : Bool) → All (IsLed devices)
-        (cond {A = Bound} taken (record { reply = (failed (codes "cannot bind listener")).bytes; forwards = forwards })
-        (cond {A = Bound} gone (record { reply = (failed no_transport).bytes; forwards = forwards })
-        (cond {A = Bound} full (record { reply = (failed (codes "too many forwards")).bytes; forwards = forwards })
-        (record {
-          reply = codes "OKAYOKAY" ++ told_port want.local port;
-          forwards = put_forward port want.transport want.remote devices forwards;
-        })))).forwards
-    go true gone full = all
-    go false true full = all
-    go false false true = all
-    go false false false = led_put port want.transport want.remote devices forwards all
-
 module _ {scope : Scope} {asker : ℕ} {P : State → List Event → Type 0} (k : Turns scope asker P) where
   module _ (s : State) (w : List Event) (h : P s w) where
     -- ---- what follows a request

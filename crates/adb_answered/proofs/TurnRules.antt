@@ -1,12 +1,9 @@
 -- What each move keeps, the rule of each entry keeps, where one client alone is answered.
-use Rattle.std.proofs.Common.{◌≡◌, ℕ, ◌+◌, ◌-◌, ◌≤◌, ◌<◌, zero, suc, Bool, true, false, cond, ◌||◌, List, [], ◌∷◌, length, drop, min, Option, Some}
-use Rattle.std.proofs.Common.{None, refl, sym, ap, subst, ◌∙◌, arith, inl, inr, eqb}
-use Rattle.std.specs.Prelude.{is_some, nat_eq, nat_le}
+use Rattle.std.proofs.Common.{◌≡◌, ℕ, ◌+◌, ◌-◌, ◌≤◌, ◌<◌, zero, suc, true, false, ◌||◌, List, [], ◌∷◌, length, drop, min, Option, Some}
+use Rattle.std.proofs.Common.{None, refl, sym, ap, subst, ◌∙◌, arith, inl, inr}
+use Rattle.std.specs.Prelude.{is_some, nat_eq}
 use Rattle.std.proofs.lemmas.Bool.{eqb-true, eq-eqb}
-use Rattle.std.proofs.lemmas.Bool.Decides.{nat_tests}
 use Rattle.adb_wire.specs.declared.packets.Packet.{Packet}
-use Rattle.adb_stream.specs.Credit.{given_back}
-use Rattle.adb_stream.specs.declared.credit.TheConstants.{CREDIT_STEP}
 use Rattle.adb_stream.specs.declared.flow.Flow.{Flow}
 use Rattle.adb_stream.specs.declared.flow.Flow.TheVariants.{One, Credit}
 use Rattle.adb_stream.specs.declared.row.Stream.{Stream}
@@ -28,54 +25,15 @@ use Rattle.adb_history.specs.Asking.{asks_with}
 use Rattle.adb_history.specs.Reading.{asked_before, has_asked, reads_from, comes, comes_in_vain, enters_by}
 use Rattle.adb_history.specs.Machine.{unplugs_on, rule, ups, step}
 use Rattle.adb_history.specs.Bytes.{is_orderly}
-use Rattle.adb_history.specs.Moves.{IsClientIn, After, IsLike, plugged_in}
+use Rattle.adb_history.specs.Moves.{IsClientIn, After, plugged_in}
 use Rattle.adb_history.proofs.Following.{after_quietly, after_then, after_if, changed_here}
 use Rattle.adb_answered.specs.Turns.{Scope, Allows, Turns}
 use Rattle.adb_answered.proofs.TurnStreams.{owes_kept, service_kept, up_all_kept}
 use Rattle.adb_answered.proofs.TurnPackets.{receives_kept}
 use Rattle.adb_answered.proofs.TurnReads.{reads_in_kept, bound_kept, client_ends_kept}
+use Rattle.adb_history.proofs.RuleMoves.{like_handed, left_now, same_stream}
 
 -- ---- a flow after so many bytes are left to be handed out
-back_within : (left g : ℕ) → given_back left g ≤ g
-back_within left g = go ((eqb left 0) || nat_le CREDIT_STEP g)
-  where
-    go : (b : Bool) → cond b g 0 ≤ g
-    go true = omega arith
-    go false = omega arith
-
-back_few : (left g : ℕ) → g - given_back left g < CREDIT_STEP
-back_few left g = go (eqb left 0) (nat_le CREDIT_STEP g) refl
-  where
-    go : (a b : Bool) → nat_le CREDIT_STEP g ≡ b → g - cond (a || b) g 0 < CREDIT_STEP
-    go true b is = omega arith
-    go false true is = omega arith
-    go false false is = grind (arith, nat_tests)
-
-back_all : (left g : ℕ) → left ≡ 0 → g - given_back left g ≡ 0
-back_all left g none = subst (λ (n : ℕ). g - given_back n g ≡ 0) (sym none) (omega arith)
-
-like_handed : (left : ℕ) (flow : Flow) → left ≤ to_hand flow → IsLike flow (handed_to left flow)
-like_handed left (One window) h = record { credit = refl; left = h; sound = λ x. x }
-like_handed left (Credit credit) h =
-    let g : ℕ = credit.gathered + (credit.to_hand - left) in
-    record {
-      credit = refl;
-      left = h;
-      sound = λ x. record {
-        window = omega (arith, x.window, h, back_within left (credit.gathered + (credit.to_hand - left)));
-        few = back_few left (credit.gathered + (credit.to_hand - left));
-        none = λ none. back_all left (credit.gathered + (credit.to_hand - left)) none;
-      };
-    }
-
-left_now : (left : ℕ) (flow : Flow) → to_hand (handed_to left flow) ≡ left
-left_now left (One window) = refl
-left_now left (Credit credit) = refl
-
--- the stream of a client, by its phase
-same_stream : (phase : Phase) (l m : ℕ) → phase ≡ Streaming l → phase ≡ Streaming m → l ≡ m
-same_stream phase l m e f = let g : Streaming l ≡ Streaming m = sym e ∙ f in cc
-
 module _ {scope : Scope} {asker : ℕ} {P : State → List Event → Type 0} (k : Turns scope asker P) where
   module _ (s : State) (w : List Event) (h : P s w) where
     -- ---- put

@@ -44,7 +44,7 @@ keeps_then false false c e f h k = subst (λ (x : Option Ending). EndsAs c x) (s
 keeps_then false true c e f h k =
     subst (λ (x : Bool). EndsAs x (option_or e f)) (sym k.0) (h.0, or_nothing e f k.1 ∙ h.1)
 
-some_kept : (e f : Option Ending) → is_some e ≡ true → is_some (option_or e f) ≡ true
+pub some_kept : (e f : Option Ending) → is_some e ≡ true → is_some (option_or e f) ≡ true
 some_kept None f some = let clash : false ≡ true = some in cc
 some_kept (Some ending) f some = refl
 

@@ -30,7 +30,7 @@ use Rattle.adb_history.specs.Orderly.{IsDrawnOnly}
 use Rattle.adb_history.proofs.OwnedStep.{all_owned}
 use Rattle.adb_births.specs.Ending.{EndsAs, EndKeeps, EndStep, EndSteps, HasEnding, EndingsAreRows}
 use Rattle.adb_births.proofs.GoingRules.{goes_puts, goes_client_ends, goes_bound, goes_unplugs}
-use Rattle.adb_births.proofs.Ending.{ending_append, steps_then, step_same, steps_quiet}
+use Rattle.adb_births.proofs.Ending.{ending_append, steps_then, step_same, steps_quiet, some_kept}
 use Rattle.adb_births.proofs.EndingRules.{steps_up_all, steps_puts, OwnsOf, steps_client_ends, steps_bound, steps_unplugs, steps_receives, steps_stops}
 use Rattle.adb_births.proofs.Born.{goes_ups}
 use Rattle.adb_births.proofs.Once.{recv_same}
@@ -150,10 +150,6 @@ module _ (older : History) (legal : IsLegal older) where
 or_nothing : (e f : Option Ending) → f ≡ None → option_or e f ≡ e
 or_nothing None f none = none
 or_nothing (Some ending) f none = refl
-
-some_kept : (e f : Option Ending) → is_some e ≡ true → is_some (option_or e f) ≡ true
-some_kept None f some = let clash : false ≡ true = some in cc
-some_kept (Some ending) f some = refl
 
 kept_keeps : (a b : Bool) (e f : Option Ending) → EndsAs a e → EndKeeps a b f → EndsAs b (option_or e f)
 kept_keeps true b e f h k = subst (λ (x : Bool). EndsAs x (option_or e f)) (sym k.0) (h.0, or_nothing e f k.1 ∙ h.1)

@@ -20,7 +20,7 @@ use Rattle.adb_history.specs.Bytes.{has_joined, has_ended, brought}
 use Rattle.adb_history.specs.Book.{Book, book, devices, devices_if, forwards, asked, asked_with, newly, is_asking, still_asks, bound_turn}
 use Rattle.adb_history.specs.Births.{Birth, birth_by, birth_through, births_at, births, born}
 use Rattle.adb_history.specs.Tied.{came_count}
-use Rattle.adb_history.proofs.BookReads.{and_parts}
+use Rattle.adb_history.proofs.BookReads.{and_parts, and_false as not_both}
 use Rattle.adb_history.proofs.BookTurns.{all_unheard}
 use Rattle.adb_history.proofs.Numbers.{counted, next_number}
 use Rattle.adb_births.specs.Single.{ByClient, head_by, IsBirthOf, HasOneStreamEach}
@@ -31,11 +31,6 @@ use Rattle.adb_births.proofs.Laws.{draws_at_most_one}
 asked_bound : (n port : ℕ) (d : DeviceTable) (o : Option Want) (b : Book) → (bound_turn n port d o b).asked ≡ b.asked
 asked_bound n port d None b = refl
 asked_bound n port d (Some want) b = refl
-
-not_both : (a b : Bool) → (a && b && false) ≡ false
-not_both true true = refl
-not_both true false = refl
-not_both false b = refl
 
 none_off : (o : Option Next) → is_some o ≡ true → is_none o ≡ false
 none_off None e = let clash : false ≡ true = e in cc
@@ -83,7 +78,7 @@ joined_stays c (Detach t cause) older legal came = refl
 joined_stays c (Put n bytes) older legal came = refl
 joined_stays c (Send t bytes) older legal came = refl
 
-came_more : (e : Entry) (older : History) → came_count older ≤ came_count (e ∷ older)
+pub came_more : (e : Entry) (older : History) → came_count older ≤ came_count (e ∷ older)
 came_more (Join n) older = omega arith
 came_more (Enter n port) older = omega arith
 came_more (Read n bytes) older = omega arith

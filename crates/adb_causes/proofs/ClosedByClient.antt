@@ -45,7 +45,8 @@ use Rattle.adb_causes.proofs.Endings.{time_of, ends_at, ends_for}
 use Rattle.adb_causes.proofs.OtherCauses.{end_told}
 use Rattle.adb_causes.proofs.Untouched.{apart_fate}
 use Rattle.adb_causes.proofs.UntouchedEntries.{pair_of, far_rule, pair_apart, has_still}
-use Rattle.adb_causes.proofs.PutEffects.{LetsSame, puts_effect}
+use Rattle.adb_history.proofs.Calm.{LetsSame}
+use Rattle.adb_causes.proofs.PutEffects.{puts_effect}
 use Rattle.adb_causes.proofs.Goings.{GoesOn}
 use Rattle.adb_causes.proofs.Unchanged.{far_bytes}
 use Rattle.adb_causes.proofs.RuleSteps.{with_more, with_end, read_after, end_after}

@@ -22,7 +22,7 @@ use Rattle.adb_history.specs.Orderly.{phase_for}
 use Rattle.adb_history.specs.Births.{is_between, is_okay}
 use Rattle.adb_history.proofs.Following.{changed_here}
 use Rattle.adb_causes.specs.Flows.{waiting, hears}
-use Rattle.adb_causes.proofs.PacketFates.{hears_streams}
+use Rattle.adb_history.proofs.PacketMoves.{hears_streams}
 use Rattle.adb_causes.proofs.Turns.{counts, written_after}
 use Rattle.adb_causes.proofs.Silent.{AreSilent, silent_append, okay_silent}
 use Rattle.adb_history.proofs.Growing.{owed_append}

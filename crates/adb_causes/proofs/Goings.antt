@@ -1,17 +1,15 @@
 -- A stream that goes on, or was drawn just now, is not ended by the up rule.
 use Rattle.std.proofs.Common.{◌≡◌, ◌≢◌, ℕ, zero, suc, true, false, List, [], ◌∷◌, drop, Option, Some, None, sym, ap, subst, ◌∙◌}
 use Rattle.std.proofs.Common.{◌⊎◌, inl, inr}
-use Rattle.std.proofs.lemmas.Bool.{eqb-true, cases_eq}
+use Rattle.std.proofs.lemmas.Bool.{cases_eq}
 use Rattle.adb_outside.specs.Tables.{Rows}
 use Rattle.adb_stream.specs.declared.row.Part.{Part}
-use Rattle.adb_client.specs.declared.phase.Phase.{Phase}
-use Rattle.adb_client.specs.declared.phase.Phase.TheVariants.{Asking, Opening, Streaming, Binding, Tracking, Closing, Gone}
 use Rattle.adb_history.specs.Rows.{Client, Link, State, to_stream, none_kept, with_held, with_stream_part}
-use Rattle.adb_history.specs.Clients.{closing, closing_with, closes}
+use Rattle.adb_history.specs.Clients.{closing, closes}
 use Rattle.adb_history.specs.Flow.{total, flow_after, with_flow, is_over, is_streaming, up, up_all}
 use Rattle.adb_history.proofs.Following.{changed_here, changed_other}
 use Rattle.adb_history.proofs.Sweep.{Sending, sent, left, over, up_to}
-use Rattle.adb_history.proofs.Quiet.{IsCalmAt, up_calms}
+use Rattle.adb_history.proofs.Quiet.{IsCalmAt, up_calms, closing_idle, other_phase}
 use Rattle.adb_causes.proofs.Fates.{FateOf, then_fate}
 use Rattle.adb_causes.proofs.StreamFates.{quiet, up_fate}
 
@@ -31,23 +29,6 @@ calm_goes l s h = record {
 }
 
 -- ---- another stream sends
-other_phase : (l m : ℕ) (phase : Phase) → l ≢ m → is_streaming l phase ≡ true → is_streaming m phase ≡ true → ⊥
-other_phase l m (Streaming k) apart e f = apart (sym (eqb-true k l e) ∙ eqb-true k m f)
-other_phase l m (Opening k) apart e f = let clash : false ≡ true = e in cc
-other_phase l m Asking apart e f = let clash : false ≡ true = e in cc
-other_phase l m Binding apart e f = let clash : false ≡ true = e in cc
-other_phase l m Tracking apart e f = let clash : false ≡ true = e in cc
-other_phase l m Closing apart e f = let clash : false ≡ true = e in cc
-other_phase l m Gone apart e f = let clash : false ≡ true = e in cc
-
-closing_idle : (due : List ℕ) (x y : Client) (m : ℕ) → closing_with due x ≡ Some y → is_streaming m y.about.phase ≡ true → ⊥
-closing_idle [] x y m e f = let clash : None ≡ Some y = e in cc
-closing_idle (b ∷ due) x y m e f =
-    let z : Client = record x { about = record x.about { phase = Closing; mark = false; want = None }; held = []; due = b ∷ due } in
-    let same : z ≡ y = cc in
-    let clash : false ≡ true = ap (λ (k : Client). is_streaming m k.about.phase) same ∙ f in
-    cc
-
 module _ (l m : ℕ) (s : State) (apart : l ≢ m) (h : GoesOn m s) where
   sends_other : (x : Sending l s) (links : Rows (Option Link)) → GoesOn m (record (left l s x) { links = links })
   sends_other x links = record { goes = λ y. go y (cases_eq x.stream.client y.stream.client) }

@@ -38,6 +38,7 @@ use Rattle.adb_history.specs.Clients.{owe_client}
 use Rattle.adb_causes.proofs.Asks.{AsksAsTold, now_said, same_said, parts, open_before, asked_now, unused_now}
 use Rattle.adb_reply.specs.declared.answer.Next.TheVariants as what
 use Rattle.adb_causes.proofs.Newborn.{Newborn}
+use Rattle.adb_causes.proofs.Fates.{is_false as not_true}
 
 -- ---- a service is asked for
 -- a stream is drawn by what follows a request
@@ -110,10 +111,6 @@ asked_read c (Recv t bytes ∷ older) on = asked_read c older on
 asked_read c (Detach t cause ∷ older) on = asked_read c older on
 asked_read c (Put n bytes ∷ older) on = asked_read c older on
 asked_read c (Send t bytes ∷ older) on = asked_read c older on
-
-not_true : (b : Bool) → not b ≡ true → b ≡ false
-not_true true e = absurd (let clash : false ≡ true = e in cc)
-not_true false e = refl
 
 -- ---- by a request
 module _ (c : ℕ) (bytes : List ℕ) (older : History) (legal : IsLegal (Read c bytes ∷ older)) (l : ℕ) (next : l ≡ (state older).drawn + 1) where

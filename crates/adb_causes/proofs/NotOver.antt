@@ -34,7 +34,7 @@ use Rattle.adb_history.proofs.Books.{all_books}
 use Rattle.adb_history.proofs.Sweep.{up_to}
 use Rattle.adb_history.specs.Flow.{up_all}
 use Rattle.adb_causes.proofs.RuleFates.{drawn_row}
-use Rattle.adb_causes.proofs.PutEffects.{LetsSame}
+use Rattle.adb_history.proofs.Calm.{LetsSame}
 use Rattle.adb_causes.proofs.Fates.{lives, row_lives}
 use Rattle.adb_causes.proofs.Endings.{stopped_after}
 use Rattle.adb_causes.proofs.OtherCauses.{Kills, reads_kills, bound_killed}

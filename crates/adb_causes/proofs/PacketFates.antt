@@ -32,6 +32,7 @@ use Rattle.adb_history.specs.Packets.{treat_on, treat, treat_all, faulty_on, fau
 use Rattle.adb_history.specs.Moves.{open_now}
 use Rattle.adb_causes.proofs.Fates.{Reason, FateOf, fate_same, fate_retold, then_fate, fate_part, fate_orphan}
 use Rattle.adb_causes.proofs.StreamFates.{quiet, if_fate, ends_fate, telling_fate, all_end_fate, link_ends_fate}
+use Rattle.adb_history.proofs.PacketMoves.{hears_streams}
 
 -- what the packets of a link and their fault may end: its streams
 abbrev pub ByLink : (t link : ℕ) → Ending → Type 0
@@ -42,14 +43,6 @@ ByLink t link _ = link ≡ t
 
 abbrev pub OfLink : ℕ → Reason
 OfLink t = λ client link ending. ByLink t link ending
-
-pub hears_streams : (o : Option Client) (c : ℕ) (s : State) → (hears_okay o c s).state.streams ≡ s.streams
-hears_streams None c s = refl
-hears_streams (Some client) c s = go client.about.forwarded
-  where
-    go : (b : Bool) → (cond b (quietly s) (owe_client c (codes "OKAY") s)).state.streams ≡ s.streams
-    go true = refl
-    go false = refl
 
 module _ (l t : ℕ) where
   -- ---- CNXN, AUTH and STLS

@@ -18,7 +18,7 @@ use Rattle.adb_client.specs.declared.phase.Phase.TheVariants.{Opening, Streaming
 use Rattle.adb_history.specs.Rows.{Client, State, to_client, to_stream, with_stream_part}
 use Rattle.adb_history.specs.Events.{Made, quietly, then_also, owed_to, packets_to}
 use Rattle.adb_history.specs.Links.{credit_word, okay_packet, credit_packet, owe_link}
-use Rattle.adb_history.specs.Flow.{with_flow, payloads, is_idle, is_over}
+use Rattle.adb_history.specs.Flow.{with_flow, payloads}
 use Rattle.adb_history.specs.Tracking.{list_if_stale, due_or, offered}
 use Rattle.adb_history.specs.Handing.{lists_first, left_in, hands, to_hand, credit_back, handed_to, tells_credit, tells_handed, stream_hands, stream_left}
 use Rattle.adb_history.specs.Handing.{client_left, takes_of, puts_to, puts}
@@ -32,19 +32,7 @@ use Rattle.adb_causes.specs.Flows.{FlowIs}
 use Rattle.adb_causes.proofs.Silent.{Tally, tally_silent, okay_silent, AreSilent}
 use Rattle.adb_causes.proofs.UntouchedEntries.{Pair}
 use Rattle.adb_causes.specs.Flows.{waiting}
-
--- a flow that lets the same go up
-pub record LetsSame (old new : Flow) : Type 0 where
-  pub payloads : (maxdata : ℕ) (held : List ℕ) → payloads new maxdata held ≡ payloads old maxdata held
-  pub over : (ended : Bool) (held : List ℕ) → is_over ended held new ≡ is_over ended held old
-
-over_same : (old new : Flow) → is_idle new ≡ is_idle old → (ended : Bool) (held : List ℕ) → is_over ended held new ≡ is_over ended held old
-over_same old new same ended [] = ap (λ b. ended && b) same
-over_same old new same ended (b ∷ held) = refl
-
-lets_handed : (left : ℕ) (flow : Flow) → LetsSame flow (handed_to left flow)
-lets_handed left (One window) = record { payloads = λ m held. refl; over = over_same (One window) (handed_to left (One window)) refl }
-lets_handed left (Credit credit) = record { payloads = λ m held. refl; over = over_same (Credit credit) (handed_to left (Credit credit)) refl }
+use Rattle.adb_history.proofs.Calm.{LetsSame, lets_same as lets_handed}
 
 -- so much of a client's bytes is handed out, of which so many are left
 pub record PutEffect (l : ℕ) (x : Stream) (k : Client) (n : ℕ) (m : Made) : Type 0 where

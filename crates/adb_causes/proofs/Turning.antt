@@ -22,7 +22,7 @@ use Rattle.adb_history.proofs.Following.{changed_here}
 use Rattle.adb_causes.specs.Flows.{FlowIs}
 use Rattle.adb_causes.proofs.Fates.{lives, FateOf, row_lives}
 use Rattle.adb_causes.proofs.StreamFates.{ends_fate, telling_fate, gone_here}
-use Rattle.adb_causes.proofs.PacketFates.{hears_streams}
+use Rattle.adb_history.proofs.PacketMoves.{hears_streams}
 use Rattle.adb_causes.proofs.Frames.{Frame}
 use Rattle.adb_causes.proofs.Turns.{counts, written_after, OnLive, Passes, Falls, no_and, and_no, Ignores}
 use Rattle.adb_causes.proofs.Turns.{flow_first, flow_okay, flow_none, flow_accepts}

@@ -1,5 +1,5 @@
 -- A stream settles: what is held then.
-use Rattle.std.specs.Prelude.{ℕ, ◌≡◌, ◌<◌, ◌+◌, Bool, true, false, if◌then◌else◌, List, [], ◌++◌, Option, Some, None, Result, Ok, Err, IfOk, OnOk, OnErr}
+use Rattle.std.specs.Prelude.{ℕ, ◌≡◌, ◌<◌, ◌+◌, Bool, true, false, if◌then◌else◌, List, [], ◌++◌, Option, Some, None, Result, Ok, Err, IfOk, OnOk}
 use Rattle.std.proofs.Common.{refl, sym, ◌∙◌, ap, subst, ◌⊎◌, inl, inr, arith}
 use Rattle.std.proofs.lemmas.Bool.{cases_eq}
 use Rattle.std.proofs.lemmas.List.{append-nil, append_assoc}
@@ -19,13 +19,8 @@ module _ {X : Type 0} (n : ℕ) (a b : Option X) where
   pub two_puts : (x y z : List (ℕ × X)) → Puts n a x y → Puts n b y z → Puts n b x z
   two_puts x y z first second = record { here = second.here; others = λ q apart. second.others q apart ∙ first.others q apart }
 
-none_some : {X : Type 0} (x : X) → None ≡ Some x → ⊥
+pub none_some : {X : Type 0} (x : X) → None ≡ Some x → ⊥
 none_some x e = cc
-
--- what holds at an error, where it holds at all
-pub at_err : {T E : Type 0} (P : Type 0) (result : Result T E) → P → OnErr result P
-at_err P (Ok x) p = tt
-at_err P (Err e) p = p
 
 -- what follows from a fact of an answer, and from three
 pub where_ok : {T E A P : Type 0} (result : Result T E) → OnOk result A → (A → P) → OnOk result P

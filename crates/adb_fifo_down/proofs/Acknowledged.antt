@@ -10,7 +10,7 @@ use Rattle.adb_history.specs.Machine.{History, IsLegal}
 use Rattle.adb_history.specs.Bytes.{bytes_put, sent}
 use Rattle.adb_history.specs.Births.{Birth, Opening, since, opening_of, opening_in, told_in, told_after, told_to, lead_of, handed_to}
 use Rattle.adb_history.specs.Lives.{packets_of}
-use Rattle.adb_history.specs.Fifo.{has_credit, okays_of, IsWithinDown, KeepsDownWindow}
+use Rattle.adb_history.specs.Fifo.{okays_of, IsWithinDown, KeepsDownWindow}
 use Rattle.adb_fifo_down.specs.Line.{Line, View, gathered_of}
 use Rattle.adb_fifo_down.specs.Turns.{Turns}
 use Rattle.adb_fifo_down.specs.Life.{Cradle}
@@ -27,6 +27,8 @@ use Rattle.adb_fifo_down.proofs.Backed.{backed_none, credit_append}
 use Rattle.adb_fifo_down.proofs.Windows.{HasWord}
 use Rattle.adb_fifo_down.proofs.WindowTurns.{window_over, window_fails, window_hands}
 use Rattle.adb_fifo_down.proofs.WindowPackets.{window_treats}
+use Rattle.adb_history.proofs.Linking.{credit_new as new_credit_is}
+use Rattle.adb_history.proofs.OwnedRules.{fresh_new as nothing_to_hand}
 
 window_turns : (b : Line) (k : Cradle) → Turns b (WindowOf b k)
 window_turns b k =
@@ -42,14 +44,6 @@ window_turns b k =
       breaks = λ packets out v x ending there which w.
           window_over b.id k packets true out v x.orphan ending (life.breaks packets out v x ending there which w.life) w.backed;
     }
-
-new_credit_is : (credit : Bool) → has_credit (new_flow credit) ≡ credit
-new_credit_is true = refl
-new_credit_is false = refl
-
-nothing_to_hand : (credit : Bool) → to_hand (new_flow credit) ≡ 0
-nothing_to_hand true = refl
-nothing_to_hand false = refl
 
 nothing_gathered : (credit : Bool) → gathered_of (new_flow credit) ≡ 0
 nothing_gathered true = refl

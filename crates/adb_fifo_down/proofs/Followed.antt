@@ -21,7 +21,6 @@ use Rattle.adb_history.specs.Machine.{History, state, told, IsLegal}
 use Rattle.adb_history.specs.Bytes.{has_joined, has_ended, brought}
 use Rattle.adb_history.specs.Book.{book, asked, devices, forwards, newly, asked_with, bound_turn}
 use Rattle.adb_history.specs.Births.{Birth, births, births_at, born, is_okay}
-use Rattle.adb_history.specs.Tied.{came_count}
 use Rattle.adb_history.specs.Fifo.{okays_of, HasBirths}
 use Rattle.adb_history.specs.Order.{IsOfBorn}
 use Rattle.adb_history.proofs.Births.{told_of_born}
@@ -34,6 +33,7 @@ use Rattle.adb_fifo_down.proofs.BornNow.{born_when, by_request, by_forward, newl
 use Rattle.adb_fifo_down.proofs.Askers.{asked_then, asked_other}
 use Rattle.adb_fifo_down.proofs.Unborn.{ends_born}
 use Rattle.adb_fifo_down.proofs.BirthEntries.{IsUnborn, asked_birth, entered_birth, now_asks, read_born, enter_born}
+use Rattle.adb_births.proofs.Single.{came_more}
 
 -- ---- what stays
 -- a client asks no more once what follows its last request is known
@@ -71,18 +71,6 @@ asked_fixed (Recv t bytes) older c done = refl
 asked_fixed (Detach t cause) older c done = refl
 asked_fixed (Put n bytes) older c done = refl
 asked_fixed (Send t bytes) older c done = refl
-
-came_more : (e : Entry) (older : History) → came_count older ≤ came_count (e ∷ older)
-came_more (Join n) older = omega arith
-came_more (Enter n port) older = omega arith
-came_more (Read n bytes) older = omega arith
-came_more (End n cause) older = omega arith
-came_more (Bound n port) older = omega arith
-came_more (Attach t kind serial) older = omega arith
-came_more (Recv t bytes) older = omega arith
-came_more (Detach t cause) older = omega arith
-came_more (Put n bytes) older = omega arith
-came_more (Send t bytes) older = omega arith
 
 -- a link brings no fewer packets
 brought_recv : (t n : ℕ) (bytes : List ℕ) (older : History) → length (brought t older) ≤ length (brought t (Recv n bytes ∷ older))

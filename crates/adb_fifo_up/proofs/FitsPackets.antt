@@ -27,7 +27,7 @@ use Rattle.adb_history.specs.Fifo.{has_credit}
 use Rattle.adb_history.specs.Linked.{IsLinked}
 use Rattle.adb_history.specs.Moves.{After}
 use Rattle.adb_history.proofs.Following.{after_quietly, after_then, after_if, changed_here}
-use Rattle.adb_history.proofs.LinkMoves.{linked_moves}
+use Rattle.adb_history.proofs.LinkMoves.{linked_moves, credit_first as first_credited}
 use Rattle.adb_fifo_up.specs.Climbing.{may_send}
 use Rattle.adb_fifo_up.proofs.Seeing.{silent_open, silent_aside}
 use Rattle.adb_fifo_up.proofs.Shutting.{aside_are_dry}
@@ -67,10 +67,6 @@ first_room false (One window) p e = go window.outstanding
 first_room true (One window) p e = let clash : false ≡ true = e in cc
 first_room false (Credit credit) p e = let clash : true ≡ false = e in cc
 first_room true (Credit credit) p e = omega arith
-
-first_credited : (word : Option ℕ) (flow : Flow) → has_credit (first_credit word flow) ≡ has_credit flow
-first_credited word (One window) = refl
-first_credited word (Credit credit) = refl
 
 module _ (l t : ℕ) (credit : Bool) (ps : List Packet) where
   -- ---- packets that leave the stream as it is

@@ -15,20 +15,21 @@ use Rattle.adb_client.specs.declared.phase.Phase.TheVariants.{Asking, Opening, S
 use Rattle.adb_history.specs.Rows.{Client, Link, State, to_client, to_stream, none_kept, with_held, with_stream_part}
 use Rattle.adb_history.specs.Events.{ending_in}
 use Rattle.adb_history.specs.Links.{maxdata_of}
-use Rattle.adb_history.specs.Clients.{closing, closing_with, closes}
+use Rattle.adb_history.specs.Clients.{closing, closes}
 use Rattle.adb_history.specs.Flow.{write_len, write_before, writes, payloads, total, flow_after, with_flow, is_idle, is_over, is_streaming, up, up_all}
 use Rattle.adb_history.specs.Machine.{History, state, IsLegal}
 use Rattle.adb_history.specs.Orderly.{IsResting, IsQuiet}
 use Rattle.adb_history.specs.Owned.{StreamOf, HoldsIn, IsOwned}
 use Rattle.adb_history.proofs.Following.{changed_here, changed_other}
 use Rattle.adb_history.proofs.Sweep.{Sending, sent, left, over, up_to}
-use Rattle.adb_history.proofs.Quiet.{up_calms}
+use Rattle.adb_history.proofs.Quiet.{up_calms, closing_idle as closed_idle}
 use Rattle.adb_history.proofs.OwnedStep.{all_owned}
 use Rattle.adb_history.proofs.OrderlyStates.{orderly}
 use Rattle.adb_fifo_up.specs.Seen.{IsOf}
 use Rattle.adb_fifo_up.proofs.Seeing.{silent_up, ending_none}
 use Rattle.adb_fifo_up.proofs.SendsUp.{streaming_is, sends_made, lasting_told}
 use Rattle.adb_fifo_up.proofs.StreamClimbs.{up_is}
+use Rattle.adb_history.proofs.Writes.{none_written}
 
 -- ---- what is read does not make a stream over that is not
 open_over : (flow : Flow) (held : List ℕ) → is_over false held flow ≡ false
@@ -56,11 +57,6 @@ idle_closed false idle e f = refl
 none_first : (n : ℕ) (held : List ℕ) (others : List (List ℕ)) → write_before n held others ≡ [] → n ≡ 0
 none_first zero held others e = refl
 none_first (suc n) held others e = let clash : take (suc n) held ∷ others ≡ [] = e in cc
-
-none_written : (k maxdata credit : ℕ) (held : List ℕ) → write_len maxdata credit held ≡ 0 → writes k maxdata credit held ≡ []
-none_written zero maxdata credit held e = refl
-none_written (suc k) maxdata credit held e =
-    ap (λ n. write_before n held (writes k maxdata (credit - write_len maxdata credit held) (drop (write_len maxdata credit held) held))) e
 
 none_more : (maxdata credit k b : ℕ) (held more : List ℕ) → writes (length (b ∷ held)) maxdata credit (b ∷ held) ≡ []
     → writes k maxdata credit (b ∷ more) ≡ []
@@ -107,14 +103,6 @@ not_streaming : (l m : ℕ) (phase : Phase) → l ≢ m → is_streaming l phase
 not_streaming l m phase apart e f =
     let same : Streaming l ≡ Streaming m = sym (streaming_is l phase e) ∙ streaming_is m phase f in
     apart (let is : l ≡ m = cc in is)
-
-closed_idle : (due : List ℕ) (x y : Client) (m : ℕ) → closing_with due x ≡ Some y → is_streaming m y.about.phase ≡ true → ⊥
-closed_idle [] x y m e f = let clash : None ≡ Some y = e in cc
-closed_idle (b ∷ due) x y m e f =
-    let z : Client = record x { about = record x.about { phase = Closing; mark = false; want = None }; held = []; due = b ∷ due } in
-    let same : z ≡ y = cc in
-    let clash : false ≡ true = ap (λ (k : Client). is_streaming m k.about.phase) same ∙ f in
-    cc
 
 -- a stream that sends is not over then
 abbrev pub Lasts : ℕ → State → Type 0

@@ -66,10 +66,6 @@ stays_due (e ∷ newer) older c =
     (owed_to c (told_at e (newer ++ older)), sym (owed_append c (told (newer ++ older)) (told_at e (newer ++ older))))
 
 -- ---- what a client was handed for its stream
-pub legal_before : (newer older : History) → IsLegal (newer ++ older) → IsLegal older
-legal_before [] older legal = legal
-legal_before (e ∷ newer) older legal = legal_before newer older legal.0
-
 pub born_still : (newer older : History) (l : ℕ) (b : Birth) → born l older ≡ Some b → born l (newer ++ older) ≡ Some b
 born_still [] older l b is = is
 born_still (e ∷ newer) older l b is = born_stays l e (newer ++ older) b (born_still newer older l b is)

@@ -56,7 +56,7 @@ pub record WasChanged {A : Type 0} (f : A → Option A) (before : Option A) (new
   pub is : before ≡ Some old
   pub to : f old ≡ Some new
 
-was_changed : {A : Type 0} (f : A → Option A) (before : Option A) (new : A) → option_and_then f before ≡ Some new → WasChanged f before new
+pub was_changed : {A : Type 0} (f : A → Option A) (before : Option A) (new : A) → option_and_then f before ≡ Some new → WasChanged f before new
 was_changed f None new is = absurd (let clash : None ≡ Some new = is in cc)
 was_changed f (Some old) new is = record { old = old; is = refl; to = is }
 
@@ -86,11 +86,11 @@ pub record LetsSame (old new : Flow) : Type 0 where
   pub payloads : (maxdata : ℕ) (held : List ℕ) → payloads new maxdata held ≡ payloads old maxdata held
   pub over : (ended : Bool) (held : List ℕ) → is_over ended held new ≡ is_over ended held old
 
-over_same : (old new : Flow) → is_idle new ≡ is_idle old → (ended : Bool) (held : List ℕ) → is_over ended held new ≡ is_over ended held old
+pub over_same : (old new : Flow) → is_idle new ≡ is_idle old → (ended : Bool) (held : List ℕ) → is_over ended held new ≡ is_over ended held old
 over_same old new same ended [] = ap (λ b. ended && b) same
 over_same old new same ended (b ∷ held) = refl
 
-lets_same : (left : ℕ) (flow : Flow) → LetsSame flow (handed_to left flow)
+pub lets_same : (left : ℕ) (flow : Flow) → LetsSame flow (handed_to left flow)
 lets_same left (One window) = record { payloads = λ m held. refl; over = over_same (One window) (handed_to left (One window)) refl }
 lets_same left (Credit credit) = record { payloads = λ m held. refl; over = over_same (Credit credit) (handed_to left (Credit credit)) refl }
 

@@ -246,11 +246,11 @@ module _ (s : State) (part : Part) where
 gone_on : (s : State) (l : ℕ) → AllOn s.devices s.streams → AllOn s.devices (to_stream l none_kept s).streams
 gone_on s l on = on_change s.devices l none_kept s.streams (λ x y there e h. on_gone s.devices x y e h) on
 
-credit_first : (word : Option ℕ) (flow : Flow) → has_credit (first_credit word flow) ≡ has_credit flow
+pub credit_first : (word : Option ℕ) (flow : Flow) → has_credit (first_credit word flow) ≡ has_credit flow
 credit_first word (One window) = refl
 credit_first word (Credit credit) = refl
 
-credit_accepted : (n : ℕ) (flow : Flow) → has_credit (accepted n flow) ≡ has_credit flow
+pub credit_accepted : (n : ℕ) (flow : Flow) → has_credit (accepted n flow) ≡ has_credit flow
 credit_accepted n (One window) = refl
 credit_accepted n (Credit credit) = refl
 

@@ -42,7 +42,7 @@ sound_new : (credit : Bool) → IsSoundFlow (new_flow credit)
 sound_new true = record { window = omega arith; few = omega arith; none = λ e. refl }
 sound_new false = tt
 
-fresh_new : (credit : Bool) → to_hand (new_flow credit) ≡ 0
+pub fresh_new : (credit : Bool) → to_hand (new_flow credit) ≡ 0
 fresh_new true = refl
 fresh_new false = refl
 

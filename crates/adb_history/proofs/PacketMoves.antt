@@ -34,18 +34,18 @@ use Rattle.adb_history.specs.Moves.{After, Moves, IsLike, open_now}
 use Rattle.adb_history.proofs.Following.{after_quietly, after_then, after_if}
 use Rattle.adb_history.proofs.StreamMoves.{owes_kept, ends_telling_kept}
 
-like_acknowledged : (word : Option ℕ) (flow : Flow) → IsLike flow (acknowledged word flow)
+pub like_acknowledged : (word : Option ℕ) (flow : Flow) → IsLike flow (acknowledged word flow)
 like_acknowledged word (One window) = record { credit = refl; left = omega arith; sound = λ h. h }
 like_acknowledged None (Credit credit) = record { credit = refl; left = omega arith; sound = λ h. h }
 like_acknowledged (Some n) (Credit credit) =
     record { credit = refl; left = omega arith; sound = λ h. record { window = h.window; few = h.few; none = h.none } }
 
 -- what the test of a write says where it passes
-always : (b : Bool) → (b || not b) ≡ false → ⊥
+pub always : (b : Bool) → (b || not b) ≡ false → ⊥
 always true e = cc
 always false e = cc
 
-written_to : (remote own : ℕ) → (eqb remote 0 || not (eqb remote own)) ≡ false → own ≢ 0
+pub written_to : (remote own : ℕ) → (eqb remote 0 || not (eqb remote own)) ≡ false → own ≢ 0
 written_to remote own e is = always (eqb remote 0) (subst (λ (n : ℕ). (eqb remote 0 || not (eqb remote n)) ≡ false) is e)
 
 pub hears_streams : (o : Option Client) (c : ℕ) (s : State) → (hears_okay o c s).state.streams ≡ s.streams

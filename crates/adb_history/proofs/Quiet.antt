@@ -81,7 +81,7 @@ module _ (l : ℕ) (s : State) where
   })
 
 -- ---- and each other stays so
-other_phase : (l m : ℕ) (phase : Phase) → l ≢ m → is_streaming l phase ≡ true → is_streaming m phase ≡ true → ⊥
+pub other_phase : (l m : ℕ) (phase : Phase) → l ≢ m → is_streaming l phase ≡ true → is_streaming m phase ≡ true → ⊥
 other_phase l m (Streaming k) apart e f = apart (sym (eqb-true k l e) ∙ eqb-true k m f)
 other_phase l m (Opening k) apart e f = let clash : false ≡ true = e in cc
 other_phase l m Asking apart e f = let clash : false ≡ true = e in cc
@@ -90,7 +90,7 @@ other_phase l m Tracking apart e f = let clash : false ≡ true = e in cc
 other_phase l m Closing apart e f = let clash : false ≡ true = e in cc
 other_phase l m Gone apart e f = let clash : false ≡ true = e in cc
 
-closing_idle : (due : List ℕ) (x y : Client) (m : ℕ) → closing_with due x ≡ Some y → is_streaming m y.about.phase ≡ true → ⊥
+pub closing_idle : (due : List ℕ) (x y : Client) (m : ℕ) → closing_with due x ≡ Some y → is_streaming m y.about.phase ≡ true → ⊥
 closing_idle [] x y m e f = let clash : None ≡ Some y = e in cc
 closing_idle (b ∷ due) x y m e f =
     let z : Client = record x { about = record x.about { phase = Closing; mark = false; want = None }; held = []; due = b ∷ due } in
@@ -183,7 +183,7 @@ up_all_drawn zero s = refl
 up_all_drawn (suc k) s = up_drawn (suc k) (up_all k s).state ∙ up_all_drawn k s
 
 -- a row that is changed to itself
-same_rows : {A : Type 0} (rows : Rows (Option A)) (n : ℕ) (f : A → Option A) (row : A) → rows n ≡ Some row → f row ≡ Some row
+pub same_rows : {A : Type 0} (rows : Rows (Option A)) (n : ℕ) (f : A → Option A) (row : A) → rows n ≡ Some row → f row ≡ Some row
     → change_row n (option_and_then f) rows ≡ rows
 same_rows rows n f row is same = λ i k. one k (eqb n k) refl i
   where

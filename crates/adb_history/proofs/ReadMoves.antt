@@ -34,7 +34,7 @@ use Rattle.adb_history.proofs.StreamMoves.{asks_free, owes_kept, closes_with_kep
 use Rattle.adb_history.proofs.Readiness.{IsAskedReady, asks_ready}
 
 -- ---- each forward leads to a device, after a change
-led_put : (local transport : ℕ) (remote : List ℕ) (devices : DeviceTable) (forwards : List (ℕ × ForwardRow))
+pub led_put : (local transport : ℕ) (remote : List ℕ) (devices : DeviceTable) (forwards : List (ℕ × ForwardRow))
     → All (IsLed devices) forwards → All (IsLed devices) (put_forward local transport remote devices forwards)
 led_put local transport remote devices forwards all = go (at transport devices.rows) refl
   where
@@ -42,7 +42,7 @@ led_put local transport remote devices forwards all = go (at transport devices.r
     go None is = all
     go (Some row) is = All-put_at (IsLed devices) forwards local (forward_row local transport row.serial remote) (ap is_some is) all
 
-led_bound : (want : Want) (port : ℕ) (devices : DeviceTable) (forwards : List (ℕ × ForwardRow))
+pub led_bound : (want : Want) (port : ℕ) (devices : DeviceTable) (forwards : List (ℕ × ForwardRow))
     → All (IsLed devices) forwards → All (IsLed devices) (bound_by want port devices forwards).forwards
 led_bound want port devices forwards all =
     go (is_unbound want.local port forwards) (is_none (at want.transport devices.rows)) (eqb (length forwards) MAX_FORWARDS)

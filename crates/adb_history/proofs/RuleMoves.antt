@@ -33,14 +33,14 @@ use Rattle.adb_history.proofs.PacketMoves.{receives_kept}
 use Rattle.adb_history.proofs.ReadMoves.{reads_in_kept, bound_kept, client_ends_kept}
 
 -- ---- a flow after so many bytes are left to be handed out
-back_within : (left g : ℕ) → given_back left g ≤ g
+pub back_within : (left g : ℕ) → given_back left g ≤ g
 back_within left g = go ((eqb left 0) || nat_le CREDIT_STEP g)
   where
     go : (b : Bool) → cond b g 0 ≤ g
     go true = omega arith
     go false = omega arith
 
-back_few : (left g : ℕ) → g - given_back left g < CREDIT_STEP
+pub back_few : (left g : ℕ) → g - given_back left g < CREDIT_STEP
 back_few left g = go (eqb left 0) (nat_le CREDIT_STEP g) refl
   where
     go : (a b : Bool) → nat_le CREDIT_STEP g ≡ b → g - cond (a || b) g 0 < CREDIT_STEP
@@ -48,10 +48,10 @@ back_few left g = go (eqb left 0) (nat_le CREDIT_STEP g) refl
     go false true is = omega arith
     go false false is = grind (arith, nat_tests)
 
-back_all : (left g : ℕ) → left ≡ 0 → g - given_back left g ≡ 0
+pub back_all : (left g : ℕ) → left ≡ 0 → g - given_back left g ≡ 0
 back_all left g none = subst (λ (n : ℕ). g - given_back n g ≡ 0) (sym none) (omega arith)
 
-like_handed : (left : ℕ) (flow : Flow) → left ≤ to_hand flow → IsLike flow (handed_to left flow)
+pub like_handed : (left : ℕ) (flow : Flow) → left ≤ to_hand flow → IsLike flow (handed_to left flow)
 like_handed left (One window) h = record { credit = refl; left = h; sound = λ x. x }
 like_handed left (Credit credit) h =
     let g : ℕ = credit.gathered + (credit.to_hand - left) in
@@ -65,12 +65,12 @@ like_handed left (Credit credit) h =
       };
     }
 
-left_now : (left : ℕ) (flow : Flow) → to_hand (handed_to left flow) ≡ left
+pub left_now : (left : ℕ) (flow : Flow) → to_hand (handed_to left flow) ≡ left
 left_now left (One window) = refl
 left_now left (Credit credit) = refl
 
 -- the stream of a client, by its phase
-same_stream : (phase : Phase) (l m : ℕ) → phase ≡ Streaming l → phase ≡ Streaming m → l ≡ m
+pub same_stream : (phase : Phase) (l m : ℕ) → phase ≡ Streaming l → phase ≡ Streaming m → l ≡ m
 same_stream phase l m e f = let g : Streaming l ≡ Streaming m = sym e ∙ f in cc
 
 module _ {P : State → List Event → Type 0} (k : Moves P) where

@@ -7,7 +7,7 @@ use Rattle.adb_stream.specs.declared.flow.Flow.{Flow}
 use Rattle.adb_stream.specs.declared.flow.Flow.TheVariants.{One, Credit}
 use Rattle.adb_history.specs.Flow.{write_len, write_before, writes, payloads, total, flow_after}
 
-none_written : (k maxdata credit : ℕ) (held : List ℕ) → write_len maxdata credit held ≡ 0 → writes k maxdata credit held ≡ []
+pub none_written : (k maxdata credit : ℕ) (held : List ℕ) → write_len maxdata credit held ≡ 0 → writes k maxdata credit held ≡ []
 none_written zero maxdata credit held e = refl
 none_written (suc k) maxdata credit held e =
     ap (λ n. write_before n held (writes k maxdata (credit - write_len maxdata credit held) (drop (write_len maxdata credit held) held))) e

@@ -50,7 +50,7 @@ literal_bytes text h k d within = ltb-true _ 256 (AllPass-from_list_all (λ b. n
 pub decimal_bytes : (n : ℕ) → n < 2 ^ 64 → AreBytes (decimal n)
 decimal_bytes n small = All-from_get_or (λ b. b < 256) (decimal n) 0 (λ i within. omega (arith, IsAscii-decimal n small i))
 
-joined_bytes : (front back : List ℕ) → AreBytes front → AreBytes back → AreBytes (front ++ back)
+pub joined_bytes : (front back : List ℕ) → AreBytes front → AreBytes back → AreBytes (front ++ back)
 joined_bytes front back = All-append (λ b. b < 256) front back
 
 -- ---- the texts of a load

@@ -27,19 +27,19 @@ up_less word live some = let bounds = portion_bounds word live.up some in omega 
 down_less : (word : ℕ) (live : Live) → 0 < live.down → turns_of (record live { down = live.down - portion word live.down }) < turns_of live
 down_less word live some = let bounds = portion_bounds word live.down some in omega (arith, bounds.0, bounds.1)
 
-first_holds : (a b : Bool) → (a && b) ≡ true → a ≡ true
+pub first_holds : (a b : Bool) → (a && b) ≡ true → a ≡ true
 first_holds true b h = refl
 first_holds false b h = h
 
-last_holds : (a b : Bool) → (a && b) ≡ true → b ≡ true
+pub last_holds : (a b : Bool) → (a && b) ≡ true → b ≡ true
 last_holds a true h = refl
 last_holds true false h = h
 last_holds false false h = h
 
-below : (m n : ℕ) → nat_lt m n ≡ true → m < n
+pub below : (m n : ℕ) → nat_lt m n ≡ true → m < n
 below m n h = grind (arith, h)
 
-not_none : (n : ℕ) → nat_eq n 0 ≡ false → 0 < n
+pub not_none : (n : ℕ) → nat_eq n 0 ≡ false → 0 < n
 not_none n h = grind (arith, h)
 
 pub moved_less : (word : ℕ) (live : Live) → TakesLess (moved word live).after live

@@ -31,7 +31,8 @@ use Rattle.adb_load_laws.proofs.Inputs.{came_onto, came, came_more, drained_same
 use Rattle.adb_load_laws.proofs.Asking.{by_link}
 use Rattle.adb_load.proofs.Cycles.{cycle_length}
 use Rattle.adb_load.proofs.Records.{literal_bytes, cycle_bytes, cycle_short, packet_short, piece_short, serial_short, asked_short, greeting_short}
-use Rattle.adb_load_laws.proofs.Texts.{no_bytes, both_bytes}
+use Rattle.adb_load_laws.proofs.Texts.{no_bytes}
+use Rattle.adb_load.proofs.Records.{joined_bytes as both_bytes}
 use Rattle.adb_load_laws.proofs.AskTexts.{asked_texts}
 use Rattle.adb_load_laws.proofs.Taking.{MayCome, AsksFirst, AllMayCome, all_more, each_may, taken}
 use Rattle.adb_load_laws.proofs.Standing as stand

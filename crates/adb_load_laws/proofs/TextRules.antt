@@ -36,7 +36,8 @@ use Rattle.adb_history.specs.Flow as flows
 use Rattle.adb_history.specs.Losing.{link_ends}
 use Rattle.adb_history.specs.Packets as packets
 use Rattle.adb_load.proofs.Records.{literal_bytes}
-use Rattle.adb_load_laws.proofs.Texts.{no_bytes, both_bytes, front_bytes, back_bytes, ClientTexts}
+use Rattle.adb_load.proofs.Records.{joined_bytes as both_bytes}
+use Rattle.adb_load_laws.proofs.Texts.{no_bytes, front_bytes, back_bytes, ClientTexts}
 use Rattle.adb_load_laws.proofs.Texts.{LinkTexts, Texts, link_texts, owe_texts, due_texts, held_texts, phase_texts}
 use Rattle.adb_load_laws.proofs.Texts.{ends_row_texts, ends_telling_texts, all_end_texts, mark_all_texts, link_ends_texts}
 

@@ -28,7 +28,8 @@ use Rattle.adb_history.specs.Asking.{Asked, asks_with}
 use Rattle.adb_history.specs.Reading.{comes, plugs_in, goes_on, asked_before, has_asked, asks, reads_in, reads_from, reads}
 use Rattle.adb_history.specs.Machine.{rule, step}
 use Rattle.adb_load.proofs.Records.{literal_bytes, word_bytes}
-use Rattle.adb_load_laws.proofs.Texts.{no_bytes, both_bytes, back_bytes, HasTexts, ClientTexts}
+use Rattle.adb_load.proofs.Records.{joined_bytes as both_bytes}
+use Rattle.adb_load_laws.proofs.Texts.{no_bytes, back_bytes, HasTexts, ClientTexts}
 use Rattle.adb_load_laws.proofs.Texts.{LinkTexts, Texts, client_texts, link_texts, owe_texts, due_texts, held_texts, closing_texts, closes_texts}
 use Rattle.adb_load_laws.proofs.Texts.{opens_texts, mark_all_texts}
 use Rattle.adb_load_laws.proofs.TextRules.{ups_texts, receives_texts}

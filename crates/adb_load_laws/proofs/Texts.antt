@@ -3,7 +3,7 @@ use Rattle.std.proofs.Common.{ℕ, ◌+◌, ◌≡◌, ◌<◌, Bool, true, fals
 use Rattle.std.proofs.Common.{arith, eqb}
 use Rattle.std.specs.Prelude.{Option, Some, None, codes, option_and_then, option_map, ◌==◌}
 use Rattle.std.specs.List.{flat_map}
-use Rattle.std.proofs.lemmas.List.Elements.{All-append, All-nil, All-take, All-drop}
+use Rattle.std.proofs.lemmas.List.Elements.{All-nil, All-take, All-drop}
 use Rattle.byteorder.specs.Endian.{little_bytes}
 use Rattle.adb_outside.specs.Bytes.{AreBytes}
 use Rattle.adb_outside.specs.Tables.{Rows}
@@ -14,7 +14,7 @@ use Rattle.adb_client.specs.declared.phase.Phase.{Phase}
 use Rattle.adb_client.specs.declared.phase.Phase.TheVariants.{Asking, Opening, Streaming, Binding, Tracking, Closing, Gone}
 use Rattle.adb_stream.specs.declared.row.Stream.{Stream}
 use Rattle.adb_reply.specs.Strings.{failed}
-use Rattle.adb_load.proofs.Records.{literal_bytes, words_bytes}
+use Rattle.adb_load.proofs.Records.{literal_bytes, words_bytes, joined_bytes as both_bytes}
 use Rattle.adb_history.specs.Rows.{Client, Link, State, to_client, to_link, to_stream, none_kept, with_due, with_held, in_phase, with_link_due}
 use Rattle.adb_history.specs.Events.{Ending, then_also, quietly}
 use Rattle.adb_history.specs.Links.{open_packet, close_packet, owe_link, is_credit}
@@ -27,9 +27,6 @@ use Rattle.adb_history.specs.Losing.{forgets, link_ends}
 -- ---- bytes
 pub no_bytes : AreBytes []
 no_bytes = All-nil (λ b. b < 256)
-
-pub both_bytes : (front back : List ℕ) → AreBytes front → AreBytes back → AreBytes (front ++ back)
-both_bytes front back = All-append (λ b. b < 256) front back
 
 pub front_bytes : (n : ℕ) (text : List ℕ) → AreBytes text → AreBytes (take n text)
 front_bytes n text = All-take (λ b. b < 256) n text

@@ -15,6 +15,7 @@ use Rattle.adb_load.specs.Acts.{acts_due, up_size, down_size}
 use Rattle.adb_load.specs.Streams.{live_at_first, portion, goes_up, moved_up, moved_down, ended, moved}
 use Rattle.adb_load.specs.Course.{Progress, Turn, turn, start, stopped, plug_in, begin, draw, move_at, move_with, streams_after}
 use Rattle.adb_load.specs.Load.{acts_of_turns}
+use Rattle.adb_load.proofs.Turns.{last_holds, first_holds, below, not_none}
 
 -- how many devices are plugged in, and how many streams live at once at most
 abbrev pub all_devices : ℕ
@@ -40,26 +41,11 @@ turns_keep P each (suc k) done p holds =
     (turns_keep P each k (done ++ acts_due (turn p).act) (turn p).after (each done p holds))
 
 -- ---- the cases of a turn
-below : (m n : ℕ) → nat_lt m n ≡ true → m < n
-below m n h = grind (arith, h)
-
 not_below : (m n : ℕ) → nat_lt m n ≡ false → n ≤ m
 not_below m n h = grind (arith, h)
 
 none : (n : ℕ) → nat_eq n 0 ≡ true → n ≡ 0
 none n h = grind (arith, h)
-
-not_none : (n : ℕ) → nat_eq n 0 ≡ false → 0 < n
-not_none n h = grind (arith, h)
-
-first_holds : (a b : Bool) → (a && b) ≡ true → a ≡ true
-first_holds true b h = refl
-first_holds false b h = h
-
-last_holds : (a b : Bool) → (a && b) ≡ true → b ≡ true
-last_holds a true h = refl
-last_holds true false h = h
-last_holds false false h = h
 
 -- where both hold, one does not
 not_both : (a b : Bool) → (a && b) ≡ false → a ≡ true → b ≡ false

@@ -1,8 +1,6 @@
 -- Clients are prepared one after another.
-use Rattle.std.proofs.Common.{ℕ, ◌+◌, ◌≡◌, ◌≢◌, false, List, ◌∷◌, All, Option, Some, None, ◌⊎◌, inl, inr, refl, sym, ◌∙◌, subst, arith}
+use Rattle.std.proofs.Common.{ℕ, ◌+◌, ◌≡◌, ◌≢◌, List, ◌∷◌, All, Option, Some, None, ◌⊎◌, inl, inr, refl, sym, ◌∙◌, subst, arith}
 use Rattle.std.proofs.lemmas.List.Elements.{All-head, All-tail}
-use Rattle.std.proofs.lemmas.Bool.Decides.{nat_tests}
-use Rattle.std.specs.Ordering.{nat_cmp, is_eq}
 use Rattle.adb_outside.specs.Tables.{at}
 use Rattle.adb_client.specs.Client.{SeenClient}
 use Rattle.adb_stream.specs.declared.row.Stream.{Stream}
@@ -11,6 +9,7 @@ use Rattle.adb_rules.specs.Tracked.{IsAmong}
 use Rattle.adb_receiving.specs.Counting.{count_at}
 use Rattle.adb_receiving.specs.Reserving.{HaveMore, IsCutAt, all_writes}
 use Rattle.adb_receiving.proofs.More.{more_stays, room_more, have_more_then}
+use Rattle.adb_outside.proofs.TableLaws.{at_other}
 
 -- Places were made for what was counted, but for those that are left.
 pub record AreServed (counts left : List (ℕ × ℕ)) (old now : List (ℕ × SeenClient)) : Type 0 where
@@ -20,9 +19,6 @@ pub record AreServed (counts left : List (ℕ × ℕ)) (old now : List (ℕ × S
 
 order : (a b : ℕ) → (a ≡ b) ⊎ (a ≢ b)
 order a b = grind arith
-
-at_other : (q n : ℕ) → q ≢ n → is_eq (nat_cmp q n) ≡ false
-at_other q n h = grind (arith, nat_tests)
 
 at_behind : {X : Type 0} (q k : ℕ) (x : X) (es : List (ℕ × X)) → q ≢ k → at q ((k, x) ∷ es) ≡ at q es
 at_behind q k x es apart = rw (at_other q k apart) refl

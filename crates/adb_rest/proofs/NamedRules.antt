@@ -39,7 +39,7 @@ use Rattle.adb_history.proofs.Following.{changed_here}
 use Rattle.adb_history.proofs.Numbers.{drawn_plain}
 use Rattle.adb_history.proofs.OwnedStep.{ends_state, client_loses_frame}
 use Rattle.adb_history.proofs.Linking.{changed_other_at}
-use Rattle.adb_history.proofs.LinkMoves.{IsCleared, all_cleared, first_cleared}
+use Rattle.adb_history.proofs.LinkMoves.{IsCleared, all_cleared, first_cleared, credit_first, credit_accepted}
 use Rattle.adb_history.proofs.PacketMoves.{hears_streams}
 use Rattle.adb_rules.specs.Tracked.{IsAmong}
 use Rattle.adb_rest.specs.Named.{credit_to_send, no_credit}
@@ -47,18 +47,10 @@ use Rattle.adb_rest.proofs.NamedRows.{kept_of, LetsSame, Follows, AllWere, all_s
 use Rattle.adb_rest.proofs.NamedRows.{owes_were, closes_were, opens_were, marks_were, goes_were, parts_were}
 
 -- ---- flows
-credit_first : (word : Option ℕ) (flow : Flow) → has_credit (first_credit word flow) ≡ has_credit flow
-credit_first word (One window) = refl
-credit_first word (Credit credit) = refl
-
 credit_acknowledged : (word : Option ℕ) (flow : Flow) → has_credit (acknowledged word flow) ≡ has_credit flow
 credit_acknowledged word (One window) = refl
 credit_acknowledged None (Credit credit) = refl
 credit_acknowledged (Some n) (Credit credit) = refl
-
-credit_accepted : (n : ℕ) (flow : Flow) → has_credit (accepted n flow) ≡ has_credit flow
-credit_accepted n (One window) = refl
-credit_accepted n (Credit credit) = refl
 
 same_over : (old now : Flow) → is_idle now ≡ is_idle old → (ended : Bool) (held : List ℕ) → is_over ended held now ≡ is_over ended held old
 same_over old now same ended [] = ap (λ b. ended && b) same

@@ -23,6 +23,7 @@ use Rattle.adb_history.specs.Machine.{History, state, IsLegal}
 use Rattle.adb_rest.specs.Resting.{is_open_phase, has_open_stream}
 use Rattle.adb_history.proofs.Quiet.{IsCalm, IsCalmAt}
 use Rattle.adb_history.proofs.OrderlyStates.{orderly, rests_calm}
+use Rattle.adb_history.proofs.Calm.{WasChanged, over_same, was_changed}
 
 -- the stream of a number may send nothing, nor its end; and so of each number
 abbrev pub CalmAt : ℕ → State → Type 0
@@ -44,15 +45,6 @@ all_calm h legal (suc m) stream client there here streaming =
     (record { stream = stream; client = client; there = there; here = here; streaming = streaming })
 
 -- ---- what a row was
-pub record WasChanged {A : Type 0} (f : A → Option A) (before : Option A) (new : A) : Type 0 where
-  pub old : A
-  pub is : before ≡ Some old
-  pub to : f old ≡ Some new
-
-was_changed : {A : Type 0} (f : A → Option A) (before : Option A) (new : A) → option_and_then f before ≡ Some new → WasChanged f before new
-was_changed f None new is = absurd (let clash : None ≡ Some new = is in cc)
-was_changed f (Some old) new is = record { old = old; is = refl; to = is }
-
 -- a row after a change was changed, or was there before
 pub before_change : {A : Type 0} (n : ℕ) (f : A → Option A) (rows : Rows (Option A)) (q : ℕ) (new : A)
     → change_row n (option_and_then f) rows q ≡ Some new → ((n ≡ q) × WasChanged f (rows q) new) ⊎ (rows q ≡ Some new)
@@ -202,10 +194,6 @@ marks_calm s h m stream client there here streaming = by_row (s.clients stream.c
 pub record LetsSame (old new : Flow) : Type 0 where
   pub payloads : (maxdata : ℕ) (held : List ℕ) → payloads new maxdata held ≡ payloads old maxdata held
   pub idle : is_idle new ≡ is_idle old
-
-over_same : (old new : Flow) → is_idle new ≡ is_idle old → (ended : Bool) (held : List ℕ) → is_over ended held new ≡ is_over ended held old
-over_same old new same ended [] = ap (λ b. ended && b) same
-over_same old new same ended (b ∷ held) = refl
 
 pub record PassesSame (old new : Stream) : Type 0 where
   pub client : new.client ≡ old.client

@@ -1,29 +1,14 @@
 -- Where one stream alone may send, the up rule for all streams is that for this one.
 use Rattle.std.proofs.Common.{ℕ, ◌≡◌, ◌≢◌, ◌≤◌, ◌<◌, zero, suc, Bool, true, false, cond, [], Option, Some, None, refl, sym, ◌∙◌, ap, arith, ◌⊎◌, inl, inr}
-use Rattle.std.proofs.Common.{eqb}
-use Rattle.std.specs.Prelude.{option_and_then}
-use Rattle.std.proofs.lemmas.Bool.{eqb-true, cases_eq}
-use Rattle.adb_outside.specs.Tables.{Rows, change_row}
+use Rattle.std.proofs.lemmas.Bool.{cases_eq}
 use Rattle.adb_stream.specs.declared.row.Stream.{Stream}
 use Rattle.adb_history.specs.Rows.{Client, State, with_held, with_stream_part}
 use Rattle.adb_history.specs.Events.{quietly}
 use Rattle.adb_history.specs.Links.{maxdata_of}
 use Rattle.adb_history.specs.Flow.{payloads, with_flow, noted, is_over, closes_if, sends_up, is_streaming, up_client, up_stream, up, up_all}
 use Rattle.adb_history.proofs.Sweep.{Sending}
-use Rattle.adb_history.proofs.Quiet.{IsCalm, IsCalmAt, up_calm}
-
--- a row that is changed to itself
-same_rows : {A : Type 0} (rows : Rows (Option A)) (n : ℕ) (f : A → Option A) (row : A) → rows n ≡ Some row → f row ≡ Some row
-    → change_row n (option_and_then f) rows ≡ rows
-same_rows rows n f row is same = λ i k. one k (eqb n k) refl i
-  where
-    one : (k : ℕ) (b : Bool) → eqb n k ≡ b → cond b (option_and_then f (rows k)) (rows k) ≡ rows k
-    one k false e = refl
-    one k true e = let there : rows k ≡ Some row = ap rows (sym (eqb-true n k e)) ∙ is in ap (option_and_then f) there ∙ (same ∙ sym there)
-
-not_closed : (l : ℕ) (row : Option Stream) (s : State) → (closes_if false l row s).state ≡ s
-not_closed l None s = refl
-not_closed l (Some stream) s = refl
+use Rattle.adb_history.proofs.Quiet.{IsCalm, IsCalmAt, up_calm, same_rows}
+use Rattle.adb_rules.proofs.StillUp.{not_closed}
 
 module _ (l : ℕ) (s : State) (x : Sending l s) (calm : IsCalm s.devices x.client x.stream) where
   same_noted : noted l x.stream x.client.held [] s ≡ s

@@ -29,7 +29,8 @@ use Rattle.adb_history.proofs.StreamMoves.{all_end_kept}
 use Rattle.adb_history.proofs.OwnedMoves.{client_of}
 use Rattle.adb_history.proofs.OwnedStep.{ends_state, owned_moves, begins_owned, start_owned}
 use Rattle.adb_history.proofs.RuleMoves.{Begins, step_kept}
-use Rattle.adb_rest.proofs.RestingRows.{before_change, before_put, WasChanged}
+use Rattle.adb_rest.proofs.RestingRows.{before_change, before_put}
+use Rattle.adb_history.proofs.Calm.{WasChanged}
 
 -- what a client wants by its phase
 abbrev pub WantsIn : Phase → Option Want → Type 0

@@ -1,5 +1,5 @@
 -- What a request asks can be done: a forward that it names has a remote end that can be one, and a service is no longer than its text.
-use Rattle.std.proofs.Common.{ℕ, ◌≡◌, ◌≤◌, ◌<◌, Bool, true, false, List, length, refl, subst, sym, arith}
+use Rattle.std.proofs.Common.{ℕ, ◌≡◌, ◌≤◌, ◌<◌, true, List, length, subst, sym, arith}
 use Rattle.std.proofs.Common.{nat_lt, nat_le, ◌&&◌}
 use Rattle.std.proofs.lemmas.Bool.Decides.{nat_tests}
 use Rattle.adb_outside.specs.Bytes.{is_graphic}
@@ -9,16 +9,13 @@ use Rattle.adb_request.specs.Forms.{is_remote}
 use Rattle.adb_request.specs.Meaning.{meaning}
 use Rattle.adb_request.proofs.Asked.{IsAskedBy, meaning_asked}
 use Rattle.adb_rest.specs.Wanted.{IsRemote, IsService}
+use Rattle.adb_request.proofs.RowLaws.{both_true}
 
 -- what is asked can be done
 abbrev pub IsSoundRequest : Request → Type 0
 IsSoundRequest (asks.Forward on norebind local remote) = IsRemote remote
 IsSoundRequest (asks.Service text) = IsService text
 IsSoundRequest _ = Unit {0}
-
-both_true : (a b : Bool) → (a && b) ≡ true → (a ≡ true) × (b ≡ true)
-both_true true b e = (refl, e)
-both_true false b e = cc
 
 within : (n : ℕ) → nat_lt 0 n ≡ true → nat_le n 512 ≡ true → (0 < n) × (n ≤ 512)
 within n some short = (grind (arith, nat_tests), grind (arith, nat_tests))

@@ -8,8 +8,9 @@ use Rattle.adb_history.specs.Rows.{Client, State, to_stream, none_kept}
 use Rattle.adb_history.specs.Events.{Ending}
 use Rattle.adb_history.specs.Links.{close_packet, owe_link}
 use Rattle.adb_history.specs.Clients.{closing_with}
-use Rattle.adb_history.specs.Streams.{client_loses, tells_end, ends_telling}
+use Rattle.adb_history.specs.Streams.{client_loses, ends_telling}
 use Rattle.adb_rules.specs.Tables.{shut_row, refused}
+use Rattle.adb_history.proofs.OwnedStep.{tells_end_state as told_state}
 
 shut_with : (due fail : List ℕ) (b : ℕ) (row : Client) → row.due ≡ due ++ b ∷ fail → closing_with (due ++ b ∷ fail) row ≡ Some (shut_row row)
 shut_with [] fail b row is = ap (λ bytes. Some (record (shut_row row) { due = bytes })) (sym is)
@@ -35,11 +36,6 @@ fused {A} n f g h rows both i k = at_place k i
 
     at_place : (k : ℕ) → change_row n (option_and_then h) rows k ≡ change_row n (option_and_then f) (change_row n (option_and_then g) rows) k
     at_place k = by_test (eqb n k) (rows k)
-
--- whom a stream's end is told is no matter of the state
-pub told_state : (orphan : Bool) (l : ℕ) (ending : Ending) (s : State) → (tells_end orphan l ending s).state ≡ s
-told_state true l ending s = refl
-told_state false l ending s = refl
 
 -- the row goes before the device is told, or behind it
 pub telling_is : (l : ℕ) (ending : Ending) (stream : Stream) (s : State)

@@ -9,7 +9,7 @@ use Rattle.adb_client.specs.declared.phase.Phase.TheVariants.{Asking, Opening, S
 use Rattle.adb_history.specs.Rows.{Client, State, to_stream, none_kept}
 use Rattle.adb_history.specs.Events.{Ending, quietly}
 use Rattle.adb_history.specs.Streams.{loses, client_loses, tells_end, ends_row, ends_if_of, ends_of, all_end}
-use Rattle.adb_rules.proofs.Closings.{told_state}
+use Rattle.adb_history.proofs.OwnedStep.{tells_end_state as told_state}
 
 -- ---- what a stream's end leaves of the others
 loses_streams : (forwarded : Bool) (phase : Phase) (c : ℕ) (s : State)

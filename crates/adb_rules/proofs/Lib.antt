@@ -17,4 +17,4 @@ pub mod GoingUp
 mod Sweeping
 mod RisingIds
 mod EachUp
-mod StillUp
+pub mod StillUp

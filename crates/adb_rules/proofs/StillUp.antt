@@ -18,7 +18,7 @@ use Rattle.adb_rules.proofs.GoingUp.{IsNot, same_rows}
 use Rattle.adb_rules.proofs.Sweeping.{KeepsBeside, for_it, stream_of_row, sends_beside}
 
 -- ---- a stream that is still
-not_closed : (l : ℕ) (row : Option Stream) (s : State) → (closes_if false l row s).state ≡ s
+pub not_closed : (l : ℕ) (row : Option Stream) (s : State) → (closes_if false l row s).state ≡ s
 not_closed l None s = refl
 not_closed l (Some stream) s = refl
 

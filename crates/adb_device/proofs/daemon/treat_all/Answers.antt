@@ -1,4 +1,4 @@
-use Rattle.adb_device.proofs.Settling.{at_err}
+use Rattle.adb_daemon.proofs.Syncing.{at_err}
 use Rattle.adb_device.proofs.Treating.{treats_next, stops_next}
 use Rattle.adb_device.proofs.daemon.treat_all.Goals as goal
 

@@ -1,7 +1,8 @@
 use Rattle.std.proofs.Common.{rules}
 use Rattle.adb_device.specs.Serving.{on_write}
 use Rattle.adb_device.specs.Held.{view_of}
-use Rattle.adb_device.proofs.Settling.{redrawn, at_err}
+use Rattle.adb_daemon.proofs.Syncing.{at_err}
+use Rattle.adb_device.proofs.Settling.{redrawn}
 use Rattle.adb_device.proofs.Packets.{write_goes, write_ends, cut_write}
 use Rattle.adb_device.proofs.services.Services.write.Goals as goal
 
