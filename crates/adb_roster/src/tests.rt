@@ -1,6 +1,5 @@
 //! The least to which something is due, as rows come, are lent and go.
 
-
 use crate::{Owes, Roster};
 use std::test::Fail;
 
