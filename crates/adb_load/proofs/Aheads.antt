@@ -60,5 +60,10 @@ turn_over p = go (turn_goes p)
     go (inl over) = rw over (over_stays (turns_left p) p over)
     go (inr brings) = some (turn p).act _ brings.some
 
+-- both of what a turn was found to bring
+pub same_ahead : (act due : Option Act) (after p : Progress) → due ≡ None → record { act = act; after = after } ≡ turn p → ahead act after ≡ ahead due p
+same_ahead act due after p none is =
+    ap (λ (t : Turn). ahead t.act t.after) is ∙ sym (turn_ahead p) ∙ ap (λ (d : Option Act). ahead d p) (sym none)
+
 pub is_over : (act : Option Act) (after p : Progress) → record { act = act; after = after } ≡ turn p → IsOver act (ahead act after)
 is_over act after p is = subst (λ (t : Turn). IsOver t.act (ahead t.act t.after)) (sym is) (turn_over p)

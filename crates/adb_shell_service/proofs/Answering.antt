@@ -12,8 +12,6 @@ use Rattle.adb_shell.specs.declared.packet.ShellFault.{ShellFault}
 use Rattle.adb_shell.specs.Packets.{Reading, front, packet_of, past, start, cut_from, packets_in, fault_in, StandsFor}
 use Rattle.adb_shell.specs.Framed.{packets_are_framed}
 use Rattle.adb_files.specs.Service.{TellsUpTo, TellsFront}
-use Rattle.adb_shell_service.specs.declared.output.TheConstants.{STDIN, STDOUT}
-use Rattle.adb_shell_service.specs.Output.{output_bytes, exit_bytes}
 use Rattle.adb_shell_service.specs.Service.{Answer, Opening, Held, then_answered, packet_answer, input_answer, reads_input, command_answer, shell_answer}
 use Rattle.adb_shell_service.specs.Service.{IsReading, Reads, HasAnswered, Answers, AnswersGiven}
 
@@ -23,17 +21,6 @@ then_open a more e = ap (λ t. cond t a (record { bytes = a.bytes ++ more.bytes;
 
 pub then_over : (a more : Answer) → a.ended ≡ true → then_answered a more ≡ a
 then_over a more e = ap (λ t. cond t a (record { bytes = a.bytes ++ more.bytes; ended = more.ended })) e
-
--- the close of the input alone ends a service
-by_id : ShellPacket → Bool → Answer
-by_id packet t = cond t (record { bytes = exit_bytes 0; ended = true })
-    (record { bytes = cond (packet.id == STDIN) (output_bytes STDOUT packet.bytes) []; ended = false })
-
-unfolding by_id
-packet_goes_on packet e = ap (λ t. (by_id packet t).ended) e
-
-unfolding by_id
-packet_closes packet e = ap (λ t. (by_id packet t).ended) e
 
 -- packets behind others, where those go on
 pub input_append : (ps qs : List ShellPacket) (f : Option ShellFault) → (input_answer ps None).ended ≡ false
