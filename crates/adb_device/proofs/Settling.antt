@@ -11,16 +11,13 @@ use Rattle.adb_daemon.specs.declared.link.Link.{Link}
 use Rattle.adb_daemon.specs.declared.stream.Stream.{Stream}
 use Rattle.adb_device.specs.Serving.{Serving, Sent, sent_bytes, with_sum, owing, granted, sent_writes, sent_close, settled_as, settled}
 use Rattle.adb_device.specs.Held.{StandsAt, View, Holds, SettlesAt}
-use Rattle.adb_device.proofs.Tables.{table_changes, table_loses, table_gains, table_idle}
+use Rattle.adb_device.proofs.Tables.{none_some, table_changes, table_loses, table_gains, table_idle}
 use Rattle.adb_device.proofs.Owed.{bytes_more, bytes_one, writes_are, written_host}
 
 -- the streams that a number has behind two changes at it
 module _ {X : Type 0} (n : ℕ) (a b : Option X) where
   pub two_puts : (x y z : List (ℕ × X)) → Puts n a x y → Puts n b y z → Puts n b x z
   two_puts x y z first second = record { here = second.here; others = λ q apart. second.others q apart ∙ first.others q apart }
-
-pub none_some : {X : Type 0} (x : X) → None ≡ Some x → ⊥
-none_some x e = cc
 
 -- what follows from a fact of an answer, and from three
 pub where_ok : {T E A P : Type 0} (result : Result T E) → OnOk result A → (A → P) → OnOk result P

@@ -8,7 +8,9 @@ use Rattle.adb_outside.proofs.TableLaws.{puts_put_at, puts_without, put_at_rises
 use Rattle.adb_daemon.specs.Stream.{Row, StandsFor}
 use Rattle.adb_daemon.specs.declared.stream.Stream.{Stream}
 use Rattle.adb_device.specs.Held.{StandsAt, IsOfHost, IsTable}
-use Rattle.adb_device.proofs.Settling.{none_some}
+
+pub none_some : {X : Type 0} (x : X) → None ≡ Some x → ⊥
+none_some x e = cc
 
 -- the row that a number has is one of that host's id
 of_host : (host : ℕ) (row : Row) (found : Option Row) → IsOfHost host found → found ≡ Some row → row.host ≡ host
