@@ -45,6 +45,10 @@ pub record SameClient (k k' : Client) : Type 0 where
 pub same_client : (k : Client) → SameClient k k
 same_client k = record { forwarded = refl; ended = refl; held = refl }
 
+-- no write waits that was answered: where an OKAY more is one for a write that had become due, as many wait as were not answered
+abbrev pub Answers : Flow → (ℕ → ℕ) → Flow → Type 0
+Answers before more after = (n m : ℕ) → n + waiting before ≤ m → more n ≤ m → more n + waiting after ≤ m
+
 -- what a packet makes of a stream and its client
 pub record Effect (l : ℕ) (x : Stream) (p : Packet) (k : Client) (m : Made) : Type 0 where
   pub row : Stream
@@ -60,14 +64,20 @@ pub record Effect (l : ℕ) (x : Stream) (p : Packet) (k : Client) (m : Made) : 
       ≡ hears row.part.remote k.about.forwarded (written_after x.part.remote l p written)
   pub silent : AreSilent l m.told
   pub okays : (n : ℕ) → n + waiting x.part.flow ≤ okays_after_one x.part.remote l p n + waiting row.part.flow
+  pub answers : Answers x.part.flow (okays_after_one x.part.remote l p) row.part.flow
 
 abbrev pub EffectOr : (l : ℕ) → Stream → Packet → Client → Made → Type 0
 EffectOr l x p k m = Effect l x p k m ⊎ (m.state.streams l ≡ None)
 
+pub no_middle : (a b : Bool) → (a && false && b) ≡ false
+no_middle true b = refl
+no_middle false b = refl
+
 -- ---- a packet that changes nothing of them
 pub nothing_done : (l : ℕ) (x : Stream) (p : Packet) (s : State) (h : Pair l x s) (m : Made) → Untouched l x.client s m → counts x.part.remote l p ≡ false
+    → is_again x.part.remote l p ≡ false
     → Effect l x p h.client m
-nothing_done l x p s h m u none = record {
+nothing_done l x p s h m u none never = record {
   row = x;
   is = u.row ∙ h.is;
   alive = h.alive;
@@ -83,6 +93,7 @@ nothing_done l x p s h m u none = record {
       omega (arith, none_owed, same);
   silent = u.silent;
   okays = λ n. more (is_again x.part.remote l p) n;
+  answers = λ n o was late. (let same : okays_after_one x.part.remote l p n ≡ n = ap (λ b. cond b (1 + n) n) never in omega (arith, was, same));
 }
   where
     more : (b : Bool) (n : ℕ) → n + waiting x.part.flow ≤ cond b (1 + n) n + waiting x.part.flow
@@ -144,8 +155,17 @@ module _ (l : ℕ) (x : Stream) (p : Packet) (s : State) (h : Pair l x s) where
         silent = silent_append l heard.told [] (subst (λ (o : Option Client). AreSilent l (hears_okay o x.client s).told) (sym h.here)
             (heard_silent l h.client.about.forwarded x.client s)) tt;
         okays = λ n. okays n (is_again x.part.remote l p) x.part.flow;
+        answers = λ n o was late. (let same : okays_after_one x.part.remote l p n ≡ n = ap (λ b. cond b (1 + n) n) never in
+            let first = waits x.part.flow in omega (arith, was, same, first));
       }
     where
+      never : is_again x.part.remote l p ≡ false
+      never = ap (λ b. is_okay p.command && not b && is_between x.part.remote l p) at.2 ∙ no_middle (is_okay p.command) (is_between x.part.remote l p)
+
+      waits : (flow : Flow) → waiting (first_credit word flow) ≡ waiting flow
+      waits (One window) = refl
+      waits (Credit credit) = refl
+
       okays : (n : ℕ) (b : Bool) (flow : Flow) → n + waiting flow ≤ cond b (1 + n) n + waiting (first_credit word flow)
       okays n true (One window) = omega arith
       okays n false (One window) = omega arith
@@ -191,8 +211,15 @@ module _ (l : ℕ) (x : Stream) (p : Packet) (s : State) (h : Pair l x s) where
         silent = tt;
         okays = λ n. subst (λ (b : Bool). n + waiting x.part.flow ≤ cond b (1 + n) n + waiting (acknowledged word x.part.flow)) (sym at.1)
             (okays n word x.part.flow);
+        answers = λ n o was late. (let same : okays_after_one x.part.remote l p n ≡ 1 + n = ap (λ b. cond b (1 + n) n) at.1 in
+            let none = answered word x.part.flow in omega (arith, late, same, none));
       }
     where
+      answered : (word : Option ℕ) (flow : Flow) → waiting (acknowledged word flow) ≡ 0
+      answered word (One window) = refl
+      answered None (Credit credit) = refl
+      answered (Some m) (Credit credit) = refl
+
       okays : (n : ℕ) (word : Option ℕ) (flow : Flow) → n + waiting flow ≤ 1 + n + waiting (acknowledged word flow)
       okays n word (One window) = go window.outstanding
         where
@@ -207,7 +234,8 @@ module _ (l : ℕ) (x : Stream) (p : Packet) (s : State) (h : Pair l x s) where
   none_effect (One window) = u_owe l x.client x.link (okay_packet l x.part.remote) s (okay_silent l l x.part.remote)
   none_effect (Credit credit) = u_quiet l x.client s
 
-  pub takes_effect : (payload : List ℕ) → p.payload ≡ payload → (counts x.part.remote l p ≡ true) × (eqb x.part.remote 0 ≡ false)
+  pub takes_effect : (payload : List ℕ) → p.payload ≡ payload
+      → (counts x.part.remote l p ≡ true) × (eqb x.part.remote 0 ≡ false) × (is_again x.part.remote l p ≡ false)
       → Effect l x p h.client (accepts l payload x s)
   takes_effect [] is at =
       let u = none_effect x.part.flow in
@@ -231,6 +259,7 @@ module _ (l : ℕ) (x : Stream) (p : Packet) (s : State) (h : Pair l x s) where
             omega (arith, none_owed, same);
         silent = u.silent;
         okays = λ n. more (is_again x.part.remote l p) n;
+        answers = λ n o was late. (let same : okays_after_one x.part.remote l p n ≡ n = ap (λ b. cond b (1 + n) n) at.2 in omega (arith, was, same));
       }
     where
       more : (b : Bool) (n : ℕ) → n + waiting x.part.flow ≤ cond b (1 + n) n + waiting x.part.flow
@@ -261,8 +290,14 @@ module _ (l : ℕ) (x : Stream) (p : Packet) (s : State) (h : Pair l x s) where
             omega (arith, told, after, size, was, now);
         silent = tt;
         okays = λ n. okays n (is_again x.part.remote l p) x.part.flow;
+        answers = λ n o was late. (let same : okays_after_one x.part.remote l p n ≡ n = ap (λ b. cond b (1 + n) n) at.2 in
+            let as_before = waits x.part.flow in omega (arith, was, same, as_before));
       }
     where
+      waits : (flow : Flow) → waiting (accepted (length (b ∷ payload)) flow) ≡ waiting flow
+      waits (One window) = refl
+      waits (Credit credit) = refl
+
       okays : (n : ℕ) (e : Bool) (flow : Flow) → n + waiting flow ≤ cond e (1 + n) n + waiting (accepted (length (b ∷ payload)) flow)
       okays n true (One window) = omega arith
       okays n false (One window) = omega arith

@@ -19,7 +19,7 @@ use Rattle.adb_history.specs.Fifo.{has_credit, okays_of, credit_of}
 use Rattle.adb_history.specs.Causes.{given_to, okays_after, has_closed_since, IsDone}
 use Rattle.adb_history.proofs.Growing.{owed_append}
 use Rattle.adb_history.proofs.LinkMoves.{all_linked}
-use Rattle.adb_causes.specs.Flows.{FlowIs, waiting, hears, start_of, IsAsTold, HoldsAsTold, HasFlows}
+use Rattle.adb_causes.specs.Flows.{IsTimely, FlowIs, waiting, hears, start_of, IsAsTold, HoldsAsTold, HasFlows}
 use Rattle.adb_causes.proofs.Silent.{Tally, tally_append}
 use Rattle.adb_causes.proofs.UntouchedEntries.{pair_of}
 use Rattle.adb_causes.proofs.UpEffects.{flow_wrote}
@@ -45,6 +45,7 @@ pub record AfterRule (e : Entry) (older : History) (l : ℕ) (b : Birth) (x : St
   pub head : b.head ≤ length (bytes_read b.client (e ∷ older))
   pub up : carried_in l (packets_of b.link older) ++ k.held ≡ drop b.head (bytes_read b.client (e ∷ older))
   pub writes : b.credit ≡ false → count_from is_wrte l (packets_of b.link older) ≤ okays_after l b (e ∷ older) + waiting x.part.flow
+  pub exact : b.credit ≡ false → IsTimely l b (e ∷ older) → okays_after l b (e ∷ older) + waiting x.part.flow ≤ count_from is_wrte l (packets_of b.link older)
   pub closed : k.about.ended ≡ true → has_closed_since l b.client (e ∷ older) ≡ true
 
 module _ (e : Entry) (older : History) (l : ℕ) (b : Birth) (x : Stream) (k : Client) where
@@ -82,6 +83,7 @@ module _ (e : Entry) (older : History) (l : ℕ) (b : Birth) (x : Stream) (k : C
             ∙ (ap (λ bytes. carried_in l (packets_of b.link older) ++ (bytes ++ drop (total u.sent) k.held)) u.sends.front
             ∙ (ap (λ bytes. carried_in l (packets_of b.link older) ++ bytes) (take-append-drop (total u.sent) k.held) ∙ r.up)));
         writes = λ one. (let was = r.writes one in let sent = u.sends.waits (own.2 ∙ one) in omega (arith, was, sent, t.count));
+        exact = λ one timely. (let was = r.exact one timely in let sent = u.sends.waits (own.2 ∙ one) in omega (arith, was, sent, t.count));
         closed = r.closed;
       }
     where

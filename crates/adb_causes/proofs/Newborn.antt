@@ -26,8 +26,8 @@ use Rattle.adb_capture.specs.declared.entry.Entry.{Entry}
 use Rattle.adb_history.specs.Machine.{rule, History, state, told, IsLegal}
 use Rattle.adb_history.specs.Bytes.{bytes_read, bytes_received, brought}
 use Rattle.adb_history.specs.Lives.{output_of}
-use Rattle.adb_history.specs.Causes.{given_to}
-use Rattle.adb_causes.specs.Flows.{FlowIs, start_of}
+use Rattle.adb_history.specs.Causes.{given_to, okays_after, okays_behind}
+use Rattle.adb_causes.specs.Flows.{FlowIs, waiting, start_of}
 use Rattle.adb_wire.specs.Cutting.{framed}
 
 -- ---- births
@@ -142,6 +142,7 @@ newborn_ruled e older l b legal n = record {
     head = n.head;
     up = ap (λ w. w ++ n.client.held) none.bytes ∙ n.held;
     writes = λ one. omega (arith, none.count);
+    exact = λ one timely. omega (arith, no_okays, idle b.credit);
     closed = λ ended. absurd (let clash : false ≡ true = sym n.input ∙ ended in cc);
   };
   is = n.is;
@@ -161,6 +162,13 @@ newborn_ruled e older l b legal n = record {
     none_since =
         ap (λ bytes. drop b.packets_before (framed bytes).given) n.received
         ∙ (ap (λ i. drop i (brought b.link older)) n.before ∙ drop-length (brought b.link older))
+
+    no_okays : okays_after l b (e ∷ older) ≡ 0
+    no_okays = ap (λ ps. okays_behind l (opening_in l ps)) none_since
+
+    idle : (credit : Bool) → waiting (new_flow credit) ≡ 0
+    idle true = refl
+    idle false = refl
 
     written : length (joined (told_to l b (e ∷ older))) ≡ 0
     written = ap (λ ps. length (joined (told_after l (opening_in l ps)))) none_since

@@ -144,6 +144,7 @@ module _ (older : History) (l : ℕ) (b : Birth) (x : Stream) (bytes : List ℕ)
         head = t.holds.head;
         up = t.holds.up;
         writes = λ one. (let was = t.holds.writes one in omega (arith, was, r.waits));
+        exact = λ one timely. (let was = t.holds.exact one timely.0 in omega (arith, was, r.waits));
         closed = λ ended. closed_before l b.client e older (t.holds.closed ended);
       }
     where

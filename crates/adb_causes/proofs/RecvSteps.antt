@@ -15,7 +15,7 @@ use Rattle.adb_history.specs.Bytes.{bytes_put, brought}
 use Rattle.adb_history.specs.Book.{asked}
 use Rattle.adb_history.specs.Births.{Birth, Opening as FirstOkay, opening_in, opening_of, remote_in, remote_of, since, told_after, told_to, joined}
 use Rattle.adb_history.specs.Births.{lead_of, handed_to}
-use Rattle.adb_history.specs.Births.{carried_in}
+use Rattle.adb_history.specs.Births.{carried_in, count_from, is_wrte}
 use Rattle.adb_history.specs.Lives.{output_of, packets_of}
 use Rattle.adb_history.specs.Causes.{okays_after, given_to}
 use Rattle.adb_causes.specs.Flows.{hears, start_of}
@@ -227,6 +227,13 @@ module _ (older : History) (l : ℕ) (b : Birth) (x : Stream) (bytes : List ℕ)
               let same : okays_after l b (e ∷ older) ≡ okays_all x.part.remote l r.given (okays_after l b older) = ap (okays_behind_in l) more_since
               ∙ told_more.okays in
               omega (arith, was, more, same);
+          exact = λ one timely.
+              let was = t.holds.exact one timely.0 in
+              let same : okays_after l b (e ∷ older) ≡ okays_all x.part.remote l r.given (okays_after l b older) = ap (okays_behind_in l) more_since
+              ∙ told_more.okays in
+              let more = r.effect.answers (okays_after l b older) (count_from is_wrte l (packets_of b.link older)) was
+              (let late = timely.1 in omega (arith, late, same)) in
+              omega (arith, more, same);
           closed = λ ended. closed_before l b.client e older (t.holds.closed (sym r.effect.same.ended ∙ ended));
         }
 

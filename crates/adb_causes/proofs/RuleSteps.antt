@@ -124,6 +124,7 @@ module _ (e : Entry) (older : History) (l : ℕ) (b : Birth) (x : Stream) (t : S
         head = q.head;
         up = q.up;
         writes = λ one. (let was = t.holds.writes one in omega (arith, was, same_okays q.received));
+        exact = λ one timely. (let was = t.holds.exact one timely.0 in omega (arith, was, same_okays q.received));
         closed = q.closed;
       }
     where

@@ -18,7 +18,7 @@ use Rattle.adb_causes.proofs.Untouched.{Apart}
 use Rattle.adb_causes.proofs.UntouchedEntries.{Pair}
 use Rattle.adb_causes.proofs.Turning.{Here}
 use Rattle.adb_causes.specs.Flows.{waiting, hears}
-use Rattle.adb_causes.proofs.Effects.{SameClient, Effect, EffectOr}
+use Rattle.adb_causes.proofs.Effects.{Answers, is_again, SameClient, Effect, EffectOr}
 use Rattle.std.specs.Option.{option_or}
 use Rattle.adb_history.specs.Events.{ending_in}
 use Rattle.adb_history.specs.Packets.{treat_all}
@@ -44,6 +44,18 @@ written_all remote l (p ∷ packets) written = written_all (remote_after remote 
 abbrev pub okays_all : (remote l : ℕ) → List Packet → ℕ → ℕ
 okays_all remote l [] n = n
 okays_all remote l (p ∷ packets) n = okays_all (remote_after remote l p) l packets (okays_after_one remote l p n)
+
+-- OKAYs only become more
+okays_grow : (remote l : ℕ) (packets : List Packet) (n : ℕ) → n ≤ okays_all remote l packets n
+okays_grow remote l [] n = omega arith
+okays_grow remote l (p ∷ packets) n =
+    let later = okays_grow (remote_after remote l p) l packets (okays_after_one remote l p n) in
+    let one = go (is_again remote l p) in
+    omega (arith, later, one)
+  where
+    go : (b : Bool) → n ≤ cond b (1 + n) n
+    go true = omega arith
+    go false = omega arith
 
 -- nothing was written to a stream that is not open
 after_nil : (remote l : ℕ) (p : Packet) (written : ℕ) → (remote ≡ 0 → written ≡ 0) → remote_after remote l p ≡ 0 → written_after remote l p written ≡ 0
@@ -77,6 +89,7 @@ pub record RunEffect (l : ℕ) (x : Stream) (packets : List Packet) (k : Client)
       ≡ hears row.part.remote k.about.forwarded (written_all x.part.remote l packets written)
   pub silent : AreSilent l m.told
   pub okays : (n : ℕ) → n + waiting x.part.flow ≤ okays_all x.part.remote l packets n + waiting row.part.flow
+  pub answers : Answers x.part.flow (okays_all x.part.remote l packets) row.part.flow
 
 -- the stream is alive when all packets are treated
 abbrev pub LivesOn : ℕ → Made → Type 0
@@ -128,6 +141,14 @@ module _ (t l : ℕ) (x : Stream) (p : Packet) (packets : List Packet) (s : Stat
             ≡ okays_all (remote_after x.part.remote l p) l packets (okays_after_one x.part.remote l p n) =
             ap (λ i. okays_all i l packets (okays_after_one x.part.remote l p n)) next.remote in
             omega (arith, one, more, same));
+        answers = λ n o was late.
+            let same : okays_all e.row.part.remote l packets (okays_after_one x.part.remote l p n)
+            ≡ okays_all (remote_after x.part.remote l p) l packets (okays_after_one x.part.remote l p n) =
+            ap (λ i. okays_all i l packets (okays_after_one x.part.remote l p n)) next.remote in
+            let first = okays_grow e.row.part.remote l packets (okays_after_one x.part.remote l p n) in
+            let one = e.answers n o was (omega (arith, late, same, first)) in
+            let more = r.answers (okays_after_one x.part.remote l p n) o one (omega (arith, late, same)) in
+            omega (arith, more, same);
       }
     where
       next_row : Next l x p e.row
@@ -173,6 +194,7 @@ run_effect t l [] x s h at on = record {
   owed = λ written nil. omega arith;
   silent = tt;
   okays = λ n. omega arith;
+  answers = λ n o was late. was;
 }
 run_effect t l (p ∷ packets) x s h at on =
     go (first_passes t l x p packets s on (treat_turn t l x p s at.0)) (λ y k i j. run_effect t l packets y (treat t p s).state k i j)

@@ -1,5 +1,5 @@
 -- What the flow of a stream says of the bytes that its device wrote.
-use Rattle.std.specs.Prelude.{ℕ, ◌≡◌, ◌+◌, ◌≤◌, Bool, true, false, if◌then◌else◌, List, ◌++◌, length, drop, Some, zero, suc}
+use Rattle.std.specs.Prelude.{ℕ, ◌≡◌, ◌+◌, ◌≤◌, Bool, true, false, if◌then◌else◌, List, [], ◌∷◌, ◌++◌, length, drop, Some, zero, suc}
 use Rattle.adb_wire.specs.declared.packets.Packet.{Packet}
 use Rattle.adb_stream.specs.declared.flow.Flow.{Flow}
 use Rattle.adb_stream.specs.declared.flow.Flow.TheVariants.{One, Credit}
@@ -31,6 +31,11 @@ hears (suc n) forwarded written = (if forwarded then 0 else 4) + written
 abbrev pub start_of : Birth → History → ℕ
 start_of b h = if b.forwarded then 0 else length (asked b.client h).replies
 
+-- Each OKAY of the device came behind the write that it answers: at each time there are no more of them than writes had become due before.
+abbrev pub IsTimely : ℕ → Birth → History → Type 0
+IsTimely l b [] = Unit {0}
+IsTimely l b (e ∷ older) = IsTimely l b older × (okays_after l b (e ∷ older) ≤ count_from is_wrte l (packets_of b.link older))
+
 -- What a stream that lives and its client hold, as the history tells it.
 pub record IsAsTold (h : History) (l : ℕ) (b : Birth) (x : Stream) (k : Client) : Type 0 where
   -- its link brought all packets that came before it
@@ -44,6 +49,8 @@ pub record IsAsTold (h : History) (l : ℕ) (b : Birth) (x : Stream) (k : Client
   pub head : b.head ≤ length (bytes_read b.client h)
   pub up : carried_in l (packets_of b.link h) ++ k.held ≡ drop b.head (bytes_read b.client h)
   pub writes : b.credit ≡ false → count_from is_wrte l (packets_of b.link h) ≤ okays_after l b h + waiting x.part.flow
+  -- and exactly so, where no OKAY came too early
+  pub exact : b.credit ≡ false → IsTimely l b h → okays_after l b h + waiting x.part.flow ≤ count_from is_wrte l (packets_of b.link h)
   pub closed : k.about.ended ≡ true → has_closed_since l b.client h ≡ true
 
 -- Each stream that lives and its client hold what the history tells.

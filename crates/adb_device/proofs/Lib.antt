@@ -15,3 +15,4 @@ pub mod Rules
 pub mod Quiet
 pub mod Acks
 pub mod Allowed
+pub mod Exact

@@ -48,7 +48,7 @@ closable_is host found row is = go (host == 0) is
     go true e = e
     go false e = named_is host found row e
 
-silent_ack : (own : ℕ) (link : Link) (q host : ℕ) (flow : Flow) (n : ℕ) → IsSilent own (sent_ack link q host flow n)
+pub silent_ack : (own : ℕ) (link : Link) (q host : ℕ) (flow : Flow) (n : ℕ) → IsSilent own (sent_ack link q host flow n)
 silent_ack own link q host (flows.One window) n = record { writes = refl; count = refl; closes = refl }
 silent_ack own link q host (flows.Credit credit) n = go (n == 0)
   where
@@ -278,7 +278,7 @@ module _ (own : ℕ) (some : 0 < own) where
   served_orderly commands.Auth link p s o = o
   served_orderly commands.Stls link p s o = o
 
-  step_orderly : (setting : Setting) (d : Device) (p : Packet) → IsOrderly own d.serving → IsOrderly own (step setting d p).serving
+  pub step_orderly : (setting : Setting) (d : Device) (p : Packet) → IsOrderly own d.serving → IsOrderly own (step setting d p).serving
   unfolding step
   step_orderly setting d p o = go d.refused
     where

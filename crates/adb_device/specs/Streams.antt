@@ -9,7 +9,9 @@ use Rattle.adb_wire.specs.declared.command.Command.{Command}
 use Rattle.adb_wire.specs.declared.command.Command.TheVariants.{Okay, Wrte, Clse}
 use Rattle.adb_daemon.specs.Service.{Came, service_answer}
 use Rattle.adb_daemon.specs.Stream.{Row, unsent, next_payload, is_done}
+use Rattle.adb_wire.specs.declared.packets.Packet.{Packet}
 use Rattle.adb_device.specs.Serving.{Sent, Ack, Ended}
+use Rattle.adb_device.specs.Device.{Setting, device_behind}
 
 abbrev pub is_write : Command → Bool
 is_write Wrte = true
@@ -121,3 +123,17 @@ IsAcked own made None None = okays_of own made ≡ []
 pub record HasSettled (most : ℕ) (row : Row) : Type 0 where
   pub none_goes : next_payload most row ≡ []
   pub goes_on : is_done row ≡ false
+
+-- A stream on a plain link made as many writes, with the one that it may still make, as it took OKAYs, its OPEN among them.
+abbrev pub IsExact : (count acks : ℕ) → Flow → Type 0
+IsExact count acks (flows.One window) = acks ≤ count + free_of window.outstanding
+IsExact count acks (flows.Credit credit) = Unit {0}
+
+abbrev pub ExactAt : ℕ → List Sent → List Ack → Option Row → Type 0
+ExactAt own made acks None = Unit {0}
+ExactAt own made acks (Some row) = IsExact (writes_of own made) (acks_of own acks) row.flow
+
+-- No OKAY came to a stream before the write that it answers.
+abbrev pub IsAckedInTime : Setting → ℕ → List Packet → Type 0
+IsAckedInTime setting own packets = (front : List Packet) (p : Packet) (rest : List Packet) → front ++ p ∷ rest ≡ packets
+    → acks_of own (device_behind setting (front ++ p ∷ [])).serving.acks ≤ 1 + writes_of own (device_behind setting front).serving.made

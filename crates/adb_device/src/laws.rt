@@ -14,7 +14,7 @@ ghost use Rattle.adb_device.specs.Serving.{sent_bytes};
 ghost use Rattle.adb_device.specs.Daemon.{HasDone, HasDoneFront, answer_to, owed};
 ghost use Rattle.adb_device.specs.Allowed.{let_out};
 ghost use Rattle.adb_device.specs.Device.{Setting, device_behind};
-ghost use Rattle.adb_device.specs.Streams.{Writes, IsAcked, HasSettled, over_at};
+ghost use Rattle.adb_device.specs.Streams.{Writes, IsAcked, HasSettled, over_at, ExactAt, IsAckedInTime};
 
 /// The joined payloads that a stream wrote are a front of its service's answer to the payloads that
 /// came, and where the device closed it all of the answer. On a plain link it made at most as many
@@ -66,4 +66,12 @@ pub fn refusals_stay()
     ensures { (setting : Setting) (fed more : List ℕ) (error : DaemonError) → IsBytes fed
         → IsBytes more → answer_to setting fed ≡ Err error
         → answer_to setting (fed ++ more) ≡ Err error }
+{}
+
+/// A live stream on a plain link to which no OKAY came before the write that it answers may write
+/// as much as it took OKAYs for.
+pub fn windows_are_exact()
+    ensures { (setting : Setting) (packets : List Packet) (own : ℕ) → 0 < own
+        → IsAckedInTime setting own packets → let s = (device_behind setting packets).serving
+        in ExactAt own s.made s.acks (at own s.rows) }
 {}

@@ -13,5 +13,5 @@ pub use daemon::Daemon;
 pub use error::DaemonError;
 pub use laws::{
     refusals_stay, streams_are_settled, streams_write_their_answers, what_is_owed_was_let_out,
-    writes_are_acknowledged,
+    windows_are_exact, writes_are_acknowledged,
 };

@@ -15,7 +15,7 @@ use Rattle.adb_fifo_down.specs.Line.{Line, View, gathered_of}
 use Rattle.adb_fifo_down.specs.Turns.{Turns}
 use Rattle.adb_fifo_down.specs.Life.{Cradle}
 use Rattle.adb_fifo_down.specs.Window.{handed_past, IsBackedBy, IsBacked}
-use Rattle.adb_fifo_down.specs.Followed.{WindowOf}
+use Rattle.adb_fifo_down.specs.Followed.{WindowOf, HasWindows}
 use Rattle.adb_fifo_down.specs.Follows.{Follows}
 use Rattle.adb_fifo_down.specs.Begins.{Lasts}
 use Rattle.adb_births.specs.Brought.{ComeFirst}
@@ -110,3 +110,7 @@ module _ (l : ℕ) (b : Birth) (h : History) (f : Follows WindowOf h l b) (sends
 -- What a device is told that its client was handed, it was.
 pub keeps_down_window : (h : History) → IsLegal h → KeepsDownWindow h
 keeps_down_window h legal l b is = within l b h (follows window_lasts h legal l b is) (sends_first h legal b.link).first
+
+-- Each stream keeps its window: with one write each way, what was acknowledged and what waits to be handed out are what was told.
+pub has_windows : (h : History) → IsLegal h → HasWindows h
+has_windows h legal l b is = follows window_lasts h legal l b is

@@ -16,7 +16,7 @@ mod LifePackets
 mod Brought
 mod Entries
 mod Steps
-mod BornNow
+pub mod BornNow
 mod Begun
 mod Askers
 mod Asking

@@ -82,7 +82,7 @@ module _ (l : ℕ) (k : Cradle) (told : List (List ℕ)) (x : SeenStream) (v : V
       plain : false ≡ k.credit
       plain = sym e ∙ same
 
-      counts : length v.okays + waiting_write x.to_hand ≤ length told
+      counts : length v.okays + waiting_write x.to_hand ≡ length told
       counts = subst (λ (c : Bool). Counts c x told v.okays handed) (sym plain) flow.counts
 
       none : x.to_hand ≡ 0
@@ -124,7 +124,7 @@ module _ (l : ℕ) (k : Cradle) (told : List (List ℕ)) (x : SeenStream) (v : V
         (record {
           left = omega (arith, flow.left, none, joined_one told (d ∷ payload));
           counts = subst (λ (c : Bool). Counts c (record x { to_hand = length (d ∷ payload) }) (told ++ (d ∷ payload) ∷ []) v.okays handed) plain
-              (omega (arith, counts, length-append told ((d ∷ payload) ∷ [])));
+              (omega (arith, counts, waits, length-append told ((d ∷ payload) ∷ [])));
         });
     backed = subst (λ (ps : List Packet). IsBackedBy k.credit (told ++ (d ∷ payload) ∷ []) ps handed) (sym okays)
         (backed_told k.credit told ((d ∷ payload) ∷ []) v.okays handed backed);
@@ -136,7 +136,10 @@ module _ (l : ℕ) (k : Cradle) (told : List (List ℕ)) (x : SeenStream) (v : V
       none : x.to_hand ≡ 0
       none = none_waits (length (d ∷ payload)) e turn
 
-      counts : length v.okays + waiting_write x.to_hand ≤ length told
+      waits : waiting_write x.to_hand ≡ 0
+      waits = ap waiting_write none
+
+      counts : length v.okays + waiting_write x.to_hand ≡ length told
       counts = subst (λ (c : Bool). Counts c x told v.okays handed) (sym plain) flow.counts
 
   accepts_write : (payload : List ℕ) → is_late x (length payload) ≡ false → Accepted k (told ++ payload ∷ []) x handed (accepts_as l payload x v)

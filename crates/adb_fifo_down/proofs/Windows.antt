@@ -87,7 +87,7 @@ module _ (l : ℕ) (k : Cradle) (told : List (List ℕ)) where
         → Handed x now (whole_told left l x (record v { stream = Some (record x { to_hand = left }) }))
     hands_plain left plain less sum = by left less sum
       where
-        counts : length v.okays + waiting_write x.to_hand ≤ length told
+        counts : length v.okays + waiting_write x.to_hand ≡ length told
         counts = subst (λ (c : Bool). Counts c x told v.okays before) plain flow.counts
 
         one : (n : ℕ) → 0 < n → waiting_write n ≡ 1

@@ -19,6 +19,10 @@ WindowOf b k = λ packets shut out v. Window b.id k packets shut out v
 abbrev pub HasLives : History → Type 0
 HasLives h = OfEachStream h (λ l b. Follows LifeOf h l b)
 
+-- each stream that was born keeps its window
+abbrev pub HasWindows : History → Type 0
+HasWindows h = OfEachStream h (λ l b. Follows WindowOf h l b)
+
 -- no ending is told of a stream that was not born
 abbrev pub EndsBornAlone : History → Type 0
 EndsBornAlone h = (l : ℕ) → (state h).drawn < l → ending_of l h ≡ None

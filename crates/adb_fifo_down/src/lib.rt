@@ -8,4 +8,6 @@ mod streams;
 pub use down::{
     all_is_handed_up_to_the_close, what_is_acknowledged_was_handed, what_is_handed_was_told,
 };
-pub use streams::{every_stream_has_its_life, none_but_the_born_end};
+pub use streams::{
+    every_stream_has_its_life, every_stream_keeps_its_window, none_but_the_born_end,
+};
