@@ -10,7 +10,7 @@ use Rattle.adb_client.specs.Client.{SeenClient}
 use Rattle.adb_client.specs.declared.phase.Phase.{Phase}
 use Rattle.adb_client.specs.declared.phase.Phase.TheVariants.{Asking, Opening, Streaming, Binding, Tracking, Closing, Gone}
 use Rattle.adb_stream.specs.declared.row.Stream.{Stream}
-use Rattle.adb_rest.specs.Resting.{StepIsRule, has_open_stream, is_open_phase}
+use Rattle.adb_laws_resting.specs.Resting.{StepIsRule, has_open_stream, is_open_phase}
 use Rattle.adb_history.specs.Rows.{Client, State, to_client}
 use Rattle.adb_history.specs.Links.{maxdata_of}
 use Rattle.adb_history.specs.Flow.{payloads, up}

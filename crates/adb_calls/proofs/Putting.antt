@@ -9,7 +9,7 @@ use Rattle.adb_client.specs.declared.phase.Phase.{Phase}
 use Rattle.adb_client.specs.declared.phase.Phase.TheVariants.{Tracking}
 use Rattle.adb_registry.specs.Registry.{DeviceTable}
 use Rattle.adb_stream.specs.declared.row.Stream.{Stream}
-use Rattle.adb_rest.specs.Resting.{StepIsRule}
+use Rattle.adb_laws_resting.specs.Resting.{StepIsRule}
 use Rattle.adb_history.specs.Rows.{Client, State, with_due}
 use Rattle.adb_history.specs.Events.{then_also}
 use Rattle.adb_history.specs.Handing.{takes_of, lists_first, unmarked, puts_to}

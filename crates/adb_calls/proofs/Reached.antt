@@ -1,8 +1,8 @@
 -- What is known of a state that a legal history leaves.
 use Rattle.std.proofs.Common.{ℕ, ◌≡◌, sym, subst}
-use Rattle.adb_rest.specs.Resting.{SendsNothingBy, GoesUpAlone}
-use Rattle.adb_rest.proofs.RestingSteps.{all_send_nothing}
-use Rattle.adb_rest.proofs.RestingOpen.{goes_up_alone}
+use Rattle.adb_laws_resting.specs.Resting.{SendsNothingBy, GoesUpAlone}
+use Rattle.adb_laws_resting.proofs.RestingSteps.{all_send_nothing}
+use Rattle.adb_laws_resting.proofs.RestingOpen.{goes_up_alone}
 use Rattle.adb_history.specs.Rows.{State}
 use Rattle.adb_history.specs.Orderly.{IsOrderly}
 use Rattle.adb_history.specs.Book.{plugged_count}

@@ -3,7 +3,7 @@ use Rattle.std.proofs.Common.{ℕ, ◌≡◌, true, false, refl, List, length, O
 use Rattle.adb_outside.specs.declared.kinds.Cause.{Cause}
 use Rattle.adb_capture.specs.declared.entry.Entry.{Entry}
 use Rattle.adb_capture.specs.declared.entry.Entry.TheVariants.{Send, Detach}
-use Rattle.adb_rest.specs.Resting.{StepIsRule}
+use Rattle.adb_laws_resting.specs.Resting.{StepIsRule}
 use Rattle.adb_history.specs.Rows.{Link, State}
 use Rattle.adb_history.specs.Events.{lost}
 use Rattle.adb_history.specs.Handing.{sends}

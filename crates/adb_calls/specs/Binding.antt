@@ -6,7 +6,7 @@ use Rattle.adb_client.specs.declared.phase.Phase.TheVariants.{Binding}
 use Rattle.adb_forward.specs.declared.row.ForwardRow.{ForwardRow}
 use Rattle.adb_history.specs.Rows.{Client}
 use Rattle.adb_history.specs.Forwarding.{bound_by}
-use Rattle.adb_rest.specs.Wanted.{IsRemote}
+use Rattle.adb_laws_resting.specs.Wanted.{IsRemote}
 use Rattle.adb_rules.specs.declared.tables.Tables.{Tables}
 
 abbrev pub is_binding : Phase → Bool

@@ -8,7 +8,7 @@ ghost use Rattle.adb_history.specs.Forwarding.{is_unbound, bound_by, told_port};
 ghost use Rattle.adb_rules.specs.Fit.{IsFit, IsReached, Makes, Keeps};
 ghost use Rattle.adb_rules.specs.Tables.{state_of};
 ghost use Rattle.adb_calls.specs.Binding.{waits, want_of, WantsForward, IsBound};
-ghost use Rattle.adb_rest.specs.Wanted.{IsRemote};
+ghost use Rattle.adb_laws_resting.specs.Wanted.{IsRemote};
 
 use crate::places::keep_slice;
 use adb_client::{Phase, Want};

@@ -1,5 +1,8 @@
-pub mod Asked
-pub mod Service
-pub mod Stream
+pub mod Serving
+pub mod Device
+pub mod Held
+pub mod Behind
+pub mod Daemon
 pub mod Link
-pub mod Due
+pub mod Streams
+pub mod Allowed

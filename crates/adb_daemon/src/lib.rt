@@ -1,18 +1,17 @@
-//! A model of a device: its services (SERVICES.TXT, SYNC.TXT).
+//! A model of a device, over packets (protocol.txt): its link to the host, its streams, and their
+//! services.
 #![tactic(auto)]
 
-mod answers;
-mod asked;
-mod due;
-mod link;
-mod service;
-mod stream;
-mod writes;
+mod daemon;
+mod error;
+mod laws;
+mod machine;
+mod services;
+mod table;
 
-pub use answers::{answer_okay, answer_open, answer_write};
-pub use asked::{Asked, read_service, service_name};
-pub use due::push_packet;
-pub use link::{Link, credit_word_in, read_cnxn};
-pub use service::Service;
-pub use stream::Stream;
-pub use writes::Outgoing;
+pub use daemon::Daemon;
+pub use error::DaemonError;
+pub use laws::{
+    refusals_stay, streams_are_settled, streams_write_their_answers, what_is_owed_was_let_out,
+    windows_are_exact, writes_are_acknowledged,
+};

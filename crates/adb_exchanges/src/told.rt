@@ -2,7 +2,7 @@
 
 ghost use Rattle.std.specs.Prelude.{◌≤◌, length};
 
-use adb_device::{Daemon, DaemonError};
+use adb_daemon::{Daemon, DaemonError};
 use adb_files::Files;
 use adb_outside::Text;
 use byteorder::{ByteOrder, LittleEndian};

@@ -1,12 +1,12 @@
 -- Every legal history is fifo.
 use Rattle.adb_history.specs.Machine.{History, IsLegal}
 use Rattle.adb_history.specs.Fifo.{IsFifo}
-use Rattle.adb_births.proofs.Born.{all_births}
-use Rattle.adb_births.proofs.Sent.{all_packets}
-use Rattle.adb_births.proofs.Crossing.{no_crossing}
-use Rattle.adb_fifo_up.proofs.Fifo.{up, up_whole, up_window}
-use Rattle.adb_fifo_down.proofs.Handed.{hands_told, hands_whole_told}
-use Rattle.adb_fifo_down.proofs.Acknowledged.{keeps_down_window}
+use Rattle.adb_laws_births.proofs.Born.{all_births}
+use Rattle.adb_laws_births.proofs.Sent.{all_packets}
+use Rattle.adb_laws_births.proofs.Crossing.{no_crossing}
+use Rattle.adb_laws_fifo_up.proofs.Fifo.{up, up_whole, up_window}
+use Rattle.adb_laws_fifo_down.proofs.Handed.{hands_told, hands_whole_told}
+use Rattle.adb_laws_fifo_down.proofs.Acknowledged.{keeps_down_window}
 
 pub all_fifo : (h : History) → IsLegal h → IsFifo h
 all_fifo h legal = record {

@@ -15,10 +15,10 @@ use Rattle.adb_history.specs.Book.{asked}
 use Rattle.adb_history.specs.Births.{Birth, born, Opening, opening_of, lead_of, handed_to}
 use Rattle.adb_history.specs.Lives.{output_of}
 use Rattle.adb_history.proofs.Growing.{owed_append}
-use Rattle.adb_births.specs.Single.{ByClient}
-use Rattle.adb_births.specs.Births.{born_stays}
-use Rattle.adb_births.specs.Brought.{opening_grows}
-use Rattle.adb_births.proofs.Single.{asked_stays, births_of}
+use Rattle.adb_laws_births.specs.Single.{ByClient}
+use Rattle.adb_laws_births.specs.Births.{born_stays}
+use Rattle.adb_laws_births.specs.Brought.{opening_grows}
+use Rattle.adb_laws_births.proofs.Single.{asked_stays, births_of}
 use Rattle.adb_headline.specs.Handed.{StaysPut, StaysHanded, StaysDue}
 
 prefix_same : (xs : List ℕ) → IsPrefixOf xs xs

@@ -11,8 +11,8 @@ use Rattle.adb_history.specs.Asking.{Asked, reads_on}
 use Rattle.adb_history.specs.Reading.{has_asked, asks, goes_on}
 use Rattle.adb_asking.specs.Plan.{asking, asked_by}
 use Rattle.adb_asking.specs.declared.plan.Plan.{Plan}
-use Rattle.adb_rest.specs.Wanted.{IsSoundNext}
-use Rattle.adb_rest.proofs.WantedReads.{sound_next}
+use Rattle.adb_laws_resting.specs.Wanted.{IsSoundNext}
+use Rattle.adb_laws_resting.proofs.WantedReads.{sound_next}
 use Rattle.adb_rules.specs.declared.tables.Tables.{Tables}
 use Rattle.adb_rules.specs.Tables.{client_row, state_of}
 use Rattle.adb_rules.specs.Up.{IsSized}

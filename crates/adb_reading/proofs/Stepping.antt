@@ -15,13 +15,13 @@ use Rattle.adb_history.specs.Reading.{asked_before, asks, reads_in, reads_from, 
 use Rattle.adb_history.specs.Machine.{step}
 use Rattle.adb_history.specs.Orderly.{IsOrderly}
 use Rattle.adb_history.proofs.OrderlyStates.{orderly}
-use Rattle.adb_rest.specs.Resting.{SendsNothingBy, GoesUpAlone, AllSized, has_open_stream, is_open_phase}
-use Rattle.adb_rest.specs.Wanted.{CanBeDone}
-use Rattle.adb_rest.proofs.RestingSteps.{all_send_nothing}
-use Rattle.adb_rest.proofs.RestingOpen.{goes_up_alone}
-use Rattle.adb_rest.proofs.RestingDevices.{sized}
-use Rattle.adb_rest.proofs.WantedReads.{none_at_zero}
-use Rattle.adb_rest.proofs.WantedStates.{can_be_done}
+use Rattle.adb_laws_resting.specs.Resting.{SendsNothingBy, GoesUpAlone, AllSized, has_open_stream, is_open_phase}
+use Rattle.adb_laws_resting.specs.Wanted.{CanBeDone}
+use Rattle.adb_laws_resting.proofs.RestingSteps.{all_send_nothing}
+use Rattle.adb_laws_resting.proofs.RestingOpen.{goes_up_alone}
+use Rattle.adb_laws_resting.proofs.RestingDevices.{sized}
+use Rattle.adb_laws_resting.proofs.WantedReads.{none_at_zero}
+use Rattle.adb_laws_resting.proofs.WantedStates.{can_be_done}
 use Rattle.adb_rules.specs.declared.tables.Tables.{Tables}
 use Rattle.adb_rules.specs.Tables.{state_of, phase_in}
 use Rattle.adb_rules.specs.Fit.{IsReached, Makes, Keeps}

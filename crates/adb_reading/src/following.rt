@@ -10,7 +10,7 @@ ghost use Rattle.adb_history.specs.Clients.{closes};
 ghost use Rattle.adb_history.specs.Forwarding.{put_forward};
 ghost use Rattle.adb_history.specs.Streams.{opens};
 ghost use Rattle.adb_history.specs.Reading.{tracks, awaits, goes_on};
-ghost use Rattle.adb_rest.specs.Wanted.{IsSoundNext, IsRebound};
+ghost use Rattle.adb_laws_resting.specs.Wanted.{IsSoundNext, IsRebound};
 ghost use Rattle.adb_rules.specs.Fit.{IsFit};
 ghost use Rattle.adb_rules.specs.Tables.{state_of, client_row};
 ghost use Rattle.adb_rules.specs.Tracked.{clients_of, IsAmong};

@@ -15,10 +15,10 @@ use Rattle.adb_history.specs.Packets.{receives_on}
 use Rattle.adb_history.proofs.Received.{ReadTie, framed_piece, received}
 use Rattle.adb_history.proofs.Sweep.{up_to}
 use Rattle.adb_rules.specs.Sweep.{CoversUp}
-use Rattle.adb_rest.specs.Named.{granted, AllStay, cut_behind}
-use Rattle.adb_rest.specs.Resting.{AllSized}
-use Rattle.adb_rest.proofs.NamedStreams.{all_leave_still}
-use Rattle.adb_rest.proofs.RestingDevices.{sized}
+use Rattle.adb_laws_resting.specs.Named.{granted, AllStay, cut_behind}
+use Rattle.adb_laws_resting.specs.Resting.{AllSized}
+use Rattle.adb_laws_resting.proofs.NamedStreams.{all_leave_still}
+use Rattle.adb_laws_resting.proofs.RestingDevices.{sized}
 use Rattle.adb_receiving.specs.Settling.{behind, LeavesNamed}
 
 -- the up rule leaves the devices

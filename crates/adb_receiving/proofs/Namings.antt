@@ -11,7 +11,7 @@ use Rattle.adb_wire.specs.declared.command.Command.{Command}
 use Rattle.adb_wire.specs.declared.command.Command.TheVariants.{Cnxn, Open, Okay, Wrte, Clse, Auth, Stls}
 use Rattle.adb_wire.specs.declared.packets.Packet.{Packet}
 use Rattle.adb_rules.specs.Tracked.{IsAmong}
-use Rattle.adb_rest.specs.Named.{named_also, named_by}
+use Rattle.adb_laws_resting.specs.Named.{named_also, named_by}
 use Rattle.adb_receiving.specs.Naming.{named_if, named_on, NamesAlso, AreNamedBefore}
 
 -- ---- an id is put among others

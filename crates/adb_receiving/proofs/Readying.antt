@@ -23,7 +23,7 @@ use Rattle.adb_rules.specs.Places.{LinkRoom, HoldsAsReady, StaysHeld}
 use Rattle.adb_rules.specs.Up.{up_bytes, up_writes, IsCut, is_for, IsCutFor as IsCutIn, IsCutOf, writes_for, writes_of as writes_in, writes_up}
 use Rattle.adb_rules.specs.Sweep.{writes_if_on, writes_on, IsReadyEach}
 use Rattle.adb_rules.proofs.Using.{more_room}
-use Rattle.adb_rest.specs.Named.{credit_to_send, granted, HoldsAs, StaysAs, AllStay}
+use Rattle.adb_laws_resting.specs.Named.{credit_to_send, granted, HoldsAs, StaysAs, AllStay}
 use Rattle.adb_receiving.specs.Reserving.{IsCutFor, IsCutAt, writes_of, writes_at, all_writes, IsReserved}
 
 -- ---- a flow that was given no more credit than was counted writes no more

@@ -20,7 +20,7 @@ use Rattle.adb_rules.specs.Came.{packets_of}
 use Rattle.adb_rules.specs.Tables.{link_row, state_of}
 use Rattle.adb_rules.specs.Places.{StaysRead}
 use Rattle.adb_rules.specs.Fit.{IsReadOut, IsReadOutAt, IsFit, IsReached, Keeps, Makes}
-use Rattle.adb_rest.specs.Named.{cut_behind}
+use Rattle.adb_laws_resting.specs.Named.{cut_behind}
 use Rattle.adb_receiving.specs.declared.cutting.Cutting.{Cutting}
 use Rattle.adb_receiving.specs.Cutting.{IsCutTo, cut_of, cut_in}
 use Rattle.adb_receiving.specs.Settling.{behind, LeavesNamed, HasSettled}

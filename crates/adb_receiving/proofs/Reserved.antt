@@ -8,7 +8,7 @@ use Rattle.adb_rules.specs.declared.tables.Tables.{Tables}
 use Rattle.adb_rules.specs.Came.{packets_of, slices_in}
 use Rattle.adb_rules.specs.Places.{LinkRoom, ClientRoom}
 use Rattle.adb_rules.specs.Tracked.{IsAmong}
-use Rattle.adb_rest.specs.Named.{granted}
+use Rattle.adb_laws_resting.specs.Named.{granted}
 use Rattle.adb_receiving.specs.Counting.{count_at, credit_in}
 use Rattle.adb_receiving.specs.Naming.{AreNamedOn}
 use Rattle.adb_receiving.specs.Reserving.{HaveMore, IsCutAt, all_writes, IsReserved}

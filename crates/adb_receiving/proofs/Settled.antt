@@ -24,7 +24,7 @@ use Rattle.adb_rules.specs.Up.{IsSized}
 use Rattle.adb_rules.proofs.Staying.{read_then}
 use Rattle.adb_rules.proofs.Taking.{provided_after}
 use Rattle.adb_rules.proofs.Using.{more_room}
-use Rattle.adb_rest.specs.Named.{granted, AllStay, AreNamed}
+use Rattle.adb_laws_resting.specs.Named.{granted, AllStay, AreNamed}
 use Rattle.adb_receiving.specs.declared.cutting.Cutting.{Cutting}
 use Rattle.adb_receiving.specs.Cutting.{cut_in}
 use Rattle.adb_receiving.specs.Reserving.{all_writes, IsReserved}

@@ -15,8 +15,8 @@ use Rattle.adb_rules.specs.declared.ports.Port.{Port}
 use Rattle.adb_rules.specs.declared.tables.Tables.{Tables}
 use Rattle.adb_rules.specs.Tables.{link_row, state_of}
 use Rattle.adb_rules.specs.Fit.{IsReadOutAt, IsFit, IsReached, Keeps, Makes}
-use Rattle.adb_rest.specs.Named.{cut_behind}
-use Rattle.adb_rest.proofs.RestingSteps.{all_send_nothing}
+use Rattle.adb_laws_resting.specs.Named.{cut_behind}
+use Rattle.adb_laws_resting.proofs.RestingSteps.{all_send_nothing}
 use Rattle.adb_receiving.specs.Cutting.{cut_of}
 use Rattle.adb_receiving.specs.Reserving.{HasMoreAt, HasMorePlacesAt}
 use Rattle.adb_receiving.specs.Settling.{PutsIncoming, reading, waiting, behind}

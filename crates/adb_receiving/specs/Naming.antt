@@ -6,7 +6,7 @@ use Rattle.adb_wire.specs.declared.command.Command.{Command}
 use Rattle.adb_wire.specs.declared.command.Command.TheVariants.{Okay}
 use Rattle.adb_wire.specs.declared.packets.Packet.{Packet}
 use Rattle.adb_rules.specs.Tracked.{IsAmong}
-use Rattle.adb_rest.specs.Named.{named_by}
+use Rattle.adb_laws_resting.specs.Named.{named_by}
 
 -- the stream that a packet names, where it lives and is one of that link
 abbrev pub named_if : Command → ℕ → Bool → Option ℕ

@@ -13,7 +13,7 @@ use Rattle.adb_rules.specs.Places.{LinkRoom, ClientRoom}
 use Rattle.adb_rules.specs.Tables.{client_row}
 use Rattle.adb_rules.specs.Tracked.{IsAmong}
 use Rattle.adb_rules.specs.Up.{IsCut, up_writes}
-use Rattle.adb_rest.specs.Named.{granted}
+use Rattle.adb_laws_resting.specs.Named.{granted}
 use Rattle.adb_receiving.specs.Naming.{AreNamedOn}
 
 -- ---- clients

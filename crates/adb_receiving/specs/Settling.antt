@@ -10,8 +10,8 @@ use Rattle.adb_rules.specs.declared.tables.Tables.{Tables}
 use Rattle.adb_rules.specs.Tables.{state_of}
 use Rattle.adb_rules.specs.Places.{IsProvided, StaysRead}
 use Rattle.adb_rules.specs.Sweep.{CoversUp}
-use Rattle.adb_rest.specs.Named.{granted, AllStay, AreNamed}
-use Rattle.adb_rest.specs.Resting.{AllSized}
+use Rattle.adb_laws_resting.specs.Named.{granted, AllStay, AreNamed}
+use Rattle.adb_laws_resting.specs.Resting.{AllSized}
 use Rattle.adb_receiving.specs.declared.cutting.Cutting.{Cutting}
 use Rattle.adb_receiving.specs.Cutting.{IsCutting, cut_in}
 use Rattle.adb_receiving.specs.Reserving.{IsReserved}

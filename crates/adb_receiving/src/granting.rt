@@ -3,7 +3,7 @@
 ghost use Rattle.std.specs.Prelude.{◌≡◌, ◌+◌, ℕ, IfOk, OnOk};
 ghost use Rattle.adb_outside.specs.Tables.{at};
 ghost use Rattle.adb_rules.specs.Came.{packet_of, packets_of};
-ghost use Rattle.adb_rest.specs.Named.{granted, granted_by};
+ghost use Rattle.adb_laws_resting.specs.Named.{granted, granted_by};
 ghost use Rattle.adb_receiving.specs.Counting.{count_at};
 
 use crate::counting::add;

@@ -13,9 +13,9 @@ use Rattle.adb_load.specs.declared.act.Act.TheVariants.{Plug, Greet, Come, Ask, 
 use Rattle.adb_load.specs.Acts.{entry_of}
 use Rattle.adb_load.specs.Course.{start}
 use Rattle.adb_load.specs.Load.{load, entries_of, acts_ahead, GivesFirst}
-use Rattle.adb_load_laws.specs.Taken.{IsTaken}
-use Rattle.adb_machine.specs.Machine.{Applies, HandsNext}
-use Rattle.adb_machine.proofs.Adding.{drain_adds, drained_adds}
+use Rattle.adb_laws_loads.specs.Taken.{IsTaken}
+use Rattle.adb_entries.specs.Machine.{Applies, HandsNext}
+use Rattle.adb_entries.proofs.Adding.{drain_adds, drained_adds}
 use Rattle.adb_run_load.specs.Counted.{IsCount}
 use Rattle.adb_run_load.specs.Fronts.{HoldsFront, StandsForFront, IsReady}
 use Rattle.adb_run_load.specs.declared.count.Count.{Count}

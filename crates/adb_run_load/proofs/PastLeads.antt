@@ -11,7 +11,7 @@ use Rattle.adb_history.specs.Machine.{History, IsLegal}
 use Rattle.adb_history.specs.Bytes.{bytes_put}
 use Rattle.adb_history.specs.Tied.{came_count}
 use Rattle.adb_history.proofs.Numbers.{next_number}
-use Rattle.adb_load_laws.specs.Totals.{sum_to, past_leads, lead_len}
+use Rattle.adb_laws_loads.specs.Totals.{sum_to, past_leads, lead_len}
 use Rattle.adb_run_load.specs.Totals.{told}
 use Rattle.adb_run_load.specs.Counted.{IsDown, Comes, Hands, AddsDown, lead_at}
 use Rattle.adb_run_load.specs.declared.down.Down.{Down}

@@ -13,7 +13,7 @@ use Rattle.adb_capture.specs.declared.entry.Entry.TheVariants.{Join, Enter, Read
 use Rattle.adb_history.specs.Machine.{History, IsLegal}
 use Rattle.adb_history.specs.Bytes.{bytes_sent, sent}
 use Rattle.adb_history.specs.Book.{plugged_count}
-use Rattle.adb_load_laws.specs.Totals.{sum_to, up_of, wrote_in}
+use Rattle.adb_laws_loads.specs.Totals.{sum_to, up_of, wrote_in}
 use Rattle.adb_run_load.specs.Totals.{told}
 use Rattle.adb_run_load.specs.Counted.{IsUp, AddsUp, HasRead, HasReadAt, HasBegun, Writes, WritesAt, Wrote, WroteOn}
 use Rattle.adb_run_load.specs.declared.up.Up.{Up}

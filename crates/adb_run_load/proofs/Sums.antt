@@ -4,7 +4,7 @@ use Rattle.std.proofs.Common.{length, refl, sym, ◌∙◌, ap, subst, cond, ari
 use Rattle.std.proofs.lemmas.Bool.Decides.{eqb_tells}
 use Rattle.adb_wire.specs.declared.packets.Packet.{Packet}
 use Rattle.adb_history.specs.Births.{is_wrte}
-use Rattle.adb_load_laws.specs.Totals.{sum_to, wrote_in}
+use Rattle.adb_laws_loads.specs.Totals.{sum_to, wrote_in}
 use Rattle.adb_run_load.specs.Totals.{told}
 
 -- ---- numbers that are told

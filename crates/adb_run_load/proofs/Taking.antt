@@ -4,7 +4,7 @@ use Rattle.std.proofs.lemmas.List.{append_assoc}
 use Rattle.adb_wire.specs.Deframing.{Deframing, StandsFor, Gives}
 use Rattle.adb_wire.specs.declared.packets.Packet.{Packet}
 use Rattle.adb_history.specs.Births.{is_wrte}
-use Rattle.adb_load_laws.specs.Totals.{wrote_in}
+use Rattle.adb_laws_loads.specs.Totals.{wrote_in}
 use Rattle.adb_run_load.specs.Totals.{told}
 use Rattle.adb_run_load.proofs.Sums.{told_more, wrote_append}
 

@@ -10,7 +10,7 @@ use Rattle.adb_history.specs.Machine.{History}
 use Rattle.adb_history.specs.Bytes.{bytes_put, bytes_sent}
 use Rattle.adb_history.specs.Book.{plugged_count}
 use Rattle.adb_history.specs.Tied.{came_count}
-use Rattle.adb_load_laws.specs.Totals.{up_of, past_leads, lead_len, wrote_in}
+use Rattle.adb_laws_loads.specs.Totals.{up_of, past_leads, lead_len, wrote_in}
 use Rattle.adb_run_load.specs.Totals.{told}
 use Rattle.adb_run_load.specs.declared.count.Count.{Count}
 use Rattle.adb_run_load.specs.declared.down.Down.{Down}

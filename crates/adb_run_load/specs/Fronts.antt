@@ -6,7 +6,7 @@ use Rattle.adb_history.specs.Accepted.{is_input}
 use Rattle.adb_history.specs.Kept.{Kept, IsLawful}
 use Rattle.adb_history.specs.Drained.{drained_from}
 use Rattle.adb_load.specs.Load.{load}
-use Rattle.adb_load_laws.specs.Taken.{IsTaken}
+use Rattle.adb_laws_loads.specs.Taken.{IsTaken}
 use Rattle.adb_run_load.specs.Totals.{totals_of}
 use Rattle.adb_run_load.specs.Counted.{IsCount}
 use Rattle.adb_run_load.specs.declared.count.Count.{Count}

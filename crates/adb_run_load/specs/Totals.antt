@@ -1,7 +1,7 @@
 -- What went through a hub in a history, as it is told.
 use Rattle.std.specs.Prelude.{ℕ, ◌-◌, ◌^◌, min, length}
 use Rattle.adb_history.specs.Machine.{History}
-use Rattle.adb_load_laws.specs.Totals.{up_of, down_of}
+use Rattle.adb_laws_loads.specs.Totals.{up_of, down_of}
 use Rattle.adb_run_load.specs.declared.totals.Totals.{Totals}
 
 -- a number, or the last of 64 bits where it is past that

@@ -6,18 +6,18 @@ ghost use Rattle.adb_history.specs.Drained.{drain_all, drained_after};
 ghost use Rattle.adb_history.specs.Kept.{IsLawful};
 ghost use Rattle.adb_history.specs.Machine.{History, IsLegal};
 ghost use Rattle.adb_load.specs.Load.{load};
-ghost use Rattle.adb_load_laws.specs.Taken.{IsTaken};
+ghost use Rattle.adb_laws_loads.specs.Taken.{IsTaken};
 ghost use Rattle.adb_run_load.specs.Counted.{IsCount};
 ghost use Rattle.adb_run_load.specs.Fronts.{HasRun, IsCounted, IsReady, Reaches, StandsForFront};
 
 use crate::count::Count;
 use crate::totals::Totals;
 use adb_capture::Entry;
+use adb_entries::{Refused, apply, hand_next};
 use adb_history::draining_ends;
 use adb_hub::Hub;
+use adb_laws_loads::{loads_are_accepted, totals_of_loads};
 use adb_load::Load;
-use adb_load_laws::{loads_are_accepted, totals_of_loads};
-use adb_machine::{Refused, apply, hand_next};
 use std::alloc::{AllocError, Global};
 
 /// The most streams of a load.

@@ -4,7 +4,7 @@ ghost use Rattle.std.specs.Prelude.{◌≡◌, ◌≢◌, ◌++◌, ℕ, List, [
 ghost use Rattle.adb_wire.specs.Deframing.{StandsFor};
 ghost use Rattle.adb_wire.specs.declared.packets.Packet.{Packet};
 ghost use Rattle.adb_history.specs.Births.{is_wrte};
-ghost use Rattle.adb_load_laws.specs.Totals.{wrote_in};
+ghost use Rattle.adb_laws_loads.specs.Totals.{wrote_in};
 ghost use Rattle.adb_run_load.specs.Counted.{HasRead, Wrote};
 ghost use Rattle.adb_run_load.specs.Totals.{told};
 

@@ -14,8 +14,8 @@ use Rattle.adb_history.specs.Machine.{History, IsLegal}
 use Rattle.adb_history.specs.Drained.{drained, drained_from}
 use Rattle.adb_history.specs.Refusal.{refusal_by}
 use Rattle.adb_history.specs.Accepted.{Accepted, accepted, ends_with, accept_records, has_magic, replayed}
-use Rattle.adb_answered.proofs.ServedLaws.{answered}
-use Rattle.adb_causes.proofs.AllCauses.{all_causes}
+use Rattle.adb_laws_answered.proofs.ServedLaws.{answered}
+use Rattle.adb_laws_causes.proofs.AllCauses.{all_causes}
 use Rattle.adb_headline.proofs.Fifo.{all_fifo}
 use Rattle.adb_top.specs.Stop.{stop_of}
 use Rattle.adb_top.specs.Keeping.{Out, Keeps, HasFront, KeepsAs}

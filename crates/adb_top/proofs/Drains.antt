@@ -8,12 +8,12 @@ use Rattle.adb_history.specs.Machine.{History, state, IsLegal}
 use Rattle.adb_history.specs.Kept.{Kept, IsLawful}
 use Rattle.adb_history.specs.Drained.{owed, drain_all}
 use Rattle.adb_history.specs.Settling.{IsDrainedFrom}
-use Rattle.adb_machine.specs.Machine.{HandsNext}
+use Rattle.adb_entries.specs.Machine.{HandsNext}
 use Rattle.adb_top.specs.Keeping.{Out, Keeps, KeepsEntry, LosesRest, IsLoss}
 use Rattle.adb_top.specs.Replay.{written_of, capture_of, IsFrontOf, GoesOn, Drains}
 use Rattle.adb_top.specs.declared.stop.Stop.{Stop}
 use Rattle.adb_top.specs.declared.stop.Stop.TheVariants.{ReadFault, WriteFault, OutOfMemory, Refused}
-use Rattle.adb_machine.proofs.Adding.{drain_adds}
+use Rattle.adb_entries.proofs.Adding.{drain_adds}
 
 -- an entry more
 pub written_more : (e : Entry) (h : History) → written_of (e ∷ h) ≡ written_of h ++ record_of e

@@ -7,12 +7,12 @@ use Rattle.adb_history.specs.Machine.{History, state, IsLegal}
 use Rattle.adb_history.specs.Kept.{Kept, IsLawful}
 use Rattle.adb_history.specs.Drained.{drain_all, drained_after}
 use Rattle.adb_history.specs.Accepted.{refusal_of, is_input}
-use Rattle.adb_machine.specs.Machine.{Applies}
+use Rattle.adb_entries.specs.Machine.{Applies}
 use Rattle.adb_top.specs.Stop.{stop_at}
 use Rattle.adb_top.specs.Keeping.{Out, KeepsEntry, IsLoss}
 use Rattle.adb_top.specs.Replay.{IsDrained, IsFrontOf, Drains, DrainsTo, ReplaysEntry, EntryGives, IsReached, history_after}
-use Rattle.adb_machine.specs.declared.refused.Refused as machine
-use Rattle.adb_machine.specs.declared.refused.Refused.TheVariants as refused
+use Rattle.adb_entries.specs.declared.refused.Refused as machine
+use Rattle.adb_entries.specs.declared.refused.Refused.TheVariants as refused
 use Rattle.adb_top.specs.declared.stop.Stop.{Stop}
 use Rattle.adb_top.specs.declared.stop.Stop.TheVariants.{ReadFault, WriteFault, OutOfMemory, Refused}
 use Rattle.adb_top.proofs.Drains.{entry_kept, loses, goes_on, drain_front}

@@ -2,8 +2,8 @@
 use Rattle.std.proofs.Common.{ℕ, ◌≡◌, ◌∙◌, List, ◌++◌, take, drop, Option, Some, Err, subst}
 use Rattle.std.proofs.lemmas.List.{take-append-drop}
 use Rattle.adb_history.specs.Machine.{History, IsLegal}
-use Rattle.adb_answered.proofs.ServedLaws.{answered}
-use Rattle.adb_causes.proofs.AllCauses.{all_causes}
+use Rattle.adb_laws_answered.proofs.ServedLaws.{answered}
+use Rattle.adb_laws_causes.proofs.AllCauses.{all_causes}
 use Rattle.adb_headline.proofs.Fifo.{all_fifo}
 use Rattle.adb_top.specs.Keeping.{HasFront}
 use Rattle.adb_top.specs.Loads.{IsPromised, WritesLines, LoadBy}

@@ -23,7 +23,7 @@ use Rattle.adb_top.specs.Stop.{stop_of}
 use Rattle.adb_top.specs.Replay.{capture_of, IsDrained, IsFrontOf, ReplaysEntry, EntryGives, IsReached, Reaches, EndsAs, Moment, IsAhead, Consumes, Replays}
 use Rattle.adb_top.specs.declared.stop.Stop.{Stop}
 use Rattle.adb_top.specs.declared.stop.Stop.TheVariants.{ReadFault, WriteFault, OutOfMemory, Refused}
-use Rattle.adb_machine.proofs.Adding.{drained_adds}
+use Rattle.adb_entries.proofs.Adding.{drained_adds}
 use Rattle.adb_top.proofs.Accepting.{accept_front, accept_first, accept_stopped, nothing_given, nothing_refused}
 use Rattle.adb_top.proofs.Drains.{goes_on}
 use Rattle.adb_top.proofs.Records.{ComesOn, Came, Replaying, comes, front_so_far, held_stopped, Gives, given_next, Turn, IsRunning, came_on}

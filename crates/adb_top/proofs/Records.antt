@@ -13,7 +13,7 @@ use Rattle.adb_history.specs.Drained.{drained_after, drained_from}
 use Rattle.adb_history.specs.Accepted.{Accepted, is_input, accept_by, unless_stopped, accept_records}
 use Rattle.adb_top.specs.Keeping.{Keeps}
 use Rattle.adb_top.specs.Replay.{capture_of, IsDrained, IsFrontOf, ReplaysEntry, Moment, IsAhead}
-use Rattle.adb_machine.proofs.Adding.{drained_adds}
+use Rattle.adb_entries.proofs.Adding.{drained_adds}
 use Rattle.adb_top.proofs.Accepting.{accept_at, accept_entry, accept_front, accept_first}
 
 -- what is still to come, of all that a capture gives

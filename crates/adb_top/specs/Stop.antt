@@ -4,8 +4,8 @@ use Rattle.adb_capture.specs.declared.error.CaptureError.{CaptureError}
 use Rattle.adb_capture.specs.declared.error.CaptureError.TheVariants as capture
 use Rattle.adb_history.specs.Refusal.{refusal_by}
 use Rattle.adb_history.specs.declared.refusal.Refusal.{Refusal}
-use Rattle.adb_machine.specs.declared.refused.Refused.TheVariants as refused
-use Rattle.adb_machine.specs.declared.refused.Refused as machine
+use Rattle.adb_entries.specs.declared.refused.Refused.TheVariants as refused
+use Rattle.adb_entries.specs.declared.refused.Refused as machine
 use Rattle.adb_top.specs.declared.stop.Stop.{Stop}
 use Rattle.adb_top.specs.declared.stop.Stop.TheVariants.{ReadFault, OutOfMemory, Refused}
 

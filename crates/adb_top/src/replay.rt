@@ -7,7 +7,7 @@ ghost use Rattle.adb_capture.specs.Records.{HasRecord};
 ghost use Rattle.adb_history.specs.Machine.{History};
 ghost use Rattle.adb_history.specs.Kept.{IsLawful};
 ghost use Rattle.adb_history.specs.Accepted.{is_input};
-ghost use Rattle.adb_machine.specs.Machine.{IsHeld};
+ghost use Rattle.adb_entries.specs.Machine.{IsHeld};
 ghost use Rattle.adb_top.specs.Replay.{IsDrained, Drains, ReplaysEntry, Replays, moment};
 ghost use Rattle.adb_top.specs.Replayed.{ReplaysCapture};
 ghost use Rattle.adb_top.specs.Keeping.{KeepsEntry, CountsReads, IsLoss, is_write_fault, is_read_fault};
@@ -15,9 +15,9 @@ ghost use Rattle.adb_top.specs.Keeping.{KeepsEntry, CountsReads, IsLoss, is_writ
 use crate::output::Output;
 use crate::stop::Stop;
 use adb_capture::{CaptureReader, Entry};
+use adb_entries::{apply, hand_next};
 use adb_history::draining_ends;
 use adb_hub::Hub;
-use adb_machine::{apply, hand_next};
 use adb_outside::{Sink, Source};
 use std::alloc::Global;
 

@@ -4,8 +4,8 @@ ghost use Rattle.std.specs.Prelude.{◌≡◌};
 ghost use Rattle.adb_top.specs.Stop.{stop_at};
 
 use adb_capture::CaptureError;
+use adb_entries::Refused;
 use adb_history::Refusal;
-use adb_machine::Refused;
 use std::alloc::AllocError;
 
 /// Why a replay stops before the end of its capture.

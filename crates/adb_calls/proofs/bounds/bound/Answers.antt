@@ -1,8 +1,8 @@
 use Rattle.std.proofs.Common.{◌≡◌, Option, Some, None, refl, sym, subst}
 use Rattle.adb_client.specs.declared.about.Want.{Want}
 use Rattle.adb_history.specs.Rows.{Client, State}
-use Rattle.adb_rest.specs.Wanted.{CanBeDone}
-use Rattle.adb_rest.proofs.WantedStates.{can_be_done}
+use Rattle.adb_laws_resting.specs.Wanted.{CanBeDone}
+use Rattle.adb_laws_resting.proofs.WantedStates.{can_be_done}
 use Rattle.adb_rules.specs.Tables.{state_of}
 use Rattle.adb_calls.specs.Binding.{IsWanted, WantsForward}
 use Rattle.adb_calls.proofs.bounds.bound.Goals as goal

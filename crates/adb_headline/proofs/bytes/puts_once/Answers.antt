@@ -1,4 +1,4 @@
-use Rattle.adb_answered.proofs.HeardLaws.{handed_front}
+use Rattle.adb_laws_answered.proofs.HeardLaws.{handed_front}
 use Rattle.adb_headline.proofs.Handed.{stays_due}
 use Rattle.adb_headline.proofs.bytes.puts_once.Goals as goal
 

@@ -1,4 +1,4 @@
-use Rattle.adb_fifo_down.proofs.Handed.{hands_told}
+use Rattle.adb_laws_fifo_down.proofs.Handed.{hands_told}
 use Rattle.adb_headline.proofs.Written.{hands_written, writes_to_one}
 use Rattle.adb_headline.proofs.bytes.streams_see_their_own_bytes.Goals as goal
 

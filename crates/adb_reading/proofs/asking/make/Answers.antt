@@ -3,7 +3,7 @@ use Rattle.std.proofs.lemmas.Result.{on_ok_weaker}
 use Rattle.adb_outside.specs.Tables.{at}
 use Rattle.adb_history.specs.Rows.{State}
 use Rattle.adb_history.specs.Reading.{goes_on}
-use Rattle.adb_rest.specs.Wanted.{IsSoundNext}
+use Rattle.adb_laws_resting.specs.Wanted.{IsSoundNext}
 use Rattle.adb_rules.specs.declared.tables.Tables.{Tables}
 use Rattle.adb_reading.specs.Asking.{hears}
 use Rattle.adb_reading.proofs.Planned.{planned, plan_fits, plan_follows, plan_within, heard_of}

@@ -2,7 +2,7 @@ use Rattle.std.proofs.Common.{ℕ, ◌+◌, ◌≡◌}
 use Rattle.std.specs.VecDeque.Iter.{deque_iter_rest}
 use Rattle.adb_outside.specs.Tables.{at}
 use Rattle.adb_rules.specs.Came.{packets_of}
-use Rattle.adb_rest.specs.Named.{granted}
+use Rattle.adb_laws_resting.specs.Named.{granted}
 use Rattle.adb_receiving.specs.Counting.{count_at}
 use Rattle.adb_receiving.proofs.granting.granted.Given as goal
 

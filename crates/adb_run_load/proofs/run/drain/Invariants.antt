@@ -1,4 +1,4 @@
-use Rattle.adb_machine.specs.Remaining.{remaining}
+use Rattle.adb_entries.specs.Remaining.{remaining}
 use Rattle.adb_run_load.proofs.Loads.{HandingOut}
 use Rattle.adb_run_load.proofs.run.drain.Given as goal
 

@@ -2,8 +2,8 @@ use Rattle.std.proofs.Common.{◌∷◌, [], Err, subst}
 use Rattle.std.proofs.lemmas.Result.{err_from_is_err_and}
 use Rattle.adb_history.specs.Kept.{IsLawful}
 use Rattle.adb_history.specs.Machine.{History}
-use Rattle.adb_machine.specs.Machine.{Applies}
-use Rattle.adb_machine.specs.declared.refused.Refused.{Refused}
+use Rattle.adb_entries.specs.Machine.{Applies}
+use Rattle.adb_entries.specs.declared.refused.Refused.{Refused}
 use Rattle.adb_run_load.proofs.Loads.{entry_made, before_draining, then_more, whole_front}
 use Rattle.adb_run_load.proofs.run.make_entry.Goals as goal
 

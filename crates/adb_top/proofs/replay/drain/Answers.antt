@@ -4,7 +4,7 @@ use Rattle.std.proofs.lemmas.Result.{err_from_is_err_and}
 use Rattle.adb_capture.specs.declared.entry.Entry.{Entry}
 use Rattle.adb_top.specs.Keeping.{Out}
 use Rattle.adb_top.proofs.Counting.{counts_then}
-use Rattle.adb_machine.specs.Remaining.{remaining}
+use Rattle.adb_entries.specs.Remaining.{remaining}
 use Rattle.adb_top.proofs.Drains.{Hands, HandOut, draining_on, draining_over, draining_stopped, draining_lost}
 use Rattle.adb_top.proofs.replay.drain.Goals as goal
 

@@ -1,6 +1,6 @@
 use Rattle.std.proofs.Common.{false}
 use Rattle.adb_outside.specs.Outside.{Counts}
-use Rattle.adb_machine.specs.Remaining.{remaining}
+use Rattle.adb_entries.specs.Remaining.{remaining}
 use Rattle.adb_top.proofs.Drains.{HandingOut}
 use Rattle.adb_top.proofs.replay.drain.Given as goal
 

@@ -1,5 +1,0 @@
-use Rattle.adb_answered.proofs.HeardLaws.{nothing_more}
-use Rattle.adb_answered.proofs.answered.nothing_more_is_said.Goals as goal
-
-pub returns : goal.returns
-returns c = nothing_more

@@ -1,5 +1,0 @@
-use Rattle.adb_answered.proofs.ServedLaws.{answered}
-use Rattle.adb_answered.proofs.served.every_legal_history_is_answered.Goals as goal
-
-pub returns : goal.returns
-returns c = answered

@@ -1,5 +1,0 @@
-use Rattle.adb_births.proofs.Single.{births_of}
-use Rattle.adb_births.proofs.clients.births_are_of_clients.Goals as goal
-
-pub returns : goal.returns
-returns c = births_of

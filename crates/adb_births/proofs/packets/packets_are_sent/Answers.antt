@@ -1,5 +1,0 @@
-use Rattle.adb_births.proofs.Sent.{all_packets}
-use Rattle.adb_births.proofs.packets.packets_are_sent.Goals as goal
-
-pub returns : goal.returns
-returns c = all_packets

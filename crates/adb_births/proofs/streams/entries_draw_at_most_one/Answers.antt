@@ -1,5 +1,0 @@
-use Rattle.adb_births.proofs.Laws.{draws_at_most_one}
-use Rattle.adb_births.proofs.streams.entries_draw_at_most_one.Goals as goal
-
-pub returns : goal.returns
-returns c = draws_at_most_one

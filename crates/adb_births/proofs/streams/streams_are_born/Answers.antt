@@ -1,5 +1,0 @@
-use Rattle.adb_births.proofs.Born.{all_births}
-use Rattle.adb_births.proofs.streams.streams_are_born.Goals as goal
-
-pub returns : goal.returns
-returns c = all_births

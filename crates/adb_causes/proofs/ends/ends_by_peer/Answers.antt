@@ -1,5 +1,0 @@
-use Rattle.adb_causes.proofs.LinkEnds.{all_by_peer}
-use Rattle.adb_causes.proofs.ends.ends_by_peer.Goals as goal
-
-pub returns : goal.returns
-returns c = all_by_peer

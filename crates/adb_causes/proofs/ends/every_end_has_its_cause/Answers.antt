@@ -1,5 +1,0 @@
-use Rattle.adb_causes.proofs.AllCauses.{all_causes}
-use Rattle.adb_causes.proofs.ends.every_end_has_its_cause.Goals as goal
-
-pub returns : goal.returns
-returns c = all_causes

@@ -1,5 +1,0 @@
-use Rattle.adb_daemon.specs.Stream.{row_acked}
-use Rattle.adb_daemon.proofs.answers.answer_okay.Goals as goal
-
-pub returns-clause-settles : goal.returns-clause-settles
-returns-clause-settles c = λ row stands. c.in_ok-done.ensures.settles (row_acked c.args.word row) (c.acked.ensures row stands)

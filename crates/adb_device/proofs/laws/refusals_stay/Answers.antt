@@ -1,5 +1,0 @@
-use Rattle.adb_device.proofs.Feeding.{answer_stays}
-use Rattle.adb_device.proofs.laws.refusals_stay.Goals as goal
-
-pub returns : goal.returns
-returns c = answer_stays

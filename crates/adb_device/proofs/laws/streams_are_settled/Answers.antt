@@ -1,5 +1,0 @@
-use Rattle.adb_device.proofs.Quiet.{streams_settled}
-use Rattle.adb_device.proofs.laws.streams_are_settled.Goals as goal
-
-pub returns : goal.returns
-returns c = streams_settled

@@ -1,5 +1,0 @@
-use Rattle.adb_device.proofs.Rules.{streams_write}
-use Rattle.adb_device.proofs.laws.streams_write_their_answers.Goals as goal
-
-pub returns : goal.returns
-returns c = λ setting packets own some. streams_write own some setting packets

@@ -1,5 +1,0 @@
-use Rattle.adb_device.proofs.Exact.{windows_exact}
-use Rattle.adb_device.proofs.laws.windows_are_exact.Goals as goal
-
-pub returns : goal.returns
-returns c = λ setting packets own some timely. windows_exact own some setting packets timely

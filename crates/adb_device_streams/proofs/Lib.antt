@@ -1,0 +1,4 @@
+pub mod Syncing
+pub mod Taking
+pub mod Windows
+pub mod Growing

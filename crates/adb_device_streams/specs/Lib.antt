@@ -1,0 +1,5 @@
+pub mod Asked
+pub mod Service
+pub mod Stream
+pub mod Link
+pub mod Due

@@ -1,0 +1,18 @@
+//! A model of a device: its services (SERVICES.TXT, SYNC.TXT).
+#![tactic(auto)]
+
+mod answers;
+mod asked;
+mod due;
+mod link;
+mod service;
+mod stream;
+mod writes;
+
+pub use answers::{answer_okay, answer_open, answer_write};
+pub use asked::{Asked, read_service, service_name};
+pub use due::push_packet;
+pub use link::{Link, credit_word_in, read_cnxn};
+pub use service::Service;
+pub use stream::Stream;
+pub use writes::Outgoing;

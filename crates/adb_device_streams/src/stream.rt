@@ -1,0 +1,169 @@
+//! A stream at the device's end.
+
+ghost use Rattle.std.specs.Prelude.{◌≡◌, ◌≤◌, ◌<◌, length, IfOk, IfSome, OnOk, OnErr};
+ghost use Rattle.adb_device_streams.specs.Asked.{kind_of};
+ghost use Rattle.adb_device_streams.specs.Service.{came_over, files_opened, out_of};
+ghost use Rattle.adb_device_streams.specs.Stream.{Row, StandsFor, TakesFirst, TakesWrite, TakesWriteFront, MakesWrite, CanWrite};
+ghost use Rattle.adb_device_streams.specs.Stream.{opened, row_acked, is_done, first_flow, room_of, flow_past, flow_acked, is_acked};
+
+use crate::asked::Asked;
+use crate::service::Service;
+use adb_files::Files;
+use adb_outside::Text;
+use adb_stream::{Credit, Flow, Window};
+use std::alloc::{AllocError, Global};
+
+/// A stream at the device's end (protocol.txt, OPEN): the host's id, the service, and what the window
+/// still lets the device write.
+#[derive(Drop)]
+pub struct Stream {
+    pub host: u32,
+    pub service: Service,
+    pub flow: Flow,
+}
+
+impl Stream {
+    /// Opens the stream of a host's id. The credit of its OPEN is told where the link has credit in
+    /// bytes. After want of memory the files are as before.
+    pub fn open(
+        alloc: Global,
+        files: &mut Files,
+        host: u32,
+        asked: Asked<'_>,
+        credit: Option<u32>,
+    ) -> Result<Stream, AllocError>
+        ensures stream { IfOk result (λ stream.
+            StandsFor (opened host (kind_of asked.entry) files.old credit) stream) }
+        ensures files { OnOk result (files.new ≡ files_opened (kind_of asked.entry) files.old) }
+        ensures err { OnErr result (files.new ≡ files.old) }
+    {
+        let service = Service::open(alloc, files, asked)?;
+        Ok(Stream {
+            host,
+            service,
+            flow: first_flow(credit),
+        })
+    }
+
+    /// Takes the payload of a write that came. After want of memory a front of the answer was given.
+    pub fn take_write(&mut self, files: &mut Files, payload: &[u8]) -> Result<(), AllocError>
+        ensures ok { OnOk result ((row : Row) → StandsFor row self.old
+            → TakesWrite (came_over payload.now files.old) row self.new files.new) }
+        ensures err { OnErr result ((row : Row) → StandsFor row self.old
+            → TakesWriteFront (came_over payload.now files.old) row self.new files.new) }
+    {
+        self.service.feed(files, payload)
+    }
+
+    /// An OKAY came, with a credit word or without.
+    pub fn acked(&mut self, word: Option<u32>)
+        ensures { (row : Row) → StandsFor row self.old → StandsFor (row_acked word row) self.new }
+    {
+        acked(&mut self.flow, word);
+    }
+
+    /// The payload of the next write, of at most `most` bytes; `None` where the window lets none go or
+    /// nothing is left to write. After want of memory what is left of the answer is lost.
+    pub fn next_write(&mut self, alloc: Global, most: usize) -> Result<Option<Text>, AllocError>
+        ensures write { IfOk result (λ payload. (row : Row) → StandsFor row self.old
+            → MakesWrite most row self.new payload) }
+        ensures short { IfOk result (λ next. IfSome next (λ payload. length payload ≤ most)) }
+        ensures less { IfOk result (λ next. IfSome next (λ payload.
+            length (out_of self.new.service) < length (out_of self.old.service))) }
+    {
+        let payload = take_first(alloc, &mut self.service, room(&self.flow, most))?;
+        if payload.is_empty() {
+            return Ok(None);
+        }
+        wrote(&mut self.flow, payload.len());
+        Ok(Some(payload))
+    }
+
+    /// Whether the service has ended, all is written, and no write is outstanding.
+    pub fn is_done(&self) -> bool
+        ensures { (row : Row) → StandsFor row self.now → result ≡ is_done row }
+    {
+        self.service.ended() && self.service.out().is_empty() && is_acked(&self.flow)
+    }
+}
+
+/// What a stream may write at first: one write, or where the link has credit in bytes the credit that
+/// its OPEN gives.
+fn first_flow(credit: Option<u32>) -> Flow
+    ensures { result ≡ first_flow credit }
+{
+    match credit {
+        None => Flow::One(Window::new()),
+        Some(given) => {
+            let mut credit = Credit::new();
+            credit.grant(given);
+            Flow::Credit(credit)
+        }
+    }
+}
+
+/// How many bytes the next write may have, where a write may have at most `most`.
+fn room(flow: &Flow, most: usize) -> usize
+    ensures room { result ≡ room_of flow.now most }
+    ensures most { result ≤ most }
+{
+    match flow {
+        Flow::One(window) => { if window.can_write() { most } else { 0 } }
+        Flow::Credit(credit) => most.min(credit.can_send() as usize),
+    }
+}
+
+/// A write of `n` bytes was sent.
+fn wrote(flow: &mut Flow, n: usize)
+    requires { CanWrite flow.old n }
+    ensures { flow.new ≡ flow_past flow.old n }
+{
+    match flow {
+        Flow::One(window) => window.wrote(),
+        Flow::Credit(credit) => credit.sent(n.min(credit.can_send() as usize) as u32),
+    }
+}
+
+/// An OKAY came, with a credit word or without.
+fn acked(flow: &mut Flow, word: Option<u32>)
+    ensures { flow.new ≡ flow_acked flow.old word }
+{
+    match flow {
+        Flow::One(window) => {
+            window.acked();
+        }
+        Flow::Credit(credit) => {
+            if let Some(more) = word {
+                credit.grant(more);
+            }
+        }
+    }
+}
+
+/// Whether no write is outstanding.
+fn is_acked(flow: &Flow) -> bool
+    ensures { result ≡ is_acked flow.now }
+{
+    match flow {
+        Flow::One(window) => window.can_write(),
+        Flow::Credit(_) => true,
+    }
+}
+
+/// Takes the first bytes of an answer, at most `room` of them: all of these that are there. After want
+/// of memory some of them are lost.
+fn take_first(alloc: Global, service: &mut Service, room: usize) -> Result<Text, AllocError>
+    ensures { IfOk result (λ payload. TakesFirst room service.old service.new payload) }
+{
+    let mut payload = Text::new(alloc);
+    while payload.len() < room {
+        let front = service.out();
+        let n = front.len().min(room - payload.len());
+        if n == 0 {
+            return Ok(payload);
+        }
+        payload.push_slice(&front[..n])?;
+        service.taken(n);
+    }
+    Ok(payload)
+}

@@ -1,0 +1,96 @@
+//! Making an entry.
+
+ghost use Rattle.std.specs.Prelude.{◌≡◌, ◌+◌, ◌<◌, nat_eq, false};
+ghost use Rattle.adb_outside.specs.declared.kinds.Kind.{Kind};
+ghost use Rattle.adb_capture.specs.declared.entry.Entry.{Entry};
+ghost use Rattle.adb_capture.specs.Records.{HasRecord};
+ghost use Rattle.adb_history.specs.Machine.{History};
+ghost use Rattle.adb_history.specs.Kept.{IsLawful};
+ghost use Rattle.adb_entries.specs.Machine.{Applies};
+ghost use Rattle.adb_entries.specs.Refused.{applied_as};
+
+use crate::refused::Refused;
+use adb_capture::Entry;
+use adb_history::Reason;
+use adb_hub::{Hub, HubError, Life};
+use adb_outside::Kind;
+
+/// Makes the next entry of the history that a hub holds. A hand-out that was recorded is passed
+/// over. After a refusal, and after want of memory, the history is as before.
+pub fn apply(hub: &mut Hub, entry: &Entry) -> Result<(), Refused>
+    requires form { HasRecord entry.now }
+    requires running { hub.old.stopped ≡ false }
+    ensures { (h : History) → IsLawful hub.old h → Applies h entry.now result hub.new }
+{
+    match entry {
+        Entry::Join { client } => join(hub, *client),
+        Entry::Enter { client, port } => enter(hub, *client, *port),
+        Entry::Read { client, bytes } => lived(hub.read(*client, bytes.as_slice())),
+        Entry::End { client, cause } => lived(hub.end(*client, *cause)),
+        Entry::Bound { client, port } => lived(hub.bound(*client, *port)),
+        Entry::Attach { link, kind, serial } => attach(hub, *link, *kind, serial.as_slice()),
+        Entry::Recv { link, bytes } => lived(hub.recv(*link, bytes.as_slice())),
+        Entry::Detach { link, cause } => lived(hub.detach(*link, *cause)),
+        Entry::Put { .. } | Entry::Send { .. } => Ok(()),
+    }
+}
+
+/// A client comes, under the number that its record names.
+fn join(hub: &mut Hub, client: u32) -> Result<(), Refused>
+    requires { hub.old.stopped ≡ false }
+    ensures { (h : History) → IsLawful hub.old h
+        → Applies h (Entry.Join client) result hub.new }
+{
+    if !is_next(hub.joined(), client) {
+        return Err(Refused::Because(Reason::NotDrawn));
+    }
+    came(hub.join())
+}
+
+/// A client comes through the forward of a port, under the number that its record names.
+fn enter(hub: &mut Hub, client: u32, port: u16) -> Result<(), Refused>
+    requires running { hub.old.stopped ≡ false }
+    requires port { 0 < port }
+    ensures { (h : History) → IsLawful hub.old h
+        → Applies h (Entry.Enter client port) result hub.new }
+{
+    if !is_next(hub.joined(), client) {
+        return Err(Refused::Because(Reason::NotDrawn));
+    }
+    came(hub.enter(port))
+}
+
+/// A device is plugged in, under the number that its record names.
+fn attach(hub: &mut Hub, link: u32, kind: Kind, serial: &[u8]) -> Result<(), Refused>
+    requires { hub.old.stopped ≡ false }
+    ensures { (h : History) → IsLawful hub.old h
+        → Applies h (Entry.Attach link kind serial.now) result hub.new }
+{
+    if !is_next(hub.plugged(), link) {
+        return Err(Refused::Because(Reason::NotDrawn));
+    }
+    came(hub.attach(kind, serial))
+}
+
+/// Whether a number is the next after those that were drawn.
+fn is_next(drawn: u32, number: u32) -> bool
+    ensures { result ≡ nat_eq number (drawn + 1) }
+{
+    drawn.checked_add(1) == Some(number)
+}
+
+/// What a call about a client or a link that came before answers of its entry.
+fn lived(answer: Result<Life, HubError>) -> Result<(), Refused>
+    ensures { result ≡ applied_as answer }
+{
+    answer?;
+    Ok(())
+}
+
+/// What a call that draws a number answers of its entry.
+fn came(answer: Result<u32, HubError>) -> Result<(), Refused>
+    ensures { result ≡ applied_as answer }
+{
+    answer?;
+    Ok(())
+}

@@ -1,0 +1,89 @@
+//! Making the next hand-out.
+
+ghost use Rattle.std.specs.Prelude.{◌≡◌, ◌<◌, true, IfOk, IfSome, OnErr, option_map};
+ghost use Rattle.adb_capture.specs.declared.entry.Entry.{Entry};
+ghost use Rattle.adb_capture.specs.Records.{HasRecord};
+ghost use Rattle.adb_history.specs.Accepted.{is_drawn};
+ghost use Rattle.adb_history.specs.Machine.{History};
+ghost use Rattle.adb_history.specs.Kept.{IsLawful};
+ghost use Rattle.adb_entries.specs.Machine.{HandsNext, IsHeld, Puts, Sends, bytes_of};
+ghost use Rattle.adb_entries.specs.Remaining.{remaining};
+
+use adb_capture::Entry;
+use adb_history::order::every_legal_state_is_orderly;
+use adb_history::{HAND_OUT, draining_ends};
+use adb_hub::{Handed, Hub, HubError, Owner};
+use std::alloc::AllocError;
+
+/// Makes the next hand-out of the history that a hub holds: at most 65,536 bytes, to the first link
+/// to which bytes are due, or else to the first client; `None` where nothing is due. Each hand-out
+/// makes those that are still to come one less. After want of memory the history is as before.
+pub fn hand_next(hub: &mut Hub) -> Result<Option<Entry>, AllocError>
+    requires { IsHeld hub.old }
+    ensures next { IfOk result (λ out. (h : History) → IsLawful hub.old h
+        → HandsNext h out hub.new) }
+    ensures form { IfOk result (λ out. IfSome out HasRecord) }
+    ensures fewer { IfOk result (λ out. IfSome out
+        (λ _. remaining hub.new < remaining hub.old)) }
+    ensures err { OnErr result (hub.new ≡ hub.old) }
+{
+    draining_ends();
+    every_legal_state_is_orderly();
+    match hub.next_due() {
+        Some(Owner::Link(link)) => send(hub, link),
+        Some(Owner::Client(client)) => put(hub, client),
+        None => Ok(None),
+    }
+}
+
+/// Puts the first bytes that are due to a client.
+fn put(hub: &mut Hub, client: u32) -> Result<Option<Entry>, AllocError>
+    requires held { IsHeld hub.old }
+    requires drawn { is_drawn hub.old.joined client ≡ true }
+    ensures put { IfOk result (λ out. (h : History) → IsLawful hub.old h
+        → Puts client h out hub.old hub.new) }
+    ensures form { IfOk result (λ out. IfSome out HasRecord) }
+    ensures err { OnErr result (hub.new ≡ hub.old) }
+{
+    match hub.put(client, HAND_OUT) {
+        Ok(handed) => Ok(put_of(client, handed)),
+        Err(HubError::OutOfMemory) => Err(AllocError),
+        Err(_) => unreachable!(),
+    }
+}
+
+/// Sends the first bytes that are due on a link.
+fn send(hub: &mut Hub, link: u32) -> Result<Option<Entry>, AllocError>
+    requires held { IsHeld hub.old }
+    requires drawn { is_drawn hub.old.devices.drawn link ≡ true }
+    ensures sent { IfOk result (λ out. (h : History) → IsLawful hub.old h
+        → Sends link h out hub.old hub.new) }
+    ensures form { IfOk result (λ out. IfSome out HasRecord) }
+    ensures err { OnErr result (hub.new ≡ hub.old) }
+{
+    match hub.send(link, HAND_OUT) {
+        Ok(handed) => Ok(send_of(link, handed)),
+        Err(HubError::OutOfMemory) => Err(AllocError),
+        Err(_) => unreachable!(),
+    }
+}
+
+/// The entry of what was put to a client, where anything was.
+fn put_of(client: u32, handed: Handed) -> Option<Entry>
+    ensures { result ≡ option_map (Entry.Put client) (bytes_of handed) }
+{
+    match handed {
+        Handed::Bytes(bytes) => Some(Entry::Put { client, bytes }),
+        Handed::Nothing | Handed::Done => None,
+    }
+}
+
+/// The entry of what was sent on a link, where anything was.
+fn send_of(link: u32, handed: Handed) -> Option<Entry>
+    ensures { result ≡ option_map (Entry.Send link) (bytes_of handed) }
+{
+    match handed {
+        Handed::Bytes(bytes) => Some(Entry::Send { link, bytes }),
+        Handed::Nothing | Handed::Done => None,
+    }
+}

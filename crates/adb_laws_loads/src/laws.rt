@@ -1,0 +1,44 @@
+//! What holds of every load, entry after entry, with all that is due handed out after each.
+
+ghost use Rattle.std.specs.Prelude.{◌≡◌, ◌<◌, ◌≤◌, ◌^◌, ◌∷◌, ◌++◌, ℕ, List, [], length, None};
+ghost use Rattle.adb_capture.specs.declared.entry.Entry.{Entry};
+ghost use Rattle.adb_capture.specs.declared.limits.TheConstants.{CAPTURE_LIMIT};
+ghost use Rattle.adb_capture.specs.Records.{magic, records_of};
+ghost use Rattle.adb_history.specs.Accepted.{accepted};
+ghost use Rattle.adb_history.specs.Drained.{drained_from};
+ghost use Rattle.adb_history.specs.Machine.{IsLegal};
+ghost use Rattle.adb_load.specs.Load.{load};
+ghost use Rattle.adb_laws_loads.specs.Taken.{IsTaken};
+ghost use Rattle.adb_laws_loads.specs.Totals.{down_of, past_leads};
+
+/// Each entry of a load may come when it comes, and none of them stops the server.
+pub fn loads_are_accepted()
+    ensures { (seed streams : ℕ) (front rest : List Entry) (e : Entry)
+        → load seed streams ≡ front ++ e ∷ rest
+        → IsLegal (drained_from [] front) → IsTaken (drained_from [] front) e }
+{}
+
+/// What a server makes of a load, with all that is due handed out after each entry, is a legal
+/// history, and so is what it makes of any of its first entries.
+pub fn loads_are_legal()
+    ensures whole { (seed streams : ℕ) → streams < 2 ^ 32
+        → IsLegal (drained_from [] (load seed streams)) }
+    ensures fronts { (seed streams : ℕ) (front rest : List Entry) → streams < 2 ^ 32
+        → load seed streams ≡ front ++ rest → IsLegal (drained_from [] front) }
+{}
+
+/// The capture of a load is read to its end by whoever replays it: each of its records gives an
+/// entry that comes, and none is refused. A capture has at most `CAPTURE_LIMIT` bytes.
+pub fn captures_of_loads_are_accepted()
+    ensures { (seed streams : ℕ) → streams < 2 ^ 32
+        → let capture = magic ++ records_of (load seed streams) in length capture ≤ CAPTURE_LIMIT
+        → accepted capture ≡ record { inputs = load seed streams; refused = None } }
+{}
+
+/// What is put to the clients of a load past the two replies that lead it is what their devices
+/// wrote to their streams. A load has fewer than 65,536 streams, which whoever makes one has to see
+/// to.
+pub fn totals_of_loads()
+    ensures { (seed streams : ℕ) → streams < 2 ^ 16
+        → let h = drained_from [] (load seed streams) in down_of h ≡ past_leads h }
+{}

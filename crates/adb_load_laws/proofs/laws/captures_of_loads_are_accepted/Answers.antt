@@ -1,5 +1,0 @@
-use Rattle.adb_load_laws.proofs.Replays.{load_accepted}
-use Rattle.adb_load_laws.proofs.laws.captures_of_loads_are_accepted.Goals as goal
-
-pub returns : goal.returns
-returns c = load_accepted

@@ -1,5 +1,0 @@
-use Rattle.adb_rest.proofs.NamedLinks.{keeps_rest}
-use Rattle.adb_rest.proofs.named.links_keep_what_is_cut.Goals as goal
-
-pub returns : goal.returns
-returns c = keeps_rest

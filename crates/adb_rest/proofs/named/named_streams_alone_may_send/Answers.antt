@@ -1,5 +1,0 @@
-use Rattle.adb_rest.proofs.NamedStreams.{all_leave_still}
-use Rattle.adb_rest.proofs.named.named_streams_alone_may_send.Goals as goal
-
-pub returns : goal.returns
-returns c = all_leave_still

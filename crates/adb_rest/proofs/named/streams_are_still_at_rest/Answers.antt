@@ -1,5 +1,0 @@
-use Rattle.adb_rest.proofs.NamedStreams.{all_still}
-use Rattle.adb_rest.proofs.named.streams_are_still_at_rest.Goals as goal
-
-pub returns : goal.returns
-returns c = all_still

@@ -1,5 +1,0 @@
-use Rattle.adb_rest.proofs.RestingDevices.{sized}
-use Rattle.adb_rest.proofs.resting.no_device_takes_more.Goals as goal
-
-pub returns : goal.returns
-returns c = λ h legal t. sized h t

@@ -1,5 +1,0 @@
-use Rattle.adb_rest.proofs.WantedStates.{can_be_done}
-use Rattle.adb_rest.proofs.wanted.what_clients_want_can_be_done.Goals as goal
-
-pub returns : goal.returns
-returns c = can_be_done

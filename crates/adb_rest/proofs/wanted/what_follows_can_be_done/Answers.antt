@@ -1,9 +1,0 @@
-use Rattle.adb_rest.proofs.WantedReads.{sound_next}
-use Rattle.adb_rest.proofs.WantedStates.{sound_over_table}
-use Rattle.adb_rest.proofs.wanted.what_follows_can_be_done.Goals as goal
-
-pub returns-clause-read : goal.returns-clause-read
-returns-clause-read c = sound_next
-
-pub returns-clause-asked : goal.returns-clause-asked
-returns-clause-asked c = sound_over_table
