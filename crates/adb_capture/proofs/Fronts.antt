@@ -10,7 +10,7 @@ use Rattle.adb_outside.specs.declared.framer.Front.{Front}
 use Rattle.adb_outside.specs.declared.framer.Front.TheVariants.{More, Bad, Whole}
 use Rattle.adb_outside.specs.Framing.{IsFraming}
 use Rattle.adb_capture.specs.declared.entry.Entry.{Entry}
-use Rattle.adb_capture.specs.declared.limits.TheConstants.{HEADER_LEN, DATA_LIMIT, CAPTURE_LIMIT}
+use Rattle.adb_capture.specs.declared.limits.TheConstants.{HEADER_LEN, MAX_DATA, MAX_CAPTURE}
 use Rattle.adb_capture.specs.declared.error.FormFault.{FormFault}
 use Rattle.adb_capture.specs.declared.error.FormFault.TheVariants.{BadRecord, TooLong}
 use Rattle.adb_capture.specs.declared.error.Why.TheVariants.{UnknownKind, TooLarge}
@@ -28,8 +28,8 @@ on_content offset x = if nat_lt (length x) (HEADER_LEN + size_in x) then More el
 abbrev on_header : ℕ → ℕ → ℕ → Front FormFault → Front FormFault
 on_header offset kind size others =
     if not (is_kind kind) then Bad (BadRecord offset UnknownKind)
-    else (if nat_lt DATA_LIMIT size then Bad (BadRecord offset TooLarge)
-    else (if nat_lt CAPTURE_LIMIT (offset + HEADER_LEN + size) then Bad (TooLong offset)
+    else (if nat_lt MAX_DATA size then Bad (BadRecord offset TooLarge)
+    else (if nat_lt MAX_CAPTURE (offset + HEADER_LEN + size) then Bad (TooLong offset)
     else others))
 
 as_tested : (offset : ℕ) (x : List ℕ)
@@ -70,8 +70,8 @@ refusal_is_no_more fault e = cc
 pub record IsWhole (offset : ℕ) (x : List ℕ) (n : ℕ) : Type 0 where
   pub size : n ≡ HEADER_LEN + size_in x
   pub fits : HEADER_LEN + size_in x ≤ length x
-  pub small : size_in x ≤ DATA_LIMIT
-  pub near : offset + HEADER_LEN + size_in x ≤ CAPTURE_LIMIT
+  pub small : size_in x ≤ MAX_DATA
+  pub near : offset + HEADER_LEN + size_in x ≤ MAX_CAPTURE
   pub known : is_kind (kind_in x) ≡ true
   pub entry : Entry
   pub formed : entry_of x ≡ Some entry
@@ -174,8 +174,8 @@ bad_stays offset x y error h =
     ∙ (ap (λ k. on_header offset k (size_in (x ++ y)) (on_content offset (x ++ y))) (kind_before x y nine)
     ∙ (ap (λ n. on_header offset (kind_in x) n (on_content offset (x ++ y))) size
     ∙ refused_on (not (is_kind (kind_in x))) (Bad (BadRecord offset UnknownKind)) _ _ error
-    (refused_on (nat_lt DATA_LIMIT (size_in x)) (Bad (BadRecord offset TooLarge)) _ _ error
-    (refused_on (nat_lt CAPTURE_LIMIT (offset + HEADER_LEN + size_in x)) (Bad (TooLong offset)) _ _ error last)) first.1)))
+    (refused_on (nat_lt MAX_DATA (size_in x)) (Bad (BadRecord offset TooLarge)) _ _ error
+    (refused_on (nat_lt MAX_CAPTURE (offset + HEADER_LEN + size_in x)) (Bad (TooLong offset)) _ _ error last)) first.1)))
   where
     first : (nat_lt (length x) HEADER_LEN ≡ false) × (on_header offset (kind_in x) (size_in x) (on_content offset x) ≡ Bad error)
     first = passed _ _ _ _ (more_is_no_refusal error) (sym (as_tested offset x) ∙ h)
@@ -209,11 +209,11 @@ part_of true offset size e h = refl
 part_of false offset size None h = cc
 part_of false offset size (Some e) h = cc
 
-within_longest : (n size : ℕ) → size ≤ DATA_LIMIT → n < HEADER_LEN + size → n < HEADER_LEN + DATA_LIMIT
+within_longest : (n size : ℕ) → size ≤ MAX_DATA → n < HEADER_LEN + size → n < HEADER_LEN + MAX_DATA
 within_longest n size small part = omega (arith, small, part)
 
 -- Bytes that are no whole record yet are fewer than the longest record.
-pub more_is_short : (offset : ℕ) (x : List ℕ) → record_at offset x ≡ More → length x < HEADER_LEN + DATA_LIMIT
+pub more_is_short : (offset : ℕ) (x : List ℕ) → record_at offset x ≡ More → length x < HEADER_LEN + MAX_DATA
 more_is_short offset x h =
     elim (cases_lt (length x) HEADER_LEN) [
       | inl l ↦ omega (arith, l)

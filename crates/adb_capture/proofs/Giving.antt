@@ -8,14 +8,14 @@ use Rattle.adb_capture.specs.declared.entry.Entry.{Entry}
 use Rattle.adb_capture.specs.declared.error.FormFault.TheVariants as form
 use Rattle.adb_capture.specs.declared.error.CaptureError.{CaptureError}
 use Rattle.adb_capture.specs.declared.error.CaptureError.TheVariants.{BadMagic, BadRecord, Truncated, TooLong, ReadFault, OutOfMemory}
-use Rattle.adb_capture.specs.declared.limits.TheConstants.{CAPTURE_LIMIT}
+use Rattle.adb_capture.specs.declared.limits.TheConstants.{MAX_CAPTURE}
 use Rattle.adb_capture.specs.Records.{magic, record_at, entry_in}
 use Rattle.adb_capture.specs.Reading.{Reading, past_magic, to_give, ahead, GivesRecord, GivesNext, IsRefused}
 use Rattle.adb_capture.specs.Awaiting.{HoldsAll, AwaitsRecord}
 use Rattle.adb_capture.proofs.Fronts.{whole_tells, whole_stays, whole_alone, bad_stays}
 
 -- a whole record lies within the bytes and the capture
-pub whole_fits : (offset : ℕ) (x : List ℕ) (n : ℕ) → record_at offset x ≡ Whole n → (n ≤ length x) × (offset + n ≤ CAPTURE_LIMIT)
+pub whole_fits : (offset : ℕ) (x : List ℕ) (n : ℕ) → record_at offset x ≡ Whole n → (n ≤ length x) × (offset + n ≤ MAX_CAPTURE)
 whole_fits offset x n w = let t = whole_tells offset x n w in (omega (arith, t.size, t.fits), omega (arith, t.size, t.near))
 
 pub whole_given : (offset : ℕ) (x y : List ℕ) (n : ℕ) → record_at offset x ≡ Whole n → y ≡ x → record_at offset (take n y) ≡ Whole (length (take n y))

@@ -17,7 +17,7 @@ use Rattle.adb_outside.specs.declared.kinds.Cause.{Cause}
 use Rattle.adb_outside.specs.declared.kinds.Cause.TheVariants.{Eof, Fault, Starved, NoThread}
 use Rattle.adb_capture.specs.declared.entry.Entry.{Entry}
 use Rattle.adb_capture.specs.declared.entry.Entry.TheVariants.{Join, Enter, Read, End, Bound, Attach, Recv, Detach, Put, Send}
-use Rattle.adb_capture.specs.declared.limits.TheConstants.{HEADER_LEN, CAPTURE_LIMIT}
+use Rattle.adb_capture.specs.declared.limits.TheConstants.{HEADER_LEN, MAX_CAPTURE}
 use Rattle.adb_capture.specs.Records.{record_at, is_kind, kind_in, owner_in, size_in, data_in, entry_at, entry_in, or_join, kind_of, number_of}
 use Rattle.adb_capture.specs.Records.{data_of, record_of, cause_byte, plug_letter, HasRecord, HasPort, cause_at, port_at, plug_at, join_at, enter_at}
 use Rattle.adb_capture.specs.Records.{bound_at, end_at, detach_at, attach_by, attach_at}
@@ -87,7 +87,7 @@ pub length_record : (e : Entry) → length (record_of e) ≡ HEADER_LEN + length
 length_record e = omega arith
 
 -- An entry's record is read as a whole one, whatever follows.
-pub spelled_whole : (offset : ℕ) (e : Entry) (rest : List ℕ) → HasRecord e → offset + length (record_of e) ≤ CAPTURE_LIMIT
+pub spelled_whole : (offset : ℕ) (e : Entry) (rest : List ℕ) → HasRecord e → offset + length (record_of e) ≤ MAX_CAPTURE
     → record_at offset (record_of e ++ rest) ≡ Whole (length (record_of e))
 spelled_whole offset e rest h near =
     let s = size_again e rest h in

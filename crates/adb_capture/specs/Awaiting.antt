@@ -6,14 +6,14 @@ use Rattle.adb_outside.specs.declared.framer.Front.TheVariants.{More, Bad, Whole
 use Rattle.adb_capture.specs.declared.error.FormFault.TheVariants as form
 use Rattle.adb_capture.specs.declared.error.CaptureError.{CaptureError}
 use Rattle.adb_capture.specs.declared.error.CaptureError.TheVariants.{BadMagic, BadRecord, Truncated, TooLong, ReadFault, OutOfMemory}
-use Rattle.adb_capture.specs.declared.limits.TheConstants.{READ_LIMIT}
+use Rattle.adb_capture.specs.declared.limits.TheConstants.{MAX_READ}
 use Rattle.adb_capture.specs.Counting.{KeepsBytes}
 use Rattle.adb_capture.specs.Records.{magic, record_at}
 use Rattle.adb_capture.specs.Reading.{past_magic}
 
 -- A read brings at least one byte and at most one read's, or says that no more come.
 abbrev pub ReadsMore : {E : Type 0} → List ℕ → Option (List ℕ) → List ℕ → Result Got E → Type 0
-ReadsMore held_before before held (Ok (Bytes n)) = (0 < n) × (n ≤ READ_LIMIT) × (length held ≡ length held_before + n)
+ReadsMore held_before before held (Ok (Bytes n)) = (0 < n) × (n ≤ MAX_READ) × (length held ≡ length held_before + n)
 ReadsMore held_before before held (Ok End) = (held ≡ held_before) × ((coming : List ℕ) → before ≡ Some coming → coming ≡ [])
 ReadsMore held_before before held (Ok Failed) = held ≡ held_before
 ReadsMore held_before before held (Err e) = held ≡ held_before

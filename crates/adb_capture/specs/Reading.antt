@@ -6,7 +6,7 @@ use Rattle.adb_capture.specs.declared.entry.Entry.{Entry}
 use Rattle.adb_capture.specs.declared.error.FormFault.TheVariants as form
 use Rattle.adb_capture.specs.declared.error.CaptureError.{CaptureError}
 use Rattle.adb_capture.specs.declared.error.CaptureError.TheVariants.{BadMagic, BadRecord, Truncated, TooLong, ReadFault, OutOfMemory}
-use Rattle.adb_capture.specs.declared.limits.TheConstants.{HEADER_LEN, DATA_LIMIT, CAPTURE_LIMIT, READ_LIMIT}
+use Rattle.adb_capture.specs.declared.limits.TheConstants.{HEADER_LEN, MAX_DATA, MAX_CAPTURE, MAX_READ}
 use Rattle.adb_capture.specs.Counting.{KeepsBytes}
 use Rattle.adb_capture.specs.Records.{magic, record_at, entry_in, offset_after, HasRecord}
 
@@ -35,7 +35,7 @@ ahead_of reader left = option_and_then (ahead reader) left
 
 -- A reader holds no more than one record and one read past it.
 abbrev pub HoldsFew : List ℕ → Type 0
-HoldsFew held = length held < HEADER_LEN + DATA_LIMIT + READ_LIMIT
+HoldsFew held = length held < HEADER_LEN + MAX_DATA + MAX_READ
 
 -- A record was given, and these bytes are what is ahead then.
 pub record GivesRecord (offset : ℕ) (before : List ℕ) (given : ℕ × Entry) (next_offset : ℕ) (after : Option (List ℕ)) : Type 0 where
@@ -91,7 +91,7 @@ pub record StopsWithin (old : Reading) (before : Option (List ℕ)) (new : Readi
 -- an offset goes on, within a capture
 pub record Moves (offset next_offset : ℕ) : Type 0 where
   pub on : offset < next_offset
-  pub within : next_offset ≤ CAPTURE_LIMIT
+  pub within : next_offset ≤ MAX_CAPTURE
 
 -- A call for the next entry, of a reader without an error: what it gives of the bytes ahead, or that the magic is not there. Want of
 -- memory and a failed read lose nothing. An entry that is given has a record, which lies within a capture.

@@ -12,7 +12,7 @@ use Rattle.adb_capture.specs.declared.entry.Entry.{Entry}
 use Rattle.adb_capture.specs.declared.entry.Entry.TheVariants.{Join, Enter, Read, End, Bound, Attach, Recv, Detach, Put, Send}
 use Rattle.adb_capture.specs.declared.entry.Owner.{Owner}
 use Rattle.adb_capture.specs.declared.entry.Owner.TheVariants.{Client, Link}
-use Rattle.adb_capture.specs.declared.limits.TheConstants.{HEADER_LEN, DATA_LIMIT, CAPTURE_LIMIT}
+use Rattle.adb_capture.specs.declared.limits.TheConstants.{HEADER_LEN, MAX_DATA, MAX_CAPTURE}
 use Rattle.adb_capture.specs.declared.error.Why.TheVariants.{UnknownKind, BadForm, TooLarge}
 use Rattle.adb_capture.specs.declared.error.FormFault.{FormFault}
 use Rattle.adb_capture.specs.declared.error.FormFault.TheVariants.{BadRecord, TooLong}
@@ -97,7 +97,7 @@ pub record HasRecord (e : Entry) : Type 0 where
   pub owner : number_of e < 2 ^ 32
   pub port : HasPort e
   pub bytes : All (λ b. b < 256) (data_of e)
-  pub size : length (data_of e) ≤ DATA_LIMIT
+  pub size : length (data_of e) ≤ MAX_DATA
 
 -- the cause that a byte stands for
 abbrev pub cause_at : List ℕ → Option Cause
@@ -192,8 +192,8 @@ unfoldable pub record_at : ℕ → List ℕ → Front FormFault
 record_at offset bytes =
     if nat_lt (length bytes) HEADER_LEN then More
     else (if not (is_kind (kind_in bytes)) then Bad (BadRecord offset UnknownKind)
-    else (if nat_lt DATA_LIMIT (size_in bytes) then Bad (BadRecord offset TooLarge)
-    else (if nat_lt CAPTURE_LIMIT (offset + HEADER_LEN + size_in bytes) then Bad (TooLong offset)
+    else (if nat_lt MAX_DATA (size_in bytes) then Bad (BadRecord offset TooLarge)
+    else (if nat_lt MAX_CAPTURE (offset + HEADER_LEN + size_in bytes) then Bad (TooLong offset)
     else (if nat_lt (length bytes) (HEADER_LEN + size_in bytes) then More
     else formed offset (size_in bytes) (entry_at (kind_in bytes) (owner_in bytes) (data_in bytes))))))
 

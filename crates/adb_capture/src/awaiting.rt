@@ -3,7 +3,7 @@
 ghost use Rattle.std.specs.Prelude.{◌≤◌, Ok, Err};
 ghost use Rattle.adb_outside.specs.Outside.{Counts};
 ghost use Rattle.adb_capture.specs.Counting.{KeepsBytes, is_fault};
-ghost use Rattle.adb_capture.specs.declared.limits.TheConstants.{CAPTURE_LIMIT};
+ghost use Rattle.adb_capture.specs.declared.limits.TheConstants.{MAX_CAPTURE};
 ghost use Rattle.adb_capture.specs.Reading.{HoldsFew};
 ghost use Rattle.adb_capture.specs.Awaiting.{AwaitsMagic, AwaitsRecord};
 
@@ -45,7 +45,7 @@ pub(crate) fn await_record<S: Source>(
     offset: u64,
     source: &mut S,
 ) -> Result<Option<usize>, CaptureError>
-    requires near { offset ≤ CAPTURE_LIMIT }
+    requires near { offset ≤ MAX_CAPTURE }
     requires few { HoldsFew held.old }
     ensures few { HoldsFew held.new }
     ensures bytes { KeepsBytes held.old (S.left source.old) held.new (S.left source.new) }

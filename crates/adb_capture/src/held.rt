@@ -5,7 +5,7 @@ ghost use Rattle.adb_outside.specs.Outside.{Counts};
 ghost use Rattle.adb_capture.specs.Counting.{KeepsBytes, is_failed};
 ghost use Rattle.adb_capture.specs.Awaiting.{ReadsMore};
 
-use crate::limits::READ_LIMIT;
+use crate::limits::MAX_READ;
 use adb_outside::{ByteQueue, Got, Source};
 use std::alloc::{AllocError, Global};
 use std::marker::Model;
@@ -20,13 +20,13 @@ pub(crate) struct Held {
 
 impl Model for Held {
     ghost use Rattle.std.specs.Prelude.{◌≡◌, List, ℕ, length};
-    ghost use Rattle.adb_capture.specs.declared.limits.TheConstants.{READ_LIMIT};
+    ghost use Rattle.adb_capture.specs.declared.limits.TheConstants.{MAX_READ};
 
     ghost Value = { List ℕ };
 
     ghost view = { λ h. h.bytes.bytes };
 
-    ghost invariant = { λ h. length h.chunk.items ≡ READ_LIMIT };
+    ghost invariant = { λ h. length h.chunk.items ≡ MAX_READ };
 }
 
 impl Held {
@@ -36,7 +36,7 @@ impl Held {
     {
         Ok(Held {
             bytes: ByteQueue::new(alloc),
-            chunk: vec![in alloc; 0; READ_LIMIT]?,
+            chunk: vec![in alloc; 0; MAX_READ]?,
         })
     }
 
@@ -60,7 +60,7 @@ impl Held {
         ensures more { ReadsMore self.old (S.left source.old) self.new result }
         ensures counts { Counts S.steady S.faults source.old source.new (is_failed result) }
     {
-        self.bytes.reserve(READ_LIMIT)?;
+        self.bytes.reserve(MAX_READ)?;
         let got = source.read(&mut self.chunk);
         if let Got::Bytes(count) = got {
             self.bytes.push_spare(&self.chunk[..count]);

@@ -3,7 +3,7 @@
 ghost use Rattle.std.specs.Prelude.{◌≡◌, ◌<◌, ◌≤◌, ◌+◌, ◌++◌, ℕ, List, length, take, All};
 ghost use Rattle.adb_outside.specs.Framing.{IsFraming};
 ghost use Rattle.adb_outside.specs.declared.framer.Front.TheVariants.{More, Whole};
-ghost use Rattle.adb_capture.specs.declared.limits.TheConstants.{HEADER_LEN, DATA_LIMIT, CAPTURE_LIMIT};
+ghost use Rattle.adb_capture.specs.declared.limits.TheConstants.{HEADER_LEN, MAX_DATA, MAX_CAPTURE};
 ghost use Rattle.adb_capture.specs.declared.entry.Entry.{Entry};
 ghost use Rattle.adb_capture.specs.Records.{record_at, record_of, entry_in, offset_after, HasRecord};
 
@@ -12,13 +12,13 @@ ghost use Rattle.adb_capture.specs.Records.{record_at, record_of, entry_in, offs
 pub fn records_are_framed()
     ensures framing { IsFraming record_at entry_in offset_after }
     ensures short { (offset : ℕ) (bytes : List ℕ)
-        → record_at offset bytes ≡ More → length bytes < HEADER_LEN + DATA_LIMIT }
+        → record_at offset bytes ≡ More → length bytes < HEADER_LEN + MAX_DATA }
 {}
 
 /// What is spelled is read back, whatever follows it.
 pub fn spelled_is_read()
     ensures whole { (offset : ℕ) (e : Entry) (rest : List ℕ)
-        → HasRecord e → offset + length (record_of e) ≤ CAPTURE_LIMIT
+        → HasRecord e → offset + length (record_of e) ≤ MAX_CAPTURE
         → record_at offset (record_of e ++ rest) ≡ Whole (length (record_of e)) }
     ensures entry { (offset : ℕ) (e : Entry)
         → HasRecord e → entry_in offset (record_of e) ≡ (offset, e) }

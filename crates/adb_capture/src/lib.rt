@@ -21,7 +21,7 @@ mod writer;
 pub use entry::{Entry, Owner};
 pub use error::{CaptureError, FormFault, Why};
 pub use laws::{read_is_spelled, records_are_framed, spelled_is_read};
-pub use limits::{CAPTURE_LIMIT, DATA_LIMIT, READ_LIMIT};
+pub use limits::{MAX_CAPTURE, MAX_DATA, MAX_READ};
 pub use memory_recorder::MemoryRecorder;
 pub use reader::CaptureReader;
 pub use recorder::{NullRecorder, RecordError, Recorder};

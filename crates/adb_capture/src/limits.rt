@@ -4,10 +4,10 @@
 pub(crate) const HEADER_LEN: usize = 9;
 
 /// The most bytes of a record's data.
-pub const DATA_LIMIT: usize = 2_097_152;
+pub const MAX_DATA: usize = 2_097_152;
 
 /// The most bytes of a capture.
-pub const CAPTURE_LIMIT: u64 = 1_073_741_824;
+pub const MAX_CAPTURE: u64 = 1_073_741_824;
 
 /// The most bytes of a read of a capture's source.
-pub const READ_LIMIT: usize = 65_536;
+pub const MAX_READ: usize = 65_536;

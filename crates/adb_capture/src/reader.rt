@@ -30,7 +30,7 @@ pub struct CaptureReader {
 impl Model for CaptureReader {
     ghost use Rattle.std.specs.Prelude.{◌≤◌, ◌≢◌, Some};
     ghost use Rattle.adb_capture.specs.declared.error.CaptureError.TheVariants.{OutOfMemory};
-    ghost use Rattle.adb_capture.specs.declared.limits.TheConstants.{CAPTURE_LIMIT};
+    ghost use Rattle.adb_capture.specs.declared.limits.TheConstants.{MAX_CAPTURE};
     ghost use Rattle.adb_capture.specs.Reading.{Reading, HoldsFew};
 
     ghost Value = { Reading };
@@ -43,7 +43,7 @@ impl Model for CaptureReader {
     } };
 
     ghost invariant = { λ r. record {
-      near : r.offset ≤ CAPTURE_LIMIT;
+      near : r.offset ≤ MAX_CAPTURE;
       few : HoldsFew r.held;
       stays : r.failed ≢ Some OutOfMemory;
     } };

@@ -7,7 +7,7 @@ ghost use Rattle.adb_capture.specs.Records.{record_at, entry_in, is_kind, owner_
 use crate::entry::Entry;
 use crate::error::{FormFault, Why};
 use crate::form::Form;
-use crate::limits::{CAPTURE_LIMIT, DATA_LIMIT, HEADER_LEN};
+use crate::limits::{HEADER_LEN, MAX_CAPTURE, MAX_DATA};
 use adb_outside::Front;
 use byteorder::{ByteOrder, LittleEndian};
 use std::alloc::{AllocError, Global};
@@ -15,7 +15,7 @@ use std::alloc::{AllocError, Global};
 /// What the bytes at an offset of a capture begin with: a record, or the first of its refusals.
 #[tactic(auto, unfolding(crate::specs::Records::record_at))]
 pub(crate) fn front(offset: u64, bytes: &[u8]) -> Front<FormFault>
-    requires { offset ≤ CAPTURE_LIMIT }
+    requires { offset ≤ MAX_CAPTURE }
     ensures { result ≡ record_at offset bytes.now }
 {
     if bytes.len() < HEADER_LEN {
@@ -25,10 +25,10 @@ pub(crate) fn front(offset: u64, bytes: &[u8]) -> Front<FormFault>
         return bad(offset, Why::UnknownKind);
     }
     let size = data_len(bytes) as usize;
-    if size > DATA_LIMIT {
+    if size > MAX_DATA {
         return bad(offset, Why::TooLarge);
     }
-    if offset + HEADER_LEN as u64 + size as u64 > CAPTURE_LIMIT {
+    if offset + HEADER_LEN as u64 + size as u64 > MAX_CAPTURE {
         return Front::Bad(FormFault::TooLong { offset });
     }
     let end = HEADER_LEN + size;

@@ -10,7 +10,7 @@ use Rattle.adb_registry.specs.Registry.{DeviceTable}
 use Rattle.adb_client.specs.Client.{SeenClient}
 use Rattle.adb_capture.specs.declared.entry.Entry.{Entry}
 use Rattle.adb_capture.specs.declared.entry.Entry.TheVariants.{Put, Send}
-use Rattle.adb_history.specs.declared.hand_out.TheConstants.{HAND_OUT}
+use Rattle.adb_history.specs.declared.hand_out.TheConstants.{MAX_HAND_OUT}
 use Rattle.adb_history.specs.Tracking.{due_or, list_if_stale}
 use Rattle.adb_history.specs.Drained.{send_of, send_on, first_send, put_of, put_to, first_put, next_out}
 use Rattle.adb_history.specs.Orderly.{IsDrawnOnly}
@@ -56,7 +56,7 @@ module _ (ports : Rows (Option Port)) where
               (option_or (send_of t due) (first_send (λ q. option_map link_row (ports q)) (suc t) k))
           owed [] same = others
           owed (b ∷ due) same = rw (not_empty (length due))
-              (here Link (λ q. send_on q (option_map link_row (ports q))) t (Send t (take HAND_OUT (b ∷ due)))
+              (here Link (λ q. send_on q (option_map link_row (ports q))) t (Send t (take MAX_HAND_OUT (b ∷ due)))
               (ap (λ (o : Option Port). send_on t (option_map link_row o)) is ∙ ap (send_of t) same) refl)
 
 -- ---- clients
@@ -88,7 +88,7 @@ module _ (devices : DeviceTable) (clients : Rows (Option SeenClient)) where
           owed [] false same marked = others
           owed [] true same marked = record { whose = refl; is = sym (put [] true same marked) }
           owed (b ∷ due) mark same marked = rw (not_empty (length due))
-              (here Client (λ q. put_to devices q (option_map client_row (clients q))) c (Put c (take HAND_OUT (b ∷ due)))
+              (here Client (λ q. put_to devices q (option_map client_row (clients q))) c (Put c (take MAX_HAND_OUT (b ∷ due)))
               (put (b ∷ due) mark same marked) refl)
 
 -- ---- both

@@ -11,7 +11,7 @@ ghost use Rattle.adb_entries.specs.Remaining.{remaining};
 
 use adb_capture::Entry;
 use adb_history::order::every_legal_state_is_orderly;
-use adb_history::{HAND_OUT, draining_ends};
+use adb_history::{MAX_HAND_OUT, draining_ends};
 use adb_hub::{Handed, Hub, HubError, Owner};
 use std::alloc::AllocError;
 
@@ -45,7 +45,7 @@ fn put(hub: &mut Hub, client: u32) -> Result<Option<Entry>, AllocError>
     ensures form { IfOk result (λ out. IfSome out HasRecord) }
     ensures err { OnErr result (hub.new ≡ hub.old) }
 {
-    match hub.put(client, HAND_OUT) {
+    match hub.put(client, MAX_HAND_OUT) {
         Ok(handed) => Ok(put_of(client, handed)),
         Err(HubError::OutOfMemory) => Err(AllocError),
         Err(_) => unreachable!(),
@@ -61,7 +61,7 @@ fn send(hub: &mut Hub, link: u32) -> Result<Option<Entry>, AllocError>
     ensures form { IfOk result (λ out. IfSome out HasRecord) }
     ensures err { OnErr result (hub.new ≡ hub.old) }
 {
-    match hub.send(link, HAND_OUT) {
+    match hub.send(link, MAX_HAND_OUT) {
         Ok(handed) => Ok(send_of(link, handed)),
         Err(HubError::OutOfMemory) => Err(AllocError),
         Err(_) => unreachable!(),

@@ -11,7 +11,7 @@ use Rattle.std.proofs.lemmas.List.{take-append-drop, drop_more}
 use Rattle.std.proofs.lemmas.Map.Text.{is_eq-slice_cmp}
 use Rattle.std.proofs.lemmas.Slice.Eq.{bytes_eq-Decides}
 use Rattle.adb_files.specs.declared.file.File.{File}
-use Rattle.adb_files.specs.declared.files.TheConstants.{MOST_BYTES}
+use Rattle.adb_files.specs.declared.files.TheConstants.{MAX_STORED}
 use Rattle.adb_files.specs.Entries.{Entry}
 use Rattle.adb_files.specs.declared.file.FileError.TheVariants.{BadPath, IsDirectory, NotDirectory, NoSpace, NoFile}
 use Rattle.adb_files.specs.Paths.{path_cmp, is_path}
@@ -227,21 +227,21 @@ pub record Granted (files : List Entry) (path : List ℕ) (size : ℕ) : Type 0 
   pub form : is_path path ≡ true
   pub plain : is_directory files path ≡ false
   pub above : is_under_file files path ≡ false
-  pub room : total (without path files) + size ≤ MOST_BYTES
+  pub room : total (without path files) + size ≤ MAX_STORED
 
 pub granted : (files : List Entry) (path : List ℕ) (size : ℕ) → put_refusal files path size ≡ None → Granted files path size
 granted files path size none =
-    go (is_path path) refl (is_directory files path) refl (is_under_file files path) refl (ltb MOST_BYTES (total (without path files) + size)) refl none
+    go (is_path path) refl (is_directory files path) refl (is_under_file files path) refl (ltb MAX_STORED (total (without path files) + size)) refl none
   where
     go : (form : Bool) → is_path path ≡ form → (directory : Bool) → is_directory files path ≡ directory → (under : Bool) → is_under_file files path ≡ under
-        → (large : Bool) → ltb MOST_BYTES (total (without path files) + size) ≡ large
+        → (large : Bool) → ltb MAX_STORED (total (without path files) + size) ≡ large
         → cond (not form) (Some BadPath) (cond directory (Some IsDirectory) (cond under (Some NotDirectory) (cond large (Some NoSpace) None))) ≡ None
         → Granted files path size
     go false f directory d under u large l e = absurd cc
     go true f true d under u large l e = absurd cc
     go true f false d true u large l e = absurd cc
     go true f false d false u true l e = absurd cc
-    go true f false d false u false l e = record { form = f; plain = d; above = u; room = ltb-false MOST_BYTES (total (without path files) + size) l }
+    go true f false d false u false l e = record { form = f; plain = d; above = u; room = ltb-false MAX_STORED (total (without path files) + size) l }
 
 -- what a path that is no directory shows
 pub stat_plain : (files : List Entry) (path : List ℕ) (file : Option File) → is_directory files path ≡ false → file_at path files ≡ file

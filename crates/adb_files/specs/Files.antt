@@ -5,7 +5,7 @@ use Rattle.std.specs.List.{list_any, find, starts_with}
 use Rattle.std.specs.List.Sorted.{IsStrictlySortedBy}
 use Rattle.std.specs.Ordering.{is_lt}
 use Rattle.adb_files.specs.declared.file.File.{File}
-use Rattle.adb_files.specs.declared.files.TheConstants.{MOST_BYTES}
+use Rattle.adb_files.specs.declared.files.TheConstants.{MAX_STORED}
 use Rattle.adb_files.specs.Entries.{Entry}
 use Rattle.adb_files.specs.declared.file.FileError.{FileError}
 use Rattle.adb_files.specs.declared.file.FileError.TheVariants.{BadPath, IsDirectory, NotDirectory, NoSpace, NoFile, OutOfMemory}
@@ -66,7 +66,7 @@ put_refusal files path size =
     if not (is_path path) then Some BadPath
     else (if is_directory files path then Some IsDirectory
     else (if is_under_file files path then Some NotDirectory
-    else (if nat_lt MOST_BYTES (total (without path files) + size) then Some NoSpace
+    else (if nat_lt MAX_STORED (total (without path files) + size) then Some NoSpace
     else None)))
 
 -- where there is no file
@@ -91,4 +91,4 @@ pub record IsFileMap (files : List Entry) : Type 0 where
   pub paths : All (λ (entry : Entry). is_path entry.path ≡ true) files
   pub plain : All (λ (entry : Entry). is_directory files entry.path ≡ false) files
   pub short : All (λ (entry : Entry). length entry.path < 2 ^ 32) files
-  pub room : total files ≤ MOST_BYTES
+  pub room : total files ≤ MAX_STORED

@@ -9,7 +9,7 @@ use Rattle.adb_sync.specs.declared.error.SyncFault.{SyncFault}
 use Rattle.adb_files.specs.Entries.{Entry}
 use Rattle.adb_files.specs.declared.session.Sending.{Sending}
 use Rattle.adb_files.specs.declared.session.Session.{Session}
-use Rattle.adb_files.specs.declared.files.TheConstants.{MOST_BYTES}
+use Rattle.adb_files.specs.declared.files.TheConstants.{MAX_STORED}
 use Rattle.adb_files.specs.Requests.{OpenSend, Request, requests_of, open_after, requests_in}
 use Rattle.adb_files.specs.Served.{serve_all, served}
 
@@ -25,9 +25,9 @@ pub record Service : Type 0 where
 pub record IsKept (send : OpenSend) (kept : Sending) : Type 0 where
   pub path : kept.path ≡ send.path
   pub mode : kept.mode ≡ send.mode
-  pub size : kept.size ≡ min (length send.bytes) (MOST_BYTES + 1)
-  pub bytes : length send.bytes ≤ MOST_BYTES → kept.bytes ≡ send.bytes
-  pub bound : length kept.bytes ≤ MOST_BYTES
+  pub size : kept.size ≡ min (length send.bytes) (MAX_STORED + 1)
+  pub bytes : length send.bytes ≤ MAX_STORED → kept.bytes ≡ send.bytes
+  pub bound : length kept.bytes ≤ MAX_STORED
 
 abbrev pub KeepsSend : Option OpenSend → Option Sending → Type 0
 KeepsSend None None = Unit {0}

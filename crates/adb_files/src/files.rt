@@ -23,7 +23,7 @@ use std::marker::Model;
 use std::sync::Arc;
 
 /// The most bytes that all files may have.
-pub const MOST_BYTES: usize = 268_435_456;
+pub const MAX_STORED: usize = 268_435_456;
 
 /// The files of a device, a map from path to file. Contracts see it as the list of its entries in
 /// rising order of the bytes of their paths. A directory is `/`, or a proper leading path of a file.
@@ -203,7 +203,7 @@ impl Files {
         if self.is_under_file(path) {
             return Some(FileError::NotDirectory);
         }
-        (size > MOST_BYTES - self.used_without(path)).then_some(FileError::NoSpace)
+        (size > MAX_STORED - self.used_without(path)).then_some(FileError::NoSpace)
     }
 
     /// Where the file of the path stands among the entries, or why none is read there.

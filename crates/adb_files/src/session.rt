@@ -10,7 +10,7 @@ ghost use Rattle.adb_files.specs.Service.{IsKept, KeepsSend, moment, run, Serves
 
 use crate::answers::{answer_list, answer_recv, answer_stat, fail, fault_text};
 use crate::file::{File, FileError};
-use crate::files::{Files, MOST_BYTES};
+use crate::files::{Files, MAX_STORED};
 use crate::mode::stored_mode;
 use crate::outbox::Outbox;
 use crate::path::is_path;
@@ -49,8 +49,8 @@ impl Sending {
             → IsKept (record send { bytes = send.bytes ++ chunk.now }) self.new) }
         ensures path { self.new.path ≡ self.old.path }
     {
-        if chunk.len() > MOST_BYTES.saturating_sub(self.size) {
-            self.size = MOST_BYTES + 1;
+        if chunk.len() > MAX_STORED.saturating_sub(self.size) {
+            self.size = MAX_STORED + 1;
             return Ok(());
         }
         self.bytes.push_slice(chunk)?;

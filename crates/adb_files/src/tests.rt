@@ -2,7 +2,7 @@
 
 ghost use Rattle.std.specs.Prelude.{◌<◌, ◌^◌, length};
 
-use crate::files::MOST_BYTES;
+use crate::files::MAX_STORED;
 use crate::{File, FileError, Files};
 use adb_outside::Text;
 use std::alloc::{AllocError, Global};
@@ -106,7 +106,7 @@ fn a_map_of_files(rt: HostRuntime) -> Result<(), Fail> {
     for row in PATHS {
         assert!(rt; answers(alloc, &mut files, row)?, "at {:?}", row.0);
     }
-    assert!(rt; put(alloc, &mut files, b"/a", MOST_BYTES)? == Err(FileError::NoSpace));
+    assert!(rt; put(alloc, &mut files, b"/a", MAX_STORED)? == Err(FileError::NoSpace));
     assert!(rt; files.list(b"/")?.len() == 3);
     assert!(rt; is_removed(&mut files));
     Ok(())

@@ -2,7 +2,7 @@
 use Rattle.std.proofs.Common.{ℕ, ◌≡◌, ◌≤◌, ◌<◌, ◌∷◌, length, take, Option, Some, None, refl, sym, ◌∙◌, ap, subst, arith, zero, suc}
 use Rattle.std.specs.Option.{option_or}
 use Rattle.adb_capture.specs.declared.entry.Entry.{Entry}
-use Rattle.adb_history.specs.declared.hand_out.TheConstants.{HAND_OUT}
+use Rattle.adb_history.specs.declared.hand_out.TheConstants.{MAX_HAND_OUT}
 use Rattle.adb_history.specs.Rows.{State}
 use Rattle.adb_history.specs.Events.{Made}
 use Rattle.adb_history.specs.Tracking.{offered}
@@ -20,10 +20,10 @@ calm_rule : (s : State) (e : Entry) → next_out s ≡ Some e → IsCalm s → I
 calm_rule s e is calm = by_send (first_send s.links 1 s.devices.drawn) refl is
   where
     sent : IsSend s e 1 s.devices.drawn → IsCalm (rule e s).state
-    sent r = subst (λ (x : Entry). IsCalm (rule x s).state) (sym r.entry) (calm_sends r.link (length (take HAND_OUT r.row.due)) s calm)
+    sent r = subst (λ (x : Entry). IsCalm (rule x s).state) (sym r.entry) (calm_sends r.link (length (take MAX_HAND_OUT r.row.due)) s calm)
 
     put : IsPut s e 1 s.joined → IsCalm (rule e s).state
-    put r = subst (λ (x : Entry). IsCalm (rule x s).state) (sym r.entry) (calm_puts r.client (length (take HAND_OUT (offered s.devices r.row))) s calm)
+    put r = subst (λ (x : Entry). IsCalm (rule x s).state) (sym r.entry) (calm_puts r.client (length (take MAX_HAND_OUT (offered s.devices r.row))) s calm)
 
     by_send : (o : Option Entry) → first_send s.links 1 s.devices.drawn ≡ o → option_or o (first_put s.devices s.clients 1 s.joined) ≡ Some e
         → IsCalm (rule e s).state

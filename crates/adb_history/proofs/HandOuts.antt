@@ -18,7 +18,7 @@ use Rattle.adb_client.specs.declared.phase.Phase.{Phase}
 use Rattle.adb_client.specs.declared.phase.Phase.TheVariants.{Asking, Opening, Streaming, Binding, Tracking, Closing, Gone}
 use Rattle.adb_capture.specs.declared.entry.Entry.{Entry}
 use Rattle.adb_capture.specs.declared.entry.Entry.TheVariants.{Put, Send}
-use Rattle.adb_history.specs.declared.hand_out.TheConstants.{HAND_OUT}
+use Rattle.adb_history.specs.declared.hand_out.TheConstants.{MAX_HAND_OUT}
 use Rattle.adb_history.specs.Rows.{Client, Link, State, to_client, to_stream, with_link_due, with_due, with_stream_part}
 use Rattle.adb_history.specs.Flow.{with_flow}
 use Rattle.adb_history.specs.Clients.{closing_with}
@@ -273,7 +273,7 @@ pub record IsSend (s : State) (e : Entry) (first k : ℕ) : Type 0 where
   pub row : Link
   pub is : s.links link ≡ Some row
   pub some : row.due ≢ []
-  pub entry : e ≡ Send link (take HAND_OUT row.due)
+  pub entry : e ≡ Send link (take MAX_HAND_OUT row.due)
   pub from : first ≤ link
   pub to : link < first + k
 
@@ -283,7 +283,7 @@ pub record IsPut (s : State) (e : Entry) (first k : ℕ) : Type 0 where
   pub row : Client
   pub is : s.clients client ≡ Some row
   pub some : offered s.devices row ≢ []
-  pub entry : e ≡ Put client (take HAND_OUT (offered s.devices row))
+  pub entry : e ≡ Put client (take MAX_HAND_OUT (offered s.devices row))
   pub from : first ≤ client
   pub to : client < first + k
 
@@ -307,7 +307,7 @@ sends_first s e t (suc k) is = by_row (λ found. later (sends_first s e (suc t) 
       row = link;
       is = here;
       some = λ none. nothing_is_none b due (sym has ∙ none);
-      entry = let same : Send t (take HAND_OUT (b ∷ due)) ≡ e = cc in sym same ∙ ap (λ l. Send t (take HAND_OUT l)) (sym has);
+      entry = let same : Send t (take MAX_HAND_OUT (b ∷ due)) ≡ e = cc in sym same ∙ ap (λ l. Send t (take MAX_HAND_OUT l)) (sym has);
       from = omega arith;
       to = omega arith;
     }
@@ -334,7 +334,7 @@ puts_first s e c (suc k) is = by_row (λ found. later (puts_first s e (suc c) k 
       row = client;
       is = here;
       some = λ none. nothing_is_none b offer (sym has ∙ none);
-      entry = let same : Put c (take HAND_OUT (b ∷ offer)) ≡ e = cc in sym same ∙ ap (λ l. Put c (take HAND_OUT l)) (sym has);
+      entry = let same : Put c (take MAX_HAND_OUT (b ∷ offer)) ≡ e = cc in sym same ∙ ap (λ l. Put c (take MAX_HAND_OUT l)) (sym has);
       from = omega arith;
       to = omega arith;
     }
@@ -346,16 +346,16 @@ puts_first s e c (suc k) is = by_row (λ found. later (puts_first s e (suc c) k 
     by_row others (Some client) here found = by_offer others client here (offered s.devices client) refl found
 
 -- ---- what the next hand-out leaves
-some_long : (l : List ℕ) → l ≢ [] → 0 < length (take HAND_OUT l)
+some_long : (l : List ℕ) → l ≢ [] → 0 < length (take MAX_HAND_OUT l)
 some_long [] some = absurd (some refl)
-some_long (b ∷ l) some = omega (arith, length-take HAND_OUT (b ∷ l))
+some_long (b ∷ l) some = omega (arith, length-take MAX_HAND_OUT (b ∷ l))
 
-no_longer : (l : List ℕ) → length (take HAND_OUT l) ≤ length l
-no_longer l = omega (arith, length-take HAND_OUT l)
+no_longer : (l : List ℕ) → length (take MAX_HAND_OUT l) ≤ length l
+no_longer l = omega (arith, length-take MAX_HAND_OUT l)
 
 send_less : (s : State) (e : Entry) → IsSend s e 1 s.devices.drawn → owed (rule e s).state < owed s
 send_less s e r = subst (λ (x : Entry). owed (rule x s).state < owed s) (sym r.entry) (
-    let n = length (take HAND_OUT r.row.due) in
+    let n = length (take MAX_HAND_OUT r.row.due) in
     let later : Rows (Option Link) = change_row r.link (option_and_then (link_hands n)) s.links in
     let at_row : later r.link ≡ Some (record r.row { due = drop n r.row.due }) =
     changed_here s.links r.link (option_and_then (link_hands n)) ∙ ap (option_and_then (link_hands n)) r.is in
@@ -369,7 +369,7 @@ send_less s e r = subst (λ (x : Entry). owed (rule x s).state < owed s) (sym r.
 
 put_less : (s : State) (e : Entry) → IsPut s e 1 s.joined → owed (rule e s).state < owed s
 put_less s e r = subst (λ (x : Entry). owed (rule x s).state < owed s) (sym r.entry) (
-    let bytes = take HAND_OUT (offered s.devices r.row) in
+    let bytes = take MAX_HAND_OUT (offered s.devices r.row) in
     let t = puts_less r.client (length bytes) s r.row r.is (no_longer (offered s.devices r.row)) in
     let after : State = (puts r.client (length bytes) s).state in
     let less = owed_less (owed_client s.devices) s.clients after.clients r.client 1 s.joined (length bytes) t.others t.here r.from r.to in

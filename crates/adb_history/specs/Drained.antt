@@ -5,16 +5,16 @@ use Rattle.adb_outside.specs.Tables.{Rows}
 use Rattle.adb_registry.specs.Registry.{DeviceTable}
 use Rattle.adb_capture.specs.declared.entry.Entry.{Entry}
 use Rattle.adb_capture.specs.declared.entry.Entry.TheVariants.{Put, Send}
-use Rattle.adb_history.specs.declared.hand_out.TheConstants.{HAND_OUT}
+use Rattle.adb_history.specs.declared.hand_out.TheConstants.{MAX_HAND_OUT}
 use Rattle.adb_history.specs.Rows.{Client, Link, State}
 use Rattle.adb_history.specs.Tracking.{offered, tracked_list}
 use Rattle.adb_history.specs.Machine.{History, state}
 
 -- ---- the next hand-out
--- a link's hand-out of at most HAND_OUT bytes
+-- a link's hand-out of at most MAX_HAND_OUT bytes
 abbrev pub send_of : ℕ → List ℕ → Option Entry
 send_of t [] = None
-send_of t (b ∷ due) = Some (Send t (take HAND_OUT (b ∷ due)))
+send_of t (b ∷ due) = Some (Send t (take MAX_HAND_OUT (b ∷ due)))
 
 abbrev pub send_on : ℕ → Option Link → Option Entry
 send_on t None = None
@@ -25,10 +25,10 @@ abbrev pub first_send : Rows (Option Link) → (t k : ℕ) → Option Entry
 first_send links t zero = None
 first_send links t (suc k) = option_or (send_on t (links t)) (first_send links (suc t) k)
 
--- a client's hand-out of at most HAND_OUT bytes
+-- a client's hand-out of at most MAX_HAND_OUT bytes
 abbrev pub put_of : ℕ → List ℕ → Option Entry
 put_of c [] = None
-put_of c (b ∷ due) = Some (Put c (take HAND_OUT (b ∷ due)))
+put_of c (b ∷ due) = Some (Put c (take MAX_HAND_OUT (b ∷ due)))
 
 abbrev pub put_to : DeviceTable → ℕ → Option Client → Option Entry
 put_to devices c None = None

@@ -18,7 +18,7 @@ use Rattle.adb_hub.specs.declared.answers.Handed.{Handed}
 use Rattle.adb_hub.specs.declared.answers.Handed.TheVariants as handed
 use Rattle.adb_hub.specs.declared.answers.Room.{Room}
 use Rattle.adb_hub.specs.declared.answers.Room.TheVariants as room
-use Rattle.adb_hub.specs.declared.hub.TheConstants.{HELD_LIMIT}
+use Rattle.adb_hub.specs.declared.hub.TheConstants.{MAX_HELD}
 use Rattle.adb_hub.specs.Refusal.{refusal}
 
 -- whether who stands at a number lives
@@ -86,7 +86,7 @@ Hands e max all (Err why) h old new = refusal (e []) (state h) ≡ Some why
 -- ---- questions
 -- how much more may be held, of so much that is
 abbrev pub room_past : ℕ → Room
-room_past held = if nat_le HELD_LIMIT held then room.Later else room.Bytes (HELD_LIMIT - held)
+room_past held = if nat_le MAX_HELD held then room.Later else room.Bytes (MAX_HELD - held)
 
 abbrev pub room_in : Phase → Client → Room
 room_in Closing client = room.Shut

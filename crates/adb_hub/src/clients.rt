@@ -13,7 +13,7 @@ ghost use Rattle.adb_hub.specs.Answers.{life_of, room_of, room_past, port_of};
 
 use crate::answers::{Life, Room};
 use crate::error::HubError;
-use crate::hub::{HELD_LIMIT, Hub};
+use crate::hub::{Hub, MAX_HELD};
 use adb_client::{Client, Phase};
 use adb_outside::Cause;
 use adb_rules::Tables;
@@ -183,10 +183,10 @@ fn port_in(row: &Client) -> Option<u16>
 fn room_past(held: usize) -> Room
     ensures { result ≡ room_past held }
 {
-    if held >= HELD_LIMIT {
+    if held >= MAX_HELD {
         Room::Later
     } else {
-        Room::Bytes(HELD_LIMIT - held)
+        Room::Bytes(MAX_HELD - held)
     }
 }
 

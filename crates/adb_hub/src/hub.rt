@@ -15,7 +15,7 @@ use std::collections::BTreeSet;
 use std::marker::Model;
 
 /// How many bytes of a client are held at most before it has no room.
-pub const HELD_LIMIT: usize = 65_540;
+pub const MAX_HELD: usize = 65_540;
 
 /// The hub: the clients, links and streams that live, the devices and the forwards. Contracts see
 /// what a history leaves of them. After a refusal, and after want of memory, it is as before.

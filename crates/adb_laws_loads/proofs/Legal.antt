@@ -8,7 +8,7 @@ use Rattle.adb_outside.specs.declared.kinds.Cause.TheVariants.{Eof, Fault, Starv
 use Rattle.adb_capture.specs.declared.entry.Entry.{Entry}
 use Rattle.adb_capture.specs.declared.entry.Entry.TheVariants.{Join, Enter, Read, End, Bound, Attach, Recv, Detach, Put, Send}
 use Rattle.adb_capture.specs.Records.{data_of}
-use Rattle.adb_history.specs.declared.hand_out.TheConstants.{HAND_OUT}
+use Rattle.adb_history.specs.declared.hand_out.TheConstants.{MAX_HAND_OUT}
 use Rattle.adb_history.specs.Rows.{Client, Link, State}
 use Rattle.adb_history.specs.Asking.{Asked, nothing_asked, asks_with}
 use Rattle.adb_history.specs.Reading.{asked_before}
@@ -38,10 +38,10 @@ take_some : (n b : ℕ) (due : List ℕ) → 0 < n → take n (b ∷ due) ≢ []
 take_some zero b due some e = absurd (omega (arith, some))
 take_some (suc n) b due some e = let clash : b ∷ take n due ≡ [] = e in cc
 
-front_of_due : (b : ℕ) (due : List ℕ) → AreBytes (b ∷ due) → IsFront (take HAND_OUT (b ∷ due)) (b ∷ due)
+front_of_due : (b : ℕ) (due : List ℕ) → AreBytes (b ∷ due) → IsFront (take MAX_HAND_OUT (b ∷ due)) (b ∷ due)
 front_of_due b due are = record {
-  some = record { some = take_some HAND_OUT b due (lit< tt); front = (drop HAND_OUT (b ∷ due), take-append-drop HAND_OUT (b ∷ due)) };
-  bytes = front_bytes HAND_OUT (b ∷ due) are;
+  some = record { some = take_some MAX_HAND_OUT b due (lit< tt); front = (drop MAX_HAND_OUT (b ∷ due), take-append-drop MAX_HAND_OUT (b ∷ due)) };
+  bytes = front_bytes MAX_HAND_OUT (b ∷ due) are;
 }
 
 -- a hand-out that may come, of bytes, to a number below this
@@ -65,8 +65,8 @@ module _ (s : State) (h : Texts s) (below : ℕ) where
       go (b ∷ due) same are =
           let front = front_of_due b due are in (
             small,
-            subst (λ (o : Option Link). MaySend o (take HAND_OUT (b ∷ due))) (sym is)
-                (subst (IsSomeOf (take HAND_OUT (b ∷ due))) (sym same) front.some),
+            subst (λ (o : Option Link). MaySend o (take MAX_HAND_OUT (b ∷ due))) (sym is)
+                (subst (IsSomeOf (take MAX_HAND_OUT (b ∷ due))) (sym same) front.some),
             front.bytes,
           )
 
@@ -84,8 +84,8 @@ module _ (s : State) (h : Texts s) (below : ℕ) where
       go (b ∷ due) same are =
           let front = front_of_due b due are in (
             small,
-            subst (λ (o : Option Client). MayPut s o (take HAND_OUT (b ∷ due))) (sym is)
-                (subst (IsSomeOf (take HAND_OUT (b ∷ due))) (sym same) front.some),
+            subst (λ (o : Option Client). MayPut s o (take MAX_HAND_OUT (b ∷ due))) (sym is)
+                (subst (IsSomeOf (take MAX_HAND_OUT (b ∷ due))) (sym same) front.some),
             front.bytes,
           )
 

@@ -7,7 +7,7 @@ use Rattle.adb_outside.proofs.FramingLaws.{cut_first}
 use Rattle.adb_capture.specs.declared.entry.Entry.{Entry}
 use Rattle.adb_capture.specs.declared.entry.Entry.TheVariants.{Join, Enter, Read, End, Bound, Attach, Recv, Detach, Put, Send}
 use Rattle.adb_capture.specs.declared.error.FormFault.{FormFault}
-use Rattle.adb_capture.specs.declared.limits.TheConstants.{CAPTURE_LIMIT}
+use Rattle.adb_capture.specs.declared.limits.TheConstants.{MAX_CAPTURE}
 use Rattle.adb_capture.specs.Records.{HasRecord, magic, record_of, records_of, record_at, entry_in, offset_after}
 use Rattle.adb_capture.proofs.Fronts.{framing}
 use Rattle.adb_capture.proofs.Spellings.{spelled_whole, spelled_again}
@@ -48,7 +48,7 @@ record IsCutTo (c : Cut ℕ (ℕ × Entry) FormFault) (all : List (ℕ × Entry)
 abbrev cut_all : ℕ → List ℕ → Cut ℕ (ℕ × Entry) FormFault
 cut_all offset bytes = cut record_at entry_in offset_after offset bytes
 
-cut_record : (e : Entry) (offset : ℕ) (rest : List ℕ) → HasRecord e → offset + length (record_of e) ≤ CAPTURE_LIMIT
+cut_record : (e : Entry) (offset : ℕ) (rest : List ℕ) → HasRecord e → offset + length (record_of e) ≤ MAX_CAPTURE
     → cut_all offset (record_of e ++ rest) ≡ joined ((offset, e) ∷ []) (cut_all (offset + length (record_of e)) rest)
 cut_record e offset rest has near =
     cut_first record_at entry_in offset_after framing offset bytes
@@ -63,7 +63,7 @@ cut_record e offset rest has near =
     bytes : List ℕ
     bytes = record_of e ++ rest
 
-cut_records : (inputs : List Entry) (offset : ℕ) → AllHaveRecords inputs → offset + length (records_of inputs) ≤ CAPTURE_LIMIT
+cut_records : (inputs : List Entry) (offset : ℕ) → AllHaveRecords inputs → offset + length (records_of inputs) ≤ MAX_CAPTURE
     → IsCutTo (cut_all offset (records_of inputs)) (placed offset inputs)
 cut_records [] offset have near = record { given = refl; rest = refl; fault = refl }
 cut_records (e ∷ inputs) offset have near =
@@ -120,7 +120,7 @@ unfolding acts_ahead
 load_lives seed streams = (turns_follow seed streams (turns_left (start seed streams))).stands.killed
 
 -- A server that replays the capture of a load is given all of it.
-pub load_accepted : (seed streams : ℕ) → streams < 2 ^ 32 → length (magic ++ records_of (load seed streams)) ≤ CAPTURE_LIMIT
+pub load_accepted : (seed streams : ℕ) → streams < 2 ^ 32 → length (magic ++ records_of (load seed streams)) ≤ MAX_CAPTURE
     → accepted (magic ++ records_of (load seed streams)) ≡ given_whole (load seed streams)
 load_accepted seed streams few near =
     accept_whole (cut_all 8 (records_of inputs)) (placed 8 inputs) []

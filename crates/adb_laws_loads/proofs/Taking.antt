@@ -10,7 +10,7 @@ use Rattle.adb_outside.specs.Bytes.{AreBytes}
 use Rattle.adb_outside.specs.declared.kinds.Cause.TheVariants.{Eof, Fault, Starved, NoThread}
 use Rattle.adb_forward.specs.declared.row.ForwardRow.{ForwardRow}
 use Rattle.adb_capture.specs.Records.{data_of}
-use Rattle.adb_capture.specs.declared.limits.TheConstants.{DATA_LIMIT}
+use Rattle.adb_capture.specs.declared.limits.TheConstants.{MAX_DATA}
 use Rattle.adb_history.specs.Asking.{nothing_asked, asks_with}
 use Rattle.adb_history.specs.Machine.{History, state, May, IsDrawn, IsLegal}
 use Rattle.adb_history.specs.Book.{Book, device_of, devices_if, plugged_count, asked, is_killed}
@@ -54,7 +54,7 @@ pub record MayCome (g : History) (e : Entry) : Type 0 where
   pub wants : Wants g e
   pub reads : Reads g e
   pub bytes : AreBytes (data_of e)
-  pub size : length (data_of e) ≤ DATA_LIMIT
+  pub size : length (data_of e) ≤ MAX_DATA
   pub killed : is_killed g ≡ false
 
 -- entries each of which may come behind those before it

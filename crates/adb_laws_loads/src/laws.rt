@@ -2,7 +2,7 @@
 
 ghost use Rattle.std.specs.Prelude.{◌≡◌, ◌<◌, ◌≤◌, ◌^◌, ◌∷◌, ◌++◌, ℕ, List, [], length, None};
 ghost use Rattle.adb_capture.specs.declared.entry.Entry.{Entry};
-ghost use Rattle.adb_capture.specs.declared.limits.TheConstants.{CAPTURE_LIMIT};
+ghost use Rattle.adb_capture.specs.declared.limits.TheConstants.{MAX_CAPTURE};
 ghost use Rattle.adb_capture.specs.Records.{magic, records_of};
 ghost use Rattle.adb_history.specs.Accepted.{accepted};
 ghost use Rattle.adb_history.specs.Drained.{drained_from};
@@ -28,10 +28,10 @@ pub fn loads_are_legal()
 {}
 
 /// The capture of a load is read to its end by whoever replays it: each of its records gives an
-/// entry that comes, and none is refused. A capture has at most `CAPTURE_LIMIT` bytes.
+/// entry that comes, and none is refused. A capture has at most `MAX_CAPTURE` bytes.
 pub fn captures_of_loads_are_accepted()
     ensures { (seed streams : ℕ) → streams < 2 ^ 32
-        → let capture = magic ++ records_of (load seed streams) in length capture ≤ CAPTURE_LIMIT
+        → let capture = magic ++ records_of (load seed streams) in length capture ≤ MAX_CAPTURE
         → accepted capture ≡ record { inputs = load seed streams; refused = None } }
 {}
 

@@ -5,7 +5,7 @@ use Rattle.std.specs.Fmt.{decimal}
 use Rattle.adb_outside.specs.Bytes.{AreBytes}
 use Rattle.adb_outside.specs.declared.kinds.Kind.TheVariants.{Usb}
 use Rattle.adb_outside.specs.declared.kinds.Cause.TheVariants.{Eof}
-use Rattle.adb_capture.specs.declared.limits.TheConstants.{DATA_LIMIT}
+use Rattle.adb_capture.specs.declared.limits.TheConstants.{MAX_DATA}
 use Rattle.adb_capture.specs.declared.entry.Entry.{Entry}
 use Rattle.adb_capture.specs.declared.entry.Entry.TheVariants.{Join, Read, End, Attach, Recv}
 use Rattle.adb_wire.specs.declared.command.Command.{Command}
@@ -20,7 +20,7 @@ use Rattle.adb_load.specs.declared.numbers.TheConstants.{DEVICES, FIRST_REMOTE, 
 -- Bytes that an entry may hold, also behind a byte of its own.
 pub record IsShort (text : List ℕ) : Type 0 where
   pub bytes : AreBytes text
-  pub size : length text < DATA_LIMIT
+  pub size : length text < MAX_DATA
 
 -- the client of a stream; the hub's id of the stream is the same number
 abbrev pub client_of : ℕ → ℕ

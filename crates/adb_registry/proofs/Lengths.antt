@@ -19,7 +19,7 @@ use Rattle.adb_outside.specs.Tables.{at}
 use Rattle.adb_outside.proofs.TableLaws.{at_each, each_row}
 use Rattle.adb_registry.specs.Registry.{DeviceTable, IsSound}
 use Rattle.adb_registry.specs.Lists.{field, name_byte, model_byte, make_of, short_line, long_line, short_list, long_list, space}
-use Rattle.adb_registry.specs.declared.lists.TheConstants.{SERIAL_WIDTH, VALUE_LIMIT}
+use Rattle.adb_registry.specs.declared.lists.TheConstants.{SERIAL_WIDTH, MAX_VALUE}
 use Rattle.adb_registry.specs.declared.row.Row.{Row}
 
 length-state : (state : State) → length (text_of_state state) ≤ 12
@@ -32,13 +32,13 @@ length-state Sideload = omega arith
 length-state Rescue = omega arith
 length-state Host = omega arith
 
-length-field : (name : List ℕ) (printed : ℕ → ℕ) (value : List ℕ) → length (field name printed value) ≤ length name + VALUE_LIMIT
+length-field : (name : List ℕ) (printed : ℕ → ℕ) (value : List ℕ) → length (field name printed value) ≤ length name + MAX_VALUE
 length-field name printed value = go (eqb (length value) 0)
   where
-    go : (b : Bool) → length (cond b [] (name ++ map printed (take VALUE_LIMIT value))) ≤ length name + VALUE_LIMIT
+    go : (b : Bool) → length (cond b [] (name ++ map printed (take MAX_VALUE value))) ≤ length name + MAX_VALUE
     go true = omega arith
     go false =
-        let front = take VALUE_LIMIT value in omega (arith, length-append name (map printed front), length-map front printed, length-take VALUE_LIMIT value)
+        let front = take MAX_VALUE value in omega (arith, length-append name (map printed front), length-map front printed, length-take MAX_VALUE value)
 
 length-make : (identity : Option Identity) → length (make_of identity) ≤ 216
 length-make None = omega arith

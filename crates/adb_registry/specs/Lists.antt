@@ -5,7 +5,7 @@ use Rattle.std.specs.Char.{is_ascii_graphic, is_ascii_alphanumeric}
 use Rattle.adb_outside.specs.Identity.{text_of_state}
 use Rattle.adb_outside.specs.declared.identity.Identity.{Identity}
 use Rattle.adb_registry.specs.declared.row.Row.{Row}
-use Rattle.adb_registry.specs.declared.lists.TheConstants.{SERIAL_WIDTH, VALUE_LIMIT}
+use Rattle.adb_registry.specs.declared.lists.TheConstants.{SERIAL_WIDTH, MAX_VALUE}
 
 -- the bytes that lines are made with
 abbrev pub tab : ℕ
@@ -38,7 +38,7 @@ name_byte b = if is_ascii_graphic b then b else underscore
 
 -- a value that is not empty behind its name: its first bytes, each as it is printed
 abbrev pub field : List ℕ → (ℕ → ℕ) → List ℕ → List ℕ
-field name printed value = if length value == 0 then [] else name ++ map printed (take VALUE_LIMIT value)
+field name printed value = if length value == 0 then [] else name ++ map printed (take MAX_VALUE value)
 
 -- what a device said of its make
 abbrev pub make_of : Option Identity → List ℕ

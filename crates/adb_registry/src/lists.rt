@@ -14,7 +14,7 @@ use std::collections::BTreeMap;
 const SERIAL_WIDTH: usize = 22;
 
 /// The most bytes of a value that a long line has.
-const VALUE_LIMIT: usize = 64;
+const MAX_VALUE: usize = 64;
 
 /// A line for each row: its serial and its state.
 pub(crate) fn short(alloc: Global, rows: &BTreeMap<u32, Row>) -> Result<Text, AllocError>
@@ -110,10 +110,10 @@ fn push_model(list: &mut Vec<u8>, model: &[u8]) -> Result<(), AllocError>
 
 /// As much of a value as a long line has.
 fn cut(value: &[u8]) -> &[u8]
-    ensures { result.now ≡ take VALUE_LIMIT value.now }
+    ensures { result.now ≡ take MAX_VALUE value.now }
 {
-    if value.len() > VALUE_LIMIT {
-        &value[..VALUE_LIMIT]
+    if value.len() > MAX_VALUE {
+        &value[..MAX_VALUE]
     } else {
         value
     }

@@ -5,7 +5,7 @@ use Rattle.adb_outside.specs.declared.kinds.Selector.TheVariants.{Serial, Id}
 use Rattle.adb_registry.specs.declared.choice.Refusal.{Refusal}
 use Rattle.adb_registry.specs.declared.choice.Refusal.TheVariants.{NoAny, ManyAny, NoUsb, ManyUsb, NoLocal, ManyLocal, NoSerial, ManySerial, NoId}
 use Rattle.adb_registry.specs.declared.choice.Refusal.TheVariants.{Offline, Unauthorized}
-use Rattle.adb_reply.specs.declared.refusals.TheConstants.{PRINTED_SERIAL}
+use Rattle.adb_reply.specs.declared.refusals.TheConstants.{MAX_PRINTED_SERIAL}
 
 -- the serial that a selector names, and none where it names a device otherwise
 abbrev pub asked_serial : Selector → List ℕ
@@ -25,7 +25,7 @@ refusal_text by NoUsb = codes "no devices found"
 refusal_text by ManyUsb = codes "more than one device"
 refusal_text by NoLocal = codes "no emulators found"
 refusal_text by ManyLocal = codes "more than one emulator"
-refusal_text by NoSerial = codes "device '" ++ take PRINTED_SERIAL (asked_serial by) ++ codes "' not found"
+refusal_text by NoSerial = codes "device '" ++ take MAX_PRINTED_SERIAL (asked_serial by) ++ codes "' not found"
 refusal_text by ManySerial = codes "more than one device"
 refusal_text by NoId = codes "no device with transport id '" ++ decimal (asked_id by) ++ codes "'"
 refusal_text by Offline = codes "device offline"

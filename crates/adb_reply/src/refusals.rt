@@ -9,7 +9,7 @@ use itoa::Buffer;
 use std::alloc::{AllocError, Global};
 
 /// The most bytes of a serial that a refusal prints.
-const PRINTED_SERIAL: usize = 64;
+const MAX_PRINTED_SERIAL: usize = 64;
 
 /// Why a selector chose no device.
 pub(crate) fn refusal_text(alloc: Global, by: &Selector, why: Refusal) -> Result<Text, AllocError>
@@ -54,7 +54,7 @@ fn asked_id(by: &Selector) -> u32
 
 fn serial_not_found(alloc: Global, serial: &[u8]) -> Result<Text, AllocError>
     ensures text { IfOk result (λ text.
-        text ≡ codes "device '" ++ take PRINTED_SERIAL serial.now ++ codes "' not found") }
+        text ≡ codes "device '" ++ take MAX_PRINTED_SERIAL serial.now ++ codes "' not found") }
     ensures short { IfOk result (λ text. length text < 2 ^ 16) }
 {
     let mut text = Text::from_slice(alloc, b"device '")?;
@@ -76,11 +76,11 @@ fn id_not_found(alloc: Global, id: u32) -> Result<Text, AllocError>
 
 /// As much of a serial as a refusal prints.
 fn printed(serial: &[u8]) -> &[u8]
-    ensures text { result.now ≡ take PRINTED_SERIAL serial.now }
-    ensures short { length result.now ≤ PRINTED_SERIAL }
+    ensures text { result.now ≡ take MAX_PRINTED_SERIAL serial.now }
+    ensures short { length result.now ≤ MAX_PRINTED_SERIAL }
 {
-    if serial.len() > PRINTED_SERIAL {
-        &serial[..PRINTED_SERIAL]
+    if serial.len() > MAX_PRINTED_SERIAL {
+        &serial[..MAX_PRINTED_SERIAL]
     } else {
         serial
     }

@@ -12,11 +12,11 @@ use Rattle.adb_outside.proofs.CutLaws.{frame_first}
 use Rattle.adb_outside.proofs.Numbers.{number_again}
 use Rattle.adb_shell.specs.declared.packet.ShellPacket.{ShellPacket}
 use Rattle.adb_shell.specs.declared.format.ShellFormat.{ShellFormat}
-use Rattle.adb_shell.specs.declared.format.TheConstants.{HEADER_BYTES, LAST_ID, MOST_BYTES}
+use Rattle.adb_shell.specs.declared.format.TheConstants.{HEADER_BYTES, LAST_ID, MAX_SHELL_PAYLOAD}
 use Rattle.adb_shell.specs.Packets.{IsPacket, spelling, front, front_with, packet_of, past, cut_from, id_of, length_of}
 use Rattle.adb_shell.specs.Framed.{packets_are_framed, there, whole_there, with_fits}
 
-with_packet : (offset id len there : ℕ) → id ≤ LAST_ID → len ≤ MOST_BYTES → HEADER_BYTES + len ≤ there
+with_packet : (offset id len there : ℕ) → id ≤ LAST_ID → len ≤ MAX_SHELL_PAYLOAD → HEADER_BYTES + len ≤ there
     → front_with offset id len there ≡ Whole (HEADER_BYTES + len)
 with_packet offset id len there known short h = grind (arith, nat_tests)
 
@@ -33,7 +33,7 @@ pub read_again : (from : ShellFormat) (packet : ShellPacket) (more : List ℕ) �
     → cut_from from (spelling packet ++ more) ≡ joined (packet ∷ []) (cut_from (past from (spelling packet)) more)
 read_again from packet more h = frame_first front packet_of past packets_are_framed from (spelling packet) more (spelled_front from packet h)
 
-with_good : (offset id len there n : ℕ) → front_with offset id len there ≡ Whole n → (id ≤ LAST_ID) × (len ≤ MOST_BYTES)
+with_good : (offset id len there n : ℕ) → front_with offset id len there ≡ Whole n → (id ≤ LAST_ID) × (len ≤ MAX_SHELL_PAYLOAD)
 with_good offset id len there n e = grind (arith, nat_tests)
 
 -- a header and more spell a packet, where its length is that of the others

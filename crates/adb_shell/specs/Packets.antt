@@ -12,13 +12,13 @@ use Rattle.adb_shell.specs.declared.packet.ShellFault.{ShellFault}
 use Rattle.adb_shell.specs.declared.packet.ShellFault.TheVariants.{BadId, TooLong}
 use Rattle.adb_shell.specs.declared.packet.ShellError.{ShellError}
 use Rattle.adb_shell.specs.declared.packet.ShellError.TheVariants as errors
-use Rattle.adb_shell.specs.declared.format.TheConstants.{HEADER_BYTES, LAST_ID, MOST_BYTES}
+use Rattle.adb_shell.specs.declared.format.TheConstants.{HEADER_BYTES, LAST_ID, MAX_SHELL_PAYLOAD}
 use Rattle.adb_shell.specs.declared.format.ShellFormat.{ShellFormat}
 
 -- a packet that may be sent: its id is one of 0 to 5, and it holds at most 1,048,576 bytes
 pub record IsPacket (packet : ShellPacket) : Type 0 where
   pub id : packet.id ≤ LAST_ID
-  pub bytes : length packet.bytes ≤ MOST_BYTES
+  pub bytes : length packet.bytes ≤ MAX_SHELL_PAYLOAD
 
 -- the bytes of a packet
 abbrev pub spelling : ShellPacket → List ℕ
@@ -36,7 +36,7 @@ length_of header = little_number 4 (drop 1 header)
 abbrev pub front_with : ℕ → ℕ → ℕ → ℕ → Front ShellFault
 front_with offset id len there =
     if nat_lt LAST_ID id then Bad (BadId offset id)
-    else (if nat_lt MOST_BYTES len then Bad (TooLong offset len)
+    else (if nat_lt MAX_SHELL_PAYLOAD len then Bad (TooLong offset len)
     else (if nat_lt there (HEADER_BYTES + len) then More
     else Whole (HEADER_BYTES + len)))
 

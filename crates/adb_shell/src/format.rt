@@ -12,7 +12,7 @@ pub const HEADER_BYTES: usize = 5;
 pub const LAST_ID: u8 = 5;
 
 /// The most bytes that a packet holds.
-pub const MOST_BYTES: u32 = 1_048_576;
+pub const MAX_SHELL_PAYLOAD: u32 = 1_048_576;
 
 /// Packets, the first of which begins at an offset of the stream.
 #[derive(Clone, Copy)]
@@ -46,7 +46,7 @@ impl Format<ShellPacket, ShellFault> for ShellFormat {
         }
         let (_, after_id) = bytes.split_at(1);
         let length = LittleEndian::read_u32(after_id);
-        if length > MOST_BYTES {
+        if length > MAX_SHELL_PAYLOAD {
             return Front::Bad(ShellFault::TooLong {
                 offset: self.offset,
                 length,

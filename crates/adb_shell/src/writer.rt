@@ -4,7 +4,7 @@ ghost use Rattle.std.specs.Prelude.{◌≡◌, ◌≤◌, ◌++◌, ◌∷◌, l
 ghost use Rattle.byteorder.specs.Endian.{little_bytes};
 ghost use Rattle.adb_shell.specs.Packets.{spelling};
 
-use crate::format::{HEADER_BYTES, LAST_ID, MOST_BYTES};
+use crate::format::{HEADER_BYTES, LAST_ID, MAX_SHELL_PAYLOAD};
 use adb_outside::Text;
 use byteorder::{ByteOrder, LittleEndian};
 use std::alloc::{AllocError, Global};
@@ -12,7 +12,7 @@ use std::alloc::{AllocError, Global};
 /// Adds the bytes of a packet at the end. After want of memory `out` is as before.
 pub fn write_packet(alloc: Global, id: u8, bytes: &[u8], out: &mut Text) -> Result<(), AllocError>
     requires known { id ≤ LAST_ID }
-    requires short { length bytes.now ≤ MOST_BYTES }
+    requires short { length bytes.now ≤ MAX_SHELL_PAYLOAD }
     ensures ok { OnOk result (out.new
         ≡ out.old ++ spelling (record { id = id; bytes = bytes.now })) }
     ensures err { OnErr result (out.new ≡ out.old) }

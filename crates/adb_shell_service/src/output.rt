@@ -24,7 +24,7 @@ pub const EXIT: u8 = 3;
 pub const CLOSE_STDIN: u8 = 4;
 
 /// The most bytes of output in one packet.
-pub const MOST_OUTPUT: usize = 65_536;
+pub const MAX_OUTPUT: usize = 65_536;
 
 /// Adds output as packets. After want of memory the first of them may stand there.
 pub fn add_output(alloc: Global, id: u8, bytes: &[u8], out: &mut Text) -> Result<(), AllocError>
@@ -33,7 +33,7 @@ pub fn add_output(alloc: Global, id: u8, bytes: &[u8], out: &mut Text) -> Result
 {
     let mut rest = bytes;
     while !rest.is_empty() {
-        let (first, others) = rest.split_at(MOST_OUTPUT.min(rest.len()));
+        let (first, others) = rest.split_at(MAX_OUTPUT.min(rest.len()));
         write_packet(alloc, id, first, out)?;
         rest = others;
     }

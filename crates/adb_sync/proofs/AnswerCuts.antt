@@ -17,7 +17,7 @@ use Rattle.adb_sync.specs.declared.answer_id.AnswerId.TheVariants as ids
 use Rattle.adb_sync.specs.declared.answer_format.AnswerFormat.{AnswerFormat}
 use Rattle.adb_sync.specs.declared.error.SyncRule.TheVariants as rules
 use Rattle.adb_sync.specs.declared.layout.Layout.{Layout}
-use Rattle.adb_sync.specs.declared.layout.TheConstants.{MOST_CHUNK}
+use Rattle.adb_sync.specs.declared.layout.TheConstants.{MAX_CHUNK}
 use Rattle.adb_sync.specs.Messages.{number_at, chunk_limit}
 use Rattle.adb_sync.specs.Answers.{AnswerReading, answer_id_of, answer_layout, known_answer, answered_at, answer_front, answer_by, answer_of_bytes, end_of, past_answer, answers_from, stat_bytes, answer_bytes, IsAnswer, HasAnswerWords, EndsKind, IsIdAnd, IsSpelling, AreSpelled, SpellsAnswers, IsAnswerCut}
 use Rattle.adb_sync.specs.Framed.{IsBehind, message_told, framed_message, answer_head, answer_heads, answers_are_framed}
@@ -99,7 +99,7 @@ spelled_read from (answers.Dent mode size mtime name) bytes is good words kind =
     (numbers_again (λ a b c. answers.Dent a b c name) mode size mtime (little_bytes 4 (length name) ++ name) words))
 spelled_read from (answers.Chunk chunk) bytes is good words kind = subst (λ b. IsReadAs from b (answers.Chunk chunk)) (sym is)
     (read_as from ids.Data (answer_bytes (answers.Chunk chunk)) (answers.Chunk chunk) refl
-    (text_behind chunk_limit false chunk (omega (arith, good)) (within MOST_CHUNK (length chunk) rules.ChunkTooLong good) refl) refl)
+    (text_behind chunk_limit false chunk (omega (arith, good)) (within MAX_CHUNK (length chunk) rules.ChunkTooLong good) refl) refl)
 spelled_read from (answers.Fail text) bytes is good words kind = subst (λ b. IsReadAs from b (answers.Fail text)) (sym is)
     (read_as from ids.Fail (answer_bytes (answers.Fail text)) (answers.Fail text) refl (text_behind None false text good refl refl) refl)
 spelled_read from answers.Okay bytes is good words kind =
@@ -196,7 +196,7 @@ spelled_by from ids.Dent rest are m =
     }
 spelled_by from ids.Data rest are m = record {
   again = ap (λ r. codes "DATA" ++ r) (sym (counted_again rest are m.size));
-  good = omega (arith, m.size, length-drop 4 rest, is_within MOST_CHUNK (number_at 0 rest) rules.ChunkTooLong m.number);
+  good = omega (arith, m.size, length-drop 4 rest, is_within MAX_CHUNK (number_at 0 rest) rules.ChunkTooLong m.number);
   words = tt;
   kind = tt;
 }

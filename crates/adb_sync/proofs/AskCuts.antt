@@ -19,7 +19,7 @@ use Rattle.adb_sync.specs.declared.ask_format.AskFormat.{AskFormat}
 use Rattle.adb_sync.specs.declared.error.SyncRule.{SyncRule}
 use Rattle.adb_sync.specs.declared.error.SyncRule.TheVariants as rules
 use Rattle.adb_sync.specs.declared.layout.Layout.{Layout}
-use Rattle.adb_sync.specs.declared.layout.TheConstants.{MOST_PATH, MOST_CHUNK}
+use Rattle.adb_sync.specs.declared.layout.TheConstants.{MAX_PATH, MAX_CHUNK}
 use Rattle.adb_sync.specs.Messages.{message, number_at, text, path_limit, chunk_limit, limit_fault, comma_fault, last_comma, comma_behind}
 use Rattle.adb_sync.specs.Asks.{AskReading, ask_id_of, ask_layout, ask_in_place, asked_at, is_in_place, ask_front, ask_of, past_ask, asks_from, ask_bytes, id_of_ask, is_sending_after, IsAsk, HasAskWords, StandInPlace, SpellsAsks, IsAskCut, send_cut}
 use Rattle.adb_sync.specs.Framed.{IsBehind, message_told, framed_message, ask_head, ask_heads, asks_are_framed}
@@ -43,8 +43,8 @@ cut_again path mode none =
     ∙ ap (asks.Send path) (ap (λ k. drop k text) (add-one (length path)) ∙ drop_path path mode))
 
 -- what stands behind its id
-path_behind : (path : List ℕ) → length path ≤ MOST_PATH → IsBehind (text 1 path_limit) (little_bytes 4 (length path) ++ path)
-path_behind path short = text_behind path_limit false path (omega (arith, short)) (within MOST_PATH (length path) rules.PathTooLong short) refl
+path_behind : (path : List ℕ) → length path ≤ MAX_PATH → IsBehind (text 1 path_limit) (little_bytes 4 (length path) ++ path)
+path_behind path short = text_behind path_limit false path (omega (arith, short)) (within MAX_PATH (length path) rules.PathTooLong short) refl
 
 said : (ask : SyncAsk) → IsAsk ask → HasAskWords ask → IsBehind (ask_layout (id_of_ask ask)) (drop 4 (ask_bytes ask))
 said (asks.Stat path) good words = path_behind path good
@@ -52,11 +52,11 @@ said (asks.List path) good words = path_behind path good
 said (asks.Recv path) good words = path_behind path good
 said (asks.Send path mode) good words =
     let text = path ++ 44 ∷ mode in
-    let few : length text ≤ MOST_PATH = omega (arith, length-append path (44 ∷ mode), good.0) in
-    text_behind path_limit true text (omega (arith, few)) (within MOST_PATH (length text) rules.PathTooLong few)
+    let few : length text ≤ MAX_PATH = omega (arith, length-append path (44 ∷ mode), good.0) in
+    text_behind path_limit true text (omega (arith, few)) (within MAX_PATH (length text) rules.PathTooLong few)
     (ap comma_fault (comma_at path mode good.1))
 said (asks.Chunk bytes) good words =
-    text_behind chunk_limit false bytes (omega (arith, good)) (within MOST_CHUNK (length bytes) rules.ChunkTooLong good) refl
+    text_behind chunk_limit false bytes (omega (arith, good)) (within MAX_CHUNK (length bytes) rules.ChunkTooLong good) refl
 said (asks.Finish mtime) good words = numbers_behind 1 (little_bytes 4 mtime) refl
 said asks.Quit good words = record { head = omega arith; number = refl; size = refl; body = refl }
 
@@ -174,13 +174,13 @@ record IsSpelledAsk (id : AskId) (bytes : List ℕ) (ask : SyncAsk) : Type 0 whe
   kind : id_of_ask ask ≡ id
 
 -- a path within its limit
-path_fits : (rest : List ℕ) → length rest ≡ 4 + number_at 0 rest → limit_fault path_limit (number_at 0 rest) ≡ None → length (drop 4 rest) ≤ MOST_PATH
-path_fits rest len good = omega (arith, len, is_within MOST_PATH (number_at 0 rest) rules.PathTooLong good, length-drop 4 rest)
+path_fits : (rest : List ℕ) → length rest ≡ 4 + number_at 0 rest → limit_fault path_limit (number_at 0 rest) ≡ None → length (drop 4 rest) ≤ MAX_PATH
+path_fits rest len good = omega (arith, len, is_within MAX_PATH (number_at 0 rest) rules.PathTooLong good, length-drop 4 rest)
 
 -- a path behind its id
 record AsksPath (id : AskId) (make : List ℕ → SyncAsk) : Type 0 where
   bytes : (path : List ℕ) → ask_bytes (make path) ≡ message (letters id) (length path) path
-  good : (path : List ℕ) → length path ≤ MOST_PATH → IsAsk (make path)
+  good : (path : List ℕ) → length path ≤ MAX_PATH → IsAsk (make path)
   words : (path : List ℕ) → HasAskWords (make path)
   kind : (path : List ℕ) → id_of_ask (make path) ≡ id
 
@@ -197,7 +197,7 @@ path_spelled id make rest asks are m =
     }
 
 -- a SEND and its comma
-send_spelled : (rest text : List ℕ) (k : ℕ) → text ≡ drop 4 rest → last_comma text ≡ Some k → length text ≤ MOST_PATH
+send_spelled : (rest text : List ℕ) (k : ℕ) → text ≡ drop 4 rest → last_comma text ≡ Some k → length text ≤ MAX_PATH
     → little_bytes 4 (length (drop 4 rest)) ++ drop 4 rest ≡ rest
     → IsSpelledAsk ids.Send (codes "SEND" ++ rest) (send_cut text (Some k))
 send_spelled rest text k is found short counted =
@@ -234,7 +234,7 @@ spelled_by from ids.Send rest are m =
     (send_spelled rest (drop 4 rest) comma.0 refl comma.1 short (counted_again rest are m.size))
 spelled_by from ids.Data rest are m = record {
   again = ap (λ r. codes "DATA" ++ r) (counted_again rest are m.size);
-  good = omega (arith, m.size, length-drop 4 rest, is_within MOST_CHUNK (number_at 0 rest) rules.ChunkTooLong m.number);
+  good = omega (arith, m.size, length-drop 4 rest, is_within MAX_CHUNK (number_at 0 rest) rules.ChunkTooLong m.number);
   words = tt;
   kind = refl;
 }

@@ -5,7 +5,7 @@ use Rattle.std.proofs.lemmas.Bool.{eq-eqb, ne_eqb}
 use Rattle.std.proofs.lemmas.List.{take_min, drop_min, length-append, length-take, length-drop, append_assoc, drop-drop, drop-append-le, drop-take, drop_all, nil_from_length}
 use Rattle.adb_sync.specs.declared.answer.SyncAnswer.TheVariants as answers
 use Rattle.adb_sync.specs.Answers.{answer_bytes}
-use Rattle.adb_sync.specs.declared.layout.TheConstants.{MOST_CHUNK}
+use Rattle.adb_sync.specs.declared.layout.TheConstants.{MAX_CHUNK}
 use Rattle.adb_sync.specs.declared.chunk.Chunk.{Chunk}
 use Rattle.adb_sync.specs.Chunk.{IsWithin, HasFront, TakesHere, left_from, chunks_at, chunk_bytes}
 
@@ -13,36 +13,36 @@ use Rattle.adb_sync.specs.Chunk.{IsWithin, HasFront, TakesHere, left_from, chunk
 enough : (k m : ℕ) (bytes : List ℕ) → length bytes ≤ k → length bytes ≤ m → chunks_at k bytes ≡ chunks_at m bytes
 enough zero zero bytes h g = refl
 enough zero (suc m) bytes h g =
-    sym (ap (λ t. cond t [] (answer_bytes (answers.Chunk (take MOST_CHUNK bytes)) ++ chunks_at m (drop MOST_CHUNK bytes)))
+    sym (ap (λ t. cond t [] (answer_bytes (answers.Chunk (take MAX_CHUNK bytes)) ++ chunks_at m (drop MAX_CHUNK bytes)))
     (eq-eqb (length bytes) 0 (omega arith)))
 enough (suc k) zero bytes h g =
-    ap (λ t. cond t [] (answer_bytes (answers.Chunk (take MOST_CHUNK bytes)) ++ chunks_at k (drop MOST_CHUNK bytes))) (eq-eqb (length bytes) 0 (omega arith))
+    ap (λ t. cond t [] (answer_bytes (answers.Chunk (take MAX_CHUNK bytes)) ++ chunks_at k (drop MAX_CHUNK bytes))) (eq-eqb (length bytes) 0 (omega arith))
 enough (suc k) (suc m) bytes h g = go (length bytes == 0)
-    (enough k m (drop MOST_CHUNK bytes) (omega (arith, h, length-drop MOST_CHUNK bytes)) (omega (arith, g, length-drop MOST_CHUNK bytes)))
+    (enough k m (drop MAX_CHUNK bytes) (omega (arith, h, length-drop MAX_CHUNK bytes)) (omega (arith, g, length-drop MAX_CHUNK bytes)))
   where
-    go : (t : Bool) → chunks_at k (drop MOST_CHUNK bytes) ≡ chunks_at m (drop MOST_CHUNK bytes)
-        → cond t [] (answer_bytes (answers.Chunk (take MOST_CHUNK bytes)) ++ chunks_at k (drop MOST_CHUNK bytes)) ≡ cond t []
-        (answer_bytes (answers.Chunk (take MOST_CHUNK bytes)) ++ chunks_at m (drop MOST_CHUNK bytes))
+    go : (t : Bool) → chunks_at k (drop MAX_CHUNK bytes) ≡ chunks_at m (drop MAX_CHUNK bytes)
+        → cond t [] (answer_bytes (answers.Chunk (take MAX_CHUNK bytes)) ++ chunks_at k (drop MAX_CHUNK bytes)) ≡ cond t []
+        (answer_bytes (answers.Chunk (take MAX_CHUNK bytes)) ++ chunks_at m (drop MAX_CHUNK bytes))
     go true e = refl
-    go false e = ap (λ (rest : List ℕ). answer_bytes (answers.Chunk (take MOST_CHUNK bytes)) ++ rest) e
+    go false e = ap (λ (rest : List ℕ). answer_bytes (answers.Chunk (take MAX_CHUNK bytes)) ++ rest) e
 
 -- a chunk comes off
 pub chunk_more : (bytes : List ℕ) → length bytes ≢ 0
-    → chunk_bytes bytes ≡ answer_bytes (answers.Chunk (take (min MOST_CHUNK (length bytes)) bytes)) ++ chunk_bytes (drop (min MOST_CHUNK (length bytes)) bytes)
+    → chunk_bytes bytes ≡ answer_bytes (answers.Chunk (take (min MAX_CHUNK (length bytes)) bytes)) ++ chunk_bytes (drop (min MAX_CHUNK (length bytes)) bytes)
 chunk_more bytes some =
     enough (length bytes) (suc (length bytes)) bytes (omega arith) (omega arith)
-    ∙ (ap (λ t. cond t [] (answer_bytes (answers.Chunk (take MOST_CHUNK bytes)) ++ chunks_at (length bytes) (drop MOST_CHUNK bytes)))
+    ∙ (ap (λ t. cond t [] (answer_bytes (answers.Chunk (take MAX_CHUNK bytes)) ++ chunks_at (length bytes) (drop MAX_CHUNK bytes)))
     (ne_eqb (length bytes) 0 some)
-    ∙ (ap (λ (rest : List ℕ). answer_bytes (answers.Chunk (take MOST_CHUNK bytes)) ++ rest)
-    (enough (length bytes) (length (drop MOST_CHUNK bytes)) (drop MOST_CHUNK bytes) (omega (arith, length-drop MOST_CHUNK bytes)) (omega arith))
-    ∙ (ap (λ (front : List ℕ). answer_bytes (answers.Chunk front) ++ chunk_bytes (drop MOST_CHUNK bytes)) (sym (take_min MOST_CHUNK bytes))
-    ∙ ap (λ (rest : List ℕ). answer_bytes (answers.Chunk (take (min MOST_CHUNK (length bytes)) bytes)) ++ chunk_bytes rest) (sym (drop_min MOST_CHUNK bytes)))))
+    ∙ (ap (λ (rest : List ℕ). answer_bytes (answers.Chunk (take MAX_CHUNK bytes)) ++ rest)
+    (enough (length bytes) (length (drop MAX_CHUNK bytes)) (drop MAX_CHUNK bytes) (omega (arith, length-drop MAX_CHUNK bytes)) (omega arith))
+    ∙ (ap (λ (front : List ℕ). answer_bytes (answers.Chunk front) ++ chunk_bytes (drop MAX_CHUNK bytes)) (sym (take_min MAX_CHUNK bytes))
+    ∙ ap (λ (rest : List ℕ). answer_bytes (answers.Chunk (take (min MAX_CHUNK (length bytes)) bytes)) ++ chunk_bytes rest) (sym (drop_min MAX_CHUNK bytes)))))
 
 pub chunk_none : (bytes : List ℕ) → length bytes ≡ 0 → chunk_bytes bytes ≡ []
 chunk_none bytes none = ap chunk_bytes (nil_from_length bytes none)
 
 -- a chunk begins
-pub begins : (bytes header : List ℕ) (from size to : ℕ) → size ≡ min MOST_CHUNK (length bytes - from) → to ≡ from + size → size ≢ 0
+pub begins : (bytes header : List ℕ) (from size to : ℕ) → size ≡ min MAX_CHUNK (length bytes - from) → to ≡ from + size → size ≢ 0
     → ((chunk : List ℕ) → length chunk ≡ size → header ++ chunk ≡ answer_bytes (answers.Chunk chunk))
     → header ++ (take (to - from) (drop from bytes) ++ chunk_bytes (drop to bytes)) ≡ chunk_bytes (drop from bytes)
 begins bytes header from size to least end some spells =
@@ -58,8 +58,8 @@ begins bytes header from size to least end some spells =
     rest : List ℕ
     rest = drop from bytes
 
-    is : size ≡ min MOST_CHUNK (length rest)
-    is = least ∙ ap (λ n. min MOST_CHUNK n) (sym (length-drop from bytes))
+    is : size ≡ min MAX_CHUNK (length rest)
+    is = least ∙ ap (λ n. min MAX_CHUNK n) (sym (length-drop from bytes))
 
 -- bytes of a chunk whose header was taken are taken
 pub moves : (header bytes more : List ℕ) (from to k : ℕ) → length header ≡ 0 → k ≤ to - from → to ≤ length bytes

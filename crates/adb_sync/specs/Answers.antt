@@ -13,7 +13,7 @@ use Rattle.adb_sync.specs.declared.error.SyncRule.{SyncRule}
 use Rattle.adb_sync.specs.declared.error.SyncRule.TheVariants as rules
 use Rattle.adb_sync.specs.declared.error.SyncFault.{SyncFault}
 use Rattle.adb_sync.specs.declared.layout.Layout.{Layout}
-use Rattle.adb_sync.specs.declared.layout.TheConstants.{MOST_CHUNK}
+use Rattle.adb_sync.specs.declared.layout.TheConstants.{MAX_CHUNK}
 use Rattle.adb_sync.specs.Messages.{message, number_at, numbers, text, chunk_limit, front}
 
 -- the id that four bytes are, where they are one
@@ -100,7 +100,7 @@ abbrev pub IsAnswer : SyncAnswer → Type 0
 IsAnswer (answers.Stat mode size mtime) = Unit {0}
 IsAnswer (answers.Dent mode size mtime name) = length name < 2 ^ 32
 IsAnswer answers.ListEnd = Unit {0}
-IsAnswer (answers.Chunk bytes) = length bytes ≤ MOST_CHUNK
+IsAnswer (answers.Chunk bytes) = length bytes ≤ MAX_CHUNK
 IsAnswer answers.ChunkEnd = Unit {0}
 IsAnswer answers.Okay = Unit {0}
 IsAnswer (answers.Fail text) = length text < 2 ^ 32

@@ -12,7 +12,7 @@ use Rattle.adb_sync.specs.declared.error.SyncRule.{SyncRule}
 use Rattle.adb_sync.specs.declared.error.SyncRule.TheVariants as rules
 use Rattle.adb_sync.specs.declared.error.SyncFault.{SyncFault}
 use Rattle.adb_sync.specs.declared.layout.Layout.{Layout}
-use Rattle.adb_sync.specs.declared.layout.TheConstants.{MOST_PATH, MOST_CHUNK}
+use Rattle.adb_sync.specs.declared.layout.TheConstants.{MAX_PATH, MAX_CHUNK}
 use Rattle.adb_sync.specs.Messages.{message, number_at, numbers, text, path_limit, chunk_limit, front, last_comma}
 
 -- the id that four bytes are, where they are one
@@ -131,11 +131,11 @@ id_of_ask asks.Quit = ids.Quit
 -- what may be written: a path request of at most 1,024 bytes, in a SEND counted with its comma and mode, a mode without a
 -- comma, and a chunk of at most 65,536 bytes
 abbrev pub IsAsk : SyncAsk → Type 0
-IsAsk (asks.Stat path) = length path ≤ MOST_PATH
-IsAsk (asks.List path) = length path ≤ MOST_PATH
-IsAsk (asks.Recv path) = length path ≤ MOST_PATH
-IsAsk (asks.Send path mode) = (length path + 1 + length mode ≤ MOST_PATH) × (last_comma mode ≡ None)
-IsAsk (asks.Chunk bytes) = length bytes ≤ MOST_CHUNK
+IsAsk (asks.Stat path) = length path ≤ MAX_PATH
+IsAsk (asks.List path) = length path ≤ MAX_PATH
+IsAsk (asks.Recv path) = length path ≤ MAX_PATH
+IsAsk (asks.Send path mode) = (length path + 1 + length mode ≤ MAX_PATH) × (last_comma mode ≡ None)
+IsAsk (asks.Chunk bytes) = length bytes ≤ MAX_CHUNK
 IsAsk (asks.Finish mtime) = Unit {0}
 IsAsk asks.Quit = Unit {0}
 

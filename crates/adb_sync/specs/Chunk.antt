@@ -2,14 +2,14 @@
 use Rattle.std.specs.Prelude.{ℕ, zero, suc, ◌-◌, ◌≡◌, ◌≢◌, ◌<◌, ◌≤◌, ◌==◌, if◌then◌else◌, List, [], ◌++◌, length, take, drop}
 use Rattle.adb_sync.specs.declared.answer.SyncAnswer.TheVariants as answers
 use Rattle.adb_sync.specs.declared.chunk.Chunk.{Chunk}
-use Rattle.adb_sync.specs.declared.layout.TheConstants.{MOST_CHUNK}
+use Rattle.adb_sync.specs.declared.layout.TheConstants.{MAX_CHUNK}
 use Rattle.adb_sync.specs.Answers.{answer_bytes}
 
 -- bytes in chunks of the most bytes and a last shorter one where a rest is left: at most so many of them
 abbrev pub chunks_at : ℕ → List ℕ → List ℕ
 chunks_at zero bytes = []
 chunks_at (suc k) bytes =
-    if length bytes == 0 then [] else answer_bytes (answers.Chunk (take MOST_CHUNK bytes)) ++ chunks_at k (drop MOST_CHUNK bytes)
+    if length bytes == 0 then [] else answer_bytes (answers.Chunk (take MAX_CHUNK bytes)) ++ chunks_at k (drop MAX_CHUNK bytes)
 
 abbrev pub chunk_bytes : List ℕ → List ℕ
 chunk_bytes bytes = chunks_at (length bytes) bytes

@@ -13,7 +13,7 @@ use Rattle.adb_sync.specs.declared.error.SyncError.{SyncError}
 use Rattle.adb_sync.specs.declared.error.SyncError.TheVariants as errors
 use Rattle.adb_sync.specs.declared.layout.Limit.{Limit}
 use Rattle.adb_sync.specs.declared.layout.Layout.{Layout}
-use Rattle.adb_sync.specs.declared.layout.TheConstants.{MOST_PATH, MOST_CHUNK}
+use Rattle.adb_sync.specs.declared.layout.TheConstants.{MAX_PATH, MAX_CHUNK}
 
 -- the bytes of a message whose head is one number
 abbrev pub message : List ℕ → ℕ → List ℕ → List ℕ
@@ -43,10 +43,10 @@ text count limit = record { head = 4 * count; limit = limit; counted = true; com
 
 -- how long a path and a chunk may be
 abbrev pub path_limit : Option Limit
-path_limit = Some (record { most = MOST_PATH; rule = rules.PathTooLong })
+path_limit = Some (record { most = MAX_PATH; rule = rules.PathTooLong })
 
 abbrev pub chunk_limit : Option Limit
-chunk_limit = Some (record { most = MOST_CHUNK; rule = rules.ChunkTooLong })
+chunk_limit = Some (record { most = MAX_CHUNK; rule = rules.ChunkTooLong })
 
 -- one number at least, and no more than four
 abbrev pub HasHead : Layout → Type 0

@@ -4,7 +4,7 @@ ghost use Rattle.std.specs.Prelude.{◌≡◌, ◌≢◌, ◌<◌, ◌≤◌, []
 ghost use Rattle.std.specs.Io.{StartsWith};
 ghost use Rattle.adb_sync.specs.Chunk.{IsWithin, HasFront, TakesHere, chunk_bytes, left_from};
 
-use crate::layout::MOST_CHUNK;
+use crate::layout::MAX_CHUNK;
 use crate::writers::{CHUNK_HEADER_BYTES, chunk_header};
 
 /// A chunk of some bytes that are handed out as DATA, one chunk after the other, without a copy: its
@@ -26,7 +26,7 @@ impl Chunk {
         ensures within { IsWithin result bytes.now }
         ensures front { HasFront result bytes.now }
     {
-        let size = (MOST_CHUNK as usize).min(bytes.len() - from);
+        let size = (MAX_CHUNK as usize).min(bytes.len() - from);
         if size == 0 {
             return Chunk {
                 header: [0; CHUNK_HEADER_BYTES],

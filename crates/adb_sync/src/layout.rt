@@ -12,10 +12,10 @@ use byteorder::{ByteOrder, LittleEndian};
 pub const WORD_BYTES: usize = 4;
 
 /// The most bytes of a path, in a SEND counted with its comma and mode.
-pub const MOST_PATH: u32 = 1024;
+pub const MAX_PATH: u32 = 1024;
 
 /// The most bytes of a DATA.
-pub const MOST_CHUNK: u32 = 65_536;
+pub const MAX_CHUNK: u32 = 65_536;
 
 /// How large a number may be.
 #[derive(Clone, Copy)]
@@ -28,20 +28,20 @@ pub struct Limit {
 impl Limit {
     /// How long a path may be.
     pub fn of_path() -> Limit
-        ensures { result ≡ record { most = MOST_PATH; rule = SyncRule.PathTooLong } }
+        ensures { result ≡ record { most = MAX_PATH; rule = SyncRule.PathTooLong } }
     {
         Limit {
-            most: MOST_PATH,
+            most: MAX_PATH,
             rule: SyncRule::PathTooLong,
         }
     }
 
     /// How long a chunk may be.
     pub fn of_chunk() -> Limit
-        ensures { result ≡ record { most = MOST_CHUNK; rule = SyncRule.ChunkTooLong } }
+        ensures { result ≡ record { most = MAX_CHUNK; rule = SyncRule.ChunkTooLong } }
     {
         Limit {
-            most: MOST_CHUNK,
+            most: MAX_CHUNK,
             rule: SyncRule::ChunkTooLong,
         }
     }

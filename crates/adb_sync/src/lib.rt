@@ -31,5 +31,5 @@ pub use laws::{
     answer_cut_is_determined, answer_cut_is_right, answer_faults_stay, ask_cut_is_determined,
     ask_cut_is_right, ask_faults_stay, written_answers_are_read, written_asks_are_read,
 };
-pub use layout::MOST_CHUNK;
+pub use layout::MAX_CHUNK;
 pub use writers::{CHUNK_HEADER_BYTES, chunk_header, write_answer, write_ask};

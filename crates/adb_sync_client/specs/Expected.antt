@@ -10,7 +10,7 @@ use Rattle.adb_sync.specs.Messages.{number_at}
 use Rattle.adb_sync.specs.Answers.{answer_front, answer_of_bytes, past_answer, answers_start}
 use Rattle.adb_sync_client.specs.declared.kind.AnswerKind.{AnswerKind}
 use Rattle.adb_sync_client.specs.declared.kind.AnswerKind.TheVariants as kinds
-use Rattle.adb_sync.specs.declared.layout.TheConstants.{MOST_CHUNK}
+use Rattle.adb_sync.specs.declared.layout.TheConstants.{MAX_CHUNK}
 use Rattle.adb_sync_client.specs.declared.expected.Expected.{Expected}
 
 -- an id stands at the front, as far as there are bytes
@@ -20,7 +20,7 @@ begins id head = bytes_eq (take (min (length head) 4) head) (take (min (length h
 -- A DATA stands at the front, as far as there are bytes, and is not too long: its length, with zeros for the bytes that are missing, is the least
 -- that can follow.
 abbrev pub begins_chunk : List ℕ → Bool
-begins_chunk head = begins (codes "DATA") head && nat_le (number_at 4 head) MOST_CHUNK
+begins_chunk head = begins (codes "DATA") head && nat_le (number_at 4 head) MAX_CHUNK
 
 -- whether an answer of a kind may begin with the first bytes of a head
 abbrev pub goes_on : AnswerKind → List ℕ → Bool

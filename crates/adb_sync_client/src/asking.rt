@@ -7,7 +7,7 @@ ghost use Rattle.adb_sync_client.specs.Values.{step_map};
 
 use crate::kind::AnswerKind;
 use crate::reading::Reading;
-use crate::request::MAX_PATH;
+use crate::request::MAX_ASKED_PATH;
 use crate::step::Step;
 use crate::told::Told;
 use adb_outside::ByteQueue;
@@ -39,7 +39,7 @@ pub trait PathValue: Drop + Sized {
 
     /// The bytes of the request, to be taken from the front.
     fn request(alloc: Global, path: &[u8]) -> Result<ByteQueue, AllocError>
-        requires { length path.now ≤ MAX_PATH }
+        requires { length path.now ≤ MAX_ASKED_PATH }
         ensures { IfOk result (λ queue. queue.bytes ≡ text path.now) };
 
     /// A copy of what the answers said.
@@ -69,7 +69,7 @@ impl<V: PathValue> Model for PathAsk<V> {
 impl<V: PathValue> PathAsk<V> {
     /// Asks about a path.
     pub fn new(alloc: Global, path: &[u8]) -> Result<PathAsk<V>, AllocError>
-        requires { length path.now ≤ MAX_PATH }
+        requires { length path.now ≤ MAX_ASKED_PATH }
         ensures { IfOk result (λ new. Asks V.kind (V.text path.now) new) }
     {
         Ok(PathAsk {

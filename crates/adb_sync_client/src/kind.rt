@@ -3,7 +3,7 @@
 ghost use Rattle.std.specs.Prelude.{◌≡◌, ◌≤◌, length};
 ghost use Rattle.adb_sync_client.specs.Expected.{begins, begins_chunk, may_begin, stray_in};
 
-use adb_sync::MOST_CHUNK;
+use adb_sync::MAX_CHUNK;
 use byteorder::{ByteOrder, LittleEndian};
 
 /// The bytes of an id and of the number behind it.
@@ -69,5 +69,5 @@ fn is_chunk_head(head: &[u8]) -> bool
 {
     let mut whole = [0; HEAD_BYTES];
     whole[..head.len()].copy_from_slice(head);
-    begins(head, b"DATA") && LittleEndian::read_u32(&whole[4..]) <= MOST_CHUNK
+    begins(head, b"DATA") && LittleEndian::read_u32(&whole[4..]) <= MAX_CHUNK
 }

@@ -26,6 +26,6 @@ pub use laws::{ended_answers_stay, first_bad_byte_is_told};
 pub use list::List;
 pub use pull::Pull;
 pub use push::Push;
-pub use request::MAX_PATH;
+pub use request::MAX_ASKED_PATH;
 pub use stat::Stat;
 pub use step::{StatValue, Step};

@@ -5,7 +5,7 @@ ghost use Rattle.std.specs.Io.{StartsWith};
 ghost use Rattle.adb_sync.specs.Asks.{ask_bytes};
 ghost use Rattle.adb_sync_client.specs.Texts.{push_text};
 
-use crate::request::{MAX_PATH, spelled};
+use crate::request::{MAX_ASKED_PATH, spelled};
 use adb_outside::{ByteQueue, Text};
 use adb_sync::{Chunk, SyncAsk};
 use itoa::Buffer;
@@ -42,7 +42,7 @@ impl Outgoing {
         mtime: u32,
         bytes: &[u8],
     ) -> Result<Outgoing, AllocError>
-        requires { length path.now ≤ MAX_PATH }
+        requires { length path.now ≤ MAX_ASKED_PATH }
         ensures { IfOk result (λ out. out ≡ push_text path.now mode mtime bytes.now) }
     {
         let head = send_of(alloc, path, mode)?;
@@ -117,7 +117,7 @@ fn take_from(queue: &mut ByteQueue, n: usize) -> usize
 
 /// The bytes of a SEND.
 fn send_of(alloc: Global, path: &[u8], mode: u32) -> Result<ByteQueue, AllocError>
-    requires { length path.now ≤ MAX_PATH }
+    requires { length path.now ≤ MAX_ASKED_PATH }
     ensures { IfOk result (λ head. head.bytes ≡ ask_bytes (SyncAsk.Send path.now (decimal mode))) }
 {
     let path = Text::from_slice(alloc, path)?;

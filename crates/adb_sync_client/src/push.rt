@@ -9,7 +9,7 @@ ghost use Rattle.adb_sync_client.specs.Values.{push_value};
 use crate::kind::AnswerKind;
 use crate::outgoing::Outgoing;
 use crate::reading::Reading;
-use crate::request::MAX_PATH;
+use crate::request::MAX_ASKED_PATH;
 use crate::step::Step;
 use std::alloc::{AllocError, Global};
 use std::marker::Model;
@@ -39,7 +39,7 @@ impl Push {
         mtime: u32,
         bytes: &[u8],
     ) -> Result<Push, AllocError>
-        requires { length path.now ≤ MAX_PATH }
+        requires { length path.now ≤ MAX_ASKED_PATH }
         ensures { IfOk result (λ new.
             Asks AnswerKind.Push (push_text path.now mode mtime bytes.now) new) }
     {

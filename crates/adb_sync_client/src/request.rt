@@ -8,7 +8,7 @@ use adb_sync::{SyncAsk, write_ask};
 use std::alloc::{AllocError, Global};
 
 /// The most bytes of a path.
-pub const MAX_PATH: usize = 1000;
+pub const MAX_ASKED_PATH: usize = 1000;
 
 /// The bytes of a request, to be taken from the front.
 pub fn spelled(alloc: Global, ask: &SyncAsk) -> Result<ByteQueue, AllocError>

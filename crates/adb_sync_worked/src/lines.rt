@@ -5,7 +5,7 @@ use crate::exchange::exchange;
 use adb_files::Files;
 use adb_outside::Text;
 use adb_sync::Dirent;
-use adb_sync_client::{Entries, List, MAX_PATH, Pull, Push, Stat, StatValue, Step};
+use adb_sync_client::{Entries, List, MAX_ASKED_PATH, Pull, Push, Stat, StatValue, Step};
 use itoa::Buffer;
 use std::alloc::{AllocError, Global};
 
@@ -22,7 +22,7 @@ pub fn line_of(
     let path = ask.path.as_bytes();
     let mut line = Text::from_slice(alloc, ask.what.name())?;
     line.push_slice(path)?;
-    if path.len() > MAX_PATH {
+    if path.len() > MAX_ASKED_PATH {
         line.push_slice(b" too long\n")?;
         return Ok(line);
     }

@@ -5,5 +5,5 @@ use Rattle.adb_registry.proofs.lists.cut.Goals as goal
 pub slice_bounds-result-end : goal.slice_bounds-result-end
 slice_bounds-result-end c = sym (length-take-le 64 c.args.value.now (omega arith))
 
-pub returns-else-value-gt-VALUE_LIMIT : goal.returns-else-value-gt-VALUE_LIMIT
-returns-else-value-gt-VALUE_LIMIT c = sym (take_all 64 c.args.value.now (omega arith))
+pub returns-else-value-gt-MAX_VALUE : goal.returns-else-value-gt-MAX_VALUE
+returns-else-value-gt-MAX_VALUE c = sym (take_all 64 c.args.value.now (omega arith))

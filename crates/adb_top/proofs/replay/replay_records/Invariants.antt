@@ -1,5 +1,5 @@
 use Rattle.std.proofs.Common.{◌-◌, false}
-use Rattle.adb_capture.specs.declared.limits.TheConstants.{CAPTURE_LIMIT}
+use Rattle.adb_capture.specs.declared.limits.TheConstants.{MAX_CAPTURE}
 use Rattle.adb_outside.specs.Outside.{Counts}
 use Rattle.adb_top.specs.Replay.{moment}
 use Rattle.adb_top.proofs.RecordEnds.{GoingOn}
@@ -13,4 +13,4 @@ invariant-loop-reader g l =
     (Counts g.K.Sink.steady g.K.Sink.faults l.fn.sink l.sink false)
 
 abbrev pub decreases-loop-reader : goal.decreases-loop-reader
-decreases-loop-reader g l = CAPTURE_LIMIT - l.reader.offset
+decreases-loop-reader g l = MAX_CAPTURE - l.reader.offset
