@@ -79,7 +79,8 @@ module _ (t : ℕ) (x : Stream) (p : Packet) (s : State) (h : Pair p.arg1 x s) w
       from_nobody e = by (eqb x.part.remote 0) refl
         where
           by : (b : Bool) → eqb x.part.remote 0 ≡ b → is_again x.part.remote p.arg1 p ≡ false
-          by true f = ap (λ b. is_okay p.command && not b && is_between x.part.remote p.arg1 p) f ∙ no_middle (is_okay p.command) (is_between x.part.remote p.arg1 p)
+          by true f = ap (λ b. is_okay p.command && not b && is_between x.part.remote p.arg1 p) f
+              ∙ no_middle (is_okay p.command) (is_between x.part.remote p.arg1 p)
           by false f = from_other (ne_eqb p.arg0 x.part.remote (λ same. eqb-false x.part.remote 0 f (sym same ∙ eqb-true p.arg0 0 e)))
 
       later : Made
@@ -207,8 +208,10 @@ module _ (t l : ℕ) (x : Stream) (p : Packet) (s : State) (h : Pair l x s) wher
   any_effect : (command : Command) → p.command ≡ command → is_cnxn command ≡ false → (x.link ≡ t) × Apart l x.client s
       → (is_connected t s.devices ≡ true) → EffectOr l x p h.client (treat_any t command p s)
   any_effect Cnxn c e on_t on = absurd (let clash : true ≡ false = e in cc)
-  any_effect Auth c e on_t on = kind_effect (unauthorized t (at t s.devices.rows) s) (far_unauthorized l x.client t (at t s.devices.rows) s) (ap is_wrte c) (ap is_okay c)
-  any_effect Stls c e on_t on = kind_effect (unauthorized t (at t s.devices.rows) s) (far_unauthorized l x.client t (at t s.devices.rows) s) (ap is_wrte c) (ap is_okay c)
+  any_effect Auth c e on_t on = kind_effect (unauthorized t (at t s.devices.rows) s) (far_unauthorized l x.client t (at t s.devices.rows) s)
+      (ap is_wrte c) (ap is_okay c)
+  any_effect Stls c e on_t on = kind_effect (unauthorized t (at t s.devices.rows) s) (far_unauthorized l x.client t (at t s.devices.rows) s)
+      (ap is_wrte c) (ap is_okay c)
   any_effect Open c e on_t on = if_effect Open c refl on_t on
   any_effect Okay c e on_t on = if_effect Okay c refl on_t on
   any_effect Wrte c e on_t on = if_effect Wrte c refl on_t on
