@@ -1,8 +1,9 @@
 -- What a binder in memory is seen as, and what it answers.
 use Rattle.std.specs.Prelude.{ℕ, ◌+◌, ◌≡◌, ◌==◌, if◌then◌else◌, ◌⊎◌, Bool, true, false, List, Option, Some, None, is_some, Contains}
-use Rattle.adb_outside.specs.Outside.{counted_on}
+use Rattle.adb_outside.specs.Outside.{counted, counted_on}
 use Rattle.adb_binder.specs.declared.binder.Binding.{Binding}
 use Rattle.adb_binder.specs.declared.binder.Binding.TheVariants.{Bound, Failed}
+use Rattle.adb_binder.specs.Binder.{is_failed_bind}
 
 -- the port for the next that asks for any, if one is left; the ports that were asked for and answered; and the calls of the binder
 pub record Bindings : Type 0 where
@@ -40,6 +41,7 @@ pub record Offers (before : Bindings) (asked : ℕ) (binding : Binding) (after :
   pub failed : binding ≡ Failed → Contains before.failing after.calls ⊎ (offered before.next asked ≡ None)
   pub bound : (port : ℕ) → binding ≡ Bound port → offered before.next asked ≡ Some port
   pub calls : after.calls ≡ counted_on before.calls
+  pub faults : after.faults ≡ counted (is_failed_bind binding) before.faults
   pub failing : after.failing ≡ before.failing
   pub next : after.next ≡ before.next
   pub answered : after.answered ≡ before.answered
@@ -52,5 +54,6 @@ pub record Binds (before : Bindings) (asked : ℕ) (binding : Binding) (after : 
   pub bound : (port : ℕ) → binding ≡ Bound port → offered before.next asked ≡ Some port
   pub told : (port : ℕ) → binding ≡ Bound port → is_some after.answered ≡ is_some before.answered
   pub calls : after.calls ≡ counted_on before.calls
+  pub faults : after.faults ≡ counted (is_failed_bind binding) before.faults
   pub failing : after.failing ≡ before.failing
   pub next : after.next ≡ next_after before.next asked binding

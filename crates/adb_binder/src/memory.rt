@@ -117,7 +117,9 @@ impl Binder for MemoryBinder {
     {
         let binding = self.offer(port);
         if !self.note(port, binding) {
-            self.failing.count_fault();
+            if binding != Binding::Failed {
+                self.failing.count_fault();
+            }
             return Binding::Failed;
         }
         if let Binding::Bound(given) = binding {

@@ -31,10 +31,14 @@ pub record SinkRecording (K : Type 0) : Type 0 where
   pub opened : Bool
   pub faults : ℕ
 
--- what a recorder writes of an entry: the magic comes before the first record
+-- what a recorder writes of a record: the magic comes before the first one
+abbrev pub behind_magic : Bool → List ℕ → List ℕ
+behind_magic true bytes = bytes
+behind_magic false bytes = magic ++ bytes
+
+-- what a recorder writes of an entry
 abbrev pub recorded : Bool → Entry → List ℕ
-recorded true e = record_of e
-recorded false e = magic ++ record_of e
+recorded opened e = behind_magic opened (record_of e)
 
 -- a front of a text went out
 pub record GrowsByFront (out text : List ℕ) (after : Option (List ℕ)) : Type 0 where

@@ -79,6 +79,11 @@ data_of (Detach link cause) = cause_byte cause ∷ []
 data_of (Put client bytes) = bytes
 data_of (Send link bytes) = bytes
 
+-- the entry of a piece that came from a client or a device
+abbrev pub came_from : Owner → List ℕ → Entry
+came_from (Client client) piece = Read client piece
+came_from (Link link) piece = Recv link piece
+
 -- an entry's record: its kind, its number, the length of its data, and the data
 abbrev pub record_of : Entry → List ℕ
 record_of e = kind_of e ∷ little_bytes 4 (number_of e) ++ little_bytes 4 (length (data_of e)) ++ data_of e

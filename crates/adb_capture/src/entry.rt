@@ -52,7 +52,20 @@ impl Owner {
 
 impl Entry {
     ghost use Rattle.std.specs.Prelude.{◌≡◌, IfOk};
-    ghost use Rattle.adb_capture.specs.Records.{owner_of};
+    ghost use Rattle.adb_capture.specs.Records.{came_from, owner_of};
+
+    /// The entry of a piece that came from a client or a device.
+    pub fn came_from(from: Owner, piece: Text) -> Entry
+        ensures { result ≡ came_from from piece }
+    {
+        match from {
+            Owner::Client(client) => Entry::Read {
+                client,
+                bytes: piece,
+            },
+            Owner::Link(link) => Entry::Recv { link, bytes: piece },
+        }
+    }
 
     /// The client or the link that the entry names.
     pub fn owner(&self) -> Owner
@@ -71,6 +84,7 @@ impl Entry {
             | Entry::Send { link, .. } => Owner::Link(*link),
         }
     }
+
     /// The same entry, in memory of its own.
     pub fn copy(&self) -> Result<Entry, AllocError>
         ensures { IfOk result (λ e. e ≡ self.now) }

@@ -3,9 +3,17 @@
 ghost use Rattle.std.specs.Prelude.{◌≡◌, ◌<◌, ◌≤◌, ◌+◌, ◌++◌, ℕ, List, length, take, All};
 ghost use Rattle.adb_outside.specs.Framing.{IsFraming};
 ghost use Rattle.adb_outside.specs.declared.framer.Front.TheVariants.{More, Whole};
-ghost use Rattle.adb_capture.specs.declared.limits.TheConstants.{HEADER_LEN, MAX_DATA, MAX_CAPTURE};
+ghost use Rattle.adb_capture.specs.declared.limits.TheConstants.{HEADER_LEN, MAX_DATA, MAX_CAPTURE, MAX_READ};
 ghost use Rattle.adb_capture.specs.declared.entry.Entry.{Entry};
 ghost use Rattle.adb_capture.specs.Records.{record_at, record_of, entry_in, offset_after, HasRecord};
+
+/// The numbers of the limits, which definitions name.
+pub fn limits_are()
+    ensures header { HEADER_LEN ≡ 9 }
+    ensures data { MAX_DATA ≡ 2097152 }
+    ensures capture { MAX_CAPTURE ≡ 1073741824 }
+    ensures read { MAX_READ ≡ 65536 }
+{}
 
 /// Records are a format: whether bytes begin with a record or a refusal stays so, whatever follows.
 /// Bytes that begin with neither are fewer than the longest record has.

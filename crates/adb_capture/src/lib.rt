@@ -20,8 +20,8 @@ mod writer;
 
 pub use entry::{Entry, Owner};
 pub use error::{CaptureError, FormFault, Why};
-pub use laws::{read_is_spelled, records_are_framed, spelled_is_read};
-pub use limits::{MAX_CAPTURE, MAX_DATA, MAX_READ};
+pub use laws::{limits_are, read_is_spelled, records_are_framed, spelled_is_read};
+pub use limits::{MAX_CAPTURE, MAX_DATA};
 pub use memory_recorder::MemoryRecorder;
 pub use reader::CaptureReader;
 pub use recorder::{NullRecorder, RecordError, Recorder};

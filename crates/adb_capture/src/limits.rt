@@ -10,4 +10,4 @@ pub const MAX_DATA: usize = 2_097_152;
 pub const MAX_CAPTURE: u64 = 1_073_741_824;
 
 /// The most bytes of a read of a capture's source.
-pub const MAX_READ: usize = 65_536;
+pub(crate) const MAX_READ: usize = 65_536;

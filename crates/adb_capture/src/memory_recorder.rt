@@ -1,19 +1,21 @@
 //! A recorder in memory, which fails where a test wants it.
 
-ghost use Rattle.std.specs.Prelude.{◌≡◌, ◌↔◌, [], Some, Err, Contains};
-ghost use Rattle.adb_outside.specs.Outside.{Counts, counted_on};
-ghost use Rattle.adb_capture.specs.Records.{HasRecord};
+ghost use Rattle.std.specs.Prelude.{◌≡◌, ◌≤◌, ◌↔◌, [], length, Some, Err, Contains};
+ghost use Rattle.adb_outside.specs.Outside.{Counts, counted, counted_on};
+ghost use Rattle.adb_capture.specs.declared.limits.TheConstants.{MAX_DATA};
+ghost use Rattle.adb_capture.specs.Records.{HasRecord, came_from};
 ghost use Rattle.adb_capture.specs.Recording.{TellsRecord, is_failed_record};
 
-use crate::entry::Entry;
+use crate::entry::{Entry, Owner};
 use crate::recorder::{RecordError, Recorder};
-use adb_outside::Failing;
+use adb_outside::{Failing, Text};
 use std::alloc::Global;
 use std::marker::Model;
 
 /// A recorder that keeps a copy of each entry. It tells them.
 #[derive(Drop)]
 pub struct MemoryRecorder {
+    alloc: Global,
     kept: Vec<Entry>,
     failing: Failing,
 }
@@ -38,6 +40,7 @@ impl MemoryRecorder {
         ensures { result ≡ record { told = []; failing = failing.items; calls = 0; faults = 0 } }
     {
         MemoryRecorder {
+            alloc,
             kept: Vec::new(alloc),
             failing: Failing::new(failing),
         }
@@ -68,6 +71,7 @@ impl Recorder for MemoryRecorder {
             self.old self.new (is_failed_record result) }
         ensures fails { (result ≡ Err RecordError.Failed) ↔ Contains self.old.failing self.new.calls }
         ensures calls { self.new.calls ≡ counted_on self.old.calls }
+        ensures faults { self.new.faults ≡ counted (is_failed_record result) self.old.faults }
         ensures same { self.new.failing ≡ self.old.failing }
     {
         if self.failing.fails() {
@@ -75,6 +79,28 @@ impl Recorder for MemoryRecorder {
         }
         let copy = entry.copy()?;
         match self.kept.push(copy) {
+            Ok(()) => Ok(()),
+            Err(_full) => Err(RecordError::OutOfMemory),
+        }
+    }
+
+    /// Keeps a copy of the piece. It fails at the calls whose numbers are in the list.
+    fn keep_piece(&mut self, from: Owner, piece: &[u8]) -> Result<(), RecordError>
+        requires { length piece.now ≤ MAX_DATA }
+        ensures told { TellsRecord (Some self.old.told) (Some self.new.told)
+            (came_from from piece.now) result }
+        ensures counts { Counts (λ r. r.failing ≡ []) (λ r. r.faults)
+            self.old self.new (is_failed_record result) }
+        ensures fails { (result ≡ Err RecordError.Failed) ↔ Contains self.old.failing self.new.calls }
+        ensures calls { self.new.calls ≡ counted_on self.old.calls }
+        ensures faults { self.new.faults ≡ counted (is_failed_record result) self.old.faults }
+        ensures same { self.new.failing ≡ self.old.failing }
+    {
+        if self.failing.fails() {
+            return Err(RecordError::Failed);
+        }
+        let bytes = Text::from_slice(self.alloc, piece)?;
+        match self.kept.push(Entry::came_from(from, bytes)) {
             Ok(()) => Ok(()),
             Err(_full) => Err(RecordError::OutOfMemory),
         }

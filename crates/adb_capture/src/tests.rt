@@ -147,6 +147,7 @@ fn a_capture_has_a_last_byte(rt: HostRuntime) {
     let offset = 1_073_741_816;
     assert!(rt; front(offset - 1, join) == Front::Whole(9));
     assert!(rt; front(offset, join) == Front::Bad(FormFault::TooLong { offset }));
+    limits_are();
     records_are_framed();
     spelled_is_read();
     read_is_spelled();
@@ -187,5 +188,27 @@ fn recorders_keep(rt: HostRuntime) -> Result<(), Fail> {
         says(&rt, copy, ("attach", 1, 0, b"abc"));
     }
     assert!(rt; NullRecorder::new().keep(&entry).is_ok());
+    Ok(())
+}
+
+/// Whether a recorder keeps a piece of a client and one of a device.
+fn keeps_both(recorder: &mut impl Recorder) -> bool {
+    let client = recorder.keep_piece(Owner::Client(1), b"ab");
+    client.is_ok() && recorder.keep_piece(Owner::Link(2), b"c").is_ok()
+}
+
+#[test]
+fn pieces_are_kept(rt: HostRuntime) -> Result<(), Fail> {
+    let mut memory = MemoryRecorder::new(rt.alloc(), Vec::new(rt.alloc()));
+    let mut written = SinkRecorder::new(MemorySink::new(rt.alloc(), Vec::new(rt.alloc())));
+    assert!(rt; keeps_both(&mut memory) && keeps_both(&mut written));
+    assert!(rt; keeps_both(&mut NullRecorder::new()));
+    let records = b"ADBHUB1\nR\x01\0\0\0\x02\0\0\0abV\x02\0\0\0\x01\0\0\0c".as_slice();
+    assert!(rt; written.sink().bytes() == records);
+    let rows: [Said<'_>; 2] = [("read", 1, 0, b"ab"), ("recv", 2, 0, b"c")];
+    for (copy, want) in memory.entries().iter().zip(rows) {
+        says(&rt, copy, want);
+    }
+    assert!(rt; memory.entries().len() == 2);
     Ok(())
 }

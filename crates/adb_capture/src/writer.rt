@@ -3,16 +3,17 @@
 ghost use Rattle.std.specs.Prelude.{◌≡◌, ◌<◌, ◌≤◌, ◌+◌, ◌++◌, ◌^◌, ℕ, OnOk, OnErr, length, take};
 ghost use Rattle.adb_outside.specs.Outside.{Counts};
 ghost use Rattle.adb_outside.specs.Sink.{FitsPiece, TellsWrite, is_failed_write};
-ghost use Rattle.adb_capture.specs.declared.limits.TheConstants.{HEADER_LEN};
-ghost use Rattle.adb_capture.specs.Records.{magic, kind_of, record_of, cause_byte, plug_letter, HasRecord};
+ghost use Rattle.adb_capture.specs.declared.limits.TheConstants.{HEADER_LEN, MAX_DATA};
+ghost use Rattle.adb_capture.specs.Records.{magic, kind_of, record_of, cause_byte, plug_letter, came_from, HasRecord};
 ghost use Rattle.adb_capture.specs.Pieces.{text_of, word_of};
 
 use crate::awaiting::MAGIC;
-use crate::entry::Entry;
+use crate::entry::{Entry, Owner};
 use crate::limits::HEADER_LEN;
 use adb_outside::{ByteQueue, Cause, Kind, Sink, Wrote};
 use byteorder::{ByteOrder, LittleEndian};
 use std::alloc::AllocError;
+use std::marker::Model;
 
 /// Writes the eight bytes that a capture begins with. It takes no memory.
 pub fn write_magic<K: Sink>(sink: &mut K) -> Wrote
@@ -60,7 +61,7 @@ pub fn append_entry(bytes: &mut ByteQueue, entry: &Entry) -> Result<(), AllocErr
 }
 
 /// Writes a piece, and where it went out another behind it, which may be empty.
-fn write_both<K: Sink>(sink: &mut K, first: &[u8], last: &[u8]) -> Wrote
+pub(crate) fn write_both<K: Sink>(sink: &mut K, first: &[u8], last: &[u8]) -> Wrote
     requires some { 0 < length first.now }
     requires small { length first.now + length last.now < 2 ^ 63 }
     ensures fits { FitsPiece (first.now ++ last.now) result }
@@ -83,16 +84,28 @@ fn write_both<K: Sink>(sink: &mut K, first: &[u8], last: &[u8]) -> Wrote
 /// The bytes of a record before its text: the kind, the number, the length of the data, and the
 /// data that are no text.
 #[derive(Drop)]
-struct Head {
+pub(crate) struct Head {
     bytes: [u8; 11],
     len: usize,
 }
 
+impl Model for Head {
+    ghost use Rattle.std.specs.Prelude.{◌≤◌, List, ℕ, take};
+    ghost use Rattle.adb_capture.specs.declared.limits.TheConstants.{HEADER_LEN};
+
+    ghost Value = { List ℕ };
+
+    ghost view = { λ head. take head.len head.bytes };
+
+    ghost invariant = { λ head. (HEADER_LEN ≤ head.len) × (head.len ≤ 11) };
+}
+
 impl Head {
-    fn of(entry: &Entry) -> Head
+    /// That of an entry's record.
+    pub(crate) fn of(entry: &Entry) -> Head
         requires { HasRecord entry.now }
-        ensures is { take result.len result.bytes ++ text_of entry.now ≡ record_of entry.now }
-        ensures len { (HEADER_LEN ≤ result.len) × (result.len ≤ 11) }
+        ensures is { result ++ text_of entry.now ≡ record_of entry.now }
+        ensures len { (HEADER_LEN ≤ length result) × (length result ≤ 11) }
     {
         let word = Word::of(entry);
         let size = word.len + text(entry).len();
@@ -108,9 +121,27 @@ impl Head {
         }
     }
 
-    fn as_slice(&self) -> &[u8]
-        requires { self.now.len ≤ 11 }
-        ensures { result.now ≡ take self.now.len self.now.bytes }
+    /// That of the record of a piece that came from a client or a device.
+    pub(crate) fn of_piece(from: Owner, piece: &[u8]) -> Head
+        requires { length piece.now ≤ MAX_DATA }
+        ensures is { result ++ piece.now ≡ record_of (came_from from piece.now) }
+        ensures len { length result ≡ HEADER_LEN }
+    {
+        let mut bytes = [0; 11];
+        bytes[0] = match from {
+            Owner::Client(_) => b'R',
+            Owner::Link(_) => b'V',
+        };
+        LittleEndian::write_u32(&mut bytes[1..5], from.number());
+        LittleEndian::write_u32(&mut bytes[5..9], piece.len() as u32);
+        Head {
+            bytes,
+            len: HEADER_LEN,
+        }
+    }
+
+    pub(crate) fn as_slice(&self) -> &[u8]
+        ensures { result.now ≡ self.now }
     {
         &self.bytes[..self.len]
     }
@@ -149,7 +180,8 @@ impl Word {
     }
 }
 
-fn text(entry: &Entry) -> &[u8]
+/// The bytes of an entry's text.
+pub(crate) fn text(entry: &Entry) -> &[u8]
     ensures { result.now ≡ text_of entry.now }
 {
     match entry {

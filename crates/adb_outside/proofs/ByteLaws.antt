@@ -1,5 +1,5 @@
 -- Lists of bytes, by their places.
-use Rattle.std.proofs.Common.{ℕ, ◌≤◌, ◌<◌, List, ◌++◌, length, arith, get_or, ◌∙◌, inl, inr, ◌⊎◌, lit<}
+use Rattle.std.proofs.Common.{ℕ, ◌≤◌, ◌<◌, List, length, arith, get_or, inl, inr, ◌⊎◌, lit<}
 use Rattle.std.proofs.lemmas.List.{get_or_past}
 use Rattle.std.proofs.lemmas.List.Elements.{All-get_or, All-from_get_or}
 use Rattle.adb_outside.specs.Bytes.{AreBytes}

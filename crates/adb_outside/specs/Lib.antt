@@ -1,8 +1,6 @@
 pub mod Outside
 pub mod Source
 pub mod Sink
-pub mod Device
-pub mod Door
 pub mod Identity
 pub mod Framing
 pub mod Further

@@ -1,7 +1,7 @@
 //! The calls of a fake that fail.
 
 ghost use Rattle.std.specs.Prelude.{◌≡◌, ◌≤◌, [], IsTrue, ◌↔◌, Contains};
-ghost use Rattle.adb_outside.specs.Outside.{Rises, Counts, counted_on};
+ghost use Rattle.adb_outside.specs.Outside.{Rises, Counts, counted, counted_on};
 
 use std::marker::Model;
 
@@ -38,6 +38,7 @@ impl Failing {
     pub fn fails(&mut self) -> bool
         ensures fails { IsTrue result ↔ Contains self.old.failing self.new.calls }
         ensures calls { self.new.calls ≡ counted_on self.old.calls }
+        ensures faults { self.new.faults ≡ counted result self.old.faults }
         ensures counts { Counts (λ c. c.failing ≡ []) (λ c. c.faults) self.old self.new result }
         ensures same { self.new.failing ≡ self.old.failing }
     {
@@ -51,9 +52,9 @@ impl Failing {
 
     /// Counts a fault of another cause.
     pub fn count_fault(&mut self)
+        ensures is { self.new ≡ record self.old { faults = counted_on self.old.faults } }
         ensures count { self.old.faults ≤ self.new.faults }
         ensures rises { Rises self.old.faults self.new.faults }
-        ensures same { self.new ≡ record self.old { faults = self.new.faults } }
     {
         self.faults = self.faults.saturating_add(1);
     }

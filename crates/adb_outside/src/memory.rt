@@ -1,7 +1,7 @@
 //! A source and a sink in memory, which fail where a test wants it.
 
 ghost use Rattle.std.specs.Prelude.{◌≡◌, ◌<◌, ◌≤◌, [], length, Some};
-ghost use Rattle.adb_outside.specs.Outside.{Counts, Rises};
+ghost use Rattle.adb_outside.specs.Outside.{Counts, Rises, counted_on};
 ghost use Rattle.adb_outside.specs.Source.{FitsBuffer, TellsRead, is_failed_read};
 ghost use Rattle.adb_outside.specs.Sink.{FitsPiece, TellsWrite, is_failed_write};
 ghost use Rattle.adb_outside.specs.Memory.{ReadsMemory, WritesMemory};
@@ -55,10 +55,10 @@ impl MemorySource {
     }
 
     /// Counts a fault of another call than a read.
-    pub(crate) fn count_fault(&mut self)
+    pub fn count_fault(&mut self)
+        ensures is { self.new ≡ record self.old { faults = counted_on self.old.faults } }
         ensures count { self.old.faults ≤ self.new.faults }
         ensures rises { Rises self.old.faults self.new.faults }
-        ensures same { self.new ≡ record self.old { faults = self.new.faults } }
     {
         self.failing.count_fault();
     }

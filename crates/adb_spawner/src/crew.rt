@@ -1,62 +1,34 @@
 //! What runs jobs.
 
-ghost use Rattle.std.specs.Prelude.{◌≡◌, [], None, Some, IfOk, IfErr, is_err, vec_len, option_map};
+ghost use Rattle.std.specs.Prelude.{◌≡◌, [], None, Some, IfOk, IfErr, is_err, option_map};
 ghost use Rattle.adb_outside.specs.Outside.{Counts};
-ghost use Rattle.adb_spawner.specs.Crew.{IsSteady, Spawns, started};
+ghost use Rattle.adb_spawner.specs.Crew.{IsSteady, Spawns};
 
+use crate::job::Job;
+use crate::pool::Pool;
 use adb_outside::Failing;
-use std::alloc::Global;
+use std::alloc::{AllocError, Global};
 use std::marker::Model;
-use std::thread;
-use std::thread::{JoinHandle, SpawnError, Threads};
+use std::sync::Wait;
+use std::thread::Threads;
 
-/// Threads that were started and not yet waited for.
+/// Runs jobs of one type, each in a thread of its own while it runs, or within the call, and hands
+/// some back, not run: those of the calls that a test wants to fail, and those for which no thread
+/// can be had.
+///
+/// A thread that has run its job waits for the next. `finish` ends the threads; those of a crew that
+/// is dropped without it wait on.
 #[derive(Drop)]
-struct Started<W: Threads + Drop> {
-    rt: W,
-    handles: Vec<JoinHandle<()>>,
-}
-
-impl<W: Threads + Drop> Started<W> {
-    /// Starts a thread for a job, or hands the job back, not called.
-    fn start<F: FnOnce() + Send + Drop + 'static>(&mut self, job: F) -> Result<(), F>
-        requires { F.pre job }
-        ensures back { IfErr result (λ back. back ≡ job) }
-        ensures started { vec_len self.new.handles
-            ≡ started (is_err result) (vec_len self.old.handles) }
-    {
-        if self.handles.reserve(1).is_err() {
-            return Err(job);
-        }
-        match thread::spawn(&self.rt, job) {
-            Ok(handle) => {
-                self.handles.push_reserved(handle);
-                Ok(())
-            }
-            Err(SpawnError { value }) => Err(value),
-        }
-    }
-
-    /// Waits for all threads.
-    fn finish(&mut self)
-        ensures { vec_len self.new.handles ≡ 0 }
-    {
-        while let Some(handle) = self.handles.pop() {
-            handle.join(&self.rt);
-        }
-    }
-}
-
-/// Runs jobs, each in a thread of its own or within the call, and hands some back, not called: those
-/// of the calls that a test wants to fail, and those for which no thread can be had.
-#[derive(Drop)]
-pub struct Crew<W: Threads + Drop> {
+pub struct Crew<
+    W: Threads + Wait + Copy + Send + Sync + Drop + 'static,
+    J: Job + Send + Drop + 'static,
+> {
     failing: Failing,
-    started: Option<Started<W>>,
+    pool: Option<Pool<W, J>>,
 }
 
-impl<W: Threads + Drop> Model for Crew<W> {
-    ghost use Rattle.std.specs.Prelude.{option_map, vec_len};
+impl<W: Threads + Wait + Copy + Send + Sync + Drop + 'static, J: Job + Send + Drop + 'static> Model
+    for Crew<W, J> {
     ghost use Rattle.adb_spawner.specs.Crew.{Crewed};
 
     ghost Value = { Crewed };
@@ -65,14 +37,17 @@ impl<W: Threads + Drop> Model for Crew<W> {
       failing = crew.failing.failing;
       calls = crew.failing.calls;
       faults = crew.failing.faults;
-      threads = option_map (λ started. vec_len started.handles) crew.started;
+      threads = crew.pool;
     } };
 }
 
-impl<W: Threads + Drop> Crew<W> {
+impl<W: Threads + Wait + Copy + Send + Sync + Drop + 'static, J: Job + Send + Drop + 'static> Crew<
+    W,
+    J,
+> {
     /// A crew that runs each job within the call, and hands back the jobs of the calls whose
     /// numbers, counted from 1, are in `failing`. It takes no memory.
-    pub fn inline(failing: Vec<u64>) -> Crew<W>
+    pub fn inline(failing: Vec<u64>) -> Crew<W, J>
         ensures { result ≡ record {
           failing = failing.items;
           calls = 0;
@@ -82,42 +57,39 @@ impl<W: Threads + Drop> Crew<W> {
     {
         Crew {
             failing: Failing::new(failing),
-            started: None,
+            pool: None,
         }
     }
 
-    /// A crew that runs each job in a thread of its own. It takes no memory.
-    pub fn threads(rt: W, alloc: Global) -> Crew<W>
-        ensures { result ≡ record { failing = []; calls = 0; faults = 0; threads = Some 0 } }
+    /// A crew that runs each job in a thread of its own while it runs.
+    pub fn threads(rt: W, alloc: Global) -> Result<Crew<W, J>, AllocError>
+        ensures { IfOk result (λ crew. crew
+            ≡ record { failing = []; calls = 0; faults = 0; threads = Some 0 }) }
     {
-        Crew {
+        Ok(Crew {
             failing: Failing::new(Vec::new(alloc)),
-            started: Some(Started {
-                rt,
-                handles: Vec::new(alloc),
-            }),
-        }
+            pool: Some(Pool::new(rt, alloc)?),
+        })
     }
 
-    /// Runs a job, or hands it back, not called. The count of faults rises where it is handed back,
-    /// and stands elsewhere.
-    pub fn spawn<F: FnOnce() + Send + Drop + 'static>(&mut self, job: F) -> Result<(), F>
-        requires { F.pre job }
+    /// Runs a job, or hands it back, not run. The count of faults rises where it is handed back, and
+    /// stands elsewhere.
+    pub fn spawn(&mut self, job: J) -> Result<(), J>
         ensures back { IfErr result (λ back. back ≡ job) }
         ensures counts { Counts IsSteady (λ crew. crew.faults)
             self.old self.new (is_err result) }
         ensures spawns { Spawns self.old self.new (is_err result) }
-        ensures ran { self.old.threads ≡ None → IfOk result (F.post job) }
+        ensures ran { self.old.threads ≡ None → IfOk result (λ done. J.done job) }
     {
         if self.failing.fails() {
             return Err(job);
         }
-        match &mut self.started {
+        match &mut self.pool {
             None => {
-                job();
+                job.run();
                 Ok(())
             }
-            Some(started) => match started.start(job) {
+            Some(pool) => match pool.spawn(job) {
                 Ok(()) => Ok(()),
                 Err(job) => {
                     self.failing.count_fault();
@@ -127,13 +99,13 @@ impl<W: Threads + Drop> Crew<W> {
         }
     }
 
-    /// Waits for all jobs.
+    /// Waits for all jobs, and ends the threads.
     pub fn finish(&mut self)
         ensures same { self.new ≡ record self.old { threads = self.new.threads } }
         ensures threads { self.new.threads ≡ option_map (λ n. 0) self.old.threads }
     {
-        if let Some(started) = &mut self.started {
-            started.finish();
+        if let Some(pool) = &mut self.pool {
+            pool.finish();
         }
     }
 }

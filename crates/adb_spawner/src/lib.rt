@@ -1,8 +1,11 @@
-//! What runs the jobs of a server: each in a thread of its own, or within the call.
+//! What runs the jobs of a server: each in a thread of its own while it runs, or within the call.
 #![tactic(auto)]
 
 mod crew;
+mod job;
+mod pool;
 #[cfg(test)]
 mod tests;
 
 pub use crew::Crew;
+pub use job::Job;

@@ -2,34 +2,84 @@
 
 use super::*;
 use std::alloc::{AllocError, Global};
-use std::sync::Arc;
-use std::sync::atomic::{AtomicU64, Ordering};
+use std::sync::{Arc, Condvar, Mutex, Wait};
 use std::test::Fail;
 use std::thread::Threads;
 
-/// How many of three jobs a crew ran, and how many it handed back.
-fn ran<W: Threads + Drop>(alloc: Global, crew: Crew<W>) -> Result<(u64, u64), AllocError> {
-    let mut crew = crew;
-    let count = Arc::new(alloc, AtomicU64::new(0))?;
+/// How many jobs came.
+#[derive(Drop)]
+struct Meeting {
+    here: Mutex<u64>,
+    came: Condvar,
+}
+
+/// Comes to a meeting, and waits until so many did.
+#[derive(Drop)]
+struct Meet<W: Wait + Drop> {
+    rt: W,
+    meeting: Arc<Meeting, Global>,
+    wanted: u64,
+}
+
+impl<W: Wait + Drop> Job for Meet<W> {
+    ghost done = { λ job. Unit {0} };
+
+    fn run(self) {
+        meet(&self.rt, &self.meeting, self.wanted);
+    }
+}
+
+fn meet<W: Wait>(rt: &W, meeting: &Meeting, wanted: u64) {
+    let mut here = meeting.here.lock(rt);
+    *here = here.saturating_add(1);
+    meeting.came.notify_all();
+    for _ in rt.forever() {
+        if *here >= wanted {
+            return;
+        }
+        here = meeting.came.wait(rt, here);
+    }
+}
+
+/// How many of three came to their meeting, where each job waits for so many, and how many of them
+/// came because their job was handed back.
+fn met<W: Threads + Wait + Copy + Send + Sync + Drop + 'static>(
+    rt: W,
+    alloc: Global,
+    crew: &mut Crew<W, Meet<W>>,
+    wanted: u64,
+) -> Result<(u64, u64), AllocError> {
+    let meeting = Meeting {
+        here: Mutex::new(0),
+        came: Condvar::new(),
+    };
+    let meeting = Arc::new(alloc, meeting)?;
     let mut back = 0u64;
     for _ in 0..3 {
-        let theirs = Arc::try_clone(&count)?;
-        let job = move || {
-            theirs.fetch_add(1, Ordering::SeqCst);
+        let job = Meet {
+            rt,
+            meeting: Arc::try_clone(&meeting)?,
+            wanted,
         };
         if crew.spawn(job).is_err() {
             back = back.saturating_add(1);
+            meet(&rt, &meeting, 0);
         }
     }
     crew.finish();
-    Ok((count.load(Ordering::SeqCst), back))
+    let here = *meeting.here.lock(&rt);
+    Ok((here, back))
 }
 
+/// Jobs that wait for each other are done by threads alone, also once threads were ended.
 #[test]
 fn crews_run_jobs(rt: HostRuntime) -> Result<(), Fail> {
     let alloc = rt.alloc();
-    let inline: Crew<HostRuntime> = Crew::inline(Vec::from_slice(alloc, &[2])?);
-    assert!(rt; ran(alloc, inline)? == (2, 1));
-    assert!(rt; ran(alloc, Crew::threads(rt, alloc))? == (3, 0));
+    let mut inline = Crew::inline(Vec::from_slice(alloc, &[2])?);
+    assert!(rt; met(rt, alloc, &mut inline, 1)? == (3, 1));
+    let mut threads = Crew::threads(rt, alloc)?;
+    for _ in 0..2 {
+        assert!(rt; met(rt, alloc, &mut threads, 3)? == (3, 0));
+    }
     Ok(())
 }

@@ -1,7 +1,6 @@
 //! The two halves of a device's link. Whoever makes them hands them in boxed.
 
-use crate::sink::Wrote;
-use crate::source::Got;
+use adb_outside::{Got, Wrote};
 
 /// Whether a device is plugged in.
 #[derive(Clone, Copy, Debug, PartialEq, Eq, Drop)]
@@ -19,8 +18,8 @@ pub trait DeviceIn: Drop {
     ghost use Rattle.std.specs.Prelude.{◌≡◌, ◌<◌, ℕ, List, Option, length};
     ghost use Rattle.adb_outside.specs.Outside.{Counts, TellsOneMore};
     ghost use Rattle.adb_outside.specs.Source.{FitsBuffer, TellsRead, is_failed_read};
-    ghost use Rattle.adb_outside.specs.Device.{is_failed_plug};
-    ghost use Rattle.adb_outside.specs.declared.device.Plug.{Plug};
+    ghost use Rattle.adb_connections.specs.Device.{is_failed_plug};
+    ghost use Rattle.adb_connections.specs.declared.device.Plug.{Plug};
 
     /// How many of its calls failed. A count at its last value counts as having risen.
     ghost faults: { Self → ℕ };

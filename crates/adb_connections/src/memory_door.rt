@@ -1,14 +1,13 @@
 //! A door in memory, which fails where a test wants it.
 
-ghost use Rattle.std.specs.Prelude.{◌≡◌, false, [], Some, All, option_map};
+ghost use Rattle.std.specs.Prelude.{◌≡◌, true, false, [], Some, All, option_map};
 ghost use Rattle.adb_outside.specs.Outside.{Counts, TellsOneMore};
-ghost use Rattle.adb_outside.specs.Door.{FitsCame, Lasts, arrival, is_closed, is_failed_came};
-ghost use Rattle.adb_outside.specs.Memory.{Accepts, HasPort, LetsIn};
+ghost use Rattle.adb_connections.specs.Door.{FitsCame, Lasts, arrival, is_closed, is_failed_came};
+ghost use Rattle.adb_connections.specs.Memory.{Accepts, HasPort, IsSteadyDoor, LetsIn};
 
-use crate::answers::Answers;
 use crate::door::{Arrival, Came, Door};
-use crate::failing::Failing;
 use crate::port::{PortIn, PortOut};
+use adb_outside::{Answers, Failing};
 use std::alloc::Global;
 use std::collections::VecDeque;
 use std::marker::Model;
@@ -29,8 +28,8 @@ struct Line<I: Drop, O: Drop> {
 
 impl<I: Drop, O: Drop> Model for Line<I, O> {
     ghost use Rattle.std.specs.Prelude.{All, List};
-    ghost use Rattle.adb_outside.specs.Memory.{HasPort};
-    ghost use Rattle.adb_outside.specs.declared.memory_door.Caller.{Caller};
+    ghost use Rattle.adb_connections.specs.Memory.{HasPort};
+    ghost use Rattle.adb_connections.specs.declared.memory_door.Caller.{Caller};
 
     ghost Value = { List (Caller I O) };
 
@@ -63,22 +62,24 @@ impl<I: Drop, O: Drop> Line<I, O> {
     }
 }
 
-/// A door at which these come in, in order, and which is then closed. It tells its answers as long
-/// as it finds memory for them.
+/// A door at which these come in, in order. When nobody comes any more it is closed, or if it is to
+/// last, it fails. It tells its answers as long as it finds memory for them.
 #[derive(Drop)]
 pub struct MemoryDoor<I: Drop, O: Drop> {
     callers: Line<I, O>,
+    lasting: bool,
     came: Answers<Arrival>,
     failing: Failing,
 }
 
 impl<I: Drop, O: Drop> Model for MemoryDoor<I, O> {
-    ghost use Rattle.adb_outside.specs.Memory.{MemoryEntrance};
+    ghost use Rattle.adb_connections.specs.Memory.{MemoryEntrance};
 
     ghost Value = { MemoryEntrance I O };
 
     ghost view = { λ door. record {
       callers = door.callers;
+      lasting = door.lasting;
       came = door.came;
       failing = door.failing.failing;
       calls = door.failing.calls;
@@ -93,6 +94,7 @@ impl<I: Drop, O: Drop> MemoryDoor<I, O> {
         requires { All HasPort callers.items }
         ensures { result ≡ record {
           callers = callers.items;
+          lasting = false;
           came = Some [];
           failing = failing.items;
           calls = 0;
@@ -101,8 +103,19 @@ impl<I: Drop, O: Drop> MemoryDoor<I, O> {
     {
         MemoryDoor {
             callers: Line::new(callers),
+            lasting: false,
             came: Answers::new(alloc),
             failing: Failing::new(failing),
+        }
+    }
+
+    /// The same door, but it lasts: each call fails when nobody comes any more.
+    pub fn lasting(self) -> MemoryDoor<I, O>
+        ensures { result ≡ record self { lasting = true } }
+    {
+        MemoryDoor {
+            lasting: true,
+            ..self
         }
     }
 
@@ -116,7 +129,7 @@ impl<I: Drop, O: Drop> MemoryDoor<I, O> {
     /// Fails, or lets in the first who still comes.
     fn let_in(&mut self) -> Came<I, O>
         ensures fits { FitsCame result }
-        ensures counts { Counts (λ door. door.failing ≡ []) (λ door. door.faults)
+        ensures counts { Counts IsSteadyDoor (λ door. door.faults)
             self.old self.new (is_failed_came result) }
         ensures accepts { Accepts self.old self.new result }
         ensures same { self.new.came ≡ self.old.came }
@@ -124,7 +137,13 @@ impl<I: Drop, O: Drop> MemoryDoor<I, O> {
         if self.failing.fails() {
             return Came::Failed;
         }
-        self.callers.let_in()
+        match self.callers.let_in() {
+            Came::Closed if self.lasting => {
+                self.failing.count_fault();
+                Came::Failed
+            }
+            came => came,
+        }
     }
 }
 
@@ -146,22 +165,25 @@ impl<I: PortIn + Send + Drop + 'static, O: PortOut + Send + Drop + 'static> Door
 
     type Out = O;
 
-    ghost use Rattle.std.specs.Prelude.{◌≡◌, []};
+    ghost use Rattle.std.specs.Prelude.{◌≡◌, true};
+    ghost use Rattle.adb_connections.specs.Memory.{IsSteadyDoor};
 
     ghost faults = { λ door. door.faults };
 
     ghost came = { λ door. door.came };
 
-    ghost lasting = { λ door. ⊥ };
+    ghost lasting = { λ door. door.lasting ≡ true };
 
-    ghost steady = { λ door. door.failing ≡ [] };
+    ghost steady = { IsSteadyDoor };
 
-    /// It fails at the calls whose numbers are in the list.
+    /// It fails at the calls whose numbers are in the list, and if it lasts, where nobody comes any
+    /// more.
     fn accept(&mut self) -> Came<I, O>
         ensures fits { FitsCame result }
         ensures told { TellsOneMore self.old.came (arrival result) self.new.came }
-        ensures lasts { Lasts ⊥ ⊥ (is_closed result) }
-        ensures counts { Counts (λ door. door.failing ≡ []) (λ door. door.faults)
+        ensures lasts { Lasts (self.old.lasting ≡ true) (self.new.lasting ≡ true)
+            (is_closed result) }
+        ensures counts { Counts IsSteadyDoor (λ door. door.faults)
             self.old self.new (is_failed_came result) }
         ensures accepts { Accepts self.old self.new result }
     {

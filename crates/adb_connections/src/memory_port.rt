@@ -6,11 +6,8 @@ ghost use Rattle.adb_outside.specs.Source.{FitsBuffer, TellsRead, is_failed_read
 ghost use Rattle.adb_outside.specs.Sink.{FitsPiece, TellsWrite, is_failed_write};
 ghost use Rattle.adb_outside.specs.Memory.{ReadsMemory, WritesMemory};
 
-use crate::memory::{MemorySink, MemorySource};
 use crate::port::{PortIn, PortOut};
-use crate::sink::{Sink, Wrote};
-use crate::source::{Got, Source};
-use crate::text::Text;
+use adb_outside::{Got, MemorySink, MemorySource, Sink, Source, Text, Wrote};
 use std::alloc::Global;
 use std::marker::Model;
 
@@ -78,7 +75,7 @@ pub struct MemoryOut {
 }
 
 impl Model for MemoryOut {
-    ghost use Rattle.adb_outside.specs.Memory.{MemoryClosing};
+    ghost use Rattle.adb_connections.specs.Memory.{MemoryClosing};
 
     ghost Value = { MemoryClosing };
 

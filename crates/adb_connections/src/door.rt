@@ -28,8 +28,8 @@ pub enum Arrival {
 pub trait Door: Drop {
     ghost use Rattle.std.specs.Prelude.{ℕ, List, Option};
     ghost use Rattle.adb_outside.specs.Outside.{Counts, TellsOneMore};
-    ghost use Rattle.adb_outside.specs.Door.{FitsCame, Lasts, arrival, is_closed, is_failed_came};
-    ghost use Rattle.adb_outside.specs.declared.door.Arrival.{Arrival};
+    ghost use Rattle.adb_connections.specs.Door.{FitsCame, Lasts, arrival, is_closed, is_failed_came};
+    ghost use Rattle.adb_connections.specs.declared.door.Arrival.{Arrival};
 
     type In: PortIn + Send + Drop + 'static;
 

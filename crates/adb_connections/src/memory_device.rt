@@ -1,20 +1,17 @@
 //! A device in memory, which fails where a test wants it.
 
 ghost use Rattle.std.specs.Prelude.{◌≡◌, ◌<◌, ◌≤◌, true, false, [], length, Some, option_map};
-ghost use Rattle.adb_outside.specs.Outside.{Counts, TellsOneMore};
+ghost use Rattle.adb_outside.specs.Outside.{Counts, TellsOneMore, counted};
 ghost use Rattle.adb_outside.specs.Source.{FitsBuffer, TellsRead, is_failed_read};
 ghost use Rattle.adb_outside.specs.Sink.{FitsPiece, TellsWrite, is_failed_write};
-ghost use Rattle.adb_outside.specs.Device.{is_failed_plug};
-ghost use Rattle.adb_outside.specs.Memory.{IsSteadyDevice, ReadsMemory, WritesMemory};
+ghost use Rattle.adb_connections.specs.Device.{is_failed_plug};
+ghost use Rattle.adb_outside.specs.Memory.{ReadsMemory, WritesMemory};
+ghost use Rattle.adb_connections.specs.Memory.{IsSteadyDevice};
 
-use crate::answers::Answers;
 use crate::device::{DeviceIn, DeviceOut, Plug};
-use crate::memory::MemorySource;
 use crate::memory_port::MemoryOut;
 use crate::port::PortOut;
-use crate::sink::Wrote;
-use crate::source::{Got, Source};
-use crate::text::Text;
+use adb_outside::{Answers, Got, MemorySource, Source, Text, Wrote};
 use std::alloc::Global;
 use std::marker::Model;
 
@@ -28,7 +25,7 @@ pub struct MemoryDeviceIn {
 }
 
 impl Model for MemoryDeviceIn {
-    ghost use Rattle.adb_outside.specs.Memory.{MemoryPlugged};
+    ghost use Rattle.adb_connections.specs.Memory.{MemoryPlugged};
 
     ghost Value = { MemoryPlugged };
 
@@ -76,7 +73,7 @@ impl MemoryDeviceIn {
 
 impl DeviceIn for MemoryDeviceIn {
     ghost use Rattle.std.specs.Prelude.{Some};
-    ghost use Rattle.adb_outside.specs.Memory.{IsSteadyDevice};
+    ghost use Rattle.adb_connections.specs.Memory.{IsSteadyDevice};
 
     ghost faults = { λ device. device.source.faults };
 
@@ -94,8 +91,9 @@ impl DeviceIn for MemoryDeviceIn {
             self.old self.new (is_failed_plug result) }
         ensures given { result ≡ self.old.plug }
         ensures same { self.new.plug ≡ self.old.plug }
-        ensures source { self.new.source
-            ≡ record self.old.source { faults = self.new.source.faults } }
+        ensures source { self.new.source ≡ record self.old.source {
+          faults = counted (is_failed_plug result) self.old.source.faults;
+        } }
     {
         let _ = self.plugs.note(self.plug);
         if self.plug == Plug::Failed {
@@ -128,7 +126,7 @@ pub struct MemoryDeviceOut {
 }
 
 impl Model for MemoryDeviceOut {
-    ghost use Rattle.adb_outside.specs.Memory.{MemoryClosing};
+    ghost use Rattle.adb_connections.specs.Memory.{MemoryClosing};
 
     ghost Value = { MemoryClosing };
 

@@ -1,7 +1,6 @@
 //! The two halves of a client's connection.
 
-use crate::sink::Wrote;
-use crate::source::Got;
+use adb_outside::{Got, Wrote};
 
 /// What a client sends.
 pub trait PortIn {

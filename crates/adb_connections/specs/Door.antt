@@ -1,9 +1,9 @@
 -- What a door answers.
 use Rattle.std.specs.Prelude.{◌≡◌, ◌≢◌, Bool, true, false}
-use Rattle.adb_outside.specs.declared.door.Came.{Came}
-use Rattle.adb_outside.specs.declared.door.Came.TheVariants.{Port, Forward, Closed, Failed}
-use Rattle.adb_outside.specs.declared.door.Arrival.{Arrival}
-use Rattle.adb_outside.specs.declared.door.Arrival.TheVariants.{Port as PortCame, Forward as ForwardCame, Closed as HasClosed, Failed as HasFailed}
+use Rattle.adb_connections.specs.declared.door.Came.{Came}
+use Rattle.adb_connections.specs.declared.door.Came.TheVariants.{Port, Forward, Closed, Failed}
+use Rattle.adb_connections.specs.declared.door.Arrival.{Arrival}
+use Rattle.adb_connections.specs.declared.door.Arrival.TheVariants.{Port as PortCame, Forward as ForwardCame, Closed as HasClosed, Failed as HasFailed}
 
 -- A connection to a forward has come by its port, which is not 0.
 abbrev pub FitsCame : {I O : Type 0} → Came I O → Type 0

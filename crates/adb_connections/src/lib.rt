@@ -1,0 +1,21 @@
+//! What comes from outside by connections: clients and devices by their two halves, the door where
+//! clients come in, the gates that hold workers, and their fakes in memory.
+#![tactic(auto)]
+
+mod device;
+mod door;
+mod gate;
+mod memory_device;
+mod memory_door;
+mod memory_port;
+mod port;
+#[cfg(test)]
+mod tests;
+
+pub use device::{DeviceIn, DeviceOut, Plug};
+pub use door::{Arrival, Bell, Came, Door, SilentBell};
+pub use gate::{Gate, OpenGate, Place};
+pub use memory_device::{MemoryDeviceIn, MemoryDeviceOut};
+pub use memory_door::{Caller, MemoryDoor};
+pub use memory_port::{MemoryIn, MemoryOut};
+pub use port::{PortIn, PortOut};
