@@ -14,7 +14,7 @@ use std::collections::BTreeMap;
 use std::marker::Model;
 
 /// How many forwards there may be.
-pub(crate) const MAX_FORWARDS: usize = 64;
+pub const MAX_FORWARDS: usize = 64;
 
 /// The numbers that definitions take from the code, written out.
 pub fn limits_are()
