@@ -10,7 +10,7 @@ use std::marker::Model;
 pub const CREDIT_WINDOW: u32 = 262_144;
 
 /// How many bytes that were handed out are given back at once, where more are still to be.
-pub(crate) const CREDIT_STEP: u32 = 65_536;
+pub const CREDIT_STEP: u32 = 65_536;
 
 /// The numbers that definitions take from the code, written out.
 pub fn limits_are()
