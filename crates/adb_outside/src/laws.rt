@@ -1,9 +1,11 @@
-//! The limit of serials as a number.
+//! The limits as numbers.
 
 ghost use Rattle.std.specs.Prelude.{◌≡◌};
+ghost use Rattle.adb_outside.specs.declared.remote.TheConstants.{MAX_REMOTE};
 ghost use Rattle.adb_outside.specs.declared.serial.TheConstants.{MAX_SERIAL};
 
-/// The number of the limit, which definitions name.
+/// The numbers of the limits, which definitions name.
 pub fn limits_are()
     ensures serial { MAX_SERIAL ≡ 64 }
+    ensures remote { MAX_REMOTE ≡ 512 }
 {}
