@@ -15,7 +15,7 @@ pub const MAX_IDENTITY: usize = 32_768;
 
 /// The numbers that definitions take from the code, written out.
 pub fn limits_are()
-    ensures { MAX_IDENTITY ≡ 32768 }
+    ensures identity { MAX_IDENTITY ≡ 32768 }
 {}
 
 /// Why no identity was read.

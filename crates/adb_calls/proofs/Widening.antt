@@ -4,7 +4,7 @@ use Rattle.std.specs.Prelude.{option_map}
 use Rattle.adb_outside.specs.Tables.{at}
 use Rattle.adb_client.specs.Client.{SeenClient}
 use Rattle.adb_client.specs.declared.about.About.{About}
-use Rattle.adb_link.specs.declared.link.TheConstants.{VERSION_WITH_SUMS}
+use Rattle.adb_wire.specs.declared.limits.TheConstants.{MIN_VERSION}
 use Rattle.adb_wire.specs.Deframing.{Deframing}
 use Rattle.adb_stream.specs.declared.row.Stream.{Stream}
 use Rattle.adb_capture.specs.declared.entry.Entry.{Entry}
@@ -60,7 +60,7 @@ port_shown None None h = refl
 port_shown None (Some new) h = absurd h
 port_shown (Some old) None h = absurd h
 port_shown (Some old) (Some new) h =
-    λ i. Some (record { rest = (h.incoming i).rest; sums = h.version i == VERSION_WITH_SUMS; due = h.due i })
+    λ i. Some (record { rest = (h.incoming i).rest; sums = h.version i == MIN_VERSION; due = h.due i })
 
 port_room : (n : ℕ) (old new : Option Port) → WidensRow WidensPort old new → LinkRoom n old → LinkRoom n new
 port_room n None None h room = tt
@@ -82,7 +82,7 @@ port_read (Some old) None h read = absurd h
 port_read (Some old) (Some new) h read = record {
   given = ap (λ (i : Deframing). i.given) h.incoming ∙ read.given;
   sound = ap (λ (i : Deframing). i.fault) h.incoming ∙ read.sound;
-  sums = ap (λ (i : Deframing). i.reading.sums) h.incoming ∙ (read.sums ∙ ap (λ (n : ℕ). n == VERSION_WITH_SUMS) (sym h.version));
+  sums = ap (λ (i : Deframing). i.reading.sums) h.incoming ∙ (read.sums ∙ ap (λ (n : ℕ). n == MIN_VERSION) (sym h.version));
 }
 
 -- ---- tables

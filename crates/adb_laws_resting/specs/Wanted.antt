@@ -4,7 +4,7 @@ use Rattle.adb_outside.specs.Tables.{at}
 use Rattle.adb_outside.specs.Bytes.{is_graphic}
 use Rattle.adb_forward.specs.Forwards.{IsSpecification}
 use Rattle.adb_forward.specs.declared.row.ForwardRow.{ForwardRow}
-use Rattle.adb_forward.specs.declared.table.TheConstants.{MAX_REMOTE}
+use Rattle.adb_outside.specs.declared.remote.TheConstants.{MAX_REMOTE}
 use Rattle.adb_client.specs.declared.about.Want.{Want}
 use Rattle.adb_reply.specs.declared.answer.Next.{Next}
 use Rattle.adb_reply.specs.declared.answer.Next.TheVariants.{Open, Bind, Rebind}

@@ -12,7 +12,7 @@ use Rattle.adb_outside.specs.Tables.{at, put_row, change_row}
 use Rattle.adb_wire.specs.declared.headers.TheConstants.{MAX_PAYLOAD}
 use Rattle.adb_forward.specs.Forwards.{IsForwardTable, IsRow}
 use Rattle.adb_forward.specs.declared.row.ForwardRow.{ForwardRow}
-use Rattle.adb_forward.specs.declared.table.TheConstants.{MAX_REMOTE}
+use Rattle.adb_outside.specs.declared.remote.TheConstants.{MAX_REMOTE}
 use Rattle.adb_history.specs.Rows.{Client, State, to_client, none_kept, new_client}
 use Rattle.adb_history.specs.Streams.{opens}
 use Rattle.adb_history.specs.Reading.{comes, comes_in_vain, enters_by}

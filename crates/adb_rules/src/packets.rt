@@ -17,7 +17,7 @@ ghost use Rattle.adb_rules.specs.Places.{LinkRoom, IsProvided, Uses};
 use crate::tables::Tables;
 use adb_outside::{Identity, State};
 use adb_stream::Stream;
-use adb_wire::{Command, Head, MAX_PAYLOAD, VERSION_WITHOUT_SUMS};
+use adb_wire::{Command, Head, MAX_PAYLOAD, VERSION};
 
 /// The least version and the least maxdata with which a device is taken.
 const LEAST_VERSION: u32 = 0x0100_0000;
@@ -117,7 +117,7 @@ impl Tables {
             ≡ named link head.now.arg0 head.now.arg1 identity (state_of self.old) }
         ensures uses { (t c : ℕ) → Uses t 0 c 0 self.old self.new }
     {
-        let version = head.arg0.min(VERSION_WITHOUT_SUMS);
+        let version = head.arg0.min(VERSION);
         let maxdata = head.arg1.min(MAX_PAYLOAD);
         if self.has_device(link) {
             self.devices.online(link, identity, version, maxdata);
