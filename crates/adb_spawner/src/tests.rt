@@ -15,13 +15,13 @@ struct Meeting {
 
 /// Comes to a meeting, and waits until so many did.
 #[derive(Drop)]
-struct Meet<W: Wait + Drop> {
+struct Visitor<W: Wait + Drop> {
     rt: W,
     meeting: Arc<Meeting, Global>,
     wanted: u64,
 }
 
-impl<W: Wait + Drop> Job for Meet<W> {
+impl<W: Wait + Drop> Job for Visitor<W> {
     ghost done = { λ job. Unit {0} };
 
     fn run(self) {
@@ -46,7 +46,7 @@ fn meet<W: Wait>(rt: &W, meeting: &Meeting, wanted: u64) {
 fn met<W: Threads + Wait + Copy + Send + Sync + Drop + 'static>(
     rt: W,
     alloc: Global,
-    crew: &mut Crew<W, Meet<W>>,
+    crew: &mut Crew<W, Visitor<W>>,
     wanted: u64,
 ) -> Result<(u64, u64), AllocError> {
     let meeting = Meeting {
@@ -56,7 +56,7 @@ fn met<W: Threads + Wait + Copy + Send + Sync + Drop + 'static>(
     let meeting = Arc::new(alloc, meeting)?;
     let mut back = 0u64;
     for _ in 0..3 {
-        let job = Meet {
+        let job = Visitor {
             rt,
             meeting: Arc::try_clone(&meeting)?,
             wanted,
