@@ -5,13 +5,14 @@ use Rattle.std.proofs.Common.{refl, sym, ◌∙◌, ap, subst, inl, inr}
 use Rattle.adb_request.specs.Meaning.{meaning}
 use Rattle.adb_wire.specs.Header.{word_at}
 use Rattle.adb_banner.specs.Banner.{identity_of, last_value}
-use Rattle.adb_history.specs.Births.{Birth, born, births, told_to, joined}
+use Rattle.adb_history.specs.Births.{Birth, born, births}
 use Rattle.adb_history.specs.Machine.{History}
 use Rattle.adb_history.specs.Streams.{stream_ids}
 use Rattle.adb_history.specs.Lives.{output_of}
 use Rattle.adb_history.specs.Answered.{RepliesFirst, RepliesWhenBound, RepliesOfStream, ListsTracked, HasPresentList, SaysNothingMore, HasStreamAlone}
+use Rattle.adb_history.specs.Answered.{is_heard, FollowsTold, FollowsOpen, AnswersOpen}
 use Rattle.adb_history.specs.Broken.{stale_device_list, keeps_a_listener_secret, refuses_a_device, lists_too_early, misses_a_list, answers_after_close}
-use Rattle.adb_history.specs.Broken.{hands_what_was_not_written}
+use Rattle.adb_history.specs.Broken.{hands_what_was_not_written, withholds_a_byte, withholds_all}
 use Rattle.adb_history.proofs.Refuted.{differ_at, differ_in_length}
 
 pub replies_refuted : RepliesFirst stale_device_list 1 → ⊥
@@ -41,7 +42,7 @@ pub nothing_more_refuted : SaysNothingMore answers_after_close 1 → ⊥
 unfolding meaning
 nothing_more_refuted promise = differ_in_length (codes "OKAY00040029OKAY00040029") (codes "OKAY00040029") refl (promise refl)
 
--- ---- a client that came through a forward
+-- ---- a client that has a stream
 -- the birth of the only stream
 only_birth : (h : History) (b : Birth) → births h ≡ b ∷ [] → (l : ℕ) (birth : Birth) → born l h ≡ Some birth → (l ≡ 1) × (b ≡ birth)
 only_birth h b one zero birth is = absurd (let clash : false ≡ true = ap is_some is in cc)
@@ -59,24 +60,46 @@ only_birth h b one (suc k) birth is = at_place k (subst (λ bs. (if nat_lt k str
         by_test true other = let clash : false ≡ true = ap is_some other in cc
         by_test false other = let clash : false ≡ true = ap is_some other in cc
 
--- the stream through the forward, to which its device wrote nothing
+-- what is said of the only stream
+only_stream : (h : History) (b : Birth) → births h ≡ b ∷ [] → (P : ℕ → Birth → Type 0) (l : ℕ) (birth : Birth) → born l h ≡ Some birth → P l birth → P 1 b
+only_stream h b one P l birth is holds =
+    let only = only_birth h b one l birth is in
+    subst (λ (x : Birth). P 1 x) (sym only.1) (subst (λ (m : ℕ). P m birth) only.0 holds)
+
+-- the stream of the shell
+abbrev shell : Birth
+shell = record { client = 1; link = 1; credit = false; forwarded = false; service = codes "shell:echo hi"; head = 40; packets_before = 1 }
+
+shell_follows : (after : List ℕ) → AnswersOpen withholds_a_byte 1 after → after ≡ codes "OKAYhi"
+unfolding meaning word_at identity_of last_value
+shell_follows after (inl (l, b, is, follows)) =
+    let own : FollowsOpen true withholds_a_byte 1 shell after =
+    only_stream withholds_a_byte shell refl (λ m x. FollowsOpen (is_heard m x withholds_a_byte) withholds_a_byte m x after) l b is.is follows in
+    let whole : own.0 ≡ codes "hi" = own.2 in
+    own.1 ∙ ap (λ (bytes : List ℕ). codes "OKAY" ++ bytes) whole
+shell_follows after (inr (none, is)) = absurd (none 1 shell (record { is = refl; client = refl }))
+
+pub stream_whole_refuted : RepliesOfStream withholds_a_byte 1 → ⊥
+unfolding meaning word_at identity_of last_value
+stream_whole_refuted promise =
+    let behind = promise 1 (codes "shell:echo hi") refl in
+    differ_in_length (codes "OKAYOKAYh") (codes "OKAYOKAYhi") refl
+    (behind.output ∙ ap (λ (after : List ℕ). codes "OKAY" ++ after) (shell_follows behind.after behind.is))
+
+-- the stream through the forward
 abbrev forwarded : Birth
 forwarded = record { client = 2; link = 1; credit = false; forwarded = true; service = codes "tcp:80"; head = 0; packets_before = 1 }
 
-has_first : List ℕ → Bool
-has_first [] = false
-has_first (b ∷ bytes) = true
-
-no_front : (rest : List ℕ) → codes "x" ++ rest ≡ [] → ⊥
-unfolding has_first
-no_front rest e = let clash : true ≡ false = ap has_first e in cc
-
 pub stream_alone_refuted : HasStreamAlone hands_what_was_not_written 2 → ⊥
 unfolding meaning word_at identity_of last_value digits
-stream_alone_refuted (inl none) = differ_in_length (codes "x") [] refl none
-stream_alone_refuted (inr (l, b, is, front)) =
-    let only = only_birth hands_what_was_not_written forwarded refl l b is.is in
-    let told : joined (told_to l b hands_what_was_not_written) ≡ [] =
-    subst (λ (m : ℕ). joined (told_to m b hands_what_was_not_written) ≡ []) (sym only.0)
-    (subst (λ (x : Birth). joined (told_to 1 x hands_what_was_not_written) ≡ []) only.1 refl) in
-    no_front front.0 (front.1 ∙ told)
+stream_alone_refuted (inl (l, b, is, follows)) =
+    differ_in_length (codes "x") [] refl
+    (only_stream hands_what_was_not_written forwarded refl (λ m x. FollowsTold hands_what_was_not_written m x (codes "x")) l b is.is follows)
+stream_alone_refuted (inr (none, is)) = none 1 forwarded (record { is = refl; client = refl })
+
+pub alone_whole_refuted : HasStreamAlone withholds_all 2 → ⊥
+unfolding meaning word_at identity_of last_value digits
+alone_whole_refuted (inl (l, b, is, follows)) =
+    differ_in_length [] (codes "hi") refl
+    (only_stream withholds_all forwarded refl (λ m x. FollowsTold withholds_all m x (let none : List ℕ = [] in none)) l b is.is follows)
+alone_whole_refuted (inr (none, is)) = none 1 forwarded (record { is = refl; client = refl })

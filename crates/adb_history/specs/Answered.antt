@@ -13,7 +13,7 @@ use Rattle.adb_history.specs.Tracking.{tracked_list}
 use Rattle.adb_history.specs.Machine.{History, state}
 use Rattle.adb_history.specs.Bytes.{has_joined, has_failed, bytes_put}
 use Rattle.adb_history.specs.Book.{asked, newly, devices, bound_reply}
-use Rattle.adb_history.specs.Births.{Birth, born, opening_of, told_to, joined}
+use Rattle.adb_history.specs.Births.{Birth, born, opening_of, told_to, told_before_close, joined}
 use Rattle.adb_history.specs.Lives.{output_of, ending_of}
 
 -- ---- the lists of a tracker
@@ -62,9 +62,20 @@ is_heard l b [] = false
 is_heard l b (e ∷ older) =
     is_heard l b older || (is_some (opening_of l b (e ∷ older)) && not (is_some (opening_of l b older)) && not (has_failed b.client older))
 
--- what follows the request for a stream: `OKAY` and bytes that the device wrote, where the client heard that it is open; else why it was not opened
+-- what became due of all that a device wrote, and of what it had written when it closed: all, while the stream lives; where that close ended it, all
+-- before it; and a front, where another cause did
+abbrev pub FollowsUpTo : Option Ending → (told before_close bytes : List ℕ) → Type 0
+FollowsUpTo None told before_close bytes = bytes ≡ told
+FollowsUpTo (Some peer_closed) told before_close bytes = bytes ≡ before_close
+FollowsUpTo (Some ending) told before_close bytes = IsPrefixOf bytes told
+
+-- what the device of a stream wrote to it, up to the stream's end
+abbrev pub FollowsTold : History → ℕ → Birth → List ℕ → Type 0
+FollowsTold h l b bytes = FollowsUpTo (ending_of l h) (joined (told_to l b h)) (joined (told_before_close l b h)) bytes
+
+-- what follows the request for a stream: `OKAY` and what the device wrote, where the client heard that it is open; else why it was not opened
 abbrev pub FollowsOpen : Bool → History → ℕ → Birth → List ℕ → Type 0
-FollowsOpen true h l b after = (bytes : List ℕ) × (after ≡ okay ++ bytes) × IsPrefixOf bytes (joined (told_to l b h))
+FollowsOpen true h l b after = (bytes : List ℕ) × (after ≡ okay ++ bytes) × FollowsTold h l b bytes
 FollowsOpen false h l b after = after ≡ closed_reply (tells_closed (ending_of l h))
 
 -- a stream that a client asked for
@@ -72,11 +83,15 @@ pub record IsStreamOf (h : History) (c l : ℕ) (b : Birth) : Type 0 where
   pub is : born l h ≡ Some b
   pub client : b.client ≡ c
 
+-- no stream was born for a client
+abbrev pub IsStreamless : History → ℕ → Type 0
+IsStreamless h c = (l : ℕ) (b : Birth) → IsStreamOf h c l b → ⊥
+
 -- what follows the request for a stream; where no id was left, that
 abbrev pub AnswersOpen : History → ℕ → List ℕ → Type 0
 AnswersOpen h c after =
     ((l : ℕ) × (b : Birth) × IsStreamOf h c l b × FollowsOpen (is_heard l b h) h l b after)
-    ⊎ (((l : ℕ) (b : Birth) → IsStreamOf h c l b → ⊥) × (after ≡ (failed (codes "no stream ids left")).bytes))
+    ⊎ (IsStreamless h c × (after ≡ (failed (codes "no stream ids left")).bytes))
 
 -- whether nothing more follows the reply to a request
 abbrev pub is_all : Option Next → Bool
@@ -107,7 +122,7 @@ pub record IsBehindReplies (h : History) (c : ℕ) (Behind : List ℕ → Type 0
   pub output : output_of c h ≡ (asked c h).replies ++ after
   pub is : Behind after
 
--- A service is answered by its device, and then come the bytes that the device wrote.
+-- A service is answered by its device, and then come the bytes that the device wrote, all that came by the end of the stream.
 abbrev pub RepliesOfStream : History → ℕ → Type 0
 RepliesOfStream h c = (transport : ℕ) (service : List ℕ) → (asked c h).next ≡ Some (Open transport service) → IsBehindReplies h c (AnswersOpen h c)
 
@@ -133,10 +148,10 @@ pub record IsAnsweredAt (h : History) (c : ℕ) : Type 0 where
   pub present_list : HasPresentList h c
   pub nothing_more : SaysNothingMore h c
 
--- A client that came through a forward is handed the bytes of its stream, and nothing else.
+-- What became due to a client that came through a forward is what the device wrote to its stream, and nothing else.
 abbrev pub HasStreamAlone : History → ℕ → Type 0
 HasStreamAlone h c =
-    (output_of c h ≡ []) ⊎ ((l : ℕ) × (b : Birth) × IsStreamOf h c l b × IsPrefixOf (output_of c h) (joined (told_to l b h)))
+    ((l : ℕ) × (b : Birth) × IsStreamOf h c l b × FollowsTold h l b (output_of c h)) ⊎ (IsStreamless h c × (output_of c h ≡ []))
 
 pub record IsAnswered (h : History) : Type 0 where
   pub joined : (c : ℕ) → has_joined c h ≡ true → IsAnsweredAt h c

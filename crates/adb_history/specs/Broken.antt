@@ -1,5 +1,5 @@
 -- Histories that break one promise each: what a wrong server would do, or a world in which numbers are not drawn once. None of them is legal.
-use Rattle.std.specs.Prelude.{ℕ, List, [], ◌∷◌, ◌++◌, codes, reverse, replicate}
+use Rattle.std.specs.Prelude.{ℕ, List, [], ◌∷◌, ◌++◌, length, codes, reverse, replicate}
 use Rattle.adb_outside.specs.declared.kinds.Kind.TheVariants.{Usb}
 use Rattle.adb_outside.specs.declared.kinds.Cause.TheVariants.{Eof, Fault}
 use Rattle.adb_wire.specs.Header.{header_bytes}
@@ -146,3 +146,20 @@ abbrev pub hands_what_was_not_written : History
 hands_what_was_not_written =
     so_far (plugged (pixel 4096) ++ asks 1 (codes "0019host:forward:tcp:0;tcp:80") ++ Bound 1 40000 ∷ Enter 2 40000
     ∷ Recv 1 (sends (okay_packet 7 1 ∷ [])) ∷ torn ++ writes (codes "x") ∷ [])
+
+-- the header of a write of so many bytes comes, then another device is plugged in under the number of the link, and then the bytes: the device wrote them,
+-- and the server knows of no write
+abbrev pub missed : List ℕ → List Entry
+missed payload =
+    Recv 1 (header_bytes (record { command = Wrte; arg0 = 7; arg1 = 1; length = length payload; check = 0 })) ∷ Attach 1 Usb (codes "emu2")
+    ∷ Recv 1 payload ∷ []
+
+-- a stream lives, its device wrote `hi`, and `h` alone becomes due
+abbrev pub withholds_a_byte : History
+withholds_a_byte = in_shell (writes (codes "h") ∷ missed (codes "i"))
+
+-- the stream of a client that came through a forward lives, its device wrote `hi`, and nothing becomes due
+abbrev pub withholds_all : History
+withholds_all =
+    so_far (plugged (pixel 4096) ++ asks 1 (codes "0019host:forward:tcp:0;tcp:80") ++ Bound 1 40000 ∷ Enter 2 40000
+    ∷ Recv 1 (sends (okay_packet 7 1 ∷ [])) ∷ missed (codes "hi"))

@@ -34,13 +34,15 @@ pub fn causes_can_be_broken()
 {}
 
 /// That each client is answered can be broken: each field of `IsAnsweredAt`, and what a client that
-/// came through a forward is handed.
+/// came through a forward is handed. A device's write that does not become due breaks it too.
 pub fn answers_can_be_broken()
     ensures replies { RepliesFirst broken.stale_device_list 1 → ⊥ }
     ensures bound_reply { RepliesWhenBound broken.keeps_a_listener_secret 1 → ⊥ }
     ensures stream_reply { RepliesOfStream broken.refuses_a_device 1 → ⊥ }
+    ensures stream_whole { RepliesOfStream broken.withholds_a_byte 1 → ⊥ }
     ensures tracked_lists { ListsTracked broken.lists_too_early 1 → ⊥ }
     ensures present_list { HasPresentList broken.misses_a_list 1 → ⊥ }
     ensures nothing_more { SaysNothingMore broken.answers_after_close 1 → ⊥ }
     ensures stream_alone { HasStreamAlone broken.hands_what_was_not_written 2 → ⊥ }
+    ensures alone_whole { HasStreamAlone broken.withholds_all 2 → ⊥ }
 {}

@@ -204,6 +204,15 @@ still_none c e older new h l b is = go (born_either l b e older is)
     go (inl old) = h l b old
     go (inr now) = new l b now
 
+-- nobody has a stream at first
+pub none_first : (c l : ℕ) (b : Birth) → born l [] ≡ Some b → b.client ≢ c
+none_first c zero b is = absurd (let clash : None ≡ Some b = is in cc)
+none_first c (suc k) b is = absurd (go (nat_lt k stream_ids) is)
+  where
+    go : (within : Bool) → cond within (slice_get (let none : List Birth = [] in none) k) None ≡ Some b → ⊥
+    go true is = nothing k b is
+    go false is = let clash : None ≡ Some b = is in cc
+
 -- who did not come yet has no stream
 pub none_unborn : (h : History) → IsLegal h → (c : ℕ) → came_count h < c → HasNoStream c h
 none_unborn h legal c lt = λ l b is. at l b is

@@ -1,100 +1,159 @@
--- What became due to the client of a stream is what its device told.
-use Rattle.std.proofs.Common.{◌≡◌, ℕ, zero, suc, Bool, true, false, cond, List, [], ◌++◌, Option, Some, None, refl, sym, ap, subst, ◌∙◌, inl, inr, ◌⊎◌}
-use Rattle.std.proofs.Common.{append_assoc}
+-- What became due to the client of a stream is what its device told, up to the stream's end.
+use Rattle.std.proofs.Common.{◌≡◌, ◌≢◌, ℕ, ◌<◌, zero, suc, Bool, true, false, cond, List, [], ◌++◌, Option, Some, None, is_some, refl, sym, ap, subst, ◌∙◌}
+use Rattle.std.proofs.Common.{append_assoc, arith, inl, inr, ◌⊎◌}
 use Rattle.std.proofs.lemmas.List.{append-nil, append_cancel_left}
+use Rattle.std.specs.Prelude.{option_map}
 use Rattle.adb_outside.specs.Bytes.{IsPrefixOf}
 use Rattle.adb_reply.specs.Strings.{okay}
-use Rattle.adb_history.specs.Machine.{History, IsLegal}
+use Rattle.adb_stream.specs.declared.row.Stream.{Stream}
+use Rattle.adb_history.specs.Events.{Ending, client_closed, peer_closed, out_of_turn, lost, broken, client_failed, stopped}
+use Rattle.adb_history.specs.Machine.{History, state, IsLegal}
 use Rattle.adb_history.specs.Book.{asked}
-use Rattle.adb_history.specs.Births.{Birth, Opening, since, opening_in, told_in, told_to, told_after, joined}
-use Rattle.adb_history.specs.Lives.{output_of}
-use Rattle.adb_laws_fifo_down.specs.Line.{SeenStream, View}
-use Rattle.adb_laws_fifo_down.specs.Life.{Cradle, okay_after, lead, unopened_output, LivesAs, LivesIn, Story, heard}
+use Rattle.adb_history.specs.Births.{Birth, born, Opening, since, opening_in, opening_of, told_in, told_after, told_before, joined}
+use Rattle.adb_history.specs.Lives.{output_of, ending_of}
+use Rattle.adb_history.specs.Answered.{FollowsUpTo}
+use Rattle.adb_laws_births.specs.Ending.{EndsAs, HasEnding}
+use Rattle.adb_laws_births.proofs.Endings.{all_endings}
+use Rattle.adb_laws_fifo_down.specs.Line.{SeenStream, View, seen}
+use Rattle.adb_laws_fifo_down.specs.Life.{Cradle, okay_after, lead, unopened_output, WasOpen, LivesAs, LivesIn, Story, heard}
 use Rattle.adb_laws_fifo_down.specs.Follows.{Follows, is_shut}
 use Rattle.adb_laws_fifo_down.specs.Followed.{LifeOf}
 use Rattle.adb_laws_fifo_down.proofs.Handed.{has_lives}
 use Rattle.adb_laws_answered.specs.Served.{IsHeardAsTold, HearsAsTold}
 use Rattle.adb_laws_answered.proofs.ShownClients.{opened_not_closed}
 
--- what became due is what comes before the bytes of the stream, and a front of what the device told
-record IsPastLead (k : Cradle) (told output : List ℕ) : Type 0 where
+-- ---- what follows by the end of a stream
+abbrev UpTo : Option Ending → ℕ → Option Opening → List ℕ → Type 0
+UpTo ending l o bytes = FollowsUpTo ending (joined (told_after l o)) (joined (told_before l o)) bytes
+
+-- where the device opened nothing
+unopened_up_to : (ending : Option Ending) (l : ℕ) → UpTo ending l None []
+unopened_up_to None l = refl
+unopened_up_to (Some client_closed) l = ([], refl)
+unopened_up_to (Some peer_closed) l = refl
+unopened_up_to (Some out_of_turn) l = ([], refl)
+unopened_up_to (Some lost) l = ([], refl)
+unopened_up_to (Some broken) l = ([], refl)
+unopened_up_to (Some (client_failed cause)) l = ([], refl)
+unopened_up_to (Some stopped) l = ([], refl)
+
+-- where the stream ended
+ended_up_to : (ending : Option Ending) (told before bytes : List ℕ) → is_some ending ≡ true → IsPrefixOf bytes told
+    → (ending ≡ Some peer_closed → bytes ≡ before) → FollowsUpTo ending told before bytes
+ended_up_to None told before bytes over front closed = absurd (let clash : false ≡ true = over in cc)
+ended_up_to (Some client_closed) told before bytes over front closed = front
+ended_up_to (Some peer_closed) told before bytes over front closed = closed refl
+ended_up_to (Some out_of_turn) told before bytes over front closed = front
+ended_up_to (Some lost) told before bytes over front closed = front
+ended_up_to (Some broken) told before bytes over front closed = front
+ended_up_to (Some (client_failed cause)) told before bytes over front closed = front
+ended_up_to (Some stopped) told before bytes over front closed = front
+
+-- ---- what became due by the life of a stream
+-- what became due is what comes before the bytes of the stream, and these
+record IsPastLead (k : Cradle) (Told : List ℕ → Type 0) (output : List ℕ) : Type 0 where
   pub bytes : List ℕ
   pub is : output ≡ lead k ++ bytes
-  pub front : IsPrefixOf bytes told
+  pub follows : Told bytes
 
 -- what became due to the client of a stream: its replies; or these, and why the stream was not opened; or more
-abbrev Says : Cradle → (told output : List ℕ) → Type 0
-Says k told output = (output ≡ k.replies) ⊎ ((output ≡ unopened_output k.forwarded k.replies) ⊎ IsPastLead k told output)
-
-nothing_first : (told : List ℕ) → IsPrefixOf [] told
-nothing_first told = (told, refl)
+abbrev Says : Cradle → (List ℕ → Type 0) → List ℕ → Type 0
+Says k Told output = (((output ≡ k.replies) ⊎ (output ≡ unopened_output k.forwarded k.replies)) × Told []) ⊎ IsPastLead k Told output
 
 -- through a forward there are no replies
-says_alone : (k : Cradle) (told output : List ℕ) → k.forwarded ≡ true → k.replies ≡ [] → Says k told output → IsPrefixOf output told
-says_alone k told output forwarded none (inl is) = subst (λ (x : List ℕ). IsPrefixOf x told) (sym (is ∙ none)) (nothing_first told)
-says_alone k told output forwarded none (inr (inl is)) =
-    subst (λ (x : List ℕ). IsPrefixOf x told) (sym (is ∙ (ap (λ (f : Bool). unopened_output f k.replies) forwarded ∙ none))) (nothing_first told)
-says_alone k told output forwarded none (inr (inr past)) =
+says_alone : (k : Cradle) (Told : List ℕ → Type 0) (output : List ℕ) → k.forwarded ≡ true → k.replies ≡ [] → Says k Told output → Told output
+says_alone k Told output forwarded none (inl (inl is, told)) = subst Told (sym (is ∙ none)) told
+says_alone k Told output forwarded none (inl (inr is, told)) =
+    subst Told (sym (is ∙ (ap (λ (f : Bool). unopened_output f k.replies) forwarded ∙ none))) told
+says_alone k Told output forwarded none (inr past) =
     let first : lead k ≡ [] = ap (λ (f : Bool). okay_after f k.replies) forwarded ∙ none in
-    subst (λ (x : List ℕ). IsPrefixOf x told) (sym (past.is ∙ ap (λ (x : List ℕ). x ++ past.bytes) first)) past.front
+    subst Told (sym (past.is ∙ ap (λ (x : List ℕ). x ++ past.bytes) first)) past.follows
 
 -- behind the replies and `OKAY`
-says_behind : (k : Cradle) (told output bytes : List ℕ) → k.forwarded ≡ false → output ≡ k.replies ++ (okay ++ bytes) → Says k told output
-    → IsPrefixOf bytes told
-says_behind k told output bytes own behind (inl is) =
+says_behind : (k : Cradle) (Told : List ℕ → Type 0) (output bytes : List ℕ) → k.forwarded ≡ false → output ≡ k.replies ++ (okay ++ bytes)
+    → Says k Told output → Told bytes
+says_behind k Told output bytes own behind (inl (inl is, told)) =
     absurd (opened_not_closed k.replies bytes [] false (append-nil (k.replies ++ (okay ++ bytes)) ∙ (sym behind ∙ (is ∙ sym (append-nil k.replies)))))
-says_behind k told output bytes own behind (inr (inl is)) =
+says_behind k Told output bytes own behind (inl (inr is, told)) =
     absurd (opened_not_closed k.replies bytes [] true (append-nil (k.replies ++ (okay ++ bytes))
     ∙ (sym behind ∙ (is ∙ ap (λ (f : Bool). unopened_output f k.replies) own))))
-says_behind k told output bytes own behind (inr (inr past)) =
+says_behind k Told output bytes own behind (inr past) =
     let first : lead k ≡ k.replies ++ okay = ap (λ (f : Bool). okay_after f k.replies) own in
     let both : (k.replies ++ okay) ++ bytes ≡ (k.replies ++ okay) ++ past.bytes =
     append_assoc k.replies okay bytes ∙ (sym behind ∙ (past.is ∙ ap (λ (x : List ℕ). x ++ past.bytes) first)) in
-    subst (λ (x : List ℕ). IsPrefixOf x told) (sym (append_cancel_left (k.replies ++ okay) bytes past.bytes both)) past.front
+    subst Told (sym (append_cancel_left (k.replies ++ okay) bytes past.bytes both)) past.follows
 
-module _ (h : History) (l : ℕ) (b : Birth) (f : Follows LifeOf h l b) where
+-- a stream that was born has an id
+born_id : (l : ℕ) (b : Birth) (h : History) → born l h ≡ Some b → 0 < l
+born_id zero b h is = absurd (let clash : None ≡ Some b = is in cc)
+born_id (suc k) b h is = omega arith
+
+module _ (h : History) (l : ℕ) (b : Birth) (is : born l h ≡ Some b) (f : Follows LifeOf h l b)
+    (ends : HasEnding (state h).drawn l ((state h).streams l) (ending_of l h)) where
   abbrev v : View
   v = f.holds.seen
+
+  abbrev Told : List ℕ → Type 0
+  Told = λ bytes. UpTo (ending_of l h) l (opening_of l b h) bytes
 
   output_is : output_of b.client h ≡ v.output
   output_is = ap (λ (x : View). x.output) f.holds.shows.1
 
-  past : (o : Opening) → opening_in l (since b h) ≡ Some o → (bytes : List ℕ) → v.output ≡ lead f.cradle ++ bytes
-      → IsPrefixOf bytes (joined (told_in o.remote l o.later)) → Says f.cradle (joined (told_to l b h)) v.output
-  past o opened bytes is front = inr (inr (record {
-    bytes = bytes;
-    is = is;
-    front = subst (λ (x : Option Opening). IsPrefixOf bytes (joined (told_after l x))) (sym opened) front;
-  }))
+  ending_is : ending_of l h ≡ v.ending
+  ending_is = ap (λ (x : View). x.ending) f.holds.shows.1
 
-  says : Says f.cradle (joined (told_to l b h)) v.output
-  says = by v.stream f.holds.keeps.lives
+  unopened : opening_of l b h ≡ None → Told []
+  unopened none = subst (λ (o : Option Opening). UpTo (ending_of l h) l o []) (sym none) (unopened_up_to (ending_of l h) l)
+
+  -- its client was gone before its device opened it
+  unheard : is_some (ending_of l h) ≡ true → v.ending ≢ Some peer_closed → Told []
+  unheard over other =
+      ended_up_to (ending_of l h) (joined (told_after l (opening_of l b h))) (joined (told_before l (opening_of l b h))) [] over
+      (joined (told_after l (opening_of l b h)), refl) (λ e. absurd (other (sym ending_is ∙ e)))
+
+  past : (o : Opening) → opening_of l b h ≡ Some o → (bytes : List ℕ) → v.output ≡ lead f.cradle ++ bytes → UpTo (ending_of l h) l (Some o) bytes
+      → Says f.cradle Told v.output
+  past o opened bytes is told =
+      inr (record { bytes = bytes; is = is; follows = subst (λ (x : Option Opening). UpTo (ending_of l h) l x bytes) (sym opened) told })
+
+  was_open : is_some (ending_of l h) ≡ true → WasOpen l f.cradle (since b h) v.output v.ending → Says f.cradle Told v.output
+  was_open over i =
+      past i.opening i.opened i.bytes i.output_is
+      (ended_up_to (ending_of l h) (joined (told_after l (Some i.opening))) (joined (told_before l (Some i.opening))) i.bytes over i.front
+      (λ e. (i.closed (sym ending_is ∙ e)).whole))
+
+  alive : (orphan : Bool) (remote : ℕ) → EndsAs orphan (ending_of l h) → LivesAs orphan remote l f.cradle (since b h) (heard v)
+      → Says f.cradle Told v.output
+  alive true remote ended i = inl (inl i.unheard.output_is, unheard (ap is_some ended.1) i.unheard.not_by_peer)
+  alive false zero none i = inl (inl i.output, unopened (ap (opening_in l) (sym (append-nil (since b h))) ∙ i.pending []))
+  alive false (suc r) none i =
+      past i.opening i.opened (joined (told_in i.opening.remote l i.opening.later)) i.output
+      (subst (λ (e : Option Ending). UpTo e l (Some i.opening) (joined (told_in i.opening.remote l i.opening.later))) (sym none) refl)
+
+  over : is_some (ending_of l h) ≡ true → Story l f.cradle (since b h) (is_shut b.link h) (heard v) → Says f.cradle Told v.output
+  over ended (inl (never, output)) = inl (inr output, unopened never.unopened)
+  over ended (inr (inl i)) = inl (inl i.output_is, unheard ended i.not_by_peer)
+  over ended (inr (inr i)) = was_open ended i
+
+  says : Says f.cradle Told v.output
+  says = by ((state h).streams l) refl
+      (subst (λ (o : Option SeenStream). LivesIn o l f.cradle (since b h) (is_shut b.link h) (heard v))
+      (sym (ap (λ (x : View). x.stream) f.holds.shows.1)) f.holds.keeps.lives)
     where
-      alive : (orphan : Bool) (remote : ℕ) → LivesAs orphan remote l f.cradle (since b h) (heard v) → Says f.cradle (joined (told_to l b h)) v.output
-      alive true remote i = inl i.unheard.output_is
-      alive false zero i = inl i.output
-      alive false (suc r) i = past i.opening i.opened (joined (told_in i.opening.remote l i.opening.later)) i.output
-          ([], append-nil (joined (told_in i.opening.remote l i.opening.later)))
-
-      over : Story l f.cradle (since b h) (is_shut b.link h) (heard v) → Says f.cradle (joined (told_to l b h)) v.output
-      over (inl (never, output)) = inr (inl output)
-      over (inr (inl unheard)) = inl unheard.output_is
-      over (inr (inr i)) = past i.opening i.opened i.bytes i.output_is i.front
-
-      by : (o : Option SeenStream) → LivesIn o l f.cradle (since b h) (is_shut b.link h) (heard v) → Says f.cradle (joined (told_to l b h)) v.output
-      by None i = over i.1
-      by (Some x) i = alive x.orphan x.remote i
+      by : (row : Option Stream) → (state h).streams l ≡ row
+          → LivesIn (option_map seen row) l f.cradle (since b h) (is_shut b.link h) (heard v) → Says f.cradle Told v.output
+      by None gone i = over (ends.gone gone (born_id l b h is) f.holds.shows.0.born) i.1
+      by (Some stream) kept i = alive stream.part.orphan stream.part.remote (ends.kept stream kept) i
 
   replies_by : (forwarded : Bool) → b.forwarded ≡ forwarded → f.cradle.replies ≡ cond forwarded [] (asked b.client h).replies
   replies_by forwarded is = f.replies ∙ ap (λ (x : Bool). cond x [] (asked b.client h).replies) is
 
   heard_as_told : IsHeardAsTold h l b
   heard_as_told = record {
-    behind = λ own bytes is. says_behind f.cradle (joined (told_to l b h)) v.output bytes (f.forwarded ∙ own)
+    behind = λ own bytes is. says_behind f.cradle Told v.output bytes (f.forwarded ∙ own)
         (sym output_is ∙ (is ∙ ap (λ (x : List ℕ). x ++ (okay ++ bytes)) (sym (replies_by false own)))) says;
-    alone = λ through. subst (λ (x : List ℕ). IsPrefixOf x (joined (told_to l b h))) (sym output_is)
-        (says_alone f.cradle (joined (told_to l b h)) v.output (f.forwarded ∙ through) (replies_by true through) says);
+    alone = λ through. subst Told (sym output_is) (says_alone f.cradle Told v.output (f.forwarded ∙ through) (replies_by true through) says);
   }
 
 pub hears_as_told : (h : History) → IsLegal h → HearsAsTold h
-hears_as_told h legal l b is = heard_as_told h l b (has_lives h legal l b is)
+hears_as_told h legal l b is = heard_as_told h l b is (has_lives h legal l b is) (all_endings h legal l)

@@ -83,7 +83,7 @@ pub record IsSilent (c : ℕ) (e : Entry) (older : History) : Type 0 where
   pub none : (l : ℕ) (b : Birth) → IsBornNow l b e older → b.client ≢ c
 
 -- an entry that has no births of it
-apart_births : (c : ℕ) (e : Entry) (older : History) → ((n : ℕ) → IsBirthOf e n → n ≢ c) → (l : ℕ) (b : Birth) → IsBornNow l b e older → b.client ≢ c
+pub apart_births : (c : ℕ) (e : Entry) (older : History) → ((n : ℕ) → IsBirthOf e n → n ≢ c) → (l : ℕ) (b : Birth) → IsBornNow l b e older → b.client ≢ c
 apart_births c e older apart l b new = apart b.client (birth_of e older new.place b new.is)
 
 silent_same : (c : ℕ) (e : Entry) (older : History) → (asked c (e ∷ older)).next ≡ (asked c older).next
@@ -105,10 +105,7 @@ pub silent_read : (c n : ℕ) (bytes : List ℕ) (older : History) → eqb n c �
 silent_read c n bytes older e = silent_same c (Read n bytes) older (ap (λ (r : Heard). r.next) (heard_read n c bytes older e))
     (ap (λ (r : Heard). r.replies) (heard_read n c bytes older e)) (λ m of same. eqb-false n c e (sym of ∙ same))
 
-module _ (c : ℕ) (older : History) (legal : IsLegal older) (came : has_joined c older ≡ true) where
-  below : c ≤ (state older).joined
-  below = let le = joined_below older legal c came in omega (arith, le, (counted older).joined)
-
+module _ (c : ℕ) (older : History) (legal : IsLegal older) where
   pub silent_idle : (bytes : List ℕ) → May (state older) (Read c bytes) → (said c older).asking ≡ false → IsSilent c (Read c bytes) older
   silent_idle bytes may idle =
       let same = heard_idle c older legal bytes may idle in
@@ -120,6 +117,10 @@ module _ (c : ℕ) (older : History) (legal : IsLegal older) (came : has_joined 
             (ap (λ (o : Option Next). birth_by c (asked c (Read c bytes ∷ older)).used older (newly (asked c older).next o)) next
             ∙ ap (λ (o : Option Next). birth_by c (asked c (Read c bytes ∷ older)).used older o) (newly_same (asked c older).next)) new.is);
       }
+
+module _ (c : ℕ) (older : History) (legal : IsLegal older) (came : has_joined c older ≡ true) where
+  below : c ≤ (state older).joined
+  below = let le = joined_below older legal c came in omega (arith, le, (counted older).joined)
 
   -- what is served stays
   silent_served : (e : Entry) → May (state older) e → IsSilent c e older → (b : Bool) → ServedIn b c older → ServedIn b c (e ∷ older)
@@ -214,7 +215,7 @@ module _ (c : ℕ) (older : History) (legal : IsLegal older) (came : has_joined 
     own_served h = go ((state older).clients c) refl
       where
         idle : (said c older).asking ≡ false → After_with (Read c bytes)
-        idle e = served_silent (Read c bytes) may (silent_idle bytes may e) h
+        idle e = served_silent (Read c bytes) may (silent_idle c older legal bytes may e) h
 
         by : (client : Client) → (state older).clients c ≡ Some client → (b : Bool) → asks_in client.about.phase ≡ b → After_with (Read c bytes)
         by client is true e = asks_served bytes may client is (asks_asking client.about.phase e) drawn h

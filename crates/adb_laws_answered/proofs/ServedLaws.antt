@@ -1,7 +1,6 @@
 -- The fields of the promise of clients that have a stream, and the whole promise.
 use Rattle.std.proofs.Common.{◌≡◌, ℕ, Bool, true, false, List, [], ◌++◌, Option, refl, sym, subst, ◌∙◌, inl, inr, ◌⊎◌}
 use Rattle.std.proofs.lemmas.List.{append-nil}
-use Rattle.adb_outside.specs.Bytes.{IsPrefixOf}
 use Rattle.adb_reply.specs.Strings.{okay}
 use Rattle.adb_reply.specs.declared.answer.Next.{Next}
 use Rattle.adb_history.specs.Rows.{State}
@@ -9,12 +8,12 @@ use Rattle.adb_history.specs.Events.{Event, owed_to}
 use Rattle.adb_history.specs.Machine.{History, state, told, IsLegal}
 use Rattle.adb_history.specs.Bytes.{has_joined, has_failed}
 use Rattle.adb_history.specs.Book.{asked}
-use Rattle.adb_history.specs.Births.{since, told_to, joined}
+use Rattle.adb_history.specs.Births.{since}
 use Rattle.adb_history.specs.Lives.{output_of, ending_of}
-use Rattle.adb_history.specs.Answered.{tells_closed, closed_reply, is_heard, FollowsOpen, IsStreamOf, AnswersOpen, IsBehindReplies, RepliesOfStream}
+use Rattle.adb_history.specs.Answered.{tells_closed, closed_reply, is_heard, FollowsTold, FollowsOpen, IsStreamOf, AnswersOpen, IsBehindReplies, RepliesOfStream}
 use Rattle.adb_history.specs.Answered.{HasStreamAlone, IsAnswered}
 use Rattle.adb_laws_answered.specs.Heard.{asks_stream}
-use Rattle.adb_laws_answered.specs.Served.{OutBy, IsDone, no_ids_reply, IsGiven, IsRefused, ServedIn, IsEntered, HearsAsTold}
+use Rattle.adb_laws_answered.specs.Served.{OutBy, no_ids_reply, IsGiven, IsRefused, ServedIn, IsEntered, IsLeftOut, HearsAsTold}
 use Rattle.adb_laws_answered.proofs.HeardLaws.{replies_first, replies_bound, lists_tracked, present_list, nothing_more}
 use Rattle.adb_laws_answered.proofs.ServedHistories.{all_served}
 use Rattle.adb_laws_answered.proofs.Hears.{hears_as_told}
@@ -118,14 +117,13 @@ module _ (h : History) (legal : IsLegal h) where
   pub stream_alone : (c : ℕ) → has_joined c h ≡ false → HasStreamAlone h c
   stream_alone c absent = go (all_entered h legal c absent)
     where
-      go : IsDone c (let none : List ℕ = [] in none) (state h) (told h) ⊎ IsEntered c h → HasStreamAlone h c
-      go (inl d) = inl d.told
-      go (inr g) = inr (
+      go : IsLeftOut c h ⊎ IsEntered c h → HasStreamAlone h c
+      go (inl out) = inr (λ l b own. out.none l b own.is own.client, out.done.told)
+      go (inr g) = inl (
         g.stream,
         g.birth,
         record { is = g.born; client = g.client },
-        subst (λ (n : ℕ). IsPrefixOf (output_of n h) (joined (told_to g.stream g.birth h))) g.client
-            ((hears g.stream g.birth g.born).alone g.forwarded),
+        subst (λ (n : ℕ). FollowsTold h g.stream g.birth (output_of n h)) g.client ((hears g.stream g.birth g.born).alone g.forwarded),
       )
 
   -- ---- all clients

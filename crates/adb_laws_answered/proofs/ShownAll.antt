@@ -85,7 +85,7 @@ module _ (l : ℕ) (b : Birth) (older : History) (legal : IsLegal older) where
     own_replies bytes may = go ((state older).clients b.client) refl
       where
         idle : (said b.client older).asking ≡ false → (asked b.client (Read b.client bytes ∷ older)).replies ≡ (asked b.client older).replies
-        idle e = (silent_idle b.client older legal came bytes may e).replies
+        idle e = (silent_idle b.client older legal bytes may e).replies
 
         by : (client : Client) → (state older).clients b.client ≡ Some client → (v : Bool) → asks_in client.about.phase ≡ v
             → (asked b.client (Read b.client bytes ∷ older)).replies ≡ (asked b.client older).replies
@@ -143,7 +143,7 @@ module _ (l : ℕ) (b : Birth) (older : History) (legal : IsLegal older) where
     now = Read c bytes ∷ older
 
     idle_shown : (said c older).asking ≡ false → IsShownAt l b (Read c bytes ∷ older)
-    idle_shown e = absurd ((silent_idle c older legal came bytes may e).none l b new same)
+    idle_shown e = absurd ((silent_idle c older legal bytes may e).none l b new same)
 
     asks_shown : (client : Client) → (state older).clients c ≡ Some client → client.about.phase ≡ Asking → (v : Bool) → asks_stream (asked c now).next ≡ v
         → IsShownAt l b (Read c bytes ∷ older)

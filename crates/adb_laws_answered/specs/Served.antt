@@ -1,6 +1,5 @@
 -- What a client is handed whose last request was for a stream, against its row and that of the stream.
-use Rattle.std.specs.Prelude.{ℕ, ◌≡◌, ◌≢◌, ◌≤◌, ◌<◌, ◌⊎◌, not, codes, Bool, true, false, List, ◌++◌, Option, Some, None}
-use Rattle.adb_outside.specs.Bytes.{IsPrefixOf}
+use Rattle.std.specs.Prelude.{ℕ, ◌≡◌, ◌≢◌, ◌≤◌, ◌<◌, ◌⊎◌, not, codes, Bool, true, false, List, [], ◌++◌, Option, Some, None}
 use Rattle.adb_stream.specs.declared.row.Stream.{Stream}
 use Rattle.adb_client.specs.declared.phase.Phase.{Phase}
 use Rattle.adb_client.specs.declared.phase.Phase.TheVariants.{Opening, Streaming, Closing}
@@ -9,10 +8,10 @@ use Rattle.adb_history.specs.Rows.{Client, State}
 use Rattle.adb_history.specs.Events.{Event, Ending, owed_to, ending_in}
 use Rattle.adb_history.specs.Machine.{History, state, told}
 use Rattle.adb_history.specs.Book.{asked}
-use Rattle.adb_history.specs.Births.{Birth, born, told_to, joined}
+use Rattle.adb_history.specs.Births.{Birth, born}
 use Rattle.adb_history.specs.Lives.{output_of}
 use Rattle.adb_history.specs.Fifo.{OfEachStream}
-use Rattle.adb_history.specs.Answered.{tells_closed, closed_reply}
+use Rattle.adb_history.specs.Answered.{tells_closed, closed_reply, FollowsTold}
 use Rattle.adb_history.specs.Owned.{IsOwned}
 
 -- Who came through a forward is known, and no stream has ended that was not drawn.
@@ -84,6 +83,11 @@ abbrev pub ServedIn : Bool → ℕ → History → Type 0
 ServedIn false c h = HasNoStream c h
 ServedIn true c h = IsGiven c h (asked c h).replies (state h) (told h) ⊎ IsRefused c h (asked c h).replies (state h) (told h)
 
+-- A client that has no stream, to which nothing became due and nothing will.
+pub record IsLeftOut (c : ℕ) (h : History) : Type 0 where
+  pub none : HasNoStream c h
+  pub done : IsDone c [] (state h) (told h)
+
 -- A client that came through a forward, and its stream, which was born.
 pub record IsEntered (c : ℕ) (h : History) : Type 0 where
   pub stream : ℕ
@@ -93,12 +97,11 @@ pub record IsEntered (c : ℕ) (h : History) : Type 0 where
   pub forwarded : birth.forwarded ≡ true
 
 -- ---- what a client is handed of its stream
--- What became due to the client of a stream is what its device told: behind the replies and `OKAY`, where the client came by itself; and alone, where it came
--- through a forward.
+-- What became due to the client of a stream is what its device told, up to the stream's end: behind the replies and `OKAY`, where the client came by itself;
+-- and alone, where it came through a forward.
 pub record IsHeardAsTold (h : History) (l : ℕ) (b : Birth) : Type 0 where
-  pub behind : b.forwarded ≡ false → (bytes : List ℕ) → output_of b.client h ≡ (asked b.client h).replies ++ (okay ++ bytes)
-      → IsPrefixOf bytes (joined (told_to l b h))
-  pub alone : b.forwarded ≡ true → IsPrefixOf (output_of b.client h) (joined (told_to l b h))
+  pub behind : b.forwarded ≡ false → (bytes : List ℕ) → output_of b.client h ≡ (asked b.client h).replies ++ (okay ++ bytes) → FollowsTold h l b bytes
+  pub alone : b.forwarded ≡ true → FollowsTold h l b (output_of b.client h)
 
 abbrev pub HearsAsTold : History → Type 0
 HearsAsTold h = OfEachStream h (λ l b. IsHeardAsTold h l b)

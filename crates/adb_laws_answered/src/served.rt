@@ -6,13 +6,16 @@ ghost use Rattle.adb_history.specs.Machine.{IsLegal};
 ghost use Rattle.adb_history.specs.Answered.{RepliesOfStream, HasStreamAlone, IsAnswered};
 ghost use Rattle.adb_laws_answered.specs.Heard.{OfWhoJoined, OfOthers};
 
-/// A service is answered by its device: the client is handed `OKAY` and what the device wrote, or
-/// why the stream was not opened; and nothing else.
+/// A service is answered by its device: what becomes due to the client is `OKAY` and what the device
+/// wrote, or why the stream was not opened; and nothing else. While the stream lives it is all that
+/// the device wrote; where the device closed it, all before that close; and where another cause
+/// ended it, a front.
 pub fn services_are_answered()
     ensures { (history : List Entry) → IsLegal history → OfWhoJoined RepliesOfStream history }
 {}
 
-/// A client that came through a forward is handed the bytes of its stream, and nothing else.
+/// What becomes due to a client that came through a forward is what the device wrote to its stream,
+/// up to the stream's end as for a service, and nothing else; where it has no stream, nothing.
 pub fn forwards_carry_their_stream_alone()
     ensures { (history : List Entry) → IsLegal history → OfOthers HasStreamAlone history }
 {}
