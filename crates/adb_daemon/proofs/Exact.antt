@@ -1,5 +1,5 @@
 -- A plain stream to which no OKAY came too early may write as much as it took OKAYs for.
-use Rattle.std.specs.Prelude.{ℕ, ◌+◌, ◌≡◌, ◌<◌, ◌≤◌, ◌==◌, ◌||◌, if◌then◌else◌, Bool, true, false, List, [], ◌∷◌, ◌++◌, length, fold, zero, suc, Option, Some, None}
+use Rattle.std.specs.Prelude.{ℕ, ◌+◌, ◌≡◌, ◌<◌, ◌≤◌, ◌==◌, ◌||◌, if◌then◌else◌, Bool, true, false, List, [], ◌∷◌, ◌++◌, length, zero, suc, Option, Some, None}
 use Rattle.std.proofs.Common.{refl, sym, ◌∙◌, ap, subst, arith, ◌⊎◌, inl, inr, append_assoc}
 use Rattle.std.proofs.lemmas.Bool.{cases_eq, eq-eqb, ne_eqb}
 use Rattle.std.proofs.lemmas.List.{append-nil}
@@ -23,12 +23,13 @@ use Rattle.adb_daemon.specs.Serving.{Serving, Sent, with_sum, owing, granted, go
 use Rattle.adb_daemon.specs.Serving.{is_taken, kind_for, credit_of, open_as, on_open, written_to, on_write, acked_to, on_okay, closed_to, on_close, all_gone, served}
 use Rattle.adb_daemon.specs.Device.{Device, Setting, step, treated, linked_to, served_on, first_device, device_behind}
 use Rattle.adb_daemon.specs.Streams.{free_of, over_at, writes_of, acks_of, Writes, IsExact, ExactAt, IsAckedInTime}
-use Rattle.adb_daemon.proofs.Standing.{IsOrderly, silent_writes, silent_close, writes_more}
-use Rattle.adb_daemon.proofs.Rules.{named_is, closable_is, silent_ack, step_orderly}
+use Rattle.adb_daemon.proofs.Standing.{IsOrderly, silent_writes, silent_close, own_count, writes_more}
+use Rattle.adb_daemon.proofs.Rules.{named_is, silent_ack, drawn, step_orderly}
 use Rattle.adb_daemon.proofs.Machines.{step_more}
 
 -- ---- writes
 module _ (most acks : ℕ) where
+  -- a write more
   exact_one : (flow : Flow) (n count : ℕ) → IsExact count acks flow → IsExact (count + 1) acks (flow_past flow n)
   exact_one (flows.One window) n count e = go window.outstanding e
     where
@@ -40,6 +41,7 @@ module _ (most acks : ℕ) where
   exact_same : (flow : Flow) (count more : ℕ) → more ≡ count → IsExact count acks flow → IsExact more acks flow
   exact_same flow count more same e = subst (λ n. IsExact n acks flow) (sym same) e
 
+  -- all the writes that the window lets go
   exact_at : (k : ℕ) (row : Row) (count : ℕ) → IsExact count acks row.flow
       → IsExact (count + length (writes_at k most row)) acks (row_past_all (writes_at k most row) row).flow
   exact_at zero row count e = exact_same row.flow count (count + 0) (omega arith) e
@@ -58,19 +60,13 @@ module _ (most acks : ℕ) where
   exact_written : (row : Row) (count : ℕ) → IsExact count acks row.flow → IsExact (count + length (writes most row)) acks (row_written most row).flow
   exact_written row count e = exact_at (length (unsent row)) row count e
 
-own_writes : (own : ℕ) (sums : Bool) (host : ℕ) (payloads : List (List ℕ))
-    → writes_of own (Rattle.std.specs.Prelude.map (λ payload. with_sum sums (Rattle.adb_device_streams.specs.Stream.wrte own host payload)) payloads) ≡ length payloads
-own_writes own sums host [] = refl
-own_writes own sums host (payload ∷ more) =
-    ap (λ (t : Bool). (if t then 1 else 0)
-    + writes_of own (Rattle.std.specs.Prelude.map (λ p. with_sum sums (Rattle.adb_device_streams.specs.Stream.wrte own host p)) more)) (eq-eqb own own refl)
-    ∙ omega (arith, own_writes own sums host more)
-
--- What is kept of one stream.
+-- ---- one stream
+-- What is kept of a stream: it took no OKAY before it was drawn, and its window is exact.
 record IsTight (own : ℕ) (s : Serving) : Type 0 where
   untaken : s.drawn < own → acks_of own s.acks ≡ 0
   exact : ExactAt own s.made s.acks (at own s.rows)
 
+-- packets none of which is a write of it
 exact_count : (own : ℕ) (made more : List Sent) (s : Serving) (row : Option Row) → writes_of own more ≡ 0 → ExactAt own made s.acks row
     → ExactAt own (made ++ more) s.acks row
 exact_count own made more s None none e = tt
@@ -122,24 +118,24 @@ module _ (own : ℕ) (s : Serving) where
         }
 
   -- this stream settles
-  module _ (o : IsRising s.rows) (drawn : own ≤ s.drawn) (link : Link) (row : Row) (e : IsExact (writes_of own s.made) (acks_of own s.acks) row.flow) where
+  module _ (o : IsRising s.rows) (below : own ≤ s.drawn) (link : Link) (row : Row) (e : IsExact (writes_of own s.made) (acks_of own s.acks) row.flow) where
     own_tight : IsTight own (settled link own row s)
     own_tight = go (is_done (row_written link.most row))
       where
         sum : writes_of own s.made + length (writes link.most row) ≡ writes_of own (s.made ++ sent_writes link own row)
-        sum = ap (λ n. writes_of own s.made + n) (sym (own_writes own link.sums row.host (writes link.most row)))
+        sum = ap (λ n. writes_of own s.made + n) (sym (own_count own link.sums own row.host (eq-eqb own own refl) (writes link.most row)))
             ∙ sym (writes_more own s.made (sent_writes link own row))
 
         go : (b : Bool) → IsTight own (settled_as b link own (row_written link.most row) (owing (sent_writes link own row) s))
         go false = record {
-          untaken = λ above. absurd (omega (arith, above, drawn));
+          untaken = λ above. absurd (omega (arith, above, below));
           exact = subst (λ (r : Option Row). ExactAt own (s.made ++ sent_writes link own row) s.acks r)
               (sym (puts_put_at own (row_written link.most row) s.rows).here)
               (subst (λ n. IsExact n (acks_of own s.acks) (row_written link.most row).flow) sum
               (exact_written link.most (acks_of own s.acks) row (writes_of own s.made) e));
         }
         go true = record {
-          untaken = λ above. absurd (omega (arith, above, drawn));
+          untaken = λ above. absurd (omega (arith, above, below));
           exact = subst (λ (r : Option Row). ExactAt own ((s.made ++ sent_writes link own row) ++ sent_close true link own (row_written link.most row).host) s.acks r)
               (sym (puts_without own s.rows o).here) tt;
         }
@@ -152,15 +148,9 @@ settled_acks link q row s = go (is_done (row_written link.most row))
     go true = refl
     go false = refl
 
-drawn_of : (own : ℕ) (s : Serving) (o : IsOrderly own s) (row : Row) → at own s.rows ≡ Some row → own ≤ s.drawn
-drawn_of own s o row is = go (Rattle.std.proofs.lemmas.Bool.cases_lt s.drawn own)
-  where
-    go : (s.drawn < own) ⊎ (own ≤ s.drawn) → own ≤ s.drawn
-    go (inl above) = absurd (let clash : None ≡ Some row = sym (o.fresh above).0 ∙ is in cc)
-    go (inr within) = within
-
 -- ---- packets
 module _ (own : ℕ) (s : Serving) (o : IsOrderly own s) (t : IsTight own s) (link : Link) (p : Packet) where
+  -- an OKAY that came to this stream in time, or to another
   okay_tight : acks_of own (on_okay link p s).acks ≤ 1 + writes_of own s.made → IsTight own (on_okay link p s)
   okay_tight = go (named p.arg0 (at p.arg1 s.rows)) refl
     where
@@ -175,11 +165,11 @@ module _ (own : ℕ) (s : Serving) (o : IsOrderly own s) (t : IsTight own s) (li
       at_row row word is (inr apart) timely = other_tight own (granted p.arg1 word s) p.arg1 apart o.rises (other_granted own s p.arg1 word apart t) link
           (row_acked word row)
       at_row row word is (inl here) timely =
-          let drawn = drawn_of own s o row (ap (λ (k : ℕ). at k s.rows) (sym here) ∙ is) in
+          let below = drawn own s o row (ap (λ (k : ℕ). at k s.rows) (sym here) ∙ is) in
           let le : acks_of own (granted p.arg1 word s).acks ≤ 1 + writes_of own s.made =
           subst (λ acks. acks_of own acks ≤ 1 + writes_of own s.made) (settled_acks link p.arg1 (row_acked word row) (granted p.arg1 word s)) timely in
           subst (λ (k : ℕ). IsTight own (settled link k (row_acked word row) (granted p.arg1 word s))) (sym here)
-          (own_tight own (granted p.arg1 word s) o.rises drawn link (row_acked word row)
+          (own_tight own (granted p.arg1 word s) o.rises below link (row_acked word row)
           (acked row.flow word (writes_of own s.made) (acks_of own (granted p.arg1 word s).acks) le))
 
       go : (found : Option Row) → named p.arg0 (at p.arg1 s.rows) ≡ found → acks_of own (acked_to link p found s).acks ≤ 1 + writes_of own s.made
@@ -187,6 +177,7 @@ module _ (own : ℕ) (s : Serving) (o : IsOrderly own s) (t : IsTight own s) (li
       go None is timely = t
       go (Some row) is timely = at_row row (credit_word_in p.payload) (named_is p.arg0 (at p.arg1 s.rows) row is) (cases_eq p.arg1 own) timely
 
+  -- a WRTE, a CLSE and an OPEN
   write_tight : IsTight own (on_write link p s)
   write_tight = go (named p.arg0 (at p.arg1 s.rows)) refl
     where
@@ -205,7 +196,7 @@ module _ (own : ℕ) (s : Serving) (o : IsOrderly own s) (t : IsTight own s) (li
       at_row row is (inl here) =
           let mine = ap (λ (k : ℕ). at k s.rows) (sym here) ∙ is in
           subst (λ (k : ℕ). IsTight own (settled link k (row_took (came_over p.payload s.files) row) (mid row))) (sym here)
-          (own_tight own (mid row) o.rises (drawn_of own s o row mine) link (row_took (came_over p.payload s.files) row)
+          (own_tight own (mid row) o.rises (drawn own s o row mine) link (row_took (came_over p.payload s.files) row)
           (subst (λ (r : Option Row). ExactAt own (mid row).made s.acks r) mine (mid_tight row).exact))
 
       go : (found : Option Row) → named p.arg0 (at p.arg1 s.rows) ≡ found → IsTight own (written_to link p found s)
@@ -302,6 +293,7 @@ module _ (own : ℕ) (some : 0 < own) where
       go true timely = t
       go false timely = by (is_cnxn p.command) timely
 
+  -- packets behind others, each of which came in time
   behind_tight : (setting : Setting) (done packets : List Packet) → IsOrderly own (device_behind setting done).serving
       → IsTight own (device_behind setting done).serving → IsAckedInTime setting own (done ++ packets)
       → IsTight own (device_behind setting (done ++ packets)).serving

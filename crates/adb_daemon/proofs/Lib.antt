@@ -16,3 +16,4 @@ pub mod Quiet
 pub mod Acks
 pub mod Allowed
 pub mod Exact
+pub mod Lasts

@@ -81,7 +81,7 @@ module _ (own q count bytes : ℕ) where
 
 module _ (own : ℕ) (s : Serving) (o : IsOrderly own s) where
   -- an id that has a row was drawn
-  drawn : (row : Row) → at own s.rows ≡ Some row → own ≤ s.drawn
+  pub drawn : (row : Row) → at own s.rows ≡ Some row → own ≤ s.drawn
   drawn row is = go (cases_lt s.drawn own)
     where
       go : (s.drawn < own) ⊎ (own ≤ s.drawn) → own ≤ s.drawn

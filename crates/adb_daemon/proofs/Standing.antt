@@ -32,7 +32,7 @@ writes_more own (one ∷ made) more = omega (arith, writes_more own made more)
 
 module _ (own : ℕ) (sums : Bool) (q host : ℕ) where
   -- writes are no close; those of another stream are nothing to this one, and its own are what it wrote
-  writes_open : (payloads : List (List ℕ)) → is_closed own (map (λ payload. with_sum sums (wrte q host payload)) payloads) ≡ false
+  pub writes_open : (payloads : List (List ℕ)) → is_closed own (map (λ payload. with_sum sums (wrte q host payload)) payloads) ≡ false
   writes_open [] = refl
   writes_open (payload ∷ more) = writes_open more
 
@@ -53,7 +53,7 @@ module _ (own : ℕ) (sums : Bool) (q host : ℕ) where
       ap (λ (t : Bool). (if t then 1 else 0) + writes_of own (map (λ p. with_sum sums (wrte q host p)) more)) is
       ∙ omega (arith, others_count is more)
 
-  own_count : (q == own) ≡ true → (payloads : List (List ℕ))
+  pub own_count : (q == own) ≡ true → (payloads : List (List ℕ))
       → writes_of own (map (λ payload. with_sum sums (wrte q host payload)) payloads) ≡ length payloads
   own_count is [] = refl
   own_count is (payload ∷ more) =

@@ -35,6 +35,15 @@ closes own one = is_close one.packet.command && one.packet.arg0 == own
 abbrev pub is_closed : ℕ → List Sent → Bool
 is_closed own made = list_any (closes own) made
 
+-- whether a packet that became due is one of a stream
+abbrev pub is_of : ℕ → Sent → Bool
+is_of own one = one.packet.arg0 == own
+
+-- Behind the CLSE that the device sends of a stream nothing of that stream becomes due.
+abbrev pub EndsAtClose : ℕ → List Sent → Type 0
+EndsAtClose own [] = Unit {0}
+EndsAtClose own (one ∷ more) = (closes own one ≡ true → list_any (is_of own) more ≡ false) × EndsAtClose own more
+
 -- how many writes a stream made
 abbrev pub writes_of : ℕ → List Sent → ℕ
 writes_of own [] = 0

@@ -14,7 +14,7 @@ ghost use Rattle.adb_daemon.specs.Serving.{sent_bytes};
 ghost use Rattle.adb_daemon.specs.Daemon.{HasDone, HasDoneFront, answer_to, owed};
 ghost use Rattle.adb_daemon.specs.Allowed.{let_out};
 ghost use Rattle.adb_daemon.specs.Device.{Setting, device_behind};
-ghost use Rattle.adb_daemon.specs.Streams.{Writes, IsAcked, HasSettled, over_at, ExactAt, IsAckedInTime};
+ghost use Rattle.adb_daemon.specs.Streams.{Writes, EndsAtClose, IsAcked, HasSettled, over_at, ExactAt, IsAckedInTime};
 
 /// The joined payloads that a stream wrote are a front of its service's answer to the payloads that
 /// came, and where the device closed it all of the answer. On a plain link it made at most as many
@@ -24,6 +24,14 @@ pub fn streams_write_their_answers()
     ensures { (setting : Setting) (packets : List Packet) (own : ℕ) → 0 < own
         → let s = (device_behind setting packets).serving
         in Writes own s.made s.acks (at own s.rows) (over_at own s.ended) }
+{}
+
+/// The CLSE that the device sends of a stream stands behind all its writes and OKAYs, and it is the
+/// only one: nothing of the stream becomes due behind it.
+#[tactic(auto, using(crate::proofs::Lasts::closes_last))]
+pub fn closes_come_last()
+    ensures { (setting : Setting) (packets : List Packet) (own : ℕ) → 0 < own
+        → EndsAtClose own (device_behind setting packets).serving.made }
 {}
 
 /// The OPEN of a stream and each write that came for it were acknowledged by one OKAY, in order,

@@ -12,6 +12,6 @@ mod table;
 pub use daemon::Daemon;
 pub use error::DaemonError;
 pub use laws::{
-    refusals_stay, streams_are_settled, streams_write_their_answers, what_is_owed_was_let_out,
-    windows_are_exact, writes_are_acknowledged,
+    closes_come_last, refusals_stay, streams_are_settled, streams_write_their_answers,
+    what_is_owed_was_let_out, windows_are_exact, writes_are_acknowledged,
 };

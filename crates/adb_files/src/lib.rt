@@ -4,6 +4,7 @@
 mod answers;
 mod file;
 mod files;
+mod laws;
 mod listing;
 mod mode;
 mod outbox;
@@ -24,4 +25,5 @@ mod tests;
 
 pub use file::{File, FileError};
 pub use files::Files;
+pub use laws::limits_are;
 pub use service::SyncService;

@@ -58,8 +58,9 @@ impl SyncService {
     /// alone, as a whole. A fault is answered by one FAIL, and ends the service as a QUIT does; what
     /// follows is dropped. After want of memory a front of these requests was served, of
     /// whose answers all but the last are whole, and the service is spent: every call answers want of
-    /// memory and changes nothing. Where nobody else changes the
-    /// files between the calls, all that the service did is what `served` says of all the bytes fed.
+    /// memory and changes nothing. It has ended then only where it had before. Where nobody else changes
+    /// the files between the calls, all that the service did is what `served` says of all the bytes
+    /// fed.
     pub fn feed(&mut self, files: &mut Files, piece: &[u8]) -> Result<(), AllocError>
         ensures ok { OnOk result ((self.old.spent ≡ false) × (self.new.spent ≡ false)) }
         ensures served { OnOk result (self.old.ended ≡ false → (fed : List ℕ)
@@ -67,6 +68,7 @@ impl SyncService {
         ensures dropped { self.old.spent ≡ false → self.old.ended ≡ true
             → (result ≡ Ok tt) × (self.new ≡ self.old) × (files.new ≡ files.old) }
         ensures err { OnErr result (self.new.spent ≡ true) }
+        ensures ended { OnErr result (self.new.ended ≡ self.old.ended) }
         ensures front { OnErr result (self.old.ended ≡ false → (fed : List ℕ)
             → StandsFor fed self.old
             → FeedsFront fed piece.now self.old self.new files.old files.new) }
@@ -140,6 +142,7 @@ fn feed_open(
         → StandsFor fed (held reader.old session.old)
         → FeedsFront fed piece.now (held reader.old session.old) (held reader.new session.new)
         files.old files.new) }
+    ensures on { OnErr result (session.new.ended ≡ false) }
     ensures short { AllByRecursion HasShortPath reader.new.given }
     ensures kept { HasShortSend session.new.sending }
 {

@@ -131,6 +131,7 @@ impl Session {
         ensures err { OnErr result ((send : Option OpenSend) → KeepsSend send self.old.sending
             → ServesFront (completed send ask)
             (moment files.old self.old) (moment files.new self.new)) }
+        ensures on { OnErr result (self.new.ended ≡ false) }
         ensures short { HasShortSend self.new.sending }
     {
         let alloc = self.alloc;
@@ -162,6 +163,7 @@ impl Session {
         ensures ok { OnOk result ((self.new.out ≡ self.old.out ++ fail_bytes (fault_text fault))
             × (self.new.ended ≡ true)) }
         ensures err { OnErr result (self.new.out ≡ self.old.out) }
+        ensures on { OnErr result (self.new.ended ≡ self.old.ended) }
         ensures kept { self.new.sending ≡ self.old.sending }
     {
         fail(self.alloc, fault_text(fault), &mut self.out)?;
@@ -185,6 +187,7 @@ pub fn serve_given(
     ensures err { OnErr result ((send : Option OpenSend) → KeepsSend send session.old.sending
         → ServesFront (requests_of send reader.old.given)
         (moment files.old session.old) (moment files.new session.new)) }
+    ensures on { OnErr result (session.new.ended ≡ false) }
     ensures short { AllByRecursion HasShortPath reader.new.given }
     ensures kept { HasShortSend session.new.sending }
 {

@@ -6,6 +6,7 @@ ghost use Rattle.adb_outside.specs.Framing.{joined};
 ghost use Rattle.adb_shell.specs.declared.packet.ShellPacket.{ShellPacket};
 ghost use Rattle.adb_shell.specs.declared.packet.ShellFault.{ShellFault};
 ghost use Rattle.adb_shell.specs.declared.format.ShellFormat.{ShellFormat};
+ghost use Rattle.adb_shell.specs.declared.format.TheConstants.{HEADER_BYTES, LAST_ID, MAX_SHELL_PAYLOAD};
 ghost use Rattle.adb_shell.specs.Packets.{IsPacket, IsCut, Reading, cut_from, past};
 ghost use Rattle.adb_shell.specs.Packets.{spelling, packets_in, fault_in};
 
@@ -35,4 +36,11 @@ pub fn faults_stay()
     ensures { (bytes more : List ℕ) (fault : ShellFault) → fault_in bytes ≡ Some fault
         → (fault_in (bytes ++ more) ≡ Some fault)
         × (packets_in (bytes ++ more) ≡ packets_in bytes) }
+{}
+
+/// The numbers of the definitions that are read here.
+pub fn limits_are()
+    ensures header { HEADER_BYTES ≡ 5 }
+    ensures last_id { LAST_ID ≡ 5 }
+    ensures payload { MAX_SHELL_PAYLOAD ≡ 1048576 }
 {}

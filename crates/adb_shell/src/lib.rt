@@ -10,7 +10,7 @@ mod reader;
 mod tests;
 mod writer;
 
-pub use laws::{cut_is_determined, cut_is_right, faults_stay, written_is_read};
+pub use laws::{cut_is_determined, cut_is_right, faults_stay, limits_are, written_is_read};
 pub use packet::{ShellError, ShellFault, ShellPacket};
 pub use reader::ShellReader;
 pub use writer::write_packet;

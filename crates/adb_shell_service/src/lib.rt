@@ -3,6 +3,7 @@
 #![tactic(auto)]
 
 mod commands;
+mod laws;
 mod outcome;
 mod output;
 mod program;
@@ -11,4 +12,5 @@ mod service;
 mod tests;
 mod words;
 
+pub use laws::limits_are;
 pub use service::ShellService;

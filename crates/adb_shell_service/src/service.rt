@@ -77,14 +77,15 @@ impl ShellService {
     }
 
     /// Takes the next piece of the stream, of any length. A service that has ended drops it. After
-    /// want of memory a front of the answer was given, and the service is spent: every call answers
-    /// want of memory and changes nothing.
+    /// want of memory a front of the answer was given, it has ended only where it had before, and the
+    /// service is spent: every call answers want of memory and changes nothing.
     pub fn feed(&mut self, piece: &[u8]) -> Result<(), AllocError>
         ensures ok { OnOk result ((self.old.spent ≡ false) × (self.new.spent ≡ false)) }
         ensures whole { OnOk result ((opening : Opening) (fed taken : List ℕ)
             → HasAnswered opening fed taken self.old
             → HasAnswered opening (fed ++ piece.now) taken self.new) }
         ensures err { OnErr result (self.new.spent ≡ true) }
+        ensures ended { OnErr result (is_none self.new.input ≡ is_none self.old.input) }
         ensures front { OnErr result ((opening : Opening) (fed taken : List ℕ)
             → HasAnswered opening fed taken self.old
             → StartsWith (shell_answer opening (fed ++ piece.now)).bytes (taken ++ self.new.out)) }

@@ -24,7 +24,7 @@ use Rattle.adb_sync.specs.Framed.{IsBehind, message_told, framed_message, answer
 use Rattle.adb_sync.proofs.Messages.{number_fits, counted_again, is_one, within, is_within, numbers_behind, text_behind}
 
 -- the four letters of an id
-abbrev letters : AnswerId → List ℕ
+abbrev pub letters : AnswerId → List ℕ
 letters ids.Stat = codes "STAT"
 letters ids.Dent = codes "DENT"
 letters ids.Data = codes "DATA"
@@ -32,7 +32,7 @@ letters ids.Done = codes "DONE"
 letters ids.Okay = codes "OKAY"
 letters ids.Fail = codes "FAIL"
 
-letters_id : (id : AnswerId) → answer_id_of (letters id) ≡ Some id
+pub letters_id : (id : AnswerId) → answer_id_of (letters id) ≡ Some id
 letters_id ids.Stat = refl
 letters_id ids.Dent = refl
 letters_id ids.Data = refl

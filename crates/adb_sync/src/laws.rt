@@ -2,6 +2,7 @@
 
 ghost use Rattle.std.specs.Prelude.{◌≡◌, ◌<◌, ◌^◌, ◌++◌, ◌∷◌, [], List, ℕ, Bool, true, Some};
 ghost use Rattle.adb_outside.specs.Framing.{joined};
+ghost use Rattle.adb_sync.specs.declared.layout.TheConstants.{WORD_BYTES, MAX_PATH, MAX_CHUNK};
 ghost use Rattle.adb_sync.specs.declared.ask.SyncAsk.{SyncAsk};
 ghost use Rattle.adb_sync.specs.declared.answer.SyncAnswer.{SyncAnswer};
 ghost use Rattle.adb_sync.specs.declared.error.SyncFault.{SyncFault};
@@ -71,4 +72,11 @@ pub fn answer_faults_stay()
         → answer_fault_in list bytes ≡ Some fault
         → (answer_fault_in list (bytes ++ more) ≡ Some fault)
         × (answers_in list (bytes ++ more) ≡ answers_in list bytes) }
+{}
+
+/// The numbers of the definitions that are read here.
+pub fn limits_are()
+    ensures word { WORD_BYTES ≡ 4 }
+    ensures path { MAX_PATH ≡ 1024 }
+    ensures chunk { MAX_CHUNK ≡ 65536 }
 {}

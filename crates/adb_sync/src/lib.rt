@@ -29,7 +29,7 @@ pub use chunk::Chunk;
 pub use error::{SyncError, SyncFault, SyncRule};
 pub use laws::{
     answer_cut_is_determined, answer_cut_is_right, answer_faults_stay, ask_cut_is_determined,
-    ask_cut_is_right, ask_faults_stay, written_answers_are_read, written_asks_are_read,
+    ask_cut_is_right, ask_faults_stay, limits_are, written_answers_are_read, written_asks_are_read,
 };
 pub use layout::MAX_CHUNK;
-pub use writers::{CHUNK_HEADER_BYTES, chunk_header, write_answer, write_ask};
+pub use writers::{write_answer, write_ask};

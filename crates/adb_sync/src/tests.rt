@@ -4,9 +4,7 @@ ghost use Rattle.std.specs.Prelude.{◌≡◌, IfOk};
 ghost use Rattle.adb_sync.specs.Answers.{IsAnswer};
 ghost use Rattle.adb_sync.specs.Asks.{IsAsk};
 
-use crate::{
-    AnswerReader, AskReader, SyncAnswer, SyncAsk, SyncError, chunk_header, write_answer, write_ask,
-};
+use crate::{AnswerReader, AskReader, SyncAnswer, SyncAsk, SyncError, write_answer, write_ask};
 use adb_outside::Text;
 use std::alloc::{AllocError, Global};
 use std::test::Fail;
@@ -169,8 +167,6 @@ fn messages_are_written(rt: HostRuntime) -> Result<(), Fail> {
     assert!(rt; asks_are_written(rt.alloc())?);
     assert!(rt; answers_are_written(rt.alloc())?);
     assert!(rt; listing_is_written(rt.alloc())?);
-    assert!(rt; chunk_header(0) == *b"DATA\0\0\0\0");
-    assert!(rt; chunk_header(65_536) == *b"DATA\0\0\x01\0");
     Ok(())
 }
 

@@ -117,14 +117,14 @@ is_bad_front e bytes fault told = go (stray_in e.kind bytes) refl told
         }
 
 -- ---- a fault of the bytes
-abbrev Held : Type 0
+abbrev pub Held : Type 0
 Held = Cut Expected SyncAnswer ℕ
 
-abbrev cut_from : Expected → List ℕ → Held
+abbrev pub cut_from : Expected → List ℕ → Held
 cut_from = cut expected_front expected_answer past_expected
 
 -- what bytes mean behind what was said
-abbrev means : Expected → Said → List ℕ → Step Said
+abbrev pub means : Expected → Said → List ℕ → Step Said
 means e said bytes = meant said (cut_from e bytes).given (cut_from e bytes).fault
 
 record IsFirstBad (e : Expected) (said : Said) (bytes : List ℕ) (offset : ℕ) : Type 0 where
@@ -135,22 +135,22 @@ record IsFirstBad (e : Expected) (said : Said) (bytes : List ℕ) (offset : ℕ)
   here : means e said (take (place + 1) bytes) ≡ steps.BadAnswer offset
 
 -- by what the bytes begin with
-abbrev means_by : Expected → Said → List ℕ → Front ℕ → Step Said
+abbrev pub means_by : Expected → Said → List ℕ → Front ℕ → Step Said
 means_by e said bytes front =
     let c = cut_by expected_front expected_answer past_expected e bytes front cut_from in meant said c.given c.fault
 
-means_first : (e : Expected) (said : Said) (bytes : List ℕ) (front : Front ℕ) → expected_front e bytes ≡ front
+pub means_first : (e : Expected) (said : Said) (bytes : List ℕ) (front : Front ℕ) → expected_front e bytes ≡ front
     → means e said bytes ≡ means_by e said bytes front
 means_first e said bytes front is =
     ap (λ (c : Held). meant said c.given c.fault) (cut_first expected_front expected_answer past_expected expected_are_framed e bytes)
     ∙ ap (means_by e said bytes) is
 
 -- behind a whole answer
-abbrev means_behind : Expected → Said → List ℕ → List ℕ → Step Said
+abbrev pub means_behind : Expected → Said → List ℕ → List ℕ → Step Said
 means_behind e said frame more =
     let answer = expected_answer e frame in ended_or (next_of answer) (told_by said answer) (means (past_expected e frame) (told_by said answer) more)
 
-means_frame : (e : Expected) (said : Said) (frame more : List ℕ) → expected_front e frame ≡ Whole (length frame)
+pub means_frame : (e : Expected) (said : Said) (frame more : List ℕ) → expected_front e frame ≡ Whole (length frame)
     → means e said (frame ++ more) ≡ means_behind e said frame more
 means_frame e said frame more is =
     ap (λ (c : Held). meant said c.given c.fault) (frame_first expected_front expected_answer past_expected expected_are_framed e frame more is)

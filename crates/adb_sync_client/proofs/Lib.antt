@@ -1,3 +1,4 @@
+mod Completing
 mod FirstBad
 mod Lasting
 mod Modes

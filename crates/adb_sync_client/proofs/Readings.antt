@@ -1,5 +1,5 @@
 -- What is read means, answer by answer and piece by piece, what the bytes mean.
-use Rattle.std.proofs.Common.{ℕ, ◌≡◌, List, ◌∷◌, ◌++◌, Option, Some, None, length, Result, sym, refl, ◌∙◌, ap, append_assoc, arith}
+use Rattle.std.proofs.Common.{ℕ, ◌≡◌, List, ◌++◌, Option, Some, None, length, Result, sym, refl, ◌∙◌, ap, append_assoc, arith}
 use Rattle.adb_outside.specs.Framing.{Cut, cut, held_after, joined, answer_of}
 use Rattle.adb_outside.specs.declared.framer.FeedError.{FeedError}
 use Rattle.adb_outside.specs.declared.framer.FeedError.TheVariants.{Fault}

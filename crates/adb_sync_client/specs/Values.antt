@@ -1,5 +1,6 @@
 -- What the answer bytes of a request mean.
 use Rattle.std.specs.Prelude.{ℕ, List, [], ◌∷◌, ◌++◌, Option, Some, None, ⊤}
+use Rattle.adb_outside.specs.Bytes.{AreBytes}
 use Rattle.adb_outside.specs.Framing.{given_in, fault_in}
 use Rattle.adb_sync.specs.declared.answer.Dirent.{Dirent}
 use Rattle.adb_sync.specs.declared.answer.SyncAnswer.{SyncAnswer}
@@ -64,6 +65,19 @@ abbrev pub answer_value : AnswerKind → List ℕ → Step Said
 answer_value kind bytes =
     meant told_nothing (given_in expected_front expected_answer past_expected (expected_start kind) bytes)
     (fault_in expected_front expected_answer past_expected (expected_start kind) bytes)
+
+-- the answer came to its end: all was said, or a FAIL refused the request
+abbrev pub HasEnded : Step Said → Type 0
+HasEnded steps.More = ⊥
+HasEnded (steps.Done said) = Unit {0}
+HasEnded (steps.Refused text) = Unit {0}
+HasEnded (steps.BadAnswer offset) = ⊥
+
+-- Answer bytes can come to an end: with some bytes behind them they do.
+pub record CanEnd (kind : AnswerKind) (bytes : List ℕ) : Type 0 where
+  pub more : List ℕ
+  pub are_bytes : AreBytes more
+  pub ends : HasEnded (answer_value kind (bytes ++ more))
 
 -- a step with another value
 abbrev pub step_map : {A B : Type 0} → (A → B) → Step A → Step B

@@ -2,8 +2,9 @@
 
 ghost use Rattle.std.specs.Prelude.{◌≡◌, ◌≢◌, ◌<◌, ◌+◌, ◌^◌, ◌++◌, List, ℕ, length, take};
 ghost use Rattle.adb_sync_client.specs.declared.kind.AnswerKind.{AnswerKind};
+ghost use Rattle.adb_sync_client.specs.declared.request.TheConstants.{MAX_ASKED_PATH};
 ghost use Rattle.adb_sync_client.specs.declared.step.Step.TheVariants.{BadAnswer, More};
-ghost use Rattle.adb_sync_client.specs.Values.{answer_value};
+ghost use Rattle.adb_sync_client.specs.Values.{answer_value, CanEnd};
 
 /// Where answer bytes mean something other than that more of them are wanted, what follows them
 /// does not change it.
@@ -20,4 +21,17 @@ pub fn first_bad_byte_is_told()
         → answer_value kind bytes ≡ BadAnswer offset
         → (offset < length bytes) × (answer_value kind (take offset bytes) ≡ More)
         × (answer_value kind (take (offset + 1) bytes) ≡ BadAnswer offset) }
+{}
+
+/// Answer bytes that more is wanted of can still become an answer, whatever they are: with some
+/// bytes behind them they are a whole one of their kind, or a FAIL.
+#[tactic(auto, using(crate::proofs::Completing::open_can_end))]
+pub fn open_answers_can_end()
+    ensures { (kind : AnswerKind) (bytes : List ℕ) → answer_value kind bytes ≡ More
+        → CanEnd kind bytes }
+{}
+
+/// How long a path is that may be asked.
+pub fn limits_are()
+    ensures path { MAX_ASKED_PATH ≡ 1000 }
 {}
