@@ -15,5 +15,6 @@ mod tests;
 
 pub use answer::{Answer, Next};
 pub use laws::{replies_begin_right, texts_carry_their_length};
+pub use refusals::limits_are;
 pub use replies::reply;
 pub use strings::push_string;

@@ -11,6 +11,11 @@ use std::alloc::{AllocError, Global};
 /// The most bytes of a serial that a refusal prints.
 const MAX_PRINTED_SERIAL: usize = 64;
 
+/// The numbers that definitions take from the code, written out.
+pub fn limits_are()
+    ensures serial { MAX_PRINTED_SERIAL ≡ 64 }
+{}
+
 /// Why a selector chose no device.
 pub(crate) fn refusal_text(alloc: Global, by: &Selector, why: Refusal) -> Result<Text, AllocError>
     ensures text { IfOk result (λ text. text ≡ refusal_text by.now why) }

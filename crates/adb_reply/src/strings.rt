@@ -1,6 +1,6 @@
 //! The parts of replies (OVERVIEW.TXT, "Protocol details").
 
-ghost use Rattle.std.specs.Prelude.{◌≡◌, ◌++◌, ◌<◌, ◌^◌, length, IfOk, OnOk};
+ghost use Rattle.std.specs.Prelude.{◌≡◌, ◌++◌, ◌<◌, ◌^◌, length, IfOk, OnOk, OnErr};
 ghost use Rattle.adb_reply.specs.Strings.{string, okay, failed, told};
 
 use crate::answer::{Answer, Next};
@@ -8,13 +8,22 @@ use adb_outside::Text;
 use adb_request::hex4;
 use std::alloc::{AllocError, Global};
 
-/// Adds the four digits of a text's length, and the text.
+/// Adds the four digits of a text's length, and the text. After want of memory the bytes are as
+/// before.
 pub fn push_string(bytes: &mut Text, text: &[u8]) -> Result<(), AllocError>
     requires { length text.now < 2 ^ 16 }
-    ensures { OnOk result (bytes.new ≡ bytes.old ++ string text.now) }
+    ensures ok { OnOk result (bytes.new ≡ bytes.old ++ string text.now) }
+    ensures err { OnErr result (bytes.new ≡ bytes.old) }
 {
+    let before = bytes.len();
     bytes.push_slice(&hex4(text.len() as u16))?;
-    bytes.push_slice(text)
+    match bytes.push_slice(text) {
+        Ok(()) => Ok(()),
+        Err(error) => {
+            bytes.truncate(before);
+            Err(error)
+        }
+    }
 }
 
 /// `OKAY` and nothing else.
