@@ -33,7 +33,7 @@ use Rattle.adb_device_streams.specs.Stream.{writes_at, writes, room_of, flow_pas
 use Rattle.adb_device_streams.specs.Stream.{row_took, row_acked, opened, is_done, wrte, okay, clse, opening_word}
 use Rattle.adb_device_streams.specs.Link.{credit_word_in, link_of, link_to}
 use Rattle.adb_device_streams.specs.declared.link.Link.{Link}
-use Rattle.adb_device_streams.specs.declared.link.TheConstants.{OLDEST_VERSION, LEAST_PAYLOAD}
+use Rattle.adb_wire.specs.declared.limits.TheConstants.{MIN_VERSION, MIN_MAXDATA}
 use Rattle.adb_daemon.specs.Serving.{Serving, Sent, with_sum, bytes_of, sent_bytes, owing, granted, sent_writes, sent_ack, sent_close, settled_as, settled}
 use Rattle.adb_daemon.specs.Serving.{named, closable, is_taken, kind_for, credit_of, open_as, written_to, acked_to, closed_to, served}
 use Rattle.adb_daemon.specs.Device.{Device, Setting, step, treated, linked_to, served_on, first_device, device_behind, own_cnxn}
@@ -275,7 +275,7 @@ IsShort most None = Unit {0}
 IsShort most (Some link) = link.most ≤ most
 
 link_short : (most : ℕ) (credit : Bool) (p : Packet) → IsShort most (link_of most credit p)
-link_short most credit p = go (nat_lt p.arg0 OLDEST_VERSION || nat_lt p.arg1 LEAST_PAYLOAD)
+link_short most credit p = go (nat_lt p.arg0 MIN_VERSION || nat_lt p.arg1 MIN_MAXDATA)
   where
     by : (identity : Option Identity) → IsShort most (link_to most credit p identity)
     by None = tt

@@ -1,6 +1,7 @@
 -- A model device: what all the packets of the host make of it (protocol.txt).
 use Rattle.std.specs.Prelude.{ℕ, if◌then◌else◌, Bool, true, false, List, [], ◌∷◌, fold, Option, Some, None, codes}
 use Rattle.adb_wire.specs.declared.command.Command.TheVariants as commands
+use Rattle.adb_wire.specs.declared.limits.TheConstants.{VERSION}
 use Rattle.adb_wire.specs.declared.packets.Packet.{Packet}
 use Rattle.adb_wire.specs.Format.{is_cnxn}
 use Rattle.adb_files.specs.Entries.{Entry}
@@ -28,7 +29,7 @@ identity_text true = codes "device::ro.product.name=model;ro.product.model=Model
 -- its own CNXN, which is due from the start, with its sum
 abbrev pub own_cnxn : Setting → Sent
 own_cnxn setting =
-    with_sum true (record { command = commands.Cnxn; arg0 = 0x01000001; arg1 = setting.most; payload = identity_text setting.credit })
+    with_sum true (record { command = commands.Cnxn; arg0 = VERSION; arg1 = setting.most; payload = identity_text setting.credit })
 
 abbrev pub first_device : Setting → Device
 first_device setting =

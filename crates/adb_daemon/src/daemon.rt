@@ -4,7 +4,7 @@ ghost use Rattle.std.specs.Prelude.{◌≡◌, ◌≢◌, ◌≤◌, ◌++◌, [
 ghost use Rattle.adb_wire.specs.declared.headers.TheConstants.{MAX_PAYLOAD};
 ghost use Rattle.adb_wire.specs.declared.format.PacketFault.{PacketFault};
 ghost use Rattle.adb_wire.specs.Header.{IsBytes};
-ghost use Rattle.adb_device_streams.specs.declared.link.TheConstants.{LEAST_PAYLOAD};
+ghost use Rattle.adb_wire.specs.declared.limits.TheConstants.{MIN_MAXDATA};
 ghost use Rattle.adb_wire.specs.Deframing.{Takes};
 ghost use Rattle.adb_files.specs.Entries.{Entry};
 ghost use Rattle.adb_daemon.specs.Device.{Device, Setting};
@@ -31,7 +31,7 @@ impl Daemon {
     /// A device with these files that takes payloads of at most `maxdata` bytes, and credit in
     /// bytes where its host does. Its own CNXN is due.
     pub fn new(alloc: Global, files: Files, maxdata: u32) -> Result<Daemon, AllocError>
-        requires least { LEAST_PAYLOAD ≤ maxdata }
+        requires least { MIN_MAXDATA ≤ maxdata }
         requires most { maxdata ≤ MAX_PAYLOAD }
         ensures { IfOk result (λ daemon. HasDone (setting_of maxdata true files) [] [] daemon) }
     {
@@ -40,7 +40,7 @@ impl Daemon {
 
     /// The same with one write each way on every link.
     pub fn plain(alloc: Global, files: Files, maxdata: u32) -> Result<Daemon, AllocError>
-        requires least { LEAST_PAYLOAD ≤ maxdata }
+        requires least { MIN_MAXDATA ≤ maxdata }
         requires most { maxdata ≤ MAX_PAYLOAD }
         ensures { IfOk result (λ daemon. HasDone (setting_of maxdata false files) [] [] daemon) }
     {

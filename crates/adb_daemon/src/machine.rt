@@ -15,13 +15,10 @@ use crate::table::Table;
 use adb_device_streams::{Link, push_packet, read_cnxn};
 use adb_files::Files;
 use adb_outside::ByteQueue;
-use adb_wire::{Command, MAX_PAYLOAD, Packet};
+use adb_wire::{Command, MAX_PAYLOAD, Packet, VERSION};
 use bytes::Bytes;
 use std::alloc::{AllocError, Global};
 use std::marker::Model;
-
-/// The version of the protocol that the device speaks (protocol.txt, CNXN).
-const VERSION: u32 = 0x0100_0001;
 
 /// The link to the host, once that said who it is. No write on it is longer than a payload may be.
 #[derive(Drop)]

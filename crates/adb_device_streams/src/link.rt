@@ -4,15 +4,9 @@ ghost use Rattle.std.specs.Prelude.{◌≡◌, IfOk};
 ghost use Rattle.adb_device_streams.specs.Link.{link_of, credit_word_in};
 
 use adb_banner::{IdentityError, has_feature, read};
-use adb_wire::{MAX_PAYLOAD, Packet};
+use adb_wire::{MAX_PAYLOAD, MIN_MAXDATA, MIN_VERSION, Packet, VERSION};
 use byteorder::{ByteOrder, LittleEndian};
 use std::alloc::{AllocError, Global};
-
-/// The oldest version of the protocol. Its packets carry the sum of their bytes.
-pub const OLDEST_VERSION: u32 = 0x0100_0000;
-
-/// The least that a host may say a payload may have.
-pub const LEAST_PAYLOAD: u32 = 4_096;
 
 /// A link to a host that said who it is (protocol.txt, CNXN).
 #[derive(Clone, Copy, Debug, PartialEq, Eq, Drop)]
@@ -36,14 +30,14 @@ pub fn read_cnxn(
 ) -> Result<Option<Link>, AllocError>
     ensures { IfOk result (λ link. link ≡ link_of own_most has_credit cnxn.now) }
 {
-    if cnxn.arg0 < OLDEST_VERSION || cnxn.arg1 < LEAST_PAYLOAD {
+    if cnxn.arg0 < MIN_VERSION || cnxn.arg1 < MIN_MAXDATA {
         return Ok(None);
     }
     match read(alloc, cnxn.payload.as_slice()) {
         Ok(identity) => Ok(Some(Link {
             most: cnxn.arg1.min(MAX_PAYLOAD).min(own_most),
             credit: has_credit && has_feature(&identity, b"hub_credit"),
-            sums: cnxn.arg0 == OLDEST_VERSION,
+            sums: cnxn.arg0 < VERSION,
         })),
         Err(IdentityError::NotIdentity) => Ok(None),
         Err(IdentityError::OutOfMemory) => Err(AllocError),
