@@ -145,7 +145,7 @@ module _ (l : ℕ) where
 
   -- In every legal history the CLSE of a stream that its client closed became due.
   pub all_closed : (h : History) → IsLegal h → IsClosed l (told h)
-  all_closed [] legal e = absurd (let clash : None ≡ Some client_closed = e in cc)
+  all_closed [] legal = λ e. absurd (let clash : None ≡ Some client_closed = e in cc)
   all_closed (e ∷ older) legal =
       step_climbs closed_climbs e (state older) (told older) (begins (state older) (told older) (all_closed older legal.0) e (all_owned older legal.0))
 
