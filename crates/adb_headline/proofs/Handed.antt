@@ -1,4 +1,4 @@
--- What was handed to a client stays, and each byte that became due to it goes out once.
+-- What was handed to a client stays.
 use Rattle.std.proofs.Common.{◌≡◌, ℕ, ◌<◌, ◌≤◌, Bool, true, false, cond, List, [], ◌∷◌, ◌++◌, length, drop, Option, Some, None, refl, sym, ap, subst, ◌∙◌}
 use Rattle.std.proofs.Common.{append_assoc, arith, eqb, ◌⊎◌, inl, inr, ◌+◌}
 use Rattle.std.specs.Prelude.{is_some}
@@ -7,19 +7,16 @@ use Rattle.std.proofs.lemmas.List.{append-nil, drop-append-le, drop_all}
 use Rattle.adb_outside.specs.Bytes.{IsPrefixOf}
 use Rattle.adb_capture.specs.declared.entry.Entry.{Entry}
 use Rattle.adb_capture.specs.declared.entry.Entry.TheVariants.{Join, Enter, Read, End, Bound, Attach, Recv, Detach, Put, Send}
-use Rattle.adb_history.specs.Events.{owed_to}
 use Rattle.adb_history.specs.Asking.{Asked}
-use Rattle.adb_history.specs.Machine.{History, IsLegal, told, told_at}
+use Rattle.adb_history.specs.Machine.{History, IsLegal}
 use Rattle.adb_history.specs.Bytes.{bytes_put}
 use Rattle.adb_history.specs.Book.{asked}
 use Rattle.adb_history.specs.Births.{Birth, born, Opening, opening_of, lead_of, handed_to}
-use Rattle.adb_history.specs.Lives.{output_of}
-use Rattle.adb_history.proofs.Growing.{owed_append}
 use Rattle.adb_laws_births.specs.Single.{ByClient}
 use Rattle.adb_laws_births.specs.Births.{born_stays}
 use Rattle.adb_laws_births.specs.Brought.{opening_grows}
 use Rattle.adb_laws_births.proofs.Single.{asked_stays, births_of}
-use Rattle.adb_headline.specs.Handed.{StaysPut, StaysHanded, StaysDue}
+use Rattle.adb_headline.specs.Handed.{StaysHanded}
 
 prefix_same : (xs : List ℕ) → IsPrefixOf xs xs
 prefix_same xs = ([], append-nil xs)
@@ -52,18 +49,6 @@ put_stays c (Attach t kind serial) older = prefix_same (bytes_put c older)
 put_stays c (Recv t bytes) older = prefix_same (bytes_put c older)
 put_stays c (Detach t cause) older = prefix_same (bytes_put c older)
 put_stays c (Send t bytes) older = prefix_same (bytes_put c older)
-
-pub stays_put : (newer older : History) → StaysPut newer older
-stays_put [] older c = prefix_same (bytes_put c older)
-stays_put (e ∷ newer) older c =
-    prefix_then (bytes_put c older) (bytes_put c (newer ++ older)) (bytes_put c (e ∷ newer ++ older)) (stays_put newer older c) (put_stays c e (newer ++ older))
-
--- ---- what became due
-pub stays_due : (newer older : History) → StaysDue newer older
-stays_due [] older c = prefix_same (output_of c older)
-stays_due (e ∷ newer) older c =
-    prefix_then (output_of c older) (output_of c (newer ++ older)) (output_of c (e ∷ newer ++ older)) (stays_due newer older c)
-    (owed_to c (told_at e (newer ++ older)), sym (owed_append c (told (newer ++ older)) (told_at e (newer ++ older))))
 
 -- ---- what a client was handed for its stream
 pub born_still : (newer older : History) (l : ℕ) (b : Birth) → born l older ≡ Some b → born l (newer ++ older) ≡ Some b

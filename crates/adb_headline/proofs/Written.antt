@@ -1,4 +1,4 @@
--- A byte that was handed was written, and a write is to one stream.
+-- A byte that was handed was written.
 use Rattle.std.proofs.Common.{◌≡◌, ℕ, ◌+◌, zero, suc, Bool, true, false, cond, List, [], ◌∷◌, ◌++◌, length, drop, Option, Some, None, refl, sym, ap, subst}
 use Rattle.std.proofs.Common.{◌∙◌, ◌⊎◌, inl, inr, arith, eqb}
 use Rattle.std.specs.Prelude.{◌&&◌, not, ◌==◌, nat_eq, slice_get}
@@ -14,7 +14,7 @@ use Rattle.adb_history.specs.Bytes.{brought}
 use Rattle.adb_history.specs.Births.{Birth, since, Opening, opening_by, opening_in, opening_of, is_between, is_wrte, remote_in}
 use Rattle.adb_history.specs.Births.{told_in, told_to, told_after, joined, handed_to}
 use Rattle.adb_history.specs.Fifo.{HandsTold}
-use Rattle.adb_headline.specs.Written.{IsWritten, HandsWritten, WritesToOne}
+use Rattle.adb_headline.specs.Written.{IsWritten, HandsWritten}
 
 -- ---- elements of lists
 get_front : {X : Type 0} (xs ys : List X) (k : ℕ) (x : X) → slice_get xs k ≡ Some x → slice_get (xs ++ ys) k ≡ Some x
@@ -223,10 +223,3 @@ module _ (h : History) (l : ℕ) (b : Birth) (many byte : ℕ) where
 
 pub hands_written : (h : History) → HandsTold h → HandsWritten h
 hands_written h told l b is many byte at = handed_is_written h l b many byte (told l b is) at
-
--- ---- a write is to one stream
-pub writes_to_one : (h : History) → WritesToOne h
-writes_to_one h l m b c number write other link own its =
-    let one : Some write ≡ Some other = sym own.came ∙ (ap (λ (t : ℕ). slice_get (brought t h) number) link ∙ its.came) in
-    let same : write ≡ other = cc in
-    sym own.to ∙ (ap (λ (p : Packet). p.arg1) same ∙ its.to)

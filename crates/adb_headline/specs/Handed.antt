@@ -7,17 +7,9 @@ use Rattle.adb_history.specs.Births.{handed_to}
 use Rattle.adb_history.specs.Lives.{output_of}
 use Rattle.adb_history.specs.Fifo.{OfEachStream}
 
--- What was put to a client stays, and more comes behind it.
-abbrev pub StaysPut : (newer older : History) → Type 0
-StaysPut newer older = (c : ℕ) → IsPrefixOf (bytes_put c older) (bytes_put c (newer ++ older))
-
--- So does what it was handed for its stream.
+-- What a client was handed for its stream stays, and more comes behind it.
 abbrev pub StaysHanded : (newer older : History) → Type 0
 StaysHanded newer older = OfEachStream older (λ l b. IsPrefixOf (handed_to l b older) (handed_to l b (newer ++ older)))
-
--- All that becomes due to a client is one list, which only grows behind.
-abbrev pub StaysDue : (newer older : History) → Type 0
-StaysDue newer older = (c : ℕ) → IsPrefixOf (output_of c older) (output_of c (newer ++ older))
 
 -- What was put to a client is a front of what became due to it: each byte of that goes out once.
 abbrev pub PutsOnce : History → Type 0

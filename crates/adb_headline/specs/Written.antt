@@ -30,8 +30,3 @@ pub record IsWritten (h : History) (l : ℕ) (b : Birth) (many byte : ℕ) : Typ
 -- Each byte that a client was handed for its stream was written to that stream, by its device, on its link, as that one in the order.
 abbrev pub HandsWritten : History → Type 0
 HandsWritten h = OfEachStream h (λ l b. (many byte : ℕ) → slice_get (handed_to l b h) many ≡ Some byte → IsWritten h l b many byte)
-
--- No packet that a link brought is a write to two streams.
-abbrev pub WritesToOne : History → Type 0
-WritesToOne h = (l m : ℕ) (b c : Birth) (number : ℕ) (write other : Packet) → b.link ≡ c.link
-    → IsWriteTo h l b number write → IsWriteTo h m c number other → l ≡ m

@@ -1,16 +1,21 @@
 -- Each promise of the streams is broken by a history.
-use Rattle.std.specs.Prelude.{ℕ, ◌≡◌, ◌≤◌, true, false, List, [], ◌++◌, Option, Some, None, codes, slice_index, length, eqb, nat_lt, is_some, ◌<◌}
-use Rattle.std.proofs.Common.{refl, sym, ◌∙◌, ap, arith}
+use Rattle.std.specs.Prelude.{ℕ, ◌≡◌, ◌≤◌, ◌+◌, ◌&&◌, Bool, true, false, List, [], ◌∷◌, ◌++◌, Option, Some, None, codes, slice_index, length}
+use Rattle.std.specs.Prelude.{eqb, nat_lt, is_some, ◌<◌}
+use Rattle.std.proofs.Common.{refl, sym, ◌∙◌, ap, arith, zero, suc, cond, get_or}
 use Rattle.std.proofs.lemmas.Bool.{eq-eqb, le-ltb}
 use Rattle.adb_wire.specs.Cutting.{framed}
-use Rattle.adb_history.specs.Links.{server_cnxn}
-use Rattle.adb_history.specs.Bytes.{bytes_sent}
+use Rattle.adb_wire.specs.declared.packets.Packet.{Packet}
+use Rattle.adb_history.specs.Links.{server_cnxn, close_packet}
+use Rattle.adb_history.specs.Bytes.{bytes_sent, sent}
 use Rattle.adb_request.specs.Meaning.{meaning}
 use Rattle.adb_wire.specs.Header.{word_at}
 use Rattle.adb_banner.specs.Banner.{identity_of, last_value}
-use Rattle.adb_history.specs.Births.{Birth}
-use Rattle.adb_history.specs.Fifo.{SendsPackets, HasBirths, CarriesRest, CarriesWholeRest, HandsTold, HandsWholeTold, KeepsUpWindow, KeepsDownWindow, HasNoCrossing}
+use Rattle.adb_history.specs.Births.{Birth, is_clse, count_from}
+use Rattle.adb_history.specs.Fifo.{SendsPackets, HasBirths, CarriesRest, CarriesWholeRest, TellsClose, HandsTold, HandsWholeTold, KeepsUpWindow}
+use Rattle.adb_history.specs.Fifo.{KeepsDownWindow, HasNoCrossing}
+use Rattle.adb_history.specs.Opened.{AsksAtOnce}
 use Rattle.adb_history.specs.Broken.{sends_no_packet, draws_a_number_twice, skips_a_byte, closes_with_a_byte_unsent, hands_a_byte_twice, drops_at_close}
+use Rattle.adb_history.specs.Broken.{forgets_the_device, writes_none_for_the_close}
 use Rattle.adb_history.specs.Broken.{second_write_before_okay, acks_on_arrival, writes_to_another_link}
 
 -- ---- what cannot be
@@ -43,6 +48,10 @@ pub birth_refuted : HasBirths draws_a_number_twice → ⊥
 unfolding meaning word_at identity_of last_value
 birth_refuted promise = apart 2 1 refl promise.drawn
 
+pub asked_at_once_refuted : AsksAtOnce forgets_the_device → ⊥
+unfolding meaning word_at identity_of last_value
+asked_at_once_refuted promise = let has = promise.1 1 shell refl refl in omega (arith, has.1)
+
 pub up_refuted : CarriesRest skips_a_byte → ⊥
 unfolding meaning word_at identity_of last_value
 up_refuted promise =
@@ -52,6 +61,24 @@ pub up_whole_refuted : CarriesWholeRest closes_with_a_byte_unsent → ⊥
 unfolding meaning word_at identity_of last_value
 up_whole_refuted promise =
     differ_in_length (codes "ab") (codes "abc") refl (promise 1 shell refl refl (3, (let last : 3 < 4 = omega arith in last), refl))
+
+-- where a packet closes a stream, there is one that does
+close_counted : (l k : ℕ) (ps : List Packet) (p : Packet) → is_clse p.command ≡ true → p.arg0 ≡ l → k < length ps → get_or ps k p ≡ p
+    → 1 ≤ count_from is_clse l ps
+close_counted l k [] p closes own within is = absurd (omega (arith, within))
+close_counted l zero (q ∷ ps) p closes own within is =
+    rw (ap (λ (r : Packet). is_clse r.command) is ∙ closes) (rw (eq-eqb q.arg0 l (ap (λ (r : Packet). r.arg0) is ∙ own)) (omega arith))
+close_counted l (suc k) (q ∷ ps) p closes own within is = go (is_clse q.command && eqb q.arg0 l) (close_counted l k ps p closes own (omega (arith, within)) is)
+  where
+    go : (b : Bool) → 1 ≤ count_from is_clse l ps → 1 ≤ cond b (1 + count_from is_clse l ps) (count_from is_clse l ps)
+    go true later = omega arith
+    go false later = later
+
+pub close_sent_refuted : TellsClose writes_none_for_the_close → ⊥
+unfolding meaning word_at identity_of last_value
+close_sent_refuted promise =
+    let has = promise 1 shell refl refl refl in
+    not_below 1 0 refl (close_counted 1 has.0 (sent 1 writes_none_for_the_close) (close_packet 1 7) refl refl has.1 has.2)
 
 pub down_refuted : HandsTold hands_a_byte_twice → ⊥
 unfolding meaning word_at identity_of last_value

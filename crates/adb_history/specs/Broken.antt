@@ -41,6 +41,11 @@ sends_no_packet = in_shell (Send 1 (replicate 24 255) ∷ [])
 abbrev pub draws_a_number_twice : History
 draws_a_number_twice = in_shell (asks 1 shell_requests)
 
+-- a client's number is drawn twice, and the server forgets which device it selected: it asks none for the shell
+abbrev pub forgets_the_device : History
+forgets_the_device =
+    so_far (plugged (pixel 4096) ++ asks 1 (codes "0013host:transport:emu1") ++ asks 1 (codes "000dshell:echo hi"))
+
 -- a byte that came from a client does not go up
 abbrev pub skips_a_byte : History
 skips_a_byte = in_shell (Read 1 (codes "abc") ∷ written (codes "ac") ∷ [])
@@ -49,6 +54,10 @@ skips_a_byte = in_shell (Read 1 (codes "abc") ∷ written (codes "ac") ∷ [])
 abbrev pub closes_with_a_byte_unsent : History
 closes_with_a_byte_unsent =
     in_shell (Read 1 (codes "abc") ∷ written (codes "ab") ∷ Recv 1 (sends (okay_packet 7 1 ∷ [])) ∷ End 1 Eof ∷ Send 1 (hears (close_packet 1 7 ∷ [])) ∷ [])
+
+-- the client closes, and an empty write goes up in the place of the end
+abbrev pub writes_none_for_the_close : History
+writes_none_for_the_close = in_shell (End 1 Eof ∷ written [] ∷ [])
 
 -- a byte is handed out twice
 abbrev pub hands_a_byte_twice : History

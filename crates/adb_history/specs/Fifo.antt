@@ -12,11 +12,13 @@ use Rattle.adb_stream.specs.declared.row.Stream.{Stream}
 use Rattle.adb_history.specs.Events.{client_closed, peer_closed}
 use Rattle.adb_history.specs.Links.{server_cnxn, open_packet, close_packet, credit_word}
 use Rattle.adb_history.specs.Streams.{stream_ids}
+use Rattle.adb_history.specs.Rows.{Link}
 use Rattle.adb_history.specs.Machine.{History, state}
 use Rattle.adb_history.specs.Bytes.{bytes_put, bytes_sent, brought, sent}
 use Rattle.adb_history.specs.Births.{Birth, births, born, Opening, opening_of, remote_of, is_between, told_to, told_before_close, joined, handed_to, count_from}
 use Rattle.adb_history.specs.Births.{is_okay, is_wrte, is_open}
 use Rattle.adb_history.specs.Lives.{output_of, ending_of, rest_of, carried_of}
+use Rattle.adb_history.specs.Opened.{AsksAtOnce}
 
 -- ---- birth
 abbrev pub has_credit : Flow → Bool
@@ -149,6 +151,16 @@ abbrev pub CarriesWholeRest : History → Type 0
 CarriesWholeRest h = OfEachStream h (λ l b. ending_of l h ≡ Some client_closed
     → Contains (sent b.link h) (close_packet l (remote_of l b h)) → carried_of l b h ≡ rest_of l b h)
 
+-- a link that lives, and to which nothing is due
+abbrev pub HasSentAll : Option Link → Type 0
+HasSentAll None = ⊥
+HasSentAll (Some link) = link.due ≡ []
+
+-- And the device was told so, where the client's close ended the stream and nothing is due to its link.
+abbrev pub TellsClose : History → Type 0
+TellsClose h = OfEachStream h (λ l b. ending_of l h ≡ Some client_closed → HasSentAll ((state h).links b.link)
+    → Contains (sent b.link h) (close_packet l (remote_of l b h)))
+
 -- A client is handed what the device of its stream wrote, in order and once.
 abbrev pub HandsTold : History → Type 0
 HandsTold h = OfEachStream h (λ l b. IsPrefixOf (handed_to l b h) (joined (told_to l b h)))
@@ -169,8 +181,10 @@ KeepsDownWindow h = OfEachStream h (λ l b. IsWithinDown b.credit l b h)
 pub record IsFifo (h : History) : Type 0 where
   pub packets : SendsPackets h
   pub birth : HasBirths h
+  pub asked_at_once : AsksAtOnce h
   pub up : CarriesRest h
   pub up_whole : CarriesWholeRest h
+  pub close_sent : TellsClose h
   pub down : HandsTold h
   pub down_whole : HandsWholeTold h
   pub up_window : KeepsUpWindow h

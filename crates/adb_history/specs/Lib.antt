@@ -20,6 +20,7 @@ pub mod Bytes
 pub mod Book
 pub mod Births
 pub mod Lives
+pub mod Opened
 pub mod Fifo
 pub mod Causes
 pub mod Answered

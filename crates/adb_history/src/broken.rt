@@ -1,7 +1,9 @@
 //! No promise is empty: each is broken by a history of `specs/Broken.antt`, which no server may make.
 
 ghost use Rattle.adb_history.specs.Fifo.{SendsPackets, HasBirths, CarriesRest, CarriesWholeRest};
+ghost use Rattle.adb_history.specs.Fifo.{TellsClose};
 ghost use Rattle.adb_history.specs.Fifo.{HandsTold, HandsWholeTold, KeepsUpWindow, KeepsDownWindow, HasNoCrossing};
+ghost use Rattle.adb_history.specs.Opened.{AsksAtOnce};
 ghost use Rattle.adb_history.specs.Causes.{EndsByClient, EndsByPeer, EndsOutOfTurn, EndsByLoss, EndsByBreak};
 ghost use Rattle.adb_history.specs.Causes.{EndsByFailure, EndsByStop, HasNoOtherCause};
 ghost use Rattle.adb_history.specs.Answered.{RepliesFirst, RepliesWhenBound, RepliesOfStream, ListsTracked};
@@ -12,8 +14,10 @@ ghost use Rattle.adb_history.specs.Broken as broken;
 pub fn fifo_can_be_broken()
     ensures packets { SendsPackets broken.sends_no_packet → ⊥ }
     ensures birth { HasBirths broken.draws_a_number_twice → ⊥ }
+    ensures asked_at_once { AsksAtOnce broken.forgets_the_device → ⊥ }
     ensures up { CarriesRest broken.skips_a_byte → ⊥ }
     ensures up_whole { CarriesWholeRest broken.closes_with_a_byte_unsent → ⊥ }
+    ensures close_sent { TellsClose broken.writes_none_for_the_close → ⊥ }
     ensures down { HandsTold broken.hands_a_byte_twice → ⊥ }
     ensures down_whole { HandsWholeTold broken.drops_at_close → ⊥ }
     ensures up_window { KeepsUpWindow broken.second_write_before_okay → ⊥ }

@@ -17,5 +17,6 @@ pub mod Ending
 pub mod EndingRules
 pub mod Endings
 pub mod Laws
+pub mod Asking
 pub mod Single
 pub mod Forwarded

@@ -13,5 +13,6 @@ pub use packets::{
     due_packets_are_own, no_stream_crosses, packets_are_sent, sent_packets_come_first,
 };
 pub use streams::{
-    entries_draw_at_most_one, streams_are_born, streams_hear_their_links, streams_live_or_end,
+    entries_draw_at_most_one, streams_are_asked_for_at_once, streams_are_born,
+    streams_hear_their_links, streams_live_or_end,
 };

@@ -4,6 +4,7 @@ ghost use Rattle.std.specs.Prelude.{List, ◌∷◌};
 ghost use Rattle.adb_capture.specs.declared.entry.Entry.{Entry};
 ghost use Rattle.adb_history.specs.Machine.{IsLegal};
 ghost use Rattle.adb_history.specs.Fifo.{HasBirths};
+ghost use Rattle.adb_history.specs.Opened.{AsksAtOnce};
 ghost use Rattle.adb_laws_births.specs.Born.{AreBorn};
 ghost use Rattle.adb_laws_births.specs.Laws.{DrawsAtMostOne};
 ghost use Rattle.adb_laws_births.specs.Ending.{EndingsAreRows};
@@ -24,6 +25,12 @@ pub fn streams_hear_their_links()
 /// there before, and heard what the entry brought.
 pub fn entries_draw_at_most_one()
     ensures { (e : Entry) (older : List Entry) → IsLegal (e ∷ older) → DrawsAtMostOne e older }
+{}
+
+/// In every legal history a stream is asked for at once: its OPEN becomes due to its device by the
+/// very entry by which it is born.
+pub fn streams_are_asked_for_at_once()
+    ensures { (history : List Entry) → IsLegal history → AsksAtOnce history }
 {}
 
 /// A stream that was drawn and is kept no more has ended; one that is kept has not, unless it is an

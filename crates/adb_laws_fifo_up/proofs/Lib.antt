@@ -19,6 +19,7 @@ pub mod Born
 pub mod Carried
 pub mod Fifo
 pub mod Shuts
+pub mod Closes
 pub mod Openings
 pub mod Fits
 pub mod Treated

@@ -66,7 +66,7 @@ module _ (k : ℕ) (stream : Stream) where
   go_up_told [] s = tt
   go_up_told (p ∷ ps) s = ((λ e. refl, λ e. absurd (let clash : false ≡ true = e in cc)), go_up_told ps (goes_up k stream p s).state)
 
-  go_up_lives : (l : ℕ) (ps : List (List ℕ)) (s : State) → ending_in l (all_go_up k stream ps s).told ≡ None
+  pub go_up_lives : (l : ℕ) (ps : List (List ℕ)) (s : State) → ending_in l (all_go_up k stream ps s).told ≡ None
   go_up_lives l [] s = refl
   go_up_lives l (p ∷ ps) s = go_up_lives l ps (goes_up k stream p s).state
 

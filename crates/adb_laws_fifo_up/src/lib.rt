@@ -5,6 +5,6 @@
 mod up;
 
 pub use up::{
-    carries_rest, carries_whole_rest, closed_streams_are_done, each_stream_is_carried,
-    keeps_up_window,
+    carries_rest, carries_whole_rest, closed_streams_are_done, closes_are_sent,
+    each_stream_is_carried, keeps_up_window,
 };

@@ -4,7 +4,7 @@ ghost use Rattle.std.specs.Prelude.{List};
 ghost use Rattle.adb_capture.specs.declared.entry.Entry.{Entry};
 ghost use Rattle.adb_history.specs.Machine.{IsLegal};
 ghost use Rattle.adb_history.specs.Fifo.{CarriesRest, CarriesWholeRest, KeepsUpWindow};
-ghost use Rattle.adb_history.specs.Fifo.{OfEachStream};
+ghost use Rattle.adb_history.specs.Fifo.{OfEachStream, TellsClose};
 ghost use Rattle.adb_laws_fifo_up.specs.Carrying.{ClosedStreamsAreDone, IsCarried};
 
 /// In every legal history what became due of each stream and what its client holds are, in order
@@ -23,6 +23,12 @@ pub fn carries_rest()
 /// And all of it, where the client closed and the device was told so.
 pub fn carries_whole_rest()
     ensures { (history : List Entry) → IsLegal history → CarriesWholeRest history }
+{}
+
+/// And the device was told so, where the client's close ended the stream and nothing is due to its
+/// link.
+pub fn closes_are_sent()
+    ensures { (history : List Entry) → IsLegal history → TellsClose history }
 {}
 
 /// In every legal history a device is written no more than it allowed: one write by its opening and
