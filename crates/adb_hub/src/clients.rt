@@ -6,7 +6,7 @@ ghost use Rattle.adb_capture.specs.declared.entry.Entry.{Entry};
 ghost use Rattle.adb_history.specs.Kept.{IsLawful};
 ghost use Rattle.adb_history.specs.Machine.{state};
 ghost use Rattle.adb_history.specs.Accepted.{is_drawn};
-ghost use Rattle.adb_rules.specs.Tables.{client_row, state_of};
+ghost use Rattle.adb_hub_tables.specs.Tables.{client_row, state_of};
 ghost use Rattle.adb_hub.specs.Refusal.{unless_stopped, unless_drawn};
 ghost use Rattle.adb_hub.specs.Answers.{Answers, AnswersClient, err_if, next_client};
 ghost use Rattle.adb_hub.specs.Answers.{life_of, room_of, room_past, port_of};
@@ -15,8 +15,8 @@ use crate::answers::{Life, Room};
 use crate::error::HubError;
 use crate::hub::{Hub, MAX_HELD};
 use adb_client::{Client, Phase};
+use adb_hub_tables::Tables;
 use adb_outside::Cause;
-use adb_rules::Tables;
 
 impl Hub {
     /// The next client comes, and asks. An error is `Stopped`, `Numbers` or want of memory.
@@ -27,7 +27,7 @@ impl Hub {
         ensures err { OnErr result (self.new ≡ self.old) }
     {
         let client = self.next_client()?;
-        adb_calls::join(&mut self.tables, client)?;
+        adb_hub_clients::join(&mut self.tables, client)?;
         Ok(client)
     }
 
@@ -41,7 +41,7 @@ impl Hub {
         ensures err { OnErr result (self.new ≡ self.old) }
     {
         let client = self.next_client()?;
-        adb_reading::enter(&mut self.tables, client, port)?;
+        adb_hub_clients::enter(&mut self.tables, client, port)?;
         Ok(client)
     }
 
@@ -52,7 +52,7 @@ impl Hub {
         ensures err { OnErr result (self.new ≡ self.old) }
     {
         self.look_for_client(client)?;
-        adb_reading::read(&mut self.tables, client, piece)?;
+        adb_hub_clients::read(&mut self.tables, client, piece)?;
         Ok(self.client_life(client))
     }
 
@@ -65,7 +65,7 @@ impl Hub {
         ensures memory { result ≢ Err HubError.OutOfMemory }
     {
         self.look_for_client(client)?;
-        adb_calls::end(&mut self.tables, client, cause);
+        adb_hub_clients::end(&mut self.tables, client, cause);
         Ok(self.client_life(client))
     }
 
@@ -77,7 +77,7 @@ impl Hub {
         ensures err { OnErr result (self.new ≡ self.old) }
     {
         self.look_for_client(client)?;
-        adb_calls::bound(&mut self.tables, client, port)?;
+        adb_hub_clients::bound(&mut self.tables, client, port)?;
         Ok(self.client_life(client))
     }
 
