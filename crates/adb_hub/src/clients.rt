@@ -9,7 +9,7 @@ ghost use Rattle.adb_history.specs.Accepted.{is_drawn};
 ghost use Rattle.adb_hub_tables.specs.Tables.{client_row, state_of};
 ghost use Rattle.adb_hub.specs.Refusal.{unless_stopped, unless_drawn};
 ghost use Rattle.adb_hub.specs.Answers.{Answers, AnswersClient, err_if, next_client};
-ghost use Rattle.adb_hub.specs.Answers.{life_of, room_of, room_past, port_of};
+ghost use Rattle.adb_hub.specs.Answers.{life_of, room_of, room_past, port_of, held_of};
 
 use crate::answers::{Life, Room};
 use crate::error::HubError;
@@ -89,6 +89,14 @@ impl Hub {
         room(&self.tables, client)
     }
 
+    /// How many bytes of a client are held. It takes no memory.
+    pub fn held(&self, client: u32) -> usize
+        ensures { (h : List Entry) → IsLawful self.now h
+            → result ≡ held_of ((state h).clients client) }
+    {
+        held(&self.tables, client)
+    }
+
     /// The port that a client waits for: 0 where any port serves. It takes no memory.
     pub fn waiting_port(&self, client: u32) -> Option<u16>
         ensures { (h : List Entry) → IsLawful self.now h
@@ -158,6 +166,22 @@ fn room_in(row: &Client) -> Room
         _ if row.about().ended => Room::Shut,
         _ => room_past(row.held()),
     }
+}
+
+/// How many bytes of a client are held.
+fn held(tables: &Tables, client: u32) -> usize
+    ensures { result ≡ held_of ((state_of tables.now).clients client) }
+{
+    match tables.clients.get(&client) {
+        Some(row) => held_in(row),
+        None => 0,
+    }
+}
+
+fn held_in(row: &Client) -> usize
+    ensures { result ≡ held_of (Some (client_row row.now)) }
+{
+    row.held()
 }
 
 /// The port that a client waits for.
