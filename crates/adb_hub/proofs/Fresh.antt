@@ -3,11 +3,11 @@ use Rattle.std.proofs.Common.{ℕ, ◌≡◌, false, [], None, sym, ap, subst}
 use Rattle.std.specs.Prelude.{option_map}
 use Rattle.adb_outside.specs.Tables.{at}
 use Rattle.adb_history.specs.Rows.{start}
-use Rattle.adb_rules.specs.declared.tables.Tables.{Tables}
-use Rattle.adb_rules.specs.Tables.{client_row, link_row, state_of}
-use Rattle.adb_rules.specs.Tracked.{IsListedAt}
-use Rattle.adb_rules.specs.Places.{LinkRoom, ClientRoom, IsCountedAt}
-use Rattle.adb_rules.specs.Fit.{IsReadOutAt}
+use Rattle.adb_hub_tables.specs.declared.tables.Tables.{Tables}
+use Rattle.adb_hub_tables.specs.Tables.{client_row, link_row, state_of}
+use Rattle.adb_hub_tables.specs.Tracked.{IsListedAt}
+use Rattle.adb_hub_tables.specs.Places.{LinkRoom, ClientRoom, IsCountedAt}
+use Rattle.adb_hub_tables.specs.Fit.{IsReadOutAt}
 use Rattle.adb_hub.specs.Sound.{IsSound}
 
 pub record IsFresh (t : Tables) : Type 0 where

@@ -8,9 +8,9 @@ use Rattle.adb_history.specs.Orderly.{IsDrawnOnly, IsOrderly}
 use Rattle.adb_history.specs.Machine.{History, IsInRange, May, state, step}
 use Rattle.adb_history.specs.Kept.{Kept, kept, IsLawful}
 use Rattle.adb_history.proofs.OrderlyStates.{orderly}
-use Rattle.adb_rules.specs.declared.tables.Tables.{Tables}
-use Rattle.adb_rules.specs.Tables.{state_of}
-use Rattle.adb_rules.specs.Fit.{IsReached, Makes, Keeps}
+use Rattle.adb_hub_tables.specs.declared.tables.Tables.{Tables}
+use Rattle.adb_hub_tables.specs.Tables.{state_of}
+use Rattle.adb_hub_tables.specs.Fit.{IsReached, Makes, Keeps}
 use Rattle.adb_hub.specs.Sound.{IsSound}
 
 -- ---- what a hub shows of a state says what the state is

@@ -21,11 +21,11 @@ use Rattle.adb_history.specs.Accepted.{is_drawn}
 use Rattle.adb_history.specs.Machine.{History, IsDrawn, IsSomeOf, MayPut, MaySend, state}
 use Rattle.adb_history.specs.Kept.{Kept, kept, IsLawful}
 use Rattle.adb_history.specs.Tracking.{offered}
-use Rattle.adb_calls.specs.Handed as answers
-use Rattle.adb_calls.specs.Handed.{IsFront}
-use Rattle.adb_rules.specs.declared.tables.Tables.{Tables}
-use Rattle.adb_rules.specs.Tables.{state_of}
-use Rattle.adb_rules.specs.Fit.{Makes}
+use Rattle.adb_hub_hand_outs.specs.Handed as answers
+use Rattle.adb_hub_hand_outs.specs.Handed.{IsFront}
+use Rattle.adb_hub_tables.specs.declared.tables.Tables.{Tables}
+use Rattle.adb_hub_tables.specs.Tables.{state_of}
+use Rattle.adb_hub_tables.specs.Fit.{Makes}
 use Rattle.adb_hub.specs.declared.error.HubError.{HubError}
 use Rattle.adb_hub.specs.declared.error.HubError.TheVariants.{Stopped, NoClient, NoLink, Numbers}
 use Rattle.adb_hub.specs.declared.answers.Life.{Life}

@@ -6,17 +6,17 @@ ghost use Rattle.adb_capture.specs.declared.entry.Entry.{Entry};
 ghost use Rattle.adb_history.specs.Kept.{IsLawful};
 ghost use Rattle.adb_history.specs.Machine.{state};
 ghost use Rattle.adb_history.specs.Accepted.{is_drawn};
-ghost use Rattle.adb_rules.specs.Tables.{client_row, state_of};
+ghost use Rattle.adb_hub_tables.specs.Tables.{client_row, state_of};
 ghost use Rattle.adb_hub.specs.Refusal.{unless_stopped, unless_drawn};
 ghost use Rattle.adb_hub.specs.Answers.{Answers, AnswersClient, err_if, next_client};
-ghost use Rattle.adb_hub.specs.Answers.{life_of, room_of, room_past, port_of};
+ghost use Rattle.adb_hub.specs.Answers.{life_of, room_of, room_past, port_of, held_of};
 
 use crate::answers::{Life, Room};
 use crate::error::HubError;
 use crate::hub::{Hub, MAX_HELD};
 use adb_client::{Client, Phase};
+use adb_hub_tables::Tables;
 use adb_outside::Cause;
-use adb_rules::Tables;
 
 impl Hub {
     /// The next client comes, and asks. An error is `Stopped`, `Numbers` or want of memory.
@@ -27,7 +27,7 @@ impl Hub {
         ensures err { OnErr result (self.new ≡ self.old) }
     {
         let client = self.next_client()?;
-        adb_calls::join(&mut self.tables, client)?;
+        adb_hub_clients::join(&mut self.tables, client)?;
         Ok(client)
     }
 
@@ -41,7 +41,7 @@ impl Hub {
         ensures err { OnErr result (self.new ≡ self.old) }
     {
         let client = self.next_client()?;
-        adb_reading::enter(&mut self.tables, client, port)?;
+        adb_hub_clients::enter(&mut self.tables, client, port)?;
         Ok(client)
     }
 
@@ -52,7 +52,7 @@ impl Hub {
         ensures err { OnErr result (self.new ≡ self.old) }
     {
         self.look_for_client(client)?;
-        adb_reading::read(&mut self.tables, client, piece)?;
+        adb_hub_clients::read(&mut self.tables, client, piece)?;
         Ok(self.client_life(client))
     }
 
@@ -65,7 +65,7 @@ impl Hub {
         ensures memory { result ≢ Err HubError.OutOfMemory }
     {
         self.look_for_client(client)?;
-        adb_calls::end(&mut self.tables, client, cause);
+        adb_hub_clients::end(&mut self.tables, client, cause);
         Ok(self.client_life(client))
     }
 
@@ -77,7 +77,7 @@ impl Hub {
         ensures err { OnErr result (self.new ≡ self.old) }
     {
         self.look_for_client(client)?;
-        adb_calls::bound(&mut self.tables, client, port)?;
+        adb_hub_clients::bound(&mut self.tables, client, port)?;
         Ok(self.client_life(client))
     }
 
@@ -87,6 +87,14 @@ impl Hub {
             → result ≡ room_of ((state h).clients client) }
     {
         room(&self.tables, client)
+    }
+
+    /// How many bytes of a client are held. It takes no memory.
+    pub fn held(&self, client: u32) -> usize
+        ensures { (h : List Entry) → IsLawful self.now h
+            → result ≡ held_of ((state h).clients client) }
+    {
+        held(&self.tables, client)
     }
 
     /// The port that a client waits for: 0 where any port serves. It takes no memory.
@@ -158,6 +166,22 @@ fn room_in(row: &Client) -> Room
         _ if row.about().ended => Room::Shut,
         _ => room_past(row.held()),
     }
+}
+
+/// How many bytes of a client are held.
+fn held(tables: &Tables, client: u32) -> usize
+    ensures { result ≡ held_of ((state_of tables.now).clients client) }
+{
+    match tables.clients.get(&client) {
+        Some(row) => held_in(row),
+        None => 0,
+    }
+}
+
+fn held_in(row: &Client) -> usize
+    ensures { result ≡ held_of (Some (client_row row.now)) }
+{
+    row.held()
 }
 
 /// The port that a client waits for.

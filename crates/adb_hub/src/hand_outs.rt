@@ -6,13 +6,13 @@ ghost use Rattle.adb_history.specs.Drained.{next_out};
 ghost use Rattle.adb_history.specs.Kept.{IsLawful};
 ghost use Rattle.adb_history.specs.Machine.{state};
 ghost use Rattle.adb_history.specs.Rows.{State};
-ghost use Rattle.adb_due.specs.NextDue.{owner_of, entry_of};
+ghost use Rattle.adb_hub_hand_outs.specs.NextDue.{owner_of, entry_of};
 ghost use Rattle.adb_hub.specs.Answers.{Hands, offered_to, due_on, handed_as, IsWithin};
 
 use crate::answers::{Handed, Life};
 use crate::error::HubError;
 use crate::hub::Hub;
-use adb_due::Owner;
+use adb_hub_hand_outs::Owner;
 
 impl Hub {
     /// Hands out the first bytes that are due to a client, at most `max`; a tracker whose list is
@@ -26,7 +26,7 @@ impl Hub {
         ensures err { OnErr result (self.new ≡ self.old) }
     {
         self.find_client(client)?;
-        match adb_calls::put(&mut self.tables, client, max)? {
+        match adb_hub_hand_outs::put(&mut self.tables, client, max)? {
             Some(bytes) => {
                 are_bytes(bytes.as_slice());
                 Ok(Handed::Bytes(bytes))
@@ -45,7 +45,7 @@ impl Hub {
         ensures err { OnErr result (self.new ≡ self.old) }
     {
         self.find_link(link)?;
-        match adb_calls::send(&mut self.tables, link, max)? {
+        match adb_hub_hand_outs::send(&mut self.tables, link, max)? {
             Some(bytes) => {
                 are_bytes(bytes.as_slice());
                 Ok(Handed::Bytes(bytes))
@@ -64,7 +64,7 @@ impl Hub {
             → next_out (state h) ≡ entry_of result (state h) }
         ensures same { self.new ≡ self.old }
     {
-        adb_due::next_due(&mut self.tables)
+        adb_hub_hand_outs::next_due(&mut self.tables)
     }
 }
 

@@ -6,9 +6,8 @@ ghost use Rattle.adb_history.specs.Kept.{IsLawful};
 
 use crate::answers::Summary;
 use adb_forward::Forwards;
+use adb_hub_tables::{Tables, TouchedMap};
 use adb_registry::Registry;
-use adb_roster::Roster;
-use adb_rules::Tables;
 use adb_stream::Streams;
 use std::alloc::Global;
 use std::collections::BTreeSet;
@@ -29,7 +28,7 @@ impl Model for Hub {
 
     ghost Value = { Kept };
 
-    ghost use Rattle.adb_rules.specs.Tables.{state_of};
+    ghost use Rattle.adb_hub_tables.specs.Tables.{state_of};
     ghost use Rattle.adb_hub.specs.Sound.{IsSound};
 
     ghost view = { λ hub. kept (state_of hub.tables) };
@@ -46,9 +45,9 @@ impl Hub {
             tables: Tables {
                 alloc,
                 joined: 0,
-                clients: Roster::new(alloc),
+                clients: TouchedMap::new(alloc),
                 trackers: BTreeSet::new(alloc),
-                links: Roster::new(alloc),
+                links: TouchedMap::new(alloc),
                 streams: Streams::new(alloc),
                 devices: Registry::new(alloc),
                 forwards: Forwards::new(alloc),

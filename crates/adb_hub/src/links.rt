@@ -27,7 +27,7 @@ impl Hub {
         if self.is_stopped() {
             return Err(HubError::Stopped);
         }
-        Ok(adb_calls::attach(&mut self.tables, kind, serial)?)
+        Ok(adb_hub_links::attach(&mut self.tables, kind, serial)?)
     }
 
     /// Bytes come on a link. An error is `Stopped`, `NoLink` or want of memory.
@@ -37,7 +37,7 @@ impl Hub {
         ensures err { OnErr result (self.new ≡ self.old) }
     {
         self.look_for_link(link)?;
-        adb_receiving::recv(&mut self.tables, link, piece)?;
+        adb_hub_links::recv(&mut self.tables, link, piece)?;
         Ok(self.link_life(link))
     }
 
@@ -50,7 +50,7 @@ impl Hub {
         ensures memory { result ≢ Err HubError.OutOfMemory }
     {
         self.look_for_link(link)?;
-        adb_calls::detach(&mut self.tables, link);
+        adb_hub_links::detach(&mut self.tables, link);
         Ok(self.link_life(link))
     }
 

@@ -17,3 +17,7 @@ pub mod WantedReads
 pub mod WantedForwards
 pub mod WantedClients
 pub mod WantedStates
+pub mod Reached
+pub mod Fitting
+pub mod Summing
+pub mod Turns

@@ -3,7 +3,7 @@ use Rattle.std.proofs.Common.{ℕ, ◌≡◌, ◌⊎◌, inl, inr, List, [], ◌
 use Rattle.adb_wire.specs.declared.command.Command.{Command}
 use Rattle.adb_wire.specs.declared.command.Command.TheVariants.{Okay}
 use Rattle.adb_wire.specs.declared.packets.Packet.{Packet}
-use Rattle.adb_rules.specs.Tracked.{IsAmong}
+use Rattle.adb_hub_tables.specs.Tracked.{IsAmong}
 use Rattle.adb_laws_resting.specs.Named.{named_also, named_by}
 
 pub named_then : (first second : List Packet) → named_by (first ++ second) ≡ named_by first ++ named_by second

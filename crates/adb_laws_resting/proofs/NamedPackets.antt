@@ -18,7 +18,7 @@ use Rattle.adb_history.specs.Packets.{receives_cut, receives_on, receives}
 use Rattle.adb_history.specs.Linked.{IsLinked}
 use Rattle.adb_history.proofs.LinkMoves.{linked_moves}
 use Rattle.adb_history.proofs.PacketMoves.{treat_on_kept}
-use Rattle.adb_rules.specs.Tracked.{IsAmong}
+use Rattle.adb_hub_tables.specs.Tracked.{IsAmong}
 use Rattle.adb_laws_resting.specs.Named.{named_also, named_by, granted_by, granted, cut_behind}
 use Rattle.adb_laws_resting.proofs.NamedRows.{kept_of, all_same}
 use Rattle.adb_laws_resting.proofs.NamedRules.{PassesWith, Passes, passes_plain, passes_same, more_passes, passes_before, passes_behind, passes_if}

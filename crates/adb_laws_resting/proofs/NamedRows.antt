@@ -13,8 +13,8 @@ use Rattle.adb_history.specs.Clients.{closing_with, closing}
 use Rattle.adb_history.specs.Tracking.{marked_in, marked}
 use Rattle.adb_history.specs.Flow.{payloads, is_over, is_streaming}
 use Rattle.adb_history.specs.Fifo.{has_credit}
-use Rattle.adb_rules.specs.Tracked.{IsAmong}
-use Rattle.adb_rules.specs.Up.{is_for}
+use Rattle.adb_hub_tables.specs.Tracked.{IsAmong}
+use Rattle.adb_hub_rules.specs.Up.{is_for}
 use Rattle.adb_laws_resting.specs.Named.{credit_to_send, no_credit}
 
 -- the rows that a rule makes of others

@@ -41,7 +41,7 @@ use Rattle.adb_history.proofs.OwnedStep.{ends_state, client_loses_frame}
 use Rattle.adb_history.proofs.Linking.{changed_other_at}
 use Rattle.adb_history.proofs.LinkMoves.{IsCleared, all_cleared, first_cleared, credit_first, credit_accepted}
 use Rattle.adb_history.proofs.PacketMoves.{hears_streams}
-use Rattle.adb_rules.specs.Tracked.{IsAmong}
+use Rattle.adb_hub_tables.specs.Tracked.{IsAmong}
 use Rattle.adb_laws_resting.specs.Named.{credit_to_send, no_credit}
 use Rattle.adb_laws_resting.proofs.NamedRows.{kept_of, LetsSame, Follows, AllWere, all_same, all_then, more_then, none_before, none_behind, all_within}
 use Rattle.adb_laws_resting.proofs.NamedRows.{owes_were, closes_were, opens_were, marks_were, goes_were, parts_were}

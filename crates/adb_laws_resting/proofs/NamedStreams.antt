@@ -16,9 +16,9 @@ use Rattle.adb_history.proofs.LinkMoves.{all_linked}
 use Rattle.adb_history.proofs.OrderlyStates.{rests_calm}
 use Rattle.adb_history.proofs.Quiet.{IsCalm, IsCalmAt}
 use Rattle.adb_history.proofs.Sweep.{Sending}
-use Rattle.adb_rules.specs.Tracked.{IsAmong}
-use Rattle.adb_rules.specs.Up.{is_for}
-use Rattle.adb_rules.specs.Sweep.{HasNothingUp, IsStillFor, IsStillOf, IsStill, CoversUp}
+use Rattle.adb_hub_tables.specs.Tracked.{IsAmong}
+use Rattle.adb_hub_rules.specs.Up.{is_for}
+use Rattle.adb_hub_rules.specs.Sweep.{HasNothingUp, IsStillFor, IsStillOf, IsStill, CoversUp}
 use Rattle.adb_laws_resting.specs.Named.{named_by, granted, cut_behind, HoldsAs, AllStay, KeepsStreams, AreNamed, LeavesStill}
 use Rattle.adb_laws_resting.proofs.NamedRows.{LetsSame, StreamWas, ClientWas}
 use Rattle.adb_laws_resting.proofs.NamedRules.{PassesWith}

@@ -8,7 +8,7 @@ use Rattle.adb_history.specs.Links.{maxdata_of}
 use Rattle.adb_history.specs.Flow.{payloads, with_flow, noted, is_over, closes_if, sends_up, is_streaming, up_client, up_stream, up, up_all}
 use Rattle.adb_history.proofs.Sweep.{Sending}
 use Rattle.adb_history.proofs.Quiet.{IsCalm, IsCalmAt, up_calm, same_rows}
-use Rattle.adb_rules.proofs.StillUp.{not_closed}
+use Rattle.adb_hub_rules.proofs.StillUp.{not_closed}
 
 module _ (l : ℕ) (s : State) (x : Sending l s) (calm : IsCalm s.devices x.client x.stream) where
   same_noted : noted l x.stream x.client.held [] s ≡ s

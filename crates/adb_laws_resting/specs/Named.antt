@@ -14,9 +14,9 @@ use Rattle.adb_history.specs.Rows.{Client, Link, State}
 use Rattle.adb_history.specs.Links.{maxdata_of, credit_word}
 use Rattle.adb_history.specs.Packets.{receives}
 use Rattle.adb_history.specs.Fifo.{has_credit}
-use Rattle.adb_rules.specs.Tracked.{IsAmong}
-use Rattle.adb_rules.specs.Up.{is_for}
-use Rattle.adb_rules.specs.Sweep.{IsStill, CoversUp}
+use Rattle.adb_hub_tables.specs.Tracked.{IsAmong}
+use Rattle.adb_hub_rules.specs.Up.{is_for}
+use Rattle.adb_hub_rules.specs.Sweep.{IsStill, CoversUp}
 
 -- ---- the streams that packets name
 -- the stream that an OKAY names, before others

@@ -8,7 +8,7 @@ ghost use Rattle.adb_history.specs.Machine.{IsLegal, state};
 ghost use Rattle.adb_history.specs.Packets.{treat_all, with_rest};
 ghost use Rattle.adb_history.specs.Rows.{Link, to_link};
 ghost use Rattle.adb_wire.specs.declared.packets.Packet.{Packet};
-ghost use Rattle.adb_rules.specs.Sweep.{IsStill};
+ghost use Rattle.adb_hub_rules.specs.Sweep.{IsStill};
 ghost use Rattle.adb_laws_resting.specs.Named.{KeepsRest, KeepsStreams, LeavesStill};
 
 /// In every state that a legal history leaves no stream has anything to send up.

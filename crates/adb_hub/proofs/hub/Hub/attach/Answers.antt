@@ -4,8 +4,8 @@ use Rattle.adb_capture.specs.declared.entry.Entry.TheVariants.{Attach}
 use Rattle.adb_history.specs.Kept.{Kept, kept, IsLawful}
 use Rattle.adb_history.specs.Machine.{state}
 use Rattle.adb_history.specs.Rows.{State}
-use Rattle.adb_rules.specs.Fit.{Makes}
-use Rattle.adb_rules.specs.Tables.{state_of}
+use Rattle.adb_hub_tables.specs.Fit.{Makes}
+use Rattle.adb_hub_tables.specs.Tables.{state_of}
 use Rattle.adb_hub.proofs.Standing.{stands_for}
 use Rattle.adb_hub.proofs.Steps.{Called, plugged_by, attach_called, called_sound, called_lawful, called_allowed}
 use Rattle.adb_hub.proofs.hub.Hub.attach.Goals as goal

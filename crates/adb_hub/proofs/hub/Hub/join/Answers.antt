@@ -3,7 +3,7 @@ use Rattle.adb_capture.specs.declared.entry.Entry.TheVariants.{Join}
 use Rattle.adb_history.specs.Kept.{Kept, kept, IsLawful}
 use Rattle.adb_history.specs.Machine.{state}
 use Rattle.adb_history.specs.Rows.{State}
-use Rattle.adb_rules.specs.Tables.{state_of}
+use Rattle.adb_hub_tables.specs.Tables.{state_of}
 use Rattle.adb_hub.specs.Answers.{next_client}
 use Rattle.adb_hub.proofs.Standing.{stands_for}
 use Rattle.adb_hub.proofs.Steps.{next_of, join_called, called_sound, called_lawful, called_allowed}

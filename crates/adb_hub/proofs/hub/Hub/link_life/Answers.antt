@@ -2,7 +2,7 @@ use Rattle.std.proofs.Common.{sym, subst, ap, ◌∙◌}
 use Rattle.adb_outside.specs.Tables.{at}
 use Rattle.adb_history.specs.Kept.{Kept, IsLawful}
 use Rattle.adb_history.specs.Rows.{State}
-use Rattle.adb_rules.specs.Tables.{link_row}
+use Rattle.adb_hub_tables.specs.Tables.{link_row}
 use Rattle.adb_hub.specs.Answers.{life_of}
 use Rattle.adb_hub.proofs.Standing.{stands_for}
 use Rattle.adb_hub.proofs.Steps.{life_if_there}

@@ -3,8 +3,8 @@ use Rattle.std.specs.Prelude.{option_and_then}
 use Rattle.adb_history.specs.Drained.{next_out}
 use Rattle.adb_history.specs.Kept.{Kept, IsLawful}
 use Rattle.adb_history.specs.Rows.{State}
-use Rattle.adb_due.specs.NextDue.{owner_of, entry_of}
-use Rattle.adb_rules.specs.Tables.{state_of}
+use Rattle.adb_hub_hand_outs.specs.NextDue.{owner_of, entry_of}
+use Rattle.adb_hub_tables.specs.Tables.{state_of}
 use Rattle.adb_hub.specs.Sound.{IsSound}
 use Rattle.adb_hub.proofs.Standing.{stands_for, drawn_of}
 use Rattle.adb_hub.proofs.hub.Hub.next_due.Goals as goal

@@ -5,9 +5,9 @@ use Rattle.adb_history.specs.Accepted.{is_drawn}
 use Rattle.adb_history.specs.Kept.{Kept, kept, IsLawful}
 use Rattle.adb_history.specs.Machine.{state}
 use Rattle.adb_history.specs.Rows.{State}
-use Rattle.adb_calls.specs.Handed as answers
-use Rattle.adb_calls.specs.Handed.{IsFront}
-use Rattle.adb_rules.specs.Tables.{state_of}
+use Rattle.adb_hub_hand_outs.specs.Handed as answers
+use Rattle.adb_hub_hand_outs.specs.Handed.{IsFront}
+use Rattle.adb_hub_tables.specs.Tables.{state_of}
 use Rattle.adb_hub.specs.declared.error.HubError.TheVariants.{NoClient}
 use Rattle.adb_hub.specs.Refusal.{unless_drawn}
 use Rattle.adb_hub.specs.Answers.{err_if, handed_as, HandsOut}

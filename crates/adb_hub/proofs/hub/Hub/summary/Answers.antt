@@ -1,8 +1,8 @@
 use Rattle.std.proofs.Common.{ℕ, ◌≡◌, sym, ◌∙◌, ap, arith, length}
 use Rattle.adb_outside.specs.Tables.{IsRising}
 use Rattle.adb_history.specs.Kept.{Kept, kept}
-use Rattle.adb_rules.specs.declared.tables.Tables.{Tables}
-use Rattle.adb_rules.specs.Tables.{client_row, link_row, state_of}
+use Rattle.adb_hub_tables.specs.declared.tables.Tables.{Tables}
+use Rattle.adb_hub_tables.specs.Tables.{client_row, link_row, state_of}
 use Rattle.adb_hub.specs.declared.answers.Summary.{Summary}
 use Rattle.adb_hub.specs.Sound.{IsSound}
 use Rattle.adb_hub.proofs.Standing.{drawn_of}

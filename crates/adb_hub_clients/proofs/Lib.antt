@@ -1,0 +1,15 @@
+mod Joining
+mod Ending
+mod Bounding
+mod Left
+mod Fitting
+mod Opened
+mod Entered
+mod Stopped
+mod Taken
+mod Sums
+mod Raised
+mod Answering
+mod Listed
+mod Planned
+mod Stepping

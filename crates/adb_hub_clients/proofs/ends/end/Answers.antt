@@ -1,0 +1,12 @@
+use Rattle.adb_hub_tables.specs.Tables.{state_of}
+use Rattle.adb_laws_resting.proofs.Reached.{sends_nothing}
+use Rattle.adb_hub_clients.proofs.Ending.{ended_by}
+use Rattle.adb_hub_clients.proofs.ends.end.Goals as goal
+
+pub returns-in_default : goal.returns-in_default
+returns-in_default c = record {
+  made =
+      let old = c.args.tables.now in
+      ended_by old c.end_client.new.tables c.requires.fit c.requires.reached c.end_client.ensures.uses c.args.client c.args.cause
+      ((sends_nothing (state_of old) c.requires.reached).failed c.args.client c.args.cause c.in_default.not-Eof) c.end_client.ensures.state;
+}

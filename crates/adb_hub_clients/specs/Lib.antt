@@ -1,0 +1,11 @@
+pub mod Binding
+pub mod Plan
+pub mod Requests
+pub mod Leaving
+pub mod Entering
+pub mod Stopping
+pub mod Taking
+pub mod Sending
+pub mod Asking
+pub mod Opening
+pub mod Planning

@@ -1,0 +1,30 @@
+//! What entries about a client make of the tables that a hub keeps: how it comes, by itself or
+//! through a forward, what it asks, its bytes, its listener, its end, and the kill. Memory comes
+//! first: after want of it nothing has changed.
+#![tactic(auto)]
+
+mod asking;
+mod bounds;
+mod ends;
+mod entering;
+mod following;
+mod hearing;
+mod joins;
+mod opening;
+mod places;
+mod plan;
+mod reading;
+mod requests;
+mod sending;
+mod stopping;
+mod taking;
+#[cfg(test)]
+mod tests;
+
+pub use bounds::bound;
+pub use ends::end;
+pub use joins::join;
+pub use opening::{Asker, open, open_payload};
+pub use plan::{Plan, make_plan};
+pub use reading::{enter, read};
+pub use stopping::stop;

@@ -1,0 +1,65 @@
+//! What a client that asks has asked.
+
+ghost use Rattle.std.specs.Prelude.{◌≡◌, ◌≤◌, length, IfOk};
+ghost use Rattle.adb_history.specs.Asking.{reads_on};
+ghost use Rattle.adb_hub_clients.specs.Plan.{asking, asked_by};
+
+use crate::requests::{Reading, Step};
+use adb_client::Client;
+use adb_forward::Forwards;
+use adb_outside::Text;
+use adb_registry::Registry;
+use adb_reply::Next;
+use std::alloc::{AllocError, Global};
+
+/// What a client that asks has asked: the replies to its whole requests, in order; how many bytes
+/// these requests have; the transport that they selected; and what follows the last of them, where
+/// no further one is read (OVERVIEW.TXT, "Protocol details").
+#[derive(Drop)]
+pub struct Plan {
+    pub replies: Text,
+    pub used: usize,
+    pub selected: Option<u32>,
+    pub next: Option<Next>,
+}
+
+/// What the bytes held of a client ask, with these devices and forwards. It changes nothing; an
+/// error is want of memory.
+pub fn make_plan(
+    alloc: Global,
+    client: &Client,
+    devices: &Registry,
+    forwards: &Forwards,
+) -> Result<Plan, AllocError>
+    ensures asked { IfOk result (λ plan. asked_by plan client.now.held
+        ≡ reads_on devices.now forwards.now (length client.now.held)
+        (asking client.now.held client.now.about.selected)) }
+    ensures within { IfOk result (λ plan. plan.used ≤ length client.now.held) }
+{
+    let mut reading = Reading::new(alloc, client.about().selected);
+    let held = client.held();
+    while reading.used < held {
+        match reading.read_one(alloc, client, devices, forwards)? {
+            Step::Again => {}
+            Step::End(next) => return Ok(planned(reading, next)),
+        }
+    }
+    Ok(planned(reading, None))
+}
+
+/// What was read, with what follows it.
+fn planned(reading: Reading, next: Option<Next>) -> Plan
+    ensures { result ≡ record {
+      replies = reading.replies;
+      used = reading.used;
+      selected = reading.selected;
+      next = next;
+    } }
+{
+    Plan {
+        replies: reading.replies,
+        used: reading.used,
+        selected: reading.selected,
+        next,
+    }
+}

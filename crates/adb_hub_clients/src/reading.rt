@@ -1,0 +1,44 @@
+//! Bytes that come from clients, and clients that come through forwards.
+
+ghost use Rattle.std.specs.Prelude.{◌≡◌, ◌+◌, OnOk, OnErr};
+ghost use Rattle.adb_capture.specs.declared.entry.Entry.TheVariants.{Enter, Read};
+ghost use Rattle.adb_hub_tables.specs.Fit.{IsFit, IsReached, Makes, Keeps};
+ghost use Rattle.adb_hub_tables.specs.Tables.{state_of};
+
+use crate::asking::ask;
+use crate::entering::come;
+use crate::sending::send;
+use crate::taking::take_in;
+use adb_client::Phase;
+use adb_hub_rules::phase_of;
+use adb_hub_tables::Tables;
+use std::alloc::AllocError;
+
+/// A client came through the forward of a port: a stream is asked for on the device that the
+/// forward leads to. Where it leads nowhere, nothing is kept of the client. After want of memory
+/// all is as before.
+pub fn enter(tables: &mut Tables, client: u32, port: u16) -> Result<(), AllocError>
+    requires fit { IsFit tables.old }
+    requires reached { IsReached (state_of tables.old) }
+    requires next { client ≡ tables.old.joined + 1 }
+    ensures made { OnOk result (Makes (Enter client port) tables.old tables.new) }
+    ensures kept { OnErr result (Keeps tables.old tables.new) }
+{
+    come(tables, client, port)
+}
+
+/// Bytes came from a client: they are its requests, or go up its stream, or are held until its
+/// stream is there. After want of memory all is as before.
+pub fn read(tables: &mut Tables, client: u32, piece: &[u8]) -> Result<(), AllocError>
+    requires fit { IsFit tables.old }
+    requires reached { IsReached (state_of tables.old) }
+    ensures made { OnOk result (Makes (Read client piece.now) tables.old tables.new) }
+    ensures kept { OnErr result (Keeps tables.old tables.new) }
+{
+    match phase_of(tables, client) {
+        Phase::Asking => ask(tables, client, piece),
+        Phase::Opening(_) => take_in(tables, client, piece),
+        Phase::Streaming(id) => send(tables, client, id, piece),
+        Phase::Binding | Phase::Tracking | Phase::Closing | Phase::Gone => Ok(()),
+    }
+}

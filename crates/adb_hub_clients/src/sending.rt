@@ -1,0 +1,181 @@
+//! Bytes of a client that has its stream open: they go up.
+
+ghost use Rattle.std.specs.Prelude.{◌≡◌, List, ℕ, IfOk, OnOk, OnErr, Some, false};
+ghost use Rattle.adb_outside.specs.Tables.{at};
+ghost use Rattle.adb_history.specs.Flow.{up};
+ghost use Rattle.adb_hub_tables.specs.Fit.{IsFit};
+ghost use Rattle.adb_hub_tables.specs.Tables.{state_of, client_row};
+ghost use Rattle.adb_hub_tables.specs.Tracked.{clients_of};
+ghost use Rattle.adb_hub_rules.specs.Up.{IsReadyUp, IsSized};
+ghost use Rattle.adb_hub_clients.specs.Leaving.{Leaves, IsPlaced, HoldsAtLeast};
+ghost use Rattle.adb_hub_clients.specs.Taking.{takes_in};
+ghost use Rattle.adb_hub_clients.specs.Sending.{IsPrepared, IsPreparedAt, can_send, can_send_at};
+
+use crate::places::reserve_packets;
+use crate::taking::{take_back, take_in};
+use adb_client::Client;
+use adb_hub_rules::{close_idle, up, up_bytes, up_writes};
+use adb_hub_tables::{Tables, TouchedMap};
+use adb_stream::{Flow, Stream};
+use std::alloc::AllocError;
+
+/// A piece came from a client that has the stream of an id open: it goes up, as far as the stream
+/// lets it.
+pub(crate) fn send(
+    tables: &mut Tables,
+    client: u32,
+    id: u32,
+    piece: &[u8],
+) -> Result<(), AllocError>
+    requires fit { IsFit tables.old }
+    requires sized { IsSized tables.old }
+    ensures made { OnOk result
+        (Leaves (up id (takes_in client piece.now (state_of tables.old))).state tables.new) }
+    ensures kept { OnErr result (Leaves (state_of tables.old) tables.new) }
+{
+    take_in(tables, client, piece)?;
+    match advance(tables, id) {
+        Ok(()) => Ok(()),
+        Err(error) => {
+            take_back(tables, client, piece.len());
+            Err(error)
+        }
+    }
+}
+
+/// What is held of the client of a stream goes up, as far as the stream lets it. No more is made
+/// ready, and nothing where it lets nothing go now.
+fn advance(tables: &mut Tables, id: u32) -> Result<(), AllocError>
+    requires fit { IsFit tables.old }
+    requires sized { IsSized tables.old }
+    ensures made { OnOk result (Leaves (up id (state_of tables.old)).state tables.new) }
+    ensures kept { OnErr result (Leaves (state_of tables.old) tables.new) }
+    ensures held { OnErr result ((c n : ℕ) → HoldsAtLeast n (at c tables.old.clients.entries)
+        → HoldsAtLeast n (at c tables.new.clients.entries)) }
+{
+    if !can_send(tables, id) {
+        rest(tables, id);
+        return Ok(());
+    }
+    make_ready(tables, id)?;
+    go_up(tables, id);
+    Ok(())
+}
+
+/// Whether the stream of an id lets anything be sent now.
+fn can_send(tables: &Tables, id: u32) -> bool
+    ensures { result ≡ can_send_at (at id tables.now.streams.streams) }
+{
+    match tables.streams.get(id) {
+        Some(stream) => lets_go(&stream.part.flow),
+        None => false,
+    }
+}
+
+fn lets_go(flow: &Flow) -> bool
+    ensures { result ≡ can_send flow.now }
+{
+    match flow {
+        Flow::One(window) => window.can_write(),
+        Flow::Credit(credit) => credit.can_send() > 0,
+    }
+}
+
+/// The up rule for a stream that lets nothing be sent now.
+fn rest(tables: &mut Tables, id: u32)
+    requires fit { IsFit tables.old }
+    requires idle { can_send_at (at id tables.old.streams.streams) ≡ false }
+    ensures { Leaves (up id (state_of tables.old)).state tables.new }
+{
+    close_idle(tables, id);
+}
+
+/// What is held of the client of a stream goes up, as far as the stream lets it.
+fn go_up(tables: &mut Tables, id: u32)
+    requires fit { IsFit tables.old }
+    requires ready { IsReadyUp id tables.old }
+    requires sized { IsSized tables.old }
+    ensures { Leaves (up id (state_of tables.old)).state tables.new }
+{
+    up(tables, id);
+}
+
+/// Makes ready what is held of the client of a stream, and places on its link for what it may send.
+fn make_ready(tables: &mut Tables, id: u32) -> Result<(), AllocError>
+    requires { IsFit tables.old }
+    ensures made { Leaves (state_of tables.old) tables.new }
+    ensures devices { tables.new.devices ≡ tables.old.devices }
+    ensures held { (c n : ℕ) → HoldsAtLeast n (at c tables.old.clients.entries)
+        → HoldsAtLeast n (at c tables.new.clients.entries) }
+    ensures ready { OnOk result (IsReadyUp id tables.new) }
+{
+    match tables.streams.get(id).copied() {
+        Some(stream) => make_stream_ready(tables, id, &stream),
+        None => Ok(()),
+    }
+}
+
+fn make_stream_ready(tables: &mut Tables, id: u32, stream: &Stream) -> Result<(), AllocError>
+    requires fit { IsFit tables.old }
+    requires here { at id tables.old.streams.streams ≡ Some stream.now }
+    ensures made { Leaves (state_of tables.old) tables.new }
+    ensures devices { tables.new.devices ≡ tables.old.devices }
+    ensures held { (c n : ℕ) → HoldsAtLeast n (at c tables.old.clients.entries)
+        → HoldsAtLeast n (at c tables.new.clients.entries) }
+    ensures ready { OnOk result (IsReadyUp id tables.new) }
+{
+    let maxdata = tables.maxdata_of(stream.link);
+    let writes = prepare(tables, stream, maxdata)?;
+    reserve_packets(tables, stream.link, writes)
+}
+
+/// Makes ready what the client of a stream holds; says in how many writes at most it can go up.
+fn prepare(tables: &mut Tables, stream: &Stream, maxdata: usize) -> Result<usize, AllocError>
+    requires { IsFit tables.old }
+    ensures made { Leaves (state_of tables.old) tables.new }
+    ensures others { tables.new ≡ record tables.old { clients = tables.new.clients } }
+    ensures held { (c n : ℕ) → HoldsAtLeast n (at c tables.old.clients.entries)
+        → HoldsAtLeast n (at c tables.new.clients.entries) }
+    ensures ready { IfOk result (λ writes. IsPreparedAt writes stream.now.part.flow maxdata
+        (at stream.now.client tables.new.clients.entries)) }
+{
+    prepare_in(
+        &mut tables.clients,
+        stream.client,
+        &stream.part.flow,
+        maxdata,
+    )
+}
+
+fn prepare_in(
+    clients: &mut TouchedMap<Client>,
+    client: u32,
+    flow: &Flow,
+    maxdata: usize,
+) -> Result<usize, AllocError>
+    ensures rows { clients_of clients.new.entries ≡ clients_of clients.old.entries }
+    ensures placed { (c : ℕ) (trackers : List ℕ) → IsPlaced c trackers (at c clients.old.entries)
+        → IsPlaced c trackers (at c clients.new.entries) }
+    ensures held { (c n : ℕ) → HoldsAtLeast n (at c clients.old.entries)
+        → HoldsAtLeast n (at c clients.new.entries) }
+    ensures ready { IfOk result (λ writes. IsPreparedAt writes flow.now maxdata
+        (at client clients.new.entries)) }
+{
+    match clients.get_mut(&client) {
+        Some(row) => prepare_row(row, flow, maxdata),
+        None => Ok(0),
+    }
+}
+
+fn prepare_row(row: &mut Client, flow: &Flow, maxdata: usize) -> Result<usize, AllocError>
+    ensures row { client_row row.new ≡ client_row row.old }
+    ensures places { row.new.places ≡ row.old.places }
+    ensures ready { IfOk result (λ writes. IsPrepared writes flow.now maxdata row.new) }
+{
+    let held = row.held();
+    let Some(writes) = up_writes(flow, 0, maxdata, held) else {
+        return Err(AllocError);
+    };
+    row.prepare_cuts(up_bytes(flow, 0, maxdata, held), writes)?;
+    Ok(writes)
+}

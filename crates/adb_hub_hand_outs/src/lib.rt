@@ -1,0 +1,15 @@
+//! What is handed out to clients and on links, and to whom next. Memory comes first: after want of
+//! it nothing has changed.
+#![tactic(auto)]
+
+mod due;
+mod lists;
+mod places;
+mod puts;
+mod sends;
+#[cfg(test)]
+mod tests;
+
+pub use due::{Owner, next_due};
+pub use puts::put;
+pub use sends::send;

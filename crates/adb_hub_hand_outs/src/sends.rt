@@ -1,0 +1,41 @@
+//! Bytes that are handed out to links.
+
+ghost use Rattle.std.specs.Prelude.{◌≡◌, ◌<◌, take, IfOk, OnErr};
+ghost use Rattle.adb_capture.specs.declared.entry.Entry.TheVariants.{Send};
+ghost use Rattle.adb_hub_tables.specs.Fit.{IsFit, IsReached, Keeps};
+ghost use Rattle.adb_hub_tables.specs.Tables.{state_of};
+ghost use Rattle.adb_hub_hand_outs.specs.Handed.{due_on, IsFront, HandsOut};
+
+use adb_hub_rules::hand_link;
+use adb_hub_tables::Tables;
+use adb_outside::Text;
+use std::alloc::AllocError;
+
+/// The first bytes that are due to a link, at most `max`, are handed out; `None` exactly where the
+/// link is not there or nothing is due to it. After want of memory nothing has changed.
+pub fn send(tables: &mut Tables, link: u32, max: usize) -> Result<Option<Text>, AllocError>
+    requires fit { IsFit tables.old }
+    requires reached { IsReached (state_of tables.old) }
+    requires some { 0 < max }
+    ensures bytes { IfOk result (IsFront max (due_on ((state_of tables.old).links link))) }
+    ensures made { IfOk result (λ bytes. HandsOut (Send link) bytes tables.old tables.new) }
+    ensures kept { OnErr result (Keeps tables.old tables.new) }
+{
+    let bytes = front_of(tables, link, max)?;
+    if bytes.is_empty() {
+        return Ok(None);
+    }
+    hand_link(tables, link, bytes.len());
+    Ok(Some(bytes))
+}
+
+/// The first bytes that are due to a link, at most `max`, copied.
+fn front_of(tables: &Tables, link: u32, max: usize) -> Result<Text, AllocError>
+    ensures { IfOk result (λ bytes.
+        bytes ≡ take max (due_on ((state_of tables.now).links link))) }
+{
+    match tables.links.get(&link) {
+        Some(port) => port.link.copy_front(max),
+        None => Ok(Text::new(tables.alloc)),
+    }
+}

@@ -1,0 +1,13 @@
+mod Plugging
+mod Cuttings
+mod Namings
+mod More
+mod Preparations
+mod Reserved
+mod Keeping
+mod Putting
+mod Readying
+mod Settled
+mod Lawful
+mod Received
+mod Waited

@@ -1,0 +1,6 @@
+pub mod Plugged
+pub mod Cutting
+pub mod Naming
+pub mod Counting
+pub mod Reserving
+pub mod Settling

@@ -1,0 +1,51 @@
+//! Bytes that come on a device's link.
+
+ghost use Rattle.std.specs.Prelude.{OnOk, OnErr};
+ghost use Rattle.adb_capture.specs.declared.entry.Entry.{Entry};
+ghost use Rattle.adb_history.specs.Machine.{May};
+ghost use Rattle.adb_hub_tables.specs.Fit.{IsFit, IsReached, Keeps, Makes};
+ghost use Rattle.adb_hub_tables.specs.Tables.{state_of};
+ghost use Rattle.adb_hub_links.specs.Cutting.{IsCutting, cut_in};
+ghost use Rattle.adb_hub_links.specs.Settling.{HasSettled, LeavesNamed};
+
+use crate::cutting::{Cutting, with_piece};
+use crate::reserving::reserve;
+use crate::settling::settle;
+use crate::waiting::wait;
+use adb_hub_tables::Tables;
+use std::alloc::AllocError;
+
+/// Bytes came on a link: the packets that are whole now are treated, in order, a byte that is wrong
+/// breaks the link, and what clients hold goes up the streams of which an OKAY came. Of a link that
+/// is gone nothing is made. After want of memory only places and pieces that are ready may have
+/// become more.
+pub fn recv(tables: &mut Tables, link: u32, piece: &[u8]) -> Result<(), AllocError>
+    requires fit { IsFit tables.old }
+    requires reached { IsReached (state_of tables.old) }
+    requires may { May (state_of tables.old) (Entry.Recv link piece.now) }
+    ensures made { OnOk result (Makes (Entry.Recv link piece.now) tables.old tables.new) }
+    ensures kept { OnErr result (Keeps tables.old tables.new) }
+{
+    let Some(port) = tables.links.get(&link) else {
+        return Ok(());
+    };
+    if piece.len() < port.link.missing() {
+        return wait(&mut tables.links, link, piece);
+    }
+    let incoming = with_piece(tables.alloc, &mut tables.links, link, piece)?;
+    let cutting = Cutting::of(tables.alloc, incoming)?;
+    take(tables, link, cutting)
+}
+
+/// The packets of a link are treated, with all memory taken before.
+fn take(tables: &mut Tables, link: u32, cutting: Cutting) -> Result<(), AllocError>
+    requires cut { IsCutting cutting }
+    requires fit { IsFit tables.old }
+    requires leaves { LeavesNamed link (cut_in cutting) (state_of tables.old) }
+    ensures settled { OnOk result (HasSettled link cutting tables.old tables.new) }
+    ensures kept { OnErr result (Keeps tables.old tables.new) }
+{
+    let ids = reserve(tables, link, &cutting.packets)?;
+    settle(tables, link, cutting, &ids);
+    Ok(())
+}

@@ -1,0 +1,13 @@
+mod Ending
+mod Failing
+mod Naming
+pub mod Taking
+mod UsingOf
+mod Handouts
+mod WritesUp
+mod Sending
+mod GoingUp
+mod Sweeping
+mod RisingIds
+mod EachUp
+pub mod StillUp

@@ -1,0 +1,36 @@
+use Rattle.std.proofs.Common.{◌+◌, arith, length}
+use Rattle.adb_outside.specs.Tables.{at}
+use Rattle.adb_hub_tables.specs.Tables.{state_of}
+use Rattle.adb_hub_rules.specs.Up.{all_unsent}
+use Rattle.adb_hub_tables.proofs.Using.{more_room}
+use Rattle.adb_hub_rules.proofs.GoingUp.{middle_stream, middle_open, sent_up, then_spared}
+use Rattle.adb_hub_rules.proofs.up_rule.send_up.Goals as goal
+
+pub close_over-requires-clause-here : goal.close_over-requires-clause-here
+close_over-requires-clause-here c =
+    let sent = c.send_held-flow in
+    middle_stream c.args.id c.args.stream.now c.args.tables.now sent.new.tables sent.ensures.state sent.result sent.ensures.flow c.requires.here
+
+pub close_over-requires-clause-open : goal.close_over-requires-clause-open
+close_over-requires-clause-open c =
+    let sent = c.send_held-flow in
+    middle_open c.args.id c.args.stream.now c.args.tables.now sent.new.tables sent.ensures.state c.requires.open
+
+pub close_over-requires-clause-room : goal.close_over-requires-clause-room
+close_over-requires-clause-room c =
+    let stream = c.args.stream.now in
+    let old = c.args.tables.now in
+    let writes = length (all_unsent stream old) in
+    (c.send_held-flow.ensures.uses 0).on_link 0 (more_room writes (0 + writes) (at stream.link old.links.entries) (omega arith) c.requires.ready.room)
+
+pub close_over-requires-clause-counted : goal.close_over-requires-clause-counted
+close_over-requires-clause-counted c = (c.send_held-flow.ensures.uses 0).counted c.requires.counted
+
+pub returns-clause-state : goal.returns-clause-state
+returns-clause-state c = λ row owner.
+    let sent = c.send_held-flow in
+    sent_up c.args.id c.args.stream.now c.args.tables.now sent.new.tables sent.ensures.state row sent.result (state_of c.close_over.new.tables) c.requires.here
+    (owner, sent.ensures.flow) c.close_over.ensures.state
+
+pub returns-clause-uses : goal.returns-clause-uses
+returns-clause-uses c = λ k. then_spared (c.send_held-flow.ensures.uses k) (c.close_over.ensures.uses k)

@@ -1,0 +1,4 @@
+pub mod Came
+pub mod Handing
+pub mod Up
+pub mod Sweep

@@ -1,0 +1,224 @@
+//! Handing out what is due (protocol.txt, READY).
+
+ghost use Rattle.std.specs.Prelude.{◌≡◌, ◌<◌, ℕ, Some, length, drop};
+ghost use Rattle.adb_outside.specs.Tables.{at};
+ghost use Rattle.adb_client.specs.Client.{SeenClient};
+ghost use Rattle.adb_stream.specs.Window.{OneWrite};
+ghost use Rattle.adb_history.specs.Rows.{to_client, to_stream, with_stream_part};
+ghost use Rattle.adb_history.specs.Clients.{closes};
+ghost use Rattle.adb_history.specs.Flow.{with_flow};
+ghost use Rattle.adb_history.specs.Handing.{takes_of, stream_left, sends, to_hand, handed_to, credit_back, tells_handed, tells_credit};
+ghost use Rattle.adb_hub_tables.specs.Tables.{state_of};
+ghost use Rattle.adb_hub_tables.specs.Places.{LinkRoom, Uses};
+ghost use Rattle.adb_hub_rules.specs.Handing.{AreDue, AreDueOn, HasRoom, UsesOf, open_stream, handed, leaves};
+
+use adb_client::Phase;
+use adb_hub_tables::Tables;
+use adb_stream::{Credit, Flow, Part, Stream, Window};
+
+/// So many of the bytes that are due to a client were handed out. A client that is closing is
+/// gone when nothing is left; on a stream the device is told where its bytes were handed out.
+pub fn hand_client(tables: &mut Tables, client: u32, n: usize)
+    requires due { AreDue n (at client tables.old.clients.entries) }
+    requires place { HasRoom 1 (open_stream (at client tables.old.clients.entries) tables.old)
+        tables.old }
+    ensures state { state_of tables.new
+        ≡ (takes_of client n ((state_of tables.old).clients client) (state_of tables.old)).state }
+    ensures uses { UsesOf (open_stream (at client tables.old.clients.entries) tables.old)
+        1 client 0 tables.old tables.new }
+{
+    let Some(row) = tables.clients.get(&client) else {
+        return;
+    };
+    match row.about().phase {
+        Phase::Closing => hand_closing(tables, client, n),
+        Phase::Streaming(id) => hand_streaming(tables, client, id, n),
+        _ => {
+            hand_row(tables, client, n);
+        }
+    }
+}
+
+/// A client that is closing is gone when nothing is left.
+fn hand_closing(tables: &mut Tables, client: u32, n: usize)
+    requires due { AreDue n (at client tables.old.clients.entries) }
+    ensures state { state_of tables.new
+        ≡ closes client (to_client client (handed n) (state_of tables.old)) }
+    ensures uses { (t c : ℕ) → Uses t 0 c 0 tables.old tables.new }
+{
+    hand_row(tables, client, n);
+    tables.close_client(client);
+}
+
+/// The bytes that a stream has accepted are the last of those that are due to its client.
+fn hand_streaming(tables: &mut Tables, client: u32, id: u32, n: usize)
+    requires due { AreDue n (at client tables.old.clients.entries) }
+    requires place { HasRoom 1 (at id tables.old.streams.streams) tables.old }
+    ensures state { (row : SeenClient) → at client tables.old.clients.entries ≡ Some row
+        → state_of tables.new ≡ (stream_left (length (drop n row.due)) id
+        ((state_of tables.old).streams id)
+        (to_client client (handed n) (state_of tables.old))).state }
+    ensures uses { (c : ℕ) → UsesOf (at id tables.old.streams.streams) 1 c 0 tables.old tables.new }
+{
+    let left = hand_row(tables, client, n);
+    hand_stream(tables, id, left);
+}
+
+/// Bytes that are due to a client were handed out; says how many are left.
+fn hand_row(tables: &mut Tables, client: u32, n: usize) -> usize
+    requires { AreDue n (at client tables.old.clients.entries) }
+    ensures state { state_of tables.new ≡ to_client client (handed n) (state_of tables.old) }
+    ensures left { (row : SeenClient) → at client tables.old.clients.entries ≡ Some row
+        → result ≡ length (drop n row.due) }
+    ensures streams { tables.new.streams ≡ tables.old.streams }
+    ensures links { tables.new.links ≡ tables.old.links }
+    ensures uses { (t c : ℕ) → Uses t 0 c 0 tables.old tables.new }
+{
+    match tables.clients.get_mut(&client) {
+        Some(row) => {
+            row.hand(n);
+            row.owed()
+        }
+        None => 0,
+    }
+}
+
+/// So many bytes are due to the client of a stream.
+fn hand_stream(tables: &mut Tables, id: u32, due: usize)
+    requires { HasRoom 1 (at id tables.old.streams.streams) tables.old }
+    ensures state { let s = state_of tables.old in
+        state_of tables.new ≡ (stream_left due id (s.streams id) s).state }
+    ensures uses { (c : ℕ) → UsesOf (at id tables.old.streams.streams) 1 c 0 tables.old tables.new }
+{
+    let Some(stream) = tables.streams.get(id).copied() else {
+        return;
+    };
+    let left = to_hand(&stream.part.flow).min(due);
+    if left < to_hand(&stream.part.flow) {
+        leave(tables, id, &stream, left);
+    }
+}
+
+/// So many of the bytes that a stream has accepted are left, fewer than before.
+fn leave(tables: &mut Tables, id: u32, stream: &Stream, left: usize)
+    requires here { at id tables.old.streams.streams ≡ Some stream.now }
+    requires fewer { left < to_hand stream.now.part.flow }
+    requires place { LinkRoom 1 (at stream.now.link tables.old.links.entries) }
+    ensures state { state_of tables.new
+        ≡ (leaves left id stream.now.part.flow stream.now (state_of tables.old)).state }
+    ensures uses { (c : ℕ) → Uses stream.now.link 1 c 0 tables.old tables.new }
+{
+    match stream.part.flow {
+        Flow::One(window) => leave_window(tables, id, stream, window, left),
+        Flow::Credit(credit) => leave_credit(tables, id, stream, credit, left),
+    }
+}
+
+fn leave_window(tables: &mut Tables, id: u32, stream: &Stream, window: Window, left: usize)
+    requires here { at id tables.old.streams.streams ≡ Some stream.now }
+    requires fewer { left < window.to_hand }
+    requires place { LinkRoom 1 (at stream.now.link tables.old.links.entries) }
+    ensures state { state_of tables.new
+        ≡ (leaves left id (Flow.One window) stream.now (state_of tables.old)).state }
+    ensures uses { (c : ℕ) → Uses stream.now.link 1 c 0 tables.old tables.new }
+{
+    set_flow(tables, id, stream, &window_left(window, left));
+    tell_left(tables, id, stream, left);
+}
+
+fn leave_credit(tables: &mut Tables, id: u32, stream: &Stream, credit: Credit, left: usize)
+    requires here { at id tables.old.streams.streams ≡ Some stream.now }
+    requires fewer { left < credit.to_hand }
+    requires place { LinkRoom 1 (at stream.now.link tables.old.links.entries) }
+    ensures state { state_of tables.new
+        ≡ (leaves left id (Flow.Credit credit) stream.now (state_of tables.old)).state }
+    ensures uses { (c : ℕ) → Uses stream.now.link 1 c 0 tables.old tables.new }
+{
+    let mut credit = credit;
+    let back = credit_left(&mut credit, left);
+    set_flow(tables, id, stream, &Flow::Credit(credit));
+    tell_credit(tables, id, stream, back);
+}
+
+/// A device is told when its write was handed out whole.
+fn tell_left(tables: &mut Tables, id: u32, stream: &Stream, left: usize)
+    requires { LinkRoom 1 (at stream.now.link tables.old.links.entries) }
+    ensures state { (window : OneWrite) → state_of tables.new
+        ≡ (tells_handed (Flow.One window) left id stream.now (state_of tables.old)).state }
+    ensures uses { (c : ℕ) → Uses stream.now.link 1 c 0 tables.old tables.new }
+{
+    if left == 0 {
+        tables.owe_okay(stream.link, id, stream.part.remote);
+    }
+}
+
+/// A device is told how much credit it has more.
+fn tell_credit(tables: &mut Tables, id: u32, stream: &Stream, credit: u32)
+    requires { LinkRoom 1 (at stream.now.link tables.old.links.entries) }
+    ensures state { state_of tables.new
+        ≡ (tells_credit credit id stream.now (state_of tables.old)).state }
+    ensures uses { (c : ℕ) → Uses stream.now.link 1 c 0 tables.old tables.new }
+{
+    if credit > 0 {
+        tables.owe_credit(stream.link, id, stream.part.remote, credit);
+    }
+}
+
+/// What each end of a stream may send is another.
+pub(crate) fn set_flow(tables: &mut Tables, id: u32, stream: &Stream, flow: &Flow)
+    requires { at id tables.old.streams.streams ≡ Some stream.now }
+    ensures state { state_of tables.new
+        ≡ to_stream id (with_stream_part (with_flow flow.now stream.now.part))
+        (state_of tables.old) }
+    ensures clients { tables.new.clients ≡ tables.old.clients }
+    ensures links { tables.new.links ≡ tables.old.links }
+    ensures uses { (t c : ℕ) → Uses t 0 c 0 tables.old tables.new }
+{
+    let part = Part {
+        flow: *flow,
+        ..stream.part
+    };
+    tables.set_part(id, stream, part);
+}
+
+/// So many of the bytes that are due to a link were handed out.
+pub fn hand_link(tables: &mut Tables, link: u32, n: usize)
+    requires { AreDueOn n (at link tables.old.links.entries) }
+    ensures state { state_of tables.new ≡ sends link n (state_of tables.old) }
+    ensures clients { tables.new.clients ≡ tables.old.clients }
+    ensures streams { tables.new.streams ≡ tables.old.streams }
+    ensures uses { (t c : ℕ) → Uses t 0 c 0 tables.old tables.new }
+{
+    if let Some(port) = tables.links.get_mut(&link) {
+        port.link.hand(n);
+    }
+}
+
+/// How many of the bytes that a flow has accepted are still to be handed out.
+fn to_hand(flow: &Flow) -> usize
+    ensures { result ≡ to_hand flow.now }
+{
+    match flow {
+        Flow::One(window) => window.to_hand(),
+        Flow::Credit(credit) => credit.to_hand(),
+    }
+}
+
+/// A window of which so many bytes are left to be handed out, fewer than before.
+fn window_left(window: Window, left: usize) -> Flow
+    requires { left < window.to_hand }
+    ensures { result ≡ handed_to left (Flow.One window) }
+{
+    let mut window = window;
+    window.handed(window.to_hand() - left);
+    Flow::One(window)
+}
+
+/// So many bytes are left to be handed out, fewer than before; says how much credit is given back.
+fn credit_left(credit: &mut Credit, left: usize) -> u32
+    requires { left < credit.old.to_hand }
+    ensures back { result ≡ credit_back left credit.old }
+    ensures after { Flow.Credit credit.new ≡ handed_to left (Flow.Credit credit.old) }
+{
+    credit.handed(credit.to_hand() - left)
+}

@@ -1,0 +1,145 @@
+//! How links are lost and broken, how clients fail, and how the server stops.
+
+ghost use Rattle.std.specs.Prelude.{◌≡◌, ℕ, is_some};
+ghost use Rattle.adb_outside.specs.Tables.{Puts};
+ghost use Rattle.adb_registry.specs.Registry.{detached};
+ghost use Rattle.adb_history.specs.Events.{Ending};
+ghost use Rattle.adb_history.specs.Forwarding.{forwards_without};
+ghost use Rattle.adb_history.specs.Losing.{forgets, link_ends, stream_of, stream_fails, input_ends, client_ends};
+ghost use Rattle.adb_hub_tables.specs.Tables.{phase_in, state_of, fails_in};
+ghost use Rattle.adb_hub_tables.specs.Places.{IsProvided, Uses};
+
+use crate::ends::end_all;
+use adb_client::Phase;
+use adb_hub_tables::Tables;
+use adb_outside::Cause;
+
+/// A link is gone: its device, its forwards and what is due to it go, and its streams end.
+pub fn end_link(tables: &mut Tables, link: u32)
+    requires { IsProvided tables.old }
+    ensures state { (ending : Ending) → state_of tables.new
+        ≡ (link_ends link ending (state_of tables.old)).state }
+    ensures uses { (t c : ℕ) → Uses t 0 c 0 tables.old tables.new }
+{
+    forget_link(tables, link);
+    end_all(tables, link);
+    tables.mark_all();
+}
+
+/// Of a link nothing is kept.
+fn forget_link(tables: &mut Tables, link: u32)
+    ensures state { state_of tables.new ≡ forgets link (state_of tables.old) }
+    ensures uses { (t c : ℕ) → Uses t 0 c 0 tables.old tables.new }
+{
+    remove_link(tables, link);
+}
+
+fn remove_link(tables: &mut Tables, link: u32)
+    ensures row { Puts link None tables.old.links.entries tables.new.links.entries }
+    ensures others { tables.new ≡ record tables.old {
+      links = tables.new.links;
+      devices = detached link tables.old.devices;
+      forwards = forwards_without link tables.old.forwards;
+    } }
+{
+    tables.links.remove(&link);
+    tables.devices.detach(link);
+    tables.forwards.remove_of(link);
+}
+
+/// A client's input ended, in order or by a failure.
+pub fn end_client(tables: &mut Tables, client: u32, cause: Cause)
+    requires { IsProvided tables.old }
+    ensures state { let s = state_of tables.old in
+        state_of tables.new ≡ (client_ends client cause (s.clients client) s).state }
+    ensures uses { (t c : ℕ) → Uses t 0 c 0 tables.old tables.new }
+{
+    match cause {
+        Cause::Eof => end_input(tables, client),
+        _ if has_client(tables, client) => fail_client(tables, client, cause),
+        _ => {}
+    }
+}
+
+/// Whether anything of a client is kept.
+fn has_client(tables: &Tables, client: u32) -> bool
+    ensures { result ≡ is_some ((state_of tables.now).clients client) }
+{
+    tables.clients.contains_key(&client)
+}
+
+/// The phase of a client, of which nothing may be kept.
+pub fn phase_of(tables: &Tables, client: u32) -> Phase
+    ensures { result ≡ phase_in ((state_of tables.now).clients client) }
+{
+    match tables.clients.get(&client) {
+        Some(row) => row.about().phase,
+        None => Phase::Gone,
+    }
+}
+
+/// What a client holds still goes up, and what is due to it is handed out.
+fn end_input(tables: &mut Tables, client: u32)
+    ensures state { let s = state_of tables.old in
+        state_of tables.new ≡ input_ends (phase_in (s.clients client)) client s }
+    ensures uses { (t c : ℕ) → Uses t 0 c 0 tables.old tables.new }
+{
+    match phase_of(tables, client) {
+        Phase::Asking | Phase::Binding | Phase::Tracking => tables.close_client(client),
+        Phase::Opening(_) | Phase::Streaming(_) => tables.note_end(client),
+        Phase::Closing | Phase::Gone => {}
+    }
+}
+
+/// A client's connection failed: what is due to it is dropped.
+fn fail_client(tables: &mut Tables, client: u32, cause: Cause)
+    requires { IsProvided tables.old }
+    ensures state { let s = state_of tables.old in state_of tables.new
+        ≡ (fails_in (phase_in (s.clients client)) client cause s).state }
+    ensures uses { (t c : ℕ) → Uses t 0 c 0 tables.old tables.new }
+{
+    let phase = phase_of(tables, client);
+    tables.drop_client(client);
+    fail_stream(tables, phase, cause);
+}
+
+/// The device of an open stream is told that it ends; a stream that its device has not opened
+/// yet stays, as an orphan.
+fn fail_stream(tables: &mut Tables, phase: Phase, cause: Cause)
+    requires { IsProvided tables.old }
+    ensures state { let s = state_of tables.old in
+        state_of tables.new ≡ (stream_fails phase cause (stream_of phase s.streams) s).state }
+    ensures uses { (t c : ℕ) → Uses t 0 c 0 tables.old tables.new }
+{
+    match phase {
+        Phase::Streaming(id) => fail_open(tables, id),
+        Phase::Opening(id) => fail_opening(tables, id),
+        _ => {}
+    }
+}
+
+/// The device of an open stream is told that it ends.
+fn fail_open(tables: &mut Tables, id: u32)
+    requires { IsProvided tables.old }
+    ensures state { (cause : Cause) → let s = state_of tables.old in state_of tables.new
+        ≡ (stream_fails (Phase.Streaming id) cause (s.streams id) s).state }
+    ensures uses { (t c : ℕ) → Uses t 0 c 0 tables.old tables.new }
+{
+    if let Some(stream) = tables.streams.get(id).copied() {
+        tables.drop_stream(id, &stream);
+        tables.owe_close(stream.link, id, stream.part.remote);
+    }
+}
+
+/// A stream that its device has not opened yet stays, as an orphan.
+fn fail_opening(tables: &mut Tables, id: u32)
+    ensures state { (cause : Cause) → let s = state_of tables.old in state_of tables.new
+        ≡ (stream_fails (Phase.Opening id) cause (s.streams id) s).state }
+    ensures uses { (t c : ℕ) → Uses t 0 c 0 tables.old tables.new }
+{
+    if let Some(stream) = tables.streams.get(id).copied() {
+        let mut part = stream.part;
+        part.orphan = true;
+        tables.set_part(id, &stream, part);
+    }
+}

@@ -1,0 +1,188 @@
+//! What the packets of a device make (protocol.txt).
+
+ghost use Rattle.std.specs.Prelude.{◌≡◌, ◌≤◌, ℕ, List, Some, is_some, IsSome, IfSome, length};
+ghost use Rattle.adb_outside.specs.Tables.{at};
+ghost use Rattle.adb_banner.specs.Banner.{identity_of};
+ghost use Rattle.adb_registry.specs.declared.registry.TheConstants.{MAX_FEATURES};
+ghost use Rattle.adb_wire.specs.Format.{has_sums};
+ghost use Rattle.adb_registry.specs.Row.{unauthorized_row};
+ghost use Rattle.adb_registry.specs.Registry.{IsSound, changed};
+ghost use Rattle.adb_history.specs.Rows.{to_link};
+ghost use Rattle.adb_history.specs.Links.{is_connected};
+ghost use Rattle.adb_history.specs.Packets.{least_version, with_sums, goes_online, streams_end_first, connects, cnxn, refuses_open, unauthorized, takes_close};
+ghost use Rattle.adb_hub_tables.specs.Tables.{state_of};
+ghost use Rattle.adb_hub_rules.specs.Came.{named, offline_in};
+ghost use Rattle.adb_hub_tables.specs.Places.{LinkRoom, IsProvided, Uses};
+
+use crate::ends::{end_all, end_row};
+use crate::losing::end_link;
+use adb_hub_tables::Tables;
+use adb_outside::{Identity, State};
+use adb_stream::Stream;
+use adb_wire::{Command, Head, MAX_PAYLOAD, VERSION_WITHOUT_SUMS};
+
+/// The least version and the least maxdata with which a device is taken.
+const LEAST_VERSION: u32 = 0x0100_0000;
+
+const LEAST_MAXDATA: u32 = 4096;
+
+/// A device that is too old, takes too little or does not say who it is breaks its link.
+pub(crate) fn take_cnxn(tables: &mut Tables, link: u32, head: &Head, identity: Option<Identity>)
+    requires cnxn { head.now.command ≡ Command.Cnxn }
+    requires features { IfSome identity (λ named. length named.features ≤ MAX_FEATURES) }
+    requires provided { IsProvided tables.old }
+    ensures state { (banner : List ℕ) → identity_of banner ≡ identity → state_of tables.new
+        ≡ (cnxn link head.now.arg0 head.now.arg1 banner (state_of tables.old)).state }
+    ensures uses { (t c : ℕ) → Uses t 0 c 0 tables.old tables.new }
+{
+    if head.arg0 < LEAST_VERSION || head.arg1 < LEAST_MAXDATA {
+        end_link(tables, link);
+    } else {
+        take_identity(tables, link, head, identity);
+    }
+}
+
+fn take_identity(tables: &mut Tables, link: u32, head: &Head, identity: Option<Identity>)
+    requires version { least_version ≤ head.now.arg0 }
+    requires cnxn { head.now.command ≡ Command.Cnxn }
+    requires features { IfSome identity (λ named. length named.features ≤ MAX_FEATURES) }
+    requires provided { IsProvided tables.old }
+    ensures state { state_of tables.new ≡ (connects link head.now.arg0 head.now.arg1
+        identity (state_of tables.old)).state }
+    ensures uses { (t c : ℕ) → Uses t 0 c 0 tables.old tables.new }
+{
+    match identity {
+        Some(identity) => connect(tables, link, head, identity),
+        None => end_link(tables, link),
+    }
+}
+
+/// On a link that had a CNXN, its streams end first; then the device is who it says.
+fn connect(tables: &mut Tables, link: u32, head: &Head, identity: Identity)
+    requires version { least_version ≤ head.now.arg0 }
+    requires cnxn { head.now.command ≡ Command.Cnxn }
+    requires features { length identity.features ≤ MAX_FEATURES }
+    requires provided { IsProvided tables.old }
+    ensures state { state_of tables.new ≡ (connects link head.now.arg0 head.now.arg1
+        (Some identity) (state_of tables.old)).state }
+    ensures uses { (t c : ℕ) → Uses t 0 c 0 tables.old tables.new }
+{
+    end_first_streams(tables, link);
+    go_online(tables, link, head, identity);
+}
+
+/// On a link that had a CNXN, its streams end.
+fn end_first_streams(tables: &mut Tables, link: u32)
+    requires { IsProvided tables.old }
+    ensures state { let s = state_of tables.old in state_of tables.new
+        ≡ (streams_end_first (is_connected link s.devices) link s).state }
+    ensures uses { (t c : ℕ) → Uses t 0 c 0 tables.old tables.new }
+{
+    if tables.is_connected(link) {
+        end_all(tables, link);
+    }
+}
+
+/// The link has that version and maxdata from now on.
+fn go_online(tables: &mut Tables, link: u32, head: &Head, identity: Identity)
+    requires version { least_version ≤ head.now.arg0 }
+    requires cnxn { head.now.command ≡ Command.Cnxn }
+    requires features { length identity.features ≤ MAX_FEATURES }
+    requires provided { IsProvided tables.old }
+    ensures state { state_of tables.new
+        ≡ goes_online link head.now.arg0 head.now.arg1 identity (state_of tables.old) }
+    ensures uses { (t c : ℕ) → Uses t 0 c 0 tables.old tables.new }
+{
+    set_version(tables, link, head);
+    name_device(tables, link, head, identity);
+    tables.mark_all();
+}
+
+/// The version of a CNXN is the link's from now on.
+fn set_version(tables: &mut Tables, link: u32, head: &Head)
+    requires version { least_version ≤ head.now.arg0 }
+    requires cnxn { head.now.command ≡ Command.Cnxn }
+    ensures state { state_of tables.new
+        ≡ to_link link (with_sums (has_sums head.now.arg0)) (state_of tables.old) }
+    ensures uses { (t c : ℕ) → Uses t 0 c 0 tables.old tables.new }
+{
+    if let Some(port) = tables.links.get_mut(&link) {
+        port.link.took(head);
+    }
+}
+
+/// A device is who it says, with the lesser version and maxdata.
+fn name_device(tables: &mut Tables, link: u32, head: &Head, identity: Identity)
+    requires features { length identity.features ≤ MAX_FEATURES }
+    ensures state { state_of tables.new
+        ≡ named link head.now.arg0 head.now.arg1 identity (state_of tables.old) }
+    ensures uses { (t c : ℕ) → Uses t 0 c 0 tables.old tables.new }
+{
+    let version = head.arg0.min(VERSION_WITHOUT_SUMS);
+    let maxdata = head.arg1.min(MAX_PAYLOAD);
+    if has_device(tables, link) {
+        tables.devices.online(link, identity, version, maxdata);
+    }
+}
+
+fn has_device(tables: &Tables, link: u32) -> bool
+    ensures has { result ≡ is_some (at link tables.now.devices.rows) }
+    ensures sound { IsSound tables.now.devices }
+{
+    tables.devices.row(link).is_some()
+}
+
+/// Before its first CNXN a device that asks for what is not answered is unauthorized.
+pub(crate) fn take_login(tables: &mut Tables, link: u32)
+    requires { IsProvided tables.old }
+    ensures state { let s = state_of tables.old in
+        state_of tables.new ≡ (unauthorized link (at link s.devices.rows) s).state }
+    ensures uses { (t c : ℕ) → Uses t 0 c 0 tables.old tables.new }
+{
+    if is_offline(tables, link) {
+        set_unauthorized(tables, link);
+        tables.mark_all();
+    }
+}
+
+fn set_unauthorized(tables: &mut Tables, link: u32)
+    requires { IsSome (at link tables.old.devices.rows) }
+    ensures state { let s = state_of tables.old in state_of tables.new
+        ≡ record s { devices = changed link unauthorized_row s.devices } }
+    ensures uses { (t c : ℕ) → Uses t 0 c 0 tables.old tables.new }
+{
+    tables.devices.unauthorized(link);
+}
+
+/// Whether a device was plugged in and has not said who it is.
+fn is_offline(tables: &Tables, link: u32) -> bool
+    ensures { result ≡ offline_in (at link tables.now.devices.rows) }
+{
+    match tables.devices.row(link) {
+        Some(row) => matches!(row.state, State::Offline),
+        None => false,
+    }
+}
+
+/// A stream that a device opens is refused.
+pub(crate) fn refuse_open(tables: &mut Tables, link: u32, id: u32)
+    requires { LinkRoom 1 (at link tables.old.links.entries) }
+    ensures state { state_of tables.new ≡ (refuses_open link id (state_of tables.old)).state }
+    ensures uses { (c : ℕ) → Uses link 1 c 0 tables.old tables.new }
+{
+    if id != 0 {
+        tables.owe_close(link, 0, id);
+    }
+}
+
+pub(crate) fn take_close(tables: &mut Tables, id: u32, remote: u32, stream: &Stream)
+    requires here { at id tables.old.streams.streams ≡ Some stream.now }
+    requires provided { IsProvided tables.old }
+    ensures state { (state_of tables.new)
+        ≡ (takes_close id remote stream.now (state_of tables.old)).state }
+    ensures uses { (t c : ℕ) → Uses t 0 c 0 tables.old tables.new }
+{
+    if remote == 0 || remote == stream.part.remote {
+        end_row(tables, id, stream);
+    }
+}

@@ -1,0 +1,173 @@
+//! The packets of a link, one after another (protocol.txt).
+
+ghost use Rattle.std.specs.Prelude.{◌≡◌, ◌≤◌, ℕ, [], ◌∷◌, true, length, All, MatchOption};
+ghost use Rattle.adb_outside.specs.Tables.{at};
+ghost use Rattle.adb_wire.specs.Format.{packet_under};
+ghost use Rattle.adb_stream.specs.Stream.{of_link};
+ghost use Rattle.adb_client.specs.declared.output.TheConstants.{MAX_SLICE};
+ghost use Rattle.adb_history.specs.Links.{credit_word};
+ghost use Rattle.adb_history.specs.Packets.{at_stream, takes_okay, takes_write, takes_close, treat_open, treat_any, treat, treat_all};
+ghost use Rattle.adb_hub_tables.specs.Tables.{state_of};
+ghost use Rattle.adb_hub_rules.specs.Came.{IsCame, packet_of, packets_of, slices_of, slices_for, slices_in};
+ghost use Rattle.adb_hub_tables.specs.Places.{LinkRoom, ClientRoom, StreamRoom, IsProvided, Takes};
+
+use crate::came::Came;
+use crate::okays::take_okay;
+use crate::packets::{refuse_open, take_close, take_cnxn, take_login};
+use crate::writes::take_write;
+use adb_hub_tables::Tables;
+use adb_stream::Stream;
+use adb_wire::{Command, Head};
+use bytes::Bytes;
+use std::collections::VecDeque;
+
+/// Packets come on a link, one after another.
+pub fn treat_all(tables: &mut Tables, link: u32, mut packets: VecDeque<Came>)
+    requires came { All IsCame packets.items }
+    requires provided { IsProvided tables.old }
+    requires link { LinkRoom (length packets.items) (at link tables.old.links.entries) }
+    requires clients { (c : ℕ) → ClientRoom
+        (slices_in (packets_of packets.items) tables.old.streams.streams c)
+        (at c tables.old.clients.entries) }
+    ensures state { state_of tables.new
+        ≡ (treat_all link (packets_of packets.items) (state_of tables.old)).state }
+    ensures takes { Takes link (length packets.items)
+        (slices_in (packets_of packets.items) tables.old.streams.streams) tables.old tables.new }
+{
+    while let Some(came) = next_of(&mut packets) {
+        treat(tables, link, came);
+    }
+}
+
+/// A packet comes on a link, which may be gone.
+pub fn treat(tables: &mut Tables, link: u32, came: Came)
+    requires came { IsCame came }
+    requires provided { IsProvided tables.old }
+    requires link { LinkRoom 1 (at link tables.old.links.entries) }
+    requires clients { (c : ℕ) → ClientRoom
+        (slices_for (packet_of came) tables.old.streams.streams c)
+        (at c tables.old.clients.entries) }
+    ensures state { state_of tables.new
+        ≡ (treat link (packet_of came) (state_of tables.old)).state }
+    ensures takes { Takes link 1 (slices_for (packet_of came) tables.old.streams.streams)
+        tables.old tables.new }
+{
+    if tables.links.contains_key(&link) {
+        treat_any(tables, link, came);
+    }
+}
+
+/// A packet says who the device is, or asks for what is not answered; others are for a link
+/// that had a CNXN.
+fn treat_any(tables: &mut Tables, link: u32, came: Came)
+    requires came { IsCame came }
+    requires provided { IsProvided tables.old }
+    requires link { LinkRoom 1 (at link tables.old.links.entries) }
+    requires clients { (c : ℕ) → ClientRoom
+        (slices_for (packet_of came) tables.old.streams.streams c)
+        (at c tables.old.clients.entries) }
+    ensures state { let p = packet_of came in state_of tables.new
+        ≡ (treat_any link p.command p (state_of tables.old)).state }
+    ensures takes { Takes link 1 (slices_for (packet_of came) tables.old.streams.streams)
+        tables.old tables.new }
+{
+    let Came {
+        head,
+        payload,
+        identity,
+    } = came;
+    match head.command {
+        Command::Cnxn => take_cnxn(tables, link, &head, identity),
+        Command::Auth | Command::Stls => take_login(tables, link),
+        _ if tables.is_connected(link) => treat_open(tables, link, &head, payload),
+        _ => {}
+    }
+}
+
+/// A packet of a link that had a CNXN, which is no CNXN.
+fn treat_open(tables: &mut Tables, link: u32, head: &Head, payload: Bytes)
+    requires provided { IsProvided tables.old }
+    requires link { LinkRoom 1 (at link tables.old.links.entries) }
+    requires clients { (c : ℕ) → ClientRoom
+        (slices_for (packet_under head.now payload) tables.old.streams.streams c)
+        (at c tables.old.clients.entries) }
+    requires size { length payload ≤ MAX_SLICE }
+    ensures state { let p = packet_under head.now payload in state_of tables.new
+        ≡ (treat_open link p.command p (state_of tables.old)).state }
+    ensures takes { Takes link 1
+        (slices_for (packet_under head.now payload) tables.old.streams.streams)
+        tables.old tables.new }
+{
+    match head.command {
+        Command::Open => refuse_open(tables, link, head.arg0),
+        Command::Okay => treat_okay(tables, link, head, payload.as_slice()),
+        Command::Wrte => treat_write(tables, link, head, payload),
+        Command::Clse => treat_close(tables, link, head),
+        _ => {}
+    }
+}
+
+/// The stream of an id, if it is one of that link.
+fn stream_on(tables: &Tables, link: u32, id: u32) -> Option<Stream>
+    ensures { result ≡ of_link link (at id tables.now.streams.streams) }
+{
+    tables.streams.find(link, id).copied()
+}
+
+fn treat_okay(tables: &mut Tables, link: u32, head: &Head, payload: &[u8])
+    requires provided { IsProvided tables.old }
+    requires client { StreamRoom 1 tables.old (at head.now.arg1 tables.old.streams.streams) }
+    ensures state { let id = head.now.arg1 in let s = state_of tables.old in state_of tables.new
+        ≡ (at_stream link (s.streams id)
+        (takes_okay id head.now.arg0 (credit_word payload.now)) s).state }
+    ensures takes { Takes link 1 (slices_of true (at head.now.arg1 tables.old.streams.streams))
+        tables.old tables.new }
+{
+    if let Some(stream) = stream_on(tables, link, head.arg1) {
+        take_okay(tables, head.arg1, head.arg0, credit_word(payload), &stream);
+    }
+}
+
+fn treat_write(tables: &mut Tables, link: u32, head: &Head, payload: Bytes)
+    requires provided { IsProvided tables.old }
+    requires link { LinkRoom 1 (at link tables.old.links.entries) }
+    requires client { StreamRoom 1 tables.old (at head.now.arg1 tables.old.streams.streams) }
+    requires size { length payload ≤ MAX_SLICE }
+    ensures state { let id = head.now.arg1 in let s = state_of tables.old in state_of tables.new
+        ≡ (at_stream link (s.streams id) (takes_write id head.now.arg0 payload) s).state }
+    ensures takes { Takes link 1 (slices_of true (at head.now.arg1 tables.old.streams.streams))
+        tables.old tables.new }
+{
+    if let Some(stream) = stream_on(tables, link, head.arg1) {
+        take_write(tables, head.arg1, head.arg0, payload, &stream);
+    }
+}
+
+fn treat_close(tables: &mut Tables, link: u32, head: &Head)
+    requires { IsProvided tables.old }
+    ensures state { let id = head.now.arg1 in let s = state_of tables.old in state_of tables.new
+        ≡ (at_stream link (s.streams id) (takes_close id head.now.arg0) s).state }
+    ensures takes { (slices : ℕ → ℕ) → Takes link 1 slices tables.old tables.new }
+{
+    if let Some(stream) = stream_on(tables, link, head.arg1) {
+        take_close(tables, head.arg1, head.arg0, &stream);
+    }
+}
+
+/// The next packet, if there is one.
+fn next_of(packets: &mut VecDeque<Came>) -> Option<Came>
+    ensures { MatchOption result (packets.old.items ≡ [])
+        (λ came. packets.old.items ≡ came ∷ packets.new.items) }
+{
+    packets.pop_front()
+}
+
+/// The credit that the payload of an OKAY gives, where it is a credit word.
+pub fn credit_word(payload: &[u8]) -> Option<u32>
+    ensures { result ≡ credit_word payload.now }
+{
+    match payload {
+        [a, b, c, d] => Some(u32::from_le_bytes([*a, *b, *c, *d])),
+        _ => None,
+    }
+}

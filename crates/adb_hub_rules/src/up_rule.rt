@@ -1,0 +1,309 @@
+//! What a stream may send up, by its window or its credit (protocol.txt, WRITE and READY).
+
+ghost use Rattle.std.specs.Prelude.{IfSome, ◌≡◌, ◌≢◌, ◌≤◌, ◌<◌, ℕ, true, false, [], Some, None, length, take, drop, option_map};
+ghost use Rattle.adb_outside.specs.Tables.{at};
+ghost use Rattle.adb_wire.specs.declared.headers.TheConstants.{MAX_PAYLOAD};
+ghost use Rattle.adb_client.specs.Client.{SeenClient};
+ghost use Rattle.adb_stream.specs.declared.row.Stream.{Stream};
+ghost use Rattle.adb_history.specs.Rows.{to_client, with_held};
+ghost use Rattle.adb_history.specs.Flow.{write_len, wrote, is_idle, is_over, goes_up, flow_after, all_go_up, noted, closes_if, sends_up, up};
+ghost use Rattle.adb_hub_tables.specs.Tables.{client_row, state_of};
+ghost use Rattle.adb_hub_tables.specs.Places.{LinkRoom, IsCounted, IsProvided, Uses};
+ghost use Rattle.adb_hub_rules.specs.Handing.{UsesOf};
+ghost use Rattle.adb_hub_rules.specs.Up.{up_writes, up_bytes, IsReadyUp, IsSized, StaysReady, writes_up, held_at, may_send, LetsGo, CanCut, cut_off, unsent, all_unsent, has_open, CanSend, IsReadyToSend, Sends};
+
+use crate::ends::end_telling;
+use crate::handing::set_flow;
+use adb_client::Phase;
+use adb_hub_tables::Tables;
+use adb_stream::{Flow, Part, Stream};
+use bytes::Bytes;
+
+/// The up rule, for the stream of an id: what its client holds goes up in writes, and then its
+/// end, where its input ended and all went up.
+pub fn up(tables: &mut Tables, id: u32)
+    requires ready { IsReadyUp id tables.old }
+    requires sized { IsSized tables.old }
+    requires counted { IsCounted tables.old }
+    ensures state { state_of tables.new ≡ (up id (state_of tables.old)).state }
+    ensures uses { (c : ℕ) → UsesOf (at id tables.old.streams.streams) (writes_up id tables.old)
+        c 0 tables.old tables.new }
+    ensures others { (l : ℕ) → l ≢ id → StaysReady l tables.old tables.new }
+    ensures devices { tables.new.devices ≡ tables.old.devices }
+{
+    if let Some(stream) = tables.streams.get(id).copied()
+        && has_open(tables, stream.client, id)
+    {
+        send_up(tables, id, &stream);
+    }
+}
+
+/// The up rule for a stream of which nothing can be sent: it takes no places but that of its
+/// end.
+pub fn close_idle(tables: &mut Tables, id: u32)
+    requires provided { IsProvided tables.old }
+    requires idle { (stream : Stream) → at id tables.old.streams.streams ≡ Some stream
+        → all_unsent stream tables.old ≡ [] }
+    ensures state { state_of tables.new ≡ (up id (state_of tables.old)).state }
+    ensures uses { (t c : ℕ) → Uses t 0 c 0 tables.old tables.new }
+{
+    if let Some(stream) = tables.streams.get(id).copied()
+        && has_open(tables, stream.client, id)
+    {
+        close_over(tables, id, &stream);
+    }
+}
+
+/// Whether a client has the stream of an id open.
+fn has_open(tables: &Tables, client: u32, id: u32) -> bool
+    ensures { result ≡ has_open id (at client tables.now.clients.entries) }
+{
+    match tables.clients.get(&client) {
+        Some(row) => match row.about().phase {
+            Phase::Streaming(open) => open == id,
+            _ => false,
+        },
+        None => false,
+    }
+}
+
+/// What a client holds goes up the stream that it has open.
+fn send_up(tables: &mut Tables, id: u32, stream: &Stream)
+    requires here { at id tables.old.streams.streams ≡ Some stream.now }
+    requires open { has_open id (at stream.now.client tables.old.clients.entries) ≡ true }
+    requires ready { IsReadyToSend stream.now tables.old }
+    requires sized { IsSized tables.old }
+    requires counted { IsCounted tables.old }
+    ensures state { (row : SeenClient)
+        → at stream.now.client tables.old.clients.entries ≡ Some row
+        → state_of tables.new ≡ (sends_up id stream.now (client_row row)
+        (all_unsent stream.now tables.old) (state_of tables.old)).state }
+    ensures uses { (c : ℕ) → Uses stream.now.link (length (all_unsent stream.now tables.old))
+        c 0 tables.old tables.new }
+    ensures others { (c : ℕ) → c ≢ stream.now.client
+        → at c tables.new.clients.entries ≡ at c tables.old.clients.entries }
+{
+    let flow = send_held(tables, id, stream);
+    let part = Part {
+        flow,
+        ..stream.part
+    };
+    close_over(tables, id, &Stream { part, ..*stream });
+}
+
+/// What a client holds goes up, as much as the flow of its stream lets go; says what the flow
+/// is then.
+fn send_held(tables: &mut Tables, id: u32, stream: &Stream) -> Flow
+    requires here { at id tables.old.streams.streams ≡ Some stream.now }
+    requires ready { IsReadyToSend stream.now tables.old }
+    requires sized { IsSized tables.old }
+    ensures state { let writes = all_unsent stream.now tables.old in
+        let held = held_at (at stream.now.client tables.old.clients.entries) in
+        state_of tables.new ≡ (all_go_up id stream.now writes
+        (noted id stream.now held writes (state_of tables.old))).state }
+    ensures flow { result
+        ≡ flow_after (all_unsent stream.now tables.old) stream.now.part.flow }
+    ensures uses { (c : ℕ) → Uses stream.now.link (length (all_unsent stream.now tables.old))
+        c 0 tables.old tables.new }
+    ensures others { (c : ℕ) → c ≢ stream.now.client
+        → at c tables.new.clients.entries ≡ at c tables.old.clients.entries }
+{
+    let maxdata = tables.maxdata_of(stream.link);
+    let flow = write_up(tables, id, stream, maxdata);
+    set_flow(tables, id, stream, &flow);
+    flow
+}
+
+/// A stream that is over for its client ends.
+fn close_over(tables: &mut Tables, id: u32, stream: &Stream)
+    requires here { at id tables.old.streams.streams ≡ Some stream.now }
+    requires open { has_open id (at stream.now.client tables.old.clients.entries) ≡ true }
+    requires room { LinkRoom 0 (at stream.now.link tables.old.links.entries) }
+    requires counted { IsCounted tables.old }
+    ensures state { (row : SeenClient)
+        → at stream.now.client tables.old.clients.entries ≡ Some row
+        → state_of tables.new
+        ≡ (closes_if (is_over row.about.ended row.held stream.now.part.flow) id
+        (Some stream.now) (state_of tables.old)).state }
+    ensures uses { (c : ℕ) → Uses stream.now.link 0 c 0 tables.old tables.new }
+    ensures others { (c : ℕ) → c ≢ stream.now.client
+        → at c tables.new.clients.entries ≡ at c tables.old.clients.entries }
+{
+    if is_over(tables, stream.client, &stream.part.flow) {
+        end_telling(tables, id, stream);
+    }
+}
+
+/// Whether a stream is over for its client: its input ended, nothing of it is held, and no
+/// write waits.
+fn is_over(tables: &Tables, client: u32, flow: &Flow) -> bool
+    ensures { (row : SeenClient) → at client tables.now.clients.entries ≡ Some row
+        → result ≡ is_over row.about.ended row.held flow.now }
+{
+    match tables.clients.get(&client) {
+        Some(row) => row.held() == 0 && row.about().ended && is_idle(flow),
+        None => false,
+    }
+}
+
+/// Writes go up, as many as the flow of a stream lets go; says what the flow is then.
+fn write_up(tables: &mut Tables, id: u32, stream: &Stream, maxdata: usize) -> Flow
+    requires size { maxdata ≤ MAX_PAYLOAD }
+    requires cut { CanSend stream.now maxdata (stream.now.part.flow, tables.old) }
+    requires room { LinkRoom (length (unsent stream.now maxdata
+        (stream.now.part.flow, tables.old))) (at stream.now.link tables.old.links.entries) }
+    ensures sends { Sends id stream.now maxdata (stream.now.part.flow, tables.old)
+        (result, tables.new) }
+    ensures all { unsent stream.now maxdata (result, tables.new) ≡ [] }
+{
+    let mut flow = stream.part.flow;
+    while write_next(tables, id, stream, &mut flow, maxdata) {}
+    flow
+}
+
+/// A write goes up, where the flow of a stream lets one go; says whether one did.
+fn write_next(
+    tables: &mut Tables,
+    id: u32,
+    stream: &Stream,
+    flow: &mut Flow,
+    maxdata: usize,
+) -> bool
+    requires size { maxdata ≤ MAX_PAYLOAD }
+    requires cut { CanSend stream.now maxdata (flow.old, tables.old) }
+    requires room { LinkRoom (length (unsent stream.now maxdata (flow.old, tables.old)))
+        (at stream.now.link tables.old.links.entries) }
+    ensures sends { Sends id stream.now maxdata (flow.old, tables.old) (flow.new, tables.new) }
+    ensures all { result ≡ false
+        → unsent stream.now maxdata (flow.new, tables.new) ≡ [] }
+    ensures less { result ≡ true
+        → length (held_at (at stream.now.client tables.new.clients.entries))
+        < length (held_at (at stream.now.client tables.old.clients.entries)) }
+{
+    let n = next_len(tables, stream.client, flow, maxdata);
+    if n == 0 {
+        return false;
+    }
+    write_one(tables, id, stream, n);
+    *flow = wrote(*flow, n);
+    true
+}
+
+/// How many bytes go up in the next write.
+fn next_len(tables: &Tables, client: u32, flow: &Flow, maxdata: usize) -> usize
+    ensures { result ≡ write_len maxdata (may_send flow.now maxdata)
+        (held_at (at client tables.now.clients.entries)) }
+{
+    match tables.clients.get(&client) {
+        Some(row) => maxdata.min(may_send(flow, maxdata)).min(row.held()),
+        None => 0,
+    }
+}
+
+/// So many bytes go up in a write.
+fn write_one(tables: &mut Tables, id: u32, stream: &Stream, n: usize)
+    requires size { n ≤ MAX_PAYLOAD }
+    requires cut { CanCut n (at stream.now.client tables.old.clients.entries) }
+    requires some { 0 < n }
+    requires held { n ≤ length (held_at (at stream.now.client tables.old.clients.entries)) }
+    requires room { LinkRoom 1 (at stream.now.link tables.old.links.entries) }
+    ensures state { let held = held_at (at stream.now.client tables.old.clients.entries) in
+        state_of tables.new ≡ (goes_up id stream.now (take n held)
+        (to_client stream.now.client (with_held (drop n held)) (state_of tables.old))).state }
+    ensures client { at stream.now.client tables.new.clients.entries
+        ≡ option_map (cut_off n) (at stream.now.client tables.old.clients.entries) }
+    ensures others { (c : ℕ) → c ≢ stream.now.client
+        → at c tables.new.clients.entries ≡ at c tables.old.clients.entries }
+    ensures streams { tables.new.streams ≡ tables.old.streams }
+    ensures uses { (c : ℕ) → Uses stream.now.link 1 c 0 tables.old tables.new }
+{
+    if let Some(payload) = cut(tables, stream.client, n) {
+        tables.owe_write(stream.link, id, stream.part.remote, payload);
+    }
+}
+
+/// The first bytes that a client holds, which are held no more.
+fn cut(tables: &mut Tables, client: u32, n: usize) -> Option<Bytes>
+    requires cut { CanCut n (at client tables.old.clients.entries) }
+    requires some { 0 < n }
+    requires held { n ≤ length (held_at (at client tables.old.clients.entries)) }
+    ensures piece { result
+        ≡ option_map (λ row. take n row.held) (at client tables.old.clients.entries) }
+    ensures state { let held = held_at (at client tables.old.clients.entries) in
+        state_of tables.new ≡ to_client client (with_held (drop n held)) (state_of tables.old) }
+    ensures client { at client tables.new.clients.entries
+        ≡ option_map (cut_off n) (at client tables.old.clients.entries) }
+    ensures others { (c : ℕ) → c ≢ client
+        → at c tables.new.clients.entries ≡ at c tables.old.clients.entries }
+    ensures streams { tables.new.streams ≡ tables.old.streams }
+    ensures links { tables.new.links ≡ tables.old.links }
+    ensures uses { (t c : ℕ) → Uses t 0 c 0 tables.old tables.new }
+{
+    let row = tables.clients.get_mut(&client)?;
+    Some(row.cut_ready(n))
+}
+
+/// How many of so many bytes that are held a stream may send up at once, at most, behind credit
+/// for so many bytes more.
+pub fn up_bytes(flow: &Flow, more: usize, maxdata: usize, held: usize) -> usize
+    ensures bytes { result ≡ up_bytes flow.now more maxdata held }
+    ensures within { result ≤ held }
+{
+    match flow {
+        Flow::One(_) => maxdata.min(held),
+        Flow::Credit(credit) => (credit.can_send() as usize).saturating_add(more).min(held),
+    }
+}
+
+/// In how many writes at most, where that can be counted.
+pub fn up_writes(flow: &Flow, more: usize, maxdata: usize, held: usize) -> Option<usize>
+    ensures { IfSome result (λ writes. writes ≡ up_writes flow.now more maxdata held) }
+{
+    match flow {
+        Flow::One(_) => Some(1),
+        Flow::Credit(_) => {
+            let most = up_bytes(flow, more, maxdata, held);
+            most.checked_div(maxdata).unwrap_or(0).checked_add(1)
+        }
+    }
+}
+
+/// How many bytes a flow lets go now.
+fn may_send(flow: &Flow, maxdata: usize) -> usize
+    ensures { result ≡ may_send flow.now maxdata }
+{
+    match flow {
+        Flow::One(window) if window.can_write() => maxdata,
+        Flow::One(_) => 0,
+        Flow::Credit(credit) => credit.can_send() as usize,
+    }
+}
+
+/// The flow after a write of so many bytes.
+fn wrote(flow: Flow, n: usize) -> Flow
+    requires { LetsGo flow n }
+    ensures { result ≡ wrote n flow }
+{
+    match flow {
+        Flow::One(window) => {
+            let mut window = window;
+            window.wrote();
+            Flow::One(window)
+        }
+        Flow::Credit(credit) => {
+            let mut credit = credit;
+            credit.sent(n as u32);
+            Flow::Credit(credit)
+        }
+    }
+}
+
+/// Whether no write waits for its OKAY.
+fn is_idle(flow: &Flow) -> bool
+    ensures { result ≡ is_idle flow.now }
+{
+    match flow {
+        Flow::One(window) => window.can_write(),
+        Flow::Credit(_) => true,
+    }
+}

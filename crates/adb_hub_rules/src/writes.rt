@@ -1,0 +1,93 @@
+//! WRTE: bytes of a stream come from its device (protocol.txt, WRITE).
+
+ghost use Rattle.std.specs.Prelude.{◌≡◌, ◌≤◌, ℕ, Some, true, not, length};
+ghost use Rattle.adb_outside.specs.Tables.{at};
+ghost use Rattle.adb_client.specs.declared.output.TheConstants.{MAX_SLICE};
+ghost use Rattle.adb_history.specs.Rows.{to_stream, with_stream_part};
+ghost use Rattle.adb_history.specs.Clients.{owe_client};
+ghost use Rattle.adb_history.specs.Flow.{with_flow};
+ghost use Rattle.adb_history.specs.Packets.{is_out_of_turn, accepted, accepts_none, accepts, takes_write};
+ghost use Rattle.adb_hub_tables.specs.Tables.{state_of};
+ghost use Rattle.adb_hub_tables.specs.Places.{LinkRoom, ClientRoom, IsProvided, Uses};
+
+use crate::ends::end_telling;
+use adb_hub_tables::Tables;
+use adb_stream::{Flow, Stream, Took};
+use bytes::Bytes;
+
+pub(crate) fn take_write(tables: &mut Tables, id: u32, remote: u32, payload: Bytes, stream: &Stream)
+    requires here { at id tables.old.streams.streams ≡ Some stream.now }
+    requires provided { IsProvided tables.old }
+    requires link { LinkRoom 1 (at stream.now.link tables.old.links.entries) }
+    requires place { ClientRoom 1 (at stream.now.client tables.old.clients.entries) }
+    requires size { length payload ≤ MAX_SLICE }
+    ensures state { state_of tables.new
+        ≡ (takes_write id remote payload stream.now (state_of tables.old)).state }
+    ensures uses { Uses stream.now.link 1 stream.now.client 1 tables.old tables.new }
+{
+    if remote == 0 || remote != stream.part.remote {
+        return;
+    }
+    let mut flow = stream.part.flow;
+    if accept(&mut flow, payload.len()) {
+        accept_write(tables, id, payload, flow, stream);
+    } else {
+        end_telling(tables, id, stream);
+    }
+}
+
+/// A write in turn becomes due to the client.
+fn accept_write(tables: &mut Tables, id: u32, payload: Bytes, flow: Flow, stream: &Stream)
+    requires here { at id tables.old.streams.streams ≡ Some stream.now }
+    requires flow { flow ≡ accepted (length payload) stream.now.part.flow }
+    requires link { LinkRoom 1 (at stream.now.link tables.old.links.entries) }
+    requires place { ClientRoom 1 (at stream.now.client tables.old.clients.entries) }
+    requires size { length payload ≤ MAX_SLICE }
+    ensures state { state_of tables.new
+        ≡ (accepts id payload stream.now (state_of tables.old)).state }
+    ensures uses { Uses stream.now.link 1 stream.now.client 1 tables.old tables.new }
+{
+    if payload.is_empty() {
+        accept_none(tables, id, stream);
+    } else {
+        accept_some(tables, id, payload, flow, stream);
+    }
+}
+
+/// A write without bytes: one write each way answers it at once.
+fn accept_none(tables: &mut Tables, id: u32, stream: &Stream)
+    requires { LinkRoom 1 (at stream.now.link tables.old.links.entries) }
+    ensures state { state_of tables.new
+        ≡ (accepts_none stream.now.part.flow id stream.now (state_of tables.old)).state }
+    ensures uses { (c : ℕ) → Uses stream.now.link 1 c 0 tables.old tables.new }
+{
+    match stream.part.flow {
+        Flow::One(_) => tables.owe_okay(stream.link, id, stream.part.remote),
+        Flow::Credit(_) => {}
+    }
+}
+
+fn accept_some(tables: &mut Tables, id: u32, payload: Bytes, flow: Flow, stream: &Stream)
+    requires here { at id tables.old.streams.streams ≡ Some stream.now }
+    requires place { ClientRoom 1 (at stream.now.client tables.old.clients.entries) }
+    requires size { length payload ≤ MAX_SLICE }
+    ensures state { state_of tables.new ≡ (owe_client stream.now.client payload
+        (to_stream id (with_stream_part (with_flow flow stream.now.part)) (state_of tables.old))).state }
+    ensures uses { (t : ℕ) → Uses t 0 stream.now.client 1 tables.old tables.new }
+{
+    let mut part = stream.part;
+    part.flow = flow;
+    tables.set_part(id, stream, part);
+    tables.owe_client(stream.client, payload);
+}
+
+/// Whether a write of so many bytes comes in turn; if so the flow has accepted it.
+fn accept(flow: &mut Flow, n: usize) -> bool
+    ensures turn { result ≡ not (is_out_of_turn flow.old n) }
+    ensures flow { result ≡ true → flow.new ≡ accepted n flow.old }
+{
+    match flow {
+        Flow::One(window) => window.took(n) != Took::OutOfTurn,
+        Flow::Credit(credit) => credit.took(n) != Took::OutOfTurn,
+    }
+}

@@ -1,0 +1,13 @@
+mod Marking
+mod FirstMark
+mod TouchedRows
+mod Grouping
+pub mod Rows
+mod Owing
+pub mod StreamRows
+pub mod Staying
+pub mod Using
+mod Trackers
+pub mod Closings
+pub mod PutRows
+pub mod Widening

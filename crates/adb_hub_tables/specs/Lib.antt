@@ -1,0 +1,9 @@
+pub mod First
+pub mod Lending
+pub mod Marked
+pub mod TouchedMap
+pub mod Tables
+pub mod Places
+pub mod Tracked
+pub mod Fit
+pub mod Widening

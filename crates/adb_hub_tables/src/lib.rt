@@ -1,0 +1,25 @@
+//! What a hub keeps: clients, links and streams by number, the devices and the forwards, with the
+//! places that are kept for what becomes due; and what changes of a row. A map of rows knows which
+//! were touched since they were last seen with nothing due.
+#![tactic(auto)]
+
+mod clients;
+mod devices;
+mod links;
+mod marks;
+mod owes;
+mod places;
+mod ports;
+mod streams;
+mod tables;
+#[cfg(test)]
+mod tests;
+mod touched_map;
+mod tracking;
+mod words;
+
+pub use owes::Owes;
+pub use places::{keep_on_link, keep_slice};
+pub use ports::Port;
+pub use tables::Tables;
+pub use touched_map::TouchedMap;

@@ -1,0 +1,56 @@
+//! A device's link, with the places that are kept for the ends of its streams.
+
+ghost use Rattle.std.specs.Prelude.{◌≡◌, ◌<◌, ◌≤◌, ◌-◌, length, nat_lt};
+ghost use Rattle.adb_wire.specs.Format.{packet_under};
+ghost use Rattle.adb_link.specs.Linked.{IsHeadOf};
+ghost use Rattle.adb_hub_tables.specs.Tables.{link_row, owing_row};
+
+use crate::owes::Owes;
+use adb_link::{Link, MAX_SHORT};
+use adb_wire::Head;
+use bytes::Bytes;
+
+/// A device's link, and how many places are kept on it for the packets that end its streams.
+#[derive(Drop)]
+pub struct Port {
+    pub link: Link,
+    pub kept: usize,
+}
+
+impl Port {
+    /// A packet with a payload of at most eight bytes becomes due, in a place that was kept.
+    pub fn owe_short(&mut self, head: &Head, payload: &[u8])
+        requires place { 0 < self.old.link.spare }
+        requires head { IsHeadOf head.now payload.now }
+        requires short { length payload.now ≤ MAX_SHORT }
+        ensures row { link_row self.new
+            ≡ owing_row (packet_under head.now payload.now) (link_row self.old) }
+        ensures place { self.new.link.spare ≡ self.old.link.spare - 1 }
+        ensures kept { self.new.kept ≡ self.old.kept }
+        ensures read { self.new.link.incoming ≡ self.old.link.incoming }
+    {
+        self.link.owe_short_spare(head, payload);
+    }
+
+    /// A packet becomes due, in a place that was kept.
+    pub fn owe_slice(&mut self, head: &Head, payload: Bytes)
+        requires place { 0 < self.old.link.spare }
+        requires head { IsHeadOf head.now payload }
+        ensures row { link_row self.new
+            ≡ owing_row (packet_under head.now payload) (link_row self.old) }
+        ensures place { self.new.link.spare ≡ self.old.link.spare - 1 }
+        ensures kept { self.new.kept ≡ self.old.kept }
+        ensures read { self.new.link.incoming ≡ self.old.link.incoming }
+    {
+        self.link.owe_slice_spare(head, payload);
+    }
+}
+
+/// Bytes are due to a link.
+impl Owes for Port {
+    ghost owed = { λ port. nat_lt 0 (length port.link.due) };
+
+    fn owes(&self) -> bool {
+        self.link.owed() > 0
+    }
+}

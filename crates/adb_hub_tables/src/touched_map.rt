@@ -1,0 +1,187 @@
+//! Rows under numbers, of which it is known which may be owed something.
+
+ghost use Rattle.std.specs.Prelude.{◌≡◌, ◌^◌, ◌<◌, [], length, Some, None, filter, nat_eq, is_some, IfOk, OnOk, OnErr};
+ghost use Rattle.std.specs.Option.{option_copied, option_copied_mut};
+ghost use Rattle.std.specs.Ordering.{nat_cmp};
+ghost use Rattle.std.specs.Borrow.{sem};
+ghost use Rattle.adb_outside.specs.Tables.{at, put_at, without, IsRising, Puts};
+ghost use Rattle.adb_hub_tables.specs.First.{first_number, owes_at};
+
+use crate::marks::Marks;
+use crate::owes::Owes;
+use std::alloc::{AllocError, Global};
+use std::collections::BTreeMap;
+use std::marker::Model;
+
+/// Rows under numbers. Contracts see it as std's map of them. A row that was not touched, that is,
+/// lent or put, since it was last seen with nothing due is known to have nothing due, so that the
+/// least to which something is due is found among the others.
+#[derive(Drop)]
+pub struct TouchedMap<V: Owes> {
+    rows: BTreeMap<u32, V>,
+    marks: Marks,
+}
+
+impl<V: Owes> Model for TouchedMap<V> {
+    ghost use Rattle.adb_hub_tables.specs.TouchedMap.{Table, table, table_code};
+    ghost use Rattle.adb_hub_tables.specs.Marked.{IsMarked};
+
+    ghost Value = { Table V };
+
+    ghost coded = { table_code V.code };
+
+    ghost view = { λ a. table a.rows.entries };
+
+    ghost invariant = { λ a. IsMarked V.owed a.marks.entries a.rows.entries };
+}
+
+impl<V: Owes> TouchedMap<V> {
+    ghost use Rattle.adb_hub_tables.specs.Lending.{lends_row};
+
+    /// No rows. It takes no memory.
+    pub fn new(alloc: Global) -> TouchedMap<V>
+        ensures empty { result.entries ≡ [] }
+    {
+        TouchedMap {
+            rows: BTreeMap::new(alloc),
+            marks: Marks::new(alloc),
+        }
+    }
+
+    /// How many rows there are.
+    pub fn len(&self) -> usize
+        ensures len { result ≡ length self.now.entries }
+        ensures small { result < 2 ^ 63 }
+        ensures ordered { IsRising self.now.entries }
+    {
+        self.rows.len()
+    }
+
+    /// The row of a number.
+    pub fn get(&self, id: &u32) -> Option<&V>
+        ensures value { option_copied result ≡ at id.now self.now.entries }
+    {
+        self.rows.get(id)
+    }
+
+    /// Whether a number has a row.
+    pub fn contains_key(&self, id: &u32) -> bool
+        ensures { result ≡ is_some (at id.now self.now.entries) }
+    {
+        self.rows.contains_key(id)
+    }
+
+    /// The row of a number, to be written. It takes no memory.
+    pub fn get_mut(&mut self, id: &u32) -> Option<&mut V>
+        ensures* writes_back { sem 𝓛 (lends_row V.row V.Owes self.entry (nat_cmp id.now) result) }
+        ensures value { option_copied_mut result ≡ at id.now self.old.entries }
+        ensures ordered { IsRising self.old.entries }
+    {
+        self.marks.mark(*id);
+        self.rows.get_mut(id)
+    }
+
+    /// The least number of a row to which something is due. It takes no memory, and looks at no row
+    /// but those lent since they were last seen with nothing due.
+    pub fn first_owed(&mut self) -> Option<u32>
+        ensures first { result ≡ first_number V.owed self.old.entries }
+        ensures rises { IsRising self.old.entries }
+        ensures same { self.new ≡ self.old }
+    {
+        if self.rows.len() == 0 {
+            return None;
+        }
+        while let Some(id) = self.marks.first() {
+            if is_owed(&self.rows, id) {
+                return Some(id);
+            }
+            self.marks.unmark(id);
+        }
+        None
+    }
+}
+
+impl<V: Owes + Drop> TouchedMap<V> {
+    /// A row stands under a number, in place of the one there, which is answered. After want of
+    /// memory the rows are as before, and the new one is dropped.
+    pub fn insert(&mut self, id: u32, row: V) -> Result<Option<V>, AllocError>
+        ensures old { IfOk result (λ old. old ≡ at id self.old.entries) }
+        ensures puts { OnOk result (Puts id (Some row) self.old.entries self.new.entries) }
+        ensures entries { OnOk result (self.new.entries ≡ put_at id row self.old.entries) }
+        ensures err { OnErr result (self.new.entries ≡ self.old.entries) }
+    {
+        self.marks.know(id)?;
+        match put_row(&mut self.rows, id, row) {
+            Ok(old) => Ok(old),
+            Err(error) => {
+                self.marks.forget(id);
+                Err(error)
+            }
+        }
+    }
+
+    /// No row stands under a number. The one that did is answered.
+    pub fn remove(&mut self, id: &u32) -> Option<V>
+        ensures value { result ≡ at id.now self.old.entries }
+        ensures puts { Puts id.now None self.old.entries self.new.entries }
+        ensures entries { self.new.entries ≡ without id.now self.old.entries }
+    {
+        let row = take_row(&mut self.rows, *id);
+        self.marks.forget(*id);
+        row
+    }
+
+    /// No row stays.
+    pub fn clear(&mut self)
+        ensures empty { self.new.entries ≡ [] }
+    {
+        self.rows.clear();
+        self.marks.clear();
+    }
+
+    /// No row stays but that of one number.
+    pub fn keep_only(&mut self, id: u32)
+        ensures { self.new.entries ≡ filter (λ row. nat_eq row.0 id) self.old.entries }
+    {
+        keep_row(&mut self.rows, id);
+        self.marks.keep_only(id);
+    }
+}
+
+/// Whether there is a row to which something is due.
+fn is_owed<V: Owes>(rows: &BTreeMap<u32, V>, id: u32) -> bool
+    ensures { result ≡ owes_at V.owed id rows.now.entries }
+{
+    match rows.get(&id) {
+        Some(row) => row.owes(),
+        None => false,
+    }
+}
+
+/// A row stands under a number, in place of the one there.
+fn put_row<V: Drop>(rows: &mut BTreeMap<u32, V>, id: u32, row: V) -> Result<Option<V>, AllocError>
+    ensures old { IfOk result (λ old. old ≡ at id rows.old.entries) }
+    ensures puts { OnOk result (Puts id (Some row) rows.old.entries rows.new.entries) }
+    ensures entries { OnOk result (rows.new.entries ≡ put_at id row rows.old.entries) }
+    ensures absent { OnErr result (at id rows.old.entries ≡ None) }
+    ensures err { OnErr result (rows.new.entries ≡ rows.old.entries) }
+{
+    let old = rows.insert(id, row)?;
+    Ok(old)
+}
+
+/// No row stands under a number.
+fn take_row<V: Drop>(rows: &mut BTreeMap<u32, V>, id: u32) -> Option<V>
+    ensures value { result ≡ at id rows.old.entries }
+    ensures puts { Puts id None rows.old.entries rows.new.entries }
+    ensures entries { rows.new.entries ≡ without id rows.old.entries }
+{
+    rows.remove(&id)
+}
+
+/// Of these rows one alone stays.
+fn keep_row<V: Drop>(rows: &mut BTreeMap<u32, V>, id: u32)
+    ensures { rows.new.entries ≡ filter (λ row. nat_eq row.0 id) rows.old.entries }
+{
+    rows.retain(|number, _| *number == id);
+}

@@ -1,8 +1,0 @@
-use Rattle.adb_receiving.specs.Counting.{credit_in}
-use Rattle.adb_receiving.proofs.Preparations.{ArePrepared}
-use Rattle.adb_receiving.proofs.preparing.prepare_each.Given as goal
-
-abbrev pub invariant-loop-id : goal.invariant-loop-id
-invariant-loop-id l =
-    ArePrepared (credit_in l.given.entries) l.maxdata l.streams.streams l.ids.keys l.id-iterator l.fn.clients.entries
-    (record { writes = l.writes; clients = l.clients.entries })

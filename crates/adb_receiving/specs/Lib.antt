@@ -1,5 +1,0 @@
-pub mod Cutting
-pub mod Naming
-pub mod Counting
-pub mod Reserving
-pub mod Settling

@@ -1,4 +1,0 @@
-mod Marking
-mod FirstMark
-mod Rows
-mod Grouping

@@ -1,5 +1,0 @@
-use Rattle.adb_roster.proofs.Grouping.{unmark_grouped}
-use Rattle.adb_roster.proofs.marks.Marks.unmark.Goals as goal
-
-pub invariant_of-self : goal.invariant_of-self
-invariant_of-self c = unmark_grouped c.args.number c.ranges.number.fits c.self.invariant c.unmark.ensures.block

@@ -1,4 +1,0 @@
-pub mod First
-pub mod Lending
-pub mod Marked
-pub mod Table

@@ -1,8 +1,0 @@
-use Rattle.adb_rules.proofs.Using.{uses_then, provided_by}
-use Rattle.adb_rules.proofs.tables.Tables.fail_client.Goals as goal
-
-pub fail_stream-requires : goal.fail_stream-requires
-fail_stream-requires c = provided_by c.args.self.now c.drop_client.new.self c.drop_client.ensures.uses c.requires
-
-pub returns-clause-uses : goal.returns-clause-uses
-returns-clause-uses c = λ t k. uses_then (c.drop_client.ensures.uses t k) (c.fail_stream.ensures.uses t k)

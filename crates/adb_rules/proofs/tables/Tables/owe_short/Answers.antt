@@ -1,8 +1,0 @@
-use Rattle.std.proofs.Common.{◌∙◌}
-use Rattle.adb_wire.specs.Format.{packet_under}
-use Rattle.adb_rules.specs.Tables.{state_of}
-use Rattle.adb_rules.proofs.Owing.{owes_is}
-use Rattle.adb_rules.proofs.tables.Tables.owe_short.Goals as goal
-
-pub returns-clause-state : goal.returns-clause-state
-returns-clause-state c = c.put_short.ensures.row ∙ owes_is c.args.link (packet_under c.args.head.now c.args.payload.now) (state_of c.args.self.now)

@@ -1,6 +1,0 @@
-use Rattle.std.proofs.Common.{arith}
-use Rattle.adb_rules.proofs.Using.{uses_within}
-use Rattle.adb_rules.proofs.tables.Tables.take_okay.Goals as goal
-
-pub returns-then-remote-stream-clause-uses : goal.returns-then-remote-stream-clause-uses
-returns-then-remote-stream-clause-uses c = λ t. uses_within (c.acknowledge.ensures.uses t c.args.stream.now.client) 0 1 (omega arith) (omega arith)
