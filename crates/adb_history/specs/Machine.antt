@@ -2,7 +2,7 @@
 use Rattle.std.specs.Prelude.{ℕ, ◌+◌, ◌^◌, ◌≡◌, ◌≢◌, ◌≤◌, ◌<◌, false, List, [], ◌∷◌, ◌++◌, length, All, Option, Some, None}
 use Rattle.adb_outside.specs.Bytes.{IsPrefixOf}
 use Rattle.adb_registry.specs.Registry.{attach_refusal}
-use Rattle.adb_capture.specs.Records.{number_of, data_of, HasPort}
+use Rattle.adb_capture.specs.Records.{number_of, data_of}
 use Rattle.adb_capture.specs.declared.entry.Entry.{Entry}
 use Rattle.adb_capture.specs.declared.entry.Entry.TheVariants.{Join, Enter, Read, End, Bound, Attach, Recv, Detach, Put, Send}
 use Rattle.adb_history.specs.Rows.{Client, Link, State, start}
@@ -66,10 +66,16 @@ told (e ∷ older) = told older ++ told_at e older
 abbrev pub IsDrawn : ℕ → ℕ → Type 0
 IsDrawn drawn n = (0 < n) × (n ≤ drawn)
 
+-- a port, where an entry has one, is a number of 16 bits
+abbrev pub IsPort : Entry → Type 0
+IsPort (Enter client port) = port < 2 ^ 16
+IsPort (Bound client port) = port < 2 ^ 16
+IsPort _ = Unit {0}
+
 -- an entry whose number, port and bytes are in their types' ranges
 pub record IsInRange (e : Entry) : Type 0 where
   pub owner : number_of e < 2 ^ 32
-  pub port : HasPort e
+  pub port : IsPort e
   pub bytes : All (λ b. b < 256) (data_of e)
 
 -- some of the first of these bytes

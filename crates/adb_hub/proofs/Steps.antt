@@ -203,10 +203,10 @@ module _ (n : ℕ) (old new : Tables) (sound : IsSound old) (range : n < 2 ^ 32)
     made = made;
   }
 
-  pub enter_called : (port : ℕ) → 0 < port → port < 2 ^ 16 → Makes (Enter n port) old new → Called (Enter n port) old new
-  enter_called port some short made = record {
+  pub enter_called : (port : ℕ) → port < 2 ^ 16 → Makes (Enter n port) old new → Called (Enter n port) old new
+  enter_called port short made = record {
     sound = sound;
-    given = record { range = record { owner = range; port = (some, short); bytes = two_bytes port }; may = (next.going, next.is) };
+    given = record { range = record { owner = range; port = short; bytes = two_bytes port }; may = (next.going, next.is) };
     allowed = next_allowed old.stopped old.joined next.going next.left;
     made = made;
   }

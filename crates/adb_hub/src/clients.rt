@@ -34,7 +34,6 @@ impl Hub {
     /// The next client comes through the forward of a local port; where that leads nowhere it is
     /// gone at once. An error is `Stopped`, `Numbers` or want of memory.
     pub fn enter(&mut self, port: u16) -> Result<u32, HubError>
-        requires { 0 < port }
         ensures entered { (h : List Entry) → IsLawful self.old h
             → let next = (state h).joined + 1 in
             Answers (Entry.Enter next port) (λ client. client ≡ next) result h self.new }

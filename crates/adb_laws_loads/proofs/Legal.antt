@@ -7,7 +7,7 @@ use Rattle.adb_outside.specs.Bytes.{AreBytes}
 use Rattle.adb_outside.specs.declared.kinds.Cause.TheVariants.{Eof, Fault, Starved, NoThread}
 use Rattle.adb_capture.specs.declared.entry.Entry.{Entry}
 use Rattle.adb_capture.specs.declared.entry.Entry.TheVariants.{Join, Enter, Read, End, Bound, Attach, Recv, Detach, Put, Send}
-use Rattle.adb_capture.specs.Records.{data_of}
+use Rattle.adb_capture.specs.Records.{data_of, HasPort}
 use Rattle.adb_history.specs.declared.hand_out.TheConstants.{MAX_HAND_OUT}
 use Rattle.adb_history.specs.Rows.{Client, Link, State}
 use Rattle.adb_history.specs.Asking.{Asked, nothing_asked, asks_with}
@@ -202,6 +202,19 @@ in_range g (Bound c port) wants are few = absurd wants
 in_range g (Detach t cause) wants are few = absurd wants
 in_range g (Put c bytes) wants are few = absurd wants
 in_range g (Send t bytes) wants are few = absurd wants
+
+-- none has a port
+pub has_port : (g : History) (e : Entry) → Wants g e → HasPort e
+has_port g (Join c) wants = tt
+has_port g (Read c bytes) wants = tt
+has_port g (End c cause) wants = tt
+has_port g (Attach t kind serial) wants = tt
+has_port g (Recv t bytes) wants = tt
+has_port g (Detach t cause) wants = tt
+has_port g (Put c bytes) wants = tt
+has_port g (Send t bytes) wants = tt
+has_port g (Enter c port) wants = absurd wants
+has_port g (Bound c port) wants = absurd wants
 
 fine_on : (h g : History) (e : Entry) → SameCame h g → IsFine h → MayCome g e → IsFew (e ∷ g) → IsFine (e ∷ h)
 fine_on h g e same fine may few = record {

@@ -21,7 +21,7 @@ use Rattle.adb_load.specs.Load.{acts_ahead, load}
 use Rattle.adb_laws_loads.proofs.Inputs.{SameCame, same_refl, came_onto}
 use Rattle.adb_laws_loads.proofs.Taking.{AllMayCome, Wants, taken, stopped_is}
 use Rattle.adb_laws_loads.proofs.Following.{turns_follow, load_follows}
-use Rattle.adb_laws_loads.proofs.Legal.{IsFine, IsFew, in_range, few_first, after_same, after_fine, fine_at_first, load_few}
+use Rattle.adb_laws_loads.proofs.Legal.{IsFine, IsFew, in_range, has_port, few_first, after_same, after_fine, fine_at_first, load_few}
 
 -- ---- records
 abbrev AllHaveRecords : List Entry → Type 0
@@ -32,7 +32,7 @@ all_records : (inputs : List Entry) (g : History) → AllMayCome inputs g → Is
 all_records [] g may few = tt
 all_records (e ∷ inputs) g may few =
     let range = in_range g e may.0.wants may.0.bytes (few_first inputs (e ∷ g) few) in
-    (record { owner = range.owner; port = range.port; bytes = range.bytes; size = may.0.size }, all_records inputs (e ∷ g) may.1 few)
+    (record { owner = range.owner; port = has_port g e may.0.wants; bytes = range.bytes; size = may.0.size }, all_records inputs (e ∷ g) may.1 few)
 
 -- entries with the offsets of their records
 abbrev placed : ℕ → List Entry → List (ℕ × Entry)

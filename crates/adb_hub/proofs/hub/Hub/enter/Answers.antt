@@ -16,7 +16,7 @@ invariant_of-self-2 c =
     let next = next_of n t.stopped t.joined
     (subst (λ (k : Kept). Ok n ≡ next_client k.stopped k.joined) (sym c.self.view_is) c.in_ok-client.ensures.next) in
     called_sound (Enter n c.args.port) t c.enter.new.tables
-    (enter_called n t c.enter.new.tables c.self.invariant c.in_ok-client.ensures.fits next c.args.port c.requires c.ranges.port.fits c.in_ok-enter.ensures.made)
+    (enter_called n t c.enter.new.tables c.self.invariant c.in_ok-client.ensures.fits next c.args.port c.ranges.port.fits c.in_ok-enter.ensures.made)
 
 pub returns-clause-entered : goal.returns-clause-entered
 returns-clause-entered c h lawful =
@@ -26,7 +26,7 @@ returns-clause-entered c h lawful =
     (subst (λ (k : Kept). Ok n ≡ next_client k.stopped k.joined) (sym c.self.view_is) c.in_ok-client.ensures.next) in
     let made = c.in_ok-enter.ensures.made in
     let called = enter_called n t c.enter.new.tables c.self.invariant c.in_ok-client.ensures.fits next
-    c.args.port c.requires c.ranges.port.fits made in
+    c.args.port c.ranges.port.fits made in
     let before = subst (λ (k : Kept). IsLawful k h) (sym c.self.view_is) lawful in
     let is : n ≡ (state h).joined + 1 = next.is ∙ ap (λ (s : State). s.joined + 1) (stands_for t h c.self.invariant before) in
     let after = called_lawful (Enter n c.args.port) t c.enter.new.tables called h before in (
