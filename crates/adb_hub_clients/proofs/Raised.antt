@@ -16,12 +16,11 @@ use Rattle.adb_history.specs.Flow.{up, payloads, writes, write_len, write_before
 use Rattle.adb_hub_tables.specs.declared.ports.Port.{Port}
 use Rattle.adb_hub_tables.specs.declared.tables.Tables.{Tables}
 use Rattle.adb_hub_tables.specs.Tables.{state_of, link_row}
-use Rattle.adb_hub_tables.specs.Places.{LinkRoom, StaysRead, IsProvided, Uses}
+use Rattle.adb_hub_tables.specs.Places.{HasPlaces, LinkRoom, StaysRead, IsProvided, Uses}
 use Rattle.adb_hub_rules.specs.Handing.{HasRoom, UsesOf}
 use Rattle.adb_hub_rules.specs.Up.{up_writes, is_for, IsCutFor, IsCutOf, writes_for, writes_of, writes_up, IsReadyUp, all_unsent, held_at}
 use Rattle.adb_hub_tables.specs.Fit.{IsFit, IsReadOutAt}
 use Rattle.adb_hub_tables.proofs.Using.{provided_by, more_room}
-use Rattle.adb_hub_clients.specs.Leaving.{HasPlaces}
 use Rattle.adb_hub_clients.specs.Sending.{IsPreparedAt, can_send, can_send_at}
 use Rattle.adb_hub_clients.proofs.Sums.{up_sums, sums_at}
 

@@ -1,17 +1,17 @@
 //! Bytes of a client that has its stream open: they go up.
 
-ghost use Rattle.std.specs.Prelude.{◌≡◌, List, ℕ, IfOk, OnOk, OnErr, Some, false};
+ghost use Rattle.std.specs.Prelude.{◌≡◌, ℕ, IfOk, OnOk, OnErr, Some, false};
 ghost use Rattle.adb_outside.specs.Tables.{at};
 ghost use Rattle.adb_history.specs.Flow.{up};
 ghost use Rattle.adb_hub_tables.specs.Fit.{IsFit};
-ghost use Rattle.adb_hub_tables.specs.Tables.{state_of, client_row};
-ghost use Rattle.adb_hub_tables.specs.Tracked.{clients_of};
+ghost use Rattle.adb_hub_tables.specs.Tables.{state_of};
+ghost use Rattle.adb_hub_tables.specs.Widening.{WidensClient, WidensClients};
 ghost use Rattle.adb_hub_rules.specs.Up.{IsReadyUp, IsSized};
-ghost use Rattle.adb_hub_clients.specs.Leaving.{Leaves, IsPlaced, HoldsAtLeast};
+ghost use Rattle.adb_hub_clients.specs.Leaving.{Leaves, HoldsAtLeast};
 ghost use Rattle.adb_hub_clients.specs.Taking.{takes_in};
 ghost use Rattle.adb_hub_clients.specs.Sending.{IsPrepared, IsPreparedAt, can_send, can_send_at};
 
-use crate::places::reserve_packets;
+use crate::places::make_packets;
 use crate::taking::{take_back, take_in};
 use adb_client::Client;
 use adb_hub_rules::{close_idle, up, up_bytes, up_writes};
@@ -126,7 +126,7 @@ fn make_stream_ready(tables: &mut Tables, id: u32, stream: &Stream) -> Result<()
 {
     let maxdata = tables.maxdata_of(stream.link);
     let writes = prepare(tables, stream, maxdata)?;
-    reserve_packets(tables, stream.link, writes)
+    make_packets(tables, stream.link, writes)
 }
 
 /// Makes ready what the client of a stream holds; says in how many writes at most it can go up.
@@ -153,11 +153,7 @@ fn prepare_in(
     flow: &Flow,
     maxdata: usize,
 ) -> Result<usize, AllocError>
-    ensures rows { clients_of clients.new.entries ≡ clients_of clients.old.entries }
-    ensures placed { (c : ℕ) (trackers : List ℕ) → IsPlaced c trackers (at c clients.old.entries)
-        → IsPlaced c trackers (at c clients.new.entries) }
-    ensures held { (c n : ℕ) → HoldsAtLeast n (at c clients.old.entries)
-        → HoldsAtLeast n (at c clients.new.entries) }
+    ensures widens { WidensClients clients.old.entries clients.new.entries }
     ensures ready { IfOk result (λ writes. IsPreparedAt writes flow.now maxdata
         (at client clients.new.entries)) }
 {
@@ -168,8 +164,7 @@ fn prepare_in(
 }
 
 fn prepare_row(row: &mut Client, flow: &Flow, maxdata: usize) -> Result<usize, AllocError>
-    ensures row { client_row row.new ≡ client_row row.old }
-    ensures places { row.new.places ≡ row.old.places }
+    ensures widens { WidensClient row.old row.new }
     ensures ready { IfOk result (λ writes. IsPrepared writes flow.now maxdata row.new) }
 {
     let held = row.held();

@@ -19,7 +19,7 @@ mod tracking;
 mod words;
 
 pub use owes::Owes;
-pub use places::{keep_on_link, keep_slice};
+pub use places::{reserve_packets, reserve_slices};
 pub use ports::Port;
 pub use tables::Tables;
 pub use touched_map::TouchedMap;
