@@ -5,17 +5,15 @@ ghost use Rattle.adb_outside.specs.Tables.{at};
 ghost use Rattle.adb_history.specs.Flow.{up};
 ghost use Rattle.adb_hub_tables.specs.Fit.{IsFit};
 ghost use Rattle.adb_hub_tables.specs.Tables.{state_of};
-ghost use Rattle.adb_hub_tables.specs.Widening.{WidensClient, WidensClients};
 ghost use Rattle.adb_hub_rules.specs.Up.{IsReadyUp, IsSized};
 ghost use Rattle.adb_hub_clients.specs.Leaving.{Leaves, HoldsAtLeast};
 ghost use Rattle.adb_hub_clients.specs.Taking.{takes_in};
-ghost use Rattle.adb_hub_clients.specs.Sending.{IsPrepared, IsPreparedAt, can_send, can_send_at};
+ghost use Rattle.adb_hub_clients.specs.Sending.{IsPreparedAt, can_send, can_send_at};
 
 use crate::places::make_packets;
 use crate::taking::{take_back, take_in};
-use adb_client::Client;
-use adb_hub_rules::{close_idle, up, up_bytes, up_writes};
-use adb_hub_tables::{Tables, TouchedMap};
+use adb_hub_rules::{close_idle, up};
+use adb_hub_tables::{Tables, make_ready};
 use adb_stream::{Flow, Stream};
 use std::alloc::AllocError;
 
@@ -57,7 +55,7 @@ fn advance(tables: &mut Tables, id: u32) -> Result<(), AllocError>
         rest(tables, id);
         return Ok(());
     }
-    make_ready(tables, id)?;
+    make_up_ready(tables, id)?;
     go_up(tables, id);
     Ok(())
 }
@@ -101,7 +99,7 @@ fn go_up(tables: &mut Tables, id: u32)
 }
 
 /// Makes ready what is held of the client of a stream, and places on its link for what it may send.
-fn make_ready(tables: &mut Tables, id: u32) -> Result<(), AllocError>
+fn make_up_ready(tables: &mut Tables, id: u32) -> Result<(), AllocError>
     requires { IsFit tables.old }
     ensures made { Leaves (state_of tables.old) tables.new }
     ensures devices { tables.new.devices ≡ tables.old.devices }
@@ -139,38 +137,11 @@ fn prepare(tables: &mut Tables, stream: &Stream, maxdata: usize) -> Result<usize
     ensures ready { IfOk result (λ writes. IsPreparedAt writes stream.now.part.flow maxdata
         (at stream.now.client tables.new.clients.entries)) }
 {
-    prepare_in(
+    make_ready(
         &mut tables.clients,
         stream.client,
         &stream.part.flow,
+        0,
         maxdata,
     )
-}
-
-fn prepare_in(
-    clients: &mut TouchedMap<Client>,
-    client: u32,
-    flow: &Flow,
-    maxdata: usize,
-) -> Result<usize, AllocError>
-    ensures widens { WidensClients clients.old.entries clients.new.entries }
-    ensures ready { IfOk result (λ writes. IsPreparedAt writes flow.now maxdata
-        (at client clients.new.entries)) }
-{
-    match clients.get_mut(&client) {
-        Some(row) => prepare_row(row, flow, maxdata),
-        None => Ok(0),
-    }
-}
-
-fn prepare_row(row: &mut Client, flow: &Flow, maxdata: usize) -> Result<usize, AllocError>
-    ensures widens { WidensClient row.old row.new }
-    ensures ready { IfOk result (λ writes. IsPrepared writes flow.now maxdata row.new) }
-{
-    let held = row.held();
-    let Some(writes) = up_writes(flow, 0, maxdata, held) else {
-        return Err(AllocError);
-    };
-    row.prepare_cuts(up_bytes(flow, 0, maxdata, held), writes)?;
-    Ok(writes)
 }

@@ -6,15 +6,16 @@ use Rattle.adb_stream.specs.declared.flow.Flow.{Flow}
 use Rattle.adb_stream.specs.declared.row.Stream.{Stream}
 use Rattle.adb_history.specs.Rows.{Client}
 use Rattle.adb_hub_tables.specs.Widening.{WidensClient, WidensRow, WidensClients}
-use Rattle.adb_hub_rules.specs.Up.{up_writes}
-use Rattle.adb_hub_links.specs.Reserving.{writes_of, writes_at, all_writes}
+use Rattle.adb_hub_tables.specs.Ready.{up_writes}
+use Rattle.adb_hub_tables.specs.Ready.{writes_behind}
+use Rattle.adb_hub_links.specs.Reserving.{writes_at, all_writes}
 
 -- ---- one client
 same_held : {old new : SeenClient} → WidensClient old new → length new.held ≡ length old.held
 same_held h = ap (λ (c : Client). length c.held) h.row
 
 same_writes : (flow : Flow) (more maxdata : ℕ) (old new : Option SeenClient) → WidensRow WidensClient old new
-    → writes_of flow more maxdata new ≡ writes_of flow more maxdata old
+    → writes_behind flow more maxdata new ≡ writes_behind flow more maxdata old
 same_writes flow more maxdata None None h = refl
 same_writes flow more maxdata None (Some new) h = absurd h
 same_writes flow more maxdata (Some old) None h = absurd h

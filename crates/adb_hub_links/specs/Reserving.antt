@@ -2,7 +2,6 @@
 use Rattle.std.specs.Prelude.{ℕ, ◌+◌, List, [], ◌∷◌, length, Option, Some, None}
 use Rattle.adb_outside.specs.Tables.{at}
 use Rattle.adb_client.specs.Client.{SeenClient}
-use Rattle.adb_stream.specs.declared.flow.Flow.{Flow}
 use Rattle.adb_stream.specs.declared.row.Stream.{Stream}
 use Rattle.adb_history.specs.Links.{maxdata_of}
 use Rattle.adb_hub_rules.specs.declared.came.Came.{Came}
@@ -10,27 +9,19 @@ use Rattle.adb_hub_tables.specs.declared.tables.Tables.{Tables}
 use Rattle.adb_hub_rules.specs.Came.{packets_of, slices_in}
 use Rattle.adb_hub_tables.specs.Places.{LinkRoom, ClientRoom}
 use Rattle.adb_hub_tables.specs.Tracked.{IsAmong}
-use Rattle.adb_hub_rules.specs.Up.{IsCut, up_writes}
+use Rattle.adb_hub_tables.specs.Ready.{IsCutBehind, writes_behind}
 use Rattle.adb_laws_resting.specs.Named.{granted}
 use Rattle.adb_hub_links.specs.Naming.{AreNamedOn}
 
--- Of what a client holds so much is ready as a stream of that flow may write behind credit for so much more, whatever the client waits for.
-abbrev pub IsCutFor : Flow → (more maxdata : ℕ) → Option SeenClient → Type 0
-IsCutFor flow more maxdata None = Unit {0}
-IsCutFor flow more maxdata (Some client) = IsCut flow more maxdata client
-
+-- Of what the client of a stream holds so much is ready, whatever the client waits for.
 abbrev pub IsCutAt : (more maxdata : ℕ) → Option Stream → List (ℕ × SeenClient) → Type 0
 IsCutAt more maxdata None clients = Unit {0}
-IsCutAt more maxdata (Some stream) clients = IsCutFor stream.part.flow more maxdata (at stream.client clients)
+IsCutAt more maxdata (Some stream) clients = IsCutBehind stream.part.flow more maxdata (at stream.client clients)
 
 -- in how many writes at most
-abbrev pub writes_of : Flow → (more maxdata : ℕ) → Option SeenClient → ℕ
-writes_of flow more maxdata None = 0
-writes_of flow more maxdata (Some client) = up_writes flow more maxdata (length client.held)
-
 abbrev pub writes_at : (more maxdata : ℕ) → Option Stream → List (ℕ × SeenClient) → ℕ
 writes_at more maxdata None clients = 0
-writes_at more maxdata (Some stream) clients = writes_of stream.part.flow more maxdata (at stream.client clients)
+writes_at more maxdata (Some stream) clients = writes_behind stream.part.flow more maxdata (at stream.client clients)
 
 abbrev pub all_writes : (more : ℕ → ℕ) (maxdata : ℕ) → List ℕ → List (ℕ × Stream) → List (ℕ × SeenClient) → ℕ
 all_writes more maxdata [] streams clients = 0

@@ -1,19 +1,17 @@
 //! Clients, with places for what becomes due to them, and with what they hold ready to go up.
 
-ghost use Rattle.std.specs.Prelude.{◌≡◌, ◌+◌, ℕ, length, IfOk, OnOk};
+ghost use Rattle.std.specs.Prelude.{◌≡◌, ◌+◌, ℕ, IfOk, OnOk};
 ghost use Rattle.adb_outside.specs.Tables.{at};
 ghost use Rattle.adb_hub_tables.specs.Places.{ClientRoom};
-ghost use Rattle.adb_hub_tables.specs.Widening.{WidensClient, WidensClients};
-ghost use Rattle.adb_hub_rules.specs.Up.{IsCut, up_writes};
+ghost use Rattle.adb_hub_tables.specs.Widening.{WidensClients};
 ghost use Rattle.adb_hub_tables.specs.Tracked.{IsAmong};
 ghost use Rattle.adb_hub_links.specs.Counting.{count_at, credit_in};
-ghost use Rattle.adb_hub_links.specs.Reserving.{IsCutAt, IsCutFor, writes_at, writes_of, all_writes};
+ghost use Rattle.adb_hub_links.specs.Reserving.{IsCutAt, writes_at, all_writes};
 
 use crate::counting::{counted, sum};
 use adb_client::Client;
-use adb_hub_rules::{up_bytes, up_writes};
-use adb_hub_tables::{TouchedMap, reserve_slices};
-use adb_stream::{Flow, Stream, Streams};
+use adb_hub_tables::{TouchedMap, make_ready, reserve_slices};
+use adb_stream::{Stream, Streams};
 use std::alloc::AllocError;
 use std::collections::{BTreeMap, BTreeSet};
 
@@ -74,43 +72,6 @@ fn prepare_also(
     let Some(stream) = stream else {
         return Ok(before);
     };
-    let writes = prepare_at(clients, &stream, more, maxdata)?;
+    let writes = make_ready(clients, stream.client, &stream.part.flow, more, maxdata)?;
     sum(before, writes)
-}
-
-fn prepare_at(
-    clients: &mut TouchedMap<Client>,
-    stream: &Stream,
-    more: usize,
-    maxdata: usize,
-) -> Result<usize, AllocError>
-    ensures widens { WidensClients clients.old.entries clients.new.entries }
-    ensures cut { OnOk result (IsCutFor stream.now.part.flow more maxdata
-        (at stream.now.client clients.new.entries)) }
-    ensures writes { IfOk result (λ writes. writes ≡ writes_of stream.now.part.flow more maxdata
-        (at stream.now.client clients.old.entries)) }
-{
-    match clients.get_mut(&stream.client) {
-        Some(row) => prepare(row, &stream.part.flow, more, maxdata),
-        None => Ok(0),
-    }
-}
-
-/// Makes ready what a client holds, as much as a stream of that flow may write behind credit for so
-/// many bytes more; says in how many writes at most.
-fn prepare(
-    client: &mut Client,
-    flow: &Flow,
-    more: usize,
-    maxdata: usize,
-) -> Result<usize, AllocError>
-    ensures widens { WidensClient client.old client.new }
-    ensures cut { OnOk result (IsCut flow.now more maxdata client.new) }
-    ensures writes { IfOk result (λ writes. writes
-        ≡ up_writes flow.now more maxdata (length client.old.held)) }
-{
-    let held = client.held();
-    let writes = up_writes(flow, more, maxdata, held).ok_or(AllocError)?;
-    client.prepare_cuts(up_bytes(flow, more, maxdata, held), writes)?;
-    Ok(writes)
 }
