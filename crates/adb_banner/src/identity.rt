@@ -13,6 +13,11 @@ use std::alloc::{AllocError, Global};
 /// How many bytes an identity may have, without the NULs at its end.
 pub const MAX_IDENTITY: usize = 32_768;
 
+/// The numbers that definitions take from the code, written out.
+pub fn limits_are()
+    ensures { MAX_IDENTITY ≡ 32768 }
+{}
+
 /// Why no identity was read.
 #[derive(Clone, Copy, Debug, PartialEq, Eq, Drop)]
 pub enum IdentityError {

@@ -6,4 +6,4 @@ mod identity;
 #[cfg(test)]
 mod tests;
 
-pub use identity::{IdentityError, MAX_IDENTITY, has_feature, read};
+pub use identity::{IdentityError, MAX_IDENTITY, has_feature, limits_are, read};

@@ -14,5 +14,5 @@ mod tests;
 pub use about::{About, Want};
 pub use ask::{Ask, Asked};
 pub use client::Client;
-pub use output::MAX_SLICE;
+pub use output::{MAX_SLICE, limits_are};
 pub use phase::Phase;

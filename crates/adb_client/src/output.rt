@@ -12,6 +12,11 @@ use std::marker::Model;
 /// The most bytes of a slice that becomes due in a reserved place: the most payload of a packet.
 pub const MAX_SLICE: usize = 1_048_576;
 
+/// The numbers that definitions take from the code, written out.
+pub fn limits_are()
+    ensures slice { MAX_SLICE ≡ 1048576 }
+{}
+
 /// How many bytes the slices hold at most, with those that have a place and come later, so that all
 /// that is due fits a `usize`.
 const MOST: usize = 1 << 63;

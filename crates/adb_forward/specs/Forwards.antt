@@ -5,9 +5,10 @@ use Rattle.std.specs.Map.{values_of}
 use Rattle.std.specs.Fmt.{decimal}
 use Rattle.adb_outside.specs.Bytes.{AreBytes, is_graphic}
 use Rattle.adb_outside.specs.Tables.{IsRising}
+use Rattle.adb_outside.specs.declared.remote.TheConstants.{MAX_REMOTE}
 use Rattle.adb_outside.specs.declared.serial.TheConstants.{MAX_SERIAL}
 use Rattle.adb_forward.specs.declared.row.ForwardRow.{ForwardRow}
-use Rattle.adb_forward.specs.declared.table.TheConstants.{MAX_FORWARDS, MAX_REMOTE}
+use Rattle.adb_forward.specs.declared.table.TheConstants.{MAX_FORWARDS}
 
 -- a local port and a remote end that can be a forward
 pub record IsSpecification (local : ℕ) (remote : List ℕ) : Type 0 where

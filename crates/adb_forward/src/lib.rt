@@ -8,4 +8,4 @@ mod table;
 mod tests;
 
 pub use row::{ForwardError, ForwardRow};
-pub use table::{Forwards, MAX_FORWARDS, MAX_REMOTE};
+pub use table::{Forwards, limits_are};

@@ -7,17 +7,19 @@ ghost use Rattle.std.specs.Option.{option_copied};
 ghost use Rattle.std.specs.Prelude.{◌≡◌, ◌≤◌, ◌<◌, ◌^◌, ◌++◌, ◌↔◌, ◌==◌, [], length, filter, not, is_some, IsTrue, IsSome, IfOk, OnOk, OnErr};
 
 use crate::row::{ForwardError, ForwardRow};
-use adb_outside::{MAX_SERIAL, Text, is_graphic};
+use adb_outside::{MAX_REMOTE, MAX_SERIAL, Text, is_graphic};
 use itoa::Buffer;
 use std::alloc::{AllocError, Global};
 use std::collections::BTreeMap;
 use std::marker::Model;
 
 /// How many forwards there may be.
-pub const MAX_FORWARDS: usize = 64;
+pub(crate) const MAX_FORWARDS: usize = 64;
 
-/// How many bytes a remote end may have.
-pub const MAX_REMOTE: usize = 512;
+/// The numbers that definitions take from the code, written out.
+pub fn limits_are()
+    ensures forwards { MAX_FORWARDS ≡ 64 }
+{}
 
 /// The forwards, at most 64. Contracts see them as the list of the entries, each a local port and
 /// its row, in rising port.

@@ -15,7 +15,7 @@ use Rattle.adb_wire.specs.Format.{is_cnxn}
 use Rattle.adb_wire.specs.declared.command.Command.{Command}
 use Rattle.adb_wire.specs.declared.command.Command.TheVariants.{Cnxn, Open, Okay, Wrte, Clse, Auth, Stls}
 use Rattle.adb_wire.specs.declared.packets.Packet.{Packet}
-use Rattle.adb_wire.specs.declared.format.TheConstants.{VERSION_WITHOUT_SUMS}
+use Rattle.adb_wire.specs.declared.limits.TheConstants.{VERSION}
 use Rattle.adb_wire.specs.declared.headers.TheConstants.{MAX_PAYLOAD}
 use Rattle.adb_history.specs.Packets.{least_version, least_maxdata}
 use Rattle.adb_history.specs.Book.{is_refused, is_login, last_cnxn, row_with, row_by}
@@ -28,7 +28,7 @@ row_waiting _ row = row
 
 abbrev pub row_connected : Option Identity → (version maxdata : ℕ) → Row → Option Row
 row_connected None version maxdata row = None
-row_connected (Some identity) version maxdata row = Some (online_row identity (min version VERSION_WITHOUT_SUMS) (min maxdata MAX_PAYLOAD) row)
+row_connected (Some identity) version maxdata row = Some (online_row identity (min version VERSION) (min maxdata MAX_PAYLOAD) row)
 
 abbrev pub row_cnxn : (version maxdata : ℕ) → List ℕ → Row → Option Row
 row_cnxn version maxdata banner row =
@@ -121,7 +121,7 @@ module _ (row : Row) (offline : row.state ≡ device.Offline) (ps : List Packet)
   more_cnxn true o = refl
   more_cnxn false None = refl
   more_cnxn false (Some identity) =
-      ap Some (online_again (last_cnxn ps) identity (min p.arg0 VERSION_WITHOUT_SUMS) (min p.arg1 MAX_PAYLOAD))
+      ap Some (online_again (last_cnxn ps) identity (min p.arg0 VERSION) (min p.arg1 MAX_PAYLOAD))
 
   -- an AUTH or STLS
   more_login : (o : Option Packet) → is_login p.command ≡ true → SaysWho o
@@ -139,7 +139,7 @@ module _ (row : Row) (offline : row.state ≡ device.Offline) (ps : List Packet)
       go : (o : Option Identity) → is_some o ≡ true → row_waiting (row_with o q row).state (row_with o q row) ≡ row_with o q row
       go None e = let clash : false ≡ true = e in cc
       go (Some identity) e = never_offline identity.system
-          (online_row identity (min q.arg0 VERSION_WITHOUT_SUMS) (min q.arg1 MAX_PAYLOAD) row) refl
+          (online_row identity (min q.arg0 VERSION) (min q.arg1 MAX_PAYLOAD) row) refl
 
   -- a packet that says nothing of the device
   more_other : (o : Option Packet) → is_login p.command ≡ false → row_by o ps row ≡ row_by o (ps ++ p ∷ []) row

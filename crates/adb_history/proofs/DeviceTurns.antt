@@ -19,7 +19,7 @@ use Rattle.adb_wire.specs.declared.command.Command.TheVariants.{Cnxn, Open, Okay
 use Rattle.adb_wire.specs.declared.packets.Packet.{Packet}
 use Rattle.adb_wire.specs.declared.format.PacketFault.{PacketFault}
 use Rattle.adb_wire.specs.declared.format.PacketFormat.{PacketFormat}
-use Rattle.adb_wire.specs.declared.format.TheConstants.{VERSION_WITHOUT_SUMS}
+use Rattle.adb_wire.specs.declared.limits.TheConstants.{VERSION}
 use Rattle.adb_wire.specs.declared.headers.TheConstants.{MAX_PAYLOAD}
 use Rattle.adb_history.specs.Rows.{Link, State, to_link, none_kept}
 use Rattle.adb_history.specs.Events.{Made, Ending, quietly, then_also, lost, broken}
@@ -133,7 +133,7 @@ module _ (came plugged t : ℕ) where
       (λ k apart. ap (λ (b : Bool). is_some (cond b (option_and_then (with_sums (has_sums version)) (s.links k)) (s.links k))) (apart_from k apart))
     where
       turn : Row → Row
-      turn = online_row identity (min version VERSION_WITHOUT_SUMS) (min maxdata MAX_PAYLOAD)
+      turn = online_row identity (min version VERSION) (min maxdata MAX_PAYLOAD)
 
       there : (o : Option Link) → is_some (option_and_then (with_sums (has_sums version)) o) ≡ is_some o
       there None = refl

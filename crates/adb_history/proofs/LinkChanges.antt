@@ -16,7 +16,7 @@ use Rattle.adb_wire.specs.declared.command.Command.{Command}
 use Rattle.adb_wire.specs.declared.command.Command.TheVariants.{Cnxn, Open, Okay, Wrte, Clse, Auth, Stls}
 use Rattle.adb_wire.specs.declared.packets.Packet.{Packet}
 use Rattle.adb_wire.specs.declared.format.PacketFault.{PacketFault}
-use Rattle.adb_wire.specs.declared.format.TheConstants.{VERSION_WITHOUT_SUMS}
+use Rattle.adb_wire.specs.declared.limits.TheConstants.{VERSION}
 use Rattle.adb_wire.specs.declared.headers.TheConstants.{MAX_PAYLOAD}
 use Rattle.adb_history.specs.Rows.{Link, State, to_link, none_kept}
 use Rattle.adb_history.specs.Events.{Made, Ending, quietly, lost, broken, spelled_to}
@@ -178,7 +178,7 @@ module _ (came plugged : ℕ) where
       (changes_keeps came plugged heard (quietly (mark_all heard)) (keeps_mark_all came plugged heard)))
     where
       row : Row → Row
-      row = online_row identity (min version VERSION_WITHOUT_SUMS) (min maxdata MAX_PAYLOAD)
+      row = online_row identity (min version VERSION) (min maxdata MAX_PAYLOAD)
 
       devices : DeviceTable
       devices = changed t row s.devices

@@ -13,7 +13,7 @@ use Rattle.adb_registry.specs.declared.row.Row.{Row}
 use Rattle.adb_forward.specs.declared.row.ForwardRow.{ForwardRow}
 use Rattle.adb_wire.specs.Format.{has_sums}
 use Rattle.adb_wire.specs.Packet.{spelling}
-use Rattle.adb_wire.specs.declared.format.TheConstants.{VERSION_WITHOUT_SUMS}
+use Rattle.adb_wire.specs.declared.limits.TheConstants.{VERSION}
 use Rattle.adb_wire.specs.declared.headers.TheConstants.{MAX_PAYLOAD}
 use Rattle.adb_stream.specs.Stream.{new_stream}
 use Rattle.adb_stream.specs.Flow.{new_flow}
@@ -196,7 +196,7 @@ module _ (s : State) (h : IsLinked s) where
   }
     where
       row : Row → Row
-      row = online_row identity (min version VERSION_WITHOUT_SUMS) (min maxdata MAX_PAYLOAD)
+      row = online_row identity (min version VERSION) (min maxdata MAX_PAYLOAD)
 
       now : State
       now = (streams_end_first (is_connected t s.devices) t s).state
@@ -204,12 +204,12 @@ module _ (s : State) (h : IsLinked s) where
       left : IsCleared t s (streams_end_first (is_connected t s.devices) t s).state
       left = first_cleared (is_connected t s.devices) t refl
 
-      rows : DeviceRows (changed t (online_row identity (min version VERSION_WITHOUT_SUMS) (min maxdata MAX_PAYLOAD)) s.devices)
+      rows : DeviceRows (changed t (online_row identity (min version VERSION) (min maxdata MAX_PAYLOAD)) s.devices)
           (change_row t (option_and_then (with_sums (has_sums version))) s.links) s.forwards
-      rows = link_rows (changed t (online_row identity (min version VERSION_WITHOUT_SUMS) (min maxdata MAX_PAYLOAD)) s.devices) s.links s.forwards t
+      rows = link_rows (changed t (online_row identity (min version VERSION) (min maxdata MAX_PAYLOAD)) s.devices) s.links s.forwards t
           (λ link. record link { sums = has_sums version })
-          (changed_rows s.devices s.links s.forwards t (online_row identity (min version VERSION_WITHOUT_SUMS) (min maxdata MAX_PAYLOAD))
-          (λ r is. online_silent identity (min version VERSION_WITHOUT_SUMS) (min maxdata MAX_PAYLOAD) r) h.rows)
+          (changed_rows s.devices s.links s.forwards t (online_row identity (min version VERSION) (min maxdata MAX_PAYLOAD))
+          (λ r is. online_silent identity (min version VERSION) (min maxdata MAX_PAYLOAD) r) h.rows)
 
   unauthorized_linked : (t : ℕ) (row : Row) (w : List Event) → at t s.devices.rows ≡ Some row → row.state ≡ Offline → IsLinked (unauthorized_from t Offline s)
   unauthorized_linked t row w is offline = record {

@@ -14,7 +14,7 @@ use Rattle.adb_wire.specs.Cutting.{framed}
 use Rattle.adb_wire.specs.Format.{is_cnxn}
 use Rattle.adb_wire.specs.declared.command.Command.{Command}
 use Rattle.adb_wire.specs.declared.command.Command.TheVariants.{Auth, Stls}
-use Rattle.adb_wire.specs.declared.format.TheConstants.{VERSION_WITHOUT_SUMS}
+use Rattle.adb_wire.specs.declared.limits.TheConstants.{VERSION}
 use Rattle.adb_wire.specs.declared.headers.TheConstants.{MAX_PAYLOAD}
 use Rattle.adb_wire.specs.declared.packets.Packet.{Packet}
 use Rattle.adb_client.specs.declared.about.Want.{Want}
@@ -61,7 +61,7 @@ last_cnxn packets = find (λ p. is_cnxn p.command) (reverse packets)
 
 abbrev pub row_with : Option Identity → Packet → Row → Row
 row_with None p row = row
-row_with (Some identity) p row = online_row identity (min p.arg0 VERSION_WITHOUT_SUMS) (min p.arg1 MAX_PAYLOAD) row
+row_with (Some identity) p row = online_row identity (min p.arg0 VERSION) (min p.arg1 MAX_PAYLOAD) row
 
 -- a device is who its last CNXN says; without one it is unauthorized where it asked for what is not answered
 abbrev pub row_by : Option Packet → List Packet → Row → Row

@@ -11,7 +11,7 @@ use Rattle.adb_wire.specs.Packet.{spelling, check_of}
 use Rattle.adb_wire.specs.Format.{is_cnxn}
 use Rattle.adb_wire.specs.declared.command.Command.TheVariants.{Cnxn, Open, Okay, Wrte, Clse}
 use Rattle.adb_wire.specs.declared.headers.TheConstants.{MAX_PAYLOAD}
-use Rattle.adb_wire.specs.declared.format.TheConstants.{VERSION_WITHOUT_SUMS}
+use Rattle.adb_wire.specs.declared.limits.TheConstants.{VERSION}
 use Rattle.adb_wire.specs.declared.packets.Packet.{Packet}
 use Rattle.adb_banner.specs.Banner.{is_feature}
 use Rattle.adb_stream.specs.declared.credit.TheConstants.{CREDIT_WINDOW}
@@ -21,7 +21,7 @@ use Rattle.adb_history.specs.Events.{Made, due_to_link}
 -- ---- the packets that the server writes
 -- who the server says that it is
 abbrev pub server_cnxn : Packet
-server_cnxn = record { command = Cnxn; arg0 = VERSION_WITHOUT_SUMS; arg1 = MAX_PAYLOAD; payload = codes "host::features=shell_v2,hub_credit" }
+server_cnxn = record { command = Cnxn; arg0 = VERSION; arg1 = MAX_PAYLOAD; payload = codes "host::features=shell_v2,hub_credit" }
 
 -- a stream is asked for, with credit for a whole window where the link has credit
 abbrev pub open_packet : Bool → ℕ → List ℕ → Packet

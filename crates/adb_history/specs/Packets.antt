@@ -17,7 +17,7 @@ use Rattle.adb_wire.specs.declared.command.Command.TheVariants.{Cnxn, Open, Okay
 use Rattle.adb_wire.specs.declared.packets.Packet.{Packet}
 use Rattle.adb_wire.specs.declared.format.PacketFault.{PacketFault}
 use Rattle.adb_wire.specs.declared.format.PacketFormat.{PacketFormat}
-use Rattle.adb_wire.specs.declared.format.TheConstants.{VERSION_WITHOUT_SUMS}
+use Rattle.adb_wire.specs.declared.limits.TheConstants.{VERSION}
 use Rattle.adb_wire.specs.declared.headers.TheConstants.{MAX_PAYLOAD}
 use Rattle.adb_stream.specs.declared.flow.Flow.{Flow}
 use Rattle.adb_stream.specs.declared.flow.Flow.TheVariants.{One, Credit}
@@ -48,7 +48,7 @@ with_sums sums link = Some (record link { sums = sums })
 abbrev pub goes_online : ℕ → (version maxdata : ℕ) → Identity → State → State
 goes_online t version maxdata identity s =
     mark_all (to_link t (with_sums (has_sums version)) (record s {
-      devices = changed t (online_row identity (min version VERSION_WITHOUT_SUMS) (min maxdata MAX_PAYLOAD)) s.devices;
+      devices = changed t (online_row identity (min version VERSION) (min maxdata MAX_PAYLOAD)) s.devices;
     }))
 
 -- on a link that had a CNXN, its streams end first

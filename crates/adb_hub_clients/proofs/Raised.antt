@@ -6,7 +6,7 @@ use Rattle.std.specs.Prelude.{option_map, not, Result, Ok, Err, IfOk, OnOk}
 use Rattle.std.proofs.lemmas.Bool.{cases_eq}
 use Rattle.std.proofs.lemmas.Bool.Decides.{nat_tests}
 use Rattle.adb_outside.specs.Tables.{at}
-use Rattle.adb_link.specs.declared.link.TheConstants.{VERSION_WITH_SUMS}
+use Rattle.adb_wire.specs.declared.limits.TheConstants.{MIN_VERSION}
 use Rattle.adb_client.specs.Client.{SeenClient}
 use Rattle.adb_stream.specs.declared.flow.Flow.{Flow}
 use Rattle.adb_stream.specs.declared.flow.Flow.TheVariants.{One, Credit}
@@ -34,7 +34,7 @@ read_out : (old new : Option Port) → StaysRead old new
 read_out old None stays sums out = tt
 read_out None (Some new) stays sums out = absurd stays
 read_out (Some old) (Some new) stays sums out =
-    let same : (new.link.version == VERSION_WITH_SUMS) ≡ (old.link.version == VERSION_WITH_SUMS) = some_same _ _ sums in
+    let same : (new.link.version == MIN_VERSION) ≡ (old.link.version == MIN_VERSION) = some_same _ _ sums in
     record {
       given = ap (λ (i : _). i.given) stays ∙ out.given;
       sound = ap (λ (i : _). i.fault) stays ∙ out.sound;

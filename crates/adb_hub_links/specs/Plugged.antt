@@ -1,6 +1,6 @@
 -- A device that was plugged in just now.
 use Rattle.adb_wire.specs.declared.command.Command.TheVariants.{Cnxn}
-use Rattle.adb_wire.specs.declared.format.TheConstants.{VERSION_WITHOUT_SUMS}
+use Rattle.adb_wire.specs.declared.limits.TheConstants.{VERSION}
 use Rattle.adb_wire.specs.declared.headers.Head.{Head}
 use Rattle.adb_wire.specs.declared.headers.TheConstants.{MAX_PAYLOAD}
 use Rattle.adb_link.specs.Linked.{new_link, owing}
@@ -9,7 +9,7 @@ use Rattle.adb_hub_tables.specs.declared.ports.Port.{Port}
 
 -- the header of what the server says of itself
 abbrev pub greeting : Head
-greeting = record { command = Cnxn; arg0 = VERSION_WITHOUT_SUMS; arg1 = MAX_PAYLOAD; length = 34; check = 0 }
+greeting = record { command = Cnxn; arg0 = VERSION; arg1 = MAX_PAYLOAD; length = 34; check = 0 }
 
 -- its link, to which the server has to say who it is
 abbrev pub greeted : Port

@@ -14,7 +14,7 @@ use adb_hub_tables::{Port, Tables, TouchedMap};
 use adb_link::Link;
 use adb_outside::Kind;
 use adb_registry::AttachError;
-use adb_wire::{Command, Head, MAX_PAYLOAD, VERSION_WITHOUT_SUMS};
+use adb_wire::{Command, Head, MAX_PAYLOAD, VERSION};
 use bytes::Bytes;
 use std::alloc::{AllocError, Global};
 
@@ -91,7 +91,7 @@ fn greeting() -> Head
 {
     Head {
         command: Command::Cnxn,
-        arg0: VERSION_WITHOUT_SUMS,
+        arg0: VERSION,
         arg1: MAX_PAYLOAD,
         length: 34,
         check: 0,

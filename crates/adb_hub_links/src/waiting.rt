@@ -9,7 +9,6 @@ ghost use Rattle.adb_hub_links.specs.Settling.{waiting};
 
 use adb_hub_tables::{Port, TouchedMap};
 use adb_link::Link;
-use adb_wire::WireError;
 use std::alloc::AllocError;
 
 /// A piece that completes no packet is held behind what is held of a link.
@@ -37,9 +36,5 @@ fn hold(link: &mut Link, piece: &[u8]) -> Result<(), AllocError>
     }) }
     ensures err { OnErr result (link.new ≡ link.old) }
 {
-    match link.feed(piece) {
-        Ok(()) => Ok(()),
-        Err(WireError::OutOfMemory) => Err(AllocError),
-        Err(WireError::Broken(_) | WireError::BadSum { .. }) => unreachable!(),
-    }
+    link.hold(piece)
 }

@@ -7,7 +7,7 @@ use Rattle.adb_outside.specs.declared.identity.State.TheVariants.{Offline}
 use Rattle.adb_outside.specs.declared.identity.Identity.{Identity}
 use Rattle.adb_registry.specs.Row.{online_row}
 use Rattle.adb_registry.specs.Registry.{changed}
-use Rattle.adb_wire.specs.declared.format.TheConstants.{VERSION_WITHOUT_SUMS}
+use Rattle.adb_wire.specs.declared.limits.TheConstants.{VERSION}
 use Rattle.adb_wire.specs.declared.headers.TheConstants.{MAX_PAYLOAD}
 use Rattle.adb_registry.specs.declared.registry.TheConstants.{MAX_FEATURES}
 use Rattle.adb_wire.specs.Format.{packet_under}
@@ -32,7 +32,7 @@ offline_in (Some row) = offline_state row.state
 -- the device of a link is who it says, with the lesser version and maxdata
 abbrev pub named : ℕ → (version maxdata : ℕ) → Identity → State → State
 named t version maxdata identity s = record s {
-  devices = changed t (online_row identity (min version VERSION_WITHOUT_SUMS) (min maxdata MAX_PAYLOAD)) s.devices;
+  devices = changed t (online_row identity (min version VERSION) (min maxdata MAX_PAYLOAD)) s.devices;
 }
 
 -- the packet that came

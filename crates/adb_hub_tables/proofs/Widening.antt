@@ -4,7 +4,7 @@ use Rattle.std.specs.Prelude.{option_map}
 use Rattle.adb_outside.specs.Tables.{at}
 use Rattle.adb_client.specs.Client.{SeenClient}
 use Rattle.adb_link.specs.Linked.{Linked}
-use Rattle.adb_link.specs.declared.link.TheConstants.{VERSION_WITH_SUMS}
+use Rattle.adb_wire.specs.declared.limits.TheConstants.{MIN_VERSION}
 use Rattle.adb_stream.specs.declared.row.Stream.{Stream}
 use Rattle.adb_capture.specs.declared.entry.Entry.{Entry}
 use Rattle.adb_history.specs.Rows.{Client, State}
@@ -75,7 +75,7 @@ port_shown None None h = refl
 port_shown None (Some new) h = absurd h
 port_shown (Some old) None h = absurd h
 port_shown (Some old) (Some new) h =
-    ap (λ (link : Linked). Some (record { rest = link.incoming.rest; sums = link.version == VERSION_WITH_SUMS; due = link.due })) h.link
+    ap (λ (link : Linked). Some (record { rest = link.incoming.rest; sums = link.version == MIN_VERSION; due = link.due })) h.link
 
 port_room : (n : ℕ) (old new : Option Port) → WidensRow WidensPort old new → LinkRoom n old → LinkRoom n new
 port_room n None None h room = tt
@@ -97,7 +97,7 @@ port_read (Some old) None h read = absurd h
 port_read (Some old) (Some new) h read = record {
   given = ap (λ (link : Linked). link.incoming.given) h.link ∙ read.given;
   sound = ap (λ (link : Linked). link.incoming.fault) h.link ∙ read.sound;
-  sums = ap (λ (link : Linked). link.incoming.reading.sums) h.link ∙ (read.sums ∙ ap (λ (link : Linked). link.version == VERSION_WITH_SUMS) (sym h.link));
+  sums = ap (λ (link : Linked). link.incoming.reading.sums) h.link ∙ (read.sums ∙ ap (λ (link : Linked). link.version == MIN_VERSION) (sym h.link));
 }
 
 -- ---- tables

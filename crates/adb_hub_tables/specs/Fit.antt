@@ -2,7 +2,7 @@
 use Rattle.std.specs.Prelude.{ℕ, ◌==◌, ◌≡◌, [], Option, Some, None}
 use Rattle.adb_outside.specs.Tables.{at}
 use Rattle.adb_capture.specs.declared.entry.Entry.{Entry}
-use Rattle.adb_link.specs.declared.link.TheConstants.{VERSION_WITH_SUMS}
+use Rattle.adb_wire.specs.declared.limits.TheConstants.{MIN_VERSION}
 use Rattle.adb_history.specs.Rows.{State}
 use Rattle.adb_history.specs.Machine.{History, IsLegal, state, step}
 use Rattle.adb_hub_tables.specs.declared.ports.Port.{Port}
@@ -14,7 +14,7 @@ use Rattle.adb_hub_tables.specs.Places.{IsProvided}
 pub record IsReadOut (port : Port) : Type 0 where
   pub given : port.link.incoming.given ≡ []
   pub sound : port.link.incoming.fault ≡ None
-  pub sums : port.link.incoming.reading.sums ≡ (port.link.version == VERSION_WITH_SUMS)
+  pub sums : port.link.incoming.reading.sums ≡ (port.link.version == MIN_VERSION)
 
 abbrev pub IsReadOutAt : Option Port → Type 0
 IsReadOutAt None = Unit {0}

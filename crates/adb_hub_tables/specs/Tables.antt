@@ -7,7 +7,7 @@ use Rattle.adb_wire.specs.Packet.{spelling}
 use Rattle.adb_client.specs.Client.{SeenClient}
 use Rattle.adb_client.specs.declared.phase.Phase.TheVariants.{Closing, Gone}
 use Rattle.adb_client.specs.declared.phase.Phase.{Phase}
-use Rattle.adb_link.specs.declared.link.TheConstants.{VERSION_WITH_SUMS}
+use Rattle.adb_wire.specs.declared.limits.TheConstants.{MIN_VERSION}
 use Rattle.adb_reply.specs.Strings.{failed}
 use Rattle.adb_history.specs.Rows.{Client, Link, State, to_client, none_kept, with_due}
 use Rattle.adb_history.specs.Clients.{closing}
@@ -23,7 +23,7 @@ client_row c = record { about = c.about; held = c.held; due = c.due }
 
 -- the row of a link
 abbrev pub link_row : Port → Link
-link_row p = record { rest = p.link.incoming.rest; sums = p.link.version == VERSION_WITH_SUMS; due = p.link.due }
+link_row p = record { rest = p.link.incoming.rest; sums = p.link.version == MIN_VERSION; due = p.link.due }
 
 -- the state that tables show
 abbrev pub state_of : Tables → State

@@ -12,7 +12,7 @@ use Rattle.adb_banner.specs.Banner.{identity_of}
 use Rattle.adb_registry.specs.Row.{online_row, unauthorized_row}
 use Rattle.adb_registry.specs.Registry.{changed}
 use Rattle.adb_registry.specs.declared.row.Row.{Row}
-use Rattle.adb_wire.specs.declared.format.TheConstants.{VERSION_WITHOUT_SUMS}
+use Rattle.adb_wire.specs.declared.limits.TheConstants.{VERSION}
 use Rattle.adb_wire.specs.declared.headers.TheConstants.{MAX_PAYLOAD}
 use Rattle.adb_stream.specs.declared.flow.Flow.{Flow}
 use Rattle.adb_stream.specs.declared.flow.Flow.TheVariants.{One, Credit}
@@ -237,7 +237,7 @@ module _ (ids : List ℕ) where
         now = (streams_end_first (is_connected t s.devices) t s).state
 
         row : Row → Row
-        row = online_row identity (min version VERSION_WITHOUT_SUMS) (min maxdata MAX_PAYLOAD)
+        row = online_row identity (min version VERSION) (min maxdata MAX_PAYLOAD)
 
         left : IsCleared t s (streams_end_first (is_connected t s.devices) t s).state
         left = first_cleared s h (is_connected t s.devices) t refl

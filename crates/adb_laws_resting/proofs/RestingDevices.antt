@@ -9,7 +9,7 @@ use Rattle.adb_outside.proofs.TableLaws.{All-put_at, All-without}
 use Rattle.adb_registry.specs.Row.{new_row, online_row, unauthorized_row}
 use Rattle.adb_registry.specs.Registry.{DeviceTable, changed}
 use Rattle.adb_registry.specs.declared.row.Row.{Row}
-use Rattle.adb_wire.specs.declared.format.TheConstants.{VERSION_WITHOUT_SUMS}
+use Rattle.adb_wire.specs.declared.limits.TheConstants.{VERSION}
 use Rattle.adb_wire.specs.declared.headers.TheConstants.{MAX_PAYLOAD}
 use Rattle.adb_stream.specs.declared.row.Stream.{Stream}
 use Rattle.adb_capture.specs.declared.entry.Entry.{Entry}
@@ -73,7 +73,7 @@ first_sized false t s h = h
 online_sized : (t version maxdata : ℕ) (identity : Identity) (s : State) → AreSized s.devices
     → AreSized (connects_now t version maxdata identity s).state.devices
 online_sized t version maxdata identity s h =
-    changed_sized t (online_row identity (min version VERSION_WITHOUT_SUMS) (min maxdata MAX_PAYLOAD))
+    changed_sized t (online_row identity (min version VERSION) (min maxdata MAX_PAYLOAD))
     (streams_end_first (is_connected t s.devices) t s).state.devices (λ row within. omega arith)
     (first_sized (is_connected t s.devices) t s h)
 

@@ -7,5 +7,5 @@ mod outgoing;
 #[cfg(test)]
 mod tests;
 
-pub use link::{Link, VERSION_WITH_SUMS};
-pub use outgoing::MAX_SHORT;
+pub use link::Link;
+pub use outgoing::{MAX_SHORT, limits_are};

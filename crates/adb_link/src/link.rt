@@ -1,8 +1,6 @@
 //! A device's link.
 
-ghost use Rattle.std.specs.Prelude.{◌≡◌, ◌≢◌, ◌<◌, ◌≤◌, ◌++◌, [], List, ℕ, length, take, drop, max, Some, None, IfOk, OnOk, OnErr, MatchOption};
-ghost use Rattle.adb_wire.specs.declared.format.PacketFault.{PacketFault};
-ghost use Rattle.adb_wire.specs.declared.deframer.WireError.{WireError};
+ghost use Rattle.std.specs.Prelude.{◌≡◌, ◌<◌, ◌≤◌, ◌++◌, [], List, ℕ, length, take, drop, max, None, IfOk, OnOk, OnErr, MatchOption};
 ghost use Rattle.adb_wire.specs.Packet.{head_for, check_of};
 ghost use Rattle.adb_wire.specs.Format.{packet_under};
 ghost use Rattle.adb_wire.specs.Cutting.{cut_packets, goes_with_sum};
@@ -12,13 +10,10 @@ ghost use Rattle.adb_link.specs.Linked.{IsHeadOf, version_past};
 use crate::outbox::Outbox;
 use crate::outgoing::{MAX_SHORT, Outgoing};
 use adb_outside::Text;
-use adb_wire::{Command, Deframer, Head, WireError, byte_sum};
+use adb_wire::{Command, Deframer, Head, MIN_VERSION, WireError, byte_sum};
 use bytes::Bytes;
 use std::alloc::{AllocError, Global};
 use std::marker::Model;
-
-/// The version in which every packet goes out with its sum.
-pub const VERSION_WITH_SUMS: u32 = 0x0100_0000;
 
 /// A device's link: what comes in on it is cut into packets, and packets become due on it, with the
 /// check word that protocol.txt has for its version ("MESSAGES"). A packet that becomes due keeps
@@ -49,7 +44,7 @@ impl Model for Link {
 }
 
 impl Link {
-    ghost use Rattle.adb_wire.specs.Deframing.{StandsFor, Takes, Waits, answer_of};
+    ghost use Rattle.adb_wire.specs.Deframing.{StandsFor, Takes, Waits};
     ghost use Rattle.adb_link.specs.Linked.{new_link, owing, placing};
 
     /// Nothing was fed yet, nothing is due, and no place is reserved. It takes no memory.
@@ -65,20 +60,22 @@ impl Link {
         }
     }
 
-    /// Takes the next piece of what comes in, of any length. `Broken` and `BadSum` come exactly
-    /// where all the bytes fed so far have that fault first; from then on every call answers it and
-    /// takes nothing. After want of memory all is as before.
-    pub fn feed(&mut self, piece: &[u8]) -> Result<(), WireError>
-        ensures answer { result ≢ Err WireError.OutOfMemory
-            → result ≡ answer_of self.new.incoming.fault }
-        ensures taken { result ≢ Err WireError.OutOfMemory
-            → Takes self.old.incoming piece.now self.new.incoming }
-        ensures stays { (fault : PacketFault) → self.old.incoming.fault ≡ Some fault
-            → result ≡ answer_of (Some fault) }
-        ensures memory { result ≡ Err WireError.OutOfMemory → self.new ≡ self.old }
-        ensures others { self.new ≡ record self.old { incoming = self.new.incoming } }
+    /// Holds the next piece of what comes in, which completes no packet and no fault, behind what
+    /// is held. After want of memory all is as before.
+    pub fn hold(&mut self, piece: &[u8]) -> Result<(), AllocError>
+        requires sound { self.old.incoming.fault ≡ None }
+        requires waits { Waits self.old.incoming piece.now }
+        ensures held { OnOk result (self.new ≡ record self.old {
+          incoming = record self.old.incoming { rest = self.old.incoming.rest ++ piece.now };
+        }) }
+        ensures taken { OnOk result (Takes self.old.incoming piece.now self.new.incoming) }
+        ensures err { OnErr result (self.new ≡ self.old) }
     {
-        self.incoming.feed(piece)
+        match self.incoming.feed(piece) {
+            Ok(()) => Ok(()),
+            Err(WireError::OutOfMemory) => Err(AllocError),
+            Err(WireError::Broken(_) | WireError::BadSum { .. }) => unreachable!(),
+        }
     }
 
     /// How many bytes are missing, at least, until a packet is whole or a fault is there: a shorter
@@ -207,7 +204,7 @@ fn head_to_send(version: u32, head: &Head, payload: &[u8]) -> Head
 {
     let has_sum = match head.command {
         Command::Cnxn => true,
-        _ => version == VERSION_WITH_SUMS,
+        _ => version == MIN_VERSION,
     };
     Head {
         command: head.command,

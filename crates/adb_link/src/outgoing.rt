@@ -15,6 +15,12 @@ pub const MAX_SHORT: usize = 8;
 /// How many bytes a packet holds in its own place: a header and a short payload.
 const START_LEN: usize = HEADER_LEN + MAX_SHORT;
 
+/// The numbers that definitions take from the code, written out.
+pub fn limits_are()
+    ensures short { MAX_SHORT ≡ 8 }
+    ensures start { START_LEN ≡ 32 }
+{}
+
 /// What is still due of a packet: bytes of its start, which is the header and a short payload, and
 /// those of its shared payload. Contracts see it as these bytes.
 #[derive(Drop)]

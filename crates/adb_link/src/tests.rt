@@ -4,7 +4,7 @@ ghost use Rattle.std.specs.Prelude.{◌≡◌};
 
 use super::*;
 use adb_outside::Text;
-use adb_wire::{Command, Head, WireError};
+use adb_wire::{Command, Head};
 use bytes::Bytes;
 use std::alloc::{AllocError, Global};
 use std::panic::Expect;
@@ -96,11 +96,11 @@ fn took_connect(link: &mut Link, version: u32) {
 fn check_words_follow_the_last_cnxn(rt: HostRuntime) {
     let mut link = Link::new(rt.alloc());
     owe_write(&rt, &mut link);
-    took_connect(&mut link, VERSION_WITH_SUMS);
+    took_connect(&mut link, 0x0100_0000);
     owe_three(&rt, &mut link);
     took_connect(&mut link, 0x0100_0001);
     owe_write(&rt, &mut link);
-    took_connect(&mut link, VERSION_WITH_SUMS);
+    took_connect(&mut link, 0x0100_0000);
     owe_write(&rt, &mut link);
     let plain = WRITE_WITHOUT_SUM;
     are_due(
@@ -134,9 +134,10 @@ fn a_piece_is_cut_beside_what_is_held(rt: HostRuntime) {
     assert_eq!(rt; device.payload.as_slice(), b"device::".as_slice());
     assert_eq!(rt; link.missing(), 24);
     link.put_incoming(incoming);
-    assert_eq!(rt; link.feed(&WRITE_WITHOUT_SUM[..26]), Ok(()));
+    link.hold(&WRITE_WITHOUT_SUM[..26]).expect(&rt, "memory");
     assert_eq!(rt; link.missing(), 1);
-    let (said, is) = (0, 0xdb);
-    assert_eq!(rt; link.feed(b"\n"), Err(WireError::BadSum { said, is }));
+    let incoming = link.with_piece(b"\n").expect(&rt, "memory");
+    assert!(rt; incoming.is_broken());
+    link.put_incoming(incoming);
     assert_eq!(rt; link.missing(), usize::MAX);
 }

@@ -9,5 +9,5 @@ mod row;
 mod tests;
 
 pub use choice::Refusal;
-pub use registry::{AttachError, MAX_DEVICES, MAX_FEATURES, Registry};
+pub use registry::{AttachError, MAX_FEATURES, Registry, limits_are};
 pub use row::Row;

@@ -8,6 +8,7 @@ ghost use Rattle.adb_registry.specs.Row.{new_row, online_row, unauthorized_row};
 ghost use Rattle.adb_registry.specs.Registry.{IsRowAt, IsSound, attach_refusal, attached, changed, detached};
 ghost use Rattle.adb_registry.specs.Choice.{is_meant, choice};
 ghost use Rattle.adb_registry.specs.Lists.{short_list, long_list};
+ghost use Rattle.adb_registry.specs.declared.lists.TheConstants.{SERIAL_WIDTH, MAX_VALUE};
 ghost use Rattle.adb_registry.specs.declared.registry.AttachError.TheVariants.{OutOfMemory};
 
 use crate::choice::{self, Refusal};
@@ -19,10 +20,18 @@ use std::collections::BTreeMap;
 use std::marker::Model;
 
 /// The most devices at one time.
-pub const MAX_DEVICES: usize = 128;
+pub(crate) const MAX_DEVICES: usize = 128;
 
 /// The most bytes of the features that a device gives.
 pub const MAX_FEATURES: usize = 32768;
+
+/// The numbers that definitions take from the code, written out.
+pub fn limits_are()
+    ensures devices { MAX_DEVICES ≡ 128 }
+    ensures features { MAX_FEATURES ≡ 32768 }
+    ensures width { SERIAL_WIDTH ≡ 22 }
+    ensures value { MAX_VALUE ≡ 64 }
+{}
 
 /// Why a device was not taken in.
 #[derive(Clone, Copy, Debug, PartialEq, Eq, Drop)]

@@ -5,7 +5,7 @@ use Rattle.std.specs.Option.{option_or}
 use Rattle.std.specs.List.{starts_with}
 use Rattle.adb_outside.specs.Bytes.{is_graphic}
 use Rattle.adb_outside.specs.Decimal.{number_in}
-use Rattle.adb_request.specs.declared.forms.TheConstants.{MAX_REMOTE}
+use Rattle.adb_outside.specs.declared.remote.TheConstants.{MAX_REMOTE}
 use Rattle.adb_request.specs.declared.request.Which.{Which}
 use Rattle.adb_request.specs.declared.request.Request.{Request}
 use Rattle.adb_request.specs.declared.request.Request.TheVariants.{Serialno, Devpath, GetState, Features, Forward, BadForward, KillForward, KillAll}

@@ -4,11 +4,8 @@ ghost use Rattle.std.specs.Prelude.{◌≡◌, ◌==◌, ◌<◌, length, IfOk, 
 ghost use Rattle.adb_request.specs.Forms.{behind, local_in, is_remote, forward_between, forward_of, killed_at, fixed_form, forward_form, form, is_fixed, is_form};
 
 use crate::request::{Request, Which};
-use adb_outside::{Text, is_graphic, read_number};
+use adb_outside::{MAX_REMOTE, Text, is_graphic, read_number};
 use std::alloc::{AllocError, Global};
-
-/// The most bytes of the remote end of a forward.
-pub(crate) const MAX_REMOTE: usize = 512;
 
 /// What stands behind a word that a text begins with.
 pub(crate) fn behind<'a>(word: &[u8], text: &'a [u8]) -> Option<&'a [u8]>

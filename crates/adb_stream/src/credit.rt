@@ -10,7 +10,13 @@ use std::marker::Model;
 pub const CREDIT_WINDOW: u32 = 262_144;
 
 /// How many bytes that were handed out are given back at once, where more are still to be.
-pub const CREDIT_STEP: u32 = 65_536;
+pub(crate) const CREDIT_STEP: u32 = 65_536;
+
+/// The numbers that definitions take from the code, written out.
+pub fn limits_are()
+    ensures window { CREDIT_WINDOW ≡ 262144 }
+    ensures step { CREDIT_STEP ≡ 65536 }
+{}
 
 /// A credit in bytes, on a link whose two ends name the feature `hub_credit`, which is this project's
 /// own: a WRTE holds no more bytes than there is credit for, and an OKAY gives credit for some more.

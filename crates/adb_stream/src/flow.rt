@@ -1,6 +1,6 @@
 //! What an end of a stream may send, and what it has taken.
 
-ghost use Rattle.std.specs.Prelude.{◌≡◌};
+ghost use Rattle.std.specs.Prelude.{◌≡◌, ◌<◌, not, true, false};
 
 use crate::credit::Credit;
 use crate::window::Window;
@@ -16,7 +16,8 @@ pub enum Took {
     OutOfTurn,
 }
 
-/// How the writes of a stream are held back: one write each way, or a credit in bytes.
+/// How the writes of a stream are held back: one write each way, or a credit in bytes. No call takes
+/// memory.
 #[derive(Clone, Copy, Drop)]
 pub enum Flow {
     /// One write each way, as protocol.txt has it.
@@ -26,16 +27,139 @@ pub enum Flow {
 }
 
 impl Flow {
-    ghost use Rattle.adb_stream.specs.Flow.{new_flow};
+    ghost use Rattle.adb_stream.specs.Flow.{new_flow, has_credit, may_send, can_send, is_idle};
+    ghost use Rattle.adb_stream.specs.Flow.{LetsGo, wrote, first_credit, acknowledged};
+    ghost use Rattle.adb_stream.specs.Flow.{is_out_of_turn, accepted, to_hand, flow_back, handed_to};
 
     /// What each end may send at first, on a link with or without credit in bytes.
-    pub(crate) fn new(credit: bool) -> Flow
+    pub fn new(credit: bool) -> Flow
         ensures { result ≡ new_flow credit }
     {
         if credit {
             Flow::Credit(Credit::new())
         } else {
             Flow::One(Window::new())
+        }
+    }
+
+    /// Whether it is a credit in bytes.
+    pub fn has_credit(&self) -> bool
+        ensures { result ≡ has_credit self.now }
+    {
+        match self {
+            Flow::One(_) => false,
+            Flow::Credit(_) => true,
+        }
+    }
+
+    /// How many bytes may be sent now, where a write may have at most `most`.
+    pub fn may_send(&self, most: usize) -> usize
+        ensures { result ≡ may_send self.now most }
+    {
+        match self {
+            Flow::One(window) if window.can_write() => most,
+            Flow::One(_) => 0,
+            Flow::Credit(credit) => credit.can_send() as usize,
+        }
+    }
+
+    /// Whether a write with bytes may be sent now.
+    pub fn can_send(&self) -> bool
+        ensures { result ≡ can_send self.now }
+    {
+        match self {
+            Flow::One(window) => window.can_write(),
+            Flow::Credit(credit) => credit.can_send() > 0,
+        }
+    }
+
+    /// Whether no write waits for its OKAY.
+    pub fn is_idle(&self) -> bool
+        ensures { result ≡ is_idle self.now }
+    {
+        match self {
+            Flow::One(window) => window.can_write(),
+            Flow::Credit(_) => true,
+        }
+    }
+
+    /// A write of `n` bytes was sent, which might be.
+    pub fn wrote(&mut self, n: usize)
+        requires { LetsGo self.old n }
+        ensures { self.new ≡ wrote n self.old }
+    {
+        match self {
+            Flow::One(window) => window.wrote(),
+            Flow::Credit(credit) => credit.sent(n.min(credit.can_send() as usize) as u32),
+        }
+    }
+
+    /// The other end opened the stream, with a credit word or without.
+    pub fn opened(&mut self, word: Option<u32>)
+        ensures { self.new ≡ first_credit word self.old }
+    {
+        match self {
+            Flow::One(_) => {}
+            Flow::Credit(credit) => {
+                let before = credit.can_send();
+                credit.sent(before);
+                credit.grant(word.unwrap_or(0));
+            }
+        }
+    }
+
+    /// An OKAY of the open stream came, with a credit word or without: the write that is
+    /// outstanding has ended, or there is more credit.
+    pub fn acked(&mut self, word: Option<u32>)
+        ensures { self.new ≡ acknowledged word self.old }
+    {
+        match self {
+            Flow::One(window) => {
+                window.acked();
+            }
+            Flow::Credit(credit) => {
+                if let Some(n) = word {
+                    credit.grant(n);
+                }
+            }
+        }
+    }
+
+    /// A write of `n` bytes came: whether it came in turn, and then its bytes are to be handed out;
+    /// else nothing changes.
+    pub fn accept(&mut self, n: usize) -> bool
+        ensures turn { result ≡ not (is_out_of_turn self.old n) }
+        ensures flow { result ≡ true → self.new ≡ accepted n self.old }
+        ensures stays { result ≡ false → self.new ≡ self.old }
+    {
+        match self {
+            Flow::One(window) => window.took(n) != Took::OutOfTurn,
+            Flow::Credit(credit) => credit.took(n) != Took::OutOfTurn,
+        }
+    }
+
+    /// How many of the bytes that were accepted are still to be handed out.
+    pub fn to_hand(&self) -> usize
+        ensures { result ≡ to_hand self.now }
+    {
+        match self {
+            Flow::One(window) => window.to_hand(),
+            Flow::Credit(credit) => credit.to_hand(),
+        }
+    }
+
+    /// `left` bytes are left to be handed out, fewer than before: the credit to give back now.
+    pub fn hand_to(&mut self, left: usize) -> u32
+        requires { left < to_hand self.old }
+        ensures back { result ≡ flow_back left self.old }
+        ensures after { self.new ≡ handed_to left self.old }
+    {
+        match self {
+            Flow::One(window) => {
+                window.handed(window.to_hand() - left);
+                0
+            }
+            Flow::Credit(credit) => credit.handed(credit.to_hand() - left),
         }
     }
 }

@@ -10,7 +10,7 @@ mod streams;
 mod tests;
 mod window;
 
-pub use credit::{CREDIT_STEP, CREDIT_WINDOW, Credit};
+pub use credit::{CREDIT_WINDOW, Credit, limits_are};
 pub use flow::{Flow, Took};
 pub use row::{Part, Stream};
 pub use streams::{DrawError, Streams};

@@ -62,6 +62,15 @@ is_slice bytes within none = by_head (head_at bytes) refl (slice_headed bytes lo
     by_head (Ok head) e is = inl (head, e, omega (arith, within, none, is ∙ ap headed_len e))
     by_head (Err fault) e is = inr (fault, e, omega (arith, within, none, is ∙ ap headed_len e))
 
+-- the first slice of bytes in which it is whole
+pub first_is_slice : (bytes : List ℕ) → slice_len bytes ≤ length bytes → IsSlice (take (slice_len bytes) bytes)
+first_is_slice bytes le =
+    let n = slice_len bytes in
+    let long : length (take n bytes) ≡ n = omega (arith, length-take n bytes, le) in
+    let same : slice_len bytes ≡ slice_len (take n bytes) =
+    ap slice_len (sym (take-append-drop n bytes)) ∙ slice_same (take n bytes) (drop n bytes) (omega (arith, long, slice_bounds bytes)) in
+    is_slice (take n bytes) (omega (arith, long, same)) (omega (arith, long, same))
+
 -- more bytes of a slice, no more than it misses, are still within it
 pub slice_grows : (held more : List ℕ) → length held ≤ slice_len held → length more ≤ need_of held → length (held ++ more) ≤ slice_len (held ++ more)
 slice_grows held more within fits = elim (cases_lt (length held) HEADER_LEN) [

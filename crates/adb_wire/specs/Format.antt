@@ -6,7 +6,7 @@ use Rattle.adb_wire.specs.declared.command.Command.{Command}
 use Rattle.adb_wire.specs.declared.command.Command.TheVariants.{Cnxn}
 use Rattle.adb_wire.specs.declared.headers.Head.{Head}
 use Rattle.adb_wire.specs.declared.headers.TheConstants.{HEADER_LEN}
-use Rattle.adb_wire.specs.declared.format.TheConstants.{VERSION_WITHOUT_SUMS}
+use Rattle.adb_wire.specs.declared.limits.TheConstants.{VERSION}
 use Rattle.adb_wire.specs.declared.headers.HeadFault.{HeadFault}
 use Rattle.adb_wire.specs.declared.packets.Packet.{Packet}
 use Rattle.adb_wire.specs.declared.format.PacketFault.{PacketFault}
@@ -69,7 +69,7 @@ packet_of frame = packet_with (head_at frame) (drop HEADER_LEN frame)
 
 -- Check words are looked at on a link of that version.
 abbrev pub has_sums : ℕ → Bool
-has_sums version = nat_lt version VERSION_WITHOUT_SUMS
+has_sums version = nat_lt version VERSION
 
 -- how the bytes after a packet are read: a CNXN says whether sums are looked at
 abbrev pub format_after : PacketFormat → Packet → PacketFormat

@@ -1,5 +1,5 @@
 -- Cutting a stream into slices by form: each slice is a packet, or a header with a fault. Check words are not looked at.
-use Rattle.std.specs.Prelude.{ℕ, ◌-◌, ◌≡◌, ◌==◌, ◌⊎◌, if◌then◌else◌, nat_lt, map, List, [], ◌∷◌, ◌++◌, length, take, Some, None, Result, Ok, Err}
+use Rattle.std.specs.Prelude.{ℕ, ◌-◌, ◌≡◌, ◌<◌, ◌==◌, ◌⊎◌, if◌then◌else◌, nat_lt, map, List, [], ◌∷◌, ◌++◌, length, take, Some, None, Result, Ok, Err}
 use Rattle.std.specs.List.{All, concat}
 use Rattle.adb_outside.specs.declared.framer.Front.{Front}
 use Rattle.adb_outside.specs.declared.framer.Front.TheVariants.{More, Whole}
@@ -7,7 +7,7 @@ use Rattle.adb_outside.specs.Framing.{Cut, cut}
 use Rattle.adb_wire.specs.declared.headers.Head.{Head}
 use Rattle.adb_wire.specs.declared.headers.HeadFault.{HeadFault}
 use Rattle.adb_wire.specs.declared.headers.TheConstants.{HEADER_LEN}
-use Rattle.adb_wire.specs.declared.format.PacketFault.TheVariants.{Broken}
+use Rattle.adb_wire.specs.declared.format.PacketFault.TheVariants.{Broken, BadSum}
 use Rattle.adb_wire.specs.Header.{head_at}
 use Rattle.adb_wire.specs.Format.{packet_len, packet_of}
 use Rattle.adb_wire.specs.Cutting.{Parts}
@@ -55,12 +55,22 @@ pub record HasSliced (fed : List ℕ) (gave : List (List ℕ)) (held : List ℕ)
   pub slices : (cut_slices fed).given ≡ gave ++ whole_of held
   pub rest : (cut_slices fed).rest ≡ open_of held
 
--- The slices are the packets of the stream's parts, and then others: none where the stream has no fault; the header first that has one.
+-- The bytes are these slices, one behind the other, and a rest in which none is whole.
+pub record AreSlices (bytes : List ℕ) (slices : List (List ℕ)) (rest : List ℕ) : Type 0 where
+  pub each : All IsSlice slices
+  pub spelled : concat slices ++ rest ≡ bytes
+  pub short : length rest < slice_len rest
+
+-- The slices are the packets of the stream's parts, and then others, which are the slices of the bytes past them: none where the stream has no fault; the
+-- header first that has one; and the packet first whose check word is wrong.
 pub record Follow (slices : List (List ℕ)) (rest : List ℕ) (parts : Parts) : Type 0 where
   pub spelled : List (List ℕ)
   pub others : List (List ℕ)
   pub begins : slices ≡ spelled ++ others
   pub packets : map packet_of spelled ≡ parts.packets
+  pub behind : AreSlices parts.rest others rest
   pub sound : parts.fault ≡ None → (others ≡ []) × (rest ≡ parts.rest)
   pub broken : (fault : HeadFault) → parts.fault ≡ Some (Broken fault)
       → (more : List (List ℕ)) × (others ≡ take HEADER_LEN parts.rest ∷ more)
+  pub bad_sum : (said is : ℕ) → parts.fault ≡ Some (BadSum said is)
+      → (head : Head) × (more : List (List ℕ)) × (head_at parts.rest ≡ Ok head) × (others ≡ take (packet_len head) parts.rest ∷ more)

@@ -7,14 +7,12 @@ ghost use Rattle.adb_wire.specs.Format.{front_of, packet_of, format_after, sum_f
 
 use crate::command::Command;
 use crate::headers::{HEADER_LEN, Head, HeadFault, byte_sum, read_head};
+use crate::limits::VERSION;
 use crate::packets::Packet;
 use crate::slicer::need;
 use adb_outside::{Format, Front};
 use bytes::Bytes;
 use std::alloc::{AllocError, Global};
-
-/// The first version in which check words are not looked at.
-pub const VERSION_WITHOUT_SUMS: u32 = 0x0100_0001;
 
 /// Why a stream is no stream of packets from some place on (protocol.txt, "MESSAGES").
 #[derive(Clone, Copy, Debug, PartialEq, Eq, Drop)]
@@ -126,7 +124,7 @@ impl Format<Packet, PacketFault> for PacketFormat {
         let head = self.head_of(frame);
         match head.command {
             Command::Cnxn => PacketFormat {
-                sums: head.arg0 < VERSION_WITHOUT_SUMS,
+                sums: head.arg0 < VERSION,
             },
             _ => *self,
         }

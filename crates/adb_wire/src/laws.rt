@@ -5,7 +5,7 @@ ghost use Rattle.std.specs.Prelude.{◌≡◌, ◌^◌, ◌<◌, ◌≤◌, ◌+
 ghost use Rattle.adb_wire.specs.declared.headers.Head.{Head};
 ghost use Rattle.adb_wire.specs.declared.packets.Packet.{Packet};
 ghost use Rattle.adb_wire.specs.declared.headers.TheConstants.{HEADER_LEN};
-ghost use Rattle.adb_wire.specs.declared.format.TheConstants.{VERSION_WITHOUT_SUMS};
+ghost use Rattle.adb_wire.specs.declared.limits.TheConstants.{VERSION};
 ghost use Rattle.adb_wire.specs.Header.{IsBytes, IsHead, header_bytes, head_at};
 ghost use Rattle.adb_wire.specs.Packet.{IsPacket, spelling, check_of};
 ghost use Rattle.adb_wire.specs.Cutting.{Begins, Parts, Cuts, Adds, Continues, MayCarry};
@@ -56,7 +56,9 @@ pub fn spelled_packets_are_cut()
 {}
 
 /// A slicer that was fed any pieces gave the packets of the stream first, in their bytes: these and
-/// nothing else where the stream has no fault, and next the header that has one.
+/// nothing else where the stream has no fault, and next the header that has one, or the packet with
+/// a wrong check word. Also behind these its slices follow one another, and none that is whole is
+/// left.
 pub fn slices_are_packets()
     ensures { (fed : List ℕ) (gave : List (List ℕ)) (held : List ℕ) (parts : Parts)
         → HasSliced fed gave held → Cuts fed parts
@@ -67,6 +69,6 @@ pub fn slices_are_packets()
 /// at only where that version is one that does so.
 pub fn outgoing_check_words_may_stand()
     ensures { (before : List Packet) (p : Packet) (version : ℕ) → 0x01000000 ≤ version
-        → (IsTrue (wants_sums before) → version < VERSION_WITHOUT_SUMS)
+        → (IsTrue (wants_sums before) → version < VERSION)
         → MayCarry before p (check_of (goes_with_sum version p) p) }
 {}

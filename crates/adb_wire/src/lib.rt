@@ -7,6 +7,7 @@ mod deframer;
 mod format;
 mod headers;
 pub mod laws;
+mod limits;
 mod packets;
 mod slicer;
 #[cfg(test)]
@@ -14,7 +15,8 @@ mod tests;
 
 pub use command::Command;
 pub use deframer::{Deframer, WireError};
-pub use format::{PacketFault, PacketFormat, VERSION_WITHOUT_SUMS};
+pub use format::{PacketFault, PacketFormat};
 pub use headers::{HEADER_LEN, Head, HeadFault, MAX_PAYLOAD, byte_sum, header, read_header};
+pub use limits::{MIN_MAXDATA, MIN_VERSION, VERSION, limits_are};
 pub use packets::{Packet, frame};
 pub use slicer::{MAX_PACKET, Slicer};

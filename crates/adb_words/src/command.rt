@@ -1,10 +1,18 @@
 //! What the words of a command line are.
 
+ghost use Rattle.std.specs.Prelude.{◌≡◌};
+
 /// The most streams of a load.
 pub const MAX_STREAMS: u16 = 10_000;
 
 /// The most digits of a number.
 pub const MAX_DIGITS: usize = 20;
+
+/// The numbers that definitions take from the code, written out.
+pub fn limits_are()
+    ensures streams { MAX_STREAMS ≡ 10000 }
+    ensures digits { MAX_DIGITS ≡ 20 }
+{}
 
 /// A command, with what its words give.
 #[derive(Clone, Copy, Debug, PartialEq, Eq, Drop)]

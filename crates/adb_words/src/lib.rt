@@ -8,5 +8,5 @@ mod operands;
 mod tests;
 mod words;
 
-pub use command::{Command, WordsError};
+pub use command::{Command, WordsError, limits_are};
 pub use words::read_words;
