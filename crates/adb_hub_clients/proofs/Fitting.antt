@@ -1,5 +1,5 @@
 -- What stays fit for the next entry.
-use Rattle.std.proofs.Common.{ℕ, ◌≡◌, ◌≢◌, ◌≤◌, Option, Some, None, sym, ap, subst, arith, ◌⊎◌, inl, inr}
+use Rattle.std.proofs.Common.{ℕ, ◌≡◌, ◌≢◌, ◌≤◌, length, Option, Some, None, refl, sym, ap, subst, arith, ◌⊎◌, inl, inr}
 use Rattle.std.proofs.lemmas.Bool.{cases_eq}
 use Rattle.adb_outside.specs.Tables.{at, Rows}
 use Rattle.adb_client.specs.Client.{SeenClient}
@@ -11,8 +11,12 @@ use Rattle.adb_hub_tables.specs.Tables.{state_of}
 use Rattle.adb_hub_tables.specs.Places.{ClientRoom, kept_places, Uses}
 use Rattle.adb_hub_tables.specs.Tracked.{clients_of}
 use Rattle.adb_hub_tables.specs.Fit.{IsFit, IsReadOutAt}
+use Rattle.adb_hub_tables.specs.Widening.{WidensClient, WidensRow, WidensClients, WidensLinks, Widens}
 use Rattle.adb_hub_tables.proofs.Using.{provided_by}
-use Rattle.adb_hub_clients.specs.Leaving.{Leaves, HasSlices, IsPlaced}
+use Rattle.adb_hub_tables.proofs.Widening.{widened, same_client, same_port}
+use Rattle.adb_hub_clients.specs.Leaving.{Leaves, HasSlices, IsPlaced, HoldsAtLeast}
+use Rattle.adb_hub_clients.specs.Asking.{CanHearAt}
+use Rattle.adb_hub_clients.specs.declared.hearing.Heard.{Heard}
 
 -- another table of the clients, whose rows have their places
 pub clients_leave : (old new : Tables) (rows : Rows (Option Client)) → clients_of new.clients.entries ≡ rows
@@ -83,3 +87,44 @@ joined_fit t n fit = record {
   };
   read_out = fit.read_out;
 }
+
+-- ---- where places are reserved and more is made ready
+leaves_widened : (old new : Tables) → IsFit old → Widens old new → Leaves (state_of old) new
+leaves_widened old new fit h = let kept = widened old new fit h in record { state = kept.state; fit = kept.fit }
+
+-- of clients
+pub clients_widen : (old new : Tables) → WidensClients old.clients.entries new.clients.entries → IsFit old
+    → Leaves (state_of old) (record old { clients = new.clients })
+clients_widen old new h fit =
+    leaves_widened old (record old { clients = new.clients }) fit
+    (record { clients = h; links = λ k. same_port (at k old.links.entries); others = refl })
+
+-- of links
+pub links_widen : (old new : Tables) → WidensLinks old.links.entries new.links.entries → IsFit old
+    → Leaves (state_of old) (record old { links = new.links })
+links_widen old new h fit =
+    leaves_widened old (record old { links = new.links }) fit
+    (record { clients = λ c. same_client (at c old.clients.entries); links = h; others = refl })
+
+same_held : {old new : SeenClient} → WidensClient old new → length new.held ≡ length old.held
+same_held h = ap (λ (c : Client). length c.held) h.row
+
+pub still_holds : (n : ℕ) (old new : Option SeenClient) → WidensRow WidensClient old new → HoldsAtLeast n old → HoldsAtLeast n new
+still_holds n None None h holds = tt
+still_holds n None (Some new) h holds = absurd h
+still_holds n (Some old) None h holds = absurd h
+still_holds n (Some old) (Some new) h holds = omega (arith, holds, same_held h)
+
+pub still_hears : (heard : Heard) (old new : Option SeenClient) → WidensRow WidensClient old new → CanHearAt heard old → CanHearAt heard new
+still_hears heard None None h can = tt
+still_hears heard None (Some new) h can = absurd h
+still_hears heard (Some old) None h can = absurd h
+still_hears heard (Some old) (Some new) h can = record {
+  spare = omega (arith, can.spare, h.spare);
+  used = omega (arith, can.used, same_held h);
+}
+
+-- a client that has places beside those that it keeps has them
+pub has_slices : (n : ℕ) (client : Option SeenClient) → ClientRoom n client → HasSlices n client
+has_slices n None room = tt
+has_slices n (Some client) room = omega (arith, room)

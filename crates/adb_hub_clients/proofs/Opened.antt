@@ -19,11 +19,11 @@ use Rattle.adb_history.specs.Streams.{draw, asks_for, no_ids_left, opens, stream
 use Rattle.adb_hub_tables.specs.declared.ports.Port.{Port}
 use Rattle.adb_hub_tables.specs.declared.tables.Tables.{Tables}
 use Rattle.adb_hub_tables.specs.Tables.{state_of}
-use Rattle.adb_hub_tables.specs.Places.{LinkRoom, ClientRoom, IsCountedAt, is_on}
+use Rattle.adb_hub_tables.specs.Places.{HasPlaces, LinkRoom, ClientRoom, IsCountedAt, is_on}
 use Rattle.adb_hub_tables.specs.Tracked.{IsListedAt}
 use Rattle.adb_hub_tables.specs.Fit.{IsFit, IsReadOutAt}
 use Rattle.adb_hub_tables.proofs.Rows.{rows_put}
-use Rattle.adb_hub_clients.specs.Leaving.{HasPlaces, counting}
+use Rattle.adb_hub_clients.specs.Leaving.{counting}
 use Rattle.adb_hub_clients.specs.Asking.{hears, CanHearAt}
 use Rattle.adb_hub_clients.specs.Opening.{IsNextId, drawn_for, asked_for}
 use Rattle.adb_hub_clients.specs.declared.hearing.Heard.{Heard}

@@ -2,7 +2,7 @@
 use Rattle.std.proofs.Common.{ℕ, ◌+◌, ◌-◌, ◌≡◌, ◌≢◌, ◌≤◌, ◌==◌, Bool, true, false, cond, List}
 use Rattle.std.proofs.Common.{[], Option, Some, None, refl, sym, ◌∙◌, ap, subst, arith, length, ◌⊎◌, inl}
 use Rattle.std.proofs.Common.{inr, zero, suc, drop}
-use Rattle.std.specs.Prelude.{option_map, not}
+use Rattle.std.specs.Prelude.{option_map, not, Result, Ok, Err, IfOk, OnOk}
 use Rattle.std.proofs.lemmas.Bool.{cases_eq}
 use Rattle.std.proofs.lemmas.Bool.Decides.{nat_tests}
 use Rattle.adb_outside.specs.Tables.{at}
@@ -11,17 +11,19 @@ use Rattle.adb_client.specs.Client.{SeenClient}
 use Rattle.adb_stream.specs.declared.flow.Flow.{Flow}
 use Rattle.adb_stream.specs.declared.flow.Flow.TheVariants.{One, Credit}
 use Rattle.adb_stream.specs.declared.row.Stream.{Stream}
+use Rattle.adb_history.specs.Rows.{Client}
 use Rattle.adb_history.specs.Links.{maxdata_of}
 use Rattle.adb_history.specs.Flow.{up, payloads, writes, write_len, write_before}
 use Rattle.adb_hub_tables.specs.declared.ports.Port.{Port}
 use Rattle.adb_hub_tables.specs.declared.tables.Tables.{Tables}
 use Rattle.adb_hub_tables.specs.Tables.{state_of, link_row}
-use Rattle.adb_hub_tables.specs.Places.{LinkRoom, StaysRead, IsProvided, Uses}
+use Rattle.adb_hub_tables.specs.Places.{HasPlaces, LinkRoom, StaysRead, IsProvided, Uses}
 use Rattle.adb_hub_rules.specs.Handing.{HasRoom, UsesOf}
-use Rattle.adb_hub_rules.specs.Up.{up_writes, is_for, IsCutFor, IsCutOf, writes_for, writes_of, writes_up, IsReadyUp, all_unsent, held_at}
+use Rattle.adb_hub_tables.specs.Ready.{up_writes, IsCutBehind, writes_behind}
+use Rattle.adb_hub_tables.specs.Widening.{WidensClient, WidensRow}
+use Rattle.adb_hub_rules.specs.Up.{is_for, IsCutFor, IsCutOf, writes_for, writes_of, writes_up, IsReadyUp, all_unsent, held_at}
 use Rattle.adb_hub_tables.specs.Fit.{IsFit, IsReadOutAt}
 use Rattle.adb_hub_tables.proofs.Using.{provided_by, more_room}
-use Rattle.adb_hub_clients.specs.Leaving.{HasPlaces}
 use Rattle.adb_hub_clients.specs.Sending.{IsPreparedAt, can_send, can_send_at}
 use Rattle.adb_hub_clients.proofs.Sums.{up_sums, sums_at}
 
@@ -124,6 +126,18 @@ cut_for id flow maxdata writes (Some client) is = λ yes. is.cut
 room_for : (writes : ℕ) (port : Option Port) → HasPlaces writes port → LinkRoom writes port
 room_for writes None has = tt
 room_for writes (Some port) has = has.0
+
+-- what was made ready of a client, in so many writes
+pub prepared : {E : Type 0} {flow : Flow} {maxdata : ℕ} (made : Result ℕ E) (old new : Option SeenClient) → WidensRow WidensClient old new
+    → OnOk made (IsCutBehind flow 0 maxdata new) → IfOk made (λ writes. writes ≡ writes_behind flow 0 maxdata old)
+    → IfOk made (λ writes. IsPreparedAt writes flow maxdata new)
+prepared (Err error) old new h cut is = tt
+prepared (Ok writes) None None h cut is = tt
+prepared (Ok writes) None (Some new) h cut is = absurd h
+prepared (Ok writes) (Some old) None h cut is = absurd h
+prepared {E} {flow} {maxdata} (Ok writes) (Some old) (Some new) h cut is =
+    let held : length new.held ≡ length old.held = ap (λ (c : Client). length c.held) h.row in
+    record { cut = cut; within = omega (arith, is, ap (up_writes flow 0 maxdata) held) }
 
 pub ready_up : (id writes : ℕ) (t : Tables) (stream : Stream) → at id t.streams.streams ≡ Some stream
     → IsPreparedAt writes stream.part.flow (maxdata_of stream.link t.devices) (at stream.client t.clients.entries)

@@ -1,5 +1,5 @@
 -- What rules leave of the tables, and the places that are made before them.
-use Rattle.std.specs.Prelude.{ℕ, ◌+◌, ◌^◌, ◌≡◌, ◌≤◌, ◌<◌, List, length, Option, Some, None}
+use Rattle.std.specs.Prelude.{ℕ, ◌+◌, ◌≡◌, ◌≤◌, List, length, Option, Some, None}
 use Rattle.adb_client.specs.Client.{SeenClient}
 use Rattle.adb_history.specs.Rows.{State}
 use Rattle.adb_hub_tables.specs.declared.ports.Port.{Port}
@@ -13,11 +13,6 @@ use Rattle.adb_hub_tables.specs.Fit.{IsFit}
 pub record Leaves (s : State) (t : Tables) : Type 0 where
   pub state : state_of t ≡ s
   pub fit : IsFit t
-
--- A link has places for so many packets more than its streams' ends want, and they can be counted.
-abbrev pub HasPlaces : ℕ → Option Port → Type 0
-HasPlaces n None = Unit {0}
-HasPlaces n (Some port) = (n + port.kept ≤ port.link.spare) × (n + port.kept < 2 ^ 64)
 
 -- A client has so many places for slices.
 abbrev pub HasSlices : ℕ → Option SeenClient → Type 0

@@ -4,7 +4,7 @@ use Rattle.adb_client.specs.Client.{SeenClient}
 use Rattle.adb_stream.specs.declared.flow.Flow.{Flow}
 use Rattle.adb_stream.specs.declared.flow.Flow.TheVariants.{One, Credit}
 use Rattle.adb_stream.specs.declared.row.Stream.{Stream}
-use Rattle.adb_hub_rules.specs.Up.{IsCut, up_writes}
+use Rattle.adb_hub_tables.specs.Ready.{IsCut, up_writes}
 
 -- What a client holds can go up at once, in at most so many writes.
 pub record IsPrepared (writes : ℕ) (flow : Flow) (maxdata : ℕ) (client : SeenClient) : Type 0 where

@@ -12,7 +12,7 @@ ghost use Rattle.adb_laws_resting.specs.Wanted.{IsRemote};
 
 use adb_client::{Phase, Want};
 use adb_forward::{ForwardError, Forwards};
-use adb_hub_tables::{Tables, keep_slice};
+use adb_hub_tables::{Tables, reserve_slices};
 use adb_outside::Text;
 use adb_registry::Registry;
 use adb_reply::push_string;
@@ -42,7 +42,7 @@ fn bind_client(tables: &mut Tables, client: u32, port: u16) -> Result<(), AllocE
     if !waits(tables, client) {
         return Ok(());
     }
-    keep_slice(&mut tables.clients, client)?;
+    reserve_slices(&mut tables.clients, client, 1)?;
     let reply = bind(tables, client, port)?;
     tables.owe_client(client, reply);
     tables.close_client(client);

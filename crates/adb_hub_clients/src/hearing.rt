@@ -5,6 +5,7 @@ ghost use Rattle.adb_outside.specs.Tables.{at, change_row};
 ghost use Rattle.adb_hub_tables.specs.Fit.{IsFit};
 ghost use Rattle.adb_hub_tables.specs.Tables.{state_of, client_row};
 ghost use Rattle.adb_hub_tables.specs.Tracked.{clients_of};
+ghost use Rattle.adb_hub_tables.specs.Widening.{WidensClients};
 ghost use Rattle.adb_hub_clients.specs.Leaving.{Leaves, IsPlaced, HasSlices, HoldsAtLeast};
 ghost use Rattle.adb_hub_clients.specs.Asking.{after_requests, hears, CanHear, CanHearAt};
 
@@ -82,11 +83,7 @@ fn reserve_in(
     heard: &Heard,
 ) -> Result<(), AllocError>
     requires { HoldsAtLeast heard.now.used (at client clients.old.entries) }
-    ensures rows { clients_of clients.new.entries ≡ clients_of clients.old.entries }
-    ensures placed { (c : ℕ) (trackers : List ℕ) → IsPlaced c trackers (at c clients.old.entries)
-        → IsPlaced c trackers (at c clients.new.entries) }
-    ensures held { (n : ℕ) → HoldsAtLeast n (at client clients.old.entries)
-        → HoldsAtLeast n (at client clients.new.entries) }
+    ensures widens { WidensClients clients.old.entries clients.new.entries }
     ensures ready { OnOk result (CanHearAt heard.now (at client clients.new.entries)) }
 {
     match clients.get_mut(&client) {

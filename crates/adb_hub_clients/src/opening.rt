@@ -14,14 +14,14 @@ ghost use Rattle.adb_history.specs.Links.{open_packet, owe_link, is_credit};
 ghost use Rattle.adb_history.specs.Streams.{draw, no_ids_left, opens, stream_ids};
 ghost use Rattle.adb_hub_tables.specs.Fit.{IsFit};
 ghost use Rattle.adb_hub_tables.specs.Tables.{state_of, link_row, owing_row, owes_packet};
-ghost use Rattle.adb_hub_tables.specs.Places.{LinkRoom};
-ghost use Rattle.adb_hub_clients.specs.Leaving.{Leaves, HasPlaces, HasSlices, counting};
+ghost use Rattle.adb_hub_tables.specs.Places.{HasPlaces, LinkRoom};
+ghost use Rattle.adb_hub_clients.specs.Leaving.{Leaves, HasSlices, counting};
 ghost use Rattle.adb_hub_clients.specs.Asking.{hears, CanHearAt};
 ghost use Rattle.adb_hub_clients.specs.Opening.{IsNextId, drawn_for, asked_for};
 ghost use Rattle.adb_hub_clients.specs.declared.hearing.Heard.{Heard};
 
 use crate::hearing::{Heard, hear};
-use crate::places::{reserve_packets, reserve_slices};
+use crate::places::{make_packets, make_slices};
 use adb_client::Phase;
 use adb_hub_tables::{Port, Tables};
 use adb_stream::{CREDIT_WINDOW, DrawError};
@@ -99,8 +99,8 @@ fn draw_for(tables: &mut Tables, asker: &Asker) -> Result<Option<u32>, AllocErro
         → CanHearAt heard (at asker.now.client tables.old.clients.entries)
         → CanHearAt heard (at asker.now.client tables.new.clients.entries) }
 {
-    reserve_packets(tables, asker.link, 2)?;
-    reserve_slices(tables, asker.client, 2)?;
+    make_packets(tables, asker.link, 2)?;
+    make_slices(tables, asker.client, 2)?;
     match add_stream(tables, asker) {
         Ok(id) => Ok(Some(id)),
         Err(DrawError::NoIds) => Ok(None),

@@ -1,21 +1,19 @@
 //! Bytes of a client that has its stream open: they go up.
 
-ghost use Rattle.std.specs.Prelude.{◌≡◌, List, ℕ, IfOk, OnOk, OnErr, Some, false};
+ghost use Rattle.std.specs.Prelude.{◌≡◌, ℕ, IfOk, OnOk, OnErr, Some, false};
 ghost use Rattle.adb_outside.specs.Tables.{at};
 ghost use Rattle.adb_history.specs.Flow.{up};
 ghost use Rattle.adb_hub_tables.specs.Fit.{IsFit};
-ghost use Rattle.adb_hub_tables.specs.Tables.{state_of, client_row};
-ghost use Rattle.adb_hub_tables.specs.Tracked.{clients_of};
+ghost use Rattle.adb_hub_tables.specs.Tables.{state_of};
 ghost use Rattle.adb_hub_rules.specs.Up.{IsReadyUp, IsSized};
-ghost use Rattle.adb_hub_clients.specs.Leaving.{Leaves, IsPlaced, HoldsAtLeast};
+ghost use Rattle.adb_hub_clients.specs.Leaving.{Leaves, HoldsAtLeast};
 ghost use Rattle.adb_hub_clients.specs.Taking.{takes_in};
-ghost use Rattle.adb_hub_clients.specs.Sending.{IsPrepared, IsPreparedAt, can_send, can_send_at};
+ghost use Rattle.adb_hub_clients.specs.Sending.{IsPreparedAt, can_send, can_send_at};
 
-use crate::places::reserve_packets;
+use crate::places::make_packets;
 use crate::taking::{take_back, take_in};
-use adb_client::Client;
-use adb_hub_rules::{close_idle, up, up_bytes, up_writes};
-use adb_hub_tables::{Tables, TouchedMap};
+use adb_hub_rules::{close_idle, up};
+use adb_hub_tables::{Tables, make_ready};
 use adb_stream::{Flow, Stream};
 use std::alloc::AllocError;
 
@@ -57,7 +55,7 @@ fn advance(tables: &mut Tables, id: u32) -> Result<(), AllocError>
         rest(tables, id);
         return Ok(());
     }
-    make_ready(tables, id)?;
+    make_up_ready(tables, id)?;
     go_up(tables, id);
     Ok(())
 }
@@ -101,7 +99,7 @@ fn go_up(tables: &mut Tables, id: u32)
 }
 
 /// Makes ready what is held of the client of a stream, and places on its link for what it may send.
-fn make_ready(tables: &mut Tables, id: u32) -> Result<(), AllocError>
+fn make_up_ready(tables: &mut Tables, id: u32) -> Result<(), AllocError>
     requires { IsFit tables.old }
     ensures made { Leaves (state_of tables.old) tables.new }
     ensures devices { tables.new.devices ≡ tables.old.devices }
@@ -126,7 +124,7 @@ fn make_stream_ready(tables: &mut Tables, id: u32, stream: &Stream) -> Result<()
 {
     let maxdata = tables.maxdata_of(stream.link);
     let writes = prepare(tables, stream, maxdata)?;
-    reserve_packets(tables, stream.link, writes)
+    make_packets(tables, stream.link, writes)
 }
 
 /// Makes ready what the client of a stream holds; says in how many writes at most it can go up.
@@ -139,43 +137,11 @@ fn prepare(tables: &mut Tables, stream: &Stream, maxdata: usize) -> Result<usize
     ensures ready { IfOk result (λ writes. IsPreparedAt writes stream.now.part.flow maxdata
         (at stream.now.client tables.new.clients.entries)) }
 {
-    prepare_in(
+    make_ready(
         &mut tables.clients,
         stream.client,
         &stream.part.flow,
+        0,
         maxdata,
     )
-}
-
-fn prepare_in(
-    clients: &mut TouchedMap<Client>,
-    client: u32,
-    flow: &Flow,
-    maxdata: usize,
-) -> Result<usize, AllocError>
-    ensures rows { clients_of clients.new.entries ≡ clients_of clients.old.entries }
-    ensures placed { (c : ℕ) (trackers : List ℕ) → IsPlaced c trackers (at c clients.old.entries)
-        → IsPlaced c trackers (at c clients.new.entries) }
-    ensures held { (c n : ℕ) → HoldsAtLeast n (at c clients.old.entries)
-        → HoldsAtLeast n (at c clients.new.entries) }
-    ensures ready { IfOk result (λ writes. IsPreparedAt writes flow.now maxdata
-        (at client clients.new.entries)) }
-{
-    match clients.get_mut(&client) {
-        Some(row) => prepare_row(row, flow, maxdata),
-        None => Ok(0),
-    }
-}
-
-fn prepare_row(row: &mut Client, flow: &Flow, maxdata: usize) -> Result<usize, AllocError>
-    ensures row { client_row row.new ≡ client_row row.old }
-    ensures places { row.new.places ≡ row.old.places }
-    ensures ready { IfOk result (λ writes. IsPrepared writes flow.now maxdata row.new) }
-{
-    let held = row.held();
-    let Some(writes) = up_writes(flow, 0, maxdata, held) else {
-        return Err(AllocError);
-    };
-    row.prepare_cuts(up_bytes(flow, 0, maxdata, held), writes)?;
-    Ok(writes)
 }

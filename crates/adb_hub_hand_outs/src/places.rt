@@ -6,7 +6,7 @@ ghost use Rattle.adb_hub_tables.specs.Widening.{Widens};
 ghost use Rattle.adb_hub_rules.specs.Handing.{HasRoom, open_stream};
 
 use adb_client::Phase;
-use adb_hub_tables::{Tables, keep_on_link};
+use adb_hub_tables::{Tables, reserve_packets};
 use std::alloc::AllocError;
 
 /// A place is reserved for what the device of a client's open stream is told.
@@ -16,7 +16,7 @@ pub(crate) fn keep_answer(tables: &mut Tables, client: u32) -> Result<(), AllocE
     ensures widens { Widens tables.old tables.new }
 {
     match open_link(tables, client) {
-        Some(link) => keep_on_link(&mut tables.links, link),
+        Some(link) => reserve_packets(&mut tables.links, link, 1),
         None => Ok(()),
     }
 }

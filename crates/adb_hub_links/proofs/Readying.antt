@@ -20,11 +20,13 @@ use Rattle.adb_hub_rules.specs.Came.{packets_of}
 use Rattle.adb_hub_tables.specs.Tables.{client_row, state_of}
 use Rattle.adb_hub_tables.specs.Tracked.{IsAmong}
 use Rattle.adb_hub_tables.specs.Places.{LinkRoom, HoldsAsReady, StaysHeld}
-use Rattle.adb_hub_rules.specs.Up.{up_bytes, up_writes, IsCut, is_for, IsCutFor as IsCutIn, IsCutOf, writes_for, writes_of as writes_in, writes_up}
+use Rattle.adb_hub_rules.specs.Up.{is_for, IsCutFor as IsCutIn, IsCutOf, writes_for, writes_of as writes_in, writes_up}
+use Rattle.adb_hub_tables.specs.Ready.{up_bytes, up_writes, IsCut}
 use Rattle.adb_hub_rules.specs.Sweep.{writes_if_on, writes_on, IsReadyEach}
 use Rattle.adb_hub_tables.proofs.Using.{more_room}
 use Rattle.adb_laws_resting.specs.Named.{credit_to_send, granted, HoldsAs, StaysAs, AllStay}
-use Rattle.adb_hub_links.specs.Reserving.{IsCutFor, IsCutAt, writes_of, writes_at, all_writes, IsReserved}
+use Rattle.adb_hub_tables.specs.Ready.{IsCutBehind, writes_behind}
+use Rattle.adb_hub_links.specs.Reserving.{IsCutAt, writes_at, all_writes, IsReserved}
 
 -- ---- a flow that was given no more credit than was counted writes no more
 -- A flow is of one kind with another, and has at most so much credit more.
@@ -79,10 +81,10 @@ was_held l (Some old) now h ready = record {
 module _ (flow before : Flow) (more maxdata : ℕ) (growth : IsWithin more before flow)
     {l : ℕ} {row : Option SeenClient} {now : SeenClient} (was : WasHeld l row now) where
   -- what a client has ready is as much as the stream may write
-  ready_for : IsCutFor before more maxdata row → is_for l now.about.phase ≡ true → IsCut flow 0 maxdata now
+  ready_for : IsCutBehind before more maxdata row → is_for l now.about.phase ≡ true → IsCut flow 0 maxdata now
   ready_for cut has =
       let old = was.old in
-      let full : IsCut before more maxdata old = subst (IsCutFor before more maxdata) was.is cut in
+      let full : IsCut before more maxdata old = subst (IsCutBehind before more maxdata) was.is cut in
       let same : length now.held ≡ length old.held = ap length (was.held has) in
       let bytes = ap (up_bytes flow 0 maxdata) same in
       let pieces = ap (up_writes flow 0 maxdata) same in
@@ -92,16 +94,16 @@ module _ (flow before : Flow) (more maxdata : ℕ) (growth : IsWithin more befor
       }
 
   -- and it writes no more often
-  fewer_for : writes_for l flow maxdata (Some now) ≤ writes_of before more maxdata row
+  fewer_for : writes_for l flow maxdata (Some now) ≤ writes_behind before more maxdata row
   fewer_for = by_case (is_for l now.about.phase) refl
     where
-      by_case : (b : Bool) → is_for l now.about.phase ≡ b → cond b (up_writes flow 0 maxdata (length now.held)) 0 ≤ writes_of before more maxdata row
+      by_case : (b : Bool) → is_for l now.about.phase ≡ b → cond b (up_writes flow 0 maxdata (length now.held)) 0 ≤ writes_behind before more maxdata row
       by_case false e = omega arith
       by_case true e =
           let same : length now.held ≡ length was.old.held = ap length (was.held e) in
           let pieces = ap (up_writes flow 0 maxdata) same in
           let fewer = fewer_writes more maxdata (length was.old.held) before flow growth in
-          let at_row = ap (writes_of before more maxdata) was.is in
+          let at_row = ap (writes_behind before more maxdata) was.is in
           omega (arith, pieces, fewer, at_row)
 
 within : (b : Bool) (n : ℕ) → cond b n 0 ≤ n
@@ -136,9 +138,9 @@ module _ {link : ℕ} {packets : List Came} {ids : List ℕ} {old new : Tables} 
     growth : IsWithin (credit l) was.old.part.flow now.part.flow
     growth = record { kind = was.credit; most = was.most }
 
-    cut_was : IsCutFor was.old.part.flow (credit l) (maxdata_of link old.devices) (at now.client old.clients.entries)
+    cut_was : IsCutBehind was.old.part.flow (credit l) (maxdata_of link old.devices) (at now.client old.clients.entries)
     cut_was =
-        subst (λ (c : ℕ). IsCutFor was.old.part.flow (credit l) (maxdata_of link old.devices) (at c old.clients.entries)) (sym was.client)
+        subst (λ (c : ℕ). IsCutBehind was.old.part.flow (credit l) (maxdata_of link old.devices) (at c old.clients.entries)) (sym was.client)
         (subst (λ (row : Option Stream). IsCutAt (credit l) (maxdata_of link old.devices) row old.clients.entries) was.is (reserved.cut l there))
 
     cut_now : (row : Option SeenClient) → at now.client new.clients.entries ≡ row → IsCutIn l now.part.flow (maxdata_of now.link new.devices) row
@@ -149,17 +151,17 @@ module _ {link : ℕ} {packets : List Came} {ids : List ℕ} {old new : Tables} 
 
     fewer_now : (row : Option SeenClient) → at now.client new.clients.entries ≡ row
         → writes_for l now.part.flow (maxdata_of now.link new.devices) row
-        ≤ writes_of was.old.part.flow (credit l) (maxdata_of link old.devices) (at now.client old.clients.entries)
+        ≤ writes_behind was.old.part.flow (credit l) (maxdata_of link old.devices) (at now.client old.clients.entries)
     fewer_now None here = omega arith
     fewer_now (Some client) here =
         let same = ap (λ (n : ℕ). writes_for l now.part.flow n (Some client)) maxdata_was in
         let fewer = fewer_for now.part.flow was.old.part.flow (credit l) (maxdata_of link old.devices) growth (client_was client here) in
         omega (arith, same, fewer)
 
-    at_was : writes_of was.old.part.flow (credit l) (maxdata_of link old.devices) (at now.client old.clients.entries)
+    at_was : writes_behind was.old.part.flow (credit l) (maxdata_of link old.devices) (at now.client old.clients.entries)
         ≡ writes_at (credit l) (maxdata_of link old.devices) (at l old.streams.streams) old.clients.entries
     at_was =
-        ap (λ (c : ℕ). writes_of was.old.part.flow (credit l) (maxdata_of link old.devices) (at c old.clients.entries)) was.client
+        ap (λ (c : ℕ). writes_behind was.old.part.flow (credit l) (maxdata_of link old.devices) (at c old.clients.entries)) was.client
         ∙ ap (λ (row : Option Stream). writes_at (credit l) (maxdata_of link old.devices) row old.clients.entries) (sym was.is)
 
     one_fewer : writes_up l new ≤ writes_at (credit l) (maxdata_of link old.devices) (at l old.streams.streams) old.clients.entries

@@ -11,8 +11,10 @@ use Rattle.adb_hub_tables.specs.Tracked.{IsAmong}
 use Rattle.adb_laws_resting.specs.Named.{granted}
 use Rattle.adb_hub_links.specs.Counting.{count_at, credit_in}
 use Rattle.adb_hub_links.specs.Naming.{AreNamedOn}
-use Rattle.adb_hub_links.specs.Reserving.{HaveMore, IsCutAt, all_writes, IsReserved}
-use Rattle.adb_hub_links.proofs.More.{room_more, same_all_writes}
+use Rattle.adb_hub_tables.specs.Widening.{WidensClients}
+use Rattle.adb_hub_tables.proofs.Widening.{client_room}
+use Rattle.adb_hub_links.specs.Reserving.{IsCutAt, all_writes, IsReserved}
+use Rattle.adb_hub_links.proofs.More.{same_all_writes}
 
 -- What was reserved, one after another: places of clients, by counts; then what they hold was made ready, in so many writes; then places of the link.
 pub record Reserving (link : ℕ) (packets : List Came) (ids : List ℕ) (middle : List (ℕ × SeenClient)) (t : Tables) : Type 0 where
@@ -20,7 +22,7 @@ pub record Reserving (link : ℕ) (packets : List Came) (ids : List ℕ) (middle
   pub counts : List (ℕ × ℕ)
   pub counted : (c : ℕ) → count_at (at c counts) ≡ slices_in (packets_of packets) t.streams.streams c
   pub served : (c : ℕ) → ClientRoom (count_at (at c counts)) (at c middle)
-  pub more : HaveMore middle t.clients.entries
+  pub more : WidensClients middle t.clients.entries
   pub maxdata : ℕ
   pub size : maxdata ≡ maxdata_of link t.devices
   pub words : List (ℕ × ℕ)
@@ -36,7 +38,7 @@ is_reserved {link} {packets} {ids} {middle} {t} h = record {
   named = h.named;
   clients = λ c.
       subst (λ (n : ℕ). ClientRoom n (at c t.clients.entries)) (h.counted c)
-      (room_more (count_at (at c h.counts)) (at c middle) (at c t.clients.entries) (h.more c) (h.served c));
+      (client_room (count_at (at c h.counts)) (at c middle) (at c t.clients.entries) (h.more c) (h.served c));
   cut = λ l there.
       subst (λ (n : ℕ). IsCutAt (granted (packets_of packets) l) n (at l t.streams.streams) t.clients.entries) h.size
       (subst (λ (n : ℕ). IsCutAt n h.maxdata (at l t.streams.streams) t.clients.entries) (h.given l) (h.cut l there));

@@ -15,14 +15,13 @@ use Rattle.adb_hub_tables.specs.declared.ports.Port.{Port}
 use Rattle.adb_hub_tables.specs.declared.tables.Tables.{Tables}
 use Rattle.adb_hub_tables.specs.Tables.{link_row, state_of}
 use Rattle.adb_hub_tables.specs.Fit.{IsReadOutAt, IsFit, IsReached, Keeps, Makes}
+use Rattle.adb_hub_tables.specs.Widening.{WidensClient, WidensRow}
+use Rattle.adb_hub_tables.proofs.Widening.{widened, same_client, like_ports}
 use Rattle.adb_laws_resting.specs.Named.{cut_behind}
 use Rattle.adb_laws_resting.proofs.RestingSteps.{all_send_nothing}
 use Rattle.adb_hub_links.specs.Cutting.{cut_of}
-use Rattle.adb_hub_links.specs.Reserving.{HasMoreAt, HasMorePlacesAt}
 use Rattle.adb_hub_links.specs.Settling.{PutsIncoming, reading, waiting, behind}
-use Rattle.adb_hub_links.proofs.Keeping.{kept_fit}
 use Rattle.adb_hub_links.proofs.Lawful.{behind_piece}
-use Rattle.adb_hub_links.proofs.More.{more_stays}
 use Rattle.adb_hub_links.proofs.Putting.{put_state, put_provided}
 use Rattle.adb_hub_links.proofs.Received.{Comes, is_past, shown_past, read_out, cut_same}
 
@@ -101,14 +100,11 @@ module _ {link : ℕ} {piece : List ℕ} {old : Tables} {port : Port} (h : Comes
     }
 
 -- ---- where there was no memory
-places_stay : (row : Option Port) → HasMorePlacesAt row row
-places_stay None = tt
-places_stay (Some port) = record { link = refl; kept = refl; spare = omega arith }
-
 pub same_kept : (old new : Tables) → IsFit old → new ≡ record old { links = new.links } → ((k : ℕ) → at k new.links.entries ≡ at k old.links.entries)
     → Keeps old new
-same_kept old new fit others same = kept_fit old new (record {
+same_kept old new fit others same = widened old new fit (record {
   others = others ∙ sym (ap (λ (t : Tables). record old { clients = t.clients; links = new.links }) others);
-  clients = λ c. subst (λ (t : Tables). HasMoreAt (at c old.clients.entries) (at c t.clients.entries)) (sym others) (more_stays (at c old.clients.entries));
-  links = λ k. subst (HasMorePlacesAt (at k old.links.entries)) (sym (same k)) (places_stay (at k old.links.entries));
-}) fit
+  clients = λ c.
+      subst (λ (t : Tables). WidensRow WidensClient (at c old.clients.entries) (at c t.clients.entries)) (sym others) (same_client (at c old.clients.entries));
+  links = like_ports old.links.entries new.links.entries same;
+})

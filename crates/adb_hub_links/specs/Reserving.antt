@@ -1,79 +1,31 @@
 -- What is reserved before packets are treated.
-use Rattle.std.specs.Prelude.{ℕ, ◌+◌, ◌≡◌, ◌≤◌, List, [], ◌∷◌, length, Option, Some, None}
+use Rattle.std.specs.Prelude.{ℕ, ◌+◌, List, [], ◌∷◌, length, Option, Some, None}
 use Rattle.adb_outside.specs.Tables.{at}
 use Rattle.adb_client.specs.Client.{SeenClient}
-use Rattle.adb_stream.specs.declared.flow.Flow.{Flow}
 use Rattle.adb_stream.specs.declared.row.Stream.{Stream}
 use Rattle.adb_history.specs.Links.{maxdata_of}
 use Rattle.adb_hub_rules.specs.declared.came.Came.{Came}
-use Rattle.adb_hub_tables.specs.declared.ports.Port.{Port}
 use Rattle.adb_hub_tables.specs.declared.tables.Tables.{Tables}
 use Rattle.adb_hub_rules.specs.Came.{packets_of, slices_in}
 use Rattle.adb_hub_tables.specs.Places.{LinkRoom, ClientRoom}
-use Rattle.adb_hub_tables.specs.Tables.{client_row}
 use Rattle.adb_hub_tables.specs.Tracked.{IsAmong}
-use Rattle.adb_hub_rules.specs.Up.{IsCut, up_writes}
+use Rattle.adb_hub_tables.specs.Ready.{IsCutBehind, writes_behind}
 use Rattle.adb_laws_resting.specs.Named.{granted}
 use Rattle.adb_hub_links.specs.Naming.{AreNamedOn}
 
--- ---- clients
--- A client is as it was, but for places and for what is ready, of which there may be more.
-pub record HasMore (old new : SeenClient) : Type 0 where
-  pub row : client_row new ≡ client_row old
-  pub ready : old.ready ≤ new.ready
-  pub cuts : old.cuts ≤ new.cuts
-  pub places : old.places ≤ new.places
-
-abbrev pub HasMoreAt : Option SeenClient → Option SeenClient → Type 0
-HasMoreAt None None = Unit {0}
-HasMoreAt None (Some new) = ⊥
-HasMoreAt (Some old) None = ⊥
-HasMoreAt (Some old) (Some new) = HasMore old new
-
-abbrev pub HaveMore : (old new : List (ℕ × SeenClient)) → Type 0
-HaveMore old new = (c : ℕ) → HasMoreAt (at c old) (at c new)
-
--- Of what a client holds so much is ready as a stream of that flow may write behind credit for so much more, whatever the client waits for.
-abbrev pub IsCutFor : Flow → (more maxdata : ℕ) → Option SeenClient → Type 0
-IsCutFor flow more maxdata None = Unit {0}
-IsCutFor flow more maxdata (Some client) = IsCut flow more maxdata client
-
+-- Of what the client of a stream holds so much is ready, whatever the client waits for.
 abbrev pub IsCutAt : (more maxdata : ℕ) → Option Stream → List (ℕ × SeenClient) → Type 0
 IsCutAt more maxdata None clients = Unit {0}
-IsCutAt more maxdata (Some stream) clients = IsCutFor stream.part.flow more maxdata (at stream.client clients)
+IsCutAt more maxdata (Some stream) clients = IsCutBehind stream.part.flow more maxdata (at stream.client clients)
 
 -- in how many writes at most
-abbrev pub writes_of : Flow → (more maxdata : ℕ) → Option SeenClient → ℕ
-writes_of flow more maxdata None = 0
-writes_of flow more maxdata (Some client) = up_writes flow more maxdata (length client.held)
-
 abbrev pub writes_at : (more maxdata : ℕ) → Option Stream → List (ℕ × SeenClient) → ℕ
 writes_at more maxdata None clients = 0
-writes_at more maxdata (Some stream) clients = writes_of stream.part.flow more maxdata (at stream.client clients)
+writes_at more maxdata (Some stream) clients = writes_behind stream.part.flow more maxdata (at stream.client clients)
 
 abbrev pub all_writes : (more : ℕ → ℕ) (maxdata : ℕ) → List ℕ → List (ℕ × Stream) → List (ℕ × SeenClient) → ℕ
 all_writes more maxdata [] streams clients = 0
 all_writes more maxdata (l ∷ ids) streams clients = writes_at (more l) maxdata (at l streams) clients + all_writes more maxdata ids streams clients
-
--- ---- links
--- A link is as it was, but for places, of which there may be more.
-pub record HasMorePlaces (old new : Port) : Type 0 where
-  pub link : new.link ≡ record old.link { spare = new.link.spare }
-  pub kept : new.kept ≡ old.kept
-  pub spare : old.link.spare ≤ new.link.spare
-
-abbrev pub HasMorePlacesAt : Option Port → Option Port → Type 0
-HasMorePlacesAt None None = Unit {0}
-HasMorePlacesAt None (Some new) = ⊥
-HasMorePlacesAt (Some old) None = ⊥
-HasMorePlacesAt (Some old) (Some new) = HasMorePlaces old new
-
--- ---- all
--- Tables are as they were, but for places and for what is ready, of which there may be more.
-pub record AreReserved (old new : Tables) : Type 0 where
-  pub others : new ≡ record old { clients = new.clients; links = new.links }
-  pub clients : HaveMore old.clients.entries new.clients.entries
-  pub links : (k : ℕ) → HasMorePlacesAt (at k old.links.entries) (at k new.links.entries)
 
 -- Packets of a link can be treated, and the streams of these ids sent up, without memory.
 pub record IsReserved (link : ℕ) (packets : List Came) (ids : List ℕ) (t : Tables) : Type 0 where

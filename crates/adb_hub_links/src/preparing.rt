@@ -1,18 +1,17 @@
 //! Clients, with places for what becomes due to them, and with what they hold ready to go up.
 
-ghost use Rattle.std.specs.Prelude.{◌≡◌, ◌+◌, ◌≤◌, ℕ, length, IfOk, OnOk};
+ghost use Rattle.std.specs.Prelude.{◌≡◌, ◌+◌, ℕ, IfOk, OnOk};
 ghost use Rattle.adb_outside.specs.Tables.{at};
-ghost use Rattle.adb_hub_tables.specs.Places.{ClientRoom, kept_places};
-ghost use Rattle.adb_hub_rules.specs.Up.{IsCut, up_writes};
+ghost use Rattle.adb_hub_tables.specs.Places.{ClientRoom};
+ghost use Rattle.adb_hub_tables.specs.Widening.{WidensClients};
 ghost use Rattle.adb_hub_tables.specs.Tracked.{IsAmong};
 ghost use Rattle.adb_hub_links.specs.Counting.{count_at, credit_in};
-ghost use Rattle.adb_hub_links.specs.Reserving.{HasMore, HaveMore, IsCutAt, IsCutFor, writes_at, writes_of, all_writes};
+ghost use Rattle.adb_hub_links.specs.Reserving.{IsCutAt, writes_at, all_writes};
 
 use crate::counting::{counted, sum};
-use adb_client::{Client, Phase};
-use adb_hub_rules::{up_bytes, up_writes};
-use adb_hub_tables::TouchedMap;
-use adb_stream::{Flow, Stream, Streams};
+use adb_client::Client;
+use adb_hub_tables::{TouchedMap, make_ready, reserve_slices};
+use adb_stream::{Stream, Streams};
 use std::alloc::AllocError;
 use std::collections::{BTreeMap, BTreeSet};
 
@@ -22,44 +21,14 @@ pub(crate) fn reserve_each(
     counts: &BTreeMap<u32, usize>,
 ) -> Result<(), AllocError>
     requires { (c : ℕ) → ClientRoom 0 (at c clients.old.entries) }
-    ensures more { HaveMore clients.old.entries clients.new.entries }
+    ensures widens { WidensClients clients.old.entries clients.new.entries }
     ensures room { OnOk result ((c : ℕ) → ClientRoom (count_at (at c counts.now.entries))
         (at c clients.new.entries)) }
 {
     for (client, count) in counts.iter() {
-        reserve_at(clients, *client, *count)?;
+        reserve_slices(clients, *client, *count)?;
     }
     Ok(())
-}
-
-fn reserve_at(clients: &mut TouchedMap<Client>, client: u32, count: usize) -> Result<(), AllocError>
-    ensures more { HaveMore clients.old.entries clients.new.entries }
-    ensures room { OnOk result (ClientRoom count (at client clients.new.entries)) }
-{
-    match clients.get_mut(&client) {
-        Some(row) => reserve(row, count),
-        None => Ok(()),
-    }
-}
-
-fn reserve(client: &mut Client, count: usize) -> Result<(), AllocError>
-    ensures more { HasMore client.old client.new }
-    ensures room { OnOk result
-        (count + kept_places client.new.about.phase ≤ client.new.places) }
-{
-    let kept = kept_places(client.about().phase);
-    let places = sum(count, kept)?;
-    client.reserve_slices(places)
-}
-
-/// How many places a client keeps for the answer to its stream.
-fn kept_places(phase: Phase) -> usize
-    ensures { result ≡ kept_places phase }
-{
-    match phase {
-        Phase::Opening(_) => 1,
-        _ => 0,
-    }
 }
 
 /// Makes ready what the clients of these streams hold, as much as each stream may write behind the
@@ -72,7 +41,7 @@ pub(crate) fn prepare_each(
     given: &BTreeMap<u32, usize>,
     maxdata: usize,
 ) -> Result<usize, AllocError>
-    ensures more { HaveMore clients.old.entries clients.new.entries }
+    ensures widens { WidensClients clients.old.entries clients.new.entries }
     ensures cut { OnOk result ((l : ℕ) → IsAmong l ids.now.keys
         → IsCutAt (credit_in given.now.entries l) maxdata
         (at l streams.now.streams) clients.new.entries) }
@@ -95,7 +64,7 @@ fn prepare_also(
     maxdata: usize,
     before: usize,
 ) -> Result<usize, AllocError>
-    ensures more { HaveMore clients.old.entries clients.new.entries }
+    ensures widens { WidensClients clients.old.entries clients.new.entries }
     ensures cut { OnOk result (IsCutAt more maxdata stream clients.new.entries) }
     ensures writes { IfOk result (λ writes. writes
         ≡ before + writes_at more maxdata stream clients.old.entries) }
@@ -103,43 +72,6 @@ fn prepare_also(
     let Some(stream) = stream else {
         return Ok(before);
     };
-    let writes = prepare_at(clients, &stream, more, maxdata)?;
+    let writes = make_ready(clients, stream.client, &stream.part.flow, more, maxdata)?;
     sum(before, writes)
-}
-
-fn prepare_at(
-    clients: &mut TouchedMap<Client>,
-    stream: &Stream,
-    more: usize,
-    maxdata: usize,
-) -> Result<usize, AllocError>
-    ensures more { HaveMore clients.old.entries clients.new.entries }
-    ensures cut { OnOk result (IsCutFor stream.now.part.flow more maxdata
-        (at stream.now.client clients.new.entries)) }
-    ensures writes { IfOk result (λ writes. writes ≡ writes_of stream.now.part.flow more maxdata
-        (at stream.now.client clients.old.entries)) }
-{
-    match clients.get_mut(&stream.client) {
-        Some(row) => prepare(row, &stream.part.flow, more, maxdata),
-        None => Ok(0),
-    }
-}
-
-/// Makes ready what a client holds, as much as a stream of that flow may write behind credit for so
-/// many bytes more; says in how many writes at most.
-fn prepare(
-    client: &mut Client,
-    flow: &Flow,
-    more: usize,
-    maxdata: usize,
-) -> Result<usize, AllocError>
-    ensures more { HasMore client.old client.new }
-    ensures cut { OnOk result (IsCut flow.now more maxdata client.new) }
-    ensures writes { IfOk result (λ writes. writes
-        ≡ up_writes flow.now more maxdata (length client.old.held)) }
-{
-    let held = client.held();
-    let writes = up_writes(flow, more, maxdata, held).ok_or(AllocError)?;
-    client.prepare_cuts(up_bytes(flow, more, maxdata, held), writes)?;
-    Ok(writes)
 }

@@ -19,7 +19,8 @@ use Rattle.adb_history.specs.Flow.{payloads, total, with_flow, all_go_up, flow_a
 use Rattle.adb_hub_tables.specs.declared.tables.Tables.{Tables}
 use Rattle.adb_hub_tables.specs.Tables.{client_row, state_of}
 use Rattle.adb_hub_rules.specs.Handing.{HasRoom}
-use Rattle.adb_hub_rules.specs.Up.{IsCut, IsCutFor, IsCutOf, writes_for, writes_of, writes_up, held_at, all_unsent, CanCutAll, is_for, has_stream, has_open, StaysReady, IsReadyUp, IsReadyToSend, up_writes}
+use Rattle.adb_hub_rules.specs.Up.{IsCutFor, IsCutOf, writes_for, writes_of, writes_up, held_at, all_unsent, CanCutAll, is_for, has_stream, has_open, StaysReady, IsReadyUp, IsReadyToSend}
+use Rattle.adb_hub_tables.specs.Ready.{IsCut, up_writes}
 use Rattle.adb_hub_tables.proofs.Closings.{telling_is}
 use Rattle.adb_hub_tables.proofs.Using.{more_room}
 use Rattle.adb_hub_rules.proofs.WritesUp.{few_writes, few_bytes}

@@ -1,5 +1,5 @@
 -- What the up rule needs: bytes that are ready to be cut off, and places for its writes.
-use Rattle.std.specs.Prelude.{ℕ, ◌+◌, ◌-◌, ◌/◌, ◌≡◌, ◌≢◌, ◌≤◌, ◌<◌, Bool, true, false, nat_eq, if◌then◌else◌, List, [], length, drop, min, Option, Some, None}
+use Rattle.std.specs.Prelude.{ℕ, ◌-◌, ◌≡◌, ◌≢◌, ◌≤◌, ◌<◌, Bool, true, false, nat_eq, if◌then◌else◌, List, [], length, drop, min, Option, Some, None}
 use Rattle.adb_outside.specs.Tables.{at}
 use Rattle.adb_wire.specs.declared.headers.TheConstants.{MAX_PAYLOAD}
 use Rattle.adb_client.specs.Client.{SeenClient}
@@ -14,24 +14,10 @@ use Rattle.adb_history.specs.Flow.{payloads, total, all_go_up, flow_after, is_st
 use Rattle.adb_hub_tables.specs.declared.tables.Tables.{Tables}
 use Rattle.adb_hub_tables.specs.Tables.{state_of}
 use Rattle.adb_hub_tables.specs.Places.{LinkRoom, Uses}
+use Rattle.adb_hub_tables.specs.Ready.{up_writes, IsCut}
 use Rattle.adb_hub_rules.specs.Handing.{HasRoom}
 
--- ---- what a stream may write
--- how many bytes at most, of so many that are held, behind credit for so many more
-abbrev pub up_bytes : Flow → (more maxdata held : ℕ) → ℕ
-up_bytes (One window) more maxdata held = min maxdata held
-up_bytes (Credit credit) more maxdata held = min (credit.to_send + more) held
-
--- in how many writes at most
-abbrev pub up_writes : Flow → (more maxdata held : ℕ) → ℕ
-up_writes (One window) more maxdata held = 1
-up_writes (Credit credit) more maxdata held = min (credit.to_send + more) held / maxdata + 1
-
--- Of what a client holds so much is ready, in so many pieces, as its stream may write behind credit for so many bytes more.
-pub record IsCut (flow : Flow) (more maxdata : ℕ) (client : SeenClient) : Type 0 where
-  pub bytes : up_bytes flow more maxdata (length client.held) ≤ client.ready
-  pub pieces : up_writes flow more maxdata (length client.held) ≤ client.cuts
-
+-- ---- whose stream it is
 -- whether a client in this phase has the stream of an id, asked for or open
 abbrev pub is_for : ℕ → Phase → Bool
 is_for l (Opening k) = nat_eq k l

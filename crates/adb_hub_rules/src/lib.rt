@@ -18,4 +18,4 @@ pub use handing::{hand_client, hand_link};
 pub use losing::{end_client, end_link, phase_of};
 pub use sweep::up_each;
 pub use treating::{credit_word, treat, treat_all};
-pub use up_rule::{close_idle, up, up_bytes, up_writes};
+pub use up_rule::{close_idle, up};

@@ -19,12 +19,7 @@ use crate::losing::end_link;
 use adb_hub_tables::Tables;
 use adb_outside::{Identity, State};
 use adb_stream::Stream;
-use adb_wire::{Command, Head, MAX_PAYLOAD, VERSION_WITHOUT_SUMS};
-
-/// The least version and the least maxdata with which a device is taken.
-const LEAST_VERSION: u32 = 0x0100_0000;
-
-const LEAST_MAXDATA: u32 = 4096;
+use adb_wire::{Command, Head, MAX_PAYLOAD, MIN_MAXDATA, MIN_VERSION, VERSION};
 
 /// A device that is too old, takes too little or does not say who it is breaks its link.
 pub(crate) fn take_cnxn(tables: &mut Tables, link: u32, head: &Head, identity: Option<Identity>)
@@ -35,7 +30,7 @@ pub(crate) fn take_cnxn(tables: &mut Tables, link: u32, head: &Head, identity: O
         ≡ (cnxn link head.now.arg0 head.now.arg1 banner (state_of tables.old)).state }
     ensures uses { (t c : ℕ) → Uses t 0 c 0 tables.old tables.new }
 {
-    if head.arg0 < LEAST_VERSION || head.arg1 < LEAST_MAXDATA {
+    if head.arg0 < MIN_VERSION || head.arg1 < MIN_MAXDATA {
         end_link(tables, link);
     } else {
         take_identity(tables, link, head, identity);
@@ -118,7 +113,7 @@ fn name_device(tables: &mut Tables, link: u32, head: &Head, identity: Identity)
         ≡ named link head.now.arg0 head.now.arg1 identity (state_of tables.old) }
     ensures uses { (t c : ℕ) → Uses t 0 c 0 tables.old tables.new }
 {
-    let version = head.arg0.min(VERSION_WITHOUT_SUMS);
+    let version = head.arg0.min(VERSION);
     let maxdata = head.arg1.min(MAX_PAYLOAD);
     if has_device(tables, link) {
         tables.devices.online(link, identity, version, maxdata);

@@ -1,6 +1,6 @@
 //! What a stream may send up, by its window or its credit (protocol.txt, WRITE and READY).
 
-ghost use Rattle.std.specs.Prelude.{IfSome, ◌≡◌, ◌≢◌, ◌≤◌, ◌<◌, ℕ, true, false, [], Some, None, length, take, drop, option_map};
+ghost use Rattle.std.specs.Prelude.{◌≡◌, ◌≢◌, ◌≤◌, ◌<◌, ℕ, true, false, [], Some, None, length, take, drop, option_map};
 ghost use Rattle.adb_outside.specs.Tables.{at};
 ghost use Rattle.adb_wire.specs.declared.headers.TheConstants.{MAX_PAYLOAD};
 ghost use Rattle.adb_client.specs.Client.{SeenClient};
@@ -10,7 +10,7 @@ ghost use Rattle.adb_history.specs.Flow.{write_len, wrote, is_idle, is_over, goe
 ghost use Rattle.adb_hub_tables.specs.Tables.{client_row, state_of};
 ghost use Rattle.adb_hub_tables.specs.Places.{LinkRoom, IsCounted, IsProvided, Uses};
 ghost use Rattle.adb_hub_rules.specs.Handing.{UsesOf};
-ghost use Rattle.adb_hub_rules.specs.Up.{up_writes, up_bytes, IsReadyUp, IsSized, StaysReady, writes_up, held_at, may_send, LetsGo, CanCut, cut_off, unsent, all_unsent, has_open, CanSend, IsReadyToSend, Sends};
+ghost use Rattle.adb_hub_rules.specs.Up.{IsReadyUp, IsSized, StaysReady, writes_up, held_at, may_send, LetsGo, CanCut, cut_off, unsent, all_unsent, has_open, CanSend, IsReadyToSend, Sends};
 
 use crate::ends::end_telling;
 use crate::handing::set_flow;
@@ -241,31 +241,6 @@ fn cut(tables: &mut Tables, client: u32, n: usize) -> Option<Bytes>
 {
     let row = tables.clients.get_mut(&client)?;
     Some(row.cut_ready(n))
-}
-
-/// How many of so many bytes that are held a stream may send up at once, at most, behind credit
-/// for so many bytes more.
-pub fn up_bytes(flow: &Flow, more: usize, maxdata: usize, held: usize) -> usize
-    ensures bytes { result ≡ up_bytes flow.now more maxdata held }
-    ensures within { result ≤ held }
-{
-    match flow {
-        Flow::One(_) => maxdata.min(held),
-        Flow::Credit(credit) => (credit.can_send() as usize).saturating_add(more).min(held),
-    }
-}
-
-/// In how many writes at most, where that can be counted.
-pub fn up_writes(flow: &Flow, more: usize, maxdata: usize, held: usize) -> Option<usize>
-    ensures { IfSome result (λ writes. writes ≡ up_writes flow.now more maxdata held) }
-{
-    match flow {
-        Flow::One(_) => Some(1),
-        Flow::Credit(_) => {
-            let most = up_bytes(flow, more, maxdata, held);
-            most.checked_div(maxdata).unwrap_or(0).checked_add(1)
-        }
-    }
 }
 
 /// How many bytes a flow lets go now.

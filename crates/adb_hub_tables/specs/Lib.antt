@@ -7,3 +7,4 @@ pub mod Places
 pub mod Tracked
 pub mod Fit
 pub mod Widening
+pub mod Ready

@@ -1,5 +1,5 @@
 -- Places for what becomes due without memory.
-use Rattle.std.specs.Prelude.{ℕ, ◌+◌, ◌-◌, ◌≡◌, ◌≢◌, ◌≤◌, nat_eq, if◌then◌else◌, List, length, Option, Some, None}
+use Rattle.std.specs.Prelude.{ℕ, ◌+◌, ◌-◌, ◌^◌, ◌≡◌, ◌≢◌, ◌≤◌, ◌<◌, nat_eq, if◌then◌else◌, List, length, Option, Some, None}
 use Rattle.std.specs.List.{sum_by}
 use Rattle.std.specs.Map.{values_of}
 use Rattle.adb_outside.specs.Tables.{at}
@@ -15,6 +15,11 @@ use Rattle.adb_hub_tables.specs.Tracked.{IsTracked}
 abbrev pub LinkRoom : ℕ → Option Port → Type 0
 LinkRoom n None = Unit {0}
 LinkRoom n (Some port) = n + port.kept ≤ port.link.spare
+
+-- A link has places for so many packets more than its streams' ends want, and they can be counted.
+abbrev pub HasPlaces : ℕ → Option Port → Type 0
+HasPlaces n None = Unit {0}
+HasPlaces n (Some port) = (n + port.kept ≤ port.link.spare) × (n + port.kept < 2 ^ 64)
 
 -- a client that waits for its stream keeps a place for the reply
 abbrev pub kept_places : Phase → ℕ

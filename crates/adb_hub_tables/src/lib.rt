@@ -10,6 +10,7 @@ mod marks;
 mod owes;
 mod places;
 mod ports;
+mod ready;
 mod streams;
 mod tables;
 #[cfg(test)]
@@ -19,7 +20,8 @@ mod tracking;
 mod words;
 
 pub use owes::Owes;
-pub use places::{keep_on_link, keep_slice};
+pub use places::{reserve_packets, reserve_slices};
 pub use ports::Port;
+pub use ready::make_ready;
 pub use tables::Tables;
 pub use touched_map::TouchedMap;

@@ -1,62 +1,73 @@
 //! Places that are reserved for what becomes due.
 
-ghost use Rattle.std.specs.Prelude.{◌≡◌, ◌+◌, ◌≤◌, ℕ, Some, OnOk};
+ghost use Rattle.std.specs.Prelude.{◌≡◌, ◌+◌, ◌≤◌, Some, OnOk};
 ghost use Rattle.adb_outside.specs.Tables.{at};
-ghost use Rattle.adb_hub_tables.specs.Places.{LinkRoom, ClientRoom, kept_places};
-ghost use Rattle.adb_hub_tables.specs.Widening.{WidensClient, WidensPort, WidensRow};
+ghost use Rattle.adb_hub_tables.specs.Places.{LinkRoom, HasPlaces, ClientRoom, kept_places};
+ghost use Rattle.adb_hub_tables.specs.Widening.{WidensClient, WidensClients, WidensPort, WidensLinks};
 
 use crate::ports::Port;
 use crate::touched_map::TouchedMap;
 use adb_client::{Client, Phase};
 use std::alloc::AllocError;
 
-/// A place is reserved on a link, beside those that are kept for the ends of its streams.
-pub fn keep_on_link(links: &mut TouchedMap<Port>, link: u32) -> Result<(), AllocError>
-    ensures room { OnOk result (LinkRoom 1 (at link links.new.entries)) }
-    ensures widens { (k : ℕ)
-        → WidensRow WidensPort (at k links.old.entries) (at k links.new.entries) }
+/// Places are reserved on a link for so many packets, beside those that are kept for the ends of
+/// its streams.
+pub fn reserve_packets(
+    links: &mut TouchedMap<Port>,
+    link: u32,
+    packets: usize,
+) -> Result<(), AllocError>
+    ensures widens { WidensLinks links.old.entries links.new.entries }
+    ensures room { OnOk result (LinkRoom packets (at link links.new.entries)) }
+    ensures counted { OnOk result (HasPlaces packets (at link links.new.entries)) }
 {
     match links.get_mut(&link) {
-        Some(port) => keep_on(port),
+        Some(port) => reserve_on(port, packets),
         None => Ok(()),
     }
 }
 
-fn keep_on(port: &mut Port) -> Result<(), AllocError>
-    ensures room { OnOk result (LinkRoom 1 (Some port.new)) }
+fn reserve_on(port: &mut Port, packets: usize) -> Result<(), AllocError>
     ensures widens { WidensPort port.old port.new }
+    ensures room { OnOk result (LinkRoom packets (Some port.new)) }
+    ensures counted { OnOk result (HasPlaces packets (Some port.new)) }
 {
-    match port.kept.checked_add(1) {
-        Some(places) => port.link.reserve(places),
+    match port.kept.checked_add(packets) {
+        Some(all) => port.link.reserve(all),
         None => Err(AllocError),
     }
 }
 
-/// A place is reserved for a slice that becomes due to a client, beside the one that is kept for
-/// the answer to it.
-pub fn keep_slice(clients: &mut TouchedMap<Client>, client: u32) -> Result<(), AllocError>
-    ensures room { OnOk result (ClientRoom 1 (at client clients.new.entries)) }
-    ensures widens { (c : ℕ)
-        → WidensRow WidensClient (at c clients.old.entries) (at c clients.new.entries) }
+/// Places are reserved for so many slices that become due to a client, beside the one that is kept
+/// for the answer to it.
+pub fn reserve_slices(
+    clients: &mut TouchedMap<Client>,
+    client: u32,
+    slices: usize,
+) -> Result<(), AllocError>
+    ensures widens { WidensClients clients.old.entries clients.new.entries }
+    ensures room { OnOk result (ClientRoom slices (at client clients.new.entries)) }
 {
     match clients.get_mut(&client) {
-        Some(row) => keep_for(row),
+        Some(row) => reserve_for(row, slices),
         None => Ok(()),
     }
 }
 
-fn keep_for(client: &mut Client) -> Result<(), AllocError>
-    ensures room { OnOk result (ClientRoom 1 (Some client.new)) }
+fn reserve_for(client: &mut Client, slices: usize) -> Result<(), AllocError>
     ensures widens { WidensClient client.old client.new }
+    ensures room { OnOk result (ClientRoom slices (Some client.new)) }
 {
     let kept = kept_places(client.about().phase);
-    client.reserve_slices(1 + kept)
+    match kept.checked_add(slices) {
+        Some(all) => client.reserve_slices(all),
+        None => Err(AllocError),
+    }
 }
 
 /// How many places a client keeps for the answer that it waits for.
 fn kept_places(phase: Phase) -> usize
-    ensures value { result ≡ kept_places phase }
-    ensures few { result ≤ 1 }
+    ensures { result ≡ kept_places phase }
 {
     match phase {
         Phase::Opening(_) => 1,

@@ -19,19 +19,19 @@ returns-then-not-waits-clause-made c =
     let idle : waits ((state_of old).clients c.args.client) ≡ false = search rules in
     idle_bound old c.requires.fit c.requires.reached c.args.client c.args.port idle
 
-pub returns-in_err-keep_slice-clause-kept : goal.returns-in_err-keep_slice-clause-kept
-returns-in_err-keep_slice-clause-kept c =
+pub returns-in_err-reserve_slices-clause-kept : goal.returns-in_err-reserve_slices-clause-kept
+returns-in_err-reserve_slices-clause-kept c =
     let old = c.args.tables.now in
-    let kept = widened old (record old { clients = c.keep_slice.new.clients }) c.requires.fit
-    (record { clients = c.keep_slice.ensures.widens; links = λ k. same_port (at k old.links.entries); others = refl }) in
+    let kept = widened old (record old { clients = c.reserve_slices.new.clients }) c.requires.fit
+    (record { clients = c.reserve_slices.ensures.widens; links = λ k. same_port (at k old.links.entries); others = refl }) in
     search (rules, kept)
 
 pub returns-in_err-reply-clause-kept : goal.returns-in_err-reply-clause-kept
 returns-in_err-reply-clause-kept c =
     let old = c.args.tables.now in
-    let mid = record old { clients = c.keep_slice.new.clients } in
+    let mid = record old { clients = c.reserve_slices.new.clients } in
     let kept = widened old mid c.requires.fit
-    (record { clients = c.keep_slice.ensures.widens; links = λ k. same_port (at k old.links.entries); others = refl }) in
+    (record { clients = c.reserve_slices.ensures.widens; links = λ k. same_port (at k old.links.entries); others = refl }) in
     let same : c.bind.new.tables ≡ mid =
     c.bind.ensures.others ∙ ap (λ (forwards : List (ℕ × ForwardRow)). record mid { forwards = forwards }) c.in_err-reply.ensures.err in
     let now = subst (Keeps old) (sym same) kept in
@@ -41,10 +41,10 @@ pub returns-clause-made : goal.returns-clause-made
 returns-clause-made c =
     let old = c.args.tables.now in
     let client = c.args.client in
-    let mid = record old { clients = c.keep_slice.new.clients } in
+    let mid = record old { clients = c.reserve_slices.new.clients } in
     let new = c.close_client.new.self in
     let kept = widened old mid c.requires.fit
-    (record { clients = c.keep_slice.ensures.widens; links = λ k. same_port (at k old.links.entries); others = refl }) in
+    (record { clients = c.reserve_slices.ensures.widens; links = λ k. same_port (at k old.links.entries); others = refl }) in
     let there : waits ((state_of old).clients client) ≡ true = search rules in
     let uses : (t : ℕ) → Uses t 0 client 1 c.bind.new.tables new = λ t. uses_then (c.owe_client.ensures.uses t) (c.close_client.ensures.uses t client) in
     kept_then (Bound client c.args.port) old mid new kept
@@ -52,7 +52,7 @@ returns-clause-made c =
       there = subst (λ (s : State). waits (s.clients client) ≡ true) (sym kept.state) there;
       bound = c.in_ok-reply.ensures.bound;
       others = c.bind.ensures.others;
-      room = c.in_ok-keep_slice.ensures.room;
+      room = c.in_ok-reserve_slices.ensures.room;
       uses = uses;
       links = c.close_client.ensures.links ∙ c.owe_client.ensures.links;
       state = c.close_client.ensures.state ∙ ap (closes client) c.owe_client.ensures.state;

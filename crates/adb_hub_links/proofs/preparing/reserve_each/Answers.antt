@@ -14,4 +14,4 @@ loop-client-preserved c =
     let counts = c.args.counts.now.entries in
     let old = c.args.clients.now.entries in
     let before = subst (λ (left : List (ℕ × ℕ)). AreServed counts left old c.loop-client.clients.entries) c.in-Some.ensures.steps c.loop-client.invariant in
-    served_one c.in-Some.client.now c.in-Some.count.now before c.reserve_at.ensures.more c.in_ok-reserve_at.ensures.room
+    served_one c.in-Some.client.now c.in-Some.count.now before c.reserve_slices.ensures.widens c.in_ok-reserve_slices.ensures.room

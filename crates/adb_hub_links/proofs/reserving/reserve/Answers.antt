@@ -15,11 +15,11 @@ returns-clause-reserved c =
       counts = c.in_ok-counts.counts.entries;
       counted = c.in_ok-counts.ensures;
       served = c.in_ok-reserve_each.ensures.room;
-      more = c.prepare_each.ensures.more;
+      more = c.prepare_each.ensures.widens;
       maxdata = c.maxdata_of-maxdata.result;
       size = c.maxdata_of-maxdata.ensures;
       cut = c.in_ok-writes.ensures.cut;
       writes = c.in_ok-writes.writes;
       written = c.in_ok-writes.ensures.writes;
-      room = subst (λ (n : ℕ). LinkRoom n (at c.args.link c.reserve_on.new.links.entries)) places c.in_ok-reserve_on.ensures.room;
+      room = subst (λ (n : ℕ). LinkRoom n (at c.args.link c.reserve_packets.new.links.entries)) places c.in_ok-reserve_packets.ensures.room;
     })
