@@ -136,7 +136,8 @@ module _ (own : ℕ) (s : Serving) where
         }
         go true = record {
           untaken = λ above. absurd (omega (arith, above, below));
-          exact = subst (λ (r : Option Row). ExactAt own ((s.made ++ sent_writes link own row) ++ sent_close true link own (row_written link.most row).host) s.acks r)
+          exact = subst (λ (r : Option Row).
+              ExactAt own ((s.made ++ sent_writes link own row) ++ sent_close true link own (row_written link.most row).host) s.acks r)
               (sym (puts_without own s.rows o).here) tt;
         }
 
@@ -300,7 +301,8 @@ module _ (own : ℕ) (some : 0 < own) where
   behind_tight setting done [] o t timely =
       subst (λ (ps : List Packet). IsTight own (device_behind setting ps).serving) (sym (append-nil done)) t
   behind_tight setting done (p ∷ packets) o t timely =
-      let next : device_behind setting (done ++ p ∷ []) ≡ step setting (device_behind setting done) p = step_more setting (first_device setting) done (p ∷ []) in
+      let next : device_behind setting (done ++ p ∷ []) ≡ step setting (device_behind setting done) p =
+      step_more setting (first_device setting) done (p ∷ []) in
       let mine = timely done p packets refl in
       let now = step_tight setting (device_behind setting done) p o t
       (subst (λ (d : Device). acks_of own d.serving.acks ≤ 1 + writes_of own (device_behind setting done).serving.made) next mine) in
@@ -312,7 +314,8 @@ module _ (own : ℕ) (some : 0 < own) where
       (subst (λ (ps : List Packet). IsAckedInTime setting own ps) (sym all) timely))
 
   pub windows_exact : (setting : Setting) (packets : List Packet) → IsAckedInTime setting own packets
-      → ExactAt own (device_behind setting packets).serving.made (device_behind setting packets).serving.acks (at own (device_behind setting packets).serving.rows)
+      → ExactAt own (device_behind setting packets).serving.made (device_behind setting packets).serving.acks
+      (at own (device_behind setting packets).serving.rows)
   unfolding IsStrictlySortedBy
   windows_exact setting packets timely =
       (behind_tight setting [] packets (record { rises = tt; fresh = λ above. (refl, refl); writes = (refl, refl, refl) })

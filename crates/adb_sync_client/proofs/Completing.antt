@@ -494,7 +494,8 @@ by_front e said bytes list others wanted = go (expected_front e bytes) refl
         let whole : frame ++ more ≡ bytes = take-append-drop n bytes in
         let answer = expected_answer e frame in
         let further = means (past_expected e frame) (told_by said answer) more in
-        let behind = wanted_on (next_of answer) (told_by said answer) further (sym (means_frame e said frame more found) ∙ (ap (means e said) whole ∙ wanted)) in
+        let behind = wanted_on (next_of answer) (told_by said answer) further
+        (sym (means_frame e said frame more found) ∙ (ap (means e said) whole ∙ wanted)) in
         let h = others (past_expected e frame) (told_by said answer) more list (omega (arith, fits.0, fits.1, length-drop n bytes)) behind in
         record {
           more = h.more;

@@ -12,7 +12,8 @@ invariant-loop-came l =
     ≡ (treat_all l.link (packets_of l.initial.packets.items) (state_of l.initial.tables)).state)
     × All IsCame l.packets.items
     × IsProvided l.tables
-    × TakesAll l.link (length l.initial.packets.items) (length l.packets.items) (slices_in (packets_of l.initial.packets.items) l.initial.tables.streams.streams)
+    × TakesAll l.link (length l.initial.packets.items) (length l.packets.items)
+    (slices_in (packets_of l.initial.packets.items) l.initial.tables.streams.streams)
     (slices_in (packets_of l.packets.items) l.tables.streams.streams) l.initial.tables l.tables
 
 abbrev pub decreases-loop-came : goal.decreases-loop-came

@@ -9,7 +9,8 @@ use Rattle.adb_hub_rules.proofs.up_rule.write_next.Goals as goal
 
 pub returns-then-n-eq0-clause-all : goal.returns-then-n-eq0-clause-all
 returns-then-n-eq0-clause-all c = λ _.
-    none_let c.args.flow.now c.args.maxdata (held_at (at c.args.stream.now.client c.args.tables.now.clients.entries)) (sym c.next_len-n.ensures ∙ c.if-n-eq0.true)
+    none_let c.args.flow.now c.args.maxdata (held_at (at c.args.stream.now.client c.args.tables.now.clients.entries))
+    (sym c.next_len-n.ensures ∙ c.if-n-eq0.true)
 
 pub write_one-requires-clause-cut : goal.write_one-requires-clause-cut
 write_one-requires-clause-cut c =
@@ -18,7 +19,8 @@ write_one-requires-clause-cut c =
 
 pub write_one-requires-clause-room : goal.write_one-requires-clause-room
 write_one-requires-clause-room c =
-    more_room (length (unsent c.args.stream.now c.args.maxdata (c.args.flow.now, c.args.tables.now))) 1 (at c.args.stream.now.link c.args.tables.now.links.entries)
+    more_room (length (unsent c.args.stream.now c.args.maxdata (c.args.flow.now, c.args.tables.now))) 1
+    (at c.args.stream.now.link c.args.tables.now.links.entries)
     (some_unsent c.args.flow.now c.args.maxdata c.next_len-n.result (held_at (at c.args.stream.now.client c.args.tables.now.clients.entries))
     c.next_len-n.ensures (omega (arith, c.if-n-eq0.false))) c.requires.room
 

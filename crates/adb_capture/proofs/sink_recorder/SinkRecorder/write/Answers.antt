@@ -15,7 +15,9 @@ returns-after-write_both-clause-told g c = λ out told.
     let first : c.args.self.now.opened ≡ false = ap (λ r. r.opened) (sym c.self.view_is) ∙ c.if-self.false in
     let opened = c.in-All.ensures.told out (ap (λ r. g.K.Sink.written r.sink) c.self.view_is ∙ told) in
     elim c.match-write_both.branch [
-      | in-All-write_both w ↦ rw w.result-is (first_whole _ (c.args.head.now ++ c.args.text.now) out _ first (w.in-All-write_both.ensures.told (out ++ magic) opened))
+      | in-All-write_both w ↦ rw w.result-is
+          (first_whole _ (c.args.head.now ++ c.args.text.now) out _ first (w.in-All-write_both.ensures.told (out ++ magic) opened))
       | in-Failed-write_both w ↦ rw w.result-is
-          (first_in_part _ (c.args.head.now ++ c.args.text.now) out w.in-Failed-write_both.taken _ first (w.in-Failed-write_both.ensures.told (out ++ magic) opened))
+          (first_in_part _ (c.args.head.now ++ c.args.text.now) out w.in-Failed-write_both.taken _ first
+          (w.in-Failed-write_both.ensures.told (out ++ magic) opened))
     ]
