@@ -10,8 +10,8 @@ use Rattle.adb_history.specs.Bytes.{has_joined, has_failed}
 use Rattle.adb_history.specs.Book.{asked}
 use Rattle.adb_history.specs.Births.{since}
 use Rattle.adb_history.specs.Lives.{output_of, ending_of}
-use Rattle.adb_history.specs.Answered.{tells_closed, closed_reply, is_heard, FollowsTold, FollowsOpen, IsStreamOf, AnswersOpen, IsBehindReplies, RepliesOfStream}
-use Rattle.adb_history.specs.Answered.{HasStreamAlone, IsAnswered}
+use Rattle.adb_history.specs.Answered.{tells_closed, closed_reply, is_heard, FollowsTold, FollowsOpen, IsStreamOf, AnswersOpen, IsBehindReplies}
+use Rattle.adb_history.specs.Answered.{RepliesOfStream, HasStreamAlone, IsAnswered}
 use Rattle.adb_laws_answered.specs.Heard.{asks_stream}
 use Rattle.adb_laws_answered.specs.Served.{OutBy, no_ids_reply, IsGiven, IsRefused, ServedIn, IsEntered, IsLeftOut, HearsAsTold}
 use Rattle.adb_laws_answered.proofs.HeardLaws.{replies_first, replies_bound, lists_tracked, present_list, nothing_more}

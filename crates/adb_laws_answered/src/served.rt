@@ -6,10 +6,10 @@ ghost use Rattle.adb_history.specs.Machine.{IsLegal};
 ghost use Rattle.adb_history.specs.Answered.{RepliesOfStream, HasStreamAlone, IsAnswered};
 ghost use Rattle.adb_laws_answered.specs.Heard.{OfWhoJoined, OfOthers};
 
-/// A service is answered by its device: what becomes due to the client is `OKAY` and what the device
-/// wrote, or why the stream was not opened; and nothing else. While the stream lives it is all that
-/// the device wrote; where the device closed it, all before that close; and where another cause
-/// ended it, a front.
+/// A service is answered by its device: what becomes due to the client is `OKAY` and what the
+/// device wrote, or why the stream was not opened; and nothing else. While the stream lives it is
+/// all that the device wrote; where the device closed it, all before that close; and where another
+/// cause ended it, a front.
 pub fn services_are_answered()
     ensures { (history : List Entry) → IsLegal history → OfWhoJoined RepliesOfStream history }
 {}
