@@ -33,3 +33,4 @@ pub mod Examples
 pub mod Broken
 pub mod Settling
 pub mod Pieces
+pub mod Held

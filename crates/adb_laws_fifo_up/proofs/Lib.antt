@@ -24,3 +24,4 @@ pub mod Fits
 pub mod Treated
 pub mod FitsPackets
 pub mod Windowed
+pub mod Holding
