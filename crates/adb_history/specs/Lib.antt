@@ -34,3 +34,4 @@ pub mod Examples
 pub mod Broken
 pub mod Settling
 pub mod Pieces
+pub mod Held

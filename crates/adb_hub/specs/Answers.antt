@@ -106,8 +106,3 @@ port_in _ want = None
 abbrev pub port_of : Option Client → Option ℕ
 port_of None = None
 port_of (Some client) = port_in client.about.phase client.about.want
-
--- how many bytes of a client are held
-abbrev pub held_of : Option Client → ℕ
-held_of None = 0
-held_of (Some client) = length client.held

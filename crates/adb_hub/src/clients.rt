@@ -6,10 +6,11 @@ ghost use Rattle.adb_capture.specs.declared.entry.Entry.{Entry};
 ghost use Rattle.adb_history.specs.Kept.{IsLawful};
 ghost use Rattle.adb_history.specs.Machine.{state};
 ghost use Rattle.adb_history.specs.Accepted.{is_drawn};
+ghost use Rattle.adb_history.specs.Held.{held_of};
 ghost use Rattle.adb_hub_tables.specs.Tables.{client_row, state_of};
 ghost use Rattle.adb_hub.specs.Refusal.{unless_stopped, unless_drawn};
 ghost use Rattle.adb_hub.specs.Answers.{Answers, AnswersClient, err_if, next_client};
-ghost use Rattle.adb_hub.specs.Answers.{life_of, room_of, room_past, port_of, held_of};
+ghost use Rattle.adb_hub.specs.Answers.{life_of, room_of, room_past, port_of};
 
 use crate::answers::{Life, Room};
 use crate::error::HubError;

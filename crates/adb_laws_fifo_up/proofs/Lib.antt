@@ -25,3 +25,4 @@ pub mod Fits
 pub mod Treated
 pub mod FitsPackets
 pub mod Windowed
+pub mod Holding

@@ -6,5 +6,5 @@ mod up;
 
 pub use up::{
     carries_rest, carries_whole_rest, closed_streams_are_done, closes_are_sent,
-    each_stream_is_carried, keeps_up_window,
+    each_stream_is_carried, keeps_up_window, what_is_held_was_read,
 };

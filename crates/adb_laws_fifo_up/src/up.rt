@@ -1,10 +1,11 @@
 //! Laws of what goes up, over all legal histories.
 
-ghost use Rattle.std.specs.Prelude.{List};
+ghost use Rattle.std.specs.Prelude.{List, ◌∷◌};
 ghost use Rattle.adb_capture.specs.declared.entry.Entry.{Entry};
 ghost use Rattle.adb_history.specs.Machine.{IsLegal};
 ghost use Rattle.adb_history.specs.Fifo.{CarriesRest, CarriesWholeRest, KeepsUpWindow};
 ghost use Rattle.adb_history.specs.Fifo.{OfEachStream, TellsClose};
+ghost use Rattle.adb_history.specs.Held.{HoldsWhatIsRead};
 ghost use Rattle.adb_laws_fifo_up.specs.Carrying.{ClosedStreamsAreDone, IsCarried};
 
 /// In every legal history what became due of each stream and what its client holds are, in order
@@ -41,4 +42,10 @@ pub fn keeps_up_window()
 /// was answered, and with credit all that the client wrote became due.
 pub fn closed_streams_are_done()
     ensures { (history : List Entry) → IsLegal history → ClosedStreamsAreDone history }
+{}
+
+/// Of a client no more is held after an entry than before it, but for the bytes that the entry
+/// reads of it.
+pub fn what_is_held_was_read()
+    ensures { (e : Entry) (older : List Entry) → IsLegal (e ∷ older) → HoldsWhatIsRead e older }
 {}

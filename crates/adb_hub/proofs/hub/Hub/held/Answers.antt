@@ -1,7 +1,7 @@
 use Rattle.std.proofs.Common.{sym, subst, ap, ◌∙◌}
 use Rattle.adb_history.specs.Kept.{Kept, IsLawful}
 use Rattle.adb_history.specs.Rows.{State}
-use Rattle.adb_hub.specs.Answers.{held_of}
+use Rattle.adb_history.specs.Held.{held_of}
 use Rattle.adb_hub.proofs.Standing.{stands_for}
 use Rattle.adb_hub.proofs.hub.Hub.held.Goals as goal
 
