@@ -224,3 +224,14 @@ more_is_short offset x h =
           let far = passed _ _ _ _ (refusal_is_no_more (TooLong offset)) large.1 in
           within_longest (length x) (size_in x) (ltb-false _ _ large.0) (ltb-true _ _ (part_of _ _ _ _ far.1))
     ]
+
+-- Bytes that are no whole record yet are fewer than the record that they become.
+pub more_is_part : (offset : ℕ) (x y : List ℕ) (n : ℕ) → record_at offset x ≡ More → record_at offset (x ++ y) ≡ Whole n → length x < n
+more_is_part offset x y n more whole = elim (cases_lt (length x) n) [
+  | inl lt ↦ lt
+  | inr le ↦
+      let front : record_at offset (take n x) ≡ Whole n = ap (record_at offset) (sym (take-append-le n x y le)) ∙ whole_alone offset (x ++ y) n whole in
+      let here : record_at offset x ≡ Whole n =
+      ap (record_at offset) (sym (take-append-drop n x)) ∙ whole_stays offset (take n x) (drop n x) n front in
+      absurd (let clash : More ≡ Whole n = sym more ∙ here in cc)
+]

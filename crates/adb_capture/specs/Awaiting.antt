@@ -1,5 +1,6 @@
 -- What a reader waits for, between the bytes that it held and those that it holds then.
 use Rattle.std.specs.Prelude.{ℕ, ◌+◌, ◌≡◌, ◌≢◌, ◌<◌, ◌≤◌, List, [], ◌++◌, length, Option, Some, None, Result, Ok, Err, option_map}
+use Rattle.adb_outside.specs.Bytes.{IsPrefixOf}
 use Rattle.adb_outside.specs.declared.source.Got.{Got}
 use Rattle.adb_outside.specs.declared.source.Got.TheVariants.{Bytes, End, Failed}
 use Rattle.adb_outside.specs.declared.framer.Front.TheVariants.{More, Bad, Whole}
@@ -11,12 +12,17 @@ use Rattle.adb_capture.specs.Counting.{KeepsBytes}
 use Rattle.adb_capture.specs.Records.{magic, record_at}
 use Rattle.adb_capture.specs.Reading.{past_magic}
 
--- A read brings at least one byte and at most one read's, or says that no more come.
+-- A read brings at least one byte and at most one read's, behind what was held, or says that no more come.
 abbrev pub ReadsMore : {E : Type 0} → List ℕ → Option (List ℕ) → List ℕ → Result Got E → Type 0
-ReadsMore held_before before held (Ok (Bytes n)) = (0 < n) × (n ≤ MAX_READ) × (length held ≡ length held_before + n)
+ReadsMore held_before before held (Ok (Bytes n)) =
+    (0 < n) × (n ≤ MAX_READ) × (length held ≡ length held_before + n) × IsPrefixOf held_before held
 ReadsMore held_before before held (Ok End) = (held ≡ held_before) × ((coming : List ℕ) → before ≡ Some coming → coming ≡ [])
 ReadsMore held_before before held (Ok Failed) = held ≡ held_before
 ReadsMore held_before before held (Err e) = held ≡ held_before
+
+-- Past a record that is held whole there is less than one read.
+abbrev pub HoldsLittlePast : ℕ → List ℕ → Type 0
+HoldsLittlePast offset held = (size : ℕ) → record_at offset held ≡ Whole size → length held < size + MAX_READ
 
 -- all that was to come is held
 abbrev pub HoldsAll : List ℕ → Option (List ℕ) → List ℕ → Type 0

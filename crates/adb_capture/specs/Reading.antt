@@ -37,6 +37,10 @@ ahead_of reader left = option_and_then (ahead reader) left
 abbrev pub HoldsFew : List ℕ → Type 0
 HoldsFew held = length held < HEADER_LEN + MAX_DATA + MAX_READ
 
+-- What a reader holds is less than one read.
+abbrev pub HoldsLittle : List ℕ → Type 0
+HoldsLittle held = length held < MAX_READ
+
 -- A record was given, and these bytes are what is ahead then.
 pub record GivesRecord (offset : ℕ) (before : List ℕ) (given : ℕ × Entry) (next_offset : ℕ) (after : Option (List ℕ)) : Type 0 where
   pub size : ℕ

@@ -1,10 +1,10 @@
 //! Reading on until what is wanted is held.
 
-ghost use Rattle.std.specs.Prelude.{◌≤◌, Ok, Err};
+ghost use Rattle.std.specs.Prelude.{◌≤◌, ◌<◌, ◌+◌, length, Ok, Err, IfOk, IfSome, OnOk};
 ghost use Rattle.adb_outside.specs.Outside.{Counts};
 ghost use Rattle.adb_capture.specs.Counting.{KeepsBytes, is_fault};
-ghost use Rattle.adb_capture.specs.declared.limits.TheConstants.{MAX_CAPTURE};
-ghost use Rattle.adb_capture.specs.Reading.{HoldsFew};
+ghost use Rattle.adb_capture.specs.declared.limits.TheConstants.{MAX_CAPTURE, MAX_READ};
+ghost use Rattle.adb_capture.specs.Reading.{HoldsFew, HoldsLittle};
 ghost use Rattle.adb_capture.specs.Awaiting.{AwaitsMagic, AwaitsRecord};
 
 use crate::error::CaptureError;
@@ -21,6 +21,7 @@ pub(crate) fn take_magic<S: Source>(held: &mut Held, source: &mut S) -> Result<(
     requires { HoldsFew held.old }
     ensures is { AwaitsMagic held.old (S.left source.old) held.new (S.left source.new) result }
     ensures few { HoldsFew held.new }
+    ensures little { HoldsLittle held.old → OnOk result (HoldsLittle held.new) }
     ensures counts { Counts S.steady S.faults source.old source.new (is_fault result) }
 {
     while held.as_slice().len() < MAGIC.len() {
@@ -48,6 +49,8 @@ pub(crate) fn await_record<S: Source>(
     requires near { offset ≤ MAX_CAPTURE }
     requires few { HoldsFew held.old }
     ensures few { HoldsFew held.new }
+    ensures little { HoldsLittle held.old
+        → IfOk result (λ found. IfSome found (λ size. length held.new < size + MAX_READ)) }
     ensures bytes { KeepsBytes held.old (S.left source.old) held.new (S.left source.new) }
     ensures is { AwaitsRecord offset held.old (S.left source.old) held.new result }
     ensures counts { Counts S.steady S.faults source.old source.new (is_fault result) }

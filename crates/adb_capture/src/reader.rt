@@ -5,7 +5,7 @@ ghost use Rattle.adb_outside.specs.Outside.{Counts};
 ghost use Rattle.adb_outside.specs.declared.framer.Front.TheVariants.{More, Whole};
 ghost use Rattle.adb_capture.specs.Counting.{KeepsBytes, is_fault};
 ghost use Rattle.adb_capture.specs.Records.{record_at, entry_in, HasRecord};
-ghost use Rattle.adb_capture.specs.Reading.{Opens, AnswersNext, GivesNext, Moves, HoldsFew, taken_by};
+ghost use Rattle.adb_capture.specs.Reading.{Opens, AnswersNext, GivesNext, Moves, HoldsFew, HoldsLittle, taken_by};
 
 use crate::awaiting::{await_record, take_magic};
 use crate::entry::Entry;
@@ -75,6 +75,7 @@ impl CaptureReader {
             → Opens self.old (S.left source.old) self.new (S.left source.new) result }
         ensures offset { self.new.offset ≡ self.old.offset }
         ensures few { HoldsFew self.new.held }
+        ensures little { HoldsLittle self.old.held → OnOk result (HoldsLittle self.new.held) }
         ensures ok { OnOk result
             ((self.old.failed ≡ None) × (self.new.failed ≡ None) × (self.new.opened ≡ true)) }
         ensures counts { self.old.failed ≡ None
@@ -104,6 +105,7 @@ impl CaptureReader {
         ensures answers { self.old.failed ≡ None
             → AnswersNext self.old (S.left source.old) self.new (S.left source.new) result }
         ensures few { HoldsFew self.new.held }
+        ensures little { HoldsLittle self.old.held → OnOk result (HoldsLittle self.new.held) }
         ensures ok { OnOk result
             ((self.old.failed ≡ None) × (self.new.failed ≡ None) × IsTrue self.new.opened) }
 
@@ -134,6 +136,7 @@ impl CaptureReader {
         ensures answers { AnswersNext self.old (S.left source.old)
             self.new (S.left source.new) result }
         ensures few { HoldsFew self.new.held }
+        ensures little { HoldsLittle self.old.held → OnOk result (HoldsLittle self.new.held) }
         ensures failed { self.new.failed ≡ self.old.failed }
         ensures ok { OnOk result (self.new.opened ≡ true) }
         ensures counts { Counts S.steady S.faults source.old source.new (is_fault result) }
@@ -149,6 +152,7 @@ impl CaptureReader {
             (taken_by self.new) (S.left source.new)) }
         ensures offset { self.new.offset ≡ self.old.offset }
         ensures few { HoldsFew self.new.held }
+        ensures little { HoldsLittle self.old.held → OnOk result (HoldsLittle self.new.held) }
         ensures failed { self.new.failed ≡ self.old.failed }
         ensures ok { OnOk result (self.new.opened ≡ true) }
         ensures counts { Counts S.steady S.faults source.old source.new (is_fault result) }
@@ -176,6 +180,7 @@ impl CaptureReader {
         ensures moves { IfOk result (λ given. IfSome given
             (λ g. Moves self.old.offset self.new.offset)) }
         ensures few { HoldsFew self.new.held }
+        ensures little { HoldsLittle self.old.held → OnOk result (HoldsLittle self.new.held) }
         ensures same { (self.new.opened ≡ self.old.opened) × (self.new.failed ≡ self.old.failed) }
         ensures counts { Counts S.steady S.faults source.old source.new (is_fault result) }
     {
