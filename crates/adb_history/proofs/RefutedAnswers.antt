@@ -2,6 +2,7 @@
 use Rattle.std.specs.Prelude.{ℕ, ◌≡◌, Bool, true, false, if◌then◌else◌, List, [], ◌∷◌, ◌++◌, Option, Some, None, codes, is_some, slice_get, zero, suc, nat_lt}
 use Rattle.std.specs.Fmt.{digits}
 use Rattle.std.proofs.Common.{refl, sym, ◌∙◌, ap, subst, inl, inr}
+use Rattle.adb_outside.specs.Bytes.{IsPrefixOf}
 use Rattle.adb_request.specs.Meaning.{meaning}
 use Rattle.adb_wire.specs.Header.{word_at}
 use Rattle.adb_banner.specs.Banner.{identity_of, last_value}
@@ -12,7 +13,7 @@ use Rattle.adb_history.specs.Lives.{output_of}
 use Rattle.adb_history.specs.Answered.{RepliesFirst, RepliesWhenBound, RepliesOfStream, ListsTracked, HasPresentList, SaysNothingMore, HasStreamAlone}
 use Rattle.adb_history.specs.Answered.{is_heard, FollowsTold, FollowsOpen, AnswersOpen}
 use Rattle.adb_history.specs.Broken.{stale_device_list, keeps_a_listener_secret, refuses_a_device, lists_too_early, misses_a_list, answers_after_close}
-use Rattle.adb_history.specs.Broken.{hands_what_was_not_written, withholds_a_byte, withholds_all}
+use Rattle.adb_history.specs.Broken.{hands_what_was_not_written, withholds_a_byte, withholds_until_loss, withholds_all}
 use Rattle.adb_history.proofs.Refuted.{differ_at, differ_in_length}
 
 pub replies_refuted : RepliesFirst stale_device_list 1 → ⊥
@@ -85,6 +86,22 @@ stream_whole_refuted promise =
     let behind = promise 1 (codes "shell:echo hi") refl in
     differ_in_length (codes "OKAYOKAYh") (codes "OKAYOKAYhi") refl
     (behind.output ∙ ap (λ (after : List ℕ). codes "OKAY" ++ after) (shell_follows behind.after behind.is))
+
+shell_ends : (after : List ℕ) → AnswersOpen withholds_until_loss 1 after → (rest : List ℕ) × (after ≡ codes "OKAYhi" ++ rest)
+unfolding meaning word_at identity_of last_value
+shell_ends after (inl (l, b, is, follows)) =
+    let own : FollowsOpen true withholds_until_loss 1 shell after =
+    only_stream withholds_until_loss shell refl (λ m x. FollowsOpen (is_heard m x withholds_until_loss) withholds_until_loss m x after) l b is.is follows in
+    let least : IsPrefixOf (codes "hi") own.0 = own.2.0 in
+    (least.0, own.1 ∙ ap (λ (bytes : List ℕ). codes "OKAY" ++ bytes) (sym least.1))
+shell_ends after (inr (none, is)) = absurd (none 1 shell (record { is = refl; client = refl }))
+
+pub stream_at_end_refuted : RepliesOfStream withholds_until_loss 1 → ⊥
+unfolding meaning word_at identity_of last_value
+stream_at_end_refuted promise =
+    let behind = promise 1 (codes "shell:echo hi") refl in
+    let ends = shell_ends behind.after behind.is in
+    differ_at 9 (codes "OKAYOKAYh") (codes "OKAYOKAYhi" ++ ends.0) refl (behind.output ∙ ap (λ (after : List ℕ). codes "OKAY" ++ after) ends.1)
 
 -- the stream through the forward
 abbrev forwarded : Birth

@@ -14,7 +14,7 @@ use Rattle.adb_history.specs.Machine.{History, state}
 use Rattle.adb_history.specs.Bytes.{has_joined, has_failed, bytes_put}
 use Rattle.adb_history.specs.Book.{asked, newly, devices, bound_reply}
 use Rattle.adb_history.specs.Births.{Birth, born, opening_of, told_to, told_before_close, joined}
-use Rattle.adb_history.specs.Lives.{output_of, ending_of}
+use Rattle.adb_history.specs.Lives.{output_of, ending_of, lived}
 
 -- ---- the lists of a tracker
 abbrev pub list_if : Bool → List ℕ → List ℕ → List ℕ
@@ -62,16 +62,17 @@ is_heard l b [] = false
 is_heard l b (e ∷ older) =
     is_heard l b older || (is_some (opening_of l b (e ∷ older)) && not (is_some (opening_of l b older)) && not (has_failed b.client older))
 
--- what became due of all that a device wrote, and of what it had written when it closed: all, while the stream lives; where that close ended it, all
--- before it; and a front, where another cause did
-abbrev pub FollowsUpTo : Option Ending → (told before_close bytes : List ℕ) → Type 0
-FollowsUpTo None told before_close bytes = bytes ≡ told
-FollowsUpTo (Some peer_closed) told before_close bytes = bytes ≡ before_close
-FollowsUpTo (Some ending) told before_close bytes = IsPrefixOf bytes told
+-- what became due of all that a device wrote, by the end of its stream: all, while that lives; where the device's close ended it, all before the close; where
+-- another cause did, what it wrote while the stream lived, at least, and no more than all
+abbrev pub FollowsUpTo : Option Ending → (told before_close while_alive bytes : List ℕ) → Type 0
+FollowsUpTo None told before_close while_alive bytes = bytes ≡ told
+FollowsUpTo (Some peer_closed) told before_close while_alive bytes = bytes ≡ before_close
+FollowsUpTo (Some ending) told before_close while_alive bytes = IsPrefixOf while_alive bytes × IsPrefixOf bytes told
 
 -- what the device of a stream wrote to it, up to the stream's end
 abbrev pub FollowsTold : History → ℕ → Birth → List ℕ → Type 0
-FollowsTold h l b bytes = FollowsUpTo (ending_of l h) (joined (told_to l b h)) (joined (told_before_close l b h)) bytes
+FollowsTold h l b bytes =
+    FollowsUpTo (ending_of l h) (joined (told_to l b h)) (joined (told_before_close l b h)) (joined (told_to l b (lived l h))) bytes
 
 -- what follows the request for a stream: `OKAY` and what the device wrote, where the client heard that it is open; else why it was not opened
 abbrev pub FollowsOpen : Bool → History → ℕ → Birth → List ℕ → Type 0

@@ -167,6 +167,10 @@ missed payload =
 abbrev pub withholds_a_byte : History
 withholds_a_byte = in_shell (writes (codes "h") ∷ missed (codes "i"))
 
+-- and then its link is lost
+abbrev pub withholds_until_loss : History
+withholds_until_loss = in_shell (writes (codes "h") ∷ missed (codes "i") ++ Detach 1 Eof ∷ [])
+
 -- the stream of a client that came through a forward lives, its device wrote `hi`, and nothing becomes due
 abbrev pub withholds_all : History
 withholds_all =

@@ -44,6 +44,7 @@ pub fn answers_can_be_broken()
     ensures bound_reply { RepliesWhenBound broken.keeps_a_listener_secret 1 → ⊥ }
     ensures stream_reply { RepliesOfStream broken.refuses_a_device 1 → ⊥ }
     ensures stream_whole { RepliesOfStream broken.withholds_a_byte 1 → ⊥ }
+    ensures stream_at_end { RepliesOfStream broken.withholds_until_loss 1 → ⊥ }
     ensures tracked_lists { ListsTracked broken.lists_too_early 1 → ⊥ }
     ensures present_list { HasPresentList broken.misses_a_list 1 → ⊥ }
     ensures nothing_more { SaysNothingMore broken.answers_after_close 1 → ⊥ }

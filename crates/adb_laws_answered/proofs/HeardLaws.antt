@@ -65,7 +65,7 @@ module _ (older : History) (legal : IsLegal older) (c : ℕ) (bytes : List ℕ) 
       (prefix_more (bytes_put c older ++ bytes) (output_of c older ++ owed_to c m.told) (owed_to c later.told)
       (put_out client is client.due refl may.front))
 
-grows : (c : ℕ) (e : Entry) (older : History) → output_of c (e ∷ older) ≡ output_of c older ++ owed_to c (told_at e older)
+pub grows : (c : ℕ) (e : Entry) (older : History) → output_of c (e ∷ older) ≡ output_of c older ++ owed_to c (told_at e older)
 grows c e older = owed_append c (told older) (told_at e older)
 
 stays_front : (c : ℕ) (e : Entry) (older : History) → IsPrefixOf (bytes_put c older) (output_of c older)

@@ -1,5 +1,5 @@
 -- What became due to the client of a stream is what its device told, up to the stream's end.
-use Rattle.std.proofs.Common.{◌≡◌, ◌≢◌, ℕ, ◌<◌, zero, suc, Bool, true, false, cond, List, [], ◌++◌, Option, Some, None, is_some, refl, sym, ap, subst, ◌∙◌}
+use Rattle.std.proofs.Common.{◌≡◌, ℕ, ◌<◌, zero, suc, Bool, true, false, cond, List, [], ◌++◌, Option, Some, None, is_some, refl, sym, ap, subst, ◌∙◌}
 use Rattle.std.proofs.Common.{append_assoc, arith, inl, inr, ◌⊎◌}
 use Rattle.std.proofs.lemmas.List.{append-nil, append_cancel_left}
 use Rattle.std.specs.Prelude.{option_map}
@@ -9,8 +9,8 @@ use Rattle.adb_stream.specs.declared.row.Stream.{Stream}
 use Rattle.adb_history.specs.Events.{Ending, client_closed, peer_closed, out_of_turn, lost, broken, client_failed, stopped}
 use Rattle.adb_history.specs.Machine.{History, state, IsLegal}
 use Rattle.adb_history.specs.Book.{asked}
-use Rattle.adb_history.specs.Births.{Birth, born, Opening, since, opening_in, opening_of, told_in, told_after, told_before, joined}
-use Rattle.adb_history.specs.Lives.{output_of, ending_of}
+use Rattle.adb_history.specs.Births.{Birth, born, Opening, since, opening_in, opening_of, told_in, told_after, told_before, told_to, joined}
+use Rattle.adb_history.specs.Lives.{output_of, ending_of, lived}
 use Rattle.adb_history.specs.Answered.{FollowsUpTo}
 use Rattle.adb_laws_births.specs.Ending.{EndsAs, HasEnding}
 use Rattle.adb_laws_births.proofs.Endings.{all_endings}
@@ -21,33 +21,23 @@ use Rattle.adb_laws_fifo_down.specs.Followed.{LifeOf}
 use Rattle.adb_laws_fifo_down.proofs.Handed.{has_lives}
 use Rattle.adb_laws_answered.specs.Served.{IsHeardAsTold, HearsAsTold}
 use Rattle.adb_laws_answered.proofs.ShownClients.{opened_not_closed}
+use Rattle.adb_laws_answered.proofs.Outlived.{first_of, lead_first, IsDueBehind, was_due, none_alive, past_alive}
 
 -- ---- what follows by the end of a stream
-abbrev UpTo : Option Ending → ℕ → Option Opening → List ℕ → Type 0
-UpTo ending l o bytes = FollowsUpTo ending (joined (told_after l o)) (joined (told_before l o)) bytes
-
--- where the device opened nothing
-unopened_up_to : (ending : Option Ending) (l : ℕ) → UpTo ending l None []
-unopened_up_to None l = refl
-unopened_up_to (Some client_closed) l = ([], refl)
-unopened_up_to (Some peer_closed) l = refl
-unopened_up_to (Some out_of_turn) l = ([], refl)
-unopened_up_to (Some lost) l = ([], refl)
-unopened_up_to (Some broken) l = ([], refl)
-unopened_up_to (Some (client_failed cause)) l = ([], refl)
-unopened_up_to (Some stopped) l = ([], refl)
+abbrev UpTo : Option Ending → ℕ → Option Opening → (while_alive bytes : List ℕ) → Type 0
+UpTo ending l o while_alive bytes = FollowsUpTo ending (joined (told_after l o)) (joined (told_before l o)) while_alive bytes
 
 -- where the stream ended
-ended_up_to : (ending : Option Ending) (told before bytes : List ℕ) → is_some ending ≡ true → IsPrefixOf bytes told
-    → (ending ≡ Some peer_closed → bytes ≡ before) → FollowsUpTo ending told before bytes
-ended_up_to None told before bytes over front closed = absurd (let clash : false ≡ true = over in cc)
-ended_up_to (Some client_closed) told before bytes over front closed = front
-ended_up_to (Some peer_closed) told before bytes over front closed = closed refl
-ended_up_to (Some out_of_turn) told before bytes over front closed = front
-ended_up_to (Some lost) told before bytes over front closed = front
-ended_up_to (Some broken) told before bytes over front closed = front
-ended_up_to (Some (client_failed cause)) told before bytes over front closed = front
-ended_up_to (Some stopped) told before bytes over front closed = front
+ended_up_to : (ending : Option Ending) (told before while_alive bytes : List ℕ) → is_some ending ≡ true → IsPrefixOf while_alive bytes × IsPrefixOf bytes told
+    → (ending ≡ Some peer_closed → bytes ≡ before) → FollowsUpTo ending told before while_alive bytes
+ended_up_to None told before while_alive bytes over within closed = absurd (let clash : false ≡ true = over in cc)
+ended_up_to (Some client_closed) told before while_alive bytes over within closed = within
+ended_up_to (Some peer_closed) told before while_alive bytes over within closed = closed refl
+ended_up_to (Some out_of_turn) told before while_alive bytes over within closed = within
+ended_up_to (Some lost) told before while_alive bytes over within closed = within
+ended_up_to (Some broken) told before while_alive bytes over within closed = within
+ended_up_to (Some (client_failed cause)) told before while_alive bytes over within closed = within
+ended_up_to (Some stopped) told before while_alive bytes over within closed = within
 
 -- ---- what became due by the life of a stream
 -- what became due is what comes before the bytes of the stream, and these
@@ -89,12 +79,16 @@ born_id zero b h is = absurd (let clash : None ≡ Some b = is in cc)
 born_id (suc k) b h is = omega arith
 
 module _ (h : History) (l : ℕ) (b : Birth) (is : born l h ≡ Some b) (f : Follows LifeOf h l b)
-    (ends : HasEnding (state h).drawn l ((state h).streams l) (ending_of l h)) where
+    (ends : HasEnding (state h).drawn l ((state h).streams l) (ending_of l h))
+    (due : IsDueBehind (first_of b h) (joined (told_to l b (lived l h))) (output_of b.client h)) where
   abbrev v : View
   v = f.holds.seen
 
+  abbrev while_alive : List ℕ
+  while_alive = joined (told_to l b (lived l h))
+
   abbrev Told : List ℕ → Type 0
-  Told = λ bytes. UpTo (ending_of l h) l (opening_of l b h) bytes
+  Told = λ bytes. UpTo (ending_of l h) l (opening_of l b h) while_alive bytes
 
   output_is : output_of b.client h ≡ v.output
   output_is = ap (λ (x : View). x.output) f.holds.shows.1
@@ -102,37 +96,52 @@ module _ (h : History) (l : ℕ) (b : Birth) (is : born l h ≡ Some b) (f : Fol
   ending_is : ending_of l h ≡ v.ending
   ending_is = ap (λ (x : View). x.ending) f.holds.shows.1
 
-  unopened : opening_of l b h ≡ None → Told []
-  unopened none = subst (λ (o : Option Opening). UpTo (ending_of l h) l o []) (sym none) (unopened_up_to (ending_of l h) l)
+  -- what was written while the stream lived is due
+  alive_due : IsDueBehind (lead f.cradle) while_alive v.output
+  alive_due = subst (λ (x : List ℕ). IsDueBehind (lead f.cradle) while_alive x) output_is
+      (subst (λ (x : List ℕ). IsDueBehind x while_alive (output_of b.client h)) (sym (lead_first l b h f)) due)
 
-  -- its client was gone before its device opened it
-  unheard : is_some (ending_of l h) ≡ true → v.ending ≢ Some peer_closed → Told []
-  unheard over other =
-      ended_up_to (ending_of l h) (joined (told_after l (opening_of l b h))) (joined (told_before l (opening_of l b h))) [] over
-      (joined (told_after l (opening_of l b h)), refl) (λ e. absurd (other (sym ending_is ∙ e)))
+  -- nothing came behind the replies
+  ended_early : is_some (ending_of l h) ≡ true → (v.output ≡ f.cradle.replies) ⊎ (v.output ≡ unopened_output f.cradle.forwarded f.cradle.replies)
+      → (ending_of l h ≡ Some peer_closed → [] ≡ joined (told_before l (opening_of l b h))) → Told []
+  ended_early over which closed =
+      ended_up_to (ending_of l h) (joined (told_after l (opening_of l b h))) (joined (told_before l (opening_of l b h))) while_alive [] over
+      (([], append-nil while_alive ∙ none_alive f.cradle while_alive v.output alive_due which), (joined (told_after l (opening_of l b h)), refl)) closed
 
-  past : (o : Opening) → opening_of l b h ≡ Some o → (bytes : List ℕ) → v.output ≡ lead f.cradle ++ bytes → UpTo (ending_of l h) l (Some o) bytes
+  past : (o : Opening) → opening_of l b h ≡ Some o → (bytes : List ℕ) → v.output ≡ lead f.cradle ++ bytes → UpTo (ending_of l h) l (Some o) while_alive bytes
       → Says f.cradle Told v.output
   past o opened bytes is told =
-      inr (record { bytes = bytes; is = is; follows = subst (λ (x : Option Opening). UpTo (ending_of l h) l x bytes) (sym opened) told })
+      inr (record { bytes = bytes; is = is; follows = subst (λ (x : Option Opening). UpTo (ending_of l h) l x while_alive bytes) (sym opened) told })
 
   was_open : is_some (ending_of l h) ≡ true → WasOpen l f.cradle (since b h) v.output v.ending → Says f.cradle Told v.output
   was_open over i =
       past i.opening i.opened i.bytes i.output_is
-      (ended_up_to (ending_of l h) (joined (told_after l (Some i.opening))) (joined (told_before l (Some i.opening))) i.bytes over i.front
+      (ended_up_to (ending_of l h) (joined (told_after l (Some i.opening))) (joined (told_before l (Some i.opening))) while_alive i.bytes over
+      (past_alive f.cradle while_alive v.output i.bytes alive_due i.output_is, i.front)
       (λ e. (i.closed (sym ending_is ∙ e)).whole))
 
   alive : (orphan : Bool) (remote : ℕ) → EndsAs orphan (ending_of l h) → LivesAs orphan remote l f.cradle (since b h) (heard v)
       → Says f.cradle Told v.output
-  alive true remote ended i = inl (inl i.unheard.output_is, unheard (ap is_some ended.1) i.unheard.not_by_peer)
-  alive false zero none i = inl (inl i.output, unopened (ap (opening_in l) (sym (append-nil (since b h))) ∙ i.pending []))
+  alive true remote ended i = inl (
+    inl i.unheard.output_is,
+    ended_early (ap is_some ended.1) (inl i.unheard.output_is)
+        (λ e. absurd (i.unheard.not_by_peer (sym ending_is ∙ e))),
+  )
+  alive false zero none i =
+      let unopened : opening_of l b h ≡ None = ap (opening_in l) (sym (append-nil (since b h))) ∙ i.pending [] in
+      inl (
+        inl i.output,
+        subst (λ (e : Option Ending). UpTo e l (opening_of l b h) while_alive []) (sym none)
+            (ap (λ (o : Option Opening). joined (told_after l o)) (sym unopened)),
+      )
   alive false (suc r) none i =
       past i.opening i.opened (joined (told_in i.opening.remote l i.opening.later)) i.output
-      (subst (λ (e : Option Ending). UpTo e l (Some i.opening) (joined (told_in i.opening.remote l i.opening.later))) (sym none) refl)
+      (subst (λ (e : Option Ending). UpTo e l (Some i.opening) while_alive (joined (told_in i.opening.remote l i.opening.later))) (sym none) refl)
 
   over : is_some (ending_of l h) ≡ true → Story l f.cradle (since b h) (is_shut b.link h) (heard v) → Says f.cradle Told v.output
-  over ended (inl (never, output)) = inl (inr output, unopened never.unopened)
-  over ended (inr (inl i)) = inl (inl i.output_is, unheard ended i.not_by_peer)
+  over ended (inl (never, output)) =
+      inl (inr output, ended_early ended (inr output) (λ e. ap (λ (o : Option Opening). joined (told_before l o)) (sym never.unopened)))
+  over ended (inr (inl i)) = inl (inl i.output_is, ended_early ended (inl i.output_is) (λ e. absurd (i.not_by_peer (sym ending_is ∙ e))))
   over ended (inr (inr i)) = was_open ended i
 
   says : Says f.cradle Told v.output
@@ -156,4 +165,4 @@ module _ (h : History) (l : ℕ) (b : Birth) (is : born l h ≡ Some b) (f : Fol
   }
 
 pub hears_as_told : (h : History) → IsLegal h → HearsAsTold h
-hears_as_told h legal l b is = heard_as_told h l b is (has_lives h legal l b is) (all_endings h legal l)
+hears_as_told h legal l b is = heard_as_told h l b is (has_lives h legal l b is) (all_endings h legal l) (was_due h legal l b is)

@@ -23,6 +23,7 @@ pub mod ServedClients
 pub mod ServedAsks
 pub mod ServedHistories
 pub mod Entered
+pub mod Outlived
 pub mod Hears
 pub mod ServedLaws
 pub mod AllMoves

@@ -9,7 +9,7 @@ ghost use Rattle.adb_laws_answered.specs.Heard.{OfWhoJoined, OfOthers};
 /// A service is answered by its device: what becomes due to the client is `OKAY` and what the
 /// device wrote, or why the stream was not opened; and nothing else. While the stream lives it is
 /// all that the device wrote; where the device closed it, all before that close; and where another
-/// cause ended it, a front.
+/// cause ended it, what the device wrote while the stream lived, at least.
 pub fn services_are_answered()
     ensures { (history : List Entry) → IsLegal history → OfWhoJoined RepliesOfStream history }
 {}

@@ -22,7 +22,7 @@ mod Askers
 mod Asking
 mod BirthEntries
 mod Unborn
-mod Followed
+pub mod Followed
 pub mod Handed
 mod Backed
 mod OpenTurns

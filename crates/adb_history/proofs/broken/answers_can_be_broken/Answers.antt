@@ -1,5 +1,5 @@
-use Rattle.adb_history.proofs.RefutedAnswers.{replies_refuted, bound_reply_refuted, stream_reply_refuted, stream_whole_refuted, tracked_lists_refuted}
-use Rattle.adb_history.proofs.RefutedAnswers.{present_list_refuted, nothing_more_refuted, stream_alone_refuted, alone_whole_refuted}
+use Rattle.adb_history.proofs.RefutedAnswers.{replies_refuted, bound_reply_refuted, stream_reply_refuted, stream_whole_refuted, stream_at_end_refuted}
+use Rattle.adb_history.proofs.RefutedAnswers.{tracked_lists_refuted, present_list_refuted, nothing_more_refuted, stream_alone_refuted, alone_whole_refuted}
 use Rattle.adb_history.proofs.broken.answers_can_be_broken.Goals as goal
 
 pub returns-clause-replies : goal.returns-clause-replies
@@ -13,6 +13,9 @@ returns-clause-stream_reply c = stream_reply_refuted
 
 pub returns-clause-stream_whole : goal.returns-clause-stream_whole
 returns-clause-stream_whole c = stream_whole_refuted
+
+pub returns-clause-stream_at_end : goal.returns-clause-stream_at_end
+returns-clause-stream_at_end c = stream_at_end_refuted
 
 pub returns-clause-tracked_lists : goal.returns-clause-tracked_lists
 returns-clause-tracked_lists c = tracked_lists_refuted
