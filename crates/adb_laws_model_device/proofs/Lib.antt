@@ -1,0 +1,12 @@
+mod Links
+mod Tables
+mod Owing
+mod Hosts
+mod Plain
+mod Bytes
+mod Joined
+mod Sound
+mod Acknowledged
+mod Lives
+mod Came
+mod Waits

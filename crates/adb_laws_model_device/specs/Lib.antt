@@ -1,0 +1,4 @@
+pub mod Owed
+pub mod Joined
+pub mod Rows
+pub mod Came
