@@ -52,6 +52,7 @@ module _ (l : ℕ) where
   abbrev carries : Packet → List ℕ
   carries p = carried_in l (p ∷ [])
 
+  -- what packets carry is what the first carries and the others
   carried_first : (p : Packet) (ps : List Packet) → carried_in l (p ∷ ps) ≡ carries p ++ carried_in l ps
   carried_first p ps = go (is_wrte p.command && nat_eq p.arg0 l)
     where
@@ -67,6 +68,7 @@ module _ (l : ℕ) where
   carries_one p e f =
       ap (λ b. cond (b && nat_eq p.arg0 l) (p.payload ++ []) []) e ∙ (ap (λ b. cond b (p.payload ++ []) []) (eq-eqb p.arg0 l f) ∙ append-nil p.payload)
 
+  -- it carries nothing, or it is a write of the stream
   carried : (p : Packet) → (carries p ≡ []) ⊎ ((is_wrte p.command ≡ true) × (p.arg0 ≡ l))
   carried p = go (is_wrte p.command) refl (nat_eq p.arg0 l) refl
     where
@@ -84,6 +86,7 @@ module _ (l n : ℕ) where
   abbrev Over : List ℕ → List Ended → Type 0
   Over text ended = (e : Ended) → over_at n ended ≡ Some e → e.row.host ≡ l → IsPrefixOf (bytes_in e.row.past) text
 
+  -- a text is a front of itself
   prefix_same : (front text : List ℕ) → front ≡ text → IsPrefixOf front text
   prefix_same front text same = ([], append-nil front ∙ same)
 
@@ -92,7 +95,8 @@ module _ (l n : ℕ) where
       → ((q ≡ n) × (row ≡ e.row)) ⊎ (over_at n ended ≡ Some e)
   ended_found closed q row ended e is = go (q == n) refl is
     where
-      go : (b : Bool) → (q == n) ≡ b → cond b (Some (ended_at closed (q, row))) (over_at n ended) ≡ Some e → ((q ≡ n) × (row ≡ e.row)) ⊎ (over_at n ended ≡ Some e)
+      go : (b : Bool) → (q == n) ≡ b → cond b (Some (ended_at closed (q, row))) (over_at n ended) ≡ Some e
+          → ((q ≡ n) × (row ≡ e.row)) ⊎ (over_at n ended ≡ Some e)
       go true f found =
           let one : ended_at closed (q, row) ≡ e = cc in
           inl (eqb-true q n f, ap (λ (x : Ended). x.row) one)
@@ -145,7 +149,7 @@ module _ (l n : ℕ) where
     live : Live o text s.rows
     over : Over text s.ended
 
-  -- one packet
+  -- a packet that comes in its turn
   module _ (o : ℕ) (text : List ℕ) (p : Packet) (turn : IsInTurn l n o p) where
     abbrev now : ℕ
     now = o + opens_in l p
@@ -175,6 +179,7 @@ module _ (l n : ℕ) where
         let front = over e is host in
         (front.0 ++ carries l p, sym (append_assoc (bytes_in e.row.past) front.0 (carries l p)) ∙ ap (λ (x : List ℕ). x ++ carries l p) front.1)
 
+    -- a packet that changes no row
     same : (s new : Serving) → new.rows ≡ s.rows → new.ended ≡ s.ended → carries l p ≡ [] → CameSoFar o text s → CameSoFar now more new
     same s new rows ended zeroth j = record {
       rises = subst (λ (r : List (ℕ × Row)). IsRising r) (sym rows) j.rises;
@@ -351,6 +356,7 @@ module _ (l n : ℕ) where
     link : HasRows d.link d.serving.rows
     serving : d.refused ≡ false → CameSoFar o text d.serving
 
+  -- one packet
   step_came : (setting : Setting) (o : ℕ) (text : List ℕ) (p : Packet) → IsInTurn l n o p → (d : Device) → IsSoFar o text d
       → IsSoFar (o + opens_in l p) (text ++ carries l p) (step setting d p)
   unfolding step IsStrictlySortedBy
@@ -363,7 +369,8 @@ module _ (l n : ℕ) where
       linked sound None = record { link = j.link; serving = λ e. absurd (let clash : true ≡ false = e in cc) }
       linked sound (Some link) = record {
         link = tt;
-        serving = λ e. no_rows o text p turn d.serving (all_gone d.serving) refl tt (over_gone o text p turn d.serving (j.serving sound)) (j.serving sound).none;
+        serving = λ e. no_rows o text p turn d.serving (all_gone d.serving) refl tt (over_gone o text p turn d.serving (j.serving sound))
+            (j.serving sound).none;
       }
 
       on : d.refused ≡ false → (link : Option Link) → d.link ≡ link → HasRows link d.serving.rows → Next (served_on link p d)

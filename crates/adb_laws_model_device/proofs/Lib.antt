@@ -9,4 +9,5 @@ mod Sound
 mod Acknowledged
 mod Lives
 mod Came
+mod Opened
 mod Waits

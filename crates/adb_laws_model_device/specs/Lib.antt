@@ -2,3 +2,4 @@ pub mod Owed
 pub mod Joined
 pub mod Rows
 pub mod Came
+pub mod Opened

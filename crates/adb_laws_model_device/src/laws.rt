@@ -10,7 +10,9 @@ ghost use Rattle.adb_laws_pairs.specs.Paired.{IsPaired};
 ghost use Rattle.adb_laws_model_device.specs.Owed.{packets_owed};
 ghost use Rattle.adb_laws_model_device.specs.Joined.{IsJoined};
 ghost use Rattle.adb_laws_model_device.specs.Came.{TakesCarried};
-ghost use Rattle.adb_laws_model_device.specs.Rows.{LiveAreAcknowledged, LivesOrWasClosed, NoneWaits};
+ghost use Rattle.adb_laws_model_device.specs.Opened.{AnswersOpens};
+ghost use Rattle.adb_laws_model_device.specs.Rows.{LiveAreAcknowledged, LivesOrWasClosed};
+ghost use Rattle.adb_laws_model_device.specs.Rows.{NoneWaits};
 
 /// The model device is a device on a plain link: what it owed it owes still; to a stream it owes no
 /// more OKAYs than one for each OPEN and one for each write of it; and all its OKAYs to a stream
@@ -37,6 +39,14 @@ pub fn what_a_server_sends_is_taken()
 /// in their turn.
 pub fn live_streams_are_acknowledged()
     ensures { (setting : Setting) → setting.credit ≡ false → LiveAreAcknowledged setting }
+{}
+
+/// An OPEN for a known service, of an id that is not 0 and of no live stream, is answered: the
+/// device's next id stands for that host's id, service and files, as long as the stream lives and
+/// when it has ended; an OKAY from the one id to the other is owed; and all that is sent from the
+/// device's id goes to the host's.
+pub fn opens_are_answered()
+    ensures { (setting : Setting) → AnswersOpens setting }
 {}
 
 /// All that the server sent up a stream came to its service, while the device's row of it lives; to
