@@ -1,11 +1,11 @@
--- All OKAYs to a host's id that was asked for once come from one id of the model device.
+-- All that is sent to a host's id that was asked for once comes from one id of the model device.
 use Rattle.std.specs.Prelude.{ℕ, ◌+◌, ◌≡◌, ◌≢◌, ◌≤◌, ◌==◌, ◌||◌, ◌&&◌, if◌then◌else◌, Bool, true, false}
 use Rattle.std.specs.Prelude.{cond, All, List, [], ◌∷◌, ◌++◌, map, fold, length, Option, Some, None}
 use Rattle.std.specs.Prelude.{nat_eq}
 use Rattle.std.proofs.Common.{refl, sym, ◌∙◌, ap, subst, arith, ◌⊎◌, inl, inr}
 use Rattle.std.specs.List.Sorted.{IsStrictlySortedBy}
 use Rattle.std.proofs.lemmas.Bool.{eq-eqb}
-use Rattle.std.proofs.lemmas.List.Elements.{All-nil, All-cons, All-append, All-head, All-tail}
+use Rattle.std.proofs.lemmas.List.Elements.{All-nil, All-cons, All-append, All-head, All-tail, All-weaker}
 use Rattle.byteorder.specs.Endian.{little_bytes}
 use Rattle.adb_outside.specs.Tables.{at, IsRising, put_at, without}
 use Rattle.adb_outside.proofs.TableLaws.{put_at_rises, without_rises}
@@ -15,7 +15,7 @@ use Rattle.adb_wire.specs.declared.command.Command.TheVariants as commands
 use Rattle.adb_wire.specs.declared.packets.Packet.{Packet}
 use Rattle.adb_stream.specs.declared.flow.Flow.{Flow}
 use Rattle.adb_stream.specs.declared.flow.Flow.TheVariants as flows
-use Rattle.adb_history.specs.Births.{count_from, is_okay, is_open}
+use Rattle.adb_history.specs.Births.{count_from, is_okay, is_clse, is_open}
 use Rattle.adb_device_streams.specs.Asked.{Kind}
 use Rattle.adb_device_streams.specs.Service.{came_over, files_fed, files_opened}
 use Rattle.adb_device_streams.specs.Stream.{Row, opened, row_took, row_acked, row_written}
@@ -30,36 +30,40 @@ use Rattle.adb_daemon.proofs.Rules.{named_is, closable_is}
 use Rattle.adb_daemon.proofs.Owed.{written_host}
 use Rattle.adb_laws_pairs.specs.Devices.{ComeFromOne}
 use Rattle.adb_laws_model_device.specs.Owed.{packets_of_sent, packets_owed}
+use Rattle.adb_laws_model_device.specs.Opened.{is_of_stream, ComesFrom, HasOneId}
 use Rattle.adb_laws_model_device.proofs.Tables.{put_found, left_found}
 
 module _ (l : ℕ) where
-  -- an OKAY to the host's id comes from this id
+  -- what is sent of a stream to the host's id comes from this id, or it is a CLSE from 0
   abbrev FromId : Option ℕ → Sent → Type 0
-  FromId id one = is_okay one.packet.command ≡ true → one.packet.arg1 ≡ l → id ≡ Some one.packet.arg0
+  FromId id one = is_of_stream one.packet.command ≡ true → one.packet.arg1 ≡ l
+      → (id ≡ Some one.packet.arg0) ⊎ ((is_clse one.packet.command ≡ true) × (one.packet.arg0 ≡ 0))
 
-  -- All rows of the host's id stand at this id, and all OKAYs to it come from this id, which is not 0.
+  -- All rows of the host's id stand at this id, and all that is sent to it comes from this id, which is not 0.
   record IsHosted (id : Option ℕ) (s : Serving) : Type 0 where
     rises : IsRising s.rows
     rows : (own : ℕ) (row : Row) → at own s.rows ≡ Some row → row.host ≡ l → id ≡ Some own
-    okays : All (FromId id) s.made
+    made : All (FromId id) s.made
     some : (n : ℕ) → id ≡ Some n → n ≢ 0
 
-  -- writes, and a CLSE, are no OKAYs
-  no_okays : (id : Option ℕ) (sums : Bool) (own host : ℕ) (payloads : List (List ℕ))
+  -- writes, one OKAY and one CLSE of a row
+  all_writes : (id : Option ℕ) (sums : Bool) (own host : ℕ) (payloads : List (List ℕ)) → (host ≡ l → id ≡ Some own)
       → All (FromId id) (map (λ payload. with_sum sums (wrte own host payload)) payloads)
-  no_okays id sums own host [] = All-nil (FromId id)
-  no_okays id sums own host (payload ∷ more) =
+  all_writes id sums own host [] is = All-nil (FromId id)
+  all_writes id sums own host (payload ∷ more) is =
       All-cons (FromId id) (with_sum sums (wrte own host payload)) (map (λ p. with_sum sums (wrte own host p)) more)
-      (λ e f. absurd (let clash : false ≡ true = e in cc)) (no_okays id sums own host more)
+      (λ e f. inl (is f)) (all_writes id sums own host more is)
 
-  no_close : (id : Option ℕ) (sums : Bool) (own host : ℕ) → All (FromId id) (with_sum sums (clse own host) ∷ [])
-  no_close id sums own host =
-      All-cons (FromId id) (with_sum sums (clse own host)) [] (λ e f. absurd (let clash : false ≡ true = e in cc)) (All-nil (FromId id))
-
-  -- one OKAY from an id
   one_okay : (id : Option ℕ) (sums : Bool) (own host : ℕ) (word : List ℕ) → (host ≡ l → id ≡ Some own)
       → All (FromId id) (with_sum sums (okay own host word) ∷ [])
-  one_okay id sums own host word is = All-cons (FromId id) (with_sum sums (okay own host word)) [] (λ e f. is f) (All-nil (FromId id))
+  one_okay id sums own host word is = All-cons (FromId id) (with_sum sums (okay own host word)) [] (λ e f. inl (is f)) (All-nil (FromId id))
+
+  one_close : (id : Option ℕ) (sums : Bool) (own host : ℕ) → (host ≡ l → id ≡ Some own) → All (FromId id) (with_sum sums (clse own host) ∷ [])
+  one_close id sums own host is = All-cons (FromId id) (with_sum sums (clse own host)) [] (λ e f. inl (is f)) (All-nil (FromId id))
+
+  -- a refusal
+  refusal : (id : Option ℕ) (sums : Bool) (host : ℕ) → All (FromId id) (with_sum sums (clse 0 host) ∷ [])
+  refusal id sums host = All-cons (FromId id) (with_sum sums (clse 0 host)) [] (λ e f. inr (refl, refl)) (All-nil (FromId id))
 
   -- more became due, and the files changed
   owing_hosted : (id : Option ℕ) (s : Serving) (more : List Sent) (next : Serving) → next.rows ≡ s.rows → next.made ≡ s.made ++ more
@@ -67,7 +71,7 @@ module _ (l : ℕ) where
   owing_hosted id s more next rows made all h = record {
     rises = subst (λ (r : List (ℕ × Row)). IsRising r) (sym rows) h.rises;
     rows = λ own row is host. h.rows own row (ap (at own) (sym rows) ∙ is) host;
-    okays = subst (λ (m : List Sent). All (FromId id) m) (sym made) (All-append (FromId id) s.made more h.okays all);
+    made = subst (λ (m : List Sent). All (FromId id) m) (sym made) (All-append (FromId id) s.made more h.made all);
     some = h.some;
   }
 
@@ -77,7 +81,7 @@ module _ (l : ℕ) where
     last_host = written_host link.most row
 
     wrote : All (FromId id) (s.made ++ sent_writes link q row)
-    wrote = All-append (FromId id) s.made (sent_writes link q row) h.okays (no_okays id link.sums q row.host (writes link.most row))
+    wrote = All-append (FromId id) s.made (sent_writes link q row) h.made (all_writes id link.sums q row.host (writes link.most row) mine)
 
     kept_rows : (own : ℕ) (found : Row) → at own (put_at q (row_written link.most row) s.rows) ≡ Some found → found.host ≡ l → id ≡ Some own
     kept_rows own found is host = elim (put_found q (row_written link.most row) s.rows own found is) [
@@ -95,19 +99,19 @@ module _ (l : ℕ) where
         go false = record {
           rises = put_at_rises q (row_written link.most row) s.rows h.rises;
           rows = kept_rows;
-          okays = wrote;
+          made = wrote;
           some = h.some;
         }
         go true = record {
           rises = without_rises q s.rows h.rises;
           rows = lost_rows;
-          okays = All-append (FromId id) (s.made ++ sent_writes link q row) (sent_close true link q (row_written link.most row).host) wrote
-              (no_close id link.sums q (row_written link.most row).host);
+          made = All-append (FromId id) (s.made ++ sent_writes link q row) (sent_close true link q (row_written link.most row).host) wrote
+              (one_close id link.sums q (row_written link.most row).host (λ f. mine (sym last_host ∙ f)));
           some = h.some;
         }
 
     gone_hosted : IsHosted id (gone false q row s)
-    gone_hosted = record { rises = without_rises q s.rows h.rises; rows = lost_rows; okays = h.okays; some = h.some }
+    gone_hosted = record { rises = without_rises q s.rows h.rises; rows = lost_rows; made = h.made; some = h.some }
 
   -- ---- packets
   module _ (link : Link) (p : Packet) (s : Serving) where
@@ -120,7 +124,7 @@ module _ (l : ℕ) where
 
     refused_hosted : (id : Option ℕ) → IsHosted id s → IsHosted id (open_as link p None s)
     refused_hosted id h =
-        owing_hosted id s (with_sum link.sums (clse 0 p.arg0) ∷ []) (open_as link p None s) refl refl (no_close id link.sums 0 p.arg0) h
+        owing_hosted id s (with_sum link.sums (clse 0 p.arg0) ∷ []) (open_as link p None s) refl refl (refusal id link.sums p.arg0) h
 
     -- an OPEN of another id
     other_open : (id : Option ℕ) → p.arg0 ≢ l → IsHosted id s → IsHosted id (on_open link p s)
@@ -145,14 +149,15 @@ module _ (l : ℕ) where
         begins = record {
           rises = h.rises;
           rows = λ own row is host. absurd (never (h.rows own row is host));
-          okays = lifted s.made h.okays;
+          made = lifted s.made h.made;
           some = λ n e zeroth. (let same : s.drawn + 1 ≡ n = cc in omega (arith, same, zeroth));
         }
           where
             lifted : (made : List Sent) → All (FromId None) made → All (FromId (Some (s.drawn + 1))) made
             lifted [] all = All-nil (FromId (Some (s.drawn + 1)))
             lifted (one ∷ made) all =
-                All-cons (FromId (Some (s.drawn + 1))) one made (λ e f. absurd (never (All-head (FromId None) one made all e f)))
+                All-cons (FromId (Some (s.drawn + 1))) one made
+                (λ e f. elim (All-head (FromId None) one made all e f) [ inl is ↦ absurd (never is) | inr close ↦ inr close ])
                 (lifted made (All-tail (FromId None) one made all))
 
         by : (kind : Option Kind) → (id : Option ℕ) × IsHosted id (open_as link p kind s)
@@ -189,7 +194,7 @@ module _ (l : ℕ) where
         go : (found : Option Row) → named p.arg0 (at p.arg1 s.rows) ≡ found → IsHosted id (acked_to link p found s)
         go None is = h
         go (Some row) is = settled_hosted id link p.arg1 (row_acked (credit_word_in p.payload) row) (granted p.arg1 (credit_word_in p.payload) s)
-            (record { rises = h.rises; rows = h.rows; okays = h.okays; some = h.some })
+            (record { rises = h.rises; rows = h.rows; made = h.made; some = h.some })
             (h.rows p.arg1 row (named_is p.arg0 (at p.arg1 s.rows) row is))
 
     close_hosted : (id : Option ℕ) → IsHosted id s → IsHosted id (on_close p s)
@@ -217,7 +222,7 @@ module _ (l : ℕ) where
   linked_hosted id d (Some link) h = record {
     rises = tt;
     rows = λ own row is host. absurd (let clash : None ≡ Some row = is in cc);
-    okays = h.okays;
+    made = h.made;
     some = h.some;
   }
 
@@ -302,44 +307,64 @@ module _ (l : ℕ) where
       go false e c f a rest = rest id (step_other id setting d p (λ g. absurd (let clash : false ≡ true = sym e ∙ g in cc)) h) a
 
   -- ---- in packets
-  -- an OKAY to the host's id comes from this one
-  abbrev From : ℕ → Packet → Type 0
-  From n p = is_okay p.command ≡ true → p.arg1 ≡ l → p.arg0 ≡ n
-
-  all_from : (n : ℕ) (made : List Sent) → All (λ one. From n one.packet) made → All (From n) (packets_of_sent made)
-  all_from n [] all = All-nil (From n)
-  all_from n (one ∷ made) all =
-      All-cons (From n) one.packet (packets_of_sent made) (All-head (λ (x : Sent). From n x.packet) one made all)
-      (all_from n made (All-tail (λ (x : Sent). From n x.packet) one made all))
-
-  from_id : (id : Option ℕ) (n : ℕ) → ((m : ℕ) → id ≡ Some m → m ≡ n) → (made : List Sent) → All (FromId id) made → All (λ one. From n one.packet) made
-  from_id id n only [] all = All-nil (λ (x : Sent). From n x.packet)
-  from_id id n only (one ∷ made) all =
-      All-cons (λ (x : Sent). From n x.packet) one made (λ e f. only one.packet.arg0 (All-head (FromId id) one made all e f))
-      (from_id id n only made (All-tail (FromId id) one made all))
-
-  -- so all OKAYs come from one id
-  come_from : (id : Option ℕ) (s : Serving) → IsHosted id s → ComeFromOne l (packets_of_sent s.made)
-  come_from None s h = record {
+  -- so all that is sent to it comes from one id
+  has_one : (id : Option ℕ) (s : Serving) → IsHosted id s → HasOneId l s
+  has_one None s h = record {
     id = 1;
     some = λ e. omega (arith, e);
-    all = all_from 1 s.made (from_id None 1 (λ m e. absurd (let clash : None ≡ Some m = e in cc)) s.made h.okays);
+    sent = All-weaker (FromId None) (ComesFrom l 1)
+        (λ one from e f. elim (from e f) [ inl is ↦ absurd (let clash : None ≡ Some one.packet.arg0 = is in cc) | inr close ↦ inr close ]) s.made h.made;
+    rows = λ own row is host. absurd (let clash : None ≡ Some own = h.rows own row is host in cc);
   }
-  come_from (Some n) s h = record {
+  has_one (Some n) s h = record {
     id = n;
     some = h.some n refl;
-    all = all_from n s.made (from_id (Some n) n (λ m e. sym (let same : n ≡ m = cc in same)) s.made h.okays);
+    sent = All-weaker (FromId (Some n)) (ComesFrom l n)
+        (λ one from e f. elim (from e f) [ inl is ↦ inl (same one.packet.arg0 is) | inr close ↦ inr close ]) s.made h.made;
+    rows = λ own row is host. same own (h.rows own row is host);
   }
+    where
+      same : (m : ℕ) → Some n ≡ Some m → m ≡ n
+      same m e = (let one : n ≡ m = cc in sym one)
 
-  -- a host's id that was asked for once at most is acknowledged from one
-  pub one_id : (setting : Setting) (packets : List Packet) → count_from is_open l packets ≤ 1 → ComeFromOne l (packets_owed setting packets)
+  -- a host's id that was asked for once at most has one id of the device
+  pub one_id : (setting : Setting) (packets : List Packet) → count_from is_open l packets ≤ 1 → HasOneId l (device_behind setting packets).serving
   unfolding Asks IsStrictlySortedBy
   one_id setting packets once =
       let all = all_hosted setting packets (first_device setting) None
       (record {
         rises = tt;
         rows = λ own row is host. absurd (let clash : None ≡ Some row = is in cc);
-        okays = All-cons (FromId None) _ [] (λ e f. absurd (let clash : false ≡ true = e in cc)) (All-nil (FromId None));
+        made = All-cons (FromId None) _ [] (λ e f. absurd (let clash : false ≡ true = e in cc)) (All-nil (FromId None));
         some = λ n e. absurd (let clash : None ≡ Some n = e in cc);
       }) (inl (refl, once)) in
-      come_from all.0 (device_behind setting packets).serving all.1
+      has_one all.0 (device_behind setting packets).serving all.1
+
+  -- an OKAY to the host's id comes from this one
+  abbrev From : ℕ → Packet → Type 0
+  From n p = is_okay p.command ≡ true → p.arg1 ≡ l → p.arg0 ≡ n
+
+  okay_from : (n : ℕ) (one : Sent) → ComesFrom l n one → From n one.packet
+  okay_from n one from e f = by one.packet.command e from
+    where
+      by : (c : Command) → is_okay c ≡ true
+          → (is_of_stream c ≡ true → one.packet.arg1 ≡ l → (one.packet.arg0 ≡ n) ⊎ ((is_clse c ≡ true) × (one.packet.arg0 ≡ 0))) → one.packet.arg0 ≡ n
+      by commands.Okay is from = elim (from refl f) [ inl same ↦ same | inr close ↦ absurd (let clash : false ≡ true = close.0 in cc) ]
+      by commands.Open is from = let clash : false ≡ true = is in cc
+      by commands.Wrte is from = let clash : false ≡ true = is in cc
+      by commands.Clse is from = let clash : false ≡ true = is in cc
+      by commands.Cnxn is from = let clash : false ≡ true = is in cc
+      by commands.Auth is from = let clash : false ≡ true = is in cc
+      by commands.Stls is from = let clash : false ≡ true = is in cc
+
+  all_from : (n : ℕ) (made : List Sent) → All (ComesFrom l n) made → All (From n) (packets_of_sent made)
+  all_from n [] all = All-nil (From n)
+  all_from n (one ∷ made) all =
+      All-cons (From n) one.packet (packets_of_sent made) (okay_from n one (All-head (ComesFrom l n) one made all))
+      (all_from n made (All-tail (ComesFrom l n) one made all))
+
+  -- so it is acknowledged from one
+  pub come_from_one : (setting : Setting) (packets : List Packet) → count_from is_open l packets ≤ 1 → ComeFromOne l (packets_owed setting packets)
+  come_from_one setting packets once =
+      let one = one_id setting packets once in
+      record { id = one.id; some = one.some; all = all_from one.id (device_behind setting packets).serving.made one.sent }

@@ -53,3 +53,16 @@ AnswersOpens setting = (front : List Packet) (p : Packet) (rest : List Packet) (
     in d.refused ≡ false → d.link ≡ Some link → p.command ≡ commands.Open → p.arg0 ≢ 0 → is_taken p.arg0 d.serving.rows ≡ false
     → kind_for d.serving.drawn p ≡ Some kind
     → WasOpened (d.serving.drawn + 1) p.arg0 kind d.serving.files (device_behind setting (front ++ p ∷ rest)).serving
+
+-- ---- the other way
+-- A packet of a stream that goes to this id of the server comes from that one, or it is a CLSE from 0, which refuses an OPEN.
+abbrev pub ComesFrom : (l own : ℕ) → Sent → Type 0
+ComesFrom l own one = is_of_stream one.packet.command ≡ true → one.packet.arg1 ≡ l
+    → (one.packet.arg0 ≡ own) ⊎ ((is_clse one.packet.command ≡ true) × (one.packet.arg0 ≡ 0))
+
+-- A stream of the server has one id of the device, which is not 0: all that is sent to it comes from there, and a row for it stands there.
+pub record HasOneId (l : ℕ) (s : Serving) : Type 0 where
+  pub id : ℕ
+  pub some : id ≢ 0
+  pub sent : All (ComesFrom l id) s.made
+  pub rows : (own : ℕ) (row : Row) → at own s.rows ≡ Some row → row.host ≡ l → own ≡ id

@@ -1,16 +1,18 @@
 //! What the model device owes, and what its server waits for.
 
-ghost use Rattle.std.specs.Prelude.{ℕ, ◌^◌, ◌≡◌, ◌<◌, false, Ok};
+ghost use Rattle.std.specs.Prelude.{ℕ, ◌^◌, ◌≡◌, ◌<◌, ◌≤◌, false, List, Ok};
+ghost use Rattle.adb_wire.specs.declared.packets.Packet.{Packet};
+ghost use Rattle.adb_history.specs.Births.{count_from, is_open};
 ghost use Rattle.adb_history.specs.Bytes.{bytes_sent};
 ghost use Rattle.adb_history.specs.Machine.{History, IsLegal};
 ghost use Rattle.adb_daemon.specs.Daemon.{answer_to};
-ghost use Rattle.adb_daemon.specs.Device.{Setting};
+ghost use Rattle.adb_daemon.specs.Device.{Setting, device_behind};
 ghost use Rattle.adb_laws_pairs.specs.Devices.{IsPlain};
 ghost use Rattle.adb_laws_pairs.specs.Paired.{IsPaired};
 ghost use Rattle.adb_laws_model_device.specs.Owed.{packets_owed};
 ghost use Rattle.adb_laws_model_device.specs.Joined.{IsJoined};
 ghost use Rattle.adb_laws_model_device.specs.Came.{TakesCarried};
-ghost use Rattle.adb_laws_model_device.specs.Opened.{AnswersOpens};
+ghost use Rattle.adb_laws_model_device.specs.Opened.{AnswersOpens, HasOneId};
 ghost use Rattle.adb_laws_model_device.specs.Rows.{LiveAreAcknowledged, LivesOrWasClosed};
 ghost use Rattle.adb_laws_model_device.specs.Rows.{NoneWaits};
 
@@ -47,6 +49,13 @@ pub fn live_streams_are_acknowledged()
 /// device's id goes to the host's.
 pub fn opens_are_answered()
     ensures { (setting : Setting) → AnswersOpens setting }
+{}
+
+/// A stream that was asked for once at most has one id of the device: all that is sent to it comes
+/// from there, but for a CLSE that refuses its OPEN, and no other row is for it.
+pub fn streams_have_one_id()
+    ensures { (setting : Setting) (l : ℕ) (packets : List Packet) → count_from is_open l packets ≤ 1
+        → HasOneId l (device_behind setting packets).serving }
 {}
 
 /// All that the server sent up a stream came to its service, while the device's row of it lives; to
