@@ -1,12 +1,11 @@
 -- What the link that a CNXN makes is like.
-use Rattle.std.specs.Prelude.{ℕ, ◌≡◌, ◌≤◌, ◌||◌, nat_lt, if◌then◌else◌, Bool, true, false, Option, Some, None}
+use Rattle.std.specs.Prelude.{ℕ, ◌≡◌, ◌≤◌, if◌then◌else◌, Bool, true, false, Option, Some, None}
 use Rattle.std.proofs.Common.{sym, ap, arith}
 use Rattle.adb_outside.specs.declared.identity.Identity.{Identity}
 use Rattle.adb_banner.specs.Banner.{identity_of}
 use Rattle.adb_wire.specs.declared.headers.TheConstants.{MAX_PAYLOAD}
 use Rattle.adb_wire.specs.declared.packets.Packet.{Packet}
 use Rattle.adb_device_streams.specs.Link.{link_of, link_to}
-use Rattle.adb_device_streams.specs.declared.link.TheConstants.{OLDEST_VERSION, LEAST_PAYLOAD}
 use Rattle.adb_device_streams.specs.declared.link.Link.{Link}
 
 -- its writes fit into a packet
@@ -15,19 +14,19 @@ IsShort None = Unit {0}
 IsShort (Some link) = link.most ≤ MAX_PAYLOAD
 
 pub link_short : (most : ℕ) (credit : Bool) (p : Packet) → IsShort (link_of most credit p)
-link_short most credit p = go (nat_lt p.arg0 OLDEST_VERSION || nat_lt p.arg1 LEAST_PAYLOAD)
+link_short most credit p = unless _ (link_to most credit p (identity_of p.payload)) (by (identity_of p.payload))
   where
     by : (identity : Option Identity) → IsShort (link_to most credit p identity)
     by None = tt
     by (Some identity) = omega arith
 
-    go : (b : Bool) → IsShort (if b then None else link_to most credit p (identity_of p.payload))
-    go true = tt
-    go false = by (identity_of p.payload)
+    unless : (refused : Bool) (link : Option Link) → IsShort link → IsShort (if refused then None else link)
+    unless true link short = tt
+    unless false link short = short
 
 -- a device without credit makes a link without it
 pub link_plain : (most : ℕ) (p : Packet) (link : Link) → link_of most false p ≡ Some link → link.credit ≡ false
-link_plain most p link is = go (nat_lt p.arg0 OLDEST_VERSION || nat_lt p.arg1 LEAST_PAYLOAD) is
+link_plain most p link is = by (identity_of p.payload) (unless _ (link_to most false p (identity_of p.payload)) is)
   where
     credit_in : Option Link → Bool
     credit_in None = false
@@ -37,6 +36,6 @@ link_plain most p link is = go (nat_lt p.arg0 OLDEST_VERSION || nat_lt p.arg1 LE
     by None e = let clash : None ≡ Some link = e in cc
     by (Some identity) e = sym (ap (λ (x : Option Link). credit_in x) e)
 
-    go : (b : Bool) → (if b then None else link_to most false p (identity_of p.payload)) ≡ Some link → link.credit ≡ false
-    go true e = let clash : None ≡ Some link = e in cc
-    go false e = by (identity_of p.payload) e
+    unless : (refused : Bool) (made : Option Link) → (if refused then None else made) ≡ Some link → made ≡ Some link
+    unless true made e = let clash : None ≡ Some link = e in cc
+    unless false made e = e
