@@ -337,6 +337,7 @@ module _ (l n : ℕ) where
           by (inl zeroth) = (let old = none first in omega (arith, zeroth, old))
           by (inr one) = absurd (let some = (turn.wrte one.0 one.1.0).0 in omega (arith, some, first))
 
+  -- an empty table rises
   rises_none : (rows : List (ℕ × Row)) → rows ≡ [] → IsRising rows
   unfolding IsStrictlySortedBy
   rises_none rows empty = subst (λ (r : List (ℕ × Row)). IsRising r) (sym empty) tt

@@ -108,6 +108,7 @@ record AreFine (s : Serving) : Type 0 where
   drawn : s.drawn < 2 ^ 32
   all : All Fits s.made
 
+-- one packet that fits
 all_one : (one : Sent) → Fits one → All Fits (one ∷ [])
 all_one one fits = All-cons Fits one [] fits (All-nil Fits)
 

@@ -344,6 +344,7 @@ module _ (l : ℕ) where
   abbrev From : ℕ → Packet → Type 0
   From n p = is_okay p.command ≡ true → p.arg1 ≡ l → p.arg0 ≡ n
 
+  -- since an OKAY is no CLSE
   okay_from : (n : ℕ) (one : Sent) → ComesFrom l n one → From n one.packet
   okay_from n one from e f = by one.packet.command e from
     where

@@ -65,13 +65,15 @@ module _ (n l : ℕ) where
   none_written sums own host [] = refl
   none_written sums own host (payload ∷ more) = none_written sums own host more
 
-  -- The row stands there for that host. Or it does not, and no OKAY of both ids is due, or a CLSE of both, or one came to it; z of these.
+  -- the row stands there for that host
   abbrev RowAt : List (ℕ × Row) → Type 0
   RowAt rows = (row : Row) × ((at n rows ≡ Some row) × (row.host ≡ l))
 
+  -- or no OKAY of both ids became due, or a CLSE of both did, or one came to it, of which there were so many
   abbrev NoRow : ℕ → List Sent → Type 0
   NoRow z made = (okays made ≡ 0) ⊎ ((1 ≤ closes made) ⊎ (1 ≤ z))
 
+  -- one of the two
   abbrev Lives : ℕ → List Sent → List (ℕ × Row) → Type 0
   Lives z made rows = RowAt rows ⊎ NoRow z made
 

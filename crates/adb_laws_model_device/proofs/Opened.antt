@@ -374,13 +374,15 @@ module _ (setting : Setting) (front : List Packet) (p : Packet) (link : Link) (k
   abbrev own : ℕ
   own = s.drawn + 1
 
-  -- the id was not drawn before, and nothing was sent from it
+  -- the next id, which was not drawn before
   orderly : IsOrderly own s
   orderly = behind_orderly own (omega arith) setting front
 
+  -- it has no row, and none that has ended
   fresh : (at own s.rows ≡ None) × (over_at own s.ended ≡ None)
   fresh = orderly.fresh (omega arith)
 
+  -- and nothing of a stream was sent from it
   silent : All (GoesTo own p.arg0) s.made
   silent =
       let writes : Writes own s.made s.acks None None =
@@ -391,6 +393,7 @@ module _ (setting : Setting) (front : List Packet) (p : Packet) (link : Link) (k
       (subst (λ (e : Option Ended). IsAcked own s.made (at own s.rows) e) fresh.1 (acknowledged setting front own)) in
       none_goes own p.arg0 s.made okays writes.2 writes.1
 
+  -- what the OPEN makes due, what is served then, and the row
   abbrev hello : List Sent
   hello = with_sum link.sums (okay own p.arg0 (opening_word (credit_of link p))) ∷ []
 

@@ -23,6 +23,7 @@ use Rattle.adb_daemon.specs.Device.{Device, Setting, step, treated, linked_to, s
 abbrev IsServers : Packet → Type 0
 IsServers p = is_cnxn p.command ≡ true → p ≡ server_cnxn
 
+-- so are those that it sends
 own_servers : (h : History) (t : ℕ) (p : Packet) (command : Command) → p.command ≡ command → IsOwn h t command p → IsServers p
 own_servers h t p commands.Cnxn c own = λ e. own
 own_servers h t p commands.Open c own = λ e. absurd (let clash : false ≡ true = sym (ap is_cnxn c) ∙ e in cc)
@@ -55,12 +56,14 @@ step_takes setting d p own sound = ap (λ (b : Bool). (if b then d else treated 
         (ap (λ (q : Packet). is_some (link_of setting.most setting.credit q)) (own e) ∙ makes_link setting.most setting.credit)
     by false e = on d.link
 
+-- nor are all packets
 all_taken : (setting : Setting) (packets : List Packet) → All IsServers packets → (d : Device) → d.refused ≡ false
     → (fold (step setting) d packets).refused ≡ false
 all_taken setting [] own d sound = sound
 all_taken setting (p ∷ packets) own d sound =
     all_taken setting packets (All-tail IsServers p packets own) (step setting d p) (step_takes setting d p (All-head IsServers p packets own) sound)
 
+-- a device is never behind a refused CNXN of a server
 pub never_refused : (setting : Setting) (t : ℕ) (h : History) → IsLegal h → (device_behind setting (sent t h)).refused ≡ false
 never_refused setting t h legal =
     all_taken setting (sent t h)

@@ -71,5 +71,6 @@ module _ (owes : RemoteEnd) (plain : IsPlain owes) (h : History) (legal : IsLega
       let all = answered.all in
       omega (arith, exact, sent_all, brought_all, all, hears)
 
+-- so at rest no write waits
 pub none_waits : (owes : RemoteEnd) (plain : IsPlain owes) (h : History) → IsLegal h → IsPaired owes h → NoWriteWaits owes h
 none_waits owes plain h legal paired still = none_waits_at owes plain h legal paired still
