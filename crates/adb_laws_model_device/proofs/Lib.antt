@@ -1,0 +1,13 @@
+mod Links
+mod Tables
+mod Owing
+mod Hosts
+mod Plain
+mod Bytes
+mod Joined
+mod Sound
+mod Acknowledged
+mod Lives
+mod Came
+mod Opened
+mod Waits

@@ -1,0 +1,5 @@
+pub mod Counts
+pub mod Devices
+pub mod Paired
+pub mod InTime
+pub mod InTurn

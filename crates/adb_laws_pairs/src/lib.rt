@@ -1,0 +1,11 @@
+//! A server and one device on its first link, paired: what holds of a history whose link brings
+//! what any device on a plain link owes for what it was sent. Each function does nothing: its
+//! contract is the law.
+#![tactic(auto)]
+
+mod laws;
+
+pub use laws::{
+    acknowledgements_come_in_time, no_write_waits_at_rest, streams_are_sent_in_turn,
+    the_device_is_told_in_time,
+};
