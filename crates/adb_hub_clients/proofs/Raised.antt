@@ -128,14 +128,14 @@ room_for writes None has = tt
 room_for writes (Some port) has = has.0
 
 -- what was made ready of a client, in so many writes
-pub prepared : {E : Type 0} {flow : Flow} {maxdata : ℕ} (made : Result ℕ E) (old new : Option SeenClient) → WidensRow WidensClient old new
-    → OnOk made (IsCutBehind flow 0 maxdata new) → IfOk made (λ writes. writes ≡ writes_behind flow 0 maxdata old)
-    → IfOk made (λ writes. IsPreparedAt writes flow maxdata new)
-prepared (Err error) old new h cut is = tt
-prepared (Ok writes) None None h cut is = tt
-prepared (Ok writes) None (Some new) h cut is = absurd h
-prepared (Ok writes) (Some old) None h cut is = absurd h
-prepared {E} {flow} {maxdata} (Ok writes) (Some old) (Some new) h cut is =
+pub prepared : {E : Type 0} (flow : Flow) (maxdata : ℕ) (made : Result ℕ E) (old new : Option SeenClient) → WidensRow WidensClient old new
+    → OnOk made (IsCutBehind flow 0 maxdata new) → IfOk made (λ most. most ≡ writes_behind flow 0 maxdata old)
+    → IfOk made (λ most. IsPreparedAt most flow maxdata new)
+prepared flow maxdata (Err error) old new h cut is = tt
+prepared flow maxdata (Ok most) None None h cut is = tt
+prepared flow maxdata (Ok most) None (Some new) h cut is = absurd h
+prepared flow maxdata (Ok most) (Some old) None h cut is = absurd h
+prepared flow maxdata (Ok most) (Some old) (Some new) h cut is =
     let held : length new.held ≡ length old.held = ap (λ (c : Client). length c.held) h.row in
     record { cut = cut; within = omega (arith, is, ap (up_writes flow 0 maxdata) held) }
 
