@@ -1,4 +1,4 @@
-//! A machine that asks, and the service that answers it.
+//! A machine that asks, and the sync service that answers it.
 
 ghost use Rattle.std.specs.Prelude.{◌≤◌, length};
 

@@ -1,7 +1,7 @@
-//! The lines that tell what answers come to.
+//! The lines that tell what answers of a sync service come to.
 
 use crate::asks::{Ask, What};
-use crate::exchange::exchange;
+use crate::machine::exchange;
 use adb_files::Files;
 use adb_outside::Text;
 use adb_sync::Dirent;
@@ -13,39 +13,38 @@ use std::alloc::{AllocError, Global};
 const MODE: u32 = 33_188;
 
 /// Asks, and tells in a line what the answer comes to.
-pub fn line_of(
+pub fn tell_answer(
     alloc: Global,
     files: &mut Files,
-    ask: &Ask,
+    ask: &Ask<'_>,
     size: usize,
-) -> Result<Text, AllocError> {
-    let path = ask.path.as_bytes();
-    let mut line = Text::from_slice(alloc, ask.what.name())?;
-    line.push_slice(path)?;
-    if path.len() > MAX_ASKED_PATH {
-        line.push_slice(b" too long\n")?;
-        return Ok(line);
+    line: &mut Text,
+) -> Result<(), AllocError> {
+    line.push_slice(ask.what.name())?;
+    line.push_slice(ask.path)?;
+    if ask.path.len() > MAX_ASKED_PATH {
+        return line.push_slice(b" too long\n");
     }
     match ask.what {
         What::Push { size: len, mtime } => {
-            let machine = Push::new(alloc, path, MODE, mtime, content(alloc, len)?.as_slice())?;
-            tell_push(&mut line, &exchange(alloc, machine, files, size)?, len)?;
+            let content = content(alloc, len)?;
+            let machine = Push::new(alloc, ask.path, MODE, mtime, content.as_slice())?;
+            tell_push(line, &exchange(alloc, machine, files, size)?, len)?;
         }
         What::Pull => {
-            let machine = Pull::new(alloc, path)?;
-            tell_pull(&mut line, &exchange(alloc, machine, files, size)?)?;
+            let machine = Pull::new(alloc, ask.path)?;
+            tell_pull(line, &exchange(alloc, machine, files, size)?)?;
         }
         What::Stat => {
-            let machine = Stat::new(alloc, path)?;
-            tell_stat(&mut line, &exchange(alloc, machine, files, size)?)?;
+            let machine = Stat::new(alloc, ask.path)?;
+            tell_stat(line, &exchange(alloc, machine, files, size)?)?;
         }
         What::List => {
-            let machine = List::new(alloc, path)?;
-            tell_list(&mut line, &exchange(alloc, machine, files, size)?)?;
+            let machine = List::new(alloc, ask.path)?;
+            tell_list(line, &exchange(alloc, machine, files, size)?)?;
         }
     }
-    line.push_slice(b"\n")?;
-    Ok(line)
+    line.push_slice(b"\n")
 }
 
 /// The bytes of a file that is pushed: each is its place modulo 251.

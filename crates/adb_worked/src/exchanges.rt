@@ -16,14 +16,14 @@ const HEADER: usize = 24;
 
 const LENGTH: usize = 12;
 
-/// Sends what a host sends to a model device, each packet in pieces of at most `piece` bytes, and
-/// tells all that went over the link, in order: what the device owes before, and then each packet,
-/// how the device answers where it takes it not, and what it owes then. At the end the paths of its
-/// files follow, with a line for each.
-pub fn told(alloc: Global, credit: bool, host: &[u8], piece: usize) -> Result<Text, AllocError>
+/// Sends what a host sends to a model device, which takes credit in bytes where the exchange's name
+/// begins so, each packet in pieces of at most `piece` bytes. Tells all that went over the link, in
+/// order: what the device owes before, and then each packet, how the device answers where it takes
+/// it not, and what it owes then. At the end the paths of its files follow, with a line for each.
+pub fn told(alloc: Global, name: &str, host: &[u8], piece: usize) -> Result<Text, AllocError>
     requires { 1 ≤ piece }
 {
-    let mut daemon = device(alloc, credit)?;
+    let mut daemon = device(alloc, name.starts_with("credit"))?;
     play(alloc, &mut daemon, host, piece)
 }
 
