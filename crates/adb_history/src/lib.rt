@@ -12,7 +12,7 @@ mod ties;
 
 pub use broken::{answers_can_be_broken, causes_can_be_broken, fifo_can_be_broken};
 pub use draining::draining_ends;
-pub use hand_out::MAX_HAND_OUT;
+pub use hand_out::{MAX_HAND_OUT, limits_are};
 pub use refusal::{Reason, Refusal};
 pub use ties::{
     due_is_past_put, due_is_past_sent, pieces_are_read_at_once, rest_is_past_packets,

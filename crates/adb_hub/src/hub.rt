@@ -17,6 +17,11 @@ use std::marker::Model;
 /// How many bytes of a client are held at most before it has no room.
 pub const MAX_HELD: usize = 65_540;
 
+/// Its number, which definitions import.
+pub fn limits_are()
+    ensures held { MAX_HELD ≡ 65540 }
+{}
+
 /// The hub: the clients, links and streams that live, the devices and the forwards. Contracts see
 /// what a history leaves of them. After a refusal, and after want of memory, it is as before.
 #[derive(Drop)]

@@ -12,4 +12,4 @@ mod links;
 pub use adb_due::Owner;
 pub use answers::{Handed, Life, Room, Summary};
 pub use error::HubError;
-pub use hub::{Hub, MAX_HELD};
+pub use hub::{Hub, MAX_HELD, limits_are};
