@@ -1,6 +1,6 @@
 //! Making an entry.
 
-ghost use Rattle.std.specs.Prelude.{◌≡◌, ◌+◌, ◌<◌, nat_eq, false};
+ghost use Rattle.std.specs.Prelude.{◌≡◌, ◌+◌, ◌<◌, nat_eq, false, OnErr};
 ghost use Rattle.adb_outside.specs.declared.kinds.Kind.{Kind};
 ghost use Rattle.adb_capture.specs.declared.entry.Entry.{Entry};
 ghost use Rattle.adb_capture.specs.Records.{HasRecord};
@@ -16,11 +16,13 @@ use adb_hub::{Hub, HubError, Life};
 use adb_outside::Kind;
 
 /// Makes the next entry of the history that a hub holds. A hand-out that was recorded is passed
-/// over. After a refusal, and after want of memory, the history is as before.
+/// over. After a refusal, and after want of memory, the hub is as before.
 pub fn apply(hub: &mut Hub, entry: &Entry) -> Result<(), Refused>
     requires form { HasRecord entry.now }
     requires running { hub.old.stopped ≡ false }
-    ensures { (h : History) → IsLawful hub.old h → Applies h entry.now result hub.new }
+    ensures applied { (h : History) → IsLawful hub.old h
+        → Applies h entry.now result hub.new }
+    ensures err { OnErr result (hub.new ≡ hub.old) }
 {
     match entry {
         Entry::Join { client } => join(hub, *client),
@@ -38,8 +40,9 @@ pub fn apply(hub: &mut Hub, entry: &Entry) -> Result<(), Refused>
 /// A client comes, under the number that its record names.
 fn join(hub: &mut Hub, client: u32) -> Result<(), Refused>
     requires { hub.old.stopped ≡ false }
-    ensures { (h : History) → IsLawful hub.old h
+    ensures applied { (h : History) → IsLawful hub.old h
         → Applies h (Entry.Join client) result hub.new }
+    ensures err { OnErr result (hub.new ≡ hub.old) }
 {
     if !is_next(hub.joined(), client) {
         return Err(Refused::Because(Reason::NotDrawn));
@@ -51,8 +54,9 @@ fn join(hub: &mut Hub, client: u32) -> Result<(), Refused>
 fn enter(hub: &mut Hub, client: u32, port: u16) -> Result<(), Refused>
     requires running { hub.old.stopped ≡ false }
     requires port { 0 < port }
-    ensures { (h : History) → IsLawful hub.old h
+    ensures applied { (h : History) → IsLawful hub.old h
         → Applies h (Entry.Enter client port) result hub.new }
+    ensures err { OnErr result (hub.new ≡ hub.old) }
 {
     if !is_next(hub.joined(), client) {
         return Err(Refused::Because(Reason::NotDrawn));
@@ -63,8 +67,9 @@ fn enter(hub: &mut Hub, client: u32, port: u16) -> Result<(), Refused>
 /// A device is plugged in, under the number that its record names.
 fn attach(hub: &mut Hub, link: u32, kind: Kind, serial: &[u8]) -> Result<(), Refused>
     requires { hub.old.stopped ≡ false }
-    ensures { (h : History) → IsLawful hub.old h
+    ensures applied { (h : History) → IsLawful hub.old h
         → Applies h (Entry.Attach link kind serial.now) result hub.new }
+    ensures err { OnErr result (hub.new ≡ hub.old) }
 {
     if !is_next(hub.plugged(), link) {
         return Err(Refused::Because(Reason::NotDrawn));

@@ -9,5 +9,5 @@ mod totals;
 mod up;
 mod writes;
 
-pub use run::{MAX_STREAMS, run_load};
+pub use run::run_load;
 pub use totals::Totals;

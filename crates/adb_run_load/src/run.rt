@@ -1,6 +1,6 @@
 //! Running a load.
 
-ghost use Rattle.std.specs.Prelude.{◌<◌, ◌≤◌, ◌∷◌, [], IfOk, OnOk, OnErr};
+ghost use Rattle.std.specs.Prelude.{◌<◌, ◌^◌, ◌∷◌, [], IfOk, OnOk, OnErr};
 ghost use Rattle.adb_capture.specs.Records.{HasRecord};
 ghost use Rattle.adb_history.specs.Drained.{drain_all, drained_after};
 ghost use Rattle.adb_history.specs.Kept.{IsLawful};
@@ -20,9 +20,6 @@ use adb_laws_loads::{loads_are_accepted, totals_of_loads};
 use adb_load::Load;
 use std::alloc::{AllocError, Global};
 
-/// The most streams of a load.
-pub const MAX_STREAMS: u32 = 10_000;
-
 /// Makes the load of a seed and so many streams in a hub to which nobody came yet, entry by entry,
 /// and hands out all that is due after each; and tells how much went through. It holds of the load
 /// what lives, and nothing of what is over. After want of memory the hub holds a front of the
@@ -30,7 +27,7 @@ pub const MAX_STREAMS: u32 = 10_000;
 pub fn run_load(alloc: Global, hub: &mut Hub, seed: u64, streams: u32) -> Result<Totals, AllocError>
     requires new { IsLawful hub.old [] }
     requires some { 0 < streams }
-    requires few { streams ≤ MAX_STREAMS }
+    requires few { streams < 2 ^ 16 }
     ensures done { IfOk result (λ totals. HasRun seed streams totals hub.new) }
     ensures memory { OnErr result (StandsForFront (load seed streams) hub.new) }
 {

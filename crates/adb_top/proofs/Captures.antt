@@ -19,6 +19,7 @@ use Rattle.adb_laws_causes.proofs.AllCauses.{all_causes}
 use Rattle.adb_headline.proofs.Fifo.{all_fifo}
 use Rattle.adb_top.specs.Stop.{stop_of}
 use Rattle.adb_top.specs.Keeping.{Out, Keeps, HasFront, KeepsAs}
+use Rattle.adb_top.specs.Kills.{IsKilled, ReadsToKill}
 use Rattle.adb_top.specs.Replay.{written_of, capture_of, IsFrontOf, Reaches, EndsAs, Moment, IsAhead, Consumes, Replays}
 use Rattle.adb_top.specs.Replayed.{WritesText, IsSpelled, SpellsHistory, GrowsSpelled, ReplaysCapture}
 use Rattle.adb_top.specs.declared.stop.Stop.{Stop}
@@ -291,6 +292,14 @@ capture_replayed left_first written first last ended o r goes idle = record {
         goes_out = all_went_out ended had (capture_of r.whole) last.out written (read_fault_alone ended fault)
             (r.on.kept had (keeps_magic left_first first had o has)) goes ∙ ap (λ text. Some (had ++ text)) (consumed_text u);
       };
+  stops = λ ok bytes told killed.
+      let f = from_magic left_first first bytes o told in
+      let u = r.stops ok f.before f.is (subst IsKilled (sym f.same) killed) in
+      record {
+        bytes = f.before;
+        is = f.whole;
+        read = subst (λ (n : ℕ). ReadsToKill n f.before last.left) o.offset u;
+      };
 }
   where
     consumed_text : {before : List ℕ} → (u : Consumes first last r.whole before) → capture_of r.whole ≡ replayed (magic ++ u.consumed)
@@ -301,6 +310,10 @@ capture_replayed left_first written first last ended o r goes idle = record {
 
     text : (had : List ℕ) → first.out.0 ≡ Some had → WritesText ended (capture_of r.whole) had written
     text had has = finished ended had (capture_of r.whole) last.out written (r.on.kept had (keeps_magic left_first first had o has)) goes idle
+
+-- it did not end well
+not_done : (why : Stop) → ◌≡◌ {A = Result (Unit {0}) Stop} (Err why) (Ok tt) → ⊥
+not_done why e = let clash : ◌≡◌ {A = Result (Unit {0}) Stop} (Err why) (Ok tt) = e in cc
 
 -- The records were replayed, and what was kept did not go out.
 pub capture_lost : (left_first written : Option (List ℕ)) (first last : Moment) (ended : Result (Unit {0}) Stop) → Opened left_first first
@@ -319,6 +332,7 @@ capture_lost left_first written first last ended o r goes idle = record {
       record { growth = f.growth; is = f.is; spelled = front_spelled r.whole f.growth r.on.legal f.front };
   whole = λ other had has. absurd (other refl);
   consumes = λ fault bytes had told has. cc;
+  stops = λ ok bytes told killed. absurd (not_done WriteFault ok);
 }
   where
     front : (had : List ℕ) → first.out.0 ≡ Some had → HasFront had (capture_of r.whole) written
@@ -339,6 +353,7 @@ capture_unread left left_after written = record {
   spells = λ had has. nothing_spelled had written has;
   whole = λ other had has. inl has;
   consumes = λ fault bytes had told has. cc;
+  stops = λ ok bytes told killed. absurd (not_done OutOfMemory ok);
 }
 
 -- The magic was not read.
@@ -353,6 +368,7 @@ capture_unopened opened left_first left_opened written capture.BadMagic o = reco
   spells = λ had has. nothing_spelled had written has;
   whole = λ other had has. inl has;
   consumes = λ fault bytes had told has. cc;
+  stops = λ ok bytes told killed. absurd (not_done _ ok);
 }
 capture_unopened opened left_first left_opened written (capture.BadRecord at why) o = absurd o
 capture_unopened opened left_first left_opened written (capture.Truncated at) o = absurd o
@@ -373,5 +389,6 @@ capture_unopened opened left_first left_opened written capture.ReadFault o = rec
         is_left = k.1;
         goes_out = has ∙ ap Some (sym (append-nil had) ∙ ap (λ text. had ++ text) (sym (nothing_replayed opened.held (short_no_magic opened.held short))));
       };
+  stops = λ ok bytes told killed. absurd (not_done ReadFault ok);
 }
 capture_unopened opened left_first left_opened written capture.OutOfMemory o = capture_unread left_first left_opened written

@@ -9,3 +9,4 @@ pub mod Captures
 pub mod Runs
 pub mod Lines
 pub mod Loads
+pub mod Hands

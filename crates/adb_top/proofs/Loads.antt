@@ -1,12 +1,20 @@
 -- What a run of a load leaves.
-use Rattle.std.proofs.Common.{ℕ, ◌≡◌, ◌∙◌, List, ◌++◌, take, drop, Option, Some, Err, subst}
+use Rattle.std.proofs.Common.{ℕ, ◌≡◌, ◌<◌, ◌≤◌, ◌-◌, ◌^◌, ◌&&◌, nat_le, ◌∙◌, Bool, true, false, if◌then◌else◌, List, [], ◌∷◌, ◌++◌, take, drop, codes}
+use Rattle.std.proofs.Common.{Option, Some, None, Err, refl, sym, subst, arith, ◌⊎◌, inl, inr}
+use Rattle.std.specs.Prelude.{option_and_then, bytes_eq}
+use Rattle.std.proofs.lemmas.Bool.{leb-true}
 use Rattle.std.proofs.lemmas.List.{take-append-drop}
+use Rattle.adb_outside.specs.Decimal.{number_in}
 use Rattle.adb_history.specs.Machine.{History, IsLegal}
 use Rattle.adb_laws_answered.proofs.ServedLaws.{answered}
 use Rattle.adb_laws_causes.proofs.AllCauses.{all_causes}
+use Rattle.adb_laws_loads.proofs.Legal.{load_legal}
 use Rattle.adb_headline.proofs.Fifo.{all_fifo}
+use Rattle.adb_words.specs.Words.{command_of, gen_of, load_of, number_within, replay_of}
+use Rattle.adb_words.specs.declared.command.Command.TheVariants.{Replay, Gen}
+use Rattle.adb_words.specs.declared.command.TheConstants.{MAX_STREAMS, MAX_DIGITS}
 use Rattle.adb_top.specs.Keeping.{HasFront}
-use Rattle.adb_top.specs.Loads.{IsPromised, WritesLines, LoadBy}
+use Rattle.adb_top.specs.Loads.{IsPromised, WritesLines, LoadBy, made}
 use Rattle.adb_top.specs.Notes.{EndsIn}
 use Rattle.adb_top.specs.declared.stop.Stop.{Stop}
 use Rattle.adb_top.specs.declared.stop.Stop.TheVariants as stop
@@ -45,3 +53,50 @@ load_by stop.ReadFault OutOfMemory text had written e w = absurd e
 load_by stop.WriteFault OutOfMemory text had written e w = absurd e
 load_by stop.OutOfMemory OutOfMemory text had written e w = w
 load_by (stop.Refused why) OutOfMemory text had written e w = absurd w
+
+-- memory ran out before a load was made
+pub load_unmade : (status : Status) (text had : List ℕ) (written : Option (List ℕ)) → (status ≡ OutOfMemory) ⊎ (status ≡ WriteFault)
+    → written ≡ Some had → LoadBy status text had written
+load_unmade status text had written (inl e) is = subst (λ (s : Status). LoadBy s text had written) (sym e) is
+load_unmade status text had written (inr e) is = subst (λ (s : Status). LoadBy s text had written) (sym e) (none_out text had written is)
+
+-- ---- the size of a load that words name
+within : (least most : ℕ) (o : Option ℕ) (n : ℕ) → option_and_then (λ m. if nat_le least m && nat_le m most then Some m else None) o ≡ Some n → n ≤ most
+within least most None n e = absurd (let clash : None ≡ Some n = e in cc)
+within least most (Some m) n e = go (nat_le least m) (nat_le m most) refl e
+  where
+    go : (a b : Bool) → nat_le m most ≡ b → (if a && b then Some m else None) ≡ Some n → n ≤ most
+    go true true is same = let m_is : m ≡ n = cc in subst (λ (k : ℕ). k ≤ most) m_is (leb-true m most is)
+    go true false is same = absurd (let clash : None ≡ Some n = same in cc)
+    go false b is same = absurd (let clash : None ≡ Some n = same in cc)
+
+streams_within : (seed streams : ℕ) (a b : Option ℕ) → load_of a b ≡ Some (Gen seed streams) → b ≡ Some streams
+streams_within seed streams (Some x) (Some y) e = let same : Some (Gen x y) ≡ Some (Gen seed streams) = e in cc
+streams_within seed streams None b e = absurd (let clash : None ≡ Some (Gen seed streams) = e in cc)
+streams_within seed streams (Some x) None e = absurd (let clash : None ≡ Some (Gen seed streams) = e in cc)
+
+few_streams : (words : List (List ℕ)) (seed streams : ℕ) → gen_of words ≡ Some (Gen seed streams) → streams ≤ MAX_STREAMS
+few_streams (a ∷ b ∷ []) seed streams e =
+    within 1 MAX_STREAMS (number_in MAX_DIGITS b) streams
+    (streams_within seed streams (number_within 0 (2 ^ 64 - 1) a) (number_within 1 MAX_STREAMS b) e)
+few_streams [] seed streams e = absurd (let clash : None ≡ Some (Gen seed streams) = e in cc)
+few_streams (a ∷ []) seed streams e = absurd (let clash : None ≡ Some (Gen seed streams) = e in cc)
+few_streams (a ∷ b ∷ c ∷ words) seed streams e = absurd (let clash : None ≡ Some (Gen seed streams) = e in cc)
+
+no_load : (words : List (List ℕ)) (seed streams : ℕ) → replay_of words ≡ Some (Gen seed streams) → ⊥
+no_load [] seed streams e = let clash : Some Replay ≡ Some (Gen seed streams) = e in cc
+no_load (word ∷ words) seed streams e = let clash : None ≡ Some (Gen seed streams) = e in cc
+
+few_named : (words : List (List ℕ)) (seed streams : ℕ) → command_of words ≡ Some (Gen seed streams) → streams ≤ MAX_STREAMS
+few_named [] seed streams e = absurd (let clash : None ≡ Some (Gen seed streams) = e in cc)
+few_named (name ∷ words) seed streams e = go (bytes_eq name (codes "replay")) (bytes_eq name (codes "gen")) e
+  where
+    go : (a b : Bool) → (if a then replay_of words else (if b then gen_of words else None)) ≡ Some (Gen seed streams) → streams ≤ MAX_STREAMS
+    go true b is = absurd (no_load words seed streams is)
+    go false true is = few_streams words seed streams is
+    go false false is = absurd (let clash : None ≡ Some (Gen seed streams) = is in cc)
+
+-- what a server makes of a load that words name is promised
+pub load_promised : (words : List (List ℕ)) (seed streams : ℕ) → command_of words ≡ Some (Gen seed streams) → IsPromised (made seed streams)
+load_promised words seed streams e =
+    let few = few_named words seed streams e in promised (made seed streams) (load_legal seed streams (omega (arith, few)))

@@ -1,10 +1,11 @@
 -- How the replay of the records of a reader ends.
 use Rattle.std.proofs.Common.{ℕ, ◌≡◌, ◌≢◌, true, false, if◌then◌else◌, List, [], ◌∷◌, ◌++◌, drop, Option, Some, None, Result, Ok, Err, refl, sym}
-use Rattle.std.proofs.Common.{◌∙◌, ap, subst, inl, inr}
+use Rattle.std.proofs.Common.{◌∙◌, ap, subst, ◌⊎◌, inl, inr}
 use Rattle.std.specs.Prelude.{option_and_then, option_map}
 use Rattle.std.proofs.lemmas.List.{append_assoc}
 use Rattle.adb_outside.specs.declared.framer.Front.{Front}
 use Rattle.adb_outside.specs.declared.framer.Front.TheVariants.{More, Bad}
+use Rattle.adb_capture.proofs.Fronts.{framing}
 use Rattle.adb_capture.specs.Records.{magic, record_at}
 use Rattle.adb_capture.specs.Reading.{ahead, ahead_of, to_give, IsRefused, IsPart, StopsWithin, Reading, taken_by}
 use Rattle.adb_capture.specs.declared.entry.Entry.{Entry}
@@ -19,6 +20,7 @@ use Rattle.adb_history.specs.Refusal.{refused_at, refusal_by}
 use Rattle.adb_history.specs.Accepted.{Accepted, is_input, ends_with, accept_by, unless_stopped, accept_records}
 use Rattle.adb_history.specs.declared.refusal.Refusal.{Refusal}
 use Rattle.adb_top.specs.Keeping.{Out, Keeps}
+use Rattle.adb_top.specs.Kills.{IsKilled, EndsInRecord, ReadsToKill}
 use Rattle.adb_top.specs.Stop.{stop_of}
 use Rattle.adb_top.specs.Replay.{capture_of, IsDrained, IsFrontOf, ReplaysEntry, EntryGives, IsReached, Reaches, EndsAs, Moment, IsAhead, Consumes, Replays}
 use Rattle.adb_top.specs.declared.stop.Stop.{Stop}
@@ -26,7 +28,7 @@ use Rattle.adb_top.specs.declared.stop.Stop.TheVariants.{ReadFault, WriteFault, 
 use Rattle.adb_entries.proofs.Adding.{drained_adds}
 use Rattle.adb_top.proofs.Accepting.{accept_front, accept_first, accept_stopped, nothing_given, nothing_refused}
 use Rattle.adb_top.proofs.Drains.{goes_on}
-use Rattle.adb_top.proofs.Records.{ComesOn, Came, Replaying, comes, front_so_far, held_stopped, Gives, given_next, Turn, IsRunning, came_on}
+use Rattle.adb_top.proofs.Records.{ComesOn, Came, Replaying, comes, gives_done, front_so_far, held_stopped, Gives, given_next, Turn, IsRunning, came_on}
 
 -- ---- the records are over
 ahead_empty : (held coming : List ℕ) → held ++ coming ≡ [] → coming ≡ []
@@ -47,14 +49,14 @@ left_empty new opened e =
 
 -- The source was read to its end.
 pub replaying_over : {first now : Moment} {holds : Kept} (new : Moment) → now.out ≡ new.out → Gives now (Ok None) new → new.reader.opened ≡ true
-    → Replaying first now holds → Replays first new (Ok tt)
-replaying_over {first} {now} {holds} new same gives opened r = record {
+    → holds.stopped ≡ false → Replaying first now holds → Replays first new (Ok tt)
+replaying_over {first} {now} {holds} new same gives opened running r = record {
   whole = r.done;
   on = record { legal = r.drained.lawful.legal; kept = λ had k. subst (λ (out : Out). Keeps had (capture_of r.done) out) same (r.kept had k) };
-  reaches = λ before was. let c = comes r before was in
-      c.inputs ∙ (ap (λ b. drained_from r.done (accept_records now.reader.offset b r.done).inputs) (over c).0
-      ∙ ap (drained_from r.done) (nothing_given (state r.done).stopped None));
+  reaches = λ before was. reached (comes r before was);
   consumes = λ is before was. cc;
+  stops = λ ok before was killed. absurd
+      (let clash : false ≡ true = sym (held_stopped false r running) ∙ (ap (λ h. (state h).stopped) (sym (reached (comes r before was))) ∙ killed) in cc);
   ends = λ before was. let c = comes r before was in (
     c.refused ∙ (ap (λ b. (accept_records now.reader.offset b r.done).refused) (over c).0 ∙ nothing_refused (state r.done).stopped),
     λ running. left_empty new opened (over c).1,
@@ -65,6 +67,10 @@ replaying_over {first} {now} {holds} new same gives opened r = record {
         → (c.before ≡ []) × (ahead_of new.reader new.left ≡ Some []) × (new.reader.offset ≡ now.reader.offset)
     over c = given_next now new (Ok None) gives r.sound c.is
 
+    reached : {all : Accepted} → (c : ComesOn now r.done all) → drained_from [] all.inputs ≡ r.done
+    reached c = c.inputs ∙ (ap (λ b. drained_from r.done (accept_records now.reader.offset b r.done).inputs) (over c).0
+        ∙ ap (drained_from r.done) (nothing_given (state r.done).stopped None))
+
 -- A kill was made: what the records behind it are is nothing.
 pub replaying_killed : {first now : Moment} {holds : Kept} → holds.stopped ≡ true → Replaying first now holds → Replays first now (Ok tt)
 replaying_killed {first} {now} {holds} stopped r = record {
@@ -72,6 +78,7 @@ replaying_killed {first} {now} {holds} stopped r = record {
   on = record { legal = r.drained.lawful.legal; kept = r.kept };
   reaches = λ before was. reached (comes r before was);
   consumes = λ is before was. cc;
+  stops = λ ok before was held. to_kill before was;
   ends = λ before was.
       let c = comes r before was in (
         c.refused ∙ ap (λ (a : Accepted). a.refused) (nothing c),
@@ -87,6 +94,43 @@ replaying_killed {first} {now} {holds} stopped r = record {
 
     reached : {all : Accepted} → (c : ComesOn now r.done all) → drained_from [] all.inputs ≡ r.done
     reached c = c.inputs ∙ ap (λ (a : Accepted). drained_from r.done a.inputs) (nothing c)
+
+    to_kill : (before : List ℕ) → IsAhead first before → ReadsToKill first.reader.offset before now.left
+    to_kill before was = go c.last
+      where
+        c : Came first now r.done before
+        c = r.came before was
+
+        s : (coming : List ℕ) × (now.left ≡ Some coming) × (ahead now.reader coming ≡ Some c.rest)
+        s = split_ahead (ahead now.reader) now.left c.rest c.told
+
+        rest_is : c.rest ≡ now.reader.held ++ s.0
+        rest_is = let told : Some (now.reader.held ++ s.0) ≡ Some c.rest = ap (λ b. to_give b (now.reader.held ++ s.0)) (sym r.opened) ∙ s.2 in cc
+
+        is_killed : IsKilled (accept_records first.reader.offset c.used [])
+        is_killed = ap (λ h. (state h).stopped) (gives_done first now r.done c) ∙ killed
+
+        none_is_killed : (used : List ℕ) → used ≡ [] → IsKilled (accept_records first.reader.offset used []) → ⊥
+        none_is_killed used none is =
+            let first_none : (accept_records first.reader.offset [] []).inputs ≡ [] = ap (λ (a : Accepted). a.inputs)
+            (accept_first first.reader.offset [] [] ∙ ap (λ f. accept_front first.reader.offset [] f []) (framing.empty first.reader.offset))
+            ∙ nothing_given (state []).stopped None in
+            let clash : false ≡ true = sym (ap (λ inputs. (state (drained_from [] inputs)).stopped)
+            (ap (λ b. (accept_records first.reader.offset b []).inputs) none ∙ first_none)) ∙ is in
+            cc
+
+        go : (c.used ≡ []) ⊎ EndsInRecord first.reader.offset c.used → ReadsToKill first.reader.offset before now.left
+        go (inl none) = absurd (none_is_killed c.used none is_killed)
+        go (inr ends) = record {
+          records = c.used;
+          ends = ends;
+          killed = is_killed;
+          past = now.reader.held;
+          few = r.few;
+          rest = s.0;
+          is = c.is ∙ (ap (λ b. c.used ++ b) rest_is ∙ sym (append_assoc c.used now.reader.held s.0));
+          is_left = s.1;
+        }
 
 -- ---- the reader stopped
 -- nothing is accepted, as an error of the reader says
@@ -179,6 +223,7 @@ replaying_stopped {first} {now} {holds} new e same gives running r = go e (λ c 
       on = record { legal = r.drained.lawful.legal; kept = keeps };
       reaches = λ before was. let c = comes r before was in c.inputs ∙ ap (λ (a : Accepted). drained_from r.done a.inputs) (none c);
       consumes = λ fault before was. cc;
+      stops = λ ok before was killed. absurd (let clash : ◌≡◌ {A = Result (Unit {0}) Stop} (Err (Refused named)) (Ok tt) = ok in cc);
       ends = λ before was. let c = comes r before was in c.refused ∙ (ap (λ (a : Accepted). a.refused) (none c) ∙ is);
     }
       where
@@ -198,6 +243,7 @@ replaying_stopped {first} {now} {holds} new e same gives running r = go e (λ c 
       reaches = front_so_far r;
       ends = λ before was. tt;
       consumes = λ fault before was. consumed new r (stops refl) before was;
+      stops = λ ok before was killed. absurd (let clash : ◌≡◌ {A = Result (Unit {0}) Stop} (Err ReadFault) (Ok tt) = ok in cc);
     }
     go capture.OutOfMemory refused stops = record {
       whole = r.done;
@@ -205,6 +251,7 @@ replaying_stopped {first} {now} {holds} new e same gives running r = go e (λ c 
       reaches = front_so_far r;
       ends = λ before was. tt;
       consumes = λ fault before was. cc;
+      stops = λ ok before was killed. absurd (let clash : ◌≡◌ {A = Result (Unit {0}) Stop} (Err OutOfMemory) (Ok tt) = ok in cc);
     }
 
 -- ---- a record was not replayed to its end
@@ -236,6 +283,7 @@ replaying_lost {first} {holds} t last why running entry r = record {
   reaches = λ before was. reaches why x.gives before was;
   ends = λ before was. ends why x.gives before was;
   consumes = consumes why x.gives;
+  stops = λ ok before was killed. absurd (let clash : ◌≡◌ {A = Result (Unit {0}) Stop} (Err why) (Ok tt) = ok in cc);
 }
   where
     x : ReplaysEntry (Err why) t.offset t.entry r.done t.now.out t.new.out last

@@ -1,10 +1,12 @@
 -- Replaying the records of a reader: what has come so far, and what is still ahead.
-use Rattle.std.proofs.Common.{ℕ, ◌≡◌, Bool, true, false, cond, List, [], ◌++◌, take, drop, Option, Some, None, Result, Ok, refl, sym, ◌∙◌, ap, subst}
+use Rattle.std.proofs.Common.{ℕ, ◌≡◌, ◌+◌, ◌⊎◌, inl, inr, arith, Bool, true, false, cond, List, [], ◌++◌, take, drop, Option, Some, None, Result, Ok}
+use Rattle.std.proofs.Common.{refl, sym, ◌∙◌, ap, subst}
 use Rattle.std.specs.Prelude.{length}
-use Rattle.std.proofs.lemmas.List.{append_assoc, take-append-drop, take_at, drop_at, length-take-le}
-use Rattle.adb_capture.specs.Records.{entry_in, offset_after}
+use Rattle.std.proofs.lemmas.List.{append_assoc, append-nil, length-append, take-append-drop, take_at, drop_at, length-take-le}
+use Rattle.adb_outside.specs.declared.framer.Front.TheVariants.{Whole}
+use Rattle.adb_capture.specs.Records.{entry_in, offset_after, record_at}
 use Rattle.adb_capture.proofs.Fronts.{framing}
-use Rattle.adb_capture.specs.Reading.{ahead_of, AnswersNext, GivesNext, GivesRecord}
+use Rattle.adb_capture.specs.Reading.{ahead_of, AnswersNext, GivesNext, GivesRecord, HoldsFew}
 use Rattle.adb_capture.specs.declared.entry.Entry.{Entry}
 use Rattle.adb_capture.specs.declared.error.CaptureError.{CaptureError}
 use Rattle.adb_history.specs.Machine.{History, state}
@@ -12,9 +14,10 @@ use Rattle.adb_history.specs.Kept.{Kept, IsLawful}
 use Rattle.adb_history.specs.Drained.{drained_after, drained_from}
 use Rattle.adb_history.specs.Accepted.{Accepted, is_input, accept_by, unless_stopped, accept_records}
 use Rattle.adb_top.specs.Keeping.{Keeps}
+use Rattle.adb_top.specs.Kills.{EndsInRecord}
 use Rattle.adb_top.specs.Replay.{capture_of, IsDrained, IsFrontOf, ReplaysEntry, Moment, IsAhead}
 use Rattle.adb_entries.proofs.Adding.{drained_adds}
-use Rattle.adb_top.proofs.Accepting.{accept_at, accept_entry, accept_front, accept_first}
+use Rattle.adb_top.proofs.Accepting.{accept_at, accept_entry, accept_front, accept_first, nothing_given}
 
 -- what is still to come, of all that a capture gives
 pub record ComesOn (now : Moment) (done : History) (all : Accepted) : Type 0 where
@@ -34,6 +37,8 @@ pub record Came (first now : Moment) (done : History) (before : List ℕ) : Type
   pub rest : List ℕ
   pub is : before ≡ used ++ rest
   pub told : IsAhead now rest
+  pub place : now.reader.offset ≡ first.reader.offset + length used
+  pub last : (used ≡ []) ⊎ EndsInRecord first.reader.offset used
   pub on : (more : List ℕ) → IsAlike (accept_records first.reader.offset (used ++ more) []) done (accept_records now.reader.offset more done)
 
 -- How far a replay has come: the history now.
@@ -42,6 +47,7 @@ pub record Replaying (first now : Moment) (holds : Kept) : Type 0 where
   pub drained : IsDrained holds done
   pub sound : now.reader.failed ≡ None
   pub opened : now.reader.opened ≡ true
+  pub few : HoldsFew now.reader.held
   pub kept : (had : List ℕ) → Keeps had (capture_of []) first.out → Keeps had (capture_of done) now.out
   pub came : (before : List ℕ) → IsAhead first before → Came first now done before
 
@@ -71,18 +77,21 @@ pub held_stopped : {first now : Moment} {holds : Kept} (stopped : Bool) (r : Rep
 held_stopped stopped r is = ap (λ (k : Kept). k.stopped) (sym r.drained.lawful.seen) ∙ is
 
 pub replaying_first : (first : Moment) (holds : Kept) → IsDrained holds [] → first.reader.failed ≡ None → first.reader.opened ≡ true
-    → Replaying first first holds
-replaying_first first holds drained sound opened = record {
+    → HoldsFew first.reader.held → Replaying first first holds
+replaying_first first holds drained sound opened few = record {
   done = [];
   drained = drained;
   sound = sound;
   opened = opened;
+  few = few;
   kept = λ had k. k;
   came = λ before was. record {
     used = [];
     rest = before;
     is = refl;
     told = was;
+    place = omega arith;
+    last = inl refl;
     on = λ more. record { inputs = refl; refused = refl };
   };
 }
@@ -178,15 +187,43 @@ accept_on false h offset e others = (refl, refl)
 abbrev pub IsReady : Turn → Type 0
 IsReady t = (t.now.reader.failed ≡ None) × (t.new.reader.failed ≡ None) × (t.new.reader.opened ≡ true)
 
+-- ---- the last record so far
+-- what came so far gives the history that was made
+pub gives_done : (first now : Moment) (done : History) {before : List ℕ} → (c : Came first now done before)
+    → drained_from [] (accept_records first.reader.offset c.used []).inputs ≡ done
+gives_done first now done c =
+    ap (λ b. drained_from [] (accept_records first.reader.offset b []).inputs) (sym (append-nil c.used))
+    ∙ ((c.on []).inputs ∙ ap (drained_from done) none)
+  where
+    none : (accept_records now.reader.offset [] done).inputs ≡ []
+    none = ap (λ (a : Accepted). a.inputs)
+        (accept_first now.reader.offset [] done ∙ ap (λ f. accept_front now.reader.offset [] f done) (framing.empty now.reader.offset))
+        ∙ nothing_given (state done).stopped None
+
+-- a record that came is the last of them
+last_came : (first : Moment) (t : Turn) (done : History) {before : List ℕ} → (c : Came first t.now done before)
+    → (g : GivesRecord t.now.reader.offset c.rest (t.offset, t.entry) t.new.reader.offset (ahead_of t.new.reader t.new.left)) → IsRunning done
+    → EndsInRecord first.reader.offset (c.used ++ take g.size c.rest)
+last_came first t done c g running = record {
+  older = c.used;
+  last = take g.size c.rest;
+  is = refl;
+  one = ap (λ n. record_at n (take g.size c.rest)) (sym c.place)
+      ∙ (framing.alone t.now.reader.offset c.rest g.size g.whole
+      ∙ ap (λ n. Whole n) (sym (length-take-le g.size c.rest (framing.fits t.now.reader.offset c.rest g.size g.whole).1)));
+  running = ap (λ h. (state h).stopped) (gives_done first t.now done c) ∙ running;
+}
+
 -- A record was replayed.
 pub replaying_on : {first : Moment} {holds : Kept} (t : Turn) (new : Kept) → IsReady t → holds.stopped ≡ false
-    → ((h : History) → IsDrained holds h → ReplaysEntry (Ok tt) t.offset t.entry h t.now.out t.new.out new) → Replaying first t.now holds
-    → Replaying first t.new new
-replaying_on {first} {holds} t new ready running entry r = record {
+    → ((h : History) → IsDrained holds h → ReplaysEntry (Ok tt) t.offset t.entry h t.now.out t.new.out new) → HoldsFew t.new.reader.held
+    → Replaying first t.now holds → Replaying first t.new new
+replaying_on {first} {holds} t new ready running entry few r = record {
   done = x.whole;
   drained = x.gives.2;
   sound = ready.1;
   opened = ready.2;
+  few = few;
   kept = λ had k. x.on.kept had (r.kept had k);
   came = λ before was.
       let c = r.came before was in
@@ -197,6 +234,8 @@ replaying_on {first} {holds} t new ready running entry r = record {
         rest = drop g.size c.rest;
         is = c.is ∙ (ap (λ b. c.used ++ b) (sym (take-append-drop g.size c.rest)) ∙ sym (append_assoc c.used front (drop g.size c.rest)));
         told = g.rest;
+        place = g.next_offset_is ∙ omega (arith, c.place, length-append c.used front);
+        last = inr (last_came first t r.done c g (held_stopped false r running));
         on = λ more.
             let all = ap (λ b. accept_records first.reader.offset b []) (append_assoc c.used front more) in
             let so_far = c.on (front ++ more) in

@@ -1,6 +1,7 @@
 -- The lines of the note.
-use Rattle.std.specs.Prelude.{ℕ, ◌≡◌, ◌⊎◌, List, ◌++◌, Option, Some, codes, decimal}
+use Rattle.std.specs.Prelude.{ℕ, ◌≡◌, ◌≢◌, ◌⊎◌, List, ◌++◌, Option, Some, codes, decimal}
 use Rattle.adb_outside.specs.Bytes.{IsPrefixOf}
+use Rattle.adb_outside.specs.Outside.{Rises}
 use Rattle.adb_history.specs.Refusal.{reason_text}
 use Rattle.adb_history.specs.declared.refusal.Refusal.{Refusal}
 use Rattle.adb_top.specs.Faults.{Rose}
@@ -42,33 +43,55 @@ pub record HasLine (status : Status) (had : List ℕ) (after : Option (List ℕ)
   pub own : IsLine status line
   pub is : after ≡ Some (had ++ line)
 
--- a front of a line, and then one of the line of WriteFault
-pub record HasCutLine (line had : List ℕ) (after : Option (List ℕ)) : Type 0 where
-  pub cut : List ℕ
-  pub front : IsPrefixOf cut line
+-- The line of WriteFault was tried behind what the note had: it stands there whole, or a front of it where the count rose.
+pub record HasTried (rose : Type 0) (had : List ℕ) (after : Option (List ℕ)) : Type 0 where
   pub last : List ℕ
-  pub last_front : IsPrefixOf last write_fault_line
-  pub is : after ≡ Some (had ++ cut ++ last)
+  pub whole : (last ≡ write_fault_line) ⊎ (rose × IsPrefixOf last write_fault_line)
+  pub is : after ≡ Some (had ++ last)
 
--- The note itself failed: a front of the line that failed stands there, and one of WriteFault's.
-pub record HasFailed (had : List ℕ) (after : Option (List ℕ)) : Type 0 where
+-- The note itself failed over the line that was at hand: a front of it stands there, and behind it the line of WriteFault was tried.
+pub record HasFailed (hand : Status → List ℕ → Type 0) (again : Type 0) (had : List ℕ) (after : Option (List ℕ)) : Type 0 where
   pub status : Status
+  pub other : status ≢ WriteFault
   pub line : List ℕ
   pub own : IsLine status line
-  pub said : HasCutLine line had after
+  pub comes : hand status line
+  pub cut : List ℕ
+  pub front : IsPrefixOf cut line
+  pub tried : HasTried again (had ++ cut) after
 
--- What the note has behind what it had, by the status, and by whether the count of the note rose.
-abbrev pub NotesBy : Status → Type 0 → List ℕ → Option (List ℕ) → Type 0
-NotesBy Done rose had after = after ≡ Some had
-NotesBy Usage rose had after = HasLine Usage had after
-NotesBy ReadFault rose had after = HasLine ReadFault had after
-NotesBy WriteFault rose had after = HasLine WriteFault had after ⊎ (rose × HasFailed had after)
-NotesBy BadCapture rose had after = HasLine BadCapture had after
-NotesBy OutOfMemory rose had after = HasLine OutOfMemory had after
+-- a count rose, and rose again
+pub record RisesTwice (old new : ℕ) : Type 0 where
+  pub mid : ℕ
+  pub first : Rises old mid
+  pub again : Rises mid new
 
-abbrev pub WritesNote : {N : Type 0} → Status → (N → ℕ) → (N → Option (List ℕ)) → N → N → Type 0
-WritesNote status faults written old new =
-    (had : List ℕ) → written old ≡ Some had → NotesBy status (Rose faults old new) had (written new)
+-- What the note has behind what it had, by the status, by which line may be at hand, and by whether the count of the note rose.
+abbrev pub NotesBy : Status → (Status → List ℕ → Type 0) → (rose again : Type 0) → List ℕ → Option (List ℕ) → Type 0
+NotesBy Done hand rose again had after = after ≡ Some had
+NotesBy Usage hand rose again had after = HasLine Usage had after
+NotesBy ReadFault hand rose again had after = HasLine ReadFault had after
+NotesBy WriteFault hand rose again had after =
+    (hand WriteFault write_fault_line × HasTried rose had after) ⊎ (rose × HasFailed hand again had after)
+NotesBy BadCapture hand rose again had after = HasLine BadCapture had after
+NotesBy OutOfMemory hand rose again had after = HasLine OutOfMemory had after
+
+abbrev pub WritesNote : {N : Type 0}
+    → Status → (Status → List ℕ → Type 0) → (N → ℕ) → (N → Option (List ℕ)) → N → N → Type 0
+WritesNote status hand faults written old new = (had : List ℕ) → written old ≡ Some had
+    → NotesBy status hand (Rose faults old new) (RisesTwice (faults old) (faults new)) had (written new)
+
+-- ---- which line is at hand
+-- this one alone
+abbrev pub IsJust : Status → List ℕ → Status → List ℕ → Type 0
+IsJust status line s l = (s ≡ status) × (l ≡ line)
+
+-- that of a stop; where memory for it is wanting, that of OutOfMemory
+abbrev pub IsLineOf : Stop → Status → List ℕ → Type 0
+IsLineOf stop.ReadFault s l = IsJust ReadFault read_fault_line s l
+IsLineOf stop.WriteFault s l = IsJust WriteFault write_fault_line s l
+IsLineOf stop.OutOfMemory s l = IsJust OutOfMemory out_of_memory_line s l
+IsLineOf (stop.Refused why) s l = IsJust BadCapture (bad_capture_line why) s l ⊎ IsJust OutOfMemory out_of_memory_line s l
 
 -- The status that a stop may end as: its own, or what a failed note or want of memory makes of it.
 abbrev pub EndsIn : Stop → Status → Type 0

@@ -9,6 +9,7 @@ use Rattle.adb_history.specs.Drained.{next_out, drain_all, drained_after, draine
 use Rattle.adb_history.specs.Accepted.{Accepted, refusal_of, is_input, accept_records}
 use Rattle.adb_history.specs.declared.refusal.Refusal.{Refusal}
 use Rattle.adb_top.specs.Keeping.{Out, Keeps, KeepsAs}
+use Rattle.adb_top.specs.Kills.{IsKilled, ReadsToKill}
 use Rattle.adb_top.specs.declared.stop.Stop.{Stop}
 use Rattle.adb_top.specs.declared.stop.Stop.TheVariants.{ReadFault, WriteFault, OutOfMemory, Refused}
 
@@ -121,3 +122,5 @@ pub record Replays (first last : Moment) (result : Result (Unit {0}) Stop) : Typ
   pub reaches : (before : List ℕ) → IsAhead first before → Reaches result whole (accept_records first.reader.offset before [])
   pub ends : (before : List ℕ) → IsAhead first before → EndsAs result (accept_records first.reader.offset before []) last.left
   pub consumes : result ≡ Err ReadFault → (before : List ℕ) → IsAhead first before → Consumes first last whole before
+  pub stops : result ≡ Ok tt → (before : List ℕ) → IsAhead first before → IsKilled (accept_records first.reader.offset before [])
+      → ReadsToKill first.reader.offset before last.left

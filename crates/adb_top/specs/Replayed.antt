@@ -9,6 +9,7 @@ use Rattle.adb_history.specs.Causes.{HasCauses}
 use Rattle.adb_history.specs.Answered.{IsAnswered}
 use Rattle.adb_history.specs.Accepted.{accepted, replayed}
 use Rattle.adb_top.specs.Keeping.{HasFront}
+use Rattle.adb_top.specs.Kills.{IsKilled, CaptureToKill}
 use Rattle.adb_top.specs.Replay.{written_of, capture_of, EndsAs}
 use Rattle.adb_top.specs.declared.stop.Stop.{Stop}
 use Rattle.adb_top.specs.declared.stop.Stop.TheVariants.{ReadFault, WriteFault, OutOfMemory, Refused}
@@ -76,3 +77,4 @@ pub record ReplaysCapture (left_before left_after written_before written_after :
   pub whole : result ≢ Err WriteFault → (had : List ℕ) → written_before ≡ Some had → GrowsWhole had written_after
   pub consumes : result ≡ Err ReadFault → (bytes had : List ℕ) → left_before ≡ Some bytes → written_before ≡ Some had
       → WritesConsumed bytes had left_after written_after
+  pub stops : result ≡ Ok tt → (bytes : List ℕ) → left_before ≡ Some bytes → IsKilled (accepted bytes) → CaptureToKill bytes left_after

@@ -4,6 +4,7 @@ use Rattle.adb_history.specs.Accepted.{Accepted, accepted, replayed}
 use Rattle.adb_history.specs.declared.refusal.Refusal.{Refusal}
 use Rattle.adb_words.specs.Words.{names_command, texts}
 use Rattle.adb_top.specs.Notes.{bad_capture_line}
+use Rattle.adb_top.specs.Words.{IsNoCommand, IsReplay}
 use Rattle.adb_top.specs.Keeping.{HasFront}
 use Rattle.adb_top.specs.Replay.{IsReadWhole}
 use Rattle.adb_top.specs.Replayed.{GrowsSpelled, GrowsWhole, WritesConsumed}
@@ -84,6 +85,37 @@ abbrev pub NamesRefusal : {N : Type 0}
 NamesRefusal status left written old new =
     (capture had : List ℕ) → left ≡ Some capture → written old ≡ Some had
     → NamesBy status (accepted capture) had (written new)
+
+-- ---- which line is at hand where the note fails: that of the status that the run has come to
+-- of a replay, whose source or sink failed, or whose capture is refused
+abbrev pub IsReplayLine : (read_rose write_rose : Type 0) → Option (List ℕ) → Status → List ℕ → Type 0
+IsReplayLine read_rose write_rose left Done line = ⊥
+IsReplayLine read_rose write_rose left Usage line = ⊥
+IsReplayLine read_rose write_rose left ReadFault line = read_rose
+IsReplayLine read_rose write_rose left WriteFault line = write_rose
+IsReplayLine read_rose write_rose left BadCapture line = (capture : List ℕ) → left ≡ Some capture
+    → (why : Refusal) × ((accepted capture).refused ≡ Some why) × (line ≡ bad_capture_line why)
+IsReplayLine read_rose write_rose left OutOfMemory line = Unit {0}
+
+-- of a load
+abbrev pub IsLoadLine : (write_rose : Type 0) → Status → List ℕ → Type 0
+IsLoadLine write_rose Done line = ⊥
+IsLoadLine write_rose Usage line = ⊥
+IsLoadLine write_rose ReadFault line = ⊥
+IsLoadLine write_rose WriteFault line = write_rose
+IsLoadLine write_rose BadCapture line = ⊥
+IsLoadLine write_rose OutOfMemory line = Unit {0}
+
+-- of any words
+abbrev pub IsAtHand : {A : Type 0} → List (String A)
+    → (read_rose write_rose : Type 0) → Option (List ℕ) → Status → List ℕ → Type 0
+IsAtHand words read_rose write_rose left Done line = ⊥
+IsAtHand words read_rose write_rose left Usage line = IsNoCommand words
+IsAtHand words read_rose write_rose left ReadFault line = IsReplay words × read_rose
+IsAtHand words read_rose write_rose left WriteFault line = write_rose
+IsAtHand words read_rose write_rose left BadCapture line =
+    IsReplay words × IsReplayLine read_rose write_rose left BadCapture line
+IsAtHand words read_rose write_rose left OutOfMemory line = Unit {0}
 
 -- by how a capture ends, unless memory ran out
 abbrev pub CompletesBy : Status → Option Refusal → Type 0

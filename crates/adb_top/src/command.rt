@@ -2,10 +2,12 @@
 
 ghost use Rattle.std.specs.Prelude.{◌≡◌, ◌≢◌, ◌⊎◌, ℕ};
 ghost use Rattle.adb_top.specs.Faults.{Rose, Stood, IsFaultless};
+ghost use Rattle.adb_top.specs.Kills.{StopsAtKill};
 ghost use Rattle.adb_top.specs.Loads.{IsLoadSize, IsPromised, WritesLoad, made};
 ghost use Rattle.adb_top.specs.Notes.{WritesNote};
 ghost use Rattle.adb_top.specs.Run.{WritesHistory, WritesRead, WritesLegal, WritesWhole};
 ghost use Rattle.adb_top.specs.Run.{EndsCapture, NamesRefusal, Completes, IsUnheard};
+ghost use Rattle.adb_top.specs.Run.{IsAtHand, IsReplayLine, IsLoadLine};
 ghost use Rattle.adb_top.specs.Words.{IsNoCommand, IsReplay, IsLoad};
 
 use crate::generating::generate;
@@ -20,14 +22,15 @@ use std::alloc::Global;
 ///
 /// `replay` reads a capture from the source, makes its entries in order, hands out all that is due
 /// after each, and writes the whole history to the sink as a capture. Put and Send records are
-/// passed over. After a kill no further record is read.
+/// passed over. After a kill no further record is made, and no more is read of the source.
 ///
 /// `gen <seed> <streams>` makes the load of that seed and so many streams, hands out all that is
 /// due after each of its entries, and writes four lines: `streams`, `up` and `down`, the bytes that
 /// went up and down the streams, and `entries`, how many entries the history has. It reads nothing.
 ///
 /// Each status but Done writes its one line to the note. Where that write fails the status is
-/// WriteFault, whose own line is tried once.
+/// WriteFault, whose own line is tried then, once.
+#[tactic(auto, using(crate::proofs::Loads::load_promised))]
 pub fn run<S: Source, K: Sink, N: Sink>(
     alloc: Global,
     words: &[String],
@@ -61,6 +64,11 @@ pub fn run<S: Source, K: Sink, N: Sink>(
     // is refused.
     ensures ends { IsReplay words.now → EndsCapture result S.left source.old source.new }
 
+    // Done at a kill: the capture was read up to the record that holds it, and behind that less than
+    // a record and one read; all else is left in the source.
+    ensures killed { IsReplay words.now → result ≡ Status.Done
+        → StopsAtKill S.left source.old source.new }
+
     // The lines of a load go out, whose numbers are those of its drained history: all of them where
     // the run is done, and nothing where memory ran out. Nothing is read.
     ensures load { (seed streams : ℕ) → IsLoad seed streams words.now
@@ -68,12 +76,17 @@ pub fn run<S: Source, K: Sink, N: Sink>(
     ensures unread { (seed streams : ℕ) → IsLoad seed streams words.now
         → source.new ≡ source.old }
 
-    // That history is legal, so it is fifo, has its causes and is answered.
+    // That history is legal, so it is fifo, has its causes and is answered, however the run ends.
     ensures promised { (seed streams : ℕ) → IsLoad seed streams words.now
-        → result ≡ Status.Done → IsPromised (made seed streams) }
+        → IsPromised (made seed streams) }
 
-    // The note has the one line of the status; where it failed itself, what went out of its lines.
-    ensures notes { WritesNote result N.faults N.written note.old note.new }
+    // The note has the one line of the status. Where it failed itself over the line of the status
+    // that was at hand, a front of that stands there, and behind it WriteFault's line was tried: it
+    // stands there whole, or a front of it, and the count rose again.
+    ensures notes { WritesNote result
+        (IsAtHand words.now (Rose S.faults source.old source.new)
+        (Rose K.faults sink.old sink.new) (S.left source.old))
+        N.faults N.written note.old note.new }
 
     // At BadCapture that line names why the capture is refused.
     ensures names { NamesRefusal result (S.left source.old) N.written note.old note.new }
@@ -127,7 +140,11 @@ fn run_replay<S: Source, K: Sink, N: Sink>(
     ensures legal { WritesLegal K.written sink.old sink.new }
     ensures whole { result ≢ Status.WriteFault → WritesWhole K.written sink.old sink.new }
     ensures ends { EndsCapture result S.left source.old source.new }
-    ensures notes { WritesNote result N.faults N.written note.old note.new }
+    ensures killed { result ≡ Status.Done → StopsAtKill S.left source.old source.new }
+    ensures notes { WritesNote result
+        (IsReplayLine (Rose S.faults source.old source.new)
+        (Rose K.faults sink.old sink.new) (S.left source.old))
+        N.faults N.written note.old note.new }
     ensures names { NamesRefusal result (S.left source.old) N.written note.old note.new }
     ensures read_fault { result ≡ Status.ReadFault → Rose S.faults source.old source.new }
     ensures write_fault { result ≡ Status.WriteFault
@@ -160,8 +177,8 @@ fn run_gen<K: Sink, N: Sink>(
     ensures load { WritesLoad result seed streams K.written sink.old sink.new }
     ensures status { (result ≡ Status.Done) ⊎ (result ≡ Status.WriteFault)
         ⊎ (result ≡ Status.OutOfMemory) }
-    ensures promised { result ≡ Status.Done → IsPromised (made seed streams) }
-    ensures notes { WritesNote result N.faults N.written note.old note.new }
+    ensures notes { WritesNote result (IsLoadLine (Rose K.faults sink.old sink.new))
+        N.faults N.written note.old note.new }
     ensures write_fault { result ≡ Status.WriteFault
         → Rose K.faults sink.old sink.new ⊎ Rose N.faults note.old note.new }
     ensures sink_stood { result ≢ Status.WriteFault → Stood K.faults sink.old sink.new }

@@ -1,9 +1,9 @@
 //! Making a load, and writing how much went through.
 
-ghost use Rattle.std.specs.Prelude.{◌≡◌, ◌<◌, Ok, IfOk, length};
+ghost use Rattle.std.specs.Prelude.{◌≡◌, ◌<◌, IfOk, length};
 ghost use Rattle.adb_outside.specs.Outside.{Counts};
 ghost use Rattle.adb_top.specs.Keeping.{IsLoss, is_write_fault};
-ghost use Rattle.adb_top.specs.Loads.{IsLoadSize, IsPromised, GeneratesLines, lines_of, made};
+ghost use Rattle.adb_top.specs.Loads.{IsLoadSize, GeneratesLines, lines_of};
 
 use crate::stop::Stop;
 use crate::texts::push_line;
@@ -17,7 +17,6 @@ use std::alloc::{AllocError, Global};
 pub fn generate<K: Sink>(alloc: Global, seed: u64, streams: u16, sink: &mut K) -> Result<(), Stop>
     requires size { IsLoadSize streams }
     ensures writes { GeneratesLines result seed streams K.written sink.old sink.new }
-    ensures promised { result ≡ Ok tt → IsPromised (made seed streams) }
     ensures loss { IsLoss result }
     ensures counts { Counts K.steady K.faults sink.old sink.new (is_write_fault result) }
 {

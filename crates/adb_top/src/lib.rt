@@ -13,5 +13,5 @@ mod tests;
 mod texts;
 
 pub use command::run;
-pub use note::say_out_of_memory;
+pub use note::{say_out_of_memory, say_usage};
 pub use status::Status;

@@ -5,8 +5,8 @@ ghost use Rattle.adb_outside.specs.Outside.{Counts};
 ghost use Rattle.adb_outside.specs.Sink.{TellsWrite, is_failed_write};
 ghost use Rattle.adb_history.specs.declared.refusal.Refusal.{Refusal};
 ghost use Rattle.adb_top.specs.Faults.{Rose, Stood, tells_write_fault};
-ghost use Rattle.adb_top.specs.Notes.{write_fault_line, bad_capture_line};
-ghost use Rattle.adb_top.specs.Notes.{IsLine, EndsIn, WritesNote};
+ghost use Rattle.adb_top.specs.Notes.{usage_line, write_fault_line, out_of_memory_line, bad_capture_line};
+ghost use Rattle.adb_top.specs.Notes.{IsJust, IsLine, IsLineOf, EndsIn, WritesNote};
 
 use crate::status::Status;
 use crate::stop::Stop;
@@ -18,7 +18,8 @@ use std::alloc::{AllocError, Global};
 /// Tells the note that the words are no command.
 pub fn say_usage<N: Sink>(note: &mut N) -> Status
     ensures status { (result ≡ Status.Usage) ⊎ (result ≡ Status.WriteFault) }
-    ensures told { WritesNote result N.faults N.written note.old note.new }
+    ensures told { WritesNote result (IsJust Status.Usage usage_line)
+        N.faults N.written note.old note.new }
     ensures counts { Counts N.steady N.faults note.old note.new (tells_write_fault result) }
 {
     say(
@@ -31,7 +32,8 @@ pub fn say_usage<N: Sink>(note: &mut N) -> Status
 /// Tells the note why a command stopped.
 pub fn say_stop<N: Sink>(alloc: Global, note: &mut N, stop: Stop) -> Status
     ensures status { EndsIn stop result }
-    ensures told { WritesNote result N.faults N.written note.old note.new }
+    ensures told { WritesNote result (IsLineOf stop)
+        N.faults N.written note.old note.new }
     ensures names { (why : Refusal) → stop ≡ Stop.Refused why → result ≡ Status.BadCapture
         → TellsWrite (N.written note.old) (N.written note.new) (bad_capture_line why) Wrote.All }
     ensures fault { result ≡ Status.WriteFault
@@ -57,7 +59,8 @@ pub fn say_stop<N: Sink>(alloc: Global, note: &mut N, stop: Stop) -> Status
 /// Tells the note that memory ran out.
 pub fn say_out_of_memory<N: Sink>(note: &mut N) -> Status
     ensures status { (result ≡ Status.OutOfMemory) ⊎ (result ≡ Status.WriteFault) }
-    ensures told { WritesNote result N.faults N.written note.old note.new }
+    ensures told { WritesNote result (IsJust Status.OutOfMemory out_of_memory_line)
+        N.faults N.written note.old note.new }
     ensures counts { Counts N.steady N.faults note.old note.new (tells_write_fault result) }
 {
     say(note, Status::OutOfMemory, b"adbhub: out of memory\n")
@@ -69,7 +72,8 @@ fn say<N: Sink>(note: &mut N, status: Status, line: &[u8]) -> Status
     requires own { IsLine status line.now }
     requires other { status ≢ Status.WriteFault }
     ensures status { (result ≡ status) ⊎ (result ≡ Status.WriteFault) }
-    ensures told { WritesNote result N.faults N.written note.old note.new }
+    ensures told { WritesNote result (IsJust status line.now)
+        N.faults N.written note.old note.new }
     ensures whole { result ≡ status
         → TellsWrite (N.written note.old) (N.written note.new) line.now Wrote.All }
     ensures counts { Counts N.steady N.faults note.old note.new (tells_write_fault result) }

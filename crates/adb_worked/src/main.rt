@@ -1,25 +1,31 @@
-//! Replays each worked history of the folder that it is run in, and tells whether it ends as told.
+//! Plays each worked text of the folder that it is run in, and tells whether it goes as told.
 #![tactic(auto)]
 
-mod told;
+mod answers;
+mod asks;
+mod commands;
+mod exchanges;
+mod kind;
+mod machine;
+mod runs;
 
+use kind::{KINDS, Kind};
 use std::process::ExitCode;
 use std::{fs, io};
-use told::told;
 
-/// The bytes of a capture come in pieces of at most so many.
-const PIECES: [usize; 2] = [1, 65_536];
-
-/// Writes a line for each capture, in the order of their names. Ends with status 1 where one does
-/// not end as told.
+/// Writes a line for each text, in the order of their kinds and names. Ends with status 1 where one
+/// does not go as told.
 fn main(rt: HostRuntime) -> io::Result<ExitCode> {
     let mut all = true;
-    for name in &names(&rt)? {
-        if ends_as_told(&rt, name.as_str())? {
-            println!(rt; "{name}: as told")?;
-        } else {
-            println!(rt; "{name}: not as told")?;
-            all = false;
+    for kind in KINDS {
+        let folder = kind.folder();
+        for name in &names(&rt, kind)? {
+            if goes_as_told(&rt, kind, name.as_str())? {
+                println!(rt; "{folder}/{name}: as told")?;
+            } else {
+                println!(rt; "{folder}/{name}: not as told")?;
+                all = false;
+            }
         }
     }
     Ok(if all {
@@ -29,11 +35,11 @@ fn main(rt: HostRuntime) -> io::Result<ExitCode> {
     })
 }
 
-/// The names of the worked histories: those of the files `NAME.capture`.
-fn names(rt: &HostRuntime) -> io::Result<Vec<String>> {
+/// The names of the texts of a kind: those of the files that are played.
+fn names(rt: &HostRuntime, kind: Kind) -> io::Result<Vec<String>> {
     let mut names = Vec::new(rt.alloc());
-    for entry in fs::read_dir(rt, ".")? {
-        if let Some(name) = entry?.file_name().strip_suffix(".capture") {
+    for entry in fs::read_dir(rt, kind.folder())? {
+        if let Some(name) = entry?.file_name().strip_suffix(kind.ending()) {
             names.push(String::from_str(rt.alloc(), name)?)?;
         }
     }
@@ -41,12 +47,12 @@ fn names(rt: &HostRuntime) -> io::Result<Vec<String>> {
     Ok(names)
 }
 
-/// Whether the replays of `NAME.capture` end as `NAME.told` says.
-fn ends_as_told(rt: &HostRuntime, name: &str) -> io::Result<bool> {
-    let capture = read_file(rt, name, ".capture")?;
-    let want = read_file(rt, name, ".told")?;
-    for piece in PIECES {
-        let have = told(rt.alloc(), capture.as_slice(), piece)?;
+/// Whether a text goes as its file `NAME.told` says, in pieces of each size.
+fn goes_as_told(rt: &HostRuntime, kind: Kind, name: &str) -> io::Result<bool> {
+    let played = read_file(rt, kind, name, kind.ending())?;
+    let want = read_file(rt, kind, name, ".told")?;
+    for piece in kind.pieces() {
+        let have = kind.told(rt.alloc(), name, played.as_slice(), *piece)?;
         if have.as_slice() != want.as_slice() {
             return Ok(false);
         }
@@ -54,8 +60,7 @@ fn ends_as_told(rt: &HostRuntime, name: &str) -> io::Result<bool> {
     Ok(true)
 }
 
-fn read_file(rt: &HostRuntime, name: &str, ending: &str) -> io::Result<Vec<u8>> {
-    let mut path = String::from_str(rt.alloc(), name)?;
-    path.push_str(ending)?;
+fn read_file(rt: &HostRuntime, kind: Kind, name: &str, ending: &str) -> io::Result<Vec<u8>> {
+    let path = format!(in rt.alloc(); "{}/{name}{ending}", kind.folder())?;
     fs::read(rt, path.as_str())
 }

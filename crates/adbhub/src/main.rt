@@ -6,7 +6,7 @@ mod streams;
 #[cfg(test)]
 mod tests;
 
-use start::start;
+use start::{start, words_of};
 use std::process::ExitCode;
 use std::{env, io};
 use streams::Stream;
@@ -22,9 +22,5 @@ fn main(rt: HostRuntime) -> ExitCode {
 
 /// The words behind the program's name. A word that is not UTF-8 is an error.
 fn words(rt: &HostRuntime) -> io::Result<Vec<String>> {
-    let mut words = Vec::new(rt.alloc());
-    for word in env::args(rt)?.skip(1) {
-        words.push(word)?;
-    }
-    Ok(words)
+    Ok(words_of(env::args(rt)?.collect(rt.alloc())?))
 }

@@ -14,10 +14,8 @@ use std::test::Fail;
 enum Step {
     /// It moves at most so many bytes.
     Moves(usize),
-    /// It is interrupted.
-    Interrupted,
-    /// It fails.
-    Fails,
+    /// It fails so.
+    Fails(ErrorKind),
 }
 
 /// A stream whose calls do the steps in turn, and then move nothing. The bytes that are read count
@@ -49,8 +47,7 @@ impl Fake {
         match step {
             None => Ok(0),
             Some(Step::Moves(count)) => Ok(count.min(len)),
-            Some(Step::Interrupted) => Err(io::Error::from(ErrorKind::Interrupted)),
-            Some(Step::Fails) => Err(io::Error::from(ErrorKind::Other)),
+            Some(Step::Fails(kind)) => Err(io::Error::from(kind)),
         }
     }
 }
@@ -81,9 +78,9 @@ impl Write for &mut Fake {
 #[test]
 fn short_interrupted_and_failed_calls(rt: HostRuntime) -> Result<(), Fail> {
     let reads = [
-        Step::Interrupted,
+        Step::Fails(ErrorKind::Interrupted),
         Step::Moves(9),
-        Step::Fails,
+        Step::Fails(ErrorKind::Other),
         Step::Moves(1),
     ];
     let mut source = Stream::new(Fake::new(rt.alloc(), &reads)?);
@@ -100,10 +97,10 @@ fn short_interrupted_and_failed_calls(rt: HostRuntime) -> Result<(), Fail> {
 
     let writes = [
         Step::Moves(1),
-        Step::Interrupted,
+        Step::Fails(ErrorKind::Interrupted),
         Step::Moves(9),
         Step::Moves(1),
-        Step::Fails,
+        Step::Fails(ErrorKind::BrokenPipe),
     ];
     let mut written = Fake::new(rt.alloc(), &writes)?;
     let mut sink = Stream::new(&mut written);

@@ -8,8 +8,8 @@ use Rattle.adb_entries.specs.Machine.{Applies}
 use Rattle.adb_entries.proofs.Attaching.{attach_applies, err_lawful}
 use Rattle.adb_entries.proofs.applying.attach.Goals as goal
 
-pub returns : goal.returns
-returns c h lawful =
+pub returns-clause-applied : goal.returns-clause-applied
+returns-clause-applied c h lawful =
     let going : (state h).stopped ≡ false = sym (ap (λ (k : Kept). k.stopped) lawful.seen) ∙ c.requires in
     let drawn : c.plugged.result ≡ (state h).devices.drawn = c.plugged.ensures ∙ ap (λ (k : Kept). k.devices.drawn) lawful.seen in
     let is : c.args.link ≡ (state h).devices.drawn + 1 =

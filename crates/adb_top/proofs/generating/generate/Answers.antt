@@ -1,13 +1,9 @@
-use Rattle.std.proofs.Common.{ℕ, ◌∙◌, ap, subst}
+use Rattle.std.proofs.Common.{ℕ, ◌∙◌, ap}
 use Rattle.adb_run_load.specs.Totals.{totals_of}
 use Rattle.adb_run_load.specs.declared.totals.Totals.{Totals}
-use Rattle.adb_top.specs.Loads.{IsPromised, lines_of, made}
-use Rattle.adb_top.proofs.Loads.{part_out, promised}
+use Rattle.adb_top.specs.Loads.{lines_of, made}
+use Rattle.adb_top.proofs.Loads.{part_out}
 use Rattle.adb_top.proofs.generating.generate.Goals as goal
-
-pub returns-in-All-clause-promised : goal.returns-in-All-clause-promised
-returns-in-All-clause-promised g c = λ e.
-    subst (λ (n : ℕ). IsPromised (made c.args.seed n)) c.from.ensures (promised (made c.args.seed c.from.result) c.in_ok-totals.ensures.done.lawful.legal)
 
 pub returns-clause-writes : goal.returns-clause-writes
 returns-clause-writes g c = λ had has.

@@ -20,7 +20,7 @@ loop-reader-init g c =
     let first : Moment = moment c.args.reader.now (g.S.Source.left c.args.source.now) (g.K.Sink.written c.args.sink.now, c.args.output.now) in
     record {
       replaying = replaying_first first c.new-hub.result (starts c.new-hub.result c.new-hub.ensures)
-          c.requires.sound c.requires.opened;
+          c.requires.sound c.requires.opened c.requires.few;
       reads_counted = counts_first g.S.Source.steady g.S.Source.faults c.args.source.now;
       writes_counted = counts_first g.K.Sink.steady g.K.Sink.faults c.args.sink.now;
     }
@@ -35,7 +35,7 @@ loop-reader-preserved g c =
     let running : c.loop-reader.hub.stopped ≡ false = sym c.is_stopped.ensures ∙ c.loop-reader-test.true in
     record {
       replaying = replaying_on {first = first} turn c.replay_entry.new.hub c.in_ok-offset.ensures.ok running c.in_ok-replay_entry.ensures.replays
-          c.loop-reader.invariant.replaying;
+          c.in_ok-offset.ensures.few c.loop-reader.invariant.replaying;
       reads_counted = counts_then g.S.Source.steady g.S.Source.faults c.args.source.now c.loop-reader.source c.next.new.source {g = false}
           c.loop-reader.invariant.reads_counted (c.in_ok-offset.ensures.counts c.loop-reader.invariant.replaying.sound);
       writes_counted = counts_then g.K.Sink.steady g.K.Sink.faults c.args.sink.now c.loop-reader.sink c.replay_entry.new.sink {g = false}
@@ -61,7 +61,7 @@ returns-in_default-clause-replays g c =
     let now : Moment = moment c.loop-reader.reader (g.S.Source.left c.loop-reader.source) (g.K.Sink.written c.loop-reader.sink, c.loop-reader.output) in
     let new : Moment = moment c.next.new.self (g.S.Source.left c.next.new.source) (g.K.Sink.written c.loop-reader.sink, c.loop-reader.output) in
     replaying_over {first = first} {now = now} new refl (given_as now new c.in_ok-offset.field-0 None c.in_default.is c.in_ok-offset.ensures.answers)
-    c.in_ok-offset.ensures.ok.2 c.loop-reader.invariant.replaying
+    c.in_ok-offset.ensures.ok.2 (sym c.is_stopped.ensures ∙ c.loop-reader-test.true) c.loop-reader.invariant.replaying
 
 pub returns-clause-replays : goal.returns-clause-replays
 returns-clause-replays g c =

@@ -1,0 +1,113 @@
+//! An exchange between a host and a model device.
+
+ghost use Rattle.std.specs.Prelude.{◌≤◌, length};
+
+use adb_daemon::{Daemon, DaemonError};
+use adb_files::Files;
+use adb_outside::Text;
+use byteorder::{ByteOrder, LittleEndian};
+use std::alloc::{AllocError, Global};
+
+/// The most bytes of a payload that the device takes.
+const MOST: u32 = 4_096;
+
+/// How many bytes a header has, and where it has the length of the payload.
+const HEADER: usize = 24;
+
+const LENGTH: usize = 12;
+
+/// Sends what a host sends to a model device, which takes credit in bytes where the exchange's name
+/// begins so, each packet in pieces of at most `piece` bytes. Tells all that went over the link, in
+/// order: what the device owes before, and then each packet, how the device answers where it takes
+/// it not, and what it owes then. At the end the paths of its files follow, with a line for each.
+pub fn told(alloc: Global, name: &str, host: &[u8], piece: usize) -> Result<Text, AllocError>
+    requires { 1 ≤ piece }
+{
+    let mut daemon = device(alloc, name.starts_with("credit"))?;
+    play(alloc, &mut daemon, host, piece)
+}
+
+/// A device without files.
+fn device(alloc: Global, credit: bool) -> Result<Daemon, AllocError> {
+    let files = Files::new(alloc);
+    if credit {
+        return Daemon::new(alloc, files, MOST);
+    }
+    Daemon::plain(alloc, files, MOST)
+}
+
+fn play(alloc: Global, daemon: &mut Daemon, host: &[u8], piece: usize) -> Result<Text, AllocError>
+    requires { 1 ≤ piece }
+{
+    let mut told = Text::new(alloc);
+    hear(daemon, &mut told)?;
+    let mut rest = host;
+    for _ in 0..host.len() {
+        if rest.is_empty() {
+            break;
+        }
+        let (packet, more) = rest.split_at(packet_len(rest));
+        told.push_slice(packet)?;
+        say(alloc, send(daemon, packet, piece), &mut told)?;
+        hear(daemon, &mut told)?;
+        rest = more;
+    }
+    list(daemon.files(), &mut told)?;
+    Ok(told)
+}
+
+/// How many bytes the first packet has.
+fn packet_len(bytes: &[u8]) -> usize
+    ensures { result ≤ length bytes.now }
+{
+    if bytes.len() < HEADER {
+        return bytes.len();
+    }
+    let length = LittleEndian::read_u32(&bytes[LENGTH..]) as usize;
+    bytes.len().min(HEADER.saturating_add(length))
+}
+
+/// Sends a packet. Gives the answer to its last piece.
+fn send(daemon: &mut Daemon, packet: &[u8], piece: usize) -> Result<(), DaemonError>
+    requires { 1 ≤ piece }
+{
+    let mut answer = Ok(());
+    for piece in packet.chunks(piece) {
+        answer = daemon.feed(piece);
+    }
+    answer
+}
+
+/// Says how the device answers a packet, where it takes it not.
+fn say(alloc: Global, answer: Result<(), DaemonError>, told: &mut Text) -> Result<(), AllocError> {
+    match answer {
+        Ok(()) => Ok(()),
+        Err(DaemonError::OutOfMemory) => Err(AllocError),
+        Err(error) => {
+            let text = format!(in alloc; "{error:?}\n")?;
+            told.push_slice(text.as_bytes())
+        }
+    }
+}
+
+/// Takes what the device owes.
+fn hear(daemon: &mut Daemon, told: &mut Text) -> Result<(), AllocError> {
+    told.push_slice(daemon.out())?;
+    let n = daemon.out().len();
+    daemon.taken(n);
+    Ok(())
+}
+
+/// The paths of files, in order.
+fn list(files: &Files, told: &mut Text) -> Result<(), AllocError> {
+    let mut path: &[u8] = b"";
+    for _ in 0..1_000 {
+        let Some(next) = files.next_path(path) else {
+            break;
+        };
+        told.push_slice(next)?;
+        told.push_slice(b"\n")?;
+        path = next;
+    }
+    Ok(())
+}

@@ -1,0 +1,74 @@
+//! The kinds of worked texts.
+
+ghost use Rattle.std.specs.Prelude.{◌≤◌, All};
+
+use crate::{asks, commands, exchanges, runs};
+use adb_outside::Text;
+use std::alloc::{AllocError, Global};
+
+/// A kind of worked texts.
+#[derive(Clone, Copy, Drop)]
+pub enum Kind {
+    /// What is asked of a sync service, and what the answers come to.
+    Asks,
+    /// The words of a command, its capture, and how it ends.
+    Commands,
+    /// What a host sends to a model device, and all that goes over the link.
+    Exchanges,
+    /// A capture, and how its replay ends.
+    Histories,
+}
+
+/// All of them, in the order of their folders.
+pub const KINDS: [Kind; 4] = [Kind::Asks, Kind::Commands, Kind::Exchanges, Kind::Histories];
+
+impl Kind {
+    /// The folder of its texts.
+    pub fn folder(self) -> &'static str {
+        match self {
+            Kind::Asks => "asks",
+            Kind::Commands => "commands",
+            Kind::Exchanges => "exchanges",
+            Kind::Histories => "histories",
+        }
+    }
+
+    /// How the names of the files end that are played.
+    pub fn ending(self) -> &'static str {
+        match self {
+            Kind::Asks => ".asks",
+            Kind::Commands => ".words",
+            Kind::Exchanges => ".host",
+            Kind::Histories => ".capture",
+        }
+    }
+
+    /// Of how many bytes at most the pieces are, in which each text is played.
+    pub fn pieces(self) -> &'static [usize]
+        ensures { All (λ size. 1 ≤ size) result.now }
+    {
+        match self {
+            Kind::Asks => &[1, 24, 65_536],
+            Kind::Commands | Kind::Histories => &[1, 65_536],
+            Kind::Exchanges => &[1, 5, 24, 65_536],
+        }
+    }
+
+    /// Plays the text of that name, and tells how it goes.
+    pub fn told(
+        self,
+        alloc: Global,
+        name: &str,
+        played: &[u8],
+        piece: usize,
+    ) -> Result<Text, AllocError>
+        requires { 1 ≤ piece }
+    {
+        match self {
+            Kind::Asks => asks::told(alloc, played, piece),
+            Kind::Commands => commands::told(alloc, played, piece),
+            Kind::Exchanges => exchanges::told(alloc, name, played, piece),
+            Kind::Histories => runs::replay_told(alloc, played, piece),
+        }
+    }
+}

@@ -1,0 +1,98 @@
+//! A machine that asks, and the sync service that answers it.
+
+ghost use Rattle.std.specs.Prelude.{◌≤◌, length};
+
+use adb_files::{Files, SyncService};
+use adb_sync_client::{PathAsk, PathValue, Push, Step};
+use std::alloc::{AllocError, Global};
+
+/// A machine that asks one request.
+pub trait Machine: Drop {
+    type Value: Drop;
+
+    /// Gives a service the next piece of the request, at most `size` bytes; says how many are left.
+    fn give(
+        &mut self,
+        service: &mut SyncService,
+        files: &mut Files,
+        size: usize,
+    ) -> Result<usize, AllocError>;
+
+    /// Takes a piece of the answer, and tells what all of it means.
+    fn take(&mut self, piece: &[u8]) -> Result<Step<Self::Value>, AllocError>;
+}
+
+impl Machine for Push {
+    type Value = ();
+
+    fn give(
+        &mut self,
+        service: &mut SyncService,
+        files: &mut Files,
+        size: usize,
+    ) -> Result<usize, AllocError> {
+        let piece = front_of(self.out(), size);
+        let len = piece.len();
+        service.feed(files, piece)?;
+        self.taken(len);
+        Ok(self.out().len())
+    }
+
+    fn take(&mut self, piece: &[u8]) -> Result<Step<()>, AllocError> {
+        self.feed(piece)
+    }
+}
+
+impl<V: PathValue> Machine for PathAsk<V> {
+    type Value = V;
+
+    fn give(
+        &mut self,
+        service: &mut SyncService,
+        files: &mut Files,
+        size: usize,
+    ) -> Result<usize, AllocError> {
+        let piece = front_of(self.out(), size);
+        let len = piece.len();
+        service.feed(files, piece)?;
+        self.taken(len);
+        Ok(self.out().len())
+    }
+
+    fn take(&mut self, piece: &[u8]) -> Result<Step<V>, AllocError> {
+        self.feed(piece)
+    }
+}
+
+/// What a request comes to, where bytes go either way in pieces of at most `size`.
+pub fn exchange<M: Machine>(
+    alloc: Global,
+    mut machine: M,
+    files: &mut Files,
+    size: usize,
+) -> Result<Step<M::Value>, AllocError> {
+    let mut service = SyncService::new(alloc);
+    for _ in 0..u64::MAX {
+        if machine.give(&mut service, files, size)? == 0 {
+            break;
+        }
+    }
+    let mut step = machine.take(b"")?;
+    for _ in 0..u64::MAX {
+        let piece = front_of(service.out(), size);
+        let len = piece.len();
+        if len == 0 {
+            break;
+        }
+        step = machine.take(piece)?;
+        service.taken(len);
+    }
+    Ok(step)
+}
+
+/// The first bytes of some, at most `size`.
+fn front_of(bytes: &[u8], size: usize) -> &[u8]
+    ensures { length result.now ≤ length bytes.now }
+{
+    &bytes[..size.min(bytes.len())]
+}

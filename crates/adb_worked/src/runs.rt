@@ -1,0 +1,49 @@
+//! How a run of the program's commands ends.
+
+ghost use Rattle.std.specs.Prelude.{◌≡◌, ◌≤◌, ℕ, IfOk};
+ghost use Rattle.adb_worked.specs.Told.{told_as};
+
+use adb_outside::{MemorySink, MemorySource, Text};
+use adb_top::{Status, run};
+use itoa::Buffer;
+use std::alloc::{AllocError, Global};
+
+/// Replays a capture whose source gives at most `piece` bytes a call, and tells how that ends.
+pub fn replay_told(alloc: Global, capture: &[u8], piece: usize) -> Result<Text, AllocError>
+    requires { 1 ≤ piece }
+{
+    let words = [String::from_str(alloc, "replay")?];
+    run_told(alloc, &words, capture, piece)
+}
+
+/// Runs words over a capture whose source gives at most `piece` bytes a call, and tells the status,
+/// the note and what was written.
+pub fn run_told(
+    alloc: Global,
+    words: &[String],
+    capture: &[u8],
+    piece: usize,
+) -> Result<Text, AllocError>
+    requires { 1 ≤ piece }
+{
+    let bytes = Text::from_slice(alloc, capture)?;
+    let mut source = MemorySource::new(bytes, piece, Vec::new(alloc));
+    let mut sink = MemorySink::new(alloc, Vec::new(alloc));
+    let mut note = MemorySink::new(alloc, Vec::new(alloc));
+    let status = run(alloc, words, &mut source, &mut sink, &mut note);
+    spell(alloc, status, note.bytes(), sink.bytes())
+}
+
+/// A line of the status, the note, an empty line and what was written.
+fn spell(alloc: Global, status: Status, note: &[u8], written: &[u8]) -> Result<Text, AllocError>
+    ensures { IfOk result (λ text. text ≡ told_as status note.now written.now) }
+{
+    let mut digits = Buffer::new();
+    let mut text = Text::from_slice(alloc, b"status ")?;
+    text.push_slice(digits.format(status.code()).as_bytes())?;
+    text.push_slice(b"\n")?;
+    text.push_slice(note)?;
+    text.push_slice(b"\n")?;
+    text.push_slice(written)?;
+    Ok(text)
+}

@@ -1,0 +1,10 @@
+use Rattle.adbhub.proofs.start.start.Goals as goal
+
+pub returns-in-Ok-clause-writes : goal.returns-in-Ok-clause-writes
+returns-in-Ok-clause-writes g c = rw c.in-Ok.is (rw c.as_slice.ensures.value at c.run.ensures.writes)
+
+pub returns-in-Ok-clause-complete : goal.returns-in-Ok-clause-complete
+returns-in-Ok-clause-complete g c = rw c.in-Ok.is (rw c.as_slice.ensures.value at c.run.ensures.complete)
+
+pub returns-in-Ok-clause-notes : goal.returns-in-Ok-clause-notes
+returns-in-Ok-clause-notes g c = rw c.in-Ok.is (rw c.as_slice.ensures.value at c.run.ensures.notes)
