@@ -6,7 +6,7 @@ use Rattle.std.proofs.lemmas.List.{append_assoc, append-nil, length-append, take
 use Rattle.adb_outside.specs.declared.framer.Front.TheVariants.{Whole}
 use Rattle.adb_capture.specs.Records.{entry_in, offset_after, record_at}
 use Rattle.adb_capture.proofs.Fronts.{framing}
-use Rattle.adb_capture.specs.Reading.{ahead_of, AnswersNext, GivesNext, GivesRecord, HoldsFew}
+use Rattle.adb_capture.specs.Reading.{ahead_of, AnswersNext, GivesNext, GivesRecord, HoldsLittle}
 use Rattle.adb_capture.specs.declared.entry.Entry.{Entry}
 use Rattle.adb_capture.specs.declared.error.CaptureError.{CaptureError}
 use Rattle.adb_history.specs.Machine.{History, state}
@@ -47,7 +47,7 @@ pub record Replaying (first now : Moment) (holds : Kept) : Type 0 where
   pub drained : IsDrained holds done
   pub sound : now.reader.failed ≡ None
   pub opened : now.reader.opened ≡ true
-  pub few : HoldsFew now.reader.held
+  pub few : HoldsLittle now.reader.held
   pub kept : (had : List ℕ) → Keeps had (capture_of []) first.out → Keeps had (capture_of done) now.out
   pub came : (before : List ℕ) → IsAhead first before → Came first now done before
 
@@ -77,7 +77,7 @@ pub held_stopped : {first now : Moment} {holds : Kept} (stopped : Bool) (r : Rep
 held_stopped stopped r is = ap (λ (k : Kept). k.stopped) (sym r.drained.lawful.seen) ∙ is
 
 pub replaying_first : (first : Moment) (holds : Kept) → IsDrained holds [] → first.reader.failed ≡ None → first.reader.opened ≡ true
-    → HoldsFew first.reader.held → Replaying first first holds
+    → HoldsLittle first.reader.held → Replaying first first holds
 replaying_first first holds drained sound opened few = record {
   done = [];
   drained = drained;
@@ -216,7 +216,7 @@ last_came first t done c g running = record {
 
 -- A record was replayed.
 pub replaying_on : {first : Moment} {holds : Kept} (t : Turn) (new : Kept) → IsReady t → holds.stopped ≡ false
-    → ((h : History) → IsDrained holds h → ReplaysEntry (Ok tt) t.offset t.entry h t.now.out t.new.out new) → HoldsFew t.new.reader.held
+    → ((h : History) → IsDrained holds h → ReplaysEntry (Ok tt) t.offset t.entry h t.now.out t.new.out new) → HoldsLittle t.new.reader.held
     → Replaying first t.now holds → Replaying first t.new new
 replaying_on {first} {holds} t new ready running entry few r = record {
   done = x.whole;

@@ -2,7 +2,7 @@
 use Rattle.std.specs.Prelude.{ℕ, ◌+◌, ◌≡◌, true, false, List, [], ◌++◌, length, Option, Some}
 use Rattle.adb_outside.specs.declared.framer.Front.TheVariants.{Whole}
 use Rattle.adb_capture.specs.Records.{magic, record_at}
-use Rattle.adb_capture.specs.Reading.{HoldsFew}
+use Rattle.adb_capture.specs.Reading.{HoldsLittle}
 use Rattle.adb_history.specs.Machine.{state}
 use Rattle.adb_history.specs.Drained.{drained_from}
 use Rattle.adb_history.specs.Accepted.{Accepted, accepted, accept_records}
@@ -19,13 +19,13 @@ pub record EndsInRecord (offset : ℕ) (records : List ℕ) : Type 0 where
   pub one : record_at (offset + length older) last ≡ Whole (length last)
   pub running : (state (drained_from [] (accept_records offset older []).inputs)).stopped ≡ false
 
--- Records up to the one that holds a kill; what was read behind that is less than a record and one read.
+-- Records up to the one that holds a kill; what was read behind that is less than one read.
 pub record ReadsToKill (offset : ℕ) (bytes : List ℕ) (left : Option (List ℕ)) : Type 0 where
   pub records : List ℕ
   pub ends : EndsInRecord offset records
   pub killed : IsKilled (accept_records offset records [])
   pub past : List ℕ
-  pub few : HoldsFew past
+  pub few : HoldsLittle past
   pub rest : List ℕ
   pub is : bytes ≡ records ++ past ++ rest
   pub is_left : left ≡ Some rest

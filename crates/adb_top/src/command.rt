@@ -65,7 +65,7 @@ pub fn run<S: Source, K: Sink, N: Sink>(
     ensures ends { IsReplay words.now → EndsCapture result S.left source.old source.new }
 
     // Done at a kill: the capture was read up to the record that holds it, and behind that less than
-    // a record and one read; all else is left in the source.
+    // one read; all else is left in the source.
     ensures killed { IsReplay words.now → result ≡ Status.Done
         → StopsAtKill S.left source.old source.new }
 

@@ -3,7 +3,7 @@
 
 ghost use Rattle.std.specs.Prelude.{◌≡◌, ◌≢◌, None, Err, not, true, false};
 ghost use Rattle.adb_outside.specs.Outside.{Counts};
-ghost use Rattle.adb_capture.specs.Reading.{HoldsFew};
+ghost use Rattle.adb_capture.specs.Reading.{HoldsLittle};
 ghost use Rattle.adb_capture.specs.Records.{HasRecord};
 ghost use Rattle.adb_history.specs.Machine.{History};
 ghost use Rattle.adb_history.specs.Kept.{IsLawful};
@@ -48,7 +48,7 @@ fn replay_records<S: Source, K: Sink>(
 ) -> Result<(), Stop>
     requires sound { reader.old.failed ≡ None }
     requires opened { reader.old.opened ≡ true }
-    requires few { HoldsFew reader.old.held }
+    requires few { HoldsLittle reader.old.held }
     ensures replays { Replays
         (moment reader.old (S.left source.old) (K.written sink.old, output.old))
         (moment reader.new (S.left source.new) (K.written sink.new, output.new)) result }

@@ -35,7 +35,7 @@ loop-reader-preserved g c =
     let running : c.loop-reader.hub.stopped ≡ false = sym c.is_stopped.ensures ∙ c.loop-reader-test.true in
     record {
       replaying = replaying_on {first = first} turn c.replay_entry.new.hub c.in_ok-offset.ensures.ok running c.in_ok-replay_entry.ensures.replays
-          c.in_ok-offset.ensures.few c.loop-reader.invariant.replaying;
+          (c.in_ok-offset.ensures.little c.loop-reader.invariant.replaying.few) c.loop-reader.invariant.replaying;
       reads_counted = counts_then g.S.Source.steady g.S.Source.faults c.args.source.now c.loop-reader.source c.next.new.source {g = false}
           c.loop-reader.invariant.reads_counted (c.in_ok-offset.ensures.counts c.loop-reader.invariant.replaying.sound);
       writes_counted = counts_then g.K.Sink.steady g.K.Sink.faults c.args.sink.now c.loop-reader.sink c.replay_entry.new.sink {g = false}
