@@ -18,7 +18,7 @@ demo:
 	@od -A d -t x1z bin/version.history
 
 # Proves the crates below the program side by side, each when those that it stands on are proved, and then the program.
-# Lists of crates.txt may be of neighbours or of all crates below. The last run is that of the program's test.
+# Lists of crates.txt may be of neighbours or of all crates below.
 JOBS := $(shell nproc)
 BELOW := $(shell awk -F: '{ split($$1, head, " "); needs[head[1]] = $$2 } \
   function walk(crate, words, i, n) { \
@@ -35,7 +35,7 @@ build:
 	@+$(MAKE) --no-print-directory --keep-going --jobs=$(JOBS) $(LIBRARIES:%=library-%) \
 	  || { echo "$$(wc -l < $(STANDING)) of $(words $(BELOW)) crates stand. Not yet:" \
 	  $$(printf '%s\n' $(LIBRARIES) | grep -vxFf $(STANDING)); exit 1; }
-	@cd crates/adbhub && rt run -- replay < stdin > /dev/null
+	@cd crates/adbhub && rt run -- replay < ../../examples/version.capture > /dev/null
 	@cp crates/adbhub/out/adbhub bin/adbhub
 	@echo '$(words $(BELOW)) of $(words $(BELOW)) crates stand: bin/adbhub is proved and linked'
 
