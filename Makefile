@@ -1,20 +1,53 @@
-# make demo: replays an example capture and shows the history. make build: bin/adbhub. make test: the gate.
-# make cost: how replay grows.
-.PHONY: build demo test cost
+.DEFAULT_GOAL := help
+.PHONY: help demo build test cost
 
-demo: build
+help:
+	@echo 'make demo    runs the program over an example capture and shows the history, before any proof: two minutes'
+	@echo 'make build   proves and links the program, as bin/adbhub: most of an hour the first time, then what changed'
+	@echo 'make test    the gate: every proof, must-fail edit, test and program'
+	@echo 'make cost    builds the program, and tells how replay grows with its capture'
+
+# rt try compiles the program with the crates below it and runs it with checks. It proves nothing, and says so.
+demo:
+	@mkdir -p bin
 	@echo 'examples/version.capture, a client that asks host:version:'
 	@od -A d -t x1z examples/version.capture
-	@echo 'its history, the answer at its end:'
-	@bin/adbhub replay < examples/version.capture | od -A d -t x1z
+	@echo 'Compiling the program. Nothing of it is proved here: that is make build.'
+	@cd crates/adbhub && rt try -- replay < ../../examples/version.capture > ../../bin/version.history
+	@echo 'Its history, the answer at its end:'
+	@od -A d -t x1z bin/version.history
 
-# Proves, compiles and links what changed of the program and the crates that it stands on. The run is that of its
-# test. A crate's check waits for those below it, so two are proved side by side: requests and captures.
+# Proves the crates below the program side by side, each when those that it stands on are proved, and then the program.
+# Lists of crates.txt may be of neighbours or of all crates below.
+JOBS := $(shell nproc)
+BELOW := $(shell awk -F: '{ split($$1, head, " "); needs[head[1]] = $$2 } \
+  function walk(crate, words, i, n) { \
+    if (!(crate in needs) || crate in seen) return; \
+    seen[crate]; n = split(needs[crate], words, " "); \
+    for (i = 1; i <= n; i++) walk(words[i]); \
+    print crate } \
+  END { walk("adbhub") }' crates.txt)
+LIBRARIES := $(filter-out adbhub,$(BELOW))
+STANDING := bin/standing
+
 build:
-	cd crates/adb_outside && rt lib
-	cd crates/adb_capture && rt lib & cd crates/adb_request && rt lib && wait $$!
-	cd crates/adbhub && rt run -- replay < stdin > /dev/null
-	@mkdir -p bin && cp crates/adbhub/out/adbhub bin/adbhub
+	@mkdir -p bin && rm -f $(STANDING) && touch $(STANDING)
+	@+$(MAKE) --no-print-directory --keep-going --jobs=$(JOBS) $(LIBRARIES:%=library-%) \
+	  || { echo "$$(wc -l < $(STANDING)) of $(words $(BELOW)) crates stand. Not yet:" \
+	  $$(printf '%s\n' $(LIBRARIES) | grep -vxFf $(STANDING)); exit 1; }
+	@cd crates/adbhub && rt run -- replay < ../../examples/version.capture > /dev/null
+	@cp crates/adbhub/out/adbhub bin/adbhub
+	@echo '$(words $(BELOW)) of $(words $(BELOW)) crates stand: bin/adbhub is proved and linked'
+
+define library
+.PHONY: library-$(1)
+library-$(1): $(patsubst %,library-%,$(filter $(LIBRARIES),$(shell sed -n 's/^$(1)\( [^:]*\)\{0,1\}://p' crates.txt)))
+	@cd crates/$(1) && rt lib > ../../bin/$(1).log 2>&1 || { cat ../../bin/$(1).log; echo '$(1) does not stand'; exit 1; }
+	@echo $(1) >> $(STANDING) && echo "$$$$(wc -l < $(STANDING)) of $(words $(BELOW)) crates stand: $(1)"
+endef
+ifneq ($(filter library-%,$(MAKECMDGOALS)),)
+$(foreach crate,$(LIBRARIES),$(eval $(call library,$(crate))))
+endif
 
 test:
 	rt ci
