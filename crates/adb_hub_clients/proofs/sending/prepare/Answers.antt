@@ -17,5 +17,6 @@ returns-clause-held c = λ k n.
 pub returns-clause-ready : goal.returns-clause-ready
 returns-clause-ready c =
     let client = c.args.stream.now.client in
-    prepared c.args.stream.now.part.flow c.args.maxdata c.make_ready.result (at client c.args.tables.now.clients.entries) (at client c.make_ready.new.clients.entries)
+    prepared c.args.stream.now.part.flow c.args.maxdata c.make_ready.result (at client c.args.tables.now.clients.entries)
+    (at client c.make_ready.new.clients.entries)
     (c.make_ready.ensures.widens client) c.make_ready.ensures.cut c.make_ready.ensures.writes
