@@ -17,3 +17,4 @@ mod texts;
 
 pub use laws::no_turn_is_cut_off;
 pub use load::Load;
+pub use numbers::limits_are;

@@ -1,5 +1,7 @@
 //! The numbers of a load.
 
+ghost use Rattle.std.specs.Prelude.{◌≡◌};
+
 /// How many devices are plugged in.
 pub(crate) const DEVICES: u16 = 8;
 
@@ -11,3 +13,11 @@ pub(crate) const FIRST_REMOTE: u32 = 1000;
 
 /// The first bytes of a packet that comes in two pieces.
 pub(crate) const HEAD_LEN: usize = 11;
+
+/// The numbers that definitions take from the code, written out.
+pub fn limits_are()
+    ensures devices { DEVICES ≡ 8 }
+    ensures live { MOST_LIVE ≡ 16 }
+    ensures remote { FIRST_REMOTE ≡ 1000 }
+    ensures head { HEAD_LEN ≡ 11 }
+{}
