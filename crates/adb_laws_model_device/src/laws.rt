@@ -1,10 +1,13 @@
 //! What the model device owes, and what its server waits for.
 
-ghost use Rattle.std.specs.Prelude.{ℕ, ◌^◌, ◌≡◌, ◌<◌, ◌≤◌, false, List, Ok};
+ghost use Rattle.std.specs.Prelude.{ℕ, ◌^◌, ◌≡◌, ◌<◌, ◌≤◌, Bool, true, false, List, Ok, is_none};
 ghost use Rattle.adb_wire.specs.declared.packets.Packet.{Packet};
 ghost use Rattle.adb_history.specs.Births.{count_from, is_open};
+ghost use Rattle.adb_wire.specs.Format.{is_cnxn};
+ghost use Rattle.adb_history.specs.Book.{is_refused};
 ghost use Rattle.adb_history.specs.Bytes.{bytes_sent};
 ghost use Rattle.adb_history.specs.Machine.{History, IsLegal};
+ghost use Rattle.adb_device_streams.specs.Link.{link_of};
 ghost use Rattle.adb_daemon.specs.Daemon.{answer_to};
 ghost use Rattle.adb_daemon.specs.Device.{Setting, device_behind};
 ghost use Rattle.adb_laws_pairs.specs.Devices.{IsPlain};
@@ -28,6 +31,12 @@ pub fn the_model_device_is_plain()
 pub fn joined_bytes_are_paired_packets()
     ensures { (setting : Setting) (history : History) → setting.most < 2 ^ 32 → IsLegal history
         → IsJoined setting history → IsPaired (packets_owed setting) history }
+{}
+
+/// A device makes no link of a CNXN exactly where a server refuses the same CNXN of a device.
+pub fn a_device_refuses_what_a_server_refuses()
+    ensures { (most : ℕ) (credit : Bool) (p : Packet) → is_cnxn p.command ≡ true
+        → is_none (link_of most credit p) ≡ is_refused p }
 {}
 
 /// A model device that is fed what a server sent to a link answers Ok: the bytes have no fault, and
