@@ -134,7 +134,10 @@ fn a_piece_is_cut_beside_what_is_held(rt: HostRuntime) {
     assert_eq!(rt; device.payload.as_slice(), b"device::".as_slice());
     assert_eq!(rt; link.missing(), 24);
     link.put_incoming(incoming);
-    link.hold(&WRITE_WITHOUT_SUM[..26]).expect(&rt, "memory");
+    let incoming = link
+        .with_piece(&WRITE_WITHOUT_SUM[..26])
+        .expect(&rt, "memory");
+    link.put_incoming(incoming);
     assert_eq!(rt; link.missing(), 1);
     let incoming = link.with_piece(b"\n").expect(&rt, "memory");
     assert!(rt; incoming.is_broken());
