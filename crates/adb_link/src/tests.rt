@@ -133,10 +133,12 @@ fn a_piece_is_cut_beside_what_is_held(rt: HostRuntime) {
     let device = incoming.next().expect(&rt, "a packet");
     assert_eq!(rt; device.payload.as_slice(), b"device::".as_slice());
     assert_eq!(rt; link.missing(), 24);
+    assert!(rt; !incoming.is_broken());
     link.put_incoming(incoming);
     let incoming = link
         .with_piece(&WRITE_WITHOUT_SUM[..26])
         .expect(&rt, "memory");
+    assert!(rt; !incoming.is_broken());
     link.put_incoming(incoming);
     assert_eq!(rt; link.missing(), 1);
     let incoming = link.with_piece(b"\n").expect(&rt, "memory");
