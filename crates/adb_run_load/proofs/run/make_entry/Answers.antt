@@ -12,16 +12,16 @@ returns-in_err-add-in-Ok c =
     let passed = err_from_is_err_and c.from_residual.result c.from_residual.ensures.1 in
     rw passed.1
     (λ h lawful counted taken. before_draining (c.args.entry.now ∷ h) c.apply.new.hub
-    (entry_made h c.args.entry.now c.apply.new.hub c.requires.ready.input (c.in-Ok.ensures h lawful)))
+    (entry_made h c.args.entry.now c.apply.new.hub c.requires.ready.input (c.in-Ok.ensures.applied h lawful)))
 
 pub returns-in_ok-add-in-Ok : goal.returns-in_ok-add-in-Ok
 returns-in_ok-add-in-Ok c = λ h lawful counted taken.
-    let made = entry_made h c.args.entry.now c.apply.new.hub c.requires.ready.input (c.in-Ok.ensures h lawful) in
+    let made = entry_made h c.args.entry.now c.apply.new.hub c.requires.ready.input (c.in-Ok.ensures.applied h lawful) in
     c.drain.ensures (c.args.entry.now ∷ h) made (c.in_ok-add-in-Ok.ensures h made.legal counted)
 
 pub returns-in-Err-OutOfMemory : goal.returns-in-Err-OutOfMemory
 returns-in-Err-OutOfMemory c =
     let refused = subst (λ (why : Refused). (h : History) → IsLawful c.args.hub.now h → Applies h c.args.entry.now (Err why) c.apply.new.hub)
-    c.in-Err-OutOfMemory.field-0-is c.in-Err-OutOfMemory.ensures in
+    c.in-Err-OutOfMemory.field-0-is c.in-Err-OutOfMemory.ensures.applied in
     λ h lawful counted taken.
     then_more h (c.args.entry.now ∷ []) c.apply.new.hub (whole_front h c.apply.new.hub (refused h lawful))
