@@ -65,12 +65,16 @@ class History:
             raise ValueError(f'no mark: {mark}')
 
     def entries(self, histories):
-        """Its lines, with those of a history that it begins as, and lines of a range once for each of its numbers."""
+        """Its lines, with those of a history that it begins as, or that it reads as its capture, and lines of a range once for each of its numbers."""
         done = []
         for each, lines in itertools.groupby(self.lines, lambda line: range_of(line[1])):
             lines = list(lines)
             if lines[0][1][0] == 'As':
                 done += histories[lines[0][1][1]].entries(histories)
+                lines = lines[1:]
+            elif lines[0][1][0] == 'HistoryOf':
+                other = histories[lines[0][1][1]].entries(histories)
+                done += [('<', words) for mark, words in other if mark != '<']
                 lines = lines[1:]
             for number in each or [0]:
                 done += [(mark, numbered(words, number) if each else words) for mark, words in lines]

@@ -8,12 +8,12 @@ use Rattle.adb_words.specs.declared.command.WordsError.TheVariants as words
 use Rattle.adb_top.specs.Keeping.{IsLoss}
 use Rattle.adb_top.specs.Notes.{usage_line, out_of_memory_line, IsJust, IsLineOf, NotesBy}
 use Rattle.adb_top.specs.Replay.{EndsAs}
-use Rattle.adb_top.specs.Run.{IsAtHand, IsReplayLine, IsLoadLine}
-use Rattle.adb_top.specs.Words.{IsNoCommand, IsReplay}
+use Rattle.adb_top.specs.Run.{IsAtHand, IsReplayLine, IsCheckLine, IsLoadLine}
+use Rattle.adb_top.specs.Words.{IsNoCommand, IsReplay, IsCheck}
 use Rattle.adb_top.specs.declared.stop.Stop.{Stop}
 use Rattle.adb_top.specs.declared.stop.Stop.TheVariants as stop
 use Rattle.adb_top.specs.declared.status.Status.{Status}
-use Rattle.adb_top.specs.declared.status.Status.TheVariants.{Done, Usage, ReadFault, WriteFault, BadCapture, OutOfMemory}
+use Rattle.adb_top.specs.declared.status.Status.TheVariants.{Done, Usage, ReadFault, WriteFault, BadCapture, OutOfMemory, Illegal}
 use Rattle.adb_top.proofs.Lines.{notes_as, notes_of}
 
 -- the words are those of the command that was read
@@ -67,10 +67,11 @@ module _ {A : Type 0} (words : List (String A)) (read_rose write_rose : Type 0) 
   replay_hand : IsReplay words → (s : Status) (line : List ℕ) → IsReplayLine read_rose write_rose left s line → hand s line
   replay_hand replay Done line is = absurd is
   replay_hand replay Usage line is = absurd is
-  replay_hand replay ReadFault line is = (replay, is)
+  replay_hand replay ReadFault line is = (inl replay, is)
   replay_hand replay WriteFault line is = is
-  replay_hand replay BadCapture line is = (replay, is)
+  replay_hand replay BadCapture line is = inl (replay, is)
   replay_hand replay OutOfMemory line is = tt
+  replay_hand replay Illegal line is = absurd is
 
   load_hand : (s : Status) (line : List ℕ) → IsLoadLine write_rose s line → hand s line
   load_hand Done line is = absurd is
@@ -79,10 +80,23 @@ module _ {A : Type 0} (words : List (String A)) (read_rose write_rose : Type 0) 
   load_hand WriteFault line is = is
   load_hand BadCapture line is = absurd is
   load_hand OutOfMemory line is = tt
+  load_hand Illegal line is = absurd is
+
+  check_hand : IsCheck words → (s : Status) (line : List ℕ) → IsCheckLine read_rose write_rose left s line → hand s line
+  check_hand check Done line is = absurd is
+  check_hand check Usage line is = absurd is
+  check_hand check ReadFault line is = (inr check, is)
+  check_hand check WriteFault line is = is
+  check_hand check BadCapture line is = inr (check, is)
+  check_hand check OutOfMemory line is = tt
+  check_hand check Illegal line is = (check, is)
 
   module _ (status : Status) (rose again : Type 0) (had : List ℕ) (after : Option (List ℕ)) where
     pub replay_notes : IsReplay words → NotesBy status (IsReplayLine read_rose write_rose left) rose again had after → NotesBy status hand rose again had after
     replay_notes replay n = notes_as (IsReplayLine read_rose write_rose left) hand (replay_hand replay) status rose again had after n
+
+    pub check_notes : IsCheck words → NotesBy status (IsCheckLine read_rose write_rose left) rose again had after → NotesBy status hand rose again had after
+    check_notes check n = notes_as (IsCheckLine read_rose write_rose left) hand (check_hand check) status rose again had after n
 
     pub load_notes : NotesBy status (IsLoadLine write_rose) rose again had after → NotesBy status hand rose again had after
     load_notes n = notes_as (IsLoadLine write_rose) hand load_hand status rose again had after n

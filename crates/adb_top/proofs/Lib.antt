@@ -7,6 +7,7 @@ pub mod Records
 pub mod RecordEnds
 pub mod Captures
 pub mod Runs
+pub mod Checks
 pub mod Lines
 pub mod Loads
 pub mod Hands

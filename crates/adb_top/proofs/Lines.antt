@@ -8,7 +8,7 @@ use Rattle.adb_outside.specs.declared.sink.Wrote.{Wrote}
 use Rattle.adb_outside.specs.declared.sink.Wrote.TheVariants.{All, Failed}
 use Rattle.adb_top.specs.Notes.{write_fault_line, IsJust, IsLine, HasTried, HasFailed, NotesBy, RisesTwice}
 use Rattle.adb_top.specs.declared.status.Status.{Status}
-use Rattle.adb_top.specs.declared.status.Status.TheVariants.{Done, Usage, ReadFault, WriteFault, BadCapture, OutOfMemory}
+use Rattle.adb_top.specs.declared.status.Status.TheVariants.{Done, Usage, ReadFault, WriteFault, BadCapture, OutOfMemory, Illegal}
 
 -- what went out of a piece is a front of it
 gone_front : (piece : List ℕ) (wrote : Wrote) → IsPrefixOf (gone_out piece wrote) piece
@@ -24,6 +24,7 @@ line_said ReadFault line had after hand rose again own other is = record { line 
 line_said WriteFault line had after hand rose again own other is = absurd (other refl)
 line_said BadCapture line had after hand rose again own other is = record { line = line; own = own; is = is }
 line_said OutOfMemory line had after hand rose again own other is = record { line = line; own = own; is = is }
+line_said Illegal line had after hand rose again own other is = record { line = line; own = own; is = is }
 
 -- The line of WriteFault was tried.
 last_told : (had : List ℕ) (last : Wrote) (after : Option (List ℕ)) (rose : Type 0) → (is_failed_write last ≡ true → rose)
@@ -92,6 +93,7 @@ notes_as hand other on WriteFault rose again had after (inr n) = inr (
 )
 notes_as hand other on BadCapture rose again had after n = n
 notes_as hand other on OutOfMemory rose again had after n = n
+notes_as hand other on Illegal rose again had after n = n
 
 -- the line that alone is at hand may be at hand
 pub notes_of : (status : Status) (line : List ℕ) (hand : Status → List ℕ → Type 0) → hand status line → (ended : Status) (rose again : Type 0) (had : List ℕ)

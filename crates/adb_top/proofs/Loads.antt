@@ -10,8 +10,9 @@ use Rattle.adb_laws_answered.proofs.ServedLaws.{answered}
 use Rattle.adb_laws_causes.proofs.AllCauses.{all_causes}
 use Rattle.adb_laws_loads.proofs.Legal.{load_legal}
 use Rattle.adb_headline.proofs.Fifo.{all_fifo}
-use Rattle.adb_words.specs.Words.{command_of, gen_of, load_of, number_within, replay_of}
-use Rattle.adb_words.specs.declared.command.Command.TheVariants.{Replay, Gen}
+use Rattle.adb_words.specs.Words.{command_of, gen_of, load_of, number_within, bare_of}
+use Rattle.adb_words.specs.declared.command.Command.{Command}
+use Rattle.adb_words.specs.declared.command.Command.TheVariants.{Replay, Check, Gen}
 use Rattle.adb_words.specs.declared.command.TheConstants.{MAX_STREAMS, MAX_DIGITS}
 use Rattle.adb_top.specs.Keeping.{HasFront}
 use Rattle.adb_top.specs.Loads.{IsPromised, WritesLines, LoadBy, made}
@@ -19,7 +20,7 @@ use Rattle.adb_top.specs.Notes.{EndsIn}
 use Rattle.adb_top.specs.declared.stop.Stop.{Stop}
 use Rattle.adb_top.specs.declared.stop.Stop.TheVariants as stop
 use Rattle.adb_top.specs.declared.status.Status.{Status}
-use Rattle.adb_top.specs.declared.status.Status.TheVariants.{Done, Usage, ReadFault, WriteFault, BadCapture, OutOfMemory}
+use Rattle.adb_top.specs.declared.status.Status.TheVariants.{Done, Usage, ReadFault, WriteFault, BadCapture, OutOfMemory, Illegal}
 use Rattle.adb_top.proofs.Runs.{none_out}
 
 -- what the laws of whole histories say of a legal one
@@ -47,6 +48,7 @@ pub load_by : (why : Stop) (status : Status) (text had : List ℕ) (written : Op
 load_by why Done text had written e w = absurd e
 load_by why Usage text had written e w = absurd e
 load_by why ReadFault text had written e w = subst (λ (k : Stop). WritesLines (Err k) text had written) e w
+load_by why Illegal text had written e w = absurd e
 load_by why WriteFault text had written e w = front_of_lines why text had written w
 load_by why BadCapture text had written e w = subst (λ (k : Stop). WritesLines (Err k) text had written) e.1 w
 load_by stop.ReadFault OutOfMemory text had written e w = absurd e
@@ -83,18 +85,21 @@ few_streams [] seed streams e = absurd (let clash : None ≡ Some (Gen seed stre
 few_streams (a ∷ []) seed streams e = absurd (let clash : None ≡ Some (Gen seed streams) = e in cc)
 few_streams (a ∷ b ∷ c ∷ words) seed streams e = absurd (let clash : None ≡ Some (Gen seed streams) = e in cc)
 
-no_load : (words : List (List ℕ)) (seed streams : ℕ) → replay_of words ≡ Some (Gen seed streams) → ⊥
-no_load [] seed streams e = let clash : Some Replay ≡ Some (Gen seed streams) = e in cc
-no_load (word ∷ words) seed streams e = let clash : None ≡ Some (Gen seed streams) = e in cc
+no_load : (command : Command) (words : List (List ℕ)) (seed streams : ℕ) → ¬ (Some command ≡ Some (Gen seed streams))
+    → bare_of command words ≡ Some (Gen seed streams) → ⊥
+no_load command [] seed streams other e = other e
+no_load command (word ∷ words) seed streams other e = let clash : None ≡ Some (Gen seed streams) = e in cc
 
 few_named : (words : List (List ℕ)) (seed streams : ℕ) → command_of words ≡ Some (Gen seed streams) → streams ≤ MAX_STREAMS
 few_named [] seed streams e = absurd (let clash : None ≡ Some (Gen seed streams) = e in cc)
-few_named (name ∷ words) seed streams e = go (bytes_eq name (codes "replay")) (bytes_eq name (codes "gen")) e
+few_named (name ∷ words) seed streams e = go (bytes_eq name (codes "replay")) (bytes_eq name (codes "check")) (bytes_eq name (codes "gen")) e
   where
-    go : (a b : Bool) → (if a then replay_of words else (if b then gen_of words else None)) ≡ Some (Gen seed streams) → streams ≤ MAX_STREAMS
-    go true b is = absurd (no_load words seed streams is)
-    go false true is = few_streams words seed streams is
-    go false false is = absurd (let clash : None ≡ Some (Gen seed streams) = is in cc)
+    go : (a b c : Bool) → (if a then bare_of Replay words else (if b then bare_of Check words else (if c then gen_of words else None)))
+        ≡ Some (Gen seed streams) → streams ≤ MAX_STREAMS
+    go true b c is = absurd (no_load Replay words seed streams (λ e. cc) is)
+    go false true c is = absurd (no_load Check words seed streams (λ e. cc) is)
+    go false false true is = few_streams words seed streams is
+    go false false false is = absurd (let clash : None ≡ Some (Gen seed streams) = is in cc)
 
 -- what a server makes of a load that words name is promised
 pub load_promised : (words : List (List ℕ)) (seed streams : ℕ) → command_of words ≡ Some (Gen seed streams) → IsPromised (made seed streams)

@@ -12,10 +12,10 @@ use Rattle.adb_top.specs.Run.{WritesBy, EndsBy, CompletesBy}
 use Rattle.adb_top.specs.declared.stop.Stop.{Stop}
 use Rattle.adb_top.specs.declared.stop.Stop.TheVariants as stop
 use Rattle.adb_top.specs.declared.status.Status.{Status}
-use Rattle.adb_top.specs.declared.status.Status.TheVariants.{Done, Usage, ReadFault, WriteFault, BadCapture, OutOfMemory}
+use Rattle.adb_top.specs.declared.status.Status.TheVariants.{Done, Usage, ReadFault, WriteFault, BadCapture, OutOfMemory, Illegal}
 
 -- all of a text is a front of it
-all_out : (text had : List ℕ) (written : Option (List ℕ)) → written ≡ Some (had ++ text) → HasFront had text written
+pub all_out : (text had : List ℕ) (written : Option (List ℕ)) → written ≡ Some (had ++ text) → HasFront had text written
 all_out text had written is = record { growth = text; is = is; front = ([], append-nil text) }
 
 pub none_out : (text had : List ℕ) (written : Option (List ℕ)) → written ≡ Some had → HasFront had text written
@@ -35,6 +35,7 @@ writes_by why ReadFault text had written e w = front_out why text had written w
 writes_by why WriteFault text had written e w = front_out why text had written w
 writes_by why BadCapture text had written e w = subst (λ (k : Stop). WritesText (Err k) text had written) e.1 w
 writes_by why OutOfMemory text had written e w = front_out why text had written w
+writes_by why Illegal text had written e w = absurd e
 
 pub ends_by : (why : Stop) (status : Status) (a : Accepted) (left : Option (List ℕ)) → EndsIn why status
     → EndsAs (Err why) a left → EndsBy status a left
@@ -44,6 +45,7 @@ ends_by why ReadFault a left e ends = tt
 ends_by why WriteFault a left e ends = tt
 ends_by why BadCapture a left e ends = (e.0, subst (λ (k : Stop). EndsAs (Err k) a left) e.1 ends)
 ends_by why OutOfMemory a left e ends = tt
+ends_by why Illegal a left e ends = absurd e
 
 -- a stop that no fault made
 pub completes_stopped : (why : Stop) (status : Status) (a : Accepted) (left : Option (List ℕ)) → EndsIn why status
@@ -54,6 +56,7 @@ completes_stopped why ReadFault a left e ends reads writes = absurd (reads e)
 completes_stopped why WriteFault a left e ends reads writes = absurd (writes refl)
 completes_stopped why BadCapture a left e ends reads writes =
     subst (λ (r : Option Refusal). CompletesBy BadCapture r) (sym (ends_by why BadCapture a left e ends).1) (inl refl)
+completes_stopped why Illegal a left e ends reads writes = absurd e
 completes_stopped why OutOfMemory a left e ends reads writes = memory a.refused
   where
     memory : (r : Option Refusal) → CompletesBy OutOfMemory r

@@ -2,7 +2,7 @@
 use Rattle.std.specs.Prelude.{ℕ, ◌≡◌, Bool, true, false}
 use Rattle.adb_outside.specs.Outside.{Rises}
 use Rattle.adb_top.specs.declared.status.Status.{Status}
-use Rattle.adb_top.specs.declared.status.Status.TheVariants.{Done, Usage, ReadFault, WriteFault, BadCapture, OutOfMemory}
+use Rattle.adb_top.specs.declared.status.Status.TheVariants.{Done, Usage, ReadFault, WriteFault, BadCapture, OutOfMemory, Illegal}
 
 -- The count of a source or a sink rose.
 abbrev pub Rose : {A : Type 0} → (A → ℕ) → A → A → Type 0
@@ -20,6 +20,7 @@ IsFaultless ReadFault = ⊥
 IsFaultless WriteFault = ⊥
 IsFaultless BadCapture = Unit {0}
 IsFaultless OutOfMemory = Unit {0}
+IsFaultless Illegal = Unit {0}
 
 -- whether a status is that a write failed
 abbrev pub tells_write_fault : Status → Bool
@@ -29,3 +30,4 @@ tells_write_fault ReadFault = false
 tells_write_fault WriteFault = true
 tells_write_fault BadCapture = false
 tells_write_fault OutOfMemory = false
+tells_write_fault Illegal = false

@@ -9,3 +9,4 @@ pub mod Notes
 pub mod Replayed
 pub mod Run
 pub mod Loads
+pub mod Check

@@ -13,7 +13,7 @@ use Rattle.adb_top.specs.Keeping.{HasFront}
 use Rattle.adb_top.specs.declared.stop.Stop.{Stop}
 use Rattle.adb_top.specs.declared.stop.Stop.TheVariants as stop
 use Rattle.adb_top.specs.declared.status.Status.{Status}
-use Rattle.adb_top.specs.declared.status.Status.TheVariants.{Done, Usage, ReadFault, WriteFault, BadCapture, OutOfMemory}
+use Rattle.adb_top.specs.declared.status.Status.TheVariants.{Done, Usage, ReadFault, WriteFault, BadCapture, OutOfMemory, Illegal}
 
 -- as many streams as a load may have
 pub record IsLoadSize (streams : ℕ) : Type 0 where
@@ -66,6 +66,7 @@ LoadBy ReadFault text had written = ⊥
 LoadBy WriteFault text had written = HasFront had text written
 LoadBy BadCapture text had written = ⊥
 LoadBy OutOfMemory text had written = written ≡ Some had
+LoadBy Illegal text had written = ⊥
 
 abbrev pub WritesLoad : {K : Type 0} → Status → (seed streams : ℕ) → (K → Option (List ℕ)) → K → K → Type 0
 WritesLoad status seed streams written old new =

@@ -8,10 +8,10 @@ use Rattle.adb_top.specs.Faults.{Rose}
 use Rattle.adb_top.specs.declared.stop.Stop.{Stop}
 use Rattle.adb_top.specs.declared.stop.Stop.TheVariants as stop
 use Rattle.adb_top.specs.declared.status.Status.{Status}
-use Rattle.adb_top.specs.declared.status.Status.TheVariants.{Done, Usage, ReadFault, WriteFault, BadCapture, OutOfMemory}
+use Rattle.adb_top.specs.declared.status.Status.TheVariants.{Done, Usage, ReadFault, WriteFault, BadCapture, OutOfMemory, Illegal}
 
 abbrev pub usage_line : List ℕ
-usage_line = codes "usage: adbhub replay | gen <seed> <streams> | local <seed> | serve [--port <n>] [--device <serial>] [--connect <port>] [--record]\n"
+usage_line = codes "usage: adbhub replay | gen <seed> <streams> | local <seed> | serve [--port <n>] [--device <serial>] [--connect <port>] [--record] | check\n"
 
 abbrev pub read_fault_line : List ℕ
 read_fault_line = codes "adbhub: read fault\n"
@@ -21,6 +21,9 @@ write_fault_line = codes "adbhub: write fault\n"
 
 abbrev pub out_of_memory_line : List ℕ
 out_of_memory_line = codes "adbhub: out of memory\n"
+
+abbrev pub illegal_history_line : List ℕ
+illegal_history_line = codes "adbhub: illegal history\n"
 
 -- the line that names a refusal
 unfoldable pub bad_capture_line : Refusal → List ℕ
@@ -36,6 +39,7 @@ IsLine ReadFault line = line ≡ read_fault_line
 IsLine WriteFault line = line ≡ write_fault_line
 IsLine BadCapture line = (why : Refusal) × (line ≡ bad_capture_line why)
 IsLine OutOfMemory line = line ≡ out_of_memory_line
+IsLine Illegal line = line ≡ illegal_history_line
 
 -- A status's line stands behind what the note had.
 pub record HasLine (status : Status) (had : List ℕ) (after : Option (List ℕ)) : Type 0 where
@@ -75,6 +79,7 @@ NotesBy WriteFault hand rose again had after =
     (hand WriteFault write_fault_line × HasTried rose had after) ⊎ (rose × HasFailed hand again had after)
 NotesBy BadCapture hand rose again had after = HasLine BadCapture had after
 NotesBy OutOfMemory hand rose again had after = HasLine OutOfMemory had after
+NotesBy Illegal hand rose again had after = HasLine Illegal had after
 
 abbrev pub WritesNote : {N : Type 0}
     → Status → (Status → List ℕ → Type 0) → (N → ℕ) → (N → Option (List ℕ)) → N → N → Type 0
@@ -97,6 +102,7 @@ IsLineOf (stop.Refused why) s l = IsJust BadCapture (bad_capture_line why) s l �
 abbrev pub EndsIn : Stop → Status → Type 0
 EndsIn why Done = ⊥
 EndsIn why Usage = ⊥
+EndsIn why Illegal = ⊥
 EndsIn why ReadFault = why ≡ stop.ReadFault
 EndsIn why WriteFault = Unit {0}
 EndsIn why BadCapture = (refusal : Refusal) × (why ≡ stop.Refused refusal)

@@ -3,13 +3,14 @@ use Rattle.std.specs.Prelude.{ℕ, ◌≡◌, ◌⊎◌, true, List, ◌++◌, O
 use Rattle.adb_history.specs.Accepted.{Accepted, accepted, replayed}
 use Rattle.adb_history.specs.declared.refusal.Refusal.{Refusal}
 use Rattle.adb_words.specs.Words.{names_command, texts}
-use Rattle.adb_top.specs.Notes.{bad_capture_line}
-use Rattle.adb_top.specs.Words.{IsNoCommand, IsReplay}
+use Rattle.adb_check.specs.Formed.{formed}
+use Rattle.adb_top.specs.Notes.{bad_capture_line, illegal_history_line}
+use Rattle.adb_top.specs.Words.{IsNoCommand, IsReplay, IsCheck}
 use Rattle.adb_top.specs.Keeping.{HasFront}
 use Rattle.adb_top.specs.Replay.{IsReadWhole}
 use Rattle.adb_top.specs.Replayed.{GrowsSpelled, GrowsWhole, WritesConsumed}
 use Rattle.adb_top.specs.declared.status.Status.{Status}
-use Rattle.adb_top.specs.declared.status.Status.TheVariants.{Done, Usage, ReadFault, WriteFault, BadCapture, OutOfMemory}
+use Rattle.adb_top.specs.declared.status.Status.TheVariants.{Done, Usage, ReadFault, WriteFault, BadCapture, OutOfMemory, Illegal}
 
 -- The words are no command, or the note failed, or memory ran out over them, where the first is a command's name.
 abbrev pub IsUnheard : {A : Type 0} → List (String A) → Status → Type 0
@@ -24,6 +25,7 @@ WritesBy Usage text had written = written ≡ Some had
 WritesBy ReadFault text had written = HasFront had text written
 WritesBy WriteFault text had written = HasFront had text written
 WritesBy OutOfMemory text had written = HasFront had text written
+WritesBy Illegal text had written = ⊥
 
 -- What goes out behind what the sink had: the drained history of what the source's capture gives.
 abbrev pub WritesHistory : {K : Type 0}
@@ -60,6 +62,7 @@ EndsBy Usage a left = Unit {0}
 EndsBy ReadFault a left = Unit {0}
 EndsBy WriteFault a left = Unit {0}
 EndsBy OutOfMemory a left = Unit {0}
+EndsBy Illegal a left = ⊥
 
 abbrev pub EndsCapture : {S : Type 0} → Status → (S → Option (List ℕ)) → S → S → Type 0
 EndsCapture status left old new =
@@ -78,6 +81,7 @@ NamesBy Usage a had after = Unit {0}
 NamesBy ReadFault a had after = Unit {0}
 NamesBy WriteFault a had after = Unit {0}
 NamesBy OutOfMemory a had after = Unit {0}
+NamesBy Illegal a had after = ⊥
 
 -- At BadCapture the note names why the source's capture is refused.
 abbrev pub NamesRefusal : {N : Type 0}
@@ -96,6 +100,18 @@ IsReplayLine read_rose write_rose left WriteFault line = write_rose
 IsReplayLine read_rose write_rose left BadCapture line = (capture : List ℕ) → left ≡ Some capture
     → (why : Refusal) × ((accepted capture).refused ≡ Some why) × (line ≡ bad_capture_line why)
 IsReplayLine read_rose write_rose left OutOfMemory line = Unit {0}
+IsReplayLine read_rose write_rose left Illegal line = ⊥
+
+-- of a history that is judged, whose capture is refused by form, or that is not legal
+abbrev pub IsCheckLine : (read_rose write_rose : Type 0) → Option (List ℕ) → Status → List ℕ → Type 0
+IsCheckLine read_rose write_rose left Done line = ⊥
+IsCheckLine read_rose write_rose left Usage line = ⊥
+IsCheckLine read_rose write_rose left ReadFault line = read_rose
+IsCheckLine read_rose write_rose left WriteFault line = write_rose
+IsCheckLine read_rose write_rose left BadCapture line = (capture : List ℕ) → left ≡ Some capture
+    → (why : Refusal) × ((formed capture).refused ≡ Some why) × (line ≡ bad_capture_line why)
+IsCheckLine read_rose write_rose left OutOfMemory line = Unit {0}
+IsCheckLine read_rose write_rose left Illegal line = line ≡ illegal_history_line
 
 -- of a load
 abbrev pub IsLoadLine : (write_rose : Type 0) → Status → List ℕ → Type 0
@@ -105,17 +121,20 @@ IsLoadLine write_rose ReadFault line = ⊥
 IsLoadLine write_rose WriteFault line = write_rose
 IsLoadLine write_rose BadCapture line = ⊥
 IsLoadLine write_rose OutOfMemory line = Unit {0}
+IsLoadLine write_rose Illegal line = ⊥
 
 -- of any words
 abbrev pub IsAtHand : {A : Type 0} → List (String A)
     → (read_rose write_rose : Type 0) → Option (List ℕ) → Status → List ℕ → Type 0
 IsAtHand words read_rose write_rose left Done line = ⊥
 IsAtHand words read_rose write_rose left Usage line = IsNoCommand words
-IsAtHand words read_rose write_rose left ReadFault line = IsReplay words × read_rose
+IsAtHand words read_rose write_rose left ReadFault line = (IsReplay words ⊎ IsCheck words) × read_rose
 IsAtHand words read_rose write_rose left WriteFault line = write_rose
 IsAtHand words read_rose write_rose left BadCapture line =
-    IsReplay words × IsReplayLine read_rose write_rose left BadCapture line
+    (IsReplay words × IsReplayLine read_rose write_rose left BadCapture line)
+    ⊎ (IsCheck words × IsCheckLine read_rose write_rose left BadCapture line)
 IsAtHand words read_rose write_rose left OutOfMemory line = Unit {0}
+IsAtHand words read_rose write_rose left Illegal line = IsCheck words × (line ≡ illegal_history_line)
 
 -- by how a capture ends, unless memory ran out
 abbrev pub CompletesBy : Status → Option Refusal → Type 0

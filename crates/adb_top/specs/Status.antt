@@ -1,7 +1,7 @@
 -- The exit codes of statuses.
 use Rattle.std.specs.Prelude.{ℕ}
 use Rattle.adb_top.specs.declared.status.Status.{Status}
-use Rattle.adb_top.specs.declared.status.Status.TheVariants.{Done, Usage, ReadFault, WriteFault, BadCapture, OutOfMemory}
+use Rattle.adb_top.specs.declared.status.Status.TheVariants.{Done, Usage, ReadFault, WriteFault, BadCapture, OutOfMemory, Illegal}
 
 abbrev pub code_of : Status → ℕ
 code_of Done = 0
@@ -10,3 +10,4 @@ code_of ReadFault = 3
 code_of WriteFault = 4
 code_of BadCapture = 5
 code_of OutOfMemory = 6
+code_of Illegal = 14

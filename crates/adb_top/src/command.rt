@@ -1,19 +1,22 @@
 //! The top call.
 
 ghost use Rattle.std.specs.Prelude.{◌≡◌, ◌≢◌, ◌⊎◌, ℕ};
+ghost use Rattle.adb_top.specs.Check.{WritesVerdict, NamesForm, CompletesCheck};
 ghost use Rattle.adb_top.specs.Faults.{Rose, Stood, IsFaultless};
 ghost use Rattle.adb_top.specs.Kills.{StopsAtKill};
 ghost use Rattle.adb_top.specs.Loads.{IsLoadSize, IsPromised, WritesLoad, made};
 ghost use Rattle.adb_top.specs.Notes.{WritesNote};
 ghost use Rattle.adb_top.specs.Run.{WritesHistory, WritesRead, WritesLegal, WritesWhole};
 ghost use Rattle.adb_top.specs.Run.{EndsCapture, NamesRefusal, Completes, IsUnheard};
-ghost use Rattle.adb_top.specs.Run.{IsAtHand, IsReplayLine, IsLoadLine};
-ghost use Rattle.adb_top.specs.Words.{IsNoCommand, IsReplay, IsLoad};
+ghost use Rattle.adb_top.specs.Run.{IsAtHand, IsReplayLine, IsCheckLine, IsLoadLine};
+ghost use Rattle.adb_top.specs.Words.{IsNoCommand, IsReplay, IsCheck, IsLoad};
 
+use crate::checking::check;
 use crate::generating::generate;
-use crate::note::{say_out_of_memory, say_stop, say_usage};
+use crate::note::{say_illegal, say_out_of_memory, say_stop, say_usage};
 use crate::replay::replay;
 use crate::status::Status;
+use adb_check::Judgement;
 use adb_outside::{Sink, Source};
 use adb_words::{Command, WordsError, read_words};
 use std::alloc::Global;
@@ -27,6 +30,10 @@ use std::alloc::Global;
 /// `gen <seed> <streams>` makes the load of that seed and so many streams, hands out all that is
 /// due after each of its entries, and writes four lines: `streams`, `up` and `down`, the bytes that
 /// went up and down the streams, and `entries`, how many entries the history has. It reads nothing.
+///
+/// `check` reads a capture with its hand-outs, and writes one line: how many entries it has, where
+/// its history is legal, and else which is the first that may not come, and the rule that it breaks.
+/// It keeps one record. After a kill too it reads on, to the end of the source.
 ///
 /// Each status but Done writes its one line to the note. Where that write fails the status is
 /// WriteFault, whose own line is tried then, once.
@@ -49,7 +56,7 @@ pub fn run<S: Source, K: Sink, N: Sink>(
         → WritesHistory result (S.left source.old) K.written sink.old sink.new }
 
     // At ReadFault all that the bytes give that were read of the capture.
-    ensures consumed { result ≡ Status.ReadFault
+    ensures consumed { IsReplay words.now → result ≡ Status.ReadFault
         → WritesRead S.left source.old source.new K.written sink.old sink.new }
 
     // Whatever the source tells, what went out spells a legal history, which is fifo, has its
@@ -80,6 +87,14 @@ pub fn run<S: Source, K: Sink, N: Sink>(
     ensures promised { (seed streams : ℕ) → IsLoad seed streams words.now
         → IsPromised (made seed streams) }
 
+    // A judged history: at Done it is legal, so it is fifo, has its causes and is answered, and the
+    // source was read to its end; at Illegal this is its first entry that may not come, with the
+    // first rule that it breaks. The line that says so goes out, and nothing at BadCapture, where
+    // the capture is refused by form and the entries before that are legal.
+    ensures judged { IsCheck words.now → WritesVerdict result
+        S.left source.old source.new K.written sink.old sink.new }
+    ensures illegal { result ≡ Status.Illegal → IsCheck words.now }
+
     // The note has the one line of the status. Where it failed itself over the line of the status
     // that was at hand, a front of that stands there, and behind it WriteFault's line was tried: it
     // stands there whole, or a front of it, and the count rose again.
@@ -89,7 +104,10 @@ pub fn run<S: Source, K: Sink, N: Sink>(
         N.faults N.written note.old note.new }
 
     // At BadCapture that line names why the capture is refused.
-    ensures names { NamesRefusal result (S.left source.old) N.written note.old note.new }
+    ensures names { IsReplay words.now
+        → NamesRefusal result (S.left source.old) N.written note.old note.new }
+    ensures names_form { IsCheck words.now
+        → NamesForm result (S.left source.old) N.written note.old note.new }
 
     // A fault comes only where the count of that very stream rose in this run,
     ensures read_fault { result ≡ Status.ReadFault → Rose S.faults source.old source.new }
@@ -112,6 +130,13 @@ pub fn run<S: Source, K: Sink, N: Sink>(
         → ¬ Rose N.faults note.old note.new
         → Completes result (S.left source.old) }
 
+    // and a capture of a legal history is judged to be one, but for memory,
+    ensures checks { IsCheck words.now
+        → ¬ Rose S.faults source.old source.new
+        → ¬ Rose K.faults sink.old sink.new
+        → ¬ Rose N.faults note.old note.new
+        → CompletesCheck result (S.left source.old) }
+
     // and a load is done, but for memory.
     ensures makes { (seed streams : ℕ) → IsLoad seed streams words.now
         → ¬ Rose K.faults sink.old sink.new
@@ -120,6 +145,7 @@ pub fn run<S: Source, K: Sink, N: Sink>(
 {
     match read_words(alloc, words) {
         Ok(Command::Replay) => run_replay(alloc, source, sink, note),
+        Ok(Command::Check) => run_check(alloc, source, sink, note),
         Ok(Command::Gen { seed, streams }) => run_gen(alloc, seed, streams, sink, note),
         Err(WordsError::Usage) => say_usage(note),
         Err(WordsError::OutOfMemory) => say_out_of_memory(note),
@@ -134,6 +160,7 @@ fn run_replay<S: Source, K: Sink, N: Sink>(
     note: &mut N,
 ) -> Status
     ensures command { result ≢ Status.Usage }
+    ensures illegal { result ≢ Status.Illegal }
     ensures writes { WritesHistory result (S.left source.old) K.written sink.old sink.new }
     ensures consumed { result ≡ Status.ReadFault
         → WritesRead S.left source.old source.new K.written sink.old sink.new }
@@ -161,6 +188,42 @@ fn run_replay<S: Source, K: Sink, N: Sink>(
 {
     match replay(alloc, source, sink) {
         Ok(()) => Status::Done,
+        Err(stop) => say_stop(alloc, note, stop),
+    }
+}
+
+/// Judges the history of a source's capture, and tells the note how that ended where it is not
+/// legal.
+fn run_check<S: Source, K: Sink, N: Sink>(
+    alloc: Global,
+    source: &mut S,
+    sink: &mut K,
+    note: &mut N,
+) -> Status
+    ensures command { result ≢ Status.Usage }
+    ensures judged { WritesVerdict result
+        S.left source.old source.new K.written sink.old sink.new }
+    ensures notes { WritesNote result
+        (IsCheckLine (Rose S.faults source.old source.new)
+        (Rose K.faults sink.old sink.new) (S.left source.old))
+        N.faults N.written note.old note.new }
+    ensures names { NamesForm result (S.left source.old) N.written note.old note.new }
+    ensures read_fault { result ≡ Status.ReadFault → Rose S.faults source.old source.new }
+    ensures write_fault { result ≡ Status.WriteFault
+        → Rose K.faults sink.old sink.new ⊎ Rose N.faults note.old note.new }
+    ensures source_stood { IsFaultless result → Stood S.faults source.old source.new }
+    ensures sink_stood { result ≢ Status.WriteFault → Stood K.faults sink.old sink.new }
+    ensures note_stood { result ≢ Status.WriteFault → Stood N.faults note.old note.new }
+    ensures steady { S.steady source.old → K.steady sink.old → N.steady note.old
+        → IsFaultless result }
+    ensures complete { ¬ Rose S.faults source.old source.new
+        → ¬ Rose K.faults sink.old sink.new
+        → ¬ Rose N.faults note.old note.new
+        → CompletesCheck result (S.left source.old) }
+{
+    match check(alloc, source, sink) {
+        Ok(Judgement::Legal { .. }) => Status::Done,
+        Ok(Judgement::Illegal { .. }) => say_illegal(note),
         Err(stop) => say_stop(alloc, note, stop),
     }
 }

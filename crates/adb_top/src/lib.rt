@@ -1,6 +1,7 @@
 //! The commands of `adbhub`.
 #![tactic(auto)]
 
+mod checking;
 mod command;
 mod generating;
 mod note;

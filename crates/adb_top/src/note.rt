@@ -5,7 +5,8 @@ ghost use Rattle.adb_outside.specs.Outside.{Counts};
 ghost use Rattle.adb_outside.specs.Sink.{TellsWrite, is_failed_write};
 ghost use Rattle.adb_history.specs.declared.refusal.Refusal.{Refusal};
 ghost use Rattle.adb_top.specs.Faults.{Rose, Stood, tells_write_fault};
-ghost use Rattle.adb_top.specs.Notes.{usage_line, write_fault_line, out_of_memory_line, bad_capture_line};
+ghost use Rattle.adb_top.specs.Notes.{usage_line, write_fault_line, out_of_memory_line};
+ghost use Rattle.adb_top.specs.Notes.{bad_capture_line, illegal_history_line};
 ghost use Rattle.adb_top.specs.Notes.{IsJust, IsLine, IsLineOf, EndsIn, WritesNote};
 
 use crate::status::Status;
@@ -25,7 +26,7 @@ pub fn say_usage<N: Sink>(note: &mut N) -> Status
     say(
         note,
         Status::Usage,
-        b"usage: adbhub replay | gen <seed> <streams> | local <seed> | serve [--port <n>] [--device <serial>] [--connect <port>] [--record]\n",
+        b"usage: adbhub replay | gen <seed> <streams> | local <seed> | serve [--port <n>] [--device <serial>] [--connect <port>] [--record] | check\n",
     )
 }
 
@@ -64,6 +65,16 @@ pub fn say_out_of_memory<N: Sink>(note: &mut N) -> Status
     ensures counts { Counts N.steady N.faults note.old note.new (tells_write_fault result) }
 {
     say(note, Status::OutOfMemory, b"adbhub: out of memory\n")
+}
+
+/// Tells the note that a history is not legal.
+pub fn say_illegal<N: Sink>(note: &mut N) -> Status
+    ensures status { (result ≡ Status.Illegal) ⊎ (result ≡ Status.WriteFault) }
+    ensures told { WritesNote result (IsJust Status.Illegal illegal_history_line)
+        N.faults N.written note.old note.new }
+    ensures counts { Counts N.steady N.faults note.old note.new (tells_write_fault result) }
+{
+    say(note, Status::Illegal, b"adbhub: illegal history\n")
 }
 
 /// Writes the line of a status. Where that fails the line of WriteFault is tried once.

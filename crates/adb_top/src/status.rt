@@ -18,6 +18,8 @@ pub enum Status {
     BadCapture,
     /// Memory ran out.
     OutOfMemory,
+    /// The history that was to be judged is not legal.
+    Illegal,
 }
 
 impl Status {
@@ -32,6 +34,7 @@ impl Status {
             Status::WriteFault => 4,
             Status::BadCapture => 5,
             Status::OutOfMemory => 6,
+            Status::Illegal => 14,
         }
     }
 }

@@ -67,7 +67,7 @@ const KILL: &[u8] = b"R\x01\0\0\0\x0d\0\0\00009host:kill";
 const STOPPED: &[u8] = b"P\x01\0\0\0\x04\0\0\0OKAY";
 
 const USAGE: &[u8] =
-    b"usage: adbhub replay | gen <seed> <streams> | local <seed> | serve [--port <n>] [--device <serial>] [--connect <port>] [--record]\n";
+    b"usage: adbhub replay | gen <seed> <streams> | local <seed> | serve [--port <n>] [--device <serial>] [--connect <port>] [--record] | check\n";
 
 const READ_FAULT: &[u8] = b"adbhub: read fault\n";
 
@@ -298,6 +298,58 @@ const CASES: &[Case] = &[
         code: 4,
         written: 0,
         note: b"",
+    },
+    Case {
+        words: &["check"],
+        capture: ANSWERED,
+        history: &[b"legal 3\n"],
+        joins: 0,
+        reads: &[],
+        writes: &[],
+        notes: &[],
+        status: Status::Done,
+        code: 0,
+        written: 8,
+        note: b"",
+    },
+    Case {
+        words: &["check"],
+        capture: &[MAGIC, JOIN, JOIN],
+        history: &[b"illegal at entry 2: number not drawn\n"],
+        joins: 0,
+        reads: &[],
+        writes: &[],
+        notes: &[],
+        status: Status::Illegal,
+        code: 14,
+        written: 37,
+        note: b"adbhub: illegal history\n",
+    },
+    Case {
+        words: &["check"],
+        capture: ANSWERED,
+        history: &[b"legal 3\n"],
+        joins: 0,
+        reads: &[2],
+        writes: &[],
+        notes: &[],
+        status: Status::ReadFault,
+        code: 3,
+        written: 0,
+        note: READ_FAULT,
+    },
+    Case {
+        words: &["check"],
+        capture: ANSWERED,
+        history: &[b"legal 3\n"],
+        joins: 0,
+        reads: &[],
+        writes: &[1],
+        notes: &[],
+        status: Status::WriteFault,
+        code: 4,
+        written: 0,
+        note: WRITE_FAULT,
     },
 ];
 

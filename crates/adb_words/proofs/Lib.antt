@@ -1,3 +1,3 @@
 pub mod Plain
 pub mod Loads
-pub mod Replaying
+pub mod Bare

@@ -10,8 +10,5 @@ app_named name =
 abbrev pub required : List ℕ → Rule
 required id = record (new_rule id) { required = true }
 
-abbrev pub replay_app : App
-replay_app = app_named (codes "replay")
-
 abbrev pub gen_app : App
 gen_app = with_rule (with_rule (app_named (codes "gen")) (required (codes "seed"))) (required (codes "streams"))

@@ -4,7 +4,7 @@ use Rattle.std.specs.Prelude.{string_bytes, codes, bytes_eq, Option, Some, None,
 use Rattle.std.specs.List.{list_all}
 use Rattle.adb_outside.specs.Decimal.{number_in}
 use Rattle.adb_words.specs.declared.command.Command.{Command}
-use Rattle.adb_words.specs.declared.command.Command.TheVariants.{Replay, Gen}
+use Rattle.adb_words.specs.declared.command.Command.TheVariants.{Replay, Check, Gen}
 use Rattle.adb_words.specs.declared.command.TheConstants.{MAX_STREAMS, MAX_DIGITS}
 
 -- the bytes of words
@@ -16,10 +16,10 @@ abbrev pub number_within : ℕ → ℕ → List ℕ → Option ℕ
 number_within least most text =
     option_and_then (λ n. if nat_le least n && nat_le n most then Some n else None) (number_in MAX_DIGITS text)
 
--- `replay` has no words behind it
-abbrev pub replay_of : List (List ℕ) → Option Command
-replay_of [] = Some Replay
-replay_of (word ∷ words) = None
+-- a command that has no words behind its name
+abbrev pub bare_of : Command → List (List ℕ) → Option Command
+bare_of command [] = Some command
+bare_of command (word ∷ words) = None
 
 -- a load, where both numbers are there
 abbrev pub load_of : Option ℕ → Option ℕ → Option Command
@@ -34,7 +34,10 @@ gen_of _ = None
 -- the command of a name, with the words behind it
 abbrev pub command_named : List ℕ → List (List ℕ) → Option Command
 command_named name words =
-    if bytes_eq name (codes "replay") then replay_of words else (if bytes_eq name (codes "gen") then gen_of words else None)
+    if bytes_eq name (codes "replay") then bare_of Replay words
+    else (if bytes_eq name (codes "check") then bare_of Check words
+    else (if bytes_eq name (codes "gen") then gen_of words
+    else None))
 
 -- the command that words are
 abbrev pub command_of : List (List ℕ) → Option Command
@@ -44,7 +47,7 @@ command_of (name ∷ words) = command_named name words
 -- whether words begin with the name of a command
 abbrev pub names_command : List (List ℕ) → Bool
 names_command [] = false
-names_command (name ∷ words) = bytes_eq name (codes "replay") || bytes_eq name (codes "gen")
+names_command (name ∷ words) = bytes_eq name (codes "replay") || bytes_eq name (codes "check") || bytes_eq name (codes "gen")
 
 -- a word that begins with a hyphen is an option, or nothing
 abbrev pub is_operand : List ℕ → Bool

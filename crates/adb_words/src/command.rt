@@ -19,6 +19,8 @@ pub fn limits_are()
 pub enum Command {
     /// A capture is read, and its history is written.
     Replay,
+    /// A history is read, and judged.
+    Check,
     /// A load is made, drawn from this seed, of that many streams.
     Gen { seed: u64, streams: u16 },
 }

@@ -14,6 +14,7 @@ fn words_of(alloc: Global, words: &[&str]) -> Result<Vec<String>, AllocError> {
 
 const RIGHT: &[(&[&str], Command)] = &[
     (&["replay"], Command::Replay),
+    (&["check"], Command::Check),
     (
         &["gen", "7", "2000"],
         Command::Gen {
@@ -51,6 +52,8 @@ const WRONG: &[&[&str]] = &[
     &["replay", ""],
     &["replay", "--"],
     &["replay", "--help"],
+    &["check", "x"],
+    &["Check"],
     &["gen"],
     &["gen", "help"],
     &["gen", "7"],

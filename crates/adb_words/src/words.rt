@@ -2,8 +2,8 @@
 
 ghost use Rattle.std.specs.Prelude.{◌≡◌, ◌≢◌, Err, ok_or, true};
 ghost use Rattle.clap.specs.Words.{app_of};
-ghost use Rattle.adb_words.specs.Apps.{replay_app};
-ghost use Rattle.adb_words.specs.Words.{command_of, names_command, replay_of, texts};
+ghost use Rattle.adb_words.specs.Apps.{app_named};
+ghost use Rattle.adb_words.specs.Words.{command_of, bare_of, names_command, texts};
 
 use crate::command::{Command, WordsError};
 use crate::load::read_load;
@@ -22,29 +22,35 @@ pub fn read_words(alloc: Global, words: &[String]) -> Result<Command, WordsError
         return Err(WordsError::Usage);
     };
     match name.as_str() {
-        "replay" => read_replay(alloc, words),
+        "replay" => read_bare(alloc, "replay", Command::Replay, words),
+        "check" => read_bare(alloc, "check", Command::Check, words),
         "gen" => read_load(alloc, words),
         _ => Err(WordsError::Usage),
     }
 }
 
-/// `replay`, from the words behind it.
-fn read_replay(alloc: Global, words: &[String]) -> Result<Command, WordsError>
+/// A command that is its name alone, from the words behind that.
+fn read_bare(
+    alloc: Global,
+    name: &str,
+    command: Command,
+    words: &[String],
+) -> Result<Command, WordsError>
     ensures { result ≢ Err WordsError.OutOfMemory
-        → result ≡ ok_or (replay_of (texts words.now)) WordsError.Usage }
+        → result ≡ ok_or (bare_of command (texts words.now)) WordsError.Usage }
 {
-    match operands_of(replay_command(alloc), words) {
+    match operands_of(bare_command(alloc, name), words) {
         Ok(matches) => {
             drop(matches);
-            Ok(Command::Replay)
+            Ok(command)
         }
         Err(error) => Err(error),
     }
 }
 
-/// The command that reads them.
-fn replay_command<'a>(alloc: Global) -> clap::Command<'a>
-    ensures { app_of result ≡ replay_app }
+/// What reads them.
+fn bare_command<'a>(alloc: Global, name: &'a str) -> clap::Command<'a>
+    ensures { app_of result ≡ app_named name.entry.now }
 {
-    clap::Command::new(alloc, "replay").no_binary_name(true)
+    clap::Command::new(alloc, name).no_binary_name(true)
 }

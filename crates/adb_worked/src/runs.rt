@@ -3,17 +3,39 @@
 ghost use Rattle.std.specs.Prelude.{◌≡◌, ◌≤◌, ℕ, IfOk};
 ghost use Rattle.adb_worked.specs.Told.{told_as};
 
+use adb_check::{Judgement, judge_capture};
 use adb_outside::{MemorySink, MemorySource, Text};
 use adb_top::{Status, run};
 use itoa::Buffer;
 use std::alloc::{AllocError, Global};
 
-/// Replays a capture whose source gives at most `piece` bytes a call, and tells how that ends.
+/// Replays a capture whose source gives at most `piece` bytes a call, and tells how that ends, and
+/// that the history which was written is not legal, where a judge says so.
 pub fn replay_told(alloc: Global, capture: &[u8], piece: usize) -> Result<Text, AllocError>
     requires { 1 ≤ piece }
 {
     let words = [String::from_str(alloc, "replay")?];
-    run_told(alloc, &words, capture, piece)
+    let bytes = Text::from_slice(alloc, capture)?;
+    let mut source = MemorySource::new(bytes, piece, Vec::new(alloc));
+    let mut sink = MemorySink::new(alloc, Vec::new(alloc));
+    let mut note = MemorySink::new(alloc, Vec::new(alloc));
+    let status = run(alloc, &words, &mut source, &mut sink, &mut note);
+    let mut told = spell(alloc, status, note.bytes(), sink.bytes())?;
+    if !is_legal(alloc, sink.bytes())? {
+        told.push_slice(b"not legal\n")?;
+    }
+    Ok(told)
+}
+
+/// Whether a capture is that of a legal history, or nothing of one.
+fn is_legal(alloc: Global, capture: &[u8]) -> Result<bool, AllocError> {
+    if capture.is_empty() {
+        return Ok(true);
+    }
+    let bytes = Text::from_slice(alloc, capture)?;
+    let mut source = MemorySource::new(bytes, capture.len(), Vec::new(alloc));
+    let judged = judge_capture(alloc, &mut source);
+    Ok(matches!(judged, Ok(Judgement::Legal { .. })))
 }
 
 /// Runs words over a capture whose source gives at most `piece` bytes a call, and tells the status,

@@ -7,7 +7,8 @@ ghost use Rattle.adb_top.specs.Loads.{WritesLoad};
 ghost use Rattle.adb_top.specs.Notes.{usage_line, out_of_memory_line, IsJust, WritesNote};
 ghost use Rattle.adb_top.specs.Run.{WritesHistory, EndsCapture, NamesRefusal, Completes};
 ghost use Rattle.adb_top.specs.Run.{IsAtHand, IsUnheard};
-ghost use Rattle.adb_top.specs.Words.{IsNoCommand, IsReplay, IsLoad};
+ghost use Rattle.adb_top.specs.Check.{WritesVerdict};
+ghost use Rattle.adb_top.specs.Words.{IsNoCommand, IsReplay, IsCheck, IsLoad};
 
 use adb_outside::{Sink, Source};
 use adb_top::{Status, run, say_out_of_memory, say_usage};
@@ -45,13 +46,17 @@ pub fn start<S: Source, K: Sink, N: Sink>(
     ensures load { IfOk words (λ list. (seed streams : ℕ) → IsLoad seed streams list.items
         → WritesLoad result seed streams K.written sink.old sink.new) }
 
+    // and a history is judged.
+    ensures judged { IfOk words (λ list. IsCheck list.items → WritesVerdict result
+        S.left source.old source.new K.written sink.old sink.new) }
+
     // The note has the line of the status, which names a refusal.
     ensures notes { IfOk words (λ list. WritesNote result
         (IsAtHand list.items (Rose S.faults source.old source.new)
         (Rose K.faults sink.old sink.new) (S.left source.old))
         N.faults N.written note.old note.new) }
-    ensures names { IfOk words (λ _.
-        NamesRefusal result (S.left source.old) N.written note.old note.new) }
+    ensures names { IfOk words (λ list. IsReplay list.items
+        → NamesRefusal result (S.left source.old) N.written note.old note.new) }
 
     // Where they are not there, nothing is read and nothing goes out, and the note says why: want
     // of memory, or that they are no command.

@@ -2,8 +2,8 @@ use Rattle.std.proofs.Common.{◌∙◌, ap, Ok, Err}
 use Rattle.adb_words.specs.declared.command.Command.{Command}
 use Rattle.adb_words.specs.declared.command.WordsError.{WordsError}
 use Rattle.adb_top.proofs.Loads.{load_unmade}
-use Rattle.adb_words.specs.declared.command.Command.TheVariants.{Replay}
-use Rattle.adb_top.proofs.Hands.{words_named, none_named, replay_notes, load_notes, usage_notes, memory_notes}
+use Rattle.adb_words.specs.declared.command.Command.TheVariants.{Replay, Check}
+use Rattle.adb_top.proofs.Hands.{words_named, none_named, replay_notes, check_notes, load_notes, usage_notes, memory_notes}
 use Rattle.adb_top.proofs.command.run.Goals as goal
 
 pub returns-in-Ok-Replay-clause-notes : goal.returns-in-Ok-Replay-clause-notes
@@ -11,6 +11,12 @@ returns-in-Ok-Replay-clause-notes g c = λ had has.
     replay_notes c.args.words.now _ _ _ c.run_replay.result _ _ had _
     (words_named _ c.read_words.result Replay c.read_words.ensures.command
     (c.in-Ok-Replay.is ∙ ap (λ (command : Command). Ok command) c.in-Ok-Replay.field-0-is)) (c.run_replay.ensures.notes had has)
+
+pub returns-in-Ok-Check-clause-notes : goal.returns-in-Ok-Check-clause-notes
+returns-in-Ok-Check-clause-notes g c = λ had has.
+    check_notes c.args.words.now _ _ _ c.run_check.result _ _ had _
+    (words_named _ c.read_words.result Check c.read_words.ensures.command
+    (c.in-Ok-Check.is ∙ ap (λ (command : Command). Ok command) c.in-Ok-Check.field-0-is)) (c.run_check.ensures.notes had has)
 
 pub returns-in-Ok-Gen-clause-notes : goal.returns-in-Ok-Gen-clause-notes
 returns-in-Ok-Gen-clause-notes g c = λ had has.

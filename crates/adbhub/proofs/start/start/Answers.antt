@@ -8,3 +8,9 @@ returns-in-Ok-clause-complete g c = rw c.in-Ok.is (rw c.as_slice.ensures.value a
 
 pub returns-in-Ok-clause-notes : goal.returns-in-Ok-clause-notes
 returns-in-Ok-clause-notes g c = rw c.in-Ok.is (rw c.as_slice.ensures.value at c.run.ensures.notes)
+
+pub returns-in-Ok-clause-judged : goal.returns-in-Ok-clause-judged
+returns-in-Ok-clause-judged g c = rw c.in-Ok.is (rw c.as_slice.ensures.value at c.run.ensures.judged)
+
+pub returns-in-Ok-clause-names : goal.returns-in-Ok-clause-names
+returns-in-Ok-clause-names g c = rw c.in-Ok.is (rw c.as_slice.ensures.value at c.run.ensures.names)

@@ -1,0 +1,4 @@
+pub mod Breaking
+pub mod HandedOut
+pub mod Places
+pub mod Captured

@@ -1,0 +1,15 @@
+//! Judging histories: whether a server could have made them.
+#![tactic(auto)]
+
+mod capture;
+mod judge;
+mod laws;
+mod taking;
+#[cfg(test)]
+mod tests;
+mod verdict;
+
+pub use capture::{Judgement, judge_capture};
+pub use judge::Judge;
+pub use laws::{a_first_bad_entry_is_no_legal_one, there_is_one_first_bad_entry};
+pub use verdict::{Rule, Verdict};
