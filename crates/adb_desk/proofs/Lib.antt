@@ -1,0 +1,3 @@
+pub mod Holding
+pub mod Seats
+pub mod Staying

@@ -1,0 +1,24 @@
+use Rattle.std.proofs.Common.{sym, ◌∙◌, refl}
+use Rattle.adb_capture.specs.declared.entry.Entry.TheVariants.{Enter}
+use Rattle.adb_desk.proofs.Staying.{stays_sound, came_as}
+use Rattle.adb_desk.proofs.desk.Desk.try_enter.Goals as goal
+
+pub invariant_of-self-in-Err-keep : goal.invariant_of-self-in-Err-keep
+invariant_of-self-in-Err-keep g c =
+    stays_sound (record { hub = c.self.inside.hub; log = c.self.inside.log }) (Enter c.in-Ok.client c.args.port) c.enter.new.self c.keep.result c.keep.new.self
+    c.self.invariant (sym c.shut.ensures.shut ∙ c.in_default.is)
+    (λ h lawful. (
+      refl,
+      came_as (λ n. Enter n c.args.port) c.in-Ok.client _ c.enter.new.self h
+          (c.in-Ok.ensures.entered h lawful).1 (c.in-Ok.ensures.entered h lawful).2,
+    )) c.keep.ensures.keeps
+
+pub invariant_of-self-in-Ok-keep-6 : goal.invariant_of-self-in-Ok-keep-6
+invariant_of-self-in-Ok-keep-6 g c =
+    stays_sound (record { hub = c.self.inside.hub; log = c.self.inside.log }) (Enter c.in-Ok.client c.args.port) c.enter.new.self c.keep.result c.keep.new.self
+    c.self.invariant (sym c.shut.ensures.shut ∙ c.in_default.is)
+    (λ h lawful. (
+      refl,
+      came_as (λ n. Enter n c.args.port) c.in-Ok.client _ c.enter.new.self h
+          (c.in-Ok.ensures.entered h lawful).1 (c.in-Ok.ensures.entered h lawful).2,
+    )) c.keep.ensures.keeps

@@ -1,0 +1,138 @@
+-- What a log is seen as, and what keeping an entry makes of it.
+use Rattle.std.specs.Prelude.{ℕ, ◌+◌, ◌-◌, ◌^◌, ◌≡◌, Bool, true, false, ◌||◌, if◌then◌else◌, List, [], ◌∷◌, ◌++◌, length, Option, Some, None}
+use Rattle.std.specs.Prelude.{option_map, Result, Ok, Err, nat_le, nat_lt, ⊤}
+use Rattle.adb_outside.specs.Outside.{Rises}
+use Rattle.adb_capture.specs.declared.entry.Entry.{Entry}
+use Rattle.adb_capture.specs.declared.entry.Entry.TheVariants.{Join, Enter, Read, End, Bound, Attach, Recv, Detach, Put, Send}
+use Rattle.adb_capture.specs.declared.recorder.RecordError.{RecordError}
+use Rattle.adb_capture.specs.declared.recorder.RecordError.TheVariants.{Failed, OutOfMemory as WantOfMemory}
+use Rattle.adb_hub.specs.declared.error.HubError.TheVariants.{OutOfMemory}
+use Rattle.adb_hub.specs.declared.answers.Handed.{Handed}
+use Rattle.adb_hub.specs.declared.answers.Handed.TheVariants.{Bytes}
+use Rattle.adb_desk.specs.declared.error.DeskError.{DeskError}
+use Rattle.adb_desk.specs.declared.error.DeskError.TheVariants.{Halted, RecordFault, Hub, Later}
+use Rattle.adb_desk.specs.Pass.{PassView}
+
+-- a log: what its recorder tells and how often that failed, the answer with which it is shut, the alarm, both counts, how many passes are
+-- out and how many more may be made, whether the mark of the first handle is lent, and the shares that no pass holds
+pub record LogView : Type 0 where
+  pub told : Option (List Entry)
+  pub faults : ℕ
+  pub shut : Option DeskError
+  pub alarm : Bool
+  pub entries : ℕ
+  pub moved : ℕ
+  pub out : ℕ
+  pub free : ℕ
+  pub lent : Bool
+  pub home_entries : ℕ
+  pub home_moved : ℕ
+
+-- nothing is told yet, where the recorder tells
+abbrev pub IsFresh : Option (List Entry) → Type 0
+IsFresh None = ⊤
+IsFresh (Some told) = told ≡ []
+
+-- a log without entries
+abbrev pub first_log : Option (List Entry) → LogView
+first_log told = record {
+  told = told;
+  faults = 0;
+  shut = None;
+  alarm = false;
+  entries = 0;
+  moved = 0;
+  out = 0;
+  free = 0;
+  lent = false;
+  home_entries = 0;
+  home_moved = 0;
+}
+
+-- ---- entries
+-- the bytes that an entry moves
+abbrev pub moves : Entry → ℕ
+moves (Read c bytes) = length bytes
+moves (Recv t bytes) = length bytes
+moves (Put c bytes) = length bytes
+moves (Send t bytes) = length bytes
+moves _ = 0
+
+-- whether an entry draws a number
+abbrev pub is_draw : Entry → Bool
+is_draw (Join c) = true
+is_draw (Enter c port) = true
+is_draw (Attach t kind serial) = true
+is_draw _ = false
+
+-- ---- shut
+-- no entry more fits the counts
+abbrev pub is_full : LogView → Bool
+is_full l = nat_le (2 ^ 64 - 1) l.entries || nat_lt (2 ^ 64 - 4194304) l.moved
+
+abbrev pub or_halted : Bool → Option DeskError → Option DeskError
+or_halted full (Some e) = Some e
+or_halted true None = Some Halted
+or_halted false None = None
+
+-- the answer of a log that is shut: that which first shut it, or that its counts are full
+abbrev pub shut_with : LogView → Option DeskError
+shut_with l = or_halted (is_full l) l.shut
+
+abbrev pub or_given : Option DeskError → DeskError → DeskError
+or_given (Some e) other = e
+or_given None other = other
+
+-- ---- an entry is kept
+-- the counts with one entry more, counted in the shares that no pass holds; a number that was drawn may have two passes
+abbrev pub counting : LogView → Bool → ℕ → LogView
+counting l draws bytes = record l {
+  entries = l.entries + 1;
+  moved = l.moved + bytes;
+  free = if draws then 2 else l.free;
+  home_entries = l.home_entries + 1;
+  home_moved = l.home_moved + bytes;
+}
+
+-- what is told with one entry more
+abbrev pub grown : Entry → List Entry → List Entry
+grown e told = told ++ e ∷ []
+
+-- the log with one entry more: it is told, and counted
+abbrev pub with_entry : LogView → Entry → LogView
+with_entry l e = record l {
+  told = option_map (grown e) l.told;
+  entries = l.entries + 1;
+  moved = l.moved + moves e;
+  free = if is_draw e then 2 else l.free;
+  home_entries = l.home_entries + 1;
+  home_moved = l.home_moved + moves e;
+}
+
+-- the answer of a log whose recorder refused
+abbrev pub fault_of : RecordError → DeskError
+fault_of WantOfMemory = Hub OutOfMemory
+fault_of Failed = RecordFault
+
+abbrev pub shut_by : LogView → ℕ → DeskError → LogView
+shut_by l faults e = record l { faults = faults; shut = Some e }
+
+-- why a recorder shuts a log: it failed, and its count rose; or it found no memory
+abbrev pub Breaks : ℕ → ℕ → DeskError → Type 0
+Breaks before after RecordFault = Rises before after
+Breaks before after (Hub OutOfMemory) = after ≡ before
+Breaks before after e = ⊥
+
+-- the log when a pass is back, with its shares
+abbrev pub retired : LogView → PassView → LogView
+retired l pass = record l { out = l.out - 1; home_entries = l.home_entries + pass.entries; home_moved = l.home_moved + pass.moved }
+
+-- The log keeps exactly the entry, or it is shut by its recorder.
+abbrev pub Keeps : LogView → Entry → Result ⊤ DeskError → LogView → Type 0
+Keeps before e (Ok done) after = after ≡ with_entry before e
+Keeps before e (Err error) after = (after ≡ shut_by before after.faults error) × Breaks before.faults after.faults error
+
+-- The log keeps the entry of what is handed out.
+abbrev pub KeepsHanded : LogView → (List ℕ → Entry) → List ℕ → Result Handed DeskError → LogView → Type 0
+KeepsHanded before e bytes (Ok given) after = (given ≡ Bytes bytes) × (after ≡ with_entry before (e bytes))
+KeepsHanded before e bytes (Err error) after = (after ≡ shut_by before after.faults error) × Breaks before.faults after.faults error

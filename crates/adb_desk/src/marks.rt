@@ -1,0 +1,17 @@
+//! The ledger of marks.
+
+use std::marker::Brand;
+use std::sync::ledger::Ledger;
+
+/// How many parts each of a desk's three ledgers has.
+pub const ALL_PARTS: u64 = 1 << 40;
+
+/// A ledger of marks. It also says whether the recorder of its desk never fails.
+pub trait Marks: Ledger {
+    /// The desk's recorder never fails.
+    ghost steady: { Type 0 };
+}
+
+impl Marks for Brand {
+    ghost steady = { Unit {0} };
+}

@@ -1,0 +1,119 @@
+//! Passes of a desk: how they are made, what they note, and how they come back.
+
+ghost use Rattle.std.specs.Prelude.{◌≡◌, ◌+◌, ◌-◌, ◌<◌, ◌≤◌};
+ghost use Rattle.std.specs.Prelude.{true, false, None, Some, nat_eq, if◌then◌else◌};
+ghost use Rattle.adb_desk.specs.Log.{retired};
+ghost use Rattle.adb_desk.specs.Pass.{first_pass, noted};
+ghost use Rattle.adb_desk.specs.Desk.{IsSameDesk};
+
+use crate::desk::Desk;
+use crate::marks::Marks;
+use crate::pass::{Mark, Pass};
+use adb_capture::Recorder;
+use std::sync::ledger::Ledger;
+
+impl<R: Recorder, E: Ledger, M: Ledger, K: Marks> Desk<R, E, M, K> {
+    /// A new pass of the number that was drawn last, which may have two. It has no share yet.
+    pub fn seat(&mut self, number: u32) -> Pass<E, M, K>
+        requires { 0 < self.old.log.free }
+        ensures pass { result ≡ first_pass number 0 }
+        ensures out { self.new ≡ record {
+          hub = self.old.hub;
+          log = record self.old.log {
+            out = self.old.log.out + 1;
+            free = self.old.log.free - 1;
+          };
+        } }
+    {
+        self.log.seat(number)
+    }
+
+    /// Notes in a pass what became of a call: whether it made an entry, which moved so many bytes,
+    /// whether its answer is marked, and whether it found no memory.
+    pub fn note(
+        &mut self,
+        pass: &mut Pass<E, M, K>,
+        made: bool,
+        bytes: usize,
+        marked: bool,
+        starved: bool,
+    )
+        requires made { made ≡ true → (1 ≤ self.old.log.home_entries)
+            × (bytes ≤ self.old.log.home_moved) }
+        requires marked { marked ≡ true → self.old.log.alarm ≡ true }
+        ensures pass { pass.new ≡ noted pass.old made bytes marked starved }
+        ensures same { IsSameDesk self.old self.new }
+    {
+        if made {
+            self.log.credit(pass, bytes);
+        }
+        if marked {
+            self.log.mark_pass(pass);
+        }
+        if starved {
+            pass.starve();
+        }
+    }
+
+    /// Takes a pass back, with its shares.
+    pub fn retire(&mut self, pass: Pass<E, M, K>)
+        ensures back { self.new
+            ≡ record { hub = self.old.hub; log = retired self.old.log pass } }
+        ensures was_out { 0 < self.old.log.out }
+    {
+        self.log.retire(pass);
+    }
+
+    /// How many entries were kept, where all passes are back: the sum of the shares of entries.
+    pub fn entries(&mut self) -> Option<u64>
+        ensures count { result
+            ≡ (if nat_eq self.old.log.out 0 then Some self.old.log.entries else None) }
+        ensures all { self.old.log.out ≡ 0
+            → self.old.log.home_entries ≡ self.old.log.entries }
+        ensures same { self.new ≡ self.old }
+    {
+        self.log.count_entries()
+    }
+
+    /// How many bytes were moved, where all passes are back: the sum of the shares of moved bytes.
+    pub fn moved(&mut self) -> Option<u64>
+        ensures count { result
+            ≡ (if nat_eq self.old.log.out 0 then Some self.old.log.moved else None) }
+        ensures all { self.old.log.out ≡ 0 → self.old.log.home_moved ≡ self.old.log.moved }
+        ensures same { self.new ≡ self.old }
+    {
+        self.log.count_moved()
+    }
+
+    /// The mark of the handle that is made with the desk. It can be had once.
+    pub fn lend(&mut self) -> Mark<K>
+        requires { self.old.log.lent ≡ false }
+        ensures mark { result ≡ false }
+        ensures lent { self.new ≡ record {
+          hub = self.old.hub;
+          log = record self.old.log {
+            lent = true;
+          };
+        } }
+    {
+        self.log.lend()
+    }
+
+    /// Sets a mark, where the alarm is set.
+    pub fn mark(&mut self, mark: &mut Mark<K>)
+        requires { self.old.log.alarm ≡ true }
+        ensures mark { mark.new ≡ true }
+        ensures same { self.new ≡ self.old }
+    {
+        self.log.mark(mark);
+    }
+
+    /// Nobody holds a mark while the alarm is clear: a mark that is set shows that the alarm is.
+    pub fn audit_mark(&mut self, mark: &mut Mark<K>)
+        ensures alarm { mark.old ≡ true → self.old.log.alarm ≡ true }
+        ensures mark { mark.new ≡ mark.old }
+        ensures same { self.new ≡ self.old }
+    {
+        self.log.audit_mark(mark);
+    }
+}
