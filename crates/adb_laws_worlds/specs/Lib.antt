@@ -1,0 +1,14 @@
+pub mod Asked
+pub mod InTime
+pub mod Unclosed
+pub mod Greeted
+pub mod Rows
+pub mod Quiet
+pub mod Settled
+pub mod Opening
+pub mod Credit
+pub mod Held
+pub mod Unbroken
+pub mod InTurn
+pub mod Took
+pub mod Ended
