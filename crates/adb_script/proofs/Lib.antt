@@ -1,0 +1,7 @@
+mod Cutting
+mod FirstBad
+mod Patterns
+mod Printed
+mod Requests
+mod Stored
+mod Worked

@@ -1,0 +1,66 @@
+//! What holds of all scripts and their answers.
+
+ghost use Rattle.std.specs.Prelude.{◌≡◌, ◌≤◌, ◌<◌, ◌^◌, List, ℕ, length};
+ghost use Rattle.adb_files.specs.Entries.{Entry};
+ghost use Rattle.adb_files.specs.Files.{file_at, put_refusal, read_refusal};
+ghost use Rattle.adb_script.specs.Answers.{line_answer, pushed_line};
+ghost use Rattle.adb_script.specs.Lines.{Asks, Pulls, Pushes};
+ghost use Rattle.adb_script.specs.Meanings.{IsPulled, pulled_by, pushed_by};
+ghost use Rattle.adb_script.specs.Pattern.{pattern};
+ghost use Rattle.adb_sync_client.specs.declared.step.Step.{Step};
+ghost use Rattle.adb_script.specs.declared.asking.TheConstants.{FILE_MODE};
+ghost use Rattle.adb_script.specs.declared.line.TheConstants.{COUNT_DIGITS, MAX_ECHOED, MAX_PUSHED, MAX_STREAMS};
+ghost use Rattle.adb_script.specs.declared.output.TheConstants.{CLOSE_STDIN, EXIT, STDERR, STDOUT};
+ghost use Rattle.adb_script.specs.declared.script.TheConstants.{MAX_LINES, MAX_SCRIPT};
+ghost use Rattle.adb_script.specs.declared.word.TheConstants.{MAX_WORD};
+
+use adb_sync_client::written_files_are_pulled;
+
+/// The numbers of the definitions that are read here.
+pub fn limits_are()
+    ensures script { MAX_SCRIPT ≡ 1048576 }
+    ensures lines { MAX_LINES ≡ 1024 }
+    ensures word { MAX_WORD ≡ 1000 }
+    ensures digits { COUNT_DIGITS ≡ 8 }
+    ensures pushed { MAX_PUSHED ≡ 16777216 }
+    ensures streams { MAX_STREAMS ≡ 64 }
+    ensures echoed { MAX_ECHOED ≡ 67108864 }
+    ensures mode { FILE_MODE ≡ 33188 }
+    ensures output { STDOUT ≡ 1 }
+    ensures error_output { STDERR ≡ 2 }
+    ensures exit { EXIT ≡ 3 }
+    ensures end_of_input { CLOSE_STDIN ≡ 4 }
+{}
+
+/// A push stores its file and prints `ok`, or changes nothing and prints why: by what refuses the
+/// file.
+#[tactic(auto, using(crate::proofs::Printed::push_printed))]
+pub fn pushes_are_stored()
+    ensures { (files : List Entry) (number size : ℕ) (path : List ℕ)
+        → length path ≤ MAX_WORD → number < 2 ^ 32
+        → line_answer files number (Asks (Pushes path size))
+        ≡ pushed_by files number path size (put_refusal files path size) }
+{}
+
+/// A pull changes nothing, and prints how many bytes the file of the path has and their sum, or why
+/// none is read.
+pub fn pulls_are_read()
+    ensures { (files : List Entry) (number : ℕ) (path : List ℕ) → length path ≤ MAX_WORD
+        → line_answer files number (Asks (Pulls path))
+        ≡ pulled_by files path (read_refusal files path) (file_at path files) }
+{
+    written_files_are_pulled();
+}
+
+/// Behind a push that printed `ok` a pull of its path is handed the pushed bytes, and prints how many
+/// they are and their sum.
+pub fn pushed_files_are_pulled()
+    ensures { (files : List Entry) (number later size : ℕ) (path : List ℕ)
+        → length path ≤ MAX_WORD → number < 2 ^ 32
+        → (line_answer files number (Asks (Pushes path size))).text
+        ≡ pushed_line path size (Step.Done tt)
+        → IsPulled (line_answer files number (Asks (Pushes path size))).files later path
+        (pattern 0 size) }
+{
+    written_files_are_pulled();
+}

@@ -1,0 +1,137 @@
+//! What a command wrote, by its packets.
+
+ghost use Rattle.std.specs.Prelude.{◌≡◌, ◌++◌, ◌<◌, [], IfOk, OnOk};
+ghost use Rattle.adb_script.specs.Answers.{ran_line};
+ghost use Rattle.adb_script.specs.Output.{escaped, escaped_byte, hex_digit, output_in, with_packet};
+ghost use Rattle.adb_shell.specs.Packets.{StandsFor, packets_in};
+
+use crate::counting::push_number;
+use adb_outside::Text;
+use adb_shell::{ShellError, ShellPacket, ShellReader};
+use std::alloc::{AllocError, Global};
+
+/// The id of a packet of a command's output.
+pub const STDOUT: u8 = 1;
+
+/// The id of a packet of its error output.
+pub const STDERR: u8 = 2;
+
+/// The id of the packet that has its status.
+pub const EXIT: u8 = 3;
+
+/// The id of the packet that ends its input.
+pub const CLOSE_STDIN: u8 = 4;
+
+/// What a command wrote, and its status where that came.
+#[derive(Drop)]
+pub struct Output {
+    stdout: Text,
+    stderr: Text,
+    status: Option<u8>,
+}
+
+/// The answer line of a command of whose service this came; nothing where no status came.
+pub fn ran_line(alloc: Global, got: &[u8]) -> Result<Text, AllocError>
+    ensures { IfOk result (λ line. line ≡ ran_line (output_in (packets_in got.now))) }
+{
+    let output = read_output(alloc, got)?;
+    print(alloc, &output)
+}
+
+/// What is printed of a command.
+fn print(alloc: Global, output: &Output) -> Result<Text, AllocError>
+    ensures { IfOk result (λ line. line ≡ ran_line output.now) }
+{
+    let mut line = Text::new(alloc);
+    let Some(status) = output.status else {
+        return Ok(line);
+    };
+    line.push_slice(b"shell ")?;
+    push_number(&mut line, u128::from(status))?;
+    line.push_slice(b" out=")?;
+    push_escaped(&mut line, output.stdout.as_slice())?;
+    line.push_slice(b" err=")?;
+    push_escaped(&mut line, output.stderr.as_slice())?;
+    line.push_slice(b"\n")?;
+    Ok(line)
+}
+
+/// What a command wrote whose packets came; a fault behind them is passed over.
+fn read_output(alloc: Global, got: &[u8]) -> Result<Output, AllocError>
+    ensures { IfOk result (λ output. output ≡ output_in (packets_in got.now)) }
+{
+    let mut reader = ShellReader::new(alloc);
+    take_in(&mut reader, got)?;
+    let mut output = Output {
+        stdout: Text::new(alloc),
+        stderr: Text::new(alloc),
+        status: None,
+    };
+    while let Some(packet) = reader.next() {
+        output.add(&packet)?;
+    }
+    Ok(output)
+}
+
+/// Feeds a reader all that came.
+fn take_in(reader: &mut ShellReader, got: &[u8]) -> Result<(), AllocError>
+    requires { StandsFor [] [] reader.old }
+    ensures { OnOk result (reader.new.given ≡ packets_in got.now) }
+{
+    match reader.feed(got) {
+        Ok(()) | Err(ShellError::BadId { .. } | ShellError::TooLong { .. }) => Ok(()),
+        Err(ShellError::OutOfMemory) => Err(AllocError),
+    }
+}
+
+impl Output {
+    /// Adds what a packet says.
+    fn add(&mut self, packet: &ShellPacket) -> Result<(), AllocError>
+        ensures { OnOk result (self.new ≡ with_packet self.old packet.now) }
+    {
+        match packet.id {
+            STDOUT => self.stdout.push_slice(packet.bytes.as_slice()),
+            STDERR => self.stderr.push_slice(packet.bytes.as_slice()),
+            EXIT => {
+                if self.status.is_none() {
+                    self.status = packet.bytes.as_slice().first().copied();
+                }
+                Ok(())
+            }
+            _ => Ok(()),
+        }
+    }
+}
+
+/// Adds bytes as they are printed.
+fn push_escaped(line: &mut Text, bytes: &[u8]) -> Result<(), AllocError>
+    ensures { OnOk result (line.new ≡ line.old ++ escaped bytes.now) }
+{
+    for byte in bytes {
+        push_escaped_byte(line, *byte)?;
+    }
+    Ok(())
+}
+
+/// Adds a byte as it is printed.
+fn push_escaped_byte(line: &mut Text, byte: u8) -> Result<(), AllocError>
+    ensures { OnOk result (line.new ≡ line.old ++ escaped_byte byte) }
+{
+    if (0x20..0x7f).contains(&byte) && byte != b'\\' {
+        line.push_slice(&[byte])
+    } else {
+        line.push_slice(&[b'\\', b'x', hex_digit(byte / 16), hex_digit(byte % 16)])
+    }
+}
+
+/// A hexadecimal digit.
+fn hex_digit(digit: u8) -> u8
+    requires { digit < 16 }
+    ensures { result ≡ hex_digit digit }
+{
+    if digit < 10 {
+        b'0' + digit
+    } else {
+        b'a' + (digit - 10)
+    }
+}

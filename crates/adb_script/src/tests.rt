@@ -1,0 +1,198 @@
+//! Lines, and what their sessions ask for, write and print, worked out by hand.
+
+use crate::reading::read_line;
+use crate::{EchoLine, Script, ScriptError, ScriptLine};
+use adb_outside::Text;
+use std::alloc::{AllocError, Global};
+use std::test::Fail;
+
+/// Lines of one kind each, refused and not, and the number of the first that is refused, or 0.
+const LINES: &[(&[u8], u32)] = &[
+    (b"", 0),
+    (b"\n", 1),
+    (b"pull /a", 0),
+    (b"pull /a\n", 0),
+    (b"pull /a\n\n", 2),
+    (b"pull  /a\n", 1),
+    (b"pull /a \n", 1),
+    (b"pull\n", 1),
+    (b"pull \n", 1),
+    (b"stat no/path\nlist .\n", 0),
+    (b"list /\nlist / /\n", 2),
+    (b"push /a 0\npush /a 00000007\npush /a 16777216\n", 0),
+    (b"push /a 000000007\n", 1),
+    (b"push /a 16777217\n", 1),
+    (b"push /a \n", 1),
+    (b"push /a -1\n", 1),
+    (b"push /a b 1\n", 1),
+    (b"push  1\n", 1),
+    (b"shell  \nshell a  b \n", 0),
+    (b"shell \n", 1),
+    (b"shell\n", 1),
+    (b"echo 64 1048576\necho 1 67108864\necho 3 0\n", 0),
+    (b"echo 64 1048577\n", 1),
+    (b"echo 65 0\n", 1),
+    (b"echo 0 0\n", 1),
+    (b"echo 1\n", 1),
+    (b"shell echo hi\nshell nope\nfly\nstat /\n", 3),
+    (b"PULL /a\n", 1),
+];
+
+/// Long scripts: a text, how often, what follows, and the first line that is refused.
+const LONG: &[(&[u8], usize, &[u8], u32)] = &[
+    (b"stat /\n", 1_024, b"", 0),
+    (b"stat /\n", 1_023, b"stat /", 0),
+    (b"stat /\n", 1_024, b"stat /", 1_025),
+    (b"a", 1_048_577, b"\nstat /\n", 1),
+];
+
+/// The first line of a script that is refused, or 0; want of memory is none.
+fn first_bad(alloc: Global, script: &[u8]) -> u32 {
+    match Script::read(alloc, script) {
+        Ok(_) => 0,
+        Err(ScriptError::BadLine { line }) => line,
+        Err(ScriptError::OutOfMemory) => u32::MAX,
+    }
+}
+
+/// The first line that is refused of a text so many times over, and then another.
+fn long_bad(alloc: Global, row: &(&[u8], usize, &[u8], u32)) -> Result<u32, AllocError> {
+    let mut script = Text::new(alloc);
+    for _ in 0..row.1 {
+        script.push_slice(row.0)?;
+    }
+    script.push_slice(row.2)?;
+    Ok(first_bad(alloc, script.as_slice()))
+}
+
+#[test]
+fn lines(rt: HostRuntime) -> Result<(), Fail> {
+    let alloc = rt.alloc();
+    for &(script, want) in LINES {
+        assert!(rt; first_bad(alloc, script) == want, "script {script:?}");
+    }
+    for row in LONG {
+        assert!(rt; long_bad(alloc, row)? == row.3, "script of {:?}", row.0);
+    }
+    Ok(())
+}
+
+/// A line, what its session was handed, and what is printed of it.
+const PRINTED: &[(&[u8], &[u8], &[u8])] = &[
+    (b"push /a 007", b"OKAY\0\0\0\0", b"push /a ok 7\n"),
+    (
+        b"push /a 7",
+        b"FAIL\x08\0\0\0no space",
+        b"push /a refused no space\n",
+    ),
+    (
+        b"pull /a",
+        b"DATA\x02\0\0\0abDONE\0\0\0\0",
+        b"pull /a ok 2 195\n",
+    ),
+    (b"pull /a", b"FAIL\x02\0\0\0no", b"pull /a refused no\n"),
+    (b"pull /a", b"DATA\x02\0\0\0ab", b""),
+    (
+        b"stat /",
+        b"STAT\xed\x41\0\0\0\0\0\0\0\0\0\0",
+        b"stat / 16877 0 0\n",
+    ),
+    (
+        b"list /",
+        b"DENT\xa4\x81\0\0\x05\0\0\0\x01\0\0\0\x01\0\0\0xDONE0123456789abcdef",
+        b"list / 1 x:33188:5:1\n",
+    ),
+    (
+        b"shell x",
+        b"\x01\x02\0\0\0a\n\x02\x01\0\0\0\\\x03\x01\0\0\0\xff",
+        b"shell 255 out=a\\x0a err=\\x5c\n",
+    ),
+    (b"shell x", b"\x01\x01\0\0\0a", b""),
+];
+
+/// Whether a line prints this of what its session was handed.
+fn prints(alloc: Global, line: &[u8], got: &[u8], want: &[u8]) -> Result<bool, AllocError> {
+    match read_line(line) {
+        Some(ScriptLine::Session(session)) => Ok(session.answer(alloc, got)?.as_slice() == want),
+        _ => Ok(false),
+    }
+}
+
+/// A line, its number, the service that its session asks for, and the text that it writes.
+const ASKED: &[(&[u8], u32, &[u8], &[u8])] = &[
+    (
+        b"push /a 3",
+        2,
+        b"sync:",
+        b"SEND\x08\0\0\0/a,33188DATA\x03\0\0\0\0\x01\x02DONE\x02\0\0\0",
+    ),
+    (b"pull /a", 1, b"sync:", b"RECV\x02\0\0\0/a"),
+    (b"stat /a", 1, b"sync:", b"STAT\x02\0\0\0/a"),
+    (b"list /", 1, b"sync:", b"LIST\x01\0\0\0/"),
+    (
+        b"shell echo  hi",
+        1,
+        b"shell,v2,raw:echo  hi",
+        b"\x04\0\0\0\0",
+    ),
+];
+
+/// Whether the session of a line asks for this service.
+fn asks_for(alloc: Global, line: &[u8], want: &[u8]) -> Result<bool, AllocError> {
+    match read_line(line) {
+        Some(ScriptLine::Session(session)) => Ok(session.service(alloc)?.as_slice() == want),
+        _ => Ok(false),
+    }
+}
+
+/// Whether the session of a line writes this text.
+fn writes(alloc: Global, line: &[u8], number: u32, want: &[u8]) -> Result<bool, AllocError> {
+    match read_line(line) {
+        Some(ScriptLine::Session(session)) => Ok(session.text(alloc, number)?.as_slice() == want),
+        _ => Ok(false),
+    }
+}
+
+#[test]
+fn sessions(rt: HostRuntime) -> Result<(), Fail> {
+    let alloc = rt.alloc();
+    for &(line, got, want) in PRINTED {
+        assert!(rt; prints(alloc, line, got, want)?, "line {line:?}");
+    }
+    for &(line, number, service, text) in ASKED {
+        assert!(rt; asks_for(alloc, line, service)?, "line {line:?}");
+        assert!(rt; writes(alloc, line, number, text)?, "line {line:?}");
+    }
+    Ok(())
+}
+
+/// Whether a stream of an echo of four bytes sends these.
+fn sends(alloc: Global, stream: u32, want: &[u8]) -> Result<bool, AllocError> {
+    let echo = EchoLine {
+        streams: 64,
+        size: 4,
+    };
+    Ok(
+        echo.text(alloc, stream)?.as_slice() == want
+            && echo.is_echoed(stream, want)
+            && !echo.is_echoed(0, want),
+    )
+}
+
+/// Whether the echo prints this.
+fn echoes(alloc: Global, want: &[u8]) -> Result<bool, AllocError> {
+    let echo = EchoLine {
+        streams: 64,
+        size: 4,
+    };
+    Ok(echo.answer(alloc)?.as_slice() == want)
+}
+
+#[test]
+fn echo(rt: HostRuntime) -> Result<(), Fail> {
+    let alloc = rt.alloc();
+    assert!(rt; sends(alloc, 2, b"\x02\x03\x04\x05")?);
+    assert!(rt; sends(alloc, 249, b"\xf9\xfa\0\x01")?);
+    assert!(rt; echoes(alloc, b"echo 64 4 ok\n")?);
+    Ok(())
+}
