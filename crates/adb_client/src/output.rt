@@ -19,7 +19,7 @@ pub fn limits_are()
 
 /// How many bytes the slices hold at most, with those that have a place and come later, so that all
 /// that is due fits a `usize`.
-const MOST: usize = 1 << 63;
+const MAX_DUE: usize = 1 << 63;
 
 /// How many bytes, and how many places of slices, may stay taken where nothing is due.
 const FEW_BYTES: usize = 16 * 1024;
@@ -99,7 +99,7 @@ impl Output {
         if n <= self.places {
             return Ok(());
         }
-        if n > (MOST - self.shared) / MAX_SLICE {
+        if n > (MAX_DUE - self.shared) / MAX_SLICE {
             return Err(AllocError);
         }
         self.slices.reserve(n)?;

@@ -12,12 +12,13 @@ use Rattle.adb_wire.specs.Format.{is_cnxn}
 use Rattle.adb_wire.specs.declared.command.Command.{Command}
 use Rattle.adb_wire.specs.declared.command.Command.TheVariants as commands
 use Rattle.adb_wire.specs.declared.packets.Packet.{Packet}
+use Rattle.adb_stream.specs.Flow.{has_credit, wrote, acknowledged}
 use Rattle.adb_stream.specs.declared.flow.Flow.{Flow}
 use Rattle.adb_stream.specs.declared.flow.Flow.TheVariants as flows
 use Rattle.adb_files.specs.Entries.{Entry}
 use Rattle.adb_device_streams.specs.Asked.{Kind}
 use Rattle.adb_device_streams.specs.Service.{Came, came_over, files_fed, files_opened}
-use Rattle.adb_device_streams.specs.Stream.{Row, opened, row_took, row_acked, row_past, row_past_all, row_written, writes, is_done, flow_past, flow_acked, first_flow}
+use Rattle.adb_device_streams.specs.Stream.{Row, opened, row_took, row_acked, row_past, row_past_all, row_written, writes, is_done, first_flow}
 use Rattle.adb_device_streams.specs.Stream.{wrte, okay, clse, opening_word}
 use Rattle.adb_device_streams.specs.Link.{credit_word_in, link_of}
 use Rattle.adb_device_streams.specs.declared.link.Link.{Link}
@@ -25,7 +26,7 @@ use Rattle.adb_daemon.specs.Serving.{Serving, Sent, Ended, with_sum, owing, gran
 use Rattle.adb_daemon.specs.Serving.{named, closable, is_taken, kind_for, credit_of, open_as, on_open, written_to, on_write, acked_to, on_okay, closed_to}
 use Rattle.adb_daemon.specs.Serving.{on_close, all_gone, served}
 use Rattle.adb_daemon.specs.Device.{Device, Setting, step, treated, linked_to, served_on, first_device, device_behind}
-use Rattle.adb_daemon.specs.Streams.{over_at, okay_of, okays_of, has_credit, ack_for, acks_due, IsAcked}
+use Rattle.adb_daemon.specs.Streams.{over_at, okay_of, okays_of, ack_for, acks_due, IsAcked}
 use Rattle.adb_daemon.proofs.Standing.{other_over, own_over}
 use Rattle.adb_daemon.proofs.Rules.{named_is, closable_is, or_over, all_over}
 
@@ -53,11 +54,11 @@ past_due : (payloads : List (List ℕ)) (row : Row) → acks_due (has_credit (ro
 past_due [] row = refl
 past_due (payload ∷ more) row = past_due more (row_past payload row) ∙ go row.flow
   where
-    go : (flow : Flow) → acks_due (has_credit (flow_past flow (length payload))) row.past ≡ acks_due (has_credit flow) row.past
+    go : (flow : Flow) → acks_due (has_credit (wrote (length payload) flow)) row.past ≡ acks_due (has_credit flow) row.past
     go (flows.One window) = refl
     go (flows.Credit credit) = refl
 
-acked_due : (flow : Flow) (word : Option ℕ) (past : List Came) → acks_due (has_credit (flow_acked flow word)) past ≡ acks_due (has_credit flow) past
+acked_due : (flow : Flow) (word : Option ℕ) (past : List Came) → acks_due (has_credit (acknowledged word flow)) past ≡ acks_due (has_credit flow) past
 acked_due (flows.One window) word past = refl
 acked_due (flows.Credit credit) None past = refl
 acked_due (flows.Credit credit) (Some more) past = refl
@@ -330,9 +331,9 @@ all_heard own setting [] d h = h
 all_heard own setting (p ∷ more) d h = all_heard own setting more (step setting d p) (step_heard own setting d p h)
 
 -- behind any packets
-pub acknowledged : (setting : Setting) (packets : List Packet) (own : ℕ)
+pub all_acknowledged : (setting : Setting) (packets : List Packet) (own : ℕ)
     → IsAcked own (device_behind setting packets).serving.made (at own (device_behind setting packets).serving.rows)
     (over_at own (device_behind setting packets).serving.ended)
 unfolding IsStrictlySortedBy
-acknowledged setting packets own =
+all_acknowledged setting packets own =
     (all_heard own setting packets (first_device setting) (record { rises = tt; fresh = λ above. (refl, refl); heard = refl })).heard

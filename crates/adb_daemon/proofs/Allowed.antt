@@ -22,6 +22,7 @@ use Rattle.adb_wire.specs.declared.command.Command.{Command}
 use Rattle.adb_wire.specs.declared.command.Command.TheVariants as commands
 use Rattle.adb_wire.specs.declared.headers.TheConstants.{HEADER_LEN}
 use Rattle.adb_wire.specs.declared.packets.Packet.{Packet}
+use Rattle.adb_stream.specs.Flow.{wrote, acknowledged}
 use Rattle.adb_stream.specs.declared.flow.Flow.{Flow}
 use Rattle.adb_stream.specs.declared.flow.Flow.TheVariants as flows
 use Rattle.adb_outside.specs.declared.identity.Identity.{Identity}
@@ -29,7 +30,7 @@ use Rattle.adb_banner.specs.Banner.{identity_of}
 use Rattle.adb_device_streams.specs.Asked.{Kind}
 use Rattle.adb_device_streams.specs.Service.{came_over, files_fed, files_opened}
 use Rattle.adb_device_streams.specs.Stream.{Row, unsent, next_payload, row_past, row_past_all, row_written}
-use Rattle.adb_device_streams.specs.Stream.{writes_at, writes, room_of, flow_past, flow_acked, first_flow}
+use Rattle.adb_device_streams.specs.Stream.{writes_at, writes, room_of, first_flow}
 use Rattle.adb_device_streams.specs.Stream.{row_took, row_acked, opened, is_done, wrte, okay, clse, opening_word}
 use Rattle.adb_device_streams.specs.Link.{credit_word_in, link_of, link_to}
 use Rattle.adb_device_streams.specs.declared.link.Link.{Link}
@@ -78,14 +79,14 @@ module _ (most : ℕ) where
   may_write (flows.Credit credit) = (HEADER_LEN + 1) * credit.to_send
 
   past_one : (flow : Flow) (limit n : ℕ) (rest : List ℕ) → limit ≤ most → n ≡ length (take (room_of flow limit) rest) → n ≢ 0
-      → (HEADER_LEN + n) + may_write (flow_past flow n) ≤ may_write flow
+      → (HEADER_LEN + n) + may_write (wrote n flow) ≤ may_write flow
   past_one flow limit n rest fits is some = by flow is
     where
-      go : (t : Bool) → n ≡ length (take (if t then 0 else limit) rest) → (HEADER_LEN + n) + 0 ≤ (if t then 0 else HEADER_LEN + most)
-      go true none = absurd (some (omega (arith, none, length-take 0 rest)))
-      go false next = omega (arith, fits, next, length-take limit rest)
+      go : (t : Bool) → n ≡ length (take (min limit (if t then 0 else limit)) rest) → (HEADER_LEN + n) + 0 ≤ (if t then 0 else HEADER_LEN + most)
+      go true none = absurd (some (omega (arith, none, length-take (min limit 0) rest)))
+      go false next = omega (arith, fits, next, length-take (min limit limit) rest)
 
-      by : (f : Flow) → n ≡ length (take (room_of f limit) rest) → (HEADER_LEN + n) + may_write (flow_past f n) ≤ may_write f
+      by : (f : Flow) → n ≡ length (take (room_of f limit) rest) → (HEADER_LEN + n) + may_write (wrote n f) ≤ may_write f
       by (flows.One window) next = go window.outstanding next
       by (flows.Credit credit) next = omega (arith, some, next, length-take (min limit credit.to_send) rest)
 
@@ -115,7 +116,7 @@ module _ (most : ℕ) where
   first_within None = omega arith
   first_within (Some given) = omega arith
 
-  acked_within : (flow : Flow) (word : Option ℕ) → may_write (flow_acked flow word) ≤ may_write flow + writes_most most (unwrap_or word 0)
+  acked_within : (flow : Flow) (word : Option ℕ) → may_write (acknowledged word flow) ≤ may_write flow + writes_most most (unwrap_or word 0)
   acked_within (flows.One window) word = omega arith
   acked_within (flows.Credit credit) None = omega arith
   acked_within (flows.Credit credit) (Some more) = omega arith
@@ -172,8 +173,8 @@ module _ (most : ℕ) (link : Link) (fits : link.most ≤ most) where
       last : Row
       last = row_written link.most row
 
-      wrote : size_of (s.made ++ sent_writes link own row) + may_write most last.flow ≤ size_of s.made + may_write most row.flow
-      wrote =
+      grown : size_of (s.made ++ sent_writes link own row) + may_write most last.flow ≤ size_of s.made + may_write most row.flow
+      grown =
           omega (
             arith,
             size_more s.made (sent_writes link own row),
@@ -184,14 +185,14 @@ module _ (most : ℕ) (link : Link) (fits : link.most ≤ most) where
       go : (t : Bool) → IsWithin most (bound + close_most) (settled_as t link own last (owing (sent_writes link own row) s))
       go false = record {
         rises = put_at_rises own last s.rows rises;
-        within = omega (arith, held, wrote, put_within most own last s.rows rises);
+        within = omega (arith, held, grown, put_within most own last s.rows rises);
       }
       go true = record {
         rises = without_rises own s.rows rises;
         within = omega (
           arith,
           held,
-          wrote,
+          grown,
           without_within most own s.rows,
           size_more (s.made ++ sent_writes link own row) (sent_close true link own last.host),
         );

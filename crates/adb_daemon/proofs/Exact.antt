@@ -10,12 +10,13 @@ use Rattle.adb_wire.specs.Format.{is_cnxn}
 use Rattle.adb_wire.specs.declared.command.Command.{Command}
 use Rattle.adb_wire.specs.declared.command.Command.TheVariants as commands
 use Rattle.adb_wire.specs.declared.packets.Packet.{Packet}
+use Rattle.adb_stream.specs.Flow.{wrote, acknowledged}
 use Rattle.adb_stream.specs.declared.flow.Flow.{Flow}
 use Rattle.adb_stream.specs.declared.flow.Flow.TheVariants as flows
 use Rattle.adb_files.specs.Entries.{Entry}
 use Rattle.adb_device_streams.specs.Asked.{Kind}
 use Rattle.adb_device_streams.specs.Service.{came_over, files_fed, files_opened}
-use Rattle.adb_device_streams.specs.Stream.{Row, opened, row_took, row_acked, row_past, row_past_all, row_written, flow_past, flow_acked, first_flow, next_payload, writes_at, writes}
+use Rattle.adb_device_streams.specs.Stream.{Row, opened, row_took, row_acked, row_past, row_past_all, row_written, first_flow, next_payload, writes_at, writes}
 use Rattle.adb_device_streams.specs.Stream.{unsent, is_done, okay, clse, opening_word}
 use Rattle.adb_device_streams.specs.Link.{credit_word_in, link_of}
 use Rattle.adb_device_streams.specs.declared.link.Link.{Link}
@@ -30,7 +31,7 @@ use Rattle.adb_daemon.proofs.Machines.{step_more}
 -- ---- writes
 module _ (most acks : ℕ) where
   -- a write more
-  exact_one : (flow : Flow) (n count : ℕ) → IsExact count acks flow → IsExact (count + 1) acks (flow_past flow n)
+  exact_one : (flow : Flow) (n count : ℕ) → IsExact count acks flow → IsExact (count + 1) acks (wrote n flow)
   exact_one (flows.One window) n count e = go window.outstanding e
     where
       go : (b : Bool) → acks ≤ count + free_of b → acks ≤ (count + 1) + 0
@@ -98,8 +99,8 @@ module _ (own : ℕ) (s : Serving) where
     abbrev after : List Sent
     after = s.made ++ sent_writes link q row
 
-    wrote : ExactAt own after s.acks (at own s.rows)
-    wrote = exact_count own s.made (sent_writes link q row) s (at own s.rows) (silent_writes own link q row apart).count t.exact
+    exact_still : ExactAt own after s.acks (at own s.rows)
+    exact_still = exact_count own s.made (sent_writes link q row) s (at own s.rows) (silent_writes own link q row apart).count t.exact
 
     other_tight : IsTight own (settled link q row s)
     other_tight = go (is_done (row_written link.most row))
@@ -107,14 +108,15 @@ module _ (own : ℕ) (s : Serving) where
         go : (b : Bool) → IsTight own (settled_as b link q (row_written link.most row) (owing (sent_writes link q row) s))
         go false = record {
           untaken = t.untaken;
-          exact = subst (λ (r : Option Row). ExactAt own after s.acks r) (sym ((puts_put_at q (row_written link.most row) s.rows).others own not_own)) wrote;
+          exact = subst (λ (r : Option Row). ExactAt own after s.acks r)
+              (sym ((puts_put_at q (row_written link.most row) s.rows).others own not_own)) exact_still;
         }
         go true = record {
           untaken = t.untaken;
           exact = subst (λ (r : Option Row). ExactAt own (after ++ sent_close true link q (row_written link.most row).host) s.acks r)
               (sym ((puts_without q s.rows o).others own not_own))
               (exact_count own after (sent_close true link q (row_written link.most row).host) s (at own s.rows)
-              (silent_close own link q (row_written link.most row).host apart).count wrote);
+              (silent_close own link q (row_written link.most row).host apart).count exact_still);
         }
 
   -- this stream settles
@@ -155,7 +157,7 @@ module _ (own : ℕ) (s : Serving) (o : IsOrderly own s) (t : IsTight own s) (li
   okay_tight : acks_of own (on_okay link p s).acks ≤ 1 + writes_of own s.made → IsTight own (on_okay link p s)
   okay_tight = go (named p.arg0 (at p.arg1 s.rows)) refl
     where
-      acked : (flow : Flow) (word : Option ℕ) (count acks : ℕ) → acks ≤ 1 + count → IsExact count acks (flow_acked flow word)
+      acked : (flow : Flow) (word : Option ℕ) (count acks : ℕ) → acks ≤ 1 + count → IsExact count acks (acknowledged word flow)
       acked (flows.One window) word count acks le = omega (arith, le)
       acked (flows.Credit credit) None count acks le = tt
       acked (flows.Credit credit) (Some more) count acks le = tt

@@ -13,12 +13,13 @@ use Rattle.adb_wire.specs.Format.{is_cnxn}
 use Rattle.adb_wire.specs.declared.command.Command.{Command}
 use Rattle.adb_wire.specs.declared.command.Command.TheVariants as commands
 use Rattle.adb_wire.specs.declared.packets.Packet.{Packet}
+use Rattle.adb_stream.specs.Flow.{acknowledged}
 use Rattle.adb_stream.specs.declared.flow.Flow.{Flow}
 use Rattle.adb_stream.specs.declared.flow.Flow.TheVariants as flows
 use Rattle.adb_files.specs.Entries.{Entry}
 use Rattle.adb_device_streams.specs.Asked.{Kind}
 use Rattle.adb_device_streams.specs.Service.{Came, came_over, files_fed, files_opened}
-use Rattle.adb_device_streams.specs.Stream.{Row, opened, row_took, row_acked, flow_acked, first_flow, okay, clse, opening_word}
+use Rattle.adb_device_streams.specs.Stream.{Row, opened, row_took, row_acked, first_flow, okay, clse, opening_word}
 use Rattle.adb_device_streams.specs.Link.{credit_word_in, link_of}
 use Rattle.adb_device_streams.specs.declared.link.Link.{Link}
 use Rattle.adb_daemon.specs.Serving.{Serving, Sent, Ack, Ended, with_sum, owing, granted}
@@ -107,7 +108,7 @@ module _ (own : ℕ) (s : Serving) (o : IsOrderly own s) where
             drawn = r.drawn;
             writes = record { written = r.writes.written; front = r.writes.front };
             unclosed = r.unclosed;
-            window = own_ack own own (writes_of own s.made) (length (written own s.made)) word s.acks (flow_acked row.flow word) refl
+            window = own_ack own own (writes_of own s.made) (length (written own s.made)) word s.acks (acknowledged word row.flow) refl
                 (within_acked row.flow word (writes_of own s.made) (length (written own s.made)) (acks_of own s.acks) (words_of own s.acks) r.window);
           }))
       at_row row word is (inr apart) =

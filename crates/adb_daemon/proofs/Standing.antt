@@ -11,12 +11,13 @@ use borrow.Author.Tests.{true-eqb}
 use Rattle.adb_outside.specs.Tables.{at, IsRising, put_at, without}
 use Rattle.adb_outside.proofs.TableLaws.{puts_put_at, puts_without, put_at_rises, without_rises}
 use Rattle.adb_device_streams.specs.Service.{service_answer}
-use Rattle.adb_device_streams.specs.Stream.{Row, unsent, is_acked, is_done, row_written, writes, wrte}
+use Rattle.adb_device_streams.specs.Stream.{Row, unsent, is_done, row_written, writes, wrte}
 use Rattle.adb_device_streams.specs.declared.link.Link.{Link}
 use Rattle.adb_daemon.specs.Serving.{Serving, Sent, Ack, Ended, with_sum, owing, ended_at, sent_writes, sent_close, settled_as, settled, gone}
 use Rattle.adb_daemon.specs.Streams.{payload_of, written, closes, is_closed, over_at, writes_of, acks_of, words_of, IsWithin, KeepsWindow, WritesFront, IsOver}
 use Rattle.adb_daemon.specs.Streams.{Writes}
 use Rattle.adb_daemon.proofs.Windows.{within_more, within_written}
+use Rattle.adb_stream.specs.Flow.{is_idle}
 use Rattle.adb_stream.specs.declared.flow.Flow.{Flow}
 use Rattle.adb_daemon.proofs.Fronts.{front_written, sent_written}
 
@@ -265,8 +266,8 @@ module _ (own : ℕ) (link : Link) (row : Row) (s : Serving) (r : IsReady own ro
             (wrote, open_still, within);
       }
       go true is =
-          let done = both_true (service_answer last.kind last.first last.past).ended (length (unsent last) == 0 && is_acked last.flow) is in
-          let none = both_true (length (unsent last) == 0) (is_acked last.flow) done.1 in
+          let done = both_true (service_answer last.kind last.first last.past).ended (length (unsent last) == 0 && is_idle last.flow) is in
+          let none = both_true (length (unsent last) == 0) (is_idle last.flow) done.1 in
           let close = sent_close true link own last.host in
           let lost = puts_without own s.rows r.rises in
           record {

@@ -5,10 +5,11 @@ use Rattle.std.specs.List.{concat}
 use Rattle.std.proofs.Common.{refl, sym, arith}
 use borrow.Author.Tests.{false-eqb}
 use Rattle.std.proofs.lemmas.List.{length-append, length-take}
+use Rattle.adb_stream.specs.Flow.{wrote, acknowledged}
 use Rattle.adb_stream.specs.declared.flow.Flow.{Flow}
 use Rattle.adb_stream.specs.declared.flow.Flow.TheVariants as flows
 use Rattle.adb_device_streams.specs.Stream.{Row, unsent, next_payload, row_past, row_past_all, row_written}
-use Rattle.adb_device_streams.specs.Stream.{writes_at, writes, room_of, flow_past, flow_acked, first_flow}
+use Rattle.adb_device_streams.specs.Stream.{writes_at, writes, room_of, first_flow}
 use Rattle.adb_daemon.specs.Streams.{free_of, IsWithin}
 
 -- more acknowledgements and credit
@@ -23,15 +24,15 @@ module _ (flow : Flow) (count bytes acks words : ℕ) where
 -- a write goes
 module _ (flow : Flow) (most n : ℕ) (rest : List ℕ) where
   past_one : (count bytes acks words : ℕ) → n ≡ length (take (room_of flow most) rest) → n ≢ 0 → IsWithin count bytes acks words flow
-      → IsWithin (count + 1) (bytes + n) acks words (flow_past flow n)
+      → IsWithin (count + 1) (bytes + n) acks words (wrote n flow)
   past_one count bytes acks words is some = by flow is
     where
-      go : (t : Bool) → n ≡ length (take (if t then 0 else most) rest) → count + free_of t ≤ acks → (count + 1) + 0 ≤ acks
-      go true none held = absurd (some (omega (arith, none, length-take 0 rest)))
+      go : (t : Bool) → n ≡ length (take (min most (if t then 0 else most)) rest) → count + free_of t ≤ acks → (count + 1) + 0 ≤ acks
+      go true none held = absurd (some (omega (arith, none, length-take (min most 0) rest)))
       go false next held = omega (arith, held)
 
       by : (f : Flow) → n ≡ length (take (room_of f most) rest) → IsWithin count bytes acks words f
-          → IsWithin (count + 1) (bytes + n) acks words (flow_past f n)
+          → IsWithin (count + 1) (bytes + n) acks words (wrote n f)
       by (flows.One window) next within = go window.outstanding next within
       by (flows.Credit credit) next within = omega (arith, next, within, length-take (min most credit.to_send) rest)
 
@@ -79,7 +80,7 @@ module _ (most : ℕ) (acks words : ℕ) where
 
 -- an OKAY came
 pub within_acked : (flow : Flow) (word : Option ℕ) (count bytes acks words : ℕ) → IsWithin count bytes acks words flow
-    → IsWithin count bytes (1 + acks) (unwrap_or word 0 + words) (flow_acked flow word)
+    → IsWithin count bytes (1 + acks) (unwrap_or word 0 + words) (acknowledged word flow)
 within_acked (flows.One window) word count bytes acks words within = omega (arith, within)
 within_acked (flows.Credit credit) None count bytes acks words within = omega (arith, within)
 within_acked (flows.Credit credit) (Some more) count bytes acks words within = omega (arith, within)

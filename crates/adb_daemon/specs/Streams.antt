@@ -2,6 +2,7 @@
 use Rattle.std.specs.Prelude.{ℕ, ◌+◌, ◌≡◌, ◌≤◌, ◌==◌, ◌&&◌, if◌then◌else◌, Bool, true, false, List, [], ◌∷◌, ◌++◌, length, find, Option, Some, None, unwrap_or}
 use Rattle.byteorder.specs.Endian.{little_bytes}
 use Rattle.adb_stream.specs.declared.credit.TheConstants.{CREDIT_WINDOW}
+use Rattle.adb_stream.specs.Flow.{has_credit}
 use Rattle.adb_stream.specs.declared.flow.Flow.{Flow}
 use Rattle.adb_stream.specs.declared.flow.Flow.TheVariants as flows
 use Rattle.std.specs.List.{flat_map, list_any}
@@ -110,10 +111,6 @@ okays_of own made = flat_map (okay_of own) made
 
 -- What these have to be for the payloads that came, the newest first: behind that of the OPEN one for each write; where the link has credit in bytes the first
 -- holds the whole window and the others give the bytes back, and there is none where there are none.
-abbrev pub has_credit : Flow → Bool
-has_credit (flows.One window) = false
-has_credit (flows.Credit credit) = true
-
 abbrev pub ack_for : Bool → ℕ → List (List ℕ)
 ack_for false n = [] ∷ []
 ack_for true n = if n == 0 then [] else little_bytes 4 n ∷ []

@@ -1,15 +1,14 @@
 -- A stream at the device's end: what it was opened for, what came and what it wrote, and what its window lets it write.
-use Rattle.std.specs.Prelude.{ℕ, ◌+◌, ◌-◌, ◌≡◌, ◌<◌, ◌==◌, ◌^◌, min, ◌&&◌, ◌≤◌, not, if◌then◌else◌, Bool, true, false, List, [], ◌∷◌, ◌++◌, length, take, drop, Option, Some, None, zero, suc}
+use Rattle.std.specs.Prelude.{ℕ, ◌≡◌, ◌<◌, ◌==◌, min, ◌&&◌, if◌then◌else◌, Bool, List, [], ◌∷◌, ◌++◌, length, take, drop, Option, Some, None, is_some, zero, suc}
 use Rattle.std.specs.List.{flat_map}
 use Rattle.adb_wire.specs.declared.command.Command.TheVariants as commands
 use Rattle.adb_wire.specs.declared.packets.Packet.{Packet}
 use Rattle.adb_wire.specs.Packet.{spelling, check_of}
 use Rattle.byteorder.specs.Endian.{little_bytes}
 use Rattle.adb_stream.specs.declared.credit.TheConstants.{CREDIT_WINDOW}
+use Rattle.adb_stream.specs.Flow.{new_flow, may_send, is_idle, wrote, acknowledged}
 use Rattle.adb_stream.specs.declared.flow.Flow.{Flow}
 use Rattle.adb_stream.specs.declared.flow.Flow.TheVariants as flows
-use Rattle.adb_stream.specs.Window.{new_window}
-use Rattle.adb_stream.specs.Credit.{new_credit}
 use Rattle.adb_files.specs.Entries.{Entry}
 use Rattle.adb_device_streams.specs.Asked.{Kind}
 use Rattle.adb_device_streams.specs.Service.{Came, TakesFrontOfOne, HasAnswered, files_fed, out_of, service_answer}
@@ -18,29 +17,11 @@ use Rattle.adb_device_streams.specs.declared.stream.Stream.{Stream}
 
 -- what a stream may write at first: one write, or where the link has credit in bytes the credit that its OPEN gives
 abbrev pub first_flow : Option ℕ → Flow
-first_flow None = flows.One new_window
-first_flow (Some given) = flows.Credit (record new_credit { to_send = min (0 + given) (2 ^ 32 - 1) })
+first_flow credit = acknowledged credit (new_flow (is_some credit))
 
 -- how many bytes the next write may have, where a write may have at most so many
 abbrev pub room_of : Flow → ℕ → ℕ
-room_of (flows.One window) most = if window.outstanding then 0 else most
-room_of (flows.Credit credit) most = min most credit.to_send
-
--- a write of so many bytes was sent
-abbrev pub flow_past : Flow → ℕ → Flow
-flow_past (flows.One window) n = flows.One (record window { outstanding = true })
-flow_past (flows.Credit credit) n = flows.Credit (record credit { to_send = credit.to_send - n })
-
--- an OKAY came: a write has ended, or there is credit for more where it has a credit word
-abbrev pub flow_acked : Flow → Option ℕ → Flow
-flow_acked (flows.One window) word = flows.One (record window { outstanding = false })
-flow_acked (flows.Credit credit) None = flows.Credit credit
-flow_acked (flows.Credit credit) (Some more) = flows.Credit (record credit { to_send = min (credit.to_send + more) (2 ^ 32 - 1) })
-
--- whether no write is outstanding
-abbrev pub is_acked : Flow → Bool
-is_acked (flows.One window) = not window.outstanding
-is_acked (flows.Credit credit) = true
+room_of flow most = min most (may_send flow most)
 
 -- a stream: the host's id, what it was opened for and over which files, the payloads that came, what it wrote, and its window
 pub record Row : Type 0 where
@@ -60,7 +41,7 @@ abbrev pub next_payload : ℕ → Row → List ℕ
 next_payload most row = take (room_of row.flow most) (unsent row)
 
 abbrev pub row_past : List ℕ → Row → Row
-row_past payload row = record row { sent = row.sent ++ payload; flow = flow_past row.flow (length payload) }
+row_past payload row = record row { sent = row.sent ++ payload; flow = wrote (length payload) row.flow }
 
 -- all the writes that the window lets go: at most so many of them
 abbrev pub writes_at : ℕ → ℕ → Row → List (List ℕ)
@@ -78,7 +59,7 @@ row_past_all (payload ∷ more) row = row_past_all more (row_past payload row)
 
 -- Whether the stream is done: its service has ended, all is written, and nothing is outstanding.
 abbrev pub is_done : Row → Bool
-is_done row = (service_answer row.kind row.first row.past).ended && (length (unsent row) == 0 && is_acked row.flow)
+is_done row = (service_answer row.kind row.first row.past).ended && (length (unsent row) == 0 && is_idle row.flow)
 
 -- what is held of a stream
 pub record StandsFor (row : Row) (stream : Stream) : Type 0 where
@@ -95,12 +76,7 @@ abbrev pub row_took : Came → Row → Row
 row_took came row = record row { past = came ∷ row.past }
 
 abbrev pub row_acked : Option ℕ → Row → Row
-row_acked word row = record row { flow = flow_acked row.flow word }
-
--- A write of so many bytes may be sent.
-abbrev pub CanWrite : Flow → ℕ → Type 0
-CanWrite (flows.One window) n = window.outstanding ≡ false
-CanWrite (flows.Credit credit) n = n ≤ credit.to_send
+row_acked word row = record row { flow = acknowledged word row.flow }
 
 -- The first bytes of an answer were taken, at most so many: these are they, and the service is the one without them.
 pub record TakesFirst (room : ℕ) (old new : Service) (payload : List ℕ) : Type 0 where

@@ -3,14 +3,14 @@
 ghost use Rattle.std.specs.Prelude.{◌≡◌, ◌≤◌, ◌<◌, length, IfOk, IfSome, OnOk, OnErr};
 ghost use Rattle.adb_device_streams.specs.Asked.{kind_of};
 ghost use Rattle.adb_device_streams.specs.Service.{came_over, files_opened, out_of};
-ghost use Rattle.adb_device_streams.specs.Stream.{Row, StandsFor, TakesFirst, TakesWrite, TakesWriteFront, MakesWrite, CanWrite};
-ghost use Rattle.adb_device_streams.specs.Stream.{opened, row_acked, is_done, first_flow, room_of, flow_past, flow_acked, is_acked};
+ghost use Rattle.adb_device_streams.specs.Stream.{Row, StandsFor, TakesFirst, TakesWrite, TakesWriteFront, MakesWrite};
+ghost use Rattle.adb_device_streams.specs.Stream.{opened, row_acked, is_done, first_flow};
 
 use crate::asked::Asked;
 use crate::service::Service;
 use adb_files::Files;
 use adb_outside::Text;
-use adb_stream::{Credit, Flow, Window};
+use adb_stream::Flow;
 use std::alloc::{AllocError, Global};
 
 /// A stream at the device's end (protocol.txt, OPEN): the host's id, the service, and what the window
@@ -59,7 +59,7 @@ impl Stream {
     pub fn acked(&mut self, word: Option<u32>)
         ensures { (row : Row) → StandsFor row self.old → StandsFor (row_acked word row) self.new }
     {
-        acked(&mut self.flow, word);
+        self.flow.acked(word);
     }
 
     /// The payload of the next write, of at most `most` bytes; `None` where the window lets none go or
@@ -71,11 +71,12 @@ impl Stream {
         ensures less { IfOk result (λ next. IfSome next (λ payload.
             length (out_of self.new.service) < length (out_of self.old.service))) }
     {
-        let payload = take_first(alloc, &mut self.service, room(&self.flow, most))?;
+        let room = most.min(self.flow.may_send(most));
+        let payload = take_first(alloc, &mut self.service, room)?;
         if payload.is_empty() {
             return Ok(None);
         }
-        wrote(&mut self.flow, payload.len());
+        self.flow.wrote(payload.len());
         Ok(Some(payload))
     }
 
@@ -83,7 +84,7 @@ impl Stream {
     pub fn is_done(&self) -> bool
         ensures { (row : Row) → StandsFor row self.now → result ≡ is_done row }
     {
-        self.service.ended() && self.service.out().is_empty() && is_acked(&self.flow)
+        self.service.ended() && self.service.out().is_empty() && self.flow.is_idle()
     }
 }
 
@@ -92,62 +93,9 @@ impl Stream {
 fn first_flow(credit: Option<u32>) -> Flow
     ensures { result ≡ first_flow credit }
 {
-    match credit {
-        None => Flow::One(Window::new()),
-        Some(given) => {
-            let mut credit = Credit::new();
-            credit.grant(given);
-            Flow::Credit(credit)
-        }
-    }
-}
-
-/// How many bytes the next write may have, where a write may have at most `most`.
-fn room(flow: &Flow, most: usize) -> usize
-    ensures room { result ≡ room_of flow.now most }
-    ensures most { result ≤ most }
-{
-    match flow {
-        Flow::One(window) => { if window.can_write() { most } else { 0 } }
-        Flow::Credit(credit) => most.min(credit.can_send() as usize),
-    }
-}
-
-/// A write of `n` bytes was sent.
-fn wrote(flow: &mut Flow, n: usize)
-    requires { CanWrite flow.old n }
-    ensures { flow.new ≡ flow_past flow.old n }
-{
-    match flow {
-        Flow::One(window) => window.wrote(),
-        Flow::Credit(credit) => credit.sent(n.min(credit.can_send() as usize) as u32),
-    }
-}
-
-/// An OKAY came, with a credit word or without.
-fn acked(flow: &mut Flow, word: Option<u32>)
-    ensures { flow.new ≡ flow_acked flow.old word }
-{
-    match flow {
-        Flow::One(window) => {
-            window.acked();
-        }
-        Flow::Credit(credit) => {
-            if let Some(more) = word {
-                credit.grant(more);
-            }
-        }
-    }
-}
-
-/// Whether no write is outstanding.
-fn is_acked(flow: &Flow) -> bool
-    ensures { result ≡ is_acked flow.now }
-{
-    match flow {
-        Flow::One(window) => window.can_write(),
-        Flow::Credit(_) => true,
-    }
+    let mut flow = Flow::new(credit.is_some());
+    flow.acked(credit);
+    flow
 }
 
 /// Takes the first bytes of an answer, at most `room` of them: all of these that are there. After want

@@ -1,9 +1,8 @@
 //! Making an entry.
 
-ghost use Rattle.std.specs.Prelude.{◌≡◌, ◌+◌, ◌<◌, nat_eq, false, OnErr};
+ghost use Rattle.std.specs.Prelude.{◌≡◌, ◌+◌, nat_eq, false, OnErr};
 ghost use Rattle.adb_outside.specs.declared.kinds.Kind.{Kind};
 ghost use Rattle.adb_capture.specs.declared.entry.Entry.{Entry};
-ghost use Rattle.adb_capture.specs.Records.{HasRecord};
 ghost use Rattle.adb_history.specs.Machine.{History};
 ghost use Rattle.adb_history.specs.Kept.{IsLawful};
 ghost use Rattle.adb_entries.specs.Machine.{Applies};
@@ -18,8 +17,7 @@ use adb_outside::Kind;
 /// Makes the next entry of the history that a hub holds. A hand-out that was recorded is passed
 /// over. After a refusal, and after want of memory, the hub is as before.
 pub fn apply(hub: &mut Hub, entry: &Entry) -> Result<(), Refused>
-    requires form { HasRecord entry.now }
-    requires running { hub.old.stopped ≡ false }
+    requires { hub.old.stopped ≡ false }
     ensures applied { (h : History) → IsLawful hub.old h
         → Applies h entry.now result hub.new }
     ensures err { OnErr result (hub.new ≡ hub.old) }
@@ -52,8 +50,7 @@ fn join(hub: &mut Hub, client: u32) -> Result<(), Refused>
 
 /// A client comes through the forward of a port, under the number that its record names.
 fn enter(hub: &mut Hub, client: u32, port: u16) -> Result<(), Refused>
-    requires running { hub.old.stopped ≡ false }
-    requires port { 0 < port }
+    requires { hub.old.stopped ≡ false }
     ensures applied { (h : History) → IsLawful hub.old h
         → Applies h (Entry.Enter client port) result hub.new }
     ensures err { OnErr result (hub.new ≡ hub.old) }

@@ -8,16 +8,17 @@ use Rattle.adb_registry.specs.Registry.{DeviceTable}
 use Rattle.adb_stream.specs.declared.flow.Flow.{Flow}
 use Rattle.adb_stream.specs.declared.flow.Flow.TheVariants.{One, Credit}
 use Rattle.adb_stream.specs.declared.row.Stream.{Stream}
+use Rattle.adb_stream.specs.Flow.{to_hand, credit_back, handed_to, is_idle}
 use Rattle.adb_client.specs.declared.phase.Phase.{Phase}
 use Rattle.adb_client.specs.declared.phase.Phase.TheVariants.{Asking, Opening, Streaming, Binding, Tracking, Closing, Gone}
 use Rattle.adb_history.specs.Rows.{Client, State, to_client, to_stream, with_due, with_stream_part}
 use Rattle.adb_history.specs.Events.{quietly}
 use Rattle.adb_history.specs.Links.{maxdata_of}
 use Rattle.adb_history.specs.Clients.{closing_with}
-use Rattle.adb_history.specs.Handing.{unmarked, lists_first, left_in, hands, to_hand, credit_back, handed_to, tells_credit, tells_handed}
+use Rattle.adb_history.specs.Handing.{unmarked, lists_first, left_in, hands, tells_credit, tells_handed}
 use Rattle.adb_history.specs.Handing.{stream_hands, stream_left, client_left, takes_of, puts_to, puts, sends}
 use Rattle.adb_history.specs.Tracking.{offered}
-use Rattle.adb_history.specs.Flow.{payloads, is_over, is_idle, is_streaming, up_all, with_flow}
+use Rattle.adb_history.specs.Flow.{payloads, is_over, is_streaming, up_all, with_flow}
 use Rattle.adb_history.proofs.Quiet as quiet
 use Rattle.adb_history.proofs.Quiet.{all_still}
 

@@ -14,6 +14,7 @@ use Rattle.adb_registry.specs.Registry.{DeviceTable}
 use Rattle.adb_stream.specs.declared.flow.Flow.{Flow}
 use Rattle.adb_stream.specs.declared.flow.Flow.TheVariants.{One, Credit}
 use Rattle.adb_stream.specs.declared.row.Stream.{Stream}
+use Rattle.adb_stream.specs.Flow.{credit_back, to_hand, handed_to}
 use Rattle.adb_client.specs.declared.phase.Phase.{Phase}
 use Rattle.adb_client.specs.declared.phase.Phase.TheVariants.{Asking, Opening, Streaming, Binding, Tracking, Closing, Gone}
 use Rattle.adb_capture.specs.declared.entry.Entry.{Entry}
@@ -25,7 +26,7 @@ use Rattle.adb_history.specs.Clients.{closing_with}
 use Rattle.adb_history.specs.Events.{quietly}
 use Rattle.adb_history.specs.Links.{okay_packet, credit_packet, owe_link, check_on, wants_sums}
 use Rattle.adb_history.specs.Tracking.{offered, list_if_stale, due_or}
-use Rattle.adb_history.specs.Handing.{credit_back, tells_credit, tells_handed, stream_hands, stream_left, client_left, takes_of, puts_to, puts, hands, lists_first, to_hand, handed_to, link_hands, left_in, unmarked}
+use Rattle.adb_history.specs.Handing.{tells_credit, tells_handed, stream_hands, stream_left, client_left, takes_of, puts_to, puts, hands, lists_first, link_hands, left_in, unmarked}
 use Rattle.adb_history.specs.Machine.{rule}
 use Rattle.adb_history.specs.Drained.{owed_link, owed_list, owed_client, owed_by, owed_links, owed_clients, owed, answer_len, send_of, send_on, first_send, put_of, put_to, first_put, next_out}
 

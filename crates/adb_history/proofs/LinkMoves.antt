@@ -16,7 +16,7 @@ use Rattle.adb_wire.specs.Packet.{spelling}
 use Rattle.adb_wire.specs.declared.limits.TheConstants.{VERSION}
 use Rattle.adb_wire.specs.declared.headers.TheConstants.{MAX_PAYLOAD}
 use Rattle.adb_stream.specs.Stream.{new_stream}
-use Rattle.adb_stream.specs.Flow.{new_flow}
+use Rattle.adb_stream.specs.Flow.{new_flow, first_credit, accepted, has_credit}
 use Rattle.adb_stream.specs.declared.flow.Flow.{Flow}
 use Rattle.adb_stream.specs.declared.flow.Flow.TheVariants.{One, Credit}
 use Rattle.adb_stream.specs.declared.row.Part.{Part}
@@ -29,9 +29,8 @@ use Rattle.adb_history.specs.Links.{is_connected, is_connected_row, is_connected
 use Rattle.adb_history.specs.Streams.{ends_row, ends_if_of, ends_of, all_end}
 use Rattle.adb_history.specs.Flow.{with_flow}
 use Rattle.adb_history.specs.Losing.{forgets, link_ends, orphaned}
-use Rattle.adb_history.specs.Packets.{with_remote, with_sums, first_credit, accepted, streams_end_first, unauthorized_from}
+use Rattle.adb_history.specs.Packets.{with_remote, with_sums, streams_end_first, unauthorized_from}
 use Rattle.adb_history.specs.Machine.{History, state, May, IsLegal}
-use Rattle.adb_history.specs.Fifo.{has_credit}
 use Rattle.adb_history.specs.Moves.{Moves, IsReady, connects_now, draws_now}
 use Rattle.adb_history.specs.Owned.{AllDrawn}
 use Rattle.adb_history.specs.Linked.{DeviceRows, OnLink, AllOn, IsLinked}

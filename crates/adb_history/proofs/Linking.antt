@@ -15,12 +15,11 @@ use Rattle.adb_registry.specs.Row.{new_row, online_row, unauthorized_row}
 use Rattle.adb_registry.specs.Registry.{DeviceTable, attached, changed, detached}
 use Rattle.adb_registry.specs.declared.row.Row.{Row}
 use Rattle.adb_forward.specs.declared.row.ForwardRow.{ForwardRow}
-use Rattle.adb_stream.specs.Flow.{new_flow}
+use Rattle.adb_stream.specs.Flow.{new_flow, has_credit}
 use Rattle.adb_stream.specs.declared.row.Stream.{Stream}
 use Rattle.adb_history.specs.Rows.{Link, none_kept}
 use Rattle.adb_history.specs.Links.{is_connected, is_connected_state, is_connected_row, is_credit, is_credit_row}
 use Rattle.adb_history.specs.Forwarding.{forwards_without}
-use Rattle.adb_history.specs.Fifo.{has_credit}
 use Rattle.adb_history.specs.Moves.{IsLed, IsReady}
 use Rattle.adb_history.specs.Linked.{DeviceRows, OnLink, AllOn}
 

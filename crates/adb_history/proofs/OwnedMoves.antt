@@ -5,6 +5,7 @@ use Rattle.std.specs.Prelude.{is_some, option_and_then, option_map}
 use Rattle.adb_outside.specs.Tables.{Rows, change_row}
 use Rattle.adb_stream.specs.declared.flow.Flow.{Flow}
 use Rattle.adb_stream.specs.declared.row.Stream.{Stream}
+use Rattle.adb_stream.specs.Flow.{to_hand}
 use Rattle.adb_client.specs.declared.phase.Phase.{Phase}
 use Rattle.adb_client.specs.declared.phase.Phase.TheVariants.{Asking, Opening, Streaming, Binding, Tracking, Closing, Gone}
 use Rattle.adb_client.specs.declared.about.Want.{Want}
@@ -14,7 +15,7 @@ use Rattle.adb_history.specs.Flow.{with_flow}
 use Rattle.adb_history.specs.Tracking.{marked, marked_in}
 use Rattle.adb_history.specs.Losing.{stream_of, input_ended}
 use Rattle.adb_history.specs.Reading.{tracks, awaits}
-use Rattle.adb_history.specs.Handing.{to_hand, unmarked}
+use Rattle.adb_history.specs.Handing.{unmarked}
 use Rattle.adb_history.specs.Orderly.{phase_for}
 use Rattle.adb_history.specs.Moves.{IsFree, HasOne, IsLike}
 use Rattle.adb_history.specs.Owned.{StreamOf, ClientOf, OwnerIn, StreamIn, HoldsIn, ClientIn, Owned, IsOwned, AllDrawn}

@@ -6,7 +6,7 @@ use Rattle.std.proofs.lemmas.Bool.{eq-eqb, ne_eqb}
 use Rattle.std.proofs.lemmas.Bool.Decides.{nat_tests}
 use Rattle.adb_outside.specs.Tables.{Rows, change_row}
 use Rattle.adb_stream.specs.Stream.{new_stream}
-use Rattle.adb_stream.specs.Flow.{new_flow}
+use Rattle.adb_stream.specs.Flow.{new_flow, first_credit, accepted, is_out_of_turn, to_hand}
 use Rattle.adb_stream.specs.declared.flow.Flow.{Flow}
 use Rattle.adb_stream.specs.declared.flow.Flow.TheVariants.{One, Credit}
 use Rattle.adb_stream.specs.declared.row.Part.{Part}
@@ -18,8 +18,8 @@ use Rattle.adb_history.specs.Clients.{closing, closes}
 use Rattle.adb_history.specs.Links.{is_credit}
 use Rattle.adb_history.specs.Flow.{with_flow}
 use Rattle.adb_history.specs.Losing.{orphaned}
-use Rattle.adb_history.specs.Packets.{with_remote, first_credit, accepted, is_out_of_turn}
-use Rattle.adb_history.specs.Handing.{to_hand, hands, left_in}
+use Rattle.adb_history.specs.Packets.{with_remote}
+use Rattle.adb_history.specs.Handing.{hands, left_in}
 use Rattle.adb_history.specs.Orderly.{IsSoundFlow, phase_for}
 use Rattle.adb_history.specs.Moves.{draws_now, open_now, accepts_now}
 use Rattle.adb_history.specs.Owned.{StreamOf, ClientOf, OwnerIn, StreamIn, HoldsIn, ClientIn, Owned, IsOwned}

@@ -19,6 +19,7 @@ use Rattle.adb_wire.specs.declared.format.PacketFormat.{PacketFormat}
 use Rattle.adb_stream.specs.declared.flow.Flow.{Flow}
 use Rattle.adb_stream.specs.declared.flow.Flow.TheVariants.{One, Credit}
 use Rattle.adb_stream.specs.declared.row.Stream.{Stream}
+use Rattle.adb_stream.specs.Flow.{acknowledged, is_out_of_turn}
 use Rattle.adb_history.specs.Rows.{Client, Link, State, to_link, to_stream, with_stream_part}
 use Rattle.adb_history.specs.Events.{Made, Event, quietly, peer_closed, out_of_turn, broken}
 use Rattle.adb_history.specs.Links.{close_packet, okay_packet, credit_word, owe_link, is_connected}
@@ -27,7 +28,7 @@ use Rattle.adb_history.specs.Streams.{ends_row, ends_telling}
 use Rattle.adb_history.specs.Flow.{with_flow}
 use Rattle.adb_history.specs.Losing.{link_ends}
 use Rattle.adb_history.specs.Packets.{least_version, least_maxdata, connects, cnxn, unauthorized_from, unauthorized, refuses_open, at_stream}
-use Rattle.adb_history.specs.Packets.{hears_okay, opened, orphan_opened, acknowledged, okay_open, okay_first, takes_okay, is_out_of_turn}
+use Rattle.adb_history.specs.Packets.{hears_okay, opened, orphan_opened, okay_open, okay_first, takes_okay}
 use Rattle.adb_history.specs.Packets.{accepts_none, accepts, takes_write, takes_close, treat_open, treat_any, treat_on, treat, treat_all, faulty_on}
 use Rattle.adb_history.specs.Packets.{faulty, with_rest, receives_cut, receives_on, receives}
 use Rattle.adb_history.specs.Moves.{After, Moves, IsLike, open_now}

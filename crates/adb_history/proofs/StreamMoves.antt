@@ -7,6 +7,7 @@ use Rattle.adb_wire.specs.declared.packets.Packet.{Packet}
 use Rattle.adb_stream.specs.declared.flow.Flow.{Flow}
 use Rattle.adb_stream.specs.declared.flow.Flow.TheVariants.{One, Credit}
 use Rattle.adb_stream.specs.declared.row.Stream.{Stream}
+use Rattle.adb_stream.specs.Flow.{wrote}
 use Rattle.adb_client.specs.declared.phase.Phase.{Phase}
 use Rattle.adb_client.specs.declared.phase.Phase.TheVariants.{Asking, Opening, Streaming, Binding, Tracking, Closing, Gone}
 use Rattle.adb_reply.specs.Strings.{failed}
@@ -15,7 +16,7 @@ use Rattle.adb_history.specs.Events.{Made, Event, Ending, quietly, client_closed
 use Rattle.adb_history.specs.Links.{owe_link, open_packet, close_packet, write_packet, check_on, wants_sums, is_credit, maxdata_of}
 use Rattle.adb_history.specs.Clients.{closes_with}
 use Rattle.adb_history.specs.Streams.{stream_ids, asks_for, no_ids_left, opens, ends_row, ends_telling, ends_if_of, ends_of, all_end}
-use Rattle.adb_history.specs.Flow.{with_flow, wrote, flow_after, payloads, total, noted, goes_up, all_go_up, is_over, closes_if, sends_up}
+use Rattle.adb_history.specs.Flow.{with_flow, flow_after, payloads, total, noted, goes_up, all_go_up, is_over, closes_if, sends_up}
 use Rattle.adb_history.specs.Flow.{is_streaming, up_client, up_stream, up, up_all}
 use Rattle.adb_history.specs.Losing.{stream_of}
 use Rattle.adb_history.specs.Moves.{IsClientIn, After, Moves, IsOfStream, IsFree, HasOne, IsLike, IsReady, draws_now}

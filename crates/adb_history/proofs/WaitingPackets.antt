@@ -18,6 +18,7 @@ use Rattle.adb_wire.specs.declared.format.PacketFormat.{PacketFormat}
 use Rattle.adb_stream.specs.declared.row.Stream.{Stream}
 use Rattle.adb_stream.specs.declared.flow.Flow.{Flow}
 use Rattle.adb_stream.specs.declared.flow.Flow.TheVariants.{One, Credit}
+use Rattle.adb_stream.specs.Flow.{first_credit, acknowledged, is_out_of_turn, accepted, to_hand, credit_back, handed_to}
 use Rattle.adb_client.specs.declared.phase.Phase.{Phase}
 use Rattle.adb_client.specs.declared.phase.Phase.TheVariants.{Asking, Opening, Streaming, Binding, Tracking, Closing, Gone}
 use Rattle.adb_history.specs.Rows.{Client, Link, State, to_client, to_link, to_stream, none_kept, in_phase, with_stream_part}
@@ -28,12 +29,12 @@ use Rattle.adb_history.specs.Streams.{ends_row, ends_telling, all_end}
 use Rattle.adb_history.specs.Flow.{with_flow}
 use Rattle.adb_history.specs.Tracking.{marked_in, marked, mark_all, offered}
 use Rattle.adb_history.specs.Losing.{forgets, link_ends}
-use Rattle.adb_history.specs.Packets.{refuses_open, at_stream, with_remote, first_credit, hears_okay, opened, acknowledged, okay_open, okay_first, takes_okay}
-use Rattle.adb_history.specs.Packets.{is_out_of_turn, accepted, accepts_none, accepts, takes_write, takes_close, treat_open, least_version}
+use Rattle.adb_history.specs.Packets.{refuses_open, at_stream, with_remote, hears_okay, opened, okay_open, okay_first, takes_okay}
+use Rattle.adb_history.specs.Packets.{accepts_none, accepts, takes_write, takes_close, treat_open, least_version}
 use Rattle.adb_history.specs.Packets.{least_maxdata, goes_online}
 use Rattle.adb_history.specs.Packets.{streams_end_first, connects, cnxn, unauthorized_from, unauthorized, treat_any, treat_on, treat, treat_all}
 use Rattle.adb_history.specs.Packets.{faulty_on, faulty, with_rest, receives_cut, receives_on}
-use Rattle.adb_history.specs.Handing.{unmarked, lists_first, left_in, hands, to_hand, credit_back, handed_to, tells_credit, tells_handed, stream_left}
+use Rattle.adb_history.specs.Handing.{unmarked, lists_first, left_in, hands, tells_credit, tells_handed, stream_left}
 use Rattle.adb_history.specs.Handing.{client_left, takes_of, puts_to}
 use Rattle.adb_history.proofs.Waiting.{AreFree, Leaves, NoneWaits, WaitStep, free_after, is_waiting, leaves_all, leaves_all_end, leaves_ends_row}
 use Rattle.adb_history.proofs.Waiting.{leaves_ends_telling, leaves_no_stream, leaves_over, leaves_owe_client, leaves_owe_link, leaves_part}

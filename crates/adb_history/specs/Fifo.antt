@@ -6,8 +6,7 @@ use Rattle.adb_wire.specs.Cutting.{framed}
 use Rattle.adb_wire.specs.declared.command.Command.{Command}
 use Rattle.adb_wire.specs.declared.command.Command.TheVariants.{Cnxn, Open, Okay, Wrte, Clse, Auth, Stls}
 use Rattle.adb_wire.specs.declared.packets.Packet.{Packet}
-use Rattle.adb_stream.specs.declared.flow.Flow.{Flow}
-use Rattle.adb_stream.specs.declared.flow.Flow.TheVariants as flow
+use Rattle.adb_stream.specs.Flow.{has_credit}
 use Rattle.adb_stream.specs.declared.row.Stream.{Stream}
 use Rattle.adb_history.specs.Events.{client_closed, peer_closed}
 use Rattle.adb_history.specs.Links.{server_cnxn, open_packet, close_packet, credit_word}
@@ -21,10 +20,6 @@ use Rattle.adb_history.specs.Lives.{output_of, ending_of, rest_of, carried_of}
 use Rattle.adb_history.specs.Opened.{AsksAtOnce}
 
 -- ---- birth
-abbrev pub has_credit : Flow → Bool
-has_credit (flow.One window) = false
-has_credit (flow.Credit credit) = true
-
 -- A stream that lives is kept as it was born: with its client, on its link, under the device's id as far as it was told, with credit or one write.
 pub record IsKeptAs (h : History) (l : ℕ) (stream : Stream) : Type 0 where
   pub birth : Birth

@@ -1,5 +1,6 @@
 -- What a stream may send up, by its window or its credit (protocol.txt, WRITE and READY).
-use Rattle.std.specs.Prelude.{ℕ, ◌+◌, ◌-◌, Bool, true, false, if◌then◌else◌, ◌&&◌, not, nat_eq, List, [], ◌∷◌, length, take, drop, min, Option, Some, None, zero, suc}
+use Rattle.std.specs.Prelude.{ℕ, ◌+◌, ◌-◌, Bool, true, false, if◌then◌else◌, ◌&&◌, nat_eq, List, [], ◌∷◌, length, take, drop, min, Option, Some, None, zero, suc}
+use Rattle.adb_stream.specs.Flow.{wrote, is_idle}
 use Rattle.adb_stream.specs.declared.flow.Flow.{Flow}
 use Rattle.adb_stream.specs.declared.flow.Flow.TheVariants.{One, Credit}
 use Rattle.adb_stream.specs.declared.row.Part.{Part}
@@ -37,16 +38,6 @@ payloads (Credit credit) maxdata held = writes (length held) maxdata credit.to_s
 abbrev pub total : List (List ℕ) → ℕ
 total [] = 0
 total (payload ∷ payloads) = length payload + total payloads
-
--- the flow after a write
-abbrev pub wrote : ℕ → Flow → Flow
-wrote n (One window) = One (record window { outstanding = true })
-wrote n (Credit credit) = Credit (record credit { to_send = credit.to_send - n })
-
--- whether no write waits for its OKAY
-abbrev pub is_idle : Flow → Bool
-is_idle (One window) = not window.outstanding
-is_idle (Credit credit) = true
 
 -- ---- the up rule
 abbrev pub with_flow : Flow → Part → Part

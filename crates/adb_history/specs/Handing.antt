@@ -1,6 +1,6 @@
 -- Handing out what is due (protocol.txt, READY).
-use Rattle.std.specs.Prelude.{ℕ, ◌+◌, ◌-◌, false, if◌then◌else◌, nat_eq, List, [], ◌∷◌, length, drop, min, Option, Some, None, zero, suc}
-use Rattle.adb_stream.specs.Credit.{ByteCredit, given_back}
+use Rattle.std.specs.Prelude.{ℕ, ◌-◌, false, if◌then◌else◌, nat_eq, List, [], ◌∷◌, length, drop, min, Option, Some, None, zero, suc}
+use Rattle.adb_stream.specs.Flow.{to_hand, credit_back, handed_to}
 use Rattle.adb_stream.specs.declared.flow.Flow.{Flow}
 use Rattle.adb_stream.specs.declared.flow.Flow.TheVariants.{One, Credit}
 use Rattle.adb_stream.specs.declared.row.Stream.{Stream}
@@ -29,24 +29,6 @@ left_in _ due c = Some (record c { due = due })
 
 abbrev pub hands : ℕ → Client → Option Client
 hands n c = left_in c.about.phase (drop n c.due) c
-
--- how many of the bytes that a flow has accepted are still to be handed out
-abbrev pub to_hand : Flow → ℕ
-to_hand (One window) = window.to_hand
-to_hand (Credit credit) = credit.to_hand
-
--- the credit that is given back when so many are left to be handed out
-abbrev pub credit_back : ℕ → ByteCredit → ℕ
-credit_back left credit = given_back left (credit.gathered + (credit.to_hand - left))
-
--- the flow when so many are left
-abbrev pub handed_to : ℕ → Flow → Flow
-handed_to left (One window) = One (record window { to_hand = left })
-handed_to left (Credit credit) = Credit (record credit {
-  left = credit.left + credit_back left credit;
-  to_hand = left;
-  gathered = credit.gathered + (credit.to_hand - left) - credit_back left credit;
-})
 
 -- what the device is told of it: that its write was handed out whole; or how much credit it has more
 abbrev pub tells_credit : ℕ → ℕ → Stream → State → Made

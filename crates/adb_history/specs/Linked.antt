@@ -5,9 +5,9 @@ use Rattle.adb_registry.specs.Registry.{DeviceTable}
 use Rattle.adb_registry.specs.declared.row.Row.{Row}
 use Rattle.adb_forward.specs.declared.row.ForwardRow.{ForwardRow}
 use Rattle.adb_stream.specs.declared.row.Stream.{Stream}
+use Rattle.adb_stream.specs.Flow.{has_credit}
 use Rattle.adb_history.specs.Rows.{Link, State}
 use Rattle.adb_history.specs.Links.{is_connected, is_connected_state, is_credit}
-use Rattle.adb_history.specs.Fifo.{has_credit}
 use Rattle.adb_history.specs.Moves.{IsLed}
 use Rattle.adb_history.specs.Owned.{IsOwned}
 

@@ -12,6 +12,7 @@ use Rattle.adb_wire.specs.declared.command.Command.TheVariants.{Cnxn}
 use Rattle.adb_wire.specs.Packet.{spelling}
 use Rattle.adb_stream.specs.declared.flow.Flow.{Flow}
 use Rattle.adb_stream.specs.declared.row.Stream.{Stream}
+use Rattle.adb_stream.specs.Flow.{first_credit, is_out_of_turn, accepted, to_hand, has_credit}
 use Rattle.adb_client.specs.declared.phase.Phase.{Phase}
 use Rattle.adb_client.specs.declared.phase.Phase.TheVariants.{Asking, Opening, Streaming, Binding, Tracking}
 use Rattle.adb_client.specs.declared.about.Want.{Want}
@@ -25,11 +26,10 @@ use Rattle.adb_history.specs.Streams.{draw, ends_row}
 use Rattle.adb_history.specs.Flow.{with_flow}
 use Rattle.adb_history.specs.Tracking.{mark_all}
 use Rattle.adb_history.specs.Losing.{link_ends, orphaned, input_ended, stream_of, stops}
-use Rattle.adb_history.specs.Packets.{connects, with_remote, first_credit, is_out_of_turn, accepted, unauthorized_from}
+use Rattle.adb_history.specs.Packets.{connects, with_remote, unauthorized_from}
 use Rattle.adb_history.specs.Reading.{tracks, awaits}
-use Rattle.adb_history.specs.Handing.{to_hand, hands, unmarked}
+use Rattle.adb_history.specs.Handing.{hands, unmarked}
 use Rattle.adb_history.specs.Orderly.{IsSoundFlow}
-use Rattle.adb_history.specs.Fifo.{has_credit}
 
 -- what a rule made holds, behind what was told before it
 abbrev pub After : (State → List Event → Type 0) → List Event → Made → Type 0

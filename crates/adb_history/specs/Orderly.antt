@@ -9,13 +9,12 @@ use Rattle.adb_stream.specs.Credit.{IsWhole}
 use Rattle.adb_stream.specs.declared.flow.Flow.{Flow}
 use Rattle.adb_stream.specs.declared.flow.Flow.TheVariants as flow
 use Rattle.adb_stream.specs.declared.row.Stream.{Stream}
+use Rattle.adb_stream.specs.Flow.{to_hand, has_credit}
 use Rattle.adb_client.specs.declared.phase.Phase.{Phase}
 use Rattle.adb_client.specs.declared.phase.Phase.TheVariants.{Asking, Opening, Streaming, Binding, Tracking, Closing, Gone}
 use Rattle.adb_history.specs.Rows.{Client, State}
 use Rattle.adb_history.specs.Links.{is_connected, is_connected_state, is_credit, maxdata_of}
 use Rattle.adb_history.specs.Flow.{payloads, is_over}
-use Rattle.adb_history.specs.Handing.{to_hand}
-use Rattle.adb_history.specs.Fifo.{has_credit}
 
 -- ---- numbers
 -- Nothing is kept under a number that was not drawn, nor under 0.

@@ -1,6 +1,5 @@
 -- What the packets of a device make (protocol.txt).
-use Rattle.std.specs.Prelude.{ℕ, ◌+◌, ◌-◌, ◌^◌, ◌==◌, Bool, true, false, if◌then◌else◌, ◌||◌, not, nat_eq, nat_lt, List, [], ◌∷◌, ◌++◌, length, min, Option, Some, None, codes}
-use Rattle.std.specs.Prelude.{unwrap_or}
+use Rattle.std.specs.Prelude.{ℕ, ◌+◌, ◌-◌, ◌==◌, Bool, true, false, if◌then◌else◌, ◌||◌, not, nat_eq, nat_lt, List, [], ◌∷◌, ◌++◌, length, min, Option, Some, None, codes}
 use Rattle.adb_outside.specs.Tables.{at}
 use Rattle.adb_outside.specs.Framing.{Cut}
 use Rattle.adb_outside.specs.declared.identity.Identity.{Identity}
@@ -19,6 +18,7 @@ use Rattle.adb_wire.specs.declared.format.PacketFault.{PacketFault}
 use Rattle.adb_wire.specs.declared.format.PacketFormat.{PacketFormat}
 use Rattle.adb_wire.specs.declared.limits.TheConstants.{VERSION}
 use Rattle.adb_wire.specs.declared.headers.TheConstants.{MAX_PAYLOAD}
+use Rattle.adb_stream.specs.Flow.{first_credit, acknowledged, is_out_of_turn, accepted}
 use Rattle.adb_stream.specs.declared.flow.Flow.{Flow}
 use Rattle.adb_stream.specs.declared.flow.Flow.TheVariants.{One, Credit}
 use Rattle.adb_stream.specs.declared.row.Stream.{Stream}
@@ -91,11 +91,6 @@ abbrev pub with_remote : ℕ → Part → Part
 with_remote remote part = record part { remote = remote }
 
 -- ---- OKAY
--- the credit with which a device opens a stream: none without a credit word
-abbrev pub first_credit : Option ℕ → Flow → Flow
-first_credit word (One window) = One window
-first_credit word (Credit credit) = Credit (record credit { to_send = unwrap_or word 0 })
-
 -- the client hears that its stream is open, unless it came through a forward
 abbrev pub hears_okay : Option Client → ℕ → State → Made
 hears_okay None c s = quietly s
@@ -112,12 +107,6 @@ opened l remote word stream s =
 abbrev pub orphan_opened : (l remote : ℕ) → Stream → State → Made
 orphan_opened l remote stream s = owe_link stream.link (close_packet l remote) (to_stream l none_kept s)
 
--- an OKAY of an open stream: the write that is outstanding has ended, or there is more credit
-abbrev pub acknowledged : Option ℕ → Flow → Flow
-acknowledged word (One window) = One (record window { outstanding = false })
-acknowledged None (Credit credit) = Credit credit
-acknowledged (Some n) (Credit credit) = Credit (record credit { to_send = min (credit.to_send + n) (2 ^ 32 - 1) })
-
 abbrev pub okay_open : ℕ → Option ℕ → Stream → State → Made
 okay_open l word stream s = quietly (to_stream l (with_stream_part (with_flow (acknowledged word stream.part.flow) stream.part)) s)
 
@@ -133,16 +122,6 @@ takes_okay l remote word stream s =
     else (if remote == stream.part.remote then okay_open l word stream s else quietly s))
 
 -- ---- WRTE
--- whether a write of so many bytes comes out of turn: bytes of the last one are still to be handed out, or there is no credit for it
-abbrev pub is_out_of_turn : Flow → ℕ → Bool
-is_out_of_turn (One window) n = nat_lt 0 window.to_hand
-is_out_of_turn (Credit credit) n = nat_lt credit.left n
-
--- the flow after a write that was accepted
-abbrev pub accepted : ℕ → Flow → Flow
-accepted n (One window) = One (record window { to_hand = n })
-accepted n (Credit credit) = Credit (record credit { left = credit.left - n; to_hand = credit.to_hand + n })
-
 -- a write without bytes: one write each way answers it at once
 abbrev pub accepts_none : Flow → ℕ → Stream → State → Made
 accepts_none (One window) l stream s = owe_link stream.link (okay_packet l stream.part.remote) s

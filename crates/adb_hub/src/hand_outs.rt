@@ -6,13 +6,13 @@ ghost use Rattle.adb_history.specs.Drained.{next_out};
 ghost use Rattle.adb_history.specs.Kept.{IsLawful};
 ghost use Rattle.adb_history.specs.Machine.{state};
 ghost use Rattle.adb_history.specs.Rows.{State};
-ghost use Rattle.adb_hub_hand_outs.specs.NextDue.{owner_of, entry_of};
+ghost use Rattle.adb_hub_hand_outs.specs.NextDue.{owner_of, entry_of, is_owed};
 ghost use Rattle.adb_hub.specs.Answers.{Hands, offered_to, due_on, handed_as, IsWithin};
 
 use crate::answers::{Handed, Life};
 use crate::error::HubError;
 use crate::hub::Hub;
-use adb_hub_hand_outs::Owner;
+use adb_capture::Owner;
 
 impl Hub {
     /// Hands out the first bytes that are due to a client, at most `max`; a tracker whose list is
@@ -65,6 +65,23 @@ impl Hub {
         ensures same { self.new ≡ self.old }
     {
         adb_hub_hand_outs::next_due(&mut self.tables)
+    }
+
+    /// Whom to wake: somebody to whom something may have come due, for whom room may have been
+    /// made, or who is gone, and who was not named since; each is named once. Nothing changes that
+    /// contracts see, and it takes no memory. Its cost is that of those who are named. After a kill
+    /// all are gone, and not all of them are named.
+    pub fn next_touched(&mut self) -> Option<Owner>
+        ensures same { self.new ≡ self.old }
+    {
+        adb_hub_hand_outs::next_touched(&mut self.tables)
+    }
+
+    /// Whether something is due to a client or on a link, or it is gone. It takes no memory.
+    pub fn is_owed(&self, owner: Owner) -> bool
+        ensures { (h : List Entry) → IsLawful self.now h → result ≡ is_owed owner (state h) }
+    {
+        adb_hub_hand_outs::is_owed(&self.tables, owner)
     }
 }
 

@@ -9,7 +9,7 @@ mod hand_outs;
 mod hub;
 mod links;
 
-pub use adb_hub_hand_outs::Owner;
+pub use adb_capture::Owner;
 pub use answers::{Handed, Life, Room, Summary};
 pub use error::HubError;
 pub use hub::{Hub, MAX_HELD, limits_are};

@@ -8,6 +8,7 @@ use Rattle.std.proofs.lemmas.Bool.Decides.{nat_tests}
 use Rattle.adb_outside.specs.Tables.{at}
 use Rattle.adb_wire.specs.declared.limits.TheConstants.{MIN_VERSION}
 use Rattle.adb_client.specs.Client.{SeenClient}
+use Rattle.adb_stream.specs.Flow.{can_send}
 use Rattle.adb_stream.specs.declared.flow.Flow.{Flow}
 use Rattle.adb_stream.specs.declared.flow.Flow.TheVariants.{One, Credit}
 use Rattle.adb_stream.specs.declared.row.Stream.{Stream}
@@ -24,7 +25,7 @@ use Rattle.adb_hub_tables.specs.Widening.{WidensClient, WidensRow}
 use Rattle.adb_hub_rules.specs.Up.{is_for, IsCutFor, IsCutOf, writes_for, writes_of, writes_up, IsReadyUp, all_unsent, held_at}
 use Rattle.adb_hub_tables.specs.Fit.{IsFit, IsReadOutAt}
 use Rattle.adb_hub_tables.proofs.Using.{provided_by, more_room}
-use Rattle.adb_hub_clients.specs.Sending.{IsPreparedAt, can_send, can_send_at}
+use Rattle.adb_hub_clients.specs.Sending.{IsPreparedAt, can_send_at}
 use Rattle.adb_hub_clients.proofs.Sums.{up_sums, sums_at}
 
 -- ---- what was read of a link

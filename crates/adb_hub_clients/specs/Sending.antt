@@ -1,8 +1,8 @@
 -- What is made ready before bytes go up a stream.
-use Rattle.std.specs.Prelude.{ℕ, ◌≤◌, Bool, false, not, nat_lt, length, Option, Some, None}
+use Rattle.std.specs.Prelude.{ℕ, ◌≤◌, Bool, false, length, Option, Some, None}
 use Rattle.adb_client.specs.Client.{SeenClient}
 use Rattle.adb_stream.specs.declared.flow.Flow.{Flow}
-use Rattle.adb_stream.specs.declared.flow.Flow.TheVariants.{One, Credit}
+use Rattle.adb_stream.specs.Flow.{can_send}
 use Rattle.adb_stream.specs.declared.row.Stream.{Stream}
 use Rattle.adb_hub_tables.specs.Ready.{IsCut, up_writes}
 
@@ -15,11 +15,7 @@ abbrev pub IsPreparedAt : ℕ → Flow → ℕ → Option SeenClient → Type 0
 IsPreparedAt writes flow maxdata None = Unit {0}
 IsPreparedAt writes flow maxdata (Some client) = IsPrepared writes flow maxdata client
 
--- whether a flow lets anything be sent now
-abbrev pub can_send : Flow → Bool
-can_send (One window) = not window.outstanding
-can_send (Credit credit) = nat_lt 0 credit.to_send
-
+-- whether a stream lets anything be sent now
 abbrev pub can_send_at : Option Stream → Bool
 can_send_at None = false
 can_send_at (Some stream) = can_send stream.part.flow

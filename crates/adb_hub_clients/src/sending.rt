@@ -8,13 +8,13 @@ ghost use Rattle.adb_hub_tables.specs.Tables.{state_of};
 ghost use Rattle.adb_hub_rules.specs.Up.{IsReadyUp, IsSized};
 ghost use Rattle.adb_hub_clients.specs.Leaving.{Leaves, HoldsAtLeast};
 ghost use Rattle.adb_hub_clients.specs.Taking.{takes_in};
-ghost use Rattle.adb_hub_clients.specs.Sending.{IsPreparedAt, can_send, can_send_at};
+ghost use Rattle.adb_hub_clients.specs.Sending.{IsPreparedAt, can_send_at};
 
 use crate::places::make_packets;
 use crate::taking::{take_back, take_in};
 use adb_hub_rules::{close_idle, up};
 use adb_hub_tables::{Tables, make_ready};
-use adb_stream::{Flow, Stream};
+use adb_stream::Stream;
 use std::alloc::AllocError;
 
 /// A piece came from a client that has the stream of an id open: it goes up, as far as the stream
@@ -65,17 +65,8 @@ fn can_send(tables: &Tables, id: u32) -> bool
     ensures { result ≡ can_send_at (at id tables.now.streams.streams) }
 {
     match tables.streams.get(id) {
-        Some(stream) => lets_go(&stream.part.flow),
+        Some(stream) => stream.part.flow.can_send(),
         None => false,
-    }
-}
-
-fn lets_go(flow: &Flow) -> bool
-    ensures { result ≡ can_send flow.now }
-{
-    match flow {
-        Flow::One(window) => window.can_write(),
-        Flow::Credit(credit) => credit.can_send() > 0,
     }
 }
 

@@ -19,8 +19,8 @@ use Rattle.adb_hub_tables.specs.declared.ports.Port.{Port}
 use Rattle.adb_hub_tables.specs.declared.tables.Tables.{Tables}
 use Rattle.adb_hub_tables.specs.First.{first_number}
 use Rattle.adb_hub_hand_outs.specs.NextDue.{owes_link, owes_client, owner_of, entry_of}
-use Rattle.adb_hub_hand_outs.specs.declared.due.Owner.{Owner}
-use Rattle.adb_hub_hand_outs.specs.declared.due.Owner.TheVariants.{Link, Client}
+use Rattle.adb_capture.specs.declared.entry.Owner.{Owner}
+use Rattle.adb_capture.specs.declared.entry.Owner.TheVariants.{Link, Client}
 
 -- what is known of the first hand-out of some rows: whose it is, and that it is that of its row
 pub record IsFirst (owner : ℕ → Owner) (hand : ℕ → Option Entry) (first : Option ℕ) (entry : Option Entry) : Type 0 where

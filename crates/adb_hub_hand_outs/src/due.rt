@@ -1,4 +1,4 @@
-//! The least link to which something is due, or else the least client.
+//! To whom something is due: the least link, or else the least client; and whom to wake.
 
 ghost use Rattle.std.specs.Prelude.{◌≡◌, option_and_then, option_map};
 ghost use Rattle.adb_outside.specs.Tables.{IsRising};
@@ -6,19 +6,11 @@ ghost use Rattle.adb_history.specs.Drained.{next_out};
 ghost use Rattle.adb_history.specs.Orderly.{IsDrawnOnly};
 ghost use Rattle.adb_hub_tables.specs.Tables.{state_of};
 ghost use Rattle.adb_hub_tables.specs.First.{first_number};
-ghost use Rattle.adb_hub_hand_outs.specs.NextDue.{owes_link, owes_client, owner_of, entry_of};
+ghost use Rattle.adb_hub_hand_outs.specs.NextDue.{owes_link, owes_client, owner_of, entry_of, is_owed, link_owed, client_owed};
 
+use adb_capture::Owner;
 use adb_client::Client;
-use adb_hub_tables::{Port, Tables, TouchedMap};
-
-/// Who is handed something.
-#[derive(Clone, Copy, Debug, PartialEq, Eq, Drop)]
-pub enum Owner {
-    /// The link of this transport id.
-    Link(u32),
-    /// The client of this number.
-    Client(u32),
-}
+use adb_hub_tables::{Owes, Port, Tables, TouchedMap};
 
 /// Who is handed something next when all that is due is handed out: the least link to which
 /// something is due, or else the least client. Nothing changes that contracts see, and it takes no
@@ -33,6 +25,45 @@ pub fn next_due(tables: &mut Tables) -> Option<Owner>
     match link_due(&mut tables.links) {
         Some(id) => Some(Owner::Link(id)),
         None => client_due(&mut tables.clients),
+    }
+}
+
+/// Somebody to whom something may have come due, for whom room may have been made, or who is gone,
+/// and who was not named since. Nothing changes that contracts see, and it takes no memory.
+pub fn next_touched(tables: &mut Tables) -> Option<Owner>
+    ensures same { tables.new ≡ tables.old }
+{
+    match tables.links.next_touched() {
+        Some(link) => Some(Owner::Link(link)),
+        None => tables.clients.next_touched().map(Owner::Client),
+    }
+}
+
+/// Whether something is due to somebody, or who it is is gone.
+pub fn is_owed(tables: &Tables, owner: Owner) -> bool
+    ensures { result ≡ is_owed owner (state_of tables.now) }
+{
+    match owner {
+        Owner::Link(link) => is_link_owed(tables, link),
+        Owner::Client(client) => is_client_owed(tables, client),
+    }
+}
+
+fn is_link_owed(tables: &Tables, link: u32) -> bool
+    ensures { result ≡ link_owed ((state_of tables.now).links link) }
+{
+    match tables.links.get(&link) {
+        Some(port) => port.owes(),
+        None => true,
+    }
+}
+
+fn is_client_owed(tables: &Tables, client: u32) -> bool
+    ensures { result ≡ client_owed ((state_of tables.now).clients client) }
+{
+    match tables.clients.get(&client) {
+        Some(row) => row.owes(),
+        None => true,
     }
 }
 

@@ -10,6 +10,6 @@ mod sends;
 #[cfg(test)]
 mod tests;
 
-pub use due::{Owner, next_due};
+pub use due::{is_owed, next_due, next_touched};
 pub use puts::put;
 pub use sends::send;

@@ -6,13 +6,13 @@ use Rattle.std.proofs.lemmas.Bool.{cases_eq, ne_eqb}
 use Rattle.std.proofs.lemmas.Nat.{le-div}
 use Rattle.std.proofs.Math.Nat.{div-zero, div-mul-le_self}
 use Rattle.adb_outside.specs.Tables.{at}
+use Rattle.adb_stream.specs.Flow.{has_credit}
 use Rattle.adb_client.specs.Client.{SeenClient}
 use Rattle.adb_stream.specs.Stream.{of_link}
 use Rattle.adb_stream.specs.declared.flow.Flow.{Flow}
 use Rattle.adb_stream.specs.declared.flow.Flow.TheVariants.{One, Credit}
 use Rattle.adb_stream.specs.declared.row.Stream.{Stream}
 use Rattle.adb_history.specs.Rows.{Client}
-use Rattle.adb_history.specs.Fifo.{has_credit}
 use Rattle.adb_history.specs.Links.{maxdata_of}
 use Rattle.adb_hub_rules.specs.declared.came.Came.{Came}
 use Rattle.adb_hub_tables.specs.declared.tables.Tables.{Tables}

@@ -1,5 +1,5 @@
 -- How clients end.
-use Rattle.std.proofs.Common.{ℕ, ◌≡◌, ◌≢◌, false, Option, Some, None, refl}
+use Rattle.std.proofs.Common.{ℕ, ◌≡◌, false, Option, Some, None, refl}
 use Rattle.std.specs.Prelude.{is_some}
 use Rattle.adb_outside.specs.declared.kinds.Cause.{Cause}
 use Rattle.adb_history.specs.Rows.{Client, State}

@@ -1,19 +1,19 @@
 -- Handing out what is due.
-use Rattle.std.proofs.Common.{ℕ, ◌≡◌, ◌≢◌, ◌<◌, Option, Some, refl, sym, ◌∙◌, ap, cond, eqb, arith, ◌⊎◌, inl, inr, length, drop, min}
+use Rattle.std.proofs.Common.{ℕ, ◌≡◌, ◌≢◌, ◌<◌, true, false, Option, Some, refl, sym, ◌∙◌, ap, cond, eqb, arith, ◌⊎◌, inl, inr, length, drop, min}
 use Rattle.std.specs.Prelude.{option_and_then}
 use Rattle.std.proofs.lemmas.Bool.{ne_eqb, cases_eq}
 use Rattle.adb_outside.specs.Tables.{Rows, change_row}
+use Rattle.adb_stream.specs.Flow.{has_credit, to_hand, flow_back}
 use Rattle.adb_client.specs.declared.phase.Phase.{Phase}
 use Rattle.adb_client.specs.declared.phase.Phase.TheVariants.{Asking, Opening, Streaming, Binding, Tracking, Closing, Gone}
-use Rattle.adb_stream.specs.Credit.{ByteCredit}
+use Rattle.adb_stream.specs.Window.{OneWrite}
 use Rattle.adb_stream.specs.declared.flow.Flow.{Flow}
-use Rattle.adb_stream.specs.declared.flow.Flow.TheVariants.{Credit}
+use Rattle.adb_stream.specs.declared.flow.Flow.TheVariants.{One, Credit}
 use Rattle.adb_stream.specs.declared.row.Stream.{Stream}
-use Rattle.adb_history.specs.Rows.{Client, State, to_client, to_stream, with_stream_part}
+use Rattle.adb_history.specs.Rows.{Client, State, to_client}
 use Rattle.adb_history.specs.Events.{Made, quietly}
 use Rattle.adb_history.specs.Clients.{closing, closes}
-use Rattle.adb_history.specs.Flow.{with_flow}
-use Rattle.adb_history.specs.Handing.{tells_credit, credit_back, handed_to, hands, left_in, client_left, to_hand, stream_hands, stream_left, takes_of}
+use Rattle.adb_history.specs.Handing.{tells_credit, tells_handed, hands, left_in, client_left, stream_hands, stream_left, takes_of}
 use Rattle.adb_hub_rules.specs.Handing.{handed, leaves}
 use Rattle.adb_hub_tables.proofs.Closings.{fused}
 
@@ -47,12 +47,16 @@ less_left due l stream s left is fewer =
     ap (λ (m : Made). m.state) (sym (fewer_left left l stream s fewer)) ∙ ap (λ (n : ℕ). (stream_hands n l stream s).state) is
 
 module _ (left l : ℕ) (stream : Stream) (s : State) where
-  -- what is left of a credit, and what is given back
-  pub told_credit : (credit after : ByteCredit) → Credit after ≡ handed_to left (Credit credit)
-      → (tells_credit (credit_back left credit) l stream (to_stream l (with_stream_part (with_flow (Credit after) stream.part)) s)).state
-      ≡ (leaves left l (Credit credit) stream s).state
-  told_credit credit after is =
-      ap (λ (flow : Flow). (tells_credit (credit_back left credit) l stream (to_stream l (with_stream_part (with_flow flow stream.part)) s)).state) is
+  -- a device is told of a credit what is given back
+  pub told_credit : (flow : Flow) → has_credit flow ≡ true → (tells_credit (flow_back left flow) l stream s).state ≡ (tells_handed flow left l stream s).state
+  told_credit (One window) is = absurd (let clash : false ≡ true = is in cc)
+  told_credit (Credit credit) is = refl
+
+  -- and of one write that it was handed out
+  pub told_one : {now : State} (flow : Flow) → has_credit flow ≡ false → ((window : OneWrite) → now ≡ (tells_handed (One window) left l stream s).state)
+      → now ≡ (tells_handed flow left l stream s).state
+  told_one (One window) is told = told window
+  told_one (Credit credit) is told = absurd (let clash : true ≡ false = is in cc)
 
 pub left_then : (l : ℕ) (n m : ℕ) (s t : State) → n ≡ m → s ≡ t → (stream_left n l (s.streams l) s).state ≡ (stream_left m l (t.streams l) t).state
 left_then l n m s t same is = ap (λ (q : ℕ). (stream_left q l (s.streams l) s).state) same ∙ ap (λ (s : State). (stream_left m l (s.streams l) s).state) is

@@ -4,15 +4,16 @@ use Rattle.std.specs.Prelude.{option_map, unwrap_or}
 use Rattle.std.proofs.Math.Seq.{drop-nil, take-nil}
 use Rattle.std.proofs.lemmas.List.{length-take-le, drop-drop}
 use Rattle.adb_outside.specs.Tables.{Rows, at}
+use Rattle.adb_stream.specs.Flow.{may_send, wrote}
 use Rattle.adb_client.specs.Client.{SeenClient}
 use Rattle.adb_stream.specs.declared.flow.Flow.{Flow}
 use Rattle.adb_stream.specs.declared.row.Stream.{Stream}
 use Rattle.adb_history.specs.Rows.{Client, State, to_client, with_held}
-use Rattle.adb_history.specs.Flow.{write_len, payloads, total, wrote, goes_up, all_go_up, flow_after}
+use Rattle.adb_history.specs.Flow.{write_len, payloads, total, goes_up, all_go_up, flow_after}
 use Rattle.adb_hub_tables.specs.declared.tables.Tables.{Tables}
 use Rattle.adb_hub_tables.specs.Tables.{state_of}
 use Rattle.adb_hub_tables.specs.Places.{Uses}
-use Rattle.adb_hub_rules.specs.Up.{held_at, may_send, CanCut, cut_off, unsent, CanCutAll, all_written, all_sent, Sends}
+use Rattle.adb_hub_rules.specs.Up.{held_at, CanCut, cut_off, unsent, CanCutAll, all_written, all_sent, Sends}
 use Rattle.adb_hub_tables.proofs.Closings.{fused}
 use Rattle.adb_hub_tables.proofs.Using.{uses_then}
 use Rattle.adb_hub_rules.proofs.WritesUp.{one_let, within}

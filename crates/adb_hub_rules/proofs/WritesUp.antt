@@ -6,8 +6,8 @@ use Rattle.std.proofs.lemmas.Bool.Decides.{nat_tests}
 use Rattle.std.proofs.lemmas.List.{length-drop, length-take-le}
 use Rattle.adb_stream.specs.declared.flow.Flow.{Flow}
 use Rattle.adb_stream.specs.declared.flow.Flow.TheVariants.{One, Credit}
-use Rattle.adb_history.specs.Flow.{write_len, write_before, writes, payloads, total, wrote}
-use Rattle.adb_hub_rules.specs.Up.{may_send}
+use Rattle.adb_stream.specs.Flow.{may_send, wrote}
+use Rattle.adb_history.specs.Flow.{write_len, write_before, writes, payloads, total}
 use Rattle.adb_hub_tables.specs.Ready.{up_bytes, up_writes}
 
 -- ---- fuel

@@ -1,6 +1,7 @@
 -- Handing out what is due: what may be, and what places that takes.
 use Rattle.std.specs.Prelude.{ℕ, ◌≤◌, length, drop, Option, Some, None}
 use Rattle.adb_outside.specs.Tables.{at}
+use Rattle.adb_stream.specs.Flow.{handed_to}
 use Rattle.adb_client.specs.Client.{SeenClient}
 use Rattle.adb_client.specs.declared.phase.Phase.{Phase}
 use Rattle.adb_client.specs.declared.phase.Phase.TheVariants.{Streaming}
@@ -9,7 +10,7 @@ use Rattle.adb_stream.specs.declared.row.Stream.{Stream}
 use Rattle.adb_history.specs.Rows.{Client, State, to_stream, with_stream_part}
 use Rattle.adb_history.specs.Events.{Made}
 use Rattle.adb_history.specs.Flow.{with_flow}
-use Rattle.adb_history.specs.Handing.{handed_to, tells_handed}
+use Rattle.adb_history.specs.Handing.{tells_handed}
 use Rattle.adb_hub_tables.specs.declared.ports.Port.{Port}
 use Rattle.adb_hub_tables.specs.declared.tables.Tables.{Tables}
 use Rattle.adb_hub_tables.specs.Places.{LinkRoom, Uses}

@@ -1,12 +1,11 @@
 -- What the up rule needs: bytes that are ready to be cut off, and places for its writes.
-use Rattle.std.specs.Prelude.{ℕ, ◌-◌, ◌≡◌, ◌≢◌, ◌≤◌, ◌<◌, Bool, true, false, nat_eq, if◌then◌else◌, List, [], length, drop, min, Option, Some, None}
+use Rattle.std.specs.Prelude.{ℕ, ◌-◌, ◌≡◌, ◌≢◌, ◌≤◌, ◌<◌, Bool, true, false, nat_eq, if◌then◌else◌, List, [], length, drop, Option, Some, None}
 use Rattle.adb_outside.specs.Tables.{at}
 use Rattle.adb_wire.specs.declared.headers.TheConstants.{MAX_PAYLOAD}
 use Rattle.adb_client.specs.Client.{SeenClient}
 use Rattle.adb_client.specs.declared.phase.Phase.{Phase}
 use Rattle.adb_client.specs.declared.phase.Phase.TheVariants.{Opening, Streaming}
 use Rattle.adb_stream.specs.declared.flow.Flow.{Flow}
-use Rattle.adb_stream.specs.declared.flow.Flow.TheVariants.{One, Credit}
 use Rattle.adb_stream.specs.declared.row.Stream.{Stream}
 use Rattle.adb_history.specs.Rows.{State, to_client, with_held}
 use Rattle.adb_history.specs.Links.{maxdata_of}
@@ -73,16 +72,6 @@ pub record StaysReady (l : ℕ) (old new : Tables) : Type 0 where
 abbrev pub held_at : Option SeenClient → List ℕ
 held_at None = []
 held_at (Some client) = client.held
-
--- how many bytes a flow lets go now
-abbrev pub may_send : Flow → ℕ → ℕ
-may_send (One window) maxdata = if window.outstanding then 0 else maxdata
-may_send (Credit credit) maxdata = credit.to_send
-
--- A flow lets a write of so many bytes go.
-abbrev pub LetsGo : Flow → ℕ → Type 0
-LetsGo (One window) n = window.outstanding ≡ false
-LetsGo (Credit credit) n = n ≤ credit.to_send
 
 -- So many bytes can be cut off what a client holds.
 abbrev pub CanCut : ℕ → Option SeenClient → Type 0

@@ -2,19 +2,20 @@
 
 ghost use Rattle.std.specs.Prelude.{◌≡◌, ◌<◌, ℕ, Some, length, drop};
 ghost use Rattle.adb_outside.specs.Tables.{at};
+ghost use Rattle.adb_stream.specs.Flow.{to_hand, flow_back};
 ghost use Rattle.adb_client.specs.Client.{SeenClient};
 ghost use Rattle.adb_stream.specs.Window.{OneWrite};
 ghost use Rattle.adb_history.specs.Rows.{to_client, to_stream, with_stream_part};
 ghost use Rattle.adb_history.specs.Clients.{closes};
 ghost use Rattle.adb_history.specs.Flow.{with_flow};
-ghost use Rattle.adb_history.specs.Handing.{takes_of, stream_left, sends, to_hand, handed_to, credit_back, tells_handed, tells_credit};
+ghost use Rattle.adb_history.specs.Handing.{takes_of, stream_left, sends, tells_handed, tells_credit};
 ghost use Rattle.adb_hub_tables.specs.Tables.{state_of};
 ghost use Rattle.adb_hub_tables.specs.Places.{LinkRoom, Uses};
 ghost use Rattle.adb_hub_rules.specs.Handing.{AreDue, AreDueOn, HasRoom, UsesOf, open_stream, handed, leaves};
 
 use adb_client::Phase;
 use adb_hub_tables::Tables;
-use adb_stream::{Credit, Flow, Part, Stream, Window};
+use adb_stream::{Flow, Part, Stream};
 
 /// So many of the bytes that are due to a client were handed out. A client that is closing is
 /// gone when nothing is left; on a stream the device is told where its bytes were handed out.
@@ -93,8 +94,8 @@ fn hand_stream(tables: &mut Tables, id: u32, due: usize)
     let Some(stream) = tables.streams.get(id).copied() else {
         return;
     };
-    let left = to_hand(&stream.part.flow).min(due);
-    if left < to_hand(&stream.part.flow) {
+    let left = stream.part.flow.to_hand().min(due);
+    if left < stream.part.flow.to_hand() {
         leave(tables, id, &stream, left);
     }
 }
@@ -108,36 +109,25 @@ fn leave(tables: &mut Tables, id: u32, stream: &Stream, left: usize)
         ≡ (leaves left id stream.now.part.flow stream.now (state_of tables.old)).state }
     ensures uses { (c : ℕ) → Uses stream.now.link 1 c 0 tables.old tables.new }
 {
-    match stream.part.flow {
-        Flow::One(window) => leave_window(tables, id, stream, window, left),
-        Flow::Credit(credit) => leave_credit(tables, id, stream, credit, left),
+    let mut flow = stream.part.flow;
+    let back = flow.hand_to(left);
+    set_flow(tables, id, stream, &flow);
+    tell_handed(tables, id, stream, left, back);
+}
+
+/// A device is told of its write that it was handed out whole, of its credit how much more it has.
+fn tell_handed(tables: &mut Tables, id: u32, stream: &Stream, left: usize, back: u32)
+    requires back { back ≡ flow_back left stream.now.part.flow }
+    requires place { LinkRoom 1 (at stream.now.link tables.old.links.entries) }
+    ensures state { state_of tables.new
+        ≡ (tells_handed stream.now.part.flow left id stream.now (state_of tables.old)).state }
+    ensures uses { (c : ℕ) → Uses stream.now.link 1 c 0 tables.old tables.new }
+{
+    if stream.part.flow.has_credit() {
+        tell_credit(tables, id, stream, back);
+    } else {
+        tell_left(tables, id, stream, left);
     }
-}
-
-fn leave_window(tables: &mut Tables, id: u32, stream: &Stream, window: Window, left: usize)
-    requires here { at id tables.old.streams.streams ≡ Some stream.now }
-    requires fewer { left < window.to_hand }
-    requires place { LinkRoom 1 (at stream.now.link tables.old.links.entries) }
-    ensures state { state_of tables.new
-        ≡ (leaves left id (Flow.One window) stream.now (state_of tables.old)).state }
-    ensures uses { (c : ℕ) → Uses stream.now.link 1 c 0 tables.old tables.new }
-{
-    set_flow(tables, id, stream, &window_left(window, left));
-    tell_left(tables, id, stream, left);
-}
-
-fn leave_credit(tables: &mut Tables, id: u32, stream: &Stream, credit: Credit, left: usize)
-    requires here { at id tables.old.streams.streams ≡ Some stream.now }
-    requires fewer { left < credit.to_hand }
-    requires place { LinkRoom 1 (at stream.now.link tables.old.links.entries) }
-    ensures state { state_of tables.new
-        ≡ (leaves left id (Flow.Credit credit) stream.now (state_of tables.old)).state }
-    ensures uses { (c : ℕ) → Uses stream.now.link 1 c 0 tables.old tables.new }
-{
-    let mut credit = credit;
-    let back = credit_left(&mut credit, left);
-    set_flow(tables, id, stream, &Flow::Credit(credit));
-    tell_credit(tables, id, stream, back);
 }
 
 /// A device is told when its write was handed out whole.
@@ -192,33 +182,4 @@ pub fn hand_link(tables: &mut Tables, link: u32, n: usize)
     if let Some(port) = tables.links.get_mut(&link) {
         port.link.hand(n);
     }
-}
-
-/// How many of the bytes that a flow has accepted are still to be handed out.
-fn to_hand(flow: &Flow) -> usize
-    ensures { result ≡ to_hand flow.now }
-{
-    match flow {
-        Flow::One(window) => window.to_hand(),
-        Flow::Credit(credit) => credit.to_hand(),
-    }
-}
-
-/// A window of which so many bytes are left to be handed out, fewer than before.
-fn window_left(window: Window, left: usize) -> Flow
-    requires { left < window.to_hand }
-    ensures { result ≡ handed_to left (Flow.One window) }
-{
-    let mut window = window;
-    window.handed(window.to_hand() - left);
-    Flow::One(window)
-}
-
-/// So many bytes are left to be handed out, fewer than before; says how much credit is given back.
-fn credit_left(credit: &mut Credit, left: usize) -> u32
-    requires { left < credit.old.to_hand }
-    ensures back { result ≡ credit_back left credit.old }
-    ensures after { Flow.Credit credit.new ≡ handed_to left (Flow.Credit credit.old) }
-{
-    credit.handed(credit.to_hand() - left)
 }

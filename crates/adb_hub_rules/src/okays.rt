@@ -2,13 +2,14 @@
 
 ghost use Rattle.std.specs.Prelude.{◌≡◌, ℕ, Some};
 ghost use Rattle.adb_outside.specs.Tables.{at};
+ghost use Rattle.adb_stream.specs.Flow.{first_credit};
 ghost use Rattle.adb_history.specs.Flow.{with_flow};
-ghost use Rattle.adb_history.specs.Packets.{with_remote, first_credit, hears_okay, opened, orphan_opened, acknowledged, okay_open, okay_first, takes_okay};
+ghost use Rattle.adb_history.specs.Packets.{with_remote, hears_okay, opened, orphan_opened, okay_open, okay_first, takes_okay};
 ghost use Rattle.adb_hub_tables.specs.Tables.{forwarded_in, state_of};
 ghost use Rattle.adb_hub_tables.specs.Places.{ClientRoom, IsProvided, Uses};
 
 use adb_hub_tables::Tables;
-use adb_stream::{Flow, Part, Stream};
+use adb_stream::{Part, Stream};
 use bytes::Bytes;
 
 pub(crate) fn take_okay(
@@ -43,7 +44,7 @@ fn acknowledge(tables: &mut Tables, id: u32, word: Option<u32>, stream: &Stream)
     ensures uses { (t c : ℕ) → Uses t 0 c 0 tables.old tables.new }
 {
     let mut part = stream.part;
-    part.flow = acknowledged(word, stream.part.flow);
+    part.flow.acked(word);
     tables.set_part(id, stream, part);
 }
 
@@ -118,45 +119,11 @@ fn opened_part(remote: u32, word: Option<u32>, part: &Part) -> Part
     ensures { result ≡ with_remote remote
         (with_flow (first_credit word part.now.flow) part.now) }
 {
+    let mut flow = part.flow;
+    flow.opened(word);
     Part {
         remote,
-        orphan: part.orphan,
-        flow: first_credit(word, part.flow),
-    }
-}
-
-/// The credit with which a device opens a stream: none without a credit word.
-fn first_credit(word: Option<u32>, flow: Flow) -> Flow
-    ensures { result ≡ first_credit word flow }
-{
-    match flow {
-        Flow::One(window) => Flow::One(window),
-        Flow::Credit(credit) => {
-            let mut credit = credit;
-            let before = credit.can_send();
-            credit.sent(before);
-            credit.grant(word.unwrap_or(0));
-            Flow::Credit(credit)
-        }
-    }
-}
-
-/// The write that is outstanding has ended, or there is more credit.
-fn acknowledged(word: Option<u32>, flow: Flow) -> Flow
-    ensures { result ≡ acknowledged word flow }
-{
-    match flow {
-        Flow::One(window) => {
-            let mut window = window;
-            window.acked();
-            Flow::One(window)
-        }
-        Flow::Credit(credit) => {
-            let mut credit = credit;
-            if let Some(n) = word {
-                credit.grant(n);
-            }
-            Flow::Credit(credit)
-        }
+        flow,
+        ..*part
     }
 }

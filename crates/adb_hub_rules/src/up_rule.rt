@@ -3,14 +3,15 @@
 ghost use Rattle.std.specs.Prelude.{◌≡◌, ◌≢◌, ◌≤◌, ◌<◌, ℕ, true, false, [], Some, None, length, take, drop, option_map};
 ghost use Rattle.adb_outside.specs.Tables.{at};
 ghost use Rattle.adb_wire.specs.declared.headers.TheConstants.{MAX_PAYLOAD};
+ghost use Rattle.adb_stream.specs.Flow.{may_send};
 ghost use Rattle.adb_client.specs.Client.{SeenClient};
 ghost use Rattle.adb_stream.specs.declared.row.Stream.{Stream};
 ghost use Rattle.adb_history.specs.Rows.{to_client, with_held};
-ghost use Rattle.adb_history.specs.Flow.{write_len, wrote, is_idle, is_over, goes_up, flow_after, all_go_up, noted, closes_if, sends_up, up};
+ghost use Rattle.adb_history.specs.Flow.{write_len, is_over, goes_up, flow_after, all_go_up, noted, closes_if, sends_up, up};
 ghost use Rattle.adb_hub_tables.specs.Tables.{client_row, state_of};
 ghost use Rattle.adb_hub_tables.specs.Places.{LinkRoom, IsCounted, IsProvided, Uses};
 ghost use Rattle.adb_hub_rules.specs.Handing.{UsesOf};
-ghost use Rattle.adb_hub_rules.specs.Up.{IsReadyUp, IsSized, StaysReady, writes_up, held_at, may_send, LetsGo, CanCut, cut_off, unsent, all_unsent, has_open, CanSend, IsReadyToSend, Sends};
+ghost use Rattle.adb_hub_rules.specs.Up.{IsReadyUp, IsSized, StaysReady, writes_up, held_at, CanCut, cut_off, unsent, all_unsent, has_open, CanSend, IsReadyToSend, Sends};
 
 use crate::ends::end_telling;
 use crate::handing::set_flow;
@@ -141,7 +142,7 @@ fn is_over(tables: &Tables, client: u32, flow: &Flow) -> bool
         → result ≡ is_over row.about.ended row.held flow.now }
 {
     match tables.clients.get(&client) {
-        Some(row) => row.held() == 0 && row.about().ended && is_idle(flow),
+        Some(row) => row.held() == 0 && row.about().ended && flow.is_idle(),
         None => false,
     }
 }
@@ -185,7 +186,7 @@ fn write_next(
         return false;
     }
     write_one(tables, id, stream, n);
-    *flow = wrote(*flow, n);
+    flow.wrote(n);
     true
 }
 
@@ -195,7 +196,7 @@ fn next_len(tables: &Tables, client: u32, flow: &Flow, maxdata: usize) -> usize
         (held_at (at client tables.now.clients.entries)) }
 {
     match tables.clients.get(&client) {
-        Some(row) => maxdata.min(may_send(flow, maxdata)).min(row.held()),
+        Some(row) => maxdata.min(flow.may_send(maxdata)).min(row.held()),
         None => 0,
     }
 }
@@ -241,44 +242,4 @@ fn cut(tables: &mut Tables, client: u32, n: usize) -> Option<Bytes>
 {
     let row = tables.clients.get_mut(&client)?;
     Some(row.cut_ready(n))
-}
-
-/// How many bytes a flow lets go now.
-fn may_send(flow: &Flow, maxdata: usize) -> usize
-    ensures { result ≡ may_send flow.now maxdata }
-{
-    match flow {
-        Flow::One(window) if window.can_write() => maxdata,
-        Flow::One(_) => 0,
-        Flow::Credit(credit) => credit.can_send() as usize,
-    }
-}
-
-/// The flow after a write of so many bytes.
-fn wrote(flow: Flow, n: usize) -> Flow
-    requires { LetsGo flow n }
-    ensures { result ≡ wrote n flow }
-{
-    match flow {
-        Flow::One(window) => {
-            let mut window = window;
-            window.wrote();
-            Flow::One(window)
-        }
-        Flow::Credit(credit) => {
-            let mut credit = credit;
-            credit.sent(n as u32);
-            Flow::Credit(credit)
-        }
-    }
-}
-
-/// Whether no write waits for its OKAY.
-fn is_idle(flow: &Flow) -> bool
-    ensures { result ≡ is_idle flow.now }
-{
-    match flow {
-        Flow::One(window) => window.can_write(),
-        Flow::Credit(_) => true,
-    }
 }

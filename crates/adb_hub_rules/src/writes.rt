@@ -1,18 +1,19 @@
 //! WRTE: bytes of a stream come from its device (protocol.txt, WRITE).
 
-ghost use Rattle.std.specs.Prelude.{◌≡◌, ◌≤◌, ℕ, Some, true, not, length};
+ghost use Rattle.std.specs.Prelude.{◌≡◌, ◌≤◌, ℕ, Some, length};
 ghost use Rattle.adb_outside.specs.Tables.{at};
+ghost use Rattle.adb_stream.specs.Flow.{accepted};
 ghost use Rattle.adb_client.specs.declared.output.TheConstants.{MAX_SLICE};
 ghost use Rattle.adb_history.specs.Rows.{to_stream, with_stream_part};
 ghost use Rattle.adb_history.specs.Clients.{owe_client};
 ghost use Rattle.adb_history.specs.Flow.{with_flow};
-ghost use Rattle.adb_history.specs.Packets.{is_out_of_turn, accepted, accepts_none, accepts, takes_write};
+ghost use Rattle.adb_history.specs.Packets.{accepts_none, accepts, takes_write};
 ghost use Rattle.adb_hub_tables.specs.Tables.{state_of};
 ghost use Rattle.adb_hub_tables.specs.Places.{LinkRoom, ClientRoom, IsProvided, Uses};
 
 use crate::ends::end_telling;
 use adb_hub_tables::Tables;
-use adb_stream::{Flow, Stream, Took};
+use adb_stream::{Flow, Stream};
 use bytes::Bytes;
 
 pub(crate) fn take_write(tables: &mut Tables, id: u32, remote: u32, payload: Bytes, stream: &Stream)
@@ -29,7 +30,7 @@ pub(crate) fn take_write(tables: &mut Tables, id: u32, remote: u32, payload: Byt
         return;
     }
     let mut flow = stream.part.flow;
-    if accept(&mut flow, payload.len()) {
+    if flow.accept(payload.len()) {
         accept_write(tables, id, payload, flow, stream);
     } else {
         end_telling(tables, id, stream);
@@ -61,9 +62,8 @@ fn accept_none(tables: &mut Tables, id: u32, stream: &Stream)
         ≡ (accepts_none stream.now.part.flow id stream.now (state_of tables.old)).state }
     ensures uses { (c : ℕ) → Uses stream.now.link 1 c 0 tables.old tables.new }
 {
-    match stream.part.flow {
-        Flow::One(_) => tables.owe_okay(stream.link, id, stream.part.remote),
-        Flow::Credit(_) => {}
+    if !stream.part.flow.has_credit() {
+        tables.owe_okay(stream.link, id, stream.part.remote);
     }
 }
 
@@ -79,15 +79,4 @@ fn accept_some(tables: &mut Tables, id: u32, payload: Bytes, flow: Flow, stream:
     part.flow = flow;
     tables.set_part(id, stream, part);
     tables.owe_client(stream.client, payload);
-}
-
-/// Whether a write of so many bytes comes in turn; if so the flow has accepted it.
-fn accept(flow: &mut Flow, n: usize) -> bool
-    ensures turn { result ≡ not (is_out_of_turn flow.old n) }
-    ensures flow { result ≡ true → flow.new ≡ accepted n flow.old }
-{
-    match flow {
-        Flow::One(window) => window.took(n) != Took::OutOfTurn,
-        Flow::Credit(credit) => credit.took(n) != Took::OutOfTurn,
-    }
 }

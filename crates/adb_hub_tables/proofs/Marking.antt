@@ -1,7 +1,8 @@
 -- A change of one block leaves each row known, and marked where something is due to it.
-use Rattle.std.proofs.Common.{ℕ, ◌≡◌, ◌≢◌, ◌<◌, ◌^◌, ◌/◌, ◌%◌, Bool, true, false, cond, List, filter, Option, Some, None, refl, sym, ◌∙◌, ap, subst}
+use Rattle.std.proofs.Common.{ℕ, zero, suc, ◌≡◌, ◌≢◌, ◌<◌, ◌≤◌, ◌^◌, ◌/◌, ◌%◌, Bool, true, false, cond}
+use Rattle.std.proofs.Common.{List, filter, Option, Some, None, refl, sym, ◌∙◌, ap, subst}
 use Rattle.std.proofs.Common.{arith, ◌⊎◌, inl, inr}
-use Rattle.std.specs.Prelude.{bit_and, eqb, nat_eq, option_map}
+use Rattle.std.specs.Prelude.{bit_and, bit_or, eqb, is_some, IfNone, IfSome, min, max, nat_eq, option_map}
 use Rattle.std.specs.Int.{bit_at, bit_not, w64}
 use Rattle.std.specs.BTreeMap.{is_at}
 use Rattle.std.specs.Ordering.{nat_cmp}
@@ -9,17 +10,27 @@ use Rattle.std.specs.Map.{set_value}
 use Rattle.std.proofs.lemmas.Map.Entries.{sum_by-set_value}
 use Rattle.std.proofs.lemmas.Bool.{cases_eq}
 use Rattle.std.proofs.lemmas.Bool.Decides.{nat_tests}
-use Rattle.std.proofs.lemmas.Nat.{or_lt, and_le_l}
-use Rattle.std.proofs.lemmas.Nat.Bits.{bit_at-zero, bit_at_set_same, bit_at_set_other, bit_at_clear_same, bit_at_clear_other}
+use Rattle.std.proofs.lemmas.Nat.{or_lt, and_le_l, and_le_r}
+use Rattle.std.proofs.lemmas.Nat.Bits.{bit_at-zero, bit_at-lt, bit_at_and, bit_at_or, bit_at_set_same, bit_at_set_other, bit_at_clear_same, bit_at_clear_other}
+use Rattle.std.proofs.lemmas.Nat.Bits.{same_from_bits}
 use Rattle.adb_outside.specs.Tables.{at, Puts}
 use Rattle.adb_hub_tables.specs.declared.words.Block.{Block}
-use Rattle.adb_hub_tables.specs.Marked.{bit, new_block, with_place, with_mark, without_mark, without_place, known, forgotten, place_in, mark_in, place, mark}
-use Rattle.adb_hub_tables.specs.Marked.{IsBlock, AreBlocks, IsMarkedAt, IsMarked, weight}
+use Rattle.adb_hub_tables.specs.declared.marks.Seen.TheVariants.{Marked}
+use Rattle.adb_hub_tables.specs.declared.words.Kind.{Kind}
+use Rattle.adb_hub_tables.specs.declared.words.Kind.TheVariants.{Due, News}
+use Rattle.adb_hub_tables.specs.Marked.{bit, marks_of, new_block, place_bit, with_place, with_mark, without_mark, without_place, known, forgotten}
+use Rattle.adb_hub_tables.specs.Marked.{is_empty, Thins, Forgets, Names, Loses}
+use Rattle.adb_hub_tables.specs.Marked.{place_in, mark_in, place, mark, IsBlock, AreBlocks, IsMarkedAt, IsMarked, Holds, weight}
 use Rattle.adb_hub_tables.proofs.TouchedRows.{written_other, written_none, left_at}
 
--- the other numbers of a block that are known are so still, and marked as before
-abbrev pub KeepsOthers : ℕ → Option Block → Option Block → Type 0
-KeepsOthers i old new = (j : ℕ) → j < 64 → j ≢ i → place_in old j ≡ 1 → (place_in new j ≡ 1) × (mark_in new j ≡ mark_in old j)
+-- the i-th number of a block that is known is so still, with this mark as before
+pub record Keeps (which : Kind) (old new : Option Block) (i : ℕ) : Type 0 where
+  pub place : place_in new i ≡ 1
+  pub mark : mark_in which new i ≡ mark_in which old i
+
+-- that of the numbers of a block but one
+abbrev pub KeepsOthers : Kind → ℕ → Option Block → Option Block → Type 0
+KeepsOthers which i old new = (j : ℕ) → j < 64 → j ≢ i → place_in old j ≡ 1 → Keeps which old new j
 
 -- what a block, if it is one, is among
 abbrev pub IsBlockOf : ℕ → Option Block → Type 0
@@ -28,33 +39,35 @@ IsBlockOf high o = (block : Block) → o ≡ Some block → IsBlock high block
 -- a change of the block of one number
 pub record Turns (number : ℕ) (new : Option Block) (blocks others : List (ℕ × Block)) : Type 0 where
   pub puts : Puts (number / 64) new blocks others
-  pub keeps : KeepsOthers (number % 64) (at (number / 64) blocks) new
+  pub keeps : (which : Kind) → KeepsOthers which (number % 64) (at (number / 64) blocks) new
   pub is_block : IsBlockOf (number / 64) new
 
-low : (n : ℕ) → n % 64 < 64
+pub low : (n : ℕ) → n % 64 < 64
 low n = omega arith
 
 apart_in : (n number : ℕ) → n ≢ number → n / 64 ≡ number / 64 → n % 64 ≢ number % 64
 apart_in n number apart same is = apart (omega (arith, same, is))
 
 module _ {number : ℕ} {new : Option Block} {blocks others : List (ℕ × Block)} (h : Turns number new blocks others) where
-  other_marks : (n : ℕ) → n ≢ number → place blocks n ≡ 1 → (place others n ≡ 1) × (mark others n ≡ mark blocks n)
-  other_marks n apart known = go (cases_eq (n / 64) (number / 64)) known
-    where
-      go : (n / 64 ≡ number / 64) ⊎ (n / 64 ≡ number / 64 → ⊥) → place_in (at (n / 64) blocks) (n % 64) ≡ 1
-          → (place_in (at (n / 64) others) (n % 64) ≡ 1) × (mark_in (at (n / 64) others) (n % 64) ≡ mark_in (at (n / 64) blocks) (n % 64))
-      go (inl same) here =
-          let was : place_in (at (number / 64) blocks) (n % 64) ≡ 1 = ap (λ k. place_in (at k blocks) (n % 64)) (sym same) ∙ here in
-          let is = h.keeps (n % 64) (low n) (apart_in n number apart same) was in (
-            ap (λ k. place_in (at k others) (n % 64)) same ∙ (ap (λ o. place_in o (n % 64)) h.puts.here ∙ is.0),
-            ap (λ k. mark_in (at k others) (n % 64)) same ∙ (ap (λ o. mark_in o (n % 64)) h.puts.here
-                ∙ (is.1 ∙ ap (λ k. mark_in (at k blocks) (n % 64)) (sym same))),
-          )
-      go (inr off) here =
-          let is = h.puts.others (n / 64) off in
-          (ap (λ o. place_in o (n % 64)) is ∙ here, ap (λ o. mark_in o (n % 64)) is)
+  module _ (which : Kind) where
+    other_marks : (n : ℕ) → n ≢ number → place blocks n ≡ 1 → (place others n ≡ 1) × (mark which others n ≡ mark which blocks n)
+    other_marks n apart known = go (cases_eq (n / 64) (number / 64)) known
+      where
+        go : (n / 64 ≡ number / 64) ⊎ (n / 64 ≡ number / 64 → ⊥) → place_in (at (n / 64) blocks) (n % 64) ≡ 1
+            → (place_in (at (n / 64) others) (n % 64) ≡ 1)
+            × (mark_in which (at (n / 64) others) (n % 64) ≡ mark_in which (at (n / 64) blocks) (n % 64))
+        go (inl same) here =
+            let was : place_in (at (number / 64) blocks) (n % 64) ≡ 1 = ap (λ k. place_in (at k blocks) (n % 64)) (sym same) ∙ here in
+            let is = h.keeps which (n % 64) (low n) (apart_in n number apart same) was in (
+              ap (λ k. place_in (at k others) (n % 64)) same ∙ (ap (λ o. place_in o (n % 64)) h.puts.here ∙ is.place),
+              ap (λ k. mark_in which (at k others) (n % 64)) same ∙ (ap (λ o. mark_in which o (n % 64)) h.puts.here
+                  ∙ (is.mark ∙ ap (λ k. mark_in which (at k blocks) (n % 64)) (sym same))),
+            )
+        go (inr off) here =
+            let is = h.puts.others (n / 64) off in
+            (ap (λ o. place_in o (n % 64)) is ∙ here, ap (λ o. mark_in which o (n % 64)) is)
 
-  still_blocks : AreBlocks blocks → AreBlocks others
+  pub still_blocks : AreBlocks blocks → AreBlocks others
   still_blocks all high block is = go (cases_eq high (number / 64))
     where
       go : (high ≡ number / 64) ⊎ (high ≡ number / 64 → ⊥) → IsBlock high block
@@ -62,22 +75,24 @@ module _ {number : ℕ} {new : Option Block} {blocks others : List (ℕ × Block
       go (inr off) = all high block (sym (h.puts.others high off) ∙ is)
 
   -- All rows are marked still, where those at other numbers are as before, and the one at this number is marked.
-  pub turned : {X : Type 0} {owed : X → Bool} {rows after : List (ℕ × X)} → IsMarked owed blocks rows → ((n : ℕ) → n ≢ number → at n after ≡ at n rows)
-      → ((row : X) → at number after ≡ Some row → IsMarkedAt owed others number row) → IsMarked owed others after
-  turned {X} {owed} {rows} {after} marked same here = record { blocked = still_blocks marked.blocked; each = λ n row is. go n row is (cases_eq n number) }
+  pub turned : {X : Type 0} {which : Kind} {owed : X → Bool} {rows after : List (ℕ × X)} → IsMarked which owed blocks rows
+      → ((n : ℕ) → n ≢ number → at n after ≡ at n rows)
+      → ((row : X) → at number after ≡ Some row → IsMarkedAt which owed others number row) → IsMarked which owed others after
+  turned {X} {which} {owed} {rows} {after} marked same here =
+      record { blocked = still_blocks marked.blocked; each = λ n row is. go n row is (cases_eq n number) }
     where
-      go : (n : ℕ) (row : X) → at n after ≡ Some row → (n ≡ number) ⊎ (n ≡ number → ⊥) → IsMarkedAt owed others n row
-      go n row is (inl it) = subst (λ k. IsMarkedAt owed others k row) (sym it) (here row (ap (λ k. at k after) (sym it) ∙ is))
+      go : (n : ℕ) (row : X) → at n after ≡ Some row → (n ≡ number) ⊎ (n ≡ number → ⊥) → IsMarkedAt which owed others n row
+      go n row is (inl it) = subst (λ k. IsMarkedAt which owed others k row) (sym it) (here row (ap (λ k. at k after) (sym it) ∙ is))
       go n row is (inr apart) =
           let was = marked.each n row (sym (same n apart) ∙ is) in
-          let now = other_marks n apart was.known in
+          let now = other_marks which n apart was.known in
           record { known = now.0; marked = λ due. now.1 ∙ was.marked due }
 
   place_now : place others number ≡ place_in new (number % 64)
   place_now = ap (λ o. place_in o (number % 64)) h.puts.here
 
-  mark_now : mark others number ≡ mark_in new (number % 64)
-  mark_now = ap (λ o. mark_in o (number % 64)) h.puts.here
+  mark_now : (which : Kind) → mark which others number ≡ mark_in which new (number % 64)
+  mark_now which = ap (λ o. mark_in which o (number % 64)) h.puts.here
 
 -- ---- what each change makes of a block
 bit_fits : (i : ℕ) → bit i < 2 ^ 64
@@ -86,52 +101,173 @@ bit_fits i = omega arith
 high_fits : (number : ℕ) → number < 2 ^ 32 → number / 64 < 2 ^ 26
 high_fits number fits = omega (arith, fits)
 
-module _ (number : ℕ) (fits : number < 2 ^ 32) where
-  marks_block : (o : Option Block) → IsBlockOf (number / 64) o
-      → KeepsOthers (number % 64) o (option_map (with_mark (number % 64)) o) × IsBlockOf (number / 64) (option_map (with_mark (number % 64)) o)
-  marks_block None is = (λ j below apart none. cc, λ block clash. cc)
-  marks_block (Some b) is = (
-    λ j below apart known. (known, bit_at_set_other w64 b.marked (number % 64) (low number) j apart),
-    λ block made. subst (IsBlock (number / 64)) (let same : with_mark (number % 64) b ≡ block = cc in same)
-        (record { within = high_fits number fits; fits = or_lt 64 b.marked (bit (number % 64)) (is b refl).fits (bit_fits (number % 64)) }),
-  )
+module _ (places marks i : ℕ) (within : i < 64) where
+  -- a number that is known is marked
+  known_same : bit_at places i ≡ 1 → bit_at (bit_or marks (bit_and places (bit i))) i ≡ 1
+  known_same known =
+      let set : bit_at (bit_and places (bit i)) i ≡ 1 = bit_at_and places (bit i) i ∙ (ap (λ b. min b (bit_at (bit i) i)) known
+      ∙ ap (min 1) (bit_at_set_same w64 0 i within)) in
+      bit_at_or marks (bit_and places (bit i)) i ∙ (ap (max (bit_at marks i)) set ∙ most (bit_at marks i) (bit_at-lt marks i))
+    where
+      most : (b : ℕ) → b < 2 → max b 1 ≡ 1
+      most b below = omega (arith, below)
 
-  knows_block : (o : Option Block) → IsBlockOf (number / 64) o
-      → KeepsOthers (number % 64) o (Some (known (number % 64) o)) × IsBlockOf (number / 64) (Some (known (number % 64) o))
+  -- others are marked as before
+  known_other : (j : ℕ) → j ≢ i → bit_at (bit_or marks (bit_and places (bit i))) j ≡ bit_at marks j
+  known_other j apart =
+      let none : bit_at (bit i) j ≡ 0 = bit_at_set_other w64 0 i within j apart ∙ bit_at-zero j in
+      let clear : bit_at (bit_and places (bit i)) j ≡ 0 = bit_at_and places (bit i) j ∙ (ap (min (bit_at places j)) none ∙ least (bit_at places j)) in
+      bit_at_or marks (bit_and places (bit i)) j ∙ (ap (max (bit_at marks j)) clear ∙ most (bit_at marks j))
+    where
+      least : (b : ℕ) → min b 0 ≡ 0
+      least b = omega arith
+
+      most : (b : ℕ) → max b 0 ≡ b
+      most b = omega arith
+
+-- a number that is known and marked, or not known, needs no mark
+already : (places marks i : ℕ) → i < 64 → (bit_at places i ≡ 1 → bit_at marks i ≡ 1) → bit_or marks (bit_and places (bit i)) ≡ marks
+already places marks i within so = same_from_bits (bit_or marks (bit_and places (bit i))) marks (λ j. go j (cases_eq j i))
+  where
+    at_i : (b : ℕ) → bit_at places i ≡ b → b < 2 → bit_at (bit_or marks (bit_and places (bit i))) i ≡ bit_at marks i
+    at_i zero none below = bit_at_or marks (bit_and places (bit i)) i ∙ (ap (max (bit_at marks i)) (bit_at_and places (bit i) i
+        ∙ ap (λ b. min b (bit_at (bit i) i)) none) ∙ most (bit_at marks i) (bit_at (bit i) i))
+      where
+        most : (b c : ℕ) → max b (min 0 c) ≡ b
+        most b c = omega arith
+    at_i (suc zero) one below = known_same places marks i within one ∙ sym (so one)
+    at_i (suc (suc n)) more below = absurd (omega (arith, below))
+
+    go : (j : ℕ) → (j ≡ i) ⊎ (j ≡ i → ⊥) → bit_at (bit_or marks (bit_and places (bit i))) j ≡ bit_at marks j
+    go j (inl same) = subst (λ k. bit_at (bit_or marks (bit_and places (bit i))) k ≡ bit_at marks k) (sym same)
+        (at_i (bit_at places i) refl (bit_at-lt places i))
+    go j (inr apart) = known_other places marks i within j apart
+
+-- the words of a block with a number known, marked, unmarked or forgotten
+placed : (which : Kind) (i : ℕ) (b : Block) → marks_of which (with_place i b) ≡ bit_or (marks_of which b) (bit i)
+placed Due i b = refl
+placed News i b = refl
+
+created : (which : Kind) (i : ℕ) → marks_of which (new_block i) ≡ bit i
+created Due i = refl
+created News i = refl
+
+marked_in : (which : Kind) (i : ℕ) (b : Block) → marks_of which (with_mark i b) ≡ bit_or (marks_of which b) (bit_and b.places (bit i))
+marked_in Due i b = refl
+marked_in News i b = refl
+
+pub left_in : (which : Kind) (i : ℕ) (b : Block) → marks_of which (without_place i b) ≡ bit_and (marks_of which b) (bit_not w64 (bit i))
+left_in Due i b = refl
+left_in News i b = refl
+
+pub unmarked_in : (which : Kind) (i : ℕ) (b : Block) → marks_of which (without_mark which i b) ≡ bit_and (marks_of which b) (bit_not w64 (bit i))
+unmarked_in Due i b = refl
+unmarked_in News i b = refl
+
+-- what a mark that is taken away leaves of either word: no more than there was
+pub record Leaves (which : Kind) (i : ℕ) (old new : Block) : Type 0 where
+  pub places : new.places ≡ old.places
+  pub less : marks_of which new ≤ marks_of which old
+  pub others : (j : ℕ) → j < 64 → j ≢ i → bit_at (marks_of which new) j ≡ bit_at (marks_of which old) j
+
+cleared_word : (word i : ℕ) → i < 64 → (j : ℕ) → j < 64 → j ≢ i → bit_at (bit_and word (bit_not w64 (bit i))) j ≡ bit_at word j
+cleared_word word i within j below apart = bit_at_clear_other w64 word i within j below apart
+
+pub leaves : (which gone : Kind) (i : ℕ) → i < 64 → (b : Block) → Leaves which i b (without_mark gone i b)
+leaves Due Due i within b =
+    record { places = refl; less = and_le_l b.due (bit_not w64 (bit i)); others = cleared_word b.due i within }
+leaves Due News i within b = record { places = refl; less = omega arith; others = λ j below apart. refl }
+leaves News Due i within b = record { places = refl; less = omega arith; others = λ j below apart. refl }
+leaves News News i within b =
+    record { places = refl; less = and_le_l b.news (bit_not w64 (bit i)); others = cleared_word b.news i within }
+
+module _ (number : ℕ) (fits : number < 2 ^ 32) where
+  abbrev i : ℕ
+  i = number % 64
+
+  abbrev high : ℕ
+  high = number / 64
+
+  marks_block : (o : Option Block) → IsBlockOf high o
+      → ((which : Kind) → KeepsOthers which i o (option_map (with_mark i) o)) × IsBlockOf high (option_map (with_mark i) o)
+  marks_block None is = (λ which j below apart none. cc, λ block clash. cc)
+  marks_block (Some b) is = (
+    λ which j below apart known. record {
+      place = known;
+      mark = ap (λ w. bit_at w j) (marked_in which i b) ∙ known_other b.places (marks_of which b) i (low number) j apart;
+    },
+    λ block made. subst (IsBlock high) (let same : with_mark i b ≡ block = cc in same) (record {
+      within = high_fits number fits;
+      fits = λ which. subst (λ w. w < 2 ^ 64) (sym (marked_in which i b))
+          (or_lt 64 (marks_of which b) (place_bit i b) ((is b refl).fits which) (placed_bit b));
+    }),
+  )
+    where
+      placed_bit : (b : Block) → place_bit i b < 2 ^ 64
+      placed_bit b = omega (arith, and_le_r b.places (bit i), bit_fits i)
+
+  knows_block : (o : Option Block) → IsBlockOf high o
+      → ((which : Kind) → KeepsOthers which i o (Some (known i o))) × IsBlockOf high (Some (known i o))
   knows_block None is = (
-    λ j below apart none. cc,
-    λ block made. subst (IsBlock (number / 64)) (let same : new_block (number % 64) ≡ block = cc in same)
-        (record { within = high_fits number fits; fits = bit_fits (number % 64) }),
+    λ which j below apart none. cc,
+    λ block made. subst (IsBlock high) (let same : new_block i ≡ block = cc in same) (record {
+      within = high_fits number fits;
+      fits = λ which. subst (λ w. w < 2 ^ 64) (sym (created which i)) (bit_fits i);
+    }),
   )
   knows_block (Some b) is = (
-    λ j below apart was. (
-      bit_at_set_other w64 b.places (number % 64) (low number) j apart
-          ∙ was,
-      bit_at_set_other w64 b.marked (number % 64) (low number) j apart,
-    ),
-    λ block made. subst (IsBlock (number / 64)) (let same : with_place (number % 64) b ≡ block = cc in same)
-        (record { within = high_fits number fits; fits = or_lt 64 b.marked (bit (number % 64)) (is b refl).fits (bit_fits (number % 64)) }),
+    λ which j below apart was. record {
+      place = bit_at_set_other w64 b.places i (low number) j apart
+          ∙ was;
+      mark = ap (λ w. bit_at w j) (placed which i b) ∙ bit_at_set_other w64 (marks_of which b) i (low number) j apart;
+    },
+    λ block made. subst (IsBlock high) (let same : with_place i b ≡ block = cc in same) (record {
+      within = high_fits number fits;
+      fits = λ which. subst (λ w. w < 2 ^ 64) (sym (placed which i b)) (or_lt 64 (marks_of which b) (bit i) ((is b refl).fits which) (bit_fits i));
+    }),
   )
 
-  unmarks_block : (o : Option Block) → IsBlockOf (number / 64) o
-      → KeepsOthers (number % 64) o (option_map (without_mark (number % 64)) o) × IsBlockOf (number / 64) (option_map (without_mark (number % 64)) o)
-  unmarks_block None is = (λ j below apart none. cc, λ block clash. cc)
-  unmarks_block (Some b) is = (
-    λ j below apart known. (known, bit_at_clear_other w64 b.marked (number % 64) (low number) j below apart),
-    λ block made. subst (IsBlock (number / 64)) (let same : without_mark (number % 64) b ≡ block = cc in same)
-        (record { within = high_fits number fits; fits = omega (arith, and_le_l b.marked (bit_not w64 (bit (number % 64))), (is b refl).fits) }),
+  unmarks_block : (gone : Kind) (o : Option Block) → IsBlockOf high o
+      → ((which : Kind) → KeepsOthers which i o (option_map (without_mark gone i) o)) × IsBlockOf high (option_map (without_mark gone i) o)
+  unmarks_block gone None is = (λ which j below apart none. cc, λ block clash. cc)
+  unmarks_block gone (Some b) is = (
+    λ which j below apart known. let it = leaves which gone i (low number) b in record {
+      place = ap (λ p. bit_at p j) it.places
+          ∙ known;
+      mark = it.others j below apart;
+    },
+    λ block made. subst (IsBlock high) (let same : without_mark gone i b ≡ block = cc in same) (record {
+      within = high_fits number fits;
+      fits = λ which. omega (arith, (leaves which gone i (low number) b).less, (is b refl).fits which);
+    }),
   )
 
-  forgets_block : (o : Option Block) → IsBlockOf (number / 64) o
-      → KeepsOthers (number % 64) o (forgotten (number % 64) o) × IsBlockOf (number / 64) (forgotten (number % 64) o)
-  forgets_block None is = (λ j below apart none. cc, λ block clash. cc)
-  forgets_block (Some b) is = go (eqb (without_place (number % 64) b).places 0) refl
+  empties_block : (o : Option Block) → IsBlockOf high o
+      → ((which : Kind) → KeepsOthers which i o (option_map (without_place i) o)) × IsBlockOf high (option_map (without_place i) o)
+  empties_block None is = (λ which j below apart none. cc, λ block clash. cc)
+  empties_block (Some b) is = (
+    λ which j below apart was. record {
+      place = bit_at_clear_other w64 b.places i (low number) j below apart
+          ∙ was;
+      mark = ap (λ w. bit_at w j) (left_in which i b) ∙ bit_at_clear_other w64 (marks_of which b) i (low number) j below apart;
+    },
+    λ block made. subst (IsBlock high) (let same : without_place i b ≡ block = cc in same) (record {
+      within = high_fits number fits;
+      fits = λ which. subst (λ w. w < 2 ^ 64) (sym (left_in which i b))
+          (omega (arith, and_le_l (marks_of which b) (bit_not w64 (bit i)), (is b refl).fits which));
+    }),
+  )
+
+  forgets_block : (o : Option Block) → IsBlockOf high o
+      → ((which : Kind) → KeepsOthers which i o (forgotten i o)) × IsBlockOf high (forgotten i o)
+  forgets_block None is = (λ which j below apart none. cc, λ block clash. cc)
+  forgets_block (Some b) is = go (eqb (without_place i b).places 0) refl
     where
       left : Block
-      left = without_place (number % 64) b
+      left = without_place i b
 
-      known_still : (j : ℕ) → j < 64 → j ≢ number % 64 → bit_at b.places j ≡ 1 → bit_at left.places j ≡ 1
-      known_still j below apart was = bit_at_clear_other w64 b.places (number % 64) (low number) j below apart ∙ was
+      known_still : (j : ℕ) → j < 64 → j ≢ i → bit_at b.places j ≡ 1 → bit_at left.places j ≡ 1
+      known_still j below apart was = bit_at_clear_other w64 b.places i (low number) j below apart ∙ was
 
       some : eqb left.places 0 ≡ true → (j : ℕ) → bit_at left.places j ≡ 1 → ⊥
       some empty j is =
@@ -139,15 +275,91 @@ module _ (number : ℕ) (fits : number < 2 ^ 32) where
           let clash : 1 ≡ 0 = sym is ∙ (ap (λ p. bit_at p j) none ∙ bit_at-zero j) in
           omega (arith, clash)
 
-      go : (e : Bool) → eqb left.places 0 ≡ e → KeepsOthers (number % 64) (Some b) (cond e None (Some left)) × IsBlockOf (number / 64) (cond e None (Some left))
-      go true empty = (λ j below apart was. absurd (some empty j (known_still j below apart was)), λ block clash. cc)
+      go : (e : Bool) → eqb left.places 0 ≡ e
+          → ((which : Kind) → KeepsOthers which i (Some b) (cond e None (Some left))) × IsBlockOf high (cond e None (Some left))
+      go true empty = (λ which j below apart was. absurd (some empty j (known_still j below apart was)), λ block clash. cc)
       go false full = (
-        λ j below apart was. (known_still j below apart was, bit_at_clear_other w64 b.marked (number % 64) (low number) j below apart),
-        λ block made. subst (IsBlock (number / 64)) (let same : left ≡ block = cc in same)
-            (record { within = high_fits number fits; fits = omega (arith, and_le_l b.marked (bit_not w64 (bit (number % 64))), (is b refl).fits) }),
+        λ which j below apart was. record {
+          place = known_still j below apart was;
+          mark = ap (λ w. bit_at w j) (left_in which i b) ∙ bit_at_clear_other w64 (marks_of which b) i (low number) j below apart;
+        },
+        λ block made. subst (IsBlock high) (let same : left ≡ block = cc in same) (record {
+          within = high_fits number fits;
+          fits = λ which. subst (λ w. w < 2 ^ 64) (sym (left_in which i b))
+              (omega (arith, and_le_l (marks_of which b) (bit_not w64 (bit i)), (is b refl).fits which));
+        }),
       )
 
+-- ---- what was seen of the marks
+module _ (number : ℕ) {blocks others : List (ℕ × Block)} where
+  -- a number that was marked has all marks, if it is known
+  pub seen_marked : Puts (number / 64) (option_map (with_mark (number % 64)) (at (number / 64) blocks)) blocks others → Holds (Marked number) others
+  seen_marked puts known which = ap (λ o. mark_in which o (number % 64)) puts.here
+      ∙ go (at (number / 64) blocks) (sym (ap (λ o. place_in o (number % 64)) puts.here) ∙ known)
+    where
+      go : (o : Option Block) → place_in (option_map (with_mark (number % 64)) o) (number % 64) ≡ 1
+          → mark_in which (option_map (with_mark (number % 64)) o) (number % 64) ≡ 1
+      go None none = cc
+      go (Some b) known = ap (λ w. bit_at w (number % 64)) (marked_in which (number % 64) b)
+          ∙ known_same b.places (marks_of which b) (number % 64) (low number) known
+
+  -- and so has one that came to be known
+  pub seen_known : Puts (number / 64) (Some (known (number % 64) (at (number / 64) blocks))) blocks others → Holds (Marked number) others
+  seen_known puts is which = ap (λ o. mark_in which o (number % 64)) puts.here ∙ go (at (number / 64) blocks)
+    where
+      go : (o : Option Block) → mark_in which (Some (known (number % 64) o)) (number % 64) ≡ 1
+      go None = ap (λ w. bit_at w (number % 64)) (created which (number % 64)) ∙ bit_at_set_same w64 0 (number % 64) (low number)
+      go (Some b) = ap (λ w. bit_at w (number % 64)) (placed which (number % 64) b)
+          ∙ bit_at_set_same w64 (marks_of which b) (number % 64) (low number)
+
+abbrev block_of : ℕ → ℕ → ℕ → Block
+block_of p d n = record { places = p; due = d; news = n }
+
+-- to mark it again changes nothing
+pub marked_twice : (number : ℕ) (blocks : List (ℕ × Block)) → Holds (Marked number) blocks
+    → Puts (number / 64) (option_map (with_mark (number % 64)) (at (number / 64) blocks)) blocks blocks
+marked_twice number blocks holds = record { here = go (at (number / 64) blocks) refl; others = λ n apart. refl }
+  where
+    same : (b : Block) → at (number / 64) blocks ≡ Some b → with_mark (number % 64) b ≡ b
+    same b is =
+        let so : (which : Kind) → bit_at b.places (number % 64) ≡ 1 → bit_at (marks_of which b) (number % 64) ≡ 1 = λ which one.
+        sym (ap (λ o. mark_in which o (number % 64)) is) ∙ holds (ap (λ o. place_in o (number % 64)) is ∙ one) which in
+        ap (λ d. block_of b.places d (bit_or b.news (place_bit (number % 64) b))) (already b.places b.due (number % 64) (low number) (so Due))
+        ∙ ap (block_of b.places b.due) (already b.places b.news (number % 64) (low number) (so News))
+
+    go : (o : Option Block) → at (number / 64) blocks ≡ o → o ≡ option_map (with_mark (number % 64)) o
+    go None is = refl
+    go (Some b) is = sym (ap Some (same b is))
+
 -- ---- what each change leaves of the rows
+-- Where blocks that know no number go, all rows are marked still.
+thinned : {X : Type 0} {which : Kind} {owed : X → Bool} {blocks others : List (ℕ × Block)} {rows : List (ℕ × X)} → IsMarked which owed blocks rows
+    → Thins blocks others → IsMarked which owed others rows
+thinned {X} {which} {owed} {blocks} {others} {rows} marked thins =
+    record { blocked = λ high block is. among high block is (thins high); each = λ n row is. still n (marked.each n row is) (thins (n / 64)) }
+  where
+    among : (high : ℕ) (block : Block) → at high others ≡ Some block
+        → (at high others ≡ at high blocks) ⊎ ((at high others ≡ None) × (is_empty (at high blocks) ≡ true)) → IsBlock high block
+    among high block is (inl same) = marked.blocked high block (sym same ∙ is)
+    among high block is (inr gone) = absurd (let clash : None ≡ Some block = sym gone.0 ∙ is in cc)
+
+    some : (o : Option Block) (j : ℕ) → is_empty o ≡ true → place_in o j ≡ 1 → ⊥
+    some None j empty one = cc
+    some (Some b) j empty one =
+        let none : b.places ≡ 0 = grind (arith, nat_tests) in
+        let clash : 1 ≡ 0 = sym one ∙ (ap (λ p. bit_at p j) none ∙ bit_at-zero j) in
+        omega (arith, clash)
+
+    still : (n : ℕ) {row : X} → IsMarkedAt which owed blocks n row
+        → (at (n / 64) others ≡ at (n / 64) blocks) ⊎ ((at (n / 64) others ≡ None) × (is_empty (at (n / 64) blocks) ≡ true))
+        → IsMarkedAt which owed others n row
+    still n was (inl same) = record {
+      known = ap (λ o. place_in o (n % 64)) same
+          ∙ was.known;
+      marked = λ due. ap (λ o. mark_in which o (n % 64)) same ∙ was.marked due;
+    }
+    still n was (inr gone) = absurd (some (at (n / 64) blocks) (n % 64) gone.1 was.known)
+
 -- the block of a number
 abbrev pub block_at : ℕ → List (ℕ × Block) → Option Block
 block_at number blocks = at (number / 64) blocks
@@ -155,96 +367,140 @@ block_at number blocks = at (number / 64) blocks
 same_number : (a b : ℕ) → a ≡ b → nat_eq a b ≡ true
 same_number a b same = grind (arith, nat_tests)
 
-module _ {X : Type 0} {owed : X → Bool} (number : ℕ) (fits : number < 2 ^ 32) {blocks others : List (ℕ × Block)} {rows : List (ℕ × X)}
-    (marked : IsMarked owed blocks rows) where
+module _ {X : Type 0} {which : Kind} {owed : X → Bool} (number : ℕ) (fits : number < 2 ^ 32) {blocks others : List (ℕ × Block)} {rows : List (ℕ × X)}
+    (marked : IsMarked which owed blocks rows) where
   -- A row that is lent is marked first: then all rows are marked, whatever is written.
   module _ (puts : Puts (number / 64) (option_map (with_mark (number % 64)) (block_at number blocks)) blocks others) where
     lends : Turns number (option_map (with_mark (number % 64)) (block_at number blocks)) blocks others
     lends = let is_so = marks_block number fits (block_at number blocks) (marked.blocked (number / 64))
         in record { puts = puts; keeps = is_so.0; is_block = is_so.1 }
 
-    now_marked : (old row : X) → at number rows ≡ Some old → IsMarkedAt owed others number row
+    now_marked : (old row : X) → at number rows ≡ Some old → IsMarkedAt which owed others number row
     now_marked old row was =
         let now = both (block_at number blocks) (marked.each number old was).known in
-        record { known = place_now lends ∙ now.0; marked = λ due. mark_now lends ∙ now.1 }
+        record { known = place_now lends ∙ now.0; marked = λ due. mark_now lends which ∙ now.1 }
       where
         both : (o : Option Block) → place_in o (number % 64) ≡ 1
-            → (place_in (option_map (with_mark (number % 64)) o) (number % 64) ≡ 1) × (mark_in (option_map (with_mark (number % 64)) o) (number % 64) ≡ 1)
+            → (place_in (option_map (with_mark (number % 64)) o) (number % 64) ≡ 1)
+            × (mark_in which (option_map (with_mark (number % 64)) o) (number % 64) ≡ 1)
         both None none = cc
-        both (Some b) was = (was, bit_at_set_same w64 b.marked (number % 64) (low number))
+        both (Some b) was = (
+          was,
+          ap (λ w. bit_at w (number % 64)) (marked_in which (number % 64) b) ∙ known_same b.places (marks_of which b) (number % 64) (low number) was,
+        )
 
-    pub lent : (w : X) → IsMarked owed others (set_value (is_at (nat_cmp number)) rows w)
+    pub lent : (w : X) → IsMarked which owed others (set_value (is_at (nat_cmp number)) rows w)
     lent w = turned lends marked (λ n apart. written_other n number apart w rows) (λ row is. go (at number rows) refl row is)
       where
         go : (o : Option X) → at number rows ≡ o → (row : X) → at number (set_value (is_at (nat_cmp number)) rows w) ≡ Some row
-            → IsMarkedAt owed others number row
+            → IsMarkedAt which owed others number row
         go None none row is = absurd (let clash : None ≡ Some row = sym (written_none number w rows none) ∙ is in cc)
         go (Some old) was row is = now_marked old row was
 
     pub touched : (after : List (ℕ × X)) → ((n : ℕ) → n ≢ number → at n after ≡ at n rows)
-        → ((row : X) → at number after ≡ Some row → (old : X) × (at number rows ≡ Some old)) → IsMarked owed others after
+        → ((row : X) → at number after ≡ Some row → (old : X) × (at number rows ≡ Some old)) → IsMarked which owed others after
     touched after same was = turned lends marked same (λ row is. let old = was row is in now_marked old.0 row old.1)
 
-    pub unlent : IsMarked owed others rows
+    pub unlent : IsMarked which owed others rows
     unlent = turned lends marked (λ n apart. refl) (λ row is. now_marked row row is)
+
+    -- A number whose row is gone may be marked.
+    pub gone : (after : List (ℕ × X)) → ((n : ℕ) → n ≢ number → at n after ≡ at n rows) → at number after ≡ None
+        → IsMarked which owed others after
+    gone after same none = turned lends marked same (λ row is. absurd (let clash : None ≡ Some row = sym none ∙ is in cc))
 
   -- A number that is known and marked may have any row, or none.
   pub grown : Puts (number / 64) (Some (known (number % 64) (block_at number blocks))) blocks others → (after : List (ℕ × X))
-      → ((n : ℕ) → n ≢ number → at n after ≡ at n rows) → IsMarked owed others after
+      → ((n : ℕ) → n ≢ number → at n after ≡ at n rows) → IsMarked which owed others after
   grown puts after same = turned turns marked same (λ row is. record {
     known = place_now turns
         ∙ (both (block_at number blocks)).0;
-    marked = λ due. mark_now turns ∙ (both (block_at number blocks)).1;
+    marked = λ due. mark_now turns which ∙ (both (block_at number blocks)).1;
   })
     where
-      is_so : KeepsOthers (number % 64) (block_at number blocks) (Some (known (number % 64) (block_at number blocks)))
-          × IsBlockOf (number / 64) (Some (known (number % 64) (block_at number blocks)))
-      is_so = knows_block number fits (block_at number blocks) (marked.blocked (number / 64))
-
       turns : Turns number (Some (known (number % 64) (block_at number blocks))) blocks others
-      turns = record { puts = puts; keeps = is_so.0; is_block = is_so.1 }
+      turns = let is_so = knows_block number fits (block_at number blocks) (marked.blocked (number / 64))
+          in record { puts = puts; keeps = is_so.0; is_block = is_so.1 }
 
-      both : (o : Option Block) → (place_in (Some (known (number % 64) o)) (number % 64) ≡ 1) × (mark_in (Some (known (number % 64) o)) (number % 64) ≡ 1)
-      both None = (set_same, set_same)
+      both : (o : Option Block) → (place_in (Some (known (number % 64) o)) (number % 64) ≡ 1)
+          × (mark_in which (Some (known (number % 64) o)) (number % 64) ≡ 1)
+      both None = (set_same, ap (λ w. bit_at w (number % 64)) (created which (number % 64)) ∙ set_same)
         where
           set_same : bit_at (bit (number % 64)) (number % 64) ≡ 1
           set_same = bit_at_set_same w64 0 (number % 64) (low number)
-      both (Some b) = (bit_at_set_same w64 b.places (number % 64) (low number), bit_at_set_same w64 b.marked (number % 64) (low number))
+      both (Some b) = (
+        bit_at_set_same w64 b.places (number % 64) (low number),
+        ap (λ w. bit_at w (number % 64)) (placed which (number % 64) b) ∙ bit_at_set_same w64 (marks_of which b) (number % 64) (low number),
+      )
 
   -- A number that has no row needs no place.
   pub dropped : Puts (number / 64) (forgotten (number % 64) (block_at number blocks)) blocks others → (after : List (ℕ × X))
-      → ((n : ℕ) → n ≢ number → at n after ≡ at n rows) → at number after ≡ None → IsMarked owed others after
+      → ((n : ℕ) → n ≢ number → at n after ≡ at n rows) → at number after ≡ None → IsMarked which owed others after
   dropped puts after same none = turned turns marked same (λ row is. absurd (let clash : None ≡ Some row = sym none ∙ is in cc))
     where
-      is_so : KeepsOthers (number % 64) (block_at number blocks) (forgotten (number % 64) (block_at number blocks))
-          × IsBlockOf (number / 64) (forgotten (number % 64) (block_at number blocks))
-      is_so = forgets_block number fits (block_at number blocks) (marked.blocked (number / 64))
-
       turns : Turns number (forgotten (number % 64) (block_at number blocks)) blocks others
-      turns = record { puts = puts; keeps = is_so.0; is_block = is_so.1 }
+      turns = let is_so = forgets_block number fits (block_at number blocks) (marked.blocked (number / 64))
+          in record { puts = puts; keeps = is_so.0; is_block = is_so.1 }
 
-  -- A row to which nothing is due needs no mark.
-  pub cleared : Puts (number / 64) (option_map (without_mark (number % 64)) (block_at number blocks)) blocks others
-      → ((row : X) → at number rows ≡ Some row → owed row ≡ false) → IsMarked owed others rows
-  cleared puts nothing = turned turns marked (λ n apart. refl) (λ row is. record {
-    known = place_now turns ∙ still (block_at number blocks) (marked.each number row is).known;
-    marked = λ due. absurd (let clash : true ≡ false = sym due ∙ nothing row is in cc);
-  })
+  -- Nor does the block of one that is forgotten, once it is empty.
+  pub lost : Forgets number blocks others → (after : List (ℕ × X)) → ((n : ℕ) → n ≢ number → at n after ≡ at n rows) → at number after ≡ None
+      → IsMarked which owed others after
+  lost h after same none =
+      thinned (turned turns marked same (λ row is. absurd (let clash : None ≡ Some row = sym none ∙ is in cc))) h.thins
     where
-      is_so : KeepsOthers (number % 64) (block_at number blocks) (option_map (without_mark (number % 64)) (block_at number blocks))
-          × IsBlockOf (number / 64) (option_map (without_mark (number % 64)) (block_at number blocks))
-      is_so = unmarks_block number fits (block_at number blocks) (marked.blocked (number / 64))
+      turns : Turns number (option_map (without_place (number % 64)) (block_at number blocks)) blocks h.between
+      turns = let is_so = empties_block number fits (block_at number blocks) (marked.blocked (number / 64))
+          in record { puts = h.left; keeps = is_so.0; is_block = is_so.1 }
 
-      turns : Turns number (option_map (without_mark (number % 64)) (block_at number blocks)) blocks others
-      turns = record { puts = puts; keeps = is_so.0; is_block = is_so.1 }
+  module _ (taken : Kind) (puts : Puts (number / 64) (option_map (without_mark taken (number % 64)) (block_at number blocks)) blocks others) where
+    takes : Turns number (option_map (without_mark taken (number % 64)) (block_at number blocks)) blocks others
+    takes = let is_so = unmarks_block number fits taken (block_at number blocks) (marked.blocked (number / 64))
+        in record { puts = puts; keeps = is_so.0; is_block = is_so.1 }
 
-      still : (o : Option Block) → place_in o (number % 64) ≡ 1 → place_in (option_map (without_mark (number % 64)) o) (number % 64) ≡ 1
-      still None none = cc
-      still (Some b) was = was
+    still_known : (o : Option Block) → place_in o (number % 64) ≡ 1 → place_in (option_map (without_mark taken (number % 64)) o) (number % 64) ≡ 1
+    still_known None none = cc
+    still_known (Some b) was = ap (λ p. bit_at p (number % 64)) (leaves which taken (number % 64) (low number) b).places ∙ was
+
+    -- A row to which nothing is due needs no mark.
+    pub cleared : ((row : X) → at number rows ≡ Some row → owed row ≡ false) → IsMarked which owed others rows
+    cleared nothing = turned takes marked (λ n apart. refl) (λ row is. record {
+      known = place_now takes ∙ still_known (block_at number blocks) (marked.each number row is).known;
+      marked = λ due. absurd (let clash : true ≡ false = sym due ∙ nothing row is in cc);
+    })
+
+    -- Another mark may go.
+    pub unnamed : ((b : Block) → marks_of which (without_mark taken (number % 64) b) ≡ marks_of which b) → IsMarked which owed others rows
+    unnamed same = turned takes marked (λ n apart. refl) (λ row is. let was = marked.each number row is in record {
+      known = place_now takes ∙ still_known (block_at number blocks) was.known;
+      marked = λ due. mark_now takes which ∙ (still (block_at number blocks) ∙ was.marked due);
+    })
+      where
+        still : (o : Option Block) → mark_in which (option_map (without_mark taken (number % 64)) o) (number % 64) ≡ mark_in which o (number % 64)
+        still None = refl
+        still (Some b) = ap (λ w. bit_at w (number % 64)) (same b)
+
+  -- A number may be named.
+  pub still_named : (r : Bool) → is_some (at number rows) ≡ r → Names r number blocks others → which ≢ News → IsMarked which owed others rows
+  still_named true some puts other = unnamed News puts (λ b. same which other b)
+    where
+      same : (w : Kind) → w ≢ News → (b : Block) → marks_of w (without_mark News (number % 64) b) ≡ marks_of w b
+      same Due other b = refl
+      same News other b = absurd (other refl)
+  still_named false none forgets other = lost forgets rows (λ n apart. refl) (nobody (at number rows) none)
+    where
+      nobody : (o : Option X) → is_some o ≡ false → o ≡ None
+      nobody None is = refl
+      nobody (Some x) is = cc
+
+  -- A number may lose its row.
+  pub has_left : (watched : Bool) → Loses watched number blocks others → (after : List (ℕ × X))
+      → ((n : ℕ) → n ≢ number → at n after ≡ at n rows) → at number after ≡ None → IsMarked which owed others after
+  has_left true puts after same none = gone puts after same none
+  has_left false forgets after same none = lost forgets after same none
 
   -- One row alone stays, with its block.
   pub alone : others ≡ filter (λ block. nat_eq block.0 (number / 64)) blocks → (after : List (ℕ × X)) → after ≡ filter (λ row. nat_eq row.0 number) rows
-      → IsMarked owed others after
+      → IsMarked which owed others after
   alone is after left = record {
     blocked = λ high block here. blocks_left high block
         (sym (at_blocks high) ∙ here);
@@ -264,26 +520,36 @@ module _ {X : Type 0} {owed : X → Bool} (number : ℕ) (fits : number < 2 ^ 32
           go true it = marked.blocked high block it
           go false clash = cc
 
-      rows_left : (n : ℕ) (row : X) → cond (nat_eq number n) (at n rows) None ≡ Some row → IsMarkedAt owed others n row
+      rows_left : (n : ℕ) (row : X) → cond (nat_eq number n) (at n rows) None ≡ Some row → IsMarkedAt which owed others n row
       rows_left n row = go (nat_eq number n) refl
         where
-          go : (b : Bool) → nat_eq number n ≡ b → cond b (at n rows) None ≡ Some row → IsMarkedAt owed others n row
+          go : (b : Bool) → nat_eq number n ≡ b → cond b (at n rows) None ≡ Some row → IsMarkedAt which owed others n row
           go true same it =
               let was = marked.each n row it in
               let one : number ≡ n = grind (arith, nat_tests) in
               let stays : at (n / 64) others ≡ at (n / 64) blocks =
               at_blocks (n / 64) ∙ ap (λ (b : Bool). cond b (at (n / 64) blocks) None) (same_number (number / 64) (n / 64) (ap (λ k. k / 64) one)) in
-              record { known = ap (λ o. place_in o (n % 64)) stays ∙ was.known; marked = λ due. ap (λ o. mark_in o (n % 64)) stays ∙ was.marked due }
+              record { known = ap (λ o. place_in o (n % 64)) stays ∙ was.known; marked = λ due. ap (λ o. mark_in which o (n % 64)) stays ∙ was.marked due }
           go false off clash = cc
 
+-- Whoever is named, all rows are marked still.
+pub names : {X : Type 0} {owed : X → Bool} {blocks others : List (ℕ × Block)} {rows : List (ℕ × X)} (name : Option ℕ) → IfSome name (λ id. id < 2 ^ 32)
+    → IfNone name (others ≡ blocks)
+    → IfSome name (λ id. Names (is_some (at id rows)) id blocks others)
+    → IsMarked Due owed blocks rows → IsMarked Due owed others rows
+names {X} {owed} {blocks} {others} {rows} None fits same puts marked = subst (λ (b : _). IsMarked Due owed b rows) (sym same) marked
+names {X} {owed} {blocks} {others} {rows} (Some id) fits same puts marked =
+    still_named id fits marked (is_some (at id rows)) refl puts (λ clash. cc)
+
 -- ---- what a change of the rows alone leaves
-module _ {X : Type 0} {owed : X → Bool} (number : ℕ) {blocks : List (ℕ × Block)} {rows : List (ℕ × X)} (marked : IsMarked owed blocks rows) where
+module _ {X : Type 0} {which : Kind} {owed : X → Bool} (number : ℕ) {blocks : List (ℕ × Block)} {rows : List (ℕ × X)}
+    (marked : IsMarked which owed blocks rows) where
   -- A row to which nothing is due that was not due before needs no mark.
   pub lowered : (after : List (ℕ × X)) (new : Option X) → Puts number new rows after
-      → ((row : X) → new ≡ Some row → (old : X) × (at number rows ≡ Some old) × (owed row ≡ true → owed old ≡ true)) → IsMarked owed blocks after
+      → ((row : X) → new ≡ Some row → (old : X) × (at number rows ≡ Some old) × (owed row ≡ true → owed old ≡ true)) → IsMarked which owed blocks after
   lowered after new puts was = record { blocked = marked.blocked; each = λ n row is. go n row is (cases_eq n number) }
     where
-      go : (n : ℕ) (row : X) → at n after ≡ Some row → (n ≡ number) ⊎ (n ≡ number → ⊥) → IsMarkedAt owed blocks n row
+      go : (n : ℕ) (row : X) → at n after ≡ Some row → (n ≡ number) ⊎ (n ≡ number → ⊥) → IsMarkedAt which owed blocks n row
       go n row is (inl same) =
           let old = was row (sym puts.here ∙ (ap (λ k. at k after) (sym same) ∙ is)) in
           let before = marked.each n old.0 (ap (λ k. at k rows) same ∙ old.1) in
@@ -298,10 +564,11 @@ less_without marked i within set = go (cases_eq (bit_and marked (bit_not w64 (bi
     go (inl same) = absurd (let clash : 0 ≡ 1 = sym (bit_at_clear_same w64 marked i within) ∙ (ap (λ m. bit_at m i) same ∙ set) in omega (arith, clash))
     go (inr other) = omega (arith, other, and_le_l marked (bit_not w64 (bit i)))
 
-pub lighter : (number : ℕ) (blocks : List (ℕ × Block)) (block : Block) (after : List (ℕ × Block)) → at (number / 64) blocks ≡ Some block
-    → after ≡ set_value (is_at (nat_cmp (number / 64))) blocks (without_mark (number % 64) block)
-    → mark blocks number ≡ 1 → weight after < weight blocks
-lighter number blocks block after found is set =
-    let sums = sum_by-set_value (λ (b : Block). b.marked) (is_at (nat_cmp (number / 64))) blocks block (without_mark (number % 64) block) found in
-    let bit_set : bit_at block.marked (number % 64) ≡ 1 = ap (λ o. mark_in o (number % 64)) (sym found) ∙ set in
-    rw is (omega (arith, sums, less_without block.marked (number % 64) (low number) bit_set))
+pub lighter : (which : Kind) (number : ℕ) (blocks : List (ℕ × Block)) (block : Block) (after : List (ℕ × Block)) → at (number / 64) blocks ≡ Some block
+    → after ≡ set_value (is_at (nat_cmp (number / 64))) blocks (without_mark which (number % 64) block)
+    → mark which blocks number ≡ 1 → weight which after < weight which blocks
+lighter which number blocks block after found is set =
+    let sums = sum_by-set_value (marks_of which) (is_at (nat_cmp (number / 64))) blocks block (without_mark which (number % 64) block) found in
+    let bit_set : bit_at (marks_of which block) (number % 64) ≡ 1 = ap (λ o. mark_in which o (number % 64)) (sym found) ∙ set in
+    let less = less_without (marks_of which block) (number % 64) (low number) bit_set in
+    rw is (omega (arith, sums, subst (λ w. w < marks_of which block) (sym (unmarked_in which (number % 64) block)) less))

@@ -1,34 +1,49 @@
-//! Numbers of which some are marked, in blocks of 64, and those blocks in groups of 64.
+//! Numbers with two kinds of marks, in blocks of 64, and those blocks in groups of 64.
 
-ghost use Rattle.std.specs.Prelude.{◌≡◌, ◌/◌, ◌%◌, ◌<◌, ◌^◌, [], Some, None, OnErr, OnOk, filter, nat_eq, option_map};
+ghost use Rattle.std.specs.Prelude.{◌≡◌, ◌/◌, ◌%◌, ◌<◌, ◌^◌, [], true, Some, None, OnErr, OnOk, filter, nat_eq, option_map};
 ghost use Rattle.adb_outside.specs.Tables.{at, IsRising, Puts};
-ghost use Rattle.adb_hub_tables.specs.First.{first_number};
-ghost use Rattle.adb_hub_tables.specs.Marked.{AreBlocks, with_mark, without_mark, forgotten, first_mark, has_marks, known, mark, weight};
+ghost use Rattle.adb_hub_tables.specs.Marked.{AreBlocks, AreGrouped, with_mark, without_mark, first_mark, known, is_empty, Forgets, Thins, mark, weight};
 
 use crate::words;
-use crate::words::{Block, Words};
+use crate::words::{Block, Kind, Words};
 use std::alloc::{AllocError, Global};
 use std::collections::BTreeMap;
 use std::marker::Model;
+use std::mem;
 
-/// Numbers, of which some are marked, in blocks. Contracts see the blocks. A block with marks is
-/// marked itself among the groups, so that the least mark is found without a walk over all blocks.
+/// What was seen last, so that nobody looks twice.
+#[derive(Clone, Copy, Drop)]
+enum Seen {
+    /// Nothing that still holds.
+    Nothing,
+    /// That a number, if it is known, has all marks.
+    Marked(u32),
+    /// That no number has a mark.
+    Lack(Kind),
+}
+
+/// Numbers with marks, in blocks. Contracts see the blocks. A block with marks is marked itself
+/// among the groups, so that the least mark is found without a walk over all blocks.
 #[derive(Drop)]
 pub(crate) struct Marks {
     blocks: Words,
     groups: Words,
+    seen: Seen,
+    /// The block that was left without numbers last. It is kept for those who come next.
+    spare: Option<u32>,
 }
 
 impl Model for Marks {
     ghost use Rattle.adb_hub_tables.specs.TouchedMap.{Table, table};
     ghost use Rattle.adb_hub_tables.specs.declared.words.Block.{Block};
-    ghost use Rattle.adb_hub_tables.specs.Marked.{IsMarked, has_marks};
+    ghost use Rattle.adb_hub_tables.specs.Marked.{AreGrouped, Holds};
 
     ghost Value = { Table Block };
 
     ghost view = { λ a. table a.blocks.entries };
 
-    ghost invariant = { λ a. IsMarked has_marks a.groups.entries a.blocks.entries };
+    ghost invariant = { λ a. AreGrouped a.groups.entries a.blocks.entries
+        × Holds a.seen a.blocks.entries };
 }
 
 impl Marks {
@@ -39,10 +54,12 @@ impl Marks {
         Marks {
             blocks: BTreeMap::new(alloc),
             groups: BTreeMap::new(alloc),
+            seen: Seen::Nothing,
+            spare: None,
         }
     }
 
-    /// A number is known and marked. After want of memory all is as before.
+    /// A number is known, with all marks. After want of memory all is as before.
     pub(crate) fn know(&mut self, number: u32) -> Result<(), AllocError>
         ensures ok { let high = number / 64 in OnOk result (Puts high
             (Some (known (number % 64) (at high self.old.entries)))
@@ -52,7 +69,10 @@ impl Marks {
         let high = number / 64;
         words::know(&mut self.groups, high)?;
         match words::know(&mut self.blocks, number) {
-            Ok(()) => Ok(()),
+            Ok(()) => {
+                self.seen = Seen::Marked(number);
+                Ok(())
+            }
             Err(error) => {
                 words::forget(&mut self.groups, high);
                 Err(error)
@@ -60,48 +80,52 @@ impl Marks {
         }
     }
 
-    /// Marks a number, where it is known. It takes no memory.
+    /// A number that is known has all marks. It takes no memory.
     pub(crate) fn mark(&mut self, number: u32)
         ensures fits { number < 2 ^ 32 }
         ensures block { let high = number / 64 in Puts high
             (option_map (with_mark (number % 64)) (at high self.old.entries))
             self.old.entries self.new.entries }
     {
-        words::mark(&mut self.blocks, number);
-        words::mark(&mut self.groups, number / 64);
-    }
-
-    /// Takes the mark of a number away. It takes no memory.
-    pub(crate) fn unmark(&mut self, number: u32)
-        ensures fits { number < 2 ^ 32 }
-        ensures block { let high = number / 64 in Puts high
-            (option_map (without_mark (number % 64)) (at high self.old.entries))
-            self.old.entries self.new.entries }
-        ensures falls { mark self.old.entries number ≡ 1
-            → weight self.new.entries < weight self.old.entries }
-    {
-        words::unmark(&mut self.blocks, number);
-    }
-
-    /// A number is neither known nor marked, and a block in which none is known goes. It takes no
-    /// memory.
-    pub(crate) fn forget(&mut self, number: u32)
-        ensures fits { number < 2 ^ 32 }
-        ensures block { let high = number / 64 in Puts high
-            (forgotten (number % 64) (at high self.old.entries))
-            self.old.entries self.new.entries }
-    {
-        words::forget(&mut self.blocks, number);
-        if self.blocks.contains_key(&(number / 64)) {
+        if is_marked(self.seen, number) {
             return;
         }
-        words::forget(&mut self.groups, number / 64);
+        mark_grouped(&mut self.groups, &mut self.blocks, number);
+        self.seen = Seen::Marked(number);
+    }
+
+    /// Takes a mark of a number away. It takes no memory.
+    pub(crate) fn unmark(&mut self, which: Kind, number: u32)
+        ensures fits { number < 2 ^ 32 }
+        ensures block { let high = number / 64 in Puts high
+            (option_map (without_mark which (number % 64)) (at high self.old.entries))
+            self.old.entries self.new.entries }
+        ensures falls { mark which self.old.entries number ≡ 1
+            → weight which self.new.entries < weight which self.old.entries }
+    {
+        self.seen = Seen::Nothing;
+        words::unmark(&mut self.blocks, which, number);
+    }
+
+    /// A number is not known and has no mark. A block in which none is known goes when another one
+    /// is left so. It takes no memory.
+    pub(crate) fn forget(&mut self, number: u32)
+        ensures fits { number < 2 ^ 32 }
+        ensures forgets { Forgets number self.old.entries self.new.entries }
+    {
+        self.seen = Seen::Nothing;
+        if words::forget_in(&mut self.blocks, number) {
+            let before = mem::replace(&mut self.spare, Some(number / 64));
+            drop_empty(&mut self.groups, &mut self.blocks, before, number / 64);
+        }
     }
 
     /// No numbers stay.
     pub(crate) fn clear(&mut self)
         ensures { self.new.entries ≡ [] }
     {
+        self.seen = Seen::Nothing;
+        self.spare = None;
         self.blocks.clear();
         self.groups.clear();
     }
@@ -111,38 +135,91 @@ impl Marks {
         ensures { let high = number / 64 in
             self.new.entries ≡ filter (λ block. nat_eq block.0 high) self.old.entries }
     {
+        self.seen = Seen::Nothing;
+        self.spare = None;
         words::keep_only(&mut self.blocks, number);
         words::keep_only(&mut self.groups, number / 64);
     }
 
-    /// The least number that is marked. It takes no memory.
-    pub(crate) fn first(&mut self) -> Option<u32>
+    /// The least number that has a mark. It takes no memory.
+    pub(crate) fn first(&mut self, which: Kind) -> Option<u32>
         requires { AreBlocks self.old.entries }
-        ensures first { result ≡ first_mark self.old.entries }
-        ensures rises { IsRising self.old.entries }
-        ensures same { self.new ≡ self.old }
-    {
-        let Some(high) = self.first_block() else {
-            return None;
-        };
-        words::first_in(&self.blocks, high)
-    }
-
-    /// The least block that has marks.
-    fn first_block(&mut self) -> Option<u32>
-        ensures first { result ≡ first_number has_marks self.old.entries }
+        ensures first { result ≡ first_mark which self.old.entries }
         ensures rises { IsRising self.old.entries }
         ensures same { self.new ≡ self.old }
     {
         if self.blocks.len() == 0 {
             return None;
         }
-        while let Some(high) = words::first(&self.groups) {
-            if words::is_marked(&self.blocks, high) {
-                return Some(high);
-            }
-            words::unmark(&mut self.groups, high);
+        if lacks(self.seen, which) {
+            return None;
         }
+        while let Some(high) = words::first(&self.groups, which) {
+            if let Some(number) = words::first_in(&self.blocks, which, high) {
+                return Some(number);
+            }
+            words::unmark(&mut self.groups, which, high);
+        }
+        self.seen = Seen::Lack(which);
         None
+    }
+}
+
+/// A number that is known has all marks, and its block among the groups.
+fn mark_grouped(groups: &mut Words, blocks: &mut Words, number: u32)
+    requires { AreGrouped groups.old.entries blocks.old.entries }
+    ensures fits { number < 2 ^ 32 }
+    ensures block { let high = number / 64 in Puts high
+        (option_map (with_mark (number % 64)) (at high blocks.old.entries))
+        blocks.old.entries blocks.new.entries }
+    ensures grouped { AreGrouped groups.new.entries blocks.new.entries }
+{
+    if words::mark(blocks, number) {
+        words::mark(groups, number / 64);
+    }
+}
+
+/// A block in which no number is known goes, but one.
+fn drop_empty(groups: &mut Words, blocks: &mut Words, before: Option<u32>, but: u32)
+    requires { AreGrouped groups.old.entries blocks.old.entries }
+    ensures thins { Thins blocks.old.entries blocks.new.entries }
+    ensures grouped { AreGrouped groups.new.entries blocks.new.entries }
+{
+    let Some(high) = before else {
+        return;
+    };
+    if high != but && words::is_empty(blocks, high) {
+        drop_block(groups, blocks, high);
+    }
+}
+
+/// A block goes in which no number is known.
+fn drop_block(groups: &mut Words, blocks: &mut Words, high: u32)
+    requires grouped { AreGrouped groups.old.entries blocks.old.entries }
+    requires empty { is_empty (at high blocks.old.entries) ≡ true }
+    ensures thins { Thins blocks.old.entries blocks.new.entries }
+    ensures grouped { AreGrouped groups.new.entries blocks.new.entries }
+{
+    words::remove(blocks, high);
+    words::forget(groups, high);
+}
+
+/// Whether it was seen last that no number has a mark.
+fn lacks(seen: Seen, which: Kind) -> bool
+    ensures { result ≡ true → seen ≡ Seen.Lack which }
+{
+    match seen {
+        Seen::Lack(kind) => kind == which,
+        _ => false,
+    }
+}
+
+/// Whether a number was the last that was marked.
+fn is_marked(seen: Seen, number: u32) -> bool
+    ensures { result ≡ true → seen ≡ Seen.Marked number }
+{
+    match seen {
+        Seen::Marked(last) => last == number,
+        _ => false,
     }
 }

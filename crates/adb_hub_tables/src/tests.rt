@@ -1,4 +1,4 @@
-//! The least to which something is due, as rows come, are lent and go.
+//! The least to which something is due, and who is named, as rows come, are lent and go.
 
 use crate::{Owes, TouchedMap};
 use std::test::Fail;
@@ -90,5 +90,46 @@ fn the_least_is_first(rt: HostRuntime) -> Result<(), Fail> {
     assert!(rt; !rows.contains_key(&63), "no row of 63");
     rows.clear();
     assert_eq!(rt; rows.len(), 0, "no row is left");
+    Ok(())
+}
+
+/// What is done before anybody asks for names.
+const BEFORE: &[(Act, u32)] = &[
+    (Act::Insert, 5),
+    (Act::Insert, 70),
+    (Act::Insert, 3),
+    (Act::Remove, 5),
+];
+
+/// What is done with a number, and who is named then, or 0.
+const NAMES: &[(Act, u32, u32)] = &[
+    (Act::Owe, 70, 3),
+    (Act::Owe, 3, 3),
+    (Act::Owe, 6, 70),
+    (Act::Owe, 6, 0),
+    (Act::Remove, 3, 3),
+    (Act::Owe, 3, 0),
+    (Act::Insert, 128, 128),
+    (Act::Insert, 129, 129),
+    (Act::KeepOnly, 70, 0),
+    (Act::Owe, 70, 70),
+];
+
+#[test]
+fn each_is_named_once(rt: HostRuntime) -> Result<(), Fail> {
+    let mut rows = TouchedMap::new(rt.alloc());
+    for (what, number) in BEFORE {
+        take_step(&mut rows, *what, *number)?;
+    }
+    for (what, number, name) in NAMES {
+        take_step(&mut rows, *what, *number)?;
+        assert_eq!(rt;
+            rows.next_touched().unwrap_or(0),
+            *name,
+            "after {:?} of {}",
+            *what,
+            *number
+        );
+    }
     Ok(())
 }

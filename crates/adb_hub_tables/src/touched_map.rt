@@ -1,14 +1,17 @@
 //! Rows under numbers, of which it is known which may be owed something.
 
-ghost use Rattle.std.specs.Prelude.{◌≡◌, ◌^◌, ◌<◌, [], length, Some, None, filter, nat_eq, is_some, IfOk, OnOk, OnErr};
+ghost use Rattle.std.specs.Prelude.{◌≡◌, ◌^◌, ◌<◌, [], length, Some, None, filter, nat_eq, is_some, IfOk, IfNone, IfSome, OnOk, OnErr};
 ghost use Rattle.std.specs.Option.{option_copied, option_copied_mut};
 ghost use Rattle.std.specs.Ordering.{nat_cmp};
 ghost use Rattle.std.specs.Borrow.{sem};
 ghost use Rattle.adb_outside.specs.Tables.{at, put_at, without, IsRising, Puts};
 ghost use Rattle.adb_hub_tables.specs.First.{first_number, owes_at};
+ghost use Rattle.adb_hub_tables.specs.Marked.{AreBlocks, Loses, Names, first_mark};
+ghost use Rattle.adb_hub_tables.specs.declared.words.Kind.TheVariants.{News};
 
 use crate::marks::Marks;
 use crate::owes::Owes;
+use crate::words::Kind;
 use std::alloc::{AllocError, Global};
 use std::collections::BTreeMap;
 use std::marker::Model;
@@ -16,15 +19,22 @@ use std::marker::Model;
 /// Rows under numbers. Contracts see it as std's map of them. A row that was not touched, that is,
 /// lent or put, since it was last seen with nothing due is known to have nothing due, so that the
 /// least to which something is due is found among the others.
+///
+/// Of the numbers that were touched it is known, too, which were not named since. The number of a
+/// row that is gone is kept for that only once somebody asked for a name: where nobody does, those
+/// who went cost nothing.
 #[derive(Drop)]
 pub struct TouchedMap<V: Owes> {
     rows: BTreeMap<u32, V>,
     marks: Marks,
+    /// Whether anybody asked whom to name.
+    watched: bool,
 }
 
 impl<V: Owes> Model for TouchedMap<V> {
     ghost use Rattle.adb_hub_tables.specs.TouchedMap.{Table, table, table_code};
     ghost use Rattle.adb_hub_tables.specs.Marked.{IsMarked};
+    ghost use Rattle.adb_hub_tables.specs.declared.words.Kind.TheVariants.{Due};
 
     ghost Value = { Table V };
 
@@ -32,7 +42,7 @@ impl<V: Owes> Model for TouchedMap<V> {
 
     ghost view = { λ a. table a.rows.entries };
 
-    ghost invariant = { λ a. IsMarked V.owed a.marks.entries a.rows.entries };
+    ghost invariant = { λ a. IsMarked Due V.owed a.marks.entries a.rows.entries };
 }
 
 impl<V: Owes> TouchedMap<V> {
@@ -45,6 +55,7 @@ impl<V: Owes> TouchedMap<V> {
         TouchedMap {
             rows: BTreeMap::new(alloc),
             marks: Marks::new(alloc),
+            watched: false,
         }
     }
 
@@ -91,17 +102,27 @@ impl<V: Owes> TouchedMap<V> {
         if self.rows.len() == 0 {
             return None;
         }
-        while let Some(id) = self.marks.first() {
+        while let Some(id) = self.marks.first(Kind::Due) {
             if is_owed(&self.rows, id) {
                 return Some(id);
             }
-            self.marks.unmark(id);
+            self.marks.unmark(Kind::Due, id);
         }
         None
     }
 }
 
 impl<V: Owes + Drop> TouchedMap<V> {
+    /// The least number whose row was lent, put or removed, and that was not named since. Those
+    /// whose rows were removed before the first call are not named, nor need those be that `clear`
+    /// or `keep_only` took. It takes no memory, and looks at no row but that of whom it names.
+    pub fn next_touched(&mut self) -> Option<u32>
+        ensures same { self.new ≡ self.old }
+    {
+        self.watched = true;
+        name_first(&self.rows, &mut self.marks)
+    }
+
     /// A row stands under a number, in place of the one there, which is answered. After want of
     /// memory the rows are as before, and the new one is dropped.
     pub fn insert(&mut self, id: u32, row: V) -> Result<Option<V>, AllocError>
@@ -127,7 +148,7 @@ impl<V: Owes + Drop> TouchedMap<V> {
         ensures entries { self.new.entries ≡ without id.now self.old.entries }
     {
         let row = take_row(&mut self.rows, *id);
-        self.marks.forget(*id);
+        leave(&mut self.marks, self.watched, *id);
         row
     }
 
@@ -155,6 +176,37 @@ fn is_owed<V: Owes>(rows: &BTreeMap<u32, V>, id: u32) -> bool
     match rows.get(&id) {
         Some(row) => row.owes(),
         None => false,
+    }
+}
+
+/// Names the least number that is news, which it is no more. Where it has no row it is not known
+/// any more.
+fn name_first<V>(rows: &BTreeMap<u32, V>, marks: &mut Marks) -> Option<u32>
+    requires { AreBlocks marks.old.entries }
+    ensures first { result ≡ first_mark News marks.old.entries }
+    ensures fits { IfSome result (λ id. id < 2 ^ 32) }
+    ensures nobody { IfNone result (marks.new.entries ≡ marks.old.entries) }
+    ensures named { IfSome result (λ id. Names (is_some (at id rows.now.entries)) id
+        marks.old.entries marks.new.entries) }
+{
+    let id = marks.first(Kind::News)?;
+    if rows.contains_key(&id) {
+        marks.unmark(Kind::News, id);
+    } else {
+        marks.forget(id);
+    }
+    Some(id)
+}
+
+/// A number whose row is gone is news if anybody wants names, and else not known any more.
+fn leave(marks: &mut Marks, watched: bool, id: u32)
+    ensures fits { id < 2 ^ 32 }
+    ensures left { Loses watched id marks.old.entries marks.new.entries }
+{
+    if watched {
+        marks.mark(id);
+    } else {
+        marks.forget(id);
     }
 }
 

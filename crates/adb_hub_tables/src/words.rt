@@ -1,22 +1,32 @@
-//! Blocks of 64 numbers, of which some are marked.
+//! Blocks of 64 numbers, with two words of marks.
 
-ghost use Rattle.std.specs.Prelude.{◌≡◌, ◌/◌, ◌%◌, ◌<◌, ◌^◌, Some, None, OnErr, OnOk, eqb, filter, nat_eq, option_map};
+ghost use Rattle.std.specs.Prelude.{◌≡◌, ◌/◌, ◌%◌, ◌<◌, ◌^◌, Some, None, OnErr, OnOk, eqb, false, filter, nat_eq, option_map};
+ghost use Rattle.std.specs.Option.{option_map_or};
 ghost use Rattle.adb_outside.specs.Tables.{at, IsRising, Puts};
-ghost use Rattle.adb_hub_tables.specs.First.{owes_at};
-ghost use Rattle.adb_hub_tables.specs.Marked.{AreBlocks, first_at, has_marks, with_mark, with_place, without_mark, without_place, forgotten, first_mark, is_empty, known, mark, new_block, weight};
+ghost use Rattle.adb_hub_tables.specs.Marked.{AreBlocks, first_at, lacks_marks, marks_of, with_mark, with_place, without_mark, without_place, forgotten, first_mark, is_empty, known, mark, new_block, weight};
 
 use std::alloc::AllocError;
 use std::collections::BTreeMap;
+
+/// Which marks are meant.
+#[derive(Clone, Copy, PartialEq, Drop)]
+pub(crate) enum Kind {
+    /// Of those to whom something may be due.
+    Due,
+    /// Of those who are to be named.
+    News,
+}
 
 /// Of the 64 numbers of a block those that are known, and those that are marked, as bits.
 #[derive(Clone, Copy, Drop)]
 pub(crate) struct Block {
     places: u64,
-    marked: u64,
+    due: u64,
+    news: u64,
 }
 
 impl Block {
-    /// One number is known and marked.
+    /// One number is known, with all marks.
     fn new(i: u32) -> Block
         requires { i < 64 }
         ensures { result ≡ new_block i }
@@ -24,37 +34,48 @@ impl Block {
         let bit = 1u64 << i;
         Block {
             places: bit,
-            marked: bit,
+            due: bit,
+            news: bit,
         }
     }
 
-    /// A number is known and marked.
+    /// A number is known, with all marks.
     fn know(&mut self, i: u32)
         requires { i < 64 }
         ensures { self.new ≡ with_place i self.old }
     {
         let bit = 1u64 << i;
         self.places |= bit;
-        self.marked |= bit;
+        self.due |= bit;
+        self.news |= bit;
     }
 
-    /// A number is marked.
-    fn mark(&mut self, i: u32)
+    /// A number that is known has all marks. Whether a word of marks was empty before.
+    fn mark(&mut self, i: u32) -> bool
         requires { i < 64 }
-        ensures { self.new ≡ with_mark i self.old }
+        ensures lacked { result ≡ lacks_marks self.old }
+        ensures block { self.new ≡ with_mark i self.old }
     {
-        self.marked |= 1u64 << i;
+        let lacked = self.due == 0 || self.news == 0;
+        let bit = self.places & (1u64 << i);
+        self.due |= bit;
+        self.news |= bit;
+        lacked
     }
 
-    /// A number is not marked.
-    fn unmark(&mut self, i: u32)
+    /// A number does not have a mark.
+    fn unmark(&mut self, which: Kind, i: u32)
         requires { i < 64 }
-        ensures { self.new ≡ without_mark i self.old }
+        ensures { self.new ≡ without_mark which i self.old }
     {
-        self.marked &= !(1u64 << i);
+        let others = !(1u64 << i);
+        match which {
+            Kind::Due => self.due &= others,
+            Kind::News => self.news &= others,
+        }
     }
 
-    /// A number is neither known nor marked. Whether none is known then.
+    /// A number is not known, and has no mark. Whether none is known then.
     fn forget(&mut self, i: u32) -> bool
         requires { i < 64 }
         ensures empty { result ≡ eqb self.new.places 0 }
@@ -62,8 +83,19 @@ impl Block {
     {
         let others = !(1u64 << i);
         self.places &= others;
-        self.marked &= others;
+        self.due &= others;
+        self.news &= others;
         self.places == 0
+    }
+
+    /// A word of marks.
+    fn marks(&self, which: Kind) -> u64
+        ensures { result ≡ marks_of which self.now }
+    {
+        match which {
+            Kind::Due => self.due,
+            Kind::News => self.news,
+        }
     }
 }
 
@@ -71,7 +103,7 @@ impl Block {
 /// takes no memory.
 pub(crate) type Words = BTreeMap<u32, Block>;
 
-/// A number is known and marked. After want of memory all is as before.
+/// A number is known, with all marks. After want of memory all is as before.
 pub(crate) fn know(marks: &mut Words, number: u32) -> Result<(), AllocError>
     ensures ok { let high = number / 64 in OnOk result (Puts high
         (Some (known (number % 64) (at high marks.old.entries)))
@@ -87,33 +119,36 @@ pub(crate) fn know(marks: &mut Words, number: u32) -> Result<(), AllocError>
     Ok(())
 }
 
-/// Marks a number, where it is known. It takes no memory.
-pub(crate) fn mark(marks: &mut Words, number: u32)
+/// A number that is known has all marks. Whether a word of marks of its block was empty before. It
+/// takes no memory.
+pub(crate) fn mark(marks: &mut Words, number: u32) -> bool
     ensures fits { number < 2 ^ 32 }
+    ensures lacked { result ≡ option_map_or lacks_marks (at (number / 64) marks.old.entries) false }
     ensures block { let high = number / 64 in Puts high
         (option_map (with_mark (number % 64)) (at high marks.old.entries))
         marks.old.entries marks.new.entries }
 {
-    if let Some(block) = marks.get_mut(&(number / 64)) {
-        block.mark(number % 64);
+    match marks.get_mut(&(number / 64)) {
+        Some(block) => block.mark(number % 64),
+        None => false,
     }
 }
 
-/// Takes the mark of a number away. It takes no memory.
-pub(crate) fn unmark(marks: &mut Words, number: u32)
+/// Takes a mark of a number away. It takes no memory.
+pub(crate) fn unmark(marks: &mut Words, which: Kind, number: u32)
     ensures fits { number < 2 ^ 32 }
     ensures block { let high = number / 64 in Puts high
-        (option_map (without_mark (number % 64)) (at high marks.old.entries))
+        (option_map (without_mark which (number % 64)) (at high marks.old.entries))
         marks.old.entries marks.new.entries }
-    ensures falls { mark marks.old.entries number ≡ 1
-        → weight marks.new.entries < weight marks.old.entries }
+    ensures falls { mark which marks.old.entries number ≡ 1
+        → weight which marks.new.entries < weight which marks.old.entries }
 {
     if let Some(block) = marks.get_mut(&(number / 64)) {
-        block.unmark(number % 64);
+        block.unmark(which, number % 64);
     }
 }
 
-/// A number is neither known nor marked, and a block in which none is known goes. It takes no
+/// A number is not known and has no mark, and a block in which none is known goes. It takes no
 /// memory.
 pub(crate) fn forget(marks: &mut Words, number: u32)
     ensures fits { number < 2 ^ 32 }
@@ -126,15 +161,34 @@ pub(crate) fn forget(marks: &mut Words, number: u32)
     }
 }
 
-/// A number is neither known nor marked. Whether none of its block is known then.
-fn forget_in(marks: &mut Words, number: u32) -> bool
+/// A number is not known and has no mark. Whether none of its block is known then. It takes no
+/// memory.
+pub(crate) fn forget_in(marks: &mut Words, number: u32) -> bool
     ensures block { let high = number / 64 in Puts high
         (option_map (without_place (number % 64)) (at high marks.old.entries))
         marks.old.entries marks.new.entries }
+    ensures fits { number < 2 ^ 32 }
     ensures empty { result ≡ is_empty (at (number / 64) marks.new.entries) }
 {
     match marks.get_mut(&(number / 64)) {
         Some(block) => block.forget(number % 64),
+        None => false,
+    }
+}
+
+/// A block goes. It takes no memory.
+pub(crate) fn remove(marks: &mut Words, high: u32)
+    ensures { Puts high None marks.old.entries marks.new.entries }
+{
+    marks.remove(&high);
+}
+
+/// Whether there is a block that knows no number.
+pub(crate) fn is_empty(marks: &Words, high: u32) -> bool
+    ensures { result ≡ is_empty (at high marks.now.entries) }
+{
+    match marks.get(&high) {
+        Some(block) => block.places == 0,
         None => false,
     }
 }
@@ -147,38 +201,29 @@ pub(crate) fn keep_only(marks: &mut Words, number: u32)
     marks.retain(|high, _| *high == number / 64);
 }
 
-/// The least number that is marked.
-pub(crate) fn first(marks: &Words) -> Option<u32>
+/// The least number that has a mark.
+pub(crate) fn first(marks: &Words, which: Kind) -> Option<u32>
     requires { AreBlocks marks.now.entries }
-    ensures first { result ≡ first_mark marks.now.entries }
+    ensures first { result ≡ first_mark which marks.now.entries }
     ensures rises { IsRising marks.now.entries }
 {
     for (high, block) in marks.iter() {
-        if block.marked != 0 {
-            return Some(*high * 64 + block.marked.trailing_zeros());
+        let word = block.marks(which);
+        if word != 0 {
+            return Some(*high * 64 + word.trailing_zeros());
         }
     }
     None
 }
 
-/// Whether a block has marks.
-pub(crate) fn is_marked(marks: &Words, high: u32) -> bool
-    ensures { result ≡ owes_at has_marks high marks.now.entries }
-{
-    match marks.get(&high) {
-        Some(block) => block.marked != 0,
-        None => false,
-    }
-}
-
-/// The least number that is marked in a block.
-pub(crate) fn first_in(marks: &Words, high: u32) -> Option<u32>
+/// The least number that has a mark in a block.
+pub(crate) fn first_in(marks: &Words, which: Kind, high: u32) -> Option<u32>
     requires { AreBlocks marks.now.entries }
-    ensures { result ≡ first_at high (at high marks.now.entries) }
+    ensures { result ≡ first_at which high (at high marks.now.entries) }
 {
-    let block = marks.get(&high)?;
-    if block.marked == 0 {
+    let word = marks.get(&high)?.marks(which);
+    if word == 0 {
         return None;
     }
-    Some(high * 64 + block.marked.trailing_zeros())
+    Some(high * 64 + word.trailing_zeros())
 }

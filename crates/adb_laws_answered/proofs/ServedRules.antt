@@ -7,7 +7,7 @@ use Rattle.std.specs.Prelude.{codes, option_and_then}
 use Rattle.adb_outside.specs.Tables.{Rows, change_row}
 use Rattle.adb_outside.specs.declared.identity.Identity.{Identity}
 use Rattle.adb_outside.specs.declared.kinds.Cause.{Cause}
-use Rattle.adb_stream.specs.Flow.{new_flow}
+use Rattle.adb_stream.specs.Flow.{new_flow, first_credit, accepted}
 use Rattle.adb_stream.specs.Stream.{new_stream}
 use Rattle.adb_stream.specs.declared.row.Part.{Part}
 use Rattle.adb_stream.specs.declared.row.Stream.{Stream}
@@ -21,7 +21,7 @@ use Rattle.adb_history.specs.Streams.{draw, all_end}
 use Rattle.adb_history.specs.Flow.{with_flow}
 use Rattle.adb_history.specs.Tracking.{mark_all}
 use Rattle.adb_history.specs.Losing.{forgets, link_ends, all_stop, orphaned}
-use Rattle.adb_history.specs.Packets.{streams_end_first, hears_okay, opened, with_remote, first_credit, accepted}
+use Rattle.adb_history.specs.Packets.{streams_end_first, hears_okay, opened, with_remote}
 use Rattle.adb_history.specs.Reading.{tracks, awaits}
 use Rattle.adb_history.specs.Handing.{unmarked}
 use Rattle.adb_history.specs.Orderly.{phase_for}

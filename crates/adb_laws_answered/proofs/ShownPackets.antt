@@ -11,6 +11,7 @@ use Rattle.adb_wire.specs.declared.command.Command.TheVariants.{Cnxn, Open, Okay
 use Rattle.adb_wire.specs.declared.packets.Packet.{Packet}
 use Rattle.adb_stream.specs.declared.row.Part.{Part}
 use Rattle.adb_stream.specs.declared.row.Stream.{Stream}
+use Rattle.adb_stream.specs.Flow.{first_credit}
 use Rattle.adb_client.specs.declared.phase.Phase.TheVariants.{Streaming}
 use Rattle.adb_reply.specs.Strings.{okay}
 use Rattle.adb_history.specs.Rows.{Client, Link, State, none_kept, in_phase, with_stream_part}
@@ -18,7 +19,7 @@ use Rattle.adb_history.specs.Events.{Made, Event, quietly, owed_to}
 use Rattle.adb_history.specs.Clients.{owe_client}
 use Rattle.adb_history.specs.Links.{is_connected, credit_word}
 use Rattle.adb_history.specs.Flow.{with_flow}
-use Rattle.adb_history.specs.Packets.{at_stream, with_remote, first_credit, hears_okay, opened, orphan_opened}
+use Rattle.adb_history.specs.Packets.{at_stream, with_remote, hears_okay, opened, orphan_opened}
 use Rattle.adb_history.specs.Packets.{okay_open, okay_first, takes_okay, treat_any, treat_on, treat}
 use Rattle.adb_history.specs.Births.{Opening as FirstOkay, opening_by, opening_in, remote_in}
 use Rattle.adb_history.specs.Answered.{closed_reply}

@@ -16,12 +16,12 @@ use Rattle.adb_history.specs.Losing.{all_stop, stops, orphaned, input_ended}
 use Rattle.adb_history.specs.Reading.{tracks, awaits}
 use Rattle.adb_history.specs.Handing.{unmarked, hands}
 use Rattle.adb_wire.specs.Packet.{spelling}
-use Rattle.adb_stream.specs.Flow.{new_flow}
+use Rattle.adb_stream.specs.Flow.{new_flow, first_credit, is_out_of_turn, accepted}
 use Rattle.adb_stream.specs.Stream.{new_stream}
 use Rattle.adb_outside.specs.declared.identity.State.TheVariants.{Offline}
 use Rattle.adb_history.specs.Clients.{closes, owe_client}
 use Rattle.adb_history.specs.Flow.{with_flow}
-use Rattle.adb_history.specs.Packets.{with_remote, first_credit, hears_okay, opened, is_out_of_turn, accepted, unauthorized_from}
+use Rattle.adb_history.specs.Packets.{with_remote, hears_okay, opened, unauthorized_from}
 use Rattle.adb_history.specs.Orderly.{phase_for}
 use Rattle.adb_history.specs.Moves.{open_now, accepts_now, draws_now}
 use Rattle.adb_history.specs.Owned.{StreamOf, OwnerIn, HoldsIn, IsOwned}

@@ -13,6 +13,7 @@ use Rattle.adb_wire.specs.Format.{is_cnxn}
 use Rattle.adb_wire.specs.Packet.{spelling}
 use Rattle.adb_stream.specs.declared.flow.Flow.{Flow}
 use Rattle.adb_stream.specs.declared.row.Stream.{Stream}
+use Rattle.adb_stream.specs.Flow.{is_out_of_turn, to_hand}
 use Rattle.adb_client.specs.declared.phase.Phase.TheVariants.{Asking, Opening, Streaming}
 use Rattle.adb_client.specs.declared.about.Want.{Want}
 use Rattle.adb_history.specs.Rows.{Client, Link, State, to_client, to_link, to_stream, none_kept, with_due, with_held, with_link_due, with_stream_part}
@@ -21,9 +22,9 @@ use Rattle.adb_history.specs.Clients.{closes}
 use Rattle.adb_history.specs.Streams.{ends_row}
 use Rattle.adb_history.specs.Flow.{with_flow}
 use Rattle.adb_history.specs.Losing.{link_ends, orphaned, input_ended, stream_of, stops}
-use Rattle.adb_history.specs.Packets.{is_out_of_turn, opened, unauthorized_from}
+use Rattle.adb_history.specs.Packets.{opened, unauthorized_from}
 use Rattle.adb_history.specs.Reading.{tracks, awaits}
-use Rattle.adb_history.specs.Handing.{to_hand, hands, unmarked}
+use Rattle.adb_history.specs.Handing.{hands, unmarked}
 use Rattle.adb_history.specs.Moves.{After, IsOfStream, IsFree, HasOne, IsLike, IsLed, IsReady, accepts_now, draws_now, connects_now}
 use Rattle.adb_history.specs.Answered.{tells_closed}
 

@@ -12,11 +12,11 @@ use Rattle.adb_wire.specs.declared.packets.Packet.{Packet}
 use Rattle.adb_stream.specs.Stream.{with_part}
 use Rattle.adb_stream.specs.declared.row.Part.{Part}
 use Rattle.adb_stream.specs.declared.row.Stream.{Stream}
+use Rattle.adb_stream.specs.Flow.{has_credit}
 use Rattle.adb_history.specs.Rows.{State, none_kept, with_stream_part}
 use Rattle.adb_history.specs.Events.{Made, Event, quietly, then_also, due_to_client, due_to_link, ended}
 use Rattle.adb_history.specs.Links.{owe_link, wants_sums}
 use Rattle.adb_history.specs.Clients.{owe_client}
-use Rattle.adb_history.specs.Fifo.{has_credit}
 use Rattle.adb_laws_births.specs.Going.{IsSame, Was, GoOn, IsOfOpen, IsOfRow, IsFrom, Goes}
 
 pub same_self : (a : Stream) → IsSame a a

@@ -17,6 +17,7 @@ use Rattle.adb_stream.specs.declared.flow.Flow.{Flow}
 use Rattle.adb_stream.specs.declared.flow.Flow.TheVariants.{One, Credit}
 use Rattle.adb_stream.specs.declared.row.Part.{Part}
 use Rattle.adb_stream.specs.declared.row.Stream.{Stream}
+use Rattle.adb_stream.specs.Flow.{to_hand, credit_back, handed_to, has_credit}
 use Rattle.adb_client.specs.declared.about.Want.{Want}
 use Rattle.adb_client.specs.declared.phase.Phase.{Phase}
 use Rattle.adb_client.specs.declared.phase.Phase.TheVariants.{Asking, Opening, Streaming, Binding, Tracking, Closing, Gone}
@@ -31,12 +32,11 @@ use Rattle.adb_history.specs.Losing.{orphaned, stream_fails, stream_of, client_f
 use Rattle.adb_history.specs.Packets.{faulty_on}
 use Rattle.adb_history.specs.Reading.{bound_for, bound_in, bound_at}
 use Rattle.adb_history.specs.Forwarding.{bound_by}
-use Rattle.adb_history.specs.Handing.{unmarked, lists_first, hands, to_hand, credit_back, handed_to, tells_credit, tells_handed, stream_hands, stream_left}
+use Rattle.adb_history.specs.Handing.{unmarked, lists_first, hands, tells_credit, tells_handed, stream_hands, stream_left}
 use Rattle.adb_history.specs.Handing.{client_left, takes_of, puts_to}
 use Rattle.adb_history.specs.Machine.{unplugs_on}
 use Rattle.adb_history.specs.Owned.{OwnerIn, StreamOf, HoldsIn, IsOwned}
 use Rattle.adb_history.specs.Orderly.{phase_for}
-use Rattle.adb_history.specs.Fifo.{has_credit}
 use Rattle.adb_history.proofs.Following.{changed_here}
 use Rattle.adb_history.proofs.Growing.{AreWithin}
 use Rattle.adb_history.proofs.GrowingRules.{keeps_up_all}

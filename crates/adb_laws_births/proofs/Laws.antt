@@ -10,7 +10,7 @@ use Rattle.adb_wire.specs.Cutting.{framed}
 use Rattle.adb_wire.specs.declared.packets.Packet.{Packet}
 use Rattle.adb_wire.specs.declared.format.PacketFault.{PacketFault}
 use Rattle.adb_wire.specs.declared.format.PacketFormat.{PacketFormat}
-use Rattle.adb_stream.specs.Flow.{new_flow}
+use Rattle.adb_stream.specs.Flow.{new_flow, has_credit}
 use Rattle.adb_stream.specs.Stream.{new_stream}
 use Rattle.adb_stream.specs.declared.row.Stream.{Stream}
 use Rattle.adb_capture.specs.declared.entry.Entry.{Entry}
@@ -21,7 +21,6 @@ use Rattle.adb_history.specs.Packets.{receives_on}
 use Rattle.adb_history.specs.Machine.{History, state, told, told_at, rule, ups, step, IsLegal}
 use Rattle.adb_history.specs.Bytes.{bytes_sent, brought, sent}
 use Rattle.adb_history.specs.Births.{Birth, births_at}
-use Rattle.adb_history.specs.Fifo.{has_credit}
 use Rattle.adb_history.proofs.OwnedStep.{all_owned}
 use Rattle.adb_history.proofs.Linking.{credit_new}
 use Rattle.adb_laws_births.specs.Going.{Was, GoOn, Goes}

@@ -18,6 +18,7 @@ use Rattle.adb_stream.specs.declared.flow.Flow.{Flow}
 use Rattle.adb_stream.specs.declared.flow.Flow.TheVariants.{One, Credit}
 use Rattle.adb_stream.specs.declared.row.Part.{Part}
 use Rattle.adb_stream.specs.declared.row.Stream.{Stream}
+use Rattle.adb_stream.specs.Flow.{first_credit, acknowledged, is_out_of_turn, accepted, has_credit}
 use Rattle.adb_history.specs.Rows.{Client, Link, State, to_stream, none_kept, with_stream_part}
 use Rattle.adb_history.specs.Events.{Made, Event, Ending, quietly, due_to_client, due_to_link, ended, peer_closed, out_of_turn, lost, broken}
 use Rattle.adb_history.specs.Links.{wants_sums, check_on, owe_link, close_packet, okay_packet, credit_word, is_connected}
@@ -27,10 +28,9 @@ use Rattle.adb_history.specs.Flow.{with_flow}
 use Rattle.adb_history.specs.Losing.{forgets, link_ends}
 use Rattle.adb_history.specs.Packets.{least_version, least_maxdata, streams_end_first, goes_online, connects, cnxn, unauthorized_from, unauthorized}
 use Rattle.adb_history.specs.Packets.{refuses_open}
-use Rattle.adb_history.specs.Packets.{at_stream, with_remote, first_credit, hears_okay, opened, orphan_opened, acknowledged, okay_open, okay_first, takes_okay}
-use Rattle.adb_history.specs.Packets.{is_out_of_turn, accepted, accepts_none, accepts, takes_write, takes_close, treat_any, treat_on, treat}
+use Rattle.adb_history.specs.Packets.{at_stream, with_remote, hears_okay, opened, orphan_opened, okay_open, okay_first, takes_okay}
+use Rattle.adb_history.specs.Packets.{accepts_none, accepts, takes_write, takes_close, treat_any, treat_on, treat}
 use Rattle.adb_history.specs.Births.{Opening, is_between, opening_by}
-use Rattle.adb_history.specs.Fifo.{has_credit}
 use Rattle.adb_history.specs.Linked.{IsLinked}
 use Rattle.adb_history.proofs.PacketMoves.{hears_streams}
 use Rattle.adb_history.proofs.Numbers.{drawn_plain}

@@ -3,11 +3,11 @@ use Rattle.std.specs.Prelude.{ℕ, ◌≡◌, ◌≤◌, List, length, drop, min
 use Rattle.adb_outside.specs.Tables.{Rows}
 use Rattle.adb_wire.specs.declared.packets.Packet.{Packet}
 use Rattle.adb_stream.specs.declared.row.Stream.{Stream}
+use Rattle.adb_stream.specs.Flow.{has_credit}
 use Rattle.adb_history.specs.Streams.{stream_ids}
 use Rattle.adb_history.specs.Machine.{History, state}
 use Rattle.adb_history.specs.Bytes.{brought}
 use Rattle.adb_history.specs.Births.{Birth, births, born}
-use Rattle.adb_history.specs.Fifo.{has_credit}
 use Rattle.adb_laws_births.specs.Openings.{IsHeard}
 
 -- A stream that lives is kept as it was born, and has heard what its link brought since.

@@ -6,8 +6,8 @@ use Rattle.adb_wire.specs.declared.command.Command.TheVariants.{Okay, Wrte, Clse
 use Rattle.adb_wire.specs.declared.headers.TheConstants.{MAX_PAYLOAD}
 use Rattle.adb_wire.specs.declared.packets.Packet.{Packet}
 use Rattle.adb_stream.specs.declared.row.Stream.{Stream}
+use Rattle.adb_stream.specs.Flow.{has_credit}
 use Rattle.adb_history.specs.Events.{Made, Event, due_to_client, due_to_link, ended}
-use Rattle.adb_history.specs.Fifo.{has_credit}
 
 -- A stream goes on as it is: its client's, on its link, under the same id of its device, with credit or with one write.
 pub record IsSame (a b : Stream) : Type 0 where

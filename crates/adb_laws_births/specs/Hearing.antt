@@ -4,9 +4,9 @@ use Rattle.adb_outside.specs.Tables.{Rows}
 use Rattle.adb_wire.specs.declared.command.Command.TheVariants.{Open, Okay}
 use Rattle.adb_wire.specs.declared.packets.Packet.{Packet}
 use Rattle.adb_stream.specs.declared.row.Stream.{Stream}
+use Rattle.adb_stream.specs.Flow.{has_credit}
 use Rattle.adb_history.specs.Events.{Made, Event, due_to_client, due_to_link, ended}
 use Rattle.adb_history.specs.Links.{close_packet}
-use Rattle.adb_history.specs.Fifo.{has_credit}
 use Rattle.adb_laws_births.specs.Going.{IsOfRow, IsShort}
 use Rattle.adb_laws_births.specs.Openings.{Hears}
 

@@ -5,6 +5,7 @@ use Rattle.adb_wire.specs.declared.packets.Packet.{Packet}
 use Rattle.adb_stream.specs.declared.row.Stream.{Stream}
 use Rattle.adb_capture.specs.declared.entry.Entry.{Entry}
 use Rattle.adb_capture.specs.declared.entry.Entry.TheVariants.{Recv}
+use Rattle.adb_stream.specs.Flow.{has_credit}
 use Rattle.adb_history.specs.Rows.{Link}
 use Rattle.adb_history.specs.Events.{Ending, packets_to, spelled_to}
 use Rattle.adb_history.specs.Streams.{stream_ids}
@@ -12,7 +13,6 @@ use Rattle.adb_history.specs.Machine.{History, state, told, told_at}
 use Rattle.adb_history.specs.Bytes.{bytes_sent, brought, sent}
 use Rattle.adb_history.specs.Births.{Birth, births_at, born, Opening, opening_of, remote_of}
 use Rattle.adb_history.specs.Lives.{packets_of, ending_of}
-use Rattle.adb_history.specs.Fifo.{has_credit}
 use Rattle.adb_laws_births.specs.Hearing.{Heard}
 use Rattle.adb_laws_births.specs.Brought.{ComeFirst}
 use Rattle.adb_laws_births.specs.Openings.{opened_with}

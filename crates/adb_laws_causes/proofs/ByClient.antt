@@ -5,12 +5,12 @@ use Rattle.std.specs.Prelude.{is_some}
 use Rattle.adb_stream.specs.declared.row.Stream.{Stream}
 use Rattle.adb_capture.specs.declared.entry.Entry.{Entry}
 use Rattle.adb_capture.specs.declared.entry.Entry.TheVariants.{Join, Enter, Read, End, Bound, Attach, Recv, Detach, Put, Send}
+use Rattle.adb_stream.specs.Flow.{has_credit}
 use Rattle.adb_history.specs.Rows.{Client}
 use Rattle.adb_history.specs.Events.{Made}
 use Rattle.adb_history.specs.Machine.{rule, ups, History, state, told_at, told, IsLegal}
 use Rattle.adb_history.specs.Bytes.{bytes_read}
 use Rattle.adb_history.specs.Births.{Birth}
-use Rattle.adb_history.specs.Fifo.{has_credit}
 use Rattle.adb_history.specs.Causes.{has_closed_since}
 use Rattle.adb_laws_causes.proofs.UntouchedEntries.{Pair}
 use Rattle.adb_laws_causes.proofs.Middle.{AfterRule}

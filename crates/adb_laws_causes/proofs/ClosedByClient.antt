@@ -7,10 +7,10 @@ use Rattle.adb_stream.specs.declared.flow.Flow.{Flow}
 use Rattle.adb_stream.specs.declared.row.Stream.{Stream}
 use Rattle.adb_capture.specs.declared.entry.Entry.{Entry}
 use Rattle.adb_capture.specs.declared.entry.Entry.TheVariants.{Join, Enter, Read, End, Bound, Attach, Recv, Detach, Put, Send}
+use Rattle.adb_stream.specs.Flow.{has_credit}
 use Rattle.adb_history.specs.Events.{Made}
 use Rattle.adb_history.specs.Machine.{rule, History, state, told_at, told, IsLegal}
 use Rattle.adb_history.specs.Births.{Birth, told_to, joined, handed_to}
-use Rattle.adb_history.specs.Fifo.{has_credit}
 use Rattle.adb_history.specs.Causes.{given_to}
 use Rattle.adb_laws_causes.specs.Flows.{FlowIs}
 use Rattle.adb_laws_causes.proofs.UntouchedEntries.{IsFar}

@@ -10,14 +10,15 @@ use Rattle.adb_wire.specs.declared.packets.Packet.{Packet}
 use Rattle.adb_stream.specs.declared.flow.Flow.{Flow}
 use Rattle.adb_stream.specs.declared.flow.Flow.TheVariants.{One, Credit}
 use Rattle.adb_stream.specs.declared.row.Stream.{Stream}
+use Rattle.adb_stream.specs.Flow.{first_credit, acknowledged, accepted}
 use Rattle.adb_client.specs.declared.phase.Phase.TheVariants.{Streaming}
 use Rattle.adb_history.specs.Rows.{Client, State, with_due, in_phase, with_stream_part}
 use Rattle.adb_history.specs.Events.{Made, quietly, owed_to}
 use Rattle.adb_history.specs.Links.{okay_packet}
 use Rattle.adb_history.specs.Clients.{owe_client}
 use Rattle.adb_history.specs.Flow.{with_flow}
-use Rattle.adb_history.specs.Packets.{with_remote, first_credit, hears_okay, opened, acknowledged, okay_open}
-use Rattle.adb_history.specs.Packets.{accepted, accepts_none, accepts}
+use Rattle.adb_history.specs.Packets.{with_remote, hears_okay, opened, okay_open}
+use Rattle.adb_history.specs.Packets.{accepts_none, accepts}
 use Rattle.adb_history.specs.Orderly.{phase_for}
 use Rattle.adb_history.specs.Births.{is_between, is_okay}
 use Rattle.adb_history.proofs.Following.{changed_here}

@@ -7,14 +7,15 @@ use Rattle.adb_wire.specs.Packet.{spelling}
 use Rattle.adb_stream.specs.declared.flow.Flow.{Flow}
 use Rattle.adb_stream.specs.declared.flow.Flow.TheVariants.{One, Credit}
 use Rattle.adb_stream.specs.declared.row.Stream.{Stream}
+use Rattle.adb_stream.specs.Flow.{first_credit, acknowledged, is_out_of_turn, accepted}
 use Rattle.adb_history.specs.Rows.{Client, Link, State, to_stream, none_kept, with_link_due, with_stream_part}
 use Rattle.adb_history.specs.Events.{Made, Ending, quietly, then_also, peer_closed, out_of_turn}
 use Rattle.adb_history.specs.Links.{close_packet, owe_link, check_on, wants_sums}
 use Rattle.adb_history.specs.Clients.{owe_client}
 use Rattle.adb_history.specs.Streams.{ends_row, ends_telling}
 use Rattle.adb_history.specs.Flow.{with_flow}
-use Rattle.adb_history.specs.Packets.{with_remote, first_credit, hears_okay, opened, orphan_opened, acknowledged, okay_open, okay_first, takes_okay}
-use Rattle.adb_history.specs.Packets.{is_out_of_turn, accepted, accepts_none, accepts, takes_write, takes_close}
+use Rattle.adb_history.specs.Packets.{with_remote, hears_okay, opened, orphan_opened, okay_open, okay_first, takes_okay}
+use Rattle.adb_history.specs.Packets.{accepts_none, accepts, takes_write, takes_close}
 use Rattle.adb_history.specs.Moves.{open_now}
 use Rattle.adb_history.proofs.Following.{changed_other}
 use Rattle.adb_history.proofs.OwnedStep.{ends_state, client_loses_frame}

@@ -8,14 +8,15 @@ use Rattle.adb_stream.specs.declared.flow.Flow.{Flow}
 use Rattle.adb_stream.specs.declared.flow.Flow.TheVariants.{One, Credit}
 use Rattle.adb_stream.specs.declared.row.Stream.{Stream}
 use Rattle.adb_capture.specs.declared.entry.Entry.{Entry}
+use Rattle.adb_stream.specs.Flow.{is_idle, has_credit}
 use Rattle.adb_history.specs.Rows.{Client}
 use Rattle.adb_history.specs.Events.{Made, owed_to, ending_in}
-use Rattle.adb_history.specs.Flow.{total, flow_after, with_flow, is_idle, is_over}
+use Rattle.adb_history.specs.Flow.{total, flow_after, with_flow, is_over}
 use Rattle.adb_history.specs.Machine.{rule, ups, History, state, told_at, told, IsLegal}
 use Rattle.adb_history.specs.Bytes.{bytes_read, brought}
 use Rattle.adb_history.specs.Births.{Birth, born, since, opening_in, told_to, joined, handed_to, carried_in, count_from, is_wrte}
 use Rattle.adb_history.specs.Lives.{output_of, packets_of, ending_of, lived, rest_of}
-use Rattle.adb_history.specs.Fifo.{has_credit, okays_of, credit_of}
+use Rattle.adb_history.specs.Fifo.{okays_of, credit_of}
 use Rattle.adb_history.specs.Causes.{given_to, okays_after, has_closed_since, IsDone}
 use Rattle.adb_history.proofs.Growing.{owed_append}
 use Rattle.adb_history.proofs.LinkMoves.{all_linked}

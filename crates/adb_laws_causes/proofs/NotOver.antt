@@ -8,6 +8,7 @@ use Rattle.adb_stream.specs.declared.flow.Flow.{Flow}
 use Rattle.adb_stream.specs.declared.row.Stream.{Stream}
 use Rattle.adb_capture.specs.declared.entry.Entry.{Entry}
 use Rattle.adb_capture.specs.declared.entry.Entry.TheVariants.{Join, Enter, Read, End, Bound, Attach, Recv, Detach, Put, Send}
+use Rattle.adb_stream.specs.Flow.{is_idle}
 use Rattle.adb_history.specs.Rows.{Client, State}
 use Rattle.adb_history.specs.Machine.{rule, History, state, IsLegal}
 use Rattle.adb_history.specs.Bytes.{is_lost, bytes_received}
@@ -23,7 +24,7 @@ use Rattle.adb_outside.specs.Tables.{at}
 use Rattle.adb_registry.specs.Row.{new_row}
 use Rattle.adb_registry.specs.declared.row.Row.{Row}
 use Rattle.adb_history.specs.Links.{is_connected, is_connected_row, maxdata_of}
-use Rattle.adb_history.specs.Flow.{write_len, write_before, writes, payloads, total, flow_after, is_idle, is_over, is_streaming}
+use Rattle.adb_history.specs.Flow.{write_len, write_before, writes, payloads, total, flow_after, is_over, is_streaming}
 use Rattle.adb_history.specs.Book.{plugged, device_of, is_refused, last_cnxn, row_by, is_killed}
 use Rattle.adb_history.proofs.LinkMoves.{all_linked}
 use Rattle.adb_history.proofs.OrderlyStates.{rests_calm}

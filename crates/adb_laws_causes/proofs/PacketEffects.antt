@@ -9,11 +9,12 @@ use Rattle.adb_wire.specs.declared.command.Command.{Command}
 use Rattle.adb_wire.specs.declared.command.Command.TheVariants.{Cnxn, Open, Okay, Wrte, Clse, Auth, Stls}
 use Rattle.adb_wire.specs.declared.packets.Packet.{Packet}
 use Rattle.adb_stream.specs.declared.row.Stream.{Stream}
+use Rattle.adb_stream.specs.Flow.{is_out_of_turn}
 use Rattle.adb_history.specs.Rows.{Link, State}
 use Rattle.adb_history.specs.Events.{Made, peer_closed, out_of_turn, quietly}
 use Rattle.adb_history.specs.Links.{credit_word, owe_link, is_connected}
 use Rattle.adb_history.specs.Streams.{ends_row, ends_telling}
-use Rattle.adb_history.specs.Packets.{at_stream, okay_open, okay_first, takes_okay, is_out_of_turn}
+use Rattle.adb_history.specs.Packets.{at_stream, okay_open, okay_first, takes_okay}
 use Rattle.adb_history.specs.Packets.{accepts, takes_write, takes_close, treat_open, treat_any, treat_on, treat}
 use Rattle.adb_history.specs.Orderly.{phase_for}
 use Rattle.adb_history.specs.Births.{is_between, is_okay, is_wrte}

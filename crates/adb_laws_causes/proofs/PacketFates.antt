@@ -18,6 +18,7 @@ use Rattle.adb_wire.specs.declared.format.PacketFormat.{PacketFormat}
 use Rattle.adb_stream.specs.declared.flow.Flow.{Flow}
 use Rattle.adb_stream.specs.declared.flow.Flow.TheVariants.{One, Credit}
 use Rattle.adb_stream.specs.declared.row.Stream.{Stream}
+use Rattle.adb_stream.specs.Flow.{first_credit, acknowledged, is_out_of_turn, accepted}
 use Rattle.adb_history.specs.Rows.{Client, Link, State, to_link, to_stream, none_kept, with_stream_part}
 use Rattle.adb_history.specs.Events.{Made, Ending, client_closed, peer_closed, out_of_turn, lost, broken, client_failed, stopped, quietly}
 use Rattle.adb_history.specs.Links.{close_packet, credit_word, owe_link, is_connected}
@@ -26,8 +27,8 @@ use Rattle.adb_history.specs.Streams.{ends_row, ends_telling}
 use Rattle.adb_history.specs.Flow.{with_flow}
 use Rattle.adb_history.specs.Losing.{link_ends}
 use Rattle.adb_history.specs.Packets.{least_version, least_maxdata, goes_online, streams_end_first, connects, cnxn, unauthorized_from, unauthorized}
-use Rattle.adb_history.specs.Packets.{refuses_open, at_stream, with_remote, first_credit, hears_okay, acknowledged, okay_open}
-use Rattle.adb_history.specs.Packets.{okay_first, takes_okay, is_out_of_turn, accepts_none, accepts, accepted, takes_write, takes_close, treat_open, treat_any}
+use Rattle.adb_history.specs.Packets.{refuses_open, at_stream, with_remote, hears_okay, okay_open}
+use Rattle.adb_history.specs.Packets.{okay_first, takes_okay, accepts_none, accepts, takes_write, takes_close, treat_open, treat_any}
 use Rattle.adb_history.specs.Packets.{treat_on, treat, treat_all, faulty_on, faulty, with_rest, receives_cut, receives_on, receives}
 use Rattle.adb_history.specs.Moves.{open_now}
 use Rattle.adb_laws_causes.proofs.Fates.{Reason, FateOf, fate_same, fate_retold, then_fate, fate_part, fate_orphan}

@@ -13,6 +13,7 @@ use Rattle.adb_stream.specs.Credit.{ByteCredit, IsWhole}
 use Rattle.adb_stream.specs.declared.flow.Flow.{Flow}
 use Rattle.adb_stream.specs.declared.flow.Flow.TheVariants.{One, Credit}
 use Rattle.adb_stream.specs.declared.row.Stream.{Stream}
+use Rattle.adb_stream.specs.Flow.{to_hand, credit_back, handed_to, has_credit}
 use Rattle.adb_client.specs.declared.phase.Phase.{Phase}
 use Rattle.adb_client.specs.declared.phase.Phase.TheVariants.{Opening, Streaming, Tracking}
 use Rattle.adb_history.specs.Rows.{Client, State, to_client, to_stream, with_stream_part}
@@ -20,11 +21,11 @@ use Rattle.adb_history.specs.Events.{Made, quietly, then_also, owed_to, packets_
 use Rattle.adb_history.specs.Links.{credit_word, okay_packet, credit_packet, owe_link}
 use Rattle.adb_history.specs.Flow.{with_flow, payloads}
 use Rattle.adb_history.specs.Tracking.{list_if_stale, due_or, offered}
-use Rattle.adb_history.specs.Handing.{lists_first, left_in, hands, to_hand, credit_back, handed_to, tells_credit, tells_handed, stream_hands, stream_left}
+use Rattle.adb_history.specs.Handing.{lists_first, left_in, hands, tells_credit, tells_handed, stream_hands, stream_left}
 use Rattle.adb_history.specs.Handing.{client_left, takes_of, puts_to, puts}
 use Rattle.adb_history.specs.Machine.{IsSomeOf, MayPut}
 use Rattle.adb_history.specs.Births.{is_wrte, carried_in, count_from}
-use Rattle.adb_history.specs.Fifo.{has_credit, okays_of, credit_of}
+use Rattle.adb_history.specs.Fifo.{okays_of, credit_of}
 use Rattle.adb_history.specs.Orderly.{IsSoundFlow, phase_for}
 use Rattle.adb_history.specs.Owned.{IsOwned}
 use Rattle.adb_history.proofs.Following.{changed_here}

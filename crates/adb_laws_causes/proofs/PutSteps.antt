@@ -3,6 +3,7 @@ use Rattle.std.proofs.Common.{◌≡◌, ◌≢◌, ◌≤◌, ◌+◌, ◌-◌,
 use Rattle.std.proofs.Common.{ap, subst, ◌∙◌, arith, length-append, length-drop}
 use Rattle.std.specs.Prelude.{nat_eq, min}
 use Rattle.std.proofs.lemmas.Bool.{eq-eqb, ne_eqb}
+use Rattle.adb_stream.specs.Flow.{has_credit, to_hand}
 use Rattle.adb_client.specs.declared.phase.Phase.TheVariants.{Opening as Waits, Streaming as Opened, Tracking as Tracks}
 use Rattle.adb_stream.specs.declared.flow.Flow.{Flow}
 use Rattle.adb_stream.specs.declared.row.Stream.{Stream}
@@ -15,7 +16,6 @@ use Rattle.adb_history.specs.Bytes.{bytes_put}
 use Rattle.adb_history.specs.Book.{asked}
 use Rattle.adb_history.specs.Births.{Birth, told_to, joined, lead_of, handed_to}
 use Rattle.adb_history.specs.Lives.{output_of}
-use Rattle.adb_history.specs.Fifo.{has_credit}
 use Rattle.adb_history.specs.Causes.{given_to}
 use Rattle.adb_laws_causes.specs.Flows.{FlowIs, hears, start_of}
 use Rattle.adb_laws_causes.proofs.Silent.{Tally}
@@ -28,7 +28,6 @@ use Rattle.adb_history.proofs.OutputEntries.{all_due_past_put}
 use Rattle.adb_laws_causes.proofs.Unchanged.{handed_is, closed_before}
 use Rattle.adb_history.proofs.LinkMoves.{all_linked}
 use Rattle.adb_laws_causes.proofs.RuleSteps.{Standing, client_here, same_start, same_lead, same_remote}
-use Rattle.adb_history.specs.Handing.{to_hand}
 use Rattle.adb_laws_causes.proofs.PutEffects.{puts_effect, PutEffect}
 use Rattle.adb_history.specs.Tracking.{due_or, list_if_stale, offered}
 

@@ -10,7 +10,7 @@ use Rattle.adb_outside.specs.declared.kinds.Cause.{Cause}
 use Rattle.adb_outside.specs.declared.kinds.Cause.TheVariants.{Eof, Fault, Starved, NoThread}
 use Rattle.adb_forward.specs.declared.row.ForwardRow.{ForwardRow}
 use Rattle.adb_stream.specs.Stream.{new_stream}
-use Rattle.adb_stream.specs.Flow.{new_flow}
+use Rattle.adb_stream.specs.Flow.{new_flow, to_hand, credit_back, handed_to}
 use Rattle.adb_stream.specs.declared.flow.Flow.{Flow}
 use Rattle.adb_stream.specs.declared.flow.Flow.TheVariants.{One, Credit}
 use Rattle.adb_stream.specs.declared.row.Stream.{Stream}
@@ -31,7 +31,7 @@ use Rattle.adb_history.specs.Asking.{Asked, asks_with}
 use Rattle.adb_history.specs.Losing.{stream_fails, stream_of, client_fails, input_ends, client_ends, tells_stop, all_stop, stops}
 use Rattle.adb_history.specs.Reading.{comes, comes_in_vain, enters_by, goes_on, asked_before, has_asked, asks, reads_in, reads_from}
 use Rattle.adb_history.specs.Reading.{bound_for, bound_in, bound_at}
-use Rattle.adb_history.specs.Handing.{lists_first, hands, to_hand, credit_back, handed_to, tells_credit, tells_handed, stream_hands, stream_left, client_left}
+use Rattle.adb_history.specs.Handing.{lists_first, hands, tells_credit, tells_handed, stream_hands, stream_left, client_left}
 use Rattle.adb_history.specs.Handing.{takes_of, puts_to}
 use Rattle.adb_history.specs.Machine.{unplugs_on, rule}
 use Rattle.adb_history.specs.Bytes.{is_orderly}

@@ -5,12 +5,12 @@ use Rattle.std.proofs.lemmas.Bool.{cases_eq}
 use Rattle.adb_stream.specs.declared.row.Stream.{Stream}
 use Rattle.adb_capture.specs.declared.entry.Entry.{Entry}
 use Rattle.adb_capture.specs.declared.entry.Entry.TheVariants.{Join, Enter, Read, End, Bound, Attach, Recv, Detach, Put, Send}
+use Rattle.adb_stream.specs.Flow.{has_credit}
 use Rattle.adb_history.specs.Rows.{Client}
 use Rattle.adb_history.specs.Events.{Made, ending_in, lost, client_failed}
 use Rattle.adb_history.specs.Machine.{rule, ups, History, state, IsLegal, unplugs_on}
 use Rattle.adb_history.specs.Bytes.{is_orderly}
 use Rattle.adb_history.specs.Births.{Birth, told_to, joined, handed_to}
-use Rattle.adb_history.specs.Fifo.{has_credit}
 use Rattle.adb_history.specs.Causes.{given_to}
 use Rattle.adb_laws_causes.specs.Flows.{IsAsTold}
 use Rattle.adb_laws_causes.proofs.Untouched.{Untouched}

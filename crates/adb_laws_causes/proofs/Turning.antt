@@ -9,13 +9,14 @@ use Rattle.adb_wire.specs.declared.packets.Packet.{Packet}
 use Rattle.adb_stream.specs.declared.flow.Flow.{Flow}
 use Rattle.adb_stream.specs.declared.flow.Flow.TheVariants.{One, Credit}
 use Rattle.adb_stream.specs.declared.row.Stream.{Stream}
+use Rattle.adb_stream.specs.Flow.{first_credit, acknowledged, is_out_of_turn, accepted}
 use Rattle.adb_history.specs.Rows.{State, with_stream_part}
 use Rattle.adb_history.specs.Events.{Made, Ending, peer_closed, out_of_turn, quietly, ending_in}
 use Rattle.adb_history.specs.Links.{close_packet, owe_link, is_connected}
 use Rattle.adb_history.specs.Streams.{ends_row, ends_telling}
 use Rattle.adb_history.specs.Flow.{with_flow}
-use Rattle.adb_history.specs.Packets.{at_stream, with_remote, first_credit, hears_okay, opened, acknowledged, okay_open, okay_first, takes_okay, is_out_of_turn}
-use Rattle.adb_history.specs.Packets.{accepted, accepts_none, accepts, takes_write, takes_close}
+use Rattle.adb_history.specs.Packets.{at_stream, with_remote, hears_okay, opened, okay_open, okay_first, takes_okay}
+use Rattle.adb_history.specs.Packets.{accepts_none, accepts, takes_write, takes_close}
 use Rattle.adb_history.specs.Births.{is_between, is_okay, is_wrte, is_clse, is_close_of}
 use Rattle.adb_history.specs.Causes.{remote_after}
 use Rattle.adb_history.proofs.Following.{changed_here}

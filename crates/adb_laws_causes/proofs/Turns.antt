@@ -9,12 +9,11 @@ use Rattle.adb_wire.specs.declared.packets.Packet.{Packet}
 use Rattle.adb_stream.specs.declared.flow.Flow.{Flow}
 use Rattle.adb_stream.specs.declared.flow.Flow.TheVariants.{One, Credit}
 use Rattle.adb_stream.specs.declared.row.Stream.{Stream}
+use Rattle.adb_stream.specs.Flow.{first_credit, acknowledged, is_out_of_turn, accepted}
 use Rattle.adb_history.specs.Rows.{State}
 use Rattle.adb_history.specs.Events.{Made, Ending, peer_closed, out_of_turn, lost, broken, ending_in}
 use Rattle.adb_history.specs.Links.{is_connected}
 use Rattle.adb_history.specs.Packets.{cnxn}
-use Rattle.adb_history.specs.Packets.{first_credit, acknowledged, is_out_of_turn}
-use Rattle.adb_history.specs.Packets.{accepted}
 use Rattle.adb_history.specs.Book.{is_refused}
 use Rattle.adb_history.specs.Births.{is_between, is_okay, is_wrte, is_clse, is_close_of}
 use Rattle.adb_history.specs.Causes.{remote_after, is_early}

@@ -7,6 +7,7 @@ use Rattle.adb_wire.specs.declared.packets.Packet.{Packet}
 use Rattle.adb_stream.specs.declared.flow.Flow.{Flow}
 use Rattle.adb_stream.specs.declared.flow.Flow.TheVariants.{One, Credit}
 use Rattle.adb_stream.specs.declared.row.Stream.{Stream}
+use Rattle.adb_stream.specs.Flow.{first_credit, acknowledged, is_out_of_turn, accepted}
 use Rattle.adb_client.specs.declared.phase.Phase.{Phase}
 use Rattle.adb_client.specs.declared.phase.Phase.TheVariants.{Asking, Opening, Streaming, Binding, Tracking, Closing, Gone}
 use Rattle.adb_reply.specs.Strings.{failed}
@@ -18,8 +19,8 @@ use Rattle.adb_history.specs.Streams.{tells_end, loses, client_loses, ends_row, 
 use Rattle.adb_history.specs.Tracking.{marked_in, marked, mark_all}
 use Rattle.adb_history.specs.Losing.{forgets, link_ends}
 use Rattle.adb_history.specs.Flow.{with_flow}
-use Rattle.adb_history.specs.Packets.{with_remote, first_credit, hears_okay, opened, orphan_opened, acknowledged, okay_open, okay_first, takes_okay}
-use Rattle.adb_history.specs.Packets.{is_out_of_turn, accepted, accepts_none, accepts, takes_write, takes_close}
+use Rattle.adb_history.specs.Packets.{with_remote, hears_okay, opened, orphan_opened, okay_open, okay_first, takes_okay}
+use Rattle.adb_history.specs.Packets.{accepts_none, accepts, takes_write, takes_close}
 use Rattle.adb_history.specs.Moves.{open_now}
 use Rattle.adb_history.proofs.Following.{changed_other}
 use Rattle.adb_history.proofs.Growing.{owed_append}

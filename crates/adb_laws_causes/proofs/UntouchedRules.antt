@@ -19,6 +19,7 @@ use Rattle.adb_wire.specs.declared.format.PacketFormat.{PacketFormat}
 use Rattle.adb_stream.specs.declared.flow.Flow.{Flow}
 use Rattle.adb_stream.specs.declared.flow.Flow.TheVariants.{One, Credit}
 use Rattle.adb_stream.specs.declared.row.Stream.{Stream}
+use Rattle.adb_stream.specs.Flow.{to_hand, credit_back, handed_to}
 use Rattle.adb_client.specs.declared.phase.Phase.{Phase}
 use Rattle.adb_client.specs.declared.phase.Phase.TheVariants.{Asking, Opening, Streaming, Binding, Tracking, Closing, Gone}
 use Rattle.adb_history.specs.Rows.{Client, Link, State, to_client, to_link, to_stream, with_due, with_stream_part}
@@ -31,7 +32,7 @@ use Rattle.adb_history.specs.Packets.{least_version, least_maxdata, goes_online,
 use Rattle.adb_history.specs.Packets.{refuses_open, at_stream, takes_okay, takes_write, takes_close, treat_open, treat_any, treat_on, treat}
 use Rattle.adb_history.specs.Packets.{treat_all, faulty_on}
 use Rattle.adb_history.specs.Packets.{faulty, with_rest, receives_cut, receives_on, receives}
-use Rattle.adb_history.specs.Handing.{unmarked, lists_first, hands, to_hand, credit_back, handed_to, tells_credit, tells_handed, stream_left}
+use Rattle.adb_history.specs.Handing.{unmarked, lists_first, hands, tells_credit, tells_handed, stream_left}
 use Rattle.adb_history.specs.Handing.{client_left, takes_of, puts_to}
 use Rattle.adb_history.specs.Machine.{unplugs_on}
 use Rattle.adb_history.proofs.Following.{changed_here}

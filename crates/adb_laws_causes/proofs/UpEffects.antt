@@ -7,12 +7,13 @@ use Rattle.std.proofs.lemmas.Bool.{eq-eqb}
 use Rattle.adb_stream.specs.declared.flow.Flow.{Flow}
 use Rattle.adb_stream.specs.declared.flow.Flow.TheVariants.{One, Credit}
 use Rattle.adb_stream.specs.declared.row.Stream.{Stream}
+use Rattle.adb_stream.specs.Flow.{wrote, has_credit}
 use Rattle.adb_history.specs.Rows.{State}
 use Rattle.adb_history.specs.Events.{owed_to, packets_to}
 use Rattle.adb_history.specs.Links.{write_packet}
-use Rattle.adb_history.specs.Flow.{write_len, write_before, writes, payloads, total, wrote, goes_up, all_go_up, flow_after}
+use Rattle.adb_history.specs.Flow.{write_len, write_before, writes, payloads, total, goes_up, all_go_up, flow_after}
 use Rattle.adb_history.specs.Births.{joined, is_wrte, carried_in, count_from}
-use Rattle.adb_history.specs.Fifo.{has_credit, okays_of, credit_of}
+use Rattle.adb_history.specs.Fifo.{okays_of, credit_of}
 use Rattle.adb_laws_causes.specs.Flows.{FlowIs}
 use Rattle.adb_laws_causes.specs.Flows.{waiting}
 

@@ -7,6 +7,7 @@ use Rattle.std.proofs.lemmas.List.{append-nil}
 use Rattle.std.proofs.lemmas.Bool.{cases_eq}
 use Rattle.adb_stream.specs.declared.row.Part.{Part}
 use Rattle.adb_stream.specs.declared.row.Stream.{Stream}
+use Rattle.adb_stream.specs.Flow.{has_credit}
 use Rattle.adb_client.specs.declared.phase.Phase.{Phase}
 use Rattle.adb_client.specs.declared.phase.Phase.TheVariants.{Asking, Opening, Streaming, Binding, Tracking, Closing, Gone}
 use Rattle.adb_history.specs.Rows.{Client, State, to_stream, with_held, with_stream_part}
@@ -16,7 +17,7 @@ use Rattle.adb_history.specs.Streams.{ends_telling}
 use Rattle.adb_history.specs.Flow.{payloads, total, with_flow, goes_up, all_go_up, flow_after, noted, is_over, closes_if}
 use Rattle.adb_history.specs.Flow.{sends_up, is_streaming, up_client, up_stream, up, up_all}
 use Rattle.adb_history.specs.Births.{joined, is_wrte, carried_in, count_from}
-use Rattle.adb_history.specs.Fifo.{has_credit, okays_of, credit_of}
+use Rattle.adb_history.specs.Fifo.{okays_of, credit_of}
 use Rattle.adb_history.proofs.Following.{changed_here, changed_other}
 use Rattle.adb_history.proofs.Growing.{owed_append}
 use Rattle.adb_laws_causes.proofs.StreamFates.{up_all_fate}

@@ -3,9 +3,8 @@ use Rattle.std.proofs.Common.{ℕ, ◌≡◌, Bool, true, false, cond, List, [],
 use Rattle.std.specs.Prelude.{All}
 use Rattle.std.proofs.lemmas.List.{length-append}
 use Rattle.std.proofs.lemmas.List.Elements.{All-head, All-tail, All-cons, All-nil}
-use Rattle.adb_stream.specs.Flow.{new_flow}
+use Rattle.adb_stream.specs.Flow.{new_flow, to_hand}
 use Rattle.adb_wire.specs.declared.packets.Packet.{Packet}
-use Rattle.adb_history.specs.Handing.{to_hand}
 use Rattle.adb_history.specs.Machine.{History, IsLegal}
 use Rattle.adb_history.specs.Bytes.{bytes_put, sent}
 use Rattle.adb_history.specs.Births.{Birth, Opening, since, opening_of, opening_in, told_in, told_after, told_to, lead_of, handed_to}

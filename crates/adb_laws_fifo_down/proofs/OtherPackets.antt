@@ -18,6 +18,7 @@ use Rattle.adb_wire.specs.declared.format.PacketFault.{PacketFault}
 use Rattle.adb_stream.specs.declared.flow.Flow.{Flow}
 use Rattle.adb_stream.specs.declared.flow.Flow.TheVariants.{One, Credit}
 use Rattle.adb_stream.specs.declared.row.Stream.{Stream}
+use Rattle.adb_stream.specs.Flow.{first_credit, acknowledged, is_out_of_turn, accepted}
 use Rattle.adb_client.specs.declared.phase.Phase.TheVariants.{Streaming}
 use Rattle.adb_history.specs.Rows.{Client, Link, State, to_client, to_stream, none_kept, in_phase, with_stream_part}
 use Rattle.adb_history.specs.Events.{Made, Event, quietly, peer_closed, out_of_turn, lost, broken}
@@ -28,8 +29,8 @@ use Rattle.adb_history.specs.Flow.{with_flow}
 use Rattle.adb_history.specs.Losing.{link_ends}
 use Rattle.adb_history.specs.Packets.{least_version, least_maxdata, streams_end_first, goes_online, connects, cnxn, unauthorized_from, unauthorized}
 use Rattle.adb_history.specs.Packets.{refuses_open}
-use Rattle.adb_history.specs.Packets.{at_stream, with_remote, first_credit, hears_okay, opened, acknowledged, okay_open, okay_first, takes_okay}
-use Rattle.adb_history.specs.Packets.{is_out_of_turn, accepted, accepts_none, accepts, takes_write, takes_close, treat_open, treat_any, treat_on, faulty_on}
+use Rattle.adb_history.specs.Packets.{at_stream, with_remote, hears_okay, opened, okay_open, okay_first, takes_okay}
+use Rattle.adb_history.specs.Packets.{accepts_none, accepts, takes_write, takes_close, treat_open, treat_any, treat_on, faulty_on}
 use Rattle.adb_history.specs.Moves.{After}
 use Rattle.adb_history.proofs.Following.{after_quietly, after_then, after_if}
 use Rattle.adb_laws_fifo_down.specs.Line.{Line, View, Shows}

@@ -11,6 +11,7 @@ use Rattle.adb_stream.specs.declared.flow.Flow.{Flow}
 use Rattle.adb_stream.specs.declared.flow.Flow.TheVariants.{One, Credit}
 use Rattle.adb_stream.specs.declared.row.Stream.{Stream}
 use Rattle.adb_stream.specs.declared.row.Part.{Part}
+use Rattle.adb_stream.specs.Flow.{handed_to, credit_back, to_hand}
 use Rattle.adb_client.specs.declared.phase.Phase.{Phase}
 use Rattle.adb_client.specs.declared.phase.Phase.TheVariants.{Asking, Opening, Streaming, Binding, Tracking, Closing, Gone}
 use Rattle.adb_reply.specs.declared.answer.Next.TheVariants as what
@@ -22,7 +23,7 @@ use Rattle.adb_history.specs.Flow.{with_flow}
 use Rattle.adb_history.specs.Tracking.{offered, mark_all}
 use Rattle.adb_history.specs.Asking.{asks_with}
 use Rattle.adb_history.specs.Reading.{comes, comes_in_vain, enters_by, plugs_in, asked_before, reads_in}
-use Rattle.adb_history.specs.Handing.{unmarked, lists_first, hands, handed_to, credit_back, to_hand, tells_credit, tells_handed, stream_hands, stream_left}
+use Rattle.adb_history.specs.Handing.{unmarked, lists_first, hands, tells_credit, tells_handed, stream_hands, stream_left}
 use Rattle.adb_history.specs.Handing.{client_left}
 use Rattle.adb_history.specs.Handing.{takes_of, puts_to}
 use Rattle.adb_history.specs.Owned.{HoldsIn, IsOwned}

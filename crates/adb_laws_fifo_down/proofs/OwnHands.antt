@@ -7,13 +7,14 @@ use Rattle.adb_stream.specs.declared.flow.Flow.{Flow}
 use Rattle.adb_stream.specs.declared.flow.Flow.TheVariants.{One, Credit}
 use Rattle.adb_stream.specs.declared.row.Stream.{Stream}
 use Rattle.adb_stream.specs.declared.row.Part.{Part}
+use Rattle.adb_stream.specs.Flow.{to_hand, credit_back, handed_to}
 use Rattle.adb_client.specs.declared.phase.Phase.{Phase}
 use Rattle.adb_client.specs.declared.phase.Phase.TheVariants.{Asking, Opening, Streaming, Binding, Tracking, Closing, Gone}
 use Rattle.adb_history.specs.Rows.{Client, State, to_client, to_stream, with_stream_part}
 use Rattle.adb_history.specs.Events.{Event, quietly, then_also}
 use Rattle.adb_history.specs.Links.{okay_packet, credit_packet}
 use Rattle.adb_history.specs.Flow.{with_flow}
-use Rattle.adb_history.specs.Handing.{lists_first, left_in, hands, to_hand, credit_back, handed_to, tells_credit, tells_handed, stream_hands, stream_left}
+use Rattle.adb_history.specs.Handing.{lists_first, left_in, hands, tells_credit, tells_handed, stream_hands, stream_left}
 use Rattle.adb_history.specs.Handing.{client_left}
 use Rattle.adb_history.specs.Handing.{takes_of, puts_to}
 use Rattle.adb_history.specs.Moves.{After}

@@ -14,6 +14,7 @@ use Rattle.adb_stream.specs.declared.flow.Flow.{Flow}
 use Rattle.adb_stream.specs.declared.flow.Flow.TheVariants.{One, Credit}
 use Rattle.adb_stream.specs.declared.row.Stream.{Stream}
 use Rattle.adb_stream.specs.declared.row.Part.{Part}
+use Rattle.adb_stream.specs.Flow.{first_credit, acknowledged, is_out_of_turn, accepted}
 use Rattle.adb_client.specs.declared.phase.Phase.TheVariants.{Streaming}
 use Rattle.adb_history.specs.Rows.{Client, Link, State, to_client, to_stream, none_kept, in_phase, with_due, with_stream_part}
 use Rattle.adb_history.specs.Events.{Made, Event, Ending, quietly, then_also, due_to_link, peer_closed, out_of_turn, lost, broken}
@@ -23,8 +24,8 @@ use Rattle.adb_history.specs.Streams.{ends_row, ends_telling, ends_if_of, ends_o
 use Rattle.adb_history.specs.Flow.{with_flow}
 use Rattle.adb_history.specs.Tracking.{mark_all}
 use Rattle.adb_history.specs.Losing.{forgets, link_ends}
-use Rattle.adb_history.specs.Packets.{least_version, least_maxdata, streams_end_first, goes_online, connects, cnxn, at_stream, with_remote, first_credit}
-use Rattle.adb_history.specs.Packets.{hears_okay, acknowledged, okay_open, okay_first, takes_okay, is_out_of_turn, accepted}
+use Rattle.adb_history.specs.Packets.{least_version, least_maxdata, streams_end_first, goes_online, connects, cnxn, at_stream, with_remote}
+use Rattle.adb_history.specs.Packets.{hears_okay, okay_open, okay_first, takes_okay}
 use Rattle.adb_history.specs.Packets.{accepts_none, accepts, takes_write, takes_close, treat_open, treat_any, treat_on, treat}
 use Rattle.adb_history.specs.Births.{is_okay}
 use Rattle.adb_history.specs.Fifo.{okays_of}

@@ -6,12 +6,13 @@ use Rattle.adb_stream.specs.declared.flow.Flow.{Flow}
 use Rattle.adb_stream.specs.declared.flow.Flow.TheVariants.{One, Credit}
 use Rattle.adb_stream.specs.declared.row.Stream.{Stream}
 use Rattle.adb_stream.specs.declared.row.Part.{Part}
+use Rattle.adb_stream.specs.Flow.{wrote}
 use Rattle.adb_client.specs.declared.phase.Phase.{Phase}
 use Rattle.adb_client.specs.declared.phase.Phase.TheVariants.{Asking, Opening, Streaming, Binding, Tracking, Closing, Gone}
 use Rattle.adb_history.specs.Rows.{Client, State, to_stream, with_stream_part}
 use Rattle.adb_history.specs.Events.{Made, Event, Ending, quietly, client_closed}
 use Rattle.adb_history.specs.Links.{write_packet, maxdata_of}
-use Rattle.adb_history.specs.Flow.{payloads, total, wrote, with_flow, goes_up, all_go_up, flow_after, noted, is_over, closes_if, sends_up, is_streaming}
+use Rattle.adb_history.specs.Flow.{payloads, total, with_flow, goes_up, all_go_up, flow_after, noted, is_over, closes_if, sends_up, is_streaming}
 use Rattle.adb_history.specs.Flow.{up_client, up_stream}
 use Rattle.adb_history.specs.Flow.{up, up_all}
 use Rattle.adb_history.specs.Moves.{After}

@@ -4,14 +4,14 @@ use Rattle.adb_wire.specs.declared.packets.Packet.{Packet}
 use Rattle.adb_stream.specs.declared.flow.Flow.{Flow}
 use Rattle.adb_stream.specs.declared.flow.Flow.TheVariants.{One, Credit}
 use Rattle.adb_stream.specs.declared.row.Stream.{Stream}
+use Rattle.adb_stream.specs.Flow.{to_hand, has_credit}
 use Rattle.adb_client.specs.declared.phase.Phase.{Phase}
 use Rattle.adb_client.specs.declared.phase.Phase.TheVariants.{Opening, Streaming, Closing}
 use Rattle.adb_reply.specs.Strings.{failed}
 use Rattle.adb_outside.specs.Tables.{Rows}
 use Rattle.adb_history.specs.Rows.{Client, State}
 use Rattle.adb_history.specs.Events.{Event, Ending, bytes_for, owed_to, packets_to, ending_in}
-use Rattle.adb_history.specs.Handing.{to_hand}
-use Rattle.adb_history.specs.Fifo.{okays_of, has_credit}
+use Rattle.adb_history.specs.Fifo.{okays_of}
 
 -- The stream that is spoken of: its id, its client and its link; and how many streams are drawn by then, at least.
 pub record Line : Type 0 where

@@ -10,15 +10,15 @@ use Rattle.adb_stream.specs.declared.flow.Flow.{Flow}
 use Rattle.adb_stream.specs.declared.flow.Flow.TheVariants.{One, Credit}
 use Rattle.adb_stream.specs.declared.row.Part.{Part}
 use Rattle.adb_stream.specs.declared.row.Stream.{Stream}
+use Rattle.adb_stream.specs.Flow.{is_idle, has_credit}
 use Rattle.adb_client.specs.declared.phase.Phase.{Phase}
 use Rattle.adb_client.specs.declared.phase.Phase.TheVariants.{Opening, Streaming}
 use Rattle.adb_history.specs.Rows.{State, to_stream, with_stream_part}
 use Rattle.adb_history.specs.Events.{Made, Event, client_closed, ending_in, packets_to}
 use Rattle.adb_history.specs.Links.{maxdata_of}
-use Rattle.adb_history.specs.Flow.{is_idle, write_len, write_before, writes, payloads, total, flow_after, sends_up}
+use Rattle.adb_history.specs.Flow.{write_len, write_before, writes, payloads, total, flow_after, sends_up}
 use Rattle.adb_history.specs.Losing.{stops}
 use Rattle.adb_history.specs.Births.{Opening as DeviceOpening, opening_in, joined, count_from, is_wrte}
-use Rattle.adb_history.specs.Fifo.{has_credit}
 use Rattle.adb_history.specs.Moves.{After, draws_now}
 use Rattle.adb_history.proofs.Following.{changed_here, changed_other}
 use Rattle.adb_history.proofs.StreamMoves.{like_after}

@@ -14,16 +14,16 @@ use Rattle.adb_stream.specs.declared.flow.Flow.{Flow}
 use Rattle.adb_stream.specs.declared.flow.Flow.TheVariants.{One, Credit}
 use Rattle.adb_stream.specs.declared.row.Part.{Part}
 use Rattle.adb_stream.specs.declared.row.Stream.{Stream}
+use Rattle.adb_stream.specs.Flow.{first_credit, acknowledged, has_credit}
 use Rattle.adb_history.specs.Rows.{State, to_link, to_stream, none_kept, with_stream_part}
 use Rattle.adb_history.specs.Events.{Made, Event, client_closed, ending_in, quietly, peer_closed}
 use Rattle.adb_history.specs.Links.{credit_word, is_connected}
 use Rattle.adb_history.specs.Streams.{ends_row}
 use Rattle.adb_history.specs.Flow.{with_flow}
-use Rattle.adb_history.specs.Packets.{cnxn, at_stream, first_credit, opened, orphan_opened}
-use Rattle.adb_history.specs.Packets.{acknowledged, okay_open, okay_first, takes_okay, takes_close, treat_open, treat_any, treat, treat_all}
+use Rattle.adb_history.specs.Packets.{cnxn, at_stream, opened, orphan_opened}
+use Rattle.adb_history.specs.Packets.{okay_open, okay_first, takes_okay, takes_close, treat_open, treat_any, treat, treat_all}
 use Rattle.adb_history.specs.Packets.{faulty, with_rest, receives_cut}
 use Rattle.adb_history.specs.Births.{opening_by, opening_in}
-use Rattle.adb_history.specs.Fifo.{has_credit}
 use Rattle.adb_history.specs.Linked.{IsLinked}
 use Rattle.adb_history.specs.Moves.{After}
 use Rattle.adb_history.proofs.Following.{after_quietly, after_then, after_if, changed_here}

@@ -10,13 +10,14 @@ use Rattle.adb_stream.specs.declared.flow.Flow.{Flow}
 use Rattle.adb_stream.specs.declared.flow.Flow.TheVariants.{One, Credit}
 use Rattle.adb_stream.specs.declared.row.Part.{Part}
 use Rattle.adb_stream.specs.declared.row.Stream.{Stream}
+use Rattle.adb_stream.specs.Flow.{is_idle}
 use Rattle.adb_client.specs.declared.phase.Phase.{Phase}
 use Rattle.adb_client.specs.declared.phase.Phase.TheVariants.{Asking, Opening, Streaming, Binding, Tracking, Closing, Gone}
 use Rattle.adb_history.specs.Rows.{Client, Link, State, to_client, to_stream, none_kept, with_held, with_stream_part}
 use Rattle.adb_history.specs.Events.{ending_in}
 use Rattle.adb_history.specs.Links.{maxdata_of}
 use Rattle.adb_history.specs.Clients.{closing, closes}
-use Rattle.adb_history.specs.Flow.{write_len, write_before, writes, payloads, total, flow_after, with_flow, is_idle, is_over, is_streaming, up, up_all}
+use Rattle.adb_history.specs.Flow.{write_len, write_before, writes, payloads, total, flow_after, with_flow, is_over, is_streaming, up, up_all}
 use Rattle.adb_history.specs.Machine.{History, state, IsLegal}
 use Rattle.adb_history.specs.Orderly.{IsResting, IsQuiet}
 use Rattle.adb_history.specs.Owned.{StreamOf, HoldsIn, IsOwned}

@@ -5,13 +5,14 @@ use Rattle.std.proofs.lemmas.Bool.{eq-eqb, ne_eqb, cases_eq}
 use Rattle.adb_outside.specs.Tables.{Rows, change_row}
 use Rattle.adb_stream.specs.declared.row.Part.{Part}
 use Rattle.adb_stream.specs.declared.row.Stream.{Stream}
+use Rattle.adb_stream.specs.Flow.{first_credit}
 use Rattle.adb_client.specs.declared.phase.Phase.{Phase}
 use Rattle.adb_client.specs.declared.phase.Phase.TheVariants.{Streaming}
 use Rattle.adb_history.specs.Rows.{Client, State, with_due, in_phase, to_stream, with_stream_part}
 use Rattle.adb_history.specs.Events.{Made, quietly}
 use Rattle.adb_history.specs.Clients.{owe_client}
 use Rattle.adb_history.specs.Flow.{with_flow}
-use Rattle.adb_history.specs.Packets.{with_remote, first_credit, hears_okay, opened}
+use Rattle.adb_history.specs.Packets.{with_remote, hears_okay, opened}
 use Rattle.adb_history.specs.Moves.{draws_now}
 use Rattle.adb_history.proofs.Following.{changed_here, changed_other}
 use Rattle.adb_laws_fifo_up.specs.Seen.{Seen, Sees}

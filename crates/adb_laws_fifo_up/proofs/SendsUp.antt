@@ -8,11 +8,12 @@ use Rattle.adb_stream.specs.declared.flow.Flow.{Flow}
 use Rattle.adb_stream.specs.declared.flow.Flow.TheVariants.{One, Credit}
 use Rattle.adb_stream.specs.declared.row.Part.{Part}
 use Rattle.adb_stream.specs.declared.row.Stream.{Stream}
+use Rattle.adb_stream.specs.Flow.{is_idle}
 use Rattle.adb_client.specs.declared.phase.Phase.{Phase}
 use Rattle.adb_client.specs.declared.phase.Phase.TheVariants.{Asking, Opening, Streaming, Binding, Tracking, Closing, Gone}
 use Rattle.adb_history.specs.Rows.{Client, Link, State, with_held, with_stream_part}
 use Rattle.adb_history.specs.Events.{Made, Event, Ending, due_to_client, due_to_link, ended, packets_to, ending_in, client_closed}
-use Rattle.adb_history.specs.Flow.{is_idle, write_len, write_before, writes, payloads, total, with_flow, goes_up, all_go_up, flow_after, is_over}
+use Rattle.adb_history.specs.Flow.{write_len, write_before, writes, payloads, total, with_flow, goes_up, all_go_up, flow_after, is_over}
 use Rattle.adb_history.specs.Flow.{closes_if, sends_up}
 use Rattle.adb_history.specs.Flow.{is_streaming}
 use Rattle.adb_history.specs.Links.{close_packet, write_packet, owe_link}

@@ -18,6 +18,7 @@ use Rattle.adb_stream.specs.declared.flow.Flow.{Flow}
 use Rattle.adb_stream.specs.declared.flow.Flow.TheVariants.{One, Credit}
 use Rattle.adb_stream.specs.declared.row.Part.{Part}
 use Rattle.adb_stream.specs.declared.row.Stream.{Stream}
+use Rattle.adb_stream.specs.Flow.{is_out_of_turn, accepted, has_credit}
 use Rattle.adb_client.specs.declared.phase.Phase.TheVariants.{Asking}
 use Rattle.adb_history.specs.Rows.{Client, Link, State, to_stream, with_stream_part}
 use Rattle.adb_history.specs.Events.{Made, Event, Ending, quietly, peer_closed, out_of_turn, lost, broken, client_closed}
@@ -29,9 +30,8 @@ use Rattle.adb_history.specs.Tracking.{mark_all}
 use Rattle.adb_history.specs.Losing.{forgets, link_ends}
 use Rattle.adb_history.specs.Packets.{least_version, least_maxdata, streams_end_first, goes_online, connects, cnxn, unauthorized_from}
 use Rattle.adb_history.specs.Packets.{unauthorized, refuses_open}
-use Rattle.adb_history.specs.Packets.{at_stream, orphan_opened, okay_open, okay_first, takes_okay, is_out_of_turn, accepted}
+use Rattle.adb_history.specs.Packets.{at_stream, orphan_opened, okay_open, okay_first, takes_okay}
 use Rattle.adb_history.specs.Packets.{accepts_none, accepts, takes_write, takes_close, treat_open, treat_any, treat_on, treat, faulty_on}
-use Rattle.adb_history.specs.Fifo.{has_credit}
 use Rattle.adb_history.specs.Moves.{After, IsClientIn, draws_now}
 use Rattle.adb_history.proofs.Following.{after_quietly, after_then, after_if}
 use Rattle.adb_history.proofs.Sweep.{Sending, sent}

@@ -4,14 +4,14 @@ use Rattle.adb_stream.specs.declared.flow.Flow.{Flow}
 use Rattle.adb_stream.specs.declared.flow.Flow.TheVariants.{One, Credit}
 use Rattle.adb_stream.specs.declared.row.Part.{Part}
 use Rattle.adb_stream.specs.declared.row.Stream.{Stream}
+use Rattle.adb_stream.specs.Flow.{acknowledged, has_credit}
 use Rattle.adb_client.specs.declared.phase.Phase.TheVariants.{Asking}
 use Rattle.adb_history.specs.Rows.{Client, State, to_stream, with_stream_part}
 use Rattle.adb_history.specs.Events.{Made, Event, Ending, due_to_client, due_to_link, ended, client_closed, packets_to, ending_in}
 use Rattle.adb_history.specs.Flow.{with_flow, sends_up}
 use Rattle.adb_history.specs.Losing.{stops}
-use Rattle.adb_history.specs.Packets.{acknowledged, opened}
+use Rattle.adb_history.specs.Packets.{opened}
 use Rattle.adb_history.specs.Births.{carried_in, is_wrte, is_clse}
-use Rattle.adb_history.specs.Fifo.{has_credit}
 use Rattle.adb_history.specs.Moves.{After, draws_now}
 use Rattle.adb_history.proofs.Sweep.{Sending, sent}
 use Rattle.adb_laws_fifo_up.specs.Seen.{Seen, Sees, IsOf}

@@ -24,6 +24,7 @@ use Rattle.adb_wire.specs.Format.{front_of, packet_of, packet_with, format_after
 use Rattle.adb_wire.specs.Header.{head_at}
 use Rattle.adb_wire.specs.Cutting.{cut_packets}
 use Rattle.adb_client.specs.declared.phase.Phase.TheVariants.{Streaming}
+use Rattle.adb_stream.specs.Flow.{is_out_of_turn}
 use Rattle.adb_stream.specs.declared.flow.Flow.{Flow}
 use Rattle.adb_stream.specs.declared.flow.Flow.TheVariants.{One, Credit}
 use Rattle.adb_stream.specs.declared.row.Stream.{Stream}
@@ -191,7 +192,7 @@ accepts_texts l (b ∷ payload) stream s are h = due_texts stream.client (b ∷ 
 write_texts : (l remote : ℕ) (payload : List ℕ) (stream : Stream) (s : State) → AreBytes payload → Texts s
     → Texts (packets.takes_write l remote payload stream s).state
 write_texts l remote payload stream s are h =
-    go (remote == 0 || not (remote == stream.part.remote)) (packets.is_out_of_turn stream.part.flow (length payload))
+    go (remote == 0 || not (remote == stream.part.remote)) (is_out_of_turn stream.part.flow (length payload))
   where
     go : (strange early : Bool) → Texts (cond strange (quietly s) (cond early (ends_telling l out_of_turn stream s)
         (packets.accepts l payload stream s))).state

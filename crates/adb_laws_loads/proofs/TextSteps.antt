@@ -6,6 +6,7 @@ use Rattle.adb_outside.specs.Tables.{put_row}
 use Rattle.adb_outside.specs.declared.kinds.Kind.{Kind}
 use Rattle.adb_outside.specs.declared.kinds.Cause.TheVariants.{Eof}
 use Rattle.adb_registry.specs.Registry.{DeviceTable, attached}
+use Rattle.adb_stream.specs.Flow.{to_hand, handed_to, credit_back}
 use Rattle.adb_client.specs.declared.phase.Phase.{Phase}
 use Rattle.adb_client.specs.declared.phase.Phase.TheVariants.{Asking, Opening, Streaming, Binding, Tracking, Closing, Gone}
 use Rattle.adb_stream.specs.declared.flow.Flow.{Flow}
@@ -22,7 +23,7 @@ use Rattle.adb_history.specs.Clients.{owe_client}
 use Rattle.adb_history.specs.Flow.{with_flow}
 use Rattle.adb_history.specs.Losing.{input_ended, input_ends, client_ends}
 use Rattle.adb_history.specs.Tracking.{offered, list_if_stale, due_or, mark_all}
-use Rattle.adb_history.specs.Handing.{unmarked, lists_first, left_in, hands, to_hand, handed_to, credit_back, tells_credit, tells_handed}
+use Rattle.adb_history.specs.Handing.{unmarked, lists_first, left_in, hands, tells_credit, tells_handed}
 use Rattle.adb_history.specs.Handing.{stream_hands, stream_left, client_left, takes_of, puts_to, sends, link_hands}
 use Rattle.adb_history.specs.Asking.{Asked, asks_with}
 use Rattle.adb_history.specs.Reading.{comes, plugs_in, goes_on, asked_before, has_asked, asks, reads_in, reads_from, reads}

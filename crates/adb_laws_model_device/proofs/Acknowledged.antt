@@ -10,13 +10,14 @@ use Rattle.adb_wire.specs.Format.{is_cnxn}
 use Rattle.adb_wire.specs.declared.command.Command.{Command}
 use Rattle.adb_wire.specs.declared.command.Command.TheVariants as commands
 use Rattle.adb_wire.specs.declared.packets.Packet.{Packet}
+use Rattle.adb_stream.specs.Flow.{wrote, acknowledged}
 use Rattle.adb_stream.specs.declared.flow.Flow.{Flow}
 use Rattle.adb_stream.specs.declared.flow.Flow.TheVariants as flows
 use Rattle.adb_history.specs.Births.{count_from, is_wrte, is_open}
 use Rattle.adb_device_streams.specs.Asked.{Kind}
 use Rattle.adb_device_streams.specs.Service.{came_over, files_fed, files_opened}
 use Rattle.adb_device_streams.specs.Stream.{Row, opened, row_took, row_acked, first_flow, row_past_all, row_written}
-use Rattle.adb_device_streams.specs.Stream.{writes, is_done, okay, opening_word, row_past, flow_past, flow_acked}
+use Rattle.adb_device_streams.specs.Stream.{writes, is_done, okay, opening_word, row_past}
 use Rattle.adb_device_streams.specs.Link.{credit_word_in, link_of}
 use Rattle.adb_device_streams.specs.declared.link.Link.{Link}
 use Rattle.adb_daemon.specs.Serving.{Serving, Sent, with_sum, owing, granted, gone, sent_ack, sent_writes, settled_as, settled, named, closable, is_taken}
@@ -38,11 +39,11 @@ abbrev IsOne : Flow → Type 0
 IsOne (flows.One window) = Unit {0}
 IsOne (flows.Credit credit) = ⊥
 
-one_past : (flow : Flow) (n : ℕ) → IsOne flow → IsOne (flow_past flow n)
+one_past : (flow : Flow) (n : ℕ) → IsOne flow → IsOne (wrote n flow)
 one_past (flows.One window) n one = tt
 one_past (flows.Credit credit) n one = one
 
-one_acked : (flow : Flow) (word : Option ℕ) → IsOne flow → IsOne (flow_acked flow word)
+one_acked : (flow : Flow) (word : Option ℕ) → IsOne flow → IsOne (acknowledged word flow)
 one_acked (flows.One window) word one = tt
 one_acked (flows.Credit credit) word one = absurd one
 

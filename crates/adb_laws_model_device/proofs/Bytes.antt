@@ -72,12 +72,7 @@ module _ (sums : Bool) (own host : ℕ) (small : own < 2 ^ 32) (word : host < 2 
 -- ---- what is written is short
 -- a window lets go no more than a packet may have
 room_short : (flow : Flow) (most : ℕ) → room_of flow most ≤ most
-room_short (flows.One window) most = go window.outstanding
-  where
-    go : (b : Bool) → (if b then 0 else most) ≤ most
-    go true = omega arith
-    go false = omega arith
-room_short (flows.Credit credit) most = omega arith
+room_short flow most = omega arith
 
 -- so the writes of a stream fit
 written_fit : (k most : ℕ) (row : Row) (sums : Bool) (own : ℕ) → most ≤ MAX_PAYLOAD → own < 2 ^ 32 → (host : ℕ) → host < 2 ^ 32
@@ -339,3 +334,12 @@ framed_owed setting word packets words =
     let fine = fine_all setting packets words (first_device setting) (fine_first setting word) in
     ap (λ bytes. (framed bytes).given) (sym (spelled_made made))
     ∙ (ap (λ c. c.given) (spelled_cut 1 (events_of made) (all_events made fine.serving.all)) ∙ packets_made made)
+
+-- and have no fault
+pub sound_owed : (setting : Setting) → setting.most < 2 ^ 32 → (packets : List Packet) → All HasWords packets
+    → (framed (sent_bytes (device_behind setting packets).serving.made)).fault ≡ None
+sound_owed setting word packets words =
+    let made : List Sent = (device_behind setting packets).serving.made in
+    let fine = fine_all setting packets words (first_device setting) (fine_first setting word) in
+    ap (λ bytes. (framed bytes).fault) (sym (spelled_made made))
+    ∙ ap (λ c. c.fault) (spelled_cut 1 (events_of made) (all_events made fine.serving.all))

@@ -53,7 +53,7 @@ module _ (h : History) (legal : IsLegal h) (p : Packet) where
   own_words Stls x = absurd x
 
 -- and so of all that it sent
-sent_words : (h : History) → IsLegal h → All HasWords (sent 1 h)
+pub sent_words : (h : History) → IsLegal h → All HasWords (sent 1 h)
 sent_words h legal =
     All-weaker (λ p. IsOwn h 1 p.command p) HasWords (λ p own. own_words h legal p p.command own) (sent 1 h) ((no_crossing h legal).own 1)
 

@@ -1,13 +1,13 @@
-mod Links
-mod Tables
-mod Owing
-mod Hosts
-mod Plain
-mod Bytes
-mod Joined
-mod Sound
-mod Acknowledged
-mod Lives
-mod Came
-mod Opened
-mod Waits
+pub mod Links
+pub mod Tables
+pub mod Owing
+pub mod Hosts
+pub mod Plain
+pub mod Bytes
+pub mod Joined
+pub mod Sound
+pub mod Acknowledged
+pub mod Lives
+pub mod Came
+pub mod Opened
+pub mod Waits

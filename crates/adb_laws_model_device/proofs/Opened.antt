@@ -30,7 +30,7 @@ use Rattle.adb_daemon.specs.Serving.{all_gone}
 use Rattle.adb_daemon.specs.Device.{Device, Setting, step, treated, linked_to, served_on, first_device, device_behind}
 use Rattle.adb_daemon.specs.Streams.{over_at, writes_of, okays_of, is_closed, is_write, is_close, Writes, IsAcked}
 use Rattle.adb_daemon.specs.Streams.{is_okay as is_okay_of}
-use Rattle.adb_daemon.proofs.Acks.{acknowledged}
+use Rattle.adb_daemon.proofs.Acks.{all_acknowledged}
 use Rattle.adb_daemon.proofs.Machines.{step_more, step_open}
 use Rattle.adb_daemon.proofs.Rules.{named_is, closable_is, or_over, all_over, step_orderly}
 use Rattle.adb_daemon.proofs.Standing.{IsOrderly, other_over}
@@ -390,7 +390,7 @@ module _ (setting : Setting) (front : List Packet) (p : Packet) (link : Link) (k
       (subst (λ (e : Option Ended). Writes own s.made s.acks (at own s.rows) e) fresh.1 orderly.writes) in
       let okays : IsAcked own s.made None None =
       subst (λ (r : Option Row). IsAcked own s.made r None) fresh.0
-      (subst (λ (e : Option Ended). IsAcked own s.made (at own s.rows) e) fresh.1 (acknowledged setting front own)) in
+      (subst (λ (e : Option Ended). IsAcked own s.made (at own s.rows) e) fresh.1 (all_acknowledged setting front own)) in
       none_goes own p.arg0 s.made okays writes.2 writes.1
 
   -- what the OPEN makes due, what is served then, and the row

@@ -34,7 +34,7 @@ own_servers h t p commands.Auth c own = absurd own
 own_servers h t p commands.Stls c own = absurd own
 
 -- the server's CNXN makes a link with any device
-makes_link : (most : ℕ) (credit : Bool) → is_some (link_of most credit server_cnxn) ≡ true
+pub makes_link : (most : ℕ) (credit : Bool) → is_some (link_of most credit server_cnxn) ≡ true
 unfolding identity_of last_value
 makes_link most credit = refl
 

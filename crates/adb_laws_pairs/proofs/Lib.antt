@@ -1,6 +1,6 @@
 pub mod Counts
-mod Timely
-mod Heard
-mod Told
+pub mod Timely
+pub mod Heard
+pub mod Told
 pub mod Turns
 pub mod Waits

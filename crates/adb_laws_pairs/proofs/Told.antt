@@ -40,7 +40,7 @@ counts_listed l (p ∷ ps) = go (is_okay p.command && nat_eq p.arg0 l) (counts_l
     go false e = e
 
 -- no more payloads lie within some bytes than there are
-within_all : (n : ℕ) (payloads : List (List ℕ)) → whole_within n payloads ≤ length payloads
+pub within_all : (n : ℕ) (payloads : List (List ℕ)) → whole_within n payloads ≤ length payloads
 within_all n [] = omega arith
 within_all n (payload ∷ payloads) = go (nat_le (length payload) n) (within_all (n - length payload) payloads)
   where
@@ -96,7 +96,7 @@ opened_told l (p ∷ ps) o is = by p.command is (opened_told l ps o)
     by Stls e later = other e later
 
 -- and so all that was told of a stream
-told_within : (l : ℕ) (b : Birth) (h : History) → length (told_to l b h) ≤ writes_to l (brought b.link h)
+pub told_within : (l : ℕ) (b : Birth) (h : History) → length (told_to l b h) ≤ writes_to l (brought b.link h)
 told_within l b h = go (opening_of l b h) refl
   where
     go : (o : Option Opening) → opening_of l b h ≡ o → length (told_after l o) ≤ writes_to l (brought b.link h)

@@ -6,13 +6,13 @@ use Rattle.adb_outside.specs.Tables.{Rows, change_row}
 use Rattle.adb_stream.specs.declared.flow.Flow.{Flow}
 use Rattle.adb_stream.specs.declared.row.Part.{Part}
 use Rattle.adb_stream.specs.declared.row.Stream.{Stream}
+use Rattle.adb_stream.specs.Flow.{has_credit}
 use Rattle.adb_client.specs.declared.phase.Phase.{Phase}
 use Rattle.adb_client.specs.declared.phase.Phase.TheVariants.{Asking, Opening, Streaming, Binding, Tracking, Closing, Gone}
 use Rattle.adb_history.specs.Rows.{Client, State, none_kept, with_due, in_phase, with_stream_part}
 use Rattle.adb_history.specs.Clients.{closing_with, closing}
 use Rattle.adb_history.specs.Tracking.{marked_in, marked}
 use Rattle.adb_history.specs.Flow.{payloads, is_over, is_streaming}
-use Rattle.adb_history.specs.Fifo.{has_credit}
 use Rattle.adb_hub_tables.specs.Tracked.{IsAmong}
 use Rattle.adb_hub_rules.specs.Up.{is_for}
 use Rattle.adb_laws_resting.specs.Named.{credit_to_send, no_credit}

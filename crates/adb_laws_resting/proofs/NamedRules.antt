@@ -18,6 +18,7 @@ use Rattle.adb_stream.specs.declared.flow.Flow.{Flow}
 use Rattle.adb_stream.specs.declared.flow.Flow.TheVariants.{One, Credit}
 use Rattle.adb_stream.specs.declared.row.Part.{Part}
 use Rattle.adb_stream.specs.declared.row.Stream.{Stream}
+use Rattle.adb_stream.specs.Flow.{is_idle, first_credit, acknowledged, is_out_of_turn, accepted, has_credit}
 use Rattle.adb_client.specs.declared.phase.Phase.{Phase}
 use Rattle.adb_client.specs.declared.phase.Phase.TheVariants.{Asking, Opening, Streaming, Binding, Tracking, Closing, Gone}
 use Rattle.adb_reply.specs.Strings.{failed}
@@ -26,12 +27,11 @@ use Rattle.adb_history.specs.Events.{Made, Ending, quietly, lost, broken, out_of
 use Rattle.adb_history.specs.Links.{close_packet, owe_link, is_connected, is_connected_row, is_connected_state}
 use Rattle.adb_history.specs.Clients.{owe_client, closes}
 use Rattle.adb_history.specs.Streams.{loses, client_loses, ends_row, ends_telling, ends_if_of, ends_of, all_end}
-use Rattle.adb_history.specs.Flow.{is_over, is_idle, with_flow}
+use Rattle.adb_history.specs.Flow.{is_over, with_flow}
 use Rattle.adb_history.specs.Losing.{forgets, link_ends}
 use Rattle.adb_history.specs.Packets.{least_version, least_maxdata, streams_end_first, goes_online, connects, cnxn, unauthorized_from, unauthorized}
-use Rattle.adb_history.specs.Packets.{refuses_open, at_stream, with_remote, first_credit, hears_okay, opened, orphan_opened, acknowledged, okay_open}
-use Rattle.adb_history.specs.Packets.{okay_first, takes_okay, is_out_of_turn, accepted, accepts_none, accepts, takes_write, takes_close}
-use Rattle.adb_history.specs.Fifo.{has_credit}
+use Rattle.adb_history.specs.Packets.{refuses_open, at_stream, with_remote, hears_okay, opened, orphan_opened, okay_open}
+use Rattle.adb_history.specs.Packets.{okay_first, takes_okay, accepts_none, accepts, takes_write, takes_close}
 use Rattle.adb_history.specs.Orderly.{phase_for}
 use Rattle.adb_history.specs.Owned.{OwnerIn}
 use Rattle.adb_history.specs.Linked.{OnLink, IsLinked}

@@ -5,7 +5,7 @@ use Rattle.std.specs.Prelude.{option_and_then, option_map}
 use Rattle.std.proofs.lemmas.Bool.{ne_eqb, eq-eqb, cases_eq}
 use Rattle.adb_outside.specs.Tables.{Rows, change_row, put_row}
 use Rattle.adb_registry.specs.Registry.{DeviceTable}
-use Rattle.adb_stream.specs.Flow.{new_flow}
+use Rattle.adb_stream.specs.Flow.{new_flow, is_idle}
 use Rattle.adb_stream.specs.Stream.{new_stream}
 use Rattle.adb_stream.specs.declared.flow.Flow.{Flow}
 use Rattle.adb_stream.specs.declared.flow.Flow.TheVariants.{One, Credit}
@@ -16,7 +16,7 @@ use Rattle.adb_history.specs.Rows.{Client, State, new_client, to_client, to_stre
 use Rattle.adb_history.specs.Links.{maxdata_of}
 use Rattle.adb_history.specs.Clients.{closing, closing_with, closes}
 use Rattle.adb_history.specs.Streams.{draw}
-use Rattle.adb_history.specs.Flow.{payloads, writes, write_len, write_before, is_over, is_idle, is_streaming}
+use Rattle.adb_history.specs.Flow.{payloads, writes, write_len, write_before, is_over, is_streaming}
 use Rattle.adb_history.specs.Tracking.{mark_all, marked, marked_in}
 use Rattle.adb_history.specs.Reading.{comes}
 use Rattle.adb_history.specs.Machine.{History, state, IsLegal}

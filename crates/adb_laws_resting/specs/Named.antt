@@ -10,10 +10,10 @@ use Rattle.adb_wire.specs.declared.format.PacketFormat.{PacketFormat}
 use Rattle.adb_stream.specs.declared.flow.Flow.{Flow}
 use Rattle.adb_stream.specs.declared.flow.Flow.TheVariants.{One, Credit}
 use Rattle.adb_stream.specs.declared.row.Stream.{Stream}
+use Rattle.adb_stream.specs.Flow.{has_credit}
 use Rattle.adb_history.specs.Rows.{Client, Link, State}
 use Rattle.adb_history.specs.Links.{maxdata_of, credit_word}
 use Rattle.adb_history.specs.Packets.{receives}
-use Rattle.adb_history.specs.Fifo.{has_credit}
 use Rattle.adb_hub_tables.specs.Tracked.{IsAmong}
 use Rattle.adb_hub_rules.specs.Up.{is_for}
 use Rattle.adb_hub_rules.specs.Sweep.{IsStill, CoversUp}

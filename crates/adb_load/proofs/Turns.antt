@@ -8,7 +8,7 @@ use Rattle.std.proofs.lemmas.Option.{slice_get_cases, slice_get_within, get_or_f
 use Rattle.rand_pcg.specs.Lcg.{Lcg}
 use Rattle.rand_pcg.specs.Pcg.{pcg32}
 use Rattle.adb_load.specs.declared.live.Live.{Live}
-use Rattle.adb_load.specs.declared.numbers.TheConstants.{DEVICES, MOST_LIVE}
+use Rattle.adb_load.specs.declared.numbers.TheConstants.{DEVICES, MAX_LIVE}
 use Rattle.adb_load.specs.Streams.{live_at_first, portion, goes_up, moved_up, moved_down, ended, moved}
 use Rattle.adb_load.specs.Course.{Progress, Turn, turn, stopped, plug_in, begin, draw, move_at, streams_after, turns_of, turns_left}
 
@@ -99,7 +99,7 @@ draw_brings p some = move_brings (pcg32 p.words).0 ((pcg32 p.words).0 % length p
 
 pub turn_goes : (p : Progress) → Goes p (turn p)
 unfolding turn
-turn_goes p = go (nat_lt p.plugged DEVICES) (nat_lt (length p.live) MOST_LIVE && nat_lt p.begun p.streams) (nat_eq (length p.live) 0)
+turn_goes p = go (nat_lt p.plugged DEVICES) (nat_lt (length p.live) MAX_LIVE && nat_lt p.begun p.streams) (nat_eq (length p.live) 0)
     (λ h. below p.plugged DEVICES h) (λ h. below p.begun p.streams (last_holds _ _ h)) (λ h. not_none (length p.live) h)
   where
     go : (plugs begins over : Bool) → (plugs ≡ true → p.plugged < DEVICES) → (begins ≡ true → p.begun < p.streams) → (over ≡ false → 0 < length p.live)

@@ -8,7 +8,7 @@ use Rattle.adb_load.specs.declared.act.Act.{Act}
 use Rattle.adb_load.specs.declared.act.Act.TheVariants.{Plug, Come}
 use Rattle.adb_load.specs.declared.live.Live.{Live}
 use Rattle.adb_load.specs.declared.live.Moved.{Moved}
-use Rattle.adb_load.specs.declared.numbers.TheConstants.{DEVICES, MOST_LIVE}
+use Rattle.adb_load.specs.declared.numbers.TheConstants.{DEVICES, MAX_LIVE}
 use Rattle.adb_load.specs.Streams.{live_at_first, moved}
 
 -- how far a load is: how many devices are plugged in, of how many streams how many have begun, those that live, in the order in which
@@ -70,7 +70,7 @@ draw p = draw_with (pcg32 p.words).0 (record p { words = (pcg32 p.words).1 })
 unfoldable pub turn : Progress → Turn
 turn p =
     if nat_lt p.plugged DEVICES then plug_in p
-    else (if nat_lt (length p.live) MOST_LIVE && nat_lt p.begun p.streams then begin p
+    else (if nat_lt (length p.live) MAX_LIVE && nat_lt p.begun p.streams then begin p
     else (if nat_eq (length p.live) 0 then stopped p
     else draw p))
 

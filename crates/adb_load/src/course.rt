@@ -5,7 +5,7 @@ ghost use Rattle.adb_load.specs.Course.{begin, draw, plug_in, start, turn, strea
 
 use crate::act::Act;
 use crate::live::{Live, Moved};
-use crate::numbers::{DEVICES, MOST_LIVE};
+use crate::numbers::{DEVICES, MAX_LIVE};
 use rand_core::SeedableRng;
 use rand_core::utils::NextWord;
 use rand_pcg::Pcg32;
@@ -48,7 +48,7 @@ impl Course {
             plugged: 0,
             streams,
             begun: 0,
-            live: Vec::with_capacity(alloc, MOST_LIVE)?,
+            live: Vec::with_capacity(alloc, MAX_LIVE)?,
             words: Pcg32::seed_from_u64(seed),
         })
     }
@@ -63,7 +63,7 @@ impl Course {
         if self.plugged < DEVICES {
             return Ok(Some(self.plug_in()));
         }
-        if self.live.len() < MOST_LIVE && self.begun < self.streams {
+        if self.live.len() < MAX_LIVE && self.begun < self.streams {
             return Ok(Some(self.begin()?));
         }
         if self.live.is_empty() {

@@ -6,7 +6,7 @@ ghost use Rattle.std.specs.Prelude.{◌≡◌};
 pub(crate) const DEVICES: u16 = 8;
 
 /// How many streams live at once at most.
-pub(crate) const MOST_LIVE: usize = 16;
+pub(crate) const MAX_LIVE: usize = 16;
 
 /// The device's id of the first stream.
 pub(crate) const FIRST_REMOTE: u32 = 1000;
@@ -17,7 +17,7 @@ pub(crate) const HEAD_LEN: usize = 11;
 /// The numbers that definitions take from the code, written out.
 pub fn limits_are()
     ensures devices { DEVICES ≡ 8 }
-    ensures live { MOST_LIVE ≡ 16 }
+    ensures live { MAX_LIVE ≡ 16 }
     ensures remote { FIRST_REMOTE ≡ 1000 }
     ensures head { HEAD_LEN ≡ 11 }
 {}

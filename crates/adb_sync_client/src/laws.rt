@@ -3,8 +3,11 @@
 ghost use Rattle.std.specs.Prelude.{◌≡◌, ◌≢◌, ◌<◌, ◌+◌, ◌^◌, ◌++◌, List, ℕ, length, take};
 ghost use Rattle.adb_sync_client.specs.declared.kind.AnswerKind.{AnswerKind};
 ghost use Rattle.adb_sync_client.specs.declared.request.TheConstants.{MAX_ASKED_PATH};
-ghost use Rattle.adb_sync_client.specs.declared.step.Step.TheVariants.{BadAnswer, More};
-ghost use Rattle.adb_sync_client.specs.Values.{answer_value, CanEnd};
+ghost use Rattle.adb_sync_client.specs.declared.step.Step.TheVariants.{BadAnswer, Done, More};
+ghost use Rattle.adb_sync.specs.declared.answer.SyncAnswer.{SyncAnswer};
+ghost use Rattle.adb_sync.specs.Answers.{answer_bytes};
+ghost use Rattle.adb_sync.specs.Chunk.{chunk_bytes};
+ghost use Rattle.adb_sync_client.specs.Values.{answer_value, pull_value, CanEnd};
 
 /// Where answer bytes mean something other than that more of them are wanted, what follows them
 /// does not change it.
@@ -29,6 +32,13 @@ pub fn first_bad_byte_is_told()
 pub fn open_answers_can_end()
     ensures { (kind : AnswerKind) (bytes : List ℕ) → answer_value kind bytes ≡ More
         → CanEnd kind bytes }
+{}
+
+/// The bytes of a file that a service writes in chunks, with their end, are what a pull reads.
+#[tactic(auto, using(crate::proofs::Written::file_is_pulled))]
+pub fn written_files_are_pulled()
+    ensures { (bytes : List ℕ)
+        → pull_value (chunk_bytes bytes ++ answer_bytes SyncAnswer.ChunkEnd) ≡ Done bytes }
 {}
 
 /// How long a path is that may be asked.

@@ -22,7 +22,10 @@ mod told;
 pub use asking::{PathAsk, PathValue};
 pub use entries::Entries;
 pub use kind::AnswerKind;
-pub use laws::{ended_answers_stay, first_bad_byte_is_told, limits_are, open_answers_can_end};
+pub use laws::{
+    ended_answers_stay, first_bad_byte_is_told, limits_are, open_answers_can_end,
+    written_files_are_pulled,
+};
 pub use list::List;
 pub use pull::Pull;
 pub use push::Push;

@@ -1,5 +1,5 @@
-use Rattle.adb_daemon.proofs.Acks.{acknowledged}
+use Rattle.adb_daemon.proofs.Acks.{all_acknowledged}
 use Rattle.adb_daemon.proofs.laws.writes_are_acknowledged.Goals as goal
 
 pub returns : goal.returns
-returns c = acknowledged
+returns c = all_acknowledged

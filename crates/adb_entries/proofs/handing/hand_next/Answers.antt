@@ -3,7 +3,7 @@ use Rattle.adb_history.specs.Drained.{next_out}
 use Rattle.adb_history.specs.Kept.{Kept, IsLawful}
 use Rattle.adb_history.specs.Machine.{History, state}
 use Rattle.adb_hub_hand_outs.specs.NextDue.{entry_of}
-use Rattle.adb_hub_hand_outs.specs.declared.due.Owner.{Owner}
+use Rattle.adb_capture.specs.declared.entry.Owner.{Owner}
 use Rattle.adb_entries.specs.Machine.{Puts, Sends}
 use Rattle.adb_entries.proofs.Fewer.{fewer_sent, fewer_put}
 use Rattle.adb_entries.proofs.handing.hand_next.Goals as goal

@@ -1,7 +1,8 @@
 use Rattle.std.proofs.Common.{rules, ℕ, ◌≡◌, ◌<◌, ◌∙◌, ap, sym, subst, Option, Some, min}
 use Rattle.adb_outside.specs.Tables.{at}
 use Rattle.adb_stream.specs.declared.row.Stream.{Stream}
-use Rattle.adb_history.specs.Handing.{to_hand, stream_left}
+use Rattle.adb_stream.specs.Flow.{to_hand}
+use Rattle.adb_history.specs.Handing.{stream_left}
 use Rattle.adb_hub_tables.specs.Tables.{state_of}
 use Rattle.adb_hub_rules.specs.Handing.{UsesOf}
 use Rattle.adb_hub_rules.proofs.Handouts.{less_left}

@@ -1,7 +1,8 @@
 use Rattle.std.proofs.Common.{◌∙◌, ap}
+use Rattle.adb_stream.specs.Flow.{first_credit}
 use Rattle.adb_client.specs.declared.phase.Phase.TheVariants.{Streaming}
 use Rattle.adb_history.specs.Rows.{State, to_client, to_stream, in_phase, with_stream_part}
-use Rattle.adb_history.specs.Packets.{first_credit, with_remote}
+use Rattle.adb_history.specs.Packets.{with_remote}
 use Rattle.adb_history.specs.Flow.{with_flow}
 use Rattle.adb_stream.specs.declared.row.Part.{Part}
 use Rattle.adb_hub_tables.specs.Tables.{state_of}

@@ -4,6 +4,8 @@ use Rattle.adb_hub_tables.proofs.Marking.{alone}
 use Rattle.adb_hub_tables.proofs.marks.Marks.keep_only.Goals as goal
 
 pub invariant_of-self : goal.invariant_of-self
-invariant_of-self c =
-    alone (c.args.number / 64) (high_below c.args.number c.ranges.number.fits) c.self.invariant c.keep_only-2.ensures
-    c.keep_only.new.marks.entries c.keep_only.ensures
+invariant_of-self c = (
+  λ which. alone (c.args.number / 64) (high_below c.args.number c.ranges.number.fits) (c.self.invariant.0 which) c.keep_only-2.ensures
+      c.keep_only.new.marks.entries c.keep_only.ensures,
+  tt,
+)

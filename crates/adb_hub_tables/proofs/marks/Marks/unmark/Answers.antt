@@ -2,4 +2,4 @@ use Rattle.adb_hub_tables.proofs.Grouping.{unmark_grouped}
 use Rattle.adb_hub_tables.proofs.marks.Marks.unmark.Goals as goal
 
 pub invariant_of-self : goal.invariant_of-self
-invariant_of-self c = unmark_grouped c.args.number c.ranges.number.fits c.self.invariant c.unmark.ensures.block
+invariant_of-self c = (unmark_grouped c.args.number c.ranges.number.fits c.self.invariant.0 c.args.which c.unmark.ensures.block, tt)
