@@ -20,9 +20,9 @@ use Rattle.adb_hub.specs.declared.answers.Handed.TheVariants.{Bytes}
 use Rattle.adb_hub.specs.declared.hub.TheConstants.{MAX_HELD}
 use Rattle.adb_hub.specs.Refusal.{refusal}
 use Rattle.adb_hub.specs.Answers.{Answers, HandsOut}
-use Rattle.adb_desk.specs.declared.error.DeskError.{DeskError}
-use Rattle.adb_desk.specs.declared.error.DeskError.TheVariants.{Halted, RecordFault, Hub, Later}
-use Rattle.adb_desk.specs.Log.{IsFresh, first_log, LogView, with_entry, shut_by, shut_with, or_halted, is_full, grown, Keeps, KeepsHanded, Breaks}
+use Rattle.adb_desk_log.specs.declared.error.DeskError.{DeskError}
+use Rattle.adb_desk_log.specs.declared.error.DeskError.TheVariants.{Halted, RecordFault, Hub, Later}
+use Rattle.adb_desk_log.specs.Log.{IsFresh, first_log, LogView, with_entry, shut_by, shut_with, or_halted, is_full, grown, Keeps, KeepsHanded, Breaks}
 use Rattle.adb_desk.specs.Desk.{DeskView, Draws, is_late, desk_refusal, or_later}
 use Rattle.adb_desk.specs.Sound.{IsSound, Tells, is_broken, AreHeld, KeepsPromises, TellsPromises}
 use Rattle.adb_desk.proofs.Holding.{held_step, client_row, within_windows}

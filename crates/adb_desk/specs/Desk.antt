@@ -17,9 +17,9 @@ use Rattle.adb_hub.specs.declared.answers.Summary.{Summary}
 use Rattle.adb_hub.specs.declared.hub.TheConstants.{MAX_HELD}
 use Rattle.adb_hub.specs.Refusal.{refusal}
 use Rattle.adb_hub.specs.Answers.{life_of, HandsOut, IsWithin}
-use Rattle.adb_desk.specs.declared.error.DeskError.{DeskError}
-use Rattle.adb_desk.specs.declared.error.DeskError.TheVariants.{Hub, Later}
-use Rattle.adb_desk.specs.Log.{LogView, with_entry, shut_by, shut_with, Breaks}
+use Rattle.adb_desk_log.specs.declared.error.DeskError.{DeskError}
+use Rattle.adb_desk_log.specs.declared.error.DeskError.TheVariants.{Hub, Later}
+use Rattle.adb_desk_log.specs.Log.{LogView, with_entry, shut_by, shut_with, Breaks}
 
 -- a desk: what its hub holds, and its log
 pub record DeskView : Type 0 where

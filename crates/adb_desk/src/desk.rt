@@ -3,18 +3,15 @@
 ghost use Rattle.std.specs.Prelude.{◌≡◌, ◌≢◌, [], Some, Err, is_some, is_none};
 ghost use Rattle.adb_history.specs.Accepted.{is_drawn};
 ghost use Rattle.adb_history.specs.Kept.{IsLawful};
-ghost use Rattle.adb_desk.specs.declared.error.DeskError.{DeskError};
-ghost use Rattle.adb_desk.specs.declared.marks.TheConstants.{ALL_PARTS};
-ghost use Rattle.adb_desk.specs.Log.{IsFresh, first_log, or_given, shut_with};
-ghost use Rattle.adb_desk.specs.Marked.{marks_error};
+ghost use Rattle.adb_desk_log.specs.declared.error.DeskError.{DeskError};
+ghost use Rattle.adb_desk_log.specs.declared.marks.TheConstants.{ALL_PARTS};
+ghost use Rattle.adb_desk_log.specs.Log.{IsFresh, first_log, or_given, shut_with};
+ghost use Rattle.adb_desk_log.specs.Marked.{marks_error};
 ghost use Rattle.adb_desk.specs.Desk.{or_given_by, over_at, rung, summary_of};
 ghost use Rattle.adb_desk.specs.Sound.{IsSound, TellsPromises};
 
-use crate::error::DeskError;
-use crate::log::Log;
-use crate::marked::is_marked;
-use crate::marks::Marks;
 use adb_capture::Recorder;
+use adb_desk_log::{DeskError, Log, Marks, is_marked};
 use adb_headline::{
     every_legal_history_has_causes, every_legal_history_is_answered, every_legal_history_is_fifo,
 };

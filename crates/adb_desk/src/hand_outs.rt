@@ -8,16 +8,13 @@ ghost use Rattle.adb_history.specs.Machine.{state};
 ghost use Rattle.adb_history.specs.Rows.{State};
 ghost use Rattle.adb_hub_hand_outs.specs.NextDue.{is_owed};
 ghost use Rattle.adb_hub.specs.Answers.{offered_to, due_on};
-ghost use Rattle.adb_desk.specs.declared.error.DeskError.{DeskError};
-ghost use Rattle.adb_desk.specs.Marked.{marks_handed};
+ghost use Rattle.adb_desk_log.specs.declared.error.DeskError.{DeskError};
+ghost use Rattle.adb_desk_log.specs.Marked.{marks_handed};
 ghost use Rattle.adb_desk.specs.Desk.{Hands, Rung};
 
 use crate::desk::Desk;
-use crate::error::DeskError;
-use crate::keeping::{keep_put, keep_sent};
-use crate::marked::marks_handed;
-use crate::marks::Marks;
 use adb_capture::Recorder;
+use adb_desk_log::{DeskError, Marks, keep_put, keep_sent, marks_handed};
 use adb_hub::{Handed, Owner};
 use std::sync::ledger::Ledger;
 

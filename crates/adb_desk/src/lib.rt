@@ -4,19 +4,12 @@
 
 mod clients;
 mod desk;
-mod error;
 mod hand_outs;
-mod keeping;
 mod links;
-mod log;
-mod marked;
-mod marks;
-mod pass;
 mod passes;
-mod shares;
 
+pub use adb_desk_log::{
+    ALL_PARTS, ClientIn, ClientOut, DeskError, LinkIn, LinkOut, Mark, Marks, Pass, is_marked,
+    marks_drawn, marks_handed, marks_life, marks_room, marks_waiting,
+};
 pub use desk::Desk;
-pub use error::DeskError;
-pub use marked::{is_marked, marks_drawn, marks_handed, marks_life, marks_room, marks_waiting};
-pub use marks::{ALL_PARTS, Marks};
-pub use pass::{ClientIn, ClientOut, LinkIn, LinkOut, Mark, Pass};

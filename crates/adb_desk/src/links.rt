@@ -4,16 +4,13 @@ ghost use Rattle.std.specs.Prelude.{◌≡◌, ◌≢◌, ◌≤◌, Err, length
 ghost use Rattle.adb_outside.specs.declared.kinds.Kind.{Kind};
 ghost use Rattle.adb_capture.specs.declared.entry.Entry.{Entry};
 ghost use Rattle.adb_capture.specs.declared.limits.TheConstants.{MAX_DATA};
-ghost use Rattle.adb_desk.specs.declared.error.DeskError.{DeskError};
-ghost use Rattle.adb_desk.specs.Marked.{marks_life, marks_error};
+ghost use Rattle.adb_desk_log.specs.declared.error.DeskError.{DeskError};
+ghost use Rattle.adb_desk_log.specs.Marked.{marks_life, marks_error};
 ghost use Rattle.adb_desk.specs.Desk.{Lives, Draws, Rung, link_life};
 
 use crate::desk::Desk;
-use crate::error::DeskError;
-use crate::keeping::keep_attach;
-use crate::marked::{marks_drawn, marks_life};
-use crate::marks::Marks;
 use adb_capture::{Entry, Owner, Recorder};
+use adb_desk_log::{DeskError, Marks, keep_attach, marks_drawn, marks_life};
 use adb_hub::{HubError, Life};
 use adb_outside::{Cause, Kind, Text};
 use std::sync::ledger::Ledger;

@@ -2,14 +2,13 @@
 
 ghost use Rattle.std.specs.Prelude.{◌≡◌, ◌+◌, ◌-◌, ◌<◌, ◌≤◌};
 ghost use Rattle.std.specs.Prelude.{true, false, None, Some, nat_eq, if◌then◌else◌};
-ghost use Rattle.adb_desk.specs.Log.{retired};
-ghost use Rattle.adb_desk.specs.Pass.{first_pass, noted};
+ghost use Rattle.adb_desk_log.specs.Log.{retired};
+ghost use Rattle.adb_desk_log.specs.Pass.{first_pass, noted};
 ghost use Rattle.adb_desk.specs.Desk.{IsSameDesk};
 
 use crate::desk::Desk;
-use crate::marks::Marks;
-use crate::pass::{Mark, Pass};
 use adb_capture::Recorder;
+use adb_desk_log::{Mark, Marks, Pass};
 use std::sync::ledger::Ledger;
 
 impl<R: Recorder, E: Ledger, M: Ledger, K: Marks> Desk<R, E, M, K> {

@@ -1,6 +1,6 @@
 //! What runs jobs.
 
-ghost use Rattle.std.specs.Prelude.{◌≡◌, [], None, Some, IfOk, IfErr, is_err, option_map};
+ghost use Rattle.std.specs.Prelude.{◌≡◌, ◌<◌, [], None, Some, IfOk, IfErr, is_err, option_map};
 ghost use Rattle.adb_outside.specs.Outside.{Counts};
 ghost use Rattle.adb_spawner.specs.Crew.{IsSteady, Spawns};
 
@@ -99,6 +99,13 @@ impl<W: Threads + Wait + Copy + Send + Sync + Drop + 'static, J: Job + Send + Dr
         }
     }
 
+    /// What shows that it handed a job back.
+    pub fn no_thread(&self) -> NoThread
+        requires { 0 < self.now.faults }
+    {
+        NoThread { shown: () }
+    }
+
     /// Waits for all jobs, and ends the threads.
     pub fn finish(&mut self)
         ensures same { self.new ≡ record self.old { threads = self.new.threads } }
@@ -108,4 +115,16 @@ impl<W: Threads + Wait + Copy + Send + Sync + Drop + 'static, J: Job + Send + Dr
             pool.finish();
         }
     }
+}
+
+/// What shows that a crew handed a job back, since it is had from such a crew alone.
+#[derive(Drop)]
+pub struct NoThread {
+    shown: (),
+}
+
+impl Model for NoThread {
+    ghost Value = { Unit {0} };
+
+    ghost view = { λ n. tt };
 }

@@ -7,5 +7,5 @@ mod pool;
 #[cfg(test)]
 mod tests;
 
-pub use crew::Crew;
+pub use crew::{Crew, NoThread};
 pub use job::Job;

@@ -4,10 +4,10 @@ ghost use Rattle.std.specs.Prelude.{◌≡◌, ◌≢◌, ◌<◌, ◌≤◌, �
 ghost use Rattle.adb_capture.specs.declared.limits.TheConstants.{MAX_DATA};
 ghost use Rattle.adb_capture.specs.declared.recorder.RecordError.{RecordError};
 ghost use Rattle.adb_capture.specs.Records.{HasRecord, came_from};
-ghost use Rattle.adb_desk.specs.declared.error.DeskError.{DeskError};
-ghost use Rattle.adb_desk.specs.declared.marks.TheConstants.{ALL_PARTS};
-ghost use Rattle.adb_desk.specs.Log.{LogView, first_log, shut_with, or_given, moves, is_draw};
-ghost use Rattle.adb_desk.specs.Log.{Keeps, counting, fault_of};
+ghost use Rattle.adb_desk_log.specs.declared.error.DeskError.{DeskError};
+ghost use Rattle.adb_desk_log.specs.declared.marks.TheConstants.{ALL_PARTS};
+ghost use Rattle.adb_desk_log.specs.Log.{LogView, first_log, shut_with, or_given, moves, is_draw};
+ghost use Rattle.adb_desk_log.specs.Log.{Keeps, counting, fault_of};
 
 use crate::error::DeskError;
 use crate::marks::Marks;
@@ -22,7 +22,7 @@ const MAX_MOVED: u64 = u64::MAX - 4_194_303;
 /// The recorder, the counts with their ledgers, and the shares that no pass holds. Contracts see
 /// what it tells and counts.
 #[derive(Drop)]
-pub(crate) struct Log<R: Recorder, E: Ledger, M: Ledger, K: Marks> {
+pub struct Log<R: Recorder, E: Ledger, M: Ledger, K: Marks> {
     pub(crate) recorder: R,
     pub(crate) entries: u64,
     pub(crate) moved: u64,
@@ -44,9 +44,9 @@ pub(crate) struct Log<R: Recorder, E: Ledger, M: Ledger, K: Marks> {
 
 impl<R: Recorder, E: Ledger, M: Ledger, K: Marks> Model for Log<R, E, M, K> {
     ghost use Rattle.std.specs.Prelude.{◌≡◌, ◌+◌, ◌^◌, ◌<◌, ◌≤◌, false, Some, if◌then◌else◌};
-    ghost use Rattle.adb_desk.specs.declared.error.DeskError.TheVariants.{RecordFault};
-    ghost use Rattle.adb_desk.specs.declared.marks.TheConstants.{ALL_PARTS};
-    ghost use Rattle.adb_desk.specs.Log.{LogView};
+    ghost use Rattle.adb_desk_log.specs.declared.error.DeskError.TheVariants.{RecordFault};
+    ghost use Rattle.adb_desk_log.specs.declared.marks.TheConstants.{ALL_PARTS};
+    ghost use Rattle.adb_desk_log.specs.Log.{LogView};
 
     ghost Value = { LogView };
 
@@ -78,7 +78,7 @@ impl<R: Recorder, E: Ledger, M: Ledger, K: Marks> Model for Log<R, E, M, K> {
 
 impl<R: Recorder, E: Ledger, M: Ledger, K: Marks> Log<R, E, M, K> {
     /// A log without entries.
-    pub(crate) fn new(recorder: R, entries: Blank, moved: Blank, marks: Blank) -> Log<R, E, M, K>
+    pub fn new(recorder: R, entries: Blank, moved: Blank, marks: Blank) -> Log<R, E, M, K>
         requires entries { (entries.name ≡ E.name) × (entries.parts ≡ E.parts)
             × (entries.parts ≡ ALL_PARTS) }
         requires moved { (moved.name ≡ M.name) × (moved.parts ≡ M.parts)
@@ -112,7 +112,7 @@ impl<R: Recorder, E: Ledger, M: Ledger, K: Marks> Log<R, E, M, K> {
 
     /// The answer of a log that is shut. Over a recorder that never fails it is not that one
     /// failed.
-    pub(crate) fn shut(&self) -> Option<DeskError>
+    pub fn shut(&self) -> Option<DeskError>
         ensures shut { result ≡ shut_with self.now }
         ensures steady { K.steady → result ≢ Some DeskError.RecordFault }
     {
@@ -124,7 +124,7 @@ impl<R: Recorder, E: Ledger, M: Ledger, K: Marks> Log<R, E, M, K> {
     }
 
     /// Keeps an entry, which moves `bytes` bytes, or is shut by the recorder.
-    pub(crate) fn keep(&mut self, entry: &Entry, bytes: usize) -> Result<(), DeskError>
+    pub fn keep(&mut self, entry: &Entry, bytes: usize) -> Result<(), DeskError>
         requires going { shut_with self.old ≡ None }
         requires form { HasRecord entry.now }
         requires bytes { (bytes ≡ moves entry.now) × (bytes ≤ MAX_DATA) }
@@ -141,7 +141,7 @@ impl<R: Recorder, E: Ledger, M: Ledger, K: Marks> Log<R, E, M, K> {
     }
 
     /// Keeps the entry of a piece that came, as `keep` does.
-    pub(crate) fn keep_piece(&mut self, from: Owner, piece: &[u8]) -> Result<(), DeskError>
+    pub fn keep_piece(&mut self, from: Owner, piece: &[u8]) -> Result<(), DeskError>
         requires going { shut_with self.old ≡ None }
         requires bytes { length piece.now ≤ MAX_DATA }
         ensures keeps { Keeps self.old (came_from from piece.now) result self.new }
@@ -186,14 +186,14 @@ impl<R: Recorder, E: Ledger, M: Ledger, K: Marks> Log<R, E, M, K> {
     }
 
     /// Sets the alarm where an answer is marked.
-    pub(crate) fn ring(&mut self, marked: bool)
+    pub fn ring(&mut self, marked: bool)
         ensures { self.new ≡ record self.old { alarm = self.old.alarm || marked } }
     {
         self.alarm = self.alarm || marked;
     }
 
     /// Is halted, where it is not shut.
-    pub(crate) fn halt(&mut self)
+    pub fn halt(&mut self)
         ensures { self.new
             ≡ record self.old { shut = Some (or_given self.old.shut DeskError.Halted) } }
     {

@@ -7,8 +7,8 @@ use Rattle.adb_hub.specs.declared.answers.Handed.{Handed}
 use Rattle.adb_hub.specs.declared.answers.Handed.TheVariants.{Bytes, Nothing, Done}
 use Rattle.adb_hub.specs.declared.answers.Room.{Room}
 use Rattle.adb_hub.specs.declared.answers.Room.TheVariants.{Shut}
-use Rattle.adb_desk.specs.declared.error.DeskError.{DeskError}
-use Rattle.adb_desk.specs.declared.error.DeskError.TheVariants.{Halted, RecordFault, Hub, Later}
+use Rattle.adb_desk_log.specs.declared.error.DeskError.{DeskError}
+use Rattle.adb_desk_log.specs.declared.error.DeskError.TheVariants.{Halted, RecordFault, Hub, Later}
 
 -- a refusal other than want of memory, a bad serial, that of a piece for now, and that of a number that was never drawn
 abbrev pub is_marked : DeskError → Bool

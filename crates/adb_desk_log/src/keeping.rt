@@ -3,9 +3,9 @@
 ghost use Rattle.std.specs.Prelude.{◌≡◌, ◌≢◌, Err};
 ghost use Rattle.adb_capture.specs.declared.entry.Entry.{Entry};
 ghost use Rattle.adb_capture.specs.Records.{HasRecord};
-ghost use Rattle.adb_desk.specs.declared.error.DeskError.{DeskError};
-ghost use Rattle.adb_desk.specs.Log.{Keeps, KeepsHanded, shut_with};
-ghost use Rattle.adb_desk.specs.Entries.{IsHandOut, bytes_of};
+ghost use Rattle.adb_desk_log.specs.declared.error.DeskError.{DeskError};
+ghost use Rattle.adb_desk_log.specs.Log.{Keeps, KeepsHanded, shut_with};
+ghost use Rattle.adb_desk_log.specs.Entries.{IsHandOut, bytes_of};
 
 use crate::error::DeskError;
 use crate::log::Log;
@@ -16,7 +16,7 @@ use adb_outside::{Kind, Text};
 use std::sync::ledger::Ledger;
 
 /// Keeps the entry of a device that was plugged in, whose serial was copied before.
-pub(crate) fn keep_attach<R: Recorder, E: Ledger, M: Ledger, K: Marks>(
+pub fn keep_attach<R: Recorder, E: Ledger, M: Ledger, K: Marks>(
     log: &mut Log<R, E, M, K>,
     link: u32,
     kind: Kind,
@@ -38,7 +38,7 @@ pub(crate) fn keep_attach<R: Recorder, E: Ledger, M: Ledger, K: Marks>(
 }
 
 /// Keeps the entry of what was handed out to a client, and gives the bytes back.
-pub(crate) fn keep_put<R: Recorder, E: Ledger, M: Ledger, K: Marks>(
+pub fn keep_put<R: Recorder, E: Ledger, M: Ledger, K: Marks>(
     log: &mut Log<R, E, M, K>,
     client: u32,
     bytes: Text,
@@ -57,7 +57,7 @@ pub(crate) fn keep_put<R: Recorder, E: Ledger, M: Ledger, K: Marks>(
 }
 
 /// Keeps the entry of what was handed out on a link, and gives the bytes back.
-pub(crate) fn keep_sent<R: Recorder, E: Ledger, M: Ledger, K: Marks>(
+pub fn keep_sent<R: Recorder, E: Ledger, M: Ledger, K: Marks>(
     log: &mut Log<R, E, M, K>,
     link: u32,
     bytes: Text,

@@ -9,9 +9,9 @@ use Rattle.adb_capture.specs.declared.recorder.RecordError.TheVariants.{Failed, 
 use Rattle.adb_hub.specs.declared.error.HubError.TheVariants.{OutOfMemory}
 use Rattle.adb_hub.specs.declared.answers.Handed.{Handed}
 use Rattle.adb_hub.specs.declared.answers.Handed.TheVariants.{Bytes}
-use Rattle.adb_desk.specs.declared.error.DeskError.{DeskError}
-use Rattle.adb_desk.specs.declared.error.DeskError.TheVariants.{Halted, RecordFault, Hub, Later}
-use Rattle.adb_desk.specs.Pass.{PassView}
+use Rattle.adb_desk_log.specs.declared.error.DeskError.{DeskError}
+use Rattle.adb_desk_log.specs.declared.error.DeskError.TheVariants.{Halted, RecordFault, Hub, Later}
+use Rattle.adb_desk_log.specs.Pass.{PassView}
 
 -- a log: what its recorder tells and how often that failed, the answer with which it is shut, the alarm, both counts, how many passes are
 -- out and how many more may be made, whether the mark of the first handle is lent, and the shares that no pass holds

@@ -2,8 +2,8 @@
 
 ghost use Rattle.std.specs.Prelude.{◌≡◌, ◌+◌, ◌-◌, ◌<◌, ◌≤◌, ◌^◌};
 ghost use Rattle.std.specs.Prelude.{true, false, None, Some, nat_eq, if◌then◌else◌};
-ghost use Rattle.adb_desk.specs.Log.{LogView, retired};
-ghost use Rattle.adb_desk.specs.Pass.{PassView, first_pass};
+ghost use Rattle.adb_desk_log.specs.Log.{LogView, retired};
+ghost use Rattle.adb_desk_log.specs.Pass.{PassView, first_pass};
 
 use crate::log::Log;
 use crate::marks::Marks;
@@ -13,7 +13,7 @@ use std::sync::ledger::Ledger;
 
 impl<R: Recorder, E: Ledger, M: Ledger, K: Marks> Log<R, E, M, K> {
     /// Gives a pass the count of one entry, and of the bytes that it moved.
-    pub(crate) fn credit(&mut self, pass: &mut Pass<E, M, K>, bytes: usize)
+    pub fn credit(&mut self, pass: &mut Pass<E, M, K>, bytes: usize)
         requires entry { 1 ≤ self.old.home_entries }
         requires bytes { bytes ≤ self.old.home_moved }
         ensures pass { pass.new ≡ record pass.old {
@@ -30,7 +30,7 @@ impl<R: Recorder, E: Ledger, M: Ledger, K: Marks> Log<R, E, M, K> {
     }
 
     /// Sets a mark, where the alarm is set.
-    pub(crate) fn mark(&mut self, mark: &mut Mark<K>)
+    pub fn mark(&mut self, mark: &mut Mark<K>)
         requires { self.old.alarm ≡ true }
         ensures mark { mark.new ≡ true }
         ensures same { self.new ≡ self.old }
@@ -42,7 +42,7 @@ impl<R: Recorder, E: Ledger, M: Ledger, K: Marks> Log<R, E, M, K> {
     }
 
     /// Marks a pass, where the alarm is set.
-    pub(crate) fn mark_pass(&mut self, pass: &mut Pass<E, M, K>)
+    pub fn mark_pass(&mut self, pass: &mut Pass<E, M, K>)
         requires { self.old.alarm ≡ true }
         ensures pass { pass.new ≡ record pass.old { marked = true } }
         ensures same { self.new ≡ self.old }
@@ -51,7 +51,7 @@ impl<R: Recorder, E: Ledger, M: Ledger, K: Marks> Log<R, E, M, K> {
     }
 
     /// A mark shows that the alarm is set.
-    pub(crate) fn audit_mark(&mut self, mark: &mut Mark<K>)
+    pub fn audit_mark(&mut self, mark: &mut Mark<K>)
         ensures alarm { mark.old ≡ true → self.old.alarm ≡ true }
         ensures mark { mark.new ≡ mark.old }
         ensures same { self.new ≡ self.old }
@@ -60,7 +60,7 @@ impl<R: Recorder, E: Ledger, M: Ledger, K: Marks> Log<R, E, M, K> {
     }
 
     /// How many entries were kept, where all passes are back. The shares given back are then all.
-    pub(crate) fn count_entries(&mut self) -> Option<u64>
+    pub fn count_entries(&mut self) -> Option<u64>
         ensures count { result
             ≡ (if nat_eq self.old.out 0 then Some self.old.entries else None) }
         ensures all { self.old.out ≡ 0 → self.old.home_entries ≡ self.old.entries }
@@ -75,7 +75,7 @@ impl<R: Recorder, E: Ledger, M: Ledger, K: Marks> Log<R, E, M, K> {
     }
 
     /// How many bytes were moved, where all passes are back.
-    pub(crate) fn count_moved(&mut self) -> Option<u64>
+    pub fn count_moved(&mut self) -> Option<u64>
         ensures count { result ≡ (if nat_eq self.old.out 0 then Some self.old.moved else None) }
         ensures all { self.old.out ≡ 0 → self.old.home_moved ≡ self.old.moved }
         ensures same { self.new ≡ self.old }
@@ -89,7 +89,7 @@ impl<R: Recorder, E: Ledger, M: Ledger, K: Marks> Log<R, E, M, K> {
     }
 
     /// The mark of the first handle.
-    pub(crate) fn lend(&mut self) -> Mark<K>
+    pub fn lend(&mut self) -> Mark<K>
         requires { self.old.lent ≡ false }
         ensures mark { result ≡ false }
         ensures lent { self.new ≡ record self.old { lent = true } }
@@ -100,7 +100,7 @@ impl<R: Recorder, E: Ledger, M: Ledger, K: Marks> Log<R, E, M, K> {
     }
 
     /// A new pass of the number that was drawn last.
-    pub(crate) fn seat(&mut self, number: u32) -> Pass<E, M, K>
+    pub fn seat(&mut self, number: u32) -> Pass<E, M, K>
         requires free { 0 < self.old.free }
         requires few { self.old.out < 2 ^ 34 }
         ensures pass { result ≡ first_pass number 0 }
@@ -124,7 +124,7 @@ impl<R: Recorder, E: Ledger, M: Ledger, K: Marks> Log<R, E, M, K> {
     }
 
     /// Takes a pass back.
-    pub(crate) fn retire(&mut self, pass: Pass<E, M, K>)
+    pub fn retire(&mut self, pass: Pass<E, M, K>)
         ensures back { self.new ≡ retired self.old pass }
         ensures was_out { 0 < self.old.out }
     {

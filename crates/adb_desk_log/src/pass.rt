@@ -37,7 +37,7 @@ pub struct Pass<E: Ledger, M: Ledger, K: Marks> {
 
 impl<E: Ledger, M: Ledger, K: Marks> Model for Pass<E, M, K> {
     ghost use Rattle.std.specs.Prelude.{◌≡◌};
-    ghost use Rattle.adb_desk.specs.Pass.{PassView};
+    ghost use Rattle.adb_desk_log.specs.Pass.{PassView};
 
     ghost Value = { PassView };
 
@@ -61,7 +61,7 @@ impl<E: Ledger, M: Ledger, K: Marks> Pass<E, M, K> {
     }
 
     /// Notes that a call of it found no memory.
-    pub(crate) fn starve(&mut self)
+    pub fn starve(&mut self)
         ensures { self.new ≡ record self.old { starved = true } }
     {
         self.starved = true;

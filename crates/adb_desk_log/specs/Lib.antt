@@ -1,0 +1,4 @@
+pub mod Pass
+pub mod Log
+pub mod Marked
+pub mod Entries

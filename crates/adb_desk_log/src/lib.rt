@@ -1,0 +1,17 @@
+//! What a desk has beside its hub: the recorder, the counts with their shares, and the marks.
+#![tactic(auto)]
+
+mod error;
+mod keeping;
+mod log;
+mod marked;
+mod marks;
+mod pass;
+mod shares;
+
+pub use error::DeskError;
+pub use keeping::{keep_attach, keep_put, keep_sent};
+pub use log::Log;
+pub use marked::{is_marked, marks_drawn, marks_handed, marks_life, marks_room, marks_waiting};
+pub use marks::{ALL_PARTS, Marks};
+pub use pass::{ClientIn, ClientOut, LinkIn, LinkOut, Mark, Pass};

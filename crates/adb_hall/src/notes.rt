@@ -1,0 +1,89 @@
+//! What a pass notes of a call.
+
+ghost use Rattle.std.specs.Prelude.{◌≡◌};
+ghost use Rattle.adb_desk.specs.Desk.{IsSameDesk};
+ghost use Rattle.adb_hall.specs.Passes.{MayNoteError, MayNoteHanded, MayNoteLife, MayNoteRoom};
+ghost use Rattle.adb_hall.specs.Passes.{after_error, after_handed, after_life, after_room};
+ghost use Rattle.adb_hall.specs.Passes.{is_starved};
+
+use adb_capture::Recorder;
+use adb_desk::Desk;
+use adb_desk_log::{DeskError, Marks, Pass, is_marked, marks_life};
+use adb_hub::{Handed, HubError, Life, Room};
+use std::sync::ledger::Ledger;
+
+/// Whether memory ran out.
+fn is_starved(error: &DeskError) -> bool
+    ensures { result ≡ is_starved error.now }
+{
+    matches!(error, DeskError::Hub(HubError::OutOfMemory))
+}
+
+/// Notes in a pass that a call was refused.
+pub(crate) fn note_error<R: Recorder, E: Ledger, M: Ledger, K: Marks>(
+    desk: &mut Desk<R, E, M, K>,
+    pass: &mut Pass<E, M, K>,
+    error: &DeskError,
+)
+    requires may { MayNoteError desk.old.log error.now }
+    ensures pass { pass.new ≡ after_error pass.old error.now }
+    ensures same { IsSameDesk desk.old desk.new }
+{
+    match error {
+        DeskError::Later => {}
+        DeskError::Halted | DeskError::RecordFault => desk.note(pass, false, 0, true, false),
+        DeskError::Hub(_) => desk.note(pass, false, 0, is_marked(error), is_starved(error)),
+    }
+}
+
+/// Notes in a pass what became of a call that makes an entry of that many bytes.
+pub(crate) fn note_life<R: Recorder, E: Ledger, M: Ledger, K: Marks>(
+    desk: &mut Desk<R, E, M, K>,
+    pass: &mut Pass<E, M, K>,
+    answer: &Result<Life, DeskError>,
+    bytes: usize,
+)
+    requires may { MayNoteLife desk.old.log answer.now bytes }
+    ensures pass { pass.new ≡ after_life pass.old bytes answer.now }
+    ensures same { IsSameDesk desk.old desk.new }
+{
+    match answer {
+        Ok(_) => desk.note(pass, true, bytes, marks_life(answer), false),
+        Err(error) => note_error(desk, pass, error),
+    }
+}
+
+/// Notes in a pass what became of a hand-out.
+pub(crate) fn note_handed<R: Recorder, E: Ledger, M: Ledger, K: Marks>(
+    desk: &mut Desk<R, E, M, K>,
+    pass: &mut Pass<E, M, K>,
+    answer: &Result<Handed, DeskError>,
+)
+    requires may { MayNoteHanded desk.old.log answer.now }
+    ensures pass { pass.new ≡ after_handed pass.old answer.now }
+    ensures same { IsSameDesk desk.old desk.new }
+{
+    match answer {
+        Ok(Handed::Bytes(bytes)) => desk.note(pass, true, bytes.len(), false, false),
+        Ok(Handed::Nothing) => {}
+        Ok(Handed::Done) => desk.note(pass, false, 0, true, false),
+        Err(error) => note_error(desk, pass, error),
+    }
+}
+
+/// Notes in a pass what it was told of its client's room.
+pub(crate) fn note_room<R: Recorder, E: Ledger, M: Ledger, K: Marks>(
+    desk: &mut Desk<R, E, M, K>,
+    pass: &mut Pass<E, M, K>,
+    answer: &Result<Room, DeskError>,
+)
+    requires may { MayNoteRoom desk.old.log answer.now }
+    ensures pass { pass.new ≡ after_room pass.old answer.now }
+    ensures same { IsSameDesk desk.old desk.new }
+{
+    match answer {
+        Ok(Room::Bytes(_) | Room::Later) => {}
+        Ok(Room::Shut) => desk.note(pass, false, 0, true, false),
+        Err(error) => note_error(desk, pass, error),
+    }
+}
