@@ -1,0 +1,9 @@
+//! A hall for many threads: a desk under a lock, and a bell for each pass that waits.
+#![tactic(auto)]
+
+mod bells;
+mod calls;
+mod locked;
+mod locked_hall;
+
+pub use locked_hall::LockedHall;

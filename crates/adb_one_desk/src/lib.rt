@@ -1,0 +1,7 @@
+//! A hall over a desk of its own, for one thread. It tells its history.
+#![tactic(auto)]
+
+mod calls;
+mod one_desk;
+
+pub use one_desk::OneDesk;
