@@ -90,6 +90,12 @@ impl Rings {
         }
     }
 
+    /// How many bells it rings, but for the common one.
+    #[cfg(test)]
+    pub(crate) fn len(&self) -> usize {
+        self.rung + self.later.len()
+    }
+
     /// Rings what is left, behind the lock.
     pub(crate) fn ring_rest(self, common: &Condvar) {
         for bell in &self.later {

@@ -5,5 +5,7 @@ mod bells;
 mod calls;
 mod locked;
 mod locked_hall;
+#[cfg(test)]
+mod tests;
 
 pub use locked_hall::LockedHall;

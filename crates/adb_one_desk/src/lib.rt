@@ -3,5 +3,7 @@
 
 mod calls;
 mod one_desk;
+#[cfg(test)]
+mod tests;
 
 pub use one_desk::OneDesk;
