@@ -1,6 +1,6 @@
 //! A desk and its mark.
 
-ghost use Rattle.std.specs.Prelude.{◌≡◌, ◌<◌, None, Some, false, nat_eq, if◌then◌else◌};
+ghost use Rattle.std.specs.Prelude.{◌≡◌, ◌<◌, [], None, Some, false, nat_eq, if◌then◌else◌};
 ghost use Rattle.adb_history.specs.Kept.{IsLawful};
 ghost use Rattle.adb_desk_log.specs.declared.marks.TheConstants.{ALL_PARTS};
 ghost use Rattle.adb_desk_log.specs.Log.{IsFresh, first_log, retired};
