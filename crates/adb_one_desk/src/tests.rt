@@ -14,6 +14,14 @@ use std::marker::Brand;
 use std::sync::ledger::{Blank, Ledger};
 use std::test::Fail;
 
+/// Whether these bytes were handed out.
+fn hands_out(answer: &Result<Handed, DeskError>, bytes: &[u8]) -> bool {
+    match answer {
+        Ok(Handed::Bytes(given)) => given.as_slice() == bytes,
+        _ => false,
+    }
+}
+
 /// A client that asks for the version is answered, and what it moved is counted once its passes are
 /// back.
 fn counts_what_it_moved<E: Ledger, M: Ledger, K: Marks>(
@@ -23,8 +31,7 @@ fn counts_what_it_moved<E: Ledger, M: Ledger, K: Marks>(
         return false;
     };
     let lives = matches!(hall.read(&mut reading, b"000Chost:version"), Ok(Life::Live));
-    let answer = hall.put(&mut writing, MAX_HELD);
-    let put = matches!(answer, Ok(Handed::Bytes(bytes)) if bytes.as_slice() == b"OKAY00040029");
+    let put = hands_out(&hall.put(&mut writing, MAX_HELD), b"OKAY00040029");
     let done = matches!(hall.put(&mut writing, MAX_HELD), Ok(Handed::Done));
     let out = hall.entries().is_none() && hall.moved().is_none();
     hall.retire_client_in(reading);
@@ -48,6 +55,45 @@ fn holds_so_much<E: Ledger, M: Ledger, K: Marks>(
     let lives = matches!(hall.read(&mut reading, front), Ok(Life::Live));
     let rest = matches!(hall.room(&mut reading), Ok(Room::Bytes(n)) if n + front.len() == MAX_HELD);
     first && late && lives && rest && hall.recorder().entries().len() == 2
+}
+
+/// The first packet of a device that takes 4,096 bytes at once.
+const CNXN: &[u8] = b"CNXN\x01\0\0\x01\0\x10\0\0\x08\0\0\0\0\0\0\0\xbc\xb1\xa7\xb1device::";
+
+/// What it answers a stream that is asked for first, and a write of that.
+const OKAY: &[u8] = b"OKAY\x07\0\0\0\x01\0\0\0\0\0\0\0\0\0\0\0\xb0\xb4\xbe\xa6";
+
+/// While a write waits for its answer as much is held as may be; the answer makes room for the next
+/// write.
+fn frees_what_goes_up<E: Ledger, M: Ledger, K: Marks>(
+    mut hall: OneDesk<MemoryRecorder, E, M, K>,
+    piece: &[u8],
+) -> bool {
+    let Ok((mut link, _sender)) = hall.attach(Kind::Usb, b"emu1") else {
+        return false;
+    };
+    let Ok((mut reading, _writing)) = hall.join() else {
+        return false;
+    };
+    let met = hall.recv(&mut link, CNXN).is_ok();
+    let asked = hall
+        .read(&mut reading, b"0012host:transport-any0009shell:cat")
+        .is_ok();
+    let opened = hall.recv(&mut link, OKAY).is_ok();
+    let wrote = hall
+        .read(&mut reading, &piece[..piece.len().min(4_096)])
+        .is_ok();
+    let held = hall
+        .read(&mut reading, &piece[..piece.len().min(MAX_HELD)])
+        .is_ok();
+    let kept = hall.recorder().entries().len();
+    let late = matches!(hall.read(&mut reading, b"x"), Err(DeskError::Later));
+    let full = matches!(hall.room(&mut reading), Ok(Room::Later));
+    let same = hall.recorder().entries().len() == kept;
+    let acked = hall.recv(&mut link, OKAY).is_ok();
+    let room = matches!(hall.room(&mut reading), Ok(Room::Bytes(4_096)));
+    let more = hall.read(&mut reading, b"x").is_ok();
+    met && asked && opened && wrote && held && late && full && same && acked && room && more
 }
 
 /// A recorder that fails shuts the hall: every later call has that answer.
@@ -76,7 +122,7 @@ fn is_stopped_by_a_kill<E: Ledger, M: Ledger, K: Marks>(
     let Ok((mut link, mut sender)) = hall.attach(Kind::Usb, b"emu1") else {
         return false;
     };
-    let hello = matches!(hall.send(&mut sender, 24), Ok(Handed::Bytes(bytes)) if bytes.len() == 24);
+    let hello = hands_out(&hall.send(&mut sender, 4), b"CNXN");
     let gone = matches!(hall.detach(&mut link, Cause::Eof), Ok(Life::Gone));
     let Ok((mut reading, mut writing)) = hall.join() else {
         return false;
@@ -84,8 +130,7 @@ fn is_stopped_by_a_kill<E: Ledger, M: Ledger, K: Marks>(
     let open = hall.over().is_none();
     let killed = matches!(hall.read(&mut reading, b"0009host:kill"), Ok(Life::Live));
     let over = hall.over() == Some(DeskError::Hub(HubError::Stopped));
-    let put =
-        matches!(hall.put(&mut writing, 1_000), Ok(Handed::Bytes(bytes)) if bytes.as_slice() == b"OKAY");
+    let put = hands_out(&hall.put(&mut writing, 1_000), b"OKAY");
     let refused = matches!(hall.join(), Err(DeskError::Hub(HubError::Stopped)));
     bad && hello && gone && open && killed && over && put && refused
 }
@@ -95,6 +140,7 @@ fn is_stopped_by_a_kill<E: Ledger, M: Ledger, K: Marks>(
 enum Case {
     Counts,
     Holds,
+    Frees,
     Shuts,
     Stops,
 }
@@ -120,7 +166,8 @@ fn tried<E: Ledger, M: Ledger, K: Marks>(
     let hall = OneDesk::<MemoryRecorder, E, M, K>::new(alloc, recorder, entries, moved, marks);
     Ok(match case {
         Case::Counts => counts_what_it_moved(hall),
-        Case::Holds => holds_so_much(hall, &Vec::filled(alloc, 0u8, MAX_HELD + 1)?),
+        Case::Holds => holds_so_much(hall, &vec![in alloc; b'f'; MAX_HELD + 1]?),
+        Case::Frees => frees_what_goes_up(hall, &vec![in alloc; b'f'; MAX_HELD + 1]?),
         Case::Shuts => is_shut_by_its_recorder(hall),
         Case::Stops => is_stopped_by_a_kill(hall),
     })
@@ -142,6 +189,7 @@ fn answers_keeps_and_counts(rt: HostRuntime) -> Result<(), Fail> {
     let alloc = rt.alloc();
     assert!(rt; holds(alloc, &[], Case::Counts)?);
     assert!(rt; holds(alloc, &[], Case::Holds)?);
+    assert!(rt; holds(alloc, &[], Case::Frees)?);
     assert!(rt; holds(alloc, &[2], Case::Shuts)?);
     assert!(rt; holds(alloc, &[], Case::Stops)?);
     Ok(())
