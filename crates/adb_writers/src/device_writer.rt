@@ -1,6 +1,8 @@
 //! A device's writer.
 
 ghost use Rattle.std.specs.Prelude.{◌≡◌, ◌≢◌, ◌<◌, ◌≤◌, ◌⊎◌, List, Some, true, length, is_some};
+ghost use Rattle.adb_outside.specs.Outside.{Rises};
+ghost use Rattle.adb_outside.specs.Sink.{TellsWrite, is_failed_write};
 ghost use Rattle.adb_capture.specs.declared.entry.Entry.{Entry};
 ghost use Rattle.adb_hall.specs.Made.{Tells};
 ghost use Rattle.adb_hall.specs.Telling.{Telling, Where};
@@ -33,6 +35,26 @@ fn break_off<E: Ledger, M: Ledger, K: Marks, H: Hall<E, M, K>>(
     let _ = hall.break_send(pass, cause);
 }
 
+/// One write to a boxed device.
+fn write_boxed(port: &mut Box<dyn DeviceOut + Send>, piece: &[u8]) -> Wrote
+    requires { 0 < length piece.now }
+    ensures told { TellsWrite (written port.old) (written port.new) piece.now result }
+    ensures fault { is_failed_write result ≡ true → Rises (faults port.old) (faults port.new) }
+    ensures count { faults port.old ≤ faults port.new }
+    ensures closed { closed port.new ≡ closed port.old }
+{
+    port.write(piece)
+}
+
+/// Unplugs a boxed device.
+fn unplug_boxed(port: &mut Box<dyn DeviceOut + Send>)
+    ensures closed { closed port.new ≡ true }
+    ensures told { written port.new ≡ written port.old }
+    ensures count { faults port.new ≡ faults port.old }
+{
+    port.unplug();
+}
+
 /// Writes a piece that was handed out. A write that fails ends the device's link.
 fn write_out<E: Ledger, M: Ledger, K: Marks, H: Hall<E, M, K>>(
     hall: &mut H,
@@ -51,7 +73,7 @@ fn write_out<E: Ledger, M: Ledger, K: Marks, H: Hall<E, M, K>>(
         (outlet (faults port.old) (written port.old) (closed port.old))
         (outlet (faults port.new) (written port.new) (closed port.new)) }
 {
-    match port.write(bytes.as_slice()) {
+    match write_boxed(port, bytes.as_slice()) {
         Wrote::All => Next::More,
         Wrote::Failed { taken: _ } => {
             break_off(hall, pass, Cause::Fault);
@@ -123,7 +145,7 @@ pub fn write_device<
             Next::More => {}
             Next::Idle => return pass,
             Next::Stop => {
-                port.unplug();
+                unplug_boxed(port);
                 return pass;
             }
         }
