@@ -1,0 +1,2 @@
+mod Sides
+mod Writings

@@ -1,0 +1,64 @@
+-- What a hall refuses to the writers of clients and of links.
+use Rattle.std.proofs.Common.{ℕ, ◌≡◌, ◌<◌, Bool, true, false, [], Option, Some, None, refl, ap, arith, zero, suc, inl, inr}
+use Rattle.std.specs.Prelude.{◌⊎◌, nat_lt, nat_le, ◌&&◌}
+use Rattle.std.proofs.lemmas.Bool.Decides.{nat_tests}
+use Rattle.adb_outside.specs.declared.kinds.Cause.{Cause}
+use Rattle.adb_history.specs.Rows.{State}
+use Rattle.adb_history.specs.Orderly.{IsDrawnOnly}
+use Rattle.adb_history.specs.Accepted.{is_drawn}
+use Rattle.adb_history.specs.Machine.{History, state, IsLegal}
+use Rattle.adb_history.proofs.OrderlyStates.{orderly}
+use Rattle.adb_hub.specs.declared.error.HubError.{HubError}
+use Rattle.adb_hub.specs.declared.error.HubError.TheVariants.{NoClient, NoLink}
+use Rattle.adb_hub.specs.Answers.{offered_to, due_on}
+use Rattle.adb_hub.specs.Refusal.{unless_drawn, unless_stopped}
+use Rattle.adb_desk_log.specs.declared.error.DeskError.{DeskError}
+use Rattle.adb_desk.specs.Desk.{desk_refusal, or_later}
+use Rattle.adb_writers.specs.Writing.{Side, client_side, link_side}
+
+-- A hand-out is refused only where the owner is gone, and the end of a connection only there and after a kill.
+pub record IsSide (side : Side) : Type 0 where
+  pub unasked : (h : History) (error : DeskError) → IsLegal h → desk_refusal (side.hands []) (state h) ≡ Some error → side.due (state h) ≡ None
+  pub unended : (h : History) (cause : Cause) (error : DeskError) → IsLegal h → desk_refusal (side.ends cause) (state h) ≡ Some error
+      → (side.due (state h) ≡ None) ⊎ ((state h).stopped ≡ true)
+
+-- nothing is kept under a number that was not drawn
+none_drawn : {A : Type 0} (drawn n : ℕ) (kept : ℕ → Option A) → IsDrawnOnly drawn kept → is_drawn drawn n ≡ false → kept n ≡ None
+none_drawn drawn zero kept only is = only.zero
+none_drawn drawn (suc n) kept only is = only.above (suc n) (grind (arith, nat_tests))
+
+undrawn : (b : Bool) (why : HubError) (error : DeskError) → or_later (unless_drawn b why) false ≡ Some error → b ≡ false
+undrawn true why error is = absurd (let clash : None ≡ Some error = is in cc)
+undrawn false why error is = refl
+
+unended_by : (stopped b : Bool) (why : HubError) (error : DeskError) → or_later (unless_stopped stopped (unless_drawn b why)) false ≡ Some error
+    → (b ≡ false) ⊎ (stopped ≡ true)
+unended_by true b why error is = inr refl
+unended_by false true why error is = absurd (let clash : None ≡ Some error = is in cc)
+unended_by false false why error is = inl refl
+
+pub client_is : (c : ℕ) → IsSide (client_side c)
+client_is c = record {
+  unasked = λ h error legal is. gone h legal (undrawn (is_drawn (state h).joined c) (NoClient c) error is);
+  unended = λ h cause error legal is.
+      elim (unended_by (state h).stopped (is_drawn (state h).joined c) (NoClient c) error is) [
+        inl b ↦ inl (gone h legal b)
+        | inr stopped ↦ inr stopped
+      ];
+}
+  where
+    gone : (h : History) → IsLegal h → is_drawn (state h).joined c ≡ false → (client_side c).due (state h) ≡ None
+    gone h legal b = ap (offered_to (state h).devices) (none_drawn (state h).joined c (state h).clients (orderly h legal).clients b)
+
+pub link_is : (t : ℕ) → IsSide (link_side t)
+link_is t = record {
+  unasked = λ h error legal is. gone h legal (undrawn (is_drawn (state h).devices.drawn t) (NoLink t) error is);
+  unended = λ h cause error legal is.
+      elim (unended_by (state h).stopped (is_drawn (state h).devices.drawn t) (NoLink t) error is) [
+        inl b ↦ inl (gone h legal b)
+        | inr stopped ↦ inr stopped
+      ];
+}
+  where
+    gone : (h : History) → IsLegal h → is_drawn (state h).devices.drawn t ≡ false → (link_side t).due (state h) ≡ None
+    gone h legal b = ap due_on (none_drawn (state h).devices.drawn t (state h).links (orderly h legal).links b)

@@ -1,0 +1,11 @@
+use Rattle.std.proofs.Common.{take, drop, sym}
+use Rattle.std.proofs.lemmas.List.{take-append-drop}
+use Rattle.adb_writers.proofs.client_writer.write_out.Goals as goal
+
+pub returns-in-Failed-clause-wrote : goal.returns-in-Failed-clause-wrote
+returns-in-Failed-clause-wrote g c = record {
+  front = take c.in-Failed.taken c.args.bytes.now;
+  lost = drop c.in-Failed.taken c.args.bytes.now;
+  is = sym (take-append-drop c.in-Failed.taken c.args.bytes.now);
+  wrote = λ out is. rw c.as_slice.ensures at (c.in-Failed.ensures.told out is);
+}

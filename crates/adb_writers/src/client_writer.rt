@@ -1,0 +1,133 @@
+//! A client's writer.
+
+ghost use Rattle.std.specs.Prelude.{◌≡◌, ◌≢◌, ◌<◌, ◌≤◌, ◌⊎◌, List, Some, true, length, is_some};
+ghost use Rattle.adb_capture.specs.declared.entry.Entry.{Entry};
+ghost use Rattle.adb_hall.specs.Made.{Tells};
+ghost use Rattle.adb_hall.specs.Telling.{Telling, Where};
+ghost use Rattle.adb_writers.specs.Turns.{EndsAll, HandsOn, Leaves, Turned};
+ghost use Rattle.adb_writers.specs.Writing.{Written, client_side, outlet};
+ghost use Rattle.adb_writers.specs.declared.next.Next.{Next};
+
+use crate::next::Next;
+use adb_connections::{Gate, Place, PortOut};
+use adb_desk_log::{ClientOut, DeskError, Marks};
+use adb_hall::Hall;
+use adb_hub::{Handed, HubError};
+use adb_outside::{Cause, Text, Wrote};
+use adb_wire::MAX_PACKET;
+use std::sync::Wait;
+use std::sync::ledger::Ledger;
+
+/// Ends the input of a client, unless the hall refuses that.
+fn break_off<E: Ledger, M: Ledger, K: Marks, H: Hall<E, M, K>>(
+    hall: &mut H,
+    pass: &mut ClientOut<E, M, K>,
+    cause: Cause,
+)
+    ensures number { pass.new.pass.number ≡ pass.old.pass.number }
+    ensures starved { pass.old.pass.starved ≡ true → pass.new.pass.starved ≡ true }
+    ensures mark { H.marked hall.new ≡ H.marked hall.old }
+    ensures told { Where (H.tells hall.old) (EndsAll (client_side pass.old.pass.number) cause
+        pass.new.pass.starved) (H.tells hall.new) }
+{
+    let _ = hall.break_out(pass, cause);
+}
+
+/// Writes a piece that was handed out. A write that fails ends the client's input.
+fn write_out<E: Ledger, M: Ledger, K: Marks, H: Hall<E, M, K>, O: PortOut>(
+    hall: &mut H,
+    port: &mut O,
+    pass: &mut ClientOut<E, M, K>,
+    bytes: &Text,
+) -> Next
+    requires { 0 < length bytes.now }
+    ensures goes { result ≢ Next.Idle }
+    ensures number { pass.new.pass.number ≡ pass.old.pass.number }
+    ensures mark { H.marked hall.new ≡ H.marked hall.old }
+    ensures count { O.faults port.old ≤ O.faults port.new }
+    ensures told { Where (H.tells hall.old) (Leaves (client_side pass.old.pass.number) result
+        pass.new.pass.starved (O.faults port.old) (O.faults port.new)) (H.tells hall.new) }
+    ensures wrote { HandsOn bytes.now result
+        (outlet (O.faults port.old) (O.written port.old) (O.closed port.old))
+        (outlet (O.faults port.new) (O.written port.new) (O.closed port.new)) }
+{
+    match port.write(bytes.as_slice()) {
+        Wrote::All => Next::More,
+        Wrote::Failed { taken: _ } => {
+            break_off(hall, pass, Cause::Fault);
+            Next::Stop
+        }
+    }
+}
+
+/// One turn: has a piece handed out, and writes it. Want of memory ends the client's input.
+fn turn<E: Ledger, M: Ledger, K: Marks, H: Hall<E, M, K>, O: PortOut, G: Gate>(
+    hall: &mut H,
+    port: &mut O,
+    pass: &mut ClientOut<E, M, K>,
+    gate: &G,
+) -> Next
+    ensures number { pass.new.pass.number ≡ pass.old.pass.number }
+    ensures mark { H.marked hall.new ≡ H.marked hall.old }
+    ensures count { O.faults port.old ≤ O.faults port.new }
+    ensures idle { result ≡ Next.Idle → is_some (H.tells hall.new) ≡ true }
+    ensures told { (a : Telling) (es : List Entry) → H.tells hall.old ≡ Some a → Tells a es
+        → Turned result (client_side pass.old.pass.number) es (H.tells hall.new)
+        pass.new.pass.starved
+        (outlet (O.faults port.old) (O.written port.old) (O.closed port.old))
+        (outlet (O.faults port.new) (O.written port.new) (O.closed port.new)) }
+{
+    match hall.put(pass, MAX_PACKET) {
+        Ok(Handed::Bytes(bytes)) => {
+            gate.pass(Place::ClientWriter as u8, pass.number());
+            write_out(hall, port, pass, &bytes)
+        }
+        Ok(Handed::Nothing) => Next::Idle,
+        Ok(Handed::Done) => Next::Stop,
+        Err(DeskError::Hub(HubError::OutOfMemory)) => {
+            break_off(hall, pass, Cause::Starved);
+            Next::Stop
+        }
+        Err(_) => Next::Stop,
+    }
+}
+
+/// Writes to a client what is handed out to it, at most a whole packet at a time, and hands the pass
+/// back when the client is gone, a write failed, the hall is shut, or a call found no memory. Then the
+/// port is closed. Over a hall that tells it also hands the pass back where nothing is due, and leaves
+/// the port as it is.
+///
+/// A write that fails ends the client's input by `Fault`, and want of memory ends it by `Starved`,
+/// unless the hall refuses that. After a kill it goes on until the client is gone: the kill's own reply
+/// is written. It passes the gate at `Place::ClientWriter` before each write.
+pub fn write_client<
+    W: Wait + Copy + Send + Sync + Drop + 'static,
+    E: Ledger,
+    M: Ledger,
+    K: Marks,
+    H: Hall<E, M, K>,
+    O: PortOut,
+    G: Gate,
+>(rt: W, hall: &mut H, port: &mut O, pass: ClientOut<E, M, K>, gate: &G) -> ClientOut<E, M, K>
+    ensures number { result.pass.number ≡ pass.pass.number }
+    ensures mark { H.marked hall.new ≡ H.marked hall.old }
+    ensures count { O.faults port.old ≤ O.faults port.new }
+    ensures closed { (O.closed port.new ≡ true) ⊎ (is_some (H.tells hall.new) ≡ true) }
+    ensures told { (a : Telling) (es : List Entry) → H.tells hall.old ≡ Some a → Tells a es
+        → Written (client_side pass.pass.number) es (H.tells hall.new) result.pass.starved
+        (outlet (O.faults port.old) (O.written port.old) (O.closed port.old))
+        (outlet (O.faults port.new) (O.written port.new) (O.closed port.new)) }
+{
+    let mut pass = pass;
+    for _ in rt.forever() {
+        match turn(hall, port, &mut pass, gate) {
+            Next::More => {}
+            Next::Idle => return pass,
+            Next::Stop => {
+                port.close();
+                return pass;
+            }
+        }
+    }
+    unreachable!()
+}
