@@ -5,7 +5,7 @@ help:
 	@echo 'make demo    runs the program over an example capture and shows the history, before any proof: two minutes'
 	@echo 'make build   proves and links the program, as bin/adbhub: most of an hour the first time, then what changed'
 	@echo 'make test    the gate: every proof, must-fail edit, test and program'
-	@echo 'make cost    builds the program, and tells how replay grows with its capture'
+	@echo 'make cost    builds the program, and tells how replay and check grow with what they read'
 
 # rt try compiles the program with the crates below it and runs it with checks. It proves nothing, and says so.
 demo:
