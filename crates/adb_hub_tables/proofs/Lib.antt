@@ -1,5 +1,4 @@
 mod Marking
-mod MarkedRows
 mod FirstMark
 mod TouchedRows
 mod Grouping
