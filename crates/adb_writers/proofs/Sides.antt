@@ -42,7 +42,7 @@ client_is c = record {
   unasked = λ h error legal is. gone h legal (undrawn (is_drawn (state h).joined c) (NoClient c) error is);
   unended = λ h cause error legal is.
       elim (unended_by (state h).stopped (is_drawn (state h).joined c) (NoClient c) error is) [
-        inl b ↦ inl (gone h legal b)
+        | inl b ↦ inl (gone h legal b)
         | inr stopped ↦ inr stopped
       ];
 }
@@ -55,7 +55,7 @@ link_is t = record {
   unasked = λ h error legal is. gone h legal (undrawn (is_drawn (state h).devices.drawn t) (NoLink t) error is);
   unended = λ h cause error legal is.
       elim (unended_by (state h).stopped (is_drawn (state h).devices.drawn t) (NoLink t) error is) [
-        inl b ↦ inl (gone h legal b)
+        | inl b ↦ inl (gone h legal b)
         | inr stopped ↦ inr stopped
       ];
 }

@@ -45,6 +45,7 @@ fn write_out<E: Ledger, M: Ledger, K: Marks, H: Hall<E, M, K>, O: PortOut>(
     ensures number { pass.new.pass.number ≡ pass.old.pass.number }
     ensures mark { H.marked hall.new ≡ H.marked hall.old }
     ensures count { O.faults port.old ≤ O.faults port.new }
+    ensures closed { O.closed port.new ≡ O.closed port.old }
     ensures told { Where (H.tells hall.old) (Leaves (client_side pass.old.pass.number) result
         pass.new.pass.starved (O.faults port.old) (O.faults port.new)) (H.tells hall.new) }
     ensures wrote { HandsOn bytes.now result

@@ -11,8 +11,8 @@ ghost use Rattle.adb_writers.specs.Writing.{Written, link_side, outlet};
 ghost use Rattle.adb_writers.specs.declared.next.Next.{Next};
 
 use crate::next::Next;
-use adb_connections::{Gate, Place, DeviceOut};
-use adb_desk_log::{LinkOut, DeskError, Marks};
+use adb_connections::{DeviceOut, Gate, Place};
+use adb_desk_log::{DeskError, LinkOut, Marks};
 use adb_hall::Hall;
 use adb_hub::{Handed, HubError};
 use adb_outside::{Cause, Text, Wrote};
@@ -67,6 +67,7 @@ fn write_out<E: Ledger, M: Ledger, K: Marks, H: Hall<E, M, K>>(
     ensures number { pass.new.pass.number ≡ pass.old.pass.number }
     ensures mark { H.marked hall.new ≡ H.marked hall.old }
     ensures count { faults port.old ≤ faults port.new }
+    ensures closed { closed port.new ≡ closed port.old }
     ensures told { Where (H.tells hall.old) (Leaves (link_side pass.old.pass.number) result
         pass.new.pass.starved (faults port.old) (faults port.new)) (H.tells hall.new) }
     ensures wrote { HandsOn bytes.now result
@@ -129,7 +130,13 @@ pub fn write_device<
     K: Marks,
     H: Hall<E, M, K>,
     G: Gate,
->(rt: W, hall: &mut H, port: &mut Box<dyn DeviceOut + Send>, pass: LinkOut<E, M, K>, gate: &G) -> LinkOut<E, M, K>
+>(
+    rt: W,
+    hall: &mut H,
+    port: &mut Box<dyn DeviceOut + Send>,
+    pass: LinkOut<E, M, K>,
+    gate: &G,
+) -> LinkOut<E, M, K>
     ensures number { result.pass.number ≡ pass.pass.number }
     ensures mark { H.marked hall.new ≡ H.marked hall.old }
     ensures count { faults port.old ≤ faults port.new }
