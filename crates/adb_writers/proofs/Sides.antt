@@ -1,9 +1,8 @@
 -- What a hall refuses to the writers of clients and of links.
-use Rattle.std.proofs.Common.{ℕ, ◌≡◌, ◌<◌, Bool, true, false, [], Option, Some, None, refl, ap, arith, zero, suc, inl, inr}
-use Rattle.std.specs.Prelude.{◌⊎◌, nat_lt, nat_le, ◌&&◌}
+use Rattle.std.proofs.Common.{ℕ, ◌≡◌, Bool, true, false, [], Option, Some, None, refl, ap, arith, zero, suc, inl, inr}
+use Rattle.std.specs.Prelude.{◌⊎◌}
 use Rattle.std.proofs.lemmas.Bool.Decides.{nat_tests}
 use Rattle.adb_outside.specs.declared.kinds.Cause.{Cause}
-use Rattle.adb_history.specs.Rows.{State}
 use Rattle.adb_history.specs.Orderly.{IsDrawnOnly}
 use Rattle.adb_history.specs.Accepted.{is_drawn}
 use Rattle.adb_history.specs.Machine.{History, state, IsLegal}

@@ -1,5 +1,5 @@
 -- Turns of a writer, one after another.
-use Rattle.std.proofs.Common.{ℕ, ◌≡◌, ◌<◌, ◌≤◌, Bool, true, false, List, [], ◌∷◌, ◌++◌, reverse, Option, Some, None, Result, Ok, Err}
+use Rattle.std.proofs.Common.{ℕ, ◌≡◌, ◌≤◌, Bool, true, false, List, [], ◌∷◌, ◌++◌, reverse, Option, Some, None, Result, Ok, Err}
 use Rattle.std.proofs.Common.{refl, sym, ap, ◌∙◌, subst, arith, inl, inr}
 use Rattle.std.specs.Prelude.{◌⊎◌, ◌||◌, is_some, map, option_map}
 use Rattle.std.specs.List.{concat}
@@ -11,8 +11,7 @@ use Rattle.adb_outside.specs.declared.kinds.Cause.TheVariants.{Fault, Starved}
 use Rattle.adb_capture.specs.declared.entry.Entry.{Entry}
 use Rattle.adb_history.specs.Rows.{State}
 use Rattle.adb_history.specs.Machine.{History, state}
-use Rattle.adb_history.specs.Kept.{Kept, kept, IsLawful}
-use Rattle.adb_hub.specs.declared.error.HubError.TheVariants.{OutOfMemory}
+use Rattle.adb_history.specs.Kept.{Kept, IsLawful}
 use Rattle.adb_hub.specs.declared.answers.Life.{Life}
 use Rattle.adb_hub.specs.declared.answers.Handed.{Handed}
 use Rattle.adb_hub.specs.declared.answers.Handed.TheVariants.{Bytes, Nothing, Done}

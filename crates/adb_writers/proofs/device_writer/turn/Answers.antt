@@ -1,4 +1,4 @@
-use Rattle.std.proofs.Common.{◌≡◌, true, Some, rules, refl, ap, ◌∙◌}
+use Rattle.std.proofs.Common.{◌≡◌, true, ap, ◌∙◌}
 use Rattle.adb_hub.specs.declared.error.HubError.{HubError}
 use Rattle.adb_desk_log.specs.declared.error.DeskError.TheVariants.{Hub}
 use Rattle.adb_desk_log.specs.Pass.{PassView}
