@@ -115,10 +115,10 @@ fn turn<E: Ledger, M: Ledger, K: Marks, H: Hall<E, M, K>, G: Gate>(
     }
 }
 
-/// Writes to a device what is handed out on its link, at most a whole packet at a time, and hands the
-/// pass back when the link is gone, a write failed, the hall is shut, or a call found no memory. Then
-/// the device is unplugged. Over a hall that tells it also hands the pass back where nothing is due,
-/// and leaves the device as it is.
+/// Writes to a device what is handed out on its link, at most a whole packet at a time. It unplugs
+/// the device and hands the pass back when the link is gone, a write failed, the hall is shut, or a
+/// call found no memory. Over a hall that tells it also hands the pass back where nothing is due,
+/// with the device as it was.
 ///
 /// A write that fails ends the link by `Fault`, and want of memory ends it by `Starved`, unless the
 /// hall refuses that. After a kill it goes on until the link is gone. It passes the gate at
