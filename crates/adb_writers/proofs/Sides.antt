@@ -1,9 +1,8 @@
 -- What a hall refuses to the writers of clients and of links.
-use Rattle.std.proofs.Common.{ℕ, ◌≡◌, ◌<◌, Bool, true, false, [], Option, Some, None, refl, ap, arith, zero, suc, inl, inr}
-use Rattle.std.specs.Prelude.{◌⊎◌, nat_lt, nat_le, ◌&&◌}
+use Rattle.std.proofs.Common.{ℕ, ◌≡◌, Bool, true, false, [], Option, Some, None, refl, ap, arith, zero, suc, inl, inr}
+use Rattle.std.specs.Prelude.{◌⊎◌}
 use Rattle.std.proofs.lemmas.Bool.Decides.{nat_tests}
 use Rattle.adb_outside.specs.declared.kinds.Cause.{Cause}
-use Rattle.adb_history.specs.Rows.{State}
 use Rattle.adb_history.specs.Orderly.{IsDrawnOnly}
 use Rattle.adb_history.specs.Accepted.{is_drawn}
 use Rattle.adb_history.specs.Machine.{History, state, IsLegal}
@@ -42,7 +41,7 @@ client_is c = record {
   unasked = λ h error legal is. gone h legal (undrawn (is_drawn (state h).joined c) (NoClient c) error is);
   unended = λ h cause error legal is.
       elim (unended_by (state h).stopped (is_drawn (state h).joined c) (NoClient c) error is) [
-        inl b ↦ inl (gone h legal b)
+        | inl b ↦ inl (gone h legal b)
         | inr stopped ↦ inr stopped
       ];
 }
@@ -55,7 +54,7 @@ link_is t = record {
   unasked = λ h error legal is. gone h legal (undrawn (is_drawn (state h).devices.drawn t) (NoLink t) error is);
   unended = λ h cause error legal is.
       elim (unended_by (state h).stopped (is_drawn (state h).devices.drawn t) (NoLink t) error is) [
-        inl b ↦ inl (gone h legal b)
+        | inl b ↦ inl (gone h legal b)
         | inr stopped ↦ inr stopped
       ];
 }

@@ -1,5 +1,5 @@
 -- Turns of a writer, one after another.
-use Rattle.std.proofs.Common.{ℕ, ◌≡◌, ◌<◌, ◌≤◌, Bool, true, false, List, [], ◌∷◌, ◌++◌, reverse, Option, Some, None, Result, Ok, Err}
+use Rattle.std.proofs.Common.{ℕ, ◌≡◌, ◌≤◌, Bool, true, false, List, [], ◌∷◌, ◌++◌, reverse, Option, Some, None, Result, Ok, Err}
 use Rattle.std.proofs.Common.{refl, sym, ap, ◌∙◌, subst, arith, inl, inr}
 use Rattle.std.specs.Prelude.{◌⊎◌, ◌||◌, is_some, map, option_map}
 use Rattle.std.specs.List.{concat}
@@ -11,8 +11,7 @@ use Rattle.adb_outside.specs.declared.kinds.Cause.TheVariants.{Fault, Starved}
 use Rattle.adb_capture.specs.declared.entry.Entry.{Entry}
 use Rattle.adb_history.specs.Rows.{State}
 use Rattle.adb_history.specs.Machine.{History, state}
-use Rattle.adb_history.specs.Kept.{Kept, kept, IsLawful}
-use Rattle.adb_hub.specs.declared.error.HubError.TheVariants.{OutOfMemory}
+use Rattle.adb_history.specs.Kept.{Kept, IsLawful}
 use Rattle.adb_hub.specs.declared.answers.Life.{Life}
 use Rattle.adb_hub.specs.declared.answers.Handed.{Handed}
 use Rattle.adb_hub.specs.declared.answers.Handed.TheVariants.{Bytes, Nothing, Done}
@@ -37,12 +36,11 @@ stands_of t es tells = record { told = tells.told; lawful = inr tells.lawful }
 
 -- ---- an end that is asked for
 module _ (side : Side) (is : IsSide side) (a b : Telling) (es : List Entry) (starved : Bool) (stands : Stands a es) where
-
   ended : (cause : Cause) → Entered (side.ends cause) a b → Ends side cause es starved b
   ended cause made = elim stands.lawful [
-    inl shut ↦ absurd (let clash : false ≡ true = sym (ap is_some made.going) ∙ shut in cc)
+    | inl shut ↦ absurd (let clash : false ≡ true = sym (ap is_some made.going) ∙ shut in cc)
     | inr lawful ↦
-      inl (stands_of b (es ++ side.ends cause ∷ []) (tells_more (side.ends cause) a b es (record { told = stands.told; lawful = lawful }) made))
+        inl (stands_of b (es ++ side.ends cause ∷ []) (tells_more (side.ends cause) a b es (record { told = stands.told; lawful = lawful }) made))
   ]
 
   stopped_by : (h : History) → IsLawful a.hub h → b ≡ a → (state h).stopped ≡ true → b.hub.stopped ≡ true
@@ -51,9 +49,9 @@ module _ (side : Side) (is : IsSide side) (a b : Telling) (es : List Entry) (sta
   unended : (cause : Cause) (error : DeskError) → b ≡ a → ((h : History) → IsLawful a.hub h → desk_refusal (side.ends cause) (state h) ≡ Some error)
       → IsRefused side es b starved
   unended cause error same refuses = elim stands.lawful [
-    inl shut ↦ inr (inl (ap (λ (t : Telling). is_some t.shut) same ∙ shut))
+    | inl shut ↦ inr (inl (ap (λ (t : Telling). is_some t.shut) same ∙ shut))
     | inr lawful ↦ elim (is.unended (reverse es) cause error lawful.legal (refuses (reverse es) lawful)) [
-      inl gone ↦ inl gone
+      | inl gone ↦ inl gone
       | inr stopped ↦ inr (inr (inr (stopped_by (reverse es) lawful same stopped)))
     ]
   ]
@@ -61,13 +59,16 @@ module _ (side : Side) (is : IsSide side) (a b : Telling) (es : List Entry) (sta
   refused : (cause : Cause) (error : DeskError) → (is_starved error ≡ true → starved ≡ true) → Fails (side.ends cause) error a b
       → Ends side cause es starved b
   refused cause error s (inl r) =
-      inr (subst (λ (t : Telling). Stands t es) (sym r.same) stands, elim r.why [
-        inl shut ↦ inr (inl (ap (λ (t : Telling). is_some t.shut) r.same ∙ ap is_some shut))
-        | inr why ↦ elim why.1 [
-          inl hungry ↦ inr (inr (inl (s (ap is_starved hungry))))
-          | inr refuses ↦ unended cause error r.same refuses
-        ]
-      ])
+      inr (
+        subst (λ (t : Telling). Stands t es) (sym r.same) stands,
+        elim r.why [
+          | inl shut ↦ inr (inl (ap (λ (t : Telling). is_some t.shut) r.same ∙ ap is_some shut))
+          | inr why ↦ elim why.1 [
+            | inl hungry ↦ inr (inr (inl (s (ap is_starved hungry))))
+            | inr refuses ↦ unended cause error r.same refuses
+          ]
+        ],
+      )
   refused cause error s (inr k) =
       let shut : is_some b.shut ≡ true = ap is_some k.shut in
       inr (record { told = k.told ∙ stands.told; lawful = inl shut }, inr (inl shut))
@@ -102,7 +103,6 @@ owner_gone e max (Some all) h old new out = absurd out
 owner_gone e max None h old new out = (refl, out)
 
 module _ (side : Side) (max : ℕ) (a b : Telling) (es : List Entry) (tells : Tells a es) where
-
   handed_on : (bytes : List ℕ) → Hands side.hands max side.due (Ok (Bytes bytes)) a b → Tells b (es ++ side.hands bytes ∷ [])
   handed_on bytes hands = record {
     told = hands.told ∙ ap (option_map (grown (side.hands bytes))) tells.told;
@@ -122,9 +122,9 @@ module _ (side : Side) (max : ℕ) (a b : Telling) (es : List Entry) (tells : Te
 
 -- ---- a writer that was handed nothing
 module _ (side : Side) (es : List Entry) (b : Telling) (tells : Option Telling) (starved : Bool) (before : Outlet) (closed : Bool) where
-
   quiet : tells ≡ Some b → Stands b es → IsLast side es b starved before.faults before.faults []
-      → ((closed ≡ true) ⊎ (side.due (state (reverse es)) ≡ Some [])) → Written side es tells starved before (record before { closed = closed })
+      → ((closed ≡ true) ⊎ ((side.due (state (reverse es)) ≡ Some []) × (closed ≡ before.closed)))
+      → Written side es tells starved before (record before { closed = closed })
   quiet told stands why closes = record {
     now = b;
     is = told;
@@ -146,7 +146,7 @@ pub idle_turn : (side : Side) (max : ℕ) (a b : Telling) (es : List Entry) (tel
     → Tells a es → tells ≡ Some b → Hands side.hands max side.due (Ok Nothing) a b → Turned Idle side es tells starved before before
 idle_turn side max a b es tells starved before held told hands =
     let none = idle_hall side max a b es held hands in
-    quiet side es b tells starved before before.closed told (stands_of b es none.0) (inr (inl none.1)) (inr none.1)
+    quiet side es b tells starved before before.closed told (stands_of b es none.0) (inr (inl none.1)) (inr (none.1, refl))
 
 pub done_turn : (side : Side) (max : ℕ) (a b : Telling) (es : List Entry) (tells : Option Telling) (starved : Bool) (before : Outlet)
     → Tells a es → tells ≡ Some b → Hands side.hands max side.due (Ok Done) a b → Turned Stop side es tells starved before before
@@ -162,9 +162,9 @@ stands_after e error a b es tells (inr k) = record { told = k.told ∙ tells.tol
 refused_why : (side : Side) (is : IsSide side) (error : DeskError) (a b : Telling) (es : List Entry) (starved : Bool) (before after : ℕ) → Tells a es
     → (is_starved error ≡ true → starved ≡ true) → Fails (side.hands []) error a b → LetsGo side es b starved before after
 refused_why side is error a b es starved before after tells s (inl r) = elim r.why [
-  inl shut ↦ inr (inr (inl (ap (λ (t : Telling). is_some t.shut) r.same ∙ ap is_some shut)))
+  | inl shut ↦ inr (inr (inl (ap (λ (t : Telling). is_some t.shut) r.same ∙ ap is_some shut)))
   | inr why ↦ elim why.1 [
-    inl hungry ↦ inr (inr (inr (inl (s (ap is_starved hungry)))))
+    | inl hungry ↦ inr (inr (inr (inl (s (ap is_starved hungry)))))
     | inr refuses ↦ inl (is.unasked (reverse es) error tells.lawful.legal (refuses (reverse es) tells.lawful))
   ]
 ]
@@ -183,7 +183,7 @@ pub starved_turn : (side : Side) (error : DeskError) (a b d : Telling) (es : Lis
     → EndsAll side Starved starved b d → Turned Stop side es tells starved before before
 starved_turn side error a b d es tells starved before held told hungry fails ends =
     elim (ends es (stands_after (side.hands []) error a b es held fails)) [
-      inl stands ↦ with_end stands
+      | inl stands ↦ with_end stands
       | inr refused ↦ quiet side es d tells starved before true told refused.0 (inr (inr (inr (inl hungry)))) (inl refl)
     ]
   where
@@ -215,9 +215,9 @@ let_go side es d starved before after rise (inr (inr (inr stopped))) = inr (inr 
 
 module _ (side : Side) (max : ℕ) (bytes : List ℕ) (a b d : Telling) (es : List Entry) (tells : Option Telling) (starved : Bool)
     (before after : Outlet) (held : Tells a es) (told : tells ≡ Some d) (hands : Hands side.hands max side.due (Ok (Bytes bytes)) a b) where
-
-  more_turn : d ≡ b → HandsOn bytes More before after → before.faults ≤ after.faults → WrittenSoFar side es tells before after
-  more_turn same on count = record {
+  more_turn : d ≡ b → HandsOn bytes More before after → before.faults ≤ after.faults → after.closed ≡ before.closed
+      → WrittenSoFar side es tells before after
+  more_turn same on count stays = record {
     now = d;
     is = told;
     pieces = bytes ∷ [];
@@ -226,6 +226,7 @@ module _ (side : Side) (max : ℕ) (bytes : List ℕ) (a b d : Telling) (es : Li
     held = subst (λ (t : Telling). Tells t (es ++ side.hands bytes ∷ [])) (sym same) (handed_on side max a b es held bytes hands);
     wrote = λ out is. on out is ∙ ap (λ (bs : List ℕ). Some (out ++ bs)) (sym (append-nil bytes));
     count = count;
+    stays = stays;
   }
 
   stopped_with : (last : List Entry) → Stands d (es ++ side.hands bytes ∷ [] ++ last)
@@ -253,16 +254,16 @@ module _ (side : Side) (max : ℕ) (bytes : List ℕ) (a b d : Telling) (es : Li
   stop_turn rise ends out =
       let behind = es ++ side.hands bytes ∷ [] in
       elim (ends behind (stands_of b behind (handed_on side max a b es held bytes hands))) [
-        inl stands ↦ stopped_with (side.ends Fault ∷ []) stands (inl (refl, rise)) rise out
+        | inl stands ↦ stopped_with (side.ends Fault ∷ []) stands (inl (refl, rise)) rise out
         | inr refused ↦ stopped_with [] (subst (λ (xs : List Entry). Stands d xs) (sym (append-nil behind)) refused.0)
-          (let_go side behind d starved before.faults after.faults rise refused.1) rise out
+            (let_go side behind d starved before.faults after.faults rise refused.1) rise out
       ]
 
   pub handed_turn : (going : Next) → Leaves side going starved before.faults after.faults b d → HandsOn bytes going before after
-      → before.faults ≤ after.faults → Turned going side es tells starved before after
-  handed_turn More same on count = more_turn same on count
-  handed_turn Idle never on count = absurd never
-  handed_turn Stop broke out count = stop_turn broke.0 broke.1 out
+      → before.faults ≤ after.faults → after.closed ≡ before.closed → Turned going side es tells starved before after
+  handed_turn More same on count stays = more_turn same on count stays
+  handed_turn Idle never on count stays = absurd never
+  handed_turn Stop broke out count stays = stop_turn broke.0 broke.1 out
 
 -- ---- one turn behind another
 pub so_far_first : (side : Side) (es : List Entry) (a : Telling) (tells : Option Telling) (o : Outlet) → Tells a es → tells ≡ Some a
@@ -276,6 +277,7 @@ so_far_first side es a tells o held told = record {
   held = held;
   wrote = λ out is. is ∙ ap Some (sym (append-nil out));
   count = omega arith;
+  stays = refl;
 }
 
 made_more : (side : Side) (es mid last : List Entry) (xs ys : List (List ℕ)) → mid ≡ es ++ map side.hands xs → last ≡ mid ++ map side.hands ys
@@ -296,6 +298,7 @@ so_far_more side es tells1 tells2 first mid after x y = record {
   wrote = λ out is. y.wrote (out ++ concat x.pieces) (x.wrote out is) ∙ ap Some (append_assoc out (concat x.pieces) (concat y.pieces)
       ∙ ap (λ (bs : List ℕ). out ++ bs) (sym (concat-append x.pieces y.pieces)));
   count = omega (arith, x.count, y.count);
+  stays = y.stays ∙ x.stays;
 }
 
 rises_from : (first before after : ℕ) → first ≤ before → Rises before after → Rises first after
@@ -330,7 +333,7 @@ written_after side es tells1 tells2 starved first mid after x y = record {
   wrote = λ out is. y.wrote (out ++ concat x.pieces) (x.wrote out is) ∙ ap Some (append_assoc out (concat x.pieces) y.front);
   whole = elim y.whole [ inl all ↦ inl all | inr rise ↦ inr (rises_from first.faults mid.faults after.faults x.count rise) ];
   why = last_from side y.entries y.now starved first.faults mid.faults after.faults y.last x.count y.why;
-  closes = y.closes;
+  closes = elim y.closes [ inl closed ↦ inl closed | inr idle ↦ inr (idle.0, idle.1 ∙ x.stays) ];
 }
 
 -- ---- passes

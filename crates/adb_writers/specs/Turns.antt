@@ -12,7 +12,7 @@ use Rattle.adb_writers.specs.Writing.{Side, Outlet, Stands, Written}
 use Rattle.adb_writers.specs.declared.next.Next.{Next}
 use Rattle.adb_writers.specs.declared.next.Next.TheVariants.{More, Idle, Stop}
 
--- All that was handed out so far was written, in order.
+-- All that was handed out so far was written, in order. `entries` is what the hall tells now.
 pub record WrittenSoFar (side : Side) (es : List Entry) (tells : Option Telling) (before after : Outlet) : Type 0 where
   pub now : Telling
   pub is : tells ≡ Some now
@@ -22,6 +22,7 @@ pub record WrittenSoFar (side : Side) (es : List Entry) (tells : Option Telling)
   pub held : Tells now entries
   pub wrote : (out : List ℕ) → before.written ≡ Some out → after.written ≡ Some (out ++ concat pieces)
   pub count : before.faults ≤ after.faults
+  pub stays : after.closed ≡ before.closed
 
 -- the same, closed
 abbrev pub when_closed : Outlet → Outlet

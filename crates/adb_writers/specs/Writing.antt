@@ -59,8 +59,9 @@ IsLast side entries now starved before after [] = LetsGo side entries now starve
 IsLast side entries now starved before after (e ∷ []) = Breaks side starved before after e
 IsLast side entries now starved before after (e ∷ more) = ⊥
 
--- A writer made an entry for each piece that was handed out to it, and at most one more, which ended its connection. What it wrote is a front of
--- the joined pieces, and all of them unless a write failed. It has a cause to hand its pass back, and closed its port unless nothing is due.
+-- A writer made an entry for each piece that was handed out to it (`entries` is what was told then), and at most one more, which ended its
+-- connection. What it wrote is a front of the joined pieces, and all of them unless a write failed. It has a cause to hand its pass back, and closed
+-- its port; where nothing is due it may have left the port as it was.
 pub record Written (side : Side) (es : List Entry) (tells : Option Telling) (starved : Bool) (before after : Outlet) : Type 0 where
   pub now : Telling
   pub is : tells ≡ Some now
@@ -75,4 +76,4 @@ pub record Written (side : Side) (es : List Entry) (tells : Option Telling) (sta
   pub wrote : (out : List ℕ) → before.written ≡ Some out → after.written ≡ Some (out ++ front)
   pub whole : (lost ≡ []) ⊎ Rises before.faults after.faults
   pub why : IsLast side entries now starved before.faults after.faults last
-  pub closes : (after.closed ≡ true) ⊎ (side.due (state (reverse entries)) ≡ Some [])
+  pub closes : (after.closed ≡ true) ⊎ ((side.due (state (reverse entries)) ≡ Some []) × (after.closed ≡ before.closed))

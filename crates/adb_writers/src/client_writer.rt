@@ -45,6 +45,7 @@ fn write_out<E: Ledger, M: Ledger, K: Marks, H: Hall<E, M, K>, O: PortOut>(
     ensures number { pass.new.pass.number ≡ pass.old.pass.number }
     ensures mark { H.marked hall.new ≡ H.marked hall.old }
     ensures count { O.faults port.old ≤ O.faults port.new }
+    ensures closed { O.closed port.new ≡ O.closed port.old }
     ensures told { Where (H.tells hall.old) (Leaves (client_side pass.old.pass.number) result
         pass.new.pass.starved (O.faults port.old) (O.faults port.new)) (H.tells hall.new) }
     ensures wrote { HandsOn bytes.now result
@@ -92,14 +93,14 @@ fn turn<E: Ledger, M: Ledger, K: Marks, H: Hall<E, M, K>, O: PortOut, G: Gate>(
     }
 }
 
-/// Writes to a client what is handed out to it, at most a whole packet at a time, and hands the pass
-/// back when the client is gone, a write failed, the hall is shut, or a call found no memory. Then the
-/// port is closed. Over a hall that tells it also hands the pass back where nothing is due, and leaves
-/// the port as it is.
+/// Writes to a client what is handed out to it, at most a whole packet at a time. It closes the
+/// port and hands the pass back when the client is gone, a write failed, the hall is shut, or a
+/// call found no memory. Over a hall that tells it also hands the pass back where nothing is due,
+/// with the port as it was.
 ///
 /// A write that fails ends the client's input by `Fault`, and want of memory ends it by `Starved`,
-/// unless the hall refuses that. After a kill it goes on until the client is gone: the kill's own reply
-/// is written. It passes the gate at `Place::ClientWriter` before each write.
+/// unless the hall refuses that. After a kill it goes on until the client is gone, so the reply of
+/// the kill itself is written. It passes the gate at `Place::ClientWriter` before each write.
 pub fn write_client<
     W: Wait + Copy + Send + Sync + Drop + 'static,
     E: Ledger,

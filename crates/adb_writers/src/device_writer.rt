@@ -11,8 +11,8 @@ ghost use Rattle.adb_writers.specs.Writing.{Written, link_side, outlet};
 ghost use Rattle.adb_writers.specs.declared.next.Next.{Next};
 
 use crate::next::Next;
-use adb_connections::{Gate, Place, DeviceOut};
-use adb_desk_log::{LinkOut, DeskError, Marks};
+use adb_connections::{DeviceOut, Gate, Place};
+use adb_desk_log::{DeskError, LinkOut, Marks};
 use adb_hall::Hall;
 use adb_hub::{Handed, HubError};
 use adb_outside::{Cause, Text, Wrote};
@@ -67,6 +67,7 @@ fn write_out<E: Ledger, M: Ledger, K: Marks, H: Hall<E, M, K>>(
     ensures number { pass.new.pass.number ≡ pass.old.pass.number }
     ensures mark { H.marked hall.new ≡ H.marked hall.old }
     ensures count { faults port.old ≤ faults port.new }
+    ensures closed { closed port.new ≡ closed port.old }
     ensures told { Where (H.tells hall.old) (Leaves (link_side pass.old.pass.number) result
         pass.new.pass.starved (faults port.old) (faults port.new)) (H.tells hall.new) }
     ensures wrote { HandsOn bytes.now result
@@ -114,10 +115,10 @@ fn turn<E: Ledger, M: Ledger, K: Marks, H: Hall<E, M, K>, G: Gate>(
     }
 }
 
-/// Writes to a device what is handed out on its link, at most a whole packet at a time, and hands the
-/// pass back when the link is gone, a write failed, the hall is shut, or a call found no memory. Then
-/// the device is unplugged. Over a hall that tells it also hands the pass back where nothing is due,
-/// and leaves the device as it is.
+/// Writes to a device what is handed out on its link, at most a whole packet at a time. It unplugs
+/// the device and hands the pass back when the link is gone, a write failed, the hall is shut, or a
+/// call found no memory. Over a hall that tells it also hands the pass back where nothing is due,
+/// with the device as it was.
 ///
 /// A write that fails ends the link by `Fault`, and want of memory ends it by `Starved`, unless the
 /// hall refuses that. After a kill it goes on until the link is gone. It passes the gate at
@@ -129,7 +130,13 @@ pub fn write_device<
     K: Marks,
     H: Hall<E, M, K>,
     G: Gate,
->(rt: W, hall: &mut H, port: &mut Box<dyn DeviceOut + Send>, pass: LinkOut<E, M, K>, gate: &G) -> LinkOut<E, M, K>
+>(
+    rt: W,
+    hall: &mut H,
+    port: &mut Box<dyn DeviceOut + Send>,
+    pass: LinkOut<E, M, K>,
+    gate: &G,
+) -> LinkOut<E, M, K>
     ensures number { result.pass.number ≡ pass.pass.number }
     ensures mark { H.marked hall.new ≡ H.marked hall.old }
     ensures count { faults port.old ≤ faults port.new }

@@ -13,6 +13,6 @@ invariant-loop g l =
     × (g.H.Hall.marked l.hall ≡ g.H.Hall.marked l.fn.hall)
     × (g.O.PortOut.faults l.fn.port ≤ g.O.PortOut.faults l.port)
     × ((a : Telling) (es : List Entry) → g.H.Hall.tells l.fn.hall ≡ Some a → Tells a es
-        → WrittenSoFar (client_side l.fn.pass.pass.number) es (g.H.Hall.tells l.hall)
-            (outlet (g.O.PortOut.faults l.fn.port) (g.O.PortOut.written l.fn.port) (g.O.PortOut.closed l.fn.port))
-            (outlet (g.O.PortOut.faults l.port) (g.O.PortOut.written l.port) (g.O.PortOut.closed l.port)))
+    → WrittenSoFar (client_side l.fn.pass.pass.number) es (g.H.Hall.tells l.hall)
+    (outlet (g.O.PortOut.faults l.fn.port) (g.O.PortOut.written l.fn.port) (g.O.PortOut.closed l.fn.port))
+    (outlet (g.O.PortOut.faults l.port) (g.O.PortOut.written l.port) (g.O.PortOut.closed l.port)))

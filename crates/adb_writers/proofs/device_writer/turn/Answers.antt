@@ -1,4 +1,4 @@
-use Rattle.std.proofs.Common.{◌≡◌, true, Some, rules, refl, ap, ◌∙◌}
+use Rattle.std.proofs.Common.{◌≡◌, true, ap, ◌∙◌}
 use Rattle.adb_hub.specs.declared.error.HubError.{HubError}
 use Rattle.adb_desk_log.specs.declared.error.DeskError.TheVariants.{Hub}
 use Rattle.adb_desk_log.specs.Pass.{PassView}
@@ -15,7 +15,7 @@ returns-in-Ok-Bytes-clause-told g c a es t held =
     let n = ap (λ (p : PassView). p.number) c.send.ensures.pass ∙ handed_number c.args.pass.now.pass c.send.result in
     let k = where_some _ _ _ h.0 h.1 (rw n at c.write_out.ensures.told) in
     handed_turn (link_side c.args.pass.now.pass.number) _ _ a h.0 k.0 es _ _ _ _ held k.1 h.2 _ k.2 c.write_out.ensures.wrote
-    c.write_out.ensures.count
+    c.write_out.ensures.count c.write_out.ensures.closed
 
 pub returns-in-Ok-Nothing-clause-told : goal.returns-in-Ok-Nothing-clause-told
 returns-in-Ok-Nothing-clause-told g c a es t held =
@@ -35,7 +35,7 @@ returns-in-Err-Hub-OutOfMemory-clause-told g c a es t held =
     let n = ap (λ (p : PassView). p.number) c.send.ensures.pass ∙ handed_number p c.send.result in
     let k = where_some _ _ _ h.0 h.1 (rw n at c.break_off.ensures.told) in
     let hungry : is_starved error ≡ true =
-        ap is_starved c.in-Err-Hub-OutOfMemory.field-0-is ∙ ap (λ (e : HubError). is_starved (Hub e)) c.in-Err-Hub-OutOfMemory.field-0-0-is in
+    ap is_starved c.in-Err-Hub-OutOfMemory.field-0-is ∙ ap (λ (e : HubError). is_starved (Hub e)) c.in-Err-Hub-OutOfMemory.field-0-0-is in
     let starved = handed_starves p c.send.new.pass.pass c.send.result c.send.ensures.pass error c.in-Err-Hub-OutOfMemory.is hungry in
     starved_turn (link_side p.number) error a h.0 k.0 es _ _ _ held k.1 (c.break_off.ensures.starved starved) h.2 k.2
 

@@ -1,4 +1,4 @@
-use Rattle.std.proofs.Common.{rules, ◌∙◌, ◌≤◌, arith, refl}
+use Rattle.std.proofs.Common.{◌∙◌, arith, refl}
 use Rattle.adb_writers.specs.Writing.{link_side}
 use Rattle.adb_writers.proofs.Writings.{so_far_first, so_far_more, written_after}
 use Rattle.adb_writers.proofs.device_writer.write_device.Goals as goal

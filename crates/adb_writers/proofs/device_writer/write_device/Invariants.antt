@@ -15,6 +15,6 @@ invariant-loop g l =
     × (g.H.Hall.marked l.hall ≡ g.H.Hall.marked l.fn.hall)
     × (first.faults l.fn.port.value ≤ last.faults l.port.value)
     × ((a : Telling) (es : List Entry) → g.H.Hall.tells l.fn.hall ≡ Some a → Tells a es
-        → WrittenSoFar (link_side l.fn.pass.pass.number) es (g.H.Hall.tells l.hall)
-            (outlet (first.faults l.fn.port.value) (first.written l.fn.port.value) (first.closed l.fn.port.value))
-            (outlet (last.faults l.port.value) (last.written l.port.value) (last.closed l.port.value)))
+    → WrittenSoFar (link_side l.fn.pass.pass.number) es (g.H.Hall.tells l.hall)
+    (outlet (first.faults l.fn.port.value) (first.written l.fn.port.value) (first.closed l.fn.port.value))
+    (outlet (last.faults l.port.value) (last.written l.port.value) (last.closed l.port.value)))
