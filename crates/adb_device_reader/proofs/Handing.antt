@@ -1,0 +1,1 @@
+-- What calls of a hall leave when pieces are handed in and a link's input is ended.

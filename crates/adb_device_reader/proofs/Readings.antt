@@ -1,0 +1,1 @@
+-- Turns of a device's reader, one after another.
