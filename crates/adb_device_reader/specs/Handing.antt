@@ -1,5 +1,5 @@
 -- What a hall tells when pieces are handed in and a link's input is ended.
-use Rattle.std.specs.Prelude.{ℕ, ◌≡◌, Bool, true, false, List, [], ◌∷◌, ◌++◌, map, reverse, Option, Some, is_some, ◌⊎◌, ⊤}
+use Rattle.std.specs.Prelude.{ℕ, ◌≡◌, Bool, true, false, List, [], ◌∷◌, ◌++◌, map, reverse, Option, Some, is_some, ◌⊎◌}
 use Rattle.adb_outside.specs.declared.kinds.Cause.{Cause}
 use Rattle.adb_outside.specs.declared.kinds.Cause.TheVariants.{Starved}
 use Rattle.adb_capture.specs.declared.entry.Entry.{Entry}
@@ -31,11 +31,9 @@ IsGone t entries = link_life t (state (reverse entries)) ≡ Gone
 abbrev pub IsCutOff : ℕ → List Entry → Telling → Bool → Type 0
 IsCutOff t entries now starved = IsGone t entries ⊎ IsStopped now starved
 
--- at most one entry, which ends the link's input for want of memory
+-- no entry, or one that ends the link's input for want of memory
 abbrev pub IsGivenUp : ℕ → Bool → List Entry → Type 0
-IsGivenUp t starved [] = ⊤
-IsGivenUp t starved (Detach u Starved ∷ []) = (u ≡ t) × (starved ≡ true)
-IsGivenUp t starved entries = ⊥
+IsGivenUp t starved last = (last ≡ []) ⊎ ((last ≡ Detach t Starved ∷ []) × (starved ≡ true))
 
 -- The reader is cut off behind these entries, and ends the link's input at most for want of memory.
 pub record Breaks (t : ℕ) (entries last : List Entry) (starved : Bool) (tells : Option Telling) : Type 0 where

@@ -32,15 +32,15 @@ plug_of Failed = plug.Failed
 plug_of (Refused error) = plug.Here
 
 -- whether the device failed
-abbrev pub is_failed : {E M K : Type 0} → Plugged E M K → Bool
-is_failed (Link reading writing) = false
-is_failed Never = false
-is_failed Failed = true
-is_failed (Refused error) = false
+abbrev pub is_failed_plugged : {E M K : Type 0} → Plugged E M K → Bool
+is_failed_plugged (Link reading writing) = false
+is_failed_plugged Never = false
+is_failed_plugged Failed = true
+is_failed_plugged (Refused error) = false
 
 -- whether the hall gave a marked answer
-abbrev pub marks : {E M K : Type 0} → Plugged E M K → Bool
-marks (Link reading writing) = false
-marks Never = false
-marks Failed = false
-marks (Refused error) = is_marked error
+abbrev pub marks_plugged : {E M K : Type 0} → Plugged E M K → Bool
+marks_plugged (Link reading writing) = false
+marks_plugged Never = false
+marks_plugged Failed = false
+marks_plugged (Refused error) = is_marked error

@@ -1,5 +1,5 @@
 -- What a device's reader does, over a hall and a device that tell.
-use Rattle.std.specs.Prelude.{ℕ, ◌≡◌, ◌≢◌, ◌<◌, Bool, true, false, List, [], ◌∷◌, ◌++◌, length, Option, Some, ◌⊎◌, ⊤}
+use Rattle.std.specs.Prelude.{ℕ, ◌≡◌, ◌≢◌, ◌<◌, Bool, true, false, List, [], ◌∷◌, ◌++◌, length, Option, Some, ◌⊎◌}
 use Rattle.std.specs.List.{All, concat}
 use Rattle.adb_outside.specs.Outside.{Rises}
 use Rattle.adb_outside.specs.declared.kinds.Cause.{Cause}
@@ -8,7 +8,7 @@ use Rattle.adb_wire.specs.Slicing.{slice_len, IsSlice, HasSliced}
 use Rattle.adb_capture.specs.declared.entry.Entry.{Entry}
 use Rattle.adb_capture.specs.declared.entry.Entry.TheVariants.{Detach}
 use Rattle.adb_hall.specs.Telling.{Telling}
-use Rattle.adb_device_reader.specs.Handing.{Stands, IsCutOff, IsGivenUp, received}
+use Rattle.adb_device_reader.specs.Handing.{Stands, IsCutOff, Breaks, received}
 
 -- where a reader begins: the entries that the hall tells, the bytes that the device has still to send, and the count of its faults
 pub record Start : Type 0 where
@@ -28,17 +28,21 @@ EndsBy start rest faults starved Fault = Rises start.faults faults
 EndsBy start rest faults starved Starved = starved ≡ true
 EndsBy start rest faults starved NoThread = ⊥
 
--- at most one entry, which ends the link's input for its cause
+-- no entry, or one that ends the link's input for its cause
 abbrev pub IsLast : ℕ → Start → List ℕ → ℕ → Bool → List Entry → Type 0
-IsLast t start rest faults starved [] = ⊤
-IsLast t start rest faults starved (Detach u cause ∷ []) = (u ≡ t) × EndsBy start rest faults starved cause
-IsLast t start rest faults starved entries = ⊥
+IsLast t start rest faults starved last =
+    (last ≡ []) ⊎ ((cause : Cause) × (last ≡ Detach t cause ∷ []) × EndsBy start rest faults starved cause)
 
--- at most one piece: what was held when the device had ended, which is no whole slice
-abbrev pub IsRest : Start → List ℕ → ℕ → List (List ℕ) → Type 0
-IsRest start rest faults [] = ⊤
-IsRest start rest faults (piece ∷ []) = (piece ≢ []) × (length piece < slice_len piece) × HasEnded start rest faults
-IsRest start rest faults (piece ∷ other ∷ others) = ⊥
+-- bytes that were held when the device had ended, and are no whole slice
+pub record IsRest (start : Start) (rest : List ℕ) (faults : ℕ) (piece : List ℕ) : Type 0 where
+  pub some : piece ≢ []
+  pub short : length piece < slice_len piece
+  pub ended : HasEnded start rest faults
+
+-- no piece, or one that is such a rest
+abbrev pub IsEnding : Start → List ℕ → ℕ → List (List ℕ) → Type 0
+IsEnding start rest faults ending =
+    (ending ≡ []) ⊎ ((piece : List ℕ) × (ending ≡ piece ∷ []) × IsRest start rest faults piece)
 
 -- What was handed in, each piece by one entry, is slices and at most one rest behind them. Joined, the pieces are what was taken of the device;
 -- bytes are lost only where the reader was cut off. At most one entry more ends the link's input; without it the reader was cut off.
@@ -50,7 +54,7 @@ pub record Done (t : ℕ) (start : Start) (rest : List ℕ) (faults : ℕ) (star
   pub lost : List ℕ
   pub pieces_are : pieces ≡ slices ++ ending
   pub each : All IsSlice slices
-  pub short : IsRest start rest faults ending
+  pub short : IsEnding start rest faults ending
   pub ends : IsLast t start rest faults starved last
   pub taken : start.bytes ≡ concat pieces ++ lost ++ rest
   pub hall : Stands (start.entries ++ received t pieces ++ last) tells
@@ -78,10 +82,8 @@ pub record Cut (t : ℕ) (start : Start) (rest : List ℕ) (starved : Bool) (tel
   pub last : List Entry
   pub lost : List ℕ
   pub each : All IsSlice slices
-  pub ends : IsGivenUp t starved last
   pub taken : start.bytes ≡ concat slices ++ lost ++ rest
-  pub hall : Stands (start.entries ++ received t slices ++ last) tells
-  pub cut : IsCutOff t (start.entries ++ received t slices) hall.now starved
+  pub breaks : Breaks t (start.entries ++ received t slices) last starved tells
 
 abbrev pub Fed : Bool → ℕ → Start → List ℕ → List ℕ → Bool → Option Telling → Type 0
 Fed true t start held rest starved tells = SoFar t start held rest tells

@@ -1,11 +1,11 @@
 //! One device is plugged in.
 
 ghost use Rattle.std.specs.Prelude.{◌≡◌, ◌≢◌};
-ghost use Rattle.adb_outside.specs.Outside.{Counts, TellsOneMore};
+ghost use Rattle.adb_outside.specs.Outside.{Counted, TellsOneMore};
 ghost use Rattle.adb_desk_log.specs.declared.error.DeskError.{DeskError};
 ghost use Rattle.adb_hall.specs.Telling.{Where};
 ghost use Rattle.adb_hall.specs.Passes.{or_marked};
-ghost use Rattle.adb_device_reader.specs.Plugging.{Plugs, HasPasses, plug_of, is_failed, marks};
+ghost use Rattle.adb_device_reader.specs.Plugging.{Plugs, HasPasses, plug_of, is_failed_plugged, marks_plugged};
 
 use adb_connections::{DeviceIn, DeviceOut, Plug};
 use adb_desk_log::{DeskError, LinkIn, LinkOut, Marks};
@@ -49,11 +49,12 @@ pub fn plug_in<E: Ledger, M: Ledger, K: Marks, H: Hall<E, M, K>>(
     ensures told { Where (H.tells hall.old) (Plugs device.old.kind device.old.serial result)
         (H.tells hall.new) }
     ensures passes { HasPasses result }
-    ensures counts { Counts steady faults device.old.input device.new.input (is_failed result) }
+    ensures counts { Counted (steady device.old.input) (steady device.new.input)
+        (faults device.old.input) (faults device.new.input) (is_failed_plugged result) }
     ensures left { left device.new.input ≡ left device.old.input }
     ensures same { device.new ≡ record device.old { input = device.new.input } }
     ensures steady { K.steady → result ≢ Plugged.Refused DeskError.RecordFault }
-    ensures mark { H.marked hall.new ≡ or_marked (marks result) (H.marked hall.old) }
+    ensures mark { H.marked hall.new ≡ or_marked (marks_plugged result) (H.marked hall.old) }
 {
     match device.input.plug() {
         Plug::Never => Plugged::Never,

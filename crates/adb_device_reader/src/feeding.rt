@@ -28,10 +28,10 @@ fn hand_in_whole<E: Ledger, M: Ledger, K: Marks, H: Hall<E, M, K>, G: Gate>(
         (H.tells hall.new) }
     ensures mark { H.marked hall.new ≡ H.marked hall.old }
 {
-    let going = match slicer.whole() {
-        None => return true,
-        Some(slice) => hand_in(hall, pass, slice, gate),
+    let Some(slice) = slicer.whole() else {
+        return true;
     };
+    let going = hand_in(hall, pass, slice, gate);
     slicer.clear();
     going
 }

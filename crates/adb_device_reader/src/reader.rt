@@ -16,9 +16,9 @@ use adb_wire::Slicer;
 use std::sync::Wait;
 use std::sync::ledger::Ledger;
 
-/// How many bytes a read may bring. Many small packets come by one read, and a long one by a read
+/// The most bytes of a read of a device. Many small packets come by one read, and a long one by a read
 /// for each of its 65,536 bytes; each byte is copied once, out of a buffer that stays in the cache.
-const MAX_PIECE: usize = 65_536;
+const MAX_READ: usize = 65_536;
 
 /// One turn: reads, and hands in what became whole. Answers whether more may follow.
 fn turn<E: Ledger, M: Ledger, K: Marks, H: Hall<E, M, K>, G: Gate>(
@@ -90,7 +90,7 @@ pub fn read_device<
 {
     let mut pass = pass;
     let mut slicer = slicer;
-    let mut buffer = [0u8; MAX_PIECE];
+    let mut buffer = [0u8; MAX_READ];
     for _ in rt.forever() {
         if !turn(hall, port, &mut pass, &mut slicer, &mut buffer, gate) {
             return pass;
