@@ -30,7 +30,7 @@ use Rattle.adb_device_reader.specs.Handing.{Stands, IsGone, IsCutOff, IsGivenUp,
 
 -- ---- passes
 pub same_number : (p : PassView) (n : ℕ) (result : Result Life DeskError) → (after_life p n result).number ≡ p.number
-same_number p n (Ok life) = refl
+same_number p n (Ok _) = refl
 same_number p n (Err Halted) = refl
 same_number p n (Err RecordFault) = refl
 same_number p n (Err (Hub error)) = refl
@@ -45,7 +45,7 @@ or_right false = refl
 
 -- a pass that is starved stays so
 pub still_starved : (p : PassView) (n : ℕ) (result : Result Life DeskError) → p.starved ≡ true → (after_life p n result).starved ≡ true
-still_starved p n (Ok life) is = or_left p.starved _ is
+still_starved p n (Ok _) is = or_left p.starved _ is
 still_starved p n (Err Halted) is = or_left p.starved _ is
 still_starved p n (Err RecordFault) is = or_left p.starved _ is
 still_starved p n (Err (Hub error)) is = or_left p.starved _ is
@@ -79,11 +79,11 @@ entered_stands e entries old new s b is made =
 
 -- nothing is kept of a link that was not drawn
 not_drawn : (h : History) (t : ℕ) → IsLegal h → is_drawn (state h).devices.drawn t ≡ false → link_life t (state h) ≡ Gone
-not_drawn h t legal no = ap life_of (go t no)
+not_drawn h t legal undrawn = ap life_of (go t undrawn)
   where
     go : (n : ℕ) → is_drawn (state h).devices.drawn n ≡ false → (state h).links n ≡ None
-    go zero no = (orderly h legal).links.zero
-    go (suc n) no = elim (cases_lt (state h).devices.drawn (suc n)) [
+    go zero undrawn = (orderly h legal).links.zero
+    go (suc n) undrawn = elim (cases_lt (state h).devices.drawn (suc n)) [
       | inl above ↦ (orderly h legal).links.above (suc n) above
       | inr within ↦ absurd (grind (arith, nat_tests))
     ]
@@ -121,7 +121,7 @@ breaks_of t entries starved tells u = record {
 cut_by : (t : ℕ) (e : Entry) (error : DeskError) (entries : List Entry) (a : Telling) (starved : Bool) → IsOfLink t e → (error ≡ Hub OutOfMemory → starved ≡ true)
     → IsLawful a.hub (reverse entries) ⊎ (is_some a.shut ≡ true)
     → (a.shut ≡ Some error)
-        ⊎ ((a.shut ≡ None) × ((error ≡ Hub OutOfMemory) ⊎ ((h : History) → IsLawful a.hub h → desk_refusal e (state h) ≡ Some error)))
+    ⊎ ((a.shut ≡ None) × ((error ≡ Hub OutOfMemory) ⊎ ((h : History) → IsLawful a.hub h → desk_refusal e (state h) ≡ Some error)))
     → IsCutOff t entries a starved
 cut_by t e error entries a starved of_link starves held (inl shut) = inr (inl (ap is_some shut))
 cut_by t e error entries a starved of_link starves held (inr (going, inl wants)) = inr (inr (inr (starves wants)))
@@ -151,7 +151,7 @@ unmade t e error entries old new s b starved of_link starves is (inr broken) =
 -- ---- an input is ended
 finished_by : (t : ℕ) (cause : Cause) (result : Result Life DeskError) (entries : List Entry) (old new : Option Telling) (s : Stands entries old) (b : Telling) (p : PassView)
     → new ≡ Some b → Lives (Detach t cause) (link_life t) result s.now b → Finished t cause entries (after_life p 0 result).starved new
-finished_by t cause (Ok life) entries old new s b p is lives = inl (entered_stands (Detach t cause) entries old new s b is lives.0)
+finished_by t cause (Ok _) entries old new s b p is lives = inl (entered_stands (Detach t cause) entries old new s b is lives.0)
 finished_by t cause (Err error) entries old new s b p is fails =
     inr (breaks_of t entries _ new (unmade t (Detach t cause) error entries old new s b _ (λ s. refl) (starved_by p 0 error) is fails))
 
@@ -207,9 +207,20 @@ pub refused : (t : ℕ) (piece : List ℕ) (error : DeskError) (entries : List E
 refused t piece error entries old new p q n pass told s =
     lost_all t piece q.starved entries [] new (breaks_of t entries q.starved new (refused_piece t piece error entries old new p q n pass told s))
 
--- memory ran out, and the link's input was ended for it
-pub gave_up : (t : ℕ) (piece : List ℕ) (entries : List Entry) (starved : Bool) (new : Option Telling) → starved ≡ true → Finished t Starved entries starved new
+gave_up_by : (t : ℕ) (piece : List ℕ) (entries : List Entry) (starved : Bool) (new : Option Telling) → starved ≡ true → Finished t Starved entries starved new
     → Handed false t piece entries starved new
-gave_up t piece entries starved new is (inl stands) =
+gave_up_by t piece entries starved new is (inl stands) =
     lost_all t piece starved entries (Detach t Starved ∷ []) new (record { hall = stands; ends = inr (refl, is); cut = inr (inr (inr is)) })
-gave_up t piece entries starved new is (inr breaks) = lost_all t piece starved entries [] new breaks
+gave_up_by t piece entries starved new is (inr breaks) = lost_all t piece starved entries [] new breaks
+
+-- memory ran out, and the link's input was ended for it
+pub gave_up : (piece : List ℕ) (error : DeskError) (entries : List Entry) (old now new : Option Telling) (p q : PassView) (n : ℕ) (starved : Bool)
+    → error ≡ Hub OutOfMemory → q ≡ after_life p n (Err error) → Where old (Lives (Recv p.number piece) (link_life p.number) (Err error)) now → Stands entries old
+    → (q.starved ≡ true → starved ≡ true) → (Stands entries now → Finished q.number Starved entries starved new)
+    → Handed false p.number piece entries starved new
+gave_up piece error entries old now new p q n starved wants pass told s keeps finish =
+    let left = refused_piece p.number piece error entries old now p q n pass told s in
+    let same : q.number ≡ p.number = ap (λ (x : PassView). x.number) pass ∙ same_number p n (Err error) in
+    let first : q.starved ≡ true = ap (λ (x : PassView). x.starved) pass ∙ starved_by p n error wants in
+    gave_up_by p.number piece entries starved new (keeps first)
+    (subst (λ (t : ℕ). Finished t Starved entries starved new) same (finish left.hall))

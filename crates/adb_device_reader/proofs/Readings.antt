@@ -1,9 +1,10 @@
 -- A device's reader, one step after another.
 use Rattle.std.proofs.Common.{ℕ, ◌≡◌, ◌≢◌, ◌<◌, ◌≤◌, Bool, true, false, List, [], ◌∷◌, ◌++◌, length, take, drop, Option, Some, refl, sym, ap, ◌∙◌, subst, ◌⊎◌, inl, inr, arith}
-use Rattle.std.specs.Prelude.{reverse}
+use Rattle.std.specs.Prelude.{reverse, ◌==◌}
 use Rattle.std.specs.List.{All, concat}
-use Rattle.std.proofs.lemmas.List.{append-nil, append_assoc, map-append, take-append-drop}
-use Rattle.std.proofs.lemmas.List.Elements.{All-append}
+use Rattle.std.proofs.lemmas.Bool.Decides.{nat_tests}
+use Rattle.std.proofs.lemmas.List.{nil_from_length, append-nil, append_assoc, map-append, take-append-drop}
+use Rattle.std.proofs.lemmas.List.Elements.{All-push}
 use Rattle.std.proofs.lemmas.List.Folds.{concat-append}
 use Rattle.adb_outside.specs.Outside.{Rises}
 use Rattle.adb_outside.specs.declared.kinds.Cause.{Cause}
@@ -22,6 +23,12 @@ use Rattle.adb_device_reader.specs.Handing.{Stands, IsCutOff, IsGivenUp, Breaks,
 use Rattle.adb_device_reader.specs.Reading.{Start, HasEnded, EndsBy, IsLast, IsRest, IsEnding, Done, HasRead, SoFar, Cut, Fed, HasEndedBy, IsReading, Turned}
 
 -- ---- sizes
+pub same_le : (n : ℕ) → n ≤ n
+same_le n = omega arith
+
+pub at_most : (a b c : ℕ) → a ≤ b → b ≤ c → a ≤ c
+at_most a b c first second = omega arith
+
 pub need_of_nothing : 0 < need_of []
 need_of_nothing = omega (arith, slice_bounds [])
 
@@ -54,7 +61,7 @@ taken_by bytes fed held coming xs given lost taken joined is =
 
 each_by : (P : List ℕ → Type 0) (piece : List ℕ) (xs given : List (List ℕ)) (lost : List ℕ) → All P xs → P piece → IsAllOrNone piece given lost → All P (xs ++ given)
 each_by P piece xs given lost all one (inl (is, none)) =
-    subst (λ (ps : List (List ℕ)). All P (xs ++ ps)) (sym is) (All-append P xs (piece ∷ []) all (one, tt))
+    subst (λ (ps : List (List ℕ)). All P (xs ++ ps)) (sym is) (All-push P xs piece all one)
 each_by P piece xs given lost all one (inr (is, none)) =
     subst (λ (ps : List (List ℕ)). All P (xs ++ ps)) (sym is) (subst (All P) (sym (append-nil xs)) all)
 
@@ -83,13 +90,18 @@ so_far_taken t start held now piece coming n tells stands x = record {
   slices = x.slices;
   sliced = stands x.fed x.slices x.sliced;
   taken =
-  x.taken ∙ ap (λ (bs : List ℕ). x.fed ++ (bs ++ coming)) (sym (take-append-drop n piece))
-  ∙ ap (λ (bs : List ℕ). x.fed ++ bs) (append_assoc (take n piece) (drop n piece) coming) ∙ sym (append_assoc x.fed (take n piece) (drop n piece ++ coming));
+      x.taken ∙ ap (λ (bs : List ℕ). x.fed ++ (bs ++ coming)) (sym (take-append-drop n piece))
+      ∙ ap (λ (bs : List ℕ). x.fed ++ bs) (append_assoc (take n piece) (drop n piece) coming) ∙ sym (append_assoc x.fed (take n piece) (drop n piece ++ coming));
   hall = x.hall;
 }
 
+-- another spelling of what is to come
+pub so_far_as : (t : ℕ) (start : Start) (held xs ys coming : List ℕ) (tells : Option Telling) → xs ≡ ys → SoFar t start held (xs ++ coming) tells
+    → SoFar t start held (ys ++ coming) tells
+so_far_as t start held xs ys coming tells same x = subst (λ (bs : List ℕ). SoFar t start held (bs ++ coming) tells) same x
+
 -- the slice that was held was handed in, or the reader is cut off
-pub fed_by : (going : Bool) (t : ℕ) (start : Start) (held now coming : List ℕ) (starved : Bool) (old new : Option Telling) (x : SoFar t start held coming old)
+fed_by : (going : Bool) (t : ℕ) (start : Start) (held now coming : List ℕ) (starved : Bool) (old new : Option Telling) (x : SoFar t start held coming old)
     → IsSlice held → ((fed : List ℕ) (gave : List (List ℕ)) → HasSliced fed gave held → HasSliced fed (gave ++ held ∷ []) now)
     → Handed going t held (start.entries ++ received t x.slices) starved new → Fed going t start now coming starved new
 fed_by true t start held now coming starved old new x slice stands h = record {
@@ -108,6 +120,24 @@ fed_by false t start held now coming starved old new x slice stands h = record {
   breaks = subst (λ (es : List Entry). Breaks t es h.last starved new) (received_more t start.entries x.slices h.given) h.breaks;
 }
 
+pub fed_piece : (going : Bool) (t : ℕ) (start : Start) (piece held now coming : List ℕ) (starved : Bool) (old new : Option Telling) (x : SoFar t start held coming old)
+    → piece ≡ held → IsSlice piece → ((fed : List ℕ) (gave : List (List ℕ)) → HasSliced fed gave held → HasSliced fed (gave ++ held ∷ []) now)
+    → Handed going t piece (start.entries ++ received t x.slices) starved new → Fed going t start now coming starved new
+fed_piece going t start piece held now coming starved old new x same slice stands h =
+    fed_by going t start held now coming starved old new x (subst IsSlice same slice) stands
+    (subst (λ (bs : List ℕ). Handed going t bs (start.entries ++ received t x.slices) starved new) same h)
+
+-- a read brought bytes
+pub so_far_read : (t : ℕ) (start : Start) (held piece coming : List ℕ) (n : ℕ) (tells : Option Telling) → piece ≡ take n coming → SoFar t start held coming tells
+    → SoFar t start held (piece ++ drop n coming) tells
+so_far_read t start held piece coming n tells is x = record {
+  fed = x.fed;
+  slices = x.slices;
+  sliced = x.sliced;
+  taken = x.taken ∙ ap (λ (bs : List ℕ). x.fed ++ bs) (sym (take-append-drop n coming) ∙ ap (λ (bs : List ℕ). bs ++ drop n coming) (sym is));
+  hall = x.hall;
+}
+
 -- what was read behind is lost too
 pub cut_more : (t : ℕ) (start : Start) (piece rest : List ℕ) (starved : Bool) (tells : Option Telling) → Cut t start (piece ++ rest) starved tells
     → Cut t start rest starved tells
@@ -117,7 +147,7 @@ cut_more t start piece rest starved tells c = record {
   lost = c.lost ++ piece;
   each = c.each;
   taken =
-  c.taken ∙ sym (append_assoc (concat c.slices ++ c.lost) piece rest) ∙ ap (λ (bs : List ℕ). bs ++ rest) (append_assoc (concat c.slices) c.lost piece);
+      c.taken ∙ sym (append_assoc (concat c.slices ++ c.lost) piece rest) ∙ ap (λ (bs : List ℕ). bs ++ rest) (append_assoc (concat c.slices) c.lost piece);
   breaks = c.breaks;
 }
 
@@ -205,34 +235,43 @@ finished_done t start rest faults cause starved tells slices ending ended each s
 }
 
 -- where nothing was held
-pub done_empty : (t : ℕ) (start : Start) (held rest : List ℕ) (faults : ℕ) (cause : Cause) (starved : Bool) (old new : Option Telling) (x : SoFar t start held rest old)
-    → held ≡ [] → HasEndedBy start rest faults cause → Finished t cause (start.entries ++ received t x.slices) starved new → Done t start rest faults starved new
-done_empty t start held rest faults cause starved old new x none ended f =
+pub done_empty : (t : ℕ) (start : Start) (piece held rest : List ℕ) (faults : ℕ) (cause : Cause) (starved : Bool) (old new : Option Telling)
+    (x : SoFar t start held rest old) → piece ≡ held → (length piece == 0) ≡ true → HasEndedBy start rest faults cause
+    → Finished t cause (start.entries ++ received t x.slices) starved new → Done t start rest faults starved new
+done_empty t start piece held rest faults cause starved old new x same empty ended f =
+    let none : held ≡ [] = sym same ∙ nil_from_length piece (grind (arith, nat_tests)) in
     finished_done t start rest faults cause starved new x.slices [] ended x.sliced.each (inl refl)
     (taken_by start.bytes x.fed held rest x.slices [] [] x.taken x.sliced.bytes (inr (refl, sym none)))
     (subst (λ (ps : List (List ℕ)). Finished t cause (start.entries ++ received t ps) starved new) (sym (append-nil x.slices)) f)
 
+rest_is : (start : Start) (piece held rest : List ℕ) (faults : ℕ) (cause : Cause) → piece ≡ held → (length piece == 0) ≡ false → 0 < need_of held
+    → HasEndedBy start rest faults cause → IsRest start rest faults held
+rest_is start piece held rest faults cause same filled short ended =
+    let long : 0 < length held = subst (λ (bs : List ℕ). 0 < length bs) same (grind (arith, nat_tests)) in
+    record { some = λ none. absurd (let none : length held ≡ 0 = ap length none in omega arith); short = omega arith; ended = has_ended start rest faults cause ended }
+
 -- where what was held was handed in
-pub done_held : (t : ℕ) (start : Start) (held rest : List ℕ) (faults : ℕ) (cause : Cause) (starved : Bool) (old new : Option Telling) (x : SoFar t start held rest old)
-    → held ≢ [] → 0 < need_of held → HasEndedBy start rest faults cause
-    → Finished t cause (start.entries ++ received t x.slices ++ received t (held ∷ [])) starved new → Done t start rest faults starved new
-done_held t start held rest faults cause starved old new x some short ended f =
-    let is_rest : IsRest start rest faults held = record { some = some; short = omega arith; ended = has_ended start rest faults cause ended } in
+pub done_held : (t m : ℕ) (start : Start) (piece held rest : List ℕ) (faults : ℕ) (cause : Cause) (first starved : Bool) (old now new : Option Telling)
+    (x : SoFar t start held rest old) → piece ≡ held → (length piece == 0) ≡ false → 0 < need_of held → HasEndedBy start rest faults cause → m ≡ t
+    → Handed true t piece (start.entries ++ received t x.slices) first now → ((es : List Entry) → Stands es now → Finished m cause es starved new)
+    → Done t start rest faults starved new
+done_held t m start piece held rest faults cause first starved old now new x same filled short ended number h finish =
+    let is_rest = rest_is start piece held rest faults cause same filled short ended in
+    let stands : Stands (start.entries ++ received t (x.slices ++ held ∷ [])) now =
+    subst (λ (es : List Entry). Stands es now) (received_more t start.entries x.slices (held ∷ []))
+    (subst (λ (bs : List ℕ). Handed true t bs (start.entries ++ received t x.slices) first now) same h) in
     finished_done t start rest faults cause starved new x.slices (held ∷ []) ended x.sliced.each (inr (held, refl, is_rest))
     (taken_by start.bytes x.fed held rest x.slices (held ∷ []) [] x.taken x.sliced.bytes (inl (refl, refl)))
-    (subst (λ (es : List Entry). Finished t cause es starved new) (received_more t start.entries x.slices (held ∷ [])) f)
+    (subst (λ (u : ℕ). Finished u cause (start.entries ++ received t (x.slices ++ held ∷ [])) starved new) number (finish _ stands))
 
 ending_by : (start : Start) (held rest : List ℕ) (faults : ℕ) (given : List (List ℕ)) (lost : List ℕ) → IsRest start rest faults held → IsAllOrNone held given lost
     → IsEnding start rest faults given
 ending_by start held rest faults given lost is_rest (inl (all, none)) = inr (held, all, is_rest)
 ending_by start held rest faults given lost is_rest (inr (none, all)) = inl none
 
--- where the reader was cut off at what was held
-pub done_stopped : (t : ℕ) (start : Start) (held rest : List ℕ) (faults : ℕ) (cause : Cause) (starved : Bool) (old new : Option Telling)
-    (x : SoFar t start held rest old) → held ≢ [] → 0 < need_of held → HasEndedBy start rest faults cause
-    → Stops t held (start.entries ++ received t x.slices) starved new → Done t start rest faults starved new
-done_stopped t start held rest faults cause starved old new x some short ended s =
-    let is_rest : IsRest start rest faults held = record { some = some; short = omega arith; ended = has_ended start rest faults cause ended } in
+stopped_done : (t : ℕ) (start : Start) (held rest : List ℕ) (faults : ℕ) (starved : Bool) (old new : Option Telling) (x : SoFar t start held rest old)
+    → IsRest start rest faults held → Stops t held (start.entries ++ received t x.slices) starved new → Done t start rest faults starved new
+stopped_done t start held rest faults starved old new x is_rest s =
     let breaks : Breaks t (start.entries ++ received t (x.slices ++ s.given)) s.last starved new =
     subst (λ (es : List Entry). Breaks t es s.last starved new) (received_more t start.entries x.slices s.given) s.breaks in
     record {
@@ -250,3 +289,11 @@ done_stopped t start held rest faults cause starved old new x some short ended s
       whole = inr breaks.cut;
       why = inr breaks.cut;
     }
+
+-- where the reader was cut off at what was held
+pub done_stopped : (t : ℕ) (start : Start) (piece held rest : List ℕ) (faults : ℕ) (cause : Cause) (starved : Bool) (old new : Option Telling)
+    (x : SoFar t start held rest old) → piece ≡ held → (length piece == 0) ≡ false → 0 < need_of held → HasEndedBy start rest faults cause
+    → Handed false t piece (start.entries ++ received t x.slices) starved new → Done t start rest faults starved new
+done_stopped t start piece held rest faults cause starved old new x same filled short ended h =
+    stopped_done t start held rest faults starved old new x (rest_is start piece held rest faults cause same filled short ended)
+    (subst (λ (bs : List ℕ). Stops t bs (start.entries ++ received t x.slices) starved new) same h)

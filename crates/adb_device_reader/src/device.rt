@@ -49,8 +49,10 @@ pub fn plug_in<E: Ledger, M: Ledger, K: Marks, H: Hall<E, M, K>>(
     ensures told { Where (H.tells hall.old) (Plugs device.old.kind device.old.serial result)
         (H.tells hall.new) }
     ensures passes { HasPasses result }
-    ensures counts { Counted (steady device.old.input) (steady device.new.input)
-        (faults device.old.input) (faults device.new.input) (is_failed_plugged result) }
+    ensures counts { let old = device.old.input in let new = device.new.input in
+        let before = (DeviceIn-box old).DeviceIn in let after = (DeviceIn-box new).DeviceIn in
+        Counted (before.steady old.value) (after.steady new.value)
+        (before.faults old.value) (after.faults new.value) (is_failed_plugged result) }
     ensures left { left device.new.input ≡ left device.old.input }
     ensures same { device.new ≡ record device.old { input = device.new.input } }
     ensures steady { K.steady → result ≢ Plugged.Refused DeskError.RecordFault }
