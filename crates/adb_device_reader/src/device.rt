@@ -2,6 +2,7 @@
 
 ghost use Rattle.std.specs.Prelude.{◌≡◌, ◌≢◌};
 ghost use Rattle.adb_outside.specs.Outside.{Counted, TellsOneMore};
+ghost use Rattle.adb_connections.specs.Device.{is_failed_plug};
 ghost use Rattle.adb_desk_log.specs.declared.error.DeskError.{DeskError};
 ghost use Rattle.adb_hall.specs.Telling.{Where};
 ghost use Rattle.adb_hall.specs.Passes.{or_marked};
@@ -38,6 +39,16 @@ pub enum Plugged<E: Ledger, M: Ledger, K: Marks> {
     Refused(DeskError),
 }
 
+/// Asks once whether a device is plugged in.
+fn ask(port: &mut Box<dyn DeviceIn + Send>) -> Plug
+    ensures asked { TellsOneMore (plugs port.old) result (plugs port.new) }
+    ensures left { left port.new ≡ left port.old }
+    ensures counts { Counted (steady port.old) (steady port.new) (faults port.old)
+        (faults port.new) (is_failed_plug result) }
+{
+    port.plug()
+}
+
 /// Asks once whether a device is plugged in, which may wait, and where it is, makes one Attach of
 /// its kind and serial. Its halves stay with the caller, who unplugs one that has no link.
 pub fn plug_in<E: Ledger, M: Ledger, K: Marks, H: Hall<E, M, K>>(
@@ -50,7 +61,7 @@ pub fn plug_in<E: Ledger, M: Ledger, K: Marks, H: Hall<E, M, K>>(
         (H.tells hall.new) }
     ensures passes { HasPasses result }
     ensures counts { let old = device.old.input in let new = device.new.input in
-        let before = (DeviceIn-box old).DeviceIn in let after = (DeviceIn-box new).DeviceIn in
+        let before = DeviceIn-box old in let after = DeviceIn-box new in
         Counted (before.steady old.value) (after.steady new.value)
         (before.faults old.value) (after.faults new.value) (is_failed_plugged result) }
     ensures left { left device.new.input ≡ left device.old.input }
@@ -58,7 +69,7 @@ pub fn plug_in<E: Ledger, M: Ledger, K: Marks, H: Hall<E, M, K>>(
     ensures steady { K.steady → result ≢ Plugged.Refused DeskError.RecordFault }
     ensures mark { H.marked hall.new ≡ or_marked (marks_plugged result) (H.marked hall.old) }
 {
-    match device.input.plug() {
+    match ask(&mut device.input) {
         Plug::Never => Plugged::Never,
         Plug::Failed => Plugged::Failed,
         Plug::Here => match hall.attach(device.kind, device.serial.as_slice()) {

@@ -1,6 +1,8 @@
 //! A device's reader.
 
 ghost use Rattle.std.specs.Prelude.{◌≡◌, ◌<◌, ◌≤◌, [], ℕ, List, Some, length};
+ghost use Rattle.adb_outside.specs.Outside.{Counted};
+ghost use Rattle.adb_outside.specs.Source.{FitsBuffer, TellsRead, is_failed_read};
 ghost use Rattle.adb_capture.specs.declared.entry.Entry.{Entry};
 ghost use Rattle.adb_wire.specs.Slicing.{need_of};
 ghost use Rattle.adb_hall.specs.Telling.{Telling};
@@ -19,6 +21,18 @@ use std::sync::ledger::Ledger;
 /// The most bytes of a read of a device. Many small packets come by one read, and a long one by a read
 /// for each of its 65,536 bytes; each byte is copied once, out of a buffer that stays in the cache.
 const MAX_READ: usize = 65_536;
+
+/// One read of a device.
+fn read_once(port: &mut Box<dyn DeviceIn + Send>, into: &mut [u8]) -> Got
+    requires { 0 < length into.old }
+    ensures fits { FitsBuffer into.old result }
+    ensures told { TellsRead (left port.old) (left port.new) into.new result }
+    ensures counts { Counted (steady port.old) (steady port.new) (faults port.old)
+        (faults port.new) (is_failed_read result) }
+    ensures plugs { plugs port.new ≡ plugs port.old }
+{
+    port.read(into)
+}
 
 /// One turn: reads, and hands in what became whole. Answers whether more may follow.
 fn turn<E: Ledger, M: Ledger, K: Marks, H: Hall<E, M, K>, G: Gate>(
@@ -41,7 +55,7 @@ fn turn<E: Ledger, M: Ledger, K: Marks, H: Hall<E, M, K>, G: Gate>(
         → Turned result pass.old.pass.number start slicer.new (faults port.new)
         pass.new.pass.starved (H.tells hall.new) (left port.new) }
 {
-    match port.read(buffer) {
+    match read_once(port, buffer) {
         Got::Bytes(n) => feed(hall, pass, slicer, &buffer[..n], gate),
         Got::End => {
             end_input(hall, pass, slicer, Cause::Eof, gate);
