@@ -1,6 +1,6 @@
 -- What calls of a hall leave when pieces are handed in and a link's input is ended.
-use Rattle.std.proofs.Common.{ℕ, ◌≡◌, ◌<◌, ◌≤◌, Bool, true, false, List, [], ◌∷◌, ◌++◌, Option, Some, None, Result, Ok, Err, refl, sym, ap, ◌∙◌, subst, ◌⊎◌, inl, inr, zero, suc, arith}
-use Rattle.std.specs.Prelude.{◌||◌, ◌&&◌, nat_lt, nat_le, reverse, is_some}
+use Rattle.std.proofs.Common.{ℕ, ◌≡◌, Bool, true, false, List, [], ◌∷◌, ◌++◌, Option, Some, None, Result, Ok, Err, refl, sym, ap, ◌∙◌, subst, ◌⊎◌, inl, inr, zero, suc, arith}
+use Rattle.std.specs.Prelude.{◌||◌, reverse, is_some}
 use Rattle.std.proofs.lemmas.Bool.{cases_lt}
 use Rattle.std.proofs.lemmas.Bool.Decides.{nat_tests}
 use Rattle.std.proofs.lemmas.List.{append-nil, reverse-append}
@@ -8,12 +8,11 @@ use Rattle.adb_outside.specs.declared.kinds.Cause.{Cause}
 use Rattle.adb_outside.specs.declared.kinds.Cause.TheVariants.{Starved}
 use Rattle.adb_capture.specs.declared.entry.Entry.{Entry}
 use Rattle.adb_capture.specs.declared.entry.Entry.TheVariants.{Recv, Detach}
-use Rattle.adb_history.specs.Rows.{Link, State}
+use Rattle.adb_history.specs.Rows.{State}
 use Rattle.adb_history.specs.Machine.{History, state, IsLegal}
 use Rattle.adb_history.specs.Kept.{Kept, IsLawful}
 use Rattle.adb_history.specs.Accepted.{is_drawn}
 use Rattle.adb_history.proofs.OrderlyStates.{orderly}
-use Rattle.adb_hub.specs.declared.error.HubError.{HubError}
 use Rattle.adb_hub.specs.declared.error.HubError.TheVariants.{OutOfMemory, NoLink}
 use Rattle.adb_hub.specs.declared.answers.Life.{Life}
 use Rattle.adb_hub.specs.declared.answers.Life.TheVariants.{Live, Gone}
@@ -26,7 +25,7 @@ use Rattle.adb_desk.specs.Desk.{desk_refusal, or_later, link_life}
 use Rattle.adb_hall.specs.Telling.{Telling, Where, Entered, Fails, Lives}
 use Rattle.adb_hall.specs.Passes.{after_life}
 use Rattle.adb_hall.proofs.Made.{where_some, tells_more}
-use Rattle.adb_device_reader.specs.Handing.{Stands, IsGone, IsCutOff, IsGivenUp, Breaks, Finished, IsAllOrNone, Stops, Handed, received}
+use Rattle.adb_device_reader.specs.Handing.{Stands, IsGone, IsCutOff, Breaks, Finished, Handed}
 
 -- ---- passes
 pub same_number : (p : PassView) (n : ℕ) (result : Result Life DeskError) → (after_life p n result).number ≡ p.number

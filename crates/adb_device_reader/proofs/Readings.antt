@@ -1,5 +1,5 @@
 -- A device's reader, one step after another.
-use Rattle.std.proofs.Common.{ℕ, ◌≡◌, ◌≢◌, ◌<◌, ◌≤◌, Bool, true, false, List, [], ◌∷◌, ◌++◌, length, take, drop, Option, Some, refl, sym, ap, ◌∙◌, subst, ◌⊎◌, inl, inr, arith}
+use Rattle.std.proofs.Common.{ℕ, ◌≡◌, ◌<◌, ◌≤◌, Bool, true, false, List, [], ◌∷◌, ◌++◌, length, take, drop, Option, Some, refl, sym, ap, ◌∙◌, subst, inl, inr, arith}
 use Rattle.std.specs.Prelude.{reverse, ◌==◌}
 use Rattle.std.specs.List.{All, concat}
 use Rattle.std.proofs.lemmas.Bool.Decides.{nat_tests}
@@ -9,9 +9,8 @@ use Rattle.std.proofs.lemmas.List.Folds.{concat-append}
 use Rattle.adb_outside.specs.Outside.{Rises}
 use Rattle.adb_outside.specs.declared.kinds.Cause.{Cause}
 use Rattle.adb_outside.specs.declared.kinds.Cause.TheVariants.{Eof, Fault, Starved, NoThread}
-use Rattle.adb_wire.specs.declared.headers.TheConstants.{HEADER_LEN}
 use Rattle.adb_wire.specs.declared.slicer.TheConstants.{MAX_PACKET}
-use Rattle.adb_wire.specs.Slicing.{slice_len, need_of, IsSlice, HasSliced}
+use Rattle.adb_wire.specs.Slicing.{need_of, IsSlice, HasSliced}
 use Rattle.adb_wire.proofs.HeaderLaws.{head_reads}
 use Rattle.adb_wire.proofs.Slices.{slice_bounds, starts}
 use Rattle.adb_capture.specs.declared.entry.Entry.{Entry}
@@ -19,8 +18,8 @@ use Rattle.adb_capture.specs.declared.entry.Entry.TheVariants.{Recv, Detach}
 use Rattle.adb_history.specs.Kept.{IsLawful}
 use Rattle.adb_hall.specs.Telling.{Telling}
 use Rattle.adb_hall.specs.Made.{Tells}
-use Rattle.adb_device_reader.specs.Handing.{Stands, IsCutOff, IsGivenUp, Breaks, Finished, IsAllOrNone, Stops, Handed, received}
-use Rattle.adb_device_reader.specs.Reading.{Start, HasEnded, EndsBy, IsLast, IsRest, IsEnding, Done, HasRead, SoFar, Cut, Fed, HasEndedBy, IsReading, Turned}
+use Rattle.adb_device_reader.specs.Handing.{Stands, IsGivenUp, Breaks, Finished, IsAllOrNone, Stops, Handed, received}
+use Rattle.adb_device_reader.specs.Reading.{Start, HasEnded, EndsBy, IsLast, IsRest, IsEnding, Done, SoFar, Cut, Fed, HasEndedBy, Turned}
 
 -- ---- sizes
 pub same_le : (n : ℕ) → n ≤ n

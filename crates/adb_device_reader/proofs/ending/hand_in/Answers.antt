@@ -1,5 +1,4 @@
 use Rattle.std.proofs.Common.{length, ◌∙◌, ap, Err}
-use Rattle.adb_hub.specs.declared.error.HubError.{HubError}
 use Rattle.adb_desk_log.specs.declared.error.DeskError.TheVariants.{Hub}
 use Rattle.adb_desk_log.specs.Pass.{PassView}
 use Rattle.adb_device_reader.proofs.Handing.{same_number, gone, refused, gave_up}

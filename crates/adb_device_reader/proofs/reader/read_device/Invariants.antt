@@ -3,7 +3,7 @@ use Rattle.adb_capture.specs.declared.entry.Entry.{Entry}
 use Rattle.adb_wire.specs.Slicing.{need_of}
 use Rattle.adb_hall.specs.Telling.{Telling}
 use Rattle.adb_hall.specs.Made.{Tells}
-use Rattle.adb_device_reader.specs.Reading.{Start, IsReading}
+use Rattle.adb_device_reader.specs.Reading.{IsReading}
 use Rattle.adb_device_reader.proofs.reader.read_device.Given as goal
 
 abbrev pub invariant-loop : goal.invariant-loop
