@@ -1,0 +1,3 @@
+pub mod Handing
+pub mod Marks
+pub mod Readings

@@ -1,0 +1,3 @@
+pub mod Handing
+pub mod Reading
+pub mod Plugging

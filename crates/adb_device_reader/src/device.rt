@@ -1,0 +1,80 @@
+//! One device is plugged in.
+
+ghost use Rattle.std.specs.Prelude.{◌≡◌, ◌≢◌};
+ghost use Rattle.adb_outside.specs.Outside.{Counted, TellsOneMore};
+ghost use Rattle.adb_connections.specs.Device.{is_failed_plug};
+ghost use Rattle.adb_desk_log.specs.declared.error.DeskError.{DeskError};
+ghost use Rattle.adb_hall.specs.Telling.{Where};
+ghost use Rattle.adb_hall.specs.Passes.{or_marked};
+ghost use Rattle.adb_device_reader.specs.Plugging.{Plugs, HasPasses, plug_of, is_failed_plugged, marks_plugged};
+
+use adb_connections::{DeviceIn, DeviceOut, Plug};
+use adb_desk_log::{DeskError, LinkIn, LinkOut, Marks};
+use adb_hall::Hall;
+use adb_outside::{Kind, Text};
+use std::sync::ledger::Ledger;
+
+/// A device that is handed in: how it is plugged in, its serial, and the two halves of its link.
+#[derive(Drop)]
+pub struct Device {
+    pub kind: Kind,
+    pub serial: Text,
+    pub input: Box<dyn DeviceIn + Send>,
+    pub output: Box<dyn DeviceOut + Send>,
+}
+
+/// What became of plugging in a device.
+#[derive(Drop)]
+pub enum Plugged<E: Ledger, M: Ledger, K: Marks> {
+    /// It has a link, with a pass for its reader and one for its writer.
+    Link {
+        reading: LinkIn<E, M, K>,
+        writing: LinkOut<E, M, K>,
+    },
+    /// It will not come. The hall was not asked.
+    Never,
+    /// That could not be found out, and the device's count of faults rose. The hall was not asked.
+    Failed,
+    /// The hall refused it, by an answer of its `attach`.
+    Refused(DeskError),
+}
+
+/// Asks once whether a device is plugged in.
+fn ask(port: &mut Box<dyn DeviceIn + Send>) -> Plug
+    ensures asked { TellsOneMore (plugs port.old) result (plugs port.new) }
+    ensures left { left port.new ≡ left port.old }
+    ensures counts { Counted (steady port.old) (steady port.new) (faults port.old)
+        (faults port.new) (is_failed_plug result) }
+{
+    port.plug()
+}
+
+/// Asks once whether a device is plugged in, which may wait, and where it is, makes one Attach of
+/// its kind and serial. Its halves stay with the caller, who unplugs one that has no link.
+pub fn plug_in<E: Ledger, M: Ledger, K: Marks, H: Hall<E, M, K>>(
+    hall: &mut H,
+    device: &mut Device,
+) -> Plugged<E, M, K>
+    ensures asked { TellsOneMore (plugs device.old.input) (plug_of result)
+        (plugs device.new.input) }
+    ensures told { Where (H.tells hall.old) (Plugs device.old.kind device.old.serial result)
+        (H.tells hall.new) }
+    ensures passes { HasPasses result }
+    ensures counts { let old = device.old.input in let new = device.new.input in
+        let before = DeviceIn-box old in let after = DeviceIn-box new in
+        Counted (before.steady old.value) (after.steady new.value)
+        (before.faults old.value) (after.faults new.value) (is_failed_plugged result) }
+    ensures left { left device.new.input ≡ left device.old.input }
+    ensures same { device.new ≡ record device.old { input = device.new.input } }
+    ensures steady { K.steady → result ≢ Plugged.Refused DeskError.RecordFault }
+    ensures mark { H.marked hall.new ≡ or_marked (marks_plugged result) (H.marked hall.old) }
+{
+    match ask(&mut device.input) {
+        Plug::Never => Plugged::Never,
+        Plug::Failed => Plugged::Failed,
+        Plug::Here => match hall.attach(device.kind, device.serial.as_slice()) {
+            Ok((reading, writing)) => Plugged::Link { reading, writing },
+            Err(error) => Plugged::Refused(error),
+        },
+    }
+}

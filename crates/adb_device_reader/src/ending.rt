@@ -1,0 +1,56 @@
+//! Pieces are handed in, and a link's input is ended.
+
+ghost use Rattle.std.specs.Prelude.{◌≡◌, ◌≤◌, List, true, length};
+ghost use Rattle.adb_capture.specs.declared.entry.Entry.{Entry};
+ghost use Rattle.adb_capture.specs.declared.limits.TheConstants.{MAX_DATA};
+ghost use Rattle.adb_outside.specs.declared.kinds.Cause.{Cause};
+ghost use Rattle.adb_device_reader.specs.Handing.{Stands, Finished, Handed};
+
+use adb_connections::{Gate, Place};
+use adb_desk_log::{DeskError, LinkIn, Marks};
+use adb_hall::Hall;
+use adb_hub::{HubError, Life};
+use adb_outside::Cause;
+use std::sync::ledger::Ledger;
+
+/// Ends the input of a link. Where that is refused, it is not tried again.
+pub fn finish<E: Ledger, M: Ledger, K: Marks, H: Hall<E, M, K>>(
+    hall: &mut H,
+    pass: &mut LinkIn<E, M, K>,
+    cause: Cause,
+)
+    ensures number { pass.new.pass.number ≡ pass.old.pass.number }
+    ensures starved { pass.old.pass.starved ≡ true → pass.new.pass.starved ≡ true }
+    ensures told { (entries : List Entry) → Stands entries (H.tells hall.old)
+        → Finished pass.old.pass.number cause entries pass.new.pass.starved (H.tells hall.new) }
+    ensures mark { H.marked hall.new ≡ H.marked hall.old }
+{
+    let _ = hall.detach(pass, cause);
+}
+
+/// Hands in a piece. Answers whether more may follow: not where the link is gone or the piece is
+/// refused. Where memory ran out, the link's input is ended.
+pub fn hand_in<E: Ledger, M: Ledger, K: Marks, H: Hall<E, M, K>, G: Gate>(
+    hall: &mut H,
+    pass: &mut LinkIn<E, M, K>,
+    piece: &[u8],
+    gate: &G,
+) -> bool
+    requires { length piece.now ≤ MAX_DATA }
+    ensures number { pass.new.pass.number ≡ pass.old.pass.number }
+    ensures told { (entries : List Entry) → Stands entries (H.tells hall.old)
+        → Handed result pass.old.pass.number piece.now entries pass.new.pass.starved
+        (H.tells hall.new) }
+    ensures mark { H.marked hall.new ≡ H.marked hall.old }
+{
+    gate.pass(Place::DeviceReader as u8, pass.number());
+    match hall.recv(pass, piece) {
+        Ok(Life::Live) => true,
+        Ok(Life::Gone) => false,
+        Err(DeskError::Hub(HubError::OutOfMemory)) => {
+            finish(hall, pass, Cause::Starved);
+            false
+        }
+        Err(_) => false,
+    }
+}

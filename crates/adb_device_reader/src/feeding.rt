@@ -1,0 +1,88 @@
+//! The bytes of a device are handed in by slices.
+
+ghost use Rattle.std.specs.Prelude.{◌≡◌, ◌<◌, ◌++◌, ℕ, List, true};
+ghost use Rattle.adb_outside.specs.declared.kinds.Cause.{Cause};
+ghost use Rattle.adb_wire.specs.Slicing.{need_of};
+ghost use Rattle.adb_device_reader.specs.Reading.{Start, SoFar, Fed, Done, HasEndedBy};
+
+use crate::ending::{finish, hand_in};
+use adb_connections::Gate;
+use adb_desk_log::{LinkIn, Marks};
+use adb_hall::Hall;
+use adb_outside::Cause;
+use adb_wire::Slicer;
+use std::sync::ledger::Ledger;
+
+/// Hands in the slice that is held, where one is whole. Answers whether more may follow.
+fn hand_in_whole<E: Ledger, M: Ledger, K: Marks, H: Hall<E, M, K>, G: Gate>(
+    hall: &mut H,
+    pass: &mut LinkIn<E, M, K>,
+    slicer: &mut Slicer,
+    gate: &G,
+) -> bool
+    ensures number { pass.new.pass.number ≡ pass.old.pass.number }
+    ensures open { 0 < need_of slicer.new }
+    ensures told { (start : Start) (coming : List ℕ)
+        → SoFar pass.old.pass.number start slicer.old coming (H.tells hall.old)
+        → Fed result pass.old.pass.number start slicer.new coming pass.new.pass.starved
+        (H.tells hall.new) }
+    ensures mark { H.marked hall.new ≡ H.marked hall.old }
+{
+    let Some(slice) = slicer.whole() else {
+        return true;
+    };
+    let going = hand_in(hall, pass, slice, gate);
+    slicer.clear();
+    going
+}
+
+/// Hands in each slice that a piece makes whole. Answers whether more may follow.
+pub fn feed<E: Ledger, M: Ledger, K: Marks, H: Hall<E, M, K>, G: Gate>(
+    hall: &mut H,
+    pass: &mut LinkIn<E, M, K>,
+    slicer: &mut Slicer,
+    piece: &[u8],
+    gate: &G,
+) -> bool
+    requires { 0 < need_of slicer.old }
+    ensures number { pass.new.pass.number ≡ pass.old.pass.number }
+    ensures open { 0 < need_of slicer.new }
+    ensures told { (start : Start) (rest : List ℕ)
+        → SoFar pass.old.pass.number start slicer.old (piece.now ++ rest) (H.tells hall.old)
+        → Fed result pass.old.pass.number start slicer.new rest pass.new.pass.starved
+        (H.tells hall.new) }
+    ensures mark { H.marked hall.new ≡ H.marked hall.old }
+{
+    let mut rest = piece;
+    while !rest.is_empty() {
+        let taken = slicer.take(rest);
+        rest = &rest[taken..];
+        if !hand_in_whole(hall, pass, slicer, gate) {
+            return false;
+        }
+    }
+    true
+}
+
+/// Hands in what is held of a device that has ended, and ends its link's input.
+pub fn end_input<E: Ledger, M: Ledger, K: Marks, H: Hall<E, M, K>, G: Gate>(
+    hall: &mut H,
+    pass: &mut LinkIn<E, M, K>,
+    slicer: &Slicer,
+    cause: Cause,
+    gate: &G,
+)
+    requires { 0 < need_of slicer.now }
+    ensures number { pass.new.pass.number ≡ pass.old.pass.number }
+    ensures told { (start : Start) (rest : List ℕ) (faults : ℕ) → HasEndedBy start rest faults cause
+        → SoFar pass.old.pass.number start slicer.now rest (H.tells hall.old)
+        → Done pass.old.pass.number start rest faults pass.new.pass.starved (H.tells hall.new) }
+    ensures mark { H.marked hall.new ≡ H.marked hall.old }
+{
+    let held = slicer.held();
+    if held.is_empty() {
+        finish(hall, pass, cause);
+    } else if hand_in(hall, pass, held, gate) {
+        finish(hall, pass, cause);
+    }
+}

@@ -1,0 +1,10 @@
+//! A device is plugged in, and its bytes are read into the hall.
+#![tactic(auto)]
+
+mod device;
+mod ending;
+mod feeding;
+mod reader;
+
+pub use device::{Device, Plugged, plug_in};
+pub use reader::read_device;

@@ -1,0 +1,114 @@
+//! A device's reader.
+
+ghost use Rattle.std.specs.Prelude.{◌≡◌, ◌<◌, ◌≤◌, [], ℕ, List, Some, length};
+ghost use Rattle.adb_outside.specs.Outside.{Counted};
+ghost use Rattle.adb_outside.specs.Source.{FitsBuffer, TellsRead, is_failed_read};
+ghost use Rattle.adb_capture.specs.declared.entry.Entry.{Entry};
+ghost use Rattle.adb_wire.specs.Slicing.{need_of};
+ghost use Rattle.adb_hall.specs.Telling.{Telling};
+ghost use Rattle.adb_hall.specs.Made.{Tells};
+ghost use Rattle.adb_device_reader.specs.Reading.{Start, HasRead, IsReading, Turned};
+
+use crate::feeding::{end_input, feed};
+use adb_connections::{DeviceIn, Gate};
+use adb_desk_log::{LinkIn, Marks};
+use adb_hall::Hall;
+use adb_outside::{Cause, Got};
+use adb_wire::Slicer;
+use std::sync::Wait;
+use std::sync::ledger::Ledger;
+
+/// The most bytes of a read of a device. Many small packets come by one read, and a long one by a read
+/// for each of its 65,536 bytes; each byte is copied once, out of a buffer that stays in the cache.
+const MAX_READ: usize = 65_536;
+
+/// One read of a device.
+fn read_once(port: &mut Box<dyn DeviceIn + Send>, into: &mut [u8]) -> Got
+    requires { 0 < length into.old }
+    ensures fits { FitsBuffer into.old result }
+    ensures told { TellsRead (left port.old) (left port.new) into.new result }
+    ensures counts { Counted (steady port.old) (steady port.new) (faults port.old)
+        (faults port.new) (is_failed_read result) }
+    ensures plugs { plugs port.new ≡ plugs port.old }
+{
+    port.read(into)
+}
+
+/// One turn: reads, and hands in what became whole. Answers whether more may follow.
+fn turn<E: Ledger, M: Ledger, K: Marks, H: Hall<E, M, K>, G: Gate>(
+    hall: &mut H,
+    port: &mut Box<dyn DeviceIn + Send>,
+    pass: &mut LinkIn<E, M, K>,
+    slicer: &mut Slicer,
+    buffer: &mut [u8],
+    gate: &G,
+) -> bool
+    requires room { 0 < length buffer.old }
+    requires open { 0 < need_of slicer.old }
+    ensures number { pass.new.pass.number ≡ pass.old.pass.number }
+    ensures open { 0 < need_of slicer.new }
+    ensures count { faults port.old ≤ faults port.new }
+    ensures plugs { plugs port.new ≡ plugs port.old }
+    ensures mark { H.marked hall.new ≡ H.marked hall.old }
+    ensures told { (start : Start) → start.faults ≤ faults port.old
+        → IsReading pass.old.pass.number start slicer.old (H.tells hall.old) (left port.old)
+        → Turned result pass.old.pass.number start slicer.new (faults port.new)
+        pass.new.pass.starved (H.tells hall.new) (left port.new) }
+{
+    match read_once(port, buffer) {
+        Got::Bytes(n) => feed(hall, pass, slicer, &buffer[..n], gate),
+        Got::End => {
+            end_input(hall, pass, slicer, Cause::Eof, gate);
+            false
+        }
+        Got::Failed => {
+            end_input(hall, pass, slicer, Cause::Fault, gate);
+            false
+        }
+    }
+}
+
+/// Reads a device and hands in its bytes, each packet whole by one Recv, until the device ends or
+/// fails, its link is gone, or the hall is stopped or shut. A header with a fault is handed in as
+/// its 24 bytes. Where the device ends or fails, the bytes of a packet that is not whole are handed
+/// in, and then the link's input is ended by one Detach, of `Eof` or `Fault`.
+///
+/// The slicer holds nothing yet. A hall that finds no memory for a piece is told so by one Detach of
+/// `Starved`, and that piece and what was read behind it are lost. The gate is passed at the place
+/// of a device's reader, before each piece. The pass comes back, with its shares and its mark.
+pub fn read_device<
+    W: Wait + Copy + Send + Sync + Drop + 'static,
+    E: Ledger,
+    M: Ledger,
+    K: Marks,
+    H: Hall<E, M, K>,
+    G: Gate,
+>(
+    rt: W,
+    hall: &mut H,
+    port: &mut Box<dyn DeviceIn + Send>,
+    pass: LinkIn<E, M, K>,
+    slicer: Slicer,
+    gate: &G,
+) -> LinkIn<E, M, K>
+    requires { slicer ≡ [] }
+    ensures number { result.pass.number ≡ pass.pass.number }
+    ensures count { faults port.old ≤ faults port.new }
+    ensures plugs { plugs port.new ≡ plugs port.old }
+    ensures mark { H.marked hall.new ≡ H.marked hall.old }
+    ensures told { (a : Telling) (entries : List Entry) (bytes : List ℕ)
+        → H.tells hall.old ≡ Some a → Tells a entries → left port.old ≡ Some bytes
+        → HasRead pass.pass.number
+        (record { entries = entries; bytes = bytes; faults = faults port.old })
+        (faults port.new) result.pass.starved (H.tells hall.new) (left port.new) }
+{
+    let mut pass = pass;
+    let mut slicer = slicer;
+    let mut buffer = [0u8; MAX_READ];
+    for _ in rt.forever() {
+        if !turn(hall, port, &mut pass, &mut slicer, &mut buffer, gate) {
+            return pass;
+        }
+    }
+    unreachable!()
+}
