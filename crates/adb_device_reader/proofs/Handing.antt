@@ -1,5 +1,6 @@
 -- What calls of a hall leave when pieces are handed in and a link's input is ended.
-use Rattle.std.proofs.Common.{ℕ, ◌≡◌, Bool, true, false, List, [], ◌∷◌, ◌++◌, Option, Some, None, Result, Ok, Err, refl, sym, ap, ◌∙◌, subst, ◌⊎◌, inl, inr, zero, suc, arith}
+use Rattle.std.proofs.Common.{ℕ, ◌≡◌, Bool, true, false, List, [], ◌∷◌, ◌++◌, Option, Some, None, Result, Ok, Err}
+use Rattle.std.proofs.Common.{refl, sym, ap, ◌∙◌, subst, ◌⊎◌, inl, inr, zero, suc, arith}
 use Rattle.std.specs.Prelude.{◌||◌, reverse, is_some}
 use Rattle.std.proofs.lemmas.Bool.{cases_lt}
 use Rattle.std.proofs.lemmas.Bool.Decides.{nat_tests}
@@ -117,8 +118,8 @@ breaks_of t entries starved tells u = record {
   cut = u.cut;
 }
 
-cut_by : (t : ℕ) (e : Entry) (error : DeskError) (entries : List Entry) (a : Telling) (starved : Bool) → IsOfLink t e → (error ≡ Hub OutOfMemory → starved ≡ true)
-    → IsLawful a.hub (reverse entries) ⊎ (is_some a.shut ≡ true)
+cut_by : (t : ℕ) (e : Entry) (error : DeskError) (entries : List Entry) (a : Telling) (starved : Bool) → IsOfLink t e
+    → (error ≡ Hub OutOfMemory → starved ≡ true) → IsLawful a.hub (reverse entries) ⊎ (is_some a.shut ≡ true)
     → (a.shut ≡ Some error)
     ⊎ ((a.shut ≡ None) × ((error ≡ Hub OutOfMemory) ⊎ ((h : History) → IsLawful a.hub h → desk_refusal e (state h) ≡ Some error)))
     → IsCutOff t entries a starved
@@ -148,8 +149,9 @@ unmade t e error entries old new s b starved of_link starves is (inr broken) =
     }
 
 -- ---- an input is ended
-finished_by : (t : ℕ) (cause : Cause) (result : Result Life DeskError) (entries : List Entry) (old new : Option Telling) (s : Stands entries old) (b : Telling) (p : PassView)
-    → new ≡ Some b → Lives (Detach t cause) (link_life t) result s.now b → Finished t cause entries (after_life p 0 result).starved new
+finished_by : (t : ℕ) (cause : Cause) (result : Result Life DeskError) (entries : List Entry) (old new : Option Telling) (s : Stands entries old)
+    (b : Telling) (p : PassView) → new ≡ Some b → Lives (Detach t cause) (link_life t) result s.now b
+    → Finished t cause entries (after_life p 0 result).starved new
 finished_by t cause (Ok _) entries old new s b p is lives = inl (entered_stands (Detach t cause) entries old new s b is lives.0)
 finished_by t cause (Err error) entries old new s b p is fails =
     inr (breaks_of t entries _ new (unmade t (Detach t cause) error entries old new s b _ (λ s. refl) (starved_by p 0 error) is fails))
@@ -214,8 +216,8 @@ gave_up_by t piece entries starved new is (inr breaks) = lost_all t piece starve
 
 -- memory ran out, and the link's input was ended for it
 pub gave_up : (piece : List ℕ) (error : DeskError) (entries : List Entry) (old now new : Option Telling) (p q : PassView) (n : ℕ) (starved : Bool)
-    → error ≡ Hub OutOfMemory → q ≡ after_life p n (Err error) → Where old (Lives (Recv p.number piece) (link_life p.number) (Err error)) now → Stands entries old
-    → (q.starved ≡ true → starved ≡ true) → (Stands entries now → Finished q.number Starved entries starved new)
+    → error ≡ Hub OutOfMemory → q ≡ after_life p n (Err error) → Where old (Lives (Recv p.number piece) (link_life p.number) (Err error)) now
+    → Stands entries old → (q.starved ≡ true → starved ≡ true) → (Stands entries now → Finished q.number Starved entries starved new)
     → Handed false p.number piece entries starved new
 gave_up piece error entries old now new p q n starved wants pass told s keeps finish =
     let left = refused_piece p.number piece error entries old now p q n pass told s in

@@ -1,5 +1,6 @@
 -- A device's reader, one step after another.
-use Rattle.std.proofs.Common.{ℕ, ◌≡◌, ◌<◌, ◌≤◌, Bool, true, false, List, [], ◌∷◌, ◌++◌, length, take, drop, Option, Some, refl, sym, ap, ◌∙◌, subst, inl, inr, arith}
+use Rattle.std.proofs.Common.{ℕ, ◌≡◌, ◌<◌, ◌≤◌, Bool, true, false, List, [], ◌∷◌, ◌++◌, length, take, drop, Option, Some}
+use Rattle.std.proofs.Common.{refl, sym, ap, ◌∙◌, subst, inl, inr, arith}
 use Rattle.std.specs.Prelude.{reverse, ◌==◌}
 use Rattle.std.specs.List.{All, concat}
 use Rattle.std.proofs.lemmas.Bool.Decides.{nat_tests}
@@ -50,23 +51,24 @@ spelled_by piece given lost (inl (all, none)) =
 spelled_by piece given lost (inr (none, all)) = ap (λ (ps : List (List ℕ)). concat ps ++ lost) none ∙ all
 
 -- what was handed in and lost is what was taken
-taken_by : (bytes fed held coming : List ℕ) (xs given : List (List ℕ)) (lost : List ℕ) → bytes ≡ fed ++ coming → concat xs ++ held ≡ fed → IsAllOrNone held given lost
-    → bytes ≡ concat (xs ++ given) ++ lost ++ coming
+taken_by : (bytes fed held coming : List ℕ) (xs given : List (List ℕ)) (lost : List ℕ) → bytes ≡ fed ++ coming → concat xs ++ held ≡ fed
+    → IsAllOrNone held given lost → bytes ≡ concat (xs ++ given) ++ lost ++ coming
 taken_by bytes fed held coming xs given lost taken joined is =
     let last : concat xs ++ held ≡ concat (xs ++ given) ++ lost =
     ap (λ (bs : List ℕ). concat xs ++ bs) (sym (spelled_by held given lost is)) ∙ sym (append_assoc (concat xs) (concat given) lost)
     ∙ ap (λ (bs : List ℕ). bs ++ lost) (sym (concat-append xs given)) in
     taken ∙ ap (λ (bs : List ℕ). bs ++ coming) (sym joined ∙ last)
 
-each_by : (P : List ℕ → Type 0) (piece : List ℕ) (xs given : List (List ℕ)) (lost : List ℕ) → All P xs → P piece → IsAllOrNone piece given lost → All P (xs ++ given)
+each_by : (P : List ℕ → Type 0) (piece : List ℕ) (xs given : List (List ℕ)) (lost : List ℕ) → All P xs → P piece
+    → IsAllOrNone piece given lost → All P (xs ++ given)
 each_by P piece xs given lost all one (inl (is, none)) =
     subst (λ (ps : List (List ℕ)). All P (xs ++ ps)) (sym is) (All-push P xs piece all one)
 each_by P piece xs given lost all one (inr (is, none)) =
     subst (λ (ps : List (List ℕ)). All P (xs ++ ps)) (sym is) (subst (All P) (sym (append-nil xs)) all)
 
 -- ---- steps
-pub begins : (t : ℕ) (entries : List Entry) (bytes held : List ℕ) (faults : ℕ) (tells : Option Telling) (a : Telling) → held ≡ [] → tells ≡ Some a → Tells a entries
-    → SoFar t (record { entries = entries; bytes = bytes; faults = faults }) held bytes tells
+pub begins : (t : ℕ) (entries : List Entry) (bytes held : List ℕ) (faults : ℕ) (tells : Option Telling) (a : Telling) → held ≡ [] → tells ≡ Some a
+    → Tells a entries → SoFar t (record { entries = entries; bytes = bytes; faults = faults }) held bytes tells
 begins t entries bytes held faults tells a none is h = record {
   fed = [];
   slices = [];
@@ -90,7 +92,8 @@ so_far_taken t start held now piece coming n tells stands x = record {
   sliced = stands x.fed x.slices x.sliced;
   taken =
       x.taken ∙ ap (λ (bs : List ℕ). x.fed ++ (bs ++ coming)) (sym (take-append-drop n piece))
-      ∙ ap (λ (bs : List ℕ). x.fed ++ bs) (append_assoc (take n piece) (drop n piece) coming) ∙ sym (append_assoc x.fed (take n piece) (drop n piece ++ coming));
+      ∙ ap (λ (bs : List ℕ). x.fed ++ bs) (append_assoc (take n piece) (drop n piece) coming)
+      ∙ sym (append_assoc x.fed (take n piece) (drop n piece ++ coming));
   hall = x.hall;
 }
 
@@ -119,16 +122,17 @@ fed_by false t start held now coming starved old new x slice stands h = record {
   breaks = subst (λ (es : List Entry). Breaks t es h.last starved new) (received_more t start.entries x.slices h.given) h.breaks;
 }
 
-pub fed_piece : (going : Bool) (t : ℕ) (start : Start) (piece held now coming : List ℕ) (starved : Bool) (old new : Option Telling) (x : SoFar t start held coming old)
-    → piece ≡ held → IsSlice piece → ((fed : List ℕ) (gave : List (List ℕ)) → HasSliced fed gave held → HasSliced fed (gave ++ held ∷ []) now)
+pub fed_piece : (going : Bool) (t : ℕ) (start : Start) (piece held now coming : List ℕ) (starved : Bool) (old new : Option Telling)
+    (x : SoFar t start held coming old) → piece ≡ held → IsSlice piece
+    → ((fed : List ℕ) (gave : List (List ℕ)) → HasSliced fed gave held → HasSliced fed (gave ++ held ∷ []) now)
     → Handed going t piece (start.entries ++ received t x.slices) starved new → Fed going t start now coming starved new
 fed_piece going t start piece held now coming starved old new x same slice stands h =
     fed_by going t start held now coming starved old new x (subst IsSlice same slice) stands
     (subst (λ (bs : List ℕ). Handed going t bs (start.entries ++ received t x.slices) starved new) same h)
 
 -- a read brought bytes
-pub so_far_read : (t : ℕ) (start : Start) (held piece coming : List ℕ) (n : ℕ) (tells : Option Telling) → piece ≡ take n coming → SoFar t start held coming tells
-    → SoFar t start held (piece ++ drop n coming) tells
+pub so_far_read : (t : ℕ) (start : Start) (held piece coming : List ℕ) (n : ℕ) (tells : Option Telling) → piece ≡ take n coming
+    → SoFar t start held coming tells → SoFar t start held (piece ++ drop n coming) tells
 so_far_read t start held piece coming n tells is x = record {
   fed = x.fed;
   slices = x.slices;
@@ -151,7 +155,8 @@ cut_more t start piece rest starved tells c = record {
 }
 
 -- ---- the end
-last_by : (t : ℕ) (start : Start) (rest : List ℕ) (faults : ℕ) (starved : Bool) (last : List Entry) → IsGivenUp t starved last → IsLast t start rest faults starved last
+last_by : (t : ℕ) (start : Start) (rest : List ℕ) (faults : ℕ) (starved : Bool) (last : List Entry) → IsGivenUp t starved last
+    → IsLast t start rest faults starved last
 last_by t start rest faults starved last (inl none) = inl none
 last_by t start rest faults starved last (inr (is, starves)) = inr (Starved, is, starves)
 
@@ -192,7 +197,8 @@ has_ended start rest faults Fault h = inr h
 has_ended start rest faults Starved h = absurd h
 has_ended start rest faults NoThread h = absurd h
 
-ends_by : (start : Start) (rest : List ℕ) (faults : ℕ) (starved : Bool) (cause : Cause) → HasEndedBy start rest faults cause → EndsBy start rest faults starved cause
+ends_by : (start : Start) (rest : List ℕ) (faults : ℕ) (starved : Bool) (cause : Cause) → HasEndedBy start rest faults cause
+    → EndsBy start rest faults starved cause
 ends_by start rest faults starved Eof h = h
 ends_by start rest faults starved Fault h = h
 ends_by start rest faults starved Starved h = absurd h
@@ -247,7 +253,11 @@ rest_is : (start : Start) (piece held rest : List ℕ) (faults : ℕ) (cause : C
     → HasEndedBy start rest faults cause → IsRest start rest faults held
 rest_is start piece held rest faults cause same filled short ended =
     let long : 0 < length held = subst (λ (bs : List ℕ). 0 < length bs) same (grind (arith, nat_tests)) in
-    record { some = λ none. absurd (let none : length held ≡ 0 = ap length none in omega arith); short = omega arith; ended = has_ended start rest faults cause ended }
+    record {
+      some = λ none. absurd (let none : length held ≡ 0 = ap length none in omega arith);
+      short = omega arith;
+      ended = has_ended start rest faults cause ended;
+    }
 
 -- where what was held was handed in
 pub done_held : (t m : ℕ) (start : Start) (piece held rest : List ℕ) (faults : ℕ) (cause : Cause) (first starved : Bool) (old now new : Option Telling)
@@ -263,8 +273,8 @@ done_held t m start piece held rest faults cause first starved old now new x sam
     (taken_by start.bytes x.fed held rest x.slices (held ∷ []) [] x.taken x.sliced.bytes (inl (refl, refl)))
     (subst (λ (u : ℕ). Finished u cause (start.entries ++ received t (x.slices ++ held ∷ [])) starved new) number (finish _ stands))
 
-ending_by : (start : Start) (held rest : List ℕ) (faults : ℕ) (given : List (List ℕ)) (lost : List ℕ) → IsRest start rest faults held → IsAllOrNone held given lost
-    → IsEnding start rest faults given
+ending_by : (start : Start) (held rest : List ℕ) (faults : ℕ) (given : List (List ℕ)) (lost : List ℕ) → IsRest start rest faults held
+    → IsAllOrNone held given lost → IsEnding start rest faults given
 ending_by start held rest faults given lost is_rest (inl (all, none)) = inr (held, all, is_rest)
 ending_by start held rest faults given lost is_rest (inr (none, all)) = inl none
 

@@ -6,7 +6,8 @@ ghost use Rattle.adb_connections.specs.Device.{is_failed_plug};
 ghost use Rattle.adb_desk_log.specs.declared.error.DeskError.{DeskError};
 ghost use Rattle.adb_hall.specs.Telling.{Where};
 ghost use Rattle.adb_hall.specs.Passes.{or_marked};
-ghost use Rattle.adb_device_reader.specs.Plugging.{Plugs, HasPasses, plug_of, is_failed_plugged, marks_plugged};
+ghost use Rattle.adb_device_reader.specs.Plugging.{Plugs, HasPasses, plug_of};
+ghost use Rattle.adb_device_reader.specs.Plugging.{is_failed_plugged, marks_plugged};
 
 use adb_connections::{DeviceIn, DeviceOut, Plug};
 use adb_desk_log::{DeskError, LinkIn, LinkOut, Marks};

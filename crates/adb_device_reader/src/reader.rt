@@ -18,8 +18,8 @@ use adb_wire::Slicer;
 use std::sync::Wait;
 use std::sync::ledger::Ledger;
 
-/// The most bytes of a read of a device. Many small packets come by one read, and a long one by a read
-/// for each of its 65,536 bytes; each byte is copied once, out of a buffer that stays in the cache.
+/// The most bytes of a read of a device. A read brings many small packets at once, or a part of a
+/// long one; each byte is copied once, out of a buffer that stays in the cache.
 const MAX_READ: usize = 65_536;
 
 /// One read of a device.
@@ -73,9 +73,10 @@ fn turn<E: Ledger, M: Ledger, K: Marks, H: Hall<E, M, K>, G: Gate>(
 /// its 24 bytes. Where the device ends or fails, the bytes of a packet that is not whole are handed
 /// in, and then the link's input is ended by one Detach, of `Eof` or `Fault`.
 ///
-/// The slicer holds nothing yet. A hall that finds no memory for a piece is told so by one Detach of
-/// `Starved`, and that piece and what was read behind it are lost. The gate is passed at the place
-/// of a device's reader, before each piece. The pass comes back, with its shares and its mark.
+/// The slicer holds nothing yet. Where the hall finds no memory for a piece, the link's input is
+/// ended by one Detach of `Starved`, and that piece is lost, with what was read behind it. The gate
+/// is passed at the place of a device's reader, before each piece. The pass that comes back has its
+/// shares and its mark.
 pub fn read_device<
     W: Wait + Copy + Send + Sync + Drop + 'static,
     E: Ledger,
