@@ -1,7 +1,7 @@
 -- What is known where a hall gives room, refuses a call, or tells that a client is gone.
 use Rattle.std.proofs.Common.{ℕ, ◌+◌, ◌-◌, ◌≡◌, ◌<◌, ◌≤◌, Bool, true, false, List, [], ◌∷◌, ◌++◌, length, reverse, Option, Some, None, Result, Ok, Err, refl, sym, ap, ◌∙◌, subst, arith, inl, inr, zero, suc}
 use Rattle.std.specs.Prelude.{◌⊎◌, ◌≢◌, ◌||◌, ◌&&◌, is_some, nat_lt, nat_le, if◌then◌else◌}
-use Rattle.std.proofs.lemmas.List.{append-nil, reverse-append}
+use Rattle.std.proofs.lemmas.List.{append_assoc, reverse-append}
 use Rattle.std.proofs.lemmas.Bool.Decides.{nat_tests}
 use Rattle.adb_outside.specs.declared.kinds.Cause.{Cause}
 use Rattle.adb_capture.specs.declared.entry.Entry.{Entry}
@@ -37,6 +37,12 @@ use Rattle.adb_client_reader.specs.Reading.{Fits, HandsBack, Holds}
 pub newest : (entries : List Entry) (e : Entry) → reverse (entries ++ e ∷ []) ≡ e ∷ reverse entries
 newest entries e = reverse-append entries (e ∷ [])
 
+pub newest_two : (entries : List Entry) (e f : Entry) → reverse (entries ++ e ∷ f ∷ []) ≡ f ∷ reverse (entries ++ e ∷ [])
+newest_two entries e f = ap reverse (sym (append_assoc entries (e ∷ []) (f ∷ []))) ∙ newest (entries ++ e ∷ []) f
+
+pub lawful_with : (a : Telling) (entries : List Entry) (e : Entry) → Tells a (entries ++ e ∷ []) → IsLawful a.hub (e ∷ reverse entries)
+lawful_with a entries e tells = subst (λ (h : History). IsLawful a.hub h) (newest entries e) tells.lawful
+
 pub held_of_tells : (a : Telling) (entries : List Entry) → Tells a entries → Holds a entries
 held_of_tells a entries tells = record { told = tells.told; held = inl tells.lawful }
 
@@ -67,6 +73,10 @@ undrawn h legal c is =
 pub gone_row : (row : Option Client) → Gone ≡ life_of row → row ≡ None
 gone_row None is = refl
 gone_row (Some client) is = cc
+
+-- Who is gone is read no more.
+pub gone_is_shut : (c : ℕ) (h : History) → Gone ≡ client_life c (state h) → room_of ((state h).clients c) ≡ Shut
+gone_is_shut c h is = ap room_of (gone_row ((state h).clients c) is)
 
 -- ---- room
 rooms_by : (drawn : Bool) (shut : Option DeskError) (room r : Room) (error : HubError) → Ok r ≡ drawn_room drawn shut room error
@@ -183,23 +193,23 @@ refused_why e error a entries starved holds wants going (inr refuses) = elim hol
   | inr shut ↦ absurd (open_not_shut a.shut going shut)
 ]
 
--- An entry was refused: nothing is told of it, and the hall is stopped, or its hub refuses it.
+-- An entry was refused: nothing is told of it.
+pub still_holds : (e : Entry) (error : DeskError) (a b : Telling) (entries : List Entry) → Holds a entries → Fails e error a b → Holds b entries
+still_holds e error a b entries holds (inl refuses) = subst (λ (t : Telling). Holds t entries) (sym refuses.same) holds
+still_holds e error a b entries holds (inr broken) = record { told = broken.told ∙ holds.told; held = inr (ap is_some broken.shut) }
+
+-- An entry was refused: the hall is stopped, or its hub refuses it.
 pub refused : (e : Entry) (error : DeskError) (a b : Telling) (entries : List Entry) (starved : Bool) → Holds a entries → Fails e error a b
     → (is_starved error ≡ true → starved ≡ true)
-    → Holds b entries × (IsStopped b starved ⊎ (IsLawful b.hub (reverse entries) × (desk_refusal e (state (reverse entries)) ≡ Some error)))
-refused e error a b entries starved holds (inl refuses) wants = (
-  subst (λ (t : Telling). Holds t entries) (sym refuses.same) holds,
-  subst
-      (λ (t : Telling). IsStopped t starved ⊎ (IsLawful t.hub (reverse entries) × (desk_refusal e (state (reverse entries)) ≡ Some error)))
-      (sym refuses.same) (elim refuses.why [
-        | inl shut ↦ inl (inl (ap is_some shut))
-        | inr other ↦ refused_why e error a entries starved holds wants other.0 other.1
-      ]),
-)
-refused e error a b entries starved holds (inr broken) wants = (
-  record { told = broken.told ∙ holds.told; held = inr (ap is_some broken.shut) },
-  inl (inl (ap is_some broken.shut)),
-)
+    → IsStopped b starved ⊎ (IsLawful b.hub (reverse entries) × (desk_refusal e (state (reverse entries)) ≡ Some error))
+refused e error a b entries starved holds (inl refuses) wants =
+    subst
+    (λ (t : Telling). IsStopped t starved ⊎ (IsLawful t.hub (reverse entries) × (desk_refusal e (state (reverse entries)) ≡ Some error)))
+    (sym refuses.same) (elim refuses.why [
+      | inl shut ↦ inl (inl (ap is_some shut))
+      | inr other ↦ refused_why e error a entries starved holds wants other.0 other.1
+    ])
+refused e error a b entries starved holds (inr broken) wants = inl (inl (ap is_some broken.shut))
 
 -- An entry of a client is refused by its hub after a kill, or where nobody stands there.
 pub client_refused : (c : ℕ) (error : DeskError) (hub : Kept) (h : History) → IsLawful hub h
@@ -214,15 +224,11 @@ client_refused c error hub h lawful is =
 -- A piece that fits was refused.
 pub piece_refused : (c : ℕ) (piece : List ℕ) (error : DeskError) (a b : Telling) (entries : List Entry) (starved : Bool) → Holds a entries
     → Fits c (length piece) (state (reverse entries)) → Fails (Read c piece) error a b → (is_starved error ≡ true → starved ≡ true)
-    → Holds b entries × IsStopped b starved
-piece_refused c piece error a b entries starved holds fits fails wants =
-    let k = refused (Read c piece) error a b entries starved holds fails wants in (
-      k.0,
-      elim k.1 [
-        | inl stopped ↦ stopped
-        | inr other ↦ inr (inl (stopped_by b.hub (reverse entries) other.0 (fits piece (omega arith) error other.1)))
-      ],
-    )
+    → IsStopped b starved
+piece_refused c piece error a b entries starved holds fits fails wants = elim (refused (Read c piece) error a b entries starved holds fails wants) [
+  | inl stopped ↦ stopped
+  | inr other ↦ inr (inl (stopped_by b.hub (reverse entries) other.0 (fits piece (omega arith) error other.1)))
+]
 
 waits_there : (row : Option Client) (asked : ℕ) → port_of row ≡ Some asked → row ≡ None → ⊥
 waits_there None asked is none = cc
@@ -231,34 +237,27 @@ waits_there (Some client) asked is none = cc
 -- The Bound of a client that waits was refused.
 pub bound_refused : (c port asked : ℕ) (error : DeskError) (a b : Telling) (entries : List Entry) (starved : Bool) → Holds a entries
     → port_of ((state (reverse entries)).clients c) ≡ Some asked → Fails (Bound c port) error a b → (is_starved error ≡ true → starved ≡ true)
-    → Holds b entries × IsStopped b starved
+    → IsStopped b starved
 bound_refused c port asked error a b entries starved holds waits fails wants =
-    let k = refused (Bound c port) error a b entries starved holds fails wants in (
-      k.0,
-      elim k.1 [
-        | inl stopped ↦ stopped
-        | inr other ↦ elim (client_refused c error b.hub (reverse entries) other.0 other.1) [
-          | inl stopped ↦ inr (inl stopped)
-          | inr none ↦ absurd (waits_there ((state (reverse entries)).clients c) asked waits none)
-        ]
-      ],
-    )
+    elim (refused (Bound c port) error a b entries starved holds fails wants) [
+      | inl stopped ↦ stopped
+      | inr other ↦ elim (client_refused c error b.hub (reverse entries) other.0 other.1) [
+        | inl stopped ↦ inr (inl stopped)
+        | inr none ↦ absurd (waits_there ((state (reverse entries)).clients c) asked waits none)
+      ]
+    ]
 
 -- The End of a client was refused.
 pub end_refused : (c : ℕ) (cause : Cause) (error : DeskError) (a b : Telling) (entries : List Entry) (starved : Bool) → Holds a entries
     → Fails (End c cause) error a b → (is_starved error ≡ true → starved ≡ true)
-    → Holds b entries × (IsStopped b starved ⊎ (room_of ((state (reverse entries)).clients c) ≡ Shut))
-end_refused c cause error a b entries starved holds fails wants =
-    let k = refused (End c cause) error a b entries starved holds fails wants in (
-      k.0,
-      elim k.1 [
-        | inl stopped ↦ inl stopped
-        | inr other ↦ elim (client_refused c error b.hub (reverse entries) other.0 other.1) [
-          | inl stopped ↦ inl (inr (inl stopped))
-          | inr none ↦ inr (ap room_of none)
-        ]
-      ],
-    )
+    → IsStopped b starved ⊎ (room_of ((state (reverse entries)).clients c) ≡ Shut)
+end_refused c cause error a b entries starved holds fails wants = elim (refused (End c cause) error a b entries starved holds fails wants) [
+  | inl stopped ↦ inl stopped
+  | inr other ↦ elim (client_refused c error b.hub (reverse entries) other.0 other.1) [
+    | inl stopped ↦ inl (inr (inl stopped))
+    | inr none ↦ inr (ap room_of none)
+  ]
+]
 
 -- ---- passes
 or_true : (b c : Bool) → c ≡ true → (b || c) ≡ true

@@ -20,12 +20,12 @@ use Rattle.adb_hall.specs.Passes.{after_life, is_starved}
 use Rattle.adb_hall.specs.Made.{IsStopped, Tells, bytes_in}
 use Rattle.adb_hall.proofs.Made.{bytes_in_append}
 use Rattle.adb_client_reader.specs.Forwards.{IsAnswered, TellsMore, asked_ports, left_waiting, paired, unbound}
-use Rattle.adb_client_reader.specs.Reading.{AreTurns, Done, EndsBy, Finished, HandsBack, Holds, IsOfReader, IsOrStarved, IsRefusedBehind, IsStarved, Seen, Shown, SoFar, all_of, end_of, read_of}
+use Rattle.adb_client_reader.specs.Reading.{AreTurns, Done, EndsBy, Finished, HandsBack, Holds, IsOfReader, IsOrStarved, IsRefusedBehind, IsStarved, Reads, Seen, Shown, SoFar, all_of, end_of, read_of}
 use Rattle.adb_client_reader.proofs.Walks.{rises_unless, tells_one, tells_same, turns_more, turns_none}
-use Rattle.adb_client_reader.proofs.Refusals.{end_refused, held_of_tells, holds_more, starved_by}
+use Rattle.adb_client_reader.proofs.Refusals.{end_refused, held_of_tells, holds_more, starved_by, still_holds}
 
 -- ---- the end of an input
-pub finished_not : (c : ℕ) (By : Cause → Type 0) (entries : List Entry) (a : Telling) (tells : Option Telling) (starved : Bool) → tells ≡ Some a
+abbrev pub finished_not : (c : ℕ) (By : Cause → Type 0) (entries : List Entry) (a : Telling) (tells : Option Telling) (starved : Bool) → tells ≡ Some a
     → Holds a entries → IsStopped a starved ⊎ (room_of ((state (reverse entries)).clients c) ≡ Shut) → Finished c By entries tells starved
 finished_not c By entries a tells starved now holds why = record {
   hall = a;
@@ -49,8 +49,8 @@ finished c cause By entries a b tells p q (Ok life) now holds lives same by = re
   stopped = λ is. cc;
 }
 finished c cause By entries a b tells p q (Err error) now holds fails same by =
-    let k = end_refused c cause error a b entries q.starved holds fails (starved_by p q error same) in
-    finished_not c By entries b tells q.starved now k.0 k.1
+    finished_not c By entries b tells q.starved now (still_holds (End c cause) error a b entries holds fails)
+    (end_refused c cause error a b entries q.starved holds fails (starved_by p q error same))
 
 if_some : {A : Type 0} (P Q : A → Type 0) (x : Option A) → ((a : A) → P a → Q a) → IfSome x P → IfSome x Q
 if_some P Q None f p = tt
@@ -131,7 +131,7 @@ done_finished c By entries coming first now starved x left same le causes = reco
 }
 
 -- ---- a piece that was refused, or behind which a call was
-ends_starved : (rest : List ℕ) (before after : ℕ) (starved : Bool) → starved ≡ true → (cause : Cause) → cause ≡ Starved
+pub ends_starved : (rest : List ℕ) (before after : ℕ) (starved : Bool) → starved ≡ true → (cause : Cause) → cause ≡ Starved
     → EndsBy rest before after starved cause
 ends_starved rest before after starved is cause same = subst (λ (x : Cause). EndsBy rest before after starved x) (sym same) is
 
@@ -202,7 +202,7 @@ done_cut c entries piece coming rest first now starved refused x stopped wants l
 
 -- ---- whole turns
 -- a piece behind which its client waits for nothing
-pub read_whole : (c : ℕ) (entries : List Entry) (piece coming rest : List ℕ) (first : Shown) (now : Seen) (a : Telling) → now.tells ≡ Some a
+abbrev pub read_whole : (c : ℕ) (entries : List Entry) (piece coming rest : List ℕ) (first : Shown) (now : Seen) (a : Telling) → now.tells ≡ Some a
     → Tells a (entries ++ Read c piece ∷ []) → left_waiting (Read c piece) (reverse entries) ≡ None → now.left ≡ Some rest
     → coming ≡ piece ++ rest → now.shown.answered ≡ first.answered → first.bind_faults ≤ now.shown.bind_faults
     → SoFar c entries coming first now
@@ -223,7 +223,7 @@ read_whole c entries piece coming rest first now a tells told waits left is same
 }
 
 -- a piece, and the Bound of the port that its client waited for then
-pub bound_whole : (c : ℕ) (entries : List Entry) (piece coming rest : List ℕ) (first : Shown) (now : Seen) (asked port : ℕ) (a : Telling)
+abbrev pub bound_whole : (c : ℕ) (entries : List Entry) (piece coming rest : List ℕ) (first : Shown) (now : Seen) (asked port : ℕ) (a : Telling)
     → now.tells ≡ Some a → Tells a (entries ++ Read c piece ∷ Bound c port ∷ []) → left_waiting (Read c piece) (reverse entries) ≡ Some asked
     → now.left ≡ Some rest → coming ≡ piece ++ rest → TellsOneMore first.answered (asked, port) now.shown.answered
     → (port ≡ 0 → Rises first.bind_faults now.shown.bind_faults) → first.bind_faults ≤ now.shown.bind_faults → SoFar c entries coming first now
@@ -338,3 +338,28 @@ done_after c entries coming first mid now starved x y le from =
       lost = y.lost;
       why = subst (λ (es : List Entry). HandsBack c (reverse es) (is_some y.ended) y.hall starved) same y.why;
     }
+
+-- ---- the same of the clauses
+pub reads_first : (c : ℕ) (starved : Bool) (now : Seen) → Reads true c starved now now
+reads_first c starved now a entries coming tells told left = record {
+  hall = a;
+  made = [];
+  rest = coming;
+  tells_now = tells;
+  tells = subst (λ (es : List Entry). Tells a es) (sym (append-nil entries)) told;
+  turns = turns_none c (reverse entries) None now.shown now.shown (tells_same now.shown.answered now.shown.answered refl) (omega arith);
+  left_now = left;
+  taken = refl;
+}
+
+pub reads_more : (c : ℕ) (before after : Bool) (first mid now : Seen) → Reads true c before first mid → Reads true c after mid now
+    → mid.shown.bind_faults ≤ now.shown.bind_faults → Reads true c after first now
+reads_more c before after first mid now p q le a entries coming tells told left =
+    let x = p a entries coming tells told left in
+    so_far_more c entries coming first.shown mid now x (q x.hall (entries ++ x.made) x.rest x.tells_now x.tells x.left_now) le
+
+pub reads_done : (c : ℕ) (before after : Bool) (first mid now : Seen) → Reads true c before first mid → Reads false c after mid now
+    → mid.shown.bind_faults ≤ now.shown.bind_faults → first.shown.port_faults ≤ mid.shown.port_faults → Reads false c after first now
+reads_done c before after first mid now p q le from a entries coming tells told left =
+    let x = p a entries coming tells told left in
+    done_after c entries coming first.shown mid now after x (q x.hall (entries ++ x.made) x.rest x.tells_now x.tells x.left_now) le from

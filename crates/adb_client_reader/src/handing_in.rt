@@ -39,20 +39,21 @@ fn settle<E: Ledger, M: Ledger, K: Marks, H: Hall<E, M, K>, B: Binder>(
         (seen (H.tells hall.old) before n (B.answered binder.old) (B.faults binder.old))
         (seen (H.tells hall.new) after m (B.answered binder.new) (B.faults binder.new)) }
 {
-    let asked = match hall.waiting(pass) {
-        Ok(Some(asked)) => asked,
-        Ok(None) => return true,
-        Err(_) => return false,
-    };
-    let port = bind(binder, asked);
-    match hall.bound(pass, port) {
-        Ok(Life::Live) => true,
-        Ok(Life::Gone) => false,
-        Err(DeskError::Hub(HubError::OutOfMemory)) => {
-            starve(hall, pass);
-            false
-        }
+    match hall.waiting(pass) {
+        Ok(None) => true,
         Err(_) => false,
+        Ok(Some(asked)) => {
+            let port = bind(binder, asked);
+            match hall.bound(pass, port) {
+                Ok(Life::Live) => true,
+                Ok(Life::Gone) => false,
+                Err(DeskError::Hub(HubError::OutOfMemory)) => {
+                    starve(hall, pass);
+                    false
+                }
+                Err(_) => false,
+            }
+        }
     }
 }
 

@@ -33,6 +33,16 @@ pub(crate) enum Next {
 }
 
 impl Next {
+    /// Whether more may follow.
+    fn goes_on(self) -> bool
+        ensures { result ≡ goes_on self }
+    {
+        match self {
+            Next::More | Next::Full => true,
+            Next::Stop => false,
+        }
+    }
+
     /// What follows a piece that was handed in.
     fn after(going: bool, filled: bool) -> Next
         ensures { goes_on result ≡ going }
@@ -148,9 +158,8 @@ fn read_bulk<
     let mut pass = pass;
     let mut buffer = [0u8; MAX_PIECE];
     for _ in rt.forever() {
-        match turn(hall, port, &mut pass, binder, &mut buffer, gate) {
-            Next::More | Next::Full => {}
-            Next::Stop => return pass,
+        if !turn(hall, port, &mut pass, binder, &mut buffer, gate).goes_on() {
+            return pass;
         }
     }
     unreachable!()
