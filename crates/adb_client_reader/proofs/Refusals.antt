@@ -28,7 +28,7 @@ use Rattle.adb_desk_log.specs.declared.error.DeskError.TheVariants.{Halted, Reco
 use Rattle.adb_desk_log.specs.Pass.{PassView}
 use Rattle.adb_desk.specs.Desk.{client_life, desk_refusal, or_given_by, or_later}
 use Rattle.adb_hall.specs.Telling.{Entered, Fails, Lives, Rooms, Telling, Waits, drawn_room}
-use Rattle.adb_hall.specs.Passes.{after_error, after_life, after_waiting, is_starved}
+use Rattle.adb_hall.specs.Passes.{after_error, after_life, after_room, after_waiting, is_starved}
 use Rattle.adb_hall.specs.Made.{IsStopped, Tells}
 use Rattle.adb_hall.proofs.Made.{tells_more}
 use Rattle.adb_client_reader.specs.Reading.{Fits, HandsBack, Holds}
@@ -284,3 +284,9 @@ life_number p q n (Err error) same = ap (λ (x : PassView). x.number) same ∙ e
 pub waiting_number : (p q : PassView) (r : Result (Option ℕ) DeskError) → q ≡ after_waiting p r → q.number ≡ p.number
 waiting_number p q (Ok port) same = ap (λ (x : PassView). x.number) same
 waiting_number p q (Err error) same = ap (λ (x : PassView). x.number) same ∙ error_number p error
+
+pub room_number : (p q : PassView) (r : Result Room DeskError) → q ≡ after_room p r → q.number ≡ p.number
+room_number p q (Ok (Space n)) same = ap (λ (x : PassView). x.number) same
+room_number p q (Ok Later) same = ap (λ (x : PassView). x.number) same
+room_number p q (Ok Shut) same = ap (λ (x : PassView). x.number) same
+room_number p q (Err error) same = ap (λ (x : PassView). x.number) same ∙ error_number p error
