@@ -15,7 +15,7 @@ ghost use Rattle.adb_desk.specs.Desk.{rung, or_given_by, is_later};
 
 use crate::desk::Desk;
 use adb_capture::{Entry, Owner, Recorder};
-use adb_desk_log::{DeskError, Marks, marks_drawn, marks_life, marks_room, marks_waiting};
+use adb_desk_log::{DeskError, Marks, marks_error, marks_life, marks_room};
 use adb_hub::{Hub, HubError, Life, MAX_HELD, Room};
 use adb_outside::Cause;
 use std::sync::ledger::Ledger;
@@ -28,7 +28,7 @@ impl<R: Recorder, E: Ledger, M: Ledger, K: Marks> Desk<R, E, M, K> {
         ensures steady { K.steady → result ≢ Err DeskError.RecordFault }
     {
         let answer = self.try_join();
-        self.log.ring(marks_drawn(&answer));
+        self.log.ring(marks_error(&answer));
         answer
     }
 
@@ -40,7 +40,7 @@ impl<R: Recorder, E: Ledger, M: Ledger, K: Marks> Desk<R, E, M, K> {
         ensures steady { K.steady → result ≢ Err DeskError.RecordFault }
     {
         let answer = self.try_enter(port);
-        self.log.ring(marks_drawn(&answer));
+        self.log.ring(marks_error(&answer));
         answer
     }
 
@@ -112,7 +112,7 @@ impl<R: Recorder, E: Ledger, M: Ledger, K: Marks> Desk<R, E, M, K> {
             Some(error) => Err(error),
             None => Ok(self.hub.waiting_port(client)),
         };
-        self.log.ring(marks_waiting(&answer));
+        self.log.ring(marks_error(&answer));
         answer
     }
 

@@ -73,6 +73,13 @@ impl<R: Recorder, E: Ledger, M: Ledger, K: Marks> Desk<R, E, M, K> {
         }
     }
 
+    /// The recorder, for whoever reads what it kept.
+    pub fn recorder(&self) -> &R
+        ensures { R.told result.now ≡ self.now.log.told }
+    {
+        self.log.recorder()
+    }
+
     /// What stands whenever a desk is at hand, so whenever the lock on one is free. What its
     /// recorder tells is a legal history, so it is fifo, has its causes and is answered; the counts
     /// are its counts; the hub holds it unless the recorder refused; and no client holds more than

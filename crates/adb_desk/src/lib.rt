@@ -10,6 +10,6 @@ mod passes;
 
 pub use adb_desk_log::{
     ALL_PARTS, ClientIn, ClientOut, DeskError, LinkIn, LinkOut, Mark, Marks, Pass, is_marked,
-    marks_drawn, marks_handed, marks_life, marks_room, marks_waiting,
+    marks_error, marks_handed, marks_life, marks_room,
 };
 pub use desk::Desk;

@@ -10,7 +10,7 @@ ghost use Rattle.adb_desk.specs.Desk.{Lives, Draws, Rung, link_life};
 
 use crate::desk::Desk;
 use adb_capture::{Entry, Owner, Recorder};
-use adb_desk_log::{DeskError, Marks, keep_attach, marks_drawn, marks_life};
+use adb_desk_log::{DeskError, Marks, keep_attach, marks_error, marks_life};
 use adb_hub::{HubError, Life};
 use adb_outside::{Cause, Kind, Text};
 use std::sync::ledger::Ledger;
@@ -24,7 +24,7 @@ impl<R: Recorder, E: Ledger, M: Ledger, K: Marks> Desk<R, E, M, K> {
         ensures steady { K.steady → result ≢ Err DeskError.RecordFault }
     {
         let answer = self.try_attach(kind, serial);
-        self.log.ring(marks_drawn(&answer));
+        self.log.ring(marks_error(&answer));
         answer
     }
 

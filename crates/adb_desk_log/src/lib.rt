@@ -12,6 +12,6 @@ mod shares;
 pub use error::DeskError;
 pub use keeping::{keep_attach, keep_put, keep_sent};
 pub use log::Log;
-pub use marked::{is_marked, marks_drawn, marks_handed, marks_life, marks_room, marks_waiting};
+pub use marked::{is_marked, marks_error, marks_handed, marks_life, marks_room};
 pub use marks::{ALL_PARTS, Marks};
 pub use pass::{ClientIn, ClientOut, LinkIn, LinkOut, Mark, Pass};

@@ -110,6 +110,13 @@ impl<R: Recorder, E: Ledger, M: Ledger, K: Marks> Log<R, E, M, K> {
         }
     }
 
+    /// The recorder, for whoever reads what it kept.
+    pub fn recorder(&self) -> &R
+        ensures { (R.told result.now ≡ self.now.told) × (R.faults result.now ≡ self.now.faults) }
+    {
+        &self.recorder
+    }
+
     /// The answer of a log that is shut. Over a recorder that never fails it is not that one
     /// failed.
     pub fn shut(&self) -> Option<DeskError>

@@ -87,15 +87,17 @@ fn room_of_drawn<R: Recorder, E: Ledger, M: Ledger, K: Marks>(
     ensures alarm { marks_room result ≡ true → desk.new.log.alarm ≡ true }
     ensures steady { K.steady → result ≢ Err DeskError.RecordFault }
 {
+    desk.law();
+    if !desk.is_open() {
+        return match desk.over() {
+            Some(error) => Err(error),
+            None => unreachable!(),
+        };
+    }
     if desk.is_drawn(client) {
-        return desk.room(client);
-    }
-    if desk.is_open() {
-        return Err(DeskError::Hub(HubError::NoClient(client)));
-    }
-    match desk.over() {
-        Some(error) => Err(error),
-        None => unreachable!(),
+        desk.room(client)
+    } else {
+        Err(DeskError::Hub(HubError::NoClient(client)))
     }
 }
 
@@ -196,6 +198,7 @@ pub fn put<R: Recorder, E: Ledger, M: Ledger, K: Marks>(
         (λ (s : State). offered_to s.devices (s.clients n)) result (telling_of desk.old) (telling_of desk.new) }
     ensures steady { K.steady → result ≢ Err DeskError.RecordFault }
 {
+    desk.law();
     let answer = desk.put(pass.number(), max);
     note_handed(desk, &mut pass.pass, &answer);
     answer

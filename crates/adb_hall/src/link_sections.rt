@@ -89,6 +89,7 @@ pub fn send<R: Recorder, E: Ledger, M: Ledger, K: Marks>(
         (λ (s : State). due_on (s.links n)) result (telling_of desk.old) (telling_of desk.new) }
     ensures steady { K.steady → result ≢ Err DeskError.RecordFault }
 {
+    desk.law();
     let answer = desk.send(pass.number(), max);
     note_handed(desk, &mut pass.pass, &answer);
     answer

@@ -1,0 +1,289 @@
+//! The calls of workers: one section each, in which the desk is called once.
+
+use crate::bells::{Pair, Side};
+use crate::locked_hall::LockedHall;
+use adb_capture::Recorder;
+use adb_desk_log::{
+    ClientIn, ClientOut, DeskError, LinkIn, LinkOut, Marks, marks_error, marks_life,
+};
+use adb_hall::{Hall, section};
+use adb_hub::{Handed, HubError, Life, Owner, Room};
+use adb_outside::{Cause, Kind};
+use adb_spawner::NoThread;
+use std::sync::ledger::Ledger;
+use std::sync::{Mutex, Wait};
+
+impl<
+    R: Recorder,
+    E: Ledger,
+    M: Ledger,
+    K: Marks,
+    W: Wait + Copy + Send + Sync + Drop + 'static,
+> Hall<E, M, K> for LockedHall<R, E, M, K, W> {
+    ghost use Rattle.std.specs.Prelude.{None};
+
+    ghost tells = { λ h. None };
+
+    ghost marked = { λ h. h };
+
+    fn join(&mut self) -> Result<(ClientIn<E, M, K>, ClientOut<E, M, K>), DeskError> {
+        let Ok(pair) = Pair::new(self.alloc) else {
+            return Err(DeskError::Hub(HubError::OutOfMemory));
+        };
+        let mut guard = self.shared.locked.lock(&self.rt);
+        let locked = &mut *guard;
+        let answer = section::join(&mut locked.desk);
+        if let Ok((reading, _)) = &answer {
+            locked.bells.put_up(Owner::Client(reading.number()), pair);
+        }
+        if let Some(mark) = &mut self.mark {
+            section::mark_handle(&mut locked.desk, mark, marks_error(&answer));
+        }
+        let rings = guard.ring();
+        drop(guard);
+        rings.ring_rest(&self.shared.common);
+        answer
+    }
+
+    fn enter(&mut self, port: u16) -> Result<(ClientIn<E, M, K>, ClientOut<E, M, K>), DeskError> {
+        let Ok(pair) = Pair::new(self.alloc) else {
+            return Err(DeskError::Hub(HubError::OutOfMemory));
+        };
+        let mut guard = self.shared.locked.lock(&self.rt);
+        let locked = &mut *guard;
+        let answer = section::enter(&mut locked.desk, port);
+        if let Ok((reading, _)) = &answer {
+            locked.bells.put_up(Owner::Client(reading.number()), pair);
+        }
+        if let Some(mark) = &mut self.mark {
+            section::mark_handle(&mut locked.desk, mark, marks_error(&answer));
+        }
+        let rings = guard.ring();
+        drop(guard);
+        rings.ring_rest(&self.shared.common);
+        answer
+    }
+
+    fn attach(
+        &mut self,
+        kind: Kind,
+        serial: &[u8],
+    ) -> Result<(LinkIn<E, M, K>, LinkOut<E, M, K>), DeskError> {
+        let Ok(pair) = Pair::new(self.alloc) else {
+            return Err(DeskError::Hub(HubError::OutOfMemory));
+        };
+        let mut guard = self.shared.locked.lock(&self.rt);
+        let locked = &mut *guard;
+        let answer = section::attach(&mut locked.desk, kind, serial);
+        if let Ok((reading, _)) = &answer {
+            locked.bells.put_up(Owner::Link(reading.number()), pair);
+        }
+        if let Some(mark) = &mut self.mark {
+            section::mark_handle(&mut locked.desk, mark, marks_error(&answer));
+        }
+        let rings = guard.ring();
+        drop(guard);
+        rings.ring_rest(&self.shared.common);
+        answer
+    }
+
+    fn room(&mut self, pass: &mut ClientIn<E, M, K>) -> Result<Room, DeskError> {
+        let mut guard = self.shared.locked.lock(&self.rt);
+        for _ in self.rt.forever() {
+            let locked = &mut *guard;
+            let answer = section::room(&mut locked.desk, pass);
+            if let Ok(Room::Later) = answer {
+                guard = match locked
+                    .bells
+                    .sleep(Owner::Client(pass.number()), Side::Reader)
+                {
+                    Some(bell) => bell.wait(&self.rt, guard),
+                    None => self.shared.common.wait(&self.rt, guard),
+                };
+            } else {
+                let rings = guard.ring();
+                drop(guard);
+                rings.ring_rest(&self.shared.common);
+                return answer;
+            }
+        }
+        unreachable!()
+    }
+
+    fn read(&mut self, pass: &mut ClientIn<E, M, K>, piece: &[u8]) -> Result<Life, DeskError> {
+        let mut guard = self.shared.locked.lock(&self.rt);
+        for _ in self.rt.forever() {
+            let locked = &mut *guard;
+            let answer = section::read(&mut locked.desk, pass, piece);
+            if let Err(DeskError::Later) = answer {
+                guard = match locked
+                    .bells
+                    .sleep(Owner::Client(pass.number()), Side::Reader)
+                {
+                    Some(bell) => bell.wait(&self.rt, guard),
+                    None => self.shared.common.wait(&self.rt, guard),
+                };
+            } else {
+                let rings = guard.ring();
+                drop(guard);
+                rings.ring_rest(&self.shared.common);
+                return answer;
+            }
+        }
+        unreachable!()
+    }
+
+    fn end(&mut self, pass: &mut ClientIn<E, M, K>, cause: Cause) -> Result<Life, DeskError> {
+        let mut guard = self.shared.locked.lock(&self.rt);
+        let answer = section::end(&mut guard.desk, pass, cause);
+        let rings = guard.ring();
+        drop(guard);
+        rings.ring_rest(&self.shared.common);
+        answer
+    }
+
+    fn waiting(&mut self, pass: &mut ClientIn<E, M, K>) -> Result<Option<u16>, DeskError> {
+        let mut guard = self.shared.locked.lock(&self.rt);
+        let answer = section::waiting(&mut guard.desk, pass);
+        let rings = guard.ring();
+        drop(guard);
+        rings.ring_rest(&self.shared.common);
+        answer
+    }
+
+    fn bound(&mut self, pass: &mut ClientIn<E, M, K>, port: u16) -> Result<Life, DeskError> {
+        let mut guard = self.shared.locked.lock(&self.rt);
+        let answer = section::bound(&mut guard.desk, pass, port);
+        let rings = guard.ring();
+        drop(guard);
+        rings.ring_rest(&self.shared.common);
+        answer
+    }
+
+    fn put(&mut self, pass: &mut ClientOut<E, M, K>, max: usize) -> Result<Handed, DeskError> {
+        let mut guard = self.shared.locked.lock(&self.rt);
+        for _ in self.rt.forever() {
+            let locked = &mut *guard;
+            let answer = section::put(&mut locked.desk, pass, max);
+            if let Ok(Handed::Nothing) = answer {
+                guard = match locked
+                    .bells
+                    .sleep(Owner::Client(pass.number()), Side::Writer)
+                {
+                    Some(bell) => bell.wait(&self.rt, guard),
+                    None => self.shared.common.wait(&self.rt, guard),
+                };
+            } else {
+                let rings = guard.ring();
+                drop(guard);
+                rings.ring_rest(&self.shared.common);
+                return answer;
+            }
+        }
+        unreachable!()
+    }
+
+    fn break_out(
+        &mut self,
+        pass: &mut ClientOut<E, M, K>,
+        cause: Cause,
+    ) -> Result<Life, DeskError> {
+        let mut guard = self.shared.locked.lock(&self.rt);
+        let answer = section::break_out(&mut guard.desk, pass, cause);
+        let rings = guard.ring();
+        drop(guard);
+        rings.ring_rest(&self.shared.common);
+        answer
+    }
+
+    fn recv(&mut self, pass: &mut LinkIn<E, M, K>, piece: &[u8]) -> Result<Life, DeskError> {
+        let mut guard = self.shared.locked.lock(&self.rt);
+        let answer = section::recv(&mut guard.desk, pass, piece);
+        let rings = guard.ring();
+        drop(guard);
+        rings.ring_rest(&self.shared.common);
+        answer
+    }
+
+    fn detach(&mut self, pass: &mut LinkIn<E, M, K>, cause: Cause) -> Result<Life, DeskError> {
+        let mut guard = self.shared.locked.lock(&self.rt);
+        let answer = section::detach(&mut guard.desk, pass, cause);
+        let rings = guard.ring();
+        drop(guard);
+        rings.ring_rest(&self.shared.common);
+        answer
+    }
+
+    fn send(&mut self, pass: &mut LinkOut<E, M, K>, max: usize) -> Result<Handed, DeskError> {
+        let mut guard = self.shared.locked.lock(&self.rt);
+        for _ in self.rt.forever() {
+            let locked = &mut *guard;
+            let answer = section::send(&mut locked.desk, pass, max);
+            if let Ok(Handed::Nothing) = answer {
+                guard = match locked.bells.sleep(Owner::Link(pass.number()), Side::Writer) {
+                    Some(bell) => bell.wait(&self.rt, guard),
+                    None => self.shared.common.wait(&self.rt, guard),
+                };
+            } else {
+                let rings = guard.ring();
+                drop(guard);
+                rings.ring_rest(&self.shared.common);
+                return answer;
+            }
+        }
+        unreachable!()
+    }
+
+    fn break_send(&mut self, pass: &mut LinkOut<E, M, K>, cause: Cause) -> Result<Life, DeskError> {
+        let mut guard = self.shared.locked.lock(&self.rt);
+        let answer = section::break_send(&mut guard.desk, pass, cause);
+        let rings = guard.ring();
+        drop(guard);
+        rings.ring_rest(&self.shared.common);
+        answer
+    }
+
+    fn no_thread_client(&mut self, client: u32, _shown: NoThread) -> Result<Life, DeskError> {
+        let mut guard = self.shared.locked.lock(&self.rt);
+        let locked = &mut *guard;
+        let answer = section::strand_client(&mut locked.desk, client);
+        if let Some(mark) = &mut self.mark {
+            section::mark_handle(&mut locked.desk, mark, marks_life(&answer));
+        }
+        let rings = guard.ring();
+        drop(guard);
+        rings.ring_rest(&self.shared.common);
+        answer
+    }
+
+    fn no_thread_link(&mut self, link: u32, _shown: NoThread) -> Result<Life, DeskError> {
+        let mut guard = self.shared.locked.lock(&self.rt);
+        let locked = &mut *guard;
+        let answer = section::strand_link(&mut locked.desk, link);
+        if let Some(mark) = &mut self.mark {
+            section::mark_handle(&mut locked.desk, mark, marks_life(&answer));
+        }
+        let rings = guard.ring();
+        drop(guard);
+        rings.ring_rest(&self.shared.common);
+        answer
+    }
+
+    fn over(&mut self) -> Option<DeskError> {
+        let mut guard = self.shared.locked.lock(&self.rt);
+        let locked = &mut *guard;
+        let answer = section::over(&mut locked.desk);
+        if let Some(mark) = &mut self.mark {
+            section::mark_handle(&mut locked.desk, mark, answer.is_some());
+        }
+        answer
+    }
+
+    fn halt(&mut self) {
+        let mut guard = self.shared.locked.lock(&self.rt);
+        section::halt(&mut guard.desk);
+        let rings = guard.ring();
+        drop(guard);
+        rings.ring_rest(&self.shared.common);
+    }
+}

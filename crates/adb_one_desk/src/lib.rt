@@ -1,0 +1,9 @@
+//! A hall over a desk of its own, for one thread. It tells its history.
+#![tactic(auto)]
+
+mod calls;
+mod one_desk;
+#[cfg(test)]
+mod tests;
+
+pub use one_desk::OneDesk;
