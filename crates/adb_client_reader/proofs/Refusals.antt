@@ -278,7 +278,7 @@ error_number p Wait = refl
 error_number p (Hub error) = refl
 
 pub life_number : (p q : PassView) (n : ℕ) (r : Result Life DeskError) → q ≡ after_life p n r → q.number ≡ p.number
-life_number p q n (Ok life) same = ap (λ (x : PassView). x.number) same
+life_number p q n (Ok told) same = ap (λ (x : PassView). x.number) same
 life_number p q n (Err error) same = ap (λ (x : PassView). x.number) same ∙ error_number p error
 
 pub waiting_number : (p q : PassView) (r : Result (Option ℕ) DeskError) → q ≡ after_waiting p r → q.number ≡ p.number

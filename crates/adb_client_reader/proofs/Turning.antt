@@ -40,7 +40,7 @@ finished_not c By entries a tells starved now holds why = record {
 pub finished : (c : ℕ) (cause : Cause) (By : Cause → Type 0) (entries : List Entry) (a b : Telling) (tells : Option Telling) (p q : PassView)
     (r : Result Life DeskError) → tells ≡ Some b → Holds a entries → Lives (End c cause) (client_life c) r a b → q ≡ after_life p 0 r
     → By cause → Finished c By entries tells q.starved
-finished c cause By entries a b tells p q (Ok life) now holds lives same by = record {
+finished c cause By entries a b tells p q (Ok told) now holds lives same by = record {
   hall = b;
   ended = Some cause;
   tells_now = now;
