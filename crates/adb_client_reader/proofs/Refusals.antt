@@ -271,6 +271,28 @@ starved_by p q RecordFault same is = cc
 starved_by p q Wait same is = cc
 starved_by p q (Hub error) same is = ap (λ (x : PassView). x.starved) same ∙ or_true p.starved (is_starved (Hub error)) is
 
+pub no_memory : (error : DeskError) (inner : HubError) → error ≡ Hub inner → inner ≡ OutOfMemory → is_starved error ≡ true
+no_memory error inner is none = ap is_starved is ∙ ap (λ (x : HubError). is_starved (Hub x)) none
+
+or_left : (b c : Bool) → b ≡ true → (b || c) ≡ true
+or_left true c is = refl
+or_left false c is = cc
+
+error_starved : (p : PassView) (error : DeskError) → p.starved ≡ true → (after_error p error).starved ≡ true
+error_starved p Halted is = or_left p.starved false is
+error_starved p RecordFault is = or_left p.starved false is
+error_starved p Wait is = is
+error_starved p (Hub error) is = or_left p.starved (is_starved (Hub error)) is
+
+-- A pass that is starved stays so.
+pub life_starved : (p q : PassView) (n : ℕ) (r : Result Life DeskError) → q ≡ after_life p n r → p.starved ≡ true → q.starved ≡ true
+life_starved p q n (Ok told) same is = ap (λ (x : PassView). x.starved) same ∙ or_left p.starved false is
+life_starved p q n (Err error) same is = ap (λ (x : PassView). x.starved) same ∙ error_starved p error is
+
+pub waiting_starved : (p q : PassView) (r : Result (Option ℕ) DeskError) → q ≡ after_waiting p r → p.starved ≡ true → q.starved ≡ true
+waiting_starved p q (Ok port) same is = ap (λ (x : PassView). x.starved) same ∙ is
+waiting_starved p q (Err error) same is = ap (λ (x : PassView). x.starved) same ∙ error_starved p error is
+
 error_number : (p : PassView) (error : DeskError) → (after_error p error).number ≡ p.number
 error_number p Halted = refl
 error_number p RecordFault = refl
