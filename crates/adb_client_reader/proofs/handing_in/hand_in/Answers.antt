@@ -1,6 +1,6 @@
 use Rattle.std.proofs.Common.{length, rules, refl, arith}
 use Rattle.adb_hall.proofs.Made.{tells_more, where_some}
-use Rattle.adb_client_reader.proofs.Refusals.{held_of_tells, life_number, no_memory, starved_by, still_holds}
+use Rattle.adb_client_reader.proofs.Refusals.{held_of_tells, life_number, life_starved, no_memory, starved_by, still_holds}
 use Rattle.adb_client_reader.proofs.Steps.{handed_gone, handed_refused, handed_starved}
 use Rattle.adb_client_reader.proofs.handing_in.hand_in.Goals as goal
 
@@ -33,3 +33,17 @@ returns-in-Err-clause-told g c before after n m a es l rest t told left is fits 
     let w = where_some _ _ _ a t s.ensures.told in
     handed_refused _ es c.args.piece.now l rest _ _ _ s.field-0 a w.0 w.1 told fits w.2
     (starved_by c.args.pass.now.pass c.read.new.pass.pass s.field-0 s.ensures.pass) left is refl (omega arith)
+
+pub returns-in-Err-2 : goal.returns-in-Err-2
+returns-in-Err-2 g c =
+    let s = c.in-Err in
+    let piece = c.args.piece.now in
+    record {
+      number = life_number c.args.pass.now.pass c.read.new.pass.pass (length piece) c.read.result c.read.ensures.pass;
+      starved = life_starved c.args.pass.now.pass c.read.new.pass.pass (length piece) c.read.result c.read.ensures.pass;
+      bind_count = omega arith;
+      told = λ before after n m a es l rest t told left is fits.
+          let w = where_some _ _ _ a t s.ensures.told in
+          handed_refused _ es piece l rest _ _ _ s.field-0 a w.0 w.1 told fits w.2
+          (starved_by c.args.pass.now.pass c.read.new.pass.pass s.field-0 s.ensures.pass) left is refl (omega arith);
+    }
