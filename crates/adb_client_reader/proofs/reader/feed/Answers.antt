@@ -10,7 +10,7 @@ use Rattle.adb_client_reader.proofs.reader.feed.Goals as goal
 pub returns-in-Bytes-clause-told : goal.returns-in-Bytes-clause-told
 returns-in-Bytes-clause-told g c a es l t told left fits =
     let r = c.in-Bytes.ensures.told l left in
-    rw c.after.ensures (c.hand_in.ensures.told _ _ _ _ a es l _ t told r.rest (rw r.front (sym (take-append-drop _ l)))
+    rw c.after.ensures (c.hand_in-going.ensures.told _ _ _ _ a es l _ t told r.rest (rw r.front (sym (take-append-drop _ l)))
     (fits_less _ _ _ _ fits (omega (arith, length-take c.in-Bytes.n c.read.new.into, c.in-Bytes.ensures.fits, c.read.auto))))
 
 pub returns-in-End-clause-told : goal.returns-in-End-clause-told

@@ -7,7 +7,8 @@ use Rattle.adb_client_reader.proofs.reader.turn.Goals as goal
 pub returns-in-Ok-Bytes-clause-told : goal.returns-in-Ok-Bytes-clause-told
 returns-in-Ok-Bytes-clause-told g c a es l t told left =
     let w = where_some _ _ _ a t (rw c.in-Ok-Bytes.field-0-is at c.in-Ok-Bytes.ensures.told) in
-    rw (room_number _ _ _ c.room.ensures.pass) at (c.feed.ensures.told a es l (w.1 ∙ ap Some w.2.same) told left (room_fits _ _ _ a w.0 es told w.2 (omega arith)))
+    let number = room_number c.args.pass.now.pass c.room.new.pass.pass c.room.result c.room.ensures.pass in
+    (rw number at c.feed.ensures.told) a es l (w.1 ∙ ap Some w.2.same) told left (room_fits _ _ _ a w.0 es told w.2 (omega arith))
 
 pub returns-in-Ok-Later-clause-told : goal.returns-in-Ok-Later-clause-told
 returns-in-Ok-Later-clause-told g c a es l t told left =
