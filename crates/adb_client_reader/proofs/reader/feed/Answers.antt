@@ -1,7 +1,7 @@
-use Rattle.std.proofs.Common.{Some, take, drop, length, sym, refl, ap, ◌∙◌, arith}
+use Rattle.std.proofs.Common.{Some, None, reverse, take, drop, length, sym, refl, ap, ◌∙◌, arith}
 use Rattle.std.proofs.lemmas.List.{take-append-drop, length-take}
 use Rattle.adb_outside.specs.declared.kinds.Cause.TheVariants.{Eof, Fault}
-use Rattle.adb_hall.proofs.Made.{where_some}
+use Rattle.adb_history.specs.Machine.{state}
 use Rattle.adb_client_reader.proofs.Refusals.{held_of_tells}
 use Rattle.adb_client_reader.proofs.Turning.{done_finished}
 use Rattle.adb_client_reader.proofs.Steps.{ends_or_starved, fits_less}
@@ -10,8 +10,10 @@ use Rattle.adb_client_reader.proofs.reader.feed.Goals as goal
 pub returns-in-Bytes-clause-told : goal.returns-in-Bytes-clause-told
 returns-in-Bytes-clause-told g c a es l t told left fits =
     let r = c.in-Bytes.ensures.told l left in
-    rw c.after.ensures (c.hand_in-going.ensures.told _ _ _ _ a es l _ t told r.rest (rw r.front (sym (take-append-drop _ l)))
-    (fits_less _ _ _ _ fits (omega (arith, length-take c.in-Bytes.n c.read.new.into, c.in-Bytes.ensures.fits, c.read.auto))))
+    let fit = fits_less c.args.pass.now.pass.number _ (length c.args.into.now) (state (reverse es)) fits
+    (omega (arith, length-take c.in-Bytes.n c.read.new.into, c.in-Bytes.ensures.fits, c.read.auto)) in
+    rw c.after.ensures
+    (c.hand_in-going.ensures.told None _ _ _ a es l _ t told r.rest (rw r.front (sym (take-append-drop c.in-Bytes.n l))) fit)
 
 pub returns-in-End-clause-told : goal.returns-in-End-clause-told
 returns-in-End-clause-told g c a es l t told left fits =

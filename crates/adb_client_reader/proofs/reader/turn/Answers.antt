@@ -1,4 +1,5 @@
 use Rattle.std.proofs.Common.{Some, rules, refl, inl, inr, ap, ◌∙◌, arith}
+use Rattle.std.proofs.lemmas.List.{length-take}
 use Rattle.adb_hall.proofs.Made.{where_some}
 use Rattle.adb_client_reader.proofs.Refusals.{held_of_tells, room_fits, room_number, room_refused, room_told}
 use Rattle.adb_client_reader.proofs.Turning.{done_quiet}
@@ -8,7 +9,8 @@ pub returns-in-Ok-Bytes-clause-told : goal.returns-in-Ok-Bytes-clause-told
 returns-in-Ok-Bytes-clause-told g c a es l t told left =
     let w = where_some _ _ _ a t (rw c.in-Ok-Bytes.field-0-is at c.in-Ok-Bytes.ensures.told) in
     let number = room_number c.args.pass.now.pass c.room.new.pass.pass c.room.result c.room.ensures.pass in
-    (rw number at c.feed.ensures.told) a es l (w.1 ∙ ap Some w.2.same) told left (room_fits _ _ _ a w.0 es told w.2 (omega arith))
+    (rw number at c.feed.ensures.told) a es l (w.1 ∙ ap Some w.2.same) told left (room_fits _ _ _ a w.0 es told w.2
+    (omega (arith, length-take c.min-most.result c.args.buffer.now)))
 
 pub returns-in-Ok-Later-clause-told : goal.returns-in-Ok-Later-clause-told
 returns-in-Ok-Later-clause-told g c a es l t told left =
