@@ -2,4 +2,3 @@ pub mod Walks
 pub mod Refusals
 pub mod Turning
 pub mod Steps
-pub mod Admissions

@@ -340,8 +340,12 @@ done_after c entries coming first mid now starved x y le from =
     }
 
 -- ---- the same of the clauses
-pub reads_first : (c : ℕ) (starved : Bool) (now : Seen) → Reads true c starved now now
-reads_first c starved now a entries coming tells told left = record {
+-- while a reader goes on, it does not matter whether memory was found
+abbrev pub GoesOn : ℕ → Seen → Seen → Type 0
+GoesOn c first now = Reads true c false first now
+
+pub reads_first : (c : ℕ) (now : Seen) → GoesOn c now now
+reads_first c now a entries coming tells told left = record {
   hall = a;
   made = [];
   rest = coming;
@@ -352,14 +356,14 @@ reads_first c starved now a entries coming tells told left = record {
   taken = refl;
 }
 
-pub reads_more : (c : ℕ) (before after : Bool) (first mid now : Seen) → Reads true c before first mid → Reads true c after mid now
-    → mid.shown.bind_faults ≤ now.shown.bind_faults → Reads true c after first now
-reads_more c before after first mid now p q le a entries coming tells told left =
+pub reads_more : (c : ℕ) (first mid now : Seen) → GoesOn c first mid → GoesOn c mid now → mid.shown.bind_faults ≤ now.shown.bind_faults
+    → GoesOn c first now
+reads_more c first mid now p q le a entries coming tells told left =
     let x = p a entries coming tells told left in
     so_far_more c entries coming first.shown mid now x (q x.hall (entries ++ x.made) x.rest x.tells_now x.tells x.left_now) le
 
-pub reads_done : (c : ℕ) (before after : Bool) (first mid now : Seen) → Reads true c before first mid → Reads false c after mid now
-    → mid.shown.bind_faults ≤ now.shown.bind_faults → first.shown.port_faults ≤ mid.shown.port_faults → Reads false c after first now
-reads_done c before after first mid now p q le from a entries coming tells told left =
+pub reads_done : (c : ℕ) (starved : Bool) (first mid now : Seen) → GoesOn c first mid → Reads false c starved mid now
+    → mid.shown.bind_faults ≤ now.shown.bind_faults → first.shown.port_faults ≤ mid.shown.port_faults → Reads false c starved first now
+reads_done c starved first mid now p q le from a entries coming tells told left =
     let x = p a entries coming tells told left in
-    done_after c entries coming first.shown mid now after x (q x.hall (entries ++ x.made) x.rest x.tells_now x.tells x.left_now) le from
+    done_after c entries coming first.shown mid now starved x (q x.hall (entries ++ x.made) x.rest x.tells_now x.tells x.left_now) le from
