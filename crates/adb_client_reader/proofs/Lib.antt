@@ -1,0 +1,4 @@
+pub mod Walks
+pub mod Refusals
+pub mod Turning
+pub mod Steps

@@ -1,0 +1,71 @@
+//! One client is admitted.
+
+ghost use Rattle.std.specs.Prelude.{◌≡◌, ◌≢◌};
+ghost use Rattle.adb_outside.specs.Outside.{Counts};
+ghost use Rattle.adb_connections.specs.Door.{Lasts};
+ghost use Rattle.adb_desk_log.specs.declared.error.DeskError.{DeskError};
+ghost use Rattle.adb_client_reader.specs.declared.admitting.Admitted.{Admitted};
+ghost use Rattle.adb_client_reader.specs.Admitting.{HasPair, IsAdmission, is_closed, is_failed};
+ghost use Rattle.adb_client_reader.specs.Admitting.{marked_by};
+
+use adb_connections::{Came, Door};
+use adb_desk_log::{ClientIn, ClientOut, DeskError, Marks};
+use adb_hall::Hall;
+use std::sync::ledger::Ledger;
+
+/// What became of asking a door once.
+#[derive(Drop)]
+pub enum Admitted<I: Drop, O: Drop, E: Ledger, M: Ledger, K: Marks> {
+    /// A client, by the two halves of its connection, with the passes of its reader and its writer.
+    Client {
+        input: I,
+        output: O,
+        reading: ClientIn<E, M, K>,
+        writing: ClientOut<E, M, K>,
+    },
+    /// The door answered that nobody more comes.
+    Closed,
+    /// The door failed.
+    Failed,
+    /// The hall refused who came, whose connection is dropped. It is as before, or its recorder
+    /// shut it.
+    Refused(DeskError),
+}
+
+/// Asks the door once. Where a client comes it joins the hall, where one comes to the port of a
+/// forward it enters through that.
+pub fn admit<E: Ledger, M: Ledger, K: Marks, H: Hall<E, M, K>, D: Door>(
+    hall: &mut H,
+    door: &mut D,
+) -> Admitted<D::In, D::Out, E, M, K>
+    ensures told { IsAdmission result (H.tells hall.old) (H.tells hall.new) (D.came door.old)
+        (D.came door.new) }
+    ensures passes { HasPair result }
+    ensures mark { H.marked hall.new ≡ marked_by result (H.marked hall.old) }
+    ensures steady { K.steady → result ≢ Admitted.Refused DeskError.RecordFault }
+    ensures counts { Counts D.steady D.faults door.old door.new (is_failed result) }
+    ensures lasts { Lasts (D.lasting door.old) (D.lasting door.new) (is_closed result) }
+{
+    match door.accept() {
+        Came::Closed => Admitted::Closed,
+        Came::Failed => Admitted::Failed,
+        Came::Port(input, output) => match hall.join() {
+            Err(error) => Admitted::Refused(error),
+            Ok((reading, writing)) => Admitted::Client {
+                input,
+                output,
+                reading,
+                writing,
+            },
+        },
+        Came::Forward(port, input, output) => match hall.enter(port) {
+            Err(error) => Admitted::Refused(error),
+            Ok((reading, writing)) => Admitted::Client {
+                input,
+                output,
+                reading,
+                writing,
+            },
+        },
+    }
+}
