@@ -93,7 +93,7 @@ impl Rings {
     /// How many bells it rings, but for the common one.
     #[cfg(test)]
     pub(crate) fn len(&self) -> usize {
-        self.rung + self.later.len()
+        self.rung.saturating_add(self.later.len())
     }
 
     /// Rings what is left, behind the lock.
