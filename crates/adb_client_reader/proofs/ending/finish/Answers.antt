@@ -1,4 +1,4 @@
-use Rattle.std.proofs.Common.{refl, inl, inr, rules}
+use Rattle.std.proofs.Common.{refl, inl, inr}
 use Rattle.adb_hall.proofs.Made.{where_some}
 use Rattle.adb_client_reader.specs.Reading.{IsOrStarved, IsStarved}
 use Rattle.adb_client_reader.proofs.Refusals.{life_number, life_starved, no_memory, starved_by, still_holds}
