@@ -19,7 +19,8 @@ use Rattle.adb_hall.proofs.Made.{tells_more}
 use Rattle.adb_client_reader.specs.Forwards.{left_waiting}
 use Rattle.adb_client_reader.specs.Reading.{Done, EndsBy, Finished, Fits, IsOrStarved, IsStarved, Seen, Shown, SoFar}
 use Rattle.adb_client_reader.proofs.Walks.{tells_one, tells_same}
-use Rattle.adb_client_reader.proofs.Refusals.{bound_refused, gone_is_shut, gone_row, held_of_tells, lawful_with, newest, newest_two, piece_refused, port_refused, port_told, still_holds}
+use Rattle.adb_client_reader.proofs.Refusals.{bound_refused, gone_is_shut, gone_row, held_of_tells, lawful_with, newest, newest_two, piece_refused}
+use Rattle.adb_client_reader.proofs.Refusals.{port_refused, port_told, still_holds}
 use Rattle.adb_client_reader.proofs.Turning.{bound_whole, done_cut, done_dropped, done_gone, ends_starved, finished_not, read_whole}
 
 -- ---- a piece was handed in
