@@ -1,6 +1,7 @@
 -- What is known where a hall gives room, refuses a call, or tells that a client is gone.
-use Rattle.std.proofs.Common.{ℕ, ◌+◌, ◌-◌, ◌≡◌, ◌<◌, ◌≤◌, Bool, true, false, List, [], ◌∷◌, ◌++◌, length, reverse, Option, Some, None, Result, Ok, Err, refl, sym, ap, ◌∙◌, subst, arith, inl, inr, zero, suc}
-use Rattle.std.specs.Prelude.{◌⊎◌, ◌≢◌, ◌||◌, ◌&&◌, is_some, nat_lt, nat_le, if◌then◌else◌}
+use Rattle.std.proofs.Common.{ℕ, ◌+◌, ◌-◌, ◌≡◌, ◌<◌, ◌≤◌, Bool, true, false, List, [], ◌∷◌, ◌++◌, length, reverse, Option, Some, None, Result, Ok}
+use Rattle.std.proofs.Common.{Err, refl, sym, ap, ◌∙◌, subst, arith, inl, inr}
+use Rattle.std.specs.Prelude.{◌⊎◌, ◌||◌, ◌&&◌, is_some, nat_lt, nat_le, if◌then◌else◌}
 use Rattle.std.proofs.lemmas.List.{append_assoc, reverse-append}
 use Rattle.std.proofs.lemmas.Bool.Decides.{nat_tests}
 use Rattle.adb_outside.specs.declared.kinds.Cause.{Cause}
@@ -17,7 +18,7 @@ use Rattle.adb_history.proofs.OrderlyStates.{orderly}
 use Rattle.adb_hub.specs.declared.error.HubError.{HubError}
 use Rattle.adb_hub.specs.declared.error.HubError.TheVariants.{NoClient, OutOfMemory}
 use Rattle.adb_hub.specs.declared.answers.Life.{Life}
-use Rattle.adb_hub.specs.declared.answers.Life.TheVariants.{Live, Gone}
+use Rattle.adb_hub.specs.declared.answers.Life.TheVariants.{Gone}
 use Rattle.adb_hub.specs.declared.answers.Room.{Room}
 use Rattle.adb_hub.specs.declared.answers.Room.TheVariants.{Bytes as Space, Shut, Later}
 use Rattle.adb_hub.specs.declared.hub.TheConstants.{MAX_HELD}
@@ -27,7 +28,7 @@ use Rattle.adb_desk_log.specs.declared.error.DeskError.{DeskError}
 use Rattle.adb_desk_log.specs.declared.error.DeskError.TheVariants.{Halted, RecordFault, Hub, Later as Wait}
 use Rattle.adb_desk_log.specs.Pass.{PassView}
 use Rattle.adb_desk.specs.Desk.{client_life, desk_refusal, or_given_by, or_later}
-use Rattle.adb_hall.specs.Telling.{Entered, Fails, Lives, Rooms, Telling, Waits, drawn_room}
+use Rattle.adb_hall.specs.Telling.{Entered, Fails, Rooms, Telling, Waits, drawn_room}
 use Rattle.adb_hall.specs.Passes.{after_error, after_life, after_room, after_waiting, is_starved}
 use Rattle.adb_hall.specs.Made.{IsStopped, Tells}
 use Rattle.adb_hall.proofs.Made.{tells_more}

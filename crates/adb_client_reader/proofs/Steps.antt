@@ -1,6 +1,5 @@
 -- What each answer of a hall makes of a turn.
-use Rattle.std.proofs.Common.{ℕ, ◌+◌, ◌≡◌, ◌<◌, ◌≤◌, Bool, true, false, List, [], ◌∷◌, ◌++◌, length, reverse, Option, Some, None, Ok, Err, refl, sym, ap, ◌∙◌, subst, arith, inl, inr}
-use Rattle.std.specs.Prelude.{◌⊎◌}
+use Rattle.std.proofs.Common.{ℕ, ◌≡◌, ◌≤◌, Bool, true, List, [], ◌∷◌, ◌++◌, length, reverse, Some, None, Ok, Err, sym, ap, ◌∙◌, subst, arith, inl, inr}
 use Rattle.std.proofs.lemmas.List.{append_assoc}
 use Rattle.adb_outside.specs.Outside.{Rises, TellsOneMore}
 use Rattle.adb_outside.specs.declared.kinds.Cause.{Cause}
@@ -8,7 +7,7 @@ use Rattle.adb_capture.specs.declared.entry.Entry.{Entry}
 use Rattle.adb_capture.specs.declared.entry.Entry.TheVariants.{Read, Bound}
 use Rattle.adb_history.specs.Rows.{State}
 use Rattle.adb_history.specs.Machine.{History, state}
-use Rattle.adb_hub.specs.declared.answers.Life.TheVariants.{Live, Gone}
+use Rattle.adb_hub.specs.declared.answers.Life.TheVariants.{Gone}
 use Rattle.adb_hub.specs.declared.answers.Room.TheVariants.{Shut}
 use Rattle.adb_hub.specs.Answers.{port_of, room_of}
 use Rattle.adb_desk_log.specs.declared.error.DeskError.{DeskError}
@@ -18,9 +17,10 @@ use Rattle.adb_hall.specs.Passes.{is_starved}
 use Rattle.adb_hall.specs.Made.{Tells}
 use Rattle.adb_hall.proofs.Made.{tells_more}
 use Rattle.adb_client_reader.specs.Forwards.{left_waiting}
-use Rattle.adb_client_reader.specs.Reading.{Done, EndsBy, Finished, Fits, HandsBack, IsOrStarved, IsStarved, Seen, Shown, SoFar}
+use Rattle.adb_client_reader.specs.Reading.{Done, EndsBy, Finished, Fits, IsOrStarved, IsStarved, Seen, Shown, SoFar}
 use Rattle.adb_client_reader.proofs.Walks.{tells_one, tells_same}
-use Rattle.adb_client_reader.proofs.Refusals.{bound_refused, gone_is_shut, gone_row, held_of_tells, lawful_with, newest, newest_two, piece_refused, port_refused, port_told, still_holds}
+use Rattle.adb_client_reader.proofs.Refusals.{bound_refused, gone_is_shut, gone_row, held_of_tells, lawful_with, newest, newest_two, piece_refused}
+use Rattle.adb_client_reader.proofs.Refusals.{port_refused, port_told, still_holds}
 use Rattle.adb_client_reader.proofs.Turning.{bound_whole, done_cut, done_dropped, done_gone, ends_starved, finished_not, read_whole}
 
 -- ---- a piece was handed in

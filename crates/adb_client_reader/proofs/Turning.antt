@@ -1,6 +1,7 @@
 -- The turns of a reader, each by itself and one behind another.
-use Rattle.std.proofs.Common.{ℕ, ◌+◌, ◌-◌, ◌≡◌, ◌<◌, ◌≤◌, Bool, true, false, List, [], ◌∷◌, ◌++◌, length, reverse, Option, Some, None, Result, Ok, Err, refl, sym, ap, ◌∙◌, subst, arith, inl, inr}
-use Rattle.std.specs.Prelude.{◌⊎◌, ◌==◌, if◌then◌else◌, is_some, option_to_list, All, IfSome}
+use Rattle.std.proofs.Common.{ℕ, ◌≡◌, ◌≤◌, Bool, true, false, List, [], ◌∷◌, ◌++◌, reverse, Option, Some, None, Result, Ok, Err, refl, sym, ap, ◌∙◌}
+use Rattle.std.proofs.Common.{subst, arith, inl, inr}
+use Rattle.std.specs.Prelude.{◌⊎◌, is_some, option_to_list, IfSome}
 use Rattle.std.proofs.lemmas.List.{append-nil, append_assoc, reverse-append}
 use Rattle.std.proofs.lemmas.List.Elements.{All-nil, All-cons}
 use Rattle.adb_outside.specs.Outside.{Rises, TellsOneMore}
@@ -16,11 +17,12 @@ use Rattle.adb_desk_log.specs.declared.error.DeskError.{DeskError}
 use Rattle.adb_desk_log.specs.Pass.{PassView}
 use Rattle.adb_desk.specs.Desk.{client_life}
 use Rattle.adb_hall.specs.Telling.{Lives, Telling}
-use Rattle.adb_hall.specs.Passes.{after_life, is_starved}
+use Rattle.adb_hall.specs.Passes.{after_life}
 use Rattle.adb_hall.specs.Made.{IsStopped, Tells, bytes_in}
 use Rattle.adb_hall.proofs.Made.{bytes_in_append}
-use Rattle.adb_client_reader.specs.Forwards.{IsAnswered, TellsMore, asked_ports, left_waiting, paired, unbound}
-use Rattle.adb_client_reader.specs.Reading.{AreTurns, Done, EndsBy, Finished, HandsBack, Holds, IsOfReader, IsOrStarved, IsRefusedBehind, IsStarved, Reads, Seen, Shown, SoFar, all_of, end_of, read_of}
+use Rattle.adb_client_reader.specs.Forwards.{IsAnswered, TellsMore, left_waiting, paired}
+use Rattle.adb_client_reader.specs.Reading.{AreTurns, Done, EndsBy, Finished, HandsBack, Holds, IsOfReader, IsRefusedBehind, IsStarved, Reads, Seen}
+use Rattle.adb_client_reader.specs.Reading.{Shown, SoFar, all_of, end_of, read_of}
 use Rattle.adb_client_reader.proofs.Walks.{rises_unless, tells_one, tells_same, turns_more, turns_none}
 use Rattle.adb_client_reader.proofs.Refusals.{end_refused, held_of_tells, holds_more, starved_by, still_holds}
 
@@ -263,7 +265,8 @@ done_gone c entries coming first now starved x why = record {
   behind = tt;
   cause = tt;
   left_now = x.left_now;
-  taken = x.taken ∙ ap (λ (bs : List ℕ). bs ++ x.rest) (sym (append-nil (bytes_in x.made)) ∙ ap (λ (es : List Entry). bytes_in es ++ []) (sym (append-nil x.made)));
+  taken = x.taken ∙ ap (λ (bs : List ℕ). bs ++ x.rest)
+      (sym (append-nil (bytes_in x.made)) ∙ ap (λ (es : List Entry). bytes_in es ++ []) (sym (append-nil x.made)));
   lost = inl refl;
   why = subst (λ (es : List Entry). HandsBack c (reverse (entries ++ es)) false x.hall starved) (sym (append-nil x.made)) why;
 }

@@ -1,13 +1,13 @@
 -- Entries one behind the other, and what is said of each of them.
-use Rattle.std.proofs.Common.{ℕ, ◌+◌, ◌-◌, ◌^◌, ◌≡◌, ◌<◌, ◌≤◌, Bool, true, false, List, [], ◌∷◌, ◌++◌, reverse, Option, Some, None, refl, sym, ap, ◌∙◌, subst, arith, inl, inr}
-use Rattle.std.specs.Prelude.{◌⊎◌, ◌==◌, if◌then◌else◌, option_to_list, All}
+use Rattle.std.proofs.Common.{ℕ, ◌+◌, ◌≡◌, ◌≤◌, Bool, true, false, List, [], ◌∷◌, ◌++◌, reverse, Option, Some, None, refl, sym, ap, ◌∙◌, subst, arith, inl, inr}
+use Rattle.std.specs.Prelude.{◌==◌, if◌then◌else◌, option_to_list}
 use Rattle.std.proofs.lemmas.List.{append-nil, append_assoc, reverse-append}
 use Rattle.std.proofs.lemmas.List.Elements.{All-nil, All-append}
 use Rattle.std.proofs.lemmas.Bool.{eqb-true}
 use Rattle.adb_outside.specs.Outside.{Rises, TellsOneMore}
 use Rattle.adb_capture.specs.declared.entry.Entry.{Entry}
 use Rattle.adb_history.specs.Machine.{History}
-use Rattle.adb_client_reader.specs.Forwards.{AreAnswered, IsAnswered, RisesBy, TellsMore, asked_at, asked_ports, is_unbound, left_waiting, unbound}
+use Rattle.adb_client_reader.specs.Forwards.{AreAnswered, IsAnswered, RisesBy, TellsMore, asked_at, asked_ports, left_waiting, unbound}
 use Rattle.adb_client_reader.specs.Reading.{AreTurns, IsOfReader, Shown}
 
 -- the history behind an entry and those that follow it

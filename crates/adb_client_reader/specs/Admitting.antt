@@ -1,12 +1,9 @@
 -- What admitting a client does to the hall and to the door.
-use Rattle.std.specs.Prelude.{ℕ, ◌≡◌, ◌≢◌, Bool, true, false, List, Option, ⊤}
+use Rattle.std.specs.Prelude.{◌≡◌, Bool, true, false, List, Option, ⊤}
 use Rattle.adb_outside.specs.Outside.{TellsOneMore}
-use Rattle.adb_capture.specs.declared.entry.Entry.{Entry}
 use Rattle.adb_capture.specs.declared.entry.Entry.TheVariants.{Join, Enter}
 use Rattle.adb_connections.specs.declared.door.Arrival.{Arrival}
 use Rattle.adb_connections.specs.declared.door.Arrival.TheVariants as came
-use Rattle.adb_desk_log.specs.declared.error.DeskError.{DeskError}
-use Rattle.adb_desk_log.specs.declared.error.DeskError.TheVariants.{RecordFault}
 use Rattle.adb_desk_log.specs.Marked.{is_marked}
 use Rattle.adb_hall.specs.Telling.{Entered, Fails, Telling, Where}
 use Rattle.adb_hall.specs.Passes.{ArePair, or_marked}

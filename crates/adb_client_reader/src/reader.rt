@@ -166,9 +166,9 @@ fn read_bulk<
 }
 
 /// Reads a client's bytes and hands them in, and binds the ports that it waits for. It hands the
-/// pass back where the client is read no more or, over a hall that does not wait, has no room; where
-/// its port ended or failed, which ends its input; or where the hall is stopped. Where the hall
-/// finds no memory the client's input is ended for that.
+/// pass back where the client is read no more or, over a hall that does not wait, has no room;
+/// where its port ended or failed, which ends its input; or where the hall is stopped. Where the
+/// hall finds no memory the client's input is ended for that.
 ///
 /// It begins with a small buffer on its stack and takes a large one where a read filled that: no
 /// memory can be wanting for a buffer, and a client that asks one question costs no large one.

@@ -1,4 +1,4 @@
-use Rattle.std.proofs.Common.{refl, inl, inr, rules}
+use Rattle.std.proofs.Common.{refl, inl, inr}
 use Rattle.adb_hall.proofs.Made.{where_some}
 use Rattle.adb_client_reader.specs.Reading.{IsOrStarved, IsStarved}
 use Rattle.adb_client_reader.proofs.Refusals.{life_number, life_starved, no_memory, starved_by, still_holds}
@@ -8,10 +8,11 @@ use Rattle.adb_client_reader.proofs.ending.finish.Goals as goal
 pub returns-in-Err-Hub-OutOfMemory-clause-told : goal.returns-in-Err-Hub-OutOfMemory-clause-told
 returns-in-Err-Hub-OutOfMemory-clause-told g c a es t holds =
     let s = c.in-Err-Hub-OutOfMemory in
+    let number = life_number c.args.pass.now.pass c.end.new.pass.pass 0 c.end.result c.end.ensures.pass in
     let w = where_some _ _ _ a t s.ensures.told in
-    let more = c.starve.ensures.starved (starved_by c.args.pass.now.pass c.end.new.pass.pass s.field-0 s.ensures.pass (no_memory _ _ s.field-0-is s.field-0-0-is)) in
-    finished_by _ IsStarved (IsOrStarved c.args.cause _) es _ _ (λ cause by. inr (by, more))
-    (rw (life_number c.args.pass.now.pass c.end.new.pass.pass 0 c.end.result c.end.ensures.pass) at (c.starve.ensures.told w.0 es w.1 (still_holds _ _ a w.0 es holds w.2)))
+    let want = starved_by c.args.pass.now.pass c.end.new.pass.pass s.field-0 s.ensures.pass (no_memory _ _ s.field-0-is s.field-0-0-is) in
+    finished_by _ IsStarved (IsOrStarved c.args.cause _) es _ _ (λ cause by. inr (by, c.starve.ensures.starved want))
+    ((rw number at c.starve.ensures.told) w.0 es w.1 (still_holds _ _ a w.0 es holds w.2))
 
 pub returns : goal.returns
 returns g c = record {

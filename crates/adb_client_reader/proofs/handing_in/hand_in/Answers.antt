@@ -1,4 +1,4 @@
-use Rattle.std.proofs.Common.{length, rules, refl, arith}
+use Rattle.std.proofs.Common.{length, refl, arith}
 use Rattle.adb_hall.proofs.Made.{tells_more, where_some}
 use Rattle.adb_client_reader.proofs.Refusals.{held_of_tells, life_number, life_starved, no_memory, starved_by, still_holds}
 use Rattle.adb_client_reader.proofs.Steps.{handed_gone, handed_refused, handed_starved}

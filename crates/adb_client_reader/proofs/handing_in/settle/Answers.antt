@@ -1,4 +1,4 @@
-use Rattle.std.proofs.Common.{Some, rules, refl, ◌∙◌, arith}
+use Rattle.std.proofs.Common.{refl, ◌∙◌, arith}
 use Rattle.adb_hall.proofs.Made.{where_some}
 use Rattle.adb_client_reader.proofs.Refusals.{held_of_tells, life_number, life_starved, no_memory, starved_by, still_holds, waiting_number, waiting_starved}
 use Rattle.adb_client_reader.proofs.Steps.{asks, settled_bound, settled_gone, settled_idle, settled_refused, settled_starved, settled_unasked}

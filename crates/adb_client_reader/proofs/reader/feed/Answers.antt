@@ -1,4 +1,4 @@
-use Rattle.std.proofs.Common.{Some, None, reverse, take, drop, length, sym, refl, ap, ◌∙◌, arith}
+use Rattle.std.proofs.Common.{Some, None, reverse, length, sym, refl, ap, ◌∙◌, arith}
 use Rattle.std.proofs.lemmas.List.{take-append-drop, length-take}
 use Rattle.adb_outside.specs.declared.kinds.Cause.TheVariants.{Eof, Fault}
 use Rattle.adb_history.specs.Machine.{state}

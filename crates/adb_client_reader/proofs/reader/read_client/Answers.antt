@@ -1,4 +1,4 @@
-use Rattle.std.proofs.Common.{rules, refl, ◌∙◌, ◌≤◌, arith}
+use Rattle.std.proofs.Common.{refl, ◌∙◌, arith}
 use Rattle.adb_client_reader.proofs.Turning.{reads_done, reads_first, reads_more}
 use Rattle.adb_client_reader.proofs.reader.read_client.Goals as goal
 

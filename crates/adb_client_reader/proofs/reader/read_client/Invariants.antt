@@ -11,5 +11,7 @@ invariant-loop g l =
     × (g.I.PortIn.faults l.fn.port ≤ g.I.PortIn.faults l.port)
     × (g.B.Binder.faults l.fn.binder ≤ g.B.Binder.faults l.binder)
     × GoesOn l.fn.pass.pass.number
-    (seen (g.H.Hall.tells l.fn.hall) (g.I.PortIn.left l.fn.port) (g.I.PortIn.faults l.fn.port) (g.B.Binder.answered l.fn.binder) (g.B.Binder.faults l.fn.binder))
-    (seen (g.H.Hall.tells l.hall) (g.I.PortIn.left l.port) (g.I.PortIn.faults l.port) (g.B.Binder.answered l.binder) (g.B.Binder.faults l.binder))
+    (seen (g.H.Hall.tells l.fn.hall) (g.I.PortIn.left l.fn.port) (g.I.PortIn.faults l.fn.port)
+    (g.B.Binder.answered l.fn.binder) (g.B.Binder.faults l.fn.binder))
+    (seen (g.H.Hall.tells l.hall) (g.I.PortIn.left l.port) (g.I.PortIn.faults l.port)
+    (g.B.Binder.answered l.binder) (g.B.Binder.faults l.binder))

@@ -1,4 +1,4 @@
-use Rattle.std.proofs.Common.{Some, rules, refl, inl, inr, ap, ◌∙◌, arith}
+use Rattle.std.proofs.Common.{Some, refl, inl, inr, ap, ◌∙◌, arith}
 use Rattle.std.proofs.lemmas.List.{length-take}
 use Rattle.adb_hall.proofs.Made.{where_some}
 use Rattle.adb_client_reader.proofs.Refusals.{held_of_tells, room_fits, room_number, room_refused, room_told}
