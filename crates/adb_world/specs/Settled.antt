@@ -1,0 +1,88 @@
+-- A world in which nothing can move, and in which nothing is left to be moved.
+use Rattle.std.specs.Prelude.{ℕ, ◌≡◌, ◌<◌, Bool, true, false, List, [], Some}
+use Rattle.adb_outside.specs.Tables.{at}
+use Rattle.adb_stream.specs.declared.row.Stream.{Stream}
+use Rattle.adb_stream.specs.Flow.{is_idle, to_hand}
+use Rattle.adb_history.specs.Rows.{Client, Link}
+use Rattle.adb_history.specs.Machine.{History, state}
+use Rattle.adb_hub.specs.Answers.{due_on, offered_to}
+use Rattle.adb_device_streams.specs.Service.{out_of}
+use Rattle.adb_device_streams.specs.declared.stream.Stream.{Stream as DeviceStream}
+use Rattle.adb_daemon.specs.Daemon.{owed}
+use Rattle.adb_daemon.specs.declared.daemon.Daemon.{Daemon}
+use Rattle.adb_world.specs.Session.{left_of}
+use Rattle.adb_world.specs.Calls.{HasNone}
+use Rattle.adb_world.specs.Parts.{Holds, IsRunning, AreSame}
+use Rattle.adb_world.specs.declared.session.Session.{Session}
+use Rattle.adb_world.specs.declared.parts.Parts.{Parts}
+
+-- what holds of each row of a table
+abbrev pub Each : {X : Type 0} → List (ℕ × X) → (X → Type 0) → Type 0
+Each {X} table P = (n : ℕ) (row : X) → at n table ≡ Some row → P row
+
+-- a live stream of the hub has its end at the device; at both ends no write is outstanding, nothing accepted is still to be handed to the client, and
+-- nothing that the service answered is still to be written
+pub record IsAtRest (device : Daemon) (stream : Stream) : Type 0 where
+  pub answered : is_idle stream.part.flow ≡ true
+  pub handed : to_hand stream.part.flow ≡ 0
+  pub far : DeviceStream
+  pub there : at stream.part.remote device.machine.services.table.rows.entries ≡ Some far
+  pub host : far.host ≡ stream.id
+  pub spoken : is_idle far.flow ≡ true
+  pub written : out_of far.service ≡ []
+
+-- Nothing is due on the link or to a client, and the device owes nothing; each live stream is at rest at both ends; nothing is held of a client, to be sent
+-- up; and each session has written all its words.
+pub record IsSettled (parts : Parts) : Type 0 where
+  pub link : Each parts.hub.links (λ (link : Link). link.due ≡ [])
+  pub clients : Each parts.hub.clients (λ (client : Client). client.due ≡ [])
+  pub device : owed parts.device ≡ []
+  pub up : Each parts.hub.clients (λ (client : Client). client.held ≡ [])
+  pub streams : Each parts.hub.streams.streams (IsAtRest parts.device)
+  pub words : Each parts.sessions.entries (λ (session : Session). left_of session ≡ [])
+
+-- the hub drew as many clients, and as many streams, as sessions were given
+pub record IsCounted (parts : Parts) : Type 0 where
+  pub clients : parts.hub.joined ≡ parts.given
+  pub streams : parts.hub.streams.drawn ≡ parts.given
+
+-- ---- where no step is possible
+-- nothing is due on the link
+abbrev pub NoneDown : Parts → Type 0
+NoneDown parts = (h : History) → Holds h parts → HasNone (due_on ((state h).links 1))
+
+-- the device owes nothing
+abbrev pub NoneUp : Parts → Type 0
+NoneUp parts = owed parts.device ≡ []
+
+-- nothing is due to the sessions behind a number
+abbrev pub NoneHanded : ℕ → Parts → Type 0
+NoneHanded after parts = (h : History) → Holds h parts → (c : ℕ) (session : Session) → after < c → at c parts.sessions.entries ≡ Some session
+    → HasNone (offered_to (state h).devices ((state h).clients c))
+
+-- they have written all their words
+abbrev pub NoneWritten : ℕ → Parts → Type 0
+NoneWritten after parts = (c : ℕ) (session : Session) → after < c → at c parts.sessions.entries ≡ Some session → left_of session ≡ []
+
+abbrev pub Both : (Parts → Type 0) → (Parts → Type 0) → Parts → Type 0
+Both A B parts = A parts × B parts
+
+abbrev pub LinkRests : Parts → Type 0
+LinkRests parts = Both NoneDown NoneUp parts
+
+abbrev pub SessionsRest : Parts → Type 0
+SessionsRest parts = Both (NoneHanded 0) (NoneWritten 0) parts
+
+abbrev pub Rests : Parts → Type 0
+Rests parts = Both LinkRests SessionsRest parts
+
+-- The parts go on running, with the same sessions.
+pub record GoesOn (old new : Parts) : Type 0 where
+  pub runs : IsRunning new
+  pub same : AreSame old.sessions.entries new.sessions.entries
+  pub given : new.given ≡ old.given
+
+-- A step was made; or none of its kind was possible, and nothing has changed.
+abbrev pub Goes : (Parts → Type 0) → Bool → Parts → Parts → Type 0
+Goes Nothing true old new = GoesOn old new
+Goes Nothing false old new = (new ≡ old) × Nothing old
