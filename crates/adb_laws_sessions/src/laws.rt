@@ -1,6 +1,6 @@
 //! Laws of sessions.
 
-ghost use Rattle.std.specs.Prelude.{ℕ, List};
+ghost use Rattle.std.specs.Prelude.{ℕ, List, []};
 ghost use Rattle.adb_outside.specs.Bytes.{IsPrefixOf};
 ghost use Rattle.adb_history.specs.Asking.{nothing_asked, asks_with};
 ghost use Rattle.adb_history.specs.Machine.{History, IsLegal};

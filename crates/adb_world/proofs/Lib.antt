@@ -2,6 +2,8 @@ pub mod Stays
 pub mod Greeted
 pub mod Open
 pub mod Steps
+pub mod Moved
 pub mod Fresh
 pub mod Rest
 pub mod Moving
+pub mod Greeting

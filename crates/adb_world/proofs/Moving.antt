@@ -9,7 +9,7 @@ use Rattle.adb_hub.specs.Answers.{offered_to}
 use Rattle.adb_laws_births.specs.Laws.{GoesOn as StaysBehind}
 use Rattle.adb_world.specs.Calls.{HasNone}
 use Rattle.adb_world.specs.Parts.{Holds, IsKeptAt, IsRunning, Moved, Moves}
-use Rattle.adb_world.specs.Settled.{Both, Goes, GoesOn, NoneWritten}
+use Rattle.adb_world.specs.Settled.{Anything, Goes, GoesOn, NoneDown, NoneHanded, NoneUp, NoneWritten, Rests}
 use Rattle.adb_world.specs.Session.{left_of}
 use Rattle.adb_world.specs.declared.parts.Parts.{Parts}
 use Rattle.adb_world.specs.declared.session.Session.{Session}
@@ -42,17 +42,27 @@ goes_by stays e max all Nothing false old new runs moves none =
     ((moves runs.history runs.holds).0, none (λ h holds. (moves h holds).1))
 
 -- ---- one kind behind another
-pub goes_through : (A : Parts → Type 0) (moved : Bool) (old mid new : Parts) → mid ≡ old → Goes A moved mid new → Goes A moved old new
-goes_through A moved old mid new same goes = subst (λ (p : Parts). Goes A moved p new) same goes
+-- a step was made behind none
+pub behind_none : (old mid new : Parts) → mid ≡ old → GoesOn mid new → GoesOn old new
+behind_none old mid new same goes = subst (λ (p : Parts). GoesOn p new) same goes
 
--- none of the one kind was possible, and then the other was tried
-pub then_goes : (A B : Parts → Type 0) (moved : Bool) (old mid new : Parts) → Goes A false old mid → Goes B moved mid new → Goes (Both A B) moved old new
-then_goes A B true old mid new first goes = goes_through B true old mid new first.0 goes
-then_goes A B false old mid new first goes = (goes.0 ∙ first.0, (first.1, subst B first.0 goes.1))
+pub runs_still : (old mid : Parts) → mid ≡ old → IsRunning old → IsRunning mid
+runs_still old mid same runs = subst IsRunning (sym same) runs
 
-pub goes_then : (A B : Parts → Type 0) (moved : Bool) (old mid new : Parts) → Goes B false old mid → Goes A moved mid new → Goes (Both A B) moved old new
-goes_then A B true old mid new first goes = goes_through A true old mid new first.0 goes
-goes_then A B false old mid new first goes = (goes.0 ∙ first.0, (subst A first.0 goes.1, first.1))
+pub any_goes : (A : Parts → Type 0) (moved : Bool) (old new : Parts) → Goes A moved old new → Goes Anything moved old new
+any_goes A true old new goes = goes
+any_goes A false old new goes = (goes.0, tt)
+
+-- where each kind was tried, no step is possible
+pub all_rest : (old p q r s new : Parts) (moved : Bool) → p ≡ old → Goes NoneDown false p q → Goes NoneUp false q r → Goes (NoneHanded 0) false r s
+    → Goes (NoneWritten 0) moved s new → Goes Rests moved old new
+all_rest old p q r s new true first down up hand goes = behind_none old s new (hand.0 ∙ (up.0 ∙ (down.0 ∙ first))) goes
+all_rest old p q r s new false first down up hand goes =
+    let down_old : NoneDown old = subst NoneDown first down.1 in
+    let up_old : NoneUp old = subst NoneUp (down.0 ∙ first) up.1 in
+    let hand_old : NoneHanded 0 old = subst (NoneHanded 0) (up.0 ∙ (down.0 ∙ first)) hand.1 in
+    let write_old : NoneWritten 0 old = subst (NoneWritten 0) (hand.0 ∙ (up.0 ∙ (down.0 ∙ first))) goes.1 in
+    (goes.0 ∙ (hand.0 ∙ (up.0 ∙ (down.0 ∙ first))), record { down = down_old; up = up_old; handed = hand_old; written = write_old })
 
 -- ---- many steps
 pub stays_here : (parts : Parts) → IsRunning parts → GoesOn parts parts

@@ -187,7 +187,7 @@ module _ (h : History) (parts : Parts) (holds : Holds h parts) (greeted : IsGree
   session_done : (c : ℕ) → 0 < c → c ≤ parts.given → is_some (asked c h).next ≡ true
   session_done c some le =
       let t = there c some le in
-      written h legal c t.0 (asks.clients c) t.1.1 (rests.1.1 c t.0 some t.1.0)
+      written h legal c t.0 (asks.clients c) t.1.1 (rests.written c t.0 some t.1.0)
 
   -- ---- nothing is due
   client_due : (c : ℕ) (client : Client) → (state h).clients c ≡ Some client → client.due ≡ []
@@ -195,10 +195,10 @@ module _ (h : History) (parts : Parts) (holds : Holds h parts) (greeted : IsGree
       let drawn = drawn_client c client is in
       let t = there c drawn.0 drawn.1 in
       none_due (state h).devices client
-      (subst (λ (o : Option Client). HasNone (offered_to (state h).devices o)) is (rests.1.0 h holds c t.0 drawn.0 t.1.0))
+      (subst (λ (o : Option Client). HasNone (offered_to (state h).devices o)) is (rests.handed h holds c t.0 drawn.0 t.1.0))
 
   link_due : (link : Link) → (state h).links 1 ≡ Some link → link.due ≡ []
-  link_due link is = subst (λ (o : Option Link). HasNone (due_on o)) is (rests.0.0 h holds)
+  link_due link is = subst (λ (o : Option Link). HasNone (due_on o)) is (rests.down h holds)
 
   link_there : (link : Link) × ((state h).links 1 ≡ Some link)
   link_there = go ((state h).links 1) refl
@@ -225,7 +225,7 @@ module _ (h : History) (parts : Parts) (holds : Holds h parts) (greeted : IsGree
       received : bytes_received 1 h ≡ bytes_owed model_setting (bytes_sent 1 h)
       received =
           sym (append-nil (bytes_received 1 h))
-          ∙ (ap (λ (due : List ℕ). bytes_received 1 h ++ due) (sym rests.0.1)
+          ∙ (ap (λ (due : List ℕ). bytes_received 1 h ++ due) (sym rests.up)
           ∙ all_owed (bytes_sent 1 h) (bytes_received 1 h) parts.device holds.done)
 
       brought_all : brought 1 h ≡ packets_owed model_setting (sent 1 h)
@@ -331,10 +331,10 @@ module _ (h : History) (parts : Parts) (holds : Holds h parts) (greeted : IsGree
         let e = sym (links_show t) ∙ is in
         link_due link (ap (state h).links (sym (first_link t link e)) ∙ e));
     clients = λ c client is. client_due c client (sym (clients_show c) ∙ is);
-    device = rests.0.1;
+    device = rests.up;
     up = λ c client is. client_held c client (sym (clients_show c) ∙ is);
     streams = λ l x is. stream_rests l x (sym (streams_show l) ∙ is);
-    words = λ c session is. rests.1.1 c session (named c session is) is;
+    words = λ c session is. rests.written c session (named c session is) is;
   }
     where
       named : (c : ℕ) (session : Session) → at c parts.sessions.entries ≡ Some session → 0 < c

@@ -64,17 +64,12 @@ NoneHanded after parts = (h : History) → Holds h parts → (c : ℕ) (session 
 abbrev pub NoneWritten : ℕ → Parts → Type 0
 NoneWritten after parts = (c : ℕ) (session : Session) → after < c → at c parts.sessions.entries ≡ Some session → left_of session ≡ []
 
-abbrev pub Both : (Parts → Type 0) → (Parts → Type 0) → Parts → Type 0
-Both A B parts = A parts × B parts
-
-abbrev pub LinkRests : Parts → Type 0
-LinkRests parts = Both NoneDown NoneUp parts
-
-abbrev pub SessionsRest : Parts → Type 0
-SessionsRest parts = Both (NoneHanded 0) (NoneWritten 0) parts
-
-abbrev pub Rests : Parts → Type 0
-Rests parts = Both LinkRests SessionsRest parts
+-- no step is possible
+pub record Rests (parts : Parts) : Type 0 where
+  pub down : NoneDown parts
+  pub up : NoneUp parts
+  pub handed : NoneHanded 0 parts
+  pub written : NoneWritten 0 parts
 
 -- The parts go on running, with the same sessions.
 pub record GoesOn (old new : Parts) : Type 0 where
@@ -86,3 +81,7 @@ pub record GoesOn (old new : Parts) : Type 0 where
 abbrev pub Goes : (Parts → Type 0) → Bool → Parts → Parts → Type 0
 Goes Nothing true old new = GoesOn old new
 Goes Nothing false old new = (new ≡ old) × Nothing old
+
+-- where nothing more is said of the steps that were not possible
+abbrev pub Anything : Parts → Type 0
+Anything parts = Unit {0}

@@ -1,16 +1,22 @@
 //! What the words of a seed choose.
 
-ghost use Rattle.std.specs.Prelude.{◌<◌, ◌^◌};
+ghost use Rattle.std.specs.Prelude.{◌<◌};
+
+/// What can move: bytes that are due on the link, bytes that the device owes, bytes that are due to
+/// a session, and bytes that a session has still to write.
+#[derive(Clone, Copy)]
+pub(crate) enum Side {
+    Down,
+    Up,
+    Hand,
+    Write,
+}
 
 /// What is tried first in a turn, and how much moves at most.
 #[derive(Clone, Copy)]
 pub(crate) struct Turn {
-    /// The link before the sessions, what goes down it before what comes up, and what is handed to
-    /// sessions before what they write.
-    pub link_first: bool,
-    pub down_first: bool,
-    pub hand_first: bool,
-    /// The sessions behind this number before the others.
+    pub first: Side,
+    /// The sessions behind this number come before the others.
     pub after: u32,
     /// How many bytes move at most.
     pub most: usize,
@@ -21,16 +27,22 @@ pub(crate) fn turn_of(side: u32, size: u32, given: u32) -> Turn
     ensures { 0 < result.most }
 {
     Turn {
-        link_first: side & 1 == 0,
-        down_first: side & 2 == 0,
-        hand_first: side & 4 == 0,
-        after: first_after(side >> 3, given),
+        first: side_of(side),
+        after: number_below(side >> 2, given),
         most: piece_of(size),
     }
 }
 
-/// A number below those of sessions.
-fn first_after(word: u32, given: u32) -> u32 {
+fn side_of(word: u32) -> Side {
+    match word & 3 {
+        0 => Side::Down,
+        1 => Side::Up,
+        2 => Side::Hand,
+        _ => Side::Write,
+    }
+}
+
+fn number_below(word: u32, given: u32) -> u32 {
     if given == 0 { 0 } else { word % given }
 }
 

@@ -15,7 +15,8 @@ pub(crate) fn down(parts: &mut Parts, most: usize) -> Result<bool, AllocError>
     ensures { IfOk result (λ moved. Goes NoneDown moved parts.old parts.new) }
 {
     what_came_stays();
-    parts.down(most)
+    let moved = parts.down(most)?;
+    Ok(moved)
 }
 
 /// Moves what the device owes up.
@@ -25,7 +26,8 @@ pub(crate) fn up(parts: &mut Parts, most: usize) -> Result<bool, AllocError>
     ensures { IfOk result (λ moved. Goes NoneUp moved parts.old parts.new) }
 {
     what_came_stays();
-    parts.up(most)
+    let moved = parts.up(most)?;
+    Ok(moved)
 }
 
 /// Hands something to the first session behind a number to which anything is due.

@@ -4,7 +4,6 @@ ghost use Rattle.std.specs.Prelude.{◌≡◌, ◌+◌, ◌^◌, ◌<◌, [], �
 ghost use Rattle.adb_outside.specs.Tables.{at, put_at, Puts};
 ghost use Rattle.adb_capture.specs.declared.entry.Entry.{Entry};
 ghost use Rattle.adb_history.specs.Machine.{History};
-ghost use Rattle.adb_daemon.specs.Daemon.{files_of};
 ghost use Rattle.adb_world.specs.Parts.{Adds, Holds, IsHeld, IsRunning, most_sessions, plugging};
 ghost use Rattle.adb_world.specs.Session.{IsNew};
 ghost use Rattle.adb_world.specs.declared.session.Session.{Session};
@@ -14,6 +13,7 @@ use crate::session::Session;
 use adb_daemon::Daemon;
 use adb_files::Files;
 use adb_hub::Hub;
+use adb_laws_births::what_came_stays;
 use adb_laws_sessions::sessions_ask_for_services;
 use std::alloc::{AllocError, Global};
 use std::collections::BTreeMap;
@@ -37,7 +37,6 @@ impl Parts {
         ensures holds { IfOk result (Holds (plugging ∷ [])) }
         ensures sessions { IfOk result (λ parts. parts.sessions.entries ≡ []) }
         ensures given { IfOk result (λ parts. parts.given ≡ 0) }
-        ensures files { IfOk result (λ parts. files_of parts.device ≡ []) }
     {
         let device = Daemon::plain(alloc, Files::new(alloc), MAX_PAYLOAD)?;
         let mut hub = Hub::new(alloc);
@@ -56,8 +55,8 @@ impl Parts {
         ensures runs { OnOk result (IsRunning self.new) }
         ensures sessions { OnOk result (self.new.sessions ≡ self.old.sessions) }
         ensures given { OnOk result (self.new.given ≡ self.old.given) }
-        ensures files { OnOk result (files_of self.new.device ≡ files_of self.old.device) }
     {
+        what_came_stays();
         self.up(usize::MAX)?;
         self.down(usize::MAX)?;
         Ok(())

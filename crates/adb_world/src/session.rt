@@ -1,8 +1,8 @@
 //! A session of a world: a client that writes what it was given and keeps what it is handed.
 
-ghost use Rattle.std.specs.Prelude.{◌≡◌, ◌≤◌, length, take, IfOk, OnOk};
-ghost use Rattle.adb_laws_sessions.specs.Words.{selects, most_service};
-ghost use Rattle.adb_world.specs.Session.{handed, left_of, new_session};
+ghost use Rattle.std.specs.Prelude.{◌≡◌, ◌≤◌, ◌+◌, length, take, IfOk, OnOk};
+ghost use Rattle.adb_laws_sessions.specs.Words.{most_service};
+ghost use Rattle.adb_world.specs.Session.{handed, left_of, new_session, wrote};
 
 use adb_outside::Text;
 use adb_request::hex4;
@@ -56,5 +56,14 @@ impl Session {
         ensures { OnOk result (self.new ≡ handed piece.now self.old) }
     {
         self.got.push_slice(piece)
+    }
+
+    /// It has written so many bytes more.
+    pub(crate) fn advance(&mut self, n: usize)
+        requires { self.old.written + n ≤ length self.old.words }
+        ensures { self.new ≡ wrote n self.old }
+    {
+        let left = self.words.len() - self.written - n;
+        self.written = self.words.len() - left;
     }
 }

@@ -2,9 +2,9 @@
 
 ghost use Rattle.std.specs.Prelude.{◌<◌, IfOk, OnOk};
 ghost use Rattle.adb_world.specs.Parts.{IsRunning};
-ghost use Rattle.adb_world.specs.Settled.{Goes, GoesOn, IsCounted, IsSettled, LinkRests, NoneHanded, NoneWritten, Rests, SessionsRest};
+ghost use Rattle.adb_world.specs.Settled.{Anything, Goes, GoesOn, IsCounted, IsSettled, Rests};
 
-use crate::choices::{Turn, turn_of};
+use crate::choices::{Side, Turn, turn_of};
 use crate::laws::worlds_that_rest_are_settled;
 use crate::moving::{down, hand_behind, up, write_behind};
 use crate::parts::Parts;
@@ -38,72 +38,44 @@ fn step(parts: &mut Parts, turn: Turn) -> Result<bool, AllocError>
     requires some { 0 < turn.most }
     ensures { IfOk result (λ moved. Goes Rests moved parts.old parts.new) }
 {
-    if turn.link_first {
-        if move_link(parts, turn)? {
-            return Ok(true);
-        }
-        return move_sessions(parts, turn);
-    }
-    if move_sessions(parts, turn)? {
+    if first_step(parts, turn)? {
         return Ok(true);
     }
-    move_link(parts, turn)
-}
-
-fn move_link(parts: &mut Parts, turn: Turn) -> Result<bool, AllocError>
-    requires runs { IsRunning parts.old }
-    requires some { 0 < turn.most }
-    ensures { IfOk result (λ moved. Goes LinkRests moved parts.old parts.new) }
-{
-    if turn.down_first {
-        if down(parts, turn.most)? {
-            return Ok(true);
-        }
-        return up(parts, turn.most);
+    if down(parts, turn.most)? {
+        return Ok(true);
     }
     if up(parts, turn.most)? {
         return Ok(true);
     }
-    down(parts, turn.most)
+    if hand_behind(parts, 0, turn.most)? {
+        return Ok(true);
+    }
+    let moved = write_behind(parts, 0, turn.most)?;
+    Ok(moved)
 }
 
-fn move_sessions(parts: &mut Parts, turn: Turn) -> Result<bool, AllocError>
+/// A step of the kind that was chosen, where one is possible.
+fn first_step(parts: &mut Parts, turn: Turn) -> Result<bool, AllocError>
     requires runs { IsRunning parts.old }
     requires some { 0 < turn.most }
-    ensures { IfOk result (λ moved. Goes SessionsRest moved parts.old parts.new) }
+    ensures { IfOk result (λ moved. Goes Anything moved parts.old parts.new) }
 {
-    if turn.hand_first {
-        if hand_any(parts, turn)? {
-            return Ok(true);
+    match turn.first {
+        Side::Down => {
+            let moved = down(parts, turn.most)?;
+            Ok(moved)
         }
-        return write_any(parts, turn);
+        Side::Up => {
+            let moved = up(parts, turn.most)?;
+            Ok(moved)
+        }
+        Side::Hand => {
+            let moved = hand_behind(parts, turn.after, turn.most)?;
+            Ok(moved)
+        }
+        Side::Write => {
+            let moved = write_behind(parts, turn.after, turn.most)?;
+            Ok(moved)
+        }
     }
-    if write_any(parts, turn)? {
-        return Ok(true);
-    }
-    hand_any(parts, turn)
-}
-
-/// Hands something to a session behind a number, or else to any.
-fn hand_any(parts: &mut Parts, turn: Turn) -> Result<bool, AllocError>
-    requires runs { IsRunning parts.old }
-    requires some { 0 < turn.most }
-    ensures { IfOk result (λ moved. Goes (NoneHanded 0) moved parts.old parts.new) }
-{
-    if hand_behind(parts, turn.after, turn.most)? {
-        return Ok(true);
-    }
-    hand_behind(parts, 0, turn.most)
-}
-
-/// Lets a session behind a number write, or else any.
-fn write_any(parts: &mut Parts, turn: Turn) -> Result<bool, AllocError>
-    requires runs { IsRunning parts.old }
-    requires some { 0 < turn.most }
-    ensures { IfOk result (λ moved. Goes (NoneWritten 0) moved parts.old parts.new) }
-{
-    if write_behind(parts, turn.after, turn.most)? {
-        return Ok(true);
-    }
-    write_behind(parts, 0, turn.most)
 }

@@ -1,6 +1,6 @@
 //! The steps of a world: each moves some bytes from one part to the next.
 
-ghost use Rattle.std.specs.Prelude.{◌≡◌, ◌+◌, ◌<◌, ◌^◌, true, is_some, List, ℕ, Some, IfOk, IfSome, OnOk, option_map};
+ghost use Rattle.std.specs.Prelude.{◌≡◌, ◌+◌, ◌<◌, ◌≤◌, true, is_some, length, Some, IfOk, IfSome, OnOk, option_map};
 ghost use Rattle.adb_outside.specs.Tables.{at};
 ghost use Rattle.adb_capture.specs.declared.entry.Entry.{Entry};
 ghost use Rattle.adb_history.specs.Machine.{History, state};
@@ -24,9 +24,11 @@ impl Parts {
     pub(crate) fn down(&mut self, max: usize) -> Result<bool, AllocError>
         requires some { 0 < max }
         requires held { IsHeld self.old }
-        ensures { IfOk result (λ moved. (h : History) → Holds h self.old
+        ensures moves { IfOk result (λ moved. (h : History) → Holds h self.old
             → Moves (Entry.Send 1) max (due_on ((state h).links 1)) moved
             h self.old self.new) }
+        ensures sessions { self.new.sessions ≡ self.old.sessions }
+        ensures given { self.new.given ≡ self.old.given }
     {
         what_a_server_sends_is_taken();
         let Some(piece) = send(&mut self.hub, max)? else {
@@ -40,9 +42,11 @@ impl Parts {
     pub(crate) fn up(&mut self, max: usize) -> Result<bool, AllocError>
         requires some { 0 < max }
         requires held { IsHeld self.old }
-        ensures { IfOk result (λ moved. (h : History) → Holds h self.old
+        ensures moves { IfOk result (λ moved. (h : History) → Holds h self.old
             → Moves (Entry.Recv 1) max (Some (owed self.old.device)) moved
             h self.old self.new) }
+        ensures sessions { self.new.sessions ≡ self.old.sessions }
+        ensures given { self.new.given ≡ self.old.given }
     {
         sessions_ask_for_services();
         let out = self.device.out();
@@ -113,10 +117,10 @@ fn keep(sessions: &mut BTreeMap<u32, Session>, number: u32, piece: &[u8]) -> Res
 /// A session has written so many bytes more.
 fn advance(sessions: &mut BTreeMap<u32, Session>, number: u32, n: usize)
     requires { IfSome (at number sessions.old.entries)
-        (λ session. session.written + n < 2 ^ 64) }
+        (λ session. session.written + n ≤ length session.words) }
     ensures { Changes number (wrote n) sessions.old.entries sessions.new.entries }
 {
     if let Some(session) = sessions.get_mut(&number) {
-        session.written += n;
+        session.advance(n);
     }
 }

