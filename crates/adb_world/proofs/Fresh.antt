@@ -19,7 +19,7 @@ use Rattle.adb_world.specs.Parts.{Holds, most_sessions, IsKeptAt}
 use Rattle.adb_world.specs.Session.{IsTold, IsNew, new_session, text_of}
 use Rattle.adb_world.specs.declared.parts.Parts.{Parts}
 use Rattle.adb_world.specs.declared.session.Session.{Session}
-use Rattle.adb_world.proofs.Steps.{comes_first}
+use Rattle.adb_world.proofs.Entries.{comes_first}
 
 pub none_put : (h : History) → IsLegal h → (c : ℕ) → came_count h < c → bytes_put c h ≡ []
 none_put [] legal c past = refl

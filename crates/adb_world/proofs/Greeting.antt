@@ -1,5 +1,5 @@
 -- The two ends of the link say who they are.
-use Rattle.std.specs.Prelude.{ℕ, ◌+◌, ◌^◌, ◌≡◌, ◌≢◌, ◌≤◌, ◌<◌, Bool, true, false, cond, nat_eq, not, ◌&&◌, All, List, [], ◌∷◌, ◌++◌, length, take, Option, Some, None}
+use Rattle.std.specs.Prelude.{ℕ, ◌+◌, ◌-◌, ◌^◌, ◌≡◌, ◌≢◌, ◌≤◌, ◌<◌, Bool, true, false, cond, nat_eq, not, ◌&&◌, All, List, [], ◌∷◌, ◌++◌, length, take, Option, Some, None}
 use Rattle.std.proofs.Common.{refl, sym, ◌∙◌, ap, subst, arith}
 use Rattle.std.proofs.lemmas.List.{take_all, append-nil}
 use Rattle.std.proofs.lemmas.List.Elements.{All-nil}
@@ -18,15 +18,18 @@ use Rattle.adb_laws_model_device.proofs.Bytes.{framed_owed}
 use Rattle.adb_laws_sessions.specs.Model.{model_setting}
 use Rattle.adb_world.specs.Parts.{Holds, IsGreeted, IsRunning, Moved, Moves, plugging}
 use Rattle.adb_world.specs.declared.parts.Parts.{Parts}
-use Rattle.adb_world.proofs.Steps.{all_owed}
-use Rattle.adb_world.proofs.Moving.{AllStay, runs_on}
+use Rattle.adb_world.proofs.Entries.{all_owed}
+use Rattle.adb_world.proofs.Going.{AllStay, runs_on}
 
 -- what a device owes that was fed nothing is its CNXN
-abbrev first_bytes : List ℕ
+abbrev pub first_bytes : List ℕ
 first_bytes = bytes_owed model_setting []
 
 some_first : first_bytes ≡ [] → ⊥
 some_first none = let long : length first_bytes ≡ 0 = ap (λ (x : List ℕ). length x) none in omega (arith, long)
+
+pub fits_first : length first_bytes ≤ 2 ^ 64 - 1
+fits_first = omega arith
 
 module _ (old : Parts) (holds : Holds (plugging ∷ []) old) where
   owes : owed old.device ≡ first_bytes

@@ -1,9 +1,12 @@
 pub mod Stays
 pub mod Greeted
+pub mod Numbers
 pub mod Open
-pub mod Steps
+pub mod Starving
+pub mod Devices
+pub mod Entries
 pub mod Moved
 pub mod Fresh
 pub mod Rest
-pub mod Moving
+pub mod Going
 pub mod Greeting

@@ -20,7 +20,7 @@ use Rattle.adb_world.specs.Session.{Changes, handed, wrote, left_of}
 use Rattle.adb_world.specs.declared.parts.Parts.{Parts}
 use Rattle.adb_world.specs.declared.session.Session.{Session}
 use Rattle.adb_world.proofs.Stays.{changed_same, hears_same, writes_same, same_sessions}
-use Rattle.adb_world.proofs.Steps.{sent_down, came_up, put_to, read_from}
+use Rattle.adb_world.proofs.Entries.{sent_down, came_up, put_to, read_from}
 
 -- what a server sends is taken by a model device
 abbrev pub SentIsTaken : Type 0

@@ -1,5 +1,5 @@
 -- The hub of a world takes what the world asks of it.
-use Rattle.std.specs.Prelude.{ℕ, ◌+◌, ◌-◌, ◌^◌, ◌≡◌, ◌≢◌, ◌≤◌, ◌<◌, Bool, true, false, List, [], ◌∷◌, ◌++◌, take, Option, Some, None}
+use Rattle.std.specs.Prelude.{ℕ, ◌+◌, ◌-◌, ◌^◌, ◌≡◌, ◌≢◌, ◌≤◌, ◌<◌, Bool, true, false, is_some, List, [], ◌∷◌, ◌++◌, take, Option, Some, None}
 use Rattle.std.proofs.Common.{refl, sym, ◌∙◌, ap, subst, arith, ◌⊎◌, inl, inr}
 use Rattle.std.proofs.lemmas.Bool.Decides.{nat_tests}
 use Rattle.adb_outside.specs.Tables.{at}
@@ -51,6 +51,13 @@ module _ (h : History) (parts : Parts) (holds : Holds h parts) where
   -- the number of a session was drawn
   pub session_drawn : (c : ℕ) (session : Session) → at c parts.sessions.entries ≡ Some session → is_drawn parts.hub.joined c ≡ true
   session_drawn c session is = came c (subst (IsKeptAt parts.given h c) is (holds.sessions c)).0
+
+  pub there_drawn : (c : ℕ) → is_some (at c parts.sessions.entries) ≡ true → is_drawn parts.hub.joined c ≡ true
+  there_drawn c some = go (at c parts.sessions.entries) refl some
+    where
+      go : (o : Option Session) → at c parts.sessions.entries ≡ o → is_some o ≡ true → is_drawn parts.hub.joined c ≡ true
+      go None is e = absurd (let clash : false ≡ true = e in cc)
+      go (Some session) is e = session_drawn c session is
 
   pub room : parts.given < most_sessions → parts.hub.joined < 2 ^ 32 - 1
   room few = let all = joined in omega (arith, few, all)

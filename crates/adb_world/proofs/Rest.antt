@@ -1,5 +1,7 @@
 -- Where no step is possible, nothing is left to be moved.
-use Rattle.std.specs.Prelude.{ℕ, ◌+◌, ◌-◌, ◌^◌, ◌≡◌, ◌≢◌, ◌≤◌, ◌<◌, Bool, true, false, not, cond, min, is_some, zero, suc, List, [], ◌∷◌, ◌++◌, length, take, drop, Option, Some, None}
+use Rattle.std.specs.Prelude.{ℕ, ◌+◌, ◌-◌, ◌^◌, ◌≡◌, ◌≢◌, ◌≤◌, ◌<◌, Bool, true, false, not, cond, if◌then◌else◌, min, is_some, zero, suc, List, [], ◌∷◌, ◌++◌, length, map, take, drop, Option, Some, None}
+use Rattle.std.specs.Prelude.{option_map}
+use Rattle.std.specs.Ordering.{nat_cmp, is_eq}
 use Rattle.std.proofs.Common.{refl, sym, ◌∙◌, ap, subst, arith, ◌⊎◌, inl, inr, add-one}
 use Rattle.std.proofs.lemmas.Bool.{cases_lt}
 use Rattle.std.proofs.lemmas.List.{append-nil, take-append-drop, length-append}
@@ -50,14 +52,15 @@ use Rattle.adb_laws_pairs.specs.Paired.{IsStill}
 use Rattle.adb_laws_model_device.specs.Owed.{packets_owed, bytes_owed}
 use Rattle.adb_laws_model_device.proofs.Bytes.{framed_owed}
 use Rattle.adb_laws_model_device.proofs.Joined.{sent_words}
-use Rattle.adb_laws_worlds.specs.Held.{HasSettled}
+use Rattle.adb_laws_worlds.specs.Credit.{HasOneDevice, LiveOnFirst}
+use Rattle.adb_laws_worlds.specs.Held.{HasSettled, AllHaveSettled, HoldsNothing}
+use Rattle.adb_laws_worlds.specs.Opening.{AllAreOpen}
+use Rattle.adb_laws_worlds.specs.Unbroken.{BringsSound}
+use Rattle.adb_laws_pairs.specs.InTime.{AllPlain}
+use Rattle.adb_laws_model_device.specs.Joined.{IsJoined}
+use Rattle.adb_daemon.specs.Device.{Setting}
 use Rattle.adb_laws_worlds.specs.Settled as worlds
-use Rattle.adb_laws_worlds.specs.Unclosed.{IsUnclosed}
-use Rattle.adb_laws_worlds.proofs.Held.{all_have_settled, holds_nothing}
-use Rattle.adb_laws_worlds.proofs.Opening.{all_are_open}
-use Rattle.adb_laws_worlds.proofs.Single.{all_plain_of_one, live_on_first}
-use Rattle.adb_laws_worlds.proofs.Unbroken.{brings_sound}
-use Rattle.adb_laws_worlds.proofs.Unclosed.{heard_no_close}
+use Rattle.adb_laws_worlds.specs.Unclosed.{IsUnclosed, HeardNoClose}
 use Rattle.adb_hub.specs.Answers.{due_on, offered_to}
 use Rattle.adb_laws_sessions.specs.Words.{IsKnown, requests_for, words_of}
 use Rattle.adb_laws_sessions.specs.Model.{model_devices, model_setting}
@@ -67,16 +70,20 @@ use Rattle.adb_world.specs.Calls.{HasNone}
 use Rattle.adb_world.specs.Parts.{Holds, IsGreeted, IsKeptAt}
 use Rattle.adb_world.specs.Session.{IsTold, left_of, text_of}
 use Rattle.adb_world.specs.Settled.{IsAtRest, IsSettled, IsCounted, Rests}
+use Rattle.adb_world.specs.World.{end_of, ends_of, view_of}
 use Rattle.adb_world.specs.declared.parts.Parts.{Parts}
 use Rattle.adb_world.specs.declared.session.Session.{Session}
 use Rattle.adb_world.proofs.Greeted.{known_devices}
-use Rattle.adb_world.proofs.Steps.{all_owed}
+use Rattle.adb_world.proofs.Entries.{all_owed}
 
 -- ---- small things
+abbrev one_when : Bool → ℕ
+one_when b = if b then 1 else 0
+
 idle_flow : (flow : Flow) → has_credit flow ≡ false → waiting flow ≡ 0 → is_idle flow ≡ true
 idle_flow (One window) plain none = go window.outstanding refl none
   where
-    go : (b : Bool) → window.outstanding ≡ b → cond b 1 0 ≡ 0 → not window.outstanding ≡ true
+    go : (b : Bool) → window.outstanding ≡ b → one_when b ≡ 0 → not window.outstanding ≡ true
     go true is e = absurd (omega (arith, e))
     go false is e = ap not is
 idle_flow (Credit credit) plain none = refl
@@ -94,9 +101,19 @@ none_due table client none = go client.due refl
 all_done : (what : ℕ → Asked) (k : ℕ) → ((c : ℕ) → 0 < c → c ≤ k → is_some (what c).next ≡ true) → done_among what k ≡ k
 all_done what zero done = refl
 all_done what (suc k) done =
-    let here : cond (is_some (what (suc k)).next) 1 0 ≡ 1 = ap (λ (b : Bool). cond b 1 0) (done (suc k) (omega arith) (omega arith)) in
+    let here : one_when (is_some (what (suc k)).next) ≡ 1 = ap one_when (done (suc k) (omega arith) (omega arith)) in
     let rest = all_done what k (λ c some le. done c some (omega (arith, le))) in
     omega (arith, here, rest)
+
+-- a table of what rows show has what its row shows
+at_map : {A B : Type 0} (f : A → B) (n : ℕ) (table : List (ℕ × A)) → at n (map (λ (e : ℕ × A). (e.0, f e.1)) table) ≡ option_map f (at n table)
+at_map f n [] = refl
+at_map {A} {B} f n (e ∷ table) = go (is_eq (nat_cmp n e.0)) (at_map f n table)
+  where
+    go : (b : Bool) → at n (map (λ (x : ℕ × A). (x.0, f x.1)) table) ≡ option_map f (at n table)
+        → cond b (Some (f e.1)) (at n (map (λ (x : ℕ × A). (x.0, f x.1)) table)) ≡ option_map f (cond b (Some e.1) (at n table))
+    go true later = refl
+    go false later = later
 
 none_out : (row : Row) (far : DeviceStream) → StandsFor row far → unsent row ≡ [] → out_of far.service ≡ []
 none_out row far stands none =
@@ -138,7 +155,20 @@ asks_as_written opens h legal c session asks told none = go (asked c h).next ref
         let done = (opens session.service (text_of session) asks.front told.known ([], append-nil asks.front ∙ whole)).opened (omega (arith, long)) in
         let clash : None ≡ Some (Open 1 session.service) = sym is ∙ (ap (λ (q : Asked). q.next) asks.asked ∙ done.next) in cc
 
-module _ (h : History) (parts : Parts) (holds : Holds h parts) (greeted : IsGreeted h) (asks : AsksForServices h) (rests : Rests parts)
+-- what holds of a server and its model device
+pub record Laws : Type 0 where
+  pub settled : (setting : Setting) (history : History) → setting.most < 2 ^ 32 → 0 < setting.most → setting.credit ≡ false → IsLegal history
+      → IsJoined setting history → HasOneDevice history → AllHaveSettled setting history
+  pub nothing : (setting : Setting) (history : History) → setting.most < 2 ^ 32 → 0 < setting.most → setting.credit ≡ false → IsLegal history
+      → IsJoined setting history → HasOneDevice history → HoldsNothing setting history
+  pub opens : (setting : Setting) (history : History) → setting.most < 2 ^ 32 → IsLegal history → IsJoined setting history → AllAreOpen setting history
+  pub plain : (setting : Setting) (history : History) → setting.most < 2 ^ 32 → setting.credit ≡ false → IsLegal history → IsJoined setting history
+      → HasOneDevice history → AllPlain history
+  pub first : (history : History) → IsLegal history → HasOneDevice history → LiveOnFirst history
+  pub sound : (setting : Setting) (history : History) → setting.most < 2 ^ 32 → IsLegal history → IsJoined setting history → BringsSound history
+  pub unclosed : (history : History) → IsLegal history → HeardNoClose history
+
+module _ (laws : Laws) (h : History) (parts : Parts) (holds : Holds h parts) (greeted : IsGreeted h) (asks : AsksForServices h) (rests : Rests parts)
     (written : AsksAsWritten) where
   legal : IsLegal h
   legal = holds.lawful.legal
@@ -159,7 +189,7 @@ module _ (h : History) (parts : Parts) (holds : Holds h parts) (greeted : IsGree
   known : (state h).devices ≡ model_devices
   known =
       (all_books h legal).devices
-      ∙ known_devices h (brings_sound model_setting short h legal holds.joined) holds.here holds.plugged_as greeted holds.one asks.killed
+      ∙ known_devices h (laws.sound model_setting h short legal holds.joined) holds.here holds.plugged_as greeted holds.one asks.killed
 
   -- ---- the sessions of the clients
   -- the client of a number that was drawn is that of a session
@@ -240,7 +270,7 @@ module _ (h : History) (parts : Parts) (holds : Holds h parts) (greeted : IsGree
 
   -- ---- the clients
   client_held : (c : ℕ) (client : Client) → (state h).clients c ≡ Some client → client.held ≡ []
-  client_held c client is = holds_nothing model_setting short some_payload refl h legal holds.joined one_device at_rest c client is asks_no_more
+  client_held c client is = laws.nothing model_setting h short some_payload refl legal holds.joined one_device at_rest c client is asks_no_more
     where
       asks_no_more : client.about.phase ≡ Asking → ⊥
       asks_no_more phase =
@@ -249,19 +279,21 @@ module _ (h : History) (parts : Parts) (holds : Holds h parts) (greeted : IsGree
           let clash : false ≡ true = sym (ap is_some none) ∙ session_done c drawn.0 drawn.1 in cc
 
   -- ---- the streams
-  stream_rests : (l : ℕ) (x : Stream) → (state h).streams l ≡ Some x → IsAtRest parts.device x
+  stream_rests : (l : ℕ) (x : Stream) → (state h).streams l ≡ Some x → IsAtRest (ends_of parts.device) x
   stream_rests l x live = record {
     answered = idle_flow x.part.flow plain k.settled.waits;
     handed = k.settled.handed;
-    far = far.0;
-    there = ap (λ (n : ℕ). at n parts.device.machine.services.table.rows.entries) (sym remote) ∙ far.1.0;
+    far = end_of far.0;
+    there =
+        at_map end_of x.part.remote parts.device.machine.services.table.rows.entries
+        ∙ ap (option_map end_of) (ap (λ (n : ℕ). at n parts.device.machine.services.table.rows.entries) (sym remote) ∙ far.1.0);
     host = far.1.1.host ∙ (k.settled.there.host ∙ sym number);
     spoken = ap is_idle far.1.1.flow ∙ k.settled.idle;
     written = none_out k.settled.there.row far.0 far.1.1 k.settled.written;
   }
     where
       k : HasSettled model_setting h l x
-      k = all_have_settled model_setting short some_payload refl h legal holds.joined one_device at_rest l x live
+      k = laws.settled model_setting h short some_payload refl legal holds.joined one_device at_rest l x live
 
       kept_as : IsBornAs h (all_brought h) l x
       kept_as = (all_born h legal).kept l x live
@@ -272,19 +304,19 @@ module _ (h : History) (parts : Parts) (holds : Holds h parts) (greeted : IsGree
       on_first : k.birth.link ≡ 1
       on_first =
           let same : kept_as.birth ≡ k.birth = (let e : Some kept_as.birth ≡ Some k.birth = sym kept_as.is ∙ k.is in cc) in
-          ap (λ (b : Birth). b.link) (sym same) ∙ (sym kept_as.link ∙ live_on_first h legal one_device l x live)
+          ap (λ (b : Birth). b.link) (sym same) ∙ (sym kept_as.link ∙ laws.first h legal one_device l x live)
 
       open_id : x.part.remote ≢ 0
-      open_id = all_are_open model_setting short h legal holds.joined still l k.birth x k.is on_first live
+      open_id = laws.opens model_setting h short legal holds.joined still l k.birth x k.is on_first live
 
       unclosed : IsUnclosed h l k.birth x
-      unclosed = heard_no_close h legal l k.birth x k.is live open_id
+      unclosed = laws.unclosed h legal l k.birth x k.is live open_id
 
       remote : remote_of l k.birth h ≡ x.part.remote
       remote = ap remote_in unclosed.opened ∙ unclosed.remote
 
       plain : has_credit x.part.flow ≡ false
-      plain = kept_as.credit ∙ all_plain_of_one model_setting short refl h legal holds.joined one_device l kept_as.birth kept_as.is
+      plain = kept_as.credit ∙ laws.plain model_setting h short refl legal holds.joined one_device l kept_as.birth kept_as.is
 
       far : (end : DeviceStream)
           × ((at (remote_of l k.birth h) parts.device.machine.services.table.rows.entries ≡ Some end) × StandsFor k.settled.there.row end)
@@ -325,7 +357,7 @@ module _ (h : History) (parts : Parts) (holds : Holds h parts) (greeted : IsGree
           by (inl past) = absurd (let clash : None ≡ Some link = sym (only.above (suc n) past) ∙ e in cc)
           by (inr le) = let counts = (counted h).plugged in let one = holds.one in omega (arith, le, counts, one)
 
-  pub is_settled : IsSettled parts
+  pub is_settled : IsSettled (view_of parts false)
   is_settled = record {
     link = λ t link is. (
         let e = sym (links_show t) ∙ is in
@@ -340,7 +372,7 @@ module _ (h : History) (parts : Parts) (holds : Holds h parts) (greeted : IsGree
       named : (c : ℕ) (session : Session) → at c parts.sessions.entries ≡ Some session → 0 < c
       named c session is = (subst (IsKeptAt parts.given h c) is (holds.sessions c)).0.0
 
-  pub is_counted : IsCounted parts
+  pub is_counted : IsCounted (view_of parts false)
   is_counted = record {
     clients = ap (λ (k : Kept). k.joined) seen ∙ ((counted h).joined ∙ holds.came);
     streams = ap (λ (k : Kept). k.streams.drawn) seen ∙ drawn;

@@ -6,13 +6,11 @@ use Rattle.adb_stream.specs.Flow.{is_idle, to_hand}
 use Rattle.adb_history.specs.Rows.{Client, Link}
 use Rattle.adb_history.specs.Machine.{History, state}
 use Rattle.adb_hub.specs.Answers.{due_on, offered_to}
-use Rattle.adb_device_streams.specs.Service.{out_of}
-use Rattle.adb_device_streams.specs.declared.stream.Stream.{Stream as DeviceStream}
 use Rattle.adb_daemon.specs.Daemon.{owed}
-use Rattle.adb_daemon.specs.declared.daemon.Daemon.{Daemon}
 use Rattle.adb_world.specs.Session.{left_of}
 use Rattle.adb_world.specs.Calls.{HasNone}
 use Rattle.adb_world.specs.Parts.{Holds, IsRunning, AreSame}
+use Rattle.adb_world.specs.World.{End, View}
 use Rattle.adb_world.specs.declared.session.Session.{Session}
 use Rattle.adb_world.specs.declared.parts.Parts.{Parts}
 
@@ -22,29 +20,29 @@ Each {X} table P = (n : ℕ) (row : X) → at n table ≡ Some row → P row
 
 -- a live stream of the hub has its end at the device; at both ends no write is outstanding, nothing accepted is still to be handed to the client, and
 -- nothing that the service answered is still to be written
-pub record IsAtRest (device : Daemon) (stream : Stream) : Type 0 where
+pub record IsAtRest (ends : List (ℕ × End)) (stream : Stream) : Type 0 where
   pub answered : is_idle stream.part.flow ≡ true
   pub handed : to_hand stream.part.flow ≡ 0
-  pub far : DeviceStream
-  pub there : at stream.part.remote device.machine.services.table.rows.entries ≡ Some far
+  pub far : End
+  pub there : at stream.part.remote ends ≡ Some far
   pub host : far.host ≡ stream.id
-  pub spoken : is_idle far.flow ≡ true
-  pub written : out_of far.service ≡ []
+  pub spoken : far.idle ≡ true
+  pub written : far.left ≡ []
 
 -- Nothing is due on the link or to a client, and the device owes nothing; each live stream is at rest at both ends; nothing is held of a client, to be sent
 -- up; and each session has written all its words.
-pub record IsSettled (parts : Parts) : Type 0 where
-  pub link : Each parts.hub.links (λ (link : Link). link.due ≡ [])
-  pub clients : Each parts.hub.clients (λ (client : Client). client.due ≡ [])
-  pub device : owed parts.device ≡ []
-  pub up : Each parts.hub.clients (λ (client : Client). client.held ≡ [])
-  pub streams : Each parts.hub.streams.streams (IsAtRest parts.device)
-  pub words : Each parts.sessions.entries (λ (session : Session). left_of session ≡ [])
+pub record IsSettled (world : View) : Type 0 where
+  pub link : Each world.hub.links (λ (link : Link). link.due ≡ [])
+  pub clients : Each world.hub.clients (λ (client : Client). client.due ≡ [])
+  pub device : world.owed ≡ []
+  pub up : Each world.hub.clients (λ (client : Client). client.held ≡ [])
+  pub streams : Each world.hub.streams.streams (IsAtRest world.ends)
+  pub words : Each world.sessions (λ (session : Session). left_of session ≡ [])
 
 -- the hub drew as many clients, and as many streams, as sessions were given
-pub record IsCounted (parts : Parts) : Type 0 where
-  pub clients : parts.hub.joined ≡ parts.given
-  pub streams : parts.hub.streams.drawn ≡ parts.given
+pub record IsCounted (world : View) : Type 0 where
+  pub clients : world.hub.joined ≡ world.given
+  pub streams : world.hub.streams.drawn ≡ world.given
 
 -- ---- where no step is possible
 -- nothing is due on the link

@@ -86,8 +86,10 @@ impl Parts {
             (λ number. (after < number) × (is_some (at number self.now.sessions.entries) ≡ true)
             × ((c : ℕ) → after < c → c < number → at c self.now.sessions.entries ≡ None)) }
     {
-        let first = after.checked_add(1)?;
-        let (number, _session) = self.sessions.range(first..=u32::MAX).next()?;
+        if after == u32::MAX {
+            return None;
+        }
+        let (number, _session) = self.sessions.range(after + 1..=u32::MAX).next()?;
         Some(*number)
     }
 }

@@ -1,8 +1,9 @@
 //! Running a world until nothing in it can move.
 
-ghost use Rattle.std.specs.Prelude.{◌<◌, IfOk, OnOk};
+ghost use Rattle.std.specs.Prelude.{◌<◌, false, IfOk, OnOk};
 ghost use Rattle.adb_world.specs.Parts.{IsRunning};
 ghost use Rattle.adb_world.specs.Settled.{Anything, Goes, GoesOn, IsCounted, IsSettled, Rests};
+ghost use Rattle.adb_world.specs.World.{view_of};
 
 use crate::choices::{Side, Turn, turn_of};
 use crate::laws::worlds_that_rest_are_settled;
@@ -17,8 +18,8 @@ use std::alloc::AllocError;
 pub(crate) fn settle_parts(parts: &mut Parts, seed: u64) -> Result<u64, AllocError>
     requires { IsRunning parts.old }
     ensures goes { OnOk result (GoesOn parts.old parts.new) }
-    ensures settled { OnOk result (IsSettled parts.new) }
-    ensures counted { OnOk result (IsCounted parts.new) }
+    ensures settled { OnOk result (IsSettled (view_of parts.new false)) }
+    ensures counted { OnOk result (IsCounted (view_of parts.new false)) }
 {
     worlds_that_rest_are_settled();
     let mut words = Pcg32::seed_from_u64(seed);

@@ -3,12 +3,11 @@
 ghost use Rattle.std.specs.Prelude.{◌≡◌, ◌+◌, ◌<◌, ◌≤◌, [], true, false, is_some, length, IfOk, OnOk, OnErr, IsErr, option_map, option_copied};
 ghost use Rattle.adb_outside.specs.Tables.{at};
 ghost use Rattle.adb_device_streams.specs.Asked.{service_of};
-ghost use Rattle.adb_daemon.specs.Daemon.{files_of};
 ghost use Rattle.adb_laws_sessions.specs.Words.{IsKnown, most_service};
 ghost use Rattle.adb_world.specs.Parts.{Adds, AreSame, IsRunning, most_sessions};
 ghost use Rattle.adb_world.specs.Session.{new_session};
 ghost use Rattle.adb_world.specs.Settled.{IsCounted, IsSettled};
-ghost use Rattle.adb_world.specs.World.{HasStarted, given_to, sessions_of};
+ghost use Rattle.adb_world.specs.World.{HasStarted};
 
 use crate::parts::Parts;
 use crate::session::Session;
@@ -31,9 +30,9 @@ impl Model for World {
 
     ghost Value = { View };
 
-    ghost use Rattle.adb_world.specs.World.{IsSound};
+    ghost use Rattle.adb_world.specs.World.{IsSound, view_of};
 
-    ghost view = { λ world. record { parts = world.parts; spent = world.spent } };
+    ghost view = { λ world. view_of world.parts world.spent };
 
     ghost invariant = { λ world. IsSound world.spent world.parts };
 }
@@ -41,8 +40,8 @@ impl Model for World {
 impl World {
     /// A hub and a device that said to each other who they are, and no session.
     pub fn new(alloc: Global) -> Result<World, AllocError>
-        ensures empty { IfOk result (λ world. sessions_of world ≡ []) }
-        ensures given { IfOk result (λ world. given_to world ≡ 0) }
+        ensures empty { IfOk result (λ world. world.sessions ≡ []) }
+        ensures given { IfOk result (λ world. world.given ≡ 0) }
         ensures whole { IfOk result (λ world. world.spent ≡ false) }
     {
         let mut parts = Parts::new(alloc)?;
@@ -60,9 +59,9 @@ impl World {
     pub fn start(&mut self, service: &[u8], text: &[u8]) -> Result<u32, AllocError>
         requires known { is_some (service_of service.now) ≡ true }
         requires short { length service.now ≤ most_service }
-        requires room { given_to self.old < most_sessions }
-        ensures number { IfOk result (λ number. number ≡ given_to self.old + 1) }
-        ensures started { OnOk result (HasStarted (given_to self.old + 1)
+        requires room { self.old.given < most_sessions }
+        ensures number { IfOk result (λ number. number ≡ self.old.given + 1) }
+        ensures started { OnOk result (HasStarted (self.old.given + 1)
             (new_session service.now text.now) self.old self.new) }
         ensures whole { OnOk result (self.new.spent ≡ false) }
         ensures spent { OnErr result (self.new.spent ≡ true) }
@@ -83,7 +82,7 @@ impl World {
     /// What a session was handed; `None` exactly where no session has the number.
     pub fn got(&self, session: u32) -> Option<&[u8]>
         ensures { option_copied result
-            ≡ option_map (λ session. session.got) (at session (sessions_of self.now)) }
+            ≡ option_map (λ session. session.got) (at session self.now.sessions) }
     {
         match self.parts.sessions.get(&session) {
             Some(session) => Some(session.got.as_slice()),
@@ -93,7 +92,7 @@ impl World {
 
     /// The files of the device.
     pub fn files(&self) -> &Files
-        ensures { result.now ≡ files_of self.now.parts.device }
+        ensures { result.now ≡ self.now.files }
     {
         self.parts.device.files()
     }
@@ -102,10 +101,10 @@ impl World {
 /// Moves bytes, in pieces and between sides that the seed picks, until none can move, and gives the
 /// number of steps. After want of memory the world is spent.
 pub fn settle(world: &mut World, seed: u64) -> Result<u64, AllocError>
-    ensures settled { OnOk result (IsSettled world.new.parts) }
-    ensures counted { OnOk result (IsCounted world.new.parts) }
-    ensures same { OnOk result (AreSame (sessions_of world.old) (sessions_of world.new)) }
-    ensures given { OnOk result (given_to world.new ≡ given_to world.old) }
+    ensures settled { OnOk result (IsSettled world.new) }
+    ensures counted { OnOk result (IsCounted world.new) }
+    ensures same { OnOk result (AreSame world.old.sessions world.new.sessions) }
+    ensures given { OnOk result (world.new.given ≡ world.old.given) }
     ensures whole { OnOk result (world.new.spent ≡ false) }
     ensures spent { OnErr result (world.new.spent ≡ true) }
     ensures stays { world.old.spent ≡ true → IsErr result × (world.new ≡ world.old) }

@@ -1,5 +1,5 @@
 use Rattle.std.proofs.Common.{◌-◌, ◌^◌}
-use Rattle.adb_world.proofs.Moving.{Tried, to_hand_out}
+use Rattle.adb_world.proofs.Going.{Tried, to_hand_out}
 use Rattle.adb_world.proofs.moving.hand_behind.Given as goal
 
 abbrev pub invariant-loop-number : goal.invariant-loop-number

@@ -28,7 +28,7 @@ use Rattle.adb_world.proofs.Stays.{kept_put, kept_read, changed_same, hears_same
 
 -- ---- the device
 -- what was taken, and what it owes, are the bytes of all that became due
-all_owed : (fed taken : List ℕ) (device : Daemon) → HasDone model_setting fed taken device → taken ++ owed device ≡ bytes_owed model_setting fed
+pub all_owed : (fed taken : List ℕ) (device : Daemon) → HasDone model_setting fed taken device → taken ++ owed device ≡ bytes_owed model_setting fed
 all_owed fed taken device done = done.stands.holds.due
 
 module _ (h : History) (parts : Parts) (holds : Holds h parts) where
