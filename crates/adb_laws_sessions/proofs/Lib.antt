@@ -1,0 +1,4 @@
+mod Known
+mod Reading
+mod Leading
+mod Histories

@@ -1,0 +1,4 @@
+pub mod Words
+pub mod Model
+pub mod Asked
+pub mod Sessions

@@ -1,0 +1,32 @@
+//! Laws of sessions.
+
+ghost use Rattle.std.specs.Prelude.{ℕ, List, []};
+ghost use Rattle.adb_outside.specs.Bytes.{IsPrefixOf};
+ghost use Rattle.adb_history.specs.Asking.{nothing_asked, asks_with};
+ghost use Rattle.adb_history.specs.Machine.{History, IsLegal};
+ghost use Rattle.adb_laws_sessions.specs.Words.{IsKnown, words_of};
+ghost use Rattle.adb_laws_sessions.specs.Model.{model_devices};
+ghost use Rattle.adb_laws_sessions.specs.Asked.{Opens};
+ghost use Rattle.adb_laws_sessions.specs.Sessions.{AsksForServices, IsOfSessions};
+
+use adb_request::spelled_is_read;
+
+/// A front of what a session writes asks for nothing but the device, as long as its requests are
+/// not whole; and then for its service.
+pub fn requests_open_their_service()
+    ensures { (service text front : List ℕ) → IsKnown service
+        → IsPrefixOf front (words_of service text)
+        → Opens service front (asks_with model_devices [] front nothing_asked) }
+{
+    spelled_is_read();
+}
+
+/// In every legal history of sessions no kill was made and no forward is there; each client asked
+/// what a front of its bytes asks, which are all of them until it asked for a service; and as many
+/// streams were born as clients asked for one.
+pub fn sessions_ask_for_services()
+    ensures { (history : History) → IsLegal history → IsOfSessions history
+        → AsksForServices history }
+{
+    spelled_is_read();
+}

@@ -1,0 +1,161 @@
+-- Steps of a world that runs, one after the other.
+use Rattle.std.specs.Prelude.{ℕ, ◌^◌, ◌≡◌, ◌≤◌, ◌<◌, Bool, true, false, List, [], ◌∷◌, Option, Some, None, option_map}
+use Rattle.std.proofs.Common.{refl, sym, ◌∙◌, ap, subst, arith, ◌⊎◌, inl, inr}
+use Rattle.std.proofs.lemmas.Bool.{cases_lt}
+use Rattle.adb_outside.specs.Tables.{at}
+use Rattle.adb_capture.specs.declared.entry.Entry.{Entry}
+use Rattle.adb_history.specs.Machine.{History, state}
+use Rattle.adb_hub.specs.Answers.{offered_to}
+use Rattle.adb_laws_births.specs.Laws.{GoesOn as StaysBehind}
+use Rattle.adb_world.specs.Calls.{HasNone}
+use Rattle.adb_world.specs.Parts.{Holds, IsKeptAt, IsRunning, Moved, Moves}
+use Rattle.adb_world.specs.Settled.{Anything, Goes, GoesOn, NoneDown, NoneHanded, NoneUp, NoneWritten, Rests}
+use Rattle.adb_world.specs.Session.{left_of}
+use Rattle.adb_world.specs.declared.parts.Parts.{Parts}
+use Rattle.adb_world.specs.declared.session.Session.{Session}
+use Rattle.adb_world.proofs.Greeted.{stays_greeted}
+use Rattle.adb_world.proofs.Stays.{same_sessions, then_same}
+
+-- births, and what links brought, stay
+abbrev pub AllStay : Type 0
+AllStay = (e : Entry) (older : History) → StaysBehind e older
+
+-- A step that was made leaves a world that runs.
+pub runs_on : AllStay → (e : List ℕ → Entry) (max : ℕ) (all : Option (List ℕ)) (old new : Parts) (runs : IsRunning old)
+    → Moved e max all runs.history old new → GoesOn old new
+runs_on stays e max all old new runs moved = record {
+  runs = record {
+    history = e moved.bytes ∷ runs.history;
+    holds = moved.holds;
+    greeted = stays_greeted (e moved.bytes) runs.history ((stays (e moved.bytes) runs.history).brings 1) runs.greeted;
+  };
+  same = moved.same;
+  given = moved.given;
+}
+
+-- A step of one kind.
+pub goes_by : AllStay → (e : List ℕ → Entry) (max : ℕ) (all : History → Option (List ℕ)) (Nothing : Parts → Type 0) (moved : Bool) (old new : Parts)
+    → (runs : IsRunning old) → ((h : History) → Holds h old → Moves e max (all h) moved h old new)
+    → (((h : History) → Holds h old → HasNone (all h)) → Nothing old) → Goes Nothing moved old new
+goes_by stays e max all Nothing true old new runs moves none = runs_on stays e max (all runs.history) old new runs (moves runs.history runs.holds)
+goes_by stays e max all Nothing false old new runs moves none =
+    ((moves runs.history runs.holds).0, none (λ h holds. (moves h holds).1))
+
+-- ---- one kind behind another
+-- a step was made behind none
+pub behind_none : (old mid new : Parts) → mid ≡ old → GoesOn mid new → GoesOn old new
+behind_none old mid new same goes = subst (λ (p : Parts). GoesOn p new) same goes
+
+pub runs_still : (old mid : Parts) → mid ≡ old → IsRunning old → IsRunning mid
+runs_still old mid same runs = subst IsRunning (sym same) runs
+
+pub any_goes : (A : Parts → Type 0) (moved : Bool) (old new : Parts) → Goes A moved old new → Goes Anything moved old new
+any_goes A true old new goes = goes
+any_goes A false old new goes = (goes.0, tt)
+
+-- where each kind was tried, no step is possible
+pub all_rest : (old p q r s new : Parts) (moved : Bool) → p ≡ old → Goes NoneDown false p q → Goes NoneUp false q r → Goes (NoneHanded 0) false r s
+    → Goes (NoneWritten 0) moved s new → Goes Rests moved old new
+all_rest old p q r s new true first down up hand goes = behind_none old s new (hand.0 ∙ (up.0 ∙ (down.0 ∙ first))) goes
+all_rest old p q r s new false first down up hand goes =
+    let down_old : NoneDown old = subst NoneDown first down.1 in
+    let up_old : NoneUp old = subst NoneUp (down.0 ∙ first) up.1 in
+    let hand_old : NoneHanded 0 old = subst (NoneHanded 0) (up.0 ∙ (down.0 ∙ first)) hand.1 in
+    let write_old : NoneWritten 0 old = subst (NoneWritten 0) (hand.0 ∙ (up.0 ∙ (down.0 ∙ first))) goes.1 in
+    (goes.0 ∙ (hand.0 ∙ (up.0 ∙ (down.0 ∙ first))), record { down = down_old; up = up_old; handed = hand_old; written = write_old })
+
+-- ---- many steps
+pub stays_here : (parts : Parts) → IsRunning parts → GoesOn parts parts
+stays_here parts runs = record { runs = runs; same = same_sessions parts.sessions.entries; given = refl }
+
+pub goes_further : (old mid new : Parts) → GoesOn old mid → GoesOn mid new → GoesOn old new
+goes_further old mid new first more = record {
+  runs = more.runs;
+  same = then_same old.sessions.entries mid.sessions.entries new.sessions.entries first.same more.same;
+  given = more.given ∙ first.given;
+}
+
+-- ---- one session after the other
+-- what may be moved for the client of a number
+abbrev pub Content : Type 0
+Content = Parts → History → ℕ → Option (List ℕ)
+
+abbrev pub NoneOf : Content → ℕ → Parts → Type 0
+NoneOf what from parts = (h : History) → Holds h parts → (c : ℕ) (session : Session) → from < c → at c parts.sessions.entries ≡ Some session
+    → HasNone (what parts h c)
+
+-- The sessions behind a number were tried, up to another one, and nothing has changed.
+pub record Tried (what : Content) (from after : ℕ) (old now : Parts) : Type 0 where
+  pub same : now ≡ old
+  pub order : from ≤ after
+  pub none : (h : History) → Holds h old → (c : ℕ) (session : Session) → from < c → c ≤ after → at c old.sessions.entries ≡ Some session
+      → HasNone (what old h c)
+
+-- no session has a number between two
+abbrev pub NoneBetween : ℕ → ℕ → Parts → Type 0
+NoneBetween after number parts = (c : ℕ) → after < c → c < number → at c parts.sessions.entries ≡ None
+
+pub begins_trying : (what : Content) (from : ℕ) (old : Parts) → Tried what from from old old
+begins_trying what from old = record {
+  same = refl;
+  order = omega arith;
+  none = λ h holds c session past within is. absurd (omega (arith, past, within));
+}
+
+module _ (what : Content) (from after : ℕ) (old now : Parts) (tried : Tried what from after old now) where
+  -- the next one was tried
+  pub tried_one : (e : ℕ → List ℕ → Entry) (max number : ℕ) (new : Parts) → IsRunning now → after < number → NoneBetween after number now
+      → ((h : History) → Holds h now → Moves (e number) max (what now h number) false h now new) → Tried what from number old new
+  tried_one e max number new runs less between moves = record {
+    same = (moves runs.history runs.holds).0 ∙ tried.same;
+    order = let order = tried.order in omega (arith, order, less);
+    none = λ h holds c session past within is. go h holds c session past is (cases_lt after c) (cases_lt c number) within;
+  }
+    where
+      here : (h : History) → Holds h old → HasNone (what old h number)
+      here h holds =
+          subst (λ (p : Parts). HasNone (what p h number)) tried.same
+          (moves h (subst (Holds h) (sym tried.same) holds)).1
+
+      go : (h : History) → Holds h old → (c : ℕ) (session : Session) → from < c → at c old.sessions.entries ≡ Some session → (after < c) ⊎ (c ≤ after)
+          → (c < number) ⊎ (number ≤ c) → c ≤ number → HasNone (what old h c)
+      go h holds c session past is (inr tried_before) order within = tried.none h holds c session past tried_before is
+      go h holds c session past is (inl behind) (inl below) within =
+          absurd (let clash : None ≡ Some session =
+          sym (between c behind below) ∙ (ap (λ (p : Parts). at c p.sessions.entries) tried.same ∙ is) in cc)
+      go h holds c session past is (inl behind) (inr above) within =
+          let same : number ≡ c = omega (arith, above, within) in subst (λ (n : ℕ). HasNone (what old h n)) same (here h holds)
+
+  -- all were tried
+  pub tried_all : IsRunning now → NoneBetween after (2 ^ 32) now → NoneOf what from old
+  tried_all runs between h holds c session past is = go (cases_lt after c)
+    where
+      drawn : c < 2 ^ 32
+      drawn =
+          let kept = (subst (IsKeptAt old.given h c) is (holds.sessions c)).0.1 in
+          let few = holds.few in
+          omega (arith, kept, few)
+
+      go : (after < c) ⊎ (c ≤ after) → HasNone (what old h c)
+      go (inr within) = tried.none h holds c session past within is
+      go (inl behind) =
+          absurd (let clash : None ≡ Some session =
+          sym (between c behind drawn) ∙ (ap (λ (p : Parts). at c p.sessions.entries) tried.same ∙ is) in cc)
+
+-- a step for one of them is a step
+pub tried_moves : AllStay → (what : Content) (from after : ℕ) (old now new : Parts) → Tried what from after old now → (e : ℕ → List ℕ → Entry)
+    (max number : ℕ) → (runs : IsRunning now) → ((h : History) → Holds h now → Moves (e number) max (what now h number) true h now new) → GoesOn old new
+tried_moves stays what from after old now new tried e max number runs moves =
+    subst (λ (p : Parts). GoesOn p new) tried.same
+    (runs_on stays (e number) max (what now runs.history number) now new runs (moves runs.history runs.holds))
+
+-- what may be handed to a client, and what a session may write
+abbrev pub to_hand_out : Content
+to_hand_out parts h c = offered_to (state h).devices ((state h).clients c)
+
+abbrev pub to_write : Content
+to_write parts h c = option_map left_of (at c parts.sessions.entries)
+
+pub none_written : (from : ℕ) (parts : Parts) → IsRunning parts → NoneOf to_write from parts → NoneWritten from parts
+none_written from parts runs none c session past is =
+    subst (λ (o : Option Session). HasNone (option_map left_of o)) is (none runs.history runs.holds c session past is)

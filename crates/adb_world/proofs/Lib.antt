@@ -1,0 +1,12 @@
+pub mod Stays
+pub mod Greeted
+pub mod Numbers
+pub mod Open
+pub mod Starving
+pub mod Devices
+pub mod Entries
+pub mod Moved
+pub mod Fresh
+pub mod Rest
+pub mod Going
+pub mod Greeting

@@ -1,0 +1,391 @@
+-- Where no step is possible, nothing is left to be moved.
+use Rattle.std.specs.Prelude.{ℕ, ◌+◌, ◌-◌, ◌^◌, ◌≡◌, ◌≢◌, ◌≤◌, ◌<◌, Bool, true, false, not, cond, if◌then◌else◌, min, is_some, zero, suc, List, [], ◌∷◌, ◌++◌, length, map, take, drop, Option, Some, None}
+use Rattle.std.specs.Prelude.{option_map}
+use Rattle.std.specs.Ordering.{nat_cmp, is_eq}
+use Rattle.std.proofs.Common.{refl, sym, ◌∙◌, ap, subst, arith, ◌⊎◌, inl, inr, add-one}
+use Rattle.std.proofs.lemmas.Bool.{cases_lt}
+use Rattle.std.proofs.lemmas.List.{append-nil, take-append-drop, length-append}
+use Rattle.std.proofs.Math.Seq.{drop-append_seam}
+use Rattle.adb_outside.specs.Bytes.{IsPrefixOf}
+use Rattle.adb_outside.specs.Tables.{at, Rows, listed}
+use Rattle.adb_outside.proofs.TableLaws.{shows}
+use Rattle.adb_wire.specs.Cutting.{framed}
+use Rattle.adb_wire.specs.declared.packets.Packet.{Packet}
+use Rattle.adb_registry.specs.Registry.{DeviceTable}
+use Rattle.adb_registry.specs.declared.row.Row.{Row as Device}
+use Rattle.adb_client.specs.declared.phase.Phase.{Phase}
+use Rattle.adb_client.specs.declared.phase.Phase.TheVariants.{Asking, Opening, Streaming, Binding, Tracking, Closing, Gone}
+use Rattle.adb_stream.specs.Flow.{is_idle, to_hand, has_credit}
+use Rattle.adb_stream.specs.declared.flow.Flow.{Flow}
+use Rattle.adb_stream.specs.declared.flow.Flow.TheVariants.{One, Credit}
+use Rattle.adb_stream.specs.declared.row.Stream.{Stream}
+use Rattle.adb_reply.specs.declared.answer.Next.{Next}
+use Rattle.adb_reply.specs.declared.answer.Next.TheVariants.{Open}
+use Rattle.adb_history.specs.Asking.{Asked, nothing_asked, asks_with}
+use Rattle.adb_history.specs.Book.{asked, plugged_count}
+use Rattle.adb_history.specs.Births.{Birth, births, born, opening_of, remote_of, remote_in}
+use Rattle.adb_history.specs.Bytes.{bytes_read, bytes_received, bytes_sent, brought, sent}
+use Rattle.adb_history.specs.Events.{spelled_to}
+use Rattle.adb_history.specs.Kept.{Kept, kept}
+use Rattle.adb_history.specs.Links.{is_connected}
+use Rattle.adb_history.specs.Lives.{packets_of}
+use Rattle.adb_history.specs.Machine.{History, state, told, IsLegal}
+use Rattle.adb_history.specs.Orderly.{IsDrawnOnly}
+use Rattle.adb_history.specs.Rows.{Client, Link, State}
+use Rattle.adb_history.specs.Streams.{stream_ids}
+use Rattle.adb_history.specs.Tied.{came_count}
+use Rattle.adb_history.specs.Tracking.{offered}
+use Rattle.adb_history.proofs.Books.{all_books, all_unread}
+use Rattle.adb_history.proofs.Numbers.{counted}
+use Rattle.adb_history.proofs.OrderlyStates.{orderly}
+use Rattle.adb_history.proofs.OutputEntries.{all_due_past_sent}
+use Rattle.adb_laws_births.specs.Born.{IsBornAs, all_brought}
+use Rattle.adb_laws_births.proofs.Born.{all_born}
+use Rattle.adb_laws_births.proofs.Laws.{sends_first}
+use Rattle.adb_laws_causes.specs.Flows.{waiting}
+use Rattle.adb_device_streams.specs.Service.{out_of, service_answer}
+use Rattle.adb_device_streams.specs.Stream.{Row, unsent, StandsFor}
+use Rattle.adb_device_streams.specs.declared.stream.Stream.{Stream as DeviceStream}
+use Rattle.adb_daemon.specs.Daemon.{HasDone, owed, device_of}
+use Rattle.adb_daemon.specs.Held.{StandsAt}
+use Rattle.adb_laws_pairs.specs.Paired.{IsStill}
+use Rattle.adb_laws_model_device.specs.Owed.{packets_owed, bytes_owed}
+use Rattle.adb_laws_model_device.proofs.Bytes.{framed_owed}
+use Rattle.adb_laws_model_device.proofs.Joined.{sent_words}
+use Rattle.adb_laws_worlds.specs.Credit.{HasOneDevice, LiveOnFirst}
+use Rattle.adb_laws_worlds.specs.Held.{HasSettled, AllHaveSettled, HoldsNothing}
+use Rattle.adb_laws_worlds.specs.Opening.{AllAreOpen}
+use Rattle.adb_laws_worlds.specs.Unbroken.{BringsSound}
+use Rattle.adb_laws_pairs.specs.InTime.{AllPlain}
+use Rattle.adb_laws_model_device.specs.Joined.{IsJoined}
+use Rattle.adb_daemon.specs.Device.{Setting}
+use Rattle.adb_laws_worlds.specs.Settled as worlds
+use Rattle.adb_laws_worlds.specs.Unclosed.{IsUnclosed, HeardNoClose}
+use Rattle.adb_hub.specs.Answers.{due_on, offered_to}
+use Rattle.adb_laws_sessions.specs.Words.{IsKnown, requests_for, words_of}
+use Rattle.adb_laws_sessions.specs.Model.{model_devices, model_setting}
+use Rattle.adb_laws_sessions.specs.Asked.{Opens, HasOpened}
+use Rattle.adb_laws_sessions.specs.Sessions.{HasAsked, AsksForServices, done_among}
+use Rattle.adb_world.specs.Calls.{HasNone}
+use Rattle.adb_world.specs.Parts.{Holds, IsGreeted, IsKeptAt}
+use Rattle.adb_world.specs.Session.{IsTold, left_of, text_of}
+use Rattle.adb_world.specs.Settled.{IsAtRest, IsSettled, IsCounted, Rests}
+use Rattle.adb_world.specs.World.{end_of, ends_of, view_of}
+use Rattle.adb_world.specs.declared.parts.Parts.{Parts}
+use Rattle.adb_world.specs.declared.session.Session.{Session}
+use Rattle.adb_world.proofs.Greeted.{known_devices}
+use Rattle.adb_world.proofs.Entries.{all_owed}
+
+-- ---- small things
+abbrev one_when : Bool → ℕ
+one_when b = if b then 1 else 0
+
+idle_flow : (flow : Flow) → has_credit flow ≡ false → waiting flow ≡ 0 → is_idle flow ≡ true
+idle_flow (One window) plain none = go window.outstanding refl none
+  where
+    go : (b : Bool) → window.outstanding ≡ b → one_when b ≡ 0 → not window.outstanding ≡ true
+    go true is e = absurd (omega (arith, e))
+    go false is e = ap not is
+idle_flow (Credit credit) plain none = refl
+
+-- what is offered to a client is what is due to it, where anything is
+none_due : (table : DeviceTable) (client : Client) → offered table client ≡ [] → client.due ≡ []
+none_due table client none = go client.due refl
+  where
+    go : (due : List ℕ) → client.due ≡ due → client.due ≡ []
+    go [] is = is
+    go (b ∷ due) is =
+        let some : offered table client ≡ b ∷ due = ap (λ (d : List ℕ). offered table (record client { due = d })) is in
+        let clash : b ∷ due ≡ [] = sym some ∙ none in cc
+
+all_done : (what : ℕ → Asked) (k : ℕ) → ((c : ℕ) → 0 < c → c ≤ k → is_some (what c).next ≡ true) → done_among what k ≡ k
+all_done what zero done = refl
+all_done what (suc k) done =
+    let here : one_when (is_some (what (suc k)).next) ≡ 1 = ap one_when (done (suc k) (omega arith) (omega arith)) in
+    let rest = all_done what k (λ c some le. done c some (omega (arith, le))) in
+    omega (arith, here, rest)
+
+-- a table of what rows show has what its row shows
+at_map : {A B : Type 0} (f : A → B) (n : ℕ) (table : List (ℕ × A)) → at n (map (λ (e : ℕ × A). (e.0, f e.1)) table) ≡ option_map f (at n table)
+at_map f n [] = refl
+at_map {A} {B} f n (e ∷ table) = go (is_eq (nat_cmp n e.0)) (at_map f n table)
+  where
+    go : (b : Bool) → at n (map (λ (x : ℕ × A). (x.0, f x.1)) table) ≡ option_map f (at n table)
+        → cond b (Some (f e.1)) (at n (map (λ (x : ℕ × A). (x.0, f x.1)) table)) ≡ option_map f (cond b (Some e.1) (at n table))
+    go true later = refl
+    go false later = later
+
+none_out : (row : Row) (far : DeviceStream) → StandsFor row far → unsent row ≡ [] → out_of far.service ≡ []
+none_out row far stands none =
+    sym (drop-append_seam row.sent (out_of far.service))
+    ∙ (ap (drop (length row.sent)) stands.answers.given_out ∙ none)
+
+-- the model device is there
+model_there : is_some (at 1 model_devices.rows) ≡ true
+unfolding model_devices
+model_there = refl
+
+-- what a server asked that reads the words of a session
+abbrev pub AsksAsWritten : Type 0
+AsksAsWritten = (h : History) → IsLegal h → (c : ℕ) (session : Session) → HasAsked (bytes_read c h) (asked c h)
+    → IsTold h c session → left_of session ≡ [] → is_some (asked c h).next ≡ true
+
+-- what the requests of a session open
+abbrev pub RequestsOpen : Type 0
+RequestsOpen = (service text front : List ℕ) → IsKnown service → IsPrefixOf front (words_of service text)
+    → Opens service front (asks_with model_devices [] front nothing_asked)
+
+-- A session that wrote all its words asked for its service.
+pub asks_as_written : RequestsOpen → AsksAsWritten
+asks_as_written opens h legal c session asks told none = go (asked c h).next refl
+  where
+    all : bytes_read c h ≡ words_of session.service (text_of session)
+    all =
+        told.read
+        ∙ (sym (append-nil (take session.written session.words))
+        ∙ (ap (λ (x : List ℕ). take session.written session.words ++ x) (sym none)
+        ∙ (take-append-drop session.written session.words ∙ told.words)))
+
+    go : (o : Option Next) → (asked c h).next ≡ o → is_some (asked c h).next ≡ true
+    go (Some next) is = ap is_some is
+    go None is =
+        let whole : asks.front ≡ words_of session.service (text_of session) = asks.all is ∙ all in
+        let long : length asks.front ≡ length (requests_for session.service) + length (text_of session) =
+        ap length whole ∙ length-append (requests_for session.service) (text_of session) in
+        let done = (opens session.service (text_of session) asks.front told.known ([], append-nil asks.front ∙ whole)).opened (omega (arith, long)) in
+        let clash : None ≡ Some (Open 1 session.service) = sym is ∙ (ap (λ (q : Asked). q.next) asks.asked ∙ done.next) in cc
+
+-- what holds of a server and its model device
+pub record Laws : Type 0 where
+  pub settled : (setting : Setting) (history : History) → setting.most < 2 ^ 32 → 0 < setting.most → setting.credit ≡ false → IsLegal history
+      → IsJoined setting history → HasOneDevice history → AllHaveSettled setting history
+  pub nothing : (setting : Setting) (history : History) → setting.most < 2 ^ 32 → 0 < setting.most → setting.credit ≡ false → IsLegal history
+      → IsJoined setting history → HasOneDevice history → HoldsNothing setting history
+  pub opens : (setting : Setting) (history : History) → setting.most < 2 ^ 32 → IsLegal history → IsJoined setting history → AllAreOpen setting history
+  pub plain : (setting : Setting) (history : History) → setting.most < 2 ^ 32 → setting.credit ≡ false → IsLegal history → IsJoined setting history
+      → HasOneDevice history → AllPlain history
+  pub first : (history : History) → IsLegal history → HasOneDevice history → LiveOnFirst history
+  pub sound : (setting : Setting) (history : History) → setting.most < 2 ^ 32 → IsLegal history → IsJoined setting history → BringsSound history
+  pub unclosed : (history : History) → IsLegal history → HeardNoClose history
+
+module _ (laws : Laws) (h : History) (parts : Parts) (holds : Holds h parts) (greeted : IsGreeted h) (asks : AsksForServices h) (rests : Rests parts)
+    (written : AsksAsWritten) where
+  legal : IsLegal h
+  legal = holds.lawful.legal
+
+  s : State
+  s = state h
+
+  seen : parts.hub ≡ kept (state h)
+  seen = holds.lawful.seen
+
+  short : model_setting.most < 2 ^ 32
+  short = omega arith
+
+  some_payload : 0 < model_setting.most
+  some_payload = omega arith
+
+  -- ---- what the hub knows
+  known : (state h).devices ≡ model_devices
+  known =
+      (all_books h legal).devices
+      ∙ known_devices h (laws.sound model_setting h short legal holds.joined) holds.here holds.plugged_as greeted holds.one asks.killed
+
+  -- ---- the sessions of the clients
+  -- the client of a number that was drawn is that of a session
+  there : (c : ℕ) → 0 < c → c ≤ parts.given → (session : Session) × ((at c parts.sessions.entries ≡ Some session) × IsTold h c session)
+  there c some le = go (at c parts.sessions.entries) refl (holds.sessions c)
+    where
+      go : (o : Option Session) → at c parts.sessions.entries ≡ o → IsKeptAt parts.given h c o
+          → (session : Session) × ((at c parts.sessions.entries ≡ Some session) × IsTold h c session)
+      go None is (inl zeroth) = absurd (omega (arith, zeroth, some))
+      go None is (inr past) = absurd (omega (arith, past, le))
+      go (Some session) is k = (session, (is, k.1))
+
+  drawn_client : (c : ℕ) (client : Client) → (state h).clients c ≡ Some client → (0 < c) × (c ≤ parts.given)
+  drawn_client c client is = go c (orderly h legal).clients is
+    where
+      go : (n : ℕ) → IsDrawnOnly (state h).joined (state h).clients → (state h).clients n ≡ Some client → (0 < n) × (n ≤ parts.given)
+      go zero only e = absurd (let clash : None ≡ Some client = sym only.zero ∙ e in cc)
+      go (suc n) only e = (omega arith, by (cases_lt (state h).joined (suc n)))
+        where
+          by : ((state h).joined < suc n) ⊎ (suc n ≤ (state h).joined) → suc n ≤ parts.given
+          by (inl past) = absurd (let clash : None ≡ Some client = sym (only.above (suc n) past) ∙ e in cc)
+          by (inr le) = let counts = (counted h).joined in let given = holds.came in omega (arith, le, counts, given)
+
+  -- each session asked for its service
+  session_done : (c : ℕ) → 0 < c → c ≤ parts.given → is_some (asked c h).next ≡ true
+  session_done c some le =
+      let t = there c some le in
+      written h legal c t.0 (asks.clients c) t.1.1 (rests.written c t.0 some t.1.0)
+
+  -- ---- nothing is due
+  client_due : (c : ℕ) (client : Client) → (state h).clients c ≡ Some client → client.due ≡ []
+  client_due c client is =
+      let drawn = drawn_client c client is in
+      let t = there c drawn.0 drawn.1 in
+      none_due (state h).devices client
+      (subst (λ (o : Option Client). HasNone (offered_to (state h).devices o)) is (rests.handed h holds c t.0 drawn.0 t.1.0))
+
+  link_due : (link : Link) → (state h).links 1 ≡ Some link → link.due ≡ []
+  link_due link is = subst (λ (o : Option Link). HasNone (due_on o)) is (rests.down h holds)
+
+  link_there : (link : Link) × ((state h).links 1 ≡ Some link)
+  link_there = go ((state h).links 1) refl
+    where
+      plugged : is_some ((state h).links 1) ≡ true
+      plugged = (orderly h legal).linked 1 ∙ (ap (λ (table : DeviceTable). is_some (at 1 table.rows)) known ∙ model_there)
+
+      go : (o : Option Link) → (state h).links 1 ≡ o → (link : Link) × ((state h).links 1 ≡ Some link)
+      go None is = absurd (let clash : false ≡ true = sym (ap is_some is) ∙ plugged in cc)
+      go (Some link) is = (link, is)
+
+  -- ---- nothing is on its way
+  still : IsStill (packets_owed model_setting) h
+  still = record { sent_all = sent_all; brought_all = brought_all }
+    where
+      bytes : spelled_to 1 (told h) ≡ bytes_sent 1 h
+      bytes =
+          all_due_past_sent h legal 1 link_there.0 link_there.1
+          ∙ (ap (λ (due : List ℕ). bytes_sent 1 h ++ due) (link_due link_there.0 link_there.1) ∙ append-nil (bytes_sent 1 h))
+
+      sent_all : sent 1 h ≡ packets_of 1 h
+      sent_all = ap (λ (x : List ℕ). (framed x).given) (sym bytes) ∙ (sends_first h legal 1).packets
+
+      received : bytes_received 1 h ≡ bytes_owed model_setting (bytes_sent 1 h)
+      received =
+          sym (append-nil (bytes_received 1 h))
+          ∙ (ap (λ (due : List ℕ). bytes_received 1 h ++ due) (sym rests.up)
+          ∙ all_owed (bytes_sent 1 h) (bytes_received 1 h) parts.device holds.done)
+
+      brought_all : brought 1 h ≡ packets_owed model_setting (sent 1 h)
+      brought_all =
+          ap (λ (x : List ℕ). (framed x).given) received ∙ framed_owed model_setting short (sent 1 h) (sent_words h legal)
+
+  at_rest : worlds.IsAtRest model_setting h
+  at_rest = record { still = still; clients = client_due }
+
+  one_device : plugged_count h ≤ 1
+  one_device = let one = holds.one in omega (arith, one)
+
+  -- ---- the clients
+  client_held : (c : ℕ) (client : Client) → (state h).clients c ≡ Some client → client.held ≡ []
+  client_held c client is = laws.nothing model_setting h short some_payload refl legal holds.joined one_device at_rest c client is asks_no_more
+    where
+      asks_no_more : client.about.phase ≡ Asking → ⊥
+      asks_no_more phase =
+          let drawn = drawn_client c client is in
+          let none = (all_unread h legal c client is phase).asks in
+          let clash : false ≡ true = sym (ap is_some none) ∙ session_done c drawn.0 drawn.1 in cc
+
+  -- ---- the streams
+  stream_rests : (l : ℕ) (x : Stream) → (state h).streams l ≡ Some x → IsAtRest (ends_of parts.device) x
+  stream_rests l x live = record {
+    answered = idle_flow x.part.flow plain k.settled.waits;
+    handed = k.settled.handed;
+    far = end_of far.0;
+    there =
+        at_map end_of x.part.remote parts.device.machine.services.table.rows.entries
+        ∙ ap (option_map end_of) (ap (λ (n : ℕ). at n parts.device.machine.services.table.rows.entries) (sym remote) ∙ far.1.0);
+    host = far.1.1.host ∙ (k.settled.there.host ∙ sym number);
+    spoken = ap is_idle far.1.1.flow ∙ k.settled.idle;
+    written = none_out k.settled.there.row far.0 far.1.1 k.settled.written;
+  }
+    where
+      k : HasSettled model_setting h l x
+      k = laws.settled model_setting h short some_payload refl legal holds.joined one_device at_rest l x live
+
+      kept_as : IsBornAs h (all_brought h) l x
+      kept_as = (all_born h legal).kept l x live
+
+      number : x.id ≡ l
+      number = ((orderly h legal).stream l x live).id
+
+      on_first : k.birth.link ≡ 1
+      on_first =
+          let same : kept_as.birth ≡ k.birth = (let e : Some kept_as.birth ≡ Some k.birth = sym kept_as.is ∙ k.is in cc) in
+          ap (λ (b : Birth). b.link) (sym same) ∙ (sym kept_as.link ∙ laws.first h legal one_device l x live)
+
+      open_id : x.part.remote ≢ 0
+      open_id = laws.opens model_setting h short legal holds.joined still l k.birth x k.is on_first live
+
+      unclosed : IsUnclosed h l k.birth x
+      unclosed = laws.unclosed h legal l k.birth x k.is live open_id
+
+      remote : remote_of l k.birth h ≡ x.part.remote
+      remote = ap remote_in unclosed.opened ∙ unclosed.remote
+
+      plain : has_credit x.part.flow ≡ false
+      plain = kept_as.credit ∙ laws.plain model_setting h short refl legal holds.joined one_device l kept_as.birth kept_as.is
+
+      far : (end : DeviceStream)
+          × ((at (remote_of l k.birth h) parts.device.machine.services.table.rows.entries ≡ Some end) × StandsFor k.settled.there.row end)
+      far = go (at (remote_of l k.birth h) parts.device.machine.services.table.rows.entries) refl
+          (subst (λ (o : Option Row). StandsAt o (at (remote_of l k.birth h) parts.device.machine.services.table.rows.entries)) k.settled.there.is
+          (holds.done.stands.holds.table.stands (remote_of l k.birth h)))
+        where
+          go : (o : Option DeviceStream) → at (remote_of l k.birth h) parts.device.machine.services.table.rows.entries ≡ o
+              → StandsAt (Some k.settled.there.row) o
+              → (end : DeviceStream)
+              × ((at (remote_of l k.birth h) parts.device.machine.services.table.rows.entries ≡ Some end) × StandsFor k.settled.there.row end)
+          go None is stands = absurd stands
+          go (Some end) is stands = (end, (is, stands))
+
+  -- ---- what the hub shows
+  links_show : (t : ℕ) → at t parts.hub.links ≡ (state h).links t
+  links_show t =
+      ap (λ (k : Kept). at t k.links) seen
+      ∙ shows (state h).links (state h).devices.drawn (orderly h legal).links.zero (orderly h legal).links.above t
+
+  clients_show : (c : ℕ) → at c parts.hub.clients ≡ (state h).clients c
+  clients_show c =
+      ap (λ (k : Kept). at c k.clients) seen ∙ shows (state h).clients (state h).joined (orderly h legal).clients.zero (orderly h legal).clients.above c
+
+  streams_show : (l : ℕ) → at l parts.hub.streams.streams ≡ (state h).streams l
+  streams_show l =
+      ap (λ (k : Kept). at l k.streams.streams) seen
+      ∙ shows (state h).streams (state h).drawn (orderly h legal).streams.zero (orderly h legal).streams.above l
+
+  first_link : (t : ℕ) (link : Link) → (state h).links t ≡ Some link → t ≡ 1
+  first_link t link is = go t (orderly h legal).links is
+    where
+      go : (n : ℕ) → IsDrawnOnly (state h).devices.drawn (state h).links → (state h).links n ≡ Some link → n ≡ 1
+      go zero only e = absurd (let clash : None ≡ Some link = sym only.zero ∙ e in cc)
+      go (suc n) only e = by (cases_lt (state h).devices.drawn (suc n))
+        where
+          by : ((state h).devices.drawn < suc n) ⊎ (suc n ≤ (state h).devices.drawn) → suc n ≡ 1
+          by (inl past) = absurd (let clash : None ≡ Some link = sym (only.above (suc n) past) ∙ e in cc)
+          by (inr le) = let counts = (counted h).plugged in let one = holds.one in omega (arith, le, counts, one)
+
+  pub is_settled : IsSettled (view_of parts false)
+  is_settled = record {
+    link = λ t link is. (
+        let e = sym (links_show t) ∙ is in
+        link_due link (ap (state h).links (sym (first_link t link e)) ∙ e));
+    clients = λ c client is. client_due c client (sym (clients_show c) ∙ is);
+    device = rests.up;
+    up = λ c client is. client_held c client (sym (clients_show c) ∙ is);
+    streams = λ l x is. stream_rests l x (sym (streams_show l) ∙ is);
+    words = λ c session is. rests.written c session (named c session is) is;
+  }
+    where
+      named : (c : ℕ) (session : Session) → at c parts.sessions.entries ≡ Some session → 0 < c
+      named c session is = (subst (IsKeptAt parts.given h c) is (holds.sessions c)).0.0
+
+  pub is_counted : IsCounted (view_of parts false)
+  is_counted = record {
+    clients = ap (λ (k : Kept). k.joined) seen ∙ ((counted h).joined ∙ holds.came);
+    streams = ap (λ (k : Kept). k.streams.drawn) seen ∙ drawn;
+  }
+    where
+      born_all : length (births h) ≡ parts.given
+      born_all =
+          asks.births
+          ∙ (ap (done_among (λ (c : ℕ). asked c h)) holds.came ∙ all_done (λ (c : ℕ). asked c h) parts.given session_done)
+
+      drawn : (state h).drawn ≡ parts.given
+      drawn =
+          let all = (all_born h legal).drawn in
+          let few = holds.few in
+          let born = born_all in
+          omega (arith, all, few, born)

@@ -1,0 +1,5 @@
+pub mod Session
+pub mod Calls
+pub mod Parts
+pub mod World
+pub mod Settled

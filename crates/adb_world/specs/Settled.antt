@@ -1,0 +1,85 @@
+-- A world in which nothing can move, and in which nothing is left to be moved.
+use Rattle.std.specs.Prelude.{ℕ, ◌≡◌, ◌<◌, Bool, true, false, List, [], Some}
+use Rattle.adb_outside.specs.Tables.{at}
+use Rattle.adb_stream.specs.declared.row.Stream.{Stream}
+use Rattle.adb_stream.specs.Flow.{is_idle, to_hand}
+use Rattle.adb_history.specs.Rows.{Client, Link}
+use Rattle.adb_history.specs.Machine.{History, state}
+use Rattle.adb_hub.specs.Answers.{due_on, offered_to}
+use Rattle.adb_daemon.specs.Daemon.{owed}
+use Rattle.adb_world.specs.Session.{left_of}
+use Rattle.adb_world.specs.Calls.{HasNone}
+use Rattle.adb_world.specs.Parts.{Holds, IsRunning, AreSame}
+use Rattle.adb_world.specs.World.{End, View}
+use Rattle.adb_world.specs.declared.session.Session.{Session}
+use Rattle.adb_world.specs.declared.parts.Parts.{Parts}
+
+-- what holds of each row of a table
+abbrev pub Each : {X : Type 0} → List (ℕ × X) → (X → Type 0) → Type 0
+Each {X} table P = (n : ℕ) (row : X) → at n table ≡ Some row → P row
+
+-- a live stream of the hub has its end at the device; at both ends no write is outstanding, nothing accepted is still to be handed to the client, and
+-- nothing that the service answered is still to be written
+pub record IsAtRest (ends : List (ℕ × End)) (stream : Stream) : Type 0 where
+  pub answered : is_idle stream.part.flow ≡ true
+  pub handed : to_hand stream.part.flow ≡ 0
+  pub far : End
+  pub there : at stream.part.remote ends ≡ Some far
+  pub host : far.host ≡ stream.id
+  pub spoken : far.idle ≡ true
+  pub written : far.left ≡ []
+
+-- Nothing is due on the link or to a client, and the device owes nothing; each live stream is at rest at both ends; nothing is held of a client, to be sent
+-- up; and each session has written all its words.
+pub record IsSettled (world : View) : Type 0 where
+  pub link : Each world.hub.links (λ (link : Link). link.due ≡ [])
+  pub clients : Each world.hub.clients (λ (client : Client). client.due ≡ [])
+  pub device : world.owed ≡ []
+  pub up : Each world.hub.clients (λ (client : Client). client.held ≡ [])
+  pub streams : Each world.hub.streams.streams (IsAtRest world.ends)
+  pub words : Each world.sessions (λ (session : Session). left_of session ≡ [])
+
+-- the hub drew as many clients, and as many streams, as sessions were given
+pub record IsCounted (world : View) : Type 0 where
+  pub clients : world.hub.joined ≡ world.given
+  pub streams : world.hub.streams.drawn ≡ world.given
+
+-- ---- where no step is possible
+-- nothing is due on the link
+abbrev pub NoneDown : Parts → Type 0
+NoneDown parts = (h : History) → Holds h parts → HasNone (due_on ((state h).links 1))
+
+-- the device owes nothing
+abbrev pub NoneUp : Parts → Type 0
+NoneUp parts = owed parts.device ≡ []
+
+-- nothing is due to the sessions behind a number
+abbrev pub NoneHanded : ℕ → Parts → Type 0
+NoneHanded after parts = (h : History) → Holds h parts → (c : ℕ) (session : Session) → after < c → at c parts.sessions.entries ≡ Some session
+    → HasNone (offered_to (state h).devices ((state h).clients c))
+
+-- they have written all their words
+abbrev pub NoneWritten : ℕ → Parts → Type 0
+NoneWritten after parts = (c : ℕ) (session : Session) → after < c → at c parts.sessions.entries ≡ Some session → left_of session ≡ []
+
+-- no step is possible
+pub record Rests (parts : Parts) : Type 0 where
+  pub down : NoneDown parts
+  pub up : NoneUp parts
+  pub handed : NoneHanded 0 parts
+  pub written : NoneWritten 0 parts
+
+-- The parts go on running, with the same sessions.
+pub record GoesOn (old new : Parts) : Type 0 where
+  pub runs : IsRunning new
+  pub same : AreSame old.sessions.entries new.sessions.entries
+  pub given : new.given ≡ old.given
+
+-- A step was made; or none of its kind was possible, and nothing has changed.
+abbrev pub Goes : (Parts → Type 0) → Bool → Parts → Parts → Type 0
+Goes Nothing true old new = GoesOn old new
+Goes Nothing false old new = (new ≡ old) × Nothing old
+
+-- where nothing more is said of the steps that were not possible
+abbrev pub Anything : Parts → Type 0
+Anything parts = Unit {0}

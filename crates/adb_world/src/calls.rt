@@ -1,0 +1,134 @@
+//! What a world asks of its hub and its device, which refuse none of it.
+
+ghost use Rattle.std.specs.Prelude.{◌≡◌, ◌<◌, ◌+◌, ◌-◌, ◌^◌, ◌++◌, ◌∷◌, [], true, false, ℕ, List, IfOk, OnOk};
+ghost use Rattle.adb_capture.specs.declared.entry.Entry.{Entry};
+ghost use Rattle.adb_history.specs.Accepted.{is_drawn};
+ghost use Rattle.adb_history.specs.Kept.{IsLawful};
+ghost use Rattle.adb_history.specs.Machine.{History, state};
+ghost use Rattle.adb_daemon.specs.Daemon.{HasDone};
+ghost use Rattle.adb_hub.specs.Answers.{due_on, offered_to};
+ghost use Rattle.adb_laws_sessions.specs.Model.{model_setting};
+ghost use Rattle.adb_world.specs.Calls.{HasHistory, HasTaken, TakesSoundly, bytes_of};
+ghost use Rattle.adb_world.specs.Parts.{plugging};
+
+use adb_daemon::{Daemon, DaemonError};
+use adb_hub::{Handed, Hub, HubError};
+use adb_outside::{Kind, Text};
+use std::alloc::AllocError;
+
+/// The link of the model device, and its serial.
+const LINK: u32 = 1;
+
+const SERIAL: &[u8] = b"model-1";
+
+/// The device is plugged in.
+pub(crate) fn plug_in(hub: &mut Hub) -> Result<(), AllocError>
+    requires { IsLawful hub.old [] }
+    ensures { OnOk result (IsLawful hub.new (plugging ∷ [])) }
+{
+    match hub.attach(Kind::Local, SERIAL) {
+        Ok(_) => Ok(()),
+        Err(HubError::OutOfMemory) => Err(AllocError),
+        Err(_) => unreachable!(),
+    }
+}
+
+/// The next client comes.
+pub(crate) fn join(hub: &mut Hub) -> Result<u32, AllocError>
+    requires held { HasHistory hub.old }
+    requires on { hub.old.stopped ≡ false }
+    requires room { hub.old.joined < 2 ^ 32 - 1 }
+    ensures number { IfOk result (λ number. number ≡ hub.old.joined + 1) }
+    ensures joined { OnOk result ((h : History) → IsLawful hub.old h
+        → IsLawful hub.new (Entry.Join (hub.old.joined + 1) ∷ h)) }
+{
+    match hub.join() {
+        Ok(number) => Ok(number),
+        Err(HubError::OutOfMemory) => Err(AllocError),
+        Err(_) => unreachable!(),
+    }
+}
+
+/// Bytes come from a client.
+pub(crate) fn read(hub: &mut Hub, client: u32, piece: &[u8]) -> Result<(), AllocError>
+    requires held { HasHistory hub.old }
+    requires on { hub.old.stopped ≡ false }
+    requires drawn { is_drawn hub.old.joined client ≡ true }
+    ensures { OnOk result ((h : History) → IsLawful hub.old h
+        → IsLawful hub.new (Entry.Read client piece.now ∷ h)) }
+{
+    match hub.read(client, piece) {
+        Ok(_) => Ok(()),
+        Err(HubError::OutOfMemory) => Err(AllocError),
+        Err(_) => unreachable!(),
+    }
+}
+
+/// Bytes come on the link.
+pub(crate) fn receive(hub: &mut Hub, piece: &[u8]) -> Result<(), AllocError>
+    requires held { HasHistory hub.old }
+    requires on { hub.old.stopped ≡ false }
+    requires drawn { is_drawn hub.old.devices.drawn 1 ≡ true }
+    ensures { OnOk result ((h : History) → IsLawful hub.old h
+        → IsLawful hub.new (Entry.Recv 1 piece.now ∷ h)) }
+{
+    match hub.recv(LINK, piece) {
+        Ok(_) => Ok(()),
+        Err(HubError::OutOfMemory) => Err(AllocError),
+        Err(_) => unreachable!(),
+    }
+}
+
+/// Hands out the first bytes that are due to a client, at most `max`; `None` where there are none.
+pub(crate) fn put(hub: &mut Hub, client: u32, max: usize) -> Result<Option<Text>, AllocError>
+    requires some { 0 < max }
+    requires held { HasHistory hub.old }
+    requires drawn { is_drawn hub.old.joined client ≡ true }
+    ensures { IfOk result (λ out. (h : History) → IsLawful hub.old h
+        → HasTaken (Entry.Put client) max
+        (offered_to (state h).devices ((state h).clients client)) out h hub.old hub.new) }
+{
+    match hub.put(client, max) {
+        Ok(handed) => Ok(bytes_of(handed)),
+        Err(HubError::OutOfMemory) => Err(AllocError),
+        Err(_) => unreachable!(),
+    }
+}
+
+/// Hands out the first bytes that are due on the link, at most `max`; `None` where there are none.
+pub(crate) fn send(hub: &mut Hub, max: usize) -> Result<Option<Text>, AllocError>
+    requires some { 0 < max }
+    requires held { HasHistory hub.old }
+    requires drawn { is_drawn hub.old.devices.drawn 1 ≡ true }
+    ensures { IfOk result (λ out. (h : History) → IsLawful hub.old h
+        → HasTaken (Entry.Send 1) max (due_on ((state h).links 1)) out h hub.old hub.new) }
+{
+    match hub.send(LINK, max) {
+        Ok(handed) => Ok(bytes_of(handed)),
+        Err(HubError::OutOfMemory) => Err(AllocError),
+        Err(_) => unreachable!(),
+    }
+}
+
+/// What was handed out.
+fn bytes_of(handed: Handed) -> Option<Text>
+    ensures { result ≡ bytes_of handed }
+{
+    match handed {
+        Handed::Bytes(bytes) => Some(bytes),
+        Handed::Nothing | Handed::Done => None,
+    }
+}
+
+/// The device takes bytes in which it finds nothing wrong.
+pub(crate) fn feed(device: &mut Daemon, piece: &[u8]) -> Result<(), AllocError>
+    requires { TakesSoundly device.old piece.now }
+    ensures { OnOk result ((fed taken : List ℕ) → HasDone model_setting fed taken device.old
+        → HasDone model_setting (fed ++ piece.now) taken device.new) }
+{
+    match device.feed(piece) {
+        Ok(()) => Ok(()),
+        Err(DaemonError::OutOfMemory) => Err(AllocError),
+        Err(_) => unreachable!(),
+    }
+}

@@ -1,0 +1,18 @@
+//! A world: one hub, one model device and scripted clients, with nothing outside. Its bytes move in
+//! pieces and in an order that a seed picks, until none can move.
+#![tactic(auto)]
+
+mod calls;
+mod choices;
+mod laws;
+mod moving;
+mod parts;
+mod session;
+mod settling;
+mod steps;
+#[cfg(test)]
+mod tests;
+mod world;
+
+pub use session::Session;
+pub use world::{World, settle};

@@ -1,0 +1,110 @@
+//! What a world is made of.
+
+ghost use Rattle.std.specs.Prelude.{◌≡◌, ◌+◌, ◌^◌, ◌<◌, [], ◌∷◌, ℕ, Some, None, true, is_some, IfOk, OnOk, MatchOption};
+ghost use Rattle.adb_outside.specs.Tables.{at, put_at, Puts};
+ghost use Rattle.adb_capture.specs.declared.entry.Entry.{Entry};
+ghost use Rattle.adb_history.specs.Machine.{History};
+ghost use Rattle.adb_world.specs.Parts.{Adds, Holds, IsHeld, IsRunning, most_sessions, plugging};
+ghost use Rattle.adb_world.specs.Session.{IsNew};
+ghost use Rattle.adb_world.specs.declared.session.Session.{Session};
+
+use crate::calls::{join, plug_in};
+use crate::session::Session;
+use adb_daemon::Daemon;
+use adb_files::Files;
+use adb_hub::Hub;
+use adb_laws_births::what_came_stays;
+use adb_laws_sessions::sessions_ask_for_services;
+use std::alloc::{AllocError, Global};
+use std::collections::BTreeMap;
+
+/// The most bytes of a payload of the model device.
+const MAX_PAYLOAD: u32 = 65_536;
+
+/// A hub, the model device on its link, and the sessions by the numbers of their clients.
+#[derive(Drop)]
+pub struct Parts {
+    pub hub: Hub,
+    pub device: Daemon,
+    pub sessions: BTreeMap<u32, Session>,
+    /// How many sessions were given.
+    pub given: u32,
+}
+
+impl Parts {
+    /// A hub with a device plugged in, and no session. Neither end has said who it is.
+    pub(crate) fn new(alloc: Global) -> Result<Parts, AllocError>
+        ensures holds { IfOk result (Holds (plugging ∷ [])) }
+        ensures sessions { IfOk result (λ parts. parts.sessions.entries ≡ []) }
+        ensures given { IfOk result (λ parts. parts.given ≡ 0) }
+    {
+        let device = Daemon::plain(alloc, Files::new(alloc), MAX_PAYLOAD)?;
+        let mut hub = Hub::new(alloc);
+        plug_in(&mut hub)?;
+        Ok(Parts {
+            hub,
+            device,
+            sessions: BTreeMap::new(alloc),
+            given: 0,
+        })
+    }
+
+    /// Both ends of the link say who they are.
+    pub(crate) fn greet(&mut self) -> Result<(), AllocError>
+        requires { Holds (plugging ∷ []) self.old }
+        ensures runs { OnOk result (IsRunning self.new) }
+        ensures sessions { OnOk result (self.new.sessions ≡ self.old.sessions) }
+        ensures given { OnOk result (self.new.given ≡ self.old.given) }
+    {
+        what_came_stays();
+        self.up(usize::MAX)?;
+        self.down(usize::MAX)?;
+        Ok(())
+    }
+
+    /// A client comes for a session, which is kept under its number.
+    pub(crate) fn join(&mut self, session: Session) -> Result<u32, AllocError>
+        requires held { IsHeld self.old }
+        requires room { self.old.given < most_sessions }
+        requires fresh { IsNew session }
+        ensures number { IfOk result (λ number. number ≡ self.old.given + 1) }
+        ensures added { OnOk result (Adds (self.old.given + 1) session self.old self.new) }
+        ensures holds { OnOk result ((h : History) → Holds h self.old
+            → Holds (Entry.Join (self.old.given + 1) ∷ h) self.new) }
+    {
+        sessions_ask_for_services();
+        let number = join(&mut self.hub)?;
+        add(&mut self.sessions, number, session)?;
+        self.given = number;
+        Ok(number)
+    }
+
+    /// The least number of a session that is greater than this.
+    pub(crate) fn next_session(&self, after: u32) -> Option<u32>
+        ensures { MatchOption result
+            ((c : ℕ) → after < c → c < 2 ^ 32 → at c self.now.sessions.entries ≡ None)
+            (λ number. (after < number) × (is_some (at number self.now.sessions.entries) ≡ true)
+            × ((c : ℕ) → after < c → c < number → at c self.now.sessions.entries ≡ None)) }
+    {
+        if after == u32::MAX {
+            return None;
+        }
+        let (number, _session) = self.sessions.range(after + 1..=u32::MAX).next()?;
+        Some(*number)
+    }
+}
+
+/// A session is kept under a number.
+fn add(
+    sessions: &mut BTreeMap<u32, Session>,
+    number: u32,
+    session: Session,
+) -> Result<(), AllocError>
+    ensures puts { OnOk result
+        (Puts number (Some session) sessions.old.entries sessions.new.entries) }
+    ensures entries { OnOk result
+        (sessions.new.entries ≡ put_at number session sessions.old.entries) }
+{
+    sessions.insert(number, session)?;
+    Ok(())
+}

@@ -1,0 +1,82 @@
+//! Running a world until nothing in it can move.
+
+ghost use Rattle.std.specs.Prelude.{◌<◌, false, IfOk, OnOk};
+ghost use Rattle.adb_world.specs.Parts.{IsRunning};
+ghost use Rattle.adb_world.specs.Settled.{Anything, Goes, GoesOn, IsCounted, IsSettled, Rests};
+ghost use Rattle.adb_world.specs.World.{view_of};
+
+use crate::choices::{Side, Turn, turn_of};
+use crate::laws::worlds_that_rest_are_settled;
+use crate::moving::{down, hand_behind, up, write_behind};
+use crate::parts::Parts;
+use rand_core::SeedableRng;
+use rand_core::utils::NextWord;
+use rand_pcg::Pcg32;
+use std::alloc::AllocError;
+
+/// Makes steps until none is possible, and gives their number.
+pub(crate) fn settle_parts(parts: &mut Parts, seed: u64) -> Result<u64, AllocError>
+    requires { IsRunning parts.old }
+    ensures goes { OnOk result (GoesOn parts.old parts.new) }
+    ensures settled { OnOk result (IsSettled (view_of parts.new false)) }
+    ensures counted { OnOk result (IsCounted (view_of parts.new false)) }
+{
+    worlds_that_rest_are_settled();
+    let mut words = Pcg32::seed_from_u64(seed);
+    for steps in 0..u64::MAX {
+        let side = words.next_word();
+        let turn = turn_of(side, words.next_word(), parts.given);
+        if !step(parts, turn)? {
+            return Ok(steps);
+        }
+    }
+    Err(AllocError)
+}
+
+/// One step, where one is possible.
+fn step(parts: &mut Parts, turn: Turn) -> Result<bool, AllocError>
+    requires runs { IsRunning parts.old }
+    requires some { 0 < turn.most }
+    ensures { IfOk result (λ moved. Goes Rests moved parts.old parts.new) }
+{
+    if first_step(parts, turn)? {
+        return Ok(true);
+    }
+    if down(parts, turn.most)? {
+        return Ok(true);
+    }
+    if up(parts, turn.most)? {
+        return Ok(true);
+    }
+    if hand_behind(parts, 0, turn.most)? {
+        return Ok(true);
+    }
+    let moved = write_behind(parts, 0, turn.most)?;
+    Ok(moved)
+}
+
+/// A step of the kind that was chosen, where one is possible.
+fn first_step(parts: &mut Parts, turn: Turn) -> Result<bool, AllocError>
+    requires runs { IsRunning parts.old }
+    requires some { 0 < turn.most }
+    ensures { IfOk result (λ moved. Goes Anything moved parts.old parts.new) }
+{
+    match turn.first {
+        Side::Down => {
+            let moved = down(parts, turn.most)?;
+            Ok(moved)
+        }
+        Side::Up => {
+            let moved = up(parts, turn.most)?;
+            Ok(moved)
+        }
+        Side::Hand => {
+            let moved = hand_behind(parts, turn.after, turn.most)?;
+            Ok(moved)
+        }
+        Side::Write => {
+            let moved = write_behind(parts, turn.after, turn.most)?;
+            Ok(moved)
+        }
+    }
+}
