@@ -1,0 +1,78 @@
+//! What a server is given of the outside.
+
+use adb_binder::Binder;
+use adb_capture::Recorder;
+use adb_connections::{Bell, Door, Gate};
+
+/// What became of listening.
+#[derive(Drop)]
+pub enum Listening<D: Drop, B: Drop> {
+    /// Clients come in at this door, whose bell this is, at this port, which is not 0.
+    Here(D, B, u16),
+    /// The port could not be listened on.
+    Failed,
+}
+
+/// Who runs the jobs of a server.
+#[derive(Drop)]
+pub enum Staff {
+    /// Threads, one for each job while it runs.
+    Threads,
+    /// Nobody else: each job is run within the call that gives it, and those of the calls whose
+    /// numbers, counted from 1, are in the list are handed back.
+    Inline { failing: Vec<u64> },
+}
+
+/// What a server is given of the outside.
+pub trait Yard: Drop {
+    ghost use Rattle.std.specs.Prelude.{◌≡◌, ℕ};
+    ghost use Rattle.adb_outside.specs.Outside.{Counts};
+    ghost use Rattle.adb_desk_log.specs.Log.{IsFresh};
+    ghost use Rattle.adb_server.specs.Yard.{FitsPort, HasDoor, IsSteadyStaff, is_deaf};
+
+    type Door: Door;
+
+    type Bell: Bell;
+
+    type Keeper: Recorder + Send + 'static;
+
+    type Ports: Binder + Send + Drop + 'static;
+
+    type Gate: Gate + Send + Drop + 'static;
+
+    /// How many of its calls failed. A count at its last value counts as having risen.
+    ghost faults: { Self → ℕ };
+
+    /// Neither it nor what it gives ever fails.
+    ghost steady: { Self → Type 0 };
+
+    /// No door that it gives ever answers `Closed`.
+    ghost lasting: { Self → Type 0 };
+
+    /// Listens on a port of this machine, any that is free where `port` is 0. The count of faults
+    /// rises at `Failed`, and stands elsewhere.
+    fn listen(&mut self, port: u16) -> Listening<Self::Door, Self::Bell>
+        ensures fits { FitsPort port result }
+        ensures counts { Counts steady faults self.old self.new (is_deaf result) }
+        ensures steady { steady self.old → HasDoor Self.Door.steady result }
+        ensures lasting { lasting self.old → HasDoor Self.Door.lasting result };
+
+    /// What keeps the history, where that is wanted, and else keeps nothing.
+    fn recorder(&mut self, wanted: bool) -> Self::Keeper
+        ensures fresh { (Self.Keeper.faults result ≡ 0) × IsFresh (Self.Keeper.told result) }
+        ensures counts { Counts steady faults self.old self.new false }
+        ensures steady { steady self.old → Self.Keeper.steady result };
+
+    /// Who runs its jobs.
+    fn staff(&mut self) -> Staff
+        ensures counts { Counts steady faults self.old self.new false }
+        ensures steady { steady self.old → IsSteadyStaff result };
+
+    /// What binds the ports of the forwards of one more client.
+    fn ports(&mut self) -> Self::Ports
+        ensures counts { Counts steady faults self.old self.new false };
+
+    /// The gate of one more worker.
+    fn gate(&mut self) -> Self::Gate
+        ensures counts { Counts steady faults self.old self.new false };
+}
