@@ -7,6 +7,7 @@ use std::alloc::AllocError;
 
 /// The replies to the requests of a session, and what its service answers.
 const SHELL: &[u8] = b"OKAYOKAY\x01\x03\x00\x00\x00hi\n\x03\x01\x00\x00\x00\x00";
+
 const ECHO: &[u8] = b"OKAYOKAYabc";
 
 /// The most steps that the bytes of these two sessions allow.
@@ -28,8 +29,10 @@ fn are_answered(world: &mut World, seed: u64) -> Result<bool, AllocError>
     let shell = world.start(b"shell,v2,raw:echo hi", b"")?;
     let echo = world.start(b"echo:", b"abc")?;
     let steps = settle(world, seed)?;
-    Ok(steps <= MOST
-        && world.got(shell) == Some(SHELL)
-        && world.got(echo) == Some(ECHO)
-        && world.got(3).is_none())
+    Ok(
+        steps <= MOST
+            && world.got(shell) == Some(SHELL)
+            && world.got(echo) == Some(ECHO)
+            && world.got(3).is_none(),
+    )
 }
