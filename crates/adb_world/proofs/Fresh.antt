@@ -73,7 +73,8 @@ module _ (h : History) (parts : Parts) (holds : Holds h parts) (asks : AsksForSe
         none_put h holds.lawful.legal number (omega (arith, came)) ∙ sym (ap (λ (s : Session). s.got) fresh.is));
   }
 
-  pub joined_by : (hub : Kept) (new : Parts) → parts.given < most_sessions → IsLawful hub (Join number ∷ h) → new.hub ≡ hub → new.device ≡ parts.device → new.given ≡ number
+  pub joined_by : (hub : Kept) (new : Parts) → parts.given < most_sessions → IsLawful hub (Join number ∷ h) → new.hub ≡ hub
+      → new.device ≡ parts.device → new.given ≡ number
       → Puts number (Some session) parts.sessions.entries new.sessions.entries → Holds (Join number ∷ h) new
   joined_by hub new room lawful hub_is device_is given_is puts = record {
     lawful = subst (λ (k : Kept). IsLawful k (Join number ∷ h)) (sym hub_is) lawful;

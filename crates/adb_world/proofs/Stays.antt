@@ -1,5 +1,6 @@
 -- What entries leave of bytes, numbers and sessions.
-use Rattle.std.specs.Prelude.{ℕ, ◌+◌, ◌≡◌, ◌≢◌, ◌≤◌, ◌<◌, Bool, true, false, cond, nat_eq, List, [], ◌∷◌, ◌++◌, length, take, drop, Option, Some, None, option_map}
+use Rattle.std.specs.Prelude.{ℕ, ◌+◌, ◌≡◌, ◌≢◌, ◌≤◌, ◌<◌, Bool, true, false, cond, nat_eq}
+use Rattle.std.specs.Prelude.{List, [], ◌∷◌, ◌++◌, length, take, drop, Option, Some, None, option_map}
 use Rattle.std.proofs.Common.{refl, sym, ◌∙◌, ap, subst, arith, ◌⊎◌, inl, inr, append_assoc}
 use Rattle.std.proofs.lemmas.Bool.{cases_eq, eq-eqb, ne_eqb}
 use Rattle.std.proofs.lemmas.List.{length-take, length-drop, take-append-drop}
@@ -30,7 +31,8 @@ changed_session : (change : Session → Session) → IsChange change → (o : Op
 changed_session change is None = tt
 changed_session change is (Some session) = (is.service session, is.words session)
 
-pub changed_same : (number : ℕ) (change : Session → Session) → IsChange change → (old new : List (ℕ × Session)) → Changes number change old new → AreSame old new
+pub changed_same : (number : ℕ) (change : Session → Session) → IsChange change → (old new : List (ℕ × Session)) → Changes number change old new
+    → AreSame old new
 changed_same number change is old new puts c = go (cases_eq c number)
   where
     go : (c ≡ number) ⊎ (c ≢ number) → IsSame (at c old) (at c new)
