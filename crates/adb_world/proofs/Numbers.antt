@@ -35,5 +35,5 @@ next_is after first last number sessions session begins ends inside found least 
     none c more less (Some s) is =
         let le = le_of number c
         (least c (to_le first c (omega (arith, begins, more)), to_le c last (omega (arith, to, less)))
-            (subst (λ (x : Option Session). is_some x ≡ true) (sym is) refl)) in
+        (subst (λ (x : Option Session). is_some x ≡ true) (sym is) refl)) in
         absurd (omega (arith, le, less))
