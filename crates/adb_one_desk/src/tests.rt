@@ -5,9 +5,9 @@ ghost use Rattle.adb_desk_log.specs.declared.marks.TheConstants.{ALL_PARTS};
 
 use crate::OneDesk;
 use adb_capture::MemoryRecorder;
-use adb_desk_log::{ALL_PARTS, DeskError, Marks};
+use adb_desk_log::{ALL_PARTS, ClientIn, ClientOut, DeskError, LinkIn, Marks};
 use adb_hall::Hall;
-use adb_hub::{Handed, HubError, Life, MAX_HELD, Room};
+use adb_hub::{Handed, Life, MAX_HELD, Room};
 use adb_outside::{Cause, Kind};
 use std::alloc::{AllocError, Global};
 use std::marker::Brand;
@@ -22,39 +22,47 @@ fn hands_out(answer: &Result<Handed, DeskError>, bytes: &[u8]) -> bool {
     }
 }
 
-/// A client that asks for the version is answered, and what it moved is counted once its passes are
-/// back.
-fn counts_what_it_moved<E: Ledger, M: Ledger, K: Marks>(
-    mut hall: OneDesk<MemoryRecorder, E, M, K>,
+/// A client that asks for the version is answered.
+fn asks_version<E: Ledger, M: Ledger, K: Marks>(
+    hall: &mut OneDesk<MemoryRecorder, E, M, K>,
+    reading: &mut ClientIn<E, M, K>,
+    writing: &mut ClientOut<E, M, K>,
 ) -> bool {
-    let Ok((mut reading, mut writing)) = hall.join() else {
-        return false;
-    };
-    let lives = matches!(hall.read(&mut reading, b"000Chost:version"), Ok(Life::Live));
-    let put = hands_out(&hall.put(&mut writing, MAX_HELD), b"OKAY00040029");
-    let done = matches!(hall.put(&mut writing, MAX_HELD), Ok(Handed::Done));
-    let out = hall.entries().is_none() && hall.moved().is_none();
-    hall.retire_client_in(reading);
-    hall.retire_client_out(writing);
-    let kept = hall.recorder().entries().len() == 3;
-    lives && put && done && out && kept && hall.entries() == Some(3) && hall.moved() == Some(28)
+    hall.read(reading, b"000Chost:version") == Ok(Life::Live)
+        && hands_out(&hall.put(writing, MAX_HELD), b"OKAY00040029")
+        && hall.entries().is_none()
 }
 
-/// What is more than may be held is refused for now, and nothing changes; the first bytes that may
-/// be held are taken.
+/// What a client moved is counted once its passes are back.
+fn counts_what_it_moved<E: Ledger, M: Ledger, K: Marks>(
+    hall: &mut OneDesk<MemoryRecorder, E, M, K>,
+    reading: ClientIn<E, M, K>,
+    writing: ClientOut<E, M, K>,
+) -> bool {
+    hall.retire_client_in(reading);
+    hall.retire_client_out(writing);
+    hall.entries() == Some(3) && hall.moved() == Some(28)
+}
+
+/// What is more than may be held is refused for now, and no entry is made.
 fn holds_so_much<E: Ledger, M: Ledger, K: Marks>(
-    mut hall: OneDesk<MemoryRecorder, E, M, K>,
+    hall: &mut OneDesk<MemoryRecorder, E, M, K>,
+    reading: &mut ClientIn<E, M, K>,
     piece: &[u8],
 ) -> bool {
-    let Ok((mut reading, _writing)) = hall.join() else {
-        return false;
-    };
-    let first = matches!(hall.room(&mut reading), Ok(Room::Bytes(MAX_HELD)));
-    let late = matches!(hall.read(&mut reading, piece), Err(DeskError::Later));
-    let front = &piece[..piece.len().min(1_000)];
-    let lives = matches!(hall.read(&mut reading, front), Ok(Life::Live));
-    let rest = matches!(hall.room(&mut reading), Ok(Room::Bytes(n)) if n + front.len() == MAX_HELD);
-    first && late && lives && rest && hall.recorder().entries().len() == 2
+    hall.read(reading, piece) == Err(DeskError::Later)
+        && hall.recorder().entries().len() == 1
+        && hall.room(reading) == Ok(Room::Bytes(MAX_HELD))
+}
+
+/// A recorder that fails shuts the hall: every later call has that answer.
+fn is_shut_by_its_recorder<E: Ledger, M: Ledger, K: Marks>(
+    hall: &mut OneDesk<MemoryRecorder, E, M, K>,
+    reading: &mut ClientIn<E, M, K>,
+) -> bool {
+    hall.read(reading, b"x") == Err(DeskError::RecordFault)
+        && hall.end(reading, Cause::Eof) == Err(DeskError::RecordFault)
+        && hall.over() == Some(DeskError::RecordFault)
 }
 
 /// The first packet of a device that takes 4,096 bytes at once.
@@ -63,76 +71,69 @@ const CNXN: &[u8] = b"CNXN\x01\0\0\x01\0\x10\0\0\x08\0\0\0\0\0\0\0\xbc\xb1\xa7\x
 /// What it answers a stream that is asked for first, and a write of that.
 const OKAY: &[u8] = b"OKAY\x07\0\0\0\x01\0\0\0\0\0\0\0\0\0\0\0\xb0\xb4\xbe\xa6";
 
-/// While a write waits for its answer as much is held as may be; the answer makes room for the next
-/// write.
-fn frees_what_goes_up<E: Ledger, M: Ledger, K: Marks>(
-    mut hall: OneDesk<MemoryRecorder, E, M, K>,
+/// A client opens a stream to a device, and sends until a write is out and as much is held as may be.
+fn fills_a_stream<E: Ledger, M: Ledger, K: Marks>(
+    hall: &mut OneDesk<MemoryRecorder, E, M, K>,
+    link: &mut LinkIn<E, M, K>,
+    reading: &mut ClientIn<E, M, K>,
     piece: &[u8],
 ) -> bool {
-    let Ok((mut link, _sender)) = hall.attach(Kind::Usb, b"emu1") else {
-        return false;
-    };
-    let Ok((mut reading, _writing)) = hall.join() else {
-        return false;
-    };
-    let met = hall.recv(&mut link, CNXN).is_ok();
-    let asked = hall
-        .read(&mut reading, b"0012host:transport-any0009shell:cat")
-        .is_ok();
-    let opened = hall.recv(&mut link, OKAY).is_ok();
-    let wrote = hall
-        .read(&mut reading, &piece[..piece.len().min(4_096)])
-        .is_ok();
-    let held = hall
-        .read(&mut reading, &piece[..piece.len().min(MAX_HELD)])
-        .is_ok();
-    let kept = hall.recorder().entries().len();
-    let late = matches!(hall.read(&mut reading, b"x"), Err(DeskError::Later));
-    let full = matches!(hall.room(&mut reading), Ok(Room::Later));
-    let same = hall.recorder().entries().len() == kept;
-    let acked = hall.recv(&mut link, OKAY).is_ok();
-    let room = matches!(hall.room(&mut reading), Ok(Room::Bytes(4_096)));
-    let more = hall.read(&mut reading, b"x").is_ok();
-    met && asked && opened && wrote && held && late && full && same && acked && room && more
+    hall.recv(link, CNXN).is_ok()
+        && hall
+            .read(reading, b"0012host:transport-any0009shell:cat")
+            .is_ok()
+        && hall.recv(link, OKAY).is_ok()
+        && hall.read(reading, &piece[..piece.len().min(4_096)]).is_ok()
+        && hall
+            .read(reading, &piece[..piece.len().min(MAX_HELD)])
+            .is_ok()
 }
 
-/// A recorder that fails shuts the hall: every later call has that answer.
-fn is_shut_by_its_recorder<E: Ledger, M: Ledger, K: Marks>(
-    mut hall: OneDesk<MemoryRecorder, E, M, K>,
+/// While that write is out nothing more is taken; its answer makes room for the next write.
+fn frees_what_goes_up<E: Ledger, M: Ledger, K: Marks>(
+    hall: &mut OneDesk<MemoryRecorder, E, M, K>,
+    link: &mut LinkIn<E, M, K>,
+    reading: &mut ClientIn<E, M, K>,
 ) -> bool {
-    let Ok((mut reading, mut writing)) = hall.join() else {
-        return false;
-    };
-    let first = matches!(hall.read(&mut reading, b"x"), Err(DeskError::RecordFault));
-    let put = matches!(hall.put(&mut writing, 1), Err(DeskError::RecordFault));
-    let join = matches!(hall.join(), Err(DeskError::RecordFault));
-    hall.halt();
-    let over = hall.over() == Some(DeskError::RecordFault);
-    first && put && join && over && hall.recorder().entries().len() == 1
+    hall.read(reading, b"x") == Err(DeskError::Later)
+        && hall.room(reading) == Ok(Room::Later)
+        && hall.recv(link, OKAY).is_ok()
+        && hall.room(reading) == Ok(Room::Bytes(4_096))
 }
 
-/// Devices come and go, and a kill ends the hall.
-fn is_stopped_by_a_kill<E: Ledger, M: Ledger, K: Marks>(
-    mut hall: OneDesk<MemoryRecorder, E, M, K>,
+/// Tries a case with the passes of the first client.
+fn holds_of_a_client<E: Ledger, M: Ledger, K: Marks>(
+    hall: &mut OneDesk<MemoryRecorder, E, M, K>,
+    case: Case,
+    piece: &[u8],
 ) -> bool {
-    let bad = matches!(
-        hall.attach(Kind::Usb, b"a b"),
-        Err(DeskError::Hub(HubError::BadSerial))
-    );
-    let Ok((mut link, mut sender)) = hall.attach(Kind::Usb, b"emu1") else {
+    let Ok((reading, writing)) = hall.join() else {
         return false;
     };
-    let hello = hands_out(&hall.send(&mut sender, 4), b"CNXN");
-    let gone = matches!(hall.detach(&mut link, Cause::Eof), Ok(Life::Gone));
-    let Ok((mut reading, mut writing)) = hall.join() else {
+    let (mut reading, mut writing) = (reading, writing);
+    match case {
+        Case::Counts => {
+            let asked = asks_version(hall, &mut reading, &mut writing);
+            let counted = counts_what_it_moved(hall, reading, writing);
+            asked && counted
+        }
+        Case::Holds => holds_so_much(hall, &mut reading, piece),
+        Case::Shuts => is_shut_by_its_recorder(hall, &mut reading),
+        Case::Frees => frees_by_a_device(hall, &mut reading, piece),
+    }
+}
+
+/// Tries what a device's answer makes of what is held.
+fn frees_by_a_device<E: Ledger, M: Ledger, K: Marks>(
+    hall: &mut OneDesk<MemoryRecorder, E, M, K>,
+    reading: &mut ClientIn<E, M, K>,
+    piece: &[u8],
+) -> bool {
+    let Ok((link, _sender)) = hall.attach(Kind::Usb, b"emu1") else {
         return false;
     };
-    let open = hall.over().is_none();
-    let killed = matches!(hall.read(&mut reading, b"0009host:kill"), Ok(Life::Live));
-    let over = hall.over() == Some(DeskError::Hub(HubError::Stopped));
-    let put = hands_out(&hall.put(&mut writing, 1_000), b"OKAY");
-    let refused = matches!(hall.join(), Err(DeskError::Hub(HubError::Stopped)));
-    bad && hello && gone && open && killed && over && put && refused
+    let mut link = link;
+    fills_a_stream(hall, &mut link, reading, piece) && frees_what_goes_up(hall, &mut link, reading)
 }
 
 /// What is tried.
@@ -142,7 +143,6 @@ enum Case {
     Holds,
     Frees,
     Shuts,
-    Stops,
 }
 
 /// Tries a case over a recorder that fails at the calls of these numbers.
@@ -162,15 +162,10 @@ fn tried<E: Ledger, M: Ledger, K: Marks>(
         × (marks.parts ≡ ALL_PARTS) }
     requires unsteady { K.steady → ⊥ }
 {
+    let piece = vec![in alloc; b'f'; MAX_HELD + 1]?;
     let recorder = MemoryRecorder::new(alloc, Vec::from_slice(alloc, failing)?);
-    let hall = OneDesk::<MemoryRecorder, E, M, K>::new(alloc, recorder, entries, moved, marks);
-    Ok(match case {
-        Case::Counts => counts_what_it_moved(hall),
-        Case::Holds => holds_so_much(hall, &vec![in alloc; b'f'; MAX_HELD + 1]?),
-        Case::Frees => frees_what_goes_up(hall, &vec![in alloc; b'f'; MAX_HELD + 1]?),
-        Case::Shuts => is_shut_by_its_recorder(hall),
-        Case::Stops => is_stopped_by_a_kill(hall),
-    })
+    let mut hall = OneDesk::<MemoryRecorder, E, M, K>::new(alloc, recorder, entries, moved, marks);
+    Ok(holds_of_a_client(&mut hall, case, &piece))
 }
 
 fn holds(alloc: Global, failing: &[u64], case: Case) -> Result<bool, AllocError> {
@@ -191,6 +186,5 @@ fn answers_keeps_and_counts(rt: HostRuntime) -> Result<(), Fail> {
     assert!(rt; holds(alloc, &[], Case::Holds)?);
     assert!(rt; holds(alloc, &[], Case::Frees)?);
     assert!(rt; holds(alloc, &[2], Case::Shuts)?);
-    assert!(rt; holds(alloc, &[], Case::Stops)?);
     Ok(())
 }
