@@ -50,7 +50,7 @@ fn holds_so_much<E: Ledger, M: Ledger, K: Marks>(
     reading: &mut ClientIn<E, M, K>,
     piece: &[u8],
 ) -> bool {
-    hall.read(reading, piece) == Err(DeskError::Later)
+    hall.read(reading, &piece[..piece.len().min(MAX_HELD + 1)]) == Err(DeskError::Later)
         && hall.recorder().entries().len() == 1
         && hall.room(reading) == Ok(Room::Bytes(MAX_HELD))
 }
