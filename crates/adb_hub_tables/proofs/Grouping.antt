@@ -16,7 +16,8 @@ use Rattle.adb_hub_tables.specs.Marked.{bit, marks_of, with_mark, without_mark, 
 use Rattle.adb_hub_tables.specs.Marked.{mark, first_at, first_mark, AreBlocks, IsMarked, AreGrouped}
 use Rattle.std.proofs.lemmas.Bool.{cases_eq}
 use Rattle.adb_outside.proofs.TableLaws.{at_head, at_tail, past_head}
-use Rattle.adb_hub_tables.proofs.Marking.{leaves, left_in, low, cleared, unnamed, touched, lowered}
+use Rattle.adb_hub_tables.proofs.Marking.{leaves, left_in, low}
+use Rattle.adb_hub_tables.proofs.MarkedRows.{cleared, unnamed, touched, lowered}
 use Rattle.adb_hub_tables.proofs.FirstMark.{IsLeast, first_is_least, nobody, seen}
 
 pub high_below : (number : ℕ) → number < 2 ^ 32 → number / 64 < 2 ^ 32

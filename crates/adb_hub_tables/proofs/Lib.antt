@@ -1,4 +1,5 @@
 mod Marking
+mod MarkedRows
 mod FirstMark
 mod TouchedRows
 mod Grouping

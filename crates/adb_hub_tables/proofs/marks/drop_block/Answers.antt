@@ -1,4 +1,4 @@
-use Rattle.adb_hub_tables.proofs.Marking.{dropped}
+use Rattle.adb_hub_tables.proofs.MarkedRows.{dropped}
 use Rattle.adb_hub_tables.proofs.marks.drop_block.Goals as goal
 
 pub returns-clause-grouped : goal.returns-clause-grouped

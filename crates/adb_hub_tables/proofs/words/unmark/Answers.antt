@@ -3,7 +3,7 @@ use Rattle.std.specs.Map.{set_value}
 use Rattle.std.specs.Ordering.{nat_cmp}
 use Rattle.std.specs.BTreeMap.{is_at}
 use Rattle.std.proofs.Common.{◌/◌}
-use Rattle.adb_hub_tables.proofs.Marking.{lighter}
+use Rattle.adb_hub_tables.proofs.MarkedRows.{lighter}
 use Rattle.adb_hub_tables.proofs.words.unmark.Goals as goal
 
 pub returns-in-Some-clause-falls : goal.returns-in-Some-clause-falls

@@ -1,6 +1,6 @@
 use Rattle.std.proofs.Common.{◌/◌}
 use Rattle.adb_hub_tables.proofs.Grouping.{high_below}
-use Rattle.adb_hub_tables.proofs.Marking.{alone}
+use Rattle.adb_hub_tables.proofs.MarkedRows.{alone}
 use Rattle.adb_hub_tables.proofs.marks.Marks.keep_only.Goals as goal
 
 pub invariant_of-self : goal.invariant_of-self

@@ -2,7 +2,8 @@ use Rattle.std.proofs.Common.{ap, subst, sym, ◌∙◌, refl, ◌/◌}
 use Rattle.adb_outside.specs.Tables.{at}
 use Rattle.adb_hub_tables.specs.Marked.{AreGrouped, Holds}
 use Rattle.adb_hub_tables.proofs.Grouping.{high_below}
-use Rattle.adb_hub_tables.proofs.Marking.{grown, dropped, seen_known}
+use Rattle.adb_hub_tables.proofs.Marking.{seen_known}
+use Rattle.adb_hub_tables.proofs.MarkedRows.{grown, dropped}
 use Rattle.adb_hub_tables.proofs.marks.Marks.know.Goals as goal
 
 pub invariant_of-self-in-Ok : goal.invariant_of-self-in-Ok

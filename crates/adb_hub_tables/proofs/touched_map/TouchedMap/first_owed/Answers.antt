@@ -4,7 +4,7 @@ use Rattle.adb_hub_tables.specs.First.{first_number}
 use Rattle.adb_hub_tables.specs.declared.words.Kind.TheVariants.{Due}
 use Rattle.adb_hub_tables.specs.Marked.{mark, weight, IsMarked}
 use Rattle.adb_hub_tables.proofs.FirstMark.{IsLeast, first_is_least, nobody, somebody, seen}
-use Rattle.adb_hub_tables.proofs.Marking.{cleared}
+use Rattle.adb_hub_tables.proofs.MarkedRows.{cleared}
 use Rattle.adb_hub_tables.proofs.touched_map.TouchedMap.first_owed.Goals as goal
 
 pub returns-then-is_owed-clause-first : goal.returns-then-is_owed-clause-first

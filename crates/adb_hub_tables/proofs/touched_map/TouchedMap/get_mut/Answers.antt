@@ -1,7 +1,7 @@
 use Rattle.std.proofs.Common.{subst, sym, ap}
 use Rattle.adb_hub_tables.specs.Marked.{IsMarked}
 use Rattle.adb_hub_tables.specs.declared.words.Kind.TheVariants.{Due}
-use Rattle.adb_hub_tables.proofs.Marking.{lent, unlent}
+use Rattle.adb_hub_tables.proofs.MarkedRows.{lent, unlent}
 use Rattle.adb_hub_tables.proofs.touched_map.TouchedMap.get_mut.Goals as goal
 
 pub invariant_of-self-lent : goal.invariant_of-self-lent

@@ -1,6 +1,6 @@
 use Rattle.std.proofs.Common.{ap, ◌∙◌, refl}
 use Rattle.adb_outside.specs.Tables.{at}
-use Rattle.adb_hub_tables.proofs.Marking.{grown, lost}
+use Rattle.adb_hub_tables.proofs.MarkedRows.{grown, lost}
 use Rattle.adb_hub_tables.proofs.touched_map.TouchedMap.insert.Goals as goal
 
 pub invariant_of-self-in-Ok : goal.invariant_of-self-in-Ok

@@ -1,4 +1,4 @@
-use Rattle.adb_hub_tables.proofs.Marking.{alone}
+use Rattle.adb_hub_tables.proofs.MarkedRows.{alone}
 use Rattle.adb_hub_tables.proofs.touched_map.TouchedMap.keep_only.Goals as goal
 
 pub invariant_of-self : goal.invariant_of-self

@@ -1,4 +1,4 @@
-use Rattle.adb_hub_tables.proofs.Marking.{names}
+use Rattle.adb_hub_tables.proofs.MarkedRows.{names}
 use Rattle.adb_hub_tables.proofs.touched_map.TouchedMap.next_touched.Goals as goal
 
 pub invariant_of-self : goal.invariant_of-self

@@ -1,4 +1,4 @@
-use Rattle.adb_hub_tables.proofs.Marking.{has_left}
+use Rattle.adb_hub_tables.proofs.MarkedRows.{has_left}
 use Rattle.adb_hub_tables.proofs.touched_map.TouchedMap.remove.Goals as goal
 
 pub invariant_of-self : goal.invariant_of-self
