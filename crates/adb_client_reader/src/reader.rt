@@ -129,7 +129,7 @@ fn turn<E: Ledger, M: Ledger, K: Marks, H: Hall<E, M, K>, I: PortIn, B: Binder, 
 /// Reads on, in pieces of up to `MAX_PIECE` bytes. It is a function of its own so that a client
 /// with little to say pays for no large buffer.
 fn read_bulk<
-    W: Wait + Copy + Send + Sync + Drop + 'static,
+    W: Wait + Copy + Drop,
     E: Ledger,
     M: Ledger,
     K: Marks,
@@ -173,7 +173,7 @@ fn read_bulk<
 /// It begins with a small buffer on its stack and takes a large one where a read filled that: no
 /// memory can be wanting for a buffer, and a client that asks one question costs no large one.
 pub fn read_client<
-    W: Wait + Copy + Send + Sync + Drop + 'static,
+    W: Wait + Copy + Drop,
     E: Ledger,
     M: Ledger,
     K: Marks,

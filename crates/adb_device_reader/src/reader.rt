@@ -78,7 +78,7 @@ fn turn<E: Ledger, M: Ledger, K: Marks, H: Hall<E, M, K>, G: Gate>(
 /// is passed at the place of a device's reader, before each piece. The pass that comes back has its
 /// shares and its mark.
 pub fn read_device<
-    W: Wait + Copy + Send + Sync + Drop + 'static,
+    W: Wait + Copy + Drop,
     E: Ledger,
     M: Ledger,
     K: Marks,

@@ -18,7 +18,7 @@ impl<
     E: Ledger,
     M: Ledger,
     K: Marks,
-    W: Wait + Copy + Send + Sync + Drop + 'static,
+    W: Wait + Copy + Drop,
 > Hall<E, M, K> for LockedHall<R, E, M, K, W> {
     ghost use Rattle.std.specs.Prelude.{None};
 

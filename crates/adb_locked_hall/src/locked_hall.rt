@@ -33,7 +33,7 @@ pub struct LockedHall<
     E: Ledger,
     M: Ledger,
     K: Marks,
-    W: Wait + Copy + Send + Sync + Drop + 'static,
+    W: Wait + Copy + Drop,
 > {
     pub(crate) rt: W,
     pub(crate) alloc: Global,
@@ -46,7 +46,7 @@ impl<
     E: Ledger,
     M: Ledger,
     K: Marks,
-    W: Wait + Copy + Send + Sync + Drop + 'static,
+    W: Wait + Copy + Drop,
 > Model for LockedHall<R, E, M, K, W> {
     ghost use Rattle.std.specs.Prelude.{Bool, Option};
 
@@ -60,7 +60,7 @@ impl<
     E: Ledger,
     M: Ledger,
     K: Marks,
-    W: Wait + Copy + Send + Sync + Drop + 'static,
+    W: Wait + Copy + Drop,
 > LockedHall<R, E, M, K, W> {
     /// The first handle of a desk without entries, over a recorder that has kept nothing and has not
     /// failed.

@@ -102,7 +102,7 @@ fn turn<E: Ledger, M: Ledger, K: Marks, H: Hall<E, M, K>, O: PortOut, G: Gate>(
 /// unless the hall refuses that. After a kill it goes on until the client is gone, so the reply of
 /// the kill itself is written. It passes the gate at `Place::ClientWriter` before each write.
 pub fn write_client<
-    W: Wait + Copy + Send + Sync + Drop + 'static,
+    W: Wait + Copy + Drop,
     E: Ledger,
     M: Ledger,
     K: Marks,

@@ -124,7 +124,7 @@ fn turn<E: Ledger, M: Ledger, K: Marks, H: Hall<E, M, K>, G: Gate>(
 /// hall refuses that. After a kill it goes on until the link is gone. It passes the gate at
 /// `Place::DeviceWriter` before each write.
 pub fn write_device<
-    W: Wait + Copy + Send + Sync + Drop + 'static,
+    W: Wait + Copy + Drop,
     E: Ledger,
     M: Ledger,
     K: Marks,
