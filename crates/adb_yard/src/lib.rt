@@ -1,0 +1,8 @@
+//! What a server, and a client tool, is given of the outside.
+#![tactic(auto)]
+
+mod no_yard;
+mod yard;
+
+pub use no_yard::NoYard;
+pub use yard::{Dialled, Listening, Staff, Yard};

@@ -1,0 +1,86 @@
+//! No yard.
+
+ghost use Rattle.std.specs.Prelude.{◌≡◌, ◌<◌, false};
+ghost use Rattle.adb_outside.specs.Outside.{Counts};
+ghost use Rattle.adb_desk_log.specs.Log.{IsFresh};
+ghost use Rattle.adb_yard.specs.Yard.{FitsPort, is_deaf, is_unreached};
+
+use crate::yard::{Dialled, Listening, Staff, Yard};
+use adb_binder::MemoryBinder;
+use adb_capture::NullRecorder;
+use adb_connections::{MemoryDoor, MemoryIn, MemoryOut, OpenGate, SilentBell};
+use std::alloc::Global;
+
+/// The yard of a program that neither serves nor dials: it counts each try as a fault.
+#[derive(Drop)]
+pub struct NoYard {
+    alloc: Global,
+    faults: u64,
+}
+
+impl NoYard {
+    /// It takes no memory.
+    pub fn new(alloc: Global) -> NoYard
+        ensures { result.faults ≡ 0 }
+    {
+        NoYard { alloc, faults: 0 }
+    }
+
+    fn count_fault(&mut self)
+        ensures counts { Counts (λ yard. ⊥) (λ yard. yard.faults) self.old self.new true }
+    {
+        self.faults = self.faults.saturating_add(1);
+    }
+}
+
+impl Yard for NoYard {
+    type Door = MemoryDoor<MemoryIn, MemoryOut>;
+
+    type Bell = SilentBell;
+
+    type Keeper = NullRecorder;
+
+    type Ports = MemoryBinder;
+
+    type Gate = OpenGate;
+
+    type DialIn = MemoryIn;
+
+    type DialOut = MemoryOut;
+
+    ghost faults = { λ yard. yard.faults };
+
+    ghost steady = { λ yard. ⊥ };
+
+    ghost lasting = { λ yard. ⊤ };
+
+    ghost answers = { λ yard. None };
+
+    fn listen(&mut self, _port: u16) -> Listening<Self::Door, Self::Bell> {
+        self.count_fault();
+        Listening::Failed
+    }
+
+    fn recorder(&mut self, _wanted: bool) -> NullRecorder {
+        NullRecorder::new()
+    }
+
+    fn staff(&mut self) -> Staff {
+        Staff::Inline {
+            failing: Vec::new(self.alloc),
+        }
+    }
+
+    fn ports(&mut self) -> MemoryBinder {
+        MemoryBinder::new(self.alloc, 1, Vec::new(self.alloc))
+    }
+
+    fn gate(&mut self) -> OpenGate {
+        OpenGate::new()
+    }
+
+    fn dial(&mut self, _port: u16) -> Dialled<MemoryIn, MemoryOut> {
+        self.count_fault();
+        Dialled::Failed
+    }
+}
