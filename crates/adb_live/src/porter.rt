@@ -5,7 +5,7 @@ use adb_outside::Sink;
 use std::alloc::{AllocError, Global};
 use std::mem;
 use std::net::{Net, TcpListener, TcpStream};
-use std::sync::{Arc, Condvar, Mutex, MutexGuard, Wait};
+use std::sync::{Arc, Condvar, Mutex, Wait};
 use std::thread;
 use std::thread::Threads;
 
@@ -49,13 +49,14 @@ impl<K: Sink + Drop> Porter<K> {
             slot = self.changed.wait(rt, slot);
         }
         *slot = Slot::Asked(errand);
+        drop(slot);
         self.changed.notify_all();
-        self.answer(rt, slot)
+        self.answer(rt)
     }
 
-    /// Waits for the answer to who asks.
-    fn answer<W: Wait>(&self, rt: &W, asked: MutexGuard<'_, Slot<K>>) -> bool {
-        let mut slot = asked;
+    /// Waits for the answer to an errand. Nobody else asks before it is heard.
+    fn answer<W: Wait>(&self, rt: &W) -> bool {
+        let mut slot = self.slot.lock(rt);
         for _ in rt.forever() {
             match &*slot {
                 Slot::Answered(done) => {

@@ -6,6 +6,7 @@ use crate::roll::Roll;
 use adb_capture::{Entry, Owner, RecordError, Recorder, SinkRecorder};
 use adb_outside::{Sink, Wrote};
 use std::alloc::Global;
+use std::marker::Model;
 use std::sync::{Arc, Wait};
 
 /// Puts what is written into a roll, whose thread writes it out. A write fails where an earlier one
@@ -45,11 +46,19 @@ pub struct SwitchRecorder<W: Wait + Drop> {
     recorder: SinkRecorder<RollSink<W>>,
 }
 
+impl<W: Wait + Drop> Model for SwitchRecorder<W> {
+    ghost use Rattle.adb_live.specs.Recorder.{Switched};
+
+    ghost Value = { Switched };
+
+    ghost view = { λ r. record { on = r.on; faults = r.recorder.faults } };
+}
+
 impl<W: Wait + Drop> SwitchRecorder<W> {
     /// A recorder, on or off, over the roll whose thread writes. Where it is on and there is no roll,
     /// each call fails.
     pub fn new(rt: W, roll: Option<Arc<Roll, Global>>, on: bool) -> SwitchRecorder<W>
-        ensures { (result.on ≡ on) × (result.recorder.faults ≡ 0) }
+        ensures { result ≡ record { on = on; faults = 0 } }
     {
         let sink = RollSink {
             rt,
@@ -68,7 +77,7 @@ impl<W: Wait + Drop> Recorder for SwitchRecorder<W> {
 
     ghost told = { λ r. None };
 
-    ghost faults = { λ r. r.recorder.faults };
+    ghost faults = { λ r. r.faults };
 
     ghost steady = { λ r. r.on ≡ false };
 

@@ -1,5 +1,5 @@
 -- Turns of a device, one behind the other.
-use Rattle.std.specs.Prelude.{ℕ, ◌≡◌, ◌≢◌, ◌⊎◌, Bool, true, false, List, [], ◌∷◌, ◌++◌, take, length, Result, Ok, Err}
+use Rattle.std.specs.Prelude.{ℕ, ◌≡◌, ◌≢◌, ◌⊎◌, Bool, true, false, List, [], ◌∷◌, ◌++◌, take, length, Result, Ok, Err, MatchResult}
 use Rattle.std.proofs.Common.{refl, sym, ◌∙◌, ap, subst, inl, inr}
 use Rattle.std.specs.List.{concat}
 use Rattle.std.proofs.Math.Seq.{take-length}
@@ -75,19 +75,29 @@ module _ (first next : Daemon) (input input' : InView) (output output' : OutView
         (later.ends setting (fed ++ concat goes.taken) (gone ++ concat goes.put) (goes.does setting fed gone done)));
   }
 
+  -- a turn, or the end, behind turns
+  pub behind : (last : Daemon) (input'' : InView) (output'' : OutView) (result : Result (Unit {0}) DeviceEnd)
+      → MatchResult result (λ x. GoesOn next input' output' last input'' output'') (λ end. Runs next input' output' last end input'' output'')
+      → MatchResult result (λ x. GoesOn first input output last input'' output'') (λ end. Runs first input output last end input'' output'')
+  behind last input'' output'' (Ok x) turned = goes_further last input'' output'' turned
+  behind last input'' output'' (Err end) turned = ends_behind last end input'' output'' turned
+
 -- whether the input has ended
-is_end : DeviceEnd → Bool
+abbrev is_end : DeviceEnd → Bool
 is_end End = true
 is_end Lost = false
 is_end (Refused chunk) = false
 is_end (Error error) = false
 
 -- whether memory ran out
-is_memory : Result (Unit {0}) DaemonError → Bool
+abbrev is_memory : Result (Unit {0}) DaemonError → Bool
 is_memory (Ok x) = false
 is_memory (Err OutOfMemory) = true
 is_memory (Err (Broken error)) = false
 is_memory (Err BadCnxn) = false
+
+pub goes_on : (x : Unit {0}) → Ok x ≡ Err OutOfMemory → ⊥
+goes_on x is = true≢false (sym (ap is_memory is))
 
 -- a chunk alone
 alone : (chunk : List ℕ) → concat (chunk ∷ []) ≡ chunk
@@ -154,7 +164,8 @@ module _ (daemon : Daemon) (input : InView) (output : OutView) where
     input_is = input_same;
     output_is = put;
     does = λ setting fed gone done.
-        let whole : take n (owed daemon) ≡ concat (chunk ∷ []) = ap (λ (m : ℕ). take m (owed daemon)) all ∙ take-length (owed daemon) ∙ sym is ∙ sym (alone chunk) in
+        let whole : take n (owed daemon) ≡ concat (chunk ∷ []) =
+            ap (λ (m : ℕ). take m (owed daemon)) all ∙ take-length (owed daemon) ∙ sym is ∙ sym (alone chunk) in
         subst (λ (b : List ℕ). HasDone setting b (gone ++ concat (chunk ∷ [])) daemon') (sym (append-nil fed))
         (subst (λ (b : List ℕ). HasDone setting fed (gone ++ b) daemon') whole (taken setting fed gone done));
   }
