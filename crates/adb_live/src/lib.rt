@@ -18,6 +18,6 @@ pub use binder::TcpBinder;
 pub use door::{TcpBell, TcpDoor};
 pub use errand::Errand;
 pub use lobby::Lobby;
-pub use porter::{Porter, porter};
+pub use porter::{Porter, begin_porter};
 pub use recorder::SwitchRecorder;
 pub use roll::Roll;

@@ -82,7 +82,7 @@ impl<K: Sink + Drop> Porter<K> {
 }
 
 /// A porter in a thread of its own. Where no thread can be had it is closed.
-pub fn porter<
+pub fn begin_porter<
     W: Net<Listener = TcpListener, Stream = TcpStream>
         + Threads
         + Wait

@@ -107,7 +107,7 @@ impl Roll {
 }
 
 /// Writes out what is recorded, until nothing more comes or a write fails.
-pub fn write_out<W: Wait, K: Sink>(rt: &W, roll: &Roll, sink: K) {
+pub fn write_out<W: Wait, K: Sink + Drop>(rt: &W, roll: &Roll, sink: K) {
     let mut sink = sink;
     let mut spare = Vec::new(roll.alloc);
     for _ in rt.forever() {

@@ -1,6 +1,6 @@
 //! The door with its bell and a port of a forward, over sockets; and a record that a thread writes.
 
-use crate::{Errand, Lobby, Porter, Roll, SwitchRecorder, TcpBell, TcpBinder, TcpDoor, porter};
+use crate::{Errand, Lobby, Porter, Roll, SwitchRecorder, TcpBell, TcpBinder, TcpDoor, begin_porter};
 use adb_binder::{Binder, Binding};
 use adb_capture::{Entry, RecordError, Recorder};
 use adb_connections::{Bell, Came, Door, PortIn};
@@ -82,7 +82,7 @@ fn opens<
     let listener = TcpListener::bind(&rt, "127.0.0.1:0")?;
     let port = listener.local_addr()?.port();
     let lobby = lobby(alloc, &listener)?;
-    let porter: Arc<Porter<Wire>, Global> = porter(rt, alloc)?;
+    let porter: Arc<Porter<Wire>, Global> = begin_porter(rt, alloc)?;
     let mut binder = TcpBinder::new(
         rt,
         Some(Arc::try_clone(&lobby)?),
@@ -122,7 +122,7 @@ fn records<
     let stream = TcpStream::connect(&rt, listener.local_addr()?)?;
     let (other, _) = listener.accept()?;
     let sink = Wire { stream, faults: 0 };
-    let porter = porter(rt, alloc)?;
+    let porter = begin_porter(rt, alloc)?;
     let roll = Arc::new(alloc, Roll::new(alloc))?;
     let theirs = Arc::try_clone(&roll)?;
     let started = porter.start(&rt, Errand::Record { roll: theirs, sink });

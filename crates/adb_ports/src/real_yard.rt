@@ -4,7 +4,7 @@ ghost use Rattle.std.specs.Prelude.{◌≡◌, false, IfOk, IfSome};
 ghost use Rattle.adb_yard.specs.Yard.{FitsPort, is_deaf};
 
 use adb_connections::OpenGate;
-use adb_live::{Errand, Lobby, Porter, Roll, SwitchRecorder, TcpBell, TcpBinder, TcpDoor, porter};
+use adb_live::{Errand, Lobby, Porter, Roll, SwitchRecorder, TcpBell, TcpBinder, TcpDoor, begin_porter};
 use adb_outside::Sink;
 use adb_sockets::{Ending, TcpIn, TcpOut, halves};
 use adb_yard::{Dialled, Listening, Staff, Yard};
@@ -75,7 +75,7 @@ impl<
             alloc,
             ending,
             lobby: None,
-            porter: porter(rt, alloc)?,
+            porter: begin_porter(rt, alloc)?,
             roll: Arc::new(alloc, Roll::new(alloc))?,
             sink: Some(sink),
             faults: 0,
@@ -141,19 +141,16 @@ fn listen<W: Net<Listener = TcpListener, Stream = TcpStream> + Wait + Copy + Dro
     Some((Listening::Here(door, bell, bound), lobbies.ports))
 }
 
-/// Starts the thread that writes the record, or says that nobody does.
+/// Starts the thread that writes the record; whether it was started.
 fn begin_record<W: Wait, K: Sink + Drop>(
     rt: &W,
     porter: &Porter<K>,
     roll: &Arc<Roll, Global>,
     sink: Option<K>,
-) {
-    let begun = match (sink, Arc::try_clone(roll)) {
+) -> bool {
+    match (sink, Arc::try_clone(roll)) {
         (Some(sink), Ok(theirs)) => porter.start(rt, Errand::Record { roll: theirs, sink }),
         _ => false,
-    };
-    if !begun {
-        roll.give_up(rt);
     }
 }
 
@@ -216,12 +213,15 @@ impl<
         }
     }
 
-    /// A second one that is wanted fails at each call.
+    /// A second one that is wanted fails at each call, and so does one without a thread.
     fn recorder(&mut self, wanted: bool) -> SwitchRecorder<W> {
-        if wanted {
-            begin_record(&self.rt, &self.porter, &self.roll, self.sink.take());
-        }
-        SwitchRecorder::new(self.rt, Arc::try_clone(&self.roll).ok(), wanted)
+        let begun = wanted && begin_record(&self.rt, &self.porter, &self.roll, self.sink.take());
+        let roll = if begun {
+            Arc::try_clone(&self.roll).ok()
+        } else {
+            None
+        };
+        SwitchRecorder::new(self.rt, roll, wanted)
     }
 
     fn staff(&mut self) -> Staff {

@@ -20,6 +20,9 @@ fn carries(output: &mut impl PortOut, input: &mut impl PortIn) -> bool {
 
 /// Whether who dials a port comes in at a door; by the port of a forward, where that is not 0.
 fn meets<Y: Yard>(yard: &mut Y, door: &mut Y::Door, port: u16, forward: u16) -> bool {
+    if port == 0 {
+        return false;
+    }
     let Dialled::Here(_input, mut output) = yard.dial(port) else {
         return false;
     };
