@@ -51,7 +51,7 @@ impl<W: Wait + Drop> TcpDoor<W> {
     }
 }
 
-impl<W: Wait + Send + Drop + 'static> Door for TcpDoor<W> {
+impl<W: Wait + Drop> Door for TcpDoor<W> {
     type In = TcpIn;
 
     type Out = TcpOut;

@@ -48,7 +48,7 @@ fn reads(input: &mut impl PortIn, client: &TcpStream) -> bool {
 
 /// The port of the forward by which a client comes in that connects to this port, 0 where it comes
 /// by the door's own.
-fn comes<W: Net<Listener = TcpListener, Stream = TcpStream> + Wait + Send + Drop + 'static>(
+fn comes<W: Net<Listener = TcpListener, Stream = TcpStream> + Wait + Drop>(
     rt: &W,
     door: &mut TcpDoor<W>,
     port: u16,
