@@ -55,9 +55,9 @@ fn comes<W: Net<Listener = TcpListener, Stream = TcpStream> + Wait + Drop>(
 ) -> io::Result<Option<u16>> {
     let client = TcpStream::connect(rt, ("127.0.0.1", port))?;
     Ok(match door.accept() {
-        Came::Port(mut input, _) if reads(&mut input, &client) => Some(0),
-        Came::Forward(by, mut input, _) if reads(&mut input, &client) => Some(by),
-        _ => None,
+        Came::Port(mut input, _) => reads(&mut input, &client).then_some(0),
+        Came::Forward(by, mut input, _) => reads(&mut input, &client).then_some(by),
+        Came::Closed | Came::Failed => None,
     })
 }
 
@@ -133,7 +133,7 @@ fn records<
     let count = other.peek(&mut into)?;
     porter.close(&rt);
     let late = recorder.keep(&Entry::Join { client: 1 }) == Err(RecordError::Failed);
-    Ok(started && kept && count == 17 && into[..8] == *b"ADBHUB1\n" && late)
+    Ok(started && kept && count == 17 && into.starts_with(b"ADBHUB1\n") && late)
 }
 
 #[test]

@@ -25,7 +25,7 @@ fn connection<W: Net<Listener = TcpListener, Stream = TcpStream>>(
 fn echoes(input: &mut TcpIn, output: &mut TcpOut, other: &TcpStream) -> io::Result<bool> {
     let mut into = [0u8; 8];
     let sent = output.write(b"OKAY") == Wrote::All;
-    let there = other.peek(&mut into)? == 4 && into[..4] == *b"OKAY";
+    let there = other.peek(&mut into)? == 4 && into.starts_with(b"OKAY");
     output.close();
     Ok(sent && there && input.read(&mut into) == Got::End)
 }
