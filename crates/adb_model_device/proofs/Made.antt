@@ -132,9 +132,8 @@ cut_front setting fed gone daemon h =
     let grew = behind setting (first_device setting) h.front h.rest in
     let later : List Sent = (device_behind setting h.front).serving.made in
     let now : sent_bytes (device_behind setting (h.front ++ h.rest)).serving.made ≡ sent_bytes later ++ sent_bytes grew.more =
-        ap sent_bytes grew.is ∙ flat_map-append bytes_of later grew.more in
-    (
+    ap sent_bytes grew.is ∙ flat_map-append bytes_of later grew.more in (
       owed daemon ++ sent_bytes grew.more,
       sym (append_assoc gone (owed daemon) (sent_bytes grew.more)) ∙ ap (λ (l : List ℕ). l ++ sent_bytes grew.more) h.given_out ∙ sym now
-      ∙ ap (λ (ps : List Packet). sent_bytes (device_behind setting ps).serving.made) (sym h.is),
+          ∙ ap (λ (ps : List Packet). sent_bytes (device_behind setting ps).serving.made) (sym h.is),
     )

@@ -165,7 +165,7 @@ module _ (daemon : Daemon) (input : InView) (output : OutView) where
     output_is = put;
     does = λ setting fed gone done.
         let whole : take n (owed daemon) ≡ concat (chunk ∷ []) =
-            ap (λ (m : ℕ). take m (owed daemon)) all ∙ take-length (owed daemon) ∙ sym is ∙ sym (alone chunk) in
+        ap (λ (m : ℕ). take m (owed daemon)) all ∙ take-length (owed daemon) ∙ sym is ∙ sym (alone chunk) in
         subst (λ (b : List ℕ). HasDone setting b (gone ++ concat (chunk ∷ [])) daemon') (sym (append-nil fed))
         (subst (λ (b : List ℕ). HasDone setting fed (gone ++ b) daemon') whole (taken setting fed gone done));
   }

@@ -90,10 +90,7 @@ fn put_owed<W: Wait + Drop>(
 }
 
 /// Takes the next chunk, and feeds it to a device that owes nothing.
-fn feed_next<W: Wait + Drop>(
-    daemon: &mut Daemon,
-    input: &mut PipeIn<W>,
-) -> Result<(), DeviceEnd>
+fn feed_next<W: Wait + Drop>(daemon: &mut Daemon, input: &mut PipeIn<W>) -> Result<(), DeviceEnd>
     requires { owed daemon.old ≡ [] }
     ensures { (output : OutView) → MatchResult result
         (λ _. GoesOn daemon.old input.old output daemon.new input.new output)

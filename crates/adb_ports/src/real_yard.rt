@@ -4,7 +4,9 @@ ghost use Rattle.std.specs.Prelude.{◌≡◌, false, IfOk, IfSome};
 ghost use Rattle.adb_yard.specs.Yard.{FitsPort, is_deaf};
 
 use adb_connections::OpenGate;
-use adb_live::{Errand, Lobby, Porter, Roll, SwitchRecorder, TcpBell, TcpBinder, TcpDoor, begin_porter};
+use adb_live::{
+    Errand, Lobby, Porter, Roll, SwitchRecorder, TcpBell, TcpBinder, TcpDoor, begin_porter,
+};
 use adb_outside::Sink;
 use adb_sockets::{Ending, TcpIn, TcpOut, halves};
 use adb_yard::{Dialled, Listening, Staff, Yard};

@@ -14,5 +14,5 @@ loop-preserved g c = (
   tt,
   tt,
   goes_further c.args.daemon c.loop.daemon c.args.input.now c.loop.input c.args.output.now c.loop.output c.loop.invariant.2
-  c.turn.new.daemon c.turn.new.input c.turn.new.output c.in_default.ensures,
+      c.turn.new.daemon c.turn.new.input c.turn.new.output c.in_default.ensures,
 )
