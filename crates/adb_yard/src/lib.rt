@@ -4,5 +4,5 @@
 mod no_yard;
 mod yard;
 
-pub use no_yard::NoYard;
+pub use no_yard::{NoDoor, NoYard};
 pub use yard::{Dialled, Listening, Staff, Yard};

@@ -1,15 +1,38 @@
 //! No yard.
 
-ghost use Rattle.std.specs.Prelude.{◌≡◌, ◌<◌, false};
+ghost use Rattle.std.specs.Prelude.{◌≡◌, true};
 ghost use Rattle.adb_outside.specs.Outside.{Counts};
-ghost use Rattle.adb_desk_log.specs.Log.{IsFresh};
-ghost use Rattle.adb_yard.specs.Yard.{FitsPort, is_deaf, is_unreached};
 
 use crate::yard::{Dialled, Listening, Staff, Yard};
 use adb_binder::MemoryBinder;
 use adb_capture::NullRecorder;
-use adb_connections::{MemoryDoor, MemoryIn, MemoryOut, OpenGate, SilentBell};
+use adb_connections::{Came, Door, MemoryIn, MemoryOut, OpenGate, SilentBell};
 use std::alloc::Global;
+
+/// A door at which nobody comes in.
+#[derive(Drop)]
+pub struct NoDoor {}
+
+impl Door for NoDoor {
+    type In = MemoryIn;
+
+    type Out = MemoryOut;
+
+    ghost use Rattle.std.specs.Prelude.{None, ⊤};
+
+    ghost faults = { λ door. 0 };
+
+    ghost came = { λ door. None };
+
+    ghost lasting = { λ door. ⊥ };
+
+    ghost steady = { λ door. ⊤ };
+
+    /// It is closed.
+    fn accept(&mut self) -> Came<MemoryIn, MemoryOut> {
+        Came::Closed
+    }
+}
 
 /// The yard of a program that neither serves nor dials: it counts each try as a fault.
 #[derive(Drop)]
@@ -34,7 +57,7 @@ impl NoYard {
 }
 
 impl Yard for NoYard {
-    type Door = MemoryDoor<MemoryIn, MemoryOut>;
+    type Door = NoDoor;
 
     type Bell = SilentBell;
 
@@ -47,6 +70,8 @@ impl Yard for NoYard {
     type DialIn = MemoryIn;
 
     type DialOut = MemoryOut;
+
+    ghost use Rattle.std.specs.Prelude.{None, ⊤};
 
     ghost faults = { λ yard. yard.faults };
 

@@ -36,7 +36,7 @@ pub enum Staff {
 ///
 /// None of its calls fails but `listen` and `dial`, whose answers say so.
 pub trait Yard: Drop {
-    ghost use Rattle.std.specs.Prelude.{◌≡◌, ◌<◌, ℕ, List, Option, false};
+    ghost use Rattle.std.specs.Prelude.{◌≡◌, ◌<◌, ℕ, List, Option, false, ⊤};
     ghost use Rattle.adb_outside.specs.Outside.{Counts};
     ghost use Rattle.adb_desk_log.specs.Log.{IsFresh};
     ghost use Rattle.adb_yard.specs.Yard.{FitsPort, HasDoor, IsSteadyStaff, is_deaf};
