@@ -1,5 +1,5 @@
 -- How a server ended, and what its note then holds.
-use Rattle.std.specs.Prelude.{ℕ, ◌≡◌, ◌≢◌, ◌⊎◌, Bool, true, false, List, ◌++◌, Option, Result, Ok, Err, codes, decimal, ⊤}
+use Rattle.std.specs.Prelude.{ℕ, ◌≡◌, ◌≢◌, ◌⊎◌, Bool, true, false, List, ◌++◌, Option, Result, Ok, Err, codes, decimal}
 use Rattle.adb_outside.specs.Sink.{TellsWrite}
 use Rattle.adb_outside.specs.declared.sink.Wrote.{Wrote}
 use Rattle.adb_outside.specs.declared.sink.Wrote.TheVariants.{All, Failed as Cut}
@@ -17,12 +17,12 @@ is_write_fault OutOfMemory = false
 is_write_fault RecordFault = false
 is_write_fault DoorFault = false
 
-abbrev pub is_write_fault_in : Result ⊤ Served → Bool
+abbrev pub is_write_fault_in : Result (Unit {0}) Served → Bool
 is_write_fault_in (Ok done) = false
 is_write_fault_in (Err served) = is_write_fault served
 
 -- The line was written whole; or a write of it failed; or there was no memory for it, and nothing was written.
-abbrev pub HasAnnounced : ℕ → Result ⊤ Served → Option (List ℕ) → Option (List ℕ) → Type 0
+abbrev pub HasAnnounced : ℕ → Result (Unit {0}) Served → Option (List ℕ) → Option (List ℕ) → Type 0
 HasAnnounced port (Ok done) before after = TellsWrite before after (listening_line port) All
 HasAnnounced port (Err WriteFault) before after = (taken : ℕ) × TellsWrite before after (listening_line port) (Cut taken)
 HasAnnounced port (Err OutOfMemory) before after = after ≡ before

@@ -1,10 +1,10 @@
 //! A server over fakes: clients in order and at the same time, and what becomes of each failure.
 
 use crate::{Served, serve};
-use adb_connections::{DeviceIn, DeviceOut, MemoryDeviceIn, Place, Plug};
+use adb_connections::Place;
 use adb_device_reader::Device;
-use adb_fakes::{FakeYard, Kept, Rings, Sent, SharedOut, Wrong};
-use adb_outside::{Kind, MemorySink, Text};
+use adb_fakes::{FakeYard, Kept, Sent, Wrong};
+use adb_outside::MemorySink;
 use std::alloc::{AllocError, Global};
 use std::sync::Wait;
 use std::test::Fail;
