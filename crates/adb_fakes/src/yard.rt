@@ -36,7 +36,7 @@ pub enum Wrong {
 /// It tells contracts how often it failed, which it does at `listen` where it is deaf and at each
 /// `dial` that finds no answer, and what who dials is answered.
 #[derive(Drop)]
-pub struct FakeYard<W: Wait + Copy + Send + Sync + Drop + 'static> {
+pub struct FakeYard<W: Wait + Copy + Drop> {
     rt: W,
     alloc: Global,
     coming: VecDeque<Coming<W>>,
@@ -54,7 +54,7 @@ pub struct FakeYard<W: Wait + Copy + Send + Sync + Drop + 'static> {
     faults: u64,
 }
 
-impl<W: Wait + Copy + Send + Sync + Drop + 'static> Model for FakeYard<W> {
+impl<W: Wait + Copy + Drop> Model for FakeYard<W> {
     ghost use Rattle.adb_fakes.specs.Fakes.{Fakes};
 
     ghost Value = { Fakes };
@@ -62,7 +62,7 @@ impl<W: Wait + Copy + Send + Sync + Drop + 'static> Model for FakeYard<W> {
     ghost view = { λ yard. record { faults = yard.faults; answer = yard.answer } };
 }
 
-impl<W: Wait + Copy + Send + Sync + Drop + 'static> FakeYard<W> {
+impl<W: Wait + Copy + Drop> FakeYard<W> {
     /// A yard where nobody comes, whose server's jobs run within the call that gives them and whose
     /// recorder is the one of `kept`.
     pub fn new(rt: W, alloc: Global, kept: Kept<W>) -> Result<FakeYard<W>, AllocError> {

@@ -37,12 +37,7 @@ pub(crate) fn stands<W: Wait + Copy + Send + Sync + Drop + 'static>(
     )
 }
 
-fn tried<
-    W: Wait + Copy + Send + Sync + Drop + 'static,
-    E: Ledger,
-    M: Ledger,
-    K: Marks,
->(
+fn tried<W: Wait + Copy + Send + Sync + Drop + 'static, E: Ledger, M: Ledger, K: Marks>(
     rt: W,
     alloc: Global,
     case: &Case,

@@ -1,5 +1,5 @@
 -- What the note of a server that ended holds.
-use Rattle.std.proofs.Common.{ℕ, ◌≡◌, ◌≢◌, ◌⊎◌, inl, inr, Bool, true, false, List, Option, Result, Ok, Err, refl, absurd}
+use Rattle.std.proofs.Common.{ℕ, ◌≡◌, ◌≢◌, inl, inr, false, List, Option, Ok, Err, refl}
 use Rattle.adb_outside.specs.declared.sink.Wrote.TheVariants.{All}
 use Rattle.adb_server.specs.Served.{HasAnnounced, TellsPort, Announces, is_write_fault}
 use Rattle.adb_server.specs.declared.server.Served.{Served}

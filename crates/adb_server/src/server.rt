@@ -48,6 +48,7 @@ pub enum Served {
 ///
 /// A device that does not come, and one that the hall refuses, is unplugged; a client that the hall
 /// refuses is dropped; others go on. Want of memory for what comes next ends the server.
+#[tactic(auto, using(crate::proofs::Announcing::served_there, crate::proofs::Announcing::told_less, crate::proofs::Announcing::no_write_fault))]
 pub fn serve<W: Threads + Wait + Copy + Send + Sync + Drop + 'static, Y: Yard + 'static, N: Sink>(
     rt: W,
     alloc: Global,
@@ -146,7 +147,15 @@ fn serve_with<
         return Served::OutOfMemory;
     };
     let mut plugged = Vec::new(alloc);
-    let refused = plug_all(rt, alloc, &mut yard, &mut hall, &bell, devices, &mut plugged);
+    let refused = plug_all(
+        rt,
+        alloc,
+        &mut yard,
+        &mut hall,
+        &bell,
+        devices,
+        &mut plugged,
+    );
     serve_all::<W, R, E, M, K, I, O, P, G, B, BoxedIn, BoxedOut, D, Y>(
         rt, alloc, yard, door, bell, hall, plugged, refused,
     )
