@@ -1,12 +1,13 @@
 //! Where clients and devices are served.
 
 ghost use Rattle.std.specs.Prelude.{◌≡◌, ◌≢◌, Err, false};
+ghost use Rattle.adb_desk_log.specs.declared.error.DeskError.{DeskError};
 
 use crate::halves::{Inlet, Outlet};
-use crate::kit::{Clapper, Kit, Kits, make_kits};
+use crate::kit::{Clapper, Kits, make_kits};
 use crate::plugging::Transport;
 use crate::server::Served;
-use crate::work::Work;
+use crate::work::{Task, Work};
 use adb_binder::Binder;
 use adb_capture::Recorder;
 use adb_client_reader::{Admitted, admit};
@@ -60,32 +61,13 @@ impl<
     /// Starts the workers of a device. Where no thread can be had its link is ended, and where that
     /// is so of the writer it is unplugged within this call.
     fn start_device(&mut self, device: Transport<W, R, E, M, K, G, Clapper<B>, X, Z>) {
-        let Transport {
-            kits,
-            slicer,
-            input,
-            output,
-            reading,
-            writing,
-        } = device;
-        let Kits { reader, writer } = kits;
-        let link = reading.number();
-        let read = Work::ReadDevice {
-            kit: reader,
-            pass: reading,
-            port: input,
-            slicer,
-        };
-        if let Err(job) = self.crew.spawn(read) {
+        let Transport { read, write } = device;
+        let link = read.pass.number();
+        if let Err(job) = self.crew.spawn(Work::ReadDevice(read)) {
             let _ = self.hall.no_thread_link(link, self.crew.no_thread());
             drop(job);
         }
-        let write = Work::WriteDevice {
-            kit: writer,
-            pass: writing,
-            port: output,
-        };
-        if let Err(job) = self.crew.spawn(write) {
+        if let Err(job) = self.crew.spawn(Work::WriteDevice(write)) {
             let _ = self.hall.no_thread_link(link, self.crew.no_thread());
             job.run();
         }
@@ -102,21 +84,9 @@ impl<
     }
 
     /// Starts a client's reader. Where no thread can be had the client's input is ended.
-    fn start_reader(
-        &mut self,
-        kit: Kit<W, R, E, M, K, G, Clapper<B>>,
-        pass: ClientIn<E, M, K>,
-        port: I,
-        ports: P,
-    ) {
-        let client = pass.number();
-        let job = Work::ReadClient {
-            kit,
-            pass,
-            port,
-            ports,
-        };
-        if let Err(job) = self.crew.spawn(job) {
+    fn start_reader(&mut self, task: Task<W, R, E, M, K, G, Clapper<B>, ClientIn<E, M, K>, I, P>) {
+        let client = task.pass.number();
+        if let Err(job) = self.crew.spawn(Work::ReadClient(task)) {
             let _ = self.hall.no_thread_client(client, self.crew.no_thread());
             drop(job);
         }
@@ -126,12 +96,10 @@ impl<
     /// port is closed within this call.
     fn start_writer(
         &mut self,
-        kit: Kit<W, R, E, M, K, G, Clapper<B>>,
-        pass: ClientOut<E, M, K>,
-        port: O,
+        task: Task<W, R, E, M, K, G, Clapper<B>, ClientOut<E, M, K>, O, ()>,
     ) {
-        let client = pass.number();
-        if let Err(job) = self.crew.spawn(Work::WriteClient { kit, pass, port }) {
+        let client = task.pass.number();
+        if let Err(job) = self.crew.spawn(Work::WriteClient(task)) {
             let _ = self.hall.no_thread_client(client, self.crew.no_thread());
             job.run();
         }
@@ -150,33 +118,69 @@ impl<
         ensures note { result ≢ Err Served.WriteFault }
     {
         let gates = (yard.gate(), yard.gate());
-        let Ok(kits) = make_kits(self.rt, gates, &self.hall, &self.bell) else {
-            self.hall.halt();
-            return Err(Served::OutOfMemory);
-        };
-        match admit(&mut self.hall, door) {
-            Admitted::Closed => Err(Served::Done),
-            Admitted::Failed => {
-                self.hall.halt();
-                Err(Served::DoorFault)
-            }
-            Admitted::Refused(DeskError::Hub(HubError::OutOfMemory)) => {
+        match make_kits(self.rt, gates, &self.hall, &self.bell) {
+            Ok(kits) => self.take_with(kits, yard.ports(), door),
+            Err(_full) => {
                 self.hall.halt();
                 Err(Served::OutOfMemory)
             }
-            Admitted::Refused(DeskError::RecordFault) => Err(Served::RecordFault),
-            Admitted::Refused(_) => Ok(()),
+        }
+    }
+
+    fn take_with<D: Door<In = I, Out = O>>(
+        &mut self,
+        kits: Kits<W, R, E, M, K, G, Clapper<B>>,
+        ports: P,
+        door: &mut D,
+    ) -> Result<(), Served>
+        ensures record { K.steady → result ≢ Err Served.RecordFault }
+        ensures door { D.steady door.old → (D.steady door.new) × (result ≢ Err Served.DoorFault) }
+        ensures lasting { D.lasting door.old → (D.lasting door.new) × (result ≢ Err Served.Done) }
+        ensures note { result ≢ Err Served.WriteFault }
+    {
+        match admit(&mut self.hall, door) {
             Admitted::Client {
                 input,
                 output,
                 reading,
                 writing,
             } => {
-                let Kits { reader, writer } = kits;
-                self.start_reader(reader, reading, input, yard.ports());
-                self.start_writer(writer, writing, output);
+                self.start_reader(Task {
+                    kit: kits.reader,
+                    pass: reading,
+                    port: input,
+                    aid: ports,
+                });
+                self.start_writer(Task {
+                    kit: kits.writer,
+                    pass: writing,
+                    port: output,
+                    aid: (),
+                });
                 Ok(())
             }
+            Admitted::Closed => Err(Served::Done),
+            Admitted::Failed => {
+                self.hall.halt();
+                Err(Served::DoorFault)
+            }
+            Admitted::Refused(error) => self.go_on(error),
+        }
+    }
+
+    /// Whether more may come behind one that the hall refused.
+    fn go_on(&mut self, error: DeskError) -> Result<(), Served>
+        ensures record { error ≢ DeskError.RecordFault → result ≢ Err Served.RecordFault }
+        ensures others { (result ≢ Err Served.DoorFault) × (result ≢ Err Served.Done)
+            × (result ≢ Err Served.WriteFault) }
+    {
+        match error {
+            DeskError::Hub(HubError::OutOfMemory) => {
+                self.hall.halt();
+                Err(Served::OutOfMemory)
+            }
+            DeskError::RecordFault => Err(Served::RecordFault),
+            _ => Ok(()),
         }
     }
 

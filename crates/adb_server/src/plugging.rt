@@ -5,6 +5,7 @@ ghost use Rattle.std.specs.Prelude.{◌≢◌, ◌<◌, Err, OnOk, vec_len, vec_
 use crate::halves::{BoxedIn, BoxedOut, Outlet};
 use crate::kit::{Clapper, Kits, make_kits};
 use crate::server::Served;
+use crate::work::Task;
 use adb_capture::Recorder;
 use adb_connections::{Bell, Gate};
 use adb_desk_log::{DeskError, LinkIn, LinkOut, Marks};
@@ -18,7 +19,7 @@ use std::alloc::{AllocError, Global};
 use std::sync::Wait;
 use std::sync::ledger::Ledger;
 
-/// A device that was plugged in: the two halves of its link, its passes, and what its workers own.
+/// A device that was plugged in, by what its reader and its writer work on.
 #[derive(Drop)]
 pub(crate) struct Transport<
     W: Wait + Copy + Drop,
@@ -31,12 +32,8 @@ pub(crate) struct Transport<
     X: Drop,
     Z: Drop,
 > {
-    pub(crate) kits: Kits<W, R, E, M, K, G, B>,
-    pub(crate) slicer: Slicer,
-    pub(crate) input: X,
-    pub(crate) output: Z,
-    pub(crate) reading: LinkIn<E, M, K>,
-    pub(crate) writing: LinkOut<E, M, K>,
+    pub(crate) read: Task<W, R, E, M, K, G, B, LinkIn<E, M, K>, X, Slicer>,
+    pub(crate) write: Task<W, R, E, M, K, G, B, LinkOut<E, M, K>, Z, ()>,
 }
 
 /// Plugs in devices, in their order. Those that come are added to `plugged`; one that does not, and
@@ -127,14 +124,19 @@ fn plug<
     match plug_in(hall, &mut device) {
         Plugged::Link { reading, writing } => {
             let Device { input, output, .. } = device;
-            plugged.push_reserved(Transport {
-                kits,
-                slicer,
-                input: BoxedIn { port: input },
-                output: BoxedOut { port: output },
-                reading,
-                writing,
-            });
+            let read = Task {
+                kit: kits.reader,
+                pass: reading,
+                port: BoxedIn { port: input },
+                aid: slicer,
+            };
+            let write = Task {
+                kit: kits.writer,
+                pass: writing,
+                port: BoxedOut { port: output },
+                aid: (),
+            };
+            plugged.push_reserved(Transport { read, write });
             Ok(())
         }
         Plugged::Refused(DeskError::Hub(HubError::OutOfMemory)) => {
@@ -166,7 +168,8 @@ pub(crate) fn unplug_all<
     Z: Outlet,
 >(plugged: Vec<Transport<W, R, E, M, K, G, B, X, Z>>) {
     for device in plugged {
-        let mut output = device.output;
+        let Transport { write, .. } = device;
+        let mut output = write.port;
         output.shut();
     }
 }

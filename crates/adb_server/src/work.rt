@@ -13,6 +13,27 @@ use adb_writers::write_client;
 use std::sync::Wait;
 use std::sync::ledger::Ledger;
 
+/// What one worker works on: its pass, its half of the connection, and what goes with it.
+#[derive(Drop)]
+pub(crate) struct Task<
+    W: Wait + Copy + Drop,
+    R: Recorder,
+    E: Ledger,
+    M: Ledger,
+    K: Marks,
+    G: Drop,
+    B: Drop,
+    T: Drop,
+    H: Drop,
+    A: Drop,
+> {
+    pub(crate) kit: Kit<W, R, E, M, K, G, B>,
+    pub(crate) pass: T,
+    pub(crate) port: H,
+    /// The binder of a client's reader, the slicer of a device's, and nothing of a writer.
+    pub(crate) aid: A,
+}
+
 /// A job: one worker, for as long as its client or device is served.
 ///
 /// Its parameters are plain: only who spawns it says that they may go to another thread.
@@ -31,28 +52,10 @@ pub(crate) enum Work<
     X: Drop,
     Z: Drop,
 > {
-    ReadClient {
-        kit: Kit<W, R, E, M, K, G, B>,
-        pass: ClientIn<E, M, K>,
-        port: I,
-        ports: P,
-    },
-    WriteClient {
-        kit: Kit<W, R, E, M, K, G, B>,
-        pass: ClientOut<E, M, K>,
-        port: O,
-    },
-    ReadDevice {
-        kit: Kit<W, R, E, M, K, G, B>,
-        pass: LinkIn<E, M, K>,
-        port: X,
-        slicer: Slicer,
-    },
-    WriteDevice {
-        kit: Kit<W, R, E, M, K, G, B>,
-        pass: LinkOut<E, M, K>,
-        port: Z,
-    },
+    ReadClient(Task<W, R, E, M, K, G, B, ClientIn<E, M, K>, I, P>),
+    WriteClient(Task<W, R, E, M, K, G, B, ClientOut<E, M, K>, O, ()>),
+    ReadDevice(Task<W, R, E, M, K, G, B, LinkIn<E, M, K>, X, Slicer>),
+    WriteDevice(Task<W, R, E, M, K, G, B, LinkOut<E, M, K>, Z, ()>),
 }
 
 impl<
@@ -73,20 +76,10 @@ impl<
 
     fn run(self) {
         match self {
-            Work::ReadClient {
-                kit,
-                pass,
-                port,
-                ports,
-            } => read_one_client(kit, pass, port, ports),
-            Work::WriteClient { kit, pass, port } => write_one_client(kit, pass, port),
-            Work::ReadDevice {
-                kit,
-                pass,
-                port,
-                slicer,
-            } => read_one_device(kit, pass, port, slicer),
-            Work::WriteDevice { kit, pass, port } => write_one_device(kit, pass, port),
+            Work::ReadClient(task) => read_one_client(task),
+            Work::WriteClient(task) => write_one_client(task),
+            Work::ReadDevice(task) => read_one_device(task),
+            Work::WriteDevice(task) => write_one_device(task),
         }
     }
 }
@@ -101,8 +94,14 @@ fn read_one_client<
     P: Binder + Drop,
     G: Gate + Drop,
     B: Ringing,
->(kit: Kit<W, R, E, M, K, G, B>, pass: ClientIn<E, M, K>, port: I, ports: P) {
-    let (mut kit, mut port, mut ports) = (kit, port, ports);
+>(task: Task<W, R, E, M, K, G, B, ClientIn<E, M, K>, I, P>) {
+    let Task {
+        kit,
+        pass,
+        port,
+        aid,
+    } = task;
+    let (mut kit, mut port, mut ports) = (kit, port, aid);
     let pass = read_client(
         kit.rt,
         &mut kit.hall,
@@ -124,7 +123,13 @@ fn write_one_client<
     O: PortOut + Drop,
     G: Gate + Drop,
     B: Ringing,
->(kit: Kit<W, R, E, M, K, G, B>, pass: ClientOut<E, M, K>, port: O) {
+>(task: Task<W, R, E, M, K, G, B, ClientOut<E, M, K>, O, ()>) {
+    let Task {
+        kit,
+        pass,
+        port,
+        ..
+    } = task;
     let (mut kit, mut port) = (kit, port);
     let pass = write_client(kit.rt, &mut kit.hall, &mut port, pass, &kit.gate);
     kit.hall.retire_client_out(pass);
@@ -140,9 +145,15 @@ fn read_one_device<
     G: Gate + Drop,
     B: Ringing,
     X: Inlet,
->(kit: Kit<W, R, E, M, K, G, B>, pass: LinkIn<E, M, K>, port: X, slicer: Slicer) {
+>(task: Task<W, R, E, M, K, G, B, LinkIn<E, M, K>, X, Slicer>) {
+    let Task {
+        kit,
+        pass,
+        port,
+        aid,
+    } = task;
     let (mut kit, mut port) = (kit, port);
-    let pass = port.read_all(kit.rt, &mut kit.hall, pass, slicer, &kit.gate);
+    let pass = port.read_all(kit.rt, &mut kit.hall, pass, aid, &kit.gate);
     kit.hall.retire_link_in(pass);
     kit.ring();
 }
@@ -156,7 +167,13 @@ fn write_one_device<
     G: Gate + Drop,
     B: Ringing,
     Z: Outlet,
->(kit: Kit<W, R, E, M, K, G, B>, pass: LinkOut<E, M, K>, port: Z) {
+>(task: Task<W, R, E, M, K, G, B, LinkOut<E, M, K>, Z, ()>) {
+    let Task {
+        kit,
+        pass,
+        port,
+        ..
+    } = task;
     let (mut kit, mut port) = (kit, port);
     let pass = port.write_all(kit.rt, &mut kit.hall, pass, &kit.gate);
     kit.hall.retire_link_out(pass);
