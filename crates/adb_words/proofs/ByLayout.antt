@@ -1,5 +1,6 @@
 -- A simple command whose options and operands each add one value reads words as its layout has them.
-use Rattle.std.proofs.Common.{◌≡◌, ◌≢◌, ◌⊎◌, inl, inr, ◌&&◌, Bool, true, false, cond, List, [], ◌∷◌, ◌++◌, Option, Some, None, Result, Ok, Err, IfOk, String, unwrap_or, subst}
+use Rattle.std.proofs.Common.{◌≡◌, ◌≢◌, ◌⊎◌, inl, inr, ◌&&◌, Bool, true, false, cond, List, []}
+use Rattle.std.proofs.Common.{◌∷◌, ◌++◌, Option, Some, None, Result, Ok, Err, IfOk, String, unwrap_or, subst}
 use Rattle.std.proofs.Common.{option_map, option_and_then, refl, sym, ◌∙◌, ap, true≢false}
 use Rattle.std.specs.Prelude.{if◌then◌else◌}
 use Rattle.clap.specs.Walk.{Row, Text, Held, nothing_held, walk, all_of, rows_of, finished, settled, idle}

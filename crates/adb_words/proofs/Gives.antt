@@ -290,7 +290,7 @@ module _ (l : Layout) (s : Shape) (fits : Fits l s) where
 
   clean_turn : (h h' : Held) (waiting waiting' : Waiting) (word : Text) (kinds : Kinds) → Turn h waiting word h' waiting' kinds → kinds ≡ []
       → Turn h waiting word h' waiting' []
-  clean_turn h h' waiting waiting' word kinds t e = record { walks = t.walks; fails = t.fails ∙ e; }
+  clean_turn h h' waiting waiting' word kinds t e = record { walks = t.walks; fails = t.fails ∙ e }
 
   -- a word that is an operand, or begins an option, between two words
   step : (b : Bool) (h : Held) (word : Text) (words : List Text) (part : Part) → before h ≡ [] → IsPart l.options l.flags word part

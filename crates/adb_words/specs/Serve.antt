@@ -56,9 +56,9 @@ each_of read (text ∷ texts) = option_and_then (λ x. option_map (λ xs. x ∷ 
 abbrev pub serving_by : List (List ℕ) → List (List ℕ) → List (List ℕ) → List (List ℕ) → Option Serving
 serving_by ports records devices connects =
     if nat_le (length devices + length connects) MAX_DEVICES then
-      option_and_then (λ port. option_and_then (λ flag. option_and_then (λ serials. option_map
-        (λ dialled. record { port = port; records = flag; devices = serials; connects = dialled; })
-        (each_of (number_within 1 65535) connects)) (each_of serial_of devices)) (flag_of records)) (port_of 0 ports)
+    option_and_then (λ port. option_and_then (λ flag. option_and_then (λ serials. option_map
+    (λ dialled. record { port = port; records = flag; devices = serials; connects = dialled })
+    (each_of (number_within 1 65535) connects)) (each_of serial_of devices)) (flag_of records)) (port_of 0 ports)
     else None
 
 -- the server of the values of each name
@@ -68,6 +68,10 @@ served_by values = serving_by (values (codes "port")) (values (codes "record")) 
 abbrev pub served : Given → Option Serving
 served given = served_by (λ name. values_of name given)
 
+-- the server of the words behind `serve`
+abbrev pub served_in : List (List ℕ) → Option Serving
+served_in words = option_and_then served (given_in serve_layout words)
+
 -- whether the first word is `serve`
 abbrev pub is_serve : List (List ℕ) → Bool
 is_serve [] = false
@@ -76,5 +80,4 @@ is_serve (name ∷ words) = bytes_eq name (codes "serve")
 -- the server that words are
 abbrev pub serve_of : List (List ℕ) → Option Serving
 serve_of [] = None
-serve_of (name ∷ words) =
-    if bytes_eq name (codes "serve") then option_and_then served (given_in serve_layout words) else None
+serve_of (name ∷ words) = if bytes_eq name (codes "serve") then served_in words else None

@@ -13,7 +13,7 @@ use Rattle.adb_words.specs.Serve.{port_of, serial_of}
 
 -- a tool that has these options, and operands
 abbrev pub tool_layout : List (List ℕ) → Layout
-tool_layout options = record { options = options; flags = []; operand = Some (codes "operand"); }
+tool_layout options = record { options = options; flags = []; operand = Some (codes "operand") }
 
 abbrev pub port_layout : Layout
 port_layout = tool_layout (codes "port" ∷ [])
@@ -80,7 +80,7 @@ shell_of _ _ = None
 
 -- a tool's call, at a port
 abbrev pub call_of : Option ℕ → Option Tool → Option Call
-call_of (Some port) (Some tool) = Some (record { port = port; tool = tool; })
+call_of (Some port) (Some tool) = Some (record { port = port; tool = tool })
 call_of _ _ = None
 
 abbrev pub is_tool : List ℕ → Bool
@@ -111,10 +111,14 @@ called_by name values = call_of (port_of 1 (values (codes "port")))
 abbrev pub called : List ℕ → Given → Option Call
 called name given = called_by name (λ id. values_of id given)
 
+-- the call of a tool, of the words behind its name
+abbrev pub tool_named : List ℕ → List (List ℕ) → Option Call
+tool_named name words = option_and_then (called name) (given_in (layout_named name) words)
+
 -- the call of a tool that words are
 abbrev pub tool_of : List (List ℕ) → Option Call
 tool_of [] = None
-tool_of (name ∷ words) = if is_tool name then option_and_then (called name) (given_in (layout_named name) words) else None
+tool_of (name ∷ words) = if is_tool name then tool_named name words else None
 
 -- whether the first word is the name of a tool
 abbrev pub names_tool : List (List ℕ) → Bool

@@ -18,7 +18,9 @@ use std::alloc::{AllocError, Global};
 pub fn bare_command<'a>(alloc: Global, name: &'a str) -> Command<'a>
     ensures { app_of result ≡ bare_app name.entry.now }
 {
-    Command::new(alloc, name).no_binary_name(true).disable_help_flag(true)
+    Command::new(alloc, name)
+        .no_binary_name(true)
+        .disable_help_flag(true)
 }
 
 /// A command with one more option that has a value. Each of its uses adds one.
@@ -102,7 +104,9 @@ pub fn values_in<'m, 'a>(
 fn are_known(words: &[String], options: &[&str], flags: &[&str]) -> bool
     ensures { result ≡ are_known (texts_in options.now) (texts_in flags.now) words.now }
 {
-    words.iter().all(|word| is_known(word.as_str(), options, flags))
+    words
+        .iter()
+        .all(|word| is_known(word.as_str(), options, flags))
 }
 
 /// Whether a word is an operand, or one of these options and flags.

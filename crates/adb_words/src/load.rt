@@ -1,6 +1,7 @@
 //! The words of a load.
 
-ghost use Rattle.std.specs.Prelude.{◌≡◌, ◌≢◌, ◌∷◌, List, ℕ, [], Err, Some, None, IfOk, IsOkAnd, ok_or, codes};
+ghost use Rattle.std.specs.Prelude.{◌≡◌, ◌≢◌, ◌∷◌, List, ℕ, [], Err, Some, None, IfOk};
+ghost use Rattle.std.specs.Prelude.{IsOkAnd, codes, ok_or};
 ghost use Rattle.clap.specs.Words.{app_of, first_value, found_of};
 ghost use Rattle.adb_words.specs.Words.{gen_of, number_within, texts};
 ghost use Rattle.adb_words.specs.Apps.{gen_app};

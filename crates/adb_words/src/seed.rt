@@ -1,6 +1,7 @@
 //! The one word of a command that takes a seed.
 
-ghost use Rattle.std.specs.Prelude.{◌≡◌, ◌≢◌, ◌∷◌, List, ℕ, [], Err, Some, None, IfOk, IsOkAnd, ok_or, codes};
+ghost use Rattle.std.specs.Prelude.{◌≡◌, ◌≢◌, ◌∷◌, List, ℕ, [], Err, Some, None, IfOk};
+ghost use Rattle.std.specs.Prelude.{IsOkAnd, codes, ok_or};
 ghost use Rattle.clap.specs.Words.{app_of, first_value, found_of};
 ghost use Rattle.adb_words.specs.Words.{seed_of, texts};
 ghost use Rattle.adb_words.specs.Apps.{seed_app};

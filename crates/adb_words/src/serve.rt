@@ -1,12 +1,13 @@
 //! The words of `serve`.
 
-ghost use Rattle.std.specs.Prelude.{◌≡◌, Err, Some, None, IfOk, ok_or, option_and_then, option_map, true};
+ghost use Rattle.std.specs.Prelude.{◌≡◌, Err, Some, None, IfOk, ok_or, option_map, true};
 ghost use Rattle.clap.specs.Words.{app_of, found_of};
 ghost use Rattle.adb_words.specs.Words.{number_within, texts};
 ghost use Rattle.adb_words.specs.Apps.{serve_app};
 ghost use Rattle.adb_words.specs.Found.{Finds, texts_in, values_found};
 ghost use Rattle.adb_words.specs.Given.{given_in};
-ghost use Rattle.adb_words.specs.Serve.{each_of, flag_of, is_serve, port_of, serial_of, serve_layout, serve_of, served, served_by, serving};
+ghost use Rattle.adb_words.specs.Serve.{each_of, flag_of, is_serve, port_of, serial_of};
+ghost use Rattle.adb_words.specs.Serve.{serve_layout, serve_of, served_by, served_in, serving};
 
 use crate::command::{DEFAULT_PORT, MAX_DEVICES, WordsError};
 use crate::given::{bare_command, given_of, values_in, with_flag, with_option};
@@ -45,8 +46,8 @@ pub fn is_serve(words: &[String]) -> bool
     }
 }
 
-/// The server that the words behind the program's name are. Where memory ran out it may be that they
-/// are none; it is wanted only behind `serve`.
+/// The server that the words behind the program's name are. Where memory ran out it may be that
+/// they are none; it is wanted only behind `serve`.
 pub fn read_serve(alloc: Global, words: &[String]) -> Result<Serve, WordsError>
     ensures serve { IfOk result (λ serve. serve_of (texts words.now) ≡ Some (serving serve)) }
     ensures usage { result ≡ Err WordsError.Usage → serve_of (texts words.now) ≡ None }
@@ -64,9 +65,9 @@ pub fn read_serve(alloc: Global, words: &[String]) -> Result<Serve, WordsError>
 /// The server that the words behind `serve` are.
 fn read_behind(alloc: Global, words: &[String]) -> Result<Serve, WordsError>
     ensures ok { IfOk result (λ serve.
-        option_and_then served (given_in serve_layout (texts words.now)) ≡ Some (serving serve)) }
+        served_in (texts words.now) ≡ Some (serving serve)) }
     ensures usage { result ≡ Err WordsError.Usage
-        → option_and_then served (given_in serve_layout (texts words.now)) ≡ None }
+        → served_in (texts words.now) ≡ None }
 {
     match serve_matches(alloc, words) {
         Ok(matches) => serve_in(alloc, &matches),
@@ -153,8 +154,10 @@ fn flag_in(texts: &[&str]) -> Result<bool, WordsError>
 
 /// The serials that texts are.
 fn serials_in(alloc: Global, texts: &[&str]) -> Result<Vec<Text>, WordsError>
-    ensures ok { IfOk result (λ serials. each_of serial_of (texts_in texts.now) ≡ Some serials.items) }
-    ensures usage { result ≡ Err WordsError.Usage → each_of serial_of (texts_in texts.now) ≡ None }
+    ensures ok { IfOk result (λ serials.
+        each_of serial_of (texts_in texts.now) ≡ Some serials.items) }
+    ensures usage { result ≡ Err WordsError.Usage
+        → each_of serial_of (texts_in texts.now) ≡ None }
 {
     let mut serials = Vec::new(alloc);
     for text in texts {
@@ -192,8 +195,10 @@ pub fn serial_in(alloc: Global, text: &str) -> Result<Text, WordsError>
 
 /// The ports that texts are.
 fn ports_in(alloc: Global, texts: &[&str]) -> Result<Vec<u16>, WordsError>
-    ensures ok { IfOk result (λ ports. each_of (number_within 1 65535) (texts_in texts.now) ≡ Some ports.items) }
-    ensures usage { result ≡ Err WordsError.Usage → each_of (number_within 1 65535) (texts_in texts.now) ≡ None }
+    ensures ok { IfOk result (λ ports.
+        each_of (number_within 1 65535) (texts_in texts.now) ≡ Some ports.items) }
+    ensures usage { result ≡ Err WordsError.Usage
+        → each_of (number_within 1 65535) (texts_in texts.now) ≡ None }
 {
     let mut ports = Vec::new(alloc);
     for text in texts {

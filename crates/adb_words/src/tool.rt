@@ -1,12 +1,12 @@
 //! The words of the client tools.
 
-ghost use Rattle.std.specs.Prelude.{◌≡◌, ◌≢◌, Err, Some, None, IfOk, IfErr, ok_or, true, option_and_then};
+ghost use Rattle.std.specs.Prelude.{◌≡◌, ◌≢◌, Err, Some, None, IfOk, IfErr, ok_or, true};
 ghost use Rattle.clap.specs.Words.{found_of};
 ghost use Rattle.adb_words.specs.Words.{texts};
 ghost use Rattle.adb_words.specs.Found.{text_in, texts_in, values_found};
-ghost use Rattle.adb_words.specs.Given.{given_in};
-ghost use Rattle.adb_words.specs.Tools.{called, called_by, devices_of, is_tool, layout_named, mtime_of, names_tool, operand_of, pull_of};
-ghost use Rattle.adb_words.specs.Tools.{push_of, shell_of, state_named, tool_by, tool_of, wait_of, wanted_of};
+ghost use Rattle.adb_words.specs.Tools.{called_by, devices_of, is_tool, mtime_of, names_tool};
+ghost use Rattle.adb_words.specs.Tools.{operand_of, pull_of, push_of, shell_of, state_named};
+ghost use Rattle.adb_words.specs.Tools.{tool_by, tool_named, tool_of, wait_of, wanted_of};
 
 use crate::command::{MAX_OPERAND, WordsError};
 use crate::given::values_in;
@@ -29,14 +29,20 @@ pub enum Tool {
         serial: Option<Text>,
     },
     /// A file of a device is read.
-    Pull { path: Text, serial: Option<Text> },
+    Pull {
+        path: Text,
+        serial: Option<Text>,
+    },
     /// A command runs at a device.
     Shell {
         command: Text,
         serial: Option<Text>,
     },
     /// A device is waited for, till it has this state.
-    Wait { serial: Text, state: State },
+    Wait {
+        serial: Text,
+        state: State,
+    },
 }
 
 /// A client tool, and the port of the server that it calls.
@@ -83,7 +89,7 @@ fn is_tool(name: &str) -> bool
 /// The call of a tool's name, with the words behind it.
 fn read_named(alloc: Global, name: &str, words: &[String]) -> Result<Call, WordsError>
     ensures { result ≢ Err WordsError.OutOfMemory
-        → result ≡ ok_or (option_and_then (called name.now) (given_in (layout_named name.now) (texts words.now))) WordsError.Usage }
+        → result ≡ ok_or (tool_named name.now (texts words.now)) WordsError.Usage }
 {
     match tool_matches(alloc, name, words) {
         Ok(matches) => call_in(alloc, name, &matches),
@@ -94,12 +100,19 @@ fn read_named(alloc: Global, name: &str, words: &[String]) -> Result<Call, Words
 /// The call of the values that were found.
 fn call_in(alloc: Global, name: &str, matches: &ArgMatches<'_>) -> Result<Call, WordsError>
     ensures { result ≢ Err WordsError.OutOfMemory
-        → result ≡ ok_or (called_by name.now (λ id. values_found id (found_of matches.now))) WordsError.Usage }
+        → result ≡ ok_or (called_by name.now
+        (λ id. values_found id (found_of matches.now))) WordsError.Usage }
 {
     let port = port_in(values_in(&*matches, "port", &[]), 1)?;
     let operands = values_in(&*matches, "operand", &[]);
     let serials = values_in(&*matches, "serial", &[]);
-    let tool = tool_in(alloc, name, operands, serials, values_in(&*matches, "mtime", &[]))?;
+    let tool = tool_in(
+        alloc,
+        name,
+        operands,
+        serials,
+        values_in(&*matches, "mtime", &[]),
+    )?;
     Ok(Call { port, tool })
 }
 

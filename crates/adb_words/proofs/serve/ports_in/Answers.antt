@@ -10,14 +10,17 @@ loop-text-init c = each_begins (number_within 1 65535) c.args.texts.now c.new-po
 
 pub returns-in_default-clause-usage : goal.returns-in_default-clause-usage
 returns-in_default-clause-usage c = λ _.
-    each_stops (number_within 1 65535) c.args.texts.now c.loop-text.text-index c.loop-text-test.true (sym c.port_within.ensures ∙ c.in_default.is)
+    each_stops (number_within 1 65535) c.args.texts.now c.loop-text.text-index c.loop-text-test.true
+    (sym c.port_within.ensures ∙ c.in_default.is)
 
 pub loop-text-preserved : goal.loop-text-preserved
 loop-text-preserved c =
-    let read : (number_within 1 65535) (slice_index_or c.args.texts.now c.loop-text.text-index (record { ref_ptr = (0, 0); now = []; })).now ≡ Some c.in-Some.port = search rules in
+    let read : (number_within 1 65535) (slice_index_or c.args.texts.now c.loop-text.text-index (record { ref_ptr = (0, 0); now = [] })).now
+    ≡ Some c.in-Some.port = search rules in
     let added : c.push.new.self.items ≡ c.loop-text.ports.items ++ c.in-Some.port ∷ [] = search rules in
     each_goes (number_within 1 65535) c.args.texts.now c.loop-text.text-index c.in-Some.port c.loop-text.ports.items c.push.new.self.items
     c.loop-text-test.true c.loop-text.invariant read added
 
 pub returns-clause-ok : goal.returns-clause-ok
-returns-clause-ok c = each_ends (number_within 1 65535) c.args.texts.now c.loop-text.text-index c.loop-text.ports.items (omega (arith, c.loop-text-test.false)) c.loop-text.invariant
+returns-clause-ok c = each_ends (number_within 1 65535) c.args.texts.now c.loop-text.text-index c.loop-text.ports.items
+    (omega (arith, c.loop-text-test.false)) c.loop-text.invariant
