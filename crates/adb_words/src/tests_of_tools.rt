@@ -90,20 +90,23 @@ fn is_wanted(serial: &Option<Text>, word: Option<&str>) -> bool {
 }
 
 fn is_tool(tool: &Tool, row: &Called) -> bool {
+    let Some(name) = row.words.first() else {
+        return false;
+    };
     match tool {
-        Tool::Devices => row.words[0] == "devices",
+        Tool::Devices => *name == "devices",
         Tool::Push {
             path,
             mtime,
             serial,
-        } => row.words[0] == "push"
+        } => *name == "push"
             && is_text(path, row.text)
             && is_wanted(serial, row.serial)
             && *mtime == row.mtime,
-        Tool::Pull { path, serial } => row.words[0] == "pull"
+        Tool::Pull { path, serial } => *name == "pull"
             && is_text(path, row.text)
             && is_wanted(serial, row.serial),
-        Tool::Shell { command, serial } => row.words[0] == "shell"
+        Tool::Shell { command, serial } => *name == "shell"
             && is_text(command, row.text)
             && is_wanted(serial, row.serial),
         Tool::Wait { serial, state } => is_text(serial, row.serial.unwrap_or(""))
