@@ -2,11 +2,22 @@
 #![tactic(auto)]
 
 mod command;
+mod given;
 mod load;
 mod operands;
+mod seed;
+mod serve;
 #[cfg(test)]
 mod tests;
+#[cfg(test)]
+mod tests_of_serve;
+#[cfg(test)]
+mod tests_of_tools;
+mod tool;
+mod tool_matches;
 mod words;
 
 pub use command::{Command, WordsError, limits_are};
+pub use serve::{Ports, Serve, is_serve, read_serve};
+pub use tool::{Call, Tool, names_tool, read_tool};
 pub use words::read_words;

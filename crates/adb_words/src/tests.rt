@@ -4,7 +4,8 @@ use crate::{Command, WordsError, read_words};
 use std::alloc::{AllocError, Global};
 use std::test::Fail;
 
-fn words_of(alloc: Global, words: &[&str]) -> Result<Vec<String>, AllocError> {
+/// Words of memory of their own.
+pub fn words_of(alloc: Global, words: &[&str]) -> Result<Vec<String>, AllocError> {
     let mut owned = Vec::new(alloc);
     for word in words {
         owned.push(String::from_str(alloc, word)?)?;
@@ -36,6 +37,13 @@ const RIGHT: &[(&[&str], Command)] = &[
             streams: 1,
         },
     ),
+    (
+        &["local", "18446744073709551615"],
+        Command::Local {
+            seed: 18_446_744_073_709_551_615,
+        },
+    ),
+    (&["copy", "03"], Command::Copy { seed: 3 }),
 ];
 
 const WRONG: &[&[&str]] = &[
@@ -71,6 +79,13 @@ const WRONG: &[&[&str]] = &[
     &["gen", "7", "10001"],
     &["gen", "18446744073709551616", "1"],
     &["gen", "000000000000000000007", "1"],
+    &["local"],
+    &["local", "7", "7"],
+    &["local", "--", "7"],
+    &["local", "18446744073709551616"],
+    &["copy", "-7"],
+    &["copy", "x"],
+    &["serve"],
 ];
 
 #[test]
