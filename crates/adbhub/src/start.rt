@@ -2,16 +2,16 @@
 
 ghost use Rattle.std.specs.Prelude.{◌≡◌, ◌≢◌, ◌⊎◌, ℕ, drop, IfErr, IfOk};
 ghost use Rattle.std.specs.IoError.{error_kind};
-ghost use Rattle.adb_top.specs.Faults.{Rose};
-ghost use Rattle.adb_top.specs.Loads.{WritesLoad};
-ghost use Rattle.adb_top.specs.Notes.{usage_line, out_of_memory_line, IsJust, WritesNote};
-ghost use Rattle.adb_top.specs.Run.{WritesHistory, EndsCapture, NamesRefusal, Completes};
-ghost use Rattle.adb_top.specs.Run.{IsAtHand, IsUnheard};
-ghost use Rattle.adb_top.specs.Check.{WritesVerdict};
-ghost use Rattle.adb_top.specs.Words.{IsNoCommand, IsReplay, IsCheck, IsLoad};
+ghost use Rattle.adb_commands.specs.Faults.{Rose};
+ghost use Rattle.adb_commands.specs.Loads.{WritesLoad};
+ghost use Rattle.adb_commands.specs.Notes.{usage_line, out_of_memory_line, IsJust, WritesNote};
+ghost use Rattle.adb_commands.specs.Run.{WritesHistory, EndsCapture, NamesRefusal, Completes};
+ghost use Rattle.adb_commands.specs.Run.{IsAtHand, IsUnheard};
+ghost use Rattle.adb_commands.specs.Check.{WritesVerdict};
+ghost use Rattle.adb_commands.specs.Words.{IsNoCommand, IsReplay, IsCheck, IsLoad};
 
 use adb_outside::{Sink, Source};
-use adb_top::{Status, run, say_out_of_memory, say_usage};
+use adb_commands::{Status, run, say_out_of_memory, say_usage};
 use std::alloc::Global;
 use std::io;
 use std::io::ErrorKind;

@@ -3,7 +3,7 @@ ghost use Rattle.std.specs.Prelude.{◌≤◌, IfOk};
 use crate::start::start;
 use crate::streams::Stream;
 use adb_outside::{Got, MemorySink, MemorySource, Sink, Source, Text, Wrote};
-use adb_top::Status;
+use adb_commands::Status;
 use std::alloc::{AllocError, Global};
 use std::io;
 use std::io::{ErrorKind, Read, Write};
