@@ -17,14 +17,14 @@ use std::sync::Wait;
 /// An end that is dropped without `finish` puts no end mark: what was put before can be taken, and
 /// then `take` answers `Lost`.
 #[derive(Drop)]
-pub struct PipeOut<W: Wait + Copy + Send + Sync + Drop + 'static> {
+pub struct PipeOut<W: Wait + Drop> {
     rt: W,
     sender: RuledSender<Item, View, InOrder>,
     pass: Pass<Item, View>,
     refused: u64,
 }
 
-impl<W: Wait + Copy + Send + Sync + Drop + 'static> Model for PipeOut<W> {
+impl<W: Wait + Drop> Model for PipeOut<W> {
     ghost use Rattle.std.specs.Prelude.{◌≡◌};
     ghost use Rattle.crossbeam_channel.specs.Claims.{IsSeatAt, view as known};
     ghost use Rattle.crossbeam_channel.specs.Ends.{ruled_capacity, sends_on};
@@ -47,14 +47,14 @@ impl<W: Wait + Copy + Send + Sync + Drop + 'static> Model for PipeOut<W> {
 /// The end of a pipe that takes. Contracts see the chunks that it took, whether it answered `End`,
 /// and how often it answered `Lost`; that count stays at its last value.
 #[derive(Drop)]
-pub struct PipeIn<W: Wait + Copy + Send + Sync + Drop + 'static> {
+pub struct PipeIn<W: Wait + Drop> {
     rt: W,
     receiver: RuledReceiver<Item, View, InOrder>,
     pass: Pass<Item, View>,
     lost: u64,
 }
 
-impl<W: Wait + Copy + Send + Sync + Drop + 'static> Model for PipeIn<W> {
+impl<W: Wait + Drop> Model for PipeIn<W> {
     ghost use Rattle.std.specs.Prelude.{◌≡◌};
     ghost use Rattle.crossbeam_channel.specs.Claims.{IsSeatAt, view as known};
     ghost use Rattle.crossbeam_channel.specs.Ends.{receives_on};
@@ -89,7 +89,7 @@ pub enum Taken {
 
 /// The two ends of a pipe that holds at most `chunks` chunks at a time. Nothing was put, taken,
 /// refused or lost.
-pub fn pipe<W: Wait + Copy + Send + Sync + Drop + 'static>(
+pub fn pipe<W: Wait + Copy + Drop>(
     rt: W,
     alloc: Global,
     chunks: usize,
@@ -114,7 +114,7 @@ pub fn pipe<W: Wait + Copy + Send + Sync + Drop + 'static>(
     Ok((out, input))
 }
 
-impl<W: Wait + Copy + Send + Sync + Drop + 'static> PipeOut<W> {
+impl<W: Wait + Drop> PipeOut<W> {
     /// Puts a chunk behind the others; it waits while the pipe is full. A chunk that the channel
     /// refuses comes back, and the pipe is as before but for the count of refusals.
     pub fn put(&mut self, chunk: Text) -> Result<(), Text>
@@ -156,7 +156,7 @@ fn chunk_of(item: Item) -> Text
     }
 }
 
-impl<W: Wait + Copy + Send + Sync + Drop + 'static> PipeIn<W> {
+impl<W: Wait + Drop> PipeIn<W> {
     /// Takes the next chunk, or the end mark behind the last; it waits while the pipe is empty.
     /// Behind the end mark nothing comes, and each call answers `Lost`.
     #[tactic(auto, using(crate::proofs::Rules::takes))]

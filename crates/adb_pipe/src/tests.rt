@@ -9,10 +9,7 @@ use std::test::Fail;
 use std::thread::join;
 
 /// Puts `ab` and `c`, and finishes.
-fn put_both<W: Wait + Copy + Send + Sync + Drop + 'static>(
-    alloc: Global,
-    mut out: PipeOut<W>,
-) -> Result<bool, AllocError> {
+fn put_both<W: Wait + Drop>(alloc: Global, mut out: PipeOut<W>) -> Result<bool, AllocError> {
     let first = out.put(Text::from_slice(alloc, b"ab")?).is_ok();
     let second = out.put(Text::from_slice(alloc, b"c")?).is_ok();
     out.finish();
@@ -20,10 +17,7 @@ fn put_both<W: Wait + Copy + Send + Sync + Drop + 'static>(
 }
 
 /// Whether a chunk of these bytes comes next.
-fn gives<W: Wait + Copy + Send + Sync + Drop + 'static>(
-    input: &mut PipeIn<W>,
-    want: &[u8],
-) -> bool {
+fn gives<W: Wait + Drop>(input: &mut PipeIn<W>, want: &[u8]) -> bool {
     match input.take() {
         Taken::Chunk(chunk) => chunk.as_slice() == want,
         Taken::End | Taken::Lost => false,
@@ -31,7 +25,7 @@ fn gives<W: Wait + Copy + Send + Sync + Drop + 'static>(
 }
 
 /// Whether `ab`, `c` and the end come.
-fn gives_both<W: Wait + Copy + Send + Sync + Drop + 'static>(input: &mut PipeIn<W>) -> bool {
+fn gives_both<W: Wait + Drop>(input: &mut PipeIn<W>) -> bool {
     gives(input, b"ab") && gives(input, b"c") && matches!(input.take(), Taken::End)
 }
 

@@ -1,0 +1,11 @@
+//! A model device in a thread of its own, and the two halves of its link to a server: between them
+//! are two pipes.
+#![tactic(auto)]
+
+mod pipe_device;
+mod running;
+#[cfg(test)]
+mod tests;
+
+pub use pipe_device::{PipeDeviceIn, PipeDeviceOut};
+pub use running::{DeviceEnd, run_device};

@@ -1,0 +1,159 @@
+//! The two halves of a device's link, over the ends of two pipes.
+
+ghost use Rattle.std.specs.Prelude.{◌≡◌, ◌≤◌, false, length};
+
+use adb_connections::{DeviceIn, DeviceOut, Plug};
+use adb_outside::{Got, Text, Wrote};
+use adb_pipe::{PipeIn, PipeOut, Taken};
+use std::alloc::Global;
+use std::sync::Wait;
+
+/// A chunk, of which the first bytes were read.
+#[derive(Drop)]
+struct Reading {
+    chunk: Text,
+    read: usize,
+}
+
+impl Reading {
+    /// Reads as many of the bytes that are left as find place, and says how many.
+    fn read(&mut self, into: &mut [u8]) -> usize
+        ensures { result ≤ length into.old }
+    {
+        let left = &self.chunk.as_slice()[self.read.min(self.chunk.len())..];
+        let count = left.len().min(into.len());
+        into[..count].copy_from_slice(&left[..count]);
+        self.read = self.read.saturating_add(count);
+        count
+    }
+}
+
+/// What a device in a thread of its own sends: the chunks that it put into a pipe. It is plugged in
+/// from the start. A pipe that is lost is a fault. It tells nothing.
+#[derive(Drop)]
+pub struct PipeDeviceIn<W: Wait + Drop> {
+    input: PipeIn<W>,
+    reading: Reading,
+    ended: bool,
+    faults: u64,
+}
+
+impl<W: Wait + Drop> PipeDeviceIn<W> {
+    /// The device that puts into this pipe. It takes no memory.
+    pub fn new(alloc: Global, input: PipeIn<W>) -> PipeDeviceIn<W>
+        ensures { result.faults ≡ 0 }
+    {
+        PipeDeviceIn {
+            input,
+            reading: Reading {
+                chunk: Text::new(alloc),
+                read: 0,
+            },
+            ended: false,
+            faults: 0,
+        }
+    }
+}
+
+impl<W: Wait + Drop> DeviceIn for PipeDeviceIn<W> {
+    ghost use Rattle.std.specs.Prelude.{None};
+
+    ghost faults = { λ device. device.faults };
+
+    ghost left = { λ device. None };
+
+    ghost plugs = { λ device. None };
+
+    ghost steady = { λ device. ⊥ };
+
+    /// It is plugged in.
+    fn plug(&mut self) -> Plug {
+        Plug::Here
+    }
+
+    /// Waits for a chunk where none is left. Behind the end each call answers `End`.
+    fn read(&mut self, into: &mut [u8]) -> Got {
+        for _ in 0..u64::MAX {
+            let count = self.reading.read(into);
+            if count > 0 {
+                return Got::Bytes(count);
+            }
+            if self.ended {
+                return Got::End;
+            }
+            match self.input.take() {
+                Taken::Chunk(chunk) => self.reading = Reading { chunk, read: 0 },
+                Taken::End => self.ended = true,
+                Taken::Lost => break,
+            }
+        }
+        self.faults = self.faults.saturating_add(1);
+        Got::Failed
+    }
+}
+
+/// What a device in a thread of its own is sent: each piece is a chunk of a pipe. A write that finds
+/// no memory fails, and so does one after `unplug`. It tells nothing.
+#[derive(Drop)]
+pub struct PipeDeviceOut<W: Wait + Drop> {
+    alloc: Global,
+    output: Option<PipeOut<W>>,
+    closed: bool,
+    faults: u64,
+}
+
+impl<W: Wait + Drop> PipeDeviceOut<W> {
+    /// The device that takes from this pipe. It takes no memory.
+    pub fn new(alloc: Global, output: PipeOut<W>) -> PipeDeviceOut<W>
+        ensures { (result.faults ≡ 0) × (result.closed ≡ false) }
+    {
+        PipeDeviceOut {
+            alloc,
+            output: Some(output),
+            closed: false,
+            faults: 0,
+        }
+    }
+
+    /// Puts a piece, if there is memory for it and the pipe takes it.
+    fn put(&mut self, piece: &[u8]) -> bool
+        ensures { (self.new.faults ≡ self.old.faults) × (self.new.closed ≡ self.old.closed) }
+    {
+        let Some(output) = &mut self.output else {
+            return false;
+        };
+        match Text::from_slice(self.alloc, piece) {
+            Ok(chunk) => output.put(chunk).is_ok(),
+            Err(_) => false,
+        }
+    }
+}
+
+impl<W: Wait + Drop> DeviceOut for PipeDeviceOut<W> {
+    ghost use Rattle.std.specs.Prelude.{None};
+
+    ghost faults = { λ device. device.faults };
+
+    ghost written = { λ device. None };
+
+    ghost closed = { λ device. device.closed };
+
+    ghost steady = { λ device. ⊥ };
+
+    /// Waits while the pipe is full. A write that fails takes nothing.
+    fn write(&mut self, piece: &[u8]) -> Wrote {
+        if self.put(piece) {
+            return Wrote::All;
+        }
+        self.faults = self.faults.saturating_add(1);
+        Wrote::Failed { taken: 0 }
+    }
+
+    /// Finishes the pipe.
+    fn unplug(&mut self) {
+        if let Some(output) = self.output.take() {
+            output.finish();
+        }
+        self.closed = true;
+    }
+}

@@ -1,0 +1,16 @@
+//! Connections by TCP: the two halves of a client and of a device. Nagle's delay is off.
+//!
+//! No clause says what a socket carries. A call that is interrupted is made again, and each call
+//! that fails is counted.
+#![tactic(auto)]
+
+mod device;
+mod ending;
+mod port;
+mod socket;
+#[cfg(test)]
+mod tests;
+
+pub use device::{TcpDeviceIn, TcpDeviceOut, tcp_device};
+pub use ending::Ending;
+pub use port::{TcpIn, TcpOut, halves};

@@ -1,0 +1,94 @@
+//! The two halves of a client's connection.
+
+ghost use Rattle.std.specs.Prelude.{◌≡◌, false, IfOk};
+
+use crate::ending::Ending;
+use crate::socket::{receive, send, set_up};
+use adb_connections::{PortIn, PortOut};
+use adb_outside::{Got, Wrote};
+use std::alloc::Global;
+use std::io;
+use std::net::{Shutdown, TcpStream};
+use std::sync::Arc;
+
+/// What a client sends. It tells nothing.
+#[derive(Drop)]
+pub struct TcpIn {
+    stream: Arc<TcpStream, Global>,
+    faults: u64,
+}
+
+/// What a client is sent. A write to one who does not read waits until the server ends, and fails
+/// then. It tells nothing.
+#[derive(Drop)]
+pub struct TcpOut {
+    stream: Arc<TcpStream, Global>,
+    ending: Ending,
+    closed: bool,
+    faults: u64,
+}
+
+/// The two halves of a connection. It fails where the system cannot set the stream up, and where
+/// memory is wanting; the stream is then closed.
+pub fn halves(alloc: Global, stream: TcpStream, ending: &Ending) -> io::Result<(TcpIn, TcpOut)>
+    ensures { IfOk result (λ ends. (ends.0.faults ≡ 0) × (ends.1.faults ≡ 0)
+        × (ends.1.closed ≡ false)) }
+{
+    set_up(&stream)?;
+    let stream = Arc::new(alloc, stream)?;
+    let input = TcpIn {
+        stream: Arc::try_clone(&stream)?,
+        faults: 0,
+    };
+    let output = TcpOut {
+        stream,
+        ending: ending.share()?,
+        closed: false,
+        faults: 0,
+    };
+    Ok((input, output))
+}
+
+impl PortIn for TcpIn {
+    ghost use Rattle.std.specs.Prelude.{None};
+
+    ghost faults = { λ port. port.faults };
+
+    ghost left = { λ port. None };
+
+    ghost steady = { λ port. ⊥ };
+
+    fn read(&mut self, into: &mut [u8]) -> Got {
+        let got = receive(&self.stream, into);
+        if got == Got::Failed {
+            self.faults = self.faults.saturating_add(1);
+        }
+        got
+    }
+}
+
+impl PortOut for TcpOut {
+    ghost use Rattle.std.specs.Prelude.{None};
+
+    ghost faults = { λ port. port.faults };
+
+    ghost written = { λ port. None };
+
+    ghost closed = { λ port. port.closed };
+
+    ghost steady = { λ port. ⊥ };
+
+    fn write(&mut self, piece: &[u8]) -> Wrote {
+        let wrote = send(&self.stream, &self.ending, piece);
+        if wrote != Wrote::All {
+            self.faults = self.faults.saturating_add(1);
+        }
+        wrote
+    }
+
+    /// Ends both directions, so that the half that reads ends too. What was written still goes out.
+    fn close(&mut self) {
+        let _ = self.stream.shutdown(Shutdown::Both);
+        self.closed = true;
+    }
+}

@@ -1,0 +1,69 @@
+//! What is done with a stream of the system.
+
+ghost use Rattle.std.specs.Prelude.{◌<◌, ◌≤◌, length};
+ghost use Rattle.adb_outside.specs.Source.{FitsBuffer};
+ghost use Rattle.adb_outside.specs.Sink.{FitsPiece};
+
+use crate::ending::Ending;
+use adb_outside::{Got, Wrote};
+use std::io;
+use std::io::{ErrorKind, Read, Write};
+use std::net::TcpStream;
+use std::time::Duration;
+
+/// How many seconds a write waits for one who does not read, before it looks whether the server
+/// ends.
+const PATIENCE: u64 = 1;
+
+/// Turns Nagle's delay off, and sets how long a write waits.
+pub fn set_up(stream: &TcpStream) -> io::Result<()> {
+    stream.set_nodelay(true)?;
+    stream.set_write_timeout(Some(Duration::from_secs(PATIENCE)))
+}
+
+/// Waits for bytes.
+pub fn receive(stream: &TcpStream, into: &mut [u8]) -> Got
+    requires { 0 < length into.old }
+    ensures { FitsBuffer into.old result }
+{
+    let mut stream = stream;
+    for _ in 0..u64::MAX {
+        match stream.read(into) {
+            Ok(0) => return Got::End,
+            Ok(count) => return Got::Bytes(count),
+            Err(error) if error.kind() == ErrorKind::Interrupted => {}
+            Err(_) => break,
+        }
+    }
+    Got::Failed
+}
+
+/// Sends a piece. It waits for one who does not read, until the server ends.
+pub fn send(stream: &TcpStream, ending: &Ending, piece: &[u8]) -> Wrote
+    requires { 0 < length piece.now }
+    ensures { FitsPiece piece.now result }
+{
+    let mut stream = stream;
+    let mut taken = 0;
+    for _ in 0..u64::MAX {
+        match stream.write(&piece[taken..]) {
+            Ok(0) => break,
+            Ok(count) => taken += count,
+            Err(error) if goes_on(error.kind(), ending) => {}
+            Err(_) => break,
+        }
+        if taken == piece.len() {
+            return Wrote::All;
+        }
+    }
+    Wrote::Failed { taken }
+}
+
+/// Whether a write that met this is made again.
+fn goes_on(kind: ErrorKind, ending: &Ending) -> bool {
+    match kind {
+        ErrorKind::Interrupted => true,
+        ErrorKind::WouldBlock => !ending.is_said(),
+        _ => false,
+    }
+}
