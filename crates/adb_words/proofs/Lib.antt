@@ -1,3 +1,4 @@
 pub mod Plain
 pub mod Loads
 pub mod Bare
+pub mod Seeds

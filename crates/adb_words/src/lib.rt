@@ -4,6 +4,7 @@
 mod command;
 mod load;
 mod operands;
+mod seed;
 #[cfg(test)]
 mod tests;
 mod words;
