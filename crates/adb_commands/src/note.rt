@@ -46,10 +46,7 @@ pub fn say_stop<N: Sink>(alloc: Global, note: &mut N, stop: Stop) -> Status
 {
     match stop {
         Stop::ReadFault => say(note, Status::ReadFault, b"adbhub: read fault\n"),
-        Stop::WriteFault => {
-            let _last = say_write_fault(note);
-            Status::WriteFault
-        }
+        Stop::WriteFault => say_lost_line(note),
         Stop::OutOfMemory => say_out_of_memory(note),
         Stop::Refused(refusal) => match refusal_line(alloc, refusal) {
             Ok(line) => say(note, Status::BadCapture, line.as_slice()),

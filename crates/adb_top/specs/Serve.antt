@@ -1,17 +1,11 @@
 -- What a run leaves that serves.
-use Rattle.std.specs.Prelude.{ℕ, ◌≡◌, ◌≢◌, ◌⊎◌, true, false, List, [], ◌++◌, map, Option, Some, None, Result, Ok, Err, String}
+use Rattle.std.specs.Prelude.{ℕ, ◌≡◌, ◌≢◌, ◌⊎◌, List, [], ◌++◌, Option, Some}
 use Rattle.adb_outside.specs.Bytes.{IsPrefixOf}
-use Rattle.adb_outside.specs.Outside.{Counts, Rises}
-use Rattle.adb_server.specs.Note.{listening_line}
-use Rattle.adb_server.specs.declared.server.Served.{Served}
-use Rattle.adb_server.specs.declared.server.Served.TheVariants as served
-use Rattle.adb_words.specs.Serve.{Serving, is_serve, serve_of}
-use Rattle.adb_words.specs.Words.{texts}
-use Rattle.adb_words.specs.declared.command.WordsError.{WordsError}
-use Rattle.adb_words.specs.declared.command.WordsError.TheVariants as words
-use Rattle.adb_words.specs.declared.serve.Ports.{Ports}
-use Rattle.adb_commands.specs.Faults.{Rose, Stood, tells_write_fault}
-use Rattle.adb_commands.specs.Notes.{NotesBy, RisesTwice, WritesNote, IsJust, IsLine}
+use Rattle.adb_outside.specs.Outside.{Counts}
+use Rattle.adb_server.specs.Served.{listening_line}
+use Rattle.adb_words.specs.Serve.{Serving}
+use Rattle.adb_commands.specs.Faults.{Rose, tells_write_fault}
+use Rattle.adb_commands.specs.Notes.{NotesBy, RisesTwice, IsLine}
 use Rattle.adb_commands.specs.declared.status.Status.{Status}
 use Rattle.adb_commands.specs.declared.status.Status.TheVariants.{Done, Usage, ReadFault, WriteFault, BadCapture, OutOfMemory, RecordFault, DoorFault, BadScript, Illegal}
 

@@ -7,6 +7,6 @@ mod serving;
 mod tests;
 mod wanted;
 
-pub use adb_commands::{Status, run_alone, say_out_of_memory, say_usage};
+pub use adb_commands::{Status, run_alone, say_out_of_memory, say_record_fault, say_usage};
 pub use run::run;
 pub use wanted::wanted;

@@ -1,5 +1,5 @@
 use Rattle.std.proofs.Common.{refl, sym, ◌∙◌, subst, inl, inr}
-use Rattle.adb_commands.proofs.Lines.{last_tried, notes_of}
+use Rattle.adb_commands.proofs.Lines.{notes_of}
 use Rattle.adb_commands.specs.Notes.{read_fault_line, write_fault_line, out_of_memory_line, IsLineOf}
 use Rattle.adb_commands.specs.declared.status.Status.TheVariants.{ReadFault, WriteFault, BadCapture, OutOfMemory}
 use Rattle.adb_commands.specs.declared.stop.Stop.{Stop}
@@ -13,9 +13,9 @@ returns-in-ReadFault-clause-told g c = λ had has.
 
 pub returns-in-WriteFault-clause-told : goal.returns-in-WriteFault-clause-told
 returns-in-WriteFault-clause-told g c = λ had has.
-    last_tried (IsLineOf c.args.stop) had c.say_write_fault-last.result _ _ _
-    (subst (λ (why : Stop). IsLineOf why WriteFault write_fault_line) (sym c.in-WriteFault.is) (refl, refl)) c.say_write_fault-last.ensures.counts.fault
-    (c.say_write_fault-last.ensures.told had has)
+    notes_of WriteFault write_fault_line (IsLineOf c.args.stop)
+    (subst (λ (why : Stop). IsLineOf why WriteFault write_fault_line) (sym c.in-WriteFault.is) (refl, refl))
+    c.say_lost_line.result _ _ had _ (c.say_lost_line.ensures.told had has)
 
 pub returns-in-Ok-clause-told : goal.returns-in-Ok-clause-told
 returns-in-Ok-clause-told g c = λ had has.
