@@ -1,4 +1,3 @@
 pub mod Plain
 pub mod Loads
 pub mod Bare
-pub mod Seeds

@@ -4,7 +4,6 @@
 mod command;
 mod load;
 mod operands;
-mod seed;
 #[cfg(test)]
 mod tests;
 mod words;

@@ -85,7 +85,7 @@ fn load_of(seed: &str, streams: &str) -> Result<Command, WordsError>
 }
 
 /// The number that a text is, where it lies between these.
-pub fn number_within(text: &str, least: u64, most: u64) -> Option<u64>
+fn number_within(text: &str, least: u64, most: u64) -> Option<u64>
     ensures { result ≡ number_within least most text.now }
 {
     let number = read_number(text.as_bytes(), MAX_DIGITS)?;
