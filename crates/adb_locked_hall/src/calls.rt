@@ -13,13 +13,8 @@ use adb_spawner::NoThread;
 use std::sync::ledger::Ledger;
 use std::sync::{Mutex, Wait};
 
-impl<
-    R: Recorder,
-    E: Ledger,
-    M: Ledger,
-    K: Marks,
-    W: Wait + Copy + Drop,
-> Hall<E, M, K> for LockedHall<R, E, M, K, W> {
+impl<R: Recorder, E: Ledger, M: Ledger, K: Marks, W: Wait + Copy + Drop> Hall<E, M, K>
+    for LockedHall<R, E, M, K, W> {
     ghost use Rattle.std.specs.Prelude.{None};
 
     ghost tells = { λ h. None };
@@ -39,9 +34,7 @@ impl<
         if let Some(mark) = &mut self.mark {
             section::mark_handle(&mut locked.desk, mark, marks_error(&answer));
         }
-        let rings = guard.ring();
-        drop(guard);
-        rings.ring_rest(&self.shared.common);
+        self.shared.leave(guard);
         answer
     }
 
@@ -58,9 +51,7 @@ impl<
         if let Some(mark) = &mut self.mark {
             section::mark_handle(&mut locked.desk, mark, marks_error(&answer));
         }
-        let rings = guard.ring();
-        drop(guard);
-        rings.ring_rest(&self.shared.common);
+        self.shared.leave(guard);
         answer
     }
 
@@ -81,29 +72,23 @@ impl<
         if let Some(mark) = &mut self.mark {
             section::mark_handle(&mut locked.desk, mark, marks_error(&answer));
         }
-        let rings = guard.ring();
-        drop(guard);
-        rings.ring_rest(&self.shared.common);
+        self.shared.leave(guard);
         answer
     }
 
     fn room(&mut self, pass: &mut ClientIn<E, M, K>) -> Result<Room, DeskError> {
         let mut guard = self.shared.locked.lock(&self.rt);
         for _ in self.rt.forever() {
-            let locked = &mut *guard;
-            let answer = section::room(&mut locked.desk, pass);
+            let answer = section::room(&mut guard.desk, pass);
             if let Ok(Room::Later) = answer {
-                guard = match locked
-                    .bells
-                    .sleep(Owner::Client(pass.number()), Side::Reader)
-                {
-                    Some(bell) => bell.wait(&self.rt, guard),
-                    None => self.shared.common.wait(&self.rt, guard),
-                };
+                guard = self.shared.sleep(
+                    &self.rt,
+                    guard,
+                    Owner::Client(pass.number()),
+                    Side::Reader,
+                );
             } else {
-                let rings = guard.ring();
-                drop(guard);
-                rings.ring_rest(&self.shared.common);
+                self.shared.leave(guard);
                 return answer;
             }
         }
@@ -113,20 +98,16 @@ impl<
     fn read(&mut self, pass: &mut ClientIn<E, M, K>, piece: &[u8]) -> Result<Life, DeskError> {
         let mut guard = self.shared.locked.lock(&self.rt);
         for _ in self.rt.forever() {
-            let locked = &mut *guard;
-            let answer = section::read(&mut locked.desk, pass, piece);
+            let answer = section::read(&mut guard.desk, pass, piece);
             if let Err(DeskError::Later) = answer {
-                guard = match locked
-                    .bells
-                    .sleep(Owner::Client(pass.number()), Side::Reader)
-                {
-                    Some(bell) => bell.wait(&self.rt, guard),
-                    None => self.shared.common.wait(&self.rt, guard),
-                };
+                guard = self.shared.sleep(
+                    &self.rt,
+                    guard,
+                    Owner::Client(pass.number()),
+                    Side::Reader,
+                );
             } else {
-                let rings = guard.ring();
-                drop(guard);
-                rings.ring_rest(&self.shared.common);
+                self.shared.leave(guard);
                 return answer;
             }
         }
@@ -136,47 +117,37 @@ impl<
     fn end(&mut self, pass: &mut ClientIn<E, M, K>, cause: Cause) -> Result<Life, DeskError> {
         let mut guard = self.shared.locked.lock(&self.rt);
         let answer = section::end(&mut guard.desk, pass, cause);
-        let rings = guard.ring();
-        drop(guard);
-        rings.ring_rest(&self.shared.common);
+        self.shared.leave(guard);
         answer
     }
 
     fn waiting(&mut self, pass: &mut ClientIn<E, M, K>) -> Result<Option<u16>, DeskError> {
         let mut guard = self.shared.locked.lock(&self.rt);
         let answer = section::waiting(&mut guard.desk, pass);
-        let rings = guard.ring();
-        drop(guard);
-        rings.ring_rest(&self.shared.common);
+        self.shared.leave(guard);
         answer
     }
 
     fn bound(&mut self, pass: &mut ClientIn<E, M, K>, port: u16) -> Result<Life, DeskError> {
         let mut guard = self.shared.locked.lock(&self.rt);
         let answer = section::bound(&mut guard.desk, pass, port);
-        let rings = guard.ring();
-        drop(guard);
-        rings.ring_rest(&self.shared.common);
+        self.shared.leave(guard);
         answer
     }
 
     fn put(&mut self, pass: &mut ClientOut<E, M, K>, max: usize) -> Result<Handed, DeskError> {
         let mut guard = self.shared.locked.lock(&self.rt);
         for _ in self.rt.forever() {
-            let locked = &mut *guard;
-            let answer = section::put(&mut locked.desk, pass, max);
+            let answer = section::put(&mut guard.desk, pass, max);
             if let Ok(Handed::Nothing) = answer {
-                guard = match locked
-                    .bells
-                    .sleep(Owner::Client(pass.number()), Side::Writer)
-                {
-                    Some(bell) => bell.wait(&self.rt, guard),
-                    None => self.shared.common.wait(&self.rt, guard),
-                };
+                guard = self.shared.sleep(
+                    &self.rt,
+                    guard,
+                    Owner::Client(pass.number()),
+                    Side::Writer,
+                );
             } else {
-                let rings = guard.ring();
-                drop(guard);
-                rings.ring_rest(&self.shared.common);
+                self.shared.leave(guard);
                 return answer;
             }
         }
@@ -190,44 +161,34 @@ impl<
     ) -> Result<Life, DeskError> {
         let mut guard = self.shared.locked.lock(&self.rt);
         let answer = section::break_out(&mut guard.desk, pass, cause);
-        let rings = guard.ring();
-        drop(guard);
-        rings.ring_rest(&self.shared.common);
+        self.shared.leave(guard);
         answer
     }
 
     fn recv(&mut self, pass: &mut LinkIn<E, M, K>, piece: &[u8]) -> Result<Life, DeskError> {
         let mut guard = self.shared.locked.lock(&self.rt);
         let answer = section::recv(&mut guard.desk, pass, piece);
-        let rings = guard.ring();
-        drop(guard);
-        rings.ring_rest(&self.shared.common);
+        self.shared.leave(guard);
         answer
     }
 
     fn detach(&mut self, pass: &mut LinkIn<E, M, K>, cause: Cause) -> Result<Life, DeskError> {
         let mut guard = self.shared.locked.lock(&self.rt);
         let answer = section::detach(&mut guard.desk, pass, cause);
-        let rings = guard.ring();
-        drop(guard);
-        rings.ring_rest(&self.shared.common);
+        self.shared.leave(guard);
         answer
     }
 
     fn send(&mut self, pass: &mut LinkOut<E, M, K>, max: usize) -> Result<Handed, DeskError> {
         let mut guard = self.shared.locked.lock(&self.rt);
         for _ in self.rt.forever() {
-            let locked = &mut *guard;
-            let answer = section::send(&mut locked.desk, pass, max);
+            let answer = section::send(&mut guard.desk, pass, max);
             if let Ok(Handed::Nothing) = answer {
-                guard = match locked.bells.sleep(Owner::Link(pass.number()), Side::Writer) {
-                    Some(bell) => bell.wait(&self.rt, guard),
-                    None => self.shared.common.wait(&self.rt, guard),
-                };
+                guard = self
+                    .shared
+                    .sleep(&self.rt, guard, Owner::Link(pass.number()), Side::Writer);
             } else {
-                let rings = guard.ring();
-                drop(guard);
-                rings.ring_rest(&self.shared.common);
+                self.shared.leave(guard);
                 return answer;
             }
         }
@@ -237,9 +198,7 @@ impl<
     fn break_send(&mut self, pass: &mut LinkOut<E, M, K>, cause: Cause) -> Result<Life, DeskError> {
         let mut guard = self.shared.locked.lock(&self.rt);
         let answer = section::break_send(&mut guard.desk, pass, cause);
-        let rings = guard.ring();
-        drop(guard);
-        rings.ring_rest(&self.shared.common);
+        self.shared.leave(guard);
         answer
     }
 
@@ -250,9 +209,7 @@ impl<
         if let Some(mark) = &mut self.mark {
             section::mark_handle(&mut locked.desk, mark, marks_life(&answer));
         }
-        let rings = guard.ring();
-        drop(guard);
-        rings.ring_rest(&self.shared.common);
+        self.shared.leave(guard);
         answer
     }
 
@@ -263,9 +220,7 @@ impl<
         if let Some(mark) = &mut self.mark {
             section::mark_handle(&mut locked.desk, mark, marks_life(&answer));
         }
-        let rings = guard.ring();
-        drop(guard);
-        rings.ring_rest(&self.shared.common);
+        self.shared.leave(guard);
         answer
     }
 
@@ -282,8 +237,6 @@ impl<
     fn halt(&mut self) {
         let mut guard = self.shared.locked.lock(&self.rt);
         section::halt(&mut guard.desk);
-        let rings = guard.ring();
-        drop(guard);
-        rings.ring_rest(&self.shared.common);
+        self.shared.leave(guard);
     }
 }

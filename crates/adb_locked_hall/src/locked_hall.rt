@@ -4,7 +4,7 @@ ghost use Rattle.std.specs.Prelude.{◌≡◌, IfOk, None, Some, false};
 ghost use Rattle.adb_desk_log.specs.declared.marks.TheConstants.{ALL_PARTS};
 ghost use Rattle.adb_desk_log.specs.Log.{IsFresh};
 
-use crate::bells::{Bells, Pair, Rings};
+use crate::bells::{Bells, Side};
 use crate::locked::Locked;
 use adb_capture::Recorder;
 use adb_desk::Desk;
@@ -13,7 +13,7 @@ use adb_hub::Owner;
 use std::alloc::{AllocError, Global};
 use std::marker::Model;
 use std::sync::ledger::{Blank, Ledger};
-use std::sync::{Arc, Condvar, Mutex, Wait};
+use std::sync::{Arc, Condvar, Mutex, MutexGuard, Wait};
 
 /// What the handles share.
 #[derive(Drop)]
@@ -23,31 +23,45 @@ pub(crate) struct Shared<R: Recorder, E: Ledger, M: Ledger, K: Marks> {
     pub(crate) common: Condvar,
 }
 
+impl<R: Recorder, E: Ledger, M: Ledger, K: Marks> Shared<R, E, M, K> {
+    /// Ends a section: gives the lock back, and wakes those for whom the section has something.
+    pub(crate) fn leave(&self, guard: MutexGuard<'_, Locked<R, E, M, K>>) {
+        let mut guard = guard;
+        let rings = guard.ring();
+        drop(guard);
+        rings.ring_rest(&self.common);
+    }
+
+    /// Sleeps, without the lock, until somebody rings for one pass of an owner, or for all.
+    pub(crate) fn sleep<'a, W: Wait>(
+        &'a self,
+        rt: &W,
+        guard: MutexGuard<'a, Locked<R, E, M, K>>,
+        owner: Owner,
+        side: Side,
+    ) -> MutexGuard<'a, Locked<R, E, M, K>> {
+        let mut guard = guard;
+        match guard.bells.sleep(owner, side) {
+            Some(bell) => bell.wait(rt, guard),
+            None => self.common.wait(rt, guard),
+        }
+    }
+}
+
 /// A handle of a desk that lies under a lock. Each worker owns one.
 ///
 /// It waits where a hall that answers at once answers `Later` or `Nothing`, and tells nothing.
 /// Contracts see its mark, which only the handle of `new` has.
 #[derive(Drop)]
-pub struct LockedHall<
-    R: Recorder,
-    E: Ledger,
-    M: Ledger,
-    K: Marks,
-    W: Wait + Copy + Drop,
-> {
+pub struct LockedHall<R: Recorder, E: Ledger, M: Ledger, K: Marks, W: Wait + Copy + Drop> {
     pub(crate) rt: W,
     pub(crate) alloc: Global,
     pub(crate) shared: Arc<Shared<R, E, M, K>, Global>,
     pub(crate) mark: Option<Mark<K>>,
 }
 
-impl<
-    R: Recorder,
-    E: Ledger,
-    M: Ledger,
-    K: Marks,
-    W: Wait + Copy + Drop,
-> Model for LockedHall<R, E, M, K, W> {
+impl<R: Recorder, E: Ledger, M: Ledger, K: Marks, W: Wait + Copy + Drop> Model
+    for LockedHall<R, E, M, K, W> {
     ghost use Rattle.std.specs.Prelude.{Bool, Option};
 
     ghost Value = { Option Bool };
@@ -55,13 +69,7 @@ impl<
     ghost view = { λ h. h.mark };
 }
 
-impl<
-    R: Recorder,
-    E: Ledger,
-    M: Ledger,
-    K: Marks,
-    W: Wait + Copy + Drop,
-> LockedHall<R, E, M, K, W> {
+impl<R: Recorder, E: Ledger, M: Ledger, K: Marks, W: Wait + Copy + Drop> LockedHall<R, E, M, K, W> {
     /// The first handle of a desk without entries, over a recorder that has kept nothing and has not
     /// failed.
     pub fn new(
