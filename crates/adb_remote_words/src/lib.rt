@@ -17,4 +17,5 @@ mod words;
 pub use laws::{decided_answers_stay, limits_are};
 pub use reading::{MAX_ANSWER, Reading};
 pub use remote::{Outcome, Remote, RemoteError};
+pub use step::is_more;
 pub use words::{FILE_MODE, MAX_WORD, first_word, second_word};
