@@ -39,7 +39,7 @@ pub fn converse<W: Wait + Copy + Drop, I: PortIn, O: PortOut>(
     requires words { HasWords job.now }
     requires on { IfSome on (λ serial. length serial.now ≤ MAX_WORD) }
     ensures converses { Converses (ports_of I.steady (inlet I.faults I.left) O.steady
-        (seen O.faults O.written O.closed)) job.now (option_map (λ text. text.now) on)
+        (seen O.faults O.written O.closed)) job.now (option_map (λ text. text.now) on.entry)
         input.old input.new output.old output.new result }
     ensures fault { result ≡ Err RemoteError.PortFault
         → Rises (I.faults input.old) (I.faults input.new)
@@ -66,7 +66,7 @@ fn listen<W: Wait + Copy + Drop, I: PortIn, O: PortOut>(
     requires on { IfSome on (λ serial. length serial.now ≤ MAX_WORD) }
     requires stands { ReadingStands job.now [] reading }
     ensures { Listens (ports_of I.steady (inlet I.faults I.left) O.steady
-        (seen O.faults O.written O.closed)) job.now (option_map (λ text. text.now) on)
+        (seen O.faults O.written O.closed)) job.now (option_map (λ text. text.now) on.entry)
         input.old input.new output.old output.new result }
 {
     let mut reading = reading;

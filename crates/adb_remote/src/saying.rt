@@ -27,7 +27,7 @@ pub fn say_up_to<O: PortOut>(
     requires words { HasWords job.now }
     requires on { IfSome on (λ serial. length serial.now ≤ MAX_WORD) }
     ensures { SaysTo O.steady (seen O.faults O.written O.closed) job.now
-        (option_map (λ text. text.now) on) from to output.old output.new result }
+        (option_map (λ text. text.now) on.entry) from to output.old output.new result }
 {
     let mut said = from;
     while said < to {
@@ -48,7 +48,7 @@ pub fn say<O: PortOut>(
     requires words { HasWords job.now }
     requires on { IfSome on (λ serial. length serial.now ≤ MAX_WORD) }
     ensures { Sends O.steady (seen O.faults O.written O.closed)
-        (word job.now (option_map (λ text. text.now) on) number) output.old output.new result }
+        (word job.now (option_map (λ text. text.now) on.entry) number) output.old output.new result }
 {
     match number {
         0 => say_first(alloc, job, on, output),
@@ -67,7 +67,7 @@ fn say_first<O: PortOut>(
 ) -> Result<(), SendError>
     requires { IfSome on (λ serial. length serial.now ≤ MAX_WORD) }
     ensures { Sends O.steady (seen O.faults O.written O.closed)
-        (word job.now (option_map (λ text. text.now) on) 0) output.old output.new result }
+        (word job.now (option_map (λ text. text.now) on.entry) 0) output.old output.new result }
 {
     let text = first_word(alloc, job, on)?;
     send(output, text.as_slice())

@@ -27,7 +27,7 @@ pub fn turn<I: PortIn, O: PortOut>(
     requires on { IfSome on (λ serial. length serial.now ≤ MAX_WORD) }
     requires room { 0 < length buffer.old }
     ensures { Turns (ports_of I.steady (inlet I.faults I.left) O.steady
-        (seen O.faults O.written O.closed)) job.now (option_map (λ text. text.now) on)
+        (seen O.faults O.written O.closed)) job.now (option_map (λ text. text.now) on.entry)
         input.old input.new output.old output.new reading.old reading.new result }
 {
     match input.read(buffer) {
@@ -51,7 +51,7 @@ fn take_piece<O: PortOut>(
     requires words { HasWords job.now }
     requires on { IfSome on (λ serial. length serial.now ≤ MAX_WORD) }
     ensures { TakesPiece O.steady (seen O.faults O.written O.closed) job.now
-        (option_map (λ text. text.now) on) piece.now output.old output.new reading.old
+        (option_map (λ text. text.now) on.entry) piece.now output.old output.new reading.old
         reading.new result }
 {
     let before = reading.okays();

@@ -17,6 +17,25 @@ use Rattle.adb_remote_words.specs.Meaning.{refused_by, refusal, opened}
 use Rattle.adb_remote_words.specs.Reading.{or_behind, Opened}
 use Rattle.adb_remote_words.specs.Words.{begins_okay, okays_at}
 
+-- ---- numbers, and steps that are no other
+four_on : (okays : ℕ) → 4 * okays + 4 ≡ 4 * (okays + 1)
+four_on okays = omega arith
+
+one_on : (okays more : ℕ) → okays + (1 + more) ≡ (okays + 1) + more
+one_on okays more = omega arith
+
+none_on : (okays : ℕ) → okays + 0 ≡ okays
+none_on okays = omega arith
+
+never_done : (x : ⊤) → ◌≡◌ {A = Step ⊤} (Done x) More → ⊥
+never_done x e = cc
+
+never_bad : (offset : ℕ) → ◌≡◌ {A = Step ⊤} (BadAnswer offset) More → ⊥
+never_bad offset e = cc
+
+never_refused : (text : List ℕ) → ◌≡◌ {A = Step ⊤} (Refused text) More → ⊥
+never_refused text e = cc
+
 -- ---- what bytes begin with stays so
 pub okay_same : (x y : List ℕ) → 4 ≤ length x → begins_okay (x ++ y) ≡ begins_okay x
 okay_same x y fits = ap (bytes_eq (codes "OKAY")) (take-append-le 4 x y fits)
@@ -29,16 +48,16 @@ status offset bytes = found awaited.Status offset bytes
 
 -- fewer than four bytes that may become an OKAY decide nothing
 pub no_okay_later : (offset : ℕ) (x y : List ℕ) → begins_okay x ≡ false → (status offset x ≡ fronts.More → ⊥) → begins_okay (x ++ y) ≡ false
-no_okay_later offset (a ∷ b ∷ c ∷ d ∷ x) y no some = okay_same (a ∷ b ∷ c ∷ d ∷ x) y (omega arith) ∙ no
-no_okay_later offset [] y no some = absurd (some refl)
-no_okay_later offset (a ∷ []) y no some = go (begins_okay (a ∷ y)) refl
+no_okay_later offset (a ∷ b ∷ c ∷ d ∷ x) y lacks some = okay_same (a ∷ b ∷ c ∷ d ∷ x) y (omega arith) ∙ lacks
+no_okay_later offset [] y lacks some = absurd (some refl)
+no_okay_later offset (a ∷ []) y lacks some = go (begins_okay (a ∷ y)) refl
   where
     go : (t : Bool) → begins_okay (a ∷ y) ≡ t → begins_okay (a ∷ y) ≡ false
     go false is = is
     go true is =
         let one : 79 ≡ a = ap (λ l. get_or l 0 0) (okay_is (a ∷ y) is) in
         absurd (some (ap (λ k. status offset (k ∷ [])) (sym one)))
-no_okay_later offset (a ∷ b ∷ []) y no some = go (begins_okay (a ∷ b ∷ y)) refl
+no_okay_later offset (a ∷ b ∷ []) y lacks some = go (begins_okay (a ∷ b ∷ y)) refl
   where
     go : (t : Bool) → begins_okay (a ∷ b ∷ y) ≡ t → begins_okay (a ∷ b ∷ y) ≡ false
     go false is = is
@@ -47,7 +66,7 @@ no_okay_later offset (a ∷ b ∷ []) y no some = go (begins_okay (a ∷ b ∷ y
         let one : 79 ≡ a = ap (λ l. get_or l 0 0) all in
         let two : 75 ≡ b = ap (λ l. get_or l 1 0) all in
         absurd (some (λ i. status offset (sym one i ∷ sym two i ∷ [])))
-no_okay_later offset (a ∷ b ∷ c ∷ []) y no some = go (begins_okay (a ∷ b ∷ c ∷ y)) refl
+no_okay_later offset (a ∷ b ∷ c ∷ []) y lacks some = go (begins_okay (a ∷ b ∷ c ∷ y)) refl
   where
     go : (t : Bool) → begins_okay (a ∷ b ∷ c ∷ y) ≡ t → begins_okay (a ∷ b ∷ c ∷ y) ≡ false
     go false is = is
@@ -95,10 +114,10 @@ module _ (old : HeldOpening) (held : List ℕ) (okays : ℕ) (is : begins_okay h
   opens_by m on = record {
     means = λ further more. on.means further more
         ∙ (ap (λ t. cond t (opened (4 * okays + 4) m further (drop 4 (held ++ more))) (refusal (4 * okays) (held ++ more))) (is_later more)
-        ∙ (ap (opened (4 * okays + 4) m further) (past more) ∙ ap (λ o. opened o m further (drop 4 held ++ more)) (omega arith)));
+        ∙ (ap (opened (4 * okays + 4) m further) (past more) ∙ ap (λ o. opened o m further (drop 4 held ++ more)) (four_on okays)));
     okays = λ more. on.okays more
         ∙ (ap (λ t. okays + cond t (1 + okays_at m (drop 4 (held ++ more))) 0) (is_later more)
-        ∙ (ap (λ b. okays + (1 + okays_at m b)) (past more) ∙ omega arith));
+        ∙ (ap (λ b. okays + (1 + okays_at m b)) (past more) ∙ one_on okays (okays_at m (drop 4 held ++ more))));
     sum = omega (arith, on.sum);
   }
 
@@ -113,7 +132,7 @@ pub opens_all : (old new : HeldOpening) (x : ⊤) → OpensOn old new → new.le
 opens_all old new x on none = record {
   means = on.means;
   okays = on.okays;
-  undecided = λ e. cc;
+  undecided = λ e. absurd (never_done x e);
   none_here = λ e. cc;
   waits = λ e. cc;
   done = λ y e. none;
@@ -121,7 +140,7 @@ opens_all old new x on none = record {
 }
 
 -- what stands in its place
-module _ (old : HeldOpening) (held : List ℕ) (okays : ℕ) (no : begins_okay held ≡ false) where
+module _ (old : HeldOpening) (held : List ℕ) (okays : ℕ) (lacks : begins_okay held ≡ false) where
   abbrev now_at : ℕ → HeldOpening
   now_at left = opening_of held okays left
 
@@ -129,7 +148,7 @@ module _ (old : HeldOpening) (held : List ℕ) (okays : ℕ) (no : begins_okay h
   refused : (m : ℕ) (on : OpensOn old (now_at (suc m))) (f : Front ℕ) → status (4 * okays) held ≡ f → (f ≡ fronts.More → ⊥)
       → (further : List ℕ → Step Outcome) (more : List ℕ) → opened (4 * old.okays) old.left further (old.held ++ more) ≡ refused_by held f
   refused m on f is some further more =
-      let later = no_okay_later (4 * okays) held more no (λ e. some (sym is ∙ e)) in
+      let later = no_okay_later (4 * okays) held more lacks (λ e. some (sym is ∙ e)) in
       on.means further more
       ∙ (ap (λ t. cond t (opened (4 * okays + 4) m further (drop 4 (held ++ more))) (refusal (4 * okays) (held ++ more))) later
       ∙ refusal_stays (4 * okays) held more f is some)
@@ -137,16 +156,16 @@ module _ (old : HeldOpening) (held : List ℕ) (okays : ℕ) (no : begins_okay h
   none_more : (m : ℕ) (on : OpensOn old (now_at (suc m))) (f : Front ℕ) → status (4 * okays) held ≡ f → (f ≡ fronts.More → ⊥) → (more : List ℕ)
       → old.okays + okays_at old.left (old.held ++ more) ≡ okays
   none_more m on f is some more =
-      let later = no_okay_later (4 * okays) held more no (λ e. some (sym is ∙ e)) in
-      on.okays more ∙ (ap (λ t. okays + cond t (1 + okays_at m (drop 4 (held ++ more))) 0) later ∙ omega arith)
+      let later = no_okay_later (4 * okays) held more lacks (λ e. some (sym is ∙ e)) in
+      on.okays more ∙ (ap (λ t. okays + cond t (1 + okays_at m (drop 4 (held ++ more))) 0) later ∙ none_on okays)
 
   by_front : (m : ℕ) (on : OpensOn old (now_at (suc m))) (f : Front ℕ) → status (4 * okays) held ≡ f
       → Opened old (refused_by held f) (now_at (suc m))
   by_front m on fronts.More is = record {
     means = on.means;
     okays = on.okays;
-    undecided = λ e further. ap (λ t. cond t (opened (4 * okays + 4) m further (drop 4 held)) (refusal (4 * okays) held)) no ∙ ap (refused_by held) is;
-    none_here = λ e. ap (λ t. cond t (1 + okays_at m (drop 4 held)) 0) no;
+    undecided = λ e further. ap (λ t. cond t (opened (4 * okays + 4) m further (drop 4 held)) (refusal (4 * okays) held)) lacks ∙ ap (refused_by held) is;
+    none_here = λ e. ap (λ t. cond t (1 + okays_at m (drop 4 held)) 0) lacks;
     waits = λ e. omega arith;
     done = λ y e. cc;
     sum = on.sum;
@@ -154,7 +173,7 @@ module _ (old : HeldOpening) (held : List ℕ) (okays : ℕ) (no : begins_okay h
   by_front m on (fronts.Bad fault) is = record {
     means = refused m on (fronts.Bad fault) is (λ e. cc);
     okays = none_more m on (fronts.Bad fault) is (λ e. cc);
-    undecided = λ e. cc;
+    undecided = λ e. absurd (never_bad fault e);
     none_here = λ e. cc;
     waits = λ e. cc;
     done = λ y e. cc;
@@ -163,7 +182,7 @@ module _ (old : HeldOpening) (held : List ℕ) (okays : ℕ) (no : begins_okay h
   by_front m on (fronts.Whole n) is = record {
     means = refused m on (fronts.Whole n) is (λ e. cc);
     okays = none_more m on (fronts.Whole n) is (λ e. cc);
-    undecided = λ e. cc;
+    undecided = λ e. absurd (never_refused (drop 8 (take n held)) e);
     none_here = λ e. cc;
     waits = λ e. cc;
     done = λ y e. cc;

@@ -149,7 +149,7 @@ past_most : (have room n all : ℕ) → have + room ≡ MAX_ANSWER → n ≡ min
 past_most have room n all sum is = grind (arith, nat_tests)
 
 pub take_behind : (x y : List ℕ) (room all : ℕ) → length x + room ≡ all → take all (x ++ y) ≡ x ++ take room y
-take_behind [] y room all sum = ap (λ k. take k y) (sym sum)
+take_behind [] y room all sum = let same : all ≡ room = omega (arith, sum) in ap (λ k. take k y) same
 take_behind (b ∷ x) y room zero sum = absurd (omega (arith, sum))
 take_behind (b ∷ x) y room (suc all) sum = ap (λ l. b ∷ l) (take_behind x y room all (omega (arith, sum)))
 
@@ -175,12 +175,13 @@ pub reads_piece : (job : Remote) (fed piece : List ℕ) (old : HeldAnswer) (n : 
     → Follows job (fed ++ take n piece) step o body
     → HasRead job (fed ++ piece) (limited_at (nat_lt n (length piece)) step) (record { opening = o; body = body; count = count })
 reads_piece job fed piece old n step o body count h is counted f =
-    let room = MAX_ANSWER - old.count in
-    let sum : length fed + room ≡ MAX_ANSWER = omega (arith, h.count, h.within) in
+
+    let sum : length fed + (MAX_ANSWER - old.count) ≡ MAX_ANSWER = omega (arith, h.count, h.within) in
     let past : nat_lt MAX_ANSWER (length (fed ++ piece)) ≡ nat_lt n (length piece) =
-    ap (nat_lt MAX_ANSWER) (length-append fed piece) ∙ past_most (length fed) room n (length piece) sum is in
+    ap (nat_lt MAX_ANSWER) (length-append fed piece) ∙ past_most (length fed) (MAX_ANSWER - old.count) n (length piece) sum is in
     let looked : take MAX_ANSWER (fed ++ piece) ≡ fed ++ take n piece =
-    take_behind fed piece room MAX_ANSWER sum ∙ ap (λ l. fed ++ l) (sym (ap (λ k. take k piece) is ∙ take_min room piece)) in
+    take_behind fed piece (MAX_ANSWER - old.count) MAX_ANSWER sum
+    ∙ ap (λ l. fed ++ l) (sym (ap (λ k. take k piece) is ∙ take_min (MAX_ANSWER - old.count) piece)) in
     let so_far : limited_at (nat_lt n (length piece)) step ≡ answer_so_far job (fed ++ piece) =
     (λ i. limited_at (sym past i) (f.now i)) ∙ ap (λ l. limited_at (nat_lt MAX_ANSWER (length (fed ++ piece))) (answer_step job l)) (sym looked) in
     record {
@@ -190,12 +191,12 @@ reads_piece job fed piece old n step o body count h is counted f =
     }
   where
     whole : nat_lt n (length piece) ≡ false → fed ++ take n piece ≡ fed ++ piece
-    whole no = ap (λ l. fed ++ l) (take_all n piece (grind (arith, nat_tests, no, is)))
+    whole past = ap (λ l. fed ++ l) (take_all n piece (grind (arith, nat_tests, past, is)))
 
     go : (t : Bool) → nat_lt n (length piece) ≡ t → okays_at (requests job) (fed ++ take n piece) ≡ okays_at (requests job) (fed ++ piece)
-    go false no = ap (okays_at (requests job)) (whole no)
-    go true yes =
-        let n_is : n ≡ MAX_ANSWER - old.count = grind (arith, nat_tests, yes, is) in
+    go false past = ap (okays_at (requests job)) (whole past)
+    go true past =
+        let n_is : n ≡ MAX_ANSWER - old.count = grind (arith, nat_tests, past, is) in
         let long : 4 * requests job ≤ length (fed ++ take n piece) =
         omega (arith, few job, length-append fed (take n piece), length-take n piece, n_is, is, h.count, h.within) in
         sym (okays_stay (requests job) (fed ++ take n piece) (drop n piece) long)

@@ -43,7 +43,7 @@ unended (Some offset) = BadAnswer offset
 -- ---- lists, and the packets of a command
 -- the line of a device in a state
 abbrev pub line_of : List ℕ → List ℕ → List ℕ
-line_of serial state = serial ++ 9 ∷ [] ++ state
+line_of serial state = (serial ++ 9 ∷ []) ++ state
 
 -- whether a list has a line
 abbrev pub has_line : List ℕ → List ℕ → Bool

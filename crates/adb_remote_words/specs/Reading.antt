@@ -71,10 +71,10 @@ pub record HasFed (job : Remote) (fed : List ℕ) (step : Step Outcome) (body : 
 -- ---- the OKAYs
 -- a refusal, or else what follows
 abbrev pub or_behind : {A : Type 0} → (Step Outcome → A) → Step ⊤ → A → A
-or_behind of More further = further
-or_behind of (Done done) further = further
-or_behind of (Refused text) further = of (Refused text)
-or_behind of (BadAnswer offset) further = of (BadAnswer offset)
+or_behind told More further = further
+or_behind told (Done done) further = further
+or_behind told (Refused text) further = told (Refused text)
+or_behind told (BadAnswer offset) further = told (BadAnswer offset)
 
 -- OKAYs were taken that are held, up to where none is yet, or never will be. What was held means with any bytes behind it what is left
 -- means with them, or the refusal.

@@ -1,6 +1,6 @@
 //! The OKAYs that an answer begins with.
 
-ghost use Rattle.std.specs.Prelude.{◌≡◌, ◌<◌, ◌≤◌, ◌++◌, ◌*◌, ◌+◌, [], true, false, codes, IfOk, drop};
+ghost use Rattle.std.specs.Prelude.{◌≡◌, ◌≤◌, ◌++◌, ◌+◌, [], true, codes, nat_lt, length, take, drop, IfOk};
 ghost use Rattle.adb_remote_frames.specs.Heads.{is_front};
 ghost use Rattle.adb_remote_words.specs.Meaning.{refusal};
 ghost use Rattle.adb_remote_words.specs.Reading.{Opened};

@@ -1,7 +1,6 @@
 //! What frames tell.
 
-ghost use Rattle.std.specs.Prelude.{◌≡◌, ◌≢◌, ◌++◌, ◌∷◌, IfOk, OnOk};
-ghost use Rattle.std.specs.List.{list_any};
+ghost use Rattle.std.specs.Prelude.{◌≡◌, if◌then◌else◌, slice_index, IfOk};
 ghost use Rattle.adb_sync_client.specs.declared.step.Step.TheVariants.{More};
 ghost use Rattle.adb_remote_words.specs.Meaning.{frame_step, has_line, line_of, list_step, nothing_told, packet_step, told_with};
 ghost use Rattle.adb_remote_frames.specs.declared.frame.Frame.TheVariants.{Packet};

@@ -1,6 +1,6 @@
 //! What a client tool writes.
 
-ghost use Rattle.std.specs.Prelude.{◌≡◌, ◌≤◌, ◌++◌, codes, length, Option, option_map, IfOk, IfSome};
+ghost use Rattle.std.specs.Prelude.{◌≡◌, ◌≤◌, ◌+◌, ◌++◌, length, option_map, IfOk, IfSome};
 ghost use Rattle.adb_remote_words.specs.Words.{HasWords, first_word, request_of, second_word, transport_of};
 
 use crate::remote::Remote;
@@ -17,7 +17,7 @@ pub const MAX_WORD: usize = 1000;
 /// The first request of a job, on the device of a serial where there is one.
 pub fn first_word(alloc: Global, job: &Remote, on: Option<&Text>) -> Result<Text, AllocError>
     requires { IfSome on (λ serial. length serial.now ≤ MAX_WORD) }
-    ensures { IfOk result (λ word. word ≡ first_word job.now (option_map (λ text. text.now) on)) }
+    ensures { IfOk result (λ word. word ≡ first_word job.now (option_map (λ text. text.now) on.entry)) }
 {
     match job {
         Remote::Devices => request(alloc, b"host:devices", b""),
@@ -29,7 +29,7 @@ pub fn first_word(alloc: Global, job: &Remote, on: Option<&Text>) -> Result<Text
 /// The request that selects the device of a serial, or any.
 fn transport(alloc: Global, on: Option<&Text>) -> Result<Text, AllocError>
     requires { IfSome on (λ serial. length serial.now ≤ MAX_WORD) }
-    ensures { IfOk result (λ word. word ≡ transport_of (option_map (λ text. text.now) on)) }
+    ensures { IfOk result (λ word. word ≡ transport_of (option_map (λ text. text.now) on.entry)) }
 {
     match on {
         None => request(alloc, b"host:transport-any", b""),
