@@ -34,7 +34,8 @@ okays_grow (suc n) x y = go (begins_okay x) refl
         let none : okays_at (suc n) x ≡ 0 = ap (λ t. cond t (1 + okays_at n (drop 4 x)) 0) is in
         omega (arith, none)
     go true is =
-        let fits : 4 ≤ length x = omega (arith, ap (length {A = ℕ}) (okay_is x is), length-take 4 x) in
+        let len : 4 ≡ length (take 4 x) = ap (length {A = ℕ}) (okay_is x is) in
+        let fits : 4 ≤ length x = omega (arith, len, length-take 4 x) in
         let here : okays_at (suc n) x ≡ 1 + okays_at n (drop 4 x) = ap (λ t. cond t (1 + okays_at n (drop 4 x)) 0) is in
         let later : begins_okay (x ++ y) ≡ true = ap (bytes_eq (codes "OKAY")) (take-append-le 4 x y fits) ∙ is in
         let there : okays_at (suc n) (x ++ y) ≡ 1 + okays_at n (drop 4 x ++ y) =

@@ -13,6 +13,7 @@ use Rattle.adb_sync_client.specs.declared.step.Step.{Step}
 use Rattle.adb_sync_client.specs.declared.step.Step.TheVariants as steps
 use Rattle.adb_sync_client.specs.Values.{Said, answer_value, step_map}
 use Rattle.adb_remote_frames.specs.declared.frame.Frame.{Frame}
+use Rattle.adb_remote_frames.specs.declared.head.Awaited.TheVariants as awaited
 use Rattle.adb_remote_frames.specs.declared.place.Place.{Place}
 use Rattle.adb_remote_frames.specs.Frames.{frame_at, frame_of, past_frame, frames_from}
 use Rattle.adb_remote_frames.specs.Framed.{frames_are_framed}
@@ -23,7 +24,7 @@ use Rattle.adb_remote_words.specs.declared.remote.Outcome.{Outcome}
 use Rattle.adb_remote_words.specs.declared.remote.Outcome.TheVariants.{Pushed, Pulled}
 use Rattle.adb_remote_words.specs.declared.remote.RemoteError.{RemoteError}
 use Rattle.adb_remote_words.specs.declared.told.Told.{Told}
-use Rattle.adb_remote_words.specs.Meaning.{or_further, unended, frame_step, told_with, meant, frames_step, sync_step, body_step, refusal, refused_by, opened, answer_step, limited_at}
+use Rattle.adb_remote_words.specs.Meaning.{nothing_told, or_further, unended, frame_step, told_with, meant, frames_step, sync_step, body_step, refusal, refused_by, opened, answer_step, limited_at}
 use Rattle.adb_remote_words.specs.Outcome.{answer_so_far, decided, outcome_of}
 use Rattle.adb_remote_words.specs.Words.{begins_okay, requests}
 use Rattle.adb_remote_words.proofs.Openings.{okay_is, okay_same, no_okay_later, refusal_stays, status}
@@ -72,11 +73,11 @@ sync_stays stay kind f g x y some =
     ap (λ s. sync_step f (step_map g s)) (stay kind x y (λ e. some (ap (λ s. sync_step f (step_map g s)) e)))
 
 body_stays : ValuesStay → (job : Remote) (x y : List ℕ) → body_step job x ≢ steps.More → body_step job (x ++ y) ≡ body_step job x
-body_stays stay Devices x y some = frames_stay Devices _ _ x y some
-body_stays stay (Wait serial state) x y some = frames_stay (Wait serial state) _ _ x y some
-body_stays stay (Shell command) x y some = frames_stay (Shell command) _ _ x y some
-body_stays stay (Push path mtime bytes) x y some = sync_stays stay kinds.Push (λ done. Pushed) (λ said. tt) x y some
-body_stays stay (Pull path) x y some = sync_stays stay kinds.Pull Pulled (λ said. said.bytes) x y some
+body_stays stay Devices x y some = frames_stay Devices nothing_told (record { awaited = awaited.List; offset = 4 }) x y some
+body_stays stay (Wait serial state) x y some = frames_stay (Wait serial state) nothing_told (record { awaited = awaited.List; offset = 4 }) x y some
+body_stays stay (Shell command) x y some = frames_stay (Shell command) nothing_told (record { awaited = awaited.Packet; offset = 8 }) x y some
+body_stays stay (Push path mtime bytes) x y some = sync_stays {A = Unit {0}} stay kinds.Push (λ done. Pushed) (λ said. tt) x y some
+body_stays stay (Pull path) x y some = sync_stays {A = List ℕ} stay kinds.Pull Pulled (λ said. said.bytes) x y some
 
 opened_stays : (further : List ℕ → Step Outcome) → ((x y : List ℕ) → further x ≢ steps.More → further (x ++ y) ≡ further x)
     → (offset n : ℕ) (x y : List ℕ) → opened offset n further x ≢ steps.More → opened offset n further (x ++ y) ≡ opened offset n further x
@@ -85,7 +86,8 @@ opened_stays further stays offset (suc n) x y some = go (begins_okay x) refl
   where
     go : (t : Bool) → begins_okay x ≡ t → opened offset (suc n) further (x ++ y) ≡ opened offset (suc n) further x
     go true is =
-        let fits : 4 ≤ length x = omega (arith, ap (length {A = ℕ}) (okay_is x is), length-take 4 x) in
+        let len : 4 ≡ length (take 4 x) = ap (length {A = ℕ}) (okay_is x is) in
+        let fits : 4 ≤ length x = omega (arith, len, length-take 4 x) in
         let here : opened offset (suc n) further x ≡ opened (offset + 4) n further (drop 4 x) =
         ap (λ t. cond t (opened (offset + 4) n further (drop 4 x)) (refusal offset x)) is in
         (λ i. cond ((okay_same x y fits ∙ is) i) (opened (offset + 4) n further (drop-append-le 4 x y fits i)) (refusal offset (x ++ y)))
