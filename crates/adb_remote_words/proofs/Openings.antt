@@ -1,7 +1,7 @@
 -- The OKAYs of an answer, one by one.
 use Rattle.std.proofs.Common.{ℕ, zero, suc, ◌+◌, ◌-◌, ◌*◌, ◌≡◌, ◌≤◌, ◌<◌, List, [], ◌∷◌, ◌++◌, length, take, drop, cond, Bool, true, false, refl, sym, ◌∙◌, ap, subst, arith}
 use Rattle.std.specs.Prelude.{codes, bytes_eq, get_or, ⊤}
-use Rattle.std.proofs.lemmas.List.{take-append-le, drop-append-le, length-drop, append-nil}
+use Rattle.std.proofs.lemmas.List.{take-append-le, drop-append-le, length-take}
 use Rattle.std.proofs.lemmas.Slice.Eq.{bytes_eq-Decides}
 use Rattle.adb_outside.specs.declared.framer.Front.{Front}
 use Rattle.adb_outside.specs.declared.framer.Front.TheVariants as fronts
@@ -42,6 +42,11 @@ okay_same x y fits = ap (bytes_eq (codes "OKAY")) (take-append-le 4 x y fits)
 
 pub okay_is : (bytes : List ℕ) → begins_okay bytes ≡ true → codes "OKAY" ≡ take 4 bytes
 okay_is bytes is = (bytes_eq-Decides (codes "OKAY") (take 4 bytes)).0 is
+
+pub okay_fits : (bytes : List ℕ) → begins_okay bytes ≡ true → 4 ≤ length bytes
+okay_fits bytes is =
+    let len : 4 ≡ length (take 4 bytes) = ap (length {A = ℕ}) (okay_is bytes is) in
+    omega (arith, len, length-take 4 bytes)
 
 abbrev pub status : ℕ → List ℕ → Front ℕ
 status offset bytes = found awaited.Status offset bytes
@@ -103,7 +108,10 @@ abbrev pub opening_of : List ℕ → ℕ → ℕ → HeldOpening
 opening_of held okays left = record { held = held; okays = okays; left = left }
 
 -- one that is there
-module _ (old : HeldOpening) (held : List ℕ) (okays : ℕ) (is : begins_okay held ≡ true) (fits : 4 ≤ length held) where
+module _ (old : HeldOpening) (held : List ℕ) (okays : ℕ) (is : begins_okay held ≡ true) where
+  fits : 4 ≤ length held
+  fits = okay_fits held is
+
   is_later : (more : List ℕ) → begins_okay (held ++ more) ≡ true
   is_later more = okay_same held more fits ∙ is
 

@@ -52,9 +52,13 @@ has_line line list = list_any (λ other. bytes_eq other line) (slice_split (λ b
 abbrev pub nothing_told : Told
 nothing_told = record { out = []; err = [] }
 
--- who waits wants one with a line, else the first list is what is wanted
+-- what a list means to who waits for one with a line
+abbrev pub waiting_step : List ℕ → List ℕ → List ℕ → Step Outcome
+waiting_step serial state list = if has_line (line_of serial state) list then Done Ready else More
+
+-- who does not wait wants the first list
 abbrev pub list_step : Remote → List ℕ → Step Outcome
-list_step (Wait serial state) list = if has_line (line_of serial state) list then Done Ready else More
+list_step (Wait serial state) list = waiting_step serial state list
 list_step _ list = Done (Listed list)
 
 -- a command ends with its status

@@ -91,8 +91,7 @@ impl Opening {
 
 /// Whether bytes begin with an OKAY.
 fn begins_okay(bytes: &[u8]) -> bool
-    ensures is { result ≡ is_front (codes "OKAY") bytes.now }
-    ensures fits { result ≡ true → 4 ≤ length bytes.now }
+    ensures { result ≡ is_front (codes "OKAY") bytes.now }
 {
     bytes.starts_with(b"OKAY")
 }
@@ -112,6 +111,19 @@ fn refusal(alloc: Global, offset: u64, bytes: &[u8]) -> Result<Step<()>, AllocEr
 fn text_of(alloc: Global, bytes: &[u8], len: usize) -> Result<Text, AllocError>
     ensures { IfOk result (λ text. text ≡ drop 8 (take len bytes.now)) }
 {
-    let frame = &bytes[..len.min(bytes.len())];
-    Text::from_slice(alloc, &frame[frame.len().min(8)..])
+    Text::from_slice(alloc, behind(front(bytes, len), 8))
+}
+
+/// The first `n` bytes.
+fn front(bytes: &[u8], n: usize) -> &[u8]
+    ensures { result.now ≡ take n bytes.now }
+{
+    &bytes[..n.min(bytes.len())]
+}
+
+/// The bytes behind the first `n`.
+fn behind(bytes: &[u8], n: usize) -> &[u8]
+    ensures { result.now ≡ drop n bytes.now }
+{
+    &bytes[n.min(bytes.len())..]
 }

@@ -1,8 +1,8 @@
 //! What frames tell.
 
-ghost use Rattle.std.specs.Prelude.{◌≡◌, if◌then◌else◌, slice_index, IfOk};
+ghost use Rattle.std.specs.Prelude.{◌≡◌, slice_index, IfOk};
 ghost use Rattle.adb_sync_client.specs.declared.step.Step.TheVariants.{More};
-ghost use Rattle.adb_remote_words.specs.Meaning.{frame_step, has_line, line_of, list_step, nothing_told, packet_step, told_with};
+ghost use Rattle.adb_remote_words.specs.Meaning.{frame_step, has_line, line_of, list_step, nothing_told, packet_step, told_with, waiting_step};
 ghost use Rattle.adb_remote_frames.specs.declared.frame.Frame.TheVariants.{Packet};
 
 use crate::remote::{Outcome, Remote};
@@ -108,8 +108,7 @@ fn waiting_step(
     state: &Text,
     list: &[u8],
 ) -> Result<Step<Outcome>, AllocError>
-    ensures { IfOk result (λ step. step
-        ≡ (if has_line (line_of serial.now state.now) list.now then Step.Done Outcome.Ready else More)) }
+    ensures { IfOk result (λ step. step ≡ waiting_step serial.now state.now list.now) }
 {
     let line = line_of(alloc, serial.as_slice(), state.as_slice())?;
     if has_line(line.as_slice(), list) {
