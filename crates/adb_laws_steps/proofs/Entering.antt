@@ -157,8 +157,10 @@ pub bound_costs : (c port : ℕ) (s : State) → InRange s → Costs 0 0 s (boun
 bound_costs c port s range = bound_at_costs (s.clients c) c port s range
 
 -- ---- a device is plugged in
-pub plugs_costs : (t : ℕ) (kind : Kind) (serial : List ℕ) (s : State) → InRange s → Costs 0 0 s (plugs_in t kind serial s)
-plugs_costs t kind serial s range = costs_aside 0 s (plugs_in t kind serial s) range refl refl (omega arith)
+pub plugs_costs : (t : ℕ) (kind : Kind) (serial : List ℕ) (s : State) → InRange s → Costs 58 0 s (plugs_in t kind serial s)
+plugs_costs t kind serial s range =
+    let size : toll server_cnxn.command server_cnxn.payload ≡ 58 = refl in
+    costs_aside 58 s (plugs_in t kind serial s) range refl refl (omega (arith, size))
 
 -- ---- bytes are put to a client: an OKAY at most
 tells_credit_costs : (n l : ℕ) (stream : Stream) (s : State) → InRange s → Costs 28 0 s (tells_credit n l stream s)

@@ -5,3 +5,15 @@ pub mod Ups
 pub mod Entering
 pub mod Brings
 pub mod Tolls
+pub mod Serving
+pub mod Parts
+pub mod Sizes
+pub mod Sends
+pub mod Receives
+pub mod Worth
+pub mod Link
+pub mod Moved
+pub mod Clients
+pub mod Paid
+pub mod Written
+pub mod Whole

@@ -9,6 +9,7 @@ use Rattle.adb_history.specs.Rows.{Link, State}
 use Rattle.adb_history.specs.Events.{Made, quietly}
 use Rattle.adb_history.specs.Packets.{receives_on}
 use Rattle.adb_history.specs.Machine.{History, state, told, told_at, rule, ups, step, IsLegal}
+use Rattle.adb_history.specs.Book.{plugged_count}
 use Rattle.adb_history.specs.Bytes.{brought}
 use Rattle.adb_history.proofs.OwnedStep.{all_owned}
 use Rattle.adb_laws_births.specs.Brought.{ComeFirst, brought_grows}
@@ -25,7 +26,7 @@ all_behind : (P : Packet → Type 0) (front rest : List Packet) → All P (front
 all_behind P [] rest all = all
 all_behind P (p ∷ front) rest all = all_behind P front rest (All-tail P p (front ++ rest) all)
 
-all_before : (P : Packet → Type 0) (front rest : List Packet) → All P (front ++ rest) → All P front
+pub all_before : (P : Packet → Type 0) (front rest : List Packet) → All P (front ++ rest) → All P front
 all_before P [] rest all = All-nil P
 all_before P (p ∷ front) rest all =
     All-cons P p front (All-head P p (front ++ rest) all) (all_before P front rest (All-tail P p (front ++ rest) all))
@@ -37,8 +38,9 @@ worth_before e older worth t =
     all_before IsWorthwhile (brought t older) first.0 (subst (λ (ps : List Packet). All IsWorthwhile ps) (sym first.1) (worth t))
 
 -- ---- one entry
--- bytes that are put make an OKAY at most
+-- a link makes a CNXN, and bytes that are put an OKAY at most
 abbrev toll_of : Entry → ℕ
+toll_of (Attach t kind serial) = 58
 toll_of (Put c bytes) = 28
 toll_of _ = 0
 
@@ -69,7 +71,8 @@ step_costs e older legal worth =
     costs_then (toll_of e) 0 0 0 (state older) (rule e (state older)) ups (rule_costs e older legal worth (all_owned older legal).rows.streams)
     (λ later. up_all_costs (rule e (state older)).state.drawn (rule e (state older)).state later)
 
-puts_more : (e : Entry) (older : History) → 28 * puts_made older + toll_of e ≡ 28 * puts_made (e ∷ older)
+puts_more : (e : Entry) (older : History)
+    → 58 * plugged_count older + 28 * puts_made older + toll_of e ≡ 58 * plugged_count (e ∷ older) + 28 * puts_made (e ∷ older)
 puts_more (Join c) older = omega arith
 puts_more (Enter c port) older = omega arith
 puts_more (Read c bytes) older = omega arith

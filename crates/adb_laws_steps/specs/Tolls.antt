@@ -1,4 +1,4 @@
--- What the OKAYs and CLSEs of a server cost, which no payload pays.
+-- What the packets of a server cost that no payload pays.
 use Rattle.std.specs.Prelude.{ℕ, ◌+◌, ◌*◌, ◌≡◌, ◌≢◌, ◌≤◌, All, List, [], ◌∷◌, length, Option, Some, None}
 use Rattle.adb_outside.specs.Tables.{Rows}
 use Rattle.adb_wire.specs.declared.command.Command.{Command}
@@ -8,16 +8,21 @@ use Rattle.adb_stream.specs.declared.row.Stream.{Stream}
 use Rattle.adb_capture.specs.declared.entry.Entry.TheVariants.{Put}
 use Rattle.adb_history.specs.Events.{Event, due_to_client, due_to_link, ended}
 use Rattle.adb_history.specs.Machine.{History, state, told}
+use Rattle.adb_history.specs.Book.{plugged_count}
 use Rattle.adb_history.specs.Bytes.{brought}
 use Rattle.adb_laws_steps.specs.Sums.{sum_to}
 
--- the bytes of an OKAY and of a CLSE; and a WRTE without bytes, with the OKAY that it is answered by
+-- the bytes of a packet; a WRTE pays for its own by those that it carries, and where it carries none costs the OKAY too that answers it; an OPEN is paid by
+-- its stream
 abbrev pub toll : Command → List ℕ → ℕ
+toll Open payload = 0
+toll Wrte [] = 52
+toll Wrte (b ∷ payload) = 0
 toll Okay payload = 24 + length payload
 toll Clse payload = 24 + length payload
-toll Wrte [] = 48
-toll Wrte (b ∷ payload) = 0
-toll _ payload = 0
+toll Cnxn payload = 24 + length payload
+toll Auth payload = 24 + length payload
+toll Stls payload = 24 + length payload
 
 -- the tolls of all packets that became due
 abbrev pub tolls : List Event → ℕ
@@ -52,6 +57,8 @@ IsWorthwhile p = IsWorth p.command p.payload
 abbrev pub BringWorth : History → Type 0
 BringWorth h = (t : ℕ) → All IsWorthwhile (brought t h)
 
--- The tolls are at most an OKAY for each time that bytes were put to a client, and a CLSE for each stream.
+-- The tolls are at most a CNXN for each link, an OKAY for each time that bytes were put to a client, and a CLSE for each stream; and those that live have
+-- theirs still to come.
 abbrev pub TollsArePaid : History → Type 0
-TollsArePaid h = tolls (told h) + close_tolls (state h).streams (state h).drawn ≤ 28 * puts_made h + 24 * (state h).drawn
+TollsArePaid h =
+    tolls (told h) + close_tolls (state h).streams (state h).drawn ≤ 58 * plugged_count h + 28 * puts_made h + 24 * (state h).drawn
