@@ -128,18 +128,16 @@ read_more c (Send t bytes) older = omega arith
 
 lived_read : (l c : ℕ) (h : History) → length (bytes_read c (lived l h)) ≤ length (bytes_read c h)
 lived_read l c [] = omega arith
-lived_read l c (e ∷ older) = go (is_some (ending_of l older)) (is_some (ending_in l (told_at e older)))
+lived_read l c (e ∷ older) = go (lived_read l c older) (is_some (ending_of l older)) (is_some (ending_in l (told_at e older)))
   where
-    before : length (bytes_read c (lived l older)) ≤ length (bytes_read c older)
-    before = lived_read l c older
-
     more : length (bytes_read c older) ≤ length (bytes_read c (e ∷ older))
     more = read_more c e older
 
-    go : (a b : Bool) → length (bytes_read c (cond a (lived l older) (cond b older (e ∷ older)))) ≤ length (bytes_read c (e ∷ older))
-    go true b = (let le = before in let one = more in omega (arith, le, one))
-    go false true = more
-    go false false = omega arith
+    go : length (bytes_read c (lived l older)) ≤ length (bytes_read c older)
+        → (a b : Bool) → length (bytes_read c (cond a (lived l older) (cond b older (e ∷ older)))) ≤ length (bytes_read c (e ∷ older))
+    go le true b = (let one = more in omega (arith, le, one))
+    go le false true = more
+    go le false false = omega arith
 
 module _ (h : History) (legal : IsLegal h) where
   -- a stream of another link carries nothing on this one
@@ -151,7 +149,7 @@ module _ (h : History) (legal : IsLegal h) where
     where
       skip : (c : Command) → p.command ≡ c → is_wrte c ≡ false → (m : Bool) → carried_in l ps ≡ []
           → cond (is_wrte p.command && m) (p.payload ++ carried_in l ps) (carried_in l ps) ≡ []
-      skip c e no m none = ap (λ (b : Bool). cond (b && m) (p.payload ++ carried_in l ps) (carried_in l ps)) (ap is_wrte e ∙ no) ∙ none
+      skip c e lacks m none = ap (λ (b : Bool). cond (b && m) (p.payload ++ carried_in l ps) (carried_in l ps)) (ap is_wrte e ∙ lacks) ∙ none
 
       go : (c : Command) → p.command ≡ c → IsOwn h 1 c p → (m : Bool) → nat_eq p.arg0 l ≡ m → carried_in l ps ≡ []
           → cond (is_wrte p.command && m) (p.payload ++ carried_in l ps) (carried_in l ps) ≡ []

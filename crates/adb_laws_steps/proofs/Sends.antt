@@ -95,7 +95,7 @@ module _ (h : History) (legal : IsLegal h) where
       (opens_within l b birth ps (All-tail (λ p. IsOwn h 1 p.command p) p ps all))
     where
       clash : (c : Command) → p.command ≡ c → is_open c ≡ false → OpensWithin l (77 + length b.service) p
-      clash c e no is from = absurd (let x : true ≡ false = sym is ∙ (ap is_open e ∙ no) in cc)
+      clash c e lacks is from = absurd (let x : true ≡ false = sym is ∙ (ap is_open e ∙ lacks) in cc)
 
       go : (c : Command) → p.command ≡ c → IsOwn h 1 c p → OpensWithin l (77 + length b.service) p
       go Open e of is from =

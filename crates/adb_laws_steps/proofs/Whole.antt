@@ -53,8 +53,8 @@ born_for h l (p ∷ ps) own some =
   where
     skip : (c : Command) → p.command ≡ c → is_open c ≡ false → (m : Bool)
         → 1 ≤ cond (is_open p.command && m) (1 + count_from is_open l ps) (count_from is_open l ps) → (1 ≤ count_from is_open l ps → IsBorn h l) → IsBorn h l
-    skip c e no m some later =
-        let same = ap (λ (b : Bool). cond (b && m) (1 + count_from is_open l ps) (count_from is_open l ps)) (ap is_open e ∙ no) in
+    skip c e lacks m some later =
+        let same = ap (λ (b : Bool). cond (b && m) (1 + count_from is_open l ps) (count_from is_open l ps)) (ap is_open e ∙ lacks) in
         later (omega (arith, same, some))
 
     go : (c : Command) → p.command ≡ c → IsOwn h 1 c p → (m : Bool) → nat_eq p.arg0 l ≡ m

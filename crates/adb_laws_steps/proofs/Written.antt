@@ -38,7 +38,7 @@ part_written l id (one ∷ more) all =
     other : (c : Command) → one.packet.command ≡ c → is_wrte c ≡ false → (m : Bool) → part write_len (λ p. p.arg1) l (packets_of_sent more) ≤ length (written id more)
         → cond m (cond (is_wrte one.packet.command) (length one.packet.payload) 0) 0 + part write_len (λ p. p.arg1) l (packets_of_sent more)
         ≤ length (written id (one ∷ more))
-    other c e no m le = none m (ap (λ (b : Bool). cond b (length one.packet.payload) 0) (ap is_wrte e ∙ no))
+    other c e lacks m le = none m (ap (λ (b : Bool). cond b (length one.packet.payload) 0) (ap is_wrte e ∙ lacks))
       where
         longer : length (written id more) ≤ length (written id (one ∷ more))
         longer = let sum = length-append (payload_of id one) (written id more) in omega (arith, sum)
@@ -87,7 +87,7 @@ okays_from l id (one ∷ more) all =
     (okays_from l id more (All-tail (ComesFrom l id) one more all))
   where
     clash : (c : Command) → one.packet.command ≡ c → is_okay c ≡ false → OkaysFrom l id one.packet
-    clash c e no is to = absurd (let x : true ≡ false = sym is ∙ (ap is_okay e ∙ no) in cc)
+    clash c e lacks is to = absurd (let x : true ≡ false = sym is ∙ (ap is_okay e ∙ lacks) in cc)
 
     from : one.packet.command ≡ Okay → (one.packet.arg0 ≡ id) ⊎ ((is_clse one.packet.command ≡ true) × (one.packet.arg0 ≡ 0)) → one.packet.arg0 ≡ id
     from e (inl same) = same
