@@ -10,3 +10,4 @@ pub mod Fresh
 pub mod Rest
 pub mod Going
 pub mod Greeting
+pub mod Answered

@@ -263,10 +263,10 @@ module _ (laws : Laws) (h : History) (parts : Parts) (holds : Holds h parts) (gr
       brought_all =
           ap (λ (x : List ℕ). (framed x).given) received ∙ framed_owed model_setting short (sent 1 h) (sent_words h legal)
 
-  at_rest : worlds.IsAtRest model_setting h
+  pub at_rest : worlds.IsAtRest model_setting h
   at_rest = record { still = still; clients = client_due }
 
-  one_device : plugged_count h ≤ 1
+  pub one_device : plugged_count h ≤ 1
   one_device = let one = holds.one in omega (arith, one)
 
   -- ---- the clients

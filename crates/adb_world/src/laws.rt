@@ -2,11 +2,13 @@
 //! law.
 
 ghost use Rattle.adb_world.specs.Parts.{IsRunning};
-ghost use Rattle.adb_world.specs.Settled.{IsCounted, IsSettled, Rests};
+ghost use Rattle.adb_world.specs.Answered.{IsAnswered};
+ghost use Rattle.adb_world.specs.Settled.{Each, IsCounted, IsSettled, Rests};
 ghost use Rattle.std.specs.Prelude.{false};
 ghost use Rattle.adb_world.specs.World.{view_of};
 ghost use Rattle.adb_world.specs.declared.parts.Parts.{Parts};
 
+use adb_laws_answers::clients_are_answered;
 use adb_laws_sessions::{requests_open_their_service, sessions_ask_for_services};
 use adb_laws_worlds::{
     a_device_breaks_no_link, clients_hold_nothing_at_rest, streams_are_open_at_rest,
@@ -14,14 +16,17 @@ use adb_laws_worlds::{
     streams_of_one_plain_device_are_plain, streams_that_live_heard_no_close,
 };
 
-/// Where no step is possible all is settled, and as many clients and streams were drawn as sessions
-/// were given.
+/// Where no step is possible all is settled, as many clients and streams were drawn as sessions
+/// were given, and each session was answered.
 pub(crate) fn worlds_that_rest_are_settled()
     ensures settled { (parts : Parts) → IsRunning parts → Rests parts
         → IsSettled (view_of parts false) }
     ensures counted { (parts : Parts) → IsRunning parts → Rests parts
         → IsCounted (view_of parts false) }
+    ensures answered { (parts : Parts) → IsRunning parts → Rests parts
+        → Each parts.sessions.entries IsAnswered }
 {
+    clients_are_answered();
     requests_open_their_service();
     sessions_ask_for_services();
     streams_have_settled_at_rest();

@@ -2,7 +2,8 @@
 
 ghost use Rattle.std.specs.Prelude.{◌<◌, false, IfOk, OnOk};
 ghost use Rattle.adb_world.specs.Parts.{IsRunning};
-ghost use Rattle.adb_world.specs.Settled.{Anything, Goes, GoesOn, IsCounted, IsSettled, Rests};
+ghost use Rattle.adb_world.specs.Answered.{IsAnswered};
+ghost use Rattle.adb_world.specs.Settled.{Anything, Each, Goes, GoesOn, IsCounted, IsSettled, Rests};
 ghost use Rattle.adb_world.specs.World.{view_of};
 
 use crate::choices::{Side, Turn, turn_of};
@@ -20,6 +21,7 @@ pub(crate) fn settle_parts(parts: &mut Parts, seed: u64) -> Result<u64, AllocErr
     ensures goes { OnOk result (GoesOn parts.old parts.new) }
     ensures settled { OnOk result (IsSettled (view_of parts.new false)) }
     ensures counted { OnOk result (IsCounted (view_of parts.new false)) }
+    ensures answered { OnOk result (Each parts.new.sessions.entries IsAnswered) }
 {
     worlds_that_rest_are_settled();
     let mut words = Pcg32::seed_from_u64(seed);

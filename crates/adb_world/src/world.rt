@@ -6,7 +6,8 @@ ghost use Rattle.adb_device_streams.specs.Asked.{service_of};
 ghost use Rattle.adb_laws_sessions.specs.Words.{IsKnown, most_service};
 ghost use Rattle.adb_world.specs.Parts.{Adds, AreSame, IsRunning, most_sessions};
 ghost use Rattle.adb_world.specs.Session.{new_session};
-ghost use Rattle.adb_world.specs.Settled.{IsCounted, IsSettled};
+ghost use Rattle.adb_world.specs.Answered.{IsAnswered};
+ghost use Rattle.adb_world.specs.Settled.{Each, IsCounted, IsSettled};
 ghost use Rattle.adb_world.specs.World.{HasStarted};
 
 use crate::parts::Parts;
@@ -99,10 +100,12 @@ impl World {
 }
 
 /// Moves bytes, in pieces and between sides that the seed picks, until none can move, and gives the
-/// number of steps. After want of memory the world is spent.
+/// number of steps. Each session was handed `OKAYOKAY` then, and all that its service answers to its
+/// text, or to a front of that where the service has ended. After want of memory the world is spent.
 pub fn settle(world: &mut World, seed: u64) -> Result<u64, AllocError>
     ensures settled { OnOk result (IsSettled world.new) }
     ensures counted { OnOk result (IsCounted world.new) }
+    ensures answered { OnOk result (Each world.new.sessions IsAnswered) }
     ensures same { OnOk result (AreSame world.old.sessions world.new.sessions) }
     ensures given { OnOk result (world.new.given ≡ world.old.given) }
     ensures whole { OnOk result (world.new.spent ≡ false) }

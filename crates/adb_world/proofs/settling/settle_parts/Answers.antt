@@ -17,6 +17,12 @@ returns-then-not-branch-clause-counted c =
     c.worlds_that_rest_are_settled.ensures.counted c.step.new.parts (subst IsRunning (sym goes.0) c.loop-steps.invariant.runs)
     (subst Rests (sym goes.0) goes.1)
 
+pub returns-then-not-branch-clause-answered : goal.returns-then-not-branch-clause-answered
+returns-then-not-branch-clause-answered c =
+    let goes = subst (λ (b : Bool). Goes Rests b c.loop-steps.parts c.step.new.parts) c.if-not-branch.true c.in_ok-step.ensures in
+    c.worlds_that_rest_are_settled.ensures.answered c.step.new.parts (subst IsRunning (sym goes.0) c.loop-steps.invariant.runs)
+    (subst Rests (sym goes.0) goes.1)
+
 pub loop-steps-preserved : goal.loop-steps-preserved
 loop-steps-preserved c =
     goes_further c.args.parts.now c.loop-steps.parts c.step.new.parts c.loop-steps.invariant
