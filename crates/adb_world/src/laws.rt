@@ -2,8 +2,8 @@
 //! law.
 
 ghost use Rattle.adb_world.specs.Parts.{IsRunning};
-ghost use Rattle.adb_world.specs.Settled.{IsCounted, IsSettled, Rests};
-ghost use Rattle.std.specs.Prelude.{false};
+ghost use Rattle.adb_world.specs.Settled.{IsCounted, IsDone, Rests};
+ghost use Rattle.std.specs.Prelude.{false, true};
 ghost use Rattle.adb_world.specs.World.{view_of};
 ghost use Rattle.adb_world.specs.declared.parts.Parts.{Parts};
 
@@ -14,13 +14,9 @@ use adb_laws_worlds::{
     streams_of_one_plain_device_are_plain, streams_that_live_heard_no_close,
 };
 
-/// Where no step is possible all is settled, and as many clients and streams were drawn as sessions
-/// were given.
+/// Where no step is possible all is settled.
 pub(crate) fn worlds_that_rest_are_settled()
-    ensures settled { (parts : Parts) → IsRunning parts → Rests parts
-        → IsSettled (view_of parts false) }
-    ensures counted { (parts : Parts) → IsRunning parts → Rests parts
-        → IsCounted (view_of parts false) }
+    ensures { (parts : Parts) → IsRunning parts → Rests parts → IsDone parts }
 {
     requests_open_their_service();
     sessions_ask_for_services();
@@ -31,4 +27,12 @@ pub(crate) fn worlds_that_rest_are_settled()
     streams_of_one_device_are_on_its_link();
     a_device_breaks_no_link();
     streams_that_live_heard_no_close();
+}
+
+/// Where all is settled, as many clients and streams were drawn as sessions were given.
+pub(crate) fn settled_worlds_are_counted()
+    ensures { (parts : Parts) → IsDone parts → IsCounted (view_of parts false true) }
+{
+    requests_open_their_service();
+    sessions_ask_for_services();
 }
