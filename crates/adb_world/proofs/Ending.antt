@@ -7,6 +7,7 @@ use Rattle.adb_outside.specs.declared.kinds.Cause.TheVariants.{Eof}
 use Rattle.adb_outside.proofs.TableLaws.{at_head}
 use Rattle.adb_capture.specs.declared.entry.Entry.TheVariants.{End}
 use Rattle.adb_history.specs.Machine.{History}
+use Rattle.adb_daemon.specs.Daemon.{files_of}
 use Rattle.adb_world.specs.Parts.{AreSame, AreSameBut, Drops, Holds, IsKeptAt, IsRunning, IsSame}
 use Rattle.adb_world.specs.Settled.{IsAtEase, IsDone, IsSettled, IsSound}
 use Rattle.adb_world.specs.World.{view_of}
@@ -59,6 +60,7 @@ same_but n old mid new drops same = record {
 pub record Finishing (after : ℕ) (old now : Parts) : Type 0 where
   pub done : IsDone now
   pub given : now.given ≡ old.given
+  pub files : files_of now.device ≡ files_of old.device
   pub none : (c : ℕ) → c ≤ after → at c now.sessions.entries ≡ None
 
 -- nothing is kept under 0
@@ -70,7 +72,7 @@ none_zeroth parts runs c le = go (at c parts.sessions.entries) refl (runs.holds.
     go (Some session) is k = let some = k.0.0 in absurd (omega (arith, some, le))
 
 pub begins_finishing : (parts : Parts) → IsDone parts → Finishing 0 parts parts
-begins_finishing parts done = record { done = done; given = refl; none = none_zeroth parts done.ease.runs }
+begins_finishing parts done = record { done = done; given = refl; files = refl; none = none_zeroth parts done.ease.runs }
 
 -- no session stands between two numbers
 abbrev pub Between : ℕ → ℕ → Parts → Type 0
@@ -79,10 +81,12 @@ Between after number parts = (c : ℕ) → after < c → c < number → at c par
 module _ (after : ℕ) (old now : Parts) (finishing : Finishing after old now) where
   -- one more has ended
   pub finishes_one : (number : ℕ) (new : Parts) → after < number → Between after number now → IsDone new
-      → AreSameBut number now.sessions.entries new.sessions.entries → new.given ≡ now.given → Finishing number old new
-  finishes_one number new less between done but given = record {
+      → AreSameBut number now.sessions.entries new.sessions.entries → new.given ≡ now.given
+      → files_of new.device ≡ files_of now.device → Finishing number old new
+  finishes_one number new less between done but given files = record {
     done = done;
     given = given ∙ finishing.given;
+    files = files ∙ finishing.files;
     none = none;
   }
     where

@@ -14,5 +14,11 @@ pub mod Rest
 pub mod Ended
 pub mod Joining
 pub mod Going
+pub mod QuietPackets
+pub mod Unsent
+pub mod Unread
+pub mod NoMore
+pub mod SentAll
 pub mod Greeting
 pub mod Ending
+pub mod Files

@@ -1,6 +1,8 @@
 -- A world in which nothing can move, and in which nothing is left to be moved.
-use Rattle.std.specs.Prelude.{ℕ, ◌≡◌, ◌≢◌, ◌<◌, Bool, true, false, List, [], Some}
+use Rattle.std.specs.Prelude.{ℕ, ◌≡◌, ◌≢◌, ◌<◌, Bool, true, false, List, [], ◌∷◌, ◌++◌, Some}
 use Rattle.adb_outside.specs.Tables.{at}
+use Rattle.adb_outside.specs.declared.kinds.Cause.TheVariants.{Eof}
+use Rattle.adb_capture.specs.declared.entry.Entry.TheVariants.{End as Ends}
 use Rattle.adb_stream.specs.declared.row.Stream.{Stream}
 use Rattle.adb_stream.specs.Flow.{is_idle, to_hand}
 use Rattle.adb_history.specs.Rows.{Client, Link}
@@ -10,7 +12,7 @@ use Rattle.adb_hub.specs.Answers.{due_on, offered_to}
 use Rattle.adb_daemon.specs.Daemon.{owed}
 use Rattle.adb_world.specs.Session.{left_of}
 use Rattle.adb_world.specs.Calls.{HasNone}
-use Rattle.adb_world.specs.Parts.{Holds, IsRunning, AreSame}
+use Rattle.adb_world.specs.Parts.{Holds, IsRunning, AreSame, Drops}
 use Rattle.adb_world.specs.World.{End, View, ends_of}
 use Rattle.adb_world.specs.declared.session.Session.{Session}
 use Rattle.adb_world.specs.declared.parts.Parts.{Parts}
@@ -92,9 +94,15 @@ pub record Rests (parts : Parts) : Type 0 where
   pub handed : NoneHanded 0 parts
   pub written : NoneWritten 0 parts
 
+-- The parts hold a history that goes on behind another.
+pub record GrowsFrom (h : History) (new : Parts) : Type 0 where
+  pub more : History
+  pub holds : Holds (more ++ h) new
+
 -- The parts go on running, with the same sessions.
 pub record GoesOn (old new : Parts) : Type 0 where
   pub runs : IsRunning new
+  pub grows : (h : History) → Holds h old → GrowsFrom h new
   pub same : AreSame old.sessions.entries new.sessions.entries
   pub given : new.given ≡ old.given
 
@@ -106,3 +114,11 @@ Goes Nothing false old new = (new ≡ old) × Nothing old
 -- where nothing more is said of the steps that were not possible
 abbrev pub Anything : Parts → Type 0
 Anything parts = Unit {0}
+
+-- ---- a session ends
+-- The client of a session ended, the session was dropped, and all settled.
+pub record HasEnded (number : ℕ) (old mid new : Parts) : Type 0 where
+  pub dropped : Drops number old mid
+  pub ends : (h : History) → Holds h old → Holds (Ends number Eof ∷ h) mid
+  pub goes : GoesOn mid new
+  pub done : IsDone new

@@ -6,6 +6,7 @@ ghost use Rattle.adb_daemon.specs.Daemon.{files_of};
 ghost use Rattle.adb_world.specs.Parts.{AreSameBut};
 ghost use Rattle.adb_world.specs.Settled.{IsDone};
 
+use crate::laws::ended_sessions_change_no_file;
 use crate::parts::Parts;
 use crate::settling::settle_parts;
 use adb_laws_births::what_came_stays;
@@ -38,6 +39,7 @@ pub(crate) fn finish_one(parts: &mut Parts, number: u32, seed: u64) -> Result<()
     ensures files { OnOk result (files_of parts.new.device ≡ files_of parts.old.device) }
 {
     what_came_stays();
+    ended_sessions_change_no_file();
     parts.end(number);
     settle_parts(parts, seed)?;
     Ok(())

@@ -14,7 +14,7 @@ ghost use Rattle.adb_world.specs.declared.session.Session.{Session};
 
 use crate::asking::sync_parts;
 use crate::ending::finish_parts;
-use crate::laws::settled_worlds_are_counted;
+use crate::laws::{new_worlds_have_no_files, settled_worlds_are_counted};
 use crate::parts::Parts;
 use crate::settling::settle_parts;
 use crate::starting::begin;
@@ -59,6 +59,7 @@ impl World {
         ensures counted { IfOk result IsCounted }
     {
         settled_worlds_are_counted();
+        new_worlds_have_no_files();
         let mut parts = Parts::new(alloc)?;
         parts.greet()?;
         settle_parts(&mut parts, 0)?;
