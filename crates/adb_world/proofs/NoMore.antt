@@ -1,6 +1,7 @@
 -- Behind the end of a session nothing is asked for and nothing is written, so that no file of the device changes.
 use Rattle.std.specs.Prelude.{ℕ, ◌+◌, ◌-◌, ◌≡◌, ◌≢◌, ◌≤◌, ◌<◌, ◌&&◌, Bool, true, false, cond, is_some, nat_eq, zero, suc, All, fold, min}
 use Rattle.std.specs.Prelude.{List, [], ◌∷◌, ◌++◌, length, take, drop, Option, Some, None}
+use Rattle.std.specs.Option.{option_or}
 use Rattle.std.proofs.Common.{refl, sym, ◌∙◌, ap, subst, arith, ◌⊎◌, inl, inr, append_assoc}
 use Rattle.std.proofs.lemmas.Bool.{cases_eq, eq-eqb}
 use Rattle.std.proofs.lemmas.List.{append-nil, length-append, length-drop}
@@ -24,12 +25,11 @@ use Rattle.adb_history.specs.Orderly.{HasClient, HasOwner}
 use Rattle.adb_history.specs.Rows.{Client}
 use Rattle.adb_history.specs.Streams.{stream_ids}
 use Rattle.adb_history.proofs.OrderlyStates.{orderly}
-use Rattle.adb_laws_births.specs.Laws.{GoesOn as StaysBehind}
 use Rattle.adb_laws_births.specs.Ending.{EndsAs, HasEnding}
 use Rattle.adb_laws_births.proofs.Asking.{asks_at_once}
 use Rattle.adb_laws_births.proofs.Born.{all_births}
 use Rattle.adb_laws_births.proofs.Crossing.{no_crossing}
-use Rattle.adb_laws_births.proofs.Ending.{ending_append, or_none}
+use Rattle.adb_laws_births.proofs.Ending.{ending_append}
 use Rattle.adb_laws_births.proofs.Endings.{all_endings}
 use Rattle.adb_laws_births.proofs.Laws.{sends_first}
 use Rattle.adb_laws_births.proofs.Once.{count_append}
@@ -110,9 +110,6 @@ module _ (carried : (h : History) → IsLegal h → CarriesRest h) (stays : AllS
     (sent_all : sent 1 h ≡ packets_of 1 h) (gone : (state (End n Eof ∷ h)).clients n ≡ None)
     (same_drawn : (state (more ++ End n Eof ∷ h)).drawn ≡ (state h).drawn)
     (same_read : (d : ℕ) (client : Client) → d ≢ n → (state h).clients d ≡ Some client → bytes_read d (more ++ End n Eof ∷ h) ≡ bytes_read d h) where
-  abbrev now : History
-  now = more ++ End n Eof ∷ h
-
   -- what was sent since
   pub since : (ps : List Packet) × (sent 1 h ++ ps ≡ sent 1 (more ++ End n Eof ∷ h))
   since = go more
@@ -240,7 +237,7 @@ module _ (carried : (h : History) → IsLegal h → CarriesRest h) (stays : AllS
     lived_before is =
         let ends = ended_now is in
         let told_end : is_some (ending_in l (told_at (End n Eof) h)) ≡ true =
-        ap is_some (sym (or_none (ending_of l h) (ending_in l (told_at (End n Eof) h)) no_end)
+        ap is_some (sym (ap (λ (o : Option Ending). option_or o (ending_in l (told_at (End n Eof) h))) no_end)
         ∙ (sym (ending_append l (told h) (told_at (End n Eof) h)) ∙ ends.1)) in
         (ended_lived l more (End n Eof ∷ h) (λ e older y is. (stays e older).ending l y is) ends.0 ends.1).1
         ∙ ((λ i. cond (is_some (no_end i)) (lived l h) (cond (is_some (ending_in l (told_at (End n Eof) h))) h (End n Eof ∷ h)))

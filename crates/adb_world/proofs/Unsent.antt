@@ -11,7 +11,7 @@ use Rattle.adb_capture.specs.declared.entry.Entry.{Entry}
 use Rattle.adb_capture.specs.declared.entry.Entry.TheVariants.{Join, Enter, Read, End, Bound, Attach, Recv, Detach, Put, Send}
 use Rattle.adb_stream.specs.declared.row.Stream.{Stream}
 use Rattle.adb_history.specs.Births.{carried_in, count_from, is_open, is_wrte}
-use Rattle.adb_history.specs.Events.{Event, packets_to}
+use Rattle.adb_history.specs.Events.{Event, due_to_client, due_to_link, ended, packets_to}
 use Rattle.adb_history.specs.Lives.{packets_of}
 use Rattle.adb_history.specs.Machine.{History, state, told, told_at}
 use Rattle.adb_history.specs.Moves.{IsOfStream}
@@ -79,11 +79,21 @@ module _ (l : ℕ) (some : 0 < l) where
     tells_link = λ t p check s w of h. record {
       gone = h.gone;
       drawn = h.drawn;
-      none = told_none w _ h.none (to_link (nat_eq t 1) p (no_such is_wrte refl s p h.gone of));
-      unasked = told_unasked w _ h.unasked (asks_link (nat_eq t 1) p (no_such is_open refl s p h.gone of));
+      none = told_none w (due_to_link t p check) h.none (to_link (nat_eq t 1) p (no_such is_wrte refl s p h.gone of));
+      unasked = told_unasked w (due_to_link t p check) h.unasked (asks_link (nat_eq t 1) p (no_such is_open refl s p h.gone of));
     };
-    tells_client = λ c bytes s w h. record { gone = h.gone; drawn = h.drawn; none = told_none w _ h.none refl; unasked = told_unasked w _ h.unasked refl };
-    tells_end = λ k ending s w h. record { gone = h.gone; drawn = h.drawn; none = told_none w _ h.none refl; unasked = told_unasked w _ h.unasked refl };
+    tells_client = λ c bytes s w h. record {
+      gone = h.gone;
+      drawn = h.drawn;
+      none = told_none w (due_to_client c bytes) h.none refl;
+      unasked = told_unasked w (due_to_client c bytes) h.unasked refl;
+    };
+    tells_end = λ k ending s w h. record {
+      gone = h.gone;
+      drawn = h.drawn;
+      none = told_none w (ended k ending) h.none refl;
+      unasked = told_unasked w (ended k ending) h.unasked refl;
+    };
     client = λ c f s w h. record { gone = h.gone; drawn = h.drawn; none = h.none; unasked = h.unasked };
     link = λ t f s w h. record { gone = h.gone; drawn = h.drawn; none = h.none; unasked = h.unasked };
     stream = λ k f s w h. record { gone = row_gone s.streams k f h.gone; drawn = h.drawn; none = h.none; unasked = h.unasked };
