@@ -90,7 +90,11 @@ fn look_at_stream(world: &World, session: u32, echo: EchoLine, stream: u32)
         ≡ Some (pattern stream echo.size) }
 {
     match world.answer(session) {
-        Some(answer) if echo.is_echoed(stream, answer) => {}
-        _ => unreachable!(),
+        Some(answer) => {
+            if !echo.is_echoed(stream, answer) {
+                unreachable!();
+            }
+        }
+        None => unreachable!(),
     }
 }

@@ -6,7 +6,6 @@ ghost use Rattle.adb_script.specs.Lines.{seen};
 ghost use Rattle.adb_script.specs.Script.{first_bad, lines_in};
 ghost use Rattle.adb_world.specs.Parts.{most_sessions};
 ghost use Rattle.adb_local.specs.Running.{AllMayStand, IsIdle, IsNew, MayStand, RunsLine, sessions_in, texts_of};
-ghost use Rattle.adb_local.specs.declared.line.Line.{Line};
 
 use crate::echoing::run_echo;
 use crate::line::Line;
