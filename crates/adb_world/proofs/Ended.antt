@@ -162,25 +162,26 @@ module _ (h : History) (legal : IsLegal h) (c : ℕ) (nothing : SendsNothingBy (
       remote : has.stream.part.remote ≡ 0
       remote = asks_none l has.stream.part.remote (sym in_phase ∙ (ap (λ (k : Client). k.about.phase) same ∙ owner.phase))
 
+  -- the input of a client ends that has no open stream
+  shuts : (client : Client) → (state h).clients c ≡ Some client → (phase : Phase) → client.about.phase ≡ phase → is_open_phase phase ≡ false
+      → input_ends phase c (state h) ≡ closes c (state h) → (state (End c Eof ∷ h)).clients c ≡ None
+  shuts client is phase in_phase e closed =
+      by_rule (shut client phase is in_phase e)
+      (ap (λ (s : State). s.clients c) (rule_on client phase is in_phase ∙ closed) ∙ closes_now client is)
+
+  by_phase : (client : Client) → (state h).clients c ≡ Some client → (phase : Phase) → client.about.phase ≡ phase → IsResting phase (state h) c client
+      → (state (End c Eof ∷ h)).clients c ≡ None
+  by_phase client is Asking in_phase rests = shuts client is Asking in_phase refl refl
+  by_phase client is Binding in_phase rests = shuts client is Binding in_phase refl refl
+  by_phase client is Tracking in_phase rests = shuts client is Tracking in_phase refl refl
+  by_phase client is (Opening l) in_phase rests = absurd (asked_gone l rests client is in_phase)
+  by_phase client is (Streaming l) in_phase rests = streaming_gone l client is in_phase rests.0 (rests.1 rests.0.stream rests.0.is)
+  by_phase client is Closing in_phase rests = absurd (rests.1 (idle.clients c client is).due)
+  by_phase client is Gone in_phase rests = absurd rests
+
   pub ends_gone : (state (End c Eof ∷ h)).clients c ≡ None
   ends_gone = by_row ((state h).clients c) refl
     where
-      module _ (client : Client) (is : (state h).clients c ≡ Some client) where
-        shuts : (phase : Phase) → client.about.phase ≡ phase → is_open_phase phase ≡ false → input_ends phase c (state h) ≡ closes c (state h)
-            → (state (End c Eof ∷ h)).clients c ≡ None
-        shuts phase in_phase e closed =
-            by_rule (shut client phase is in_phase e)
-            (ap (λ (s : State). s.clients c) (rule_on client phase is in_phase ∙ closed) ∙ closes_now client is)
-
-        by_phase : (phase : Phase) → client.about.phase ≡ phase → IsResting phase (state h) c client → (state (End c Eof ∷ h)).clients c ≡ None
-        by_phase Asking in_phase rests = shuts Asking in_phase refl refl
-        by_phase Binding in_phase rests = shuts Binding in_phase refl refl
-        by_phase Tracking in_phase rests = shuts Tracking in_phase refl refl
-        by_phase (Opening l) in_phase rests = absurd (asked_gone l rests client is in_phase)
-        by_phase (Streaming l) in_phase rests = streaming_gone l client is in_phase rests.0 (rests.1 rests.0.stream rests.0.is)
-        by_phase Closing in_phase rests = absurd (rests.1 (idle.clients c client is).due)
-        by_phase Gone in_phase rests = absurd rests
-
       by_row : (o : Option Client) → (state h).clients c ≡ o → (state (End c Eof ∷ h)).clients c ≡ None
       by_row None is =
           by_rule (ap has_open_stream is) (ap (λ (o : Option Client). (client_ends c Eof o (state h)).state.clients c) is ∙ is)

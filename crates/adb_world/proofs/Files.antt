@@ -90,9 +90,6 @@ pub record EndLaws : Type 0 where
   pub counts : (parts : Parts) → IsDone parts → IsCounted (view_of parts false true)
 
 module _ (laws : EndLaws) (n : ℕ) (old mid new : Parts) (done : IsDone old) (ended : HasEnded n old mid new) where
-  h : History
-  h = done.ease.runs.history
-
   holds : Holds done.ease.runs.history old
   holds = done.ease.runs.holds
 
