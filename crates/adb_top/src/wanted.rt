@@ -15,7 +15,10 @@ pub fn wanted(alloc: Global, words: &[String]) -> Result<Ports, WordsError>
     ensures serve { AsksForPorts words.now result }
 {
     if !is_serve(words) {
-        return Ok(Ports::none(alloc));
+        return Ok(Ports {
+            devices: Vec::new(alloc),
+            connects: Vec::new(alloc),
+        });
     }
     match read_serve(alloc, words) {
         Ok(serve) => Ok(serve.ports),
