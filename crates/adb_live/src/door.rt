@@ -100,9 +100,8 @@ impl<W: Drop> TcpBell<W> {
     }
 }
 
-impl<
-    W: Net<Listener = TcpListener, Stream = TcpStream> + Wait + Send + Sync + Drop + 'static,
-> Bell for TcpBell<W> {
+impl<W: Net<Listener = TcpListener, Stream = TcpStream> + Wait + Send + Sync + Drop + 'static> Bell
+    for TcpBell<W> {
     fn ring(&self) {
         self.lobby.close(&self.rt);
     }

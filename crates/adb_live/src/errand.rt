@@ -17,7 +17,10 @@ pub enum Errand<K: Sink + Drop> {
         lobby: Arc<Lobby, Global>,
     },
     /// To write out what is recorded.
-    Record { roll: Arc<Roll, Global>, sink: K },
+    Record {
+        roll: Arc<Roll, Global>,
+        sink: K,
+    },
 }
 
 /// Runs an errand to its end.

@@ -3,11 +3,10 @@
 use adb_sockets::Ending;
 use std::alloc::Global;
 use std::collections::VecDeque;
-use std::io;
-use std::mem;
 use std::net::{Ipv4Addr, Net, SocketAddr, TcpListener, TcpStream};
 use std::sync::{Mutex, Wait};
 use std::time::Duration;
+use std::{io, mem};
 
 /// How many seconds a connection to a port of this server waits, where many do already.
 const PATIENCE: u64 = 1;

@@ -3,11 +3,10 @@
 use crate::errand::{Errand, run};
 use adb_outside::Sink;
 use std::alloc::{AllocError, Global};
-use std::mem;
 use std::net::{Net, TcpListener, TcpStream};
 use std::sync::{Arc, Condvar, Mutex, Wait};
-use std::thread;
 use std::thread::Threads;
+use std::{mem, thread};
 
 /// What is asked of a porter.
 #[derive(Drop)]

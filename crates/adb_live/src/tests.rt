@@ -1,6 +1,8 @@
 //! The door with its bell and a port of a forward, over sockets; and a record that a thread writes.
 
-use crate::{Errand, Lobby, Porter, Roll, SwitchRecorder, TcpBell, TcpBinder, TcpDoor, begin_porter};
+use crate::{
+    Errand, Lobby, Porter, Roll, SwitchRecorder, TcpBell, TcpBinder, TcpDoor, begin_porter,
+};
 use adb_binder::{Binder, Binding};
 use adb_capture::{Entry, RecordError, Recorder};
 use adb_connections::{Bell, Came, Door, PortIn};

@@ -77,7 +77,11 @@ fn connect<W: Net<Listener = TcpListener, Stream = TcpStream>>(
 }
 
 /// Plugs in the device at a port, unless it is plugged in already.
-fn plug<W: Net<Listener = TcpListener, Stream = TcpStream>>(rt: &W, port: u16, line: &Line) -> Plug {
+fn plug<W: Net<Listener = TcpListener, Stream = TcpStream>>(
+    rt: &W,
+    port: u16,
+    line: &Line,
+) -> Plug {
     if line.stream.get().is_some() {
         return Plug::Here;
     }
