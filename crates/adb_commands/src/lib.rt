@@ -9,8 +9,6 @@ mod output;
 mod replay;
 mod status;
 mod stop;
-#[cfg(test)]
-mod tests;
 mod texts;
 
 pub use command::run_alone;

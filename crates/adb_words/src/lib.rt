@@ -7,12 +7,6 @@ mod load;
 mod operands;
 mod seed;
 mod serve;
-#[cfg(test)]
-mod tests;
-#[cfg(test)]
-mod tests_of_serve;
-#[cfg(test)]
-mod tests_of_tools;
 mod tool;
 mod tool_matches;
 mod words;
