@@ -1,0 +1,255 @@
+//! The yard of a live server.
+
+ghost use Rattle.std.specs.Prelude.{◌≡◌, false, IfOk, IfSome};
+ghost use Rattle.adb_yard.specs.Yard.{FitsPort, is_deaf};
+
+use adb_connections::OpenGate;
+use adb_live::{
+    Errand, Lobby, Porter, Roll, SwitchRecorder, TcpBell, TcpBinder, TcpDoor, begin_porter,
+};
+use adb_outside::Sink;
+use adb_sockets::{Ending, TcpIn, TcpOut, halves};
+use adb_yard::{Dialled, Listening, Staff, Yard};
+use std::alloc::{AllocError, Global};
+use std::io;
+use std::net::{Net, SocketAddr, TcpListener, TcpStream};
+use std::sync::{Arc, Wait};
+use std::thread::Threads;
+
+/// What goes on beside a server: the threads of its forwards, and the one that writes its record.
+#[derive(Drop)]
+pub struct Helpers<W: Wait + Drop, K: Sink + Drop> {
+    rt: W,
+    porter: Arc<Porter<K>, Global>,
+    roll: Arc<Roll, Global>,
+}
+
+impl<W: Wait + Drop, K: Sink + Drop> Helpers<W, K> {
+    /// Waits until the record is written out or a write of it failed. No more threads are started.
+    pub fn finish(self) {
+        self.roll.finish(&self.rt);
+        self.porter.close(&self.rt);
+    }
+}
+
+/// The yard of a live server: sockets of this machine, threads, and a record that goes to a sink. It
+/// tells nothing of what it gives.
+#[derive(Drop)]
+pub struct RealYard<
+    W: Net<Listener = TcpListener, Stream = TcpStream>
+        + Threads
+        + Wait
+        + Copy
+        + Send
+        + Sync
+        + Drop
+        + 'static,
+    K: Sink + Send + Drop + 'static,
+> {
+    rt: W,
+    alloc: Global,
+    ending: Ending,
+    lobby: Option<Arc<Lobby, Global>>,
+    porter: Arc<Porter<K>, Global>,
+    roll: Arc<Roll, Global>,
+    sink: Option<K>,
+    faults: u64,
+}
+
+impl<
+    W: Net<Listener = TcpListener, Stream = TcpStream>
+        + Threads
+        + Wait
+        + Copy
+        + Send
+        + Sync
+        + Drop
+        + 'static,
+    K: Sink + Send + Drop + 'static,
+> RealYard<W, K> {
+    /// A yard whose record goes to this sink. Its bell says that the server ends; devices that share
+    /// that word give up writing then.
+    pub fn new(rt: W, alloc: Global, ending: Ending, sink: K) -> Result<RealYard<W, K>, AllocError>
+        ensures { IfOk result (λ yard. yard.faults ≡ 0) }
+    {
+        Ok(RealYard {
+            rt,
+            alloc,
+            ending,
+            lobby: None,
+            porter: begin_porter(rt, alloc)?,
+            roll: Arc::new(alloc, Roll::new(alloc))?,
+            sink: Some(sink),
+            faults: 0,
+        })
+    }
+
+    /// What goes on beside the server, to be finished behind it.
+    pub fn helpers(&self) -> Result<Helpers<W, K>, AllocError> {
+        Ok(Helpers {
+            rt: self.rt,
+            porter: Arc::try_clone(&self.porter)?,
+            roll: Arc::try_clone(&self.roll)?,
+        })
+    }
+}
+
+/// A listener on a port of this machine, any where it is 0, and the address of it.
+fn open<W: Net<Listener = TcpListener, Stream = TcpStream>>(
+    rt: &W,
+    port: u16,
+) -> io::Result<(TcpListener, SocketAddr)> {
+    let listener = TcpListener::bind(rt, ("127.0.0.1", port))?;
+    let address = listener.local_addr()?;
+    Ok((listener, address))
+}
+
+/// The lobby of a door at an address, for the door, its bell, and the ports of forwards.
+#[derive(Drop)]
+struct Lobbies {
+    door: Arc<Lobby, Global>,
+    bell: Arc<Lobby, Global>,
+    ports: Arc<Lobby, Global>,
+}
+
+impl Lobbies {
+    fn new(alloc: Global, address: SocketAddr, ending: &Ending) -> Result<Lobbies, AllocError> {
+        let lobby = Arc::new(alloc, Lobby::new(alloc, address, ending.share()?))?;
+        Ok(Lobbies {
+            door: Arc::try_clone(&lobby)?,
+            bell: Arc::try_clone(&lobby)?,
+            ports: lobby,
+        })
+    }
+}
+
+/// A door and its bell at a port of this machine, and the lobby of both.
+fn listen<W: Net<Listener = TcpListener, Stream = TcpStream> + Wait + Copy + Drop>(
+    rt: W,
+    alloc: Global,
+    ending: &Ending,
+    port: u16,
+) -> Option<(Listening<TcpDoor<W>, TcpBell<W>>, Arc<Lobby, Global>)>
+    ensures { IfSome result (λ here. FitsPort port here.0 × (is_deaf here.0 ≡ false)) }
+{
+    let (listener, address) = open(&rt, port).ok()?;
+    let bound = address.port();
+    if bound == 0 || port != 0 && bound != port {
+        return None;
+    }
+    let lobbies = Lobbies::new(alloc, address, ending).ok()?;
+    let door = TcpDoor::new(rt, alloc, listener, lobbies.door);
+    let bell = TcpBell::new(rt, lobbies.bell);
+    Some((Listening::Here(door, bell, bound), lobbies.ports))
+}
+
+/// Starts the thread that writes the record; whether it was started.
+fn begin_record<W: Wait, K: Sink + Drop>(
+    rt: &W,
+    porter: &Porter<K>,
+    roll: &Arc<Roll, Global>,
+    sink: Option<K>,
+) -> bool {
+    match (sink, Arc::try_clone(roll)) {
+        (Some(sink), Ok(theirs)) => porter.start(rt, Errand::Record { roll: theirs, sink }),
+        _ => false,
+    }
+}
+
+/// The two halves of a connection to a port of this machine.
+fn dial<W: Net<Listener = TcpListener, Stream = TcpStream>>(
+    rt: &W,
+    alloc: Global,
+    ending: &Ending,
+    port: u16,
+) -> io::Result<(TcpIn, TcpOut)> {
+    halves(alloc, TcpStream::connect(rt, ("127.0.0.1", port))?, ending)
+}
+
+impl<
+    W: Net<Listener = TcpListener, Stream = TcpStream>
+        + Threads
+        + Wait
+        + Copy
+        + Send
+        + Sync
+        + Drop
+        + 'static,
+    K: Sink + Send + Drop + 'static,
+> Yard for RealYard<W, K> {
+    type Door = TcpDoor<W>;
+
+    type Bell = TcpBell<W>;
+
+    type Keeper = SwitchRecorder<W>;
+
+    type Ports = TcpBinder<W, K>;
+
+    type Gate = OpenGate;
+
+    type DialIn = TcpIn;
+
+    type DialOut = TcpOut;
+
+    ghost use Rattle.std.specs.Prelude.{None};
+
+    ghost faults = { λ yard. yard.faults };
+
+    ghost steady = { λ yard. ⊥ };
+
+    ghost lasting = { λ yard. ⊥ };
+
+    ghost answers = { λ yard. None };
+
+    /// Listens on this machine alone.
+    fn listen(&mut self, port: u16) -> Listening<TcpDoor<W>, TcpBell<W>> {
+        match listen(self.rt, self.alloc, &self.ending, port) {
+            Some((listening, lobby)) => {
+                self.lobby = Some(lobby);
+                listening
+            }
+            None => {
+                self.faults = self.faults.saturating_add(1);
+                Listening::Failed
+            }
+        }
+    }
+
+    /// A second one that is wanted fails at each call, and so does one without a thread.
+    fn recorder(&mut self, wanted: bool) -> SwitchRecorder<W> {
+        let begun = wanted && begin_record(&self.rt, &self.porter, &self.roll, self.sink.take());
+        let roll = if begun {
+            Arc::try_clone(&self.roll).ok()
+        } else {
+            None
+        };
+        SwitchRecorder::new(self.rt, roll, wanted)
+    }
+
+    fn staff(&mut self) -> Staff {
+        Staff::Threads
+    }
+
+    fn ports(&mut self) -> TcpBinder<W, K> {
+        let lobby = match &self.lobby {
+            Some(lobby) => Arc::try_clone(lobby).ok(),
+            None => None,
+        };
+        TcpBinder::new(self.rt, lobby, Arc::try_clone(&self.porter).ok())
+    }
+
+    fn gate(&mut self) -> OpenGate {
+        OpenGate::new()
+    }
+
+    /// Connects without a wait for more than the system makes.
+    fn dial(&mut self, port: u16) -> Dialled<TcpIn, TcpOut> {
+        match dial(&self.rt, self.alloc, &self.ending, port) {
+            Ok((input, output)) => Dialled::Here(input, output),
+            Err(_) => {
+                self.faults = self.faults.saturating_add(1);
+                Dialled::Failed
+            }
+        }
+    }
+}
