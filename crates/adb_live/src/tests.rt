@@ -56,11 +56,15 @@ fn comes<W: Net<Listener = TcpListener, Stream = TcpStream> + Wait + Drop>(
     port: u16,
 ) -> io::Result<Option<u16>> {
     let client = TcpStream::connect(rt, ("127.0.0.1", port))?;
-    Ok(match door.accept() {
-        Came::Port(mut input, _) => reads(&mut input, &client).then_some(0),
-        Came::Forward(by, mut input, _) => reads(&mut input, &client).then_some(by),
-        Came::Closed | Came::Failed => None,
-    })
+    let (by, input, output) = match door.accept() {
+        Came::Port(input, output) => (0, input, output),
+        Came::Forward(by, input, output) => (by, input, output),
+        Came::Closed | Came::Failed => return Ok(None),
+    };
+    let mut input = input;
+    let came = reads(&mut input, &client);
+    drop(output);
+    Ok(if came { Some(by) } else { None })
 }
 
 /// The lobby of a door at a listener.
