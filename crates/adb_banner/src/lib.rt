@@ -3,7 +3,5 @@
 #![tactic(auto)]
 
 mod identity;
-#[cfg(test)]
-mod tests;
 
 pub use identity::{IdentityError, MAX_IDENTITY, has_feature, limits_are, read};

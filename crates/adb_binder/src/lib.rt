@@ -4,8 +4,6 @@
 mod binder;
 mod memory;
 mod open_ports;
-#[cfg(test)]
-mod tests;
 
 pub use binder::{Binder, Binding};
 pub use memory::MemoryBinder;

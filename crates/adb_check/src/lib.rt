@@ -5,8 +5,6 @@ mod capture;
 mod judge;
 mod laws;
 mod taking;
-#[cfg(test)]
-mod tests;
 mod verdict;
 
 pub use capture::{Judgement, judge_capture};

@@ -8,8 +8,6 @@ mod input;
 mod output;
 mod phase;
 mod slices;
-#[cfg(test)]
-mod tests;
 
 pub use about::{About, Want};
 pub use ask::{Ask, Asked};

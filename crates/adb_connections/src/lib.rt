@@ -9,8 +9,6 @@ mod memory_device;
 mod memory_door;
 mod memory_port;
 mod port;
-#[cfg(test)]
-mod tests;
 
 pub use device::{DeviceIn, DeviceOut, Plug};
 pub use door::{Arrival, Bell, Came, Door, SilentBell};

@@ -4,8 +4,6 @@
 
 mod row;
 mod table;
-#[cfg(test)]
-mod tests;
 
 pub use row::{ForwardError, ForwardRow};
 pub use table::{Forwards, MAX_FORWARDS, limits_are};

@@ -18,8 +18,6 @@ mod requests;
 mod sending;
 mod stopping;
 mod taking;
-#[cfg(test)]
-mod tests;
 
 pub use bounds::bound;
 pub use ends::end;

@@ -7,8 +7,6 @@ mod lists;
 mod places;
 mod puts;
 mod sends;
-#[cfg(test)]
-mod tests;
 
 pub use due::{is_owed, next_due, next_touched};
 pub use puts::put;

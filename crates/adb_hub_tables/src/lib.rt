@@ -13,8 +13,6 @@ mod ports;
 mod ready;
 mod streams;
 mod tables;
-#[cfg(test)]
-mod tests;
 mod touched_map;
 mod tracking;
 mod words;

@@ -4,8 +4,6 @@
 mod link;
 mod outbox;
 mod outgoing;
-#[cfg(test)]
-mod tests;
 
 pub use link::Link;
 pub use outgoing::{MAX_SHORT, limits_are};

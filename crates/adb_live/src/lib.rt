@@ -11,8 +11,6 @@ mod lobby;
 mod porter;
 mod recorder;
 mod roll;
-#[cfg(test)]
-mod tests;
 
 pub use binder::TcpBinder;
 pub use door::{TcpBell, TcpDoor};

@@ -71,17 +71,22 @@ impl Roll {
         self.changed.notify_all();
     }
 
-    /// Waits until all is written out or a write failed, and ends the thread that writes.
-    pub fn finish<W: Wait>(&self, rt: &W) {
+    /// Waits until all is written out or a write failed, and ends the thread that writes; whether
+    /// all was.
+    pub fn finish<W: Wait>(&self, rt: &W) -> bool {
         let mut held = self.held.lock(rt);
         held.over = true;
         self.changed.notify_all();
         for _ in rt.forever() {
-            if held.broken || (held.bytes.is_empty() && !held.writing) {
-                return;
+            if held.broken {
+                return false;
+            }
+            if held.bytes.is_empty() && !held.writing {
+                return true;
             }
             held = self.changed.wait(rt, held);
         }
+        unreachable!()
     }
 
     /// Waits for bytes, and takes all that are held; none where nothing more comes. The empty text

@@ -11,8 +11,6 @@ mod load;
 mod names;
 mod numbers;
 mod patterns;
-#[cfg(test)]
-mod tests;
 mod texts;
 
 pub use laws::no_turn_is_cut_off;

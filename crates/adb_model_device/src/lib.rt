@@ -4,8 +4,6 @@
 
 mod pipe_device;
 mod running;
-#[cfg(test)]
-mod tests;
 
 pub use pipe_device::{PipeDeviceIn, PipeDeviceOut};
 pub use running::{DeviceEnd, run_device};

@@ -19,8 +19,6 @@ mod serial;
 mod sink;
 mod source;
 mod supply;
-#[cfg(test)]
-mod tests;
 mod text;
 
 pub use answers::Answers;

@@ -7,8 +7,6 @@
 mod ends;
 mod laws;
 mod rule;
-#[cfg(test)]
-mod tests;
 
 pub use ends::{PipeIn, PipeOut, Taken, pipe};
 pub use laws::{ended_pipe_is_whole, put_is_taken_and_held};

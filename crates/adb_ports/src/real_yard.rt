@@ -25,10 +25,12 @@ pub struct Helpers<W: Wait + Drop, K: Sink + Drop> {
 }
 
 impl<W: Wait + Drop, K: Sink + Drop> Helpers<W, K> {
-    /// Waits until the record is written out or a write of it failed. No more threads are started.
-    pub fn finish(self) {
-        self.roll.finish(&self.rt);
+    /// Waits until the record is written out or a write of it failed; whether all of it was written.
+    /// No more threads are started.
+    pub fn finish(self) -> bool {
+        let written = self.roll.finish(&self.rt);
         self.porter.close(&self.rt);
+        written
     }
 }
 

@@ -10,8 +10,6 @@ mod laws;
 mod refusals;
 mod replies;
 mod strings;
-#[cfg(test)]
-mod tests;
 
 pub use answer::{Answer, Next};
 pub use laws::{replies_begin_right, texts_carry_their_length};

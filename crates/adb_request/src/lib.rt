@@ -8,8 +8,6 @@ mod hex;
 mod laws;
 mod meaning;
 mod request;
-#[cfg(test)]
-mod tests;
 
 pub use cutting::{Found, cut};
 pub use hex::{hex4, read_hex4};

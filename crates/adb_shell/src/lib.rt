@@ -6,8 +6,6 @@ mod format;
 mod laws;
 mod packet;
 mod reader;
-#[cfg(test)]
-mod tests;
 mod writer;
 
 pub use laws::{cut_is_determined, cut_is_right, faults_stay, limits_are, written_is_read};

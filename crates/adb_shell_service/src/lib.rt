@@ -8,8 +8,6 @@ mod outcome;
 mod output;
 mod program;
 mod service;
-#[cfg(test)]
-mod tests;
 mod words;
 
 pub use laws::limits_are;

@@ -8,8 +8,6 @@ mod device;
 mod ending;
 mod port;
 mod socket;
-#[cfg(test)]
-mod tests;
 
 pub use device::{TcpDeviceIn, TcpDeviceOut, tcp_device};
 pub use ending::Ending;

@@ -4,8 +4,6 @@
 mod crew;
 mod job;
 mod pool;
-#[cfg(test)]
-mod tests;
 
 pub use crew::{Crew, NoThread};
 pub use job::Job;

@@ -16,8 +16,6 @@ mod comma;
 mod error;
 mod laws;
 mod layout;
-#[cfg(test)]
-mod tests;
 mod writers;
 
 pub use answer::{Dirent, SyncAnswer};

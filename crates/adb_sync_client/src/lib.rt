@@ -15,8 +15,6 @@ mod reading;
 mod request;
 mod stat;
 mod step;
-#[cfg(test)]
-mod tests;
 mod told;
 
 pub use asking::{PathAsk, PathValue};

@@ -1,18 +1,12 @@
-//! The commands of `adbhub`.
+//! The top call of `adbhub`.
 #![tactic(auto)]
 
-mod checking;
-mod command;
-mod generating;
-mod note;
-mod output;
-mod replay;
-mod status;
-mod stop;
+mod run;
+mod serving;
 #[cfg(test)]
 mod tests;
-mod texts;
+mod wanted;
 
-pub use command::run;
-pub use note::{say_out_of_memory, say_usage};
-pub use status::Status;
+pub use adb_commands::{Status, run_alone, say_out_of_memory, say_record_fault, say_usage};
+pub use run::run;
+pub use wanted::wanted;

@@ -10,8 +10,6 @@ pub mod laws;
 mod limits;
 mod packets;
 mod slicer;
-#[cfg(test)]
-mod tests;
 
 pub use command::Command;
 pub use deframer::{Deframer, WireError};

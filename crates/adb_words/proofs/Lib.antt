@@ -1,3 +1,11 @@
 pub mod Plain
 pub mod Loads
 pub mod Bare
+pub mod Rules
+pub mod Parts
+pub mod Names
+pub mod Gives
+pub mod ByLayout
+pub mod Each
+pub mod Serves
+pub mod Tools

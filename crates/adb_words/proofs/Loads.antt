@@ -126,7 +126,7 @@ load_taken (a ∷ b ∷ c ∷ words) all none =
     absurd (filled kind.UnknownArgument (sym (more_fail a b c words (plain a p.0) (plain b q.0) (plain c r.0)) ∙ none))
 
 -- a number begins with no hyphen
-none_within : (least most : ℕ) (text : Text) → is_operand text ≡ false → number_within least most text ≡ None
+pub none_within : (least most : ℕ) (text : Text) → is_operand text ≡ false → number_within least most text ≡ None
 none_within least most [] dash = absurd (true≢false dash)
 none_within least most (x ∷ xs) dash =
     ap (λ (o : Option ℕ). option_and_then (λ n. if nat_le least n && nat_le n most then Some n else None) o) no_number

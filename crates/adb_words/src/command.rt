@@ -2,16 +2,30 @@
 
 ghost use Rattle.std.specs.Prelude.{◌≡◌};
 
+use std::alloc::AllocError;
+
 /// The most streams of a load.
 pub const MAX_STREAMS: u16 = 10_000;
 
 /// The most digits of a number.
 pub const MAX_DIGITS: usize = 20;
 
+/// The port of a server, where no word says another.
+pub const DEFAULT_PORT: u16 = 5037;
+
+/// The most devices that a server makes.
+pub const MAX_DEVICES: usize = 16;
+
+/// The most bytes of a path or a command that a tool is given.
+pub const MAX_OPERAND: usize = 1000;
+
 /// The numbers that definitions take from the code, written out.
 pub fn limits_are()
     ensures streams { MAX_STREAMS ≡ 10000 }
     ensures digits { MAX_DIGITS ≡ 20 }
+    ensures port { DEFAULT_PORT ≡ 5037 }
+    ensures devices { MAX_DEVICES ≡ 16 }
+    ensures operand { MAX_OPERAND ≡ 1000 }
 {}
 
 /// A command, with what its words give.
@@ -32,4 +46,15 @@ pub enum WordsError {
     Usage,
     /// Memory ran out.
     OutOfMemory,
+}
+
+impl From<AllocError> for WordsError {
+    ghost use Rattle.std.specs.Prelude.{◌≡◌};
+    ghost use Rattle.adb_words.specs.declared.command.WordsError.TheVariants.{OutOfMemory};
+
+    ghost from_gives = { λ _ e. e ≡ OutOfMemory };
+
+    fn from(_: AllocError) -> WordsError {
+        WordsError::OutOfMemory
+    }
 }

@@ -2,11 +2,15 @@
 #![tactic(auto)]
 
 mod command;
+mod given;
 mod load;
 mod operands;
-#[cfg(test)]
-mod tests;
+mod serve;
+mod tool;
+mod tool_matches;
 mod words;
 
 pub use command::{Command, WordsError, limits_are};
+pub use serve::{Ports, Serve, is_serve, read_serve};
+pub use tool::{Call, Tool, names_tool, read_tool};
 pub use words::read_words;

@@ -1,6 +1,7 @@
 //! The words of a load.
 
-ghost use Rattle.std.specs.Prelude.{◌≡◌, ◌≢◌, ◌∷◌, List, ℕ, [], Err, Some, None, IfOk, IsOkAnd, ok_or, codes};
+ghost use Rattle.std.specs.Prelude.{◌≡◌, ◌≢◌, ◌∷◌, List, ℕ, [], Err, Some, None, IfOk};
+ghost use Rattle.std.specs.Prelude.{IsOkAnd, codes, ok_or};
 ghost use Rattle.clap.specs.Words.{app_of, first_value, found_of};
 ghost use Rattle.adb_words.specs.Words.{gen_of, number_within, texts};
 ghost use Rattle.adb_words.specs.Apps.{gen_app};
@@ -85,7 +86,7 @@ fn load_of(seed: &str, streams: &str) -> Result<Command, WordsError>
 }
 
 /// The number that a text is, where it lies between these.
-fn number_within(text: &str, least: u64, most: u64) -> Option<u64>
+pub fn number_within(text: &str, least: u64, most: u64) -> Option<u64>
     ensures { result ≡ number_within least most text.now }
 {
     let number = read_number(text.as_bytes(), MAX_DIGITS)?;

@@ -39,14 +39,14 @@ fn are_operands(words: &[String]) -> bool
 }
 
 /// Whether a word does not begin with a hyphen.
-fn is_operand(word: &str) -> bool
+pub fn is_operand(word: &str) -> bool
     ensures { result ≡ is_operand word.now }
 {
     word.as_bytes().first() != Some(&b'-')
 }
 
 /// Why a command refused words.
-fn error_of(error: Error) -> WordsError
+pub fn error_of(error: Error) -> WordsError
     ensures usage { result ≡ WordsError.Usage → kind_of error ≢ ErrorKind.OutOfMemory }
 {
     match error.kind() {

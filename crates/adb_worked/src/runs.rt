@@ -4,8 +4,8 @@ ghost use Rattle.std.specs.Prelude.{◌≡◌, ◌≤◌, ℕ, IfOk};
 ghost use Rattle.adb_worked.specs.Told.{told_as};
 
 use adb_check::{Judgement, judge_capture};
+use adb_commands::{Status, run_alone};
 use adb_outside::{MemorySink, MemorySource, Text};
-use adb_top::{Status, run};
 use itoa::Buffer;
 use std::alloc::{AllocError, Global};
 
@@ -19,7 +19,7 @@ pub fn replay_told(alloc: Global, capture: &[u8], piece: usize) -> Result<Text, 
     let mut source = MemorySource::new(bytes, piece, Vec::new(alloc));
     let mut sink = MemorySink::new(alloc, Vec::new(alloc));
     let mut note = MemorySink::new(alloc, Vec::new(alloc));
-    let status = run(alloc, &words, &mut source, &mut sink, &mut note);
+    let status = run_alone(alloc, &words, &mut source, &mut sink, &mut note);
     let mut told = spell(alloc, status, note.bytes(), sink.bytes())?;
     if !is_legal(alloc, sink.bytes())? {
         told.push_slice(b"not legal\n")?;
@@ -52,7 +52,7 @@ pub fn run_told(
     let mut source = MemorySource::new(bytes, piece, Vec::new(alloc));
     let mut sink = MemorySink::new(alloc, Vec::new(alloc));
     let mut note = MemorySink::new(alloc, Vec::new(alloc));
-    let status = run(alloc, words, &mut source, &mut sink, &mut note);
+    let status = run_alone(alloc, words, &mut source, &mut sink, &mut note);
     spell(alloc, status, note.bytes(), sink.bytes())
 }
 

@@ -1,62 +1,57 @@
 //! What a run is given of the command line.
 
-ghost use Rattle.std.specs.Prelude.{◌≡◌, ◌≢◌, ◌⊎◌, ℕ, drop, IfErr, IfOk};
+ghost use Rattle.std.specs.Prelude.{◌≡◌, ◌≢◌, ◌⊎◌, drop, IfErr, IfOk, None, Some, true, false};
 ghost use Rattle.std.specs.IoError.{error_kind};
-ghost use Rattle.adb_top.specs.Faults.{Rose};
-ghost use Rattle.adb_top.specs.Loads.{WritesLoad};
-ghost use Rattle.adb_top.specs.Notes.{usage_line, out_of_memory_line, IsJust, WritesNote};
-ghost use Rattle.adb_top.specs.Run.{WritesHistory, EndsCapture, NamesRefusal, Completes};
-ghost use Rattle.adb_top.specs.Run.{IsAtHand, IsUnheard};
-ghost use Rattle.adb_top.specs.Check.{WritesVerdict};
-ghost use Rattle.adb_top.specs.Words.{IsNoCommand, IsReplay, IsCheck, IsLoad};
+ghost use Rattle.adb_commands.specs.Alone.{RunsAlone};
+ghost use Rattle.adb_commands.specs.Notes.{usage_line, out_of_memory_line, IsJust, WritesNote};
+ghost use Rattle.adb_top.specs.Serve.{IsUnheard, Serves};
+ghost use Rattle.adb_words.specs.Serve.{Serving, is_serve, serve_of};
+ghost use Rattle.adb_words.specs.Words.{texts};
 
+use adb_device_reader::Device;
 use adb_outside::{Sink, Source};
 use adb_top::{Status, run, say_out_of_memory, say_usage};
+use adb_words::is_serve;
+use adb_yard::Yard;
 use std::alloc::Global;
 use std::io;
 use std::io::ErrorKind;
+use std::sync::Wait;
+use std::thread::Threads;
 
 /// Runs the words of the command line. Where memory was wanting for them nothing is read, nothing
 /// goes out, and the note has the line of that. Where one of them is no text they are no command.
-pub fn start<S: Source, K: Sink, N: Sink>(
+pub fn start<
+    W: Threads + Wait + Copy + Send + Sync + Drop + 'static,
+    S: Source,
+    K: Sink,
+    N: Sink,
+    Y: Yard + 'static,
+>(
+    rt: W,
     alloc: Global,
     words: io::Result<Vec<String>>,
     source: &mut S,
     sink: &mut K,
     note: &mut N,
+    yard: Y,
+    devices: Vec<Device>,
 ) -> Status
-    // Words that are there are run: those that are no command do nothing,
-    ensures usage { IfOk words (λ list. IsNoCommand list.items → IsUnheard list.items result) }
-    ensures unheard { IfOk words (λ list. IsNoCommand list.items
-        → (source.new ≡ source.old) × (sink.new ≡ sink.old)) }
-    ensures command { IfOk words (λ list. result ≡ Status.Usage → IsNoCommand list.items) }
+    // Words that are there are run: a command that serves nobody,
+    ensures alone { IfOk words (λ list. is_serve (texts list.items) ≡ false
+        → RunsAlone list.items result
+        (record { told = S.left; faults = S.faults; steady = S.steady })
+        (record { told = K.written; faults = K.faults; steady = K.steady })
+        (record { told = N.written; faults = N.faults; steady = N.steady })
+        source.old source.new sink.old sink.new note.old note.new) }
 
-    // a replay writes the drained history of the capture, and ends as that does,
-    ensures writes { IfOk words (λ list. IsReplay list.items
-        → WritesHistory result (S.left source.old) K.written sink.old sink.new) }
-    ensures ends { IfOk words (λ list. IsReplay list.items
-        → EndsCapture result S.left source.old source.new) }
-    ensures complete { IfOk words (λ list. IsReplay list.items
-        → ¬ Rose S.faults source.old source.new
-        → ¬ Rose K.faults sink.old sink.new
-        → ¬ Rose N.faults note.old note.new
-        → Completes result (S.left source.old)) }
-
-    // and a load writes its lines.
-    ensures load { IfOk words (λ list. (seed streams : ℕ) → IsLoad seed streams list.items
-        → WritesLoad result seed streams K.written sink.old sink.new) }
-
-    // and a history is judged.
-    ensures judged { IfOk words (λ list. IsCheck list.items → WritesVerdict result
-        S.left source.old source.new K.written sink.old sink.new) }
-
-    // The note has the line of the status, which names a refusal.
-    ensures notes { IfOk words (λ list. WritesNote result
-        (IsAtHand list.items (Rose S.faults source.old source.new)
-        (Rose K.faults sink.old sink.new) (S.left source.old))
-        N.faults N.written note.old note.new) }
-    ensures names { IfOk words (λ list. IsReplay list.items
-        → NamesRefusal result (S.left source.old) N.written note.old note.new) }
+    // or a server.
+    ensures usage { IfOk words (λ list. is_serve (texts list.items) ≡ true
+        → serve_of (texts list.items) ≡ None → IsUnheard result) }
+    ensures serves { IfOk words (λ list. (asked : Serving)
+        → serve_of (texts list.items) ≡ Some asked
+        → Serves asked result (Y.steady yard) (Y.lasting yard)
+        N.steady N.faults N.written note.old note.new) }
 
     // Where they are not there, nothing is read and nothing goes out, and the note says why: want
     // of memory, or that they are no command.
@@ -73,9 +68,26 @@ pub fn start<S: Source, K: Sink, N: Sink>(
         N.faults N.written note.old note.new) }
 {
     match words {
-        Ok(words) => run(alloc, words.as_slice(), source, sink, note),
+        Ok(words) => run(
+            rt,
+            alloc,
+            words.as_slice(),
+            source,
+            sink,
+            note,
+            yard,
+            devices,
+        ),
         Err(error) if error.kind() == ErrorKind::OutOfMemory => say_out_of_memory(note),
         Err(_) => say_usage(note),
+    }
+}
+
+/// Whether words that are there begin with `serve`.
+pub fn are_serve(words: &io::Result<Vec<String>>) -> bool {
+    match words {
+        Ok(words) => is_serve(words.as_slice()),
+        Err(_) => false,
     }
 }
 

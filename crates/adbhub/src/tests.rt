@@ -4,6 +4,7 @@ use crate::start::start;
 use crate::streams::Stream;
 use adb_outside::{Got, MemorySink, MemorySource, Sink, Source, Text, Wrote};
 use adb_top::Status;
+use adb_yard::NoYard;
 use std::alloc::{AllocError, Global};
 use std::io;
 use std::io::{ErrorKind, Read, Write};
@@ -142,7 +143,16 @@ fn words_of_a_run(rt: HostRuntime) -> Result<(), Fail> {
         let mut sink = MemorySink::new(alloc, Vec::new(alloc));
         let mut note = MemorySink::new(alloc, Vec::new(alloc));
         assert_eq!(rt;
-            start(alloc, words, &mut source, &mut sink, &mut note),
+            start(
+                rt,
+                alloc,
+                words,
+                &mut source,
+                &mut sink,
+                &mut note,
+                NoYard::new(alloc),
+                Vec::new(alloc)
+            ),
             status
         );
         assert_eq!(rt; sink.bytes(), history);

@@ -1,0 +1,55 @@
+-- All that a run of the commands that neither serve nor dial promises, as one fact.
+use Rattle.std.specs.Prelude.{ℕ, ◌≡◌, ◌≢◌, ◌⊎◌, List, Option, String}
+use Rattle.adb_commands.specs.Check.{WritesVerdict, NamesForm, CompletesCheck}
+use Rattle.adb_commands.specs.Faults.{Rose, Stood, IsFaultless}
+use Rattle.adb_commands.specs.Kills.{StopsAtKill}
+use Rattle.adb_commands.specs.Loads.{IsPromised, WritesLoad, made}
+use Rattle.adb_commands.specs.Notes.{WritesNote}
+use Rattle.adb_commands.specs.Run.{WritesHistory, WritesRead, WritesLegal, WritesWhole, EndsCapture, NamesRefusal, Completes, IsUnheard, IsAtHand}
+use Rattle.adb_commands.specs.Words.{IsNoCommand, IsReplay, IsCheck, IsLoad}
+use Rattle.adb_commands.specs.declared.status.Status.{Status}
+use Rattle.adb_commands.specs.declared.status.Status.TheVariants.{Done, Usage, ReadFault, WriteFault, OutOfMemory, RecordFault, DoorFault, Illegal}
+
+-- what is seen of a stream: the bytes that it tells, the count of its faults, and whether it never fails
+pub record Sight (A : Type 0) : Type 1 where
+  pub told : A → Option (List ℕ)
+  pub faults : A → ℕ
+  pub steady : A → Type 0
+
+-- No count rose.
+pub record NoneRose {S K N : Type 0} (s : Sight S) (k : Sight K) (n : Sight N) (source source_new : S) (sink sink_new : K) (note note_new : N) : Type 0 where
+  pub read : ¬ Rose s.faults source source_new
+  pub write : ¬ Rose k.faults sink sink_new
+  pub noted : ¬ Rose n.faults note note_new
+
+-- Each field is a clause of `run_alone`, by its name.
+pub record RunsAlone {A S K N : Type 0} (words : List (String A)) (status : Status) (s : Sight S) (k : Sight K) (n : Sight N)
+    (source source_new : S) (sink sink_new : K) (note note_new : N) : Type 0 where
+  pub usage : IsNoCommand words → IsUnheard words status
+  pub untouched : IsNoCommand words → (source_new ≡ source) × (sink_new ≡ sink)
+  pub command : status ≡ Usage → IsNoCommand words
+  pub writes : IsReplay words → WritesHistory status (s.told source) k.told sink sink_new
+  pub consumed : IsReplay words → status ≡ ReadFault → WritesRead s.told source source_new k.told sink sink_new
+  pub legal : IsReplay words → WritesLegal k.told sink sink_new
+  pub whole : IsReplay words → status ≢ WriteFault → WritesWhole k.told sink sink_new
+  pub ends : IsReplay words → EndsCapture status s.told source source_new
+  pub killed : IsReplay words → status ≡ Done → StopsAtKill s.told source source_new
+  pub load : (seed streams : ℕ) → IsLoad seed streams words → WritesLoad status seed streams k.told sink sink_new
+  pub unread : (seed streams : ℕ) → IsLoad seed streams words → source_new ≡ source
+  pub promised : (seed streams : ℕ) → IsLoad seed streams words → IsPromised (made seed streams)
+  pub judged : IsCheck words → WritesVerdict status s.told source source_new k.told sink sink_new
+  pub illegal : status ≡ Illegal → IsCheck words
+  pub serves : (status ≢ RecordFault) × (status ≢ DoorFault)
+  pub notes : WritesNote status (IsAtHand words (Rose s.faults source source_new) (Rose k.faults sink sink_new) (s.told source)) n.faults n.told note note_new
+  pub names : IsReplay words → NamesRefusal status (s.told source) n.told note note_new
+  pub names_form : IsCheck words → NamesForm status (s.told source) n.told note note_new
+  pub read_fault : status ≡ ReadFault → Rose s.faults source source_new
+  pub write_fault : status ≡ WriteFault → Rose k.faults sink sink_new ⊎ Rose n.faults note note_new
+  pub source_stood : IsFaultless status → Stood s.faults source source_new
+  pub sink_stood : status ≢ WriteFault → Stood k.faults sink sink_new
+  pub note_stood : status ≢ WriteFault → Stood n.faults note note_new
+  pub never_failing : s.steady source → k.steady sink → n.steady note → IsFaultless status
+  pub complete : IsReplay words → NoneRose s k n source source_new sink sink_new note note_new → Completes status (s.told source)
+  pub checks : IsCheck words → NoneRose s k n source source_new sink sink_new note note_new → CompletesCheck status (s.told source)
+  pub makes : (seed streams : ℕ) → IsLoad seed streams words → ¬ Rose k.faults sink sink_new → ¬ Rose n.faults note note_new
+      → (status ≡ Done) ⊎ (status ≡ OutOfMemory)

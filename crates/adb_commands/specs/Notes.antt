@@ -1,0 +1,131 @@
+-- The lines of the note.
+use Rattle.std.specs.Prelude.{ℕ, ◌≡◌, ◌≢◌, ◌⊎◌, List, ◌++◌, Option, Some, codes, decimal}
+use Rattle.adb_outside.specs.Bytes.{IsPrefixOf}
+use Rattle.adb_outside.specs.Outside.{Rises}
+use Rattle.adb_history.specs.Refusal.{reason_text}
+use Rattle.adb_history.specs.declared.refusal.Refusal.{Refusal}
+use Rattle.adb_commands.specs.Faults.{Rose}
+use Rattle.adb_commands.specs.declared.stop.Stop.{Stop}
+use Rattle.adb_commands.specs.declared.stop.Stop.TheVariants as stop
+use Rattle.adb_commands.specs.declared.status.Status.{Status}
+use Rattle.adb_commands.specs.declared.status.Status.TheVariants.{Done, Usage, ReadFault, WriteFault, BadCapture, OutOfMemory, RecordFault, DoorFault, BadScript, Illegal}
+
+abbrev pub usage_line : List ℕ
+usage_line = codes "usage: adbhub replay | gen <seed> <streams> | local <seed> | serve [--port <n>] [--device <serial>] [--connect <port>] [--record] | check\n"
+
+abbrev pub read_fault_line : List ℕ
+read_fault_line = codes "adbhub: read fault\n"
+
+abbrev pub write_fault_line : List ℕ
+write_fault_line = codes "adbhub: write fault\n"
+
+abbrev pub out_of_memory_line : List ℕ
+out_of_memory_line = codes "adbhub: out of memory\n"
+
+abbrev pub record_fault_line : List ℕ
+record_fault_line = codes "adbhub: record fault\n"
+
+abbrev pub door_fault_line : List ℕ
+door_fault_line = codes "adbhub: door fault\n"
+
+abbrev pub illegal_history_line : List ℕ
+illegal_history_line = codes "adbhub: illegal history\n"
+
+-- the line that names a refusal
+unfoldable pub bad_capture_line : Refusal → List ℕ
+bad_capture_line why =
+    codes "adbhub: bad capture at byte " ++ decimal why.offset
+    ++ codes ": " ++ reason_text why.reason ++ codes "\n"
+
+-- the line that names the line of a script
+unfoldable pub bad_script_line : ℕ → List ℕ
+bad_script_line number = codes "adbhub: bad script at line " ++ decimal number ++ codes "\n"
+
+-- the line of each status but Done
+abbrev pub IsLine : Status → List ℕ → Type 0
+IsLine Done line = ⊥
+IsLine Usage line = line ≡ usage_line
+IsLine ReadFault line = line ≡ read_fault_line
+IsLine WriteFault line = line ≡ write_fault_line
+IsLine BadCapture line = (why : Refusal) × (line ≡ bad_capture_line why)
+IsLine OutOfMemory line = line ≡ out_of_memory_line
+IsLine RecordFault line = line ≡ record_fault_line
+IsLine DoorFault line = line ≡ door_fault_line
+IsLine BadScript line = (number : ℕ) × (line ≡ bad_script_line number)
+IsLine Illegal line = line ≡ illegal_history_line
+
+-- A status's line stands behind what the note had.
+pub record HasLine (status : Status) (had : List ℕ) (after : Option (List ℕ)) : Type 0 where
+  pub line : List ℕ
+  pub own : IsLine status line
+  pub is : after ≡ Some (had ++ line)
+
+-- The line of WriteFault was tried behind what the note had: it stands there whole, or a front of it where the count rose.
+pub record HasTried (rose : Type 0) (had : List ℕ) (after : Option (List ℕ)) : Type 0 where
+  pub last : List ℕ
+  pub whole : (last ≡ write_fault_line) ⊎ (rose × IsPrefixOf last write_fault_line)
+  pub is : after ≡ Some (had ++ last)
+
+-- The note itself failed over the line that was at hand: a front of it stands there, and behind it the line of WriteFault was tried.
+pub record HasFailed (hand : Status → List ℕ → Type 0) (again : Type 0) (had : List ℕ) (after : Option (List ℕ)) : Type 0 where
+  pub status : Status
+  pub other : status ≢ WriteFault
+  pub line : List ℕ
+  pub own : IsLine status line
+  pub comes : hand status line
+  pub cut : List ℕ
+  pub front : IsPrefixOf cut line
+  pub tried : HasTried again (had ++ cut) after
+
+-- a count rose, and rose again
+pub record RisesTwice (old new : ℕ) : Type 0 where
+  pub mid : ℕ
+  pub first : Rises old mid
+  pub again : Rises mid new
+
+-- What the note has behind what it had, by the status, by which line may be at hand, and by whether the count of the note rose.
+abbrev pub NotesBy : Status → (Status → List ℕ → Type 0) → (rose again : Type 0) → List ℕ → Option (List ℕ) → Type 0
+NotesBy Done hand rose again had after = after ≡ Some had
+NotesBy Usage hand rose again had after = HasLine Usage had after
+NotesBy ReadFault hand rose again had after = HasLine ReadFault had after
+NotesBy WriteFault hand rose again had after =
+    (hand WriteFault write_fault_line × HasTried rose had after) ⊎ (rose × HasFailed hand again had after)
+NotesBy BadCapture hand rose again had after = HasLine BadCapture had after
+NotesBy OutOfMemory hand rose again had after = HasLine OutOfMemory had after
+NotesBy RecordFault hand rose again had after = HasLine RecordFault had after
+NotesBy DoorFault hand rose again had after = HasLine DoorFault had after
+NotesBy BadScript hand rose again had after = HasLine BadScript had after
+NotesBy Illegal hand rose again had after = HasLine Illegal had after
+
+abbrev pub WritesNote : {N : Type 0}
+    → Status → (Status → List ℕ → Type 0) → (N → ℕ) → (N → Option (List ℕ)) → N → N → Type 0
+WritesNote status hand faults written old new = (had : List ℕ) → written old ≡ Some had
+    → NotesBy status hand (Rose faults old new) (RisesTwice (faults old) (faults new)) had (written new)
+
+-- ---- which line is at hand
+-- this one alone
+abbrev pub IsJust : Status → List ℕ → Status → List ℕ → Type 0
+IsJust status line s l = (s ≡ status) × (l ≡ line)
+
+-- that of a stop; where memory for it is wanting, that of OutOfMemory
+abbrev pub IsLineOf : Stop → Status → List ℕ → Type 0
+IsLineOf stop.ReadFault s l = IsJust ReadFault read_fault_line s l
+IsLineOf stop.WriteFault s l = IsJust WriteFault write_fault_line s l
+IsLineOf stop.OutOfMemory s l = IsJust OutOfMemory out_of_memory_line s l
+IsLineOf (stop.Refused why) s l = IsJust BadCapture (bad_capture_line why) s l ⊎ IsJust OutOfMemory out_of_memory_line s l
+
+-- The status that a stop may end as: its own, or what a failed note or want of memory makes of it.
+abbrev pub EndsIn : Stop → Status → Type 0
+EndsIn why Done = ⊥
+EndsIn why Usage = ⊥
+EndsIn why RecordFault = ⊥
+EndsIn why DoorFault = ⊥
+EndsIn why BadScript = ⊥
+EndsIn why Illegal = ⊥
+EndsIn why ReadFault = why ≡ stop.ReadFault
+EndsIn why WriteFault = Unit {0}
+EndsIn why BadCapture = (refusal : Refusal) × (why ≡ stop.Refused refusal)
+EndsIn stop.ReadFault OutOfMemory = ⊥
+EndsIn stop.WriteFault OutOfMemory = ⊥
+EndsIn stop.OutOfMemory OutOfMemory = Unit {0}
+EndsIn (stop.Refused refusal) OutOfMemory = Unit {0}

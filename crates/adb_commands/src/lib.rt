@@ -1,0 +1,16 @@
+//! The commands of `adbhub` that neither serve nor dial: they read a source and write a sink.
+#![tactic(auto)]
+
+mod checking;
+mod command;
+mod generating;
+mod note;
+mod output;
+mod replay;
+mod status;
+mod stop;
+mod texts;
+
+pub use command::run_alone;
+pub use note::{say_door_fault, say_lost_line, say_out_of_memory, say_record_fault, say_usage};
+pub use status::Status;

@@ -1,0 +1,100 @@
+//! Right and wrong words.
+
+use adb_words::{Command, WordsError, read_words};
+use std::alloc::{AllocError, Global};
+use std::test::Fail;
+
+/// Words of memory of their own.
+pub fn words_of(alloc: Global, words: &[&str]) -> Result<Vec<String>, AllocError> {
+    let mut owned = Vec::new(alloc);
+    for word in words {
+        owned.push(String::from_str(alloc, word)?)?;
+    }
+    Ok(owned)
+}
+
+const RIGHT: &[(&[&str], Command)] = &[
+    (&["replay"], Command::Replay),
+    (&["check"], Command::Check),
+    (
+        &["gen", "7", "2000"],
+        Command::Gen {
+            seed: 7,
+            streams: 2000,
+        },
+    ),
+    (
+        &["gen", "18446744073709551615", "10000"],
+        Command::Gen {
+            seed: 18_446_744_073_709_551_615,
+            streams: 10_000,
+        },
+    ),
+    (
+        &["gen", "00000000000000000000", "00000000000000000001"],
+        Command::Gen {
+            seed: 0,
+            streams: 1,
+        },
+    ),
+];
+
+const WRONG: &[&[&str]] = &[
+    &[],
+    &[""],
+    &["-"],
+    &["--"],
+    &["-h"],
+    &["--help"],
+    &["--version"],
+    &["help"],
+    &["Gen", "7", "1"],
+    &["replay", "x"],
+    &["replay", ""],
+    &["replay", "--"],
+    &["replay", "--help"],
+    &["check", "x"],
+    &["Check"],
+    &["gen"],
+    &["gen", "help"],
+    &["gen", "7"],
+    &["gen", "7", "1", "1"],
+    &["gen", "7", "1", "--help"],
+    &["gen", "--", "7", "1"],
+    &["gen", "7", "--", "1"],
+    &["gen", "7", "-"],
+    &["gen", "-7", "1"],
+    &["gen", "+7", "1"],
+    &["gen", "", "1"],
+    &["gen", "7", " 1"],
+    &["gen", "7", "1x"],
+    &["gen", "7", "0"],
+    &["gen", "7", "10001"],
+    &["gen", "18446744073709551616", "1"],
+    &["gen", "000000000000000000007", "1"],
+    &["local", "7"],
+    &["copy", "7"],
+    &["serve"],
+];
+
+#[test]
+fn right_and_wrong_words(rt: HostRuntime) -> Result<(), Fail> {
+    let alloc = rt.alloc();
+    for (words, command) in RIGHT {
+        let owned = words_of(alloc, words)?;
+        assert_eq!(rt;
+            read_words(alloc, owned.as_slice()),
+            Ok(*command),
+            "{words:?}"
+        );
+    }
+    for words in WRONG {
+        let owned = words_of(alloc, words)?;
+        assert_eq!(rt;
+            read_words(alloc, owned.as_slice()),
+            Err(WordsError::Usage),
+            "{words:?}"
+        );
+    }
+    Ok(())
+}

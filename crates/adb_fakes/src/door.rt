@@ -1,0 +1,103 @@
+//! A door, and its bell.
+
+ghost use Rattle.std.specs.Prelude.{◌≡◌};
+ghost use Rattle.adb_outside.specs.Outside.{Counts};
+ghost use Rattle.adb_connections.specs.Door.{FitsCame, is_failed_came};
+
+use crate::sent::SharedOut;
+use adb_connections::{Bell, Came, Door, MemoryIn};
+use adb_outside::Failing;
+use std::alloc::{AllocError, Global};
+use std::collections::VecDeque;
+use std::marker::Model;
+use std::sync::{Arc, Mutex, Wait};
+
+/// A handle of a bell, which counts how often it was rung. Any thread may ring it or look at it.
+#[derive(Drop)]
+pub struct Rings<W: Wait + Copy + Drop> {
+    rt: W,
+    count: Arc<Mutex<u64>, Global>,
+}
+
+impl<W: Wait + Copy + Drop> Rings<W> {
+    /// It was not rung.
+    pub fn new(rt: W, alloc: Global) -> Result<Rings<W>, AllocError> {
+        Ok(Rings {
+            rt,
+            count: Arc::new(alloc, Mutex::new(0u64))?,
+        })
+    }
+
+    /// One more handle of the same.
+    pub fn handle(&self) -> Result<Rings<W>, AllocError> {
+        Ok(Rings {
+            rt: self.rt,
+            count: Arc::try_clone(&self.count)?,
+        })
+    }
+
+    /// How often it was rung.
+    pub fn count(&self) -> u64 {
+        *self.count.lock(&self.rt)
+    }
+}
+
+impl<W: Wait + Copy + Send + Sync + Drop + 'static> Bell for Rings<W> {
+    fn ring(&self) {
+        let mut count = self.count.lock(&self.rt);
+        *count = count.saturating_add(1);
+    }
+}
+
+/// A client that comes, by the two halves of its connection.
+#[derive(Drop)]
+pub(crate) struct Coming<W: Wait + Copy + Drop> {
+    pub(crate) input: MemoryIn,
+    pub(crate) output: SharedOut<W>,
+}
+
+/// A door at which these come in, in order. It is closed where nobody comes any more, and where its
+/// bell was rung. It tells nothing to contracts but how often it failed.
+#[derive(Drop)]
+pub struct FakeDoor<W: Wait + Copy + Drop> {
+    pub(crate) coming: VecDeque<Coming<W>>,
+    pub(crate) rings: Rings<W>,
+    pub(crate) failing: Failing,
+}
+
+impl<W: Wait + Copy + Drop> Model for FakeDoor<W> {
+    ghost use Rattle.std.specs.Prelude.{ℕ};
+
+    ghost Value = { ℕ };
+
+    ghost view = { λ door. door.failing.faults };
+}
+
+impl<W: Wait + Copy + Send + Sync + Drop + 'static> Door for FakeDoor<W> {
+    type In = MemoryIn;
+
+    type Out = SharedOut<W>;
+
+    ghost use Rattle.std.specs.Prelude.{None};
+
+    ghost faults = { λ door. door };
+
+    ghost came = { λ door. None };
+
+    ghost lasting = { λ door. ⊥ };
+
+    ghost steady = { λ door. ⊥ };
+
+    fn accept(&mut self) -> Came<MemoryIn, SharedOut<W>> {
+        if self.failing.fails() {
+            return Came::Failed;
+        }
+        if self.rings.count() > 0 {
+            return Came::Closed;
+        }
+        match self.coming.pop_front() {
+            None => Came::Closed,
+            Some(Coming { input, output }) => Came::Port(input, output),
+        }
+    }
+}

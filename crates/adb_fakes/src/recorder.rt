@@ -1,0 +1,111 @@
+//! What a server keeps, as a test reads it.
+
+ghost use Rattle.std.specs.Prelude.{◌≡◌, ◌≤◌, length};
+ghost use Rattle.adb_outside.specs.Outside.{Counts};
+ghost use Rattle.adb_capture.specs.Recording.{is_failed_record};
+
+use crate::lines::lines_of;
+use adb_capture::{Entry, MemoryRecorder, Owner, RecordError, Recorder};
+use adb_outside::Text;
+use std::alloc::{AllocError, Global};
+use std::marker::Model;
+use std::sync::{Arc, Mutex, Wait};
+
+/// A handle of what a recorder keeps. Any thread may look at it.
+#[derive(Drop)]
+pub struct Kept<W: Wait + Copy + Drop> {
+    rt: W,
+    alloc: Global,
+    recorder: Arc<Mutex<MemoryRecorder>, Global>,
+}
+
+impl<W: Wait + Copy + Drop> Kept<W> {
+    /// Nothing is kept, and the recorder fails at the calls whose numbers, counted from 1, are in
+    /// `failing`.
+    pub fn new(rt: W, alloc: Global, failing: Vec<u64>) -> Result<Kept<W>, AllocError> {
+        let recorder = MemoryRecorder::new(alloc, failing);
+        Ok(Kept {
+            rt,
+            alloc,
+            recorder: Arc::new(alloc, Mutex::new(recorder))?,
+        })
+    }
+
+    /// One more handle of the same.
+    pub fn handle(&self) -> Result<Kept<W>, AllocError> {
+        Ok(Kept {
+            rt: self.rt,
+            alloc: self.alloc,
+            recorder: Arc::try_clone(&self.recorder)?,
+        })
+    }
+
+    /// The entries that are kept, as `lines_of` writes them.
+    pub fn lines(&self) -> Result<Text, AllocError> {
+        lines_of(self.alloc, self.recorder.lock(&self.rt).entries())
+    }
+}
+
+/// A recorder that keeps its entries where a test reads them. It tells nothing to contracts; `Kept`
+/// shows it.
+#[derive(Drop)]
+pub struct SharedRecorder<W: Wait + Copy + Drop> {
+    kept: Option<Kept<W>>,
+    faults: u64,
+}
+
+impl<W: Wait + Copy + Drop> Model for SharedRecorder<W> {
+    ghost use Rattle.std.specs.Prelude.{ℕ};
+
+    ghost Value = { ℕ };
+
+    ghost view = { λ recorder. recorder.faults };
+}
+
+impl<W: Wait + Copy + Drop> SharedRecorder<W> {
+    /// The recorder that keeps where this handle shows it. Without one there is no memory for any
+    /// entry.
+    pub(crate) fn new(kept: Option<Kept<W>>) -> SharedRecorder<W>
+        ensures { result ≡ 0 }
+    {
+        SharedRecorder { kept, faults: 0 }
+    }
+
+    /// Counts a fault, where there was one.
+    fn count(&mut self, answer: Result<(), RecordError>) -> Result<(), RecordError>
+        ensures same { result ≡ answer }
+        ensures counts { Counts (λ faults. ⊥) (λ faults. faults)
+            self.old self.new (is_failed_record result) }
+    {
+        if answer == Err(RecordError::Failed) {
+            self.faults = self.faults.saturating_add(1);
+        }
+        answer
+    }
+}
+
+impl<W: Wait + Copy + Drop> Recorder for SharedRecorder<W> {
+    ghost use Rattle.std.specs.Prelude.{None};
+
+    ghost told = { λ recorder. None };
+
+    ghost faults = { λ recorder. recorder };
+
+    ghost steady = { λ recorder. ⊥ };
+
+    fn keep(&mut self, entry: &Entry) -> Result<(), RecordError> {
+        let answer = match &self.kept {
+            Some(kept) => kept.recorder.lock(&kept.rt).keep(entry),
+            None => Err(RecordError::OutOfMemory),
+        };
+        self.count(answer)
+    }
+
+    fn keep_piece(&mut self, from: Owner, piece: &[u8]) -> Result<(), RecordError> {
+        let answer = match &self.kept {
+            Some(kept) => kept.recorder.lock(&kept.rt).keep_piece(from, piece),
+            None => Err(RecordError::OutOfMemory),
+        };
+        self.count(answer)
+    }
+}

@@ -1,0 +1,165 @@
+//! What a client or a device is sent, as a test reads it.
+
+ghost use Rattle.std.specs.Prelude.{◌≡◌, false, true};
+ghost use Rattle.adb_outside.specs.Outside.{Counts};
+ghost use Rattle.adb_outside.specs.Sink.{FitsPiece, is_failed_write};
+
+use adb_connections::{DeviceOut, PortOut};
+use adb_outside::{Failing, Text, Wrote};
+use std::alloc::{AllocError, Global};
+use std::marker::Model;
+use std::sync::{Arc, Mutex, Wait};
+
+/// What was sent so far, and whether that was all.
+#[derive(Drop)]
+struct Store {
+    bytes: Text,
+    closed: bool,
+}
+
+/// A handle of what a client or a device is sent. Any thread may look at it.
+#[derive(Drop)]
+pub struct Sent<W: Wait + Copy + Drop> {
+    rt: W,
+    store: Arc<Mutex<Store>, Global>,
+}
+
+impl<W: Wait + Copy + Drop> Sent<W> {
+    /// Nothing was sent.
+    pub fn new(rt: W, alloc: Global) -> Result<Sent<W>, AllocError> {
+        let store = Store {
+            bytes: Text::new(alloc),
+            closed: false,
+        };
+        Ok(Sent {
+            rt,
+            store: Arc::new(alloc, Mutex::new(store))?,
+        })
+    }
+
+    /// One more handle of the same.
+    pub fn handle(&self) -> Result<Sent<W>, AllocError> {
+        Ok(Sent {
+            rt: self.rt,
+            store: Arc::try_clone(&self.store)?,
+        })
+    }
+
+    /// Whether exactly these bytes were sent.
+    pub fn holds(&self, bytes: &[u8]) -> bool {
+        self.store.lock(&self.rt).bytes.as_slice() == bytes
+    }
+
+    /// How many bytes were sent.
+    pub fn len(&self) -> usize {
+        self.store.lock(&self.rt).bytes.len()
+    }
+
+    /// Whether it was closed, or unplugged.
+    pub fn is_closed(&self) -> bool {
+        self.store.lock(&self.rt).closed
+    }
+
+    /// Sends a piece, if there is memory for it.
+    fn push(&self, piece: &[u8]) -> bool {
+        let mut store = self.store.lock(&self.rt);
+        store.bytes.push_slice(piece).is_ok()
+    }
+
+    fn close(&self) {
+        self.store.lock(&self.rt).closed = true;
+    }
+}
+
+/// A client, or a device, that is sent bytes. It tells nothing to contracts; `Sent` shows it.
+#[derive(Drop)]
+pub struct SharedOut<W: Wait + Copy + Drop> {
+    sent: Sent<W>,
+    closed: bool,
+    failing: Failing,
+}
+
+impl<W: Wait + Copy + Drop> Model for SharedOut<W> {
+    ghost use Rattle.adb_fakes.specs.Fakes.{SharedEnd};
+
+    ghost Value = { SharedEnd };
+
+    ghost view = { λ out. record { closed = out.closed; faults = out.failing.faults } };
+}
+
+impl<W: Wait + Copy + Drop> SharedOut<W> {
+    /// One to which writes fail at the calls whose numbers, counted from 1, are in `failing`, and
+    /// where there is no memory. A failing write takes nothing.
+    pub fn new(sent: Sent<W>, failing: Vec<u64>) -> SharedOut<W>
+        ensures { result ≡ record { closed = false; faults = 0 } }
+    {
+        SharedOut {
+            sent,
+            closed: false,
+            failing: Failing::new(failing),
+        }
+    }
+
+    fn push(&mut self, piece: &[u8]) -> Wrote
+        ensures told { FitsPiece piece.now result }
+        ensures counts { Counts (λ out. ⊥) (λ out. out.faults)
+            self.old self.new (is_failed_write result) }
+        ensures closed { self.new.closed ≡ self.old.closed }
+    {
+        if self.failing.fails() {
+            return Wrote::Failed { taken: 0 };
+        }
+        if self.sent.push(piece) {
+            return Wrote::All;
+        }
+        self.failing.count_fault();
+        Wrote::Failed { taken: 0 }
+    }
+
+    fn shut(&mut self)
+        ensures { self.new ≡ record self.old { closed = true } }
+    {
+        self.closed = true;
+        self.sent.close();
+    }
+}
+
+impl<W: Wait + Copy + Drop> PortOut for SharedOut<W> {
+    ghost use Rattle.std.specs.Prelude.{None};
+
+    ghost faults = { λ out. out.faults };
+
+    ghost written = { λ out. None };
+
+    ghost closed = { λ out. out.closed };
+
+    ghost steady = { λ out. ⊥ };
+
+    fn write(&mut self, piece: &[u8]) -> Wrote {
+        self.push(piece)
+    }
+
+    fn close(&mut self) {
+        self.shut();
+    }
+}
+
+impl<W: Wait + Copy + Drop> DeviceOut for SharedOut<W> {
+    ghost use Rattle.std.specs.Prelude.{None};
+
+    ghost faults = { λ out. out.faults };
+
+    ghost written = { λ out. None };
+
+    ghost closed = { λ out. out.closed };
+
+    ghost steady = { λ out. ⊥ };
+
+    fn write(&mut self, piece: &[u8]) -> Wrote {
+        self.push(piece)
+    }
+
+    fn unplug(&mut self) {
+        self.shut();
+    }
+}

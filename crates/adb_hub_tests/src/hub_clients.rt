@@ -1,0 +1,114 @@
+//! What clients ask who hold these bytes, byte for byte.
+
+ghost use Rattle.std.specs.Prelude.{◌≡◌, []};
+
+use adb_client::Client;
+use adb_forward::Forwards;
+use adb_hub_clients::{Plan, make_plan};
+use adb_outside::{Identity, Kind, Text};
+use adb_registry::Registry;
+use adb_reply::Next;
+use std::alloc::{AllocError, Global};
+use std::test::Fail;
+
+/// The bytes held; how many of them are requests that are answered, and the replies; the transport
+/// that is selected then, or 0; and what follows, in a word.
+type Row = (&'static [u8], usize, &'static [u8], u32, &'static [u8]);
+
+/// There is one device, `emu1`.
+const ROWS: &[Row] = &[
+    (b"", 0, b"", 0, b"more"),
+    (b"000chost:versio", 0, b"", 0, b"more"),
+    (
+        b"000chost:version000chost:version",
+        16,
+        b"OKAY00040029",
+        0,
+        b"close",
+    ),
+    (b"0000", 0, b"", 0, b"close"),
+    (
+        b"0008shell:ls",
+        12,
+        b"FAIL001ddevice offline (no transport)",
+        0,
+        b"close",
+    ),
+    (b"0013host:transport:emu1", 23, b"OKAY", 1, b"more"),
+    (b"0013host:transport:emu1zzzz", 23, b"OKAY", 1, b"close"),
+    (
+        b"0013host:transport:emu10008shell:ls",
+        35,
+        b"OKAY",
+        1,
+        b"open",
+    ),
+    (
+        b"0013host:transport:emu1000ehost:tport:any0008shell:l",
+        41,
+        b"OKAYOKAY\x01\0\0\0\0\0\0\0",
+        1,
+        b"more",
+    ),
+];
+
+/// What follows, in a word.
+fn word(next: &Option<Next>) -> &'static [u8] {
+    match next {
+        None => b"more",
+        Some(Next::Close) => b"close",
+        Some(Next::Open { .. }) => b"open",
+        Some(_) => b"else",
+    }
+}
+
+/// Whether a plan is that of a row.
+fn is_of(plan: Plan, row: &Row) -> bool {
+    plan.used == row.1
+        && plan.replies.as_slice() == row.2
+        && plan.selected.unwrap_or(0) == row.3
+        && word(&plan.next) == row.4
+}
+
+/// Whether a client that holds the bytes of a row asks what it says.
+fn asked_as(
+    alloc: Global,
+    devices: &Registry,
+    forwards: &Forwards,
+    row: &Row,
+) -> Result<bool, AllocError> {
+    let mut client = Client::new(alloc, 7, false);
+    client.take_in(row.0)?;
+    Ok(is_of(make_plan(alloc, &client, devices, forwards)?, row))
+}
+
+/// A device that says nothing of itself.
+fn identity(alloc: Global) -> Identity
+    ensures { result.features ≡ [] }
+{
+    Identity {
+        system: Text::new(alloc),
+        serial: Text::new(alloc),
+        product: Text::new(alloc),
+        model: Text::new(alloc),
+        device: Text::new(alloc),
+        features: Text::new(alloc),
+    }
+}
+
+#[test]
+fn requests_are_planned(rt: HostRuntime) -> Result<(), Fail> {
+    let alloc = rt.alloc();
+    let forwards = Forwards::new(alloc);
+    let mut devices = Registry::new(alloc);
+    devices.attach(Kind::Usb, b"emu1").map_err(|_| "attach")?;
+    devices.online(1, identity(alloc), 0x0100_0001, 4096);
+    for row in ROWS {
+        assert!(rt;
+            asked_as(alloc, &devices, &forwards, row)?,
+            "of {:?}",
+            row.0
+        );
+    }
+    Ok(())
+}

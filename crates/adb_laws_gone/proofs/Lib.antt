@@ -1,0 +1,4 @@
+mod Staying
+mod StayingEntries
+mod Falling
+mod PutAll

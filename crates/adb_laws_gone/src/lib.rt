@@ -1,0 +1,7 @@
+//! Clients that are gone: what became due to a client whose stream its device closed was put to it.
+//! Each function does nothing: its contract is the law.
+#![tactic(auto)]
+
+mod laws;
+
+pub use laws::clients_that_go_were_put_all;

@@ -1,0 +1,4 @@
+pub mod Standing
+pub mod Exchanges
+pub mod Echoes
+pub mod Lines

@@ -1,0 +1,94 @@
+//! A conversation.
+
+ghost use Rattle.std.specs.Prelude.{◌≡◌, ◌≢◌, ◌≤◌, ◌⊎◌, [], Err, Some, false, length, option_map, IfSome};
+ghost use Rattle.adb_outside.specs.Outside.{Rises};
+ghost use Rattle.adb_remote_words.specs.Words.{HasWords};
+ghost use Rattle.adb_remote.specs.Sending.{seen};
+ghost use Rattle.adb_sync_client.specs.declared.step.Step.TheVariants.{More};
+ghost use Rattle.adb_remote_words.specs.Outcome.{decided};
+ghost use Rattle.adb_remote_words.specs.Reading.{ReadingStands};
+ghost use Rattle.adb_remote.specs.Conversing.{Converses, Listens, inlet, ports_of};
+
+use crate::saying::say;
+use crate::turning::turn;
+use adb_connections::{PortIn, PortOut};
+use adb_outside::Text;
+use adb_remote_words::{MAX_WORD, Outcome, Reading, Remote, RemoteError, is_more};
+use adb_sync_client::Step;
+use std::alloc::Global;
+use std::sync::Wait;
+
+/// The most bytes that are read at once.
+pub const MAX_PIECE: usize = 65_536;
+
+/// Asks a server for a job, on the device of a serial where there is one, and tells what it was
+/// answered. It sleeps in the reads and writes of the port; each byte is looked at once, and lists
+/// that don't have what is waited for are dropped.
+///
+/// `Refused` and `BadAnswer` are what the answer means. `PortFault` comes where a read or a write
+/// failed, `OutOfMemory` where memory ran out; then a front of the words went out, and nothing more
+/// is read.
+pub fn converse<W: Wait + Copy + Drop, I: PortIn, O: PortOut>(
+    rt: W,
+    alloc: Global,
+    job: &Remote,
+    on: Option<&Text>,
+    input: &mut I,
+    output: &mut O,
+) -> Result<Outcome, RemoteError>
+    requires words { HasWords job.now }
+    requires on { IfSome on (λ serial. length serial.now ≤ MAX_WORD) }
+    ensures converses { Converses (ports_of I.steady (inlet I.faults I.left) O.steady
+        (seen O.faults O.written O.closed)) job.now (option_map (λ text. text.now) on.entry)
+        input.old input.new output.old output.new result }
+    ensures fault { result ≡ Err RemoteError.PortFault
+        → Rises (I.faults input.old) (I.faults input.new)
+        ⊎ Rises (O.faults output.old) (O.faults output.new) }
+{
+    say(alloc, job, on, 0, output)?;
+    let Ok(reading) = Reading::new(alloc, job) else {
+        return Err(RemoteError::OutOfMemory);
+    };
+    listen(rt, alloc, job, on, input, output, reading)
+}
+
+/// Reads the answer behind the first request, and writes what follows it.
+fn listen<W: Wait + Copy + Drop, I: PortIn, O: PortOut>(
+    rt: W,
+    alloc: Global,
+    job: &Remote,
+    on: Option<&Text>,
+    input: &mut I,
+    output: &mut O,
+    reading: Reading,
+) -> Result<Outcome, RemoteError>
+    requires words { HasWords job.now }
+    requires on { IfSome on (λ serial. length serial.now ≤ MAX_WORD) }
+    requires stands { ReadingStands job.now [] reading }
+    ensures { Listens (ports_of I.steady (inlet I.faults I.left) O.steady
+        (seen O.faults O.written O.closed)) job.now (option_map (λ text. text.now) on.entry)
+        input.old input.new output.old output.new result }
+{
+    let mut reading = reading;
+    let mut buffer = [0u8; MAX_PIECE];
+    for _ in rt.forever() {
+        let step = turn(alloc, job, on, input, output, &mut reading, &mut buffer)?;
+        if !is_more(&step) {
+            return outcome(step);
+        }
+    }
+    unreachable!()
+}
+
+/// What a step is that decides.
+fn outcome(step: Step<Outcome>) -> Result<Outcome, RemoteError>
+    requires { step ≢ More }
+    ensures { decided step 0 false ≡ Some result }
+{
+    match step {
+        Step::More => unreachable!(),
+        Step::Done(outcome) => Ok(outcome),
+        Step::Refused(text) => Err(RemoteError::Refused(text)),
+        Step::BadAnswer { offset } => Err(RemoteError::BadAnswer { offset }),
+    }
+}

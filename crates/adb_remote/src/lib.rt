@@ -1,0 +1,13 @@
+//! A client tool's conversation with a server over a port: it writes what it asks, and tells what
+//! it was answered (OVERVIEW.TXT, SERVICES.TXT, SYNC.TXT).
+#![tactic(auto)]
+
+mod conversing;
+mod saying;
+mod sending;
+#[cfg(test)]
+mod tests;
+mod turning;
+
+pub use adb_remote_words::{MAX_ANSWER, MAX_WORD, Outcome, Remote, RemoteError};
+pub use conversing::{MAX_PIECE, converse};

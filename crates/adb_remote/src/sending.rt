@@ -1,0 +1,55 @@
+//! Bytes are written to a port.
+
+ghost use Rattle.std.specs.Prelude.{◌≡◌, Ok, Err};
+ghost use Rattle.adb_remote.specs.Sending.{Sends, remote_error, seen};
+
+use adb_connections::PortOut;
+use adb_outside::Wrote;
+use adb_remote_words::RemoteError;
+use std::alloc::AllocError;
+
+/// Why not all was written.
+#[derive(Clone, Copy, Debug, PartialEq, Eq, Drop)]
+pub enum SendError {
+    /// A write failed.
+    PortFault,
+    /// Memory ran out.
+    OutOfMemory,
+}
+
+impl From<AllocError> for SendError {
+    ghost use Rattle.std.specs.Prelude.{◌≡◌};
+
+    ghost from_gives = { λ _ error. error ≡ SendError.OutOfMemory };
+
+    fn from(_: AllocError) -> SendError {
+        SendError::OutOfMemory
+    }
+}
+
+impl From<SendError> for RemoteError {
+    ghost use Rattle.std.specs.Prelude.{◌≡◌};
+
+    ghost from_gives = { λ sent error. error ≡ remote_error sent };
+
+    fn from(error: SendError) -> RemoteError {
+        match error {
+            SendError::PortFault => RemoteError::PortFault,
+            SendError::OutOfMemory => RemoteError::OutOfMemory,
+        }
+    }
+}
+
+/// Writes bytes, where there are some.
+pub fn send<O: PortOut>(output: &mut O, bytes: &[u8]) -> Result<(), SendError>
+    ensures { Sends O.steady (seen O.faults O.written O.closed) bytes.now output.old output.new
+        result }
+{
+    if bytes.is_empty() {
+        return Ok(());
+    }
+    match output.write(bytes) {
+        Wrote::All => Ok(()),
+        Wrote::Failed { .. } => Err(SendError::PortFault),
+    }
+}

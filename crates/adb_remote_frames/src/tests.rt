@@ -1,0 +1,34 @@
+//! Fronts against values that were worked out by hand.
+
+use crate::{Awaited, Place};
+use adb_outside::{Format, Front};
+use std::test::Fail;
+
+/// What bytes at offset 8 begin with.
+const FRONTS: &[(Awaited, &[u8], Front<u64>)] = &[
+    (Awaited::Status, b"", Front::More),
+    (Awaited::Status, b"OKA", Front::More),
+    (Awaited::Status, b"OKX", Front::Bad(10)),
+    (Awaited::Status, b"FAIL0002n", Front::More),
+    (Awaited::Status, b"FAIL0002no?", Front::Whole(10)),
+    (Awaited::Status, b"FAIL000A", Front::Bad(15)),
+    (Awaited::List, b"000", Front::More),
+    (Awaited::List, b"0000", Front::Whole(4)),
+    (Awaited::List, b"00g0", Front::Bad(10)),
+    (Awaited::List, b"0001a", Front::Whole(5)),
+    (Awaited::Packet, b"\x00", Front::Bad(8)),
+    (Awaited::Packet, b"\x01\x03\0\0\0hi\n", Front::Whole(8)),
+    (Awaited::Packet, b"\x02\x01\0\x10", Front::Bad(11)),
+    (Awaited::Packet, b"\x02\0\0\x10", Front::More),
+    (Awaited::Packet, b"\x03\x02", Front::Bad(9)),
+    (Awaited::Packet, b"\x03\x01\0\0\0\x07", Front::Whole(6)),
+];
+
+#[test]
+fn fronts_are_found(rt: HostRuntime) -> Result<(), Fail> {
+    for &(awaited, bytes, want) in FRONTS {
+        let place = Place { awaited, offset: 8 };
+        assert!(rt; place.front(bytes) == want, "{awaited:?} {bytes:?}");
+    }
+    Ok(())
+}

@@ -1,0 +1,5 @@
+mod Bodies
+mod Gathering
+mod Lasting
+mod Openings
+mod Readings

@@ -1,0 +1,5 @@
+pub mod Words
+pub mod Held
+pub mod Meaning
+pub mod Outcome
+pub mod Reading

@@ -1,0 +1,92 @@
+//! What stands behind the OKAYs of an answer.
+
+ghost use Rattle.std.specs.Prelude.{◌≡◌, ◌++◌, [], List, ℕ, IfOk};
+ghost use Rattle.adb_sync_client.specs.declared.step.Step.TheVariants.{More};
+ghost use Rattle.adb_sync_client.specs.declared.step.Step.{Step as TheStep};
+ghost use Rattle.adb_remote_words.specs.Meaning.{body_step, sync_step};
+ghost use Rattle.adb_remote_words.specs.Reading.{BodyStands, HasFed};
+
+use crate::frames::Frames;
+use crate::remote::{Outcome, Remote};
+use adb_outside::Text;
+use adb_remote_frames::{Awaited, Place};
+use adb_sync_client::{Pull, Push, Step};
+use std::alloc::{AllocError, Global};
+
+/// What is read behind the OKAYs.
+#[derive(Drop)]
+pub enum Body {
+    /// Lists, or the packets of a command.
+    Frames(Frames),
+    /// The answer to a SEND.
+    Pushing(Push),
+    /// The answer to a RECV.
+    Pulling(Pull),
+}
+
+impl Body {
+    /// No byte was fed yet of what a job is answered.
+    pub fn new(alloc: Global, job: &Remote) -> Result<Body, AllocError>
+        ensures { IfOk result (λ body. BodyStands job.now [] body) }
+    {
+        Ok(match job {
+            Remote::Devices | Remote::Wait { .. } => Body::Frames(Frames::new(
+                alloc,
+                Place {
+                    awaited: Awaited::List,
+                    offset: 4,
+                },
+            )),
+            Remote::Shell { .. } => Body::Frames(Frames::new(
+                alloc,
+                Place {
+                    awaited: Awaited::Packet,
+                    offset: 8,
+                },
+            )),
+            Remote::Push { .. } => Body::Pushing(Push::new(alloc, b"", 0, 0, b"")?),
+            Remote::Pull { .. } => Body::Pulling(Pull::new(alloc, b"")?),
+        })
+    }
+
+    /// Takes the next piece, and gives what all of them mean. Once that is decided, or after want
+    /// of memory, nothing more is fed.
+    pub fn feed(&mut self, job: &Remote, piece: &[u8]) -> Result<Step<Outcome>, AllocError>
+        ensures { IfOk result (λ step. (fed : List ℕ) → BodyStands job.now fed self.old
+            → HasFed job.now (fed ++ piece.now) step self.new) }
+    {
+        match self {
+            Body::Frames(frames) => frames.feed(job, piece),
+            Body::Pushing(push) => Ok(pushed(push.feed(piece)?)),
+            Body::Pulling(pull) => Ok(pulled(pull.feed(piece)?)),
+        }
+    }
+}
+
+/// What the answer to a push means, by what that behind the OKAYs does.
+fn pushed(step: Step<()>) -> Step<Outcome>
+    ensures { result ≡ sync_step (λ done. Outcome.Pushed) step }
+{
+    match step {
+        Step::More => Step::More,
+        Step::Done(()) => Step::Done(Outcome::Pushed),
+        Step::Refused(text) => Step::Refused(text),
+        Step::BadAnswer { offset } => Step::BadAnswer {
+            offset: offset.saturating_add(8),
+        },
+    }
+}
+
+/// What the answer to a pull means, by what that behind the OKAYs does.
+fn pulled(step: Step<Text>) -> Step<Outcome>
+    ensures { result ≡ sync_step Outcome.Pulled step }
+{
+    match step {
+        Step::More => Step::More,
+        Step::Done(bytes) => Step::Done(Outcome::Pulled(bytes)),
+        Step::Refused(text) => Step::Refused(text),
+        Step::BadAnswer { offset } => Step::BadAnswer {
+            offset: offset.saturating_add(8),
+        },
+    }
+}

@@ -1,0 +1,129 @@
+//! The OKAYs that an answer begins with.
+
+ghost use Rattle.std.specs.Prelude.{◌≡◌, ◌≤◌, ◌++◌, ◌+◌, [], true, codes, nat_lt, length, take, drop, IfOk};
+ghost use Rattle.adb_remote_frames.specs.Heads.{is_front};
+ghost use Rattle.adb_remote_words.specs.Meaning.{refusal};
+ghost use Rattle.adb_remote_words.specs.Reading.{Opened};
+
+use adb_outside::{ByteQueue, Front, Text};
+use adb_remote_frames::Awaited;
+use adb_sync_client::Step;
+use std::alloc::{AllocError, Global};
+use std::marker::Model;
+
+/// What was read of an answer while OKAYs are still to come: the bytes behind the last, how many
+/// came, and how many are to come.
+#[derive(Drop)]
+pub struct Opening {
+    alloc: Global,
+    held: ByteQueue,
+    okays: u8,
+    left: u8,
+}
+
+impl Model for Opening {
+    ghost use Rattle.adb_remote_words.specs.Held.{HeldOpening};
+
+    ghost Value = { HeldOpening };
+
+    ghost view = { λ o. record { held = o.held.bytes; okays = o.okays; left = o.left } };
+}
+
+impl Opening {
+    /// No byte was fed yet, of an answer that begins with so many OKAYs. It takes no memory.
+    pub fn new(alloc: Global, left: u8) -> Opening
+        ensures { result ≡ record { held = []; okays = 0; left = left } }
+    {
+        Opening {
+            alloc,
+            held: ByteQueue::new(alloc),
+            okays: 0,
+            left,
+        }
+    }
+
+    /// Whether an OKAY is still to come.
+    pub fn is_open(&self) -> bool
+        ensures { result ≡ nat_lt 0 self.now.left }
+    {
+        self.left > 0
+    }
+
+    /// How many OKAYs came.
+    pub fn okays(&self) -> u8
+        ensures { result ≡ self.now.okays }
+    {
+        self.okays
+    }
+
+    /// The bytes behind the last OKAY that came.
+    pub fn held(&self) -> &[u8]
+        ensures { result.now ≡ self.now.held }
+    {
+        self.held.as_slice()
+    }
+
+    /// Takes the next piece: done where no OKAY is still to come.
+    pub fn feed(&mut self, piece: &[u8]) -> Result<Step<()>, AllocError>
+        ensures { IfOk result (λ step. self.old.okays + self.old.left ≤ 2
+            → Opened (record self.old { held = self.old.held ++ piece.now }) step self.new) }
+    {
+        self.held.push(piece)?;
+        self.open()
+    }
+
+    /// Takes the OKAYs that are held.
+    fn open(&mut self) -> Result<Step<()>, AllocError>
+        ensures { IfOk result (λ step. self.old.okays + self.old.left ≤ 2
+            → Opened self.old step self.new) }
+    {
+        while self.left > 0 {
+            if !begins_okay(self.held.as_slice()) {
+                return refusal(self.alloc, 4 * u64::from(self.okays), self.held.as_slice());
+            }
+            self.held.take(4);
+            self.okays = self.okays.saturating_add(1);
+            self.left -= 1;
+        }
+        Ok(Step::Done(()))
+    }
+}
+
+/// Whether bytes begin with an OKAY.
+fn begins_okay(bytes: &[u8]) -> bool
+    ensures { result ≡ is_front (codes "OKAY") bytes.now }
+{
+    bytes.starts_with(b"OKAY")
+}
+
+/// What bytes at an offset mean that stand in place of an OKAY.
+fn refusal(alloc: Global, offset: u64, bytes: &[u8]) -> Result<Step<()>, AllocError>
+    ensures { IfOk result (λ step. step ≡ refusal offset bytes.now) }
+{
+    Ok(match Awaited::Status.found(offset, bytes) {
+        Front::More => Step::More,
+        Front::Bad(offset) => Step::BadAnswer { offset },
+        Front::Whole(len) => Step::Refused(text_of(alloc, bytes, len)?),
+    })
+}
+
+/// The text of a FAIL of so many bytes.
+fn text_of(alloc: Global, bytes: &[u8], len: usize) -> Result<Text, AllocError>
+    ensures { IfOk result (λ text. text ≡ drop 8 (take len bytes.now)) }
+{
+    Text::from_slice(alloc, behind(front(bytes, len), 8))
+}
+
+/// The first `n` bytes.
+fn front(bytes: &[u8], n: usize) -> &[u8]
+    ensures { result.now ≡ take n bytes.now }
+{
+    &bytes[..n.min(bytes.len())]
+}
+
+/// The bytes behind the first `n`.
+fn behind(bytes: &[u8], n: usize) -> &[u8]
+    ensures { result.now ≡ drop n bytes.now }
+{
+    &bytes[n.min(bytes.len())..]
+}

@@ -1,0 +1,129 @@
+//! What a worker of a server owns.
+
+use adb_capture::Recorder;
+use adb_connections::Bell;
+use adb_desk_log::Marks;
+use adb_hall::Hall;
+use adb_locked_hall::LockedHall;
+use std::alloc::{AllocError, Global};
+use std::sync::ledger::Ledger;
+use std::sync::{Arc, Wait};
+
+/// What a worker rings where nobody more shall come.
+///
+/// It says nothing of threads, as `Bell` does: a job is run by calls that rest on no such bound.
+pub(crate) trait Ringing: Drop {
+    fn ring_it(&self);
+}
+
+/// A share of the bell of a door.
+#[derive(Drop)]
+pub(crate) struct Clapper<B: Bell> {
+    bell: Arc<B, Global>,
+}
+
+impl<B: Bell> Clapper<B> {
+    pub(crate) fn new(alloc: Global, bell: B) -> Result<Clapper<B>, AllocError> {
+        Ok(Clapper {
+            bell: Arc::new(alloc, bell)?,
+        })
+    }
+
+    pub(crate) fn share(&self) -> Result<Clapper<B>, AllocError> {
+        Ok(Clapper {
+            bell: Arc::try_clone(&self.bell)?,
+        })
+    }
+}
+
+impl<B: Bell> Ringing for Clapper<B> {
+    fn ring_it(&self) {
+        self.bell.ring();
+    }
+}
+
+/// What each job owns: a handle of the hall, a gate, and a share of the bell.
+#[derive(Drop)]
+pub(crate) struct Kit<
+    W: Wait + Copy + Drop,
+    R: Recorder,
+    E: Ledger,
+    M: Ledger,
+    K: Marks,
+    G: Drop,
+    B: Drop,
+> {
+    pub(crate) rt: W,
+    pub(crate) hall: LockedHall<R, E, M, K, W>,
+    pub(crate) gate: G,
+    pub(crate) bell: B,
+}
+
+impl<W: Wait + Copy + Drop, R: Recorder, E: Ledger, M: Ledger, K: Marks, G: Drop, B: Ringing> Kit<
+    W,
+    R,
+    E,
+    M,
+    K,
+    G,
+    B,
+> {
+    /// Rings the bell where nobody more shall come.
+    pub(crate) fn ring(&mut self) {
+        if self.hall.over().is_some() {
+            self.bell.ring_it();
+        }
+    }
+}
+
+/// What two workers own. It is made before who comes is asked for, so that nobody is taken in for
+/// whom there is no memory.
+#[derive(Drop)]
+pub(crate) struct Kits<
+    W: Wait + Copy + Drop,
+    R: Recorder,
+    E: Ledger,
+    M: Ledger,
+    K: Marks,
+    G: Drop,
+    B: Drop,
+> {
+    pub(crate) reader: Kit<W, R, E, M, K, G, B>,
+    pub(crate) writer: Kit<W, R, E, M, K, G, B>,
+}
+
+/// Makes what two workers own, with a gate for each.
+pub(crate) fn make_kits<
+    W: Wait + Copy + Drop,
+    R: Recorder,
+    E: Ledger,
+    M: Ledger,
+    K: Marks,
+    G: Drop,
+    B: Bell,
+>(
+    rt: W,
+    gates: (G, G),
+    hall: &LockedHall<R, E, M, K, W>,
+    bell: &Clapper<B>,
+) -> Result<Kits<W, R, E, M, K, G, Clapper<B>>, AllocError> {
+    let (reading, writing) = gates;
+    Ok(Kits {
+        reader: make_kit(rt, reading, hall, bell)?,
+        writer: make_kit(rt, writing, hall, bell)?,
+    })
+}
+
+fn make_kit<W: Wait + Copy + Drop, R: Recorder, E: Ledger, M: Ledger, K: Marks, G: Drop, B: Bell>(
+    rt: W,
+    gate: G,
+    hall: &LockedHall<R, E, M, K, W>,
+    bell: &Clapper<B>,
+) -> Result<Kit<W, R, E, M, K, G, Clapper<B>>, AllocError> {
+    Ok(Kit {
+        rt,
+        hall: hall.handle()?,
+        gate,
+        bell: bell.share()?,
+    })
+}

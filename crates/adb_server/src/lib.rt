@@ -1,0 +1,14 @@
+//! The server: who comes at its door is admitted, and two workers serve each client and each device.
+#![tactic(auto)]
+
+mod halves;
+mod house;
+mod kit;
+mod listening;
+mod plugging;
+mod server;
+#[cfg(test)]
+mod tests;
+mod work;
+
+pub use server::{Served, serve};

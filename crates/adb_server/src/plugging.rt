@@ -1,0 +1,175 @@
+//! The devices that are handed in are plugged in.
+
+ghost use Rattle.std.specs.Prelude.{◌≢◌, ◌<◌, Err, OnOk, vec_len, vec_capacity};
+
+use crate::halves::{BoxedIn, BoxedOut, Outlet};
+use crate::kit::{Clapper, Kits, make_kits};
+use crate::server::Served;
+use crate::work::Task;
+use adb_capture::Recorder;
+use adb_connections::{Bell, Gate};
+use adb_desk_log::{DeskError, LinkIn, LinkOut, Marks};
+use adb_device_reader::{Device, Plugged, plug_in};
+use adb_hall::Hall;
+use adb_hub::HubError;
+use adb_locked_hall::LockedHall;
+use adb_wire::Slicer;
+use adb_yard::Yard;
+use std::alloc::{AllocError, Global};
+use std::sync::Wait;
+use std::sync::ledger::Ledger;
+
+/// A device that was plugged in, by what its reader and its writer work on.
+#[derive(Drop)]
+pub(crate) struct Transport<
+    W: Wait + Copy + Drop,
+    R: Recorder,
+    E: Ledger,
+    M: Ledger,
+    K: Marks,
+    G: Drop,
+    B: Drop,
+    X: Drop,
+    Z: Drop,
+> {
+    pub(crate) read: Task<W, R, E, M, K, G, B, LinkIn<E, M, K>, X, Slicer>,
+    pub(crate) write: Task<W, R, E, M, K, G, B, LinkOut<E, M, K>, Z, ()>,
+}
+
+/// Plugs in devices, in their order. Those that come are added to `plugged`; one that does not, and
+/// one that the hall refuses, is unplugged. At `Err` the hall is shut, and no more are asked.
+pub(crate) fn plug_all<
+    W: Wait + Copy + Drop,
+    R: Recorder,
+    E: Ledger,
+    M: Ledger,
+    K: Marks,
+    G: Gate + Send + Drop + 'static,
+    B: Bell,
+    Y: Yard<Gate = G>,
+>(
+    rt: W,
+    alloc: Global,
+    yard: &mut Y,
+    hall: &mut LockedHall<R, E, M, K, W>,
+    bell: &Clapper<B>,
+    devices: Vec<Device>,
+    plugged: &mut Vec<Transport<W, R, E, M, K, G, Clapper<B>, BoxedIn, BoxedOut>>,
+) -> Result<(), Served>
+    ensures record { K.steady → result ≢ Err Served.RecordFault }
+    ensures other { (result ≢ Err Served.DoorFault) × (result ≢ Err Served.Done)
+        × (result ≢ Err Served.WriteFault) }
+{
+    for device in devices {
+        plug(rt, alloc, yard, hall, bell, device, plugged)?;
+    }
+    Ok(())
+}
+
+/// Makes what the workers of the next device own, and room for it.
+fn provide<
+    W: Wait + Copy + Drop,
+    R: Recorder,
+    E: Ledger,
+    M: Ledger,
+    K: Marks,
+    G: Gate + Send + Drop + 'static,
+    B: Bell,
+    Y: Yard<Gate = G>,
+    T: Drop,
+>(
+    rt: W,
+    alloc: Global,
+    yard: &mut Y,
+    hall: &LockedHall<R, E, M, K, W>,
+    bell: &Clapper<B>,
+    plugged: &mut Vec<T>,
+) -> Result<(Kits<W, R, E, M, K, G, Clapper<B>>, Slicer), AllocError>
+    ensures room { OnOk result (vec_len plugged.new < vec_capacity plugged.new) }
+{
+    let kits = make_kits(rt, (yard.gate(), yard.gate()), hall, bell)?;
+    let slicer = Slicer::new(alloc)?;
+    plugged.reserve(1)?;
+    Ok((kits, slicer))
+}
+
+fn plug<
+    W: Wait + Copy + Drop,
+    R: Recorder,
+    E: Ledger,
+    M: Ledger,
+    K: Marks,
+    G: Gate + Send + Drop + 'static,
+    B: Bell,
+    Y: Yard<Gate = G>,
+>(
+    rt: W,
+    alloc: Global,
+    yard: &mut Y,
+    hall: &mut LockedHall<R, E, M, K, W>,
+    bell: &Clapper<B>,
+    device: Device,
+    plugged: &mut Vec<Transport<W, R, E, M, K, G, Clapper<B>, BoxedIn, BoxedOut>>,
+) -> Result<(), Served>
+    ensures record { K.steady → result ≢ Err Served.RecordFault }
+    ensures other { (result ≢ Err Served.DoorFault) × (result ≢ Err Served.Done)
+        × (result ≢ Err Served.WriteFault) }
+{
+    let mut device = device;
+    let Ok(made) = provide(rt, alloc, yard, hall, bell, plugged) else {
+        hall.halt();
+        return Err(Served::OutOfMemory);
+    };
+    let (kits, slicer) = made;
+    match plug_in(hall, &mut device) {
+        Plugged::Link { reading, writing } => {
+            let Device { input, output, .. } = device;
+            let read = Task {
+                kit: kits.reader,
+                pass: reading,
+                port: BoxedIn { port: input },
+                aid: slicer,
+            };
+            let write = Task {
+                kit: kits.writer,
+                pass: writing,
+                port: BoxedOut { port: output },
+                aid: (),
+            };
+            plugged.push_reserved(Transport { read, write });
+            Ok(())
+        }
+        Plugged::Refused(DeskError::Hub(HubError::OutOfMemory)) => {
+            device.output.unplug();
+            hall.halt();
+            Err(Served::OutOfMemory)
+        }
+        Plugged::Refused(DeskError::RecordFault) => {
+            device.output.unplug();
+            Err(Served::RecordFault)
+        }
+        Plugged::Never | Plugged::Failed | Plugged::Refused(_) => {
+            device.output.unplug();
+            Ok(())
+        }
+    }
+}
+
+/// Unplugs devices for which there are no workers.
+pub(crate) fn unplug_all<
+    W: Wait + Copy + Drop,
+    R: Recorder,
+    E: Ledger,
+    M: Ledger,
+    K: Marks,
+    G: Drop,
+    B: Drop,
+    X: Drop,
+    Z: Outlet,
+>(plugged: Vec<Transport<W, R, E, M, K, G, B, X, Z>>) {
+    for device in plugged {
+        let Transport { write, .. } = device;
+        let mut output = write.port;
+        output.shut();
+    }
+}

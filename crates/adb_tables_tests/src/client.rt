@@ -1,0 +1,153 @@
+//! Clients that ask, whose bytes are cut off, and to whom bytes are due.
+
+ghost use Rattle.std.specs.Prelude.{◌≤◌, length};
+
+use adb_client::{Ask, Client, MAX_SLICE};
+use adb_request::Request;
+use bytes::Bytes;
+use std::alloc::AllocError;
+use std::test::Fail;
+
+/// What is asked, in a word.
+fn word(ask: &Ask) -> &'static [u8] {
+    match ask {
+        Ask::More => b"more",
+        Ask::Malformed => b"malformed",
+        Ask::Whole(Request::Version) => b"version",
+        Ask::Whole(Request::Service(_)) => b"service",
+        Ask::Whole(_) => b"else",
+    }
+}
+
+/// A piece comes. Whether what is asked then, looked at and passed over, is told by this word.
+fn asks(client: &mut Client, piece: &[u8], told: &[u8]) -> Result<bool, AllocError> {
+    client.take_in(piece)?;
+    let asked = client.ask_from(0)?;
+    client.pass_over(asked.len);
+    Ok(word(&asked.ask) == told)
+}
+
+/// Pieces that come, what is asked then, and how many bytes are held behind that.
+const ASKS: &[(&[u8], &[u8], usize)] = &[
+    (b"000", b"more", 3),
+    (b"Chost:versio", b"more", 15),
+    (b"n0003a:b0001c", b"version", 12),
+    (b"", b"service", 5),
+    (b"0000", b"service", 4),
+    (b"", b"malformed", 4),
+];
+
+#[test]
+fn requests_are_taken_off(rt: HostRuntime) -> Result<(), Fail> {
+    let mut client = Client::new(rt.alloc(), 7, true);
+    for &(piece, words, held) in ASKS {
+        assert!(rt; asks(&mut client, piece, words)?, "at {piece:?}");
+        assert_eq!(rt; client.held(), held);
+    }
+    Ok(())
+}
+
+/// A change of what is held.
+#[derive(Clone, Copy, Drop)]
+enum Change {
+    TakeIn(&'static [u8]),
+    TakeBack(usize),
+    PassOver(usize),
+    /// So many bytes are made ready, and cut off but for the last.
+    CutReady(usize),
+}
+
+/// What a change takes off, which is no more than is held.
+fn changed(client: &mut Client, change: Change) -> Result<Bytes, AllocError> {
+    let held = client.held();
+    match change {
+        Change::TakeIn(piece) => client.take_in(piece)?,
+        Change::TakeBack(n) => client.take_back(n.min(held)),
+        Change::PassOver(n) => client.pass_over(n.min(held)),
+        Change::CutReady(n) => return cut_ahead(client, n.min(held)),
+    }
+    Ok(Bytes::new())
+}
+
+/// Makes the first `n` bytes ready, and cuts them off but for the last.
+fn cut_ahead(client: &mut Client, n: usize) -> Result<Bytes, AllocError>
+    requires { n ≤ length client.old.held }
+{
+    client.prepare_cuts(n, 2)?;
+    Ok(client.cut_ready(n.saturating_sub(1)))
+}
+
+/// Changes, what each takes off, and how many bytes are held then.
+const CHANGES: &[(Change, &[u8], usize)] = &[
+    (Change::TakeIn(b"abcdefghij"), b"", 10),
+    (Change::CutReady(3), b"ab", 8),
+    (Change::CutReady(3), b"cd", 6),
+    (Change::TakeIn(b"klm"), b"", 9),
+    (Change::CutReady(8), b"efghijk", 2),
+    (Change::TakeIn(b"nop"), b"", 5),
+    (Change::CutReady(4), b"lmn", 2),
+    (Change::TakeBack(1), b"", 1),
+    (Change::PassOver(1), b"", 0),
+];
+
+#[test]
+fn what_is_held_is_cut(rt: HostRuntime) -> Result<(), Fail> {
+    let mut client = Client::new(rt.alloc(), 1, false);
+    for &(change, off, held) in CHANGES {
+        let bytes = changed(&mut client, change)?;
+        assert_eq!(rt; bytes.as_slice(), off);
+        assert_eq!(rt; client.held(), held);
+    }
+    Ok(())
+}
+
+/// A change of what is due.
+#[derive(Clone, Copy, Drop)]
+enum Debt {
+    Owe(&'static [u8]),
+    Spare(&'static [u8]),
+    Slice(&'static [u8]),
+    Hand(usize),
+}
+
+/// Makes a change of what is due: bytes and slices come in reserved places.
+fn owe(client: &mut Client, debt: Debt) -> Result<(), AllocError> {
+    client.reserve(4)?;
+    client.reserve_slices(1)?;
+    match debt {
+        Debt::Owe(bytes) => client.owe(bytes)?,
+        Debt::Spare(bytes) => client.owe_spare(&bytes[..bytes.len().min(4)]),
+        Debt::Slice(bytes) => {
+            let some = &bytes[..bytes.len().min(MAX_SLICE)];
+            client.owe_slice_spare(Bytes::from_static(some));
+        }
+        Debt::Hand(n) => client.hand(n.min(client.owed())),
+    }
+    Ok(())
+}
+
+/// Changes, the first four bytes that are due then, and how many are.
+const DEBTS: &[(Debt, &[u8], usize)] = &[
+    (Debt::Owe(b"ab"), b"ab", 2),
+    (Debt::Slice(b"cdef"), b"abcd", 6),
+    (Debt::Slice(b""), b"abcd", 6),
+    (Debt::Slice(b"gh"), b"abcd", 8),
+    (Debt::Spare(b"i"), b"abcd", 9),
+    (Debt::Hand(3), b"defg", 6),
+    (Debt::Hand(4), b"hi", 2),
+    (Debt::Owe(b"j"), b"hij", 3),
+    (Debt::Hand(3), b"", 0),
+];
+
+#[test]
+fn what_is_due_is_handed_out(rt: HostRuntime) -> Result<(), Fail> {
+    assert_eq!(rt; MAX_SLICE, 1_048_576);
+    let mut client = Client::new(rt.alloc(), 1, false);
+    for &(debt, front, owed) in DEBTS {
+        owe(&mut client, debt)?;
+        let first = client.copy_front(4)?;
+        assert_eq!(rt; first.as_slice(), front);
+        assert_eq!(rt; client.owed(), owed);
+    }
+    Ok(())
+}

@@ -1,0 +1,11 @@
+//! Tables and buffers: what no clause says.
+#![tactic(auto)]
+
+#[cfg(test)]
+mod client;
+#[cfg(test)]
+mod forward;
+#[cfg(test)]
+mod link;
+#[cfg(test)]
+mod reply;

@@ -1,0 +1,159 @@
+//! Words with options and operands, read by a simple command.
+
+ghost use Rattle.std.specs.Prelude.{◌≡◌, ◌≢◌, ◌⊎◌, [], true, false, Err, IfOk};
+ghost use Rattle.clap.specs.Words.{HasMatchesOf, app_of, fault_of, found_of, is_simple_and_free};
+ghost use Rattle.clap.specs.Words.{with_rule};
+ghost use Rattle.adb_words.specs.Apps.{bare_app, flag_rule, operand_rule, option_rule};
+ghost use Rattle.adb_words.specs.Found.{are_known, equals_at, has_name, is_known, is_known_at};
+ghost use Rattle.adb_words.specs.Found.{is_known_option, texts_in, values_found};
+ghost use Rattle.adb_words.specs.Given.{is_one_of};
+ghost use Rattle.adb_words.specs.Words.{texts};
+
+use crate::command::WordsError;
+use crate::operands::{error_of, is_operand};
+use clap::{Arg, ArgAction, ArgMatches, Command};
+use std::alloc::{AllocError, Global};
+
+/// A command without arguments and help, that is given the words behind its name.
+pub fn bare_command<'a>(alloc: Global, name: &'a str) -> Command<'a>
+    ensures { app_of result ≡ bare_app name.entry.now }
+{
+    Command::new(alloc, name)
+        .no_binary_name(true)
+        .disable_help_flag(true)
+}
+
+/// A command with one more option that has a value. Each of its uses adds one.
+pub fn with_option<'a>(
+    alloc: Global,
+    command: Command<'a>,
+    name: &'a str,
+) -> Result<Command<'a>, AllocError>
+    ensures { IfOk result (λ more.
+        app_of more ≡ with_rule (app_of command.entry) (option_rule name.entry.now)) }
+{
+    command.arg(Arg::new(alloc, name).long(name).action(ArgAction::Append))
+}
+
+/// A command with one more option that has no value. Each of its uses adds the empty one, so that
+/// they can be counted.
+pub fn with_flag<'a>(
+    alloc: Global,
+    command: Command<'a>,
+    name: &'a str,
+) -> Result<Command<'a>, AllocError>
+    ensures { IfOk result (λ more.
+        app_of more ≡ with_rule (app_of command.entry) (flag_rule name.entry.now)) }
+{
+    let flag = Arg::new(alloc, name).long(name).action(ArgAction::Append);
+    command.arg(flag.num_args(0).default_missing_value(""))
+}
+
+/// A command with operands, which add up under a name.
+pub fn with_operands<'a>(
+    alloc: Global,
+    command: Command<'a>,
+    name: &'a str,
+) -> Result<Command<'a>, AllocError>
+    ensures { IfOk result (λ more.
+        app_of more ≡ with_rule (app_of command.entry) (operand_rule name.entry.now)) }
+{
+    command.arg(Arg::new(alloc, name).action(ArgAction::Append))
+}
+
+/// What a command makes of words, each of which is an operand or one of these options and flags.
+/// Any other word that begins with a hyphen is refused, `--` among them, which the command itself
+/// would take.
+pub fn given_of<'a>(
+    command: Command<'a>,
+    options: &[&str],
+    flags: &[&str],
+    words: &'a [String],
+) -> Result<ArgMatches<'a>, WordsError>
+    requires { is_simple_and_free (app_of command) ≡ true }
+    ensures found { IfOk result (HasMatchesOf (app_of command.entry) (texts words.entry.now)) }
+    ensures taken { IfOk result (λ _.
+        (are_known (texts_in options.now) (texts_in flags.now) words.entry.now ≡ true)
+        × (fault_of (app_of command.entry) (texts words.entry.now) ≡ [])) }
+    ensures refused { result ≡ Err WordsError.Usage
+        → (are_known (texts_in options.now) (texts_in flags.now) words.entry.now ≡ false)
+        ⊎ (fault_of (app_of command.entry) (texts words.entry.now) ≢ []) }
+{
+    if !are_known(words, options, flags) {
+        return Err(WordsError::Usage);
+    }
+    match command.try_get_matches_from(words) {
+        Ok(matches) => Ok(matches),
+        Err(error) => Err(error_of(error)),
+    }
+}
+
+/// The values of a name, in the order of the words, or what is handed over for none.
+pub fn values_in<'m, 'a>(
+    matches: &'m ArgMatches<'a>,
+    name: &str,
+    none: &'m [&'a str],
+) -> &'m [&'a str]
+    requires { none.now ≡ [] }
+    ensures { texts_in result.now ≡ values_found name.now (found_of matches.now) }
+{
+    matches.get_raw(name).unwrap_or(none)
+}
+
+/// Whether each word is an operand, or one of these options and flags.
+fn are_known(words: &[String], options: &[&str], flags: &[&str]) -> bool
+    ensures { result ≡ are_known (texts_in options.now) (texts_in flags.now) words.now }
+{
+    words
+        .iter()
+        .all(|word| is_known(word.as_str(), options, flags))
+}
+
+/// Whether a word is an operand, or one of these options and flags.
+fn is_known(word: &str, options: &[&str], flags: &[&str]) -> bool
+    ensures { result ≡ is_known (texts_in options.now) (texts_in flags.now) word.now }
+{
+    is_operand(word) || is_known_option(word.as_bytes(), options, flags)
+}
+
+/// Whether a word is one of these options and flags.
+fn is_known_option(word: &[u8], options: &[&str], flags: &[&str]) -> bool
+    ensures { result ≡ is_known_option (texts_in options.now) (texts_in flags.now) word.now }
+{
+    match word {
+        [b'-', b'-', text @ ..] => is_known_at(text, equals_at(text), options, flags),
+        _ => false,
+    }
+}
+
+/// The same of what stands behind its hyphens, by the place of its first `=`.
+fn is_known_at(text: &[u8], equals: Option<usize>, options: &[&str], flags: &[&str]) -> bool
+    requires { equals ≡ equals_at text.now }
+    ensures { result ≡ is_known_at (texts_in options.now) (texts_in flags.now) text.now equals }
+{
+    match equals {
+        Some(at) => is_one_of(options, &text[..at]),
+        None => is_one_of(options, text) || is_one_of(flags, text),
+    }
+}
+
+/// Where the first `=` stands.
+fn equals_at(text: &[u8]) -> Option<usize>
+    ensures { result ≡ equals_at text.now }
+{
+    text.iter().position(|byte| *byte == b'=')
+}
+
+/// Whether a text is one of these names.
+fn is_one_of(names: &[&str], text: &[u8]) -> bool
+    ensures { result ≡ is_one_of (texts_in names.now) text.now }
+{
+    has_name(names, text)
+}
+
+/// The same, as the names are held.
+fn has_name(names: &[&str], text: &[u8]) -> bool
+    ensures { result ≡ has_name names.now text.now }
+{
+    names.iter().any(|name| name.as_bytes() == text)
+}

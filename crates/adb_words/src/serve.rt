@@ -1,0 +1,213 @@
+//! The words of `serve`.
+
+ghost use Rattle.std.specs.Prelude.{◌≡◌, Err, Some, None, IfOk, ok_or, option_map, true};
+ghost use Rattle.clap.specs.Words.{app_of, found_of};
+ghost use Rattle.adb_words.specs.Words.{number_within, texts};
+ghost use Rattle.adb_words.specs.Apps.{serve_app};
+ghost use Rattle.adb_words.specs.Found.{Finds, texts_in, values_found};
+ghost use Rattle.adb_words.specs.Given.{given_in};
+ghost use Rattle.adb_words.specs.Serve.{each_of, flag_of, is_serve, port_of, serial_of};
+ghost use Rattle.adb_words.specs.Serve.{serve_layout, serve_of, served_by, served_in, serving};
+
+use crate::command::{DEFAULT_PORT, MAX_DEVICES, WordsError};
+use crate::given::{bare_command, given_of, values_in, with_flag, with_option};
+use crate::load::number_within;
+use adb_outside::{Text, is_serial};
+use clap::{ArgMatches, Command};
+use std::alloc::{AllocError, Global};
+
+/// What a server is to do.
+#[derive(Drop)]
+pub struct Serve {
+    /// The port that it listens at; 0 lets the system choose.
+    pub port: u16,
+    /// Whether its history goes to standard output.
+    pub records: bool,
+    /// The devices that it makes.
+    pub ports: Ports,
+}
+
+/// The devices that a server makes.
+#[derive(Drop)]
+pub struct Ports {
+    /// The serials of its model devices, in the order of the words.
+    pub devices: Vec<Text>,
+    /// The ports that it dials, each for a device, in the order of the words.
+    pub connects: Vec<u16>,
+}
+
+/// Whether the first word is `serve`. It takes no memory.
+pub fn is_serve(words: &[String]) -> bool
+    ensures { result ≡ is_serve (texts words.now) }
+{
+    match words {
+        [name, ..] => name.as_str() == "serve",
+        [] => false,
+    }
+}
+
+/// The server that the words behind the program's name are. Where memory ran out it may be that
+/// they are none; it is wanted only behind `serve`.
+pub fn read_serve(alloc: Global, words: &[String]) -> Result<Serve, WordsError>
+    ensures serve { IfOk result (λ serve. serve_of (texts words.now) ≡ Some (serving serve)) }
+    ensures usage { result ≡ Err WordsError.Usage → serve_of (texts words.now) ≡ None }
+    ensures named { result ≡ Err WordsError.OutOfMemory → is_serve (texts words.now) ≡ true }
+{
+    let [name, words @ ..] = words else {
+        return Err(WordsError::Usage);
+    };
+    if name.as_str() != "serve" {
+        return Err(WordsError::Usage);
+    }
+    read_behind(alloc, words)
+}
+
+/// The server that the words behind `serve` are.
+fn read_behind(alloc: Global, words: &[String]) -> Result<Serve, WordsError>
+    ensures ok { IfOk result (λ serve.
+        served_in (texts words.now) ≡ Some (serving serve)) }
+    ensures usage { result ≡ Err WordsError.Usage
+        → served_in (texts words.now) ≡ None }
+{
+    match serve_matches(alloc, words) {
+        Ok(matches) => serve_in(alloc, &matches),
+        Err(error) => Err(error),
+    }
+}
+
+/// What the words behind `serve` give. A refusal says that they are none of a server.
+fn serve_matches<'a>(alloc: Global, words: &'a [String]) -> Result<ArgMatches<'a>, WordsError>
+    ensures ok { IfOk result (Finds serve_layout (texts words.entry.now)) }
+    ensures refused { result ≡ Err WordsError.Usage
+        → given_in serve_layout (texts words.entry.now) ≡ None }
+{
+    let Ok(command) = serve_command(alloc) else {
+        return Err(WordsError::OutOfMemory);
+    };
+    given_of(command, &["port", "device", "connect"], &["record"], words)
+}
+
+/// The command that reads them.
+fn serve_command<'a>(alloc: Global) -> Result<Command<'a>, AllocError>
+    ensures { IfOk result (λ command. app_of command ≡ serve_app) }
+{
+    let command = bare_command(alloc, "serve");
+    let command = with_option(alloc, command, "port")?;
+    let command = with_option(alloc, command, "device")?;
+    let command = with_option(alloc, command, "connect")?;
+    with_flag(alloc, command, "record")
+}
+
+/// The server of the values that were found.
+fn serve_in(alloc: Global, matches: &ArgMatches<'_>) -> Result<Serve, WordsError>
+    ensures ok { IfOk result (λ serve.
+        served_by (λ name. values_found name (found_of matches.now)) ≡ Some (serving serve)) }
+    ensures usage { result ≡ Err WordsError.Usage
+        → served_by (λ name. values_found name (found_of matches.now)) ≡ None }
+{
+    let devices = values_in(&*matches, "device", &[]);
+    let connects = values_in(&*matches, "connect", &[]);
+    if devices.len() > MAX_DEVICES || connects.len() > MAX_DEVICES - devices.len() {
+        return Err(WordsError::Usage);
+    }
+    let port = port_in(values_in(&*matches, "port", &[]), 0)?;
+    let records = flag_in(values_in(&*matches, "record", &[]))?;
+    let devices = serials_in(alloc, devices)?;
+    let connects = ports_in(alloc, connects)?;
+    let ports = Ports { devices, connects };
+    Ok(Serve {
+        port,
+        records,
+        ports,
+    })
+}
+
+/// The port that an option gives at most once: a number from `least` on.
+pub fn port_in(texts: &[&str], least: u16) -> Result<u16, WordsError>
+    ensures { result ≡ ok_or (port_of least (texts_in texts.now)) WordsError.Usage }
+{
+    match texts {
+        [] => Ok(DEFAULT_PORT),
+        [text] => port_within(text, least).ok_or(WordsError::Usage),
+        _ => Err(WordsError::Usage),
+    }
+}
+
+/// The port that a text is, from `least` on.
+fn port_within(text: &str, least: u16) -> Option<u16>
+    ensures { result ≡ number_within least 65535 text.now }
+{
+    let port = number_within(text, u64::from(least), u64::from(u16::MAX))?;
+    Some(port as u16)
+}
+
+/// Whether a flag stands, which stands at most once.
+fn flag_in(texts: &[&str]) -> Result<bool, WordsError>
+    ensures { result ≡ ok_or (flag_of (texts_in texts.now)) WordsError.Usage }
+{
+    match texts {
+        [] => Ok(false),
+        [_] => Ok(true),
+        _ => Err(WordsError::Usage),
+    }
+}
+
+/// The serials that texts are.
+fn serials_in(alloc: Global, texts: &[&str]) -> Result<Vec<Text>, WordsError>
+    ensures ok { IfOk result (λ serials.
+        each_of serial_of (texts_in texts.now) ≡ Some serials.items) }
+    ensures usage { result ≡ Err WordsError.Usage
+        → each_of serial_of (texts_in texts.now) ≡ None }
+{
+    let mut serials = Vec::new(alloc);
+    for text in texts {
+        let Some(serial) = serial_word(text) else {
+            return Err(WordsError::Usage);
+        };
+        let serial = Text::from_slice(alloc, serial.as_bytes())?;
+        if serials.push(serial).is_err() {
+            return Err(WordsError::OutOfMemory);
+        }
+    }
+    Ok(serials)
+}
+
+/// The text, where it is a serial.
+fn serial_word<'a>(text: &'a str) -> Option<&'a str>
+    ensures { option_map (λ serial. serial.now) result ≡ serial_of text.entry.now }
+{
+    if !is_serial(text.as_bytes()) {
+        return None;
+    }
+    Some(text)
+}
+
+/// The serial that a text is, in memory of its own.
+pub fn serial_in(alloc: Global, text: &str) -> Result<Text, WordsError>
+    ensures ok { IfOk result (λ serial. serial_of text.now ≡ Some serial) }
+    ensures usage { result ≡ Err WordsError.Usage → serial_of text.now ≡ None }
+{
+    if !is_serial(text.as_bytes()) {
+        return Err(WordsError::Usage);
+    }
+    Ok(Text::from_slice(alloc, text.as_bytes())?)
+}
+
+/// The ports that texts are.
+fn ports_in(alloc: Global, texts: &[&str]) -> Result<Vec<u16>, WordsError>
+    ensures ok { IfOk result (λ ports.
+        each_of (number_within 1 65535) (texts_in texts.now) ≡ Some ports.items) }
+    ensures usage { result ≡ Err WordsError.Usage
+        → each_of (number_within 1 65535) (texts_in texts.now) ≡ None }
+{
+    let mut ports = Vec::new(alloc);
+    for text in texts {
+        let Some(port) = port_within(text, 1) else {
+            return Err(WordsError::Usage);
+        };
+        if ports.push(port).is_err() {
+            return Err(WordsError::OutOfMemory);
+        }
+    }
+    Ok(ports)
+}

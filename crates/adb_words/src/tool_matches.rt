@@ -1,0 +1,102 @@
+//! What the words behind a tool's name give.
+
+ghost use Rattle.std.specs.Prelude.{◌≡◌, Err, None, IfOk};
+ghost use Rattle.clap.specs.Words.{app_of};
+ghost use Rattle.adb_words.specs.Words.{texts};
+ghost use Rattle.adb_words.specs.Apps.{port_app, push_app, serial_app};
+ghost use Rattle.adb_words.specs.Found.{Finds};
+ghost use Rattle.adb_words.specs.Given.{given_in};
+ghost use Rattle.adb_words.specs.Tools.{layout_named, port_layout, push_layout, serial_layout};
+
+use crate::command::WordsError;
+use crate::given::{bare_command, given_of, with_operands, with_option};
+use clap::{ArgMatches, Command};
+use std::alloc::{AllocError, Global};
+
+/// What the words behind a tool's name give. A refusal says that they are none of it.
+pub fn tool_matches<'a>(
+    alloc: Global,
+    name: &'a str,
+    words: &'a [String],
+) -> Result<ArgMatches<'a>, WordsError>
+    ensures ok { IfOk result (Finds (layout_named name.entry.now) (texts words.entry.now)) }
+    ensures refused { result ≡ Err WordsError.Usage
+        → given_in (layout_named name.entry.now) (texts words.entry.now) ≡ None }
+{
+    match name {
+        "push" => push_matches(alloc, words),
+        "pull" | "shell" => serial_matches(alloc, name, words),
+        _ => port_matches(alloc, name, words),
+    }
+}
+
+/// A tool that has a port and operands.
+fn port_matches<'a>(
+    alloc: Global,
+    name: &'a str,
+    words: &'a [String],
+) -> Result<ArgMatches<'a>, WordsError>
+    ensures ok { IfOk result (Finds port_layout (texts words.entry.now)) }
+    ensures refused { result ≡ Err WordsError.Usage
+        → given_in port_layout (texts words.entry.now) ≡ None }
+{
+    let Ok(command) = port_command(alloc, name) else {
+        return Err(WordsError::OutOfMemory);
+    };
+    given_of(command, &["port"], &[], words)
+}
+
+/// A tool that has a port, a serial and operands.
+fn serial_matches<'a>(
+    alloc: Global,
+    name: &'a str,
+    words: &'a [String],
+) -> Result<ArgMatches<'a>, WordsError>
+    ensures ok { IfOk result (Finds serial_layout (texts words.entry.now)) }
+    ensures refused { result ≡ Err WordsError.Usage
+        → given_in serial_layout (texts words.entry.now) ≡ None }
+{
+    let Ok(command) = serial_command(alloc, name) else {
+        return Err(WordsError::OutOfMemory);
+    };
+    given_of(command, &["port", "serial"], &[], words)
+}
+
+/// `push`, which has a port, a serial, a time and operands.
+fn push_matches<'a>(alloc: Global, words: &'a [String]) -> Result<ArgMatches<'a>, WordsError>
+    ensures ok { IfOk result (Finds push_layout (texts words.entry.now)) }
+    ensures refused { result ≡ Err WordsError.Usage
+        → given_in push_layout (texts words.entry.now) ≡ None }
+{
+    let Ok(command) = push_command(alloc) else {
+        return Err(WordsError::OutOfMemory);
+    };
+    given_of(command, &["port", "serial", "mtime"], &[], words)
+}
+
+/// The command that reads a port and operands.
+fn port_command<'a>(alloc: Global, name: &'a str) -> Result<Command<'a>, AllocError>
+    ensures { IfOk result (λ command. app_of command ≡ port_app name.entry.now) }
+{
+    let command = with_option(alloc, bare_command(alloc, name), "port")?;
+    with_operands(alloc, command, "operand")
+}
+
+/// The command that reads a port, a serial and operands.
+fn serial_command<'a>(alloc: Global, name: &'a str) -> Result<Command<'a>, AllocError>
+    ensures { IfOk result (λ command. app_of command ≡ serial_app name.entry.now) }
+{
+    let command = with_option(alloc, bare_command(alloc, name), "port")?;
+    let command = with_option(alloc, command, "serial")?;
+    with_operands(alloc, command, "operand")
+}
+
+/// The command that reads the words of `push`.
+fn push_command<'a>(alloc: Global) -> Result<Command<'a>, AllocError>
+    ensures { IfOk result (λ command. app_of command ≡ push_app) }
+{
+    let command = with_option(alloc, bare_command(alloc, "push"), "port")?;
+    let command = with_option(alloc, command, "serial")?;
+    let command = with_option(alloc, command, "mtime")?;
+    with_operands(alloc, command, "operand")
+}
