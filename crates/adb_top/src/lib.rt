@@ -3,8 +3,6 @@
 
 mod run;
 mod serving;
-#[cfg(test)]
-mod tests;
 mod wanted;
 
 pub use adb_commands::{Status, run_alone, say_out_of_memory, say_record_fault, say_usage};

@@ -1,0 +1,5 @@
+//! The top call over fakes: how a server ends, and what its note then has.
+#![tactic(auto)]
+
+#[cfg(test)]
+mod serves;
