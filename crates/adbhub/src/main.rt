@@ -1,43 +1,25 @@
 //! `adbhub`: the host server of the Android Debug Bridge.
 #![tactic(auto)]
 
-mod devices;
-mod serving;
 mod start;
 mod streams;
 #[cfg(test)]
 mod tests;
 
-use adb_yard::NoYard;
-use serving::serve;
-use start::{are_serve, start, words_of};
+use start::{start, words_of};
 use std::process::ExitCode;
 use std::{env, io};
 use streams::Stream;
 
 /// Runs the words of the command line over the standard streams, and ends with the status's code.
 fn main(rt: HostRuntime) -> ExitCode {
-    let alloc = rt.alloc();
     let mut source = Stream::new(rt.stdin());
     let mut sink = Stream::new(rt.stdout());
     let mut note = Stream::new(rt.stderr());
+    let record = Stream::new(rt.stdout());
     let words = words(&rt);
-    let status = if are_serve(&words) {
-        let record = Stream::new(rt.stdout());
-        serve(rt, alloc, words, &mut source, &mut sink, &mut note, record)
-    } else {
-        let (yard, devices) = (NoYard::new(alloc), Vec::new(alloc));
-        start(
-            rt,
-            alloc,
-            words,
-            &mut source,
-            &mut sink,
-            &mut note,
-            yard,
-            devices,
-        )
-    };
+    let alloc = rt.alloc();
+    let status = start(rt, alloc, words, &mut source, &mut sink, &mut note, record);
     ExitCode::from(status.code())
 }
 

@@ -4,29 +4,39 @@ ghost use Rattle.std.specs.Prelude.{◌≡◌, ◌≢◌, ◌⊎◌, drop, IfErr
 ghost use Rattle.std.specs.IoError.{error_kind};
 ghost use Rattle.adb_commands.specs.Alone.{RunsAlone};
 ghost use Rattle.adb_commands.specs.Notes.{usage_line, out_of_memory_line, IsJust, WritesNote};
-ghost use Rattle.adb_top.specs.Serve.{IsUnheard, Serves};
-ghost use Rattle.adb_words.specs.Serve.{Serving, is_serve, serve_of};
+ghost use Rattle.adb_top.specs.Serve.{IsUnheard};
+ghost use Rattle.adb_words.specs.Serve.{is_serve, serve_of};
 ghost use Rattle.adb_words.specs.Words.{texts};
 
-use adb_device_reader::Device;
 use adb_outside::{Sink, Source};
+use adb_serving::serve_live;
 use adb_top::{Status, run, say_out_of_memory, say_usage};
 use adb_words::is_serve;
-use adb_yard::Yard;
+use adb_yard::NoYard;
 use std::alloc::Global;
 use std::io;
 use std::io::ErrorKind;
+use std::net::{Net, TcpListener, TcpStream};
 use std::sync::Wait;
 use std::thread::Threads;
 
-/// Runs the words of the command line. Where memory was wanting for them nothing is read, nothing
-/// goes out, and the note has the line of that. Where one of them is no text they are no command.
+/// Runs the words of the command line: a server over this machine, whose record goes to a sink of its
+/// own, or a command that serves nobody. Where memory was wanting for the words nothing is read,
+/// nothing goes out, and the note has the line of that. Where one of them is no text they are no
+/// command.
 pub fn start<
-    W: Threads + Wait + Copy + Send + Sync + Drop + 'static,
+    W: Net<Listener = TcpListener, Stream = TcpStream>
+        + Threads
+        + Wait
+        + Copy
+        + Send
+        + Sync
+        + Drop
+        + 'static,
     S: Source,
     K: Sink,
     N: Sink,
-    Y: Yard + 'static,
+    R: Sink + Send + Drop + 'static,
 >(
     rt: W,
     alloc: Global,
@@ -34,8 +44,7 @@ pub fn start<
     source: &mut S,
     sink: &mut K,
     note: &mut N,
-    yard: Y,
-    devices: Vec<Device>,
+    record: R,
 ) -> Status
     // Words that are there are run: a command that serves nobody,
     ensures alone { IfOk words (λ list. is_serve (texts list.items) ≡ false
@@ -45,13 +54,13 @@ pub fn start<
         (record { told = N.written; faults = N.faults; steady = N.steady })
         source.old source.new sink.old sink.new note.old note.new) }
 
-    // or a server.
+    // or a server, which reads nothing and writes to the note and to its record alone.
+    ensures serves { IfOk words (λ list. is_serve (texts list.items) ≡ true
+        → (source.new ≡ source.old) × (sink.new ≡ sink.old)) }
     ensures usage { IfOk words (λ list. is_serve (texts list.items) ≡ true
         → serve_of (texts list.items) ≡ None → IsUnheard result) }
-    ensures serves { IfOk words (λ list. (asked : Serving)
-        → serve_of (texts list.items) ≡ Some asked
-        → Serves asked result (Y.steady yard) (Y.lasting yard)
-        N.steady N.faults N.written note.old note.new) }
+    ensures command { IfOk words (λ list. is_serve (texts list.items) ≡ true
+        → result ≡ Status.Usage → serve_of (texts list.items) ≡ None) }
 
     // Where they are not there, nothing is read and nothing goes out, and the note says why: want
     // of memory, or that they are no command.
@@ -68,26 +77,24 @@ pub fn start<
         N.faults N.written note.old note.new) }
 {
     match words {
-        Ok(words) => run(
-            rt,
-            alloc,
-            words.as_slice(),
-            source,
-            sink,
-            note,
-            yard,
-            devices,
-        ),
+        Ok(words) if is_serve(words.as_slice()) => {
+            serve_live(rt, alloc, words.as_slice(), source, sink, note, record)
+        }
+        Ok(words) => {
+            let (yard, devices) = (NoYard::new(alloc), Vec::new(alloc));
+            run(
+                rt,
+                alloc,
+                words.as_slice(),
+                source,
+                sink,
+                note,
+                yard,
+                devices,
+            )
+        }
         Err(error) if error.kind() == ErrorKind::OutOfMemory => say_out_of_memory(note),
         Err(_) => say_usage(note),
-    }
-}
-
-/// Whether words that are there begin with `serve`.
-pub fn are_serve(words: &io::Result<Vec<String>>) -> bool {
-    match words {
-        Ok(words) => is_serve(words.as_slice()),
-        Err(_) => false,
     }
 }
 

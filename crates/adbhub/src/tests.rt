@@ -2,9 +2,8 @@ ghost use Rattle.std.specs.Prelude.{◌≤◌, IfOk};
 
 use crate::start::start;
 use crate::streams::Stream;
-use adb_outside::{Got, MemorySink, MemorySource, Sink, Source, Text, Wrote};
+use adb_outside::{Got, MemorySink, MemorySource, NeverSink, Sink, Source, Text, Wrote};
 use adb_top::Status;
-use adb_yard::NoYard;
 use std::alloc::{AllocError, Global};
 use std::io;
 use std::io::{ErrorKind, Read, Write};
@@ -150,8 +149,7 @@ fn words_of_a_run(rt: HostRuntime) -> Result<(), Fail> {
                 &mut source,
                 &mut sink,
                 &mut note,
-                NoYard::new(alloc),
-                Vec::new(alloc)
+                NeverSink::new()
             ),
             status
         );
