@@ -2,4 +2,12 @@
 #![tactic(auto)]
 
 #[cfg(test)]
+mod asking;
+#[cfg(test)]
+mod heard;
+#[cfg(test)]
+mod live;
+#[cfg(test)]
+mod replaying;
+#[cfg(test)]
 mod yard;
