@@ -89,7 +89,7 @@ const CONVERSATIONS: &[Conversation] = &[
 
 /// The request for a forward of any port to the echo of the device.
 const FORWARD: Step = Step {
-    sends: b"0028host-serial:model-1:forward:tcp:0;echo:",
+    sends: b"0027host-serial:model-1:forward:tcp:0;echo:",
     hears: b"OKAYOKAY",
 };
 
