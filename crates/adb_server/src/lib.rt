@@ -7,8 +7,6 @@ mod kit;
 mod listening;
 mod plugging;
 mod server;
-#[cfg(test)]
-mod tests;
 mod work;
 
 pub use server::{Served, serve};

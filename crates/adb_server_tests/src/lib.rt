@@ -1,6 +1,8 @@
-//! Worked rows of the workers over a hall that tells its history, and of devices of a server.
+//! The server and its workers over fakes: what no clause says.
 #![tactic(auto)]
 
+#[cfg(test)]
+mod clients;
 #[cfg(test)]
 mod devices;
 #[cfg(test)]

@@ -1,4 +1,4 @@
-use Rattle.adb_rows.proofs.over_one_desk.stands.Given as goal
+use Rattle.adb_server_tests.proofs.over_one_desk.stands.Given as goal
 
 abbrev pub ghosts-tried-E-Ledger : goal.ghosts-tried-E-Ledger
 ghosts-tried-E-Ledger g a = record { name = a.entries.name; parts = a.entries.parts }

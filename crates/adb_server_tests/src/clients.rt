@@ -1,10 +1,10 @@
 //! A server over fakes: clients in order and at the same time, and what becomes of each failure.
 
-use crate::{Served, serve};
 use adb_connections::Place;
 use adb_device_reader::Device;
 use adb_fakes::{FakeYard, Kept, Sent, Wrong};
 use adb_outside::MemorySink;
+use adb_server::{Served, serve};
 use std::alloc::{AllocError, Global};
 use std::sync::Wait;
 use std::test::Fail;
