@@ -18,7 +18,7 @@ use Rattle.adb_remote_words.specs.Words.{begins_okay, client_words, okays_at, re
 use Rattle.adb_remote.specs.declared.sending.SendError.{SendError}
 use Rattle.adb_remote.specs.declared.sending.SendError.TheVariants.{PortFault, OutOfMemory}
 use Rattle.adb_remote.specs.Sending.{Outlet, Sends, SaysTo}
-use Rattle.adb_remote.specs.Conversing.{Inlet, Ports, Calls, inlet, is_empty, ports_of, Took, TakesPiece, Turned, Turns}
+use Rattle.adb_remote.specs.Conversing.{Inlet, Ports, Calls, inlet, is_empty, ports_of, CutsShort, SaysWords, Took, TakesPiece, Turned, Turns}
 use Rattle.adb_remote.proofs.Writes.{words_grow}
 
 -- ---- the words that are due become more
@@ -62,14 +62,15 @@ module _ {A : Type 0} (steady : A → Type 0) (view : A → Outlet) (job : Remot
   -- memory ran out before anything was written
   pub piece_starved : (o : A) → TakesPiece steady view job on piece o o before after (Err OutOfMemory)
   piece_starved o = record {
-    told = λ read out stands is. record {
-      said = client_words job on read;
-      written_is = is;
-      part = words_front steady view job on read piece;
-      whole = inr (inr refl);
-      done = λ step e. cc;
+    told = λ read stands. record {
       now = λ step e. cc;
       stands = λ e. cc;
+      says = λ out is. record {
+        said = client_words job on read;
+        written_is = is;
+        part = words_front steady view job on read piece;
+        whole = inr tt;
+      };
     };
     count = omega arith;
     fault = λ e. cc;
@@ -79,11 +80,11 @@ module _ {A : Type 0} (steady : A → Type 0) (view : A → Outlet) (job : Remot
   }
 
   -- the words were written, or not all
-  took : (read out : List ℕ) (old new : A) (step : Step Outcome) (answer : Result ⊤ SendError) → ReadingStands job read before
+  words_said : (read out : List ℕ) (old new : A) (step : Step Outcome) (answer : Result ⊤ SendError) → ReadingStands job read before
       → HasRead job (read ++ piece) step after → SaysTo steady view job on before.opening.okays after.opening.okays old new answer
       → (view old).written ≡ Some (out ++ client_words job on read)
-      → Took job on (read ++ piece) out (view new).written (view old).faults (view new).faults after (carried answer step)
-  took read out old new step answer stands has says is =
+      → SaysWords job on (read ++ piece) out (view new).written (CutsShort (carried answer step) (view old).faults (view new).faults)
+  words_said read out old new step answer stands has says is =
       let from = before.opening.okays in
       let to = after.opening.okays in
       let less : from ≤ to = omega (arith, stands.okays, has.okays, okays_grow (requests job) read piece) in
@@ -99,21 +100,24 @@ module _ {A : Type 0} (steady : A → Type 0) (view : A → Outlet) (job : Remot
           append_assoc (words_to job on from) went.said went.part.0 ∙ (ap (λ t. words_to job on from ++ t) went.part.1 ∙ all),
         );
         whole = whole_of answer says.sends.fault (λ e. ap (λ t. words_to job on from ++ t) (went.whole e) ∙ all);
-        done = λ s e. ap (λ t. words_to job on from ++ t) (went.whole (said_ok answer s e)) ∙ all;
-        now = λ s e. same_step answer s e ∙ has.now;
-        stands = λ e. has.stands (sym (same_step answer steps.More e));
       }
     where
       whole_of : {W : Type 0} (a : Result ⊤ SendError) → (a ≡ Err PortFault → Rises (view old).faults (view new).faults) → (a ≡ Ok tt → W)
-          → W ⊎ Rises (view old).faults (view new).faults ⊎ (carried a step ≡ Err OutOfMemory)
+          → W ⊎ CutsShort (carried a step) (view old).faults (view new).faults
       whole_of (Ok done) fault said = inl (said refl)
-      whole_of (Err PortFault) fault said = inr (inl (fault refl))
-      whole_of (Err OutOfMemory) fault said = inr (inr refl)
+      whole_of (Err PortFault) fault said = inr (fault refl)
+      whole_of (Err OutOfMemory) fault said = inr tt
 
-      said_ok : (a : Result ⊤ SendError) (s : Step Outcome) → carried a step ≡ Ok s → a ≡ Ok tt
-      said_ok (Ok done) s e = refl
-      said_ok (Err error) s e = cc
-
+  took : (read : List ℕ) (old new : A) (step : Step Outcome) (answer : Result ⊤ SendError) → ReadingStands job read before
+      → HasRead job (read ++ piece) step after → SaysTo steady view job on before.opening.okays after.opening.okays old new answer
+      → Took job on (read ++ piece) (λ out. (view old).written ≡ Some (out ++ client_words job on read)) (view new).written
+      (CutsShort (carried answer step) (view old).faults (view new).faults) after (carried answer step)
+  took read old new step answer stands has says = record {
+    now = λ s e. same_step answer s e ∙ has.now;
+    stands = λ e. has.stands (sym (same_step answer steps.More e));
+    says = λ out is. words_said read out old new step answer stands has says is;
+  }
+    where
       same_step : (a : Result ⊤ SendError) (s : Step Outcome) → carried a step ≡ Ok s → s ≡ step
       same_step (Ok done) s e = cc
       same_step (Err error) s e = cc
@@ -123,7 +127,7 @@ module _ {A : Type 0} (steady : A → Type 0) (view : A → Outlet) (job : Remot
       → SaysTo steady view job on before.opening.okays after.opening.okays old new answer
       → TakesPiece steady view job on piece old new before after (carried answer step)
   piece_said old new step answer reads says = record {
-    told = λ read out stands is. took read out old new step answer stands (reads read stands) says is;
+    told = λ read stands. took read old new step answer stands (reads read stands) says;
     count = says.sends.count;
     fault = λ e. says.sends.fault (port_failed answer e);
     keeps = says.sends.keeps;
@@ -147,32 +151,38 @@ module _ {I O : Type 0} (steady_in : I → Type 0) (faults : I → ℕ) (left : 
   abbrev ports : Ports I O
   ports = ports_of steady_in (inlet faults left) steady view
 
+  -- all was said, and nothing more
+  says_all : {short : Type 0} (read out : List ℕ) (o : O) → (view o).written ≡ Some (out ++ client_words job on read)
+      → SaysWords job on read out (view o).written short
+  says_all read out o is = record {
+    said = client_words job on read;
+    written_is = is;
+    part = ([], append-nil (client_words job on read));
+    whole = inl refl;
+  }
+
   -- bytes came
   pub turn_bytes : (n : ℕ) (buffer : List ℕ) (out_old out_new : O) (after : HeldAnswer) (answer : Result (Step Outcome) SendError)
       → TellsRead (left in_old) (left in_new) buffer (gots.Bytes n) → Counts steady_in faults in_old in_new false
       → TakesPiece steady view job on (take n buffer) out_old out_new before after answer
       → Turns ports job on in_old in_new out_old out_new before after answer
   turn_bytes n buffer out_old out_new after answer tells counts piece = record {
-    told = λ read rest out stands left_is is.
+    told = λ read rest stands left_is.
         let t = tells rest left_is in
-        let k = piece.told read out stands is in
+        let k = piece.told read stands in
         let all : (read ++ take n buffer) ++ drop n rest ≡ read ++ rest =
         append_assoc read (take n buffer) (drop n rest)
         ∙ (ap (λ b. read ++ (b ++ drop n rest)) t.front ∙ ap (λ b. read ++ b) (take-append-drop n rest)) in
         record {
           read = read ++ take n buffer;
           rest = drop n rest;
-          said = k.said;
           left_is = t.rest;
           taken = sym all;
-          written_is = k.written_is;
-          part = k.part;
-          whole = k.whole;
-          done = k.done;
           outcome = λ step e some.
               ap (λ s. decided s (length (read ++ take n buffer)) (is_empty (drop n rest))) (sym (k.now step e))
               ∙ decided_same step (length (read ++ take n buffer)) 0 (is_empty (drop n rest)) false some;
           stands = k.stands;
+          says = k.says;
         };
     calls = record {
       count_in = counts.count;
@@ -190,24 +200,20 @@ module _ {I O : Type 0} (steady_in : I → Type 0) (faults : I → ℕ) (left : 
       → Counts steady_in faults in_old in_new false
       → Turns ports job on in_old in_new o o before before (Ok (steps.BadAnswer count))
   turn_end buffer o count counted tells counts = record {
-    told = λ read rest out stands left_is is.
+    told = λ read rest stands left_is.
         let t = tells rest left_is in
         record {
           read = read;
           rest = [];
-          said = client_words job on read;
           left_is = t.1;
           taken = ap (λ r. read ++ r) t.0;
-          written_is = is;
-          part = ([], append-nil (client_words job on read));
-          whole = inl refl;
-          done = λ step e. refl;
           outcome = λ step e some.
               let same : steps.BadAnswer count ≡ step = cc in
               let size : length read ≡ count = sym stands.count ∙ sym counted in
               ap (λ s. decided s (length read) true) stands.undecided
               ∙ (ap (λ k. decided (steps.BadAnswer k) 0 false) size ∙ ap (λ s. decided s 0 false) same);
           stands = λ e. cc;
+          says = λ out is. says_all read out o is;
         };
     calls = record {
       count_in = counts.count;
@@ -224,18 +230,14 @@ module _ {I O : Type 0} (steady_in : I → Type 0) (faults : I → ℕ) (left : 
   pub turn_failed : (buffer : List ℕ) (o : O) → TellsRead (left in_old) (left in_new) buffer gots.Failed → Counts steady_in faults in_old in_new true
       → Turns ports job on in_old in_new o o before before (Err PortFault)
   turn_failed buffer o tells counts = record {
-    told = λ read rest out stands left_is is. record {
+    told = λ read rest stands left_is. record {
       read = read;
       rest = rest;
-      said = client_words job on read;
       left_is = tells rest left_is;
       taken = refl;
-      written_is = is;
-      part = ([], append-nil (client_words job on read));
-      whole = inl refl;
-      done = λ step e. cc;
       outcome = λ step e. cc;
       stands = λ e. cc;
+      says = λ out is. says_all read out o is;
     };
     calls = record {
       count_in = counts.count;

@@ -16,7 +16,7 @@ use Rattle.adb_remote_words.specs.Words.{client_words, word}
 use Rattle.adb_remote.specs.declared.sending.SendError.{SendError}
 use Rattle.adb_remote.specs.declared.sending.SendError.TheVariants.{PortFault, OutOfMemory}
 use Rattle.adb_remote.specs.Sending.{Sends, remote_error}
-use Rattle.adb_remote.specs.Conversing.{Ports, Calls, Conversed, Converses, Listens, Turns}
+use Rattle.adb_remote.specs.Conversing.{Ports, Calls, Conversed, Converses, CutsShort, IsCutShort, Listens, SaysWords, Turns}
 use Rattle.adb_remote.proofs.Writes.{rises_later}
 
 pub first_due : (job : Remote) (on : Option (List ℕ)) → client_words job on [] ≡ word job on 0
@@ -29,6 +29,16 @@ first_due (Shell command) on = refl
 port_error : (e : SendError) → ◌≡◌ {A = Result Outcome RemoteError} (Err (remote_error e)) (Err errors.PortFault) → e ≡ PortFault
 port_error PortFault e = refl
 port_error OutOfMemory e = cc
+
+neither : (e : SendError) → ◌≢◌ {A = Result Outcome RemoteError} (Err (remote_error e)) (Err errors.PortFault)
+    → ◌≢◌ {A = Result Outcome RemoteError} (Err (remote_error e)) (Err errors.OutOfMemory) → ⊥
+neither PortFault a b = a refl
+neither OutOfMemory a b = b refl
+
+-- nothing cut the words short
+all_said : {W : Type 0} → W ⊎ ⊥ → W
+all_said (inl w) = w
+all_said (inr none) = absurd none
 
 module _ {I O : Type 0} (ports : Ports I O) where
   -- ---- calls one behind the other
@@ -85,28 +95,30 @@ module _ {I O : Type 0} (ports : Ports I O) where
 
   module _ (job : Remote) (on : Option (List ℕ)) where
     -- ---- while nothing is decided
-    pub record Talking (coming out : List ℕ) (left written : Option (List ℕ)) (r : HeldAnswer) : Type 0 where
+    pub record Talking (coming : List ℕ) (left : Option (List ℕ)) (had : List ℕ → Type 0) (written : Option (List ℕ)) (r : HeldAnswer)
+        : Type 0 where
       pub read : List ℕ
       pub rest : List ℕ
       pub left_is : left ≡ Some rest
       pub taken : coming ≡ read ++ rest
-      pub written_is : written ≡ Some (out ++ client_words job on read)
       pub stands : ReadingStands job read r
+      pub says : (out : List ℕ) → had out → written ≡ Some (out ++ client_words job on read)
 
     pub record TalksSo (i j : I) (o p : O) (r : HeldAnswer) : Type 0 where
-      pub told : (coming out : List ℕ) → (ports.view_in i).left ≡ Some coming → (ports.view_out o).written ≡ Some (out ++ client_words job on [])
-          → Talking coming out (ports.view_in j).left (ports.view_out p).written r
+      pub told : (coming : List ℕ) → (ports.view_in i).left ≡ Some coming
+          → Talking coming (ports.view_in j).left (λ out. (ports.view_out o).written ≡ Some (out ++ client_words job on []))
+          (ports.view_out p).written r
       pub calls : Calls ports i j o p ⊥
 
     pub talks_first : (i : I) (o : O) (r : HeldAnswer) → ReadingStands job [] r → TalksSo i i o o r
     talks_first i o r stands = record {
-      told = λ coming out left_is is. record {
+      told = λ coming left_is. record {
         read = [];
         rest = coming;
         left_is = left_is;
         taken = refl;
-        written_is = is;
         stands = stands;
+        says = λ out is. is;
       };
       calls = calls_none i o;
     }
@@ -114,16 +126,18 @@ module _ {I O : Type 0} (ports : Ports I O) where
     module _ (i j k : I) (o p q : O) (r s : HeldAnswer) (talks : TalksSo i j o p r) where
       pub talks_on : Turns ports job on j k p q r s (Ok More) → TalksSo i k o q s
       talks_on turn = record {
-        told = λ coming out left_is is.
-            let t = talks.told coming out left_is is in
-            let n = turn.told t.read t.rest out t.stands t.left_is t.written_is in
+        told = λ coming left_is.
+            let t = talks.told coming left_is in
+            let n = turn.told t.read t.rest t.stands t.left_is in
             record {
               read = n.read;
               rest = n.rest;
               left_is = n.left_is;
               taken = t.taken ∙ n.taken;
-              written_is = n.written_is ∙ ap (λ w. Some (out ++ w)) (n.done More refl);
               stands = n.stands refl;
+              says = λ out was.
+                  let w = n.says out (t.says out was) in
+                  w.written_is ∙ ap (λ w. Some (out ++ w)) (all_said w.whole);
             };
         calls = calls_then i j k o p q ⊥ talks.calls
             (calls_so j k p q (Ok More ≡ Err PortFault) ⊥ (λ e. absurd e) turn.calls);
@@ -132,19 +146,18 @@ module _ {I O : Type 0} (ports : Ports I O) where
       pub talks_done : (step : Step Outcome) (result : Result Outcome RemoteError) → Turns ports job on j k p q r s (Ok step) → step ≢ More
           → decided step 0 false ≡ Some result → (result ≡ Err errors.PortFault → ⊥) → Listens ports job on i k o q result
       talks_done step result turn some is no_fault = record {
-        told = λ coming out left_is was.
-            let t = talks.told coming out left_is was in
-            let n = turn.told t.read t.rest out t.stands t.left_is t.written_is in
+        told = λ coming left_is.
+            let t = talks.told coming left_is in
+            let n = turn.told t.read t.rest t.stands t.left_is in
             record {
               read = n.read;
               rest = n.rest;
-              said = n.said;
               left_is = n.left_is;
               taken = t.taken ∙ n.taken;
-              written_is = n.written_is;
-              part = n.part;
-              whole = inl (n.done step refl);
               outcome = λ a b. n.outcome step refl some ∙ is;
+              says = λ out was.
+                  let w = n.says out (t.says out was) in
+                  record { said = w.said; written_is = w.written_is; part = w.part; whole = inl (all_said w.whole) };
             };
         calls = calls_then i j k o p q (result ≡ Err errors.PortFault) talks.calls
             (calls_so j k p q (Ok step ≡ Err PortFault) (result ≡ Err errors.PortFault) (λ e. absurd (no_fault e)) turn.calls);
@@ -152,37 +165,30 @@ module _ {I O : Type 0} (ports : Ports I O) where
 
       pub talks_failed : (e : SendError) → Turns ports job on j k p q r s (Err e) → Listens ports job on i k o q (Err (remote_error e))
       talks_failed e turn = record {
-        told = λ coming out left_is was.
-            let t = talks.told coming out left_is was in
-            let n = turn.told t.read t.rest out t.stands t.left_is t.written_is in
+        told = λ coming left_is.
+            let t = talks.told coming left_is in
+            let n = turn.told t.read t.rest t.stands t.left_is in
             record {
               read = n.read;
               rest = n.rest;
-              said = n.said;
               left_is = n.left_is;
               taken = t.taken ∙ n.taken;
-              written_is = n.written_is;
-              part = n.part;
-              whole = whole_of e n.whole;
               outcome = λ a b. absurd (neither e a b);
+              says = λ out was.
+                  let w = n.says out (t.says out was) in
+                  record { said = w.said; written_is = w.written_is; part = w.part; whole = whole_of e w.whole };
             };
         calls = calls_then i j k o p q (Err (remote_error e) ≡ Err errors.PortFault) talks.calls
             (calls_so j k p q (Err e ≡ Err PortFault) (Err (remote_error e) ≡ Err errors.PortFault) (λ is. ap Err (port_error e is)) turn.calls);
       }
         where
-          whole_of : {W : Type 0} (e : SendError) → W ⊎ Rises (ports.view_out p).faults (ports.view_out q).faults
-              ⊎ (◌≡◌ {A = Result (Step Outcome) SendError} (Err e) (Err OutOfMemory))
-              → W ⊎ Rises (ports.view_out o).faults (ports.view_out q).faults
-              ⊎ (◌≡◌ {A = Result Outcome RemoteError} (Err (remote_error e)) (Err errors.OutOfMemory))
+          whole_of : {W : Type 0} (e : SendError)
+              → W ⊎ CutsShort {A = Step Outcome} (Err e) (ports.view_out p).faults (ports.view_out q).faults
+              → W ⊎ IsCutShort (ports.view_out o).faults (ports.view_out q).faults (Err (remote_error e))
           whole_of e (inl w) = inl w
-          whole_of e (inr (inl x)) = inr (inl (rises_later (ports.view_out o).faults (ports.view_out p).faults (ports.view_out q).faults talks.calls.count_out x))
-          whole_of OutOfMemory (inr (inr y)) = inr (inr refl)
-          whole_of PortFault (inr (inr y)) = cc
-
-          neither : (e : SendError) → ◌≢◌ {A = Result Outcome RemoteError} (Err (remote_error e)) (Err errors.PortFault)
-              → ◌≢◌ {A = Result Outcome RemoteError} (Err (remote_error e)) (Err errors.OutOfMemory) → ⊥
-          neither PortFault a b = a refl
-          neither OutOfMemory a b = b refl
+          whole_of PortFault (inr x) =
+              inr (inl (rises_later (ports.view_out o).faults (ports.view_out p).faults (ports.view_out q).faults talks.calls.count_out x))
+          whole_of OutOfMemory (inr y) = inr (inr refl)
 
     -- ---- the first request
     module _ (i : I) (o p : O) where
@@ -191,51 +197,49 @@ module _ {I O : Type 0} (ports : Ports I O) where
 
       pub first_failed : (e : SendError) → S (Err e) → Converses ports job on i i o p (Err (remote_error e))
       first_failed e s = record {
-        told = λ coming out left_is is.
-            let went = s.told out is in
-            record {
-              read = [];
-              rest = coming;
-              said = went.said;
-              left_is = left_is;
-              taken = refl;
-              written_is = went.after_is;
-              part = (went.part.0, went.part.1 ∙ sym (first_due job on));
-              whole = whole_of e s.fault;
-              outcome = λ a b. absurd (neither e a b);
-            };
+        told = λ coming left_is. record {
+          read = [];
+          rest = coming;
+          left_is = left_is;
+          taken = refl;
+          outcome = λ a b. absurd (neither e a b);
+          says = λ out is.
+              let went = s.told out is in
+              record {
+                said = went.said;
+                written_is = went.after_is;
+                part = (went.part.0, went.part.1 ∙ sym (first_due job on));
+                whole = inr (short e s.fault);
+              };
+        };
         calls = calls_so i i o p (Err e ≡ Err PortFault) (Err (remote_error e) ≡ Err errors.PortFault) (λ is. ap Err (port_error e is))
             (calls_sent i o p (word job on 0) (Err e) s);
       }
         where
-          whole_of : {W : Type 0} (e : SendError)
+          short : (e : SendError)
               → (◌≡◌ {A = Result ⊤ SendError} (Err e) (Err PortFault) → Rises (ports.view_out o).faults (ports.view_out p).faults)
-              → W ⊎ Rises (ports.view_out o).faults (ports.view_out p).faults
-              ⊎ (◌≡◌ {A = Result Outcome RemoteError} (Err (remote_error e)) (Err errors.OutOfMemory))
-          whole_of PortFault fault = inr (inl (fault refl))
-          whole_of OutOfMemory fault = inr (inr refl)
-
-          neither : (e : SendError) → ◌≢◌ {A = Result Outcome RemoteError} (Err (remote_error e)) (Err errors.PortFault)
-              → ◌≢◌ {A = Result Outcome RemoteError} (Err (remote_error e)) (Err errors.OutOfMemory) → ⊥
-          neither PortFault a b = a refl
-          neither OutOfMemory a b = b refl
+              → IsCutShort (ports.view_out o).faults (ports.view_out p).faults (Err (remote_error e))
+          short PortFault fault = inl (fault refl)
+          short OutOfMemory fault = inr refl
 
       pub first_starved : S (Ok tt) → Converses ports job on i i o p (Err errors.OutOfMemory)
       first_starved s = record {
-        told = λ coming out left_is is.
-            let went = s.told out is in
-            let said : went.said ≡ client_words job on [] = went.whole refl ∙ sym (first_due job on) in
-            record {
-              read = [];
-              rest = coming;
-              said = went.said;
-              left_is = left_is;
-              taken = refl;
-              written_is = went.after_is;
-              part = ([], append-nil went.said ∙ said);
-              whole = inl said;
-              outcome = λ a b. absurd (b refl);
-            };
+        told = λ coming left_is. record {
+          read = [];
+          rest = coming;
+          left_is = left_is;
+          taken = refl;
+          outcome = λ a b. absurd (b refl);
+          says = λ out is.
+              let went = s.told out is in
+              let said : went.said ≡ client_words job on [] = went.whole refl ∙ sym (first_due job on) in
+              record {
+                said = went.said;
+                written_is = went.after_is;
+                part = ([], append-nil went.said ∙ said);
+                whole = inl said;
+              };
+        };
         calls = calls_so i i o p (Ok tt ≡ Err PortFault) (Err errors.OutOfMemory ≡ Err errors.PortFault) (λ e. cc)
             (calls_sent i o p (word job on 0) (Ok tt) s);
       }
@@ -243,28 +247,27 @@ module _ {I O : Type 0} (ports : Ports I O) where
       pub first_said : (k : I) (q : O) (result : Result Outcome RemoteError) → S (Ok tt) → Listens ports job on i k p q result
           → Converses ports job on i k o q result
       first_said k q result s l = record {
-        told = λ coming out left_is is.
-            let went = s.told out is in
-            let there : (ports.view_out p).written ≡ Some (out ++ client_words job on []) =
-            went.after_is ∙ ap (λ w. Some (out ++ w)) (went.whole refl ∙ sym (first_due job on)) in
-            let n = l.told coming out left_is there in
+        told = λ coming left_is.
+            let n = l.told coming left_is in
             record {
               read = n.read;
               rest = n.rest;
-              said = n.said;
               left_is = n.left_is;
               taken = n.taken;
-              written_is = n.written_is;
-              part = n.part;
-              whole = later n.whole;
               outcome = n.outcome;
+              says = λ out is.
+                  let went = s.told out is in
+                  let there : (ports.view_out p).written ≡ Some (out ++ client_words job on []) =
+                  went.after_is ∙ ap (λ w. Some (out ++ w)) (went.whole refl ∙ sym (first_due job on)) in
+                  let w = n.says out there in
+                  record { said = w.said; written_is = w.written_is; part = w.part; whole = later w.whole };
             };
         calls = calls_then i i k o p q (result ≡ Err errors.PortFault)
             (calls_so i i o p (Ok tt ≡ Err PortFault) ⊥ (λ e. absurd e) (calls_sent i o p (word job on 0) (Ok tt) s)) l.calls;
       }
         where
-          later : {W M : Type 0} → W ⊎ Rises (ports.view_out p).faults (ports.view_out q).faults ⊎ M
-              → W ⊎ Rises (ports.view_out o).faults (ports.view_out q).faults ⊎ M
+          later : {W : Type 0} → W ⊎ IsCutShort (ports.view_out p).faults (ports.view_out q).faults result
+              → W ⊎ IsCutShort (ports.view_out o).faults (ports.view_out q).faults result
           later (inl w) = inl w
           later (inr (inl x)) = inr (inl (rises_later (ports.view_out o).faults (ports.view_out p).faults (ports.view_out q).faults s.count x))
           later (inr (inr m)) = inr (inr m)

@@ -5,8 +5,6 @@
 mod conversing;
 mod saying;
 mod sending;
-#[cfg(test)]
-mod tests;
 mod turning;
 
 pub use adb_remote_words::{MAX_ANSWER, MAX_WORD, Outcome, Remote, RemoteError};

@@ -7,8 +7,6 @@ mod head;
 mod laws;
 mod packets;
 mod place;
-#[cfg(test)]
-mod tests;
 
 pub use frame::{EXIT, Frame, STDERR, STDOUT};
 pub use head::{Awaited, Head};

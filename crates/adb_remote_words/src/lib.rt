@@ -9,8 +9,6 @@ mod opening;
 mod reading;
 mod remote;
 mod step;
-#[cfg(test)]
-mod tests;
 mod told;
 mod words;
 

@@ -1,7 +1,7 @@
 //! Fronts against values that were worked out by hand.
 
-use crate::{Awaited, Place};
 use adb_outside::{Format, Front};
+use adb_remote_frames::{Awaited, Place};
 use std::test::Fail;
 
 /// What bytes at offset 8 begin with.

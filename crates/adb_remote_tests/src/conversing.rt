@@ -3,9 +3,9 @@
 ghost use Rattle.std.specs.Prelude.{◌≤◌, IfOk};
 ghost use Rattle.adb_remote_words.specs.Words.{HasWords};
 
-use crate::{Outcome, Remote, RemoteError, converse};
 use adb_connections::{MemoryIn, MemoryOut};
 use adb_outside::Text;
+use adb_remote::{Outcome, Remote, RemoteError, converse};
 use std::alloc::{AllocError, Global};
 use std::sync::Wait;
 use std::test::Fail;
@@ -68,17 +68,9 @@ const ROWS: &[Row] = &[
     ),
     (
         's',
-        b"OKAYOKAY\x01\x03\0\0\0hi\n\x03\x01\0\0\0\0",
+        b"OKAYOKAY\x01\x03\0\0\0hi\n\x02\x01\0\0\0!\x03\x01\0\0\0\x07",
         b"0012host:transport-any0014shell,v2,raw:echo hi\x04\0\0\0\0",
-        ('s', 3),
-    ),
-    ('d', b"OKAX", b"000chost:devices", ('b', 3)),
-    ('d', b"OKAY000c", b"000chost:devices", ('b', 8)),
-    (
-        'g',
-        b"OKAYFAIL0006closed",
-        b"0012host:transport-any0005sync:",
-        ('r', 6),
+        ('s', 703),
     ),
     (
         'p',
@@ -95,8 +87,29 @@ const ROWS: &[Row] = &[
     (
         'w',
         b"OKAY0000000ax\toffline\n0009x\tdevice\n",
-        b"0016host:track-devices",
+        b"0012host:track-devices",
         ('y', 0),
+    ),
+    ('d', b"OKAX", b"000chost:devices", ('b', 3)),
+    ('d', b"OKAY000c", b"000chost:devices", ('b', 8)),
+    ('d', b"FAIL0002no", b"000chost:devices", ('r', 2)),
+    (
+        's',
+        b"OKAYOKAY\x01\x03\0\0\0hi\n",
+        b"0012host:transport-any0014shell,v2,raw:echo hi\x04\0\0\0\0",
+        ('b', 16),
+    ),
+    (
+        'g',
+        b"OKAYFAIL0006closed",
+        b"0012host:transport-any0005sync:",
+        ('r', 6),
+    ),
+    (
+        'g',
+        b"OKAYOKAYFAIL\x02\0\0\0no",
+        b"0012host:transport-any0005sync:RECV\x02\0\0\0/a",
+        ('r', 2),
     ),
 ];
 
@@ -127,12 +140,17 @@ fn is_refused<W: Wait + Copy + Drop>(rt: W, alloc: Global) -> Result<bool, Alloc
     Ok(shown(&answer) == ('r', 20) && output.bytes() == b"0010host:transport:x".as_slice())
 }
 
-/// Whether a read that fails is told as such.
-fn is_fault<W: Wait + Copy + Drop>(rt: W, alloc: Global) -> Result<bool, AllocError> {
-    let job = job(alloc, 'd')?;
-    let answer = Text::from_slice(alloc, b"OKAY")?;
-    let mut input = MemoryIn::new(answer, 1, Vec::from_slice(alloc, &[2])?);
-    let mut output = MemoryOut::new(alloc, Vec::new(alloc));
+/// Whether the port's fault is told where this read, or this write, fails of a pull.
+fn is_fault<W: Wait + Copy + Drop>(
+    rt: W,
+    alloc: Global,
+    read: u64,
+    write: u64,
+) -> Result<bool, AllocError> {
+    let job = job(alloc, 'g')?;
+    let answer = Text::from_slice(alloc, b"OKAYOKAYDONE\0\0\0\0")?;
+    let mut input = MemoryIn::new(answer, 1, Vec::from_slice(alloc, &[read])?);
+    let mut output = MemoryOut::new(alloc, Vec::from_slice(alloc, &[write])?);
     let answer = converse(rt, alloc, &job, None, &mut input, &mut output);
     Ok(shown(&answer) == ('f', 0))
 }
@@ -144,6 +162,8 @@ fn tools_converse(rt: HostRuntime) -> Result<(), Fail> {
         assert!(rt; talk(rt, rt.alloc(), row, 64)?, "{:?}", row.1);
     }
     assert!(rt; is_refused(rt, rt.alloc())?);
-    assert!(rt; is_fault(rt, rt.alloc())?);
+    for (read, write) in [(1, 0), (9, 0), (0, 1), (0, 2), (0, 3)] {
+        assert!(rt; is_fault(rt, rt.alloc(), read, write)?, "{read} {write}");
+    }
     Ok(())
 }

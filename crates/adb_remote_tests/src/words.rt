@@ -1,7 +1,7 @@
 //! Answers that were worked out by hand, in pieces of one byte and whole.
 
-use crate::{Outcome, Reading, Remote, first_word, second_word};
 use adb_outside::Text;
+use adb_remote_words::{Outcome, Reading, Remote, first_word, second_word};
 use adb_sync_client::Step;
 use std::alloc::{AllocError, Global};
 use std::test::Fail;

@@ -1,0 +1,9 @@
+//! What a client tool says and is answered: what no clause says.
+#![tactic(auto)]
+
+#[cfg(test)]
+mod conversing;
+#[cfg(test)]
+mod frames;
+#[cfg(test)]
+mod words;
