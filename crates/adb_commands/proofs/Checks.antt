@@ -17,7 +17,7 @@ use Rattle.adb_commands.specs.Stop.{stop_of}
 use Rattle.adb_commands.specs.declared.stop.Stop.{Stop}
 use Rattle.adb_commands.specs.declared.stop.Stop.TheVariants as stop
 use Rattle.adb_commands.specs.declared.status.Status.{Status}
-use Rattle.adb_commands.specs.declared.status.Status.TheVariants.{Done, Usage, ReadFault, WriteFault, BadCapture, OutOfMemory, RecordFault, DoorFault, BadScript, Illegal}
+use Rattle.adb_commands.specs.declared.status.Status.TheVariants.{Done, Usage, ReadFault, WriteFault, BadCapture, OutOfMemory, RecordFault, DoorFault, BadScript, Refused, BadAnswer, PortFault, TooLarge, Illegal}
 use Rattle.adb_commands.proofs.Loads.{promised, part_out}
 use Rattle.adb_commands.proofs.Runs.{all_out}
 
@@ -96,6 +96,10 @@ module _ (f : Formed) (left : Option (List ℕ)) (had : List ℕ) (written : Opt
   checks_by why RecordFault e j w = absurd e
   checks_by why DoorFault e j w = absurd e
   checks_by why BadScript e j w = absurd e
+  checks_by why Refused e j w = absurd e
+  checks_by why BadAnswer e j w = absurd e
+  checks_by why PortFault e j w = absurd e
+  checks_by why TooLarge e j w = absurd e
   checks_by why Illegal e j w = absurd e
 
   pub checks_legal : (entries : ℕ) → JudgesSo (Ok (judged.Legal entries)) f left → WritesSo (Ok (judged.Legal entries)) f had written
@@ -127,6 +131,10 @@ module _ (f : Formed) (left : Option (List ℕ)) (had : List ℕ) (written : Opt
   completes_stopped why RecordFault e j reads writes whole = absurd e
   completes_stopped why DoorFault e j reads writes whole = absurd e
   completes_stopped why BadScript e j reads writes whole = absurd e
+  completes_stopped why Refused e j reads writes whole = absurd e
+  completes_stopped why BadAnswer e j reads writes whole = absurd e
+  completes_stopped why PortFault e j reads writes whole = absurd e
+  completes_stopped why TooLarge e j reads writes whole = absurd e
   completes_stopped why Illegal e j reads writes whole = absurd e
 
 -- a stop of a command that judges

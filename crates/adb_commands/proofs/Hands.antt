@@ -13,7 +13,7 @@ use Rattle.adb_commands.specs.Words.{IsNoCommand, IsReplay, IsCheck}
 use Rattle.adb_commands.specs.declared.stop.Stop.{Stop}
 use Rattle.adb_commands.specs.declared.stop.Stop.TheVariants as stop
 use Rattle.adb_commands.specs.declared.status.Status.{Status}
-use Rattle.adb_commands.specs.declared.status.Status.TheVariants.{Done, Usage, ReadFault, WriteFault, BadCapture, OutOfMemory, RecordFault, DoorFault, BadScript, Illegal}
+use Rattle.adb_commands.specs.declared.status.Status.TheVariants.{Done, Usage, ReadFault, WriteFault, BadCapture, OutOfMemory, RecordFault, DoorFault, BadScript, Refused, BadAnswer, PortFault, TooLarge, Illegal}
 use Rattle.adb_commands.proofs.Lines.{notes_as, notes_of}
 
 -- the words are those of the command that was read
@@ -74,6 +74,10 @@ module _ {A : Type 0} (words : List (String A)) (read_rose write_rose : Type 0) 
   replay_hand replay RecordFault line is = absurd is
   replay_hand replay DoorFault line is = absurd is
   replay_hand replay BadScript line is = absurd is
+  replay_hand replay Refused line is = absurd is
+  replay_hand replay BadAnswer line is = absurd is
+  replay_hand replay PortFault line is = absurd is
+  replay_hand replay TooLarge line is = absurd is
   replay_hand replay Illegal line is = absurd is
 
   load_hand : (s : Status) (line : List ℕ) → IsLoadLine write_rose s line → hand s line
@@ -86,6 +90,10 @@ module _ {A : Type 0} (words : List (String A)) (read_rose write_rose : Type 0) 
   load_hand RecordFault line is = absurd is
   load_hand DoorFault line is = absurd is
   load_hand BadScript line is = absurd is
+  load_hand Refused line is = absurd is
+  load_hand BadAnswer line is = absurd is
+  load_hand PortFault line is = absurd is
+  load_hand TooLarge line is = absurd is
   load_hand Illegal line is = absurd is
 
   check_hand : IsCheck words → (s : Status) (line : List ℕ) → IsCheckLine read_rose write_rose left s line → hand s line
@@ -98,6 +106,10 @@ module _ {A : Type 0} (words : List (String A)) (read_rose write_rose : Type 0) 
   check_hand check RecordFault line is = absurd is
   check_hand check DoorFault line is = absurd is
   check_hand check BadScript line is = absurd is
+  check_hand check Refused line is = absurd is
+  check_hand check BadAnswer line is = absurd is
+  check_hand check PortFault line is = absurd is
+  check_hand check TooLarge line is = absurd is
   check_hand check Illegal line is = (check, is)
 
   module _ (status : Status) (rose again : Type 0) (had : List ℕ) (after : Option (List ℕ)) where

@@ -8,7 +8,7 @@ use Rattle.adb_outside.specs.declared.sink.Wrote.{Wrote}
 use Rattle.adb_outside.specs.declared.sink.Wrote.TheVariants.{All, Failed}
 use Rattle.adb_commands.specs.Notes.{write_fault_line, IsJust, IsLine, HasTried, HasFailed, NotesBy, RisesTwice}
 use Rattle.adb_commands.specs.declared.status.Status.{Status}
-use Rattle.adb_commands.specs.declared.status.Status.TheVariants.{Done, Usage, ReadFault, WriteFault, BadCapture, OutOfMemory, RecordFault, DoorFault, BadScript, Illegal}
+use Rattle.adb_commands.specs.declared.status.Status.TheVariants.{Done, Usage, ReadFault, WriteFault, BadCapture, OutOfMemory, RecordFault, DoorFault, BadScript, Refused, BadAnswer, PortFault, TooLarge, Illegal}
 
 -- what went out of a piece is a front of it
 gone_front : (piece : List ℕ) (wrote : Wrote) → IsPrefixOf (gone_out piece wrote) piece
@@ -27,6 +27,10 @@ line_said OutOfMemory line had after hand rose again own other is = record { lin
 line_said RecordFault line had after hand rose again own other is = record { line = line; own = own; is = is }
 line_said DoorFault line had after hand rose again own other is = record { line = line; own = own; is = is }
 line_said BadScript line had after hand rose again own other is = record { line = line; own = own; is = is }
+line_said Refused line had after hand rose again own other is = record { line = line; own = own; is = is }
+line_said BadAnswer line had after hand rose again own other is = record { line = line; own = own; is = is }
+line_said PortFault line had after hand rose again own other is = record { line = line; own = own; is = is }
+line_said TooLarge line had after hand rose again own other is = record { line = line; own = own; is = is }
 line_said Illegal line had after hand rose again own other is = record { line = line; own = own; is = is }
 
 -- The line of WriteFault was tried.
@@ -99,6 +103,10 @@ notes_as hand other on OutOfMemory rose again had after n = n
 notes_as hand other on RecordFault rose again had after n = n
 notes_as hand other on DoorFault rose again had after n = n
 notes_as hand other on BadScript rose again had after n = n
+notes_as hand other on Refused rose again had after n = n
+notes_as hand other on BadAnswer rose again had after n = n
+notes_as hand other on PortFault rose again had after n = n
+notes_as hand other on TooLarge rose again had after n = n
 notes_as hand other on Illegal rose again had after n = n
 
 -- the line that alone is at hand may be at hand

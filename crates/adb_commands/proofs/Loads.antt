@@ -20,7 +20,7 @@ use Rattle.adb_commands.specs.Notes.{EndsIn}
 use Rattle.adb_commands.specs.declared.stop.Stop.{Stop}
 use Rattle.adb_commands.specs.declared.stop.Stop.TheVariants as stop
 use Rattle.adb_commands.specs.declared.status.Status.{Status}
-use Rattle.adb_commands.specs.declared.status.Status.TheVariants.{Done, Usage, ReadFault, WriteFault, BadCapture, OutOfMemory, RecordFault, DoorFault, BadScript, Illegal}
+use Rattle.adb_commands.specs.declared.status.Status.TheVariants.{Done, Usage, ReadFault, WriteFault, BadCapture, OutOfMemory, RecordFault, DoorFault, BadScript, Refused, BadAnswer, PortFault, TooLarge, Illegal}
 use Rattle.adb_commands.proofs.Runs.{none_out}
 
 -- what the laws of whole histories say of a legal one
@@ -51,6 +51,10 @@ load_by why ReadFault text had written e w = subst (λ (k : Stop). WritesLines (
 load_by why RecordFault text had written e w = absurd e
 load_by why DoorFault text had written e w = absurd e
 load_by why BadScript text had written e w = absurd e
+load_by why Refused text had written e w = absurd e
+load_by why BadAnswer text had written e w = absurd e
+load_by why PortFault text had written e w = absurd e
+load_by why TooLarge text had written e w = absurd e
 load_by why Illegal text had written e w = absurd e
 load_by why WriteFault text had written e w = front_of_lines why text had written w
 load_by why BadCapture text had written e w = subst (λ (k : Stop). WritesLines (Err k) text had written) e.1 w

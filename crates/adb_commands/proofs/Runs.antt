@@ -12,7 +12,7 @@ use Rattle.adb_commands.specs.Run.{WritesBy, EndsBy, CompletesBy}
 use Rattle.adb_commands.specs.declared.stop.Stop.{Stop}
 use Rattle.adb_commands.specs.declared.stop.Stop.TheVariants as stop
 use Rattle.adb_commands.specs.declared.status.Status.{Status}
-use Rattle.adb_commands.specs.declared.status.Status.TheVariants.{Done, Usage, ReadFault, WriteFault, BadCapture, OutOfMemory, RecordFault, DoorFault, BadScript, Illegal}
+use Rattle.adb_commands.specs.declared.status.Status.TheVariants.{Done, Usage, ReadFault, WriteFault, BadCapture, OutOfMemory, RecordFault, DoorFault, BadScript, Refused, BadAnswer, PortFault, TooLarge, Illegal}
 
 -- all of a text is a front of it
 pub all_out : (text had : List ℕ) (written : Option (List ℕ)) → written ≡ Some (had ++ text) → HasFront had text written
@@ -38,6 +38,10 @@ writes_by why OutOfMemory text had written e w = front_out why text had written 
 writes_by why RecordFault text had written e w = absurd e
 writes_by why DoorFault text had written e w = absurd e
 writes_by why BadScript text had written e w = absurd e
+writes_by why Refused text had written e w = absurd e
+writes_by why BadAnswer text had written e w = absurd e
+writes_by why PortFault text had written e w = absurd e
+writes_by why TooLarge text had written e w = absurd e
 writes_by why Illegal text had written e w = absurd e
 
 pub ends_by : (why : Stop) (status : Status) (a : Accepted) (left : Option (List ℕ)) → EndsIn why status
@@ -51,6 +55,10 @@ ends_by why OutOfMemory a left e ends = tt
 ends_by why RecordFault a left e ends = absurd e
 ends_by why DoorFault a left e ends = absurd e
 ends_by why BadScript a left e ends = absurd e
+ends_by why Refused a left e ends = absurd e
+ends_by why BadAnswer a left e ends = absurd e
+ends_by why PortFault a left e ends = absurd e
+ends_by why TooLarge a left e ends = absurd e
 ends_by why Illegal a left e ends = absurd e
 
 -- a stop that no fault made
@@ -65,6 +73,10 @@ completes_stopped why BadCapture a left e ends reads writes =
 completes_stopped why RecordFault a left e ends reads writes = absurd e
 completes_stopped why DoorFault a left e ends reads writes = absurd e
 completes_stopped why BadScript a left e ends reads writes = absurd e
+completes_stopped why Refused a left e ends reads writes = absurd e
+completes_stopped why BadAnswer a left e ends reads writes = absurd e
+completes_stopped why PortFault a left e ends reads writes = absurd e
+completes_stopped why TooLarge a left e ends reads writes = absurd e
 completes_stopped why Illegal a left e ends reads writes = absurd e
 completes_stopped why OutOfMemory a left e ends reads writes = memory a.refused
   where

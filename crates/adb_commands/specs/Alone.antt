@@ -8,7 +8,7 @@ use Rattle.adb_commands.specs.Notes.{WritesNote}
 use Rattle.adb_commands.specs.Run.{WritesHistory, WritesRead, WritesLegal, WritesWhole, EndsCapture, NamesRefusal, Completes, IsUnheard, IsAtHand}
 use Rattle.adb_commands.specs.Words.{IsNoCommand, IsReplay, IsCheck, IsLoad}
 use Rattle.adb_commands.specs.declared.status.Status.{Status}
-use Rattle.adb_commands.specs.declared.status.Status.TheVariants.{Done, Usage, ReadFault, WriteFault, OutOfMemory, RecordFault, DoorFault, Illegal}
+use Rattle.adb_commands.specs.declared.status.Status.TheVariants.{Done, Usage, ReadFault, WriteFault, OutOfMemory, RecordFault, DoorFault, Refused, BadAnswer, PortFault, TooLarge, Illegal}
 
 -- what is seen of a stream: the bytes that it tells, the count of its faults, and whether it never fails
 pub record Sight (A : Type 0) : Type 1 where
@@ -40,6 +40,7 @@ pub record RunsAlone {A S K N : Type 0} (words : List (String A)) (status : Stat
   pub judged : IsCheck words → WritesVerdict status s.told source source_new k.told sink sink_new
   pub illegal : status ≡ Illegal → IsCheck words
   pub serves : (status ≢ RecordFault) × (status ≢ DoorFault)
+  pub dials : (status ≢ Refused) × (status ≢ BadAnswer) × (status ≢ PortFault) × (status ≢ TooLarge)
   pub notes : WritesNote status (IsAtHand words (Rose s.faults source source_new) (Rose k.faults sink sink_new) (s.told source)) n.faults n.told note note_new
   pub names : IsReplay words → NamesRefusal status (s.told source) n.told note note_new
   pub names_form : IsCheck words → NamesForm status (s.told source) n.told note note_new

@@ -14,7 +14,7 @@ use Rattle.adb_commands.specs.Notes.{bad_capture_line}
 use Rattle.adb_commands.specs.declared.stop.Stop.{Stop}
 use Rattle.adb_commands.specs.declared.stop.Stop.TheVariants as stop
 use Rattle.adb_commands.specs.declared.status.Status.{Status}
-use Rattle.adb_commands.specs.declared.status.Status.TheVariants.{Done, Usage, ReadFault, WriteFault, BadCapture, OutOfMemory, RecordFault, DoorFault, BadScript, Illegal}
+use Rattle.adb_commands.specs.declared.status.Status.TheVariants.{Done, Usage, ReadFault, WriteFault, BadCapture, OutOfMemory, RecordFault, DoorFault, BadScript, Refused, BadAnswer, PortFault, TooLarge, Illegal}
 
 -- the line of a history that is not legal
 unfoldable pub illegal_line : ℕ → Rule → List ℕ
@@ -79,6 +79,10 @@ ChecksBy OutOfMemory f left had written = written ≡ Some had
 ChecksBy RecordFault f left had written = ⊥
 ChecksBy DoorFault f left had written = ⊥
 ChecksBy BadScript f left had written = ⊥
+ChecksBy Refused f left had written = ⊥
+ChecksBy BadAnswer f left had written = ⊥
+ChecksBy PortFault f left had written = ⊥
+ChecksBy TooLarge f left had written = ⊥
 ChecksBy Illegal f left had written =
     (place : ℕ) × (rule : Rule) × ComesTo (judged.Illegal place rule) f × (written ≡ Some (had ++ illegal_line place rule))
 

@@ -2,7 +2,7 @@
 use Rattle.std.specs.Prelude.{ℕ, ◌≡◌, Bool, true, false}
 use Rattle.adb_outside.specs.Outside.{Rises}
 use Rattle.adb_commands.specs.declared.status.Status.{Status}
-use Rattle.adb_commands.specs.declared.status.Status.TheVariants.{Done, Usage, ReadFault, WriteFault, BadCapture, OutOfMemory, RecordFault, DoorFault, BadScript, Illegal}
+use Rattle.adb_commands.specs.declared.status.Status.TheVariants.{Done, Usage, ReadFault, WriteFault, BadCapture, OutOfMemory, RecordFault, DoorFault, BadScript, Refused, BadAnswer, PortFault, TooLarge, Illegal}
 
 -- The count of a source or a sink rose.
 abbrev pub Rose : {A : Type 0} → (A → ℕ) → A → A → Type 0
@@ -23,6 +23,10 @@ IsFaultless OutOfMemory = Unit {0}
 IsFaultless RecordFault = ⊥
 IsFaultless DoorFault = ⊥
 IsFaultless BadScript = Unit {0}
+IsFaultless Refused = Unit {0}
+IsFaultless BadAnswer = Unit {0}
+IsFaultless PortFault = ⊥
+IsFaultless TooLarge = Unit {0}
 IsFaultless Illegal = Unit {0}
 
 -- whether a status is that a write failed
@@ -36,4 +40,8 @@ tells_write_fault OutOfMemory = false
 tells_write_fault RecordFault = false
 tells_write_fault DoorFault = false
 tells_write_fault BadScript = false
+tells_write_fault Refused = false
+tells_write_fault BadAnswer = false
+tells_write_fault PortFault = false
+tells_write_fault TooLarge = false
 tells_write_fault Illegal = false

@@ -13,7 +13,7 @@ use Rattle.adb_commands.specs.Keeping.{HasFront}
 use Rattle.adb_commands.specs.declared.stop.Stop.{Stop}
 use Rattle.adb_commands.specs.declared.stop.Stop.TheVariants as stop
 use Rattle.adb_commands.specs.declared.status.Status.{Status}
-use Rattle.adb_commands.specs.declared.status.Status.TheVariants.{Done, Usage, ReadFault, WriteFault, BadCapture, OutOfMemory, RecordFault, DoorFault, BadScript, Illegal}
+use Rattle.adb_commands.specs.declared.status.Status.TheVariants.{Done, Usage, ReadFault, WriteFault, BadCapture, OutOfMemory, RecordFault, DoorFault, BadScript, Refused, BadAnswer, PortFault, TooLarge, Illegal}
 
 -- as many streams as a load may have
 pub record IsLoadSize (streams : ℕ) : Type 0 where
@@ -69,6 +69,10 @@ LoadBy OutOfMemory text had written = written ≡ Some had
 LoadBy RecordFault text had written = ⊥
 LoadBy DoorFault text had written = ⊥
 LoadBy BadScript text had written = ⊥
+LoadBy Refused text had written = ⊥
+LoadBy BadAnswer text had written = ⊥
+LoadBy PortFault text had written = ⊥
+LoadBy TooLarge text had written = ⊥
 LoadBy Illegal text had written = ⊥
 
 abbrev pub WritesLoad : {K : Type 0} → Status → (seed streams : ℕ) → (K → Option (List ℕ)) → K → K → Type 0

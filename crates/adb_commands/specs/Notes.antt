@@ -8,7 +8,7 @@ use Rattle.adb_commands.specs.Faults.{Rose}
 use Rattle.adb_commands.specs.declared.stop.Stop.{Stop}
 use Rattle.adb_commands.specs.declared.stop.Stop.TheVariants as stop
 use Rattle.adb_commands.specs.declared.status.Status.{Status}
-use Rattle.adb_commands.specs.declared.status.Status.TheVariants.{Done, Usage, ReadFault, WriteFault, BadCapture, OutOfMemory, RecordFault, DoorFault, BadScript, Illegal}
+use Rattle.adb_commands.specs.declared.status.Status.TheVariants.{Done, Usage, ReadFault, WriteFault, BadCapture, OutOfMemory, RecordFault, DoorFault, BadScript, Refused, BadAnswer, PortFault, TooLarge, Illegal}
 
 abbrev pub usage_line : List ℕ
 usage_line = codes "usage: adbhub replay | gen <seed> <streams> | local <seed> | serve [--port <n>] [--device <serial>] [--connect <port>] [--record] | check\n"
@@ -41,6 +41,20 @@ bad_capture_line why =
 unfoldable pub bad_script_line : ℕ → List ℕ
 bad_script_line number = codes "adbhub: bad script at line " ++ decimal number ++ codes "\n"
 
+abbrev pub port_fault_line : List ℕ
+port_fault_line = codes "adbhub: port fault\n"
+
+abbrev pub too_large_line : List ℕ
+too_large_line = codes "adbhub: input too large\n"
+
+-- the line that shows why a server refuses what a client tool asks
+unfoldable pub refused_line : List ℕ → List ℕ
+refused_line shown = codes "adbhub: refused: " ++ shown ++ codes "\n"
+
+-- the line that names the first byte of an answer which may not stand there
+unfoldable pub bad_answer_line : ℕ → List ℕ
+bad_answer_line offset = codes "adbhub: bad answer at byte " ++ decimal offset ++ codes "\n"
+
 -- the line of each status but Done
 abbrev pub IsLine : Status → List ℕ → Type 0
 IsLine Done line = ⊥
@@ -52,6 +66,10 @@ IsLine OutOfMemory line = line ≡ out_of_memory_line
 IsLine RecordFault line = line ≡ record_fault_line
 IsLine DoorFault line = line ≡ door_fault_line
 IsLine BadScript line = (number : ℕ) × (line ≡ bad_script_line number)
+IsLine Refused line = (shown : List ℕ) × (line ≡ refused_line shown)
+IsLine BadAnswer line = (offset : ℕ) × (line ≡ bad_answer_line offset)
+IsLine PortFault line = line ≡ port_fault_line
+IsLine TooLarge line = line ≡ too_large_line
 IsLine Illegal line = line ≡ illegal_history_line
 
 -- A status's line stands behind what the note had.
@@ -95,6 +113,10 @@ NotesBy OutOfMemory hand rose again had after = HasLine OutOfMemory had after
 NotesBy RecordFault hand rose again had after = HasLine RecordFault had after
 NotesBy DoorFault hand rose again had after = HasLine DoorFault had after
 NotesBy BadScript hand rose again had after = HasLine BadScript had after
+NotesBy Refused hand rose again had after = HasLine Refused had after
+NotesBy BadAnswer hand rose again had after = HasLine BadAnswer had after
+NotesBy PortFault hand rose again had after = HasLine PortFault had after
+NotesBy TooLarge hand rose again had after = HasLine TooLarge had after
 NotesBy Illegal hand rose again had after = HasLine Illegal had after
 
 abbrev pub WritesNote : {N : Type 0}
@@ -106,6 +128,10 @@ WritesNote status hand faults written old new = (had : List ℕ) → written old
 -- this one alone
 abbrev pub IsJust : Status → List ℕ → Status → List ℕ → Type 0
 IsJust status line s l = (s ≡ status) × (l ≡ line)
+
+-- this one; where memory for it is wanting, that of OutOfMemory
+abbrev pub IsLineOr : Status → List ℕ → Status → List ℕ → Type 0
+IsLineOr status line s l = IsJust status line s l ⊎ IsJust OutOfMemory out_of_memory_line s l
 
 -- that of a stop; where memory for it is wanting, that of OutOfMemory
 abbrev pub IsLineOf : Stop → Status → List ℕ → Type 0
@@ -121,6 +147,10 @@ EndsIn why Usage = ⊥
 EndsIn why RecordFault = ⊥
 EndsIn why DoorFault = ⊥
 EndsIn why BadScript = ⊥
+EndsIn why Refused = ⊥
+EndsIn why BadAnswer = ⊥
+EndsIn why PortFault = ⊥
+EndsIn why TooLarge = ⊥
 EndsIn why Illegal = ⊥
 EndsIn why ReadFault = why ≡ stop.ReadFault
 EndsIn why WriteFault = Unit {0}

@@ -10,7 +10,7 @@ use Rattle.adb_commands.specs.Keeping.{HasFront}
 use Rattle.adb_commands.specs.Replay.{IsReadWhole}
 use Rattle.adb_commands.specs.Replayed.{GrowsSpelled, GrowsWhole, WritesConsumed}
 use Rattle.adb_commands.specs.declared.status.Status.{Status}
-use Rattle.adb_commands.specs.declared.status.Status.TheVariants.{Done, Usage, ReadFault, WriteFault, BadCapture, OutOfMemory, RecordFault, DoorFault, BadScript, Illegal}
+use Rattle.adb_commands.specs.declared.status.Status.TheVariants.{Done, Usage, ReadFault, WriteFault, BadCapture, OutOfMemory, RecordFault, DoorFault, BadScript, Refused, BadAnswer, PortFault, TooLarge, Illegal}
 
 -- The words are no command, or the note failed, or memory ran out over them, where the first is a command's name.
 abbrev pub IsUnheard : {A : Type 0} → List (String A) → Status → Type 0
@@ -28,6 +28,10 @@ WritesBy OutOfMemory text had written = HasFront had text written
 WritesBy RecordFault text had written = ⊥
 WritesBy DoorFault text had written = ⊥
 WritesBy BadScript text had written = ⊥
+WritesBy Refused text had written = ⊥
+WritesBy BadAnswer text had written = ⊥
+WritesBy PortFault text had written = ⊥
+WritesBy TooLarge text had written = ⊥
 WritesBy Illegal text had written = ⊥
 
 -- What goes out behind what the sink had: the drained history of what the source's capture gives.
@@ -68,6 +72,10 @@ EndsBy OutOfMemory a left = Unit {0}
 EndsBy RecordFault a left = ⊥
 EndsBy DoorFault a left = ⊥
 EndsBy BadScript a left = ⊥
+EndsBy Refused a left = ⊥
+EndsBy BadAnswer a left = ⊥
+EndsBy PortFault a left = ⊥
+EndsBy TooLarge a left = ⊥
 EndsBy Illegal a left = ⊥
 
 abbrev pub EndsCapture : {S : Type 0} → Status → (S → Option (List ℕ)) → S → S → Type 0
@@ -90,6 +98,10 @@ NamesBy OutOfMemory a had after = Unit {0}
 NamesBy RecordFault a had after = ⊥
 NamesBy DoorFault a had after = ⊥
 NamesBy BadScript a had after = ⊥
+NamesBy Refused a had after = ⊥
+NamesBy BadAnswer a had after = ⊥
+NamesBy PortFault a had after = ⊥
+NamesBy TooLarge a had after = ⊥
 NamesBy Illegal a had after = ⊥
 
 -- At BadCapture the note names why the source's capture is refused.
@@ -112,6 +124,10 @@ IsReplayLine read_rose write_rose left OutOfMemory line = Unit {0}
 IsReplayLine read_rose write_rose left RecordFault line = ⊥
 IsReplayLine read_rose write_rose left DoorFault line = ⊥
 IsReplayLine read_rose write_rose left BadScript line = ⊥
+IsReplayLine read_rose write_rose left Refused line = ⊥
+IsReplayLine read_rose write_rose left BadAnswer line = ⊥
+IsReplayLine read_rose write_rose left PortFault line = ⊥
+IsReplayLine read_rose write_rose left TooLarge line = ⊥
 IsReplayLine read_rose write_rose left Illegal line = ⊥
 
 -- of a history that is judged, whose capture is refused by form, or that is not legal
@@ -126,6 +142,10 @@ IsCheckLine read_rose write_rose left OutOfMemory line = Unit {0}
 IsCheckLine read_rose write_rose left RecordFault line = ⊥
 IsCheckLine read_rose write_rose left DoorFault line = ⊥
 IsCheckLine read_rose write_rose left BadScript line = ⊥
+IsCheckLine read_rose write_rose left Refused line = ⊥
+IsCheckLine read_rose write_rose left BadAnswer line = ⊥
+IsCheckLine read_rose write_rose left PortFault line = ⊥
+IsCheckLine read_rose write_rose left TooLarge line = ⊥
 IsCheckLine read_rose write_rose left Illegal line = line ≡ illegal_history_line
 
 -- of a load
@@ -139,6 +159,10 @@ IsLoadLine write_rose OutOfMemory line = Unit {0}
 IsLoadLine write_rose RecordFault line = ⊥
 IsLoadLine write_rose DoorFault line = ⊥
 IsLoadLine write_rose BadScript line = ⊥
+IsLoadLine write_rose Refused line = ⊥
+IsLoadLine write_rose BadAnswer line = ⊥
+IsLoadLine write_rose PortFault line = ⊥
+IsLoadLine write_rose TooLarge line = ⊥
 IsLoadLine write_rose Illegal line = ⊥
 
 -- of any words
@@ -155,6 +179,10 @@ IsAtHand words read_rose write_rose left OutOfMemory line = Unit {0}
 IsAtHand words read_rose write_rose left RecordFault line = ⊥
 IsAtHand words read_rose write_rose left DoorFault line = ⊥
 IsAtHand words read_rose write_rose left BadScript line = ⊥
+IsAtHand words read_rose write_rose left Refused line = ⊥
+IsAtHand words read_rose write_rose left BadAnswer line = ⊥
+IsAtHand words read_rose write_rose left PortFault line = ⊥
+IsAtHand words read_rose write_rose left TooLarge line = ⊥
 IsAtHand words read_rose write_rose left Illegal line = IsCheck words × (line ≡ illegal_history_line)
 
 -- by how a capture ends, unless memory ran out

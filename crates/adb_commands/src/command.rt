@@ -96,8 +96,10 @@ pub fn run_alone<S: Source, K: Sink, N: Sink>(
         S.left source.old source.new K.written sink.old sink.new }
     ensures illegal { result ≡ Status.Illegal → IsCheck words.now }
 
-    // Nobody is served.
+    // Nobody is served, and no server is dialled.
     ensures serves { (result ≢ Status.RecordFault) × (result ≢ Status.DoorFault) }
+    ensures dials { (result ≢ Status.Refused) × (result ≢ Status.BadAnswer)
+        × (result ≢ Status.PortFault) × (result ≢ Status.TooLarge) }
 
     // The note has the one line of the status. Where it failed itself over the line of the status
     // that was at hand, a front of that stands there, and behind it WriteFault's line was tried: it
@@ -166,6 +168,8 @@ fn run_replay<S: Source, K: Sink, N: Sink>(
     ensures command { result ≢ Status.Usage }
     ensures illegal { result ≢ Status.Illegal }
     ensures serves { (result ≢ Status.RecordFault) × (result ≢ Status.DoorFault) }
+    ensures dials { (result ≢ Status.Refused) × (result ≢ Status.BadAnswer)
+        × (result ≢ Status.PortFault) × (result ≢ Status.TooLarge) }
     ensures writes { WritesHistory result (S.left source.old) K.written sink.old sink.new }
     ensures consumed { result ≡ Status.ReadFault
         → WritesRead S.left source.old source.new K.written sink.old sink.new }
@@ -207,6 +211,8 @@ fn run_check<S: Source, K: Sink, N: Sink>(
 ) -> Status
     ensures command { result ≢ Status.Usage }
     ensures serves { (result ≢ Status.RecordFault) × (result ≢ Status.DoorFault) }
+    ensures dials { (result ≢ Status.Refused) × (result ≢ Status.BadAnswer)
+        × (result ≢ Status.PortFault) × (result ≢ Status.TooLarge) }
     ensures judged { WritesVerdict result
         S.left source.old source.new K.written sink.old sink.new }
     ensures notes { WritesNote result

@@ -10,7 +10,9 @@ mod replay;
 mod status;
 mod stop;
 mod texts;
+mod tool_note;
 
 pub use command::run_alone;
 pub use note::{say_door_fault, say_lost_line, say_out_of_memory, say_record_fault, say_usage};
 pub use status::Status;
+pub use tool_note::{say_bad_answer, say_port_fault, say_refused, say_too_large};

@@ -108,7 +108,7 @@ pub fn say_lost_line<N: Sink>(note: &mut N) -> Status
 }
 
 /// Writes the line of a status. Where that fails the line of WriteFault is tried once.
-fn say<N: Sink>(note: &mut N, status: Status, line: &[u8]) -> Status
+pub(crate) fn say<N: Sink>(note: &mut N, status: Status, line: &[u8]) -> Status
     requires some { 0 < length line.now }
     requires own { IsLine status line.now }
     requires other { status ≢ Status.WriteFault }

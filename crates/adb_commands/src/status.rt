@@ -24,6 +24,14 @@ pub enum Status {
     DoorFault,
     /// A line of the script is refused.
     BadScript,
+    /// A server refused what a client tool asked for.
+    Refused,
+    /// A server's answer is none that a client tool may be given.
+    BadAnswer,
+    /// A server could not be dialled, or the connection to it failed.
+    PortFault,
+    /// What a client tool is to push is more than it takes.
+    TooLarge,
     /// The history that was to be judged is not legal.
     Illegal,
 }
@@ -43,7 +51,11 @@ impl Status {
             Status::RecordFault => 7,
             Status::DoorFault => 8,
             Status::BadScript => 9,
+            Status::Refused => 11,
+            Status::BadAnswer => 12,
+            Status::PortFault => 13,
             Status::Illegal => 14,
+            Status::TooLarge => 15,
         }
     }
 }

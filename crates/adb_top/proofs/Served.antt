@@ -11,7 +11,7 @@ use Rattle.adb_server.specs.declared.server.Served.{Served}
 use Rattle.adb_server.specs.declared.server.Served.TheVariants as served
 use Rattle.adb_commands.specs.Notes.{NotesBy, HasTried, HasFailed, RisesTwice}
 use Rattle.adb_commands.specs.declared.status.Status.{Status}
-use Rattle.adb_commands.specs.declared.status.Status.TheVariants.{Done, Usage, ReadFault, WriteFault, BadCapture, OutOfMemory, RecordFault, DoorFault, BadScript, Illegal}
+use Rattle.adb_commands.specs.declared.status.Status.TheVariants.{Done, Usage, ReadFault, WriteFault, BadCapture, OutOfMemory, RecordFault, DoorFault, BadScript, Refused, BadAnswer, PortFault, TooLarge, Illegal}
 use Rattle.adb_top.specs.Serve.{IsAnyLine, IsListening, IsBefore, NotesServer}
 use Rattle.adb_top.specs.Tells.{status_of}
 
@@ -48,6 +48,10 @@ notes_on hand had after on twice OutOfMemory n = n
 notes_on hand had after on twice RecordFault n = n
 notes_on hand had after on twice DoorFault n = n
 notes_on hand had after on twice BadScript n = n
+notes_on hand had after on twice Refused n = n
+notes_on hand had after on twice BadAnswer n = n
+notes_on hand had after on twice PortFault n = n
+notes_on hand had after on twice TooLarge n = n
 notes_on hand had after on twice Illegal n = n
 
 -- ---- counts

@@ -7,7 +7,7 @@ use Rattle.adb_words.specs.Serve.{Serving}
 use Rattle.adb_commands.specs.Faults.{Rose, tells_write_fault}
 use Rattle.adb_commands.specs.Notes.{NotesBy, RisesTwice, IsLine}
 use Rattle.adb_commands.specs.declared.status.Status.{Status}
-use Rattle.adb_commands.specs.declared.status.Status.TheVariants.{Done, Usage, ReadFault, WriteFault, BadCapture, OutOfMemory, RecordFault, DoorFault, BadScript, Illegal}
+use Rattle.adb_commands.specs.declared.status.Status.TheVariants.{Done, Usage, ReadFault, WriteFault, BadCapture, OutOfMemory, RecordFault, DoorFault, BadScript, Refused, BadAnswer, PortFault, TooLarge, Illegal}
 
 -- The words are no command, or the note failed, or memory ran out over them.
 abbrev pub IsUnheard : Status → Type 0
@@ -28,6 +28,10 @@ IsBefore asked Usage line = ⊥
 IsBefore asked ReadFault line = ⊥
 IsBefore asked BadCapture line = ⊥
 IsBefore asked BadScript line = ⊥
+IsBefore asked Refused line = ⊥
+IsBefore asked BadAnswer line = ⊥
+IsBefore asked PortFault line = ⊥
+IsBefore asked TooLarge line = ⊥
 IsBefore asked Illegal line = ⊥
 
 -- the line of any status of a server
@@ -51,6 +55,10 @@ IsServerEnd Usage = ⊥
 IsServerEnd ReadFault = ⊥
 IsServerEnd BadCapture = ⊥
 IsServerEnd BadScript = ⊥
+IsServerEnd Refused = ⊥
+IsServerEnd BadAnswer = ⊥
+IsServerEnd PortFault = ⊥
+IsServerEnd TooLarge = ⊥
 IsServerEnd Illegal = ⊥
 
 -- A server ends as it may: by a fault of its recorder or its door over no steady yard, done over no lasting one, and done but for memory over a steady one

@@ -5,7 +5,7 @@ use Rattle.adb_check.proofs.Places.{no_legal}
 use Rattle.adb_commands.specs.Check.{JudgesSo, WritesSo}
 use Rattle.adb_commands.specs.Keeping.{is_read_fault}
 use Rattle.adb_commands.specs.Notes.{illegal_history_line}
-use Rattle.adb_commands.specs.declared.status.Status.TheVariants.{Done, OutOfMemory, RecordFault, DoorFault, BadScript, Illegal}
+use Rattle.adb_commands.specs.declared.status.Status.TheVariants.{Done, OutOfMemory, Illegal}
 use Rattle.adb_commands.specs.declared.stop.Stop.{Stop}
 use Rattle.adb_commands.proofs.Checks.{checks_by, checks_illegal, check_line}
 use Rattle.adb_commands.proofs.Lines.{notes_as, notes_of}
