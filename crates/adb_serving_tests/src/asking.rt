@@ -26,7 +26,7 @@ pub fn is_answered(stream: &TcpStream, step: &Step) -> io::Result<bool> {
     let mut heard = [0u8; 256];
     let count = step.hears.len().min(256);
     stream.read_exact(&mut heard[..count])?;
-    Ok(heard[..count] == *step.hears)
+    Ok(&heard[..count] == step.hears)
 }
 
 /// Whether the other end has closed, and nothing is left to read.

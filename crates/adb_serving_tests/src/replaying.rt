@@ -15,7 +15,7 @@ fn handed(alloc: Global, capture: &[u8]) -> Result<Vec<Text>, AllocError> {
         answers.push(Text::new(alloc))?;
     }
     let mut source = MemorySource::new(Text::from_slice(alloc, capture)?, 65_536, Vec::new(alloc));
-    let mut reader = CaptureReader::new(alloc);
+    let mut reader = CaptureReader::new(alloc)?;
     for _ in 0..=capture.len() {
         let Ok(Some((_, entry))) = reader.next(&mut source) else {
             break;
