@@ -12,14 +12,14 @@ use Rattle.adb_asking.specs.Ends.{end_of, is_write_fault}
 use Rattle.adb_asking.specs.Lines.{exit_line, pushed_line}
 use Rattle.adb_asking.specs.Writing.{HasText, HasFront}
 
--- what is seen of a sink: whether it never fails, the count of its faults, and the bytes that went out, where it tells them
+-- what is seen of what lies outside: whether it never fails, the count of its faults, and the bytes that it tells
 pub record Sight (A : Type 0) : Type 1 where
   pub steady : A → Type 0
   pub faults : A → ℕ
-  pub written : A → Option (List ℕ)
+  pub told : A → Option (List ℕ)
 
 abbrev pub seen : {A : Type 0} → (A → Type 0) → (A → ℕ) → (A → Option (List ℕ)) → Sight A
-seen steady faults written = record { steady = steady; faults = faults; written = written }
+seen steady faults told = record { steady = steady; faults = faults; told = told }
 
 -- how many bytes a job sends as a file
 abbrev pub size_of : Remote → ℕ
@@ -60,7 +60,7 @@ pub record CountsBoth {K N : Type 0} (k : Sight K) (n : Sight N) (sink sink_new 
 -- Both parts were told.
 pub record Leaves {K N : Type 0} (k : Sight K) (n : Sight N) (parts : Parts) (sink sink_new : K) (note note_new : N) (end : ToolEnd)
     : Type 0 where
-  pub told : PartsBy end parts (k.written sink) (k.written sink_new) (n.written note) (n.written note_new)
+  pub told : PartsBy end parts (k.told sink) (k.told sink_new) (n.told note) (n.told note_new)
   pub counts : CountsBoth k n sink sink_new note note_new (is_write_fault end)
   pub untouched : end ≢ Done → end ≢ WriteFault → (sink_new ≡ sink) × (note_new ≡ note)
 

@@ -12,6 +12,7 @@ use crate::telling::tell_answer;
 use adb_connections::{PortIn, PortOut};
 use adb_outside::{Sink, Text};
 use adb_remote::{MAX_WORD, Remote, converse};
+use adb_remote_words::decided_answers_stay;
 use std::alloc::Global;
 use std::sync::Wait;
 
@@ -40,6 +41,7 @@ pub fn ask<W: Wait + Copy + Drop, I: PortIn, O: PortOut, K: Sink, N: Sink>(
         (seen N.steady N.faults N.written) job.now (option_map (λ text. text.now) on.entry)
         input.old input.new output.old output.new sink.old sink.new note.old note.new result }
 {
+    decided_answers_stay();
     let answer = converse(rt, alloc, job, on, input, output);
     tell_answer(alloc, job, answer, sink, note)
 }
