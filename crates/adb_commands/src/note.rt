@@ -5,7 +5,8 @@ ghost use Rattle.adb_outside.specs.Outside.{Counts};
 ghost use Rattle.adb_outside.specs.Sink.{TellsWrite, is_failed_write};
 ghost use Rattle.adb_history.specs.declared.refusal.Refusal.{Refusal};
 ghost use Rattle.adb_commands.specs.Faults.{Rose, Stood, tells_write_fault};
-ghost use Rattle.adb_commands.specs.Notes.{usage_line, write_fault_line, out_of_memory_line};
+ghost use Rattle.adb_commands.specs.Notes.{usage_line, read_fault_line, write_fault_line};
+ghost use Rattle.adb_commands.specs.Notes.{out_of_memory_line};
 ghost use Rattle.adb_commands.specs.Notes.{bad_capture_line, illegal_history_line};
 ghost use Rattle.adb_commands.specs.Notes.{record_fault_line, door_fault_line};
 ghost use Rattle.adb_commands.specs.Notes.{IsJust, IsLine, IsLineOf, EndsIn, WritesNote};
@@ -45,7 +46,7 @@ pub fn say_stop<N: Sink>(alloc: Global, note: &mut N, stop: Stop) -> Status
         → result ≡ Status.WriteFault → stop ≡ Stop.WriteFault }
 {
     match stop {
-        Stop::ReadFault => say(note, Status::ReadFault, b"adbhub: read fault\n"),
+        Stop::ReadFault => say_read_fault(note),
         Stop::WriteFault => say_lost_line(note),
         Stop::OutOfMemory => say_out_of_memory(note),
         Stop::Refused(refusal) => match refusal_line(alloc, refusal) {
@@ -53,6 +54,16 @@ pub fn say_stop<N: Sink>(alloc: Global, note: &mut N, stop: Stop) -> Status
             Err(AllocError) => say_out_of_memory(note),
         },
     }
+}
+
+/// Tells the note that the source failed.
+pub fn say_read_fault<N: Sink>(note: &mut N) -> Status
+    ensures status { (result ≡ Status.ReadFault) ⊎ (result ≡ Status.WriteFault) }
+    ensures told { WritesNote result (IsJust Status.ReadFault read_fault_line)
+        N.faults N.written note.old note.new }
+    ensures counts { Counts N.steady N.faults note.old note.new (tells_write_fault result) }
+{
+    say(note, Status::ReadFault, b"adbhub: read fault\n")
 }
 
 /// Tells the note that memory ran out.

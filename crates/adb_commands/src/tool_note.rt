@@ -2,14 +2,16 @@
 
 ghost use Rattle.std.specs.Prelude.{◌≡◌, ◌⊎◌, ◌<◌, IfOk, length};
 ghost use Rattle.adb_outside.specs.Outside.{Counts};
+ghost use Rattle.adb_outside.specs.Sink.{TellsWrite};
 ghost use Rattle.adb_commands.specs.Faults.{tells_write_fault};
 ghost use Rattle.adb_commands.specs.Notes.{bad_answer_line, port_fault_line, refused_line};
-ghost use Rattle.adb_commands.specs.Notes.{too_large_line, IsJust, IsLineOr, WritesNote};
+ghost use Rattle.adb_commands.specs.Notes.{too_large_line};
+ghost use Rattle.adb_commands.specs.Notes.{IsJust, IsLineOr, WritesNote};
 
 use crate::note::{say, say_out_of_memory};
 use crate::status::Status;
 use crate::texts::push_number;
-use adb_outside::{Sink, Text};
+use adb_outside::{Sink, Text, Wrote};
 use std::alloc::{AllocError, Global};
 
 /// Tells the note that a server refused what was asked, with its text as it is to be shown.
@@ -18,6 +20,8 @@ pub fn say_refused<N: Sink>(alloc: Global, note: &mut N, shown: &[u8]) -> Status
         ⊎ (result ≡ Status.WriteFault) }
     ensures told { WritesNote result (IsLineOr Status.Refused (refused_line shown.now))
         N.faults N.written note.old note.new }
+    ensures shows { result ≡ Status.Refused → TellsWrite (N.written note.old)
+        (N.written note.new) (refused_line shown.now) Wrote.All }
     ensures counts { Counts N.steady N.faults note.old note.new (tells_write_fault result) }
 {
     match line_of_refusal(alloc, shown) {
@@ -32,6 +36,8 @@ pub fn say_bad_answer<N: Sink>(alloc: Global, note: &mut N, offset: u64) -> Stat
         ⊎ (result ≡ Status.WriteFault) }
     ensures told { WritesNote result (IsLineOr Status.BadAnswer (bad_answer_line offset))
         N.faults N.written note.old note.new }
+    ensures names { result ≡ Status.BadAnswer → TellsWrite (N.written note.old)
+        (N.written note.new) (bad_answer_line offset) Wrote.All }
     ensures counts { Counts N.steady N.faults note.old note.new (tells_write_fault result) }
 {
     match line_of_offset(alloc, offset) {

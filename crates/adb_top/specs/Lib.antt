@@ -1,3 +1,4 @@
 pub mod Serve
 pub mod Tells
+pub mod Tools
 pub mod Wanted

@@ -3,6 +3,7 @@
 
 mod run;
 mod serving;
+mod tools;
 mod wanted;
 
 pub use adb_commands::{Status, run_alone, say_out_of_memory, say_record_fault, say_usage};

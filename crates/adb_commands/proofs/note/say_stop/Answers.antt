@@ -9,7 +9,7 @@ pub returns-in-ReadFault-clause-told : goal.returns-in-ReadFault-clause-told
 returns-in-ReadFault-clause-told g c = λ had has.
     notes_of ReadFault read_fault_line (IsLineOf c.args.stop)
     (subst (λ (why : Stop). IsLineOf why ReadFault read_fault_line) (sym c.in-ReadFault.is) (refl, refl))
-    c.say.result _ _ had _ (c.say.ensures.told had has)
+    c.say_read_fault.result _ _ had _ (c.say_read_fault.ensures.told had has)
 
 pub returns-in-WriteFault-clause-told : goal.returns-in-WriteFault-clause-told
 returns-in-WriteFault-clause-told g c = λ had has.
@@ -22,7 +22,7 @@ returns-in-Ok-clause-told g c = λ had has.
     notes_of BadCapture c.as_slice.result.now (IsLineOf c.args.stop)
     (subst (λ (why : Stop). IsLineOf why BadCapture c.as_slice.result.now) (sym c.in-Refused.is)
     (inl (refl, c.as_slice.ensures ∙ c.in-Ok.ensures.line)))
-    c.say-in-Ok.result _ _ had _ (c.say-in-Ok.ensures.told had has)
+    c.say.result _ _ had _ (c.say.ensures.told had has)
 
 pub returns-in-Err-clause-told : goal.returns-in-Err-clause-told
 returns-in-Err-clause-told g c = λ had has.
