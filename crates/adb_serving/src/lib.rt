@@ -1,7 +1,10 @@
-//! A live server: `serve` over the sockets and threads of this machine, with its devices.
+//! `serve` and the client tools over the sockets and threads of this machine.
 #![tactic(auto)]
 
+mod calling;
 mod devices;
 mod serving;
+mod yards;
 
+pub use calling::call_live;
 pub use serving::serve_live;

@@ -6,9 +6,10 @@ ghost use Rattle.adb_words.specs.Serve.{Serving, is_serve, serve_of};
 ghost use Rattle.adb_words.specs.Words.{texts};
 
 use crate::devices::devices_of;
+use crate::yards::open_yard;
 use adb_device_reader::Device;
 use adb_outside::{Sink, Source};
-use adb_ports::{Ending, Helpers, RealYard};
+use adb_ports::Ending;
 use adb_top::{Status, run, say_out_of_memory, say_record_fault, wanted};
 use adb_words::WordsError;
 use std::alloc::{AllocError, Global};
@@ -84,26 +85,4 @@ fn devices_for<
         Err(WordsError::Usage) => Ok(Vec::new(alloc)),
         Err(WordsError::OutOfMemory) => Err(AllocError),
     }
-}
-
-/// The yard, and what goes on beside the server.
-fn open_yard<
-    W: Net<Listener = TcpListener, Stream = TcpStream>
-        + Threads
-        + Wait
-        + Copy
-        + Send
-        + Sync
-        + Drop
-        + 'static,
-    R: Sink + Send + Drop + 'static,
->(
-    rt: W,
-    alloc: Global,
-    ending: Ending,
-    record: R,
-) -> Result<(RealYard<W, R>, Helpers<W, R>), AllocError> {
-    let yard = RealYard::new(rt, alloc, ending, record)?;
-    let helpers = yard.helpers()?;
-    Ok((yard, helpers))
 }

@@ -2,7 +2,7 @@
 
 ghost use Rattle.std.specs.Prelude.{◌≡◌, true, false, None, Some};
 ghost use Rattle.adb_words.specs.Serve.{Serving, is_serve, serve_of};
-ghost use Rattle.adb_words.specs.Tools.{names_tool};
+ghost use Rattle.adb_words.specs.Tools.{names_tool, tool_of};
 ghost use Rattle.adb_words.specs.Words.{texts};
 ghost use Rattle.adb_asking.specs.Telling.{seen};
 ghost use Rattle.adb_commands.specs.Alone.{RunsAlone};
@@ -71,6 +71,11 @@ pub fn run<
     ensures serves { (asked : Serving) → serve_of (texts words.now) ≡ Some asked
         → Serves asked result (Y.steady yard) (Y.lasting yard)
         N.steady N.faults N.written note.old note.new }
+
+    // Words that begin with a tool's name and are none call nobody.
+    ensures unheard { is_serve (texts words.now) ≡ false → names_tool (texts words.now) ≡ true
+        → tool_of (texts words.now) ≡ None
+        → IsUnheard result × (source.new ≡ source.old) × (sink.new ≡ sink.old) }
 
     // What a client tool asked for, what it told of the answer, and how it ended.
     ensures tools { is_serve (texts words.now) ≡ false → names_tool (texts words.now) ≡ true

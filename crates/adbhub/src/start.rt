@@ -6,12 +6,13 @@ ghost use Rattle.adb_commands.specs.Alone.{RunsAlone};
 ghost use Rattle.adb_commands.specs.Notes.{usage_line, out_of_memory_line, IsJust, WritesNote};
 ghost use Rattle.adb_top.specs.Serve.{IsUnheard};
 ghost use Rattle.adb_words.specs.Serve.{is_serve, serve_of};
+ghost use Rattle.adb_words.specs.Tools.{names_tool, tool_of};
 ghost use Rattle.adb_words.specs.Words.{texts};
 
 use adb_outside::{Sink, Source};
-use adb_serving::serve_live;
+use adb_serving::{call_live, serve_live};
 use adb_top::{Status, run, say_out_of_memory, say_usage};
-use adb_words::is_serve;
+use adb_words::{is_serve, names_tool};
 use adb_yard::NoYard;
 use std::alloc::Global;
 use std::io;
@@ -21,7 +22,7 @@ use std::sync::Wait;
 use std::thread::Threads;
 
 /// Runs the words of the command line: a server over this machine, whose record goes to a sink of its
-/// own, or a command that serves nobody. Where memory was wanting for the words nothing is read,
+/// own, a client tool, or a command that neither serves nor dials. Where memory was wanting for the words nothing is read,
 /// nothing goes out, and the note has the line of that. Where one of them is no text they are no
 /// command.
 pub fn start<
@@ -46,13 +47,18 @@ pub fn start<
     note: &mut N,
     record: R,
 ) -> Status
-    // Words that are there are run: a command that serves nobody,
+    // Words that are there are run: a command that neither serves nor dials,
     ensures alone { IfOk words (λ list. is_serve (texts list.items) ≡ false
-        → RunsAlone list.items result
+        → names_tool (texts list.items) ≡ false → RunsAlone list.items result
         (record { told = S.left; faults = S.faults; steady = S.steady })
         (record { told = K.written; faults = K.faults; steady = K.steady })
         (record { told = N.written; faults = N.faults; steady = N.steady })
         source.old source.new sink.old sink.new note.old note.new) }
+
+    // or a client tool,
+    ensures unheard { IfOk words (λ list. is_serve (texts list.items) ≡ false
+        → names_tool (texts list.items) ≡ true → tool_of (texts list.items) ≡ None
+        → IsUnheard result × (source.new ≡ source.old) × (sink.new ≡ sink.old)) }
 
     // or a server, which reads nothing and writes to the note and to its record alone.
     ensures serves { IfOk words (λ list. is_serve (texts list.items) ≡ true
@@ -79,6 +85,9 @@ pub fn start<
     match words {
         Ok(words) if is_serve(words.as_slice()) => {
             serve_live(rt, alloc, words.as_slice(), source, sink, note, record)
+        }
+        Ok(words) if names_tool(words.as_slice()) => {
+            call_live(rt, alloc, words.as_slice(), source, sink, note)
         }
         Ok(words) => {
             let (yard, devices) = (NoYard::new(alloc), Vec::new(alloc));
