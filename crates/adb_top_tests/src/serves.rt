@@ -10,7 +10,7 @@ use std::test::Fail;
 use std::thread::Threads;
 
 const USAGE: &[u8] =
-    b"usage: adbhub replay | gen <seed> <streams> | local <seed> | serve [--port <n>] [--device <serial>] [--connect <port>] [--record] | check\n";
+    b"usage: adbhub replay | gen <seed> <streams> | local <seed> | serve [--port <n>] [--device <serial>] [--connect <port>] [--record] | check | devices | push <path> | pull <path> | shell <command> | wait <serial> <state>\n";
 
 /// A server at whose door one client asks for the end, and what goes wrong.
 struct Row {
