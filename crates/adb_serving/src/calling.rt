@@ -17,7 +17,7 @@ use std::thread::Threads;
 
 /// Calls a client tool as the words say: `adb_top::run` over a yard of this machine, which dials the
 /// server's port. Words that are no tool's call nobody.
-pub fn call_live<
+pub(crate) fn call_live<
     W: Net<Listener = TcpListener, Stream = TcpStream>
         + Threads
         + Wait

@@ -1,10 +1,15 @@
-//! `serve` and the client tools over the sockets and threads of this machine.
+//! The program over this machine: its streams, sockets and threads, its devices, and what its words
+//! say.
 #![tactic(auto)]
 
 mod calling;
 mod devices;
+mod running;
 mod serving;
+mod start;
+mod streams;
 mod yards;
 
-pub use calling::call_live;
 pub use serving::serve_live;
+pub use start::{start, words_of};
+pub use streams::Stream;

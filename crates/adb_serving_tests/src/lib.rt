@@ -10,4 +10,6 @@ mod live;
 #[cfg(test)]
 mod replaying;
 #[cfg(test)]
+mod starting;
+#[cfg(test)]
 mod yard;

@@ -1,15 +1,9 @@
 //! `adbhub`: the host server of the Android Debug Bridge.
 #![tactic(auto)]
 
-mod start;
-mod streams;
-#[cfg(test)]
-mod tests;
-
-use start::{start, words_of};
+use adb_serving::{Stream, start, words_of};
 use std::process::ExitCode;
 use std::{env, io};
-use streams::Stream;
 
 /// Runs the words of the command line over the standard streams, and ends with the status's code.
 fn main(rt: HostRuntime) -> ExitCode {

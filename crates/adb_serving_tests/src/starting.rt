@@ -1,8 +1,9 @@
+//! The streams of the system, and the words of a command line.
+
 ghost use Rattle.std.specs.Prelude.{◌≤◌, IfOk};
 
-use crate::start::start;
-use crate::streams::Stream;
 use adb_outside::{Got, MemorySink, MemorySource, NeverSink, Sink, Source, Text, Wrote};
+use adb_serving::{Stream, start};
 use adb_top::Status;
 use std::alloc::{AllocError, Global};
 use std::io;

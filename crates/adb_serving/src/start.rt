@@ -9,11 +9,9 @@ ghost use Rattle.adb_words.specs.Serve.{is_serve, serve_of};
 ghost use Rattle.adb_words.specs.Tools.{names_tool, tool_of};
 ghost use Rattle.adb_words.specs.Words.{texts};
 
+use crate::running::run_live;
 use adb_outside::{Sink, Source};
-use adb_serving::{call_live, serve_live};
-use adb_top::{Status, run, say_out_of_memory, say_usage};
-use adb_words::{is_serve, names_tool};
-use adb_yard::NoYard;
+use adb_top::{Status, say_out_of_memory, say_usage};
 use std::alloc::Global;
 use std::io;
 use std::io::ErrorKind;
@@ -83,25 +81,7 @@ pub fn start<
         N.faults N.written note.old note.new) }
 {
     match words {
-        Ok(words) if is_serve(words.as_slice()) => {
-            serve_live(rt, alloc, words.as_slice(), source, sink, note, record)
-        }
-        Ok(words) if names_tool(words.as_slice()) => {
-            call_live(rt, alloc, words.as_slice(), source, sink, note)
-        }
-        Ok(words) => {
-            let (yard, devices) = (NoYard::new(alloc), Vec::new(alloc));
-            run(
-                rt,
-                alloc,
-                words.as_slice(),
-                source,
-                sink,
-                note,
-                yard,
-                devices,
-            )
-        }
+        Ok(words) => run_live(rt, alloc, words.as_slice(), source, sink, note, record),
         Err(error) if error.kind() == ErrorKind::OutOfMemory => say_out_of_memory(note),
         Err(_) => say_usage(note),
     }
