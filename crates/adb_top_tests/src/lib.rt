@@ -3,3 +3,5 @@
 
 #[cfg(test)]
 mod serves;
+#[cfg(test)]
+mod tools;
