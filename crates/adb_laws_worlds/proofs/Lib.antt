@@ -27,4 +27,3 @@ mod InTurn
 mod Took
 mod Refusals
 mod Ended
-mod Known

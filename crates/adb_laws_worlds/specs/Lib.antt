@@ -12,4 +12,3 @@ pub mod Unbroken
 pub mod InTurn
 pub mod Took
 pub mod Ended
-pub mod Known

@@ -1,4 +1,3 @@
-pub mod Gone
 pub mod Stays
 pub mod Greeted
 pub mod Numbers
@@ -8,18 +7,6 @@ pub mod Devices
 pub mod Entries
 pub mod Moved
 pub mod Fresh
-pub mod Shows
-pub mod Counted
 pub mod Rest
-pub mod Ended
-pub mod Joining
 pub mod Going
-pub mod QuietPackets
-pub mod Unsent
-pub mod Unread
-pub mod NoMore
-pub mod SentAll
 pub mod Greeting
-pub mod Answered
-pub mod Ending
-pub mod Files

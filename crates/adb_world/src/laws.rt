@@ -2,15 +2,11 @@
 //! law.
 
 ghost use Rattle.adb_world.specs.Parts.{IsRunning};
-ghost use Rattle.adb_daemon.specs.Daemon.{files_of};
-ghost use Rattle.adb_world.specs.Settled.{HasEnded, IsCounted, IsDone, Rests};
-ghost use Rattle.std.specs.Prelude.{ℕ, ◌≡◌, [], false, true};
+ghost use Rattle.adb_world.specs.Settled.{IsCounted, IsSettled, Rests};
+ghost use Rattle.std.specs.Prelude.{false};
 ghost use Rattle.adb_world.specs.World.{view_of};
 ghost use Rattle.adb_world.specs.declared.parts.Parts.{Parts};
 
-use adb_laws_births::what_came_stays;
-use adb_laws_fifo_up::carries_rest;
-use adb_laws_resting::resting::{a_client_sends_up_its_own_stream, most_entries_send_nothing};
 use adb_laws_sessions::{requests_open_their_service, sessions_ask_for_services};
 use adb_laws_worlds::{
     a_device_breaks_no_link, clients_hold_nothing_at_rest, streams_are_open_at_rest,
@@ -18,9 +14,13 @@ use adb_laws_worlds::{
     streams_of_one_plain_device_are_plain, streams_that_live_heard_no_close,
 };
 
-/// Where no step is possible all is settled.
+/// Where no step is possible all is settled, and as many clients and streams were drawn as sessions
+/// were given.
 pub(crate) fn worlds_that_rest_are_settled()
-    ensures { (parts : Parts) → IsRunning parts → Rests parts → IsDone parts }
+    ensures settled { (parts : Parts) → IsRunning parts → Rests parts
+        → IsSettled (view_of parts false) }
+    ensures counted { (parts : Parts) → IsRunning parts → Rests parts
+        → IsCounted (view_of parts false) }
 {
     requests_open_their_service();
     sessions_ask_for_services();
@@ -31,33 +31,4 @@ pub(crate) fn worlds_that_rest_are_settled()
     streams_of_one_device_are_on_its_link();
     a_device_breaks_no_link();
     streams_that_live_heard_no_close();
-}
-
-/// Where all is settled, as many clients and streams were drawn as sessions were given.
-pub(crate) fn settled_worlds_are_counted()
-    ensures { (parts : Parts) → IsDone parts → IsCounted (view_of parts false true) }
-{
-    requests_open_their_service();
-    sessions_ask_for_services();
-}
-
-/// Where all is settled, the end of a session's client and all that follows it changes no file.
-pub(crate) fn ended_sessions_change_no_file()
-    ensures { (number : ℕ) (old mid new : Parts) → IsDone old → HasEnded number old mid new
-        → files_of new.device ≡ files_of old.device }
-{
-    carries_rest();
-    what_came_stays();
-    most_entries_send_nothing();
-    a_client_sends_up_its_own_stream();
-    sessions_ask_for_services();
-    a_device_breaks_no_link();
-    settled_worlds_are_counted();
-}
-
-/// A world to which no session was given has no files.
-pub(crate) fn new_worlds_have_no_files()
-    ensures { (parts : Parts) → IsRunning parts → parts.given ≡ 0 → files_of parts.device ≡ [] }
-{
-    sessions_ask_for_services();
 }

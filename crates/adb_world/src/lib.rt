@@ -2,20 +2,15 @@
 //! pieces and in an order that a seed picks, until none can move.
 #![tactic(auto)]
 
-mod asking;
 mod calls;
 mod choices;
-mod ending;
 mod laws;
 mod moving;
 mod parts;
 mod session;
 mod settling;
-mod starting;
 mod steps;
-#[cfg(test)]
-mod tests;
 mod world;
 
-pub use session::{REPLIES, Session};
+pub use session::Session;
 pub use world::{World, settle};

@@ -5,16 +5,16 @@ use Rattle.adb_world.specs.Settled.{Goes, Rests}
 use Rattle.adb_world.proofs.Going.{goes_further}
 use Rattle.adb_world.proofs.settling.settle_parts.Goals as goal
 
-pub returns-then-not-branch-clause-done : goal.returns-then-not-branch-clause-done
-returns-then-not-branch-clause-done c =
+pub returns-then-not-branch-clause-settled : goal.returns-then-not-branch-clause-settled
+returns-then-not-branch-clause-settled c =
     let goes = subst (λ (b : Bool). Goes Rests b c.loop-steps.parts c.step.new.parts) c.if-not-branch.true c.in_ok-step.ensures in
-    c.worlds_that_rest_are_settled.ensures c.step.new.parts (subst IsRunning (sym goes.0) c.loop-steps.invariant.runs)
+    c.worlds_that_rest_are_settled.ensures.settled c.step.new.parts (subst IsRunning (sym goes.0) c.loop-steps.invariant.runs)
     (subst Rests (sym goes.0) goes.1)
 
-pub returns-then-not-branch-clause-answered : goal.returns-then-not-branch-clause-answered
-returns-then-not-branch-clause-answered c =
+pub returns-then-not-branch-clause-counted : goal.returns-then-not-branch-clause-counted
+returns-then-not-branch-clause-counted c =
     let goes = subst (λ (b : Bool). Goes Rests b c.loop-steps.parts c.step.new.parts) c.if-not-branch.true c.in_ok-step.ensures in
-    c.worlds_that_rest_are_settled.ensures.answered c.step.new.parts (subst IsRunning (sym goes.0) c.loop-steps.invariant.runs)
+    c.worlds_that_rest_are_settled.ensures.counted c.step.new.parts (subst IsRunning (sym goes.0) c.loop-steps.invariant.runs)
     (subst Rests (sym goes.0) goes.1)
 
 pub loop-steps-preserved : goal.loop-steps-preserved

@@ -1,7 +1,0 @@
-//! What a service makes of payloads that come one behind the other. Each function does nothing: its
-//! contract is the law.
-#![tactic(auto)]
-
-mod laws;
-
-pub use laws::payloads_in_turn_are_one;

@@ -1,4 +1,0 @@
-pub mod Standing
-pub mod Exchanges
-pub mod Echoes
-pub mod Lines

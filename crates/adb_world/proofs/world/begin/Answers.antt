@@ -1,0 +1,15 @@
+use Rattle.std.specs.Prelude.{ℕ, List}
+use Rattle.std.proofs.Common.{◌≡◌, ◌∙◌, sym, ap, subst}
+use Rattle.adb_laws_sessions.specs.Words.{IsKnown}
+use Rattle.adb_world.specs.Session.{new_session}
+use Rattle.adb_world.specs.declared.session.Session.{Session}
+use Rattle.adb_world.proofs.world.begin.Goals as goal
+
+pub join-requires-clause-fresh : goal.join-requires-clause-fresh
+join-requires-clause-fresh c =
+    let service : c.in_ok-session.session.service ≡ c.args.service.now = ap (λ (s : Session). s.service) c.in_ok-session.ensures in
+    record {
+      text = c.args.text.now;
+      known = subst IsKnown (sym service) c.requires.known;
+      is = c.in_ok-session.ensures ∙ ap (λ (x : List ℕ). new_session x c.args.text.now) (sym service);
+    }

@@ -1,0 +1,5 @@
+//! Worlds: what no clause says.
+#![tactic(auto)]
+
+#[cfg(test)]
+mod settling;
