@@ -1,11 +1,11 @@
 //! Where clients and devices are served.
 
 ghost use Rattle.std.specs.Prelude.{◌≡◌, ◌≢◌, Err, false};
-ghost use Rattle.adb_desk_log.specs.declared.error.DeskError.{DeskError};
 
 use crate::halves::{Inlet, Outlet};
 use crate::kit::{Clapper, Kits, make_kits};
 use crate::plugging::Transport;
+use crate::refusals::go_on;
 use crate::server::Served;
 use crate::work::{Task, Work};
 use adb_binder::Binder;
@@ -14,7 +14,6 @@ use adb_client_reader::{Admitted, admit};
 use adb_connections::{Bell, Door, Gate, PortIn, PortOut};
 use adb_desk_log::{ClientIn, ClientOut, DeskError, Marks};
 use adb_hall::Hall;
-use adb_hub::HubError;
 use adb_locked_hall::LockedHall;
 use adb_spawner::{Crew, Job};
 use adb_yard::Yard;
@@ -164,23 +163,7 @@ impl<
                 self.hall.halt();
                 Err(Served::DoorFault)
             }
-            Admitted::Refused(error) => self.go_on(error),
-        }
-    }
-
-    /// Whether more may come behind one that the hall refused.
-    fn go_on(&mut self, error: DeskError) -> Result<(), Served>
-        ensures record { error ≢ DeskError.RecordFault → result ≢ Err Served.RecordFault }
-        ensures others { (result ≢ Err Served.DoorFault) × (result ≢ Err Served.Done)
-            × (result ≢ Err Served.WriteFault) }
-    {
-        match error {
-            DeskError::Hub(HubError::OutOfMemory) => {
-                self.hall.halt();
-                Err(Served::OutOfMemory)
-            }
-            DeskError::RecordFault => Err(Served::RecordFault),
-            _ => Ok(()),
+            Admitted::Refused(error) => go_on(&mut self.hall, error),
         }
     }
 
