@@ -3,7 +3,7 @@
 ghost use Rattle.std.specs.Prelude.{◌≡◌, ◌≢◌, Err, false};
 
 use crate::halves::{Inlet, Outlet};
-use crate::kit::{Clapper, Kits, make_kits};
+use crate::kit::{BellHandle, Kits, make_kits};
 use crate::plugging::Transport;
 use crate::refusals::go_on;
 use crate::server::Served;
@@ -39,8 +39,8 @@ pub(crate) struct House<
 > {
     pub(crate) rt: W,
     pub(crate) hall: LockedHall<R, E, M, K, W>,
-    pub(crate) crew: Crew<W, Work<W, R, E, M, K, I, O, P, G, Clapper<B>, X, Z>>,
-    pub(crate) bell: Clapper<B>,
+    pub(crate) crew: Crew<W, Work<W, R, E, M, K, I, O, P, G, BellHandle<B>, X, Z>>,
+    pub(crate) bell: BellHandle<B>,
 }
 
 impl<
@@ -59,7 +59,7 @@ impl<
 > House<W, R, E, M, K, I, O, P, G, B, X, Z> {
     /// Starts the workers of a device. Where no thread can be had its link is ended, and where that
     /// is so of the writer it is unplugged within this call.
-    fn start_device(&mut self, device: Transport<W, R, E, M, K, G, Clapper<B>, X, Z>) {
+    fn start_device(&mut self, device: Transport<W, R, E, M, K, G, BellHandle<B>, X, Z>) {
         let Transport { read, write } = device;
         let link = read.pass.number();
         if let Err(job) = self.crew.spawn(Work::ReadDevice(read)) {
@@ -75,7 +75,7 @@ impl<
     /// Starts the workers of devices, in their order.
     pub(crate) fn start_devices(
         &mut self,
-        plugged: Vec<Transport<W, R, E, M, K, G, Clapper<B>, X, Z>>,
+        plugged: Vec<Transport<W, R, E, M, K, G, BellHandle<B>, X, Z>>,
     ) {
         for device in plugged {
             self.start_device(device);
@@ -83,7 +83,10 @@ impl<
     }
 
     /// Starts a client's reader. Where no thread can be had the client's input is ended.
-    fn start_reader(&mut self, task: Task<W, R, E, M, K, G, Clapper<B>, ClientIn<E, M, K>, I, P>) {
+    fn start_reader(
+        &mut self,
+        task: Task<W, R, E, M, K, G, BellHandle<B>, ClientIn<E, M, K>, I, P>,
+    ) {
         let client = task.pass.number();
         if let Err(job) = self.crew.spawn(Work::ReadClient(task)) {
             let _ = self.hall.no_thread_client(client, self.crew.no_thread());
@@ -95,7 +98,7 @@ impl<
     /// port is closed within this call.
     fn start_writer(
         &mut self,
-        task: Task<W, R, E, M, K, G, Clapper<B>, ClientOut<E, M, K>, O, ()>,
+        task: Task<W, R, E, M, K, G, BellHandle<B>, ClientOut<E, M, K>, O, ()>,
     ) {
         let client = task.pass.number();
         if let Err(job) = self.crew.spawn(Work::WriteClient(task)) {
@@ -128,7 +131,7 @@ impl<
 
     fn take_with<D: Door<In = I, Out = O>>(
         &mut self,
-        kits: Kits<W, R, E, M, K, G, Clapper<B>>,
+        kits: Kits<W, R, E, M, K, G, BellHandle<B>>,
         ports: P,
         door: &mut D,
     ) -> Result<(), Served>

@@ -3,7 +3,7 @@
 ghost use Rattle.std.specs.Prelude.{◌≢◌, ◌<◌, Err, OnOk, vec_len, vec_capacity};
 
 use crate::halves::{BoxedIn, BoxedOut, Outlet};
-use crate::kit::{Clapper, Kits, make_kits};
+use crate::kit::{BellHandle, Kits, make_kits};
 use crate::refusals::go_on;
 use crate::server::Served;
 use crate::work::Task;
@@ -68,9 +68,9 @@ pub(crate) fn plug_all<
     alloc: Global,
     yard: &mut Y,
     hall: &mut LockedHall<R, E, M, K, W>,
-    bell: &Clapper<B>,
+    bell: &BellHandle<B>,
     devices: Vec<Device>,
-    plugged: &mut Vec<Transport<W, R, E, M, K, G, Clapper<B>, BoxedIn, BoxedOut>>,
+    plugged: &mut Vec<Transport<W, R, E, M, K, G, BellHandle<B>, BoxedIn, BoxedOut>>,
 ) -> Result<(), Served>
     ensures record { K.steady → result ≢ Err Served.RecordFault }
     ensures other { (result ≢ Err Served.DoorFault) × (result ≢ Err Served.Done)
@@ -98,9 +98,9 @@ fn provide<
     alloc: Global,
     yard: &mut Y,
     hall: &LockedHall<R, E, M, K, W>,
-    bell: &Clapper<B>,
+    bell: &BellHandle<B>,
     plugged: &mut Vec<T>,
-) -> Result<Provision<W, R, E, M, K, G, Clapper<B>>, AllocError>
+) -> Result<Provision<W, R, E, M, K, G, BellHandle<B>>, AllocError>
     ensures room { OnOk result (vec_len plugged.new < vec_capacity plugged.new) }
 {
     let kits = make_kits(rt, (yard.gate(), yard.gate()), hall, bell)?;
@@ -123,9 +123,9 @@ fn plug<
     alloc: Global,
     yard: &mut Y,
     hall: &mut LockedHall<R, E, M, K, W>,
-    bell: &Clapper<B>,
+    bell: &BellHandle<B>,
     device: Device,
-    plugged: &mut Vec<Transport<W, R, E, M, K, G, Clapper<B>, BoxedIn, BoxedOut>>,
+    plugged: &mut Vec<Transport<W, R, E, M, K, G, BellHandle<B>, BoxedIn, BoxedOut>>,
 ) -> Result<(), Served>
     ensures record { K.steady → result ≢ Err Served.RecordFault }
     ensures other { (result ≢ Err Served.DoorFault) × (result ≢ Err Served.Done)
