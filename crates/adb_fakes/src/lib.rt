@@ -14,4 +14,4 @@ pub use gate::{HoldingGate, MOST_TURNS};
 pub use lines::lines_of;
 pub use recorder::{Kept, SharedRecorder};
 pub use sent::{Sent, SharedOut};
-pub use yard::{FakeYard, Wrong};
+pub use yard::FakeYard;

@@ -50,11 +50,6 @@ impl<W: Wait + Copy + Drop> Sent<W> {
         self.store.lock(&self.rt).bytes.as_slice() == bytes
     }
 
-    /// How many bytes were sent.
-    pub fn len(&self) -> usize {
-        self.store.lock(&self.rt).bytes.len()
-    }
-
     /// Whether it was closed, or unplugged.
     pub fn is_closed(&self) -> bool {
         self.store.lock(&self.rt).closed

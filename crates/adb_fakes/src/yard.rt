@@ -19,16 +19,8 @@ use std::sync::{Arc, Wait};
 /// The most bytes that a client of a yard sends at once.
 const PIECE: usize = 65_536;
 
-/// What a test may want to go wrong of what a yard gives.
-#[derive(Clone, Copy, Debug, PartialEq, Eq, Drop)]
-pub enum Wrong {
-    /// That a client is accepted.
-    Accept,
-    /// That a job is run, where no threads run them.
-    Spawn,
-    /// That the port of a forward is bound.
-    Bind,
-}
+/// The port that the first forward of a client is bound to where it asks for any.
+const FIRST_PORT: u16 = 40_000;
 
 /// The yard of a test. Clients come at its door in the order of `call`, and the door is closed
 /// behind them. Its server is told to listen on port 1 where it asks for any.
@@ -48,7 +40,6 @@ pub struct FakeYard<W: Wait + Copy + Drop> {
     deaf: bool,
     accepts: Vec<u64>,
     spawns: Vec<u64>,
-    binds: Vec<u64>,
     answer: Option<Text>,
     asked: Sent<W>,
     faults: u64,
@@ -78,7 +69,6 @@ impl<W: Wait + Copy + Drop> FakeYard<W> {
             deaf: false,
             accepts: Vec::new(alloc),
             spawns: Vec::new(alloc),
-            binds: Vec::new(alloc),
             answer: None,
             asked: Sent::new(rt, alloc)?,
             faults: 0,
@@ -95,14 +85,15 @@ impl<W: Wait + Copy + Drop> FakeYard<W> {
         self.deaf = true;
     }
 
-    /// These calls fail, by their numbers, counted from 1. Those that bind a port are counted for
-    /// the first client alone.
-    pub fn fail(&mut self, wrong: Wrong, calls: Vec<u64>) {
-        match wrong {
-            Wrong::Accept => self.accepts = calls,
-            Wrong::Spawn => self.spawns = calls,
-            Wrong::Bind => self.binds = calls,
-        }
+    /// The door fails at these calls, by their numbers, counted from 1.
+    pub fn fail_accepts(&mut self, calls: Vec<u64>) {
+        self.accepts = calls;
+    }
+
+    /// No thread can be had at these calls that give a job, by their numbers, counted from 1, where
+    /// no threads run the jobs.
+    pub fn fail_spawns(&mut self, calls: Vec<u64>) {
+        self.spawns = calls;
     }
 
     /// One more client comes, which sends these bytes. Of its connection the reads and writes fail
@@ -239,7 +230,7 @@ impl<W: Wait + Copy + Send + Sync + Drop + 'static> Yard for FakeYard<W> {
     }
 
     fn ports(&mut self) -> MemoryBinder {
-        MemoryBinder::new(self.alloc, 40_000, moved_out(self.alloc, &mut self.binds))
+        MemoryBinder::new(self.alloc, FIRST_PORT, Vec::new(self.alloc))
     }
 
     fn gate(&mut self) -> HoldingGate<W> {

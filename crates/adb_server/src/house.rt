@@ -1,11 +1,11 @@
 //! Where clients and devices are served.
 
 ghost use Rattle.std.specs.Prelude.{◌≡◌, ◌≢◌, Err, false};
-ghost use Rattle.adb_desk_log.specs.declared.error.DeskError.{DeskError};
 
 use crate::halves::{Inlet, Outlet};
-use crate::kit::{Clapper, Kits, make_kits};
+use crate::kit::{BellHandle, Kits, make_kits};
 use crate::plugging::Transport;
+use crate::refusals::go_on;
 use crate::server::Served;
 use crate::work::{Task, Work};
 use adb_binder::Binder;
@@ -14,7 +14,6 @@ use adb_client_reader::{Admitted, admit};
 use adb_connections::{Bell, Door, Gate, PortIn, PortOut};
 use adb_desk_log::{ClientIn, ClientOut, DeskError, Marks};
 use adb_hall::Hall;
-use adb_hub::HubError;
 use adb_locked_hall::LockedHall;
 use adb_spawner::{Crew, Job};
 use adb_yard::Yard;
@@ -40,8 +39,8 @@ pub(crate) struct House<
 > {
     pub(crate) rt: W,
     pub(crate) hall: LockedHall<R, E, M, K, W>,
-    pub(crate) crew: Crew<W, Work<W, R, E, M, K, I, O, P, G, Clapper<B>, X, Z>>,
-    pub(crate) bell: Clapper<B>,
+    pub(crate) crew: Crew<W, Work<W, R, E, M, K, I, O, P, G, BellHandle<B>, X, Z>>,
+    pub(crate) bell: BellHandle<B>,
 }
 
 impl<
@@ -60,7 +59,7 @@ impl<
 > House<W, R, E, M, K, I, O, P, G, B, X, Z> {
     /// Starts the workers of a device. Where no thread can be had its link is ended, and where that
     /// is so of the writer it is unplugged within this call.
-    fn start_device(&mut self, device: Transport<W, R, E, M, K, G, Clapper<B>, X, Z>) {
+    fn start_device(&mut self, device: Transport<W, R, E, M, K, G, BellHandle<B>, X, Z>) {
         let Transport { read, write } = device;
         let link = read.pass.number();
         if let Err(job) = self.crew.spawn(Work::ReadDevice(read)) {
@@ -76,7 +75,7 @@ impl<
     /// Starts the workers of devices, in their order.
     pub(crate) fn start_devices(
         &mut self,
-        plugged: Vec<Transport<W, R, E, M, K, G, Clapper<B>, X, Z>>,
+        plugged: Vec<Transport<W, R, E, M, K, G, BellHandle<B>, X, Z>>,
     ) {
         for device in plugged {
             self.start_device(device);
@@ -84,7 +83,10 @@ impl<
     }
 
     /// Starts a client's reader. Where no thread can be had the client's input is ended.
-    fn start_reader(&mut self, task: Task<W, R, E, M, K, G, Clapper<B>, ClientIn<E, M, K>, I, P>) {
+    fn start_reader(
+        &mut self,
+        task: Task<W, R, E, M, K, G, BellHandle<B>, ClientIn<E, M, K>, I, P>,
+    ) {
         let client = task.pass.number();
         if let Err(job) = self.crew.spawn(Work::ReadClient(task)) {
             let _ = self.hall.no_thread_client(client, self.crew.no_thread());
@@ -96,7 +98,7 @@ impl<
     /// port is closed within this call.
     fn start_writer(
         &mut self,
-        task: Task<W, R, E, M, K, G, Clapper<B>, ClientOut<E, M, K>, O, ()>,
+        task: Task<W, R, E, M, K, G, BellHandle<B>, ClientOut<E, M, K>, O, ()>,
     ) {
         let client = task.pass.number();
         if let Err(job) = self.crew.spawn(Work::WriteClient(task)) {
@@ -129,7 +131,7 @@ impl<
 
     fn take_with<D: Door<In = I, Out = O>>(
         &mut self,
-        kits: Kits<W, R, E, M, K, G, Clapper<B>>,
+        kits: Kits<W, R, E, M, K, G, BellHandle<B>>,
         ports: P,
         door: &mut D,
     ) -> Result<(), Served>
@@ -164,23 +166,7 @@ impl<
                 self.hall.halt();
                 Err(Served::DoorFault)
             }
-            Admitted::Refused(error) => self.go_on(error),
-        }
-    }
-
-    /// Whether more may come behind one that the hall refused.
-    fn go_on(&mut self, error: DeskError) -> Result<(), Served>
-        ensures record { error ≢ DeskError.RecordFault → result ≢ Err Served.RecordFault }
-        ensures others { (result ≢ Err Served.DoorFault) × (result ≢ Err Served.Done)
-            × (result ≢ Err Served.WriteFault) }
-    {
-        match error {
-            DeskError::Hub(HubError::OutOfMemory) => {
-                self.hall.halt();
-                Err(Served::OutOfMemory)
-            }
-            DeskError::RecordFault => Err(Served::RecordFault),
-            _ => Ok(()),
+            Admitted::Refused(error) => go_on(&mut self.hall, error),
         }
     }
 

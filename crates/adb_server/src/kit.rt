@@ -13,36 +13,36 @@ use std::sync::{Arc, Wait};
 ///
 /// It says nothing of threads, as `Bell` does: a job is run by calls that rest on no such bound.
 pub(crate) trait Ringing: Drop {
-    fn ring_it(&self);
+    fn ring(&self);
 }
 
-/// A share of the bell of a door.
+/// A handle of the bell of a door.
 #[derive(Drop)]
-pub(crate) struct Clapper<B: Bell> {
+pub(crate) struct BellHandle<B: Bell> {
     bell: Arc<B, Global>,
 }
 
-impl<B: Bell> Clapper<B> {
-    pub(crate) fn new(alloc: Global, bell: B) -> Result<Clapper<B>, AllocError> {
-        Ok(Clapper {
+impl<B: Bell> BellHandle<B> {
+    pub(crate) fn new(alloc: Global, bell: B) -> Result<BellHandle<B>, AllocError> {
+        Ok(BellHandle {
             bell: Arc::new(alloc, bell)?,
         })
     }
 
-    pub(crate) fn share(&self) -> Result<Clapper<B>, AllocError> {
-        Ok(Clapper {
+    pub(crate) fn handle(&self) -> Result<BellHandle<B>, AllocError> {
+        Ok(BellHandle {
             bell: Arc::try_clone(&self.bell)?,
         })
     }
 }
 
-impl<B: Bell> Ringing for Clapper<B> {
-    fn ring_it(&self) {
+impl<B: Bell> Ringing for BellHandle<B> {
+    fn ring(&self) {
         self.bell.ring();
     }
 }
 
-/// What each job owns: a handle of the hall, a gate, and a share of the bell.
+/// What each job owns: a handle of the hall, a gate, and a handle of the bell.
 #[derive(Drop)]
 pub(crate) struct Kit<
     W: Wait + Copy + Drop,
@@ -71,7 +71,7 @@ impl<W: Wait + Copy + Drop, R: Recorder, E: Ledger, M: Ledger, K: Marks, G: Drop
     /// Rings the bell where nobody more shall come.
     pub(crate) fn ring(&mut self) {
         if self.hall.over().is_some() {
-            self.bell.ring_it();
+            self.bell.ring();
         }
     }
 }
@@ -105,8 +105,8 @@ pub(crate) fn make_kits<
     rt: W,
     gates: (G, G),
     hall: &LockedHall<R, E, M, K, W>,
-    bell: &Clapper<B>,
-) -> Result<Kits<W, R, E, M, K, G, Clapper<B>>, AllocError> {
+    bell: &BellHandle<B>,
+) -> Result<Kits<W, R, E, M, K, G, BellHandle<B>>, AllocError> {
     let (reading, writing) = gates;
     Ok(Kits {
         reader: make_kit(rt, reading, hall, bell)?,
@@ -118,12 +118,12 @@ fn make_kit<W: Wait + Copy + Drop, R: Recorder, E: Ledger, M: Ledger, K: Marks, 
     rt: W,
     gate: G,
     hall: &LockedHall<R, E, M, K, W>,
-    bell: &Clapper<B>,
-) -> Result<Kit<W, R, E, M, K, G, Clapper<B>>, AllocError> {
+    bell: &BellHandle<B>,
+) -> Result<Kit<W, R, E, M, K, G, BellHandle<B>>, AllocError> {
     Ok(Kit {
         rt,
         hall: hall.handle()?,
         gate,
-        bell: bell.share()?,
+        bell: bell.handle()?,
     })
 }

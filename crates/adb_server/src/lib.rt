@@ -6,6 +6,7 @@ mod house;
 mod kit;
 mod listening;
 mod plugging;
+mod refusals;
 mod server;
 mod work;
 

@@ -3,15 +3,15 @@
 ghost use Rattle.std.specs.Prelude.{◌≢◌, ◌<◌, Err, OnOk, vec_len, vec_capacity};
 
 use crate::halves::{BoxedIn, BoxedOut, Outlet};
-use crate::kit::{Clapper, Kits, make_kits};
+use crate::kit::{BellHandle, Kits, make_kits};
+use crate::refusals::go_on;
 use crate::server::Served;
 use crate::work::Task;
 use adb_capture::Recorder;
 use adb_connections::{Bell, Gate};
-use adb_desk_log::{DeskError, LinkIn, LinkOut, Marks};
+use adb_desk_log::{LinkIn, LinkOut, Marks};
 use adb_device_reader::{Device, Plugged, plug_in};
 use adb_hall::Hall;
-use adb_hub::HubError;
 use adb_locked_hall::LockedHall;
 use adb_wire::Slicer;
 use adb_yard::Yard;
@@ -36,6 +36,22 @@ pub(crate) struct Transport<
     pub(crate) write: Task<W, R, E, M, K, G, B, LinkOut<E, M, K>, Z, ()>,
 }
 
+/// What is made for a device before it is asked for: what its workers own, and what cuts what it
+/// sends into packets.
+#[derive(Drop)]
+struct Provision<
+    W: Wait + Copy + Drop,
+    R: Recorder,
+    E: Ledger,
+    M: Ledger,
+    K: Marks,
+    G: Drop,
+    B: Drop,
+> {
+    kits: Kits<W, R, E, M, K, G, B>,
+    slicer: Slicer,
+}
+
 /// Plugs in devices, in their order. Those that come are added to `plugged`; one that does not, and
 /// one that the hall refuses, is unplugged. At `Err` the hall is shut, and no more are asked.
 pub(crate) fn plug_all<
@@ -52,9 +68,9 @@ pub(crate) fn plug_all<
     alloc: Global,
     yard: &mut Y,
     hall: &mut LockedHall<R, E, M, K, W>,
-    bell: &Clapper<B>,
+    bell: &BellHandle<B>,
     devices: Vec<Device>,
-    plugged: &mut Vec<Transport<W, R, E, M, K, G, Clapper<B>, BoxedIn, BoxedOut>>,
+    plugged: &mut Vec<Transport<W, R, E, M, K, G, BellHandle<B>, BoxedIn, BoxedOut>>,
 ) -> Result<(), Served>
     ensures record { K.steady → result ≢ Err Served.RecordFault }
     ensures other { (result ≢ Err Served.DoorFault) × (result ≢ Err Served.Done)
@@ -66,7 +82,7 @@ pub(crate) fn plug_all<
     Ok(())
 }
 
-/// Makes what the workers of the next device own, and room for it.
+/// Makes what the next device wants, and room for it among those that are plugged in.
 fn provide<
     W: Wait + Copy + Drop,
     R: Recorder,
@@ -82,15 +98,15 @@ fn provide<
     alloc: Global,
     yard: &mut Y,
     hall: &LockedHall<R, E, M, K, W>,
-    bell: &Clapper<B>,
+    bell: &BellHandle<B>,
     plugged: &mut Vec<T>,
-) -> Result<(Kits<W, R, E, M, K, G, Clapper<B>>, Slicer), AllocError>
+) -> Result<Provision<W, R, E, M, K, G, BellHandle<B>>, AllocError>
     ensures room { OnOk result (vec_len plugged.new < vec_capacity plugged.new) }
 {
     let kits = make_kits(rt, (yard.gate(), yard.gate()), hall, bell)?;
     let slicer = Slicer::new(alloc)?;
     plugged.reserve(1)?;
-    Ok((kits, slicer))
+    Ok(Provision { kits, slicer })
 }
 
 fn plug<
@@ -107,51 +123,56 @@ fn plug<
     alloc: Global,
     yard: &mut Y,
     hall: &mut LockedHall<R, E, M, K, W>,
-    bell: &Clapper<B>,
+    bell: &BellHandle<B>,
     device: Device,
-    plugged: &mut Vec<Transport<W, R, E, M, K, G, Clapper<B>, BoxedIn, BoxedOut>>,
+    plugged: &mut Vec<Transport<W, R, E, M, K, G, BellHandle<B>, BoxedIn, BoxedOut>>,
 ) -> Result<(), Served>
     ensures record { K.steady → result ≢ Err Served.RecordFault }
     ensures other { (result ≢ Err Served.DoorFault) × (result ≢ Err Served.Done)
         × (result ≢ Err Served.WriteFault) }
 {
     let mut device = device;
-    let Ok(made) = provide(rt, alloc, yard, hall, bell, plugged) else {
+    let Ok(provision) = provide(rt, alloc, yard, hall, bell, plugged) else {
         hall.halt();
         return Err(Served::OutOfMemory);
     };
-    let (kits, slicer) = made;
     match plug_in(hall, &mut device) {
         Plugged::Link { reading, writing } => {
-            let Device { input, output, .. } = device;
-            let read = Task {
-                kit: kits.reader,
-                pass: reading,
-                port: BoxedIn { port: input },
-                aid: slicer,
-            };
-            let write = Task {
-                kit: kits.writer,
-                pass: writing,
-                port: BoxedOut { port: output },
-                aid: (),
-            };
-            plugged.push_reserved(Transport { read, write });
+            plugged.push_reserved(connect(provision, device, reading, writing));
             Ok(())
         }
-        Plugged::Refused(DeskError::Hub(HubError::OutOfMemory)) => {
+        Plugged::Refused(error) => {
             device.output.unplug();
-            hall.halt();
-            Err(Served::OutOfMemory)
+            go_on(hall, error)
         }
-        Plugged::Refused(DeskError::RecordFault) => {
-            device.output.unplug();
-            Err(Served::RecordFault)
-        }
-        Plugged::Never | Plugged::Failed | Plugged::Refused(_) => {
+        Plugged::Never | Plugged::Failed => {
             device.output.unplug();
             Ok(())
         }
+    }
+}
+
+/// What the workers of a device that has a link work on.
+fn connect<W: Wait + Copy + Drop, R: Recorder, E: Ledger, M: Ledger, K: Marks, G: Drop, B: Drop>(
+    provision: Provision<W, R, E, M, K, G, B>,
+    device: Device,
+    reading: LinkIn<E, M, K>,
+    writing: LinkOut<E, M, K>,
+) -> Transport<W, R, E, M, K, G, B, BoxedIn, BoxedOut> {
+    let Device { input, output, .. } = device;
+    Transport {
+        read: Task {
+            kit: provision.kits.reader,
+            pass: reading,
+            port: BoxedIn { port: input },
+            aid: provision.slicer,
+        },
+        write: Task {
+            kit: provision.kits.writer,
+            pass: writing,
+            port: BoxedOut { port: output },
+            aid: (),
+        },
     }
 }
 

@@ -8,7 +8,7 @@ ghost use Rattle.adb_server.specs.Served.{Announces, is_write_fault};
 
 use crate::halves::{BoxedIn, BoxedOut, Inlet, Outlet};
 use crate::house::House;
-use crate::kit::Clapper;
+use crate::kit::BellHandle;
 use crate::listening::announce;
 use crate::plugging::{Transport, plug_all, unplug_all};
 use adb_binder::Binder;
@@ -143,7 +143,7 @@ fn serve_with<
     let Ok(mut hall) = hall else {
         return Served::OutOfMemory;
     };
-    let Ok(bell) = Clapper::new(alloc, bell) else {
+    let Ok(bell) = BellHandle::new(alloc, bell) else {
         return Served::OutOfMemory;
     };
     let mut plugged = Vec::new(alloc);
@@ -183,9 +183,9 @@ fn serve_all<
     alloc: Global,
     yard: Y,
     door: D,
-    bell: Clapper<B>,
+    bell: BellHandle<B>,
     hall: LockedHall<R, E, M, K, W>,
-    plugged: Vec<Transport<W, R, E, M, K, G, Clapper<B>, X, Z>>,
+    plugged: Vec<Transport<W, R, E, M, K, G, BellHandle<B>, X, Z>>,
     refused: Result<(), Served>,
 ) -> Served
     ensures record { (K.steady → refused ≢ Err Served.RecordFault)

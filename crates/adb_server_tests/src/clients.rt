@@ -2,7 +2,7 @@
 
 use adb_connections::Place;
 use adb_device_reader::Device;
-use adb_fakes::{FakeYard, Kept, Sent, Wrong};
+use adb_fakes::{FakeYard, Kept, Sent};
 use adb_outside::MemorySink;
 use adb_server::{Served, serve};
 use std::alloc::{AllocError, Global};
@@ -165,8 +165,8 @@ fn client_is_served<W: Threads + Wait + Copy + Send + Sync + Drop + 'static>(
 ) -> Result<bool, AllocError> {
     let kept = Kept::new(rt, alloc, Vec::from_slice(alloc, row.keeps)?)?;
     let mut yard = FakeYard::new(rt, alloc, kept.handle()?)?;
-    yard.fail(Wrong::Accept, Vec::from_slice(alloc, row.accepts)?);
-    yard.fail(Wrong::Spawn, Vec::from_slice(alloc, row.spawns)?);
+    yard.fail_accepts(Vec::from_slice(alloc, row.accepts)?);
+    yard.fail_spawns(Vec::from_slice(alloc, row.spawns)?);
     let reads = Vec::from_slice(alloc, row.reads)?;
     let _sent = yard.call(VERSION, reads, Vec::from_slice(alloc, row.writes)?)?;
     let served = served(rt, alloc, yard, Vec::new(alloc));
@@ -177,11 +177,24 @@ fn is_told<W: Wait + Copy + Drop>(kept: &Kept<W>, told: &[u8]) -> Result<bool, A
     Ok(kept.lines()?.as_slice() == told)
 }
 
+/// Whether a server that can listen on no port says so, and nothing in its note.
+fn deaf_is_told<W: Threads + Wait + Copy + Send + Sync + Drop + 'static>(
+    rt: W,
+    alloc: Global,
+) -> Result<bool, AllocError> {
+    let mut yard = FakeYard::new(rt, alloc, Kept::new(rt, alloc, Vec::new(alloc))?)?;
+    yard.be_deaf();
+    let mut note = MemorySink::new(alloc, Vec::new(alloc));
+    let served = serve(rt, alloc, yard, Vec::new(alloc), 5037, true, &mut note);
+    Ok(served == Served::DoorFault && note.bytes().is_empty())
+}
+
 #[test]
 fn clients_are_served(rt: HostRuntime) -> Result<(), Fail> {
     let alloc = rt.alloc();
     assert!(rt; three_are_served(rt, alloc, false)?);
     assert!(rt; three_are_served(rt, alloc, true)?);
+    assert!(rt; deaf_is_told(rt, alloc)?);
     for row in CLIENTS {
         assert!(rt; client_is_served(rt, alloc, row)?, "{}", row.name);
     }

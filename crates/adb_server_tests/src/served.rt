@@ -2,7 +2,7 @@
 
 use crate::devices::{CNXN, device};
 use adb_connections::Plug;
-use adb_fakes::{FakeYard, Kept, Sent, SharedOut, Wrong};
+use adb_fakes::{FakeYard, Kept, Sent, SharedOut};
 use adb_outside::{MemorySink, Text};
 use adb_server::{Served, serve};
 use std::alloc::{AllocError, Global};
@@ -62,7 +62,7 @@ fn is_served<W: Threads + Wait + Copy + Send + Sync + Drop + 'static>(
     let kept = Kept::new(rt, alloc, Vec::new(alloc))?;
     let sent = Sent::new(rt, alloc)?;
     let mut yard = FakeYard::new(rt, alloc, kept.handle()?)?;
-    yard.fail(Wrong::Spawn, Vec::from_slice(alloc, row.spawns)?);
+    yard.fail_spawns(Vec::from_slice(alloc, row.spawns)?);
     let served = served(rt, alloc, yard, row, sent.handle()?)?;
     let lines = kept.lines()?;
     Ok(served == Served::Done && sent.is_closed() && lines.as_slice() == row.told)
