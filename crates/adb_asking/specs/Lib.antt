@@ -4,3 +4,5 @@ pub mod Lines
 pub mod Writing
 pub mod Telling
 pub mod Asking
+pub mod Jobs
+pub mod Calling

@@ -5,6 +5,7 @@
 mod asking;
 mod ends;
 mod input;
+mod job;
 mod lines;
 mod telling;
 mod writing;
@@ -12,3 +13,5 @@ mod writing;
 pub use asking::ask;
 pub use ends::ToolEnd;
 pub use input::{InputError, MAX_INPUT, read_input};
+pub use job::{Job, failed_input, make_job};
+pub use lines::{bad_answer_line, refused_line};

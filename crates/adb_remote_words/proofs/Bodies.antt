@@ -1,9 +1,8 @@
 -- What stands behind the OKAYs, piece by piece.
-use Rattle.std.proofs.Common.{ℕ, ◌≡◌, List, [], ◌∷◌, ◌++◌, refl, sym, ◌∙◌, ap, append_assoc, None}
+use Rattle.std.proofs.Common.{ℕ, ◌≡◌, List, [], ◌++◌, sym, ◌∙◌, ap, append_assoc, None}
 use Rattle.std.specs.Prelude.{⊤}
 use Rattle.adb_sync_client.specs.declared.kind.AnswerKind.TheVariants as kinds
 use Rattle.adb_sync_client.specs.declared.step.Step.{Step}
-use Rattle.adb_sync_client.specs.declared.step.Step.TheVariants.{More}
 use Rattle.adb_sync_client.specs.Asking.{Asking}
 use Rattle.adb_sync_client.specs.Reading.{StandsFor}
 use Rattle.adb_sync_client.specs.Values.{push_value, pull_value}
@@ -32,14 +31,14 @@ frames_fed job fed piece old new step reads stands =
 
 -- what a machine for a request tells of a piece
 pub record Asked {V : Type 0} (Stands : List ℕ → Asking → Type 0) (value : List ℕ → Step V) (piece : List ℕ) (told : Step V) (old new : Asking) : Type 0 where
-  pub told : (fed : List ℕ) → Stands fed old → told ≡ value (fed ++ piece)
-  pub stands : (fed : List ℕ) → Stands fed old → Stands (fed ++ piece) new
+  pub means : (fed : List ℕ) → Stands fed old → told ≡ value (fed ++ piece)
+  pub goes_on : (fed : List ℕ) → Stands fed old → Stands (fed ++ piece) new
 
 pub push_fed : (job : Remote) (fed piece : List ℕ) (old new : Asking) (told : Step ⊤) (step : Step Outcome)
     → step ≡ sync_step (λ done. Pushed) told → Asked (λ fed a. StandsFor kinds.Push fed a.read) push_value piece told old new
     → BodyStands job fed (Pushing old) → HasFed job (fed ++ piece) step (Pushing new)
 push_fed (Push path mtime bytes) fed piece old new told step is asked h =
-    record { now = is ∙ ap (sync_step (λ done. Pushed)) (asked.told fed h); stands = λ more. asked.stands fed h }
+    record { now = is ∙ ap (sync_step (λ done. Pushed)) (asked.means fed h); stands = λ more. asked.goes_on fed h }
 push_fed Devices fed piece old new told step is asked h = absurd h
 push_fed (Pull path) fed piece old new told step is asked h = absurd h
 push_fed (Shell command) fed piece old new told step is asked h = absurd h
@@ -49,7 +48,7 @@ pub pull_fed : (job : Remote) (fed piece : List ℕ) (old new : Asking) (told : 
     → step ≡ sync_step Pulled told → Asked (λ fed a. StandsFor kinds.Pull fed a.read) pull_value piece told old new
     → BodyStands job fed (Pulling old) → HasFed job (fed ++ piece) step (Pulling new)
 pull_fed (Pull path) fed piece old new told step is asked h =
-    record { now = is ∙ ap (sync_step Pulled) (asked.told fed h); stands = λ more. asked.stands fed h }
+    record { now = is ∙ ap (sync_step Pulled) (asked.means fed h); stands = λ more. asked.goes_on fed h }
 pull_fed Devices fed piece old new told step is asked h = absurd h
 pull_fed (Push path mtime bytes) fed piece old new told step is asked h = absurd h
 pull_fed (Shell command) fed piece old new told step is asked h = absurd h

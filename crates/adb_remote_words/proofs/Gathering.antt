@@ -1,5 +1,5 @@
 -- What frames mean that are taken one by one, and piece by piece.
-use Rattle.std.proofs.Common.{ℕ, ◌≡◌, List, [], ◌∷◌, ◌++◌, length, Bool, true, false, Option, Some, None, Result, refl, sym, ◌∙◌, ap, subst, arith, append_assoc}
+use Rattle.std.proofs.Common.{ℕ, ◌≡◌, List, [], ◌∷◌, ◌++◌, length, true, false, Option, Some, None, Result, refl, sym, ◌∙◌, ap, subst, arith, append_assoc}
 use Rattle.std.proofs.lemmas.List.{append-nil}
 use Rattle.adb_outside.specs.Framing.{Cut, cut, held_after, joined, answer_of}
 use Rattle.adb_outside.specs.declared.framer.FeedError.{FeedError}

@@ -1,11 +1,9 @@
 -- What is decided stays so, whatever follows.
-use Rattle.std.proofs.Common.{ℕ, zero, suc, ◌+◌, ◌-◌, ◌*◌, ◌≡◌, ◌≢◌, ◌≤◌, ◌<◌, List, [], ◌∷◌, ◌++◌, length, take, drop, cond, Bool, true, false, Option, Some, None, Result, refl, sym, ◌∙◌, ap, arith}
-use Rattle.std.specs.Prelude.{nat_lt, codes}
+use Rattle.std.proofs.Common.{ℕ, zero, suc, ◌+◌, ◌-◌, ◌≡◌, ◌≢◌, ◌≤◌, List, [], ◌∷◌, ◌++◌, length, take, drop, cond, Bool, true, false, Option, Some, None, Result, refl, sym, ◌∙◌, ap, arith}
+use Rattle.std.specs.Prelude.{nat_lt}
 use Rattle.std.proofs.lemmas.Bool.Decides.{nat_tests}
 use Rattle.std.proofs.lemmas.List.{length-append, length-take, drop-append-le, take-append-le, take_all}
-use Rattle.adb_outside.specs.declared.framer.Front.{Front}
 use Rattle.adb_outside.specs.declared.framer.Front.TheVariants as fronts
-use Rattle.adb_outside.specs.Framing.{Cut}
 use Rattle.adb_outside.proofs.FramingLaws.{cut_piece, fault_stays}
 use Rattle.adb_sync_client.specs.declared.kind.AnswerKind.{AnswerKind}
 use Rattle.adb_sync_client.specs.declared.kind.AnswerKind.TheVariants as kinds
@@ -82,17 +80,20 @@ body_stays stay (Pull path) x y some = sync_stays {A = List ℕ} stay kinds.Pull
 opened_stays : (further : List ℕ → Step Outcome) → ((x y : List ℕ) → further x ≢ steps.More → further (x ++ y) ≡ further x)
     → (offset n : ℕ) (x y : List ℕ) → opened offset n further x ≢ steps.More → opened offset n further (x ++ y) ≡ opened offset n further x
 opened_stays further stays offset zero x y some = stays x y some
-opened_stays further stays offset (suc n) x y some = go (begins_okay x) refl
+opened_stays further stays offset (suc n) x y some =
+    go (begins_okay x) refl (λ more. opened_stays further stays (offset + 4) n (drop 4 x) y more)
   where
-    go : (t : Bool) → begins_okay x ≡ t → opened offset (suc n) further (x ++ y) ≡ opened offset (suc n) further x
-    go true is =
+    go : (t : Bool) → begins_okay x ≡ t → (opened (offset + 4) n further (drop 4 x) ≢ steps.More
+        → opened (offset + 4) n further (drop 4 x ++ y) ≡ opened (offset + 4) n further (drop 4 x))
+        → opened offset (suc n) further (x ++ y) ≡ opened offset (suc n) further x
+    go true is behind =
         let len : 4 ≡ length (take 4 x) = ap (length {A = ℕ}) (okay_is x is) in
         let fits : 4 ≤ length x = omega (arith, len, length-take 4 x) in
         let here : opened offset (suc n) further x ≡ opened (offset + 4) n further (drop 4 x) =
         ap (λ t. cond t (opened (offset + 4) n further (drop 4 x)) (refusal offset x)) is in
         (λ i. cond ((okay_same x y fits ∙ is) i) (opened (offset + 4) n further (drop-append-le 4 x y fits i)) (refusal offset (x ++ y)))
-        ∙ (opened_stays further stays (offset + 4) n (drop 4 x) y (λ e. some (here ∙ e)) ∙ sym here)
-    go false is =
+        ∙ (behind (λ e. some (here ∙ e)) ∙ sym here)
+    go false is behind =
         let here : opened offset (suc n) further x ≡ refusal offset x =
         ap (λ t. cond t (opened (offset + 4) n further (drop 4 x)) (refusal offset x)) is in
         let none : status offset x ≡ fronts.More → ⊥ = λ e. some (here ∙ ap (refused_by x) e) in

@@ -1,6 +1,6 @@
 -- The OKAYs of an answer, one by one.
-use Rattle.std.proofs.Common.{ℕ, zero, suc, ◌+◌, ◌-◌, ◌*◌, ◌≡◌, ◌≤◌, ◌<◌, List, [], ◌∷◌, ◌++◌, length, take, drop, cond, Bool, true, false, refl, sym, ◌∙◌, ap, subst, arith}
-use Rattle.std.specs.Prelude.{codes, bytes_eq, get_or, ⊤}
+use Rattle.std.proofs.Common.{ℕ, zero, suc, ◌+◌, ◌*◌, ◌≡◌, ◌≤◌, ◌<◌, List, [], ◌∷◌, ◌++◌, length, take, drop, cond, Bool, true, false, Result, Ok, Err, refl, sym, ◌∙◌, ap, subst, arith}
+use Rattle.std.specs.Prelude.{codes, bytes_eq, get_or, IfOk, ⊤}
 use Rattle.std.proofs.lemmas.List.{take-append-le, drop-append-le, length-take}
 use Rattle.std.proofs.lemmas.Slice.Eq.{bytes_eq-Decides}
 use Rattle.adb_outside.specs.declared.framer.Front.{Front}
@@ -14,7 +14,7 @@ use Rattle.adb_remote_frames.specs.Framed.{frames_are_framed}
 use Rattle.adb_remote_words.specs.declared.remote.Outcome.{Outcome}
 use Rattle.adb_remote_words.specs.Held.{HeldOpening}
 use Rattle.adb_remote_words.specs.Meaning.{refused_by, refusal, opened}
-use Rattle.adb_remote_words.specs.Reading.{or_behind, Opened}
+use Rattle.adb_remote_words.specs.Reading.{Opened}
 use Rattle.adb_remote_words.specs.Words.{begins_okay, okays_at}
 
 -- ---- numbers, and steps that are no other
@@ -201,3 +201,19 @@ module _ (old : HeldOpening) (held : List ℕ) (okays : ℕ) (lacks : begins_oka
   opens_not zero step some on is = absurd (omega (arith, some))
   opens_not (suc m) step some on is =
       subst (λ s. Opened old s (now_at (suc m))) (sym is) (by_front m on (status (4 * okays) held) refl)
+
+-- the same of a call's answer
+pub refusal_opens : {E : Type 0} (old : HeldOpening) (held : List ℕ) (okays left offset : ℕ) (bytes : List ℕ) (result : Result (Step ⊤) E)
+    → begins_okay held ≡ false → 0 < left → (old.okays + old.left ≤ 2 → OpensOn old (opening_of held okays left)) → offset ≡ 4 * okays → bytes ≡ held
+    → IfOk result (λ step. step ≡ refusal offset bytes)
+    → IfOk result (λ step. old.okays + old.left ≤ 2 → Opened old step (opening_of held okays left))
+refusal_opens old held okays left offset bytes (Ok step) lacks some on at same is =
+    λ few. opens_not old held okays lacks left step some (on few) (is ∙ (λ i. refusal (at i) (same i)))
+refusal_opens old held okays left offset bytes (Err error) lacks some on at same is = tt
+
+pub opens_next : (old : HeldOpening) (held next : List ℕ) (okays more left now : ℕ) → begins_okay held ≡ true → next ≡ drop 4 held → more ≡ okays + 1
+    → now + 1 ≡ left → OpensOn old (opening_of held okays left) → OpensOn old (opening_of next more now)
+opens_next old held next okays more left now is cut counted one on =
+    let there = opens_one old held okays is left now one on in
+    let counts = subst (λ (n : ℕ). OpensOn old (opening_of (drop 4 held) n now)) (sym counted) there in
+    subst (λ (b : List ℕ). OpensOn old (opening_of b more now)) (sym cut) counts

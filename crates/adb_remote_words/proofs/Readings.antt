@@ -1,6 +1,6 @@
 -- An answer, piece by piece.
-use Rattle.std.proofs.Common.{ℕ, zero, suc, ◌+◌, ◌-◌, ◌*◌, ◌≡◌, ◌≤◌, ◌<◌, min, List, [], ◌∷◌, ◌++◌, length, take, drop, cond, Bool, true, false, refl, sym, ◌∙◌, ap, subst, arith, append_assoc}
-use Rattle.std.specs.Prelude.{⊤, nat_lt}
+use Rattle.std.proofs.Common.{ℕ, zero, suc, ◌+◌, ◌-◌, ◌*◌, ◌≡◌, ◌≤◌, ◌<◌, min, List, [], ◌∷◌, ◌++◌, length, take, drop, cond, Bool, true, false, Result, Ok, Err, refl, sym, ◌∙◌, ap, subst, arith, append_assoc}
+use Rattle.std.specs.Prelude.{⊤, nat_lt, IfOk}
 use Rattle.std.proofs.lemmas.Bool.Decides.{nat_tests}
 use Rattle.std.proofs.lemmas.List.{append-nil, length-append, length-take, length-drop, drop-append-le, take-append-drop, take_all}
 use Rattle.adb_sync_client.specs.declared.step.Step.{Step}
@@ -11,7 +11,7 @@ use Rattle.adb_remote_words.specs.declared.remote.Remote.{Remote}
 use Rattle.adb_remote_words.specs.declared.remote.Remote.TheVariants.{Devices, Push, Pull, Shell, Wait}
 use Rattle.adb_remote_words.specs.declared.remote.Outcome.{Outcome}
 use Rattle.adb_remote_words.specs.Held.{HeldOpening}
-use Rattle.adb_remote_words.specs.Meaning.{or_further, body_step, opened, answer_step, limited_at}
+use Rattle.adb_remote_words.specs.Meaning.{body_step, opened, answer_step, limited_at}
 use Rattle.adb_remote_words.specs.Outcome.{answer_so_far}
 use Rattle.adb_remote_words.specs.Words.{begins_okay, requests, okays_at}
 use Rattle.adb_remote_words.specs.Reading.{HeldAnswer, BodyStands, HasFed, or_behind, Opened, Means, Follows, ReadingStands, HasRead}
@@ -129,6 +129,82 @@ module _ (job : Remote) (fed piece : List ℕ) (old new : HeldOpening) (body : B
         };
       }
 
+-- ---- the same of calls' answers
+pub none_open : (n : ℕ) → nat_lt 0 n ≡ false → n ≡ 0
+none_open n e = grind (arith, nat_tests, e)
+
+pub some_open : (n : ℕ) → nat_lt 0 n ≡ true → 0 < n
+some_open n e = grind (arith, nat_tests, e)
+
+abbrev pub answer_of : HeldOpening → Body → ℕ → HeldAnswer
+answer_of o body count = record { opening = o; body = body; count = count }
+
+pub means_in : (job : Remote) (fed : List ℕ) (o : HeldOpening) (body : Body) (count : ℕ) (r : HeldAnswer) → answer_of o body count ≡ r
+    → Means job fed r.opening r.body → Means job fed o body
+means_in job fed o body count r view h = subst (λ (r : HeldAnswer). Means job fed r.opening r.body) (sym view) h
+
+module _ {E : Type 0} (job : Remote) (piece : List ℕ) (o : HeldOpening) (body : Body) (count : ℕ) (r : HeldAnswer) (view : answer_of o body count ≡ r) where
+  pub within_body : (next : Body) (result : Result (Step Outcome) E) → o.left ≡ 0
+      → IfOk result (λ step. (f : List ℕ) → BodyStands job f body → HasFed job (f ++ piece) step next)
+      → IfOk result (λ step. (fed : List ℕ) → Means job fed r.opening r.body → Follows job (fed ++ piece) step o next)
+  within_body next (Ok step) none feeds =
+      λ fed h. follows_body job fed piece o body next step (means_in job fed o body count r view h) none feeds
+  within_body next (Err error) none feeds = tt
+
+  pub within_done : (new : HeldOpening) (next : Body) (told : Step ⊤) (x : ⊤) (held : List ℕ) (result : Result (Step Outcome) E) → 0 < o.left
+      → (o.okays + o.left ≤ 2 → Opened (record o { held = o.held ++ piece }) told new) → told ≡ Done x → held ≡ new.held
+      → IfOk result (λ step. (f : List ℕ) → BodyStands job f body → HasFed job (f ++ held) step next)
+      → IfOk result (λ step. (fed : List ℕ) → Means job fed r.opening r.body → Follows job (fed ++ piece) step new next)
+  within_done new next told x held (Ok step) some opens is same feeds =
+      λ fed h. follows_done job fed piece o new body told (means_in job fed o body count r view h) some opens x is step next
+      (λ stands. subst (λ (b : List ℕ). HasFed job ([] ++ b) step next) same (feeds [] stands))
+  within_done new next told x held (Err error) some opens is same feeds = tt
+
+-- ---- no byte was read yet
+okays_none : (n : ℕ) → okays_at n [] ≡ 0
+okays_none zero = refl
+okays_none (suc n) = refl
+
+undecided_yet : (job : Remote) → answer_so_far job [] ≡ More
+undecided_yet Devices = refl
+undecided_yet (Wait serial state) = refl
+undecided_yet (Push path mtime bytes) = refl
+undecided_yet (Pull path) = refl
+undecided_yet (Shell command) = refl
+
+zero_on : (n : ℕ) → n ≡ 0 + n
+zero_on n = omega arith
+
+few : (job : Remote) → requests job ≤ 2
+few Devices = omega arith
+few (Wait serial state) = omega arith
+few (Push path mtime bytes) = omega arith
+few (Pull path) = omega arith
+few (Shell command) = omega arith
+
+first_of_all : (job : Remote) (body : Body) → BodyStands job [] body
+    → ReadingStands job [] (answer_of (record { held = []; okays = 0; left = requests job }) body 0)
+first_of_all job body stands = record {
+  means = record {
+    behind = [];
+    means = λ more. refl;
+    okays = λ more. zero_on (okays_at (requests job) more);
+    opening = λ some. (refl, stands);
+    open_body = λ none. stands;
+    sum = omega (arith, few job);
+  };
+  count = refl;
+  within = omega arith;
+  okays = sym (okays_none (requests job));
+  undecided = undecided_yet job;
+}
+
+pub reading_none : (job : Remote) (o : HeldOpening) (n : ℕ) (body : Body) → o ≡ record { held = []; okays = 0; left = n } → n ≡ requests job
+    → BodyStands job [] body → ReadingStands job [] (answer_of o body 0)
+reading_none job o n body is counted stands =
+    let at = subst (λ (k : ℕ). ReadingStands job [] (answer_of (record { held = []; okays = 0; left = k }) body 0)) (sym counted) (first_of_all job body stands) in
+    subst (λ (h : HeldOpening). ReadingStands job [] (answer_of h body 0)) (sym is) at
+
 -- ---- the bytes that are looked at
 -- the OKAYs are among the first bytes
 pub okays_stay : (n : ℕ) (x y : List ℕ) → 4 * n ≤ length x → okays_at n (x ++ y) ≡ okays_at n x
@@ -137,13 +213,6 @@ okays_stay (suc n) x y fits =
     let four : 4 ≤ length x = omega (arith, fits) in
     let rest = okays_stay n (drop 4 x) y (omega (arith, fits, length-drop 4 x)) in
     (λ i. cond (okay_same x y four i) (1 + okays_at n (drop-append-le 4 x y four i)) 0) ∙ ap (λ k. cond (begins_okay x) (1 + k) 0) rest
-
-few : (job : Remote) → requests job ≤ 2
-few Devices = omega arith
-few (Wait serial state) = omega arith
-few (Push path mtime bytes) = omega arith
-few (Pull path) = omega arith
-few (Shell command) = omega arith
 
 past_most : (have room n all : ℕ) → have + room ≡ MAX_ANSWER → n ≡ min room all → nat_lt MAX_ANSWER (have + all) ≡ nat_lt n all
 past_most have room n all sum is = grind (arith, nat_tests)

@@ -1,6 +1,5 @@
 -- What is held of an answer.
-use Rattle.std.specs.Prelude.{ℕ, ◌+◌, ◌*◌, ◌≡◌, ◌≤◌, ◌<◌, List, [], ◌++◌, length, Option, None, ⊤}
-use Rattle.adb_outside.specs.Framing.{Cut}
+use Rattle.std.specs.Prelude.{ℕ, ◌+◌, ◌*◌, ◌≡◌, ◌≤◌, ◌<◌, List, [], ◌++◌, length, None, ⊤}
 use Rattle.adb_sync_client.specs.declared.kind.AnswerKind.TheVariants as kinds
 use Rattle.adb_sync_client.specs.declared.step.Step.{Step}
 use Rattle.adb_sync_client.specs.declared.step.Step.TheVariants.{More, Done, Refused, BadAnswer}
@@ -14,9 +13,8 @@ use Rattle.adb_remote_words.specs.declared.remote.Remote.{Remote}
 use Rattle.adb_remote_words.specs.declared.remote.Remote.TheVariants.{Push, Pull}
 use Rattle.adb_remote_words.specs.declared.remote.Outcome.{Outcome}
 use Rattle.adb_remote_words.specs.declared.reading.TheConstants.{MAX_ANSWER}
-use Rattle.adb_remote_words.specs.declared.told.Told.{Told}
 use Rattle.adb_remote_words.specs.Held.{HeldFrames, HeldOpening}
-use Rattle.adb_remote_words.specs.Meaning.{nothing_told, or_further, unended, meant, frames_step, body_step, opened, answer_step}
+use Rattle.adb_remote_words.specs.Meaning.{nothing_told, or_further, meant, frames_step, body_step, opened, answer_step}
 use Rattle.adb_remote_words.specs.Outcome.{answer_so_far}
 use Rattle.adb_remote_words.specs.Words.{requests, okays_at}
 

@@ -1,5 +1,5 @@
 -- What a client tool writes (OVERVIEW.TXT, SERVICES.TXT, SYNC.TXT).
-use Rattle.std.specs.Prelude.{ℕ, zero, suc, ◌+◌, ◌≤◌, if◌then◌else◌, Bool, List, [], ◌∷◌, ◌++◌, length, drop, Option, Some, None, codes}
+use Rattle.std.specs.Prelude.{ℕ, zero, suc, ◌+◌, ◌≤◌, if◌then◌else◌, Bool, List, [], ◌++◌, length, drop, Option, Some, None, codes}
 use Rattle.adb_request.specs.Requests.{hex_digits}
 use Rattle.adb_shell.specs.Packets.{spelling}
 use Rattle.adb_sync_client.specs.Texts.{push_text, pull_text}

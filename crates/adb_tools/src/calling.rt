@@ -5,11 +5,10 @@ ghost use Rattle.adb_asking.specs.Telling.{seen};
 ghost use Rattle.adb_words.specs.declared.tool.Call.{Call as TheCall};
 ghost use Rattle.adb_words.specs.Tools.{names_tool, tool_of};
 ghost use Rattle.adb_words.specs.Words.{texts};
-ghost use Rattle.adb_tools.specs.Jobs.{FitsJob, FitsTool};
-ghost use Rattle.adb_tools.specs.Calling.{Asked, CallsTool, IsUncalled};
+ghost use Rattle.adb_asking.specs.Jobs.{FitsJob, FitsTool};
+ghost use Rattle.adb_asking.specs.Calling.{Asked, CallsTool, IsUncalled};
 
-use crate::job::{Job, failed_input, make_job};
-use adb_asking::{ToolEnd, ask};
+use adb_asking::{Job, ToolEnd, ask, failed_input, make_job};
 use adb_outside::{Sink, Source};
 use adb_words::{Call, WordsError, read_tool};
 use adb_yard::{Dialled, Yard};

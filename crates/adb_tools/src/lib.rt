@@ -2,7 +2,6 @@
 #![tactic(auto)]
 
 mod calling;
-mod job;
 
 pub use adb_asking::{MAX_INPUT, ToolEnd};
 pub use calling::run_tool;

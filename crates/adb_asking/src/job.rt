@@ -2,9 +2,10 @@
 
 ghost use Rattle.std.specs.Prelude.{◌≡◌};
 ghost use Rattle.adb_asking.specs.Telling.{seen};
-ghost use Rattle.adb_tools.specs.Jobs.{FitsTool, MakesJob, failed_input};
+ghost use Rattle.adb_asking.specs.Jobs.{FitsTool, MakesJob, failed_input};
 
-use adb_asking::{InputError, ToolEnd, read_input};
+use crate::ends::ToolEnd;
+use crate::input::{InputError, read_input};
 use adb_outside::{Source, Text, state_text};
 use adb_remote::Remote;
 use adb_words::Tool;

@@ -15,7 +15,7 @@ use Rattle.adb_asking.specs.declared.input.InputError.TheVariants.{ReadFault, To
 use Rattle.adb_asking.specs.declared.input.TheConstants.{MAX_INPUT}
 use Rattle.adb_asking.specs.Input.{is_fault}
 use Rattle.adb_asking.specs.Telling.{Sight}
-use Rattle.adb_tools.specs.declared.job.Job.{Job}
+use Rattle.adb_asking.specs.declared.job.Job.{Job}
 
 -- what a server is asked for, where these bytes are to be sent
 abbrev pub job_of : Tool → List ℕ → Remote

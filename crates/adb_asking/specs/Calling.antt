@@ -11,7 +11,7 @@ use Rattle.adb_asking.specs.declared.input.TheConstants.{MAX_INPUT}
 use Rattle.adb_asking.specs.Asking.{answered}
 use Rattle.adb_asking.specs.Ends.{is_write_fault}
 use Rattle.adb_asking.specs.Telling.{CountsBoth, Parts, PartsBy, Sight, parts_of, size_of}
-use Rattle.adb_tools.specs.Jobs.{HasInput, ReadsFor, job_of}
+use Rattle.adb_asking.specs.Jobs.{HasInput, ReadsFor, job_of}
 
 -- whether the source failed
 abbrev pub is_read_fault : ToolEnd → Bool

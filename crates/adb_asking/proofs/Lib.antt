@@ -1,0 +1,5 @@
+mod Answered
+pub mod Calls
+pub mod Fits
+mod Parts
+mod Putting
