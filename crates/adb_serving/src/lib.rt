@@ -6,10 +6,10 @@ mod calling;
 mod devices;
 mod running;
 mod serving;
-mod start;
+mod starting;
 mod streams;
 mod yards;
 
 pub use serving::serve_live;
-pub use start::{start, words_of};
+pub use starting::{start, words_of};
 pub use streams::Stream;

@@ -1,4 +1,4 @@
-use Rattle.adb_serving.proofs.start.start.Goals as goal
+use Rattle.adb_serving.proofs.starting.start.Goals as goal
 
 pub returns-in-Ok-clause-alone : goal.returns-in-Ok-clause-alone
 returns-in-Ok-clause-alone g c = rw c.in-Ok.is (rw c.as_slice.ensures.value at c.run_live.ensures.alone)
