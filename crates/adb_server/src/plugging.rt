@@ -160,15 +160,17 @@ fn connect<W: Wait + Copy + Drop, R: Recorder, E: Ledger, M: Ledger, K: Marks, G
     writing: LinkOut<E, M, K>,
 ) -> Transport<W, R, E, M, K, G, B, BoxedIn, BoxedOut> {
     let Device { input, output, .. } = device;
+    let Provision { kits, slicer } = provision;
+    let Kits { reader, writer } = kits;
     Transport {
         read: Task {
-            kit: provision.kits.reader,
+            kit: reader,
             pass: reading,
             port: BoxedIn { port: input },
-            aid: provision.slicer,
+            aid: slicer,
         },
         write: Task {
-            kit: provision.kits.writer,
+            kit: writer,
             pass: writing,
             port: BoxedOut { port: output },
             aid: (),
