@@ -26,8 +26,9 @@ pub enum InputError {
 
 impl From<AllocError> for InputError {
     ghost use Rattle.std.specs.Prelude.{◌≡◌};
+    ghost use Rattle.adb_asking.specs.declared.input.InputError.TheVariants.{OutOfMemory};
 
-    ghost from_gives = { λ _ error. error ≡ InputError.OutOfMemory };
+    ghost from_gives = { λ _ error. error ≡ OutOfMemory };
 
     fn from(_: AllocError) -> InputError {
         InputError::OutOfMemory

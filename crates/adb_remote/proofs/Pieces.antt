@@ -27,20 +27,20 @@ okay_is bytes is = (bytes_eq-Decides (codes "OKAY") (take 4 bytes)).0 is
 
 okays_grow : (n : ℕ) (x y : List ℕ) → okays_at n x ≤ okays_at n (x ++ y)
 okays_grow zero x y = omega arith
-okays_grow (suc n) x y = go (begins_okay x) refl
+okays_grow (suc n) x y = go (begins_okay x) refl (okays_grow n (drop 4 x) y)
   where
-    go : (t : Bool) → begins_okay x ≡ t → okays_at (suc n) x ≤ okays_at (suc n) (x ++ y)
-    go false is =
+    go : (t : Bool) → begins_okay x ≡ t → okays_at n (drop 4 x) ≤ okays_at n (drop 4 x ++ y) → okays_at (suc n) x ≤ okays_at (suc n) (x ++ y)
+    go false is more =
         let none : okays_at (suc n) x ≡ 0 = ap (λ t. cond t (1 + okays_at n (drop 4 x)) 0) is in
         omega (arith, none)
-    go true is =
+    go true is more =
         let len : 4 ≡ length (take 4 x) = ap (length {A = ℕ}) (okay_is x is) in
         let fits : 4 ≤ length x = omega (arith, len, length-take 4 x) in
         let here : okays_at (suc n) x ≡ 1 + okays_at n (drop 4 x) = ap (λ t. cond t (1 + okays_at n (drop 4 x)) 0) is in
         let later : begins_okay (x ++ y) ≡ true = ap (bytes_eq (codes "OKAY")) (take-append-le 4 x y fits) ∙ is in
         let there : okays_at (suc n) (x ++ y) ≡ 1 + okays_at n (drop 4 x ++ y) =
         λ i. cond (later i) (1 + okays_at n (drop-append-le 4 x y fits i)) 0 in
-        omega (arith, here, there, okays_grow n (drop 4 x) y)
+        omega (arith, here, there, more)
 
 words_front : {A : Type 0} (steady : A → Type 0) (view : A → Outlet) (job : Remote) (on : Option (List ℕ)) (x y : List ℕ)
     → IsPrefixOf (client_words job on x) (client_words job on (x ++ y))
@@ -138,6 +138,15 @@ module _ {A : Type 0} (steady : A → Type 0) (view : A → Outlet) (job : Remot
       port_failed : (a : Result ⊤ SendError) → carried a step ≡ Err PortFault → a ≡ Err PortFault
       port_failed (Ok done) e = cc
       port_failed (Err error) e = let same : error ≡ PortFault = cc in ap Err same
+
+  -- the same, where the words are counted apart
+  pub piece_told : (from to : ℕ) (old new : A) (step : Step Outcome) (answer : Result ⊤ SendError)
+      → ((fed : List ℕ) → ReadingStands job fed before → HasRead job (fed ++ piece) step after)
+      → from ≡ before.opening.okays → to ≡ after.opening.okays → SaysTo steady view job on from to old new answer
+      → TakesPiece steady view job on piece old new before after (carried answer step)
+  piece_told from to old new step answer reads first last says =
+      let there = subst (λ (n : ℕ). SaysTo steady view job on n to old new answer) first says in
+      piece_said old new step answer reads (subst (λ (n : ℕ). SaysTo steady view job on before.opening.okays n old new answer) last there)
 
 -- ---- a turn
 decided_same : (s : Step Outcome) (len other : ℕ) (ended end : Bool) → s ≢ steps.More → decided s len ended ≡ decided s other end

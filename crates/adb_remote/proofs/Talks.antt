@@ -1,15 +1,16 @@
 -- A conversation, turn by turn.
-use Rattle.std.proofs.Common.{ℕ, ◌≡◌, ◌≢◌, ◌≤◌, ◌⊎◌, inl, inr, Bool, false, List, [], ◌∷◌, ◌++◌, Option, Some, None, Result, Ok, Err, refl, sym, ◌∙◌, ap, subst, arith, append_assoc}
+use Rattle.std.proofs.Common.{ℕ, ◌≡◌, ◌≢◌, ◌≤◌, ◌⊎◌, inl, inr, Bool, true, false, List, [], ◌∷◌, ◌++◌, Option, Some, None, Result, Ok, Err, refl, sym, ◌∙◌, ap, subst, arith, append_assoc}
 use Rattle.std.specs.Prelude.{⊤}
 use Rattle.std.proofs.lemmas.List.{append-nil}
 use Rattle.adb_outside.specs.Outside.{Rises}
 use Rattle.adb_sync_client.specs.declared.step.Step.{Step}
-use Rattle.adb_sync_client.specs.declared.step.Step.TheVariants.{More}
+use Rattle.adb_sync_client.specs.declared.step.Step.TheVariants.{More, Done, Refused, BadAnswer}
 use Rattle.adb_remote_words.specs.declared.remote.Remote.{Remote}
 use Rattle.adb_remote_words.specs.declared.remote.Remote.TheVariants.{Devices, Push, Pull, Shell, Wait}
 use Rattle.adb_remote_words.specs.declared.remote.Outcome.{Outcome}
 use Rattle.adb_remote_words.specs.declared.remote.RemoteError.{RemoteError}
 use Rattle.adb_remote_words.specs.declared.remote.RemoteError.TheVariants as errors
+use Rattle.adb_remote_words.specs.Meaning.{is_more}
 use Rattle.adb_remote_words.specs.Outcome.{decided}
 use Rattle.adb_remote_words.specs.Reading.{HeldAnswer, ReadingStands}
 use Rattle.adb_remote_words.specs.Words.{client_words, word}
@@ -34,6 +35,22 @@ neither : (e : SendError) → ◌≢◌ {A = Result Outcome RemoteError} (Err (r
     → ◌≢◌ {A = Result Outcome RemoteError} (Err (remote_error e)) (Err errors.OutOfMemory) → ⊥
 neither PortFault a b = a refl
 neither OutOfMemory a b = b refl
+
+starved_only : ◌≢◌ {A = Result Outcome RemoteError} (Err errors.OutOfMemory) (Err errors.PortFault)
+starved_only e = cc
+
+not_more : (s : Step Outcome) → is_more s ≡ false → s ≢ More
+not_more More ends e = cc
+not_more (Done outcome) ends e = cc
+not_more (Refused text) ends e = cc
+not_more (BadAnswer offset) ends e = cc
+
+-- what an answer means is no fault of the port
+never_fault : (s : Step Outcome) (result : Result Outcome RemoteError) → decided s 0 false ≡ Some result → result ≢ Err errors.PortFault
+never_fault More result is e = cc
+never_fault (Done outcome) result is e = cc
+never_fault (Refused text) result is e = cc
+never_fault (BadAnswer offset) result is e = cc
 
 -- nothing cut the words short
 all_said : {W : Type 0} → W ⊎ ⊥ → W
@@ -190,6 +207,36 @@ module _ {I O : Type 0} (ports : Ports I O) where
               inr (inl (rises_later (ports.view_out o).faults (ports.view_out p).faults (ports.view_out q).faults talks.calls.count_out x))
           whole_of OutOfMemory (inr y) = inr (inr refl)
 
+      -- a turn was made: the answer goes on, or decides
+      pub talks_more : (step : Step Outcome) → is_more step ≡ true → Turns ports job on j k p q r s (Ok step) → TalksSo i k o q s
+      talks_more More e turn = talks_on turn
+      talks_more (Done outcome) e turn = cc
+      talks_more (Refused text) e turn = cc
+      talks_more (BadAnswer offset) e turn = cc
+
+      pub talks_ends : (step : Step Outcome) (result : Result Outcome RemoteError) → is_more step ≡ false → decided step 0 false ≡ Some result
+          → Turns ports job on j k p q r s (Ok step) → Listens ports job on i k o q result
+      talks_ends step result ends is turn = talks_done step result turn (not_more step ends) is (never_fault step result is)
+
+    -- ---- memory ran out before anything was read
+    pub listens_starved : (i : I) (o : O) → Listens ports job on i i o o (Err errors.OutOfMemory)
+    listens_starved i o = record {
+      told = λ coming left_is. record {
+        read = [];
+        rest = coming;
+        left_is = left_is;
+        taken = refl;
+        outcome = λ a b. absurd (b refl);
+        says = λ out is. record {
+          said = client_words job on [];
+          written_is = is;
+          part = ([], append-nil (client_words job on []));
+          whole = inl refl;
+        };
+      };
+      calls = calls_so i i o o ⊥ (◌≡◌ {A = Result Outcome RemoteError} (Err errors.OutOfMemory) (Err errors.PortFault)) starved_only (calls_none i o);
+    }
+
     -- ---- the first request
     module _ (i : I) (o p : O) where
       abbrev S : Result ⊤ SendError → Type 0
@@ -221,28 +268,6 @@ module _ {I O : Type 0} (ports : Ports I O) where
               → IsCutShort (ports.view_out o).faults (ports.view_out p).faults (Err (remote_error e))
           short PortFault fault = inl (fault refl)
           short OutOfMemory fault = inr refl
-
-      pub first_starved : S (Ok tt) → Converses ports job on i i o p (Err errors.OutOfMemory)
-      first_starved s = record {
-        told = λ coming left_is. record {
-          read = [];
-          rest = coming;
-          left_is = left_is;
-          taken = refl;
-          outcome = λ a b. absurd (b refl);
-          says = λ out is.
-              let went = s.told out is in
-              let said : went.said ≡ client_words job on [] = went.whole refl ∙ sym (first_due job on) in
-              record {
-                said = went.said;
-                written_is = went.after_is;
-                part = ([], append-nil went.said ∙ said);
-                whole = inl said;
-              };
-        };
-        calls = calls_so i i o p (Ok tt ≡ Err PortFault) (Err errors.OutOfMemory ≡ Err errors.PortFault) (λ e. cc)
-            (calls_sent i o p (word job on 0) (Ok tt) s);
-      }
 
       pub first_said : (k : I) (q : O) (result : Result Outcome RemoteError) → S (Ok tt) → Listens ports job on i k p q result
           → Converses ports job on i k o q result

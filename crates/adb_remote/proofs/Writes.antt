@@ -1,6 +1,7 @@
 -- What is written, call by call.
 use Rattle.std.proofs.Common.{ℕ, zero, suc, ◌+◌, ◌-◌, ◌^◌, ◌≡◌, ◌≢◌, ◌≤◌, ◌<◌, ◌⊎◌, inl, inr, Bool, List, [], ◌∷◌, ◌++◌, length, take, drop, Option, Some, None, Result, Ok, Err, refl, sym, ◌∙◌, ap, subst, arith, append_assoc}
-use Rattle.std.specs.Prelude.{⊤}
+use Rattle.std.specs.Prelude.{⊤, ◌==◌, true}
+use Rattle.std.proofs.lemmas.Bool.{eqb-true}
 use Rattle.std.proofs.lemmas.List.{append-nil, length-append, take-append-drop}
 use Rattle.adb_outside.specs.Bytes.{IsPrefixOf}
 use Rattle.adb_outside.specs.Outside.{Rises, Counts}
@@ -113,7 +114,9 @@ module _ {A : Type 0} (steady : A → Type 0) (view : A → Outlet) where
   module _ (job : Remote) (on : Option (List ℕ)) where
     -- the words up to a number, and those behind it
     pub words_grow : (from n : ℕ) → (text : List ℕ) × (words_to job on from ++ text ≡ words_to job on (n + from))
-    words_grow from zero = ([], append-nil (words_to job on from) ∙ ap (words_to job on) (omega arith))
+    words_grow from zero =
+        let same : from ≡ zero + from = omega arith in
+        ([], append-nil (words_to job on from) ∙ ap (words_to job on) same)
     words_grow from (suc n) =
         let h = words_grow from n in
         let one : suc (n + from) ≡ suc n + from = omega arith in (
@@ -173,11 +176,33 @@ module _ {A : Type 0} (steady : A → Type 0) (view : A → Outlet) where
     pub said_all : (from to said : ℕ) (old now : A) → to ≤ said → SaidSo from to said old now → SaysTo steady view job on from to old now (Ok tt)
     said_all from to said old now stop h = record {
       text = h.text;
-      same = λ le. h.same ∙ ap (words_to job on) (omega (arith, stop, h.within le));
+      same = λ le. let all : said ≡ to = omega (arith, stop, h.within le) in h.same ∙ ap (words_to job on) all;
       sends = h.sends;
     }
 
   -- ---- bytes that are left
+  -- nothing to write is nothing left
+  pub none_there : (left out : List ℕ) → (left ≢ [] → out ≢ []) → (length out == 0) ≡ true → left ≡ []
+  none_there [] out some empty = refl
+  none_there (byte ∷ left) [] some empty = absurd (some (λ e. cc) refl)
+  none_there (byte ∷ left) (b ∷ out) some empty = absurd (let size = eqb-true (length (b ∷ out)) 0 empty in omega (arith, size))
+
+  some_there : (front : List ℕ) → front ≢ [] → 0 < length front
+  some_there [] some = absurd (some refl)
+  some_there (byte ∷ front) some = omega arith
+
+  pub front_sent : (before after front : List ℕ) (old new : A) (answer : Result ⊤ SendError) → take (length front) before ≡ front
+      → (before ≢ [] → front ≢ []) → S front old new answer → (answer ≡ Ok tt → after ≡ drop (length front) before)
+      → SendsFront steady view before after old new answer
+  front_sent before after front old new answer starts some sends left = record {
+    front = front;
+    rest = drop (length front) before;
+    split = ap (λ f. f ++ drop (length front) before) (sym starts) ∙ take-append-drop (length front) before;
+    sends = sends;
+    left = left;
+    less = λ there. some_there front (some there);
+  }
+
   -- the first of a text were written
   pub record LeftSo (text left : List ℕ) (old now : A) : Type 0 where
     pub gone : List ℕ

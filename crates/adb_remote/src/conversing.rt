@@ -10,6 +10,7 @@ ghost use Rattle.adb_remote_words.specs.Reading.{ReadingStands};
 ghost use Rattle.adb_remote.specs.Conversing.{Converses, Listens, inlet, ports_of};
 
 use crate::saying::say;
+use crate::sending::remote_error;
 use crate::turning::turn;
 use adb_connections::{PortIn, PortOut};
 use adb_outside::Text;
@@ -45,14 +46,34 @@ pub fn converse<W: Wait + Copy + Drop, I: PortIn, O: PortOut>(
         → Rises (I.faults input.old) (I.faults input.new)
         ⊎ Rises (O.faults output.old) (O.faults output.new) }
 {
-    say(alloc, job, on, 0, output)?;
+    match say(alloc, job, on, 0, output) {
+        Ok(()) => hear(rt, alloc, job, on, input, output),
+        Err(error) => Err(remote_error(error)),
+    }
+}
+
+/// Reads the answer behind the first request, from its first byte on.
+fn hear<W: Wait + Copy + Drop, I: PortIn, O: PortOut>(
+    rt: W,
+    alloc: Global,
+    job: &Remote,
+    on: Option<&Text>,
+    input: &mut I,
+    output: &mut O,
+) -> Result<Outcome, RemoteError>
+    requires words { HasWords job.now }
+    requires on { IfSome on (λ serial. length serial.now ≤ MAX_WORD) }
+    ensures { Listens (ports_of I.steady (inlet I.faults I.left) O.steady
+        (seen O.faults O.written O.closed)) job.now (option_map (λ text. text.now) on.entry)
+        input.old input.new output.old output.new result }
+{
     let Ok(reading) = Reading::new(alloc, job) else {
         return Err(RemoteError::OutOfMemory);
     };
     listen(rt, alloc, job, on, input, output, reading)
 }
 
-/// Reads the answer behind the first request, and writes what follows it.
+/// Reads the answer, and writes what is due behind each piece.
 fn listen<W: Wait + Copy + Drop, I: PortIn, O: PortOut>(
     rt: W,
     alloc: Global,
@@ -72,9 +93,13 @@ fn listen<W: Wait + Copy + Drop, I: PortIn, O: PortOut>(
     let mut reading = reading;
     let mut buffer = [0u8; MAX_PIECE];
     for _ in rt.forever() {
-        let step = turn(alloc, job, on, input, output, &mut reading, &mut buffer)?;
-        if !is_more(&step) {
-            return outcome(step);
+        match turn(alloc, job, on, input, output, &mut reading, &mut buffer) {
+            Ok(step) => {
+                if !is_more(&step) {
+                    return outcome(step);
+                }
+            }
+            Err(error) => return Err(remote_error(error)),
         }
     }
     unreachable!()

@@ -1,7 +1,7 @@
 //! The words of a job are written.
 
 ghost use Rattle.std.specs.Prelude.{◌≡◌, ◌≤◌, ◌<◌, ◌++◌, option_map, length, IfSome};
-ghost use Rattle.adb_remote_words.specs.Words.{HasWords, third_word, word};
+ghost use Rattle.adb_remote_words.specs.Words.{HasWords, second_word, third_word, word};
 ghost use Rattle.adb_remote.specs.Sending.{SaysTo, Sends, SendsFront, seen};
 
 use crate::sending::{SendError, send};
@@ -32,7 +32,9 @@ pub fn say_up_to<O: PortOut>(
     let mut said = from;
     while said < to {
         said += 1;
-        say(alloc, job, on, said, output)?;
+        if let Err(error) = say(alloc, job, on, said, output) {
+            return Err(error);
+        }
     }
     Ok(())
 }
@@ -114,19 +116,25 @@ fn send_push<O: PortOut>(push: Push, output: &mut O) -> Result<(), SendError>
 {
     let mut push = push;
     while !push.out().is_empty() {
-        send_front(&mut push, output)?;
+        if let Err(error) = send_front(&mut push, output) {
+            return Err(error);
+        }
     }
     Ok(())
 }
 
 /// Writes the first bytes of a push that are left.
 fn send_front<O: PortOut>(push: &mut Push, output: &mut O) -> Result<(), SendError>
-    ensures sends { SendsFront O.steady (seen O.faults O.written O.closed) push.old.left
+    ensures { SendsFront O.steady (seen O.faults O.written O.closed) push.old.left
         push.new.left output.old output.new result }
 {
     let front = push.out();
     let size = front.len();
-    send(output, front)?;
-    push.taken(size);
-    Ok(())
+    match send(output, front) {
+        Ok(()) => {
+            push.taken(size);
+            Ok(())
+        }
+        Err(error) => Err(error),
+    }
 }

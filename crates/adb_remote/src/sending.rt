@@ -19,24 +19,22 @@ pub enum SendError {
 
 impl From<AllocError> for SendError {
     ghost use Rattle.std.specs.Prelude.{◌≡◌};
+    ghost use Rattle.adb_remote.specs.declared.sending.SendError.TheVariants.{OutOfMemory};
 
-    ghost from_gives = { λ _ error. error ≡ SendError.OutOfMemory };
+    ghost from_gives = { λ _ error. error ≡ OutOfMemory };
 
     fn from(_: AllocError) -> SendError {
         SendError::OutOfMemory
     }
 }
 
-impl From<SendError> for RemoteError {
-    ghost use Rattle.std.specs.Prelude.{◌≡◌};
-
-    ghost from_gives = { λ sent error. error ≡ remote_error sent };
-
-    fn from(error: SendError) -> RemoteError {
-        match error {
-            SendError::PortFault => RemoteError::PortFault,
-            SendError::OutOfMemory => RemoteError::OutOfMemory,
-        }
+/// The same as what a conversation answers.
+pub fn remote_error(error: SendError) -> RemoteError
+    ensures { result ≡ remote_error error }
+{
+    match error {
+        SendError::PortFault => RemoteError::PortFault,
+        SendError::OutOfMemory => RemoteError::OutOfMemory,
     }
 }
 
