@@ -1,5 +1,0 @@
-mod Answered
-pub mod Calls
-pub mod Fits
-mod Parts
-mod Putting

@@ -1,4 +1,0 @@
-pub mod Serve
-pub mod Tells
-pub mod Tools
-pub mod Wanted
