@@ -1,0 +1,17 @@
+//! A client tool at a server's port: what it is to send is read, the server is asked, and what it
+//! answers is told.
+#![tactic(auto)]
+
+mod asking;
+mod ends;
+mod input;
+mod job;
+mod lines;
+mod telling;
+mod writing;
+
+pub use asking::ask;
+pub use ends::ToolEnd;
+pub use input::{InputError, MAX_INPUT, read_input};
+pub use job::{Job, failed_input, make_job};
+pub use lines::{bad_answer_line, refused_line};
