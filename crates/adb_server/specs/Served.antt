@@ -29,10 +29,10 @@ HasAnnounced port (Err OutOfMemory) before after = after ≡ before
 HasAnnounced port (Err served) before after = ⊥
 
 -- This was written of the line that says where it listens: at the port that was asked for, if one was.
-pub record TellsPort (asked : ℕ) (wrote : Wrote) (before after : Option (List ℕ)) : Type 0 where
+pub record TellsPort (wanted : ℕ) (wrote : Wrote) (before after : Option (List ℕ)) : Type 0 where
   pub port : ℕ
   pub some : port ≢ 0
-  pub asked : asked ≢ 0 → port ≡ asked
+  pub asked : wanted ≢ 0 → port ≡ wanted
   pub line : TellsWrite before after (listening_line port) wrote
 
 -- A server that came to serve has told where it listens, and nothing else. One that did not has told nothing, or a part of that where the note failed.

@@ -171,7 +171,7 @@ impl<
     }
 
     /// Takes in the clients who come, until nobody more comes, and says why.
-    pub(crate) fn take_all<D: Door<In = I, Out = O>, Y: Yard<Ports = P, Gate = G>>(
+    fn take_all<D: Door<In = I, Out = O>, Y: Yard<Ports = P, Gate = G>>(
         &mut self,
         yard: &mut Y,
         door: &mut D,
@@ -188,6 +188,28 @@ impl<
             }
         }
         unreachable!()
+    }
+
+    /// Takes in the clients who come, unless it was found that nobody more can, and says why nobody
+    /// comes any more.
+    pub(crate) fn serve<D: Door<In = I, Out = O>, Y: Yard<Ports = P, Gate = G>>(
+        &mut self,
+        yard: &mut Y,
+        door: &mut D,
+        refused: Result<(), Served>,
+    ) -> Served
+        ensures record { (K.steady → refused ≢ Err Served.RecordFault)
+            → K.steady → result ≢ Served.RecordFault }
+        ensures door { D.steady door.old → refused ≢ Err Served.DoorFault
+            → result ≢ Served.DoorFault }
+        ensures lasting { D.lasting door.old → refused ≢ Err Served.Done
+            → result ≢ Served.Done }
+        ensures note { refused ≢ Err Served.WriteFault → result ≢ Served.WriteFault }
+    {
+        if let Err(served) = refused {
+            return served;
+        }
+        self.take_all(yard, door)
     }
 
     /// Waits for all workers, and says whether the recorder shut the hall.

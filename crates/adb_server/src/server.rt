@@ -210,10 +210,7 @@ fn serve_all<
         bell,
     };
     house.start_devices(plugged);
-    let served = match refused {
-        Err(served) => served,
-        Ok(()) => house.take_all(&mut yard, &mut door),
-    };
+    let served = house.serve(&mut yard, &mut door, refused);
     if house.close() {
         Served::RecordFault
     } else {
