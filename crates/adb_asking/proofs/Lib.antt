@@ -1,5 +1,6 @@
 mod Answered
 pub mod Calls
 pub mod Fits
+mod Inputs
 mod Parts
 mod Putting

@@ -38,16 +38,16 @@ pub record HasOutcome (job : Remote) (answers : List ℕ) (P : Parts → Type 0)
 
 -- What an answer means and what went out of it, by the end: at Done all that is told of an outcome, at WriteFault a front; where it is no
 -- outcome, the end says why.
-abbrev pub EndsBy : Remote → List ℕ → ToolEnd → (sink sink_new note note_new : Option (List ℕ)) → Type 0
-EndsBy job answers Done sink sink_new note note_new = HasOutcome job answers (λ p. PartsBy Done p sink sink_new note note_new)
-EndsBy job answers WriteFault sink sink_new note note_new = HasOutcome job answers (λ p. PartsBy WriteFault p sink sink_new note note_new)
-EndsBy job answers (Refused text) sink sink_new note note_new = answered job answers ≡ Some (Err (errors.Refused text))
-EndsBy job answers (BadAnswer offset) sink sink_new note note_new = answered job answers ≡ Some (Err (errors.BadAnswer offset))
-EndsBy job answers PortFault sink sink_new note note_new = Unit {0}
-EndsBy job answers OutOfMemory sink sink_new note note_new = Unit {0}
-EndsBy job answers ReadFault sink sink_new note note_new = Unit {0}
-EndsBy job answers TooLarge sink sink_new note note_new = Unit {0}
-EndsBy job answers Usage sink sink_new note note_new = ⊥
+abbrev pub EndsBy : Remote → List ℕ → ToolEnd → (sink sink_new noted noted_new : Option (List ℕ)) → Type 0
+EndsBy job answers Done sink sink_new noted noted_new = HasOutcome job answers (λ p. PartsBy Done p sink sink_new noted noted_new)
+EndsBy job answers WriteFault sink sink_new noted noted_new = HasOutcome job answers (λ p. PartsBy WriteFault p sink sink_new noted noted_new)
+EndsBy job answers (Refused text) sink sink_new noted noted_new = answered job answers ≡ Some (Err (errors.Refused text))
+EndsBy job answers (BadAnswer offset) sink sink_new noted noted_new = answered job answers ≡ Some (Err (errors.BadAnswer offset))
+EndsBy job answers PortFault sink sink_new noted noted_new = Unit {0}
+EndsBy job answers OutOfMemory sink sink_new noted noted_new = Unit {0}
+EndsBy job answers ReadFault sink sink_new noted noted_new = Unit {0}
+EndsBy job answers TooLarge sink sink_new noted noted_new = Unit {0}
+EndsBy job answers Usage sink sink_new noted noted_new = ⊥
 
 -- A yard was dialled once, or not at all. Where nobody answered the port is at fault; it never is over a yard that never fails.
 pub record Dials {Y : Type 0} (y : Sight Y) (yard yard_new : Y) (end : ToolEnd) : Type 0 where

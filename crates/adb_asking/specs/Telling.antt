@@ -43,11 +43,11 @@ parts_of size (Ran out err status) = record { out = out; note = err ++ exit_line
 parts_of size Ready = record { out = []; note = [] }
 
 -- what went out of both parts, by the end: at Done all, and at WriteFault a front of each
-abbrev pub PartsBy : ToolEnd → Parts → (sink sink_new note note_new : Option (List ℕ)) → Type 0
-PartsBy Done p sink sink_new note note_new = HasText p.out sink sink_new × HasText p.note note note_new
-PartsBy WriteFault p sink sink_new note note_new = HasFront p.out sink sink_new × HasFront p.note note note_new
-PartsBy OutOfMemory p sink sink_new note note_new = Unit {0}
-PartsBy _ p sink sink_new note note_new = ⊥
+abbrev pub PartsBy : ToolEnd → Parts → (sink sink_new noted noted_new : Option (List ℕ)) → Type 0
+PartsBy Done p sink sink_new noted noted_new = HasText p.out sink sink_new × HasText p.note noted noted_new
+PartsBy WriteFault p sink sink_new noted noted_new = HasFront p.out sink sink_new × HasFront p.note noted noted_new
+PartsBy OutOfMemory p sink sink_new noted noted_new = Unit {0}
+PartsBy _ p sink sink_new noted noted_new = ⊥
 
 -- Which of the two failed: one of them where the end says so, and else none.
 pub record CountsBoth {K N : Type 0} (k : Sight K) (n : Sight N) (sink sink_new : K) (note note_new : N) (failed : Bool) : Type 0 where

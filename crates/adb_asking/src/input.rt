@@ -2,7 +2,7 @@
 
 ghost use Rattle.std.specs.Prelude.{◌≡◌, ◌≤◌, length, IfOk};
 ghost use Rattle.adb_outside.specs.Outside.{Counts};
-ghost use Rattle.adb_asking.specs.Input.{IsPart, ReadsInput, ReadsPiece, is_input_fault, is_piece_fault};
+ghost use Rattle.adb_asking.specs.Input.{ReadsInput, ReadsPiece, is_input_fault, is_piece_fault};
 
 use adb_outside::{Got, Source, Text};
 use std::alloc::{AllocError, Global};

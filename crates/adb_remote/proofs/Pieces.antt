@@ -1,24 +1,24 @@
 -- A piece of the answer, and the words that are due behind it.
-use Rattle.std.proofs.Common.{ℕ, zero, suc, ◌+◌, ◌-◌, ◌≡◌, ◌≢◌, ◌≤◌, ◌<◌, ◌⊎◌, inl, inr, Bool, true, false, cond, List, [], ◌∷◌, ◌++◌, length, take, drop, Option, Some, None, Result, Ok, Err, refl, sym, ◌∙◌, ap, subst, arith, append_assoc}
+use Rattle.std.proofs.Common.{ℕ, zero, suc, ◌+◌, ◌-◌, ◌≡◌, ◌≢◌, ◌≤◌, ◌⊎◌, inl, inr, Bool, true, false, cond, List, [], ◌++◌, length, take, drop, Option, Some, Result, Ok, Err, refl, sym, ◌∙◌, ap, subst, arith, append_assoc}
 use Rattle.std.specs.Prelude.{⊤, codes}
 use Rattle.std.proofs.lemmas.List.{append-nil, length-take, drop-append-le, take-append-le, take-append-drop}
 use Rattle.std.proofs.lemmas.Slice.Eq.{bytes_eq-Decides}
 use Rattle.std.specs.Prelude.{bytes_eq}
 use Rattle.adb_outside.specs.Bytes.{IsPrefixOf}
 use Rattle.adb_outside.specs.Outside.{Rises, Counts}
-use Rattle.adb_outside.specs.Source.{TellsRead, Takes, is_failed_read}
+use Rattle.adb_outside.specs.Source.{TellsRead}
 use Rattle.adb_outside.specs.declared.source.Got.TheVariants as gots
 use Rattle.adb_sync_client.specs.declared.step.Step.{Step}
 use Rattle.adb_sync_client.specs.declared.step.Step.TheVariants as steps
 use Rattle.adb_remote_words.specs.declared.remote.Remote.{Remote}
 use Rattle.adb_remote_words.specs.declared.remote.Outcome.{Outcome}
-use Rattle.adb_remote_words.specs.Outcome.{answer_so_far, decided, outcome_of}
+use Rattle.adb_remote_words.specs.Outcome.{decided}
 use Rattle.adb_remote_words.specs.Reading.{HeldAnswer, ReadingStands, HasRead}
 use Rattle.adb_remote_words.specs.Words.{begins_okay, client_words, okays_at, requests, words_to}
 use Rattle.adb_remote.specs.declared.sending.SendError.{SendError}
 use Rattle.adb_remote.specs.declared.sending.SendError.TheVariants.{PortFault, OutOfMemory}
-use Rattle.adb_remote.specs.Sending.{Outlet, Sends, SaysTo}
-use Rattle.adb_remote.specs.Conversing.{Inlet, Ports, Calls, inlet, is_empty, ports_of, CutsShort, SaysWords, Took, TakesPiece, Turned, Turns}
+use Rattle.adb_remote.specs.Sending.{Outlet, SaysTo}
+use Rattle.adb_remote.specs.Conversing.{Ports, inlet, is_empty, ports_of, CutsShort, SaysWords, Took, TakesPiece, Turns}
 use Rattle.adb_remote.proofs.Writes.{words_grow}
 
 -- ---- the words that are due become more

@@ -1,5 +1,5 @@
 -- A conversation, turn by turn.
-use Rattle.std.proofs.Common.{ℕ, ◌≡◌, ◌≢◌, ◌≤◌, ◌⊎◌, inl, inr, Bool, true, false, List, [], ◌∷◌, ◌++◌, Option, Some, None, Result, Ok, Err, refl, sym, ◌∙◌, ap, subst, arith, append_assoc}
+use Rattle.std.proofs.Common.{ℕ, ◌≡◌, ◌≢◌, ◌⊎◌, inl, inr, true, false, List, [], ◌++◌, Option, Some, Result, Ok, Err, refl, sym, ◌∙◌, ap, arith}
 use Rattle.std.specs.Prelude.{⊤}
 use Rattle.std.proofs.lemmas.List.{append-nil}
 use Rattle.adb_outside.specs.Outside.{Rises}
@@ -17,7 +17,7 @@ use Rattle.adb_remote_words.specs.Words.{client_words, word}
 use Rattle.adb_remote.specs.declared.sending.SendError.{SendError}
 use Rattle.adb_remote.specs.declared.sending.SendError.TheVariants.{PortFault, OutOfMemory}
 use Rattle.adb_remote.specs.Sending.{Sends, remote_error}
-use Rattle.adb_remote.specs.Conversing.{Ports, Calls, Conversed, Converses, CutsShort, IsCutShort, Listens, SaysWords, Turns}
+use Rattle.adb_remote.specs.Conversing.{Ports, Calls, Converses, CutsShort, IsCutShort, Listens, Turns}
 use Rattle.adb_remote.proofs.Writes.{rises_later}
 
 pub first_due : (job : Remote) (on : Option (List ℕ)) → client_words job on [] ≡ word job on 0

@@ -10,7 +10,7 @@ use Rattle.adb_remote_words.specs.declared.remote.RemoteError.{RemoteError}
 use Rattle.adb_remote_words.specs.declared.remote.RemoteError.TheVariants as errors
 use Rattle.adb_remote_words.specs.Outcome.{answer_so_far, decided, outcome_of}
 use Rattle.adb_remote_words.specs.Reading.{HeldAnswer, ReadingStands}
-use Rattle.adb_remote_words.specs.Words.{client_words, word}
+use Rattle.adb_remote_words.specs.Words.{client_words}
 use Rattle.adb_remote.specs.declared.sending.SendError.{SendError}
 use Rattle.adb_remote.specs.declared.sending.SendError.TheVariants.{PortFault, OutOfMemory}
 use Rattle.adb_remote.specs.Sending.{Outlet}

@@ -1,4 +1,3 @@
-use Rattle.std.proofs.Common.{◌≡◌, List, [], Some}
 use Rattle.std.specs.Prelude.{option_map}
 use Rattle.adb_remote.specs.Sending.{seen}
 use Rattle.adb_remote.specs.Conversing.{inlet, ports_of}
