@@ -40,7 +40,10 @@ fn outcome_shown(outcome: &Outcome) -> (char, u64) {
         Outcome::Listed(text) => ('l', text.len() as u64),
         Outcome::Pushed => ('p', 0),
         Outcome::Pulled(text) => ('g', text.len() as u64),
-        Outcome::Ran { out, status, .. } => ('s', out.len() as u64 + 100 * u64::from(*status)),
+        Outcome::Ran { out, status, .. } => (
+            's',
+            100 * u64::from(*status) + (out.len() as u64).min(99),
+        ),
         Outcome::Ready => ('y', 0),
     }
 }

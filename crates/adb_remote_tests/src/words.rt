@@ -1,5 +1,8 @@
 //! Answers that were worked out by hand, in pieces of one byte and whole.
 
+ghost use Rattle.std.specs.Prelude.{◌≤◌, IfOk};
+ghost use Rattle.adb_remote_words.specs.Words.{HasWords};
+
 use adb_outside::Text;
 use adb_remote_words::{Outcome, Reading, Remote, first_word, second_word};
 use adb_sync_client::Step;
@@ -17,7 +20,9 @@ enum Asks {
 }
 
 /// A job, by its kind.
-fn job(alloc: Global, asks: Asks) -> Result<Remote, AllocError> {
+fn job(alloc: Global, asks: Asks) -> Result<Remote, AllocError>
+    ensures { IfOk result HasWords }
+{
     Ok(match asks {
         Asks::Devices => Remote::Devices,
         Asks::Push => Remote::Push {
