@@ -6,8 +6,6 @@ mod echoing;
 mod line;
 mod running;
 mod session;
-#[cfg(test)]
-mod tests;
 
 pub use line::Line;
 pub use running::run_script;

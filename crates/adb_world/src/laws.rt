@@ -3,11 +3,13 @@
 
 ghost use Rattle.adb_world.specs.Parts.{IsRunning};
 ghost use Rattle.adb_daemon.specs.Daemon.{files_of};
-ghost use Rattle.adb_world.specs.Settled.{HasEnded, IsCounted, IsDone, Rests};
+ghost use Rattle.adb_world.specs.Answered.{IsAnswered};
+ghost use Rattle.adb_world.specs.Settled.{Each, HasEnded, IsCounted, IsDone, Rests};
 ghost use Rattle.std.specs.Prelude.{ℕ, ◌≡◌, [], false, true};
 ghost use Rattle.adb_world.specs.World.{view_of};
 ghost use Rattle.adb_world.specs.declared.parts.Parts.{Parts};
 
+use adb_laws_answers::clients_are_answered;
 use adb_laws_births::what_came_stays;
 use adb_laws_fifo_up::carries_rest;
 use adb_laws_resting::resting::{a_client_sends_up_its_own_stream, most_entries_send_nothing};
@@ -18,10 +20,13 @@ use adb_laws_worlds::{
     streams_of_one_plain_device_are_plain, streams_that_live_heard_no_close,
 };
 
-/// Where no step is possible all is settled.
+/// Where no step is possible all is settled, and each session was answered.
 pub(crate) fn worlds_that_rest_are_settled()
-    ensures { (parts : Parts) → IsRunning parts → Rests parts → IsDone parts }
+    ensures done { (parts : Parts) → IsRunning parts → Rests parts → IsDone parts }
+    ensures answered { (parts : Parts) → IsRunning parts → Rests parts
+        → Each parts.sessions.entries IsAnswered }
 {
+    clients_are_answered();
     requests_open_their_service();
     sessions_ask_for_services();
     streams_have_settled_at_rest();

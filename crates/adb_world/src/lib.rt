@@ -13,8 +13,6 @@ mod session;
 mod settling;
 mod starting;
 mod steps;
-#[cfg(test)]
-mod tests;
 mod world;
 
 pub use session::{REPLIES, Session};

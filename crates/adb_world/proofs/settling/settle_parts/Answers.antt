@@ -8,7 +8,7 @@ use Rattle.adb_world.proofs.settling.settle_parts.Goals as goal
 pub returns-then-not-branch-clause-done : goal.returns-then-not-branch-clause-done
 returns-then-not-branch-clause-done c =
     let goes = subst (λ (b : Bool). Goes Rests b c.loop-steps.parts c.step.new.parts) c.if-not-branch.true c.in_ok-step.ensures in
-    c.worlds_that_rest_are_settled.ensures c.step.new.parts (subst IsRunning (sym goes.0) c.loop-steps.invariant.runs)
+    c.worlds_that_rest_are_settled.ensures.done c.step.new.parts (subst IsRunning (sym goes.0) c.loop-steps.invariant.runs)
     (subst Rests (sym goes.0) goes.1)
 
 pub returns-then-not-branch-clause-answered : goal.returns-then-not-branch-clause-answered

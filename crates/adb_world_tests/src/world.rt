@@ -2,7 +2,7 @@
 
 ghost use Rattle.std.specs.Prelude.{◌≡◌};
 
-use crate::{World, settle};
+use adb_world::{World, settle};
 use std::alloc::AllocError;
 
 /// The replies to the requests of a session, and what its service answers.

@@ -2,7 +2,7 @@
 
 ghost use Rattle.std.specs.Prelude.{◌≡◌};
 
-use crate::run_script;
+use adb_local::run_script;
 use adb_outside::Text;
 use adb_script::ScriptError;
 use adb_world::World;

@@ -1,0 +1,7 @@
+//! Worlds and the scripts that run in them: what no clause says.
+#![tactic(auto)]
+
+#[cfg(test)]
+mod local;
+#[cfg(test)]
+mod world;
