@@ -1,7 +1,7 @@
 //! The calls of workers: one section each, in which the desk is called once.
 
-use crate::bells::{Pair, Side};
 use crate::locked_hall::LockedHall;
+use adb_bells::{Pair, Side};
 use adb_capture::Recorder;
 use adb_desk_log::{
     ClientIn, ClientOut, DeskError, LinkIn, LinkOut, Marks, marks_error, marks_life,

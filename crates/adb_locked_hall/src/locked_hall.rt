@@ -4,8 +4,7 @@ ghost use Rattle.std.specs.Prelude.{◌≡◌, IfOk, None, Some, false};
 ghost use Rattle.adb_desk_log.specs.declared.marks.TheConstants.{ALL_PARTS};
 ghost use Rattle.adb_desk_log.specs.Log.{IsFresh};
 
-use crate::bells::{Bells, Side};
-use crate::locked::Locked;
+use adb_bells::{Bells, Locked, Side};
 use adb_capture::Recorder;
 use adb_desk::Desk;
 use adb_desk_log::{ClientIn, ClientOut, LinkIn, LinkOut, Mark, Marks, Pass};

@@ -3,7 +3,5 @@
 
 mod calls;
 mod one_desk;
-#[cfg(test)]
-mod tests;
 
 pub use one_desk::OneDesk;

@@ -9,18 +9,18 @@ use std::sync::ledger::Ledger;
 
 /// The desk, and beside it whom to wake.
 #[derive(Drop)]
-pub(crate) struct Locked<R: Recorder, E: Ledger, M: Ledger, K: Marks> {
-    pub(crate) desk: Desk<R, E, M, K>,
-    pub(crate) bells: Bells,
+pub struct Locked<R: Recorder, E: Ledger, M: Ledger, K: Marks> {
+    pub desk: Desk<R, E, M, K>,
+    pub bells: Bells,
     /// Whether all were woken since the desk was shut or a kill was made.
-    pub(crate) is_over: bool,
+    pub is_over: bool,
 }
 
 impl<R: Recorder, E: Ledger, M: Ledger, K: Marks> Locked<R, E, M, K> {
     /// Wakes those for whom the section that ends has something: to whom something came due, for
     /// whom room was made, or who are gone; and all, once, where the desk was shut or a kill was
     /// made. Nobody else is woken.
-    pub(crate) fn ring(&mut self) -> Rings {
+    pub fn ring(&mut self) -> Rings {
         let mut rings = self.bells.ring_strays();
         if !self.is_over && (self.desk.is_stopped() || !self.desk.is_open()) {
             self.is_over = true;

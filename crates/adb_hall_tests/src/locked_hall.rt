@@ -3,14 +3,13 @@
 ghost use Rattle.std.specs.Prelude.{◌≡◌};
 ghost use Rattle.adb_desk_log.specs.declared.marks.TheConstants.{ALL_PARTS};
 
-use crate::LockedHall;
-use crate::bells::{Bells, Pair, Side};
-use crate::locked::Locked;
+use adb_bells::{Bells, Locked, Pair, Side};
 use adb_capture::NullRecorder;
 use adb_desk::Desk;
 use adb_desk_log::{ALL_PARTS, Marks};
 use adb_hall::Hall;
 use adb_hub::{Handed, Life, Owner};
+use adb_locked_hall::LockedHall;
 use std::alloc::{AllocError, Global};
 use std::marker::Brand;
 use std::sync::Wait;

@@ -11,7 +11,7 @@ const FEW: usize = 4;
 
 /// Which pass of a number waits.
 #[derive(Clone, Copy, Debug, PartialEq, Eq, Drop)]
-pub(crate) enum Side {
+pub enum Side {
     Reader,
     Writer,
 }
@@ -34,7 +34,7 @@ impl Bell {
 
 /// The bells of the two passes of a client or of a link.
 #[derive(Drop)]
-pub(crate) struct Pair {
+pub struct Pair {
     reader: Bell,
     writer: Bell,
     /// How many of the two passes are out.
@@ -42,7 +42,7 @@ pub(crate) struct Pair {
 }
 
 impl Pair {
-    pub(crate) fn new(alloc: Global) -> Result<Pair, AllocError> {
+    pub fn new(alloc: Global) -> Result<Pair, AllocError> {
         Ok(Pair {
             reader: Bell::new(alloc)?,
             writer: Bell::new(alloc)?,
@@ -60,7 +60,7 @@ impl Pair {
 
 /// Bells that are rung when the lock is free again, beside those that were rung at once.
 #[derive(Drop)]
-pub(crate) struct Rings {
+pub struct Rings {
     rung: usize,
     later: Vec<Arc<Condvar, Global>>,
     strays: bool,
@@ -91,13 +91,12 @@ impl Rings {
     }
 
     /// How many bells it rings, but for the common one.
-    #[cfg(test)]
-    pub(crate) fn len(&self) -> usize {
+    pub fn len(&self) -> usize {
         self.rung.saturating_add(self.later.len())
     }
 
     /// Rings what is left, behind the lock.
-    pub(crate) fn ring_rest(self, common: &Condvar) {
+    pub fn ring_rest(self, common: &Condvar) {
         for bell in &self.later {
             bell.notify_one();
         }
@@ -110,7 +109,7 @@ impl Rings {
 /// The bells of all passes that are out. A number whose bells found no memory waits on one that is
 /// common to all such.
 #[derive(Drop)]
-pub(crate) struct Bells {
+pub struct Bells {
     alloc: Global,
     clients: BTreeMap<u32, Pair>,
     links: BTreeMap<u32, Pair>,
@@ -119,7 +118,7 @@ pub(crate) struct Bells {
 }
 
 impl Bells {
-    pub(crate) fn new(alloc: Global) -> Bells {
+    pub fn new(alloc: Global) -> Bells {
         Bells {
             alloc,
             clients: BTreeMap::new(alloc),
@@ -129,13 +128,13 @@ impl Bells {
     }
 
     /// Puts up the bells of a number that was drawn just now.
-    pub(crate) fn put_up(&mut self, owner: Owner, pair: Pair) {
+    pub fn put_up(&mut self, owner: Owner, pair: Pair) {
         let bells = self.of(owner);
         let _ = bells.insert(number_of(owner), pair);
     }
 
     /// A pass of this number is back: with the second its bells are taken down.
-    pub(crate) fn pass_back(&mut self, owner: Owner) {
+    pub fn pass_back(&mut self, owner: Owner) {
         let bells = self.of(owner);
         let number = number_of(owner);
         let is_last = match bells.get_mut(&number) {
@@ -151,7 +150,7 @@ impl Bells {
     }
 
     /// What a worker is to sleep on, if it is not the common bell.
-    pub(crate) fn sleep(&mut self, owner: Owner, side: Side) -> Option<Arc<Condvar, Global>> {
+    pub fn sleep(&mut self, owner: Owner, side: Side) -> Option<Arc<Condvar, Global>> {
         let own = match self.of(owner).get_mut(&number_of(owner)) {
             Some(pair) => {
                 let bell = pair.bell(side);
@@ -165,7 +164,7 @@ impl Bells {
     }
 
     /// Rings for who sleeps on the common bell.
-    pub(crate) fn ring_strays(&mut self) -> Rings {
+    pub fn ring_strays(&mut self) -> Rings {
         let mut rings = Rings::new(self.alloc);
         rings.strays = self.strays;
         self.strays = false;
@@ -173,14 +172,14 @@ impl Bells {
     }
 
     /// Wakes a worker, if it sleeps on its own bell.
-    pub(crate) fn ring(&mut self, owner: Owner, side: Side, rings: &mut Rings) {
+    pub fn ring(&mut self, owner: Owner, side: Side, rings: &mut Rings) {
         if let Some(pair) = self.of(owner).get_mut(&number_of(owner)) {
             ring(pair.bell(side), rings);
         }
     }
 
     /// Wakes all who sleep on their own bells.
-    pub(crate) fn ring_all(&mut self, rings: &mut Rings) {
+    pub fn ring_all(&mut self, rings: &mut Rings) {
         for (_, pair) in self.clients.iter_mut() {
             ring(&mut pair.reader, rings);
             ring(&mut pair.writer, rings);

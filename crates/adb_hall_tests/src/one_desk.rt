@@ -3,11 +3,11 @@
 ghost use Rattle.std.specs.Prelude.{◌≡◌};
 ghost use Rattle.adb_desk_log.specs.declared.marks.TheConstants.{ALL_PARTS};
 
-use crate::OneDesk;
 use adb_capture::MemoryRecorder;
 use adb_desk_log::{ALL_PARTS, ClientIn, ClientOut, DeskError, LinkIn, Marks};
 use adb_hall::Hall;
 use adb_hub::{Handed, Life, MAX_HELD, Room};
+use adb_one_desk::OneDesk;
 use adb_outside::{Cause, Kind};
 use std::alloc::{AllocError, Global};
 use std::marker::Brand;

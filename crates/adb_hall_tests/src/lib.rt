@@ -1,0 +1,7 @@
+//! Halls: what no clause says.
+#![tactic(auto)]
+
+#[cfg(test)]
+mod locked_hall;
+#[cfg(test)]
+mod one_desk;
