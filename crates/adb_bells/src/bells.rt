@@ -12,7 +12,9 @@ const FEW: usize = 4;
 /// Which pass of a number waits.
 #[derive(Clone, Copy, Debug, PartialEq, Eq, Drop)]
 pub enum Side {
+    /// The one that its reader has.
     Reader,
+    /// The one that its writer has.
     Writer,
 }
 
@@ -42,6 +44,7 @@ pub struct Pair {
 }
 
 impl Pair {
+    /// Nobody sleeps, and both passes are out.
     pub fn new(alloc: Global) -> Result<Pair, AllocError> {
         Ok(Pair {
             reader: Bell::new(alloc)?,
@@ -118,6 +121,7 @@ pub struct Bells {
 }
 
 impl Bells {
+    /// No number is drawn.
     pub fn new(alloc: Global) -> Bells {
         Bells {
             alloc,

@@ -10,7 +10,9 @@ use std::sync::ledger::Ledger;
 /// The desk, and beside it whom to wake.
 #[derive(Drop)]
 pub struct Locked<R: Recorder, E: Ledger, M: Ledger, K: Marks> {
+    /// The desk.
     pub desk: Desk<R, E, M, K>,
+    /// The bells of the passes that are out.
     pub bells: Bells,
     /// Whether all were woken since the desk was shut or a kill was made.
     pub is_over: bool,

@@ -3,8 +3,6 @@
 #![tactic(auto)]
 
 mod real_yard;
-#[cfg(test)]
-mod tests;
 
 pub use adb_live::{Errand, Lobby, Porter, Roll, SwitchRecorder, TcpBell, TcpBinder, TcpDoor};
 pub use adb_model_device::{DeviceEnd, PipeDeviceIn, PipeDeviceOut, run_device};
