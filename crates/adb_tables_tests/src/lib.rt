@@ -8,8 +8,4 @@ mod forward;
 #[cfg(test)]
 mod link;
 #[cfg(test)]
-mod registry;
-#[cfg(test)]
 mod reply;
-#[cfg(test)]
-mod stream;

@@ -2,8 +2,8 @@
 
 ghost use Rattle.std.specs.Prelude.{◌≡◌, length, IfOk};
 
+use crate::{AttachError, Refusal, Registry};
 use adb_outside::{Identity, Kind, Selector, Text};
-use adb_registry::{AttachError, Refusal, Registry};
 use std::alloc::{AllocError, Global};
 use std::test::Fail;
 

@@ -1,6 +1,6 @@
 //! Writes that are held back, and streams that are found by link and id.
 
-use adb_stream::{Credit, DrawError, Streams, Took, Window};
+use crate::{Credit, DrawError, Streams, Took, Window};
 use std::test::Fail;
 
 #[test]
