@@ -14,9 +14,10 @@ use Rattle.adb_files.specs.Requests.{Request, requests_of, open_after, fault_req
 use Rattle.adb_files.specs.Served.{Served, serve_all}
 use Rattle.adb_files.proofs.Serving.{requests_of-append, serve_all-ended, serve_all-more}
 use Rattle.adb_shell_service.specs.Service.{Answer}
+use Rattle.adb_shell_service.proofs.Answering.{ended_stays}
 use Rattle.adb_device_streams.specs.Asked.{Kind, Echoes, Syncs, Shells}
 use Rattle.adb_device_streams.specs.Service.{Came, bytes_in, came_over, completed_by, served_by, sync_more, sync_answer, sync_files, files_fed, service_answer}
-use Rattle.adb_laws_payloads.specs.Payloads.{files_behind, ComeInTurn, AreOne}
+use Rattle.adb_laws_payloads.specs.Payloads.{files_behind, ComeInTurn, AreOne, AreEnough}
 
 -- ---- the requests of more bytes
 -- what follows the requests of some bytes in those of more
@@ -143,3 +144,26 @@ are_one Syncs first opened past turn =
     let all = served_at_once opened past turn in
     let one = sync_one opened (bytes_in past) in
     record { answer = all.answer ∙ sym one.answer; files = all.files ∙ sym one.files }
+
+-- ---- a service that has ended
+-- the requests of more bytes are served no more
+sync_enough : (first opened : List Entry) (bytes more : List ℕ) → (service_answer Syncs first (came_over bytes opened ∷ [])).ended ≡ true
+    → AreEnough Syncs first opened bytes (bytes ++ more)
+sync_enough first opened bytes more over =
+    let one = sync_one opened bytes in
+    let all = sync_one opened (bytes ++ more) in
+    let f = further bytes more in
+    let ended : (serve_all opened (requests_in bytes)).ended ≡ true = ap (λ (a : Answer). a.ended) (sym one.answer) ∙ over in
+    let same : serve_all opened (requests_in (bytes ++ more)) ≡ serve_all opened (requests_in bytes) =
+    ap (serve_all opened) f.is ∙ serve_all-ended (requests_in bytes) f.requests opened ended in
+    record {
+      answer = all.answer ∙ (ap answer_by same ∙ sym one.answer);
+      files = all.files ∙ (ap (λ (s : Served). s.files) same ∙ sym one.files);
+    }
+
+pub are_enough : (kind : Kind) (first opened : List Entry) (bytes more : List ℕ) → (service_answer kind first (came_over bytes opened ∷ [])).ended ≡ true
+    → AreEnough kind first opened bytes (bytes ++ more)
+are_enough Echoes first opened bytes more over = absurd (let clash : false ≡ true = over in cc)
+are_enough (Shells packets command) first opened bytes more over =
+    record { answer = ended_stays (record { packets = packets; command = command; files = first }) bytes more over; files = refl }
+are_enough Syncs first opened bytes more over = sync_enough first opened bytes more over

@@ -4,4 +4,4 @@
 
 mod laws;
 
-pub use laws::payloads_in_turn_are_one;
+pub use laws::{an_ended_service_takes_no_more, payloads_in_turn_are_one};

@@ -37,10 +37,10 @@ use Rattle.adb_world.specs.declared.session.Session.{Session}
 use Rattle.adb_world.proofs.Counted.{IsThere, there}
 use Rattle.adb_world.proofs.Devices.{devices_of}
 use Rattle.adb_world.proofs.Ended.{ends_gone, idle_state}
-use Rattle.adb_world.proofs.Ending.{same_but}
+use Rattle.adb_world.proofs.Finishing.{same_but}
 use Rattle.adb_world.proofs.Going.{AllStay}
 use Rattle.adb_world.proofs.NoMore.{leave_all, leaves, since}
-use Rattle.adb_world.proofs.QuietPackets.{AllLeaveFiles, quiet_files}
+use Rattle.adb_laws_alone.proofs.Quiet.{AllLeaveFiles, quiet_files}
 use Rattle.adb_world.proofs.SentAll.{all_sent}
 
 fold_more : {A B : Type 0} (f : A → B → A) (a : A) (xs ys : List B) → fold f a (xs ++ ys) ≡ fold f (fold f a xs) ys

@@ -14,12 +14,11 @@ pub mod Rest
 pub mod Ended
 pub mod Joining
 pub mod Going
-pub mod QuietPackets
 pub mod Unsent
 pub mod Unread
 pub mod NoMore
 pub mod SentAll
 pub mod Greeting
 pub mod Answered
-pub mod Ending
+pub mod Finishing
 pub mod Files

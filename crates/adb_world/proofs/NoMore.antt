@@ -29,7 +29,7 @@ use Rattle.adb_laws_births.specs.Ending.{EndsAs, HasEnding}
 use Rattle.adb_laws_births.proofs.Asking.{asks_at_once}
 use Rattle.adb_laws_births.proofs.Born.{all_births}
 use Rattle.adb_laws_births.proofs.Crossing.{no_crossing}
-use Rattle.adb_laws_births.proofs.Ending.{ending_append}
+use Rattle.adb_laws_births.proofs.Finishing.{ending_append}
 use Rattle.adb_laws_births.proofs.Endings.{all_endings}
 use Rattle.adb_laws_births.proofs.Laws.{sends_first}
 use Rattle.adb_laws_births.proofs.Once.{count_append}
@@ -41,7 +41,7 @@ use Rattle.adb_laws_fifo_up.proofs.Lived.{lived_all}
 use Rattle.adb_laws_fifo_up.proofs.Seeing.{carried_in_append}
 use Rattle.adb_world.proofs.Ended.{IsIdleState}
 use Rattle.adb_world.proofs.Going.{AllStay}
-use Rattle.adb_world.proofs.QuietPackets.{AllLeaveFiles, LeavesFiles}
+use Rattle.adb_laws_alone.proofs.Quiet.{AllLeaveFiles, LeavesFiles}
 use Rattle.adb_world.proofs.Unread.{ended_lived, lived_read, was_asked}
 use Rattle.adb_world.proofs.Unsent.{StaysUnsent, all_unsent}
 

@@ -1,4 +1,4 @@
-use Rattle.adb_world.proofs.Ending.{ends_running, same_but}
+use Rattle.adb_world.proofs.Finishing.{ends_running, same_but}
 use Rattle.adb_world.proofs.ending.finish_one.Goals as goal
 
 pub settle_parts-requires : goal.settle_parts-requires

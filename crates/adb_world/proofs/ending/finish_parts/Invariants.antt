@@ -1,5 +1,5 @@
 use Rattle.std.proofs.Common.{◌-◌, ◌^◌}
-use Rattle.adb_world.proofs.Ending.{Finishing}
+use Rattle.adb_world.proofs.Finishing.{Finishing}
 use Rattle.adb_world.proofs.ending.finish_parts.Given as goal
 
 abbrev pub invariant-loop-number : goal.invariant-loop-number

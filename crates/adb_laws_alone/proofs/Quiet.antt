@@ -37,7 +37,7 @@ none_completed : (before : List ℕ) → completed_by before [] ≡ []
 none_completed before =
     ap (λ (x : List ℕ). drop (length (requests_in before)) (requests_in x)) (append-nil before) ∙ drop_all (requests_in before)
 
-fed_none : (kind : Kind) (past : List Came) (payload : List ℕ) (files : List Entry) → payload ≡ [] → files_fed kind past (came_over payload files) ≡ files
+pub fed_none : (kind : Kind) (past : List Came) (payload : List ℕ) (files : List Entry) → payload ≡ [] → files_fed kind past (came_over payload files) ≡ files
 fed_none Echoes past payload files none = refl
 fed_none (Shells packets command) past payload files none = refl
 fed_none Syncs past payload files none = go (sync_answer past).ended
