@@ -6,9 +6,9 @@ use Rattle.std.proofs.lemmas.Bool.{ltb-true}
 use Rattle.std.proofs.lemmas.List.{append-nil}
 use Rattle.adb_outside.specs.Bytes.{IsPrefixOf}
 use Rattle.adb_stream.specs.declared.row.Stream.{Stream}
-use Rattle.adb_history.specs.Births.{Birth, Opening, born, births, since, opening_of, opening_in, told_in, told_before, told_before_close, before_close, joined}
+use Rattle.adb_history.specs.Births.{Birth, Opening, born, births, since, opening_of, opening_in, remote_of, told_in, told_before, told_before_close, before_close, joined}
 use Rattle.adb_history.specs.Book.{asked, is_killed}
-use Rattle.adb_history.specs.Bytes.{bytes_put, bytes_read, has_ended, is_lost}
+use Rattle.adb_history.specs.Bytes.{bytes_put, bytes_read, has_ended, is_lost, sent}
 use Rattle.adb_history.specs.Events.{Ending, peer_closed, out_of_turn, lost, broken, client_closed, client_failed, stopped}
 use Rattle.adb_history.specs.Lives.{ending_of, output_of, lived}
 use Rattle.adb_history.specs.Machine.{History, state, IsLegal}
@@ -25,7 +25,8 @@ use Rattle.adb_laws_fifo_down.specs.Line.{SeenStream, View}
 use Rattle.adb_laws_fifo_down.proofs.Handed.{has_lives}
 use Rattle.adb_device_streams.specs.Asked.{service_of}
 use Rattle.adb_device_streams.specs.Service.{bytes_in, service_answer}
-use Rattle.adb_daemon.specs.Device.{Setting}
+use Rattle.adb_daemon.specs.Device.{Setting, device_behind}
+use Rattle.adb_daemon.specs.Serving.{Serving}
 use Rattle.adb_laws_model_device.specs.Joined.{IsJoined}
 use Rattle.adb_laws_worlds.specs.Credit.{HasOneDevice}
 use Rattle.adb_laws_worlds.specs.Ended.{HasEndedWhole, ClosedGaveAll}
@@ -62,6 +63,16 @@ front_came false came text e front = absurd (let clash : false ≡ true = e in c
 front_of_front : (a b c : List ℕ) → IsPrefixOf a b → IsPrefixOf b c → IsPrefixOf a c
 front_of_front a b c (x, is) (y, too) =
     (x ++ y, sym (append_assoc a x y) ∙ (ap (λ (z : List ℕ). z ++ y) is ∙ too))
+
+-- what the device serves
+abbrev serving_of : Setting → History → Serving
+serving_of setting h = (device_behind setting (sent 1 h)).serving
+
+-- the client of a stream was answered
+abbrev StreamIsAnswered : Setting → History → Birth → Type 0
+StreamIsAnswered setting h b =
+    IsAnswered (serving_of setting h) h b.client b.service (drop b.head (bytes_read b.client h))
+    ((asked b.client h).replies ++ codes "OKAY") (bytes_put b.client h)
 
 module _ (laws : Laws) (setting : Setting) (short : setting.most < 2 ^ 32) (some : 0 < setting.most) (plain : setting.credit ≡ false) (h : History)
     (legal : IsLegal h) (tied : IsJoined setting h) (one : HasOneDevice h) (rest : IsAtRest setting h) (here : is_lost 1 h ≡ false)
@@ -124,12 +135,15 @@ module _ (laws : Laws) (setting : Setting) (short : setting.most < 2 ^ 32) (some
             sym (append-nil (bytes_put b.client h))
             ∙ (ap (λ (x : List ℕ). bytes_put b.client h ++ x) (sym (rest.clients b.client a is)) ∙ sym (all_due_past_put h legal b.client a is))
 
-    closed_answered : IsAnswered b.service (drop b.head (bytes_read b.client h)) ((asked b.client h).replies ++ codes "OKAY") (bytes_put b.client h)
+    closed_answered : StreamIsAnswered setting h b
     closed_answered = record {
-      kind = w.over.row.kind;
+      number = l;
+      birth = b;
+      is = birth;
+      client = refl;
+      row = w.over.row;
+      served = record { own = o.remote; there = inr (record { over = w.over; is = w.is; row_is = refl }); host = w.host };
       asked = w.kind;
-      first = w.over.row.first;
-      past = w.over.row.past;
       came = front_came (service_answer w.over.row.kind w.over.row.first w.over.row.past).ended (bytes_in w.over.row.past)
           (drop b.head (bytes_read b.client h)) w.ended
           (front_of_front (bytes_in w.over.row.past) (drop b.head (bytes_read b.client (lived l h))) (drop b.head (bytes_read b.client h)) w.came
@@ -141,7 +155,7 @@ module _ (laws : Laws) (setting : Setting) (short : setting.most < 2 ^ 32) (some
   module _ (l : ℕ) (b : Birth) (birth : born l h ≡ Some b) (own : b.link ≡ 1) (alone : b.forwarded ≡ false)
       (known : is_some (service_of b.service) ≡ true) (open_yet : has_ended b.client h ≡ false) where
     live_answered : (x : Stream) → (state h).streams l ≡ Some x
-        → IsAnswered b.service (drop b.head (bytes_read b.client h)) ((asked b.client h).replies ++ codes "OKAY") (bytes_put b.client h)
+        → StreamIsAnswered setting h b
     live_answered x is =
         let k = laws.settled setting h short some plain legal tied one rest l x is in
         let same : k.birth ≡ b = (let both : Some k.birth ≡ Some b = sym k.is ∙ birth in cc) in
@@ -151,10 +165,13 @@ module _ (laws : Laws) (setting : Setting) (short : setting.most < 2 ^ 32) (some
         ap (λ (a : Birth). okay_after a.forwarded (replies_of a h)) same
         ∙ ap (λ (t : Bool). okay_after t (cond t [] (asked b.client h).replies)) alone in
         record {
-          kind = row.kind;
+          number = l;
+          birth = b;
+          is = birth;
+          client = refl;
+          row = k.settled.there.row;
+          served = record { own = remote_of l k.birth h; there = inl k.settled.there.is; host = k.settled.there.host };
           asked = ap (λ (a : Birth). service_of a.service) (sym same) ∙ k.settled.kind;
-          first = row.first;
-          past = row.past;
           came = all_came (service_answer row.kind row.first row.past).ended (bytes_in row.past) (drop b.head (bytes_read b.client h))
               (k.settled.came ∙ ap (λ (a : Birth). drop a.head (bytes_read a.client h)) same);
           put_as = ap (λ (a : Birth). bytes_put a.client h) (sym same) ∙ (k.settled.heard ∙ ap (λ (x : List ℕ). x ++ answer) before);
@@ -197,26 +214,26 @@ module _ (laws : Laws) (setting : Setting) (short : setting.most < 2 ^ 32) (some
         go stopped e by = absurd by
 
     gone_answered : (state h).streams l ≡ None
-        → IsAnswered b.service (drop b.head (bytes_read b.client h)) ((asked b.client h).replies ++ codes "OKAY") (bytes_put b.client h)
+        → StreamIsAnswered setting h b
     gone_answered gone = go (ending_of l h) refl ((all_endings h legal l).gone gone some_id drawn)
       where
         by : (o : Option Opening) → opening_of l b h ≡ o → is_some o ≡ true → ending_of l h ≡ Some peer_closed
-            → IsAnswered b.service (drop b.head (bytes_read b.client h)) ((asked b.client h).replies ++ codes "OKAY") (bytes_put b.client h)
+            → StreamIsAnswered setting h b
         by None is there ended = absurd (let clash : false ≡ true = there in cc)
         by (Some o) is there ended =
             closed_answered l b birth alone o is ended gone open_yet (laws.closed setting h short legal tied rest.still l b o birth own is ended)
 
         go : (y : Option Ending) → ending_of l h ≡ y → is_some y ≡ true
-            → IsAnswered b.service (drop b.head (bytes_read b.client h)) ((asked b.client h).replies ++ codes "OKAY") (bytes_put b.client h)
+            → StreamIsAnswered setting h b
         go None is there = absurd (let clash : false ≡ true = there in cc)
         go (Some y) is there =
             by (opening_of l b h) refl (laws.opened setting h short legal tied rest.still l b birth own known) (by_close y is)
 
-    stream_answered : IsAnswered b.service (drop b.head (bytes_read b.client h)) ((asked b.client h).replies ++ codes "OKAY") (bytes_put b.client h)
+    stream_answered : StreamIsAnswered setting h b
     stream_answered = go ((state h).streams l) refl
       where
         go : (o : Option Stream) → (state h).streams l ≡ o
-            → IsAnswered b.service (drop b.head (bytes_read b.client h)) ((asked b.client h).replies ++ codes "OKAY") (bytes_put b.client h)
+            → StreamIsAnswered setting h b
         go None is = gone_answered is
         go (Some x) is = live_answered x is
 
@@ -229,6 +246,7 @@ all_answered laws setting short some plain h legal tied one rest here killed ids
     let open_yet : has_ended b.birth.client h ≡ false = ap (λ (n : ℕ). has_ended n h) b.client ∙ asks.here in
     let done = stream_answered laws setting short some plain h legal tied one rest here killed (suc b.place) b.birth (born_as h b.place b.birth b.is ids)
     b.link b.alone known open_yet in
-    subst (λ (x : List ℕ). IsAnswered x (drop (asked c h).used (bytes_read c h)) ((asked c h).replies ++ codes "OKAY") (bytes_put c h)) b.service_is
-    (subst (λ (n : ℕ). IsAnswered b.birth.service (drop n (bytes_read c h)) ((asked c h).replies ++ codes "OKAY") (bytes_put c h)) b.head
-    (subst (λ (k : ℕ). IsAnswered b.birth.service (drop b.birth.head (bytes_read k h)) ((asked k h).replies ++ codes "OKAY") (bytes_put k h)) b.client done))
+    subst (λ (x : List ℕ). IsAnswered (serving_of setting h) h c x (drop (asked c h).used (bytes_read c h)) ((asked c h).replies ++ codes "OKAY") (bytes_put c h)) b.service_is
+    (subst (λ (n : ℕ). IsAnswered (serving_of setting h) h c b.birth.service (drop n (bytes_read c h)) ((asked c h).replies ++ codes "OKAY") (bytes_put c h)) b.head
+    (subst (λ (k : ℕ).
+    IsAnswered (serving_of setting h) h k b.birth.service (drop b.birth.head (bytes_read k h)) ((asked k h).replies ++ codes "OKAY") (bytes_put k h)) b.client done))

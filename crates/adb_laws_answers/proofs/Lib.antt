@@ -1,3 +1,3 @@
-mod Asked
+pub mod Asked
 mod Ends
 mod Answered

@@ -9,7 +9,8 @@ use Rattle.adb_device_streams.specs.Asked.{Kind, Echoes, service_of}
 use Rattle.adb_device_streams.specs.Service.{bytes_in, service_answer}
 use Rattle.adb_laws_sessions.specs.Words.{requests_for, words_of}
 use Rattle.adb_script.specs.Pattern.{pattern}
-use Rattle.adb_world.specs.Answered.{AreEchoes, CameOf, IsAnswered, answer_of}
+use Rattle.adb_laws_answers.specs.Answers.{CameOf}
+use Rattle.adb_world.specs.Answered.{AreEchoes, IsAnswered, answer_of}
 use Rattle.adb_world.specs.Parts.{AreSame, IsSame}
 use Rattle.adb_world.specs.Session.{text_of}
 use Rattle.adb_world.specs.Settled.{Each}
@@ -60,7 +61,9 @@ starts_one k size old mid new starting started = record {
 
 -- such sessions change no file
 pub are_echoes : (k size : ℕ) (old new : View) → IsStarting k size old new → AreEchoes new.sessions
-are_echoes k size old new starting c session is = inr (ap (λ (s : Session). s.service) (starting.only c session is).is)
+are_echoes k size old new starting c session is =
+    let same = (starting.only c session is).is in
+    inr (ap (λ (s : Session). s.written) same, ap (λ (s : Session). s.service) same)
 
 -- ---- each got back what it sent
 came_all : (session : Session) (bytes : List ℕ) (answered : IsAnswered session) → session.service ≡ codes "echo:" → text_of session ≡ bytes

@@ -34,6 +34,7 @@ use Rattle.adb_world.specs.Settled.{HasEnded, IsCounted, IsDone}
 use Rattle.adb_world.specs.World.{view_of}
 use Rattle.adb_world.specs.declared.parts.Parts.{Parts}
 use Rattle.adb_world.specs.declared.session.Session.{Session}
+use Rattle.adb_world.proofs.Answered.{all_read}
 use Rattle.adb_world.proofs.Counted.{IsThere, there}
 use Rattle.adb_world.proofs.Devices.{devices_of}
 use Rattle.adb_world.proofs.Ended.{ends_gone, idle_state}
@@ -48,16 +49,9 @@ fold_more f a [] ys = refl
 fold_more f a (x ∷ xs) ys = fold_more f (f a x) xs ys
 
 -- the files of a device are those of what it was sent
-files_behind : (h : History) (device : Daemon) → HasDone model_setting (bytes_sent 1 h) (bytes_received 1 h) device
+pub files_behind : (h : History) (device : Daemon) → HasDone model_setting (bytes_sent 1 h) (bytes_received 1 h) device
     → files_of device ≡ (device_behind model_setting (sent 1 h)).serving.files
 files_behind h device done = done.stands.holds.files
-
--- a session that wrote all its words
-all_read : (h : History) (c : ℕ) (session : Session) → IsTold h c session → left_of session ≡ [] → bytes_read c h ≡ session.words
-all_read h c session told none =
-    told.read
-    ∙ (sym (append-nil (take session.written session.words))
-    ∙ (ap (λ (x : List ℕ). take session.written session.words ++ x) (sym none) ∙ take-append-drop session.written session.words))
 
 -- ---- a new world
 pub no_files : (parts : Parts) (runs : IsRunning parts) → AsksForServices runs.history → parts.given ≡ 0 → files_of parts.device ≡ []

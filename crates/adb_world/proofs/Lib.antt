@@ -17,8 +17,10 @@ pub mod Going
 pub mod Unsent
 pub mod Unread
 pub mod NoMore
+pub mod Since
 pub mod SentAll
 pub mod Greeting
 pub mod Answered
+pub mod Alone
 pub mod Finishing
 pub mod Files

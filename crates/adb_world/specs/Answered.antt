@@ -1,20 +1,15 @@
 -- What sessions were handed.
-use Rattle.std.specs.Prelude.{ℕ, ◌≡◌, ◌≢◌, ◌⊎◌, Bool, true, false, List, [], ◌∷◌, ◌++◌, drop, Some, codes}
-use Rattle.adb_outside.specs.Bytes.{IsPrefixOf}
+use Rattle.std.specs.Prelude.{ℕ, ◌≡◌, ◌≢◌, ◌⊎◌, List, [], ◌∷◌, ◌++◌, drop, Some, codes}
 use Rattle.adb_outside.specs.Tables.{at}
 use Rattle.adb_files.specs.Entries.{Entry}
 use Rattle.adb_device_streams.specs.Asked.{Kind, service_of}
 use Rattle.adb_device_streams.specs.Service.{Came, bytes_in, came_over, files_fed, files_opened, service_answer}
+use Rattle.adb_laws_answers.specs.Answers.{CameOf}
 use Rattle.adb_world.specs.declared.session.TheConstants.{REPLIES}
 use Rattle.adb_world.specs.Session.{left_of, text_of}
 use Rattle.adb_world.specs.Settled.{Each}
 use Rattle.adb_world.specs.World.{View}
 use Rattle.adb_world.specs.declared.session.Session.{Session}
-
--- what came to a service of a text: all of it, or where the service ended a front of it
-abbrev pub CameOf : (ended : Bool) → (came text : List ℕ) → Type 0
-CameOf true came text = IsPrefixOf came text
-CameOf false came text = came ≡ text
 
 -- A session was handed the replies to its requests, and all that its service answers to its whole text.
 pub record IsAnswered (session : Session) : Type 0 where
@@ -47,6 +42,9 @@ pub record IsNewAlone (n : ℕ) (sessions : List (ℕ × Session)) : Type 0 wher
   pub unwritten : session.written ≡ 0
   pub others : (c : ℕ) (other : Session) → c ≢ n → at c sessions ≡ Some other → left_of other ≡ []
 
--- each session has written all its words, or asks for an echo, which changes no file
+-- each session has written all its words; or it has written nothing, and asks for an echo, which changes no file
+abbrev pub IsEcho : Session → Type 0
+IsEcho session = (session.written ≡ 0) × (session.service ≡ codes "echo:")
+
 abbrev pub AreEchoes : List (ℕ × Session) → Type 0
-AreEchoes sessions = Each sessions (λ (session : Session). (left_of session ≡ []) ⊎ (session.service ≡ codes "echo:"))
+AreEchoes sessions = Each sessions (λ (session : Session). (left_of session ≡ []) ⊎ IsEcho session)
