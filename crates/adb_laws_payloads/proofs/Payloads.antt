@@ -70,13 +70,13 @@ module _ (opened : List Entry) (came : Came) (before : List Came) (over : came.f
   f : Further (bytes_in before) came.bytes
   f = further (bytes_in before) came.bytes
 
-  abbrev first : Served
-  first = serve_all opened (requests_in (bytes_in before))
+  abbrev earlier : Served
+  earlier = serve_all opened (requests_in (bytes_in before))
 
-  stands : came.files ≡ first.files
+  stands : came.files ≡ earlier.files
   stands = over ∙ so_far.files
 
-  next : served_by before came ≡ serve_all first.files f.requests
+  next : served_by before came ≡ serve_all earlier.files f.requests
   next = ap (λ (rs : List Request). serve_all came.files rs) (completes (bytes_in before) came.bytes f)
       ∙ ap (λ (files : List Entry). serve_all files f.requests) stands
 
@@ -87,16 +87,16 @@ module _ (opened : List Entry) (came : Came) (before : List Came) (over : came.f
   one_more answer = cond answer.ended answer (record { bytes = answer.bytes ++ (served_by before came).answer; ended = (served_by before came).ended })
 
   more_served : ServedAtOnce opened (came ∷ before)
-  more_served = go first.ended refl
+  more_served = go earlier.ended refl
     where
-      go : (b : Bool) → first.ended ≡ b → ServedAtOnce opened (came ∷ before)
+      go : (b : Bool) → earlier.ended ≡ b → ServedAtOnce opened (came ∷ before)
       go true e =
-          let same : serve_all opened (requests_in (bytes_in before ++ came.bytes)) ≡ first =
+          let same : serve_all opened (requests_in (bytes_in before ++ came.bytes)) ≡ earlier =
           all ∙ serve_all-ended (requests_in (bytes_in before)) f.requests opened e in
           record {
             answer = ap one_more so_far.answer
-                ∙ (ap (λ (t : Bool). cond t (answer_by first)
-                (record { bytes = first.answer ++ (served_by before came).answer; ended = (served_by before came).ended })) e
+                ∙ (ap (λ (t : Bool). cond t (answer_by earlier)
+                (record { bytes = earlier.answer ++ (served_by before came).answer; ended = (served_by before came).ended })) e
                 ∙ ap answer_by (sym same));
             files = ap (λ (a : Answer). sync_files a.ended came.files (served_by before came)) so_far.answer
                 ∙ (ap (λ (t : Bool). cond t came.files (served_by before came).files) e ∙ (stands ∙ ap (λ (s : Served). s.files) (sym same)));
@@ -105,12 +105,12 @@ module _ (opened : List Entry) (came : Came) (before : List Came) (over : came.f
           let joins = serve_all-more (requests_in (bytes_in before)) f.requests opened e in
           let end : (served_by before came).ended ≡ (serve_all opened (requests_in (bytes_in before ++ came.bytes))).ended =
           ap (λ (s : Served). s.ended) next ∙ (sym joins.ended ∙ ap (λ (s : Served). s.ended) (sym all)) in
-          let bytes : first.answer ++ (served_by before came).answer ≡ (serve_all opened (requests_in (bytes_in before ++ came.bytes))).answer =
-          ap (λ (s : Served). first.answer ++ s.answer) next ∙ (sym joins.answer ∙ ap (λ (s : Served). s.answer) (sym all)) in
+          let bytes : earlier.answer ++ (served_by before came).answer ≡ (serve_all opened (requests_in (bytes_in before ++ came.bytes))).answer =
+          ap (λ (s : Served). earlier.answer ++ s.answer) next ∙ (sym joins.answer ∙ ap (λ (s : Served). s.answer) (sym all)) in
           record {
             answer = ap one_more so_far.answer
-                ∙ (ap (λ (t : Bool). cond t (answer_by first)
-                (record { bytes = first.answer ++ (served_by before came).answer; ended = (served_by before came).ended })) e
+                ∙ (ap (λ (t : Bool). cond t (answer_by earlier)
+                (record { bytes = earlier.answer ++ (served_by before came).answer; ended = (served_by before came).ended })) e
                 ∙ (λ i. record { bytes = bytes i; ended = end i }));
             files = ap (λ (a : Answer). sync_files a.ended came.files (served_by before came)) so_far.answer
                 ∙ (ap (λ (t : Bool). cond t came.files (served_by before came).files) e

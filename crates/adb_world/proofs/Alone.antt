@@ -318,6 +318,25 @@ pub record AloneLaws : Type 0 where
 abbrev pub AreUnbegun : Parts → Type 0
 AreUnbegun parts = (c : ℕ) (session : Session) → at c parts.sessions.entries ≡ Some session → (left_of session ≡ []) ⊎ (session.written ≡ 0)
 
+-- where one begins alone, and where all that begin are echoes
+pub alone_begun : (n : ℕ) (parts : Parts) → IsNewAlone n parts.sessions.entries → AreUnbegun parts
+alone_begun n parts alone c session is = go (cases_eq c n)
+  where
+    go : (c ≡ n) ⊎ (c ≢ n) → (left_of session ≡ []) ⊎ (session.written ≡ 0)
+    go (inr other) = inl (alone.others c session other is)
+    go (inl same) =
+        let both : Some alone.session ≡ Some session =
+        sym alone.is ∙ (ap (λ (k : ℕ). at k parts.sessions.entries) (sym same) ∙ is) in
+        let one : alone.session ≡ session = cc in
+        inr (ap (λ (s : Session). s.written) (sym one) ∙ alone.unwritten)
+
+pub echoes_begun : (parts : Parts) → AreEchoes parts.sessions.entries → AreUnbegun parts
+echoes_begun parts echoes c session is = go (echoes c session is)
+  where
+    go : (left_of session ≡ []) ⊎ IsEcho session → (left_of session ≡ []) ⊎ (session.written ≡ 0)
+    go (inl none) = inl none
+    go (inr echo) = inr echo.0
+
 module _ (laws : AloneLaws) (old new : Parts) (ease : IsAtEase old) (goes : GoesOn old new) (rests : Rests new) (begun : AreUnbegun old) where
   abbrev h : History
   h = ease.runs.history

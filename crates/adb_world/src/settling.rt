@@ -9,7 +9,9 @@ ghost use Rattle.adb_world.specs.Settled.{Anything, Each, Goes, GoesOn, IsAtEase
 ghost use Rattle.adb_world.specs.declared.session.Session.{Session};
 
 use crate::choices::{Side, Turn, turn_of};
-use crate::laws::worlds_that_rest_are_settled;
+use crate::laws::{
+    echoes_change_no_file, sessions_alone_are_answered, worlds_that_rest_are_settled,
+};
 use crate::moving::{down, hand_behind, up, write_behind};
 use crate::parts::Parts;
 use rand_core::SeedableRng;
@@ -31,6 +33,8 @@ pub(crate) fn settle_parts(parts: &mut Parts, seed: u64) -> Result<u64, AllocErr
         → OnOk result (files_of parts.new.device ≡ files_of parts.old.device) }
 {
     worlds_that_rest_are_settled();
+    sessions_alone_are_answered();
+    echoes_change_no_file();
     let mut words = Pcg32::seed_from_u64(seed);
     for steps in 0..u64::MAX {
         let side = words.next_word();
