@@ -38,7 +38,7 @@ module _ (setting : Setting) where
   unfolding IsStrictlySortedBy
   first_kept w files = record {
     rises = tt;
-    files = files;
+    sound = files;
     live = λ own row is so. absurd (let clash : None ≡ Some row = is in cc);
     over = λ own e is so. absurd (let clash : None ≡ Some e = is in cc);
     apart = λ single own row is so. absurd (let clash : None ≡ Some row = is in cc);
@@ -56,7 +56,7 @@ module _ (setting : Setting) where
         place = λ so. tt;
         row = λ so. absurd (none so);
       }
-      one commands.Wrte none s = λ row is host. record { files = tt; stays = inl (λ other holds. holds); row = λ so holds. holds }
+      one commands.Wrte none s = λ row is host. record { files = tt; stays = inl (λ other holds. holds); took = λ so holds. holds }
       one commands.Okay none s = tt
       one commands.Clse none s = tt
       one commands.Cnxn none s = tt
@@ -71,7 +71,7 @@ module _ (setting : Setting) where
 from_none : (w : Watch) (s : Serving) → KeptIn (unasked w.Such) s → w.OfFiles s.files → KeptIn w s
 from_none w s none files = record {
   rises = none.rises;
-  files = files;
+  sound = files;
   live = λ own row is so. absurd (none.live own row is so).1;
   over = λ own e is so. absurd (none.over own e is so);
   apart = λ single own row is so. absurd (none.live own row is so).1;
@@ -119,9 +119,9 @@ module _ (setting : Setting) (l : ℕ) where
     where
       wrote : (p.payload ≡ []) ⊎ (p.arg0 ≡ l) → (s : Serving) → KeptIn (unopened l first) s → Allows (unopened l first) commands.Wrte p s
       wrote (inl none) s k = λ row is host. record {
-        files = fed_none row.kind row.past p.payload s.files none ∙ k.files;
+        files = fed_none row.kind row.past p.payload s.files none ∙ k.sound;
         stays = inl (λ other holds. holds);
-        row = λ so holds. holds;
+        took = λ so holds. holds;
       }
       wrote (inr own) s k = λ row is host. absurd (k.live p.arg1 row is (host ∙ own)).1
 
@@ -147,9 +147,9 @@ module _ (setting : Setting) (l : ℕ) where
         files = tt;
         stays = inl (λ other holds.
             subst (λ (files : List Entry). RanAlone first files other) (sym (fed_none row.kind row.past p.payload s.files none)) holds);
-        row = λ so holds. took s row holds;
+        took = λ so holds. took s row holds;
       }
-      wrote (inr own) s = λ row is host. record { files = tt; stays = inr (tt, host ∙ own); row = λ so holds. took s row holds }
+      wrote (inr own) s = λ row is host. record { files = tt; stays = inr (tt, host ∙ own); took = λ so holds. took s row holds }
 
       one : (command : Command) → IsWriting l command p → (s : Serving) → Allows (alone l id first) command p s
       one commands.Open writes s = absurd writes
@@ -240,73 +240,70 @@ module _ (setting : Setting) (l : ℕ) where
       one commands.Stls is own later = other commands.Stls is tt later
 
   module _ (before : List Packet) (none : Every (AsksNone (λ (host : ℕ). host ≡ l)) before) where
-    abbrev d : Device
-    d = device_behind setting before
+    abbrev device_then : Device
+    device_then = device_behind setting before
 
-    abbrev first : List Entry
-    first = (device_behind setting before).serving.files
+    abbrev files_then : List Entry
+    files_then = (device_behind setting before).serving.files
 
     -- packets that write for it alone
-    unopened_behind : (ps : List Packet) → Every (IsWriting l) ps → KeptIn (unopened l first) (fold (step setting) d ps).serving
+    unopened_behind : (ps : List Packet) → Every (IsWriting l) ps → KeptIn (unopened l files_then) (fold (step setting) device_then ps).serving
     unopened_behind ps every =
-        all_kept (unopened l first) setting ps d (allow_unopened first ps every)
-        (from_none (unopened l first) d.serving (none_unasked setting (λ (host : ℕ). host ≡ l) before none) refl)
+        all_kept (unopened l files_then) setting ps device_then (allow_unopened files_then ps every)
+        (from_none (unopened l files_then) device_then.serving (none_unasked setting (λ (host : ℕ). host ≡ l) before none) refl)
 
     -- they leave no row of it
-    never_opened : (ps : List Packet) → Every (IsWriting l) ps → AllRanAlone l first (fold (step setting) d ps).serving
+    never_opened : (ps : List Packet) → Every (IsWriting l) ps → AllRanAlone l files_then (fold (step setting) device_then ps).serving
     never_opened ps every =
         let k = unopened_behind ps every in
         record { rows = λ own row is host. absurd (k.live own row is host).1; ended = λ own e is host. absurd (k.over own e is host) }
 
     -- it was opened, and ran alone
-    opened_alone : (ps : List Packet) → Split ps → AllRanAlone l first (fold (step setting) d ps).serving
+    opened_alone : (ps : List Packet) → Split ps → AllRanAlone l files_then (fold (step setting) device_then ps).serving
     opened_alone ps s =
-        subst (λ (x : Device). AllRanAlone l first x.serving)
-        (sym (step_more setting d s.front (s.asking ∷ s.rest)) ∙ ap (λ (x : List Packet). fold (step setting) d x) s.is) ran
+        subst (λ (x : Device). AllRanAlone l files_then x.serving)
+        (sym (step_more setting device_then s.front (s.asking ∷ s.rest)) ∙ ap (λ (x : List Packet). fold (step setting) device_then x) s.is) ran
       where
         mid : Device
-        mid = fold (step setting) d s.front
+        mid = fold (step setting) device_then s.front
 
-        k : KeptIn (unopened l first) mid.serving
+        k : KeptIn (unopened l files_then) mid.serving
         k = unopened_behind s.front s.before
 
-        w : Watch
-        w = alone l (mid.serving.drawn + 1) first
-
-        ran : AllRanAlone l first (fold (step setting) (fold (step setting) d s.front) (s.asking ∷ s.rest)).serving
+        ran : AllRanAlone l files_then (fold (step setting) (fold (step setting) device_then s.front) (s.asking ∷ s.rest)).serving
         ran = record { rows = λ own row is host. (last.live own row is host).1; ended = last.over }
           where
-            none_there : HasNone (alone l ((fold (step setting) d s.front).serving.drawn + 1) first) (fold (step setting) d s.front).serving
+            none_there : HasNone (alone l ((fold (step setting) device_then s.front).serving.drawn + 1) files_then) (fold (step setting) device_then s.front).serving
             none_there = record { live = λ own row is host. (k.live own row is host).1; over = λ own e is host. k.over own e is host }
 
-            begins : KeptIn (alone l ((fold (step setting) d s.front).serving.drawn + 1) first) (fold (step setting) d s.front).serving
+            begins : KeptIn (alone l ((fold (step setting) device_then s.front).serving.drawn + 1) files_then) (fold (step setting) device_then s.front).serving
             begins = record {
               rises = k.rises;
-              files = tt;
+              sound = tt;
               live = λ own row is host. absurd (k.live own row is host).1;
               over = λ own e is host. absurd (k.over own e is host);
               apart = λ single own row is host. absurd (k.live own row is host).1;
             }
 
-            opens : Allows (alone l ((fold (step setting) d s.front).serving.drawn + 1) first) commands.Open s.asking
-                (fold (step setting) d s.front).serving
+            opens : Allows (alone l ((fold (step setting) device_then s.front).serving.drawn + 1) files_then) commands.Open s.asking
+                (fold (step setting) device_then s.front).serving
             opens = λ kind known. record {
               files = tt;
               stays = inr none_there;
               fresh = λ host. inl none_there.over;
               place = λ host. refl;
-              row = λ host. record { over = k.files; turn = tt; left = ap (files_opened kind) k.files };
+              row = λ host. record { over = k.sound; turn = tt; left = ap (files_opened kind) k.sound };
             }
 
-            last : KeptIn (alone l ((fold (step setting) d s.front).serving.drawn + 1) first)
-                (fold (step setting) (step setting (fold (step setting) d s.front) s.asking) s.rest).serving
+            last : KeptIn (alone l ((fold (step setting) device_then s.front).serving.drawn + 1) files_then)
+                (fold (step setting) (step setting (fold (step setting) device_then s.front) s.asking) s.rest).serving
             last =
-                all_kept (alone l ((fold (step setting) d s.front).serving.drawn + 1) first) setting s.rest
-                (step setting (fold (step setting) d s.front) s.asking)
-                (allow_alone ((fold (step setting) d s.front).serving.drawn + 1) first s.rest s.behind)
-                (step_keeps (alone l ((fold (step setting) d s.front).serving.drawn + 1) first) setting (fold (step setting) d s.front) s.asking
-                (subst (λ (c : Command). Allows (alone l ((fold (step setting) d s.front).serving.drawn + 1) first) c s.asking
-                (fold (step setting) d s.front).serving) (sym s.asks) opens) begins)
+                all_kept (alone l ((fold (step setting) device_then s.front).serving.drawn + 1) files_then) setting s.rest
+                (step setting (fold (step setting) device_then s.front) s.asking)
+                (allow_alone ((fold (step setting) device_then s.front).serving.drawn + 1) files_then s.rest s.behind)
+                (step_keeps (alone l ((fold (step setting) device_then s.front).serving.drawn + 1) files_then) setting (fold (step setting) device_then s.front) s.asking
+                (subst (λ (c : Command). Allows (alone l ((fold (step setting) device_then s.front).serving.drawn + 1) files_then) c s.asking
+                (fold (step setting) device_then s.front).serving) (sym s.asks) opens) begins)
 
 pub one_runs_alone : (setting : Setting) → OneRunsAlone setting
 one_runs_alone setting l before ps none every once =
@@ -337,16 +334,16 @@ allow_echoing setting d first (p ∷ ps) every = (λ s k. one p.command every.0 
   where
     wrote : (p.payload ≡ []) ⊎ (d < p.arg0) → (s : Serving) → KeptIn (echoing d first) s → Allows (echoing d first) commands.Wrte p s
     wrote (inl none) s k = λ row is host. record {
-      files = fed_none row.kind row.past p.payload s.files none ∙ k.files;
+      files = fed_none row.kind row.past p.payload s.files none ∙ k.sound;
       stays = inl (λ other holds. holds);
-      row = λ so holds. holds;
+      took = λ so holds. holds;
     }
     wrote (inr past) s k = λ row is host.
         let echoes : row.kind ≡ Echoes = (k.live p.arg1 row is (subst (λ (n : ℕ). d < n) (sym host) past)).1 in
         record {
-          files = ap (λ (kind : Kind). files_fed kind row.past (came_over p.payload s.files)) echoes ∙ k.files;
+          files = ap (λ (kind : Kind). files_fed kind row.past (came_over p.payload s.files)) echoes ∙ k.sound;
           stays = inl (λ other holds. holds);
-          row = λ so holds. holds;
+          took = λ so holds. holds;
         }
 
     one : (command : Command) → IsOfEchoes d command p → (s : Serving) → KeptIn (echoing d first) s → Allows (echoing d first) command p s
@@ -354,7 +351,7 @@ allow_echoing setting d first (p ∷ ps) every = (λ s k. one p.command every.0 
         let both : Some kind ≡ Some Echoes = sym known ∙ asks in
         let echoes : kind ≡ Echoes = cc in
         record {
-          files = ap (λ (x : Kind). files_opened x s.files) echoes ∙ k.files;
+          files = ap (λ (x : Kind). files_opened x s.files) echoes ∙ k.sound;
           stays = inl (λ row holds. holds);
           fresh = λ so. inr (λ none. none);
           place = λ so. tt;
@@ -373,4 +370,4 @@ echoes_leave setting d before ps none every =
     ∙ (all_kept (echoing d (device_behind setting before).serving.files) setting ps (device_behind setting before)
     (allow_echoing setting d (device_behind setting before).serving.files ps every)
     (from_none (echoing d (device_behind setting before).serving.files) (device_behind setting before).serving
-    (none_unasked setting (λ (host : ℕ). d < host) before none) refl)).files
+    (none_unasked setting (λ (host : ℕ). d < host) before none) refl)).sound

@@ -10,12 +10,12 @@ use Rattle.adb_files.specs.Entries.{Entry}
 use Rattle.adb_files.specs.Requests.{Request, requests_in}
 use Rattle.adb_files.specs.Served.{serve_all}
 use Rattle.adb_device_streams.specs.Asked.{Kind, Echoes, Syncs, Shells}
-use Rattle.adb_device_streams.specs.Link.{link_of}
+use Rattle.adb_device_streams.specs.Link.{credit_word_in, link_of}
 use Rattle.adb_device_streams.specs.Service.{Came, bytes_in, came_over, completed_by, files_fed, sync_answer, sync_files, served_by}
 use Rattle.adb_device_streams.specs.Stream.{Row, is_done, row_acked, row_took, row_written}
 use Rattle.adb_device_streams.specs.declared.link.Link.{Link}
 use Rattle.adb_daemon.specs.Device.{Device, Setting, linked_to, served_on, step, treated}
-use Rattle.adb_daemon.specs.Serving.{Serving, acked_to, closable, closed_to, named, owing, sent_writes, served, settled, settled_as, written_to}
+use Rattle.adb_daemon.specs.Serving.{Serving, acked_to, closable, closed_to, granted, named, owing, sent_writes, served, settled, settled_as, written_to}
 use Rattle.adb_outside.specs.Tables.{at}
 
 -- no stream is asked for, and nothing is written
@@ -68,7 +68,8 @@ module _ (link : Link) (p : Packet) (s : Serving) where
 
   acked_files : (o : Option Row) → (acked_to link p o s).files ≡ s.files
   acked_files None = refl
-  acked_files (Some row) = settled_files link p.arg1 _ _
+  acked_files (Some row) =
+      settled_files link p.arg1 (row_acked (credit_word_in p.payload) row) (granted p.arg1 (credit_word_in p.payload) s)
 
   closed_files : (o : Option Row) → (closed_to p.arg1 o s).files ≡ s.files
   closed_files None = refl

@@ -89,7 +89,7 @@ module _ (w : Watch) where
 
   pub record Keeps (rows : List (ℕ × Row)) (ended : List Ended) (files : List Entry) : Type 0 where
     pub rises : IsRising rows
-    pub files : w.OfFiles files
+    pub sound : w.OfFiles files
     pub live : (own : ℕ) (row : Row) → at own rows ≡ Some row → w.Such row.host → w.Place own × w.Holds files row
     pub over : (own : ℕ) (e : Ended) → over_at own ended ≡ Some e → w.Such e.row.host → w.Holds files e.row
     pub apart : w.Single → (own : ℕ) (row : Row) → at own rows ≡ Some row → w.Such row.host → NoneOver ended
@@ -100,7 +100,7 @@ module _ (w : Watch) where
   -- the same of all but one row
   record Others (q : ℕ) (rows : List (ℕ × Row)) (ended : List Ended) (files : List Entry) : Type 0 where
     rises : IsRising rows
-    files : w.OfFiles files
+    sound : w.OfFiles files
     live : (own : ℕ) (row : Row) → own ≢ q → at own rows ≡ Some row → w.Such row.host → w.Place own × w.Holds files row
     over : (own : ℕ) (e : Ended) → over_at own ended ≡ Some e → w.Such e.row.host → w.Holds files e.row
     apart : w.Single → (own : ℕ) (row : Row) → own ≢ q → at own rows ≡ Some row → w.Such row.host → NoneOver ended
@@ -119,7 +119,7 @@ module _ (w : Watch) where
     put : Keeps (put_at q row rows) ended files
     put = record {
       rises = put_at_rises q row rows o.rises;
-      files = o.files;
+      sound = o.sound;
       live = λ own x is so. elim (put_found q row rows own x is) [
         | inl mine ↦
             let holds = h.live (such row x mine.1 so) in
@@ -137,7 +137,7 @@ module _ (w : Watch) where
     taken : (closed : Bool) → Keeps (without q rows) (ended_at closed (q, row) ∷ ended) files
     taken closed = record {
       rises = without_rises q rows o.rises;
-      files = o.files;
+      sound = o.sound;
       live = λ own x is so. let there = left_found q rows o.rises own x is in o.live own x there.0 there.1 so;
       over = λ own e is so. elim (one_over closed q row ended own e is) [
         | inl mine ↦ subst (w.Holds files) mine (h.live (such row e.row mine so)).1
@@ -171,7 +171,7 @@ module _ (w : Watch) where
   but : (q : ℕ) (s : Serving) → KeptIn s → Others q s.rows s.ended s.files
   but q s k = record {
     rises = k.rises;
-    files = k.files;
+    sound = k.sound;
     live = λ own row other is so. k.live own row is so;
     over = k.over;
     apart = λ single own row other is so. k.apart single own row is so;
@@ -202,7 +202,7 @@ module _ (w : Watch) where
   pub record Writes (row : Row) (p : Packet) (s : Serving) : Type 0 where
     pub files : w.OfFiles (files_fed row.kind row.past (came_over p.payload s.files))
     pub stays : Stays s.files (files_fed row.kind row.past (came_over p.payload s.files)) ⊎ (w.Single × w.Such row.host)
-    pub row : w.Such row.host → w.Holds s.files row
+    pub took : w.Such row.host → w.Holds s.files row
         → w.Holds (files_fed row.kind row.past (came_over p.payload s.files)) (row_took (came_over p.payload s.files) row)
 
   abbrev pub Allows : Command → Packet → Serving → Type 0
@@ -235,14 +235,14 @@ module _ (w : Watch) where
                 by : Stays s.files (files_opened kind s.files) ⊎ HasNone s → Others (s.drawn + 1) s.rows s.ended (files_opened kind s.files)
                 by (inl stays) = record {
                   rises = k.rises;
-                  files = o.files;
+                  sound = o.files;
                   live = λ own x other is so. let holds = k.live own x is so in (holds.0, stays x holds.1);
                   over = λ own e is so. stays e.row (k.over own e is so);
                   apart = λ single own x other is so. k.apart single own x is so;
                 }
                 by (inr none) = record {
                   rises = k.rises;
-                  files = o.files;
+                  sound = o.files;
                   live = λ own x other is so. absurd (none.live own x is so);
                   over = λ own e is so. absurd (none.over own e is so);
                   apart = λ single own x other is so. absurd (none.live own x is so);
@@ -277,7 +277,7 @@ module _ (w : Watch) where
             })
             (others x.stays)
             (record {
-              live = λ so. let holds = k.live p.arg1 row is so in (holds.0, x.row so holds.1);
+              live = λ so. let holds = k.live p.arg1 row is so in (holds.0, x.took so holds.1);
               apart = λ single so. k.apart single p.arg1 row is so;
             })
           where
@@ -285,14 +285,14 @@ module _ (w : Watch) where
                 → Others p.arg1 s.rows s.ended (files_fed row.kind row.past (came_over p.payload s.files))
             others (inl stays) = record {
               rises = k.rises;
-              files = x.files;
+              sound = x.files;
               live = λ own y other there so. let holds = k.live own y there so in (holds.0, stays y holds.1);
               over = λ own e there so. stays e.row (k.over own e there so);
               apart = λ single own y other there so. k.apart single own y there so;
             }
             others (inr only) = record {
               rises = k.rises;
-              files = x.files;
+              sound = x.files;
               live = λ own y other there so.
                   absurd (other (w.one only.0 own p.arg1 (k.live own y there so).0 (k.live p.arg1 row is only.1).0));
               over = λ own e there so. absurd (k.apart only.0 p.arg1 row is only.1 own e there so);
@@ -337,7 +337,7 @@ module _ (w : Watch) where
   unfolding IsStrictlySortedBy
   all_keep s k = record {
     rises = tt;
-    files = k.files;
+    sound = k.sound;
     live = λ own row is so. absurd (let clash : None ≡ Some row = is in cc);
     over = λ own e is so. go own e (at own s.rows) refl (sym (all_over own s.rows s.ended) ∙ is) so;
     apart = λ single own row is so. absurd (let clash : None ≡ Some row = is in cc);

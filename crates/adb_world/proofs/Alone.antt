@@ -149,19 +149,20 @@ asked_of_birth h legal sessions asks l b is = record { some = some; came = of.ca
     go true by = absurd (let clash : false ≡ true = sym by ∙ asks.joined b.client (numbered h legal sessions l b is) (births_of h legal l b is).came in cc)
 
 -- the stream that a client asked for was born
-asked_born : RequestsOpen → (h : History) → AsksForServices h → length (births h) ≤ stream_ids → (c : ℕ) → is_some (asked c h).next ≡ true
+asked_born : RequestsOpen → (h : History) → AsksForServices h → (c : ℕ) → is_some (asked c h).next ≡ true
     → (service : List ℕ) × IsBornFor h c 1 service
-asked_born requests h asks ids c done =
+asked_born requests h asks c done =
     go (cases_lt (length (asks.clients c).front) (length (requests_for (asks.clients c).session.service)))
   where
     opens : Opens (asks.clients c).session.service (asks.clients c).front (asks_with model_devices [] (asks.clients c).front nothing_asked)
     opens =
         let session = (asks.clients c).session in
         let first = (asks.clients c).first in
-        requests session.service session.text (asks.clients c).front session.known
-        (first.0 ++ session.front.0,
-        sym (append_assoc (asks.clients c).front first.0 session.front.0)
-        ∙ (ap (λ (x : List ℕ). x ++ session.front.0) first.1 ∙ session.front.1))
+        requests session.service session.text (asks.clients c).front session.known (
+          first.0 ++ session.front.0,
+          sym (append_assoc (asks.clients c).front first.0 session.front.0)
+              ∙ (ap (λ (x : List ℕ). x ++ session.front.0) first.1 ∙ session.front.1),
+        )
 
     go : (length (asks.clients c).front < length (requests_for (asks.clients c).session.service))
         ⊎ (length (requests_for (asks.clients c).session.service) ≤ length (asks.clients c).front) → (service : List ℕ) × IsBornFor h c 1 service
@@ -412,7 +413,7 @@ module _ (laws : AloneLaws) (old new : Parts) (ease : IsAtEase old) (goes : Goes
   has_asked c session is none = asks_as_written laws.requests h legal c session (asks.clients c) (told_of c session is) none
 
   not_both : (c : ℕ) → is_some (asked c h).next ≡ false → is_some (asked c h).next ≡ true → ⊥
-  not_both c no yes = let clash : false ≡ true = sym no ∙ yes in cc
+  not_both c off on = let clash : false ≡ true = sym off ∙ on in cc
 
   -- the same session now
   same_now : (c : ℕ) (session : Session) → at c old.sessions.entries ≡ Some session
@@ -422,14 +423,14 @@ module _ (laws : AloneLaws) (old new : Parts) (ease : IsAtEase old) (goes : Goes
     where
       go : (o : Option Session) → at c new.sessions.entries ≡ o → IsSame (Some session) o
           → (later : Session) × ((at c new.sessions.entries ≡ Some later) × IsSame (Some session) (Some later))
-      go None there same = absurd same
-      go (Some later) there same = (later, (there, same))
+      go None found same = absurd same
+      go (Some later) found same = (later, (found, same))
 
   -- ---- streams
   -- a client that had asked has its stream since then
   born_before : (l : ℕ) (b : Birth) → born l now ≡ Some b → is_some (asked b.client h).next ≡ true → l ≤ (state h).drawn
   born_before l b is done =
-      let x = asked_born laws.requests h asks (few_births h old holds asks) b.client done in
+      let x = asked_born laws.requests h asks b.client done in
       let was = born_as h x.1.place x.1.birth x.1.is (few_births h old holds asks) in
       let same : l ≡ suc x.1.place =
       one_stream_each now legal_now l (suc x.1.place) b x.1.birth is (born_behind (suc x.1.place) x.1.birth more h was) (sym x.1.client) in
@@ -525,18 +526,18 @@ module _ (laws : AloneLaws) (old new : Parts) (ease : IsAtEase old) (goes : Goes
   whole_link : sent 1 h ≡ packets_of 1 h
   whole_link = all_sent h old.hub ease.runs.holds.lawful known ease.calm.link
 
-  sent_since : (ps : List Packet) × (sent 1 h ++ ps ≡ sent 1 now)
+  abbrev sent_since : (ps : List Packet) × (sent 1 h ++ ps ≡ sent 1 now)
   sent_since = since laws.carried laws.stays h more legal legal_now idle whole_link read
 
-  past : Every (IsPast now (state h).drawn) sent_since.0
-  past =
+  all_sent_past : Every (IsPast now (state h).drawn) sent_since.0
+  all_sent_past =
       all_past now (state h).drawn sent_since.0 (own_since laws.carried laws.stays h more legal legal_now idle whole_link read)
       (quiet_since laws.carried laws.stays h more legal legal_now idle whole_link read)
 
-  abbrev first : List File
-  first = (served_by h).files
+  abbrev stood : List File
+  stood = (served_by h).files
 
-  files_old : files_of old.device ≡ first
+  files_old : files_of old.device ≡ stood
   files_old = files_sent h old.device holds.done
 
   files_now : files_of new.device ≡ (served_by now).files
@@ -576,7 +577,7 @@ module _ (laws : AloneLaws) (old new : Parts) (ease : IsAtEase old) (goes : Goes
             (has_asked b.client f.session f.is (alone.others b.client f.session other f.is)))
 
     of_one : Every (IsOfOne a.number) sent_since.0
-    of_one = every_past now (state h).drawn (IsOfOne a.number) follows sent_since.0 past
+    of_one = every_past now (state h).drawn (IsOfOne a.number) follows sent_since.0 all_sent_past
       where
         follows : (p : Packet) (command : Command) → IsPast now (state h).drawn command p → IsOfOne a.number command p
         follows p Open x = mine p.arg0 x.1.birth x.1.is x.0
@@ -595,32 +596,32 @@ module _ (laws : AloneLaws) (old new : Parts) (ease : IsAtEase old) (goes : Goes
         ap (count_from is_open a.number) (sym sent_since.1) ∙ count_append is_open a.number (sent 1 h) sent_since.0 in
         omega (arith, all, both)
 
-    ran : AllRanAlone a.number first (served_by now)
+    ran : AllRanAlone a.number stood (served_by now)
     ran =
-        subst (λ (ps : List Packet). AllRanAlone a.number first (device_behind model_setting ps).serving) sent_since.1
+        subst (λ (ps : List Packet). AllRanAlone a.number stood (device_behind model_setting ps).serving) sent_since.1
         (laws.alone a.number (sent 1 h) sent_since.0 before of_one once)
 
-    row_ran : RanAlone first (served_by now).files a.row
+    row_ran : RanAlone stood (served_by now).files a.row
     row_ran = go a.served.there
       where
         go : (at a.served.own (served_by now).rows ≡ Some a.row) ⊎ HasEndedAs a.served.own a.row (served_by now).ended
-            → RanAlone first (served_by now).files a.row
+            → RanAlone stood (served_by now).files a.row
         go (inl live) = ran.rows a.served.own a.row live a.served.host
         go (inr e) =
-            subst (λ (row : Row). RanAlone first (served_by now).files row) e.row_is
+            subst (λ (row : Row). RanAlone stood (served_by now).files row) e.row_is
             (ran.ended a.served.own e.over e.is (ap (λ (row : Row). row.host) e.row_is ∙ a.served.host))
 
-    whole : IsWhole a.row.kind a.row.first (files_opened a.row.kind first) a.row.past (text_of session)
+    whole : IsWhole a.row.kind a.row.stood (files_opened a.row.kind stood) a.row.past (text_of session)
     whole =
-        is_whole laws.payloads a.row.kind a.row.first (files_opened a.row.kind first) a.row.past (text_of session) row_ran.turn a.came
+        is_whole laws.payloads a.row.kind a.row.stood (files_opened a.row.kind stood) a.row.past (text_of session) row_ran.turn a.came
 
-    over_first : IsAnsweredAlone session first (files_of new.device)
+    over_first : IsAnsweredAlone session stood (files_of new.device)
     over_first = record {
       kind = a.row.kind;
       asked = a.asked;
       got = a.put_as
           ∙ ap (λ (x : Answer). codes "OKAYOKAY" ++ x.bytes) (whole.answer
-          ∙ ap (λ (files : List File). service_answer a.row.kind files (text_over a.row.kind (text_of session) first ∷ [])) row_ran.over);
+          ∙ ap (λ (files : List File). service_answer a.row.kind files (text_over a.row.kind (text_of session) stood ∷ [])) row_ran.over);
       left_files = files_now ∙ (row_ran.left ∙ whole.files);
     }
 
@@ -661,7 +662,7 @@ module _ (laws : AloneLaws) (old new : Parts) (ease : IsAtEase old) (goes : Goes
         go (inr echo) = named (asked_for echo.1)
 
     of_echoes : Every (IsOfEchoes (state h).drawn) sent_since.0
-    of_echoes = every_past now (state h).drawn (IsOfEchoes (state h).drawn) follows sent_since.0 past
+    of_echoes = every_past now (state h).drawn (IsOfEchoes (state h).drawn) follows sent_since.0 all_sent_past
       where
         follows : (p : Packet) (command : Command) → IsPast now (state h).drawn command p → IsOfEchoes (state h).drawn command p
         follows p Open x = asks_echo p x.0 x.1
