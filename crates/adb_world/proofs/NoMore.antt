@@ -29,7 +29,7 @@ use Rattle.adb_laws_births.specs.Ending.{EndsAs, HasEnding}
 use Rattle.adb_laws_births.proofs.Asking.{asks_at_once}
 use Rattle.adb_laws_births.proofs.Born.{all_births}
 use Rattle.adb_laws_births.proofs.Crossing.{no_crossing}
-use Rattle.adb_laws_births.proofs.Finishing.{ending_append}
+use Rattle.adb_laws_births.proofs.Ending.{ending_append}
 use Rattle.adb_laws_births.proofs.Endings.{all_endings}
 use Rattle.adb_laws_births.proofs.Laws.{sends_first}
 use Rattle.adb_laws_births.proofs.Once.{count_append}
@@ -42,13 +42,9 @@ use Rattle.adb_laws_fifo_up.proofs.Seeing.{carried_in_append}
 use Rattle.adb_world.proofs.Ended.{IsIdleState}
 use Rattle.adb_world.proofs.Going.{AllStay}
 use Rattle.adb_laws_alone.proofs.Quiet.{AllLeaveFiles, LeavesFiles}
-use Rattle.adb_world.proofs.Unread.{ended_lived, lived_read, was_asked}
-use Rattle.adb_world.proofs.Unsent.{StaysUnsent, all_unsent}
-
--- ---- lists
-no_longer : (a b : List ℕ) → length (a ++ b) ≤ length a → b ≡ []
-no_longer a [] le = refl
-no_longer a (x ∷ b) le = let both = length-append a (x ∷ b) in absurd (omega (arith, both, le))
+use Rattle.adb_world.proofs.Since.{ReadNoMore, own_since, quiet_since}
+use Rattle.adb_world.proofs.Since.{since as sent_since}
+use Rattle.adb_world.proofs.Unread.{ended_lived, lived_read}
 
 -- packets of which each is asked for and written no more
 pub leave_all : (h : History) (ps : List Packet) → All (λ p. IsOwn h 1 p.command p) ps
@@ -110,56 +106,6 @@ module _ (carried : (h : History) → IsLegal h → CarriesRest h) (stays : AllS
     (sent_all : sent 1 h ≡ packets_of 1 h) (gone : (state (End n Eof ∷ h)).clients n ≡ None)
     (same_drawn : (state (more ++ End n Eof ∷ h)).drawn ≡ (state h).drawn)
     (same_read : (d : ℕ) (client : Client) → d ≢ n → (state h).clients d ≡ Some client → bytes_read d (more ++ End n Eof ∷ h) ≡ bytes_read d h) where
-  -- what was sent since
-  pub since : (ps : List Packet) × (sent 1 h ++ ps ≡ sent 1 (more ++ End n Eof ∷ h))
-  since = go more
-    where
-      first : (ps : List Packet) × (sent 1 h ++ ps ≡ sent 1 (End n Eof ∷ h))
-      first = ([], append-nil (sent 1 h))
-
-      go : (es : History) → (ps : List Packet) × (sent 1 h ++ ps ≡ sent 1 (es ++ End n Eof ∷ h))
-      go [] = first
-      go (e ∷ es) =
-          let before = go es in
-          let next = (stays e (es ++ End n Eof ∷ h)).sends 1 in
-          (before.0 ++ next.0, sym (append_assoc (sent 1 h) before.0 next.0) ∙ (ap (λ (x : List Packet). x ++ next.0) before.1 ∙ next.1))
-
-  -- a stream that is gone
-  module _ (l : ℕ) (some : 0 < l) (le : l ≤ (state h).drawn) (none : (state h).streams l ≡ None) where
-    unsent : StaysUnsent l h (more ++ End n Eof ∷ h)
-    unsent =
-        let first = all_unsent l some (End n Eof ∷ []) h none le in
-        let rest = all_unsent l some more (End n Eof ∷ h) first.gone first.drawn in
-        record { gone = rest.gone; drawn = rest.drawn; same = rest.same ∙ first.same; asked = rest.asked ∙ first.asked }
-
-    unsent_now : (count_from is_open l since.0 ≡ 0) × (carried_in l since.0 ≡ [])
-    unsent_now = (
-      (let whole : count_from is_open l (packets_of 1 (more ++ End n Eof ∷ h))
-          ≡ (count_from is_open l (sent 1 h) + count_from is_open l since.0) + count_from is_open l front.0 =
-          ap (count_from is_open l) (sym parts)
-          ∙ (count_append is_open l (sent 1 h ++ since.0) front.0
-          ∙ ap (λ (k : ℕ). k + count_from is_open l front.0) (count_append is_open l (sent 1 h) since.0)) in
-          let same = unsent.asked in
-          let all : count_from is_open l (sent 1 h) ≡ count_from is_open l (packets_of 1 h) = ap (count_from is_open l) sent_all in
-          omega (arith, whole, same, all)),
-      no_longer (carried_in l (sent 1 h)) (carried_in l since.0)
-          (let whole : length (carried_in l (packets_of 1 (more ++ End n Eof ∷ h)))
-          ≡ length (carried_in l (sent 1 h) ++ carried_in l since.0) + length (carried_in l front.0) =
-          ap (λ (ps : List Packet). length (carried_in l ps)) (sym parts)
-          ∙ (ap length (carried_in_append l (sent 1 h ++ since.0) front.0)
-          ∙ (length-append (carried_in l (sent 1 h ++ since.0)) (carried_in l front.0)
-          ∙ ap (λ (x : List ℕ). length x + length (carried_in l front.0)) (carried_in_append l (sent 1 h) since.0))) in
-          let same : length (carried_in l (packets_of 1 (more ++ End n Eof ∷ h))) ≡ length (carried_in l (sent 1 h)) =
-          ap length (unsent.same ∙ ap (carried_in l) (sym sent_all)) in
-          omega (arith, whole, same)),
-    )
-      where
-        front : (r : List Packet) × (sent 1 (more ++ End n Eof ∷ h) ++ r ≡ packets_of 1 (more ++ End n Eof ∷ h))
-        front = (sends_first (more ++ End n Eof ∷ h) legal_now 1).first
-
-        parts : (sent 1 h ++ since.0) ++ front.0 ≡ packets_of 1 (more ++ End n Eof ∷ h)
-        parts = ap (λ (x : List Packet). x ++ front.0) since.1 ∙ front.1
-
   -- a stream that lives
   module _ (l : ℕ) (x : Stream) (live : (state h).streams l ≡ Some x) where
     kept : IsKeptAs h l x
@@ -180,16 +126,6 @@ module _ (carried : (h : History) → IsLegal h → CarriesRest h) (stays : AllS
 
     of_client : x.client ≡ kept.birth.client
     of_client = kept.client
-
-    -- all that its client wrote was carried
-    carried_all : kept.birth.link ≡ 1 → carried_in l (sent 1 h) ≡ drop kept.birth.head (bytes_read kept.birth.client h)
-    carried_all link =
-        let told : IsAsTold h l kept.birth x owner.client = all_hold h legal l kept.birth x owner.client kept.is live alive owner.is in
-        let none : owner.client.held ≡ [] = (idle.clients x.client owner.client owner.is).held in
-        ap (carried_in l) sent_all
-        ∙ (ap (λ (t : ℕ). carried_in l (packets_of t h)) (sym link)
-        ∙ (sym (append-nil (carried_in l (packets_of kept.birth.link h)))
-        ∙ (ap (λ (x : List ℕ). carried_in l (packets_of kept.birth.link h) ++ x) (sym none) ∙ told.up)))
 
     -- its end, where it is that of the client that ended
     ended_now : x.client ≡ n → (y : Ending) × (ending_of l (End n Eof ∷ h) ≡ Some y)
@@ -261,67 +197,45 @@ module _ (carried : (h : History) → IsLegal h → CarriesRest h) (stays : AllS
             let old = length-drop kept.birth.head (bytes_read kept.birth.client h) in
             omega (arith, read, same, long, old)
 
-    live_now : (b : Birth) → born l (more ++ End n Eof ∷ h) ≡ Some b → b.link ≡ 1 → (count_from is_open l since.0 ≡ 0) × (carried_in l since.0 ≡ [])
-    live_now b is link = (unasked, uncarried)
-      where
-        stays_born : (es : History) → born l (es ++ End n Eof ∷ h) ≡ Some kept.birth
-        stays_born [] = born_stays l (End n Eof) h kept.birth kept.is
-        stays_born (e ∷ es) = born_stays l e (es ++ End n Eof ∷ h) kept.birth (stays_born es)
+  -- no more is read of the clients of live streams
+  read : ReadNoMore h (more ++ End n Eof ∷ h)
+  read l b x live is =
+      let both : Some (kept l x live).birth ≡ Some b = sym (kept l x live).is ∙ is in
+      let same : (kept l x live).birth ≡ b = cc in
+      subst (λ (a : Birth). length (rest_of l a (more ++ End n Eof ∷ h)) ≤ length (drop a.head (bytes_read a.client h))) same (rest_within l x live)
 
-        same : b ≡ kept.birth
-        same = let both : Some b ≡ Some kept.birth = sym is ∙ stays_born more in cc
+  -- the same history, as more behind the old one
+  abbrev es : History
+  es = more ++ End n Eof ∷ []
 
-        on_link : kept.birth.link ≡ 1
-        on_link = ap (λ (y : Birth). y.link) (sym same) ∙ link
+  whole : (more ++ End n Eof ∷ []) ++ h ≡ more ++ End n Eof ∷ h
+  whole = append_assoc more (End n Eof ∷ []) h
 
-        unasked : count_from is_open l since.0 ≡ 0
-        unasked =
-            let before : 1 ≤ count_from is_open l (packets_of 1 h) =
-            subst (λ (t : ℕ). 1 ≤ count_from is_open l (packets_of t h)) on_link (was_asked h (asks_at_once h legal) l kept.birth kept.is) in
-            let all : count_from is_open l (sent 1 h) ≡ count_from is_open l (packets_of 1 h) = ap (count_from is_open l) sent_all in
-            let once = (no_crossing (more ++ End n Eof ∷ h) legal_now).once 1 l in
-            let whole : count_from is_open l (sent 1 (more ++ End n Eof ∷ h)) ≡ count_from is_open l (sent 1 h) + count_from is_open l since.0 =
-            ap (count_from is_open l) (sym since.1) ∙ count_append is_open l (sent 1 h) since.0 in
-            omega (arith, before, all, once, whole)
+  legal_es : IsLegal (es ++ h)
+  legal_es = subst IsLegal (sym whole) legal_now
 
-        uncarried : carried_in l since.0 ≡ []
-        uncarried =
-            let front : IsPrefixOf (carried_in l (sent kept.birth.link (more ++ End n Eof ∷ h))) (rest_of l kept.birth (more ++ End n Eof ∷ h)) =
-            carried (more ++ End n Eof ∷ h) legal_now l kept.birth (stays_born more) in
-            let whole : carried_in l (sent kept.birth.link (more ++ End n Eof ∷ h)) ≡ carried_in l (sent 1 h) ++ carried_in l since.0 =
-            ap (λ (t : ℕ). carried_in l (sent t (more ++ End n Eof ∷ h))) on_link
-            ∙ (ap (carried_in l) (sym since.1) ∙ carried_in_append l (sent 1 h) since.0) in
-            let long : length (carried_in l (sent kept.birth.link (more ++ End n Eof ∷ h))) + length front.0
-            ≡ length (rest_of l kept.birth (more ++ End n Eof ∷ h)) =
-            sym (length-append (carried_in l (sent kept.birth.link (more ++ End n Eof ∷ h))) front.0) ∙ ap length front.1 in
-            let whole_long : length (carried_in l (sent kept.birth.link (more ++ End n Eof ∷ h))) ≡ length (carried_in l (sent 1 h) ++ carried_in l since.0) =
-            ap length whole in
-            let within = rest_within in
-            let old : length (carried_in l (sent 1 h)) ≡ length (drop kept.birth.head (bytes_read kept.birth.client h)) = ap length (carried_all on_link) in
-            no_longer (carried_in l (sent 1 h)) (carried_in l since.0) (omega (arith, long, whole_long, within, old))
+  read_es : ReadNoMore h (es ++ h)
+  read_es = subst (ReadNoMore h) (sym whole) read
+
+  -- what was sent since
+  abbrev behind : (ps : List Packet) × (sent 1 h ++ ps ≡ sent 1 (es ++ h))
+  behind = sent_since carried stays h es legal legal_es idle sent_all read_es
+
+  pub since : (ps : List Packet) × (sent 1 h ++ ps ≡ sent 1 (more ++ End n Eof ∷ h))
+  since = (behind.0, behind.1 ∙ ap (sent 1) whole)
 
   none_more : (l : ℕ) (b : Birth) → born l (more ++ End n Eof ∷ h) ≡ Some b → b.link ≡ 1
-      → (count_from is_open l since.0 ≡ 0) × (carried_in l since.0 ≡ [])
-  none_more l b is link = go ((state h).streams l) refl
-    where
-      within : (0 < l) × (l ≤ min (length (births (more ++ End n Eof ∷ h))) stream_ids)
-      within = born_within l (more ++ End n Eof ∷ h) b is
-
-      le : l ≤ (state h).drawn
-      le =
-          let counts = (all_births (more ++ End n Eof ∷ h) legal_now).drawn in
-          let drawn = same_drawn in
-          let below = within.1 in
-          omega (arith, counts, drawn, below)
-
-      go : (o : Option Stream) → (state h).streams l ≡ o → (count_from is_open l since.0 ≡ 0) × (carried_in l since.0 ≡ [])
-      go None none = unsent_now l within.0 le none
-      go (Some x) live = live_now l x live b is link
+      → (count_from is_open l behind.0 ≡ 0) × (carried_in l behind.0 ≡ [])
+  none_more l b is link =
+      quiet_since carried stays h es legal legal_es idle sent_all read_es l b (subst (λ (g : History). born l g ≡ Some b) (sym whole) is) link
+      (let within = (born_within l (more ++ End n Eof ∷ h) b is).1 in
+      let counts = (all_births (more ++ End n Eof ∷ h) legal_now).drawn in
+      let drawn = same_drawn in
+      omega (arith, within, counts, drawn))
 
   pub leaves : AllLeaveFiles since.0
+  unfolding since
   leaves =
-      leave_all (more ++ End n Eof ∷ h) since.0
-      (subst (All (λ p. IsOwn (more ++ End n Eof ∷ h) 1 p.command p)) (drop-append_seam (sent 1 h) since.0)
-      (All-drop (λ p. IsOwn (more ++ End n Eof ∷ h) 1 p.command p) (length (sent 1 h)) (sent 1 h ++ since.0)
-      (subst (All (λ p. IsOwn (more ++ End n Eof ∷ h) 1 p.command p)) (sym since.1) ((no_crossing (more ++ End n Eof ∷ h) legal_now).own 1))))
-      none_more
+      leave_all (more ++ End n Eof ∷ h) behind.0
+      (subst (λ (g : History). All (λ p. IsOwn g 1 p.command p) behind.0) whole
+      (own_since carried stays h es legal legal_es idle sent_all read_es)) none_more

@@ -29,7 +29,7 @@ use Rattle.adb_laws_births.specs.Ending.{EndsAs, HasEnding}
 use Rattle.adb_laws_births.proofs.Asking.{asks_at_once}
 use Rattle.adb_laws_births.proofs.Born.{all_births}
 use Rattle.adb_laws_births.proofs.Crossing.{no_crossing}
-use Rattle.adb_laws_births.proofs.Finishing.{ending_append}
+use Rattle.adb_laws_births.proofs.Ending.{ending_append}
 use Rattle.adb_laws_births.proofs.Endings.{all_endings}
 use Rattle.adb_laws_births.proofs.Laws.{sends_first}
 use Rattle.adb_laws_births.proofs.Once.{count_append}
