@@ -355,6 +355,7 @@ module _ (setting : Setting) (short : setting.most < 2 ^ 32) (h : History) (lega
     okay : 1 ≤ okays_in id l (packets_owed setting (sent 1 h))
 
   answered : IsAnswered
+  unfolding first
   answered =
       by (device_behind setting first.front).link refl (linked setting short h legal tied still l b birth own) (service_of b.service) refl known
     where

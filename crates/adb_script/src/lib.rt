@@ -18,5 +18,6 @@ mod word;
 
 pub use laws::{limits_are, pulls_are_read, pushed_files_are_pulled, pushes_are_stored};
 pub use line::{EchoLine, ScriptLine, SessionLine};
+pub use output::push_escaped;
 pub use script::{Script, ScriptError};
 pub use word::Word;

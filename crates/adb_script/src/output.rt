@@ -103,8 +103,9 @@ impl Output {
     }
 }
 
-/// Adds bytes as they are printed.
-fn push_escaped(line: &mut Text, bytes: &[u8]) -> Result<(), AllocError>
+/// Adds bytes as they are printed: those from 0x20 to 0x7e but the backslash as they are, and each
+/// other one as `\x` and two digits.
+pub fn push_escaped(line: &mut Text, bytes: &[u8]) -> Result<(), AllocError>
     ensures { OnOk result (line.new ≡ line.old ++ escaped bytes.now) }
 {
     for byte in bytes {
