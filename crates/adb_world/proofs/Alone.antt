@@ -611,9 +611,9 @@ module _ (laws : AloneLaws) (old new : Parts) (ease : IsAtEase old) (goes : Goes
             subst (λ (row : Row). RanAlone stood (served_by now).files row) e.row_is
             (ran.ended a.served.own e.over e.is (ap (λ (row : Row). row.host) e.row_is ∙ a.served.host))
 
-    whole : IsWhole a.row.kind a.row.stood (files_opened a.row.kind stood) a.row.past (text_of session)
+    whole : IsWhole a.row.kind a.row.first (files_opened a.row.kind stood) a.row.past (text_of session)
     whole =
-        is_whole laws.payloads a.row.kind a.row.stood (files_opened a.row.kind stood) a.row.past (text_of session) row_ran.turn a.came
+        is_whole laws.payloads a.row.kind a.row.first (files_opened a.row.kind stood) a.row.past (text_of session) row_ran.turn a.came
 
     over_first : IsAnsweredAlone session stood (files_of new.device)
     over_first = record {

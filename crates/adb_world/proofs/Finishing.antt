@@ -39,6 +39,16 @@ pub at_ease : (settled : Bool) (parts : Parts) → IsSound false settled parts �
 at_ease true parts sound = sound.ease
 at_ease false parts sound = sound
 
+pub ease_of : (spent settled : Bool) (parts : Parts) → spent ≡ false → IsSound spent settled parts → IsAtEase parts
+ease_of true settled parts off sound = absurd (let clash : true ≡ false = off in cc)
+ease_of false settled parts off sound = at_ease settled parts sound
+
+-- and where it has settled all is done
+pub done_of : (spent settled : Bool) (parts : Parts) → spent ≡ false → settled ≡ true → IsSound spent settled parts → IsDone parts
+done_of true settled parts off on sound = absurd (let clash : true ≡ false = off in cc)
+done_of false false parts off on sound = absurd (let clash : false ≡ true = on in cc)
+done_of false true parts off on sound = sound
+
 -- ---- one end
 -- what a world holds behind the end of a client
 pub ends_running : AllStay → (n : ℕ) (old new : Parts) (runs : IsRunning old) → ((h : History) → Holds h old → Holds (End n Eof ∷ h) new) → IsRunning new

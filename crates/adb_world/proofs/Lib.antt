@@ -23,4 +23,5 @@ pub mod Greeting
 pub mod Answered
 pub mod Alone
 pub mod Finishing
+pub mod Synced
 pub mod Files

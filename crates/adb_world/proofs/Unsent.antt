@@ -110,12 +110,12 @@ module _ (l : ℕ) (some : 0 < l) where
   }
     where
       to_link : (b : Bool) (p : Packet) → (is_wrte p.command && nat_eq p.arg0 l) ≡ false → carried_in l (cond b (p ∷ []) []) ≡ []
-      to_link true p no = ap (λ (c : Bool). cond c (p.payload ++ []) []) no
-      to_link false p no = refl
+      to_link true p off = ap (λ (c : Bool). cond c (p.payload ++ []) []) off
+      to_link false p off = refl
 
       asks_link : (b : Bool) (p : Packet) → (is_open p.command && nat_eq p.arg0 l) ≡ false → count_from is_open l (cond b (p ∷ []) []) ≡ 0
-      asks_link true p no = ap (λ (c : Bool). cond c (1 + 0) 0) no
-      asks_link false p no = refl
+      asks_link true p off = ap (λ (c : Bool). cond c (1 + 0) 0) off
+      asks_link false p off = refl
 
       put_gone : (n : ℕ) (rows : Rows (Option Stream)) (row : Option Stream) → n ≢ l → rows l ≡ None → cond (nat_eq n l) row (rows l) ≡ None
       put_gone n rows row other gone = ap (λ (b : Bool). cond b row (rows l)) (ne_eqb n l other) ∙ gone
