@@ -8,6 +8,7 @@ use Rattle.adb_outside.proofs.TableLaws.{puts_put_at}
 use Rattle.adb_device_streams.specs.Asked.{Kind, Echoes, service_of}
 use Rattle.adb_device_streams.specs.Service.{bytes_in, service_answer}
 use Rattle.adb_laws_sessions.specs.Words.{requests_for, words_of}
+use Rattle.adb_script.specs.Lines as lines
 use Rattle.adb_script.specs.Pattern.{pattern}
 use Rattle.adb_laws_answers.specs.Answers.{CameOf}
 use Rattle.adb_world.specs.Answered.{AreEchoes, IsAnswered, answer_of}
@@ -16,7 +17,9 @@ use Rattle.adb_world.specs.Session.{text_of}
 use Rattle.adb_world.specs.Settled.{Each}
 use Rattle.adb_world.specs.World.{HasStarted, View}
 use Rattle.adb_world.specs.declared.session.Session.{Session}
+use Rattle.adb_local.specs.Running.{RunsLine}
 use Rattle.adb_local.specs.Streams.{AreEchoed, IsOfStream, IsStarting, stream_session}
+use Rattle.adb_local.proofs.Alone.{IsFinished}
 use Rattle.adb_local.proofs.Exchanges.{same_kept}
 
 -- no stream was started
@@ -100,3 +103,13 @@ module _ (k size : ℕ) (old mid : View) (sessions : List (ℕ × Session)) (sta
       text : text_of now ≡ pattern stream size
       text =
           (λ i. drop (length (requests_for (kept.0 i))) (kept.1 i)) ∙ drop-append_seam (requests_for (codes "echo:")) (pattern stream size)
+
+-- ---- the world behind them
+pub echo_runs : (number k size : ℕ) (old mid after new : View) → IsStarting k size old mid
+    → (AreEchoes mid.sessions → after.files ≡ mid.files) → after.given ≡ mid.given → IsFinished after new
+    → RunsLine number (lines.Echoes k size) old new
+echo_runs number k size old mid after new starting files given finished = record {
+  idle = record { rests = finished.rests; empty = finished.empty; calm = finished.calm; counted = finished.counted };
+  files = finished.files ∙ (files (are_echoes k size old mid starting) ∙ starting.files);
+  given = finished.given ∙ (given ∙ starting.given);
+}

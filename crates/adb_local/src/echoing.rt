@@ -39,7 +39,8 @@ pub(crate) fn run_echo(
     settle(world, seed)?;
     look_at_streams(world, first, echo);
     world.finish(seed)?;
-    echo.answer(alloc)
+    let text = echo.answer(alloc)?;
+    Ok(text)
 }
 
 /// Starts a session for each stream, and gives the number of the first.
