@@ -136,7 +136,12 @@ fn plug<
         hall.halt();
         return Err(Served::OutOfMemory);
     };
-    match plug_in(hall, &mut device) {
+    match plug_in(
+        hall,
+        device.kind,
+        device.serial.as_slice(),
+        &mut device.input,
+    ) {
         Plugged::Link { reading, writing } => {
             plugged.push_reserved(connect(provision, device, reading, writing));
             Ok(())

@@ -105,7 +105,12 @@ fn works<W: Wait + Copy + Drop, E: Ledger, M: Ledger, K: Marks>(
     reads: bool,
 ) -> Result<bool, AllocError> {
     let gate = OpenGate::new();
-    match plug_in(hall, device) {
+    match plug_in(
+        hall,
+        device.kind,
+        device.serial.as_slice(),
+        &mut device.input,
+    ) {
         Plugged::Link { reading, writing } => {
             if reads {
                 let slicer = Slicer::new(alloc)?;
