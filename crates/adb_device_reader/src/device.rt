@@ -1,7 +1,7 @@
 //! One device is plugged in.
 
-ghost use Rattle.std.specs.Prelude.{◌≡◌, ◌≢◌};
-ghost use Rattle.adb_outside.specs.Outside.{Counted, TellsOneMore};
+ghost use Rattle.std.specs.Prelude.{◌≡◌, ◌≢◌, false, true};
+ghost use Rattle.adb_outside.specs.Outside.{Counted, Rises, TellsOneMore};
 ghost use Rattle.adb_connections.specs.Device.{is_failed_plug};
 ghost use Rattle.adb_desk_log.specs.declared.error.DeskError.{DeskError};
 ghost use Rattle.adb_hall.specs.Telling.{Where};
@@ -62,8 +62,9 @@ pub fn plug_in<E: Ledger, M: Ledger, K: Marks, H: Hall<E, M, K>>(
     ensures asked { TellsOneMore (plugs input.old) (plug_of result) (plugs input.new) }
     ensures told { Where (H.tells hall.old) (Plugs kind serial.now result) (H.tells hall.new) }
     ensures passes { HasPasses result }
-    ensures counts { Counted (steady input.old) (steady input.new) (faults input.old)
-        (faults input.new) (is_failed_plugged result) }
+    ensures fault { is_failed_plugged result ≡ true
+        → Rises (faults input.old) (faults input.new) }
+    ensures stood { is_failed_plugged result ≡ false → faults input.new ≡ faults input.old }
     ensures left { left input.new ≡ left input.old }
     ensures steady { K.steady → result ≢ Plugged.Refused DeskError.RecordFault }
     ensures mark { H.marked hall.new ≡ or_marked (marks_plugged result) (H.marked hall.old) }
