@@ -14,4 +14,3 @@ pub use asking::ask;
 pub use ends::ToolEnd;
 pub use input::{InputError, MAX_INPUT, read_input};
 pub use job::{Job, failed_input, make_job};
-pub use lines::{bad_answer_line, refused_line};
