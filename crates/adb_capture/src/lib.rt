@@ -14,8 +14,6 @@ mod reader;
 mod record;
 mod recorder;
 mod sink_recorder;
-#[cfg(test)]
-mod tests;
 mod writer;
 
 pub use entry::{Entry, Owner};

@@ -1,7 +1,13 @@
-//! The services of a model device, and who asks them: what no clause says.
+//! The services of a model device, who asks them, and their scripts: what no clause says.
 #![tactic(auto)]
 
+#[cfg(test)]
+mod files;
+#[cfg(test)]
+mod script;
 #[cfg(test)]
 mod shell_service;
 #[cfg(test)]
 mod sync_client;
+#[cfg(test)]
+mod sync_service;

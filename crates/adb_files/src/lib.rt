@@ -8,20 +8,14 @@ mod laws;
 mod listing;
 mod mode;
 mod outbox;
-#[cfg(test)]
-mod outbox_tests;
 mod part;
 mod path;
 mod place;
 mod pull;
 mod service;
-#[cfg(test)]
-mod service_tests;
 mod session;
 mod slot;
 mod stat;
-#[cfg(test)]
-mod tests;
 
 pub use file::{File, FileError};
 pub use files::Files;

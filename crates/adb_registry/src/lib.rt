@@ -5,8 +5,6 @@ mod choice;
 mod lists;
 mod registry;
 mod row;
-#[cfg(test)]
-mod tests;
 
 pub use choice::Refusal;
 pub use registry::{AttachError, MAX_FEATURES, Registry, limits_are};

@@ -226,15 +226,3 @@ impl Registry {
         lists::long(self.alloc, &self.rows)
     }
 }
-
-#[cfg(test)]
-impl Registry {
-    /// A registry that has drawn all ids.
-    pub(crate) fn exhausted(alloc: Global) -> Registry {
-        Registry {
-            alloc,
-            drawn: u32::MAX,
-            rows: BTreeMap::new(alloc),
-        }
-    }
-}

@@ -12,8 +12,6 @@ mod output;
 mod pattern;
 mod reading;
 mod script;
-#[cfg(test)]
-mod tests;
 mod word;
 
 pub use laws::{limits_are, pulls_are_read, pushed_files_are_pulled, pushes_are_stored};

@@ -6,8 +6,6 @@ mod flow;
 mod row;
 mod shelf;
 mod streams;
-#[cfg(test)]
-mod tests;
 mod window;
 
 pub use credit::{CREDIT_STEP, CREDIT_WINDOW, Credit, limits_are};

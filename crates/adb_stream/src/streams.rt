@@ -154,14 +154,3 @@ impl Streams {
         self.shelf.first_of(link)
     }
 }
-
-#[cfg(test)]
-impl Streams {
-    /// Streams of which all ids were drawn but the last.
-    pub(crate) fn worn(alloc: Global) -> Streams {
-        Streams {
-            drawn: u32::MAX - 1,
-            shelf: Shelf::new(alloc),
-        }
-    }
-}

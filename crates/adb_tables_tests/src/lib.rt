@@ -8,4 +8,8 @@ mod forward;
 #[cfg(test)]
 mod link;
 #[cfg(test)]
+mod registry;
+#[cfg(test)]
 mod reply;
+#[cfg(test)]
+mod stream;

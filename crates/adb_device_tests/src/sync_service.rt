@@ -1,6 +1,6 @@
 //! A sync service: worked requests and answers byte for byte, and pushes and pulls in pieces.
 
-use crate::{File, Files, SyncService};
+use adb_files::{File, Files, SyncService};
 use adb_outside::Text;
 use std::alloc::{AllocError, Global};
 use std::test::Fail;

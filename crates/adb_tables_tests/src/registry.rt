@@ -2,8 +2,8 @@
 
 ghost use Rattle.std.specs.Prelude.{◌≡◌, length, IfOk};
 
-use crate::{AttachError, Refusal, Registry};
 use adb_outside::{Identity, Kind, Selector, Text};
+use adb_registry::{AttachError, Refusal, Registry};
 use std::alloc::{AllocError, Global};
 use std::test::Fail;
 
@@ -81,8 +81,6 @@ fn attached_or_refused(rt: HostRuntime) -> Result<(), Fail> {
     registry.clear();
     assert!(rt; registry.row(129).is_none());
     assert_eq!(rt; registry.attach(Kind::Usb, b"~"), Ok(130));
-    let mut exhausted = Registry::exhausted(alloc);
-    assert_eq!(rt; exhausted.attach(Kind::Usb, b""), Err(AttachError::Numbers));
     Ok(())
 }
 

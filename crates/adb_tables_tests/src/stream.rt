@@ -1,6 +1,6 @@
 //! Writes that are held back, and streams that are found by link and id.
 
-use crate::{Credit, DrawError, Streams, Took, Window};
+use adb_stream::{Credit, Streams, Took, Window};
 use std::test::Fail;
 
 #[test]
@@ -87,15 +87,5 @@ fn streams_stand_by_link(rt: HostRuntime) -> Result<(), Fail> {
     streams.clear();
     assert_eq!(rt; streams.first_of(2), None);
     assert_eq!(rt; streams.draw(5, 2, false), Ok(4));
-    Ok(())
-}
-
-#[test]
-fn ids_end(rt: HostRuntime) -> Result<(), Fail> {
-    let mut streams = Streams::worn(rt.alloc());
-    let answers: [Result<u32, DrawError>; 2] = [Ok(u32::MAX), Err(DrawError::NoIds)];
-    for answer in answers {
-        assert_eq!(rt; streams.draw(1, 1, true), answer);
-    }
     Ok(())
 }

@@ -3,9 +3,12 @@
 ghost use Rattle.std.specs.Prelude.{IfOk};
 ghost use Rattle.adb_capture.specs.Records.{HasRecord};
 
-use super::*;
-use crate::record::front;
-use adb_outside::{ByteQueue, Front, Kind, MemorySink, MemorySource, Text, Wrote};
+use adb_capture::{
+    CaptureError, CaptureReader, Entry, MemoryRecorder, NullRecorder, Owner, Recorder,
+    SinkRecorder, Why, append_entry, append_magic, limits_are, read_is_spelled, records_are_framed,
+    spelled_is_read, write_entry, write_magic,
+};
+use adb_outside::{ByteQueue, Kind, MemorySink, MemorySource, Text, Wrote};
 use std::alloc::{AllocError, Global};
 use std::process::Abort;
 use std::test::Fail;
@@ -141,12 +144,9 @@ fn captures_are_refused(rt: HostRuntime) -> Result<(), Fail> {
     Ok(())
 }
 
+/// What records are, as laws that any caller may ask for.
 #[test]
-fn a_capture_has_a_last_byte(rt: HostRuntime) {
-    let join = b"J\x01\0\0\0\0\0\0\0";
-    let offset = 1_073_741_816;
-    assert!(rt; front(offset - 1, join) == Front::Whole(9));
-    assert!(rt; front(offset, join) == Front::Bad(FormFault::TooLong { offset }));
+fn records_have_laws() {
     limits_are();
     records_are_framed();
     spelled_is_read();

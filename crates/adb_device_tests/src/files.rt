@@ -2,8 +2,7 @@
 
 ghost use Rattle.std.specs.Prelude.{◌<◌, ◌^◌, length};
 
-use crate::files::MAX_STORED;
-use crate::{File, FileError, Files};
+use adb_files::{File, FileError, Files};
 use adb_outside::Text;
 use std::alloc::{AllocError, Global};
 use std::test::Fail;
@@ -106,7 +105,7 @@ fn a_map_of_files(rt: HostRuntime) -> Result<(), Fail> {
     for row in PATHS {
         assert!(rt; answers(alloc, &mut files, row)?, "at {:?}", row.0);
     }
-    assert!(rt; put(alloc, &mut files, b"/a", MAX_STORED)? == Err(FileError::NoSpace));
+    assert!(rt; put(alloc, &mut files, b"/a", 268_435_456)? == Err(FileError::NoSpace));
     assert!(rt; files.list(b"/")?.len() == 3);
     assert!(rt; is_removed(&mut files));
     Ok(())

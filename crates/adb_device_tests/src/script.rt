@@ -1,8 +1,7 @@
 //! Lines, and what their sessions ask for, write and print, worked out by hand.
 
-use crate::reading::read_line;
-use crate::{EchoLine, Script, ScriptError, ScriptLine};
 use adb_outside::Text;
+use adb_script::{EchoLine, Script, ScriptError, ScriptLine};
 use std::alloc::{AllocError, Global};
 use std::test::Fail;
 
@@ -112,7 +111,8 @@ const PRINTED: &[(&[u8], &[u8], &[u8])] = &[
 
 /// Whether a line prints this of what its session was handed.
 fn prints(alloc: Global, line: &[u8], got: &[u8], want: &[u8]) -> Result<bool, AllocError> {
-    match read_line(line) {
+    let script = Script::read(alloc, line).ok();
+    match script.as_ref().and_then(|script| script.lines().first()) {
         Some(ScriptLine::Session(session)) => Ok(session.answer(alloc, got)?.as_slice() == want),
         _ => Ok(false),
     }
@@ -139,7 +139,8 @@ const ASKED: &[(&[u8], u32, &[u8], &[u8])] = &[
 
 /// Whether the session of a line asks for this service.
 fn asks_for(alloc: Global, line: &[u8], want: &[u8]) -> Result<bool, AllocError> {
-    match read_line(line) {
+    let script = Script::read(alloc, line).ok();
+    match script.as_ref().and_then(|script| script.lines().first()) {
         Some(ScriptLine::Session(session)) => Ok(session.service(alloc)?.as_slice() == want),
         _ => Ok(false),
     }
@@ -147,7 +148,8 @@ fn asks_for(alloc: Global, line: &[u8], want: &[u8]) -> Result<bool, AllocError>
 
 /// Whether the session of a line writes this text.
 fn writes(alloc: Global, line: &[u8], number: u32, want: &[u8]) -> Result<bool, AllocError> {
-    match read_line(line) {
+    let script = Script::read(alloc, line).ok();
+    match script.as_ref().and_then(|script| script.lines().first()) {
         Some(ScriptLine::Session(session)) => Ok(session.text(alloc, number)?.as_slice() == want),
         _ => Ok(false),
     }
