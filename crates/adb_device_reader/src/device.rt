@@ -1,7 +1,7 @@
 //! One device is plugged in.
 
-ghost use Rattle.std.specs.Prelude.{◌≡◌, ◌≢◌};
-ghost use Rattle.adb_outside.specs.Outside.{Counted, TellsOneMore};
+ghost use Rattle.std.specs.Prelude.{◌≡◌, ◌≢◌, false, true};
+ghost use Rattle.adb_outside.specs.Outside.{Counted, Rises, TellsOneMore};
 ghost use Rattle.adb_connections.specs.Device.{is_failed_plug};
 ghost use Rattle.adb_desk_log.specs.declared.error.DeskError.{DeskError};
 ghost use Rattle.adb_hall.specs.Telling.{Where};
@@ -50,30 +50,29 @@ fn ask(port: &mut Box<dyn DeviceIn + Send>) -> Plug
     port.plug()
 }
 
-/// Asks once whether a device is plugged in, which may wait, and where it is, makes one Attach of
-/// its kind and serial. Its halves stay with the caller, who unplugs one that has no link.
+/// Asks once whether a device is plugged in, by the half that it sends by, which may wait; and where
+/// it is, makes one Attach of its kind and serial. Who has its other half unplugs one that has no
+/// link.
 pub fn plug_in<E: Ledger, M: Ledger, K: Marks, H: Hall<E, M, K>>(
     hall: &mut H,
-    device: &mut Device,
+    kind: Kind,
+    serial: &[u8],
+    input: &mut Box<dyn DeviceIn + Send>,
 ) -> Plugged<E, M, K>
-    ensures asked { TellsOneMore (plugs device.old.input) (plug_of result)
-        (plugs device.new.input) }
-    ensures told { Where (H.tells hall.old) (Plugs device.old.kind device.old.serial result)
-        (H.tells hall.new) }
+    ensures asked { TellsOneMore (plugs input.old) (plug_of result) (plugs input.new) }
+    ensures told { Where (H.tells hall.old) (Plugs kind serial.now result) (H.tells hall.new) }
     ensures passes { HasPasses result }
-    ensures counts { let old = device.old.input in let new = device.new.input in
-        let before = DeviceIn-box old in let after = DeviceIn-box new in
-        Counted (before.steady old.value) (after.steady new.value)
-        (before.faults old.value) (after.faults new.value) (is_failed_plugged result) }
-    ensures left { left device.new.input ≡ left device.old.input }
-    ensures same { device.new ≡ record device.old { input = device.new.input } }
+    ensures fault { is_failed_plugged result ≡ true
+        → Rises (faults input.old) (faults input.new) }
+    ensures stood { is_failed_plugged result ≡ false → faults input.new ≡ faults input.old }
+    ensures left { left input.new ≡ left input.old }
     ensures steady { K.steady → result ≢ Plugged.Refused DeskError.RecordFault }
     ensures mark { H.marked hall.new ≡ or_marked (marks_plugged result) (H.marked hall.old) }
 {
-    match ask(&mut device.input) {
+    match ask(input) {
         Plug::Never => Plugged::Never,
         Plug::Failed => Plugged::Failed,
-        Plug::Here => match hall.attach(device.kind, device.serial.as_slice()) {
+        Plug::Here => match hall.attach(kind, serial) {
             Ok((reading, writing)) => Plugged::Link { reading, writing },
             Err(error) => Plugged::Refused(error),
         },
