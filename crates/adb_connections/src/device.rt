@@ -1,4 +1,4 @@
-//! The two halves of a device's link. Whoever makes them hands them in boxed.
+//! The two halves of a device's link.
 
 use adb_outside::{Got, Wrote};
 

@@ -1,8 +1,7 @@
 //! One device is plugged in.
 
-ghost use Rattle.std.specs.Prelude.{◌≡◌, ◌≢◌, false, true};
-ghost use Rattle.adb_outside.specs.Outside.{Counted, Rises, TellsOneMore};
-ghost use Rattle.adb_connections.specs.Device.{is_failed_plug};
+ghost use Rattle.std.specs.Prelude.{◌≡◌, ◌≢◌};
+ghost use Rattle.adb_outside.specs.Outside.{Counts, TellsOneMore};
 ghost use Rattle.adb_desk_log.specs.declared.error.DeskError.{DeskError};
 ghost use Rattle.adb_hall.specs.Telling.{Where};
 ghost use Rattle.adb_hall.specs.Passes.{or_marked};
@@ -17,11 +16,11 @@ use std::sync::ledger::Ledger;
 
 /// A device that is handed in: how it is plugged in, its serial, and the two halves of its link.
 #[derive(Drop)]
-pub struct Device {
+pub struct Device<I: DeviceIn, O: DeviceOut> {
     pub kind: Kind,
     pub serial: Text,
-    pub input: Box<dyn DeviceIn + Send>,
-    pub output: Box<dyn DeviceOut + Send>,
+    pub input: I,
+    pub output: O,
 }
 
 /// What became of plugging in a device.
@@ -40,36 +39,24 @@ pub enum Plugged<E: Ledger, M: Ledger, K: Marks> {
     Refused(DeskError),
 }
 
-/// Asks once whether a device is plugged in.
-fn ask(port: &mut Box<dyn DeviceIn + Send>) -> Plug
-    ensures asked { TellsOneMore (plugs port.old) result (plugs port.new) }
-    ensures left { left port.new ≡ left port.old }
-    ensures counts { Counted (steady port.old) (steady port.new) (faults port.old)
-        (faults port.new) (is_failed_plug result) }
-{
-    port.plug()
-}
-
 /// Asks once whether a device is plugged in, by the half that it sends by, which may wait; and where
 /// it is, makes one Attach of its kind and serial. Who has its other half unplugs one that has no
 /// link.
-pub fn plug_in<E: Ledger, M: Ledger, K: Marks, H: Hall<E, M, K>>(
+pub fn plug_in<E: Ledger, M: Ledger, K: Marks, H: Hall<E, M, K>, I: DeviceIn>(
     hall: &mut H,
     kind: Kind,
     serial: &[u8],
-    input: &mut Box<dyn DeviceIn + Send>,
+    input: &mut I,
 ) -> Plugged<E, M, K>
-    ensures asked { TellsOneMore (plugs input.old) (plug_of result) (plugs input.new) }
+    ensures asked { TellsOneMore (I.plugs input.old) (plug_of result) (I.plugs input.new) }
     ensures told { Where (H.tells hall.old) (Plugs kind serial.now result) (H.tells hall.new) }
     ensures passes { HasPasses result }
-    ensures fault { is_failed_plugged result ≡ true
-        → Rises (faults input.old) (faults input.new) }
-    ensures stood { is_failed_plugged result ≡ false → faults input.new ≡ faults input.old }
-    ensures left { left input.new ≡ left input.old }
+    ensures counts { Counts I.steady I.faults input.old input.new (is_failed_plugged result) }
+    ensures left { I.left input.new ≡ I.left input.old }
     ensures steady { K.steady → result ≢ Plugged.Refused DeskError.RecordFault }
     ensures mark { H.marked hall.new ≡ or_marked (marks_plugged result) (H.marked hall.old) }
 {
-    match ask(input) {
+    match input.plug() {
         Plug::Never => Plugged::Never,
         Plug::Failed => Plugged::Failed,
         Plug::Here => match hall.attach(kind, serial) {

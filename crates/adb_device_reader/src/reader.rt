@@ -1,8 +1,6 @@
 //! A device's reader.
 
 ghost use Rattle.std.specs.Prelude.{◌≡◌, ◌<◌, ◌≤◌, [], ℕ, List, Some, length};
-ghost use Rattle.adb_outside.specs.Outside.{Counted};
-ghost use Rattle.adb_outside.specs.Source.{FitsBuffer, TellsRead, is_failed_read};
 ghost use Rattle.adb_capture.specs.declared.entry.Entry.{Entry};
 ghost use Rattle.adb_wire.specs.Slicing.{need_of};
 ghost use Rattle.adb_hall.specs.Telling.{Telling};
@@ -22,22 +20,10 @@ use std::sync::ledger::Ledger;
 /// long one; each byte is copied once, out of a buffer that stays in the cache.
 const MAX_READ: usize = 65_536;
 
-/// One read of a device.
-fn read_once(port: &mut Box<dyn DeviceIn + Send>, into: &mut [u8]) -> Got
-    requires { 0 < length into.old }
-    ensures fits { FitsBuffer into.old result }
-    ensures told { TellsRead (left port.old) (left port.new) into.new result }
-    ensures counts { Counted (steady port.old) (steady port.new) (faults port.old)
-        (faults port.new) (is_failed_read result) }
-    ensures plugs { plugs port.new ≡ plugs port.old }
-{
-    port.read(into)
-}
-
 /// One turn: reads, and hands in what became whole. Answers whether more may follow.
-fn turn<E: Ledger, M: Ledger, K: Marks, H: Hall<E, M, K>, G: Gate>(
+fn turn<E: Ledger, M: Ledger, K: Marks, H: Hall<E, M, K>, I: DeviceIn, G: Gate>(
     hall: &mut H,
-    port: &mut Box<dyn DeviceIn + Send>,
+    port: &mut I,
     pass: &mut LinkIn<E, M, K>,
     slicer: &mut Slicer,
     buffer: &mut [u8],
@@ -47,15 +33,15 @@ fn turn<E: Ledger, M: Ledger, K: Marks, H: Hall<E, M, K>, G: Gate>(
     requires open { 0 < need_of slicer.old }
     ensures number { pass.new.pass.number ≡ pass.old.pass.number }
     ensures open { 0 < need_of slicer.new }
-    ensures count { faults port.old ≤ faults port.new }
-    ensures plugs { plugs port.new ≡ plugs port.old }
+    ensures count { I.faults port.old ≤ I.faults port.new }
+    ensures plugs { I.plugs port.new ≡ I.plugs port.old }
     ensures mark { H.marked hall.new ≡ H.marked hall.old }
-    ensures told { (start : Start) → start.faults ≤ faults port.old
-        → IsReading pass.old.pass.number start slicer.old (H.tells hall.old) (left port.old)
-        → Turned result pass.old.pass.number start slicer.new (faults port.new)
-        pass.new.pass.starved (H.tells hall.new) (left port.new) }
+    ensures told { (start : Start) → start.faults ≤ I.faults port.old
+        → IsReading pass.old.pass.number start slicer.old (H.tells hall.old) (I.left port.old)
+        → Turned result pass.old.pass.number start slicer.new (I.faults port.new)
+        pass.new.pass.starved (H.tells hall.new) (I.left port.new) }
 {
-    match read_once(port, buffer) {
+    match port.read(buffer) {
         Got::Bytes(n) => feed(hall, pass, slicer, &buffer[..n], gate),
         Got::End => {
             end_input(hall, pass, slicer, Cause::Eof, gate);
@@ -83,25 +69,26 @@ pub fn read_device<
     M: Ledger,
     K: Marks,
     H: Hall<E, M, K>,
+    I: DeviceIn,
     G: Gate,
 >(
     rt: W,
     hall: &mut H,
-    port: &mut Box<dyn DeviceIn + Send>,
+    port: &mut I,
     pass: LinkIn<E, M, K>,
     slicer: Slicer,
     gate: &G,
 ) -> LinkIn<E, M, K>
     requires { slicer ≡ [] }
     ensures number { result.pass.number ≡ pass.pass.number }
-    ensures count { faults port.old ≤ faults port.new }
-    ensures plugs { plugs port.new ≡ plugs port.old }
+    ensures count { I.faults port.old ≤ I.faults port.new }
+    ensures plugs { I.plugs port.new ≡ I.plugs port.old }
     ensures mark { H.marked hall.new ≡ H.marked hall.old }
     ensures told { (a : Telling) (entries : List Entry) (bytes : List ℕ)
-        → H.tells hall.old ≡ Some a → Tells a entries → left port.old ≡ Some bytes
+        → H.tells hall.old ≡ Some a → Tells a entries → I.left port.old ≡ Some bytes
         → HasRead pass.pass.number
-        (record { entries = entries; bytes = bytes; faults = faults port.old })
-        (faults port.new) result.pass.starved (H.tells hall.new) (left port.new) }
+        (record { entries = entries; bytes = bytes; faults = I.faults port.old })
+        (I.faults port.new) result.pass.starved (H.tells hall.new) (I.left port.new) }
 {
     let mut pass = pass;
     let mut slicer = slicer;

@@ -34,18 +34,12 @@ fn silent(alloc: Global, plug: Plug) -> MemoryDeviceIn {
     MemoryDeviceIn::new(alloc, plug, Text::new(alloc), 1, Vec::new(alloc))
 }
 
-/// What a device without bytes gives that is behind a box.
-fn boxed_end(alloc: Global) -> Result<Got, AllocError> {
-    let mut input: Box<dyn DeviceIn + Send> = Box::new(alloc, silent(alloc, Plug::Here))?;
-    Ok(input.read(&mut [0]))
-}
-
 #[test]
 fn ports_and_devices_end(rt: HostRuntime) -> Result<(), Fail> {
     assert!(rt; port_is_closed(rt.alloc()));
     assert!(rt; device_is_unplugged(rt.alloc()));
     assert!(rt; silent_port(rt.alloc()).read(&mut [0]) == Got::End);
-    assert!(rt; boxed_end(rt.alloc())? == Got::End);
+    assert!(rt; silent(rt.alloc(), Plug::Here).read(&mut [0]) == Got::End);
     Ok(())
 }
 

@@ -1,8 +1,6 @@
 //! A device's writer.
 
 ghost use Rattle.std.specs.Prelude.{◌≡◌, ◌≢◌, ◌<◌, ◌≤◌, ◌⊎◌, List, Some, true, length, is_some};
-ghost use Rattle.adb_outside.specs.Outside.{Rises};
-ghost use Rattle.adb_outside.specs.Sink.{TellsWrite, is_failed_write};
 ghost use Rattle.adb_capture.specs.declared.entry.Entry.{Entry};
 ghost use Rattle.adb_hall.specs.Made.{Tells};
 ghost use Rattle.adb_hall.specs.Telling.{Telling, Where};
@@ -35,30 +33,10 @@ fn break_off<E: Ledger, M: Ledger, K: Marks, H: Hall<E, M, K>>(
     let _ = hall.break_send(pass, cause);
 }
 
-/// One write to a boxed device.
-fn write_boxed(port: &mut Box<dyn DeviceOut + Send>, piece: &[u8]) -> Wrote
-    requires { 0 < length piece.now }
-    ensures told { TellsWrite (written port.old) (written port.new) piece.now result }
-    ensures fault { is_failed_write result ≡ true → Rises (faults port.old) (faults port.new) }
-    ensures count { faults port.old ≤ faults port.new }
-    ensures closed { closed port.new ≡ closed port.old }
-{
-    port.write(piece)
-}
-
-/// Unplugs a boxed device.
-fn unplug_boxed(port: &mut Box<dyn DeviceOut + Send>)
-    ensures closed { closed port.new ≡ true }
-    ensures told { written port.new ≡ written port.old }
-    ensures count { faults port.new ≡ faults port.old }
-{
-    port.unplug();
-}
-
 /// Writes a piece that was handed out. A write that fails ends the device's link.
-fn write_out<E: Ledger, M: Ledger, K: Marks, H: Hall<E, M, K>>(
+fn write_out<E: Ledger, M: Ledger, K: Marks, H: Hall<E, M, K>, O: DeviceOut>(
     hall: &mut H,
-    port: &mut Box<dyn DeviceOut + Send>,
+    port: &mut O,
     pass: &mut LinkOut<E, M, K>,
     bytes: &Text,
 ) -> Next
@@ -66,15 +44,15 @@ fn write_out<E: Ledger, M: Ledger, K: Marks, H: Hall<E, M, K>>(
     ensures goes { result ≢ Next.Idle }
     ensures number { pass.new.pass.number ≡ pass.old.pass.number }
     ensures mark { H.marked hall.new ≡ H.marked hall.old }
-    ensures count { faults port.old ≤ faults port.new }
-    ensures closed { closed port.new ≡ closed port.old }
+    ensures count { O.faults port.old ≤ O.faults port.new }
+    ensures closed { O.closed port.new ≡ O.closed port.old }
     ensures told { Where (H.tells hall.old) (Leaves (link_side pass.old.pass.number) result
-        pass.new.pass.starved (faults port.old) (faults port.new)) (H.tells hall.new) }
+        pass.new.pass.starved (O.faults port.old) (O.faults port.new)) (H.tells hall.new) }
     ensures wrote { HandsOn bytes.now result
-        (outlet (faults port.old) (written port.old) (closed port.old))
-        (outlet (faults port.new) (written port.new) (closed port.new)) }
+        (outlet (O.faults port.old) (O.written port.old) (O.closed port.old))
+        (outlet (O.faults port.new) (O.written port.new) (O.closed port.new)) }
 {
-    match write_boxed(port, bytes.as_slice()) {
+    match port.write(bytes.as_slice()) {
         Wrote::All => Next::More,
         Wrote::Failed { taken: _ } => {
             break_off(hall, pass, Cause::Fault);
@@ -84,21 +62,21 @@ fn write_out<E: Ledger, M: Ledger, K: Marks, H: Hall<E, M, K>>(
 }
 
 /// One turn: has a piece handed out, and writes it. Want of memory ends the device's link.
-fn turn<E: Ledger, M: Ledger, K: Marks, H: Hall<E, M, K>, G: Gate>(
+fn turn<E: Ledger, M: Ledger, K: Marks, H: Hall<E, M, K>, O: DeviceOut, G: Gate>(
     hall: &mut H,
-    port: &mut Box<dyn DeviceOut + Send>,
+    port: &mut O,
     pass: &mut LinkOut<E, M, K>,
     gate: &G,
 ) -> Next
     ensures number { pass.new.pass.number ≡ pass.old.pass.number }
     ensures mark { H.marked hall.new ≡ H.marked hall.old }
-    ensures count { faults port.old ≤ faults port.new }
+    ensures count { O.faults port.old ≤ O.faults port.new }
     ensures idle { result ≡ Next.Idle → is_some (H.tells hall.new) ≡ true }
     ensures told { (a : Telling) (es : List Entry) → H.tells hall.old ≡ Some a → Tells a es
         → Turned result (link_side pass.old.pass.number) es (H.tells hall.new)
         pass.new.pass.starved
-        (outlet (faults port.old) (written port.old) (closed port.old))
-        (outlet (faults port.new) (written port.new) (closed port.new)) }
+        (outlet (O.faults port.old) (O.written port.old) (O.closed port.old))
+        (outlet (O.faults port.new) (O.written port.new) (O.closed port.new)) }
 {
     match hall.send(pass, MAX_PACKET) {
         Ok(Handed::Bytes(bytes)) => {
@@ -129,22 +107,17 @@ pub fn write_device<
     M: Ledger,
     K: Marks,
     H: Hall<E, M, K>,
+    O: DeviceOut,
     G: Gate,
->(
-    rt: W,
-    hall: &mut H,
-    port: &mut Box<dyn DeviceOut + Send>,
-    pass: LinkOut<E, M, K>,
-    gate: &G,
-) -> LinkOut<E, M, K>
+>(rt: W, hall: &mut H, port: &mut O, pass: LinkOut<E, M, K>, gate: &G) -> LinkOut<E, M, K>
     ensures number { result.pass.number ≡ pass.pass.number }
     ensures mark { H.marked hall.new ≡ H.marked hall.old }
-    ensures count { faults port.old ≤ faults port.new }
-    ensures closed { (closed port.new ≡ true) ⊎ (is_some (H.tells hall.new) ≡ true) }
+    ensures count { O.faults port.old ≤ O.faults port.new }
+    ensures closed { (O.closed port.new ≡ true) ⊎ (is_some (H.tells hall.new) ≡ true) }
     ensures told { (a : Telling) (es : List Entry) → H.tells hall.old ≡ Some a → Tells a es
         → Written (link_side pass.pass.number) es (H.tells hall.new) result.pass.starved
-        (outlet (faults port.old) (written port.old) (closed port.old))
-        (outlet (faults port.new) (written port.new) (closed port.new)) }
+        (outlet (O.faults port.old) (O.written port.old) (O.closed port.old))
+        (outlet (O.faults port.new) (O.written port.new) (O.closed port.new)) }
 {
     let mut pass = pass;
     for _ in rt.forever() {
@@ -152,7 +125,7 @@ pub fn write_device<
             Next::More => {}
             Next::Idle => return pass,
             Next::Stop => {
-                unplug_boxed(port);
+                port.unplug();
                 return pass;
             }
         }

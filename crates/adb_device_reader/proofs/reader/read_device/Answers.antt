@@ -18,7 +18,7 @@ loop-init g c = (
 pub returns-then-not-turn-clause-told : goal.returns-then-not-turn-clause-told
 returns-then-not-turn-clause-told g c a entries bytes is h left =
     let inv = c.loop.invariant in
-    let faults = (goal.DeviceIn-dyn g (c.args.port.now.vtable, c.args.port.now.value)).faults c.args.port.now.value in
+    let faults = g.I.DeviceIn.faults c.args.port.now in
     let start : Start = record { entries = entries; bytes = bytes; faults = faults } in
     rw inv.2 at (c.if-not-turn.ensures.told start inv.5 (rw inv.2 (inv.7 a entries bytes is h left)))
 
@@ -33,7 +33,7 @@ loop-preserved g c =
       at_most _ _ _ inv.5 c.turn.ensures.count,
       c.turn.ensures.plugs ∙ inv.6,
       λ a entries bytes is h left.
-          let faults = (goal.DeviceIn-dyn g (c.args.port.now.vtable, c.args.port.now.value)).faults c.args.port.now.value in
+          let faults = g.I.DeviceIn.faults c.args.port.now in
           let start : Start = record { entries = entries; bytes = bytes; faults = faults } in
           rw inv.2 at (c.if-not-turn.ensures.told start inv.5 (rw inv.2 (inv.7 a entries bytes is h left))),
     )

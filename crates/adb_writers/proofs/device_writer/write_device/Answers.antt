@@ -17,7 +17,7 @@ pub returns-in-Stop-clause-told : goal.returns-in-Stop-clause-told
 returns-in-Stop-clause-told g c a es t held =
     let inv = c.loop.invariant in
     let x = inv.5 a es t held in
-    rw (c.unplug_boxed.ensures.told, c.unplug_boxed.ensures.count, c.unplug_boxed.ensures.closed)
+    rw (c.unplug.ensures.told, c.unplug.ensures.counts.stands refl, c.unplug.ensures.closed)
     (written_after (link_side c.args.pass.pass.number) es _ _ _ _ _ _ x (rw inv.2 at (c.in-Stop.ensures.told x.now x.entries x.is x.held)))
 
 pub loop-preserved : goal.loop-preserved

@@ -8,13 +8,11 @@ use Rattle.adb_writers.proofs.device_writer.write_device.Given as goal
 
 abbrev pub invariant-loop : goal.invariant-loop
 invariant-loop g l =
-    let first = goal.DeviceOut-dyn g (l.fn.port.vtable, l.fn.port.value) in
-    let last = goal.DeviceOut-dyn g (l.port.vtable, l.port.value) in
     (goal.iterator-loop g).can_next l.iterator' × (goal.iterator-loop g).is_finite l.iterator'
     × (l.pass.pass.number ≡ l.fn.pass.pass.number)
     × (g.H.Hall.marked l.hall ≡ g.H.Hall.marked l.fn.hall)
-    × (first.faults l.fn.port.value ≤ last.faults l.port.value)
+    × (g.O.DeviceOut.faults l.fn.port ≤ g.O.DeviceOut.faults l.port)
     × ((a : Telling) (es : List Entry) → g.H.Hall.tells l.fn.hall ≡ Some a → Tells a es
     → WrittenSoFar (link_side l.fn.pass.pass.number) es (g.H.Hall.tells l.hall)
-    (outlet (first.faults l.fn.port.value) (first.written l.fn.port.value) (first.closed l.fn.port.value))
-    (outlet (last.faults l.port.value) (last.written l.port.value) (last.closed l.port.value)))
+    (outlet (g.O.DeviceOut.faults l.fn.port) (g.O.DeviceOut.written l.fn.port) (g.O.DeviceOut.closed l.fn.port))
+    (outlet (g.O.DeviceOut.faults l.port) (g.O.DeviceOut.written l.port) (g.O.DeviceOut.closed l.port)))
