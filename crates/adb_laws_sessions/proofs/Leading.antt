@@ -17,7 +17,7 @@ selecting : answer model_devices.rows [] None (meaning (codes "host:transport:mo
 unfolding model_devices meaning identity_of last_value
 selecting = refl
 
-opening : (service : List ℕ) → length service ≤ 1000
+opening : (service : List ℕ) → length service ≤ 1024
     → answer model_devices.rows [] (Some 1) (Service service) ≡ record { bytes = []; next = Open 1 service }
 unfolding model_devices identity_of last_value
 opening service short =

@@ -28,7 +28,7 @@ SpelledIsRead = (n : ℕ) → n < 65536 → hex_number (hex_digits n) ≡ Some n
 -- what devices answer to the requests of sessions
 pub record Leads (devices : DeviceTable) : Type 0 where
   pub selecting : answer devices.rows [] None (meaning (codes "host:transport:model-1")) ≡ record { bytes = codes "OKAY"; next = Select 1 }
-  pub opening : (service : List ℕ) → length service ≤ 1000
+  pub opening : (service : List ℕ) → length service ≤ 1024
       → answer devices.rows [] (Some 1) (Service service) ≡ record { bytes = []; next = Open 1 service }
 
 -- ---- what bytes begin with

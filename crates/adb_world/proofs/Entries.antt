@@ -25,6 +25,7 @@ use Rattle.adb_world.specs.Parts.{Holds, most_sessions, IsKeptAt, Moved, AreSame
 use Rattle.adb_world.specs.Session.{Changes, IsTold, IsNew, handed, wrote, left_of, text_of, new_session}
 use Rattle.adb_world.specs.declared.parts.Parts.{Parts}
 use Rattle.adb_world.specs.declared.session.Session.{Session}
+use Rattle.adb_world.proofs.Gone.{gone_recv, gone_send, none_stays}
 use Rattle.adb_world.proofs.Stays.{kept_put, kept_read, changed_same, hears_same, writes_same, same_sessions}
 
 -- ---- the device
@@ -58,8 +59,9 @@ module _ (h : History) (parts : Parts) (holds : Holds h parts) where
       kept c = go (at c parts.sessions.entries) (holds.sessions c)
         where
           go : (o : Option Session) → IsKeptAt parts.given h c o → IsKeptAt parts.given (Send 1 piece ∷ h) c o
-          go None k = k
-          go (Some session) k = (k.0, record { known = k.1.known; words = k.1.words; within = k.1.within; read = k.1.read; put = k.1.put })
+          go None k = none_stays parts.given c (Send 1 piece) h (λ e. e) (λ gone. gone_send h c gone 1 piece) k
+          go (Some session) k =
+              (k.0, record { known = k.1.known; words = k.1.words; within = k.1.within; read = k.1.read; put = k.1.put; alive = k.1.alive })
 
   -- ---- up
   abbrev received : List ℕ → List ℕ
@@ -95,8 +97,9 @@ module _ (h : History) (parts : Parts) (holds : Holds h parts) where
       kept c = go (at c parts.sessions.entries) (holds.sessions c)
         where
           go : (o : Option Session) → IsKeptAt parts.given h c o → IsKeptAt parts.given (Recv 1 piece ∷ h) c o
-          go None k = k
-          go (Some session) k = (k.0, record { known = k.1.known; words = k.1.words; within = k.1.within; read = k.1.read; put = k.1.put })
+          go None k = none_stays parts.given c (Recv 1 piece) h (λ e. e) (λ gone. gone_recv h c gone 1 piece) k
+          go (Some session) k =
+              (k.0, record { known = k.1.known; words = k.1.words; within = k.1.within; read = k.1.read; put = k.1.put; alive = k.1.alive })
 
   -- ---- handed to a session
   pub put_to : (hub : Kept) (c : ℕ) (piece : List ℕ) (new : Parts) → IsLawful hub (Put c piece ∷ h) → new.hub ≡ hub → new.device ≡ parts.device

@@ -20,7 +20,7 @@ use Rattle.adb_laws_sessions.specs.Model.{model_setting}
 use Rattle.adb_world.specs.Parts.{Holds, IsGreeted, IsRunning, Moved, Moves, plugging}
 use Rattle.adb_world.specs.declared.parts.Parts.{Parts}
 use Rattle.adb_world.proofs.Entries.{all_owed}
-use Rattle.adb_world.proofs.Going.{AllStay, runs_on}
+use Rattle.adb_world.proofs.Going.{AllStay, running_on}
 
 -- what a device owes that was fed nothing is its CNXN
 abbrev pub first_bytes : List ℕ
@@ -51,5 +51,5 @@ module _ (old : Parts) (holds : Holds (plugging ∷ []) old) where
 -- a step down leaves a world that runs
 pub still_runs : AllStay → (max : ℕ) (moved : Bool) (old new : Parts) → (runs : IsRunning old)
     → Moves (Send 1) max (due_on ((state runs.history).links 1)) moved runs.history old new → IsRunning new
-still_runs stays max true old new runs moves = (runs_on stays (Send 1) max (due_on ((state runs.history).links 1)) old new runs moves).runs
+still_runs stays max true old new runs moves = running_on stays (Send 1) max (due_on ((state runs.history).links 1)) old new runs moves
 still_runs stays max false old new runs moves = subst IsRunning (sym moves.0) runs
