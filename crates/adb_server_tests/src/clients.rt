@@ -1,7 +1,7 @@
 //! A server over fakes: clients in order and at the same time, and what becomes of each failure.
 
+use crate::devices::TestDevice;
 use adb_connections::Place;
-use adb_device_reader::Device;
 use adb_fakes::{FakeYard, Kept, Sent};
 use adb_outside::MemorySink;
 use adb_server::{Served, serve};
@@ -22,7 +22,7 @@ fn served<W: Threads + Wait + Copy + Send + Sync + Drop + 'static>(
     rt: W,
     alloc: Global,
     yard: FakeYard<W>,
-    devices: Vec<Device>,
+    devices: Vec<TestDevice<W>>,
 ) -> Option<Served> {
     let mut note = MemorySink::new(alloc, Vec::new(alloc));
     let served = serve(rt, alloc, yard, devices, 5037, true, &mut note);
@@ -185,7 +185,8 @@ fn deaf_is_told<W: Threads + Wait + Copy + Send + Sync + Drop + 'static>(
     let mut yard = FakeYard::new(rt, alloc, Kept::new(rt, alloc, Vec::new(alloc))?)?;
     yard.be_deaf();
     let mut note = MemorySink::new(alloc, Vec::new(alloc));
-    let served = serve(rt, alloc, yard, Vec::new(alloc), 5037, true, &mut note);
+    let nobody = Vec::<TestDevice<W>>::new(alloc);
+    let served = serve(rt, alloc, yard, nobody, 5037, true, &mut note);
     Ok(served == Served::DoorFault && note.bytes().is_empty())
 }
 

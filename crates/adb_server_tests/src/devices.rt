@@ -2,7 +2,7 @@
 
 use crate::over_one_desk::{Case, is_told, stands};
 use adb_capture::MemoryRecorder;
-use adb_connections::{DeviceIn, DeviceOut, MemoryDeviceIn, OpenGate, Plug};
+use adb_connections::{MemoryDeviceIn, OpenGate, Plug};
 use adb_desk_log::Marks;
 use adb_device_reader::{Device, Plugged, plug_in, read_device};
 use adb_fakes::{Sent, SharedOut};
@@ -54,6 +54,9 @@ const ROWS: &[Row] = &[
     },
 ];
 
+/// A device of bytes in memory, which shares with the test what it is sent.
+pub(crate) type TestDevice<W> = Device<MemoryDeviceIn, SharedOut<W>>;
+
 /// A device that sends these bytes in pieces of ten.
 pub(crate) fn device<W: Wait + Copy + Send + Sync + Drop + 'static>(
     alloc: Global,
@@ -61,10 +64,8 @@ pub(crate) fn device<W: Wait + Copy + Send + Sync + Drop + 'static>(
     serial: &[u8],
     bytes: Text,
     output: SharedOut<W>,
-) -> Result<Device, AllocError> {
+) -> Result<TestDevice<W>, AllocError> {
     let input = MemoryDeviceIn::new(alloc, plug, bytes, 10, Vec::new(alloc));
-    let input: Box<dyn DeviceIn + Send> = Box::new(alloc, input)?;
-    let output: Box<dyn DeviceOut + Send> = Box::new(alloc, output)?;
     Ok(Device {
         kind: Kind::Usb,
         serial: Text::from_slice(alloc, serial)?,
@@ -90,33 +91,29 @@ impl Row {
         let output = SharedOut::new(sent.handle()?, Vec::from_slice(alloc, &[1])?);
         let mut bytes = Text::from_slice(alloc, self.bytes)?;
         bytes.push_slice(self.more)?;
-        let mut device = device(alloc, Plug::Here, b"emu1", bytes, output)?;
-        let works = works(rt, alloc, hall, &mut device, self.reads)?;
+        let device = device(alloc, Plug::Here, b"emu1", bytes, output)?;
+        let works = works(rt, alloc, hall, device, self.reads)?;
         Ok(works && sent.is_closed() != self.reads && is_told(alloc, hall, self.told)?)
     }
 }
 
 /// Has one worker of a device work until it hands its pass back.
-fn works<W: Wait + Copy + Drop, E: Ledger, M: Ledger, K: Marks>(
+fn works<W: Wait + Copy + Send + Sync + Drop + 'static, E: Ledger, M: Ledger, K: Marks>(
     rt: W,
     alloc: Global,
     hall: &mut OneDesk<MemoryRecorder, E, M, K>,
-    device: &mut Device,
+    device: TestDevice<W>,
     reads: bool,
 ) -> Result<bool, AllocError> {
     let gate = OpenGate::new();
-    match plug_in(
-        hall,
-        device.kind,
-        device.serial.as_slice(),
-        &mut device.input,
-    ) {
+    let (mut input, mut output) = (device.input, device.output);
+    match plug_in(hall, device.kind, device.serial.as_slice(), &mut input) {
         Plugged::Link { reading, writing } => {
             if reads {
                 let slicer = Slicer::new(alloc)?;
-                let _pass = read_device(rt, hall, &mut device.input, reading, slicer, &gate);
+                let _pass = read_device(rt, hall, &mut input, reading, slicer, &gate);
             } else {
-                let _pass = write_device(rt, hall, &mut device.output, writing, &gate);
+                let _pass = write_device(rt, hall, &mut output, writing, &gate);
             }
             Ok(true)
         }

@@ -6,6 +6,7 @@ ghost use Rattle.adb_words.specs.Serve.{is_serve};
 ghost use Rattle.adb_words.specs.Tools.{names_tool, tool_of};
 ghost use Rattle.adb_words.specs.Words.{texts};
 
+use crate::devices::LocalDevice;
 use crate::yards::open_yard;
 use adb_outside::{NeverSink, Sink, Source};
 use adb_ports::Ending;
@@ -41,7 +42,8 @@ pub(crate) fn call_live<
     let Ok((yard, helpers)) = open_yard(rt, alloc, ending, NeverSink::new()) else {
         return say_out_of_memory(note);
     };
-    let status = run(rt, alloc, words, source, sink, note, yard, Vec::new(alloc));
+    let nobody = Vec::<LocalDevice<W>>::new(alloc);
+    let status = run(rt, alloc, words, source, sink, note, yard, nobody);
     let _ = helpers.finish();
     status
 }

@@ -1,12 +1,15 @@
 //! The devices of a server: model devices in threads of their own, and those that are reached by a
 //! port of this machine.
 
+use crate::either::{EitherIn, EitherOut};
 use adb_daemon::Daemon;
 use adb_device_reader::Device;
 use adb_files::Files;
 use adb_outside::{Kind, Text};
 use adb_pipe::{PipeIn, PipeOut, pipe};
-use adb_ports::{Ending, PipeDeviceIn, PipeDeviceOut, run_device, tcp_device};
+use adb_ports::{
+    Ending, PipeDeviceIn, PipeDeviceOut, TcpDeviceIn, TcpDeviceOut, run_device, tcp_device,
+};
 use adb_wire::MAX_PAYLOAD;
 use adb_words::Ports;
 use itoa::Buffer;
@@ -15,6 +18,12 @@ use std::net::{Net, TcpListener, TcpStream};
 use std::sync::Wait;
 use std::thread;
 use std::thread::Threads;
+
+/// A model device, or one that is reached by a port.
+pub type LocalDevice<W> = Device<
+    EitherIn<PipeDeviceIn<W>, TcpDeviceIn<W>>,
+    EitherOut<PipeDeviceOut<W>, TcpDeviceOut>,
+>;
 
 /// How many chunks, of up to a packet each, a pipe between a model device and the server holds.
 const CHUNKS: usize = 16;
@@ -30,7 +39,7 @@ pub fn devices_of<
         + Sync
         + Drop
         + 'static,
->(rt: W, alloc: Global, ports: &Ports, ending: &Ending) -> Result<Vec<Device>, AllocError> {
+>(rt: W, alloc: Global, ports: &Ports, ending: &Ending) -> Result<Vec<LocalDevice<W>>, AllocError> {
     let mut devices = Vec::new(alloc);
     for serial in &ports.devices {
         devices.push(model_device(rt, alloc, serial)?)?;
@@ -43,11 +52,16 @@ pub fn devices_of<
 
 /// A model device without files, in a thread of its own. Where no thread can be had its pipes are
 /// dropped, and its link ends at once.
-fn model_device<W: Threads + Wait + Copy + Send + Sync + Drop + 'static>(
-    rt: W,
-    alloc: Global,
-    serial: &Text,
-) -> Result<Device, AllocError> {
+fn model_device<
+    W: Net<Listener = TcpListener, Stream = TcpStream>
+        + Threads
+        + Wait
+        + Copy
+        + Send
+        + Sync
+        + Drop
+        + 'static,
+>(rt: W, alloc: Global, serial: &Text) -> Result<LocalDevice<W>, AllocError> {
     let (to_device, from_host) = pipe(rt, alloc, CHUNKS)?;
     let (to_host, from_device) = pipe(rt, alloc, CHUNKS)?;
     let daemon = Daemon::new(alloc, Files::new(alloc), MAX_PAYLOAD)?;
@@ -55,8 +69,8 @@ fn model_device<W: Threads + Wait + Copy + Send + Sync + Drop + 'static>(
     Ok(Device {
         kind: Kind::Local,
         serial: serial.copy()?,
-        input: Box::new(alloc, PipeDeviceIn::new(alloc, from_device))?,
-        output: Box::new(alloc, PipeDeviceOut::new(alloc, to_device))?,
+        input: EitherIn::First(PipeDeviceIn::new(alloc, from_device)),
+        output: EitherOut::First(PipeDeviceOut::new(alloc, to_device)),
     })
 }
 
@@ -83,13 +97,13 @@ fn device_at<
         + Sync
         + Drop
         + 'static,
->(rt: W, alloc: Global, port: u16, ending: &Ending) -> Result<Device, AllocError> {
+>(rt: W, alloc: Global, port: u16, ending: &Ending) -> Result<LocalDevice<W>, AllocError> {
     let (input, output) = tcp_device(rt, alloc, port, ending)?;
     Ok(Device {
         kind: Kind::Local,
         serial: serial_of(alloc, port)?,
-        input: Box::new(alloc, input)?,
-        output: Box::new(alloc, output)?,
+        input: EitherIn::Second(input),
+        output: EitherOut::Second(output),
     })
 }
 

@@ -4,6 +4,7 @@
 
 mod calling;
 mod devices;
+mod either;
 mod running;
 mod serving;
 mod starting;

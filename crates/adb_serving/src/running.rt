@@ -8,6 +8,7 @@ ghost use Rattle.adb_words.specs.Tools.{names_tool, tool_of};
 ghost use Rattle.adb_words.specs.Words.{texts};
 
 use crate::calling::call_live;
+use crate::devices::LocalDevice;
 use crate::serving::serve_live;
 use adb_outside::{Sink, Source};
 use adb_top::{Status, run};
@@ -64,6 +65,6 @@ pub(crate) fn run_live<
     if names_tool(words) {
         return call_live(rt, alloc, words, source, sink, note);
     }
-    let (yard, devices) = (NoYard::new(alloc), Vec::new(alloc));
+    let (yard, devices) = (NoYard::new(alloc), Vec::<LocalDevice<W>>::new(alloc));
     run(rt, alloc, words, source, sink, note, yard, devices)
 }

@@ -5,9 +5,8 @@ ghost use Rattle.adb_top.specs.Serve.{IsServerEnd, IsUnheard};
 ghost use Rattle.adb_words.specs.Serve.{Serving, is_serve, serve_of};
 ghost use Rattle.adb_words.specs.Words.{texts};
 
-use crate::devices::devices_of;
+use crate::devices::{LocalDevice, devices_of};
 use crate::yards::open_yard;
-use adb_device_reader::Device;
 use adb_outside::{Sink, Source};
 use adb_ports::Ending;
 use adb_top::{Status, run, say_out_of_memory, say_record_fault, wanted};
@@ -79,7 +78,12 @@ fn devices_for<
         + Sync
         + Drop
         + 'static,
->(rt: W, alloc: Global, words: &[String], ending: &Ending) -> Result<Vec<Device>, AllocError> {
+>(
+    rt: W,
+    alloc: Global,
+    words: &[String],
+    ending: &Ending,
+) -> Result<Vec<LocalDevice<W>>, AllocError> {
     match wanted(alloc, words) {
         Ok(ports) => devices_of(rt, alloc, &ports, ending),
         Err(WordsError::Usage) => Ok(Vec::new(alloc)),

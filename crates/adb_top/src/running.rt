@@ -12,6 +12,7 @@ ghost use Rattle.adb_top.specs.Tools.{RunsTool};
 use crate::serving::run_serve;
 use crate::tools::run_call;
 use adb_commands::{Status, run_alone};
+use adb_connections::{DeviceIn, DeviceOut};
 use adb_device_reader::Device;
 use adb_outside::{Sink, Source};
 use adb_words::{is_serve, names_tool};
@@ -39,6 +40,8 @@ pub fn run<
     K: Sink,
     N: Sink,
     Y: Yard + 'static,
+    X: DeviceIn + Send + 'static,
+    Z: DeviceOut + Send + 'static,
 >(
     rt: W,
     alloc: Global,
@@ -47,7 +50,7 @@ pub fn run<
     sink: &mut K,
     note: &mut N,
     yard: Y,
-    devices: Vec<Device>,
+    devices: Vec<Device<X, Z>>,
 ) -> Status
     // A command that neither serves nor dials keeps each promise of `run_alone`.
     ensures alone { is_serve (texts words.now) ≡ false → names_tool (texts words.now) ≡ false

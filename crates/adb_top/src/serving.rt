@@ -9,6 +9,7 @@ ghost use Rattle.adb_top.specs.Tells.{Tells};
 use adb_commands::{
     Status, say_door_fault, say_lost_line, say_out_of_memory, say_record_fault, say_usage,
 };
+use adb_connections::{DeviceIn, DeviceOut};
 use adb_device_reader::Device;
 use adb_outside::Sink;
 use adb_server::{Served, serve};
@@ -23,7 +24,16 @@ pub(crate) fn run_serve<
     W: Threads + Wait + Copy + Send + Sync + Drop + 'static,
     N: Sink,
     Y: Yard + 'static,
->(rt: W, alloc: Global, words: &[String], note: &mut N, yard: Y, devices: Vec<Device>) -> Status
+    X: DeviceIn + Send + 'static,
+    Z: DeviceOut + Send + 'static,
+>(
+    rt: W,
+    alloc: Global,
+    words: &[String],
+    note: &mut N,
+    yard: Y,
+    devices: Vec<Device<X, Z>>,
+) -> Status
     requires serve { is_serve (texts words.now) ≡ true }
     ensures usage { serve_of (texts words.now) ≡ None → IsUnheard result }
     ensures command { result ≡ Status.Usage → serve_of (texts words.now) ≡ None }

@@ -1,6 +1,8 @@
 //! Words of a server, run over a fake yard.
 
-use adb_fakes::{FakeYard, Kept};
+use adb_connections::MemoryDeviceIn;
+use adb_device_reader::Device;
+use adb_fakes::{FakeYard, Kept, SharedOut};
 use adb_outside::{MemorySink, MemorySource, Text};
 use adb_top::{Status, run, wanted};
 use adb_words::WordsError;
@@ -11,6 +13,9 @@ use std::thread::Threads;
 
 const USAGE: &[u8] =
     b"usage: adbhub replay | gen <seed> <streams> | local <seed> | serve [--port <n>] [--device <serial>] [--connect <port>] [--record] | check | devices | push <path> | pull <path> | shell <command> | wait <serial> <state>\n";
+
+/// A device of bytes in memory, of which none is plugged in here.
+pub(crate) type FakeDevice<W> = Device<MemoryDeviceIn, SharedOut<W>>;
 
 /// A server at whose door one client asks for the end, and what goes wrong.
 struct Row {
@@ -89,7 +94,7 @@ const ROWS: &[Row] = &[
     },
 ];
 
-pub fn words_of(alloc: Global, words: &[&str]) -> Result<Vec<String>, AllocError> {
+pub(crate) fn words_of(alloc: Global, words: &[&str]) -> Result<Vec<String>, AllocError> {
     let mut owned = Vec::new(alloc);
     for word in words {
         owned.push(String::from_str(alloc, word)?)?;
@@ -121,7 +126,7 @@ fn ends<W: Threads + Wait + Copy + Send + Sync + Drop + 'static>(
         &mut sink,
         &mut note,
         yard,
-        Vec::new(alloc),
+        Vec::<FakeDevice<W>>::new(alloc),
     );
     let is_answered = sent.holds(b"OKAY") == (row.status == Status::Done);
     let is_told = note.bytes() == row.note && sink.bytes().is_empty();

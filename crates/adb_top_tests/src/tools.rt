@@ -1,6 +1,6 @@
 //! Words of client tools, run over a fake yard: what a server is asked, and what is told of its answer.
 
-use crate::serves::words_of;
+use crate::serves::{FakeDevice, words_of};
 use adb_fakes::{FakeYard, Kept};
 use adb_outside::{MemorySink, MemorySource, Text};
 use adb_top::{Status, run};
@@ -119,7 +119,7 @@ fn ends<W: Threads + Wait + Copy + Send + Sync + Drop + 'static>(
         &mut sink,
         &mut note,
         yard,
-        Vec::new(alloc),
+        Vec::<FakeDevice<W>>::new(alloc),
     );
     let is_asked = match asked {
         Some(asked) => asked.holds(row.asked),
