@@ -13,6 +13,7 @@ use std::sync::{Arc, Wait};
 ///
 /// It says nothing of threads, as `Bell` does: a job is run by calls that rest on no such bound.
 pub trait Ringing: Drop {
+    /// Tells who waits at the door that nobody more is let in.
     fn ring(&self);
 }
 
@@ -23,12 +24,14 @@ pub struct BellHandle<B: Bell> {
 }
 
 impl<B: Bell> BellHandle<B> {
+    /// The first handle of a bell, which it keeps in memory of its own.
     pub fn new(alloc: Global, bell: B) -> Result<BellHandle<B>, AllocError> {
         Ok(BellHandle {
             bell: Arc::new(alloc, bell)?,
         })
     }
 
+    /// One more handle of the same bell.
     pub fn handle(&self) -> Result<BellHandle<B>, AllocError> {
         Ok(BellHandle {
             bell: Arc::try_clone(&self.bell)?,
