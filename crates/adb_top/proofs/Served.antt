@@ -1,19 +1,22 @@
 -- How a server ended, and the note that it leaves.
-use Rattle.std.proofs.Common.{ℕ, ◌≡◌, ◌≢◌, ◌⊎◌, List, [], ◌++◌, take, drop, Option, Some, refl, sym, ◌∙◌, ap, subst, inl, inr, arith}
+use Rattle.std.proofs.Common.{ℕ, ◌≡◌, ◌≢◌, ◌<◌, ◌≤◌, ◌⊎◌, true, false, List, [], ◌++◌, take, drop, Option, Some, refl, sym, ◌∙◌, ap, subst, inl, inr, arith}
 use Rattle.std.proofs.lemmas.List.{append-nil, take-append-drop}
 use Rattle.adb_outside.specs.Bytes.{IsPrefixOf}
-use Rattle.adb_outside.specs.Outside.{Rises}
+use Rattle.adb_outside.specs.Outside.{Rises, Counts}
 use Rattle.adb_outside.specs.Sink.{TellsWrite}
 use Rattle.adb_outside.specs.declared.sink.Wrote.{Wrote}
 use Rattle.adb_outside.specs.declared.sink.Wrote.TheVariants.{All, Failed}
-use Rattle.adb_server.specs.Served.{listening_line, Announces, TellsPort}
+use Rattle.adb_server.specs.Served.{listening_line, Announces, TellsPort, is_write_fault}
 use Rattle.adb_server.specs.declared.server.Served.{Served}
 use Rattle.adb_server.specs.declared.server.Served.TheVariants as served
+use Rattle.adb_words.specs.Serve.{Serving}
+use Rattle.adb_commands.proofs.Counting.{counts_then}
+use Rattle.adb_commands.specs.Faults.{tells_write_fault}
 use Rattle.adb_commands.specs.Notes.{NotesBy, HasTried, HasFailed, RisesTwice}
 use Rattle.adb_commands.specs.declared.status.Status.{Status}
 use Rattle.adb_commands.specs.declared.status.Status.TheVariants.{Done, Usage, ReadFault, WriteFault, BadCapture, OutOfMemory, RecordFault, DoorFault, BadScript, Refused, BadAnswer, PortFault, TooLarge, Illegal}
-use Rattle.adb_top.specs.Serve.{IsAnyLine, IsListening, IsBefore, NotesServer}
-use Rattle.adb_top.specs.Tells.{status_of}
+use Rattle.adb_top.specs.Serve.{IsAnyLine, IsListening, IsBefore, IsServerEnd, NotesServer, Serves}
+use Rattle.adb_top.specs.Tells.{CountsEnd, Tells, status_of}
 
 -- ---- a note that failed later failed over the whole, too
 tried_on : {rose wider : Type 0} {had : List ℕ} {after : Option (List ℕ)} → (rose → wider) → HasTried rose had after → HasTried wider had after
@@ -60,10 +63,7 @@ rises_wider : {x y z : ℕ} → x ≤ y → Rises y z → Rises x z
 rises_wider less (inl more) = inl (omega (arith, less, more))
 rises_wider less (inr last) = inr last
 
-pub rose_wider : {x y z : ℕ} → x ≤ y → Rises y z → Rises x z
-rose_wider less rose = rises_wider less rose
-
-pub twice_wider : {x y z : ℕ} → x ≤ y → RisesTwice y z → RisesTwice x z
+twice_wider : {x y z : ℕ} → x ≤ y → RisesTwice y z → RisesTwice x z
 twice_wider less twice = record { mid = twice.mid; first = rises_wider less twice.first; again = twice.again }
 
 -- ---- what the note has before the line of the status
@@ -113,11 +113,12 @@ before_of asked served.WriteFault before mid had (taken, t) is = record {
     )
 
 -- The note tells how a server ended behind what it had.
-pub notes_server : {rose again rose_whole again_whole : Type 0} (asked : ℕ) (served : Served) (status : Status) (before mid after : Option (List ℕ))
+notes_server : {rose again rose_whole again_whole : Type 0} (asked : ℕ) (served : Served) (status : Status) (before mid after : Option (List ℕ))
     (had : List ℕ) → Announces asked served before mid → before ≡ Some had → (status ≡ status_of served) ⊎ (status ≡ WriteFault)
     → ((more : List ℕ) → mid ≡ Some more → NotesBy status IsAnyLine rose again more after) → (rose → rose_whole) → (again → again_whole)
     → NotesServer asked status rose_whole again_whole had after
-notes_server asked served status before mid after had announced is own told on twice = go (before_of asked served before mid had announced is)
+notes_server {rose_whole = rose_whole} {again_whole = again_whole} asked served status before mid after had announced is own told on twice =
+    go (before_of asked served before mid had announced is)
   where
     go : Before asked served had mid → NotesServer asked status rose_whole again_whole had after
     go b = record {
@@ -129,3 +130,107 @@ notes_server asked served status before mid after had announced is own told on t
         by : (status ≡ status_of served) ⊎ (status ≡ WriteFault) → (b : Before asked served had mid) → IsBefore asked status b.first
         by (inl e) b = subst (λ (s : Status). IsBefore asked s b.first) (sym e) b.own
         by (inr e) b = subst (λ (s : Status). IsBefore asked s b.first) (sym e) b.lost
+
+-- ---- the status of an end
+abbrev IsEndOf : Served → Status → Type 0
+IsEndOf end status = (status ≡ status_of end) ⊎ (status ≡ WriteFault)
+
+-- the end that has a status
+abbrev end_of : Status → Served
+end_of Done = served.Done
+end_of WriteFault = served.WriteFault
+end_of OutOfMemory = served.OutOfMemory
+end_of RecordFault = served.RecordFault
+end_of DoorFault = served.DoorFault
+end_of _ = served.Done
+
+end_of_status : (end : Served) → end_of (status_of end) ≡ end
+end_of_status served.Done = refl
+end_of_status served.WriteFault = refl
+end_of_status served.OutOfMemory = refl
+end_of_status served.RecordFault = refl
+end_of_status served.DoorFault = refl
+
+-- A status that no failed note makes is that of one end.
+ended_as : (end : Served) (status other : Status) → IsEndOf end status → other ≢ WriteFault → status ≡ other → end ≡ end_of other
+ended_as end status other (inl own) not is = sym (end_of_status end) ∙ ap end_of (sym own ∙ is)
+ended_as end status other (inr lost) not is = absurd (not (sym is ∙ lost))
+
+is_server_end : (end : Served) (status : Status) → IsEndOf end status → IsServerEnd status
+is_server_end end status (inl own) = subst IsServerEnd (sym own) (each end)
+  where
+    each : (end : Served) → IsServerEnd (status_of end)
+    each served.Done = tt
+    each served.WriteFault = tt
+    each served.OutOfMemory = tt
+    each served.RecordFault = tt
+    each served.DoorFault = tt
+is_server_end end status (inr lost) = subst IsServerEnd (sym lost) tt
+
+-- Where nothing fails it is done, but for memory.
+ends_whole : (end : Served) (status : Status) (rose : Type 0) → IsEndOf end status → end ≢ served.RecordFault → end ≢ served.DoorFault
+    → (tells_write_fault status ≡ true → rose) → ¬ rose → (status ≡ Done) ⊎ (status ≡ OutOfMemory)
+ends_whole end status rose (inr lost) no_record no_door told stood = absurd (stood (told (ap tells_write_fault lost)))
+ends_whole served.Done status rose (inl own) no_record no_door told stood = inl own
+ends_whole served.OutOfMemory status rose (inl own) no_record no_door told stood = inr own
+ends_whole served.WriteFault status rose (inl own) no_record no_door told stood = absurd (stood (told (ap tells_write_fault own)))
+ends_whole served.RecordFault status rose (inl own) no_record no_door told stood = absurd (no_record refl)
+ends_whole served.DoorFault status rose (inl own) no_record no_door told stood = absurd (no_door refl)
+
+-- a count that rose has risen, however more it rises
+rises_through : (x y z : ℕ) → x ≤ y → y ≤ z → Rises x y → Rises x z
+rises_through x y z a b (inl less) = inl (omega (arith, less, b))
+rises_through x y z a b (inr last) = split (cases y z)
+  where
+    cases : (m n : ℕ) → (m < n) ⊎ (n ≤ m)
+    cases m n = grind arith
+
+    split : (y < z) ⊎ (z ≤ y) → Rises x z
+    split (inl more) = inl (omega (arith, more, a))
+    split (inr same) = inr (same_number ∙ last)
+      where
+        same_number : z ≡ y
+        same_number = omega (arith, same, b)
+
+module _ {N : Type 0} (steady : N → Type 0) (faults : N → ℕ) (written : N → Option (List ℕ)) where
+  -- a note that failed before its line of the status
+  counts_lost : (note mid after : N) → Counts steady faults note mid true → (faults mid ≤ faults after) × (steady mid → steady after)
+      → Counts steady faults note after true
+  counts_lost note mid after first more = record {
+    count = omega (arith, first.count, more.0);
+    fault = λ e. rises_through (faults note) (faults mid) (faults after) first.count more.0 (first.fault refl);
+    stands = λ e. (let clash : true ≡ false = e in cc);
+    keeps = λ s. more.1 (first.keeps s);
+    steady = first.steady;
+  }
+
+  counts_end : (end : Served) (status : Status) (note mid after : N) → IsEndOf end status → Counts steady faults note mid (is_write_fault end)
+      → CountsEnd end status steady faults mid after → Counts steady faults note after (tells_write_fault status)
+  counts_end served.Done status note mid after own first more = counts_then steady faults note mid after first more
+  counts_end served.OutOfMemory status note mid after own first more = counts_then steady faults note mid after first more
+  counts_end served.RecordFault status note mid after own first more = counts_then steady faults note mid after first more
+  counts_end served.DoorFault status note mid after own first more = counts_then steady faults note mid after first more
+  counts_end served.WriteFault status note mid after own first more =
+      subst (λ (s : Status). Counts steady faults note after (tells_write_fault s)) (sym (lost own)) (counts_lost note mid after first more)
+    where
+      lost : (status ≡ WriteFault) ⊎ (status ≡ WriteFault) → status ≡ WriteFault
+      lost (inl is) = is
+      lost (inr is) = is
+
+  -- A run that served, by how the server ended and how that was told.
+  pub serves_of : (asked : Serving) (port : ℕ) (end : Served) (status : Status) (yard_steady yard_lasting : Type 0) (note mid after : N) → port ≡ asked.port
+      → (yard_steady → end ≢ served.RecordFault) → (yard_steady → end ≢ served.DoorFault) → (yard_lasting → end ≢ served.Done)
+      → Announces port end (written note) (written mid) → Counts steady faults note mid (is_write_fault end)
+      → Tells end status steady faults written mid after → Serves asked status yard_steady yard_lasting steady faults written note after
+  serves_of asked port end status yard_steady yard_lasting note mid after at no_record no_door not_done announced first tells =
+      let counts : Counts steady faults note after (tells_write_fault status) = counts_end end status note mid after tells.own first tells.counts in record {
+        ends = is_server_end end status tells.own;
+        record_fault = λ s is. no_record s (ended_as end status RecordFault tells.own (λ lost. (let clash : RecordFault ≡ WriteFault = lost in cc)) is);
+        door_fault = λ s is. no_door s (ended_as end status DoorFault tells.own (λ lost. (let clash : DoorFault ≡ WriteFault = lost in cc)) is);
+        lasting = λ s is. not_done s (ended_as end status Done tells.own (λ lost. (let clash : Done ≡ WriteFault = lost in cc)) is);
+        complete = λ s stood. ends_whole end status (Rises (faults note) (faults after)) tells.own (no_record s) (no_door s) counts.fault stood;
+        notes = λ had is. notes_server asked.port end status (written note) (written mid) (written after) had
+            (subst (λ (p : ℕ). Announces p end (written note) (written mid)) at announced) is tells.own tells.notes (rises_wider first.count)
+            (twice_wider first.count);
+        counts = counts;
+      }

@@ -7,7 +7,7 @@ use Rattle.adb_asking.specs.Telling.{Sight}
 use Rattle.adb_asking.specs.declared.ends.ToolEnd.{ToolEnd}
 use Rattle.adb_asking.specs.declared.ends.ToolEnd.TheVariants as ends
 use Rattle.adb_script.specs.Output.{escaped}
-use Rattle.adb_tools.specs.Calling.{CallsTool, IsUncalled}
+use Rattle.adb_asking.specs.Calling.{CallsTool, IsUncalled}
 use Rattle.adb_words.specs.declared.tool.Call.{Call}
 use Rattle.adb_words.specs.Tools.{tool_of}
 use Rattle.adb_words.specs.Words.{texts}
@@ -53,7 +53,7 @@ CountsEnd _ status n note note_new = Counts n.steady n.faults note note_new (tel
 
 -- The note has the line of an end.
 pub record TellsEnd {N : Type 0} (end : ToolEnd) (status : Status) (n : Sight N) (note note_new : N) : Type 0 where
-  pub status : IsStatusOf end status
+  pub own : IsStatusOf end status
   pub notes : WritesNote status (IsEndLine end) n.faults n.told note note_new
   pub shows : ShowsEnd end status (n.told note) (n.told note_new)
   pub counts : CountsEnd end status n note note_new

@@ -47,7 +47,7 @@ pub(crate) fn run_serve<
             say_served(note, served)
         }
         Err(WordsError::Usage) => say_usage(note),
-        Err(WordsError::OutOfMemory) => say_out_of_memory(note),
+        Err(WordsError::OutOfMemory) => say_served(note, Served::OutOfMemory),
     }
 }
 
