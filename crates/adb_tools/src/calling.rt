@@ -3,7 +3,7 @@
 ghost use Rattle.std.specs.Prelude.{◌≡◌, ◌<◌, ◌⊎◌, None, Some};
 ghost use Rattle.adb_asking.specs.Telling.{seen};
 ghost use Rattle.adb_words.specs.declared.tool.Call.{Call as TheCall};
-ghost use Rattle.adb_words.specs.Tools.{names_tool, tool_of};
+ghost use Rattle.adb_words.specs.Tools.{tool_of};
 ghost use Rattle.adb_words.specs.Words.{texts};
 ghost use Rattle.adb_asking.specs.Jobs.{FitsJob, FitsTool};
 ghost use Rattle.adb_asking.specs.Calling.{Asked, CallsTool, IsUncalled};
@@ -95,19 +95,16 @@ fn ask_at<W: Wait + Copy + Drop, K: Sink, N: Sink, Y: Yard>(
         yard.old yard.new result }
 {
     match yard.dial(port) {
-        Dialled::Here(input, output) => {
-            let (mut input, mut output) = (input, output);
-            ask(
-                rt,
-                alloc,
-                &job.remote,
-                job.on.as_ref(),
-                &mut input,
-                &mut output,
-                sink,
-                note,
-            )
-        }
+        Dialled::Here(mut input, mut output) => ask(
+            rt,
+            alloc,
+            &job.remote,
+            job.on.as_ref(),
+            &mut input,
+            &mut output,
+            sink,
+            note,
+        ),
         Dialled::Failed => ToolEnd::PortFault,
     }
 }

@@ -7,91 +7,123 @@ use std::alloc::{AllocError, Global};
 use std::sync::Wait;
 use std::test::Fail;
 
-/// Words, what is answered, and what is asked, how the call ends, and what goes to the sink and to
-/// the note.
-type Row = (
-    &'static [&'static str],
-    &'static [u8],
-    &'static [u8],
-    (char, u64),
-    &'static [u8],
-    &'static [u8],
-);
+/// The most bytes that a read of the source gives.
+const PIECE: usize = 65_536;
+
+/// A call, what is in the source, and which read of it fails, counted from 1; what the server
+/// answers, and is asked; and how the call ends, in a letter and a number.
+#[derive(Clone, Copy, Drop)]
+struct Row {
+    words: &'static [&'static str],
+    given: usize,
+    failing: u64,
+    answers: &'static [u8],
+    asked: &'static [u8],
+    end: (char, u64),
+    sink: &'static [u8],
+    note: &'static [u8],
+}
+
+/// Nobody is asked, and nothing is told.
+const QUIET: Row = Row {
+    words: &["devices"],
+    given: 3,
+    failing: 0,
+    answers: b"OKAY",
+    asked: b"",
+    end: ('u', 0),
+    sink: b"",
+    note: b"",
+};
+
+/// Nobody answers.
+const UNREACHED: Row = Row {
+    end: ('p', 0),
+    ..QUIET
+};
 
 const ROWS: &[Row] = &[
-    (
-        &["devices"],
-        b"OKAY000cemu1\tdevice\n",
-        b"000chost:devices",
-        ('d', 0),
-        b"emu1\tdevice\n",
-        b"",
-    ),
-    (
-        &["pull", "/a", "--serial", "x"],
-        b"FAIL0014device 'x' not found",
-        b"0010host:transport:x",
-        ('f', 20),
-        b"",
-        b"",
-    ),
-    (
-        &["shell", "echo hi"],
-        b"OKAYOKAY\x01\x03\0\0\0hi\n\x03\x01\0\0\0\0",
-        b"0012host:transport-any0014shell,v2,raw:echo hi\x04\0\0\0\0",
-        ('d', 0),
-        b"hi\n",
-        b"exit 0\n",
-    ),
-    (
-        &["devices"],
-        b"OKAX",
-        b"000chost:devices",
-        ('b', 3),
-        b"",
-        b"",
-    ),
-    (
-        &["push", "/a", "--mtime=5", "--port", "9"],
-        b"OKAYOKAYOKAY\0\0\0\0",
-        b"0012host:transport-any0005sync:SEND\x08\0\0\0/a,33188DATA\x03\0\0\0abcDONE\x05\0\0\0",
-        ('d', 0),
-        b"pushed 3\n",
-        b"",
-    ),
-    (
-        &["pull", "/a"],
-        b"OKAYOKAYDATA\x02\0\0\0abDONE\0\0\0\0",
-        b"0012host:transport-any0005sync:RECV\x02\0\0\0/a",
-        ('d', 0),
-        b"ab",
-        b"",
-    ),
-    (
-        &["wait", "x", "device"],
-        b"OKAY0000000ax\toffline\n0009x\tdevice\n",
-        b"0012host:track-devices",
-        ('d', 0),
-        b"",
-        b"",
-    ),
-    (
-        &["pull", "/a"],
-        b"",
-        b"0012host:transport-any",
-        ('b', 0),
-        b"",
-        b"",
-    ),
-    (&["push"], b"OKAY", b"", ('u', 0), b"", b""),
-    (
-        &["devices", "--serial", "x"],
-        b"OKAY",
-        b"",
-        ('u', 0),
-        b"",
-        b"",
-    ),
+    Row {
+        answers: b"OKAY000cemu1\tdevice\n",
+        asked: b"000chost:devices",
+        end: ('d', 0),
+        sink: b"emu1\tdevice\n",
+        ..QUIET
+    },
+    Row {
+        words: &["pull", "/a", "--serial", "x"],
+        answers: b"FAIL0014device 'x' not found",
+        asked: b"0010host:transport:x",
+        end: ('f', 20),
+        ..QUIET
+    },
+    Row {
+        words: &["shell", "echo hi"],
+        answers: b"OKAYOKAY\x01\x03\0\0\0hi\n\x03\x01\0\0\0\0",
+        asked: b"0012host:transport-any0014shell,v2,raw:echo hi\x04\0\0\0\0",
+        end: ('d', 0),
+        sink: b"hi\n",
+        note: b"exit 0\n",
+        ..QUIET
+    },
+    Row {
+        answers: b"OKAX",
+        asked: b"000chost:devices",
+        end: ('b', 3),
+        ..QUIET
+    },
+    Row {
+        words: &["push", "/a", "--mtime=5", "--port", "9"],
+        answers: b"OKAYOKAYOKAY\0\0\0\0",
+        asked: b"0012host:transport-any0005sync:SEND\x08\0\0\0/a,33188DATA\x03\0\0\0aaa\
+            DONE\x05\0\0\0",
+        end: ('d', 0),
+        sink: b"pushed 3\n",
+        ..QUIET
+    },
+    Row {
+        words: &["pull", "/a"],
+        answers: b"OKAYOKAYDATA\x02\0\0\0abDONE\0\0\0\0",
+        asked: b"0012host:transport-any0005sync:RECV\x02\0\0\0/a",
+        end: ('d', 0),
+        sink: b"ab",
+        ..QUIET
+    },
+    Row {
+        words: &["wait", "x", "device"],
+        answers: b"OKAY0000000ax\toffline\n0009x\tdevice\n",
+        asked: b"0012host:track-devices",
+        end: ('d', 0),
+        ..QUIET
+    },
+    Row {
+        words: &["pull", "/a"],
+        answers: b"",
+        asked: b"0012host:transport-any",
+        end: ('b', 0),
+        ..QUIET
+    },
+    Row {
+        words: &["push", "/a"],
+        given: MAX_INPUT + 1,
+        end: ('l', 0),
+        ..QUIET
+    },
+    Row {
+        words: &["push", "/a"],
+        given: 100_000,
+        failing: 2,
+        end: ('r', 0),
+        ..QUIET
+    },
+    Row {
+        words: &["push"],
+        ..QUIET
+    },
+    Row {
+        words: &["devices", "--serial", "x"],
+        ..QUIET
+    },
 ];
 
 /// An end in a letter, and a number of it.
@@ -118,39 +150,57 @@ fn words_of(alloc: Global, words: &[&str]) -> Result<Vec<String>, AllocError> {
     Ok(owned)
 }
 
-/// Whether a row holds, at a server that answers where there is an answer. A push finds `abc`.
-fn calls<W: Wait + Copy + Send + Sync + Drop + 'static>(
+/// The source of a row.
+fn source_of(alloc: Global, row: &Row) -> Result<MemorySource, AllocError> {
+    let mut bytes = Vec::new(alloc);
+    bytes.resize(row.given, b'a')?;
+    let failing = Vec::from_slice(alloc, &[row.failing])?;
+    Ok(MemorySource::new(Text::from_vec(bytes), PIECE, failing))
+}
+
+/// How the call of a row ends.
+fn call<W: Wait + Copy + Send + Sync + Drop + 'static>(
+    rt: W,
+    alloc: Global,
+    row: &Row,
+    sink: &mut MemorySink,
+    note: &mut MemorySink,
+    yard: &mut FakeYard<W>,
+) -> Result<(char, u64), AllocError> {
+    let words = words_of(alloc, row.words)?;
+    let mut source = source_of(alloc, row)?;
+    let words = words.as_slice();
+    let end = run_tool(rt, alloc, words, &mut source, sink, note, yard);
+    Ok(shown(&end))
+}
+
+/// Whether the call of a row ends, and tells, as the row says.
+fn tells<W: Wait + Copy + Send + Sync + Drop + 'static>(
+    rt: W,
+    alloc: Global,
+    row: &Row,
+    yard: &mut FakeYard<W>,
+) -> Result<bool, AllocError> {
+    let mut sink = MemorySink::new(alloc, Vec::new(alloc));
+    let mut note = MemorySink::new(alloc, Vec::new(alloc));
+    let end = call(rt, alloc, row, &mut sink, &mut note, yard)?;
+    Ok(end == row.end && sink.bytes() == row.sink && note.bytes() == row.note)
+}
+
+/// A yard in which nobody answers yet.
+fn new_yard<W: Wait + Copy + Drop>(rt: W, alloc: Global) -> Result<FakeYard<W>, AllocError> {
+    FakeYard::new(rt, alloc, Kept::new(rt, alloc, Vec::new(alloc))?)
+}
+
+/// Whether a row holds, at a server that answers.
+fn holds<W: Wait + Copy + Send + Sync + Drop + 'static>(
     rt: W,
     alloc: Global,
     row: &Row,
 ) -> Result<bool, AllocError> {
-    let mut yard = FakeYard::new(rt, alloc, Kept::new(rt, alloc, Vec::new(alloc))?)?;
-    let asked = yard.answer(row.1)?;
-    let (end, sink, note) = call(rt, alloc, row.0, &mut yard)?;
-    Ok(shown(&end) == row.3 && asked.holds(row.2) && sink.bytes() == row.4 && note.bytes() == row.5)
-}
-
-/// How a call ends, and what went out.
-fn call<W: Wait + Copy + Send + Sync + Drop + 'static>(
-    rt: W,
-    alloc: Global,
-    words: &[&str],
-    yard: &mut FakeYard<W>,
-) -> Result<(ToolEnd, MemorySink, MemorySink), AllocError> {
-    let words = words_of(alloc, words)?;
-    let mut source = MemorySource::new(Text::from_slice(alloc, b"abc")?, 2, Vec::new(alloc));
-    let mut sink = MemorySink::new(alloc, Vec::new(alloc));
-    let mut note = MemorySink::new(alloc, Vec::new(alloc));
-    let end = run_tool(
-        rt,
-        alloc,
-        words.as_slice(),
-        &mut source,
-        &mut sink,
-        &mut note,
-        yard,
-    );
-    Ok((end, sink, note))
+    let mut yard = new_yard(rt, alloc)?;
+    let asked = yard.answer(row.answers)?;
+    Ok(tells(rt, alloc, row, &mut yard)? && asked.holds(row.asked))
 }
 
 /// Whether the port is at fault where nobody answers.
@@ -158,57 +208,15 @@ fn is_unreached<W: Wait + Copy + Send + Sync + Drop + 'static>(
     rt: W,
     alloc: Global,
 ) -> Result<bool, AllocError> {
-    let mut yard = FakeYard::new(rt, alloc, Kept::new(rt, alloc, Vec::new(alloc))?)?;
-    let (end, sink, note) = call(rt, alloc, &["devices"], &mut yard)?;
-    Ok(shown(&end) == ('p', 0) && sink.bytes().is_empty() && note.bytes().is_empty())
+    let mut yard = new_yard(rt, alloc)?;
+    tells(rt, alloc, &UNREACHED, &mut yard)
 }
 
 #[test]
 fn tools_are_called(rt: HostRuntime) -> Result<(), Fail> {
     for row in ROWS {
-        assert!(rt; calls(rt, rt.alloc(), row)?, "{:?}", row.0);
+        assert!(rt; holds(rt, rt.alloc(), row)?, "{:?}", row.words);
     }
     assert!(rt; is_unreached(rt, rt.alloc())?);
-    Ok(())
-}
-
-/// How a push of so many bytes ends, of which this read fails, and whether anything was asked.
-fn push<W: Wait + Copy + Send + Sync + Drop + 'static>(
-    rt: W,
-    alloc: Global,
-    size: usize,
-    failing: u64,
-) -> Result<((char, u64), bool), AllocError> {
-    let mut yard = FakeYard::new(rt, alloc, Kept::new(rt, alloc, Vec::new(alloc))?)?;
-    let asked = yard.answer(b"OKAYOKAYOKAY\0\0\0\0")?;
-    let words = words_of(alloc, &["push", "/a"])?;
-    let mut bytes = Vec::new(alloc);
-    bytes.resize(size, 7)?;
-    let failing = Vec::from_slice(alloc, &[failing])?;
-    let mut source = MemorySource::new(Text::from_vec(bytes), 1_000_000, failing);
-    let mut sink = MemorySink::new(alloc, Vec::new(alloc));
-    let mut note = MemorySink::new(alloc, Vec::new(alloc));
-    let end = run_tool(
-        rt,
-        alloc,
-        words.as_slice(),
-        &mut source,
-        &mut sink,
-        &mut note,
-        &mut yard,
-    );
-    Ok((shown(&end), asked.len() > 0))
-}
-
-#[test]
-fn input_comes_first(rt: HostRuntime) -> Result<(), Fail> {
-    for (size, failing, want, is_asked) in [
-        (MAX_INPUT, 0, 'd', true),
-        (MAX_INPUT + 1, 0, 'l', false),
-        (100_000, 2, 'r', false),
-    ] {
-        let got = push(rt, rt.alloc(), size, failing)?;
-        assert!(rt; got == ((want, 0), is_asked), "{size} {failing}");
-    }
     Ok(())
 }

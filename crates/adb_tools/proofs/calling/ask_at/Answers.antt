@@ -3,7 +3,7 @@ use Rattle.adb_tools.proofs.calling.ask_at.Goals as goal
 
 pub returns-in-Here : goal.returns-in-Here
 returns-in-Here g c =
-    asked_here _ _ _ _ _ _ c.in-Here.field-0 _ c.in-Here.field-1 _ c.args.sink.now c.ask.new.sink c.args.note.now c.ask.new.note
+    asked_here _ _ _ _ _ _ c.in-Here.input _ c.in-Here.output _ c.args.sink.now c.ask.new.sink c.args.note.now c.ask.new.note
     c.args.yard.now c.dial.new.self c.ask.result c.in-Here.ensures.counts c.in-Here.ensures.steady c.in-Here.ensures.answers.0 c.ask.ensures
 
 pub returns-in-Failed : goal.returns-in-Failed
