@@ -30,15 +30,15 @@ IsStatusOf ends.TooLarge status = (status ≡ TooLarge) ⊎ (status ≡ WriteFau
 
 -- the line that is at hand at an end
 abbrev pub IsEndLine : ToolEnd → Status → List ℕ → Type 0
-IsEndLine ends.Done status line = ⊥
-IsEndLine ends.Usage status line = IsJust Usage usage_line status line
-IsEndLine ends.ReadFault status line = IsJust ReadFault read_fault_line status line
-IsEndLine ends.WriteFault status line = IsJust WriteFault write_fault_line status line
-IsEndLine ends.OutOfMemory status line = IsJust OutOfMemory out_of_memory_line status line
-IsEndLine (ends.Refused text) status line = IsLineOr Refused (refused_line (escaped text)) status line
-IsEndLine (ends.BadAnswer offset) status line = IsLineOr BadAnswer (bad_answer_line offset) status line
-IsEndLine ends.PortFault status line = IsJust PortFault port_fault_line status line
-IsEndLine ends.TooLarge status line = IsJust TooLarge too_large_line status line
+IsEndLine ends.Done = λ status line. ⊥
+IsEndLine ends.Usage = IsJust Usage usage_line
+IsEndLine ends.ReadFault = IsJust ReadFault read_fault_line
+IsEndLine ends.WriteFault = IsJust WriteFault write_fault_line
+IsEndLine ends.OutOfMemory = IsJust OutOfMemory out_of_memory_line
+IsEndLine (ends.Refused text) = IsLineOr Refused (refused_line (escaped text))
+IsEndLine (ends.BadAnswer offset) = IsLineOr BadAnswer (bad_answer_line offset)
+IsEndLine ends.PortFault = IsJust PortFault port_fault_line
+IsEndLine ends.TooLarge = IsJust TooLarge too_large_line
 
 -- What the line of a refusal shows, and the byte that the line of a bad answer names.
 abbrev pub ShowsEnd : ToolEnd → Status → Option (List ℕ) → Option (List ℕ) → Type 0
