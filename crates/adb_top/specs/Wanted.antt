@@ -1,5 +1,5 @@
 -- Which devices words ask for.
-use Rattle.std.specs.Prelude.{ℕ, ◌≡◌, ◌≢◌, true, false, List, [], Option, Some, None, Result, Ok, Err, String}
+use Rattle.std.specs.Prelude.{◌≡◌, true, false, List, [], Some, None, Result, Ok, Err, String}
 use Rattle.adb_words.specs.Serve.{Serving, is_serve, serve_of}
 use Rattle.adb_words.specs.Words.{texts}
 use Rattle.adb_words.specs.declared.command.WordsError.{WordsError}

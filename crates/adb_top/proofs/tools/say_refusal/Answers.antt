@@ -3,7 +3,7 @@ use Rattle.adb_top.proofs.tools.say_refusal.Goals as goal
 pub returns-in-Ok : goal.returns-in-Ok
 returns-in-Ok g c = record {
   own = c.say_refused.ensures.status;
-  notes = rw (c.in-Ok.ensures, c.as_slice.ensures) at c.say_refused.ensures.told;
-  shows = rw (c.in-Ok.ensures, c.as_slice.ensures) at c.say_refused.ensures.shows;
+  notes = rw (c.as_slice.ensures, c.in-Ok.ensures) at c.say_refused.ensures.told;
+  shows = rw (c.as_slice.ensures, c.in-Ok.ensures) at c.say_refused.ensures.shows;
   counts = c.say_refused.ensures.counts;
 }
