@@ -11,7 +11,7 @@ pub enum EitherIn<A: DeviceIn, B: DeviceIn> {
 }
 
 impl<A: DeviceIn, B: DeviceIn> DeviceIn for EitherIn<A, B> {
-    ghost use Rattle.adb_serving.specs.Either.{of_in};
+    ghost use Rattle.adb_serving.specs.Either.{holds_in, of_in};
 
     ghost faults = { λ device. of_in A.faults B.faults device };
 
@@ -19,7 +19,7 @@ impl<A: DeviceIn, B: DeviceIn> DeviceIn for EitherIn<A, B> {
 
     ghost plugs = { λ device. of_in A.plugs B.plugs device };
 
-    ghost steady = { λ device. of_in A.steady B.steady device };
+    ghost steady = { λ device. holds_in A.steady B.steady device };
 
     fn plug(&mut self) -> Plug {
         match self {
@@ -44,7 +44,7 @@ pub enum EitherOut<A: DeviceOut, B: DeviceOut> {
 }
 
 impl<A: DeviceOut, B: DeviceOut> DeviceOut for EitherOut<A, B> {
-    ghost use Rattle.adb_serving.specs.Either.{of_out};
+    ghost use Rattle.adb_serving.specs.Either.{holds_out, of_out};
 
     ghost faults = { λ device. of_out A.faults B.faults device };
 
@@ -52,7 +52,7 @@ impl<A: DeviceOut, B: DeviceOut> DeviceOut for EitherOut<A, B> {
 
     ghost closed = { λ device. of_out A.closed B.closed device };
 
-    ghost steady = { λ device. of_out A.steady B.steady device };
+    ghost steady = { λ device. holds_out A.steady B.steady device };
 
     fn write(&mut self, piece: &[u8]) -> Wrote {
         match self {
