@@ -61,10 +61,19 @@ pub fn serve_live<
         return say_out_of_memory(note);
     };
     let status = run(rt, alloc, words, source, sink, note, yard, devices);
-    if helpers.finish() || status != Status::Done {
-        status
-    } else {
-        say_record_fault(note)
+    let kept = helpers.finish();
+    ended(note, status, kept)
+}
+
+/// How a server ended, by whether its record was written out.
+fn ended<N: Sink>(note: &mut N, status: Status, kept: bool) -> Status
+    ensures unheard { IsUnheard status → IsUnheard result }
+    ensures command { result ≡ Status.Usage → status ≡ Status.Usage }
+    ensures ends { IsServerEnd status → IsServerEnd result }
+{
+    match status {
+        Status::Done if !kept => say_record_fault(note),
+        _ => status,
     }
 }
 
