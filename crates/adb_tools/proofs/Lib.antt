@@ -1,1 +1,1 @@
-pub mod Given
+mod Given
