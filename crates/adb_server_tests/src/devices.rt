@@ -10,6 +10,8 @@ use adb_one_desk::OneDesk;
 use adb_outside::{Kind, Text};
 use adb_wire::Slicer;
 use adb_writers::write_device;
+use log::sink::Writer;
+use log::{Level, Log, Logged};
 use std::alloc::{AllocError, Global};
 use std::sync::Wait;
 use std::sync::ledger::Ledger;
@@ -78,6 +80,7 @@ impl Row {
     /// Whether what is told of the device is so, and it is unplugged where it was written to.
     pub(crate) fn stands<
         W: Wait + Copy + Send + Sync + Drop + 'static,
+        L: Log,
         E: Ledger,
         M: Ledger,
         K: Marks,
@@ -85,6 +88,7 @@ impl Row {
         &self,
         rt: W,
         alloc: Global,
+        log: &L,
         hall: &mut OneDesk<MemoryRecorder, E, M, K>,
     ) -> Result<bool, AllocError> {
         let sent = Sent::new(rt, alloc)?;
@@ -93,7 +97,7 @@ impl Row {
         bytes.push_slice(self.more)?;
         let device = device(alloc, Plug::Here, b"emu1", bytes, output)?;
         let works = works(rt, alloc, hall, device, self.reads)?;
-        Ok(works && sent.is_closed() != self.reads && is_told(alloc, hall, self.told)?)
+        Ok(works && sent.is_closed() != self.reads && is_told(alloc, log, hall, self.told)?)
     }
 }
 
@@ -121,10 +125,16 @@ fn works<W: Wait + Copy + Send + Sync + Drop + 'static, E: Ledger, M: Ledger, K:
     }
 }
 
+/// A row that fails shows what was told.
 #[test]
 fn devices_are_read_and_written_to(rt: HostRuntime) -> Result<(), Fail> {
     for &row in ROWS {
-        assert!(rt; stands(rt, rt.alloc(), &Case::Device(row))?, "{}", row.name);
+        let trace = Writer::new(Vec::new(rt.alloc()));
+        let log = Logged::new(rt, Level::Debug, &trace);
+        let holds = stands(rt, rt.alloc(), &log, &Case::Device(row))?;
+        let told = trace.into_inner();
+        let told = str::from_utf8(told.as_slice()).unwrap_or("");
+        assert!(rt; holds, "{}: {told}", row.name);
     }
     Ok(())
 }

@@ -11,6 +11,8 @@ use adb_hall::Hall;
 use adb_hub::Handed;
 use adb_one_desk::OneDesk;
 use adb_outside::{Kind, Text};
+use log::Log;
+use log::sink::Discard;
 use std::alloc::{AllocError, Global};
 use std::sync::Wait;
 use std::sync::ledger::Ledger;
@@ -49,10 +51,11 @@ const FORWARDS: &[Forward] = &[
 
 impl Forward {
     /// Whether the client is answered so, and this is told.
-    pub(crate) fn stands<W: Wait + Copy + Drop, E: Ledger, M: Ledger, K: Marks>(
+    pub(crate) fn stands<W: Wait + Copy + Drop, L: Log, E: Ledger, M: Ledger, K: Marks>(
         &self,
         rt: W,
         alloc: Global,
+        log: &L,
         hall: &mut OneDesk<MemoryRecorder, E, M, K>,
     ) -> Result<bool, AllocError> {
         if !connects(hall) {
@@ -64,7 +67,7 @@ impl Forward {
         let mut writing = writing;
         self.ask(rt, alloc, hall, reading)?;
         let answers = hands_out(&hall.put(&mut writing, 100), self.answer);
-        Ok(answers && is_told(alloc, hall, self.told)?)
+        Ok(answers && is_told(alloc, log, hall, self.told)?)
     }
 
     /// The client is read until its reader hands its pass back.
@@ -102,7 +105,7 @@ fn hands_out(answer: &Result<Handed, DeskError>, bytes: &[u8]) -> bool {
 #[test]
 fn forwards_are_bound(rt: HostRuntime) -> Result<(), Fail> {
     for &forward in FORWARDS {
-        assert!(rt; stands(rt, rt.alloc(), &Case::Forward(forward))?);
+        assert!(rt; stands(rt, rt.alloc(), &Discard, &Case::Forward(forward))?);
     }
     Ok(())
 }

@@ -9,6 +9,7 @@ use adb_capture::MemoryRecorder;
 use adb_desk_log::{ALL_PARTS, Marks};
 use adb_fakes::lines_of;
 use adb_one_desk::OneDesk;
+use log::{Log, debug};
 use std::alloc::{AllocError, Global};
 use std::marker::Brand;
 use std::sync::Wait;
@@ -21,15 +22,17 @@ pub(crate) enum Case {
     Forward(Forward),
 }
 
-/// Whether a case comes out as it says.
-pub(crate) fn stands<W: Wait + Copy + Send + Sync + Drop + 'static>(
+/// Whether a case comes out as it says. What was told is logged.
+pub(crate) fn stands<W: Wait + Copy + Send + Sync + Drop + 'static, L: Log>(
     rt: W,
     alloc: Global,
+    log: &L,
     case: &Case,
 ) -> Result<bool, AllocError> {
-    tried::<W, Brand, Brand, Brand>(
+    tried::<W, L, Brand, Brand, Brand>(
         rt,
         alloc,
+        log,
         case,
         Blank::new(ALL_PARTS),
         Blank::new(ALL_PARTS),
@@ -37,9 +40,10 @@ pub(crate) fn stands<W: Wait + Copy + Send + Sync + Drop + 'static>(
     )
 }
 
-fn tried<W: Wait + Copy + Send + Sync + Drop + 'static, E: Ledger, M: Ledger, K: Marks>(
+fn tried<W: Wait + Copy + Send + Sync + Drop + 'static, L: Log, E: Ledger, M: Ledger, K: Marks>(
     rt: W,
     alloc: Global,
+    log: &L,
     case: &Case,
     entries: Blank,
     moved: Blank,
@@ -56,17 +60,19 @@ fn tried<W: Wait + Copy + Send + Sync + Drop + 'static, E: Ledger, M: Ledger, K:
     let recorder = MemoryRecorder::new(alloc, Vec::new(alloc));
     let mut hall = OneDesk::<MemoryRecorder, E, M, K>::new(alloc, recorder, entries, moved, marks);
     match case {
-        Case::Device(row) => row.stands(rt, alloc, &mut hall),
-        Case::Forward(forward) => forward.stands(rt, alloc, &mut hall),
+        Case::Device(row) => row.stands(rt, alloc, log, &mut hall),
+        Case::Forward(forward) => forward.stands(rt, alloc, log, &mut hall),
     }
 }
 
-/// Whether these lines were told.
-pub(crate) fn is_told<E: Ledger, M: Ledger, K: Marks>(
+/// Whether these lines were told. Those that were are logged.
+pub(crate) fn is_told<L: Log, E: Ledger, M: Ledger, K: Marks>(
     alloc: Global,
+    log: &L,
     hall: &OneDesk<MemoryRecorder, E, M, K>,
     told: &[u8],
 ) -> Result<bool, AllocError> {
     let lines = lines_of(alloc, hall.recorder().entries())?;
+    debug!(log; "told {}", str::from_utf8(lines.as_slice()).unwrap_or(""));
     Ok(lines.as_slice() == told)
 }
