@@ -41,7 +41,7 @@ pub(crate) fn run_live<
     source: &mut S,
     sink: &mut K,
     note: &mut N,
-    record: R,
+    history: R,
 ) -> Status
     ensures alone { is_serve (texts words.now) ≡ false → names_tool (texts words.now) ≡ false
         → RunsAlone words.now result
@@ -60,7 +60,7 @@ pub(crate) fn run_live<
         → serve_of (texts words.now) ≡ None }
 {
     if is_serve(words) {
-        return serve_live(rt, alloc, words, source, sink, note, record);
+        return serve_live(rt, alloc, words, source, sink, note, history);
     }
     if names_tool(words) {
         return call_live(rt, alloc, words, source, sink, note);

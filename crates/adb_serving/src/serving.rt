@@ -42,7 +42,7 @@ pub fn serve_live<
     source: &mut S,
     sink: &mut K,
     note: &mut N,
-    record: R,
+    history: R,
 ) -> Status
     requires serve { is_serve (texts words.now) ≡ true }
     ensures untouched { (source.new ≡ source.old) × (sink.new ≡ sink.old) }
@@ -57,7 +57,7 @@ pub fn serve_live<
     let Ok(devices) = devices_for(rt, alloc, words, &ending) else {
         return say_out_of_memory(note);
     };
-    let Ok((yard, helpers)) = open_yard(rt, alloc, ending, record) else {
+    let Ok((yard, helpers)) = open_yard(rt, alloc, ending, history) else {
         return say_out_of_memory(note);
     };
     let status = run(rt, alloc, words, source, sink, note, yard, devices);

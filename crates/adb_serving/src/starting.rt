@@ -19,10 +19,10 @@ use std::net::{Net, TcpListener, TcpStream};
 use std::sync::Wait;
 use std::thread::Threads;
 
-/// Runs the words of the command line: a server over this machine, whose record goes to a sink of its
-/// own, a client tool, or a command that neither serves nor dials. Where memory was wanting for the words nothing is read,
-/// nothing goes out, and the note has the line of that. Where one of them is no text they are no
-/// command.
+/// Runs the words of the command line: a server over this machine, whose history goes to a sink of
+/// its own, a client tool, or a command that neither serves nor dials. Where memory was wanting for
+/// the words nothing is read, nothing goes out, and the note has the line of that. Where one of them
+/// is no text they are no command.
 pub fn start<
     W: Net<Listener = TcpListener, Stream = TcpStream>
         + Threads
@@ -43,7 +43,7 @@ pub fn start<
     source: &mut S,
     sink: &mut K,
     note: &mut N,
-    record: R,
+    history: R,
 ) -> Status
     // Words that are there are run: a command that neither serves nor dials,
     ensures alone { IfOk words (λ list. is_serve (texts list.items) ≡ false
@@ -58,7 +58,7 @@ pub fn start<
         → names_tool (texts list.items) ≡ true → tool_of (texts list.items) ≡ None
         → IsUnheard result × (source.new ≡ source.old) × (sink.new ≡ sink.old)) }
 
-    // or a server, which reads nothing and writes to the note and to its record alone.
+    // or a server, which reads nothing and writes to the note and to its history alone.
     ensures serves { IfOk words (λ list. is_serve (texts list.items) ≡ true
         → (source.new ≡ source.old) × (sink.new ≡ sink.old)) }
     ensures usage { IfOk words (λ list. is_serve (texts list.items) ≡ true
@@ -81,7 +81,7 @@ pub fn start<
         N.faults N.written note.old note.new) }
 {
     match words {
-        Ok(words) => run_live(rt, alloc, words.as_slice(), source, sink, note, record),
+        Ok(words) => run_live(rt, alloc, words.as_slice(), source, sink, note, history),
         Err(error) if error.kind() == ErrorKind::OutOfMemory => say_out_of_memory(note),
         Err(_) => say_usage(note),
     }

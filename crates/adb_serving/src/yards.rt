@@ -22,9 +22,9 @@ pub(crate) fn open_yard<
     rt: W,
     alloc: Global,
     ending: Ending,
-    record: R,
+    history: R,
 ) -> Result<(RealYard<W, R>, Helpers<W, R>), AllocError> {
-    let yard = RealYard::new(rt, alloc, ending, record)?;
+    let yard = RealYard::new(rt, alloc, ending, history)?;
     let helpers = yard.helpers()?;
     Ok((yard, helpers))
 }

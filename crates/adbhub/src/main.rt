@@ -10,10 +10,10 @@ fn main(rt: HostRuntime) -> ExitCode {
     let mut source = Stream::new(rt.stdin());
     let mut sink = Stream::new(rt.stdout());
     let mut note = Stream::new(rt.stderr());
-    let record = Stream::new(rt.stdout());
+    let history = Stream::new(rt.stdout());
     let words = words(&rt);
     let alloc = rt.alloc();
-    let status = start(rt, alloc, words, &mut source, &mut sink, &mut note, record);
+    let status = start(rt, alloc, words, &mut source, &mut sink, &mut note, history);
     ExitCode::from(status.code())
 }
 
