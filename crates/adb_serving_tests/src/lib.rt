@@ -12,4 +12,6 @@ mod replaying;
 #[cfg(test)]
 mod starting;
 #[cfg(test)]
+mod tools;
+#[cfg(test)]
 mod yard;

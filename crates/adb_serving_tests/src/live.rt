@@ -3,6 +3,7 @@
 use crate::asking::{Conversation, Step, converses, is_answered};
 use crate::heard::Heard;
 use crate::replaying::replays;
+use crate::tools::copies;
 use adb_outside::{MemorySink, MemorySource, Text, read_number};
 use adb_serving::serve_live;
 use adb_top::Status;
@@ -161,19 +162,27 @@ fn answers<W: Net<Listener = TcpListener, Stream = TcpStream>>(
 }
 
 /// Whether clients are answered at the port that a note names; the last asks for the end.
-fn asks<W: Net<Listener = TcpListener, Stream = TcpStream> + Wait + Copy + Drop>(
-    rt: &W,
-    note: &Heard<W>,
-) -> io::Result<bool> {
+fn asks<
+    W: Net<Listener = TcpListener, Stream = TcpStream>
+        + Threads
+        + Wait
+        + Copy
+        + Send
+        + Sync
+        + Drop
+        + 'static,
+>(rt: &W, alloc: Global, note: &Heard<W>) -> io::Result<bool> {
     let line = note.line()?;
     let Some(port) = port_in(line.as_slice()) else {
         return Ok(false);
     };
     let answered = answers(rt, port).unwrap_or(false);
-    Ok(converses(rt, port, &KILL)? && answered)
+    let copied = copies(*rt, alloc, port).unwrap_or(false);
+    Ok(converses(rt, port, &KILL)? && answered && copied)
 }
 
-fn words_of(alloc: Global, words: &[&str]) -> Result<Vec<String>, AllocError> {
+/// Words in memory of their own.
+pub(crate) fn words_of(alloc: Global, words: &[&str]) -> Result<Vec<String>, AllocError> {
     let mut owned = Vec::new(alloc);
     for word in words {
         owned.push(String::from_str(alloc, word)?)?;
@@ -220,7 +229,7 @@ fn lives<
     let (status, answered) = thread::join(
         &rt,
         || served(rt, alloc, telling, keeping),
-        || asks(&rt, &note),
+        || asks(&rt, alloc, &note),
     );
     let kept = record.bytes()?;
     Ok(status? == Status::Done && answered? && replays(alloc, kept.as_slice())?)
