@@ -1,4 +1,3 @@
-use Rattle.std.specs.Prelude.{Some}
 use Rattle.std.proofs.Common.{refl}
 use Rattle.adb_laws_sessions.specs.Sessions.{AsksForServices}
 use Rattle.adb_world.proofs.Ended.{kept_session, ends_gone, idle_state, ended_by}
