@@ -52,9 +52,8 @@ class Running:
         self.process.wait()
 
     def processor_seconds(self):
-        with open(f"/proc/{self.process.pid}/stat", encoding="ascii") as rows:
-            fields = rows.read().rsplit(")", 1)[1].split()
-        return (int(fields[11]) + int(fields[12])) / os.sysconf("SC_CLK_TCK")
+        """The sum over its threads, of those that ended too, by the process's own clock: /proc tells it in ticks of 10 ms."""
+        return time.clock_gettime(~self.process.pid << 3 | 2)
 
 
 class ModelDevice(Running):
