@@ -174,20 +174,23 @@ def work(begin, words, seconds, start, results):
         results.put(repr(why))
 
 
-def run(begin, connections, port, serial, seconds):
-    """What a load did a second, what it did in all, and how long its calls took, in rising order."""
-    start, results = FORK.Barrier(connections), FORK.Queue()
+def run(begin, connections, port, serial, seconds, clock):
+    """What a load did a second and in all, how long its calls took, in rising order, and what a clock tells of it."""
+    start, results = FORK.Barrier(connections + 1), FORK.Queue()
     of = lambda number: (begin, (port, serial, number), seconds, start, results)
     workers = [FORK.Process(target=work, args=of(number), daemon=True) for number in range(connections)]
     for worker in workers:
         worker.start()
+    start.wait(20)
+    before = clock()
     told = [results.get(timeout=60) for _ in workers]
+    taken = clock() - before
     for worker in workers:
         worker.join()
     faults = [one for one in told if isinstance(one, str)]
     if faults:
         raise RuntimeError(f"a load failed: {faults[0]}")
-    return sum(one[0] for one in told), sum(one[1] for one in told), sorted(sum((one[2] for one in told), []))
+    return sum(one[0] for one in told), sum(one[1] for one in told), sorted(sum((one[2] for one in told), [])), taken
 
 
 class Idle:

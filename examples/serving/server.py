@@ -52,7 +52,7 @@ class Running:
         self.process.wait()
 
     def processor_seconds(self):
-        """The sum over its threads, of those that ended too, by the process's own clock: /proc tells it in ticks of 10 ms."""
+        """By the process's own clock, since /proc tells them in ticks of 10 ms."""
         return time.clock_gettime(~self.process.pid << 3 | 2)
 
 
