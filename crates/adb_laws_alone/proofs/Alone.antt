@@ -271,7 +271,8 @@ module _ (setting : Setting) (l : ℕ) where
         ran : AllRanAlone l files_then (fold (step setting) (fold (step setting) device_then s.front) (s.asking ∷ s.rest)).serving
         ran = record { rows = λ own row is host. (last.live own row is host).1; ended = last.over }
           where
-            none_there : HasNone (alone l ((fold (step setting) device_then s.front).serving.drawn + 1) files_then) (fold (step setting) device_then s.front).serving
+            none_there : HasNone (alone l ((fold (step setting) device_then s.front).serving.drawn + 1) files_then)
+                (fold (step setting) device_then s.front).serving
             none_there = record { live = λ own row is host. (k.live own row is host).1; over = λ own e is host. k.over own e is host }
 
             begins : KeptIn (alone l ((fold (step setting) device_then s.front).serving.drawn + 1) files_then) (fold (step setting) device_then s.front).serving
@@ -299,7 +300,8 @@ module _ (setting : Setting) (l : ℕ) where
                 all_kept (alone l ((fold (step setting) device_then s.front).serving.drawn + 1) files_then) setting s.rest
                 (step setting (fold (step setting) device_then s.front) s.asking)
                 (allow_alone ((fold (step setting) device_then s.front).serving.drawn + 1) files_then s.rest s.behind)
-                (step_keeps (alone l ((fold (step setting) device_then s.front).serving.drawn + 1) files_then) setting (fold (step setting) device_then s.front) s.asking
+                (step_keeps (alone l ((fold (step setting) device_then s.front).serving.drawn + 1) files_then) setting
+                (fold (step setting) device_then s.front) s.asking
                 (subst (λ (c : Command). Allows (alone l ((fold (step setting) device_then s.front).serving.drawn + 1) files_then) c s.asking
                 (fold (step setting) device_then s.front).serving) (sym s.asks) opens) begins)
 

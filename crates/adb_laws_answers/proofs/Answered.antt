@@ -246,7 +246,10 @@ all_answered laws setting short some plain h legal tied one rest here killed ids
     let open_yet : has_ended b.birth.client h ≡ false = ap (λ (n : ℕ). has_ended n h) b.client ∙ asks.here in
     let done = stream_answered laws setting short some plain h legal tied one rest here killed (suc b.place) b.birth (born_as h b.place b.birth b.is ids)
     b.link b.alone known open_yet in
-    subst (λ (x : List ℕ). IsAnswered (serving_of setting h) h c x (drop (asked c h).used (bytes_read c h)) ((asked c h).replies ++ codes "OKAY") (bytes_put c h)) b.service_is
-    (subst (λ (n : ℕ). IsAnswered (serving_of setting h) h c b.birth.service (drop n (bytes_read c h)) ((asked c h).replies ++ codes "OKAY") (bytes_put c h)) b.head
+    subst (λ (x : List ℕ).
+    IsAnswered (serving_of setting h) h c x (drop (asked c h).used (bytes_read c h)) ((asked c h).replies ++ codes "OKAY") (bytes_put c h)) b.service_is
+    (subst (λ (n : ℕ).
+    IsAnswered (serving_of setting h) h c b.birth.service (drop n (bytes_read c h)) ((asked c h).replies ++ codes "OKAY") (bytes_put c h)) b.head
     (subst (λ (k : ℕ).
-    IsAnswered (serving_of setting h) h k b.birth.service (drop b.birth.head (bytes_read k h)) ((asked k h).replies ++ codes "OKAY") (bytes_put k h)) b.client done))
+    IsAnswered (serving_of setting h) h k b.birth.service (drop b.birth.head (bytes_read k h)) ((asked k h).replies ++ codes "OKAY")
+    (bytes_put k h)) b.client done))

@@ -21,6 +21,7 @@ pub mod Since
 pub mod SentAll
 pub mod Greeting
 pub mod Answered
+pub mod OneStream
 pub mod Alone
 pub mod Finishing
 pub mod Synced

@@ -122,8 +122,10 @@ module _ (l : ℕ) (some : 0 < l) where
 
   begins : (e : Entry) (s : State) (w : List Event) → IsUnsent l s w → Begins (plain_moves unsent_plain) e s w
   begins (Join c) s w h = record { gone = h.gone; drawn = h.drawn; none = h.none; unasked = h.unasked }
-  begins (Enter c port) s w h =
-      (record { gone = h.gone; drawn = h.drawn; none = h.none; unasked = h.unasked }, record { gone = h.gone; drawn = h.drawn; none = h.none; unasked = h.unasked })
+  begins (Enter c port) s w h = (
+    record { gone = h.gone; drawn = h.drawn; none = h.none; unasked = h.unasked },
+    record { gone = h.gone; drawn = h.drawn; none = h.none; unasked = h.unasked },
+  )
   begins (Attach t kind serial) s w h = record { gone = h.gone; drawn = h.drawn; none = h.none; unasked = h.unasked }
   begins (Read c bytes) s w h = (h, λ client is asking. record { gone = h.gone; drawn = h.drawn; none = h.none; unasked = h.unasked })
   begins (End c cause) s w h = h
