@@ -58,7 +58,8 @@ use Rattle.adb_world.proofs.Rest.{Laws}
 use Rattle.adb_world.proofs.SentAll.{all_sent}
 use Rattle.adb_world.proofs.Since.{ReadNoMore, since, quiet_since, own_since}
 use Rattle.adb_world.proofs.Unread.{lived_read}
-use Rattle.adb_world.proofs.OneStream.{PayloadLaws, HasAskedForIt, IsPast, IsWhole, all_past, asked_born, asked_of_birth, asks_none, born_behind, every_past, is_whole}
+use Rattle.adb_world.proofs.OneStream.{PayloadLaws, HasAskedForIt, IsPast, IsWhole, all_past}
+use Rattle.adb_world.proofs.OneStream.{asked_born, asked_of_birth, asks_none, born_behind, every_past, is_whole}
 
 -- ---- a world that settles
 pub record AloneLaws : Type 0 where
