@@ -11,6 +11,5 @@ mod starting;
 mod streams;
 mod yards;
 
-pub use serving::serve_live;
 pub use starting::{start, words_of};
 pub use streams::Stream;

@@ -22,7 +22,7 @@ use std::thread::Threads;
 ///
 /// Words that are no command serve nobody. Where memory runs out over the devices or the yard, no
 /// port is listened on.
-pub fn serve_live<
+pub(crate) fn serve_live<
     W: Net<Listener = TcpListener, Stream = TcpStream>
         + Threads
         + Wait

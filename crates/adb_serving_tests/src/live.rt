@@ -5,7 +5,7 @@ use crate::heard::Heard;
 use crate::replaying::replays;
 use crate::tools::copies;
 use adb_outside::{MemorySink, MemorySource, Text, read_number};
-use adb_serving::serve_live;
+use adb_serving::start;
 use adb_top::Status;
 use std::alloc::{AllocError, Global};
 use std::io::Read;
@@ -208,8 +208,15 @@ fn served<
     let mut note = note;
     let mut source = MemorySource::new(Text::new(alloc), 1, Vec::new(alloc));
     let mut sink = MemorySink::new(alloc, Vec::new(alloc));
-    let words = words.as_slice();
-    Ok(serve_live(rt, alloc, words, &mut source, &mut sink, &mut note, record))
+    Ok(start(
+        rt,
+        alloc,
+        Ok(words),
+        &mut source,
+        &mut sink,
+        &mut note,
+        record,
+    ))
 }
 
 /// Whether a server serves its clients and ends as it should, and its record is of that.
