@@ -3,7 +3,6 @@ use Rattle.std.specs.Prelude.{ℕ, ◌+◌, ◌≡◌, ◌⊎◌, ◌≤◌, ◌
 use Rattle.std.proofs.Common.{refl, sym, ◌∙◌, ap, subst, arith, inl, inr}
 use Rattle.std.specs.List.Sorted.{IsStrictlySortedBy}
 use Rattle.std.proofs.lemmas.Bool.{eq-eqb}
-use Rattle.adb_outside.specs.Tables.{at}
 use Rattle.adb_wire.specs.declared.command.Command.{Command}
 use Rattle.adb_wire.specs.declared.command.Command.TheVariants as commands
 use Rattle.adb_wire.specs.declared.packets.Packet.{Packet}
@@ -13,8 +12,7 @@ use Rattle.adb_device_streams.specs.Asked.{Kind, Echoes}
 use Rattle.adb_device_streams.specs.Service.{came_over, files_fed, files_opened}
 use Rattle.adb_device_streams.specs.Stream.{Row, row_took}
 use Rattle.adb_daemon.specs.Device.{Device, Setting, device_behind, first_device, step}
-use Rattle.adb_daemon.specs.Serving.{Ended, Serving}
-use Rattle.adb_daemon.specs.Streams.{over_at}
+use Rattle.adb_daemon.specs.Serving.{Serving}
 use Rattle.adb_daemon.proofs.Machines.{step_more}
 use Rattle.adb_laws_alone.specs.Alone.{Every, AsksNone, IsOfOne, IsOfEchoes, RanAs, RanAlone, AllRanAlone, OneRunsAlone, EchoesLeaveFiles}
 use Rattle.adb_laws_alone.proofs.Quiet.{fed_none}

@@ -13,12 +13,12 @@ use Rattle.adb_wire.specs.declared.packets.Packet.{Packet}
 use Rattle.adb_files.specs.Entries.{Entry}
 use Rattle.adb_device_streams.specs.Asked.{Kind, service_of, name_of}
 use Rattle.adb_device_streams.specs.Link.{credit_word_in, link_of}
-use Rattle.adb_device_streams.specs.Service.{Came, came_over, files_fed, files_opened}
+use Rattle.adb_device_streams.specs.Service.{came_over, files_fed, files_opened}
 use Rattle.adb_device_streams.specs.Stream.{Row, is_done, okay, opened, opening_word, row_acked, row_past, row_past_all, row_took, row_written, writes}
 use Rattle.adb_device_streams.specs.declared.link.Link.{Link}
 use Rattle.adb_daemon.specs.Device.{Device, Setting, linked_to, served_on, step, treated}
-use Rattle.adb_daemon.specs.Serving.{Ended, Serving, acked_to, closable, closed_to, credit_of, ended_at, gone, granted, is_taken, kept, kind_for, named}
-use Rattle.adb_daemon.specs.Serving.{on_close, on_okay, on_open, on_write, open_as, owing, sent_ack, sent_close, sent_writes, served, settled, settled_as}
+use Rattle.adb_daemon.specs.Serving.{Ended, Serving, acked_to, closable, closed_to, credit_of, ended_at, granted, is_taken, kind_for, named}
+use Rattle.adb_daemon.specs.Serving.{on_close, on_okay, on_open, on_write, open_as, owing, sent_ack, sent_writes, served, settled, settled_as}
 use Rattle.adb_daemon.specs.Serving.{with_sum, written_to}
 use Rattle.adb_daemon.specs.Streams.{over_at}
 use Rattle.adb_daemon.proofs.Rules.{named_is, closable_is, or_over, all_over}

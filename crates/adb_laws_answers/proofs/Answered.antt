@@ -1,12 +1,12 @@
 -- What the client of a stream at rest was put: the replies to its requests, an `OKAY`, and the answer of its service.
-use Rattle.std.proofs.Common.{◌≡◌, ◌≢◌, ◌≤◌, ◌<◌, ◌+◌, ℕ, zero, suc, Bool, true, false, cond, List, [], ◌∷◌, ◌++◌, length, drop, Option, Some, None, is_some}
-use Rattle.std.proofs.Common.{refl, sym, ap, subst, ◌∙◌, arith, append_assoc, ◌⊎◌, inl, inr}
-use Rattle.std.specs.Prelude.{◌^◌, codes, min, nat_lt, option_map, slice_get}
+use Rattle.std.proofs.Common.{◌≡◌, ◌≤◌, ◌<◌, ℕ, zero, suc, Bool, true, false, cond, List, [], ◌++◌, drop, Option, Some, None, is_some}
+use Rattle.std.proofs.Common.{refl, sym, ap, subst, ◌∙◌, arith, append_assoc, inl, inr}
+use Rattle.std.specs.Prelude.{◌^◌, codes, nat_lt, slice_get}
 use Rattle.std.proofs.lemmas.Bool.{ltb-true}
 use Rattle.std.proofs.lemmas.List.{append-nil}
 use Rattle.adb_outside.specs.Bytes.{IsPrefixOf}
 use Rattle.adb_stream.specs.declared.row.Stream.{Stream}
-use Rattle.adb_history.specs.Births.{Birth, Opening, born, births, since, opening_of, opening_in, remote_of, told_in, told_before, told_before_close, before_close, joined}
+use Rattle.adb_history.specs.Births.{Birth, Opening, born, births, since, opening_of, remote_of, told_in, told_before, before_close, joined}
 use Rattle.adb_history.specs.Book.{asked, is_killed}
 use Rattle.adb_history.specs.Bytes.{bytes_put, bytes_read, has_ended, is_lost, sent}
 use Rattle.adb_history.specs.Events.{Ending, peer_closed, out_of_turn, lost, broken, client_closed, client_failed, stopped}
@@ -19,7 +19,7 @@ use Rattle.adb_laws_births.proofs.Born.{all_births}
 use Rattle.adb_laws_births.proofs.Endings.{all_endings}
 use Rattle.adb_laws_fifo_down.specs.Follows.{Follows, is_shut, replies_of}
 use Rattle.adb_laws_fifo_down.specs.Followed.{LifeOf}
-use Rattle.adb_laws_fifo_down.specs.Life.{LivesAs, LivesIn, WasOpen, IsClosedAt, lead, okay_after}
+use Rattle.adb_laws_fifo_down.specs.Life.{LivesAs, LivesIn, WasOpen, lead, okay_after}
 use Rattle.adb_laws_fifo_down.specs.Life.{heard as heard_of}
 use Rattle.adb_laws_fifo_down.specs.Line.{SeenStream, View}
 use Rattle.adb_laws_fifo_down.proofs.Handed.{has_lives}
@@ -30,14 +30,14 @@ use Rattle.adb_daemon.specs.Serving.{Serving}
 use Rattle.adb_laws_model_device.specs.Joined.{IsJoined}
 use Rattle.adb_laws_worlds.specs.Credit.{HasOneDevice}
 use Rattle.adb_laws_worlds.specs.Ended.{HasEndedWhole, ClosedGaveAll}
-use Rattle.adb_laws_worlds.specs.Held.{HasSettled, AllHaveSettled}
+use Rattle.adb_laws_worlds.specs.Held.{AllHaveSettled}
 use Rattle.adb_laws_worlds.specs.InTurn.{AllInTurn}
 use Rattle.adb_laws_worlds.specs.Known.{KnownAreOpened}
 use Rattle.adb_laws_worlds.specs.Settled.{IsAtRest}
 use Rattle.adb_laws_worlds.specs.Unbroken.{AllOutliveLink}
 use Rattle.adb_laws_gone.specs.Gone.{PutsAllOfClosed}
-use Rattle.adb_laws_answers.specs.Answers.{CameOf, IsAnswered, AsksFor, ClientsAreAnswered}
-use Rattle.adb_laws_answers.proofs.Asked.{IsBornFor, born_for, born_as, slice_below}
+use Rattle.adb_laws_answers.specs.Answers.{CameOf, IsAnswered, ClientsAreAnswered}
+use Rattle.adb_laws_answers.proofs.Asked.{born_for, born_as, slice_below}
 use Rattle.adb_laws_answers.proofs.Ends.{IsByLink, ends_by_link, unfailed, rest_front}
 
 -- what holds of a server and its model device

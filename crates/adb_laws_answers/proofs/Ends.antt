@@ -1,14 +1,13 @@
 -- A stream whose client neither ended nor stopped the server ends by its device or its link alone; and what was read of the client while it lived.
-use Rattle.std.proofs.Common.{◌≡◌, ◌≢◌, ◌≤◌, ◌<◌, ℕ, zero, suc, Bool, true, false, cond, not, ◌&&◌, ◌||◌, List, [], ◌∷◌, ◌++◌, length, drop, min}
-use Rattle.std.proofs.Common.{Option, Some, None, is_some, refl, sym, ap, subst, ◌∙◌, arith, append_assoc, ◌⊎◌, inl, inr}
+use Rattle.std.proofs.Common.{◌≡◌, ℕ, zero, suc, Bool, true, false, cond, not, ◌&&◌, ◌||◌, List, [], ◌∷◌, ◌++◌, drop}
+use Rattle.std.proofs.Common.{Some, None, is_some, refl, sym, ap, subst, ◌∙◌, arith, append_assoc, ◌⊎◌, inl, inr}
 use Rattle.std.specs.Prelude.{nat_eq}
 use Rattle.std.proofs.lemmas.Bool.{eq-eqb}
 use Rattle.std.proofs.lemmas.List.{append-nil}
 use Rattle.adb_outside.specs.Bytes.{IsPrefixOf}
-use Rattle.adb_outside.specs.declared.kinds.Cause.{Cause}
 use Rattle.adb_capture.specs.declared.entry.Entry.{Entry}
 use Rattle.adb_capture.specs.declared.entry.Entry.TheVariants.{Join, Enter, Read, End, Bound, Attach, Recv, Detach, Put, Send}
-use Rattle.adb_history.specs.Births.{Birth, born, births}
+use Rattle.adb_history.specs.Births.{Birth, born}
 use Rattle.adb_history.specs.Book.{is_killed}
 use Rattle.adb_history.specs.Bytes.{bytes_read, has_ended, has_failed, is_orderly}
 use Rattle.adb_history.specs.Causes.{has_closed_since, is_close_by}

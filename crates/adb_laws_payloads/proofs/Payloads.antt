@@ -1,9 +1,9 @@
 -- Payloads that come over the files that those before them left are one payload.
 use Rattle.std.specs.Prelude.{ℕ, ◌≡◌, cond, Bool, true, false, List, [], ◌∷◌, ◌++◌, length, drop, Option, Some, None}
-use Rattle.std.proofs.Common.{refl, sym, ap, subst, ◌∙◌, arith, append_assoc}
+use Rattle.std.proofs.Common.{refl, sym, ap, ◌∙◌, arith, append_assoc}
 use Rattle.std.proofs.lemmas.List.{append-nil}
 use Rattle.std.proofs.Math.Seq.{drop-append_seam}
-use Rattle.adb_outside.specs.Framing.{Cut, joined}
+use Rattle.adb_outside.specs.Framing.{joined}
 use Rattle.adb_outside.proofs.FramingLaws.{cut_piece, fault_stays}
 use Rattle.adb_sync.specs.Asks.{AskReading, ask_front, ask_of, past_ask, asks_start, asks_from, asks_in, ask_fault_in}
 use Rattle.adb_sync.specs.Framed.{asks_are_framed}
@@ -16,7 +16,7 @@ use Rattle.adb_files.proofs.Serving.{requests_of-append, serve_all-ended, serve_
 use Rattle.adb_shell_service.specs.Service.{Answer}
 use Rattle.adb_shell_service.proofs.Answering.{ended_stays}
 use Rattle.adb_device_streams.specs.Asked.{Kind, Echoes, Syncs, Shells}
-use Rattle.adb_device_streams.specs.Service.{Came, bytes_in, came_over, completed_by, served_by, sync_more, sync_answer, sync_files, files_fed, service_answer}
+use Rattle.adb_device_streams.specs.Service.{Came, bytes_in, came_over, completed_by, served_by, sync_answer, sync_files, service_answer}
 use Rattle.adb_laws_payloads.specs.Payloads.{files_behind, ComeInTurn, AreOne, AreEnough}
 
 -- ---- the requests of more bytes

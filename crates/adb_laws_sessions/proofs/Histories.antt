@@ -2,7 +2,7 @@
 use Rattle.std.specs.Prelude.{ℕ, ◌+◌, ◌≡◌, ◌≢◌, ◌≤◌, ◌<◌, ◌&&◌, ◌||◌, not, Bool, true, false, cond, is_some, is_none, nat_eq, List, [], ◌∷◌, ◌++◌, length, codes}
 use Rattle.std.specs.Prelude.{if◌then◌else◌, Option, Some, None}
 use Rattle.std.proofs.Common.{refl, sym, ◌∙◌, ap, subst, arith, ◌⊎◌, inl, inr, zero, suc, add-one, append_assoc}
-use Rattle.std.proofs.lemmas.Bool.{cases_lt, cases_eq, eq-eqb, ne_eqb, eqb-true}
+use Rattle.std.proofs.lemmas.Bool.{cases_lt, cases_eq, eq-eqb, ne_eqb}
 use Rattle.std.proofs.lemmas.List.{length-append, append-nil}
 use Rattle.adb_outside.specs.Bytes.{IsPrefixOf}
 use Rattle.adb_outside.specs.Tables.{put_row}
@@ -11,19 +11,18 @@ use Rattle.adb_registry.specs.Registry.{DeviceTable}
 use Rattle.adb_forward.specs.declared.row.ForwardRow.{ForwardRow}
 use Rattle.adb_reply.specs.declared.answer.Next.{Next}
 use Rattle.adb_reply.specs.declared.answer.Next.TheVariants.{Open}
-use Rattle.adb_capture.specs.declared.entry.Entry.{Entry}
 use Rattle.adb_capture.specs.declared.entry.Entry.TheVariants.{Join, Enter, Read, End, Bound, Attach, Recv, Detach, Put, Send}
 use Rattle.adb_history.specs.Asking.{Asked, nothing_asked, asks_with}
 use Rattle.adb_history.specs.Bytes.{has_joined, has_ended, bytes_read}
 use Rattle.adb_history.specs.Births.{births, births_at, birth_by}
 use Rattle.adb_history.specs.Book.{book, asked, devices, forwards, is_killed, is_asking, asked_with, newly, kills, forwards_by, led_by, devices_if}
-use Rattle.adb_history.specs.Machine.{History, state, IsLegal}
+use Rattle.adb_history.specs.Machine.{History, IsLegal}
 use Rattle.adb_history.specs.Tied.{came_count}
 use Rattle.adb_history.proofs.Numbers.{counted, next_number}
 use Rattle.adb_history.proofs.Pieces.{asks_pieces}
-use Rattle.adb_laws_sessions.specs.Words.{IsKnown, IsOfSession, requests_for, words_of}
+use Rattle.adb_laws_sessions.specs.Words.{IsOfSession, requests_for, words_of}
 use Rattle.adb_laws_sessions.specs.Model.{model_devices}
-use Rattle.adb_laws_sessions.specs.Asked.{Opens, HasOpened}
+use Rattle.adb_laws_sessions.specs.Asked.{Opens}
 use Rattle.adb_laws_sessions.specs.Sessions.{IsOfSessions, HasAsked, AsksForServices, done_among}
 use Rattle.adb_laws_sessions.proofs.Leading.{leads}
 use Rattle.adb_laws_sessions.proofs.Reading.{SpelledIsRead, opens_service}

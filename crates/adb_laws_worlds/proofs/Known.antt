@@ -3,7 +3,7 @@ use Rattle.std.specs.Prelude.{ℕ, ◌+◌, ◌-◌, ◌^◌, ◌≡◌, ◌≢�
 use Rattle.std.specs.Prelude.{List, [], ◌∷◌, ◌++◌, length, take, drop, slice_get, Option, Some, None}
 use Rattle.std.specs.Option.{option_or}
 use Rattle.std.proofs.Common.{zero, suc, refl, sym, ◌∙◌, ap, subst, arith, ◌⊎◌, inl, inr}
-use Rattle.std.proofs.lemmas.Bool.{cases_eq, cases_lt, eq-eqb, ne_eqb, eqb-true, ltb-true}
+use Rattle.std.proofs.lemmas.Bool.{cases_eq, eq-eqb, ne_eqb, eqb-true, ltb-true}
 use Rattle.std.proofs.lemmas.List.{length-append, take-append-le, take-append-drop, append-nil}
 use Rattle.std.proofs.lemmas.List.Elements.{All-nil, All-cons, All-head, All-tail}
 use Rattle.std.proofs.Math.Seq.{take-append_seam}
@@ -14,7 +14,7 @@ use Rattle.adb_wire.specs.declared.packets.Packet.{Packet}
 use Rattle.adb_stream.specs.declared.row.Stream.{Stream}
 use Rattle.adb_capture.specs.declared.entry.Entry.{Entry}
 use Rattle.adb_capture.specs.declared.entry.Entry.TheVariants.{Join, Enter, Read, End, Bound, Attach, Recv, Detach, Put, Send}
-use Rattle.adb_history.specs.Births.{Birth, Opening, born, births, births_at, since, opening_by, opening_in, is_between, count_from, is_okay, is_clse, is_open}
+use Rattle.adb_history.specs.Births.{Birth, born, births, births_at, since, opening_by, opening_in, is_between, count_from, is_okay, is_clse, is_open}
 use Rattle.adb_history.specs.Bytes.{brought, sent}
 use Rattle.adb_history.specs.Events.{Ending, ending_in}
 use Rattle.adb_history.specs.Fifo.{okays_in, IsOpenOf, IsOwn}
@@ -41,7 +41,6 @@ use Rattle.adb_laws_pairs.specs.Counts.{how_many}
 use Rattle.adb_laws_pairs.specs.Paired.{IsStill}
 use Rattle.adb_laws_pairs.proofs.Counts.{many_append}
 use Rattle.adb_laws_model_device.specs.Joined.{IsJoined}
-use Rattle.adb_laws_model_device.specs.Opened.{WasOpened}
 use Rattle.adb_laws_model_device.specs.Owed.{packets_owed}
 use Rattle.adb_laws_model_device.specs.Rows.{is_close_between, is_cnxn_packet}
 use Rattle.adb_laws_model_device.proofs.Opened.{answers_opens}

@@ -1,6 +1,6 @@
 -- The line of one session: what is printed, and the world behind it.
-use Rattle.std.specs.Prelude.{ℕ, ◌+◌, ◌≡◌, true, is_some, List, [], Option, Some, option_map}
-use Rattle.std.proofs.Common.{refl, sym, ◌∙◌, ap, subst, arith}
+use Rattle.std.specs.Prelude.{ℕ, ◌+◌, ◌≡◌, true, is_some, List, [], Some, option_map}
+use Rattle.std.proofs.Common.{refl, ◌∙◌, ap, subst}
 use Rattle.adb_outside.specs.Tables.{at, put_at}
 use Rattle.adb_outside.proofs.TableLaws.{puts_put_at}
 use Rattle.adb_files.specs.Entries.{Entry}
@@ -62,6 +62,6 @@ module _ (number : ℕ) (asked : Asked) (old mid after : View) (idle : IsIdle ol
     pub line_runs : (new : View) → after.given ≡ mid.given → IsFinished after new → RunsLine number (Asks asked) old new
     line_runs new given finished = record {
       idle = record { rests = finished.rests; empty = finished.empty; calm = finished.calm; counted = finished.counted };
-      files = finished.files ∙ exchanged.files;
+      files = finished.files ∙ exchanged.left_files;
       given = finished.given ∙ (given ∙ started.given);
     }

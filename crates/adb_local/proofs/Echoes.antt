@@ -1,13 +1,13 @@
 -- The streams of an echo, from their start until each got back what it sent.
-use Rattle.std.specs.Prelude.{ℕ, ◌+◌, ◌≡◌, ◌≢◌, ◌≤◌, ◌<◌, Bool, true, false, List, [], ◌∷◌, ◌++◌, length, drop, Option, Some, None, codes, option_map, bytes_eq}
+use Rattle.std.specs.Prelude.{ℕ, ◌+◌, ◌≡◌, ◌≢◌, ◌<◌, List, [], length, drop, Some, None, codes, option_map}
 use Rattle.std.proofs.Common.{refl, sym, ◌∙◌, ap, subst, arith, ◌⊎◌, inl, inr}
 use Rattle.std.proofs.lemmas.Bool.{cases_eq}
 use Rattle.std.proofs.Math.Seq.{drop-append_seam}
-use Rattle.adb_outside.specs.Tables.{at, put_at}
+use Rattle.adb_outside.specs.Tables.{at}
 use Rattle.adb_outside.proofs.TableLaws.{puts_put_at}
 use Rattle.adb_device_streams.specs.Asked.{Kind, Echoes, service_of}
 use Rattle.adb_device_streams.specs.Service.{bytes_in, service_answer}
-use Rattle.adb_laws_sessions.specs.Words.{requests_for, words_of}
+use Rattle.adb_laws_sessions.specs.Words.{requests_for}
 use Rattle.adb_script.specs.Lines as lines
 use Rattle.adb_script.specs.Pattern.{pattern}
 use Rattle.adb_laws_answers.specs.Answers.{CameOf}

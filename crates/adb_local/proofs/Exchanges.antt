@@ -1,12 +1,13 @@
 -- What a session that ran alone was handed, and what it left, is what its line makes of the files.
-use Rattle.std.specs.Prelude.{ℕ, ◌+◌, ◌≡◌, ◌≢◌, ◌≤◌, true, is_some, List, [], ◌∷◌, ◌++◌, length, drop, Option, Some, None, codes, option_map}
-use Rattle.std.proofs.Common.{refl, sym, ◌∙◌, ap, subst, arith, ◌⊎◌, inl, inr}
+use Rattle.std.specs.Prelude.{ℕ, ◌≡◌, ◌≤◌, Bool, true, nat_lt, if◌then◌else◌, is_some, List, [], ◌∷◌, ◌++◌, length, drop, Option, Some, None, codes}
+use Rattle.std.proofs.Common.{refl, sym, ◌∙◌, ap, subst, arith}
+use Rattle.std.proofs.lemmas.Bool.{lt-ltb}
 use Rattle.std.proofs.lemmas.List.{length-append}
 use Rattle.std.proofs.Math.Seq.{drop-append_seam}
 use Rattle.adb_outside.specs.Tables.{at, put_at}
 use Rattle.adb_outside.proofs.TableLaws.{puts_put_at}
 use Rattle.adb_files.specs.Entries.{Entry}
-use Rattle.adb_device_streams.specs.Asked.{Kind, Syncs, Shells, service_of}
+use Rattle.adb_device_streams.specs.Asked.{Kind, Syncs, Shells, service_of, shell_cut}
 use Rattle.adb_device_streams.specs.Service.{service_answer, files_fed}
 use Rattle.adb_laws_sessions.specs.Words.{requests_for, words_of}
 use Rattle.adb_script.specs.Answers as script
@@ -19,19 +20,27 @@ use Rattle.adb_world.specs.declared.session.Session.{Session}
 use Rattle.adb_local.specs.Running.{MayAsk}
 
 -- the service of what a session is asked
-kind_of : Asked → Kind
+abbrev kind_of : Asked → Kind
 kind_of (Pushes path size) = Syncs
 kind_of (Pulls path) = Syncs
 kind_of (Stats path) = Syncs
 kind_of (Lists path) = Syncs
 kind_of (Runs command) = Shells true command
 
+-- the colon behind the two words of a shell
+colon_within : (command : List ℕ) → nat_lt 6 (length (codes "v2,raw:" ++ command)) ≡ true
+colon_within command =
+    let long = length-append (codes "v2,raw:") command in lt-ltb 6 (length (codes "v2,raw:" ++ command)) (omega (arith, long))
+
+shell_kind : (command : List ℕ) → service_of (codes "shell,v2,raw:" ++ command) ≡ Some (Shells true command)
+shell_kind command = ap (λ (b : Bool). shell_cut (codes "v2,raw:" ++ command) (if b then Some 6 else None)) (colon_within command)
+
 asks_kind : (asked : Asked) → service_of (script.service_of asked) ≡ Some (kind_of asked)
 asks_kind (Pushes path size) = refl
 asks_kind (Pulls path) = refl
 asks_kind (Stats path) = refl
 asks_kind (Lists path) = refl
-asks_kind (Runs command) = refl
+asks_kind (Runs command) = shell_kind command
 
 pub is_known : (asked : Asked) → is_some (service_of (script.service_of asked)) ≡ true
 is_known asked = ap is_some (asks_kind asked)
@@ -60,7 +69,7 @@ exchanged (Runs command) number files = refl
 -- A session was handed what its line makes of the files, and left these.
 pub record IsExchanged (number : ℕ) (asked : Asked) (session : Session) (files left : List Entry) : Type 0 where
   pub answer : answer_of session ≡ (exchange files number asked).answer
-  pub files : left ≡ (exchange files number asked).files
+  pub left_files : left ≡ (exchange files number asked).files
 
 module _ (number : ℕ) (asked : Asked) (session : Session) (files left : List Entry) where
   started : Session
@@ -83,7 +92,7 @@ module _ (number : ℕ) (asked : Asked) (session : Session) (files left : List E
             ap (drop 8) alone.got
             ∙ (drop-append_seam (codes "OKAYOKAY") (service_answer alone.kind files (text_over alone.kind (text_of session) files ∷ [])).bytes
             ∙ ap (λ (e : Exchange). e.answer) made);
-        files = alone.left_files ∙ ap (λ (e : Exchange). e.files) made;
+        left_files = alone.left_files ∙ ap (λ (e : Exchange). e.files) made;
       }
 
   pub is_exchanged : IsSame (Some (new_session (script.service_of asked) (script.text_of number asked))) (Some session)

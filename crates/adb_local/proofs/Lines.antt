@@ -1,6 +1,6 @@
 -- Lines that run one after the other.
-use Rattle.std.specs.Prelude.{ℕ, ◌+◌, ◌≡◌, ◌≤◌, List, [], ◌∷◌, ◌++◌, length, drop}
-use Rattle.std.proofs.Common.{refl, sym, ◌∙◌, ap, subst, arith, append_assoc}
+use Rattle.std.specs.Prelude.{ℕ, ◌+◌, ◌≡◌, ◌≤◌, List, [], ◌∷◌, ◌++◌, length}
+use Rattle.std.proofs.Common.{refl, sym, ◌∙◌, ap, arith, append_assoc}
 use Rattle.std.proofs.lemmas.List.{append-nil}
 use Rattle.adb_script.specs.Answers.{answers_from, line_answer, sessions_of}
 use Rattle.adb_script.specs.Lines.{Line}
@@ -17,7 +17,7 @@ pub record Running (rest script : List Line) (old now : View) (lines : List Answ
   pub few : length lines + length rest ≡ length script
 
 pub begins_running : (script : List Line) (old : View) → IsIdle old → AllMayStand script → Running script script old old []
-begins_running script old idle stand = record { idle = idle; texts = refl; given = refl; stand = stand; few = refl }
+begins_running script old idle stand = record { idle = idle; texts = refl; given = refl; stand = stand; few = omega arith }
 
 module _ (line : Line) (more script : List Line) (old now new : View) (lines next : List Answer) (running : Running (line ∷ more) script old now lines) where
   pub room_here : (most : ℕ) → old.given + sessions_in script ≤ most → now.given + sessions_of line ≤ most

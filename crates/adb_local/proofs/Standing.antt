@@ -1,14 +1,14 @@
 -- The lines of every script may stand there.
-use Rattle.std.specs.Prelude.{ℕ, ◌+◌, ◌*◌, ◌≡◌, ◌≤◌, ◌<◌, ◌&&◌, Bool, true, false, not, if◌then◌else◌, nat_lt, nat_le, nat_eq, bytes_eq, codes}
+use Rattle.std.specs.Prelude.{ℕ, ◌*◌, ◌≡◌, ◌≤◌, ◌<◌, ◌&&◌, Bool, true, false, not, if◌then◌else◌, nat_lt, nat_le, nat_eq, bytes_eq, codes}
 use Rattle.std.specs.Prelude.{List, [], ◌∷◌, ◌++◌, length, drop, Option, Some, None, option_to_list}
 use Rattle.std.specs.List.{before_first, starts_with}
 use Rattle.std.proofs.Common.{refl, arith}
 use Rattle.std.proofs.lemmas.Bool.Decides.{nat_tests}
 use Rattle.adb_script.specs.Answers.{sessions_of}
-use Rattle.adb_script.specs.Lines.{Line, Asked, Pushes, Pulls, Stats, Lists, Runs, Asks, Echoes}
+use Rattle.adb_script.specs.Lines.{Line, Pushes, Pulls, Stats, Lists, Runs, Asks, Echoes}
 use Rattle.adb_script.specs.Lines.{is_word, count_of, path_line, push_line, echo_line, count_line, command_line, words_of, line_of_words, line_of}
 use Rattle.adb_script.specs.Script.{is_newline, said, all_said, lines_in, lines_of}
-use Rattle.adb_local.specs.Running.{AllMayStand, MayAsk, MayStand, sessions_in}
+use Rattle.adb_local.specs.Running.{AllMayStand, MayStand, sessions_in}
 
 -- a line, where one is read
 abbrev StandsIf : Option Line → Type 0

@@ -1,11 +1,10 @@
 -- Sessions that begin where nothing is on its way: what one alone is answered, and which files it leaves.
-use Rattle.std.specs.Prelude.{ℕ, ◌+◌, ◌-◌, ◌≡◌, ◌≢◌, ◌≤◌, ◌<◌, ◌||◌, ◌&&◌, Bool, true, false, cond, is_some, nat_eq, nat_lt, slice_get, zero, suc, All}
+use Rattle.std.specs.Prelude.{ℕ, ◌+◌, ◌≡◌, ◌≢◌, ◌≤◌, ◌<◌, ◌&&◌, Bool, true, false, cond, is_some, nat_eq, nat_lt, slice_get, zero, suc, All}
 use Rattle.std.specs.Prelude.{List, [], ◌∷◌, ◌++◌, length, take, drop, Option, Some, None, codes}
 use Rattle.std.proofs.Common.{refl, sym, ◌∙◌, ap, subst, arith, ◌⊎◌, inl, inr, append_assoc}
-use Rattle.std.proofs.lemmas.Bool.{cases_eq, cases_lt, eq-eqb, ne_eqb}
+use Rattle.std.proofs.lemmas.Bool.{cases_eq, cases_lt, eq-eqb}
 use Rattle.std.proofs.lemmas.List.{append-nil, length-append, length-drop}
 use Rattle.std.proofs.lemmas.List.Elements.{All-nil, All-cons, All-append, All-head, All-tail}
-use Rattle.adb_outside.specs.Bytes.{IsPrefixOf}
 use Rattle.adb_outside.specs.Tables.{at}
 use Rattle.adb_outside.specs.declared.kinds.Cause.TheVariants.{Eof, Fault, NoThread, Starved}
 use Rattle.adb_wire.specs.declared.command.Command.{Command}
@@ -13,16 +12,13 @@ use Rattle.adb_wire.specs.declared.command.Command.TheVariants.{Cnxn, Open, Okay
 use Rattle.adb_wire.specs.declared.packets.Packet.{Packet}
 use Rattle.adb_reply.specs.declared.answer.Next.{Next}
 use Rattle.adb_reply.specs.declared.answer.Next.TheVariants as next
-use Rattle.adb_capture.specs.declared.entry.Entry.{Entry}
 use Rattle.adb_capture.specs.declared.entry.Entry.TheVariants.{Join, Enter, Read, End, Bound, Attach, Recv, Detach, Put, Send}
 use Rattle.adb_files.specs.Entries.{Entry as File}
-use Rattle.adb_stream.specs.declared.row.Stream.{Stream}
 use Rattle.adb_history.specs.Asking.{Asked, nothing_asked, asks_with}
 use Rattle.adb_history.specs.Births.{Birth, birth_by, births, births_at, born, carried_in, count_from, is_open, is_wrte}
 use Rattle.adb_history.specs.Book.{asked, newly}
-use Rattle.adb_history.specs.Bytes.{bytes_read, has_joined, sent}
+use Rattle.adb_history.specs.Bytes.{bytes_read, sent}
 use Rattle.adb_history.specs.Fifo.{CarriesRest, IsOf, IsOpenOf, IsOwn}
-use Rattle.adb_history.specs.Links.{open_packet}
 use Rattle.adb_history.specs.Lives.{lived, packets_of, rest_of}
 use Rattle.adb_history.specs.Machine.{History, IsLegal, state}
 use Rattle.adb_history.specs.Orderly.{HasOwner}
@@ -44,20 +40,18 @@ use Rattle.adb_device_streams.specs.Stream.{Row}
 use Rattle.adb_shell_service.specs.Service.{Answer}
 use Rattle.adb_daemon.specs.Daemon.{files_of}
 use Rattle.adb_daemon.specs.Device.{device_behind}
-use Rattle.adb_daemon.specs.Serving.{Serving}
 use Rattle.adb_laws_payloads.specs.Payloads.{AreEnough, AreOne, ComeInTurn, files_behind}
 use Rattle.adb_laws_alone.specs.Alone.{AllRanAlone, AsksNone, EchoesLeaveFiles, Every, IsOfEchoes, IsOfOne, OneRunsAlone, RanAlone}
-use Rattle.adb_laws_answers.specs.Answers as answers
-use Rattle.adb_laws_answers.specs.Answers.{CameOf, HasEndedAs, IsServed}
+use Rattle.adb_laws_answers.specs.Answers.{CameOf, HasEndedAs}
 use Rattle.adb_laws_answers.proofs.Asked.{IsBornFor, born_for, born_as}
 use Rattle.adb_request.specs.Requests.{hex_digits}
 use Rattle.adb_laws_sessions.specs.Words.{requests_for, selects, words_of}
 use Rattle.adb_laws_sessions.specs.Model.{model_devices, model_setting}
-use Rattle.adb_laws_sessions.specs.Asked.{HasOpened, Opens}
-use Rattle.adb_laws_sessions.specs.Sessions.{AsksForServices, HasAsked, IsOfSessions}
+use Rattle.adb_laws_sessions.specs.Asked.{Opens}
+use Rattle.adb_laws_sessions.specs.Sessions.{AsksForServices, IsOfSessions}
 use Rattle.adb_laws_worlds.specs.Unbroken.{BringsSound}
 use Rattle.adb_world.specs.Answered.{AreEchoes, IsAnsweredAlone, IsEcho, IsNewAlone, text_over}
-use Rattle.adb_world.specs.Parts.{AreSame, Holds, IsGreeted, IsKeptAt, IsOver, IsRunning, IsSame}
+use Rattle.adb_world.specs.Parts.{Holds, IsGreeted, IsKeptAt, IsOver, IsRunning, IsSame}
 use Rattle.adb_world.specs.Session.{IsTold, left_of, text_of}
 use Rattle.adb_world.specs.Settled.{GoesOn, IsAtEase, Rests}
 use Rattle.adb_world.specs.declared.parts.Parts.{Parts}

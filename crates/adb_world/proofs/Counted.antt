@@ -1,6 +1,6 @@
 -- As many clients and streams were drawn as sessions were given.
-use Rattle.std.specs.Prelude.{ℕ, ◌+◌, ◌≡◌, ◌≤◌, ◌<◌, Bool, true, false, if◌then◌else◌, is_some, zero, suc, List, [], ◌++◌, length, take, drop, Option, Some, None}
-use Rattle.std.proofs.Common.{refl, sym, ◌∙◌, ap, subst, arith, ◌⊎◌, inl, inr}
+use Rattle.std.specs.Prelude.{ℕ, ◌+◌, ◌≡◌, ◌≤◌, ◌<◌, Bool, true, false, if◌then◌else◌, is_some, zero, suc, List, [], ◌++◌, length, take, Option, Some, None}
+use Rattle.std.proofs.Common.{refl, sym, ◌∙◌, ap, arith, ◌⊎◌, inl, inr}
 use Rattle.std.proofs.lemmas.List.{append-nil, take-append-drop, length-append}
 use Rattle.adb_outside.specs.Bytes.{IsPrefixOf}
 use Rattle.adb_outside.specs.Tables.{at}
@@ -12,12 +12,11 @@ use Rattle.adb_history.specs.Births.{births}
 use Rattle.adb_history.specs.Bytes.{bytes_read}
 use Rattle.adb_history.specs.Kept.{Kept}
 use Rattle.adb_history.specs.Machine.{History, state, IsLegal}
-use Rattle.adb_history.specs.Streams.{stream_ids}
 use Rattle.adb_history.proofs.Numbers.{counted}
 use Rattle.adb_laws_births.proofs.Born.{all_born}
 use Rattle.adb_laws_sessions.specs.Words.{IsKnown, requests_for, words_of}
 use Rattle.adb_laws_sessions.specs.Model.{model_devices}
-use Rattle.adb_laws_sessions.specs.Asked.{Opens, HasOpened}
+use Rattle.adb_laws_sessions.specs.Asked.{Opens}
 use Rattle.adb_laws_sessions.specs.Sessions.{HasAsked, AsksForServices, done_among}
 use Rattle.adb_world.specs.Parts.{Holds, IsKeptAt, IsOver}
 use Rattle.adb_world.specs.Session.{IsTold, left_of, text_of}

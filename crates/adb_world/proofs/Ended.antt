@@ -2,7 +2,7 @@
 use Rattle.std.specs.Prelude.{ℕ, ◌≡◌, ◌≢◌, ◌≤◌, ◌||◌, Bool, true, false, is_some, zero, suc, nat_eq, List, [], ◌∷◌, drop, Option, Some, None}
 use Rattle.std.proofs.Common.{refl, sym, ◌∙◌, ap, subst, ◌⊎◌, inl, inr}
 use Rattle.std.proofs.lemmas.Bool.{cases_eq, eq-eqb, ne_eqb}
-use Rattle.adb_outside.specs.Tables.{at, Puts, Rows}
+use Rattle.adb_outside.specs.Tables.{at, Puts}
 use Rattle.adb_outside.specs.declared.kinds.Cause.TheVariants.{Eof}
 use Rattle.adb_stream.specs.Flow.{is_idle}
 use Rattle.adb_stream.specs.declared.flow.Flow.{Flow}
@@ -17,9 +17,9 @@ use Rattle.adb_history.specs.Flow.{payloads, total, flow_after, is_over, is_stre
 use Rattle.adb_history.specs.Kept.{Kept, IsLawful}
 use Rattle.adb_history.specs.Links.{maxdata_of}
 use Rattle.adb_history.specs.Losing.{client_ends, input_ended, input_ends}
-use Rattle.adb_history.specs.Machine.{History, IsLegal, rule, state, step}
+use Rattle.adb_history.specs.Machine.{History, IsLegal, rule, state}
 use Rattle.adb_history.specs.Orderly.{HasStream, HasClient, HasOwner, IsQuiet, IsResting, phase_for}
-use Rattle.adb_history.specs.Rows.{Client, Link, State, to_client, to_stream, none_kept, with_held}
+use Rattle.adb_history.specs.Rows.{Client, State, to_client, to_stream, none_kept, with_held}
 use Rattle.adb_history.proofs.Following.{changed_here}
 use Rattle.adb_history.proofs.OrderlyStates.{orderly}
 use Rattle.adb_history.proofs.Sweep.{Sending, sent, left, over, up_to}

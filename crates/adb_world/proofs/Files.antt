@@ -1,15 +1,13 @@
 -- Which files a world has.
-use Rattle.std.specs.Prelude.{ℕ, ◌+◌, ◌≡◌, ◌≢◌, ◌≤◌, ◌<◌, true, false, fold, zero, suc, List, [], ◌∷◌, ◌++◌, length, take, drop, Option, Some, None}
+use Rattle.std.specs.Prelude.{ℕ, ◌≡◌, ◌≢◌, ◌≤◌, ◌<◌, true, false, fold, zero, suc, List, [], ◌∷◌, ◌++◌, length, Option, Some, None}
 use Rattle.std.proofs.Common.{refl, sym, ◌∙◌, ap, subst, arith, ◌⊎◌, inl, inr}
 use Rattle.std.proofs.lemmas.Bool.{cases_lt}
-use Rattle.std.proofs.lemmas.List.{append-nil, take-append-drop}
 use Rattle.adb_outside.specs.Tables.{at}
 use Rattle.adb_outside.specs.declared.kinds.Cause.TheVariants.{Eof}
 use Rattle.adb_wire.specs.declared.packets.Packet.{Packet}
 use Rattle.adb_capture.specs.declared.entry.Entry.TheVariants.{End}
-use Rattle.adb_files.specs.Entries.{Entry as File}
-use Rattle.adb_history.specs.Book.{asked, devices}
-use Rattle.adb_history.specs.Births.{Birth, births, born, carried_in, count_from, is_open}
+use Rattle.adb_history.specs.Book.{asked}
+use Rattle.adb_history.specs.Births.{births}
 use Rattle.adb_history.specs.Bytes.{bytes_read, bytes_received, bytes_sent, sent}
 use Rattle.adb_history.specs.Fifo.{CarriesRest}
 use Rattle.adb_history.specs.Kept.{Kept}
@@ -29,7 +27,6 @@ use Rattle.adb_laws_sessions.specs.Model.{model_devices, model_setting}
 use Rattle.adb_laws_sessions.specs.Sessions.{AsksForServices, done_among}
 use Rattle.adb_laws_worlds.specs.Unbroken.{BringsSound}
 use Rattle.adb_world.specs.Parts.{AreSameBut, Holds, IsKeptAt, IsOver, IsRunning, IsSame}
-use Rattle.adb_world.specs.Session.{IsTold, left_of}
 use Rattle.adb_world.specs.Settled.{HasEnded, IsCounted, IsDone}
 use Rattle.adb_world.specs.World.{view_of}
 use Rattle.adb_world.specs.declared.parts.Parts.{Parts}

@@ -1,11 +1,11 @@
 -- A client that did not come was put nothing; and a session that joins.
-use Rattle.std.specs.Prelude.{ℕ, ◌+◌, ◌^◌, ◌≡◌, ◌≢◌, ◌≤◌, ◌<◌, ◌||◌, Bool, true, false, cond, nat_eq, List, [], ◌∷◌, ◌++◌, length, take, drop, Option, Some, None}
+use Rattle.std.specs.Prelude.{ℕ, ◌+◌, ◌≡◌, ◌≢◌, ◌≤◌, ◌<◌, ◌||◌, Bool, false, cond, List, [], ◌∷◌, ◌++◌, length, take, drop, Option, Some, None}
 use Rattle.std.proofs.Common.{refl, sym, ◌∙◌, ap, subst, arith, ◌⊎◌, inl, inr}
 use Rattle.std.proofs.lemmas.Bool.{cases_eq, ne_eqb}
 use Rattle.std.proofs.Math.Seq.{drop-append_seam}
 use Rattle.adb_outside.specs.Tables.{at, Puts}
 use Rattle.adb_capture.specs.declared.entry.Entry.TheVariants.{Join, Enter, Read, End, Bound, Attach, Recv, Detach, Put, Send}
-use Rattle.adb_history.specs.Bytes.{bytes_read, bytes_put, bytes_sent, bytes_received, has_ended}
+use Rattle.adb_history.specs.Bytes.{bytes_put, bytes_sent, bytes_received, has_ended}
 use Rattle.adb_history.specs.Kept.{Kept, IsLawful}
 use Rattle.adb_history.specs.Machine.{History, state, IsLegal, MayPut}
 use Rattle.adb_history.specs.Rows.{Client}
@@ -16,7 +16,7 @@ use Rattle.adb_laws_sessions.specs.Words.{requests_for, words_of}
 use Rattle.adb_laws_sessions.specs.Model.{model_setting}
 use Rattle.adb_laws_sessions.specs.Sessions.{AsksForServices}
 use Rattle.adb_world.specs.Parts.{Holds, most_sessions, IsKeptAt}
-use Rattle.adb_world.specs.Session.{IsTold, IsNew, new_session, text_of}
+use Rattle.adb_world.specs.Session.{IsTold, IsNew}
 use Rattle.adb_world.specs.declared.parts.Parts.{Parts}
 use Rattle.adb_world.specs.declared.session.Session.{Session}
 use Rattle.adb_world.proofs.Entries.{comes_first}

@@ -15,7 +15,7 @@ use Rattle.adb_history.specs.Rows.{Client, State, new_client}
 use Rattle.adb_history.specs.Tracking.{marked}
 use Rattle.adb_history.proofs.PlainMoves.{Plain, plain_moves}
 use Rattle.adb_history.proofs.RuleMoves.{Begins, step_kept}
-use Rattle.adb_world.specs.Parts.{IsKeptAt, IsOver}
+use Rattle.adb_world.specs.Parts.{IsKeptAt}
 
 gone_change : {A : Type 0} (rows : Rows (Option A)) (n c : ℕ) (f : A → Option A) → rows n ≡ None → change_row c (option_and_then f) rows n ≡ None
 gone_change rows n c f none = go (nat_eq c n)

@@ -1,18 +1,15 @@
 -- A client that joins brings nothing to be moved.
-use Rattle.std.specs.Prelude.{ℕ, ◌≡◌, ◌≢◌, Bool, false, cond, nat_eq, List, [], ◌∷◌, Option, Some, None}
+use Rattle.std.specs.Prelude.{ℕ, ◌≡◌, ◌≢◌, Bool, false, cond, nat_eq, List, [], ◌∷◌, Some}
 use Rattle.std.proofs.Common.{refl, sym, ◌∙◌, ap, subst, ◌⊎◌, inl, inr}
 use Rattle.std.proofs.lemmas.Bool.{cases_eq, eq-eqb, ne_eqb}
 use Rattle.adb_outside.specs.Tables.{at}
-use Rattle.adb_stream.specs.declared.row.Stream.{Stream}
 use Rattle.adb_capture.specs.declared.entry.Entry.TheVariants.{Join}
 use Rattle.adb_history.specs.Kept.{Kept, IsLawful}
 use Rattle.adb_history.specs.Machine.{History, state, rule}
 use Rattle.adb_history.specs.Rows.{Client, Link, State, new_client}
-use Rattle.adb_daemon.specs.Daemon.{owed}
-use Rattle.adb_daemon.specs.declared.daemon.Daemon.{Daemon}
 use Rattle.adb_laws_resting.specs.Resting.{SendsNothingBy}
 use Rattle.adb_world.specs.Settled.{Each, IsCalm}
-use Rattle.adb_world.specs.World.{End, ends_of}
+use Rattle.adb_world.specs.World.{End}
 use Rattle.adb_world.proofs.Shows.{links_show, clients_show, streams_show}
 
 module _ (h : History) (n : ℕ) (old new : Kept) (owes : List ℕ) (ends : List (ℕ × End)) (was : IsLawful old h) (now : IsLawful new (Join n ∷ h))

@@ -1,44 +1,32 @@
 -- Behind the end of a session nothing is asked for and nothing is written, so that no file of the device changes.
-use Rattle.std.specs.Prelude.{ℕ, ◌+◌, ◌-◌, ◌≡◌, ◌≢◌, ◌≤◌, ◌<◌, ◌&&◌, Bool, true, false, cond, is_some, nat_eq, zero, suc, All, fold, min}
-use Rattle.std.specs.Prelude.{List, [], ◌∷◌, ◌++◌, length, take, drop, Option, Some, None}
+use Rattle.std.specs.Prelude.{ℕ, ◌+◌, ◌≡◌, ◌≢◌, ◌≤◌, ◌&&◌, Bool, true, false, cond, is_some, nat_eq, All}
+use Rattle.std.specs.Prelude.{List, [], ◌∷◌, ◌++◌, length, drop, Option, Some, None}
 use Rattle.std.specs.Option.{option_or}
 use Rattle.std.proofs.Common.{refl, sym, ◌∙◌, ap, subst, arith, ◌⊎◌, inl, inr, append_assoc}
 use Rattle.std.proofs.lemmas.Bool.{cases_eq, eq-eqb}
-use Rattle.std.proofs.lemmas.List.{append-nil, length-append, length-drop}
-use Rattle.std.proofs.lemmas.List.Elements.{All-drop, All-head, All-tail}
-use Rattle.std.proofs.Math.Seq.{drop-append_seam}
-use Rattle.adb_outside.specs.Bytes.{IsPrefixOf}
+use Rattle.std.proofs.lemmas.List.{length-drop}
+use Rattle.std.proofs.lemmas.List.Elements.{All-head, All-tail}
 use Rattle.adb_outside.specs.declared.kinds.Cause.TheVariants.{Eof}
 use Rattle.adb_wire.specs.declared.command.Command.{Command}
 use Rattle.adb_wire.specs.declared.command.Command.TheVariants.{Cnxn, Open, Okay, Wrte, Clse, Auth, Stls}
 use Rattle.adb_wire.specs.declared.packets.Packet.{Packet}
-use Rattle.adb_capture.specs.declared.entry.Entry.{Entry}
 use Rattle.adb_capture.specs.declared.entry.Entry.TheVariants.{End}
 use Rattle.adb_stream.specs.declared.row.Stream.{Stream}
-use Rattle.adb_history.specs.Births.{Birth, births, born, carried_in, count_from, is_open, is_wrte, remote_of}
-use Rattle.adb_history.specs.Bytes.{bytes_read, bytes_sent, sent}
+use Rattle.adb_history.specs.Births.{Birth, born, carried_in, count_from, is_open, is_wrte, remote_of}
+use Rattle.adb_history.specs.Bytes.{bytes_read, sent}
 use Rattle.adb_history.specs.Events.{Ending, ending_in}
-use Rattle.adb_history.specs.Fifo.{CarriesRest, HasBirths, HasNoCrossing, IsKeptAs, IsOf, IsOpenOf, IsOwn}
+use Rattle.adb_history.specs.Fifo.{CarriesRest, IsKeptAs, IsOwn}
 use Rattle.adb_history.specs.Lives.{ending_of, lived, packets_of, rest_of}
 use Rattle.adb_history.specs.Machine.{History, IsLegal, state, told, told_at}
 use Rattle.adb_history.specs.Orderly.{HasClient, HasOwner}
 use Rattle.adb_history.specs.Rows.{Client}
-use Rattle.adb_history.specs.Streams.{stream_ids}
 use Rattle.adb_history.proofs.OrderlyStates.{orderly}
-use Rattle.adb_laws_births.specs.Ending.{EndsAs, HasEnding}
-use Rattle.adb_laws_births.proofs.Asking.{asks_at_once}
+use Rattle.adb_laws_births.specs.Ending.{EndsAs}
 use Rattle.adb_laws_births.proofs.Born.{all_births}
-use Rattle.adb_laws_births.proofs.Crossing.{no_crossing}
 use Rattle.adb_laws_births.proofs.Ending.{ending_append}
 use Rattle.adb_laws_births.proofs.Endings.{all_endings}
-use Rattle.adb_laws_births.proofs.Laws.{sends_first}
-use Rattle.adb_laws_births.proofs.Once.{count_append}
-use Rattle.adb_laws_causes.specs.Flows.{IsAsTold}
-use Rattle.adb_laws_causes.proofs.Holding.{all_hold}
 use Rattle.adb_laws_causes.proofs.Newborn.{born_stays}
 use Rattle.adb_laws_causes.proofs.Others.{born_within}
-use Rattle.adb_laws_fifo_up.proofs.Lived.{lived_all}
-use Rattle.adb_laws_fifo_up.proofs.Seeing.{carried_in_append}
 use Rattle.adb_world.proofs.Ended.{IsIdleState}
 use Rattle.adb_world.proofs.Going.{AllStay}
 use Rattle.adb_laws_alone.proofs.Quiet.{AllLeaveFiles, LeavesFiles}

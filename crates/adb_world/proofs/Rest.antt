@@ -1,5 +1,5 @@
 -- Where no step is possible, nothing is left to be moved.
-use Rattle.std.specs.Prelude.{ℕ, ◌+◌, ◌^◌, ◌≡◌, ◌≢◌, ◌≤◌, ◌<◌, Bool, true, false, not, cond, is_some, zero, suc}
+use Rattle.std.specs.Prelude.{ℕ, ◌^◌, ◌≡◌, ◌≢◌, ◌≤◌, ◌<◌, Bool, true, false, not, cond, is_some, zero, suc}
 use Rattle.std.specs.Prelude.{List, [], ◌∷◌, ◌++◌, length, map, drop, Option, Some, None, option_map}
 use Rattle.std.specs.Ordering.{nat_cmp, is_eq}
 use Rattle.std.proofs.Common.{refl, sym, ◌∙◌, ap, subst, arith, ◌⊎◌, inl, inr}
@@ -8,18 +8,17 @@ use Rattle.std.proofs.lemmas.List.{append-nil}
 use Rattle.std.proofs.Math.Seq.{drop-append_seam}
 use Rattle.adb_outside.specs.Tables.{at}
 use Rattle.adb_wire.specs.Cutting.{framed}
-use Rattle.adb_wire.specs.declared.packets.Packet.{Packet}
 use Rattle.adb_registry.specs.Registry.{DeviceTable}
 use Rattle.adb_client.specs.declared.phase.Phase.TheVariants.{Asking}
-use Rattle.adb_stream.specs.Flow.{is_idle, to_hand, has_credit}
+use Rattle.adb_stream.specs.Flow.{is_idle, has_credit}
 use Rattle.adb_stream.specs.declared.flow.Flow.{Flow}
 use Rattle.adb_stream.specs.declared.flow.Flow.TheVariants.{One, Credit}
 use Rattle.adb_stream.specs.declared.row.Stream.{Stream}
 use Rattle.adb_history.specs.Book.{plugged_count}
-use Rattle.adb_history.specs.Births.{Birth, born, remote_of, remote_in}
+use Rattle.adb_history.specs.Births.{Birth, remote_of, remote_in}
 use Rattle.adb_history.specs.Bytes.{bytes_received, bytes_sent, brought, sent}
 use Rattle.adb_history.specs.Events.{spelled_to}
-use Rattle.adb_history.specs.Kept.{Kept, kept}
+use Rattle.adb_history.specs.Kept.{kept}
 use Rattle.adb_history.specs.Lives.{packets_of}
 use Rattle.adb_history.specs.Machine.{History, state, told, IsLegal}
 use Rattle.adb_history.specs.Orderly.{IsDrawnOnly}
@@ -33,10 +32,10 @@ use Rattle.adb_laws_births.specs.Born.{IsBornAs, all_brought}
 use Rattle.adb_laws_births.proofs.Born.{all_born}
 use Rattle.adb_laws_births.proofs.Laws.{sends_first}
 use Rattle.adb_laws_causes.specs.Flows.{waiting}
-use Rattle.adb_device_streams.specs.Service.{out_of, service_answer}
+use Rattle.adb_device_streams.specs.Service.{out_of}
 use Rattle.adb_device_streams.specs.Stream.{Row, unsent, StandsFor}
 use Rattle.adb_device_streams.specs.declared.stream.Stream.{Stream as DeviceStream}
-use Rattle.adb_daemon.specs.Daemon.{HasDone, owed, device_of}
+use Rattle.adb_daemon.specs.Daemon.{owed}
 use Rattle.adb_daemon.specs.Held.{StandsAt}
 use Rattle.adb_laws_pairs.specs.Paired.{IsStill}
 use Rattle.adb_laws_model_device.specs.Owed.{packets_owed, bytes_owed}

@@ -1,5 +1,5 @@
 -- A session of the file service that runs alone and is dropped then: what it is answered, and what it leaves.
-use Rattle.std.specs.Prelude.{ℕ, ◌+◌, ◌≡◌, ◌≢◌, ◌≤◌, true, is_some, List, [], ◌∷◌, ◌++◌, length, drop, Option, Some, None, codes, option_map}
+use Rattle.std.specs.Prelude.{ℕ, ◌+◌, ◌≡◌, ◌≢◌, true, is_some, List, [], ◌∷◌, length, drop, Option, Some, None, codes, option_map}
 use Rattle.std.proofs.Common.{refl, sym, ◌∙◌, ap, subst, arith, ◌⊎◌, inl, inr}
 use Rattle.std.proofs.lemmas.Bool.{cases_eq}
 use Rattle.std.proofs.Math.Seq.{drop-append_seam}

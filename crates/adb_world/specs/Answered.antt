@@ -8,7 +8,6 @@ use Rattle.adb_laws_answers.specs.Answers.{CameOf}
 use Rattle.adb_world.specs.declared.session.TheConstants.{REPLIES}
 use Rattle.adb_world.specs.Session.{left_of, text_of}
 use Rattle.adb_world.specs.Settled.{Each}
-use Rattle.adb_world.specs.World.{View}
 use Rattle.adb_world.specs.declared.session.Session.{Session}
 
 -- A session was handed the replies to its requests, and all that its service answers to its whole text.

@@ -1,5 +1,5 @@
 -- Sessions: what they have still to write, and how they change.
-use Rattle.std.specs.Prelude.{ℕ, ◌+◌, ◌≡◌, ◌≤◌, false, List, [], ◌++◌, length, take, drop, Option, option_map}
+use Rattle.std.specs.Prelude.{ℕ, ◌+◌, ◌≡◌, ◌≤◌, false, List, [], ◌++◌, length, take, drop, option_map}
 use Rattle.adb_outside.specs.Tables.{at, Puts}
 use Rattle.adb_history.specs.Machine.{History}
 use Rattle.adb_history.specs.Bytes.{bytes_read, bytes_put, has_ended}

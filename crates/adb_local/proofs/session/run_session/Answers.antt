@@ -1,4 +1,4 @@
-use Rattle.std.specs.Prelude.{ℕ, ◌+◌, true, is_some, option_map}
+use Rattle.std.specs.Prelude.{ℕ, true, is_some, option_map}
 use Rattle.std.proofs.Common.{◌≡◌, ◌∙◌, sym, ap, subst}
 use Rattle.adb_outside.specs.Tables.{at}
 use Rattle.adb_script.specs.Answers.{printed}

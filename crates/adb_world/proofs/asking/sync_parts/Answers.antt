@@ -5,7 +5,6 @@ use Rattle.adb_daemon.specs.Daemon.{files_of}
 use Rattle.adb_daemon.specs.declared.daemon.Daemon.{Daemon}
 use Rattle.adb_world.specs.Answered.{IsAnsweredAlone, answer_of}
 use Rattle.adb_world.specs.Parts.{AreSameBut}
-use Rattle.adb_world.specs.declared.session.Session.{Session}
 use Rattle.adb_world.proofs.Synced.{sync_known, there_after, new_alone, is_answer, is_left, all_same}
 use Rattle.adb_world.proofs.asking.sync_parts.Goals as goal
 

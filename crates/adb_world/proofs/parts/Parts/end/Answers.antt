@@ -1,4 +1,3 @@
-use Rattle.std.specs.Prelude.{Some}
 use Rattle.std.proofs.Common.{refl}
 use Rattle.adb_laws_sessions.specs.Sessions.{AsksForServices}
 use Rattle.adb_world.proofs.Ended.{kept_session, ends_gone, idle_state, ended_by}
@@ -27,4 +26,4 @@ returns-clause-holds c h holds =
     let gone = ends_gone h legal n (c.most_entries_send_nothing.ensures h legal) (c.a_client_sends_up_its_own_stream.ensures h legal)
     (idle_state h c.args.self.now.hub _ _ holds.lawful c.requires.done.ease.calm) in
     ended_by h c.args.self.now holds n kept.session kept.is gone c.end.new.hub _ done (c.end.ensures h holds.lawful) refl refl refl
-    c.drop_session.ensures.puts
+    c.drop_session.ensures
