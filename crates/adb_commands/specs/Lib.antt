@@ -10,4 +10,5 @@ pub mod Replayed
 pub mod Run
 pub mod Loads
 pub mod Check
+pub mod Scripts
 pub mod Alone
