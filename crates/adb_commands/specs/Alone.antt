@@ -6,7 +6,8 @@ use Rattle.adb_commands.specs.Kills.{StopsAtKill}
 use Rattle.adb_commands.specs.Loads.{IsPromised, WritesLoad, made}
 use Rattle.adb_commands.specs.Notes.{WritesNote}
 use Rattle.adb_commands.specs.Run.{WritesHistory, WritesRead, WritesLegal, WritesWhole, EndsCapture, NamesRefusal, Completes, IsUnheard, IsAtHand}
-use Rattle.adb_commands.specs.Scripts.{WritesAnswers, EndsScript, ReadsWithin, NamesLine, CompletesScript}
+use Rattle.adb_commands.specs.ScriptInput.{ReadsWithin}
+use Rattle.adb_commands.specs.Scripts.{WritesAnswers, EndsScript, NamesLine, CompletesScript}
 use Rattle.adb_commands.specs.Words.{IsNoCommand, IsReplay, IsCheck, IsLoad, IsLocal, IsScript}
 use Rattle.adb_commands.specs.declared.status.Status.{Status}
 use Rattle.adb_commands.specs.declared.status.Status.TheVariants.{Done, Usage, ReadFault, WriteFault, OutOfMemory, RecordFault, DoorFault, BadScript, Refused, BadAnswer, PortFault, TooLarge, Illegal}

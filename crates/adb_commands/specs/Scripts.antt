@@ -1,12 +1,10 @@
 -- What a run of a script reads and writes.
-use Rattle.std.specs.Prelude.{ℕ, ◌+◌, ◌≡◌, ◌<◌, ◌≤◌, ◌⊎◌, Bool, true, false, List, [], ◌++◌, concat, length, Option, Some, None, option_map, Result, Ok, Err}
+use Rattle.std.specs.Prelude.{ℕ, ◌≡◌, ◌⊎◌, List, [], ◌++◌, Option, Some, None, option_map, Result, Ok, Err}
+use Rattle.std.specs.List.{concat}
 use Rattle.adb_script.specs.Answers.{script_answers}
 use Rattle.adb_script.specs.Script.{first_bad}
-use Rattle.adb_script.specs.declared.script.ScriptError.{ScriptError}
-use Rattle.adb_script.specs.declared.script.ScriptError.TheVariants as script
 use Rattle.adb_commands.specs.Keeping.{HasFront}
 use Rattle.adb_commands.specs.Notes.{read_fault_line, write_fault_line, out_of_memory_line, bad_script_line, IsJust, IsLineOr}
-use Rattle.adb_commands.specs.declared.script_input.TheConstants.{MAX_READ}
 use Rattle.adb_commands.specs.declared.script_stop.ScriptStop.{ScriptStop}
 use Rattle.adb_commands.specs.declared.script_stop.ScriptStop.TheVariants as stop
 use Rattle.adb_commands.specs.declared.status.Status.{Status}
@@ -15,103 +13,6 @@ use Rattle.adb_commands.specs.declared.status.Status.TheVariants.{Done, Usage, R
 -- all answer lines of a script, one behind the other, where no line of it is refused
 abbrev pub answer_lines : List ℕ → Option (List ℕ)
 answer_lines script = option_map concat (script_answers script)
-
--- ---- why a script is not answered
-abbrev pub stop_of : ScriptError → ScriptStop
-stop_of (script.BadLine line) = stop.BadLine line
-stop_of script.OutOfMemory = stop.OutOfMemory
-
--- whether the source failed
-abbrev pub is_read_stop : ScriptStop → Bool
-is_read_stop stop.ReadFault = true
-is_read_stop stop.WriteFault = false
-is_read_stop stop.OutOfMemory = false
-is_read_stop (stop.BadLine line) = false
-
--- whether the sink failed
-abbrev pub is_write_stop : ScriptStop → Bool
-is_write_stop stop.ReadFault = false
-is_write_stop stop.WriteFault = true
-is_write_stop stop.OutOfMemory = false
-is_write_stop (stop.BadLine line) = false
-
--- the same of what a call answers
-abbrev pub stops_reading : {T : Type 0} → Result T ScriptStop → Bool
-stops_reading (Ok done) = false
-stops_reading (Err why) = is_read_stop why
-
-abbrev pub stops_writing : {T : Type 0} → Result T ScriptStop → Bool
-stops_writing (Ok done) = false
-stops_writing (Err why) = is_write_stop why
-
--- reading stops where the source failed, or memory ran out
-abbrev pub IsReadStop : ScriptStop → Type 0
-IsReadStop stop.ReadFault = Unit {0}
-IsReadStop stop.WriteFault = ⊥
-IsReadStop stop.OutOfMemory = Unit {0}
-IsReadStop (stop.BadLine line) = ⊥
-
-abbrev pub IsReadEnd : {T : Type 0} → Result T ScriptStop → Type 0
-IsReadEnd (Ok done) = Unit {0}
-IsReadEnd (Err why) = IsReadStop why
-
--- running stops where a line is refused, or memory ran out
-abbrev pub IsRunStop : ScriptStop → Type 0
-IsRunStop stop.ReadFault = ⊥
-IsRunStop stop.WriteFault = ⊥
-IsRunStop stop.OutOfMemory = Unit {0}
-IsRunStop (stop.BadLine line) = Unit {0}
-
-abbrev pub IsRunEnd : {T : Type 0} → Result T ScriptStop → Type 0
-IsRunEnd (Ok done) = Unit {0}
-IsRunEnd (Err why) = IsRunStop why
-
--- ---- what is read
--- how a script became longer by a piece that was taken: or it did not, since nothing is left, or no more may be read
-abbrev pub PieceBy : Result Bool ScriptStop → (taken rest old new : List ℕ) → (most : ℕ) → Type 0
-PieceBy (Ok true) taken rest old new most = new ≡ old ++ taken
-PieceBy (Ok false) taken rest old new most = (new ≡ old) × ((rest ≡ []) ⊎ (most ≡ 0))
-PieceBy (Err why) taken rest old new most = Unit {0}
-
--- A piece of what was to come was taken, of at most so many bytes.
-pub record TakesPiece (result : Result Bool ScriptStop) (coming : List ℕ) (after : Option (List ℕ)) (old new : List ℕ) (most : ℕ) : Type 0 where
-  pub taken : List ℕ
-  pub rest : List ℕ
-  pub is : coming ≡ taken ++ rest
-  pub left : after ≡ Some rest
-  pub few : length taken ≤ most
-  pub by : PieceBy result taken rest old new most
-
--- whatever is told
-abbrev pub Grows : Result Bool ScriptStop → (old new : List ℕ) → (most : ℕ) → Type 0
-Grows (Ok true) old new most = (length old < length new) × (length new ≤ length old + most)
-Grows (Ok false) old new most = new ≡ old
-Grows (Err why) old new most = Unit {0}
-
-pub record ReadsPiece (before after : Option (List ℕ)) (old new : List ℕ) (most : ℕ) (result : Result Bool ScriptStop) : Type 0 where
-  pub told : (coming : List ℕ) → before ≡ Some coming → TakesPiece result coming after old new most
-  pub grows : Grows result old new most
-
--- A script was read: all that was to come, or as much as is read at most.
-pub record IsRead (script coming : List ℕ) (after : Option (List ℕ)) : Type 0 where
-  pub rest : List ℕ
-  pub is : coming ≡ script ++ rest
-  pub left : after ≡ Some rest
-  pub whole : (rest ≡ []) ⊎ (length script ≡ MAX_READ)
-
-abbrev pub ReadsScript : List ℕ → Option (List ℕ) → Option (List ℕ) → Type 0
-ReadsScript script before after = (coming : List ℕ) → before ≡ Some coming → IsRead script coming after
-
--- A front of what was to come was read, up to the byte behind the most that a script may have.
-pub record ReadsFront (coming : List ℕ) (after : Option (List ℕ)) : Type 0 where
-  pub front : List ℕ
-  pub rest : List ℕ
-  pub is : coming ≡ front ++ rest
-  pub left : after ≡ Some rest
-  pub few : length front ≤ MAX_READ
-
-abbrev pub ReadsWithin : Option (List ℕ) → Option (List ℕ) → Type 0
-ReadsWithin before after = (coming : List ℕ) → before ≡ Some coming → ReadsFront coming after
 
 -- ---- by how answering ended
 -- Which line is refused.

@@ -1,12 +1,14 @@
 //! Answering a script.
 
-ghost use Rattle.std.specs.Prelude.{◌≡◌, ◌≢◌, ℕ, List, [], Ok, Err, Some, concat, IfOk};
+ghost use Rattle.std.specs.Prelude.{◌≡◌, ℕ, List, [], Ok, Err, Some, IfOk, false};
+ghost use Rattle.std.specs.List.{concat};
 ghost use Rattle.adb_outside.specs.Outside.{Counts};
 ghost use Rattle.adb_script.specs.Answers.{script_answers};
 ghost use Rattle.adb_script.specs.Script.{first_bad};
 ghost use Rattle.adb_local.specs.Running.{texts_of};
-ghost use Rattle.adb_commands.specs.Scripts.{AnswersAs, IsRunEnd, ReadsWithin, RefusesAs};
-ghost use Rattle.adb_commands.specs.Scripts.{answer_lines, stops_reading, stops_writing};
+ghost use Rattle.adb_commands.specs.ScriptInput.{ReadsWithin};
+ghost use Rattle.adb_commands.specs.ScriptStop.{IsRunEnd, stops_reading, stops_writing};
+ghost use Rattle.adb_commands.specs.Scripts.{AnswersAs, RefusesAs, answer_lines};
 
 use crate::script_input::read_script;
 use crate::script_stop::ScriptStop;
@@ -37,8 +39,31 @@ pub fn answer<S: Source, K: Sink>(
     ensures reads { Counts S.steady S.faults source.old source.new (stops_reading result) }
     ensures counts { Counts K.steady K.faults sink.old sink.new (stops_writing result) }
 {
-    let script = read_script(alloc, source)?;
-    let answers = answers_to(alloc, script.as_slice(), seed)?;
+    match read_script(alloc, source) {
+        Ok(script) => answer_text(alloc, seed, script.as_slice(), sink),
+        Err(stop) => Err(stop),
+    }
+}
+
+/// Runs a script that was read, and writes its answer lines.
+fn answer_text<K: Sink>(
+    alloc: Global,
+    seed: u64,
+    script: &[u8],
+    sink: &mut K,
+) -> Result<(), ScriptStop>
+    ensures refuses { RefusesAs result (first_bad script.now) }
+    ensures writes { (had : List ℕ) → K.written sink.old ≡ Some had
+        → AnswersAs result script.now had (K.written sink.new) }
+    ensures unwritten { (line : ℕ) → result ≡ Err (ScriptStop.BadLine line)
+        → sink.new ≡ sink.old }
+    ensures reads { stops_reading result ≡ false }
+    ensures counts { Counts K.steady K.faults sink.old sink.new (stops_writing result) }
+{
+    let answers = match answers_to(alloc, script, seed) {
+        Ok(answers) => answers,
+        Err(stop) => return Err(stop),
+    };
     if answers.is_empty() {
         return Ok(());
     }

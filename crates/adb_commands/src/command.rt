@@ -9,8 +9,9 @@ ghost use Rattle.adb_commands.specs.Notes.{WritesNote};
 ghost use Rattle.adb_commands.specs.Run.{WritesHistory, WritesRead, WritesLegal, WritesWhole};
 ghost use Rattle.adb_commands.specs.Run.{EndsCapture, NamesRefusal, Completes, IsUnheard};
 ghost use Rattle.adb_commands.specs.Run.{IsAtHand, IsReplayLine, IsCheckLine, IsLoadLine};
+ghost use Rattle.adb_commands.specs.ScriptInput.{ReadsWithin};
 ghost use Rattle.adb_commands.specs.Scripts.{CompletesScript, EndsScript, IsScriptLine, NamesLine};
-ghost use Rattle.adb_commands.specs.Scripts.{ReadsWithin, WritesAnswers};
+ghost use Rattle.adb_commands.specs.Scripts.{WritesAnswers};
 ghost use Rattle.adb_commands.specs.Words.{IsNoCommand, IsReplay, IsCheck, IsLoad, IsLocal, IsScript};
 
 use crate::answering::answer;

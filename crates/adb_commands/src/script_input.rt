@@ -1,12 +1,13 @@
 //! Reading a script.
 
-ghost use Rattle.std.specs.Prelude.{◌≡◌, ◌≤◌, ◌<◌, ℕ, Some, IfOk, length};
+ghost use Rattle.std.specs.Prelude.{◌≡◌, ◌≤◌, ◌<◌, ◌-◌, IfOk, length};
 ghost use Rattle.adb_outside.specs.Outside.{Counts};
-ghost use Rattle.adb_commands.specs.Scripts.{IsReadEnd, ReadsPiece, ReadsScript, ReadsWithin, stops_reading};
+ghost use Rattle.adb_commands.specs.ScriptInput.{ReadsPiece, ReadsScript, ReadsWithin};
+ghost use Rattle.adb_commands.specs.ScriptStop.{IsReadEnd, stops_reading};
 
 use crate::script_stop::ScriptStop;
 use adb_outside::{Got, Source, Text};
-use std::alloc::Global;
+use std::alloc::{AllocError, Global};
 
 /// The most bytes that are read of a script: one more than it may have.
 pub const MAX_READ: usize = 1_048_577;
@@ -60,10 +61,10 @@ fn read_into<S: Source>(
     ensures counts { Counts S.steady S.faults source.old source.new (stops_reading result) }
 {
     match source.read(piece) {
-        Got::Bytes(count) => {
-            script.push_slice(&piece[..count])?;
-            Ok(true)
-        }
+        Got::Bytes(count) => match script.push_slice(&piece[..count]) {
+            Ok(()) => Ok(true),
+            Err(AllocError) => Err(ScriptStop::OutOfMemory),
+        },
         Got::End => Ok(false),
         Got::Failed => Err(ScriptStop::ReadFault),
     }

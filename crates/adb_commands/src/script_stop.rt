@@ -29,7 +29,7 @@ impl From<AllocError> for ScriptStop {
 
 impl From<ScriptError> for ScriptStop {
     ghost use Rattle.std.specs.Prelude.{◌≡◌};
-    ghost use Rattle.adb_commands.specs.Scripts.{stop_of};
+    ghost use Rattle.adb_commands.specs.ScriptStop.{stop_of};
 
     ghost from_gives = { λ why stop. stop ≡ stop_of why };
 
