@@ -4,7 +4,7 @@ use Rattle.std.proofs.Common.{Option, Some, None, Result, Ok, Err, refl, sym, �
 use Rattle.std.proofs.lemmas.List.{append-nil}
 use Rattle.adb_script.specs.Script.{first_bad}
 use Rattle.adb_commands.specs.Notes.{bad_script_line}
-use Rattle.adb_commands.specs.ScriptInput.{IsRead}
+use Rattle.adb_commands.specs.ScriptInput.{IsRead, ReadsScript, ReadsWithin}
 use Rattle.adb_commands.specs.ScriptStop.{IsReadStop, IsRunStop, is_read_stop, is_write_stop}
 use Rattle.adb_commands.specs.Scripts.{answer_lines, RefusesBy, RefusesAs, WritesLines, LosesLines, StopsOut, AnswersAs, AnswersBy, ScriptEndsBy}
 use Rattle.adb_commands.specs.Scripts.{CompletesScriptBy, IsScriptLine, IsLineNamed, IsLineOfScript, ScriptEndsIn}
@@ -70,6 +70,9 @@ module _ (script text had : List ℕ) (written : Option (List ℕ)) (answers : a
   lines_lost piece taken same is = record { text = text; answers = answers; front = part_out text piece had taken written same is }
 
 -- ---- from what was read to what was to come
+pub read_as : (script slice : List ℕ) (before after : Option (List ℕ)) → slice ≡ script → ReadsScript script before after → ReadsScript slice before after
+read_as script slice before after same read = λ coming was. subst (λ (s : List ℕ). IsRead s coming after) (sym same) (read coming was)
+
 module _ (script coming : List ℕ) (after : Option (List ℕ)) (read : IsRead script coming after) where
   -- a script that is cut is refused as all of it is
   pub bad_alike : first_bad script ≡ first_bad coming
@@ -217,6 +220,9 @@ pub unanswered : (status : Status) (script had : List ℕ) (written : Option (Li
     → written ≡ Some had → AnswersBy status script had written
 unanswered status script had written (inl e) is = subst (λ (s : Status). AnswersBy s script had written) (sym e) is
 unanswered status script had written (inr e) is = subst (λ (s : Status). AnswersBy s script had written) (sym e) (inl is)
+
+pub script_unread : (left : Option (List ℕ)) → ReadsWithin left left
+script_unread left = λ coming was. record { front = []; rest = coming; is = refl; left = was; few = omega arith }
 
 pub unread_ends : (status : Status) (bad : Option ℕ) (left : Option (List ℕ)) → (status ≡ OutOfMemory) ⊎ (status ≡ WriteFault) → ScriptEndsBy status bad left
 unread_ends status bad left (inl e) = subst (λ (s : Status). ScriptEndsBy s bad left) (sym e) tt

@@ -1,21 +1,21 @@
 use Rattle.std.proofs.Common.{Bool, false, sym, subst}
 use Rattle.adb_outside.specs.Outside.{Counts}
 use Rattle.adb_commands.proofs.Counting.{counts_first}
-use Rattle.adb_commands.proofs.Scripts.{refuses_all, answers_all, reads_all, read_stop_refuses, read_stop_out, read_stop_writes}
+use Rattle.adb_commands.proofs.Scripts.{read_as, refuses_all, answers_all, reads_all, read_stop_refuses, read_stop_out, read_stop_writes}
 use Rattle.adb_commands.proofs.answering.answer.Goals as goal
 
 pub returns-in-Ok-clause-refuses : goal.returns-in-Ok-clause-refuses
 returns-in-Ok-clause-refuses g c = λ coming was.
-    refuses_all _ coming _ (c.in-Ok.ensures.script coming was) c.answer_text.result c.answer_text.ensures.refuses
+    refuses_all c.as_slice.result.now coming _ (read_as _ _ _ _ c.as_slice.ensures c.in-Ok.ensures.script coming was) c.answer_text.result c.answer_text.ensures.refuses
 
 pub returns-in-Ok-clause-writes : goal.returns-in-Ok-clause-writes
 returns-in-Ok-clause-writes g c = λ coming had was has.
-    answers_all _ coming _ (c.in-Ok.ensures.script coming was) c.answer_text.result had _ c.answer_text.ensures.refuses
+    answers_all c.as_slice.result.now coming _ (read_as _ _ _ _ c.as_slice.ensures c.in-Ok.ensures.script coming was) c.answer_text.result had _ c.answer_text.ensures.refuses
     (c.answer_text.ensures.writes had has)
 
 pub returns-in-Ok-clause-whole : goal.returns-in-Ok-clause-whole
 returns-in-Ok-clause-whole g c = λ is coming was.
-    reads_all _ coming _ (c.in-Ok.ensures.script coming was) c.answer_text.result c.answer_text.ensures.refuses is
+    reads_all c.as_slice.result.now coming _ (read_as _ _ _ _ c.as_slice.ensures c.in-Ok.ensures.script coming was) c.answer_text.result c.answer_text.ensures.refuses is
 
 pub returns-in-Ok-clause-reads : goal.returns-in-Ok-clause-reads
 returns-in-Ok-clause-reads g c =
