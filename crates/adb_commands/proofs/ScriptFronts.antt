@@ -19,9 +19,6 @@ none_before : (lines : List (List ℕ)) → with_front [] lines ≡ lines
 none_before [] = refl
 none_before (line ∷ lines) = refl
 
-front_of : (byte : ℕ) (front : List ℕ) (line : List ℕ) (lines : List (List ℕ)) → with_front (byte ∷ front) (line ∷ lines) ≡ (byte ∷ front ++ line) ∷ lines
-front_of byte front line lines = refl
-
 front_of_any : (front line : List ℕ) (lines : List (List ℕ)) → with_front front (line ∷ lines) ≡ (front ++ line) ∷ lines
 front_of_any [] line lines = refl
 front_of_any (byte ∷ front) line lines = refl
@@ -39,11 +36,21 @@ pub record AreRefused (lines others : List (List ℕ)) (number before : ℕ) : T
   pub one : bad_among number before lines ≡ Some at
   pub other : bad_among number before others ≡ Some at
 
+-- a line that is refused, and one that is not
+refused : (number before : ℕ) (line : List ℕ) (lines : List (List ℕ)) → is_bad number (before + length line) line ≡ true
+    → bad_among number before (line ∷ lines) ≡ Some number
+refused number before line lines bad = ap (λ (t : Bool). cond t (Some number) (bad_among (number + 1) (before + length line) lines)) bad
+
+passed : (number before : ℕ) (line : List ℕ) (lines : List (List ℕ)) (at : ℕ) → is_bad number (before + length line) line ≡ false
+    → bad_among (number + 1) (before + length line) lines ≡ Some at → bad_among number before (line ∷ lines) ≡ Some at
+passed number before line lines at good rest =
+    ap (λ (t : Bool). cond t (Some number) (bad_among (number + 1) (before + length line) lines)) good ∙ rest
+
 -- a line that goes too far is refused
 too_far : (number before : ℕ) (line : List ℕ) (lines : List (List ℕ)) → most < before + length line → bad_among number before (line ∷ lines) ≡ Some number
 too_far number before line lines far =
     let bad : is_bad number (before + length line) line ≡ true = grind (arith, nat_tests, far) in
-    ap (λ (t : Bool). cond t (Some number) (bad_among (number + 1) (before + length line) lines)) bad
+    refused number before line lines bad
 
 -- the front alone goes too far
 front_too_far : (number before : ℕ) (front : List ℕ) (lines : List (List ℕ)) → before ≤ most → most < before + length front
@@ -62,16 +69,16 @@ behind number before line lines others more = go (is_bad number (before + length
     go : (t : Bool) → is_bad number (before + length line) line ≡ t → AreRefused (line ∷ lines) (line ∷ others) number before
     go true bad = record {
       at = number;
-      one = ap (λ (t : Bool). cond t (Some number) (bad_among (number + 1) (before + length line) lines)) bad;
-      other = ap (λ (t : Bool). cond t (Some number) (bad_among (number + 1) (before + length line) others)) bad;
+      one = refused number before line lines bad;
+      other = refused number before line others bad;
     }
     go false good =
         let within : before + length line ≤ most = grind (arith, nat_tests, good) in
         let m = more within in
         record {
           at = m.at;
-          one = ap (λ (t : Bool). cond t (Some number) (bad_among (number + 1) (before + length line) lines)) good ∙ m.one;
-          other = ap (λ (t : Bool). cond t (Some number) (bad_among (number + 1) (before + length line) others)) good ∙ m.other;
+          one = passed number before line lines m.at good m.one;
+          other = passed number before line others m.at good m.other;
         }
 
 refused_alike : (script more front : List ℕ) (number before : ℕ) → before ≤ most → most < before + length front + length script

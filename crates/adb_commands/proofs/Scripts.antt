@@ -53,21 +53,11 @@ run_stop_out stop.WriteFault script had written e is = absurd e
 run_stop_out stop.OutOfMemory script had written e is = is
 run_stop_out (stop.BadLine line) script had written e is = is
 
--- ---- what went out of the answer lines
-module _ (script text had : List ℕ) (written : Option (List ℕ)) (answers : answer_lines script ≡ Some text) where
-  pub lines_out : written ≡ Some (had ++ text) → WritesLines script had written
-  lines_out is = record { text = text; answers = answers; is = is }
-
-  -- there are none
-  pub no_lines_out : length text ≡ 0 → written ≡ Some had → WritesLines script had written
-  no_lines_out none is = lines_out (is ∙ ap Some (sym (ap (λ t. had ++ t) (empty text none) ∙ append-nil had)))
-    where
-      empty : (t : List ℕ) → length t ≡ 0 → t ≡ []
-      empty [] e = refl
-      empty (x ∷ t) e = absurd (omega (arith, e))
-
-  pub lines_lost : (piece : List ℕ) (taken : ℕ) → piece ≡ text → written ≡ Some (had ++ take taken piece) → LosesLines script had written
-  lines_lost piece taken same is = record { text = text; answers = answers; front = part_out text piece had taken written same is }
+-- the sink failed over the answer lines
+pub lines_lost : (script text had : List ℕ) (written : Option (List ℕ)) → answer_lines script ≡ Some text → (piece : List ℕ) (taken : ℕ) → piece ≡ text
+    → written ≡ Some (had ++ take taken piece) → LosesLines script had written
+lines_lost script text had written answers piece taken same is =
+    record { text = text; answers = answers; front = part_out text piece had taken written same is }
 
 -- ---- from what was read to what was to come
 pub read_as : (script slice : List ℕ) (before after : Option (List ℕ)) → slice ≡ script → ReadsScript script before after → ReadsScript slice before after
