@@ -1,9 +1,9 @@
 -- A script that is too long is refused as every front of it is that is too long.
-use Rattle.std.proofs.Common.{ℕ, ◌+◌, ◌≡◌, ◌<◌, ◌≤◌, Bool, true, false, cond, List, [], ◌∷◌, ◌++◌, length, Option, Some, None, refl, sym, ◌∙◌, ap, subst, arith}
+use Rattle.std.proofs.Common.{ℕ, ◌+◌, ◌≡◌, ◌<◌, ◌≤◌, Bool, true, false, cond, List, [], ◌∷◌, ◌++◌, length, Some, refl, sym, ◌∙◌, ap, subst, arith}
 use Rattle.std.specs.List.{onto_first}
 use Rattle.std.proofs.lemmas.Bool.Decides.{nat_tests}
-use Rattle.std.proofs.lemmas.List.{append-nil, length-append, append_assoc}
-use Rattle.adb_script.specs.Script.{is_newline, lines_of, is_bad, bad_among, first_bad}
+use Rattle.std.proofs.lemmas.List.{length-append, append_assoc}
+use Rattle.adb_script.specs.Script.{is_newline, lines_of, is_bad, bad_among}
 
 -- the most bytes of a script
 abbrev most : ℕ

@@ -1,7 +1,7 @@
 -- A script is read piece by piece.
 use Rattle.std.proofs.Common.{ℕ, ◌+◌, ◌-◌, ◌≡◌, ◌<◌, ◌≤◌, ◌⊎◌, inl, inr, Bool, true, false, List, [], ◌++◌, length, take, drop}
 use Rattle.std.proofs.Common.{Option, Some, Result, Ok, Err, refl, sym, ◌∙◌, ap, arith, append_assoc}
-use Rattle.std.proofs.lemmas.List.{append-nil, length-append, length-take, take-append-drop}
+use Rattle.std.proofs.lemmas.List.{length-append, length-take, take-append-drop}
 use Rattle.adb_outside.specs.Source.{TellsRead}
 use Rattle.adb_outside.specs.declared.source.Got.TheVariants.{Bytes}
 use Rattle.adb_commands.specs.ScriptInput.{PieceBy, TakesPiece, Grows, ReadsPiece, IsRead, ReadsFront}

@@ -1,4 +1,4 @@
-use Rattle.std.proofs.Common.{Bool, false, sym, subst}
+use Rattle.std.proofs.Common.{Bool, sym, subst}
 use Rattle.adb_outside.specs.Outside.{Counts}
 use Rattle.adb_commands.proofs.Counting.{counts_first}
 use Rattle.adb_commands.proofs.Scripts.{read_as, refuses_all, answers_all, reads_all, read_stop_refuses, read_stop_out, read_stop_writes}

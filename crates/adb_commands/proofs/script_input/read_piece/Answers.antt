@@ -1,4 +1,4 @@
-use Rattle.std.proofs.Common.{ℕ, ◌≡◌, ◌<◌, ◌≤◌, ◌-◌, length, take, arith}
+use Rattle.std.proofs.Common.{◌<◌, ◌≤◌, ◌-◌, length, take, arith}
 use Rattle.std.proofs.lemmas.List.{length-take}
 use Rattle.adb_commands.specs.declared.script_input.TheConstants.{MAX_READ}
 use Rattle.adb_commands.proofs.ScriptReading.{piece_of_more}

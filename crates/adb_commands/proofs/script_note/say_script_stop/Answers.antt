@@ -1,8 +1,8 @@
 use Rattle.std.proofs.Common.{refl, sym, subst}
-use Rattle.adb_commands.proofs.Lines.{notes_of, notes_as}
-use Rattle.adb_commands.specs.Notes.{read_fault_line, write_fault_line, out_of_memory_line, bad_script_line, IsLineOr}
+use Rattle.adb_commands.proofs.Lines.{notes_of}
+use Rattle.adb_commands.specs.Notes.{read_fault_line, write_fault_line}
 use Rattle.adb_commands.specs.Scripts.{IsLineOfScript}
-use Rattle.adb_commands.specs.declared.status.Status.TheVariants.{ReadFault, WriteFault, OutOfMemory, BadScript}
+use Rattle.adb_commands.specs.declared.status.Status.TheVariants.{ReadFault, WriteFault}
 use Rattle.adb_commands.specs.declared.script_stop.ScriptStop.{ScriptStop}
 use Rattle.adb_commands.proofs.script_note.say_script_stop.Goals as goal
 
