@@ -11,7 +11,8 @@ use Rattle.adb_commands.specs.declared.script_stop.ScriptStop.TheVariants as sto
 
 -- ---- one piece
 -- some bytes came, and stand behind the script
-module _ (before after : Option (List ℕ)) (old new into : List ℕ) (n most : ℕ) (some : 0 < n) (within : n ≤ most) (tells : TellsRead before after into (Bytes n)) where
+module _ (before after : Option (List ℕ)) (old new into : List ℕ) (n most : ℕ) (some : 0 < n) (within : n ≤ most)
+    (tells : TellsRead before after into (Bytes n)) where
   taken_piece : (result : Result Bool ScriptStop)
       → ((coming : List ℕ) → take n into ≡ take n coming → PieceBy result (take n coming) (drop n coming) old new most)
       → (coming : List ℕ) → before ≡ Some coming → TakesPiece result coming after old new most
@@ -129,7 +130,8 @@ module _ (before now after : Option (List ℕ)) (script new : List ℕ) (so : Re
       whole (inr none) = inr (omega (arith, none, few, ap (length {A = ℕ}) piece.grows))
 
   -- what was read is within the bound, however the last piece ended
-  pub read_within : (result : Result Bool ScriptStop) → length script ≤ MAX_READ → Piece result → (coming : List ℕ) → before ≡ Some coming → ReadsFront coming after
+  pub read_within : (result : Result Bool ScriptStop) → length script ≤ MAX_READ → Piece result → (coming : List ℕ) → before ≡ Some coming
+      → ReadsFront coming after
   read_within result few piece = λ coming is.
       let h = so coming is in
       let t = piece.told h.rest h.left in

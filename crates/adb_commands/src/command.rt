@@ -12,7 +12,8 @@ ghost use Rattle.adb_commands.specs.Run.{IsAtHand, IsReplayLine, IsCheckLine, Is
 ghost use Rattle.adb_commands.specs.ScriptInput.{ReadsWithin};
 ghost use Rattle.adb_commands.specs.Scripts.{CompletesScript, EndsScript, IsScriptLine, NamesLine};
 ghost use Rattle.adb_commands.specs.Scripts.{WritesAnswers};
-ghost use Rattle.adb_commands.specs.Words.{IsNoCommand, IsReplay, IsCheck, IsLoad, IsLocal, IsScript};
+ghost use Rattle.adb_commands.specs.Words.{IsNoCommand, IsReplay, IsCheck, IsLoad};
+ghost use Rattle.adb_commands.specs.Words.{IsLocal, IsScript};
 
 use crate::answering::answer;
 use crate::checking::check;
@@ -41,9 +42,9 @@ use std::alloc::Global;
 /// its history is legal, and else which is the first that may not come, and the rule that it breaks.
 /// It keeps one record. After a kill too it reads on, to the end of the source.
 ///
-/// `local <seed>` reads a script to its end, runs it in a new world, and writes its answer lines. The
-/// seed says only which side of the world moves next, and by how much. Nothing is read behind the
-/// byte that is one too many, and nothing is written where a line is refused.
+/// `local <seed>` reads a script to its end, runs it in a new world, and writes its answer lines.
+/// The seed says only which side of the world moves next, and by how much. Nothing is read behind
+/// the byte that is one too many, and nothing is written where a line is refused.
 ///
 /// Each status but Done writes its one line to the note. Where that write fails the status is
 /// WriteFault, whose own line is tried then, once.

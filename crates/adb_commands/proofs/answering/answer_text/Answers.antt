@@ -12,7 +12,8 @@ returns-in-Err-clause-reads g c = run_stop_reads c.in-Err.stop c.in-Err.ensures.
 
 pub returns-in-Err-clause-counts : goal.returns-in-Err-clause-counts
 returns-in-Err-clause-counts g c =
-    subst (λ (failed : Bool). Counts g.K.Sink.steady g.K.Sink.faults c.args.sink.now c.args.sink.now failed) (sym (run_stop_writes c.in-Err.stop c.in-Err.ensures.ends))
+    subst (λ (failed : Bool). Counts g.K.Sink.steady g.K.Sink.faults c.args.sink.now c.args.sink.now failed)
+    (sym (run_stop_writes c.in-Err.stop c.in-Err.ensures.ends))
     (counts_first g.K.Sink.steady g.K.Sink.faults c.args.sink.now)
 
 pub returns-clause-writes : goal.returns-clause-writes
