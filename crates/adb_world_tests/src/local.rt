@@ -1,6 +1,6 @@
 //! Scripts and their answers, worked out by hand.
 
-ghost use Rattle.std.specs.Prelude.{◌≡◌};
+ghost use Rattle.adb_local.specs.Running.{IsNew};
 
 use adb_local::run_script;
 use adb_outside::Text;
@@ -40,13 +40,16 @@ fn answers(alloc: Global, script: &[u8], seed: u64, all: &mut Text) -> Result<u3
     run(alloc, &mut world, script, seed, all)
 }
 
+/// The same in a world that is new.
 fn run(
     alloc: Global,
     world: &mut World,
     script: &[u8],
     seed: u64,
     all: &mut Text,
-) -> Result<u32, AllocError> {
+) -> Result<u32, AllocError>
+    requires { IsNew world.old }
+{
     match run_script(alloc, world, script, seed) {
         Ok(lines) => {
             for line in lines.iter() {

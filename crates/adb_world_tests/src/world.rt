@@ -1,6 +1,6 @@
 //! What sessions are handed.
 
-ghost use Rattle.std.specs.Prelude.{◌≡◌};
+ghost use Rattle.std.specs.Prelude.{◌≡◌, true};
 
 use adb_world::{World, settle};
 use std::alloc::AllocError;
