@@ -1,5 +1,5 @@
 use Rattle.std.proofs.Common.{Err, ap, subst, ◌≡◌, ◌≢◌, ◌⊎◌, false, []}
-use Rattle.clap.specs.Words.{App, fault_of, found_of}
+use Rattle.clap.specs.Words.{App, fault_of}
 use Rattle.adb_words.specs.declared.command.WordsError.TheVariants.{Usage}
 use Rattle.adb_words.specs.Apps.{seed_app}
 use Rattle.adb_words.specs.Words.{are_operands, texts}
