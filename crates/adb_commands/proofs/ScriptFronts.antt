@@ -101,7 +101,8 @@ refused_alike (byte ∷ script) more front number before within far =
         let long = length-append front (byte ∷ []) in
         let both = behind number before line (lines_of script) (lines_of (script ++ more)) (λ end.
         subst (λ (ls : List (List ℕ)). AreRefused ls (lines_of (script ++ more)) (number + 1) (before + length line)) (none_before (lines_of script))
-        (subst (λ (ls : List (List ℕ)). AreRefused (with_front [] (lines_of script)) ls (number + 1) (before + length line)) (none_before (lines_of (script ++ more)))
+        (subst (λ (ls : List (List ℕ)). AreRefused (with_front [] (lines_of script)) ls (number + 1) (before + length line))
+        (none_before (lines_of (script ++ more)))
         (next [] (number + 1) (before + length line) end (omega (arith, far, long))))) in
         subst (λ (ls : List (List ℕ)). AreRefused ls (with_front front ((byte ∷ []) ∷ lines_of (script ++ more))) number before)
         (sym (front_of_any front (byte ∷ []) (lines_of script)))
