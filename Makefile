@@ -1,10 +1,11 @@
 .DEFAULT_GOAL := help
-.PHONY: help demo build test cost
+.PHONY: help demo build test cost serve
 
 help:
 	@echo 'make demo    runs the program over an example capture and shows the history, before any proof: two minutes'
 	@echo 'make build   proves and links the program, as bin/adbhub: most of an hour the first time, then what changed'
 	@echo 'make test    the gate: every proof, must-fail edit, test and program'
+	@echo 'make serve   builds the program, starts a server with a model device, and says how to ask it something'
 	@echo 'make cost    builds the program, and tells how replay and check grow with what they read'
 
 # rt try compiles the program with the crates below it and runs it with checks. It proves nothing, and says so.
@@ -54,3 +55,9 @@ test:
 
 cost: build
 	@examples/replay_cost bin/adbhub
+
+serve: build
+	@echo 'ask it by another terminal, with the port that it names:'
+	@echo '  adb -H 127.0.0.1 -P <port> shell echo hi'
+	@echo "  python3 -c 'import socket; s = socket.create_connection((\"127.0.0.1\", <port>)); s.sendall(b\"000Chost:version\"); print(s.recv(99))'"
+	@bin/adbhub serve --port 0 --device model-1

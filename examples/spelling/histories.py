@@ -35,6 +35,8 @@ def spelled(words):
     """The bytes of a line: the magic, bytes in quotes, a record of any form, or an entry."""
     if words == ['Magic']:
         return MAGIC
+    if words[0] == 'Lines' and len(words) == 3:
+        return text(words[2]) * int(words[1])
     if len(words) == 1:
         return text(words[0])
     if words[0] == 'Record' and len(words) == 4:

@@ -1,5 +1,5 @@
 -- From what was asked over a port to how a tool's call ends.
-use Rattle.std.proofs.Common.{ℕ, ◌≡◌, ◌≢◌, ◌≤◌, ◌<◌, ◌⊎◌, inl, inr, Bool, true, false, List, length, Option, Some, Result, Ok, Err, refl, sym, ◌∙◌, subst, arith}
+use Rattle.std.proofs.Common.{ℕ, ◌≡◌, ◌≢◌, ◌⊎◌, inl, inr, Bool, true, false, List, Option, Some, Result, Ok, Err, refl, sym, ◌∙◌, subst, arith}
 use Rattle.adb_outside.specs.Outside.{Counts}
 use Rattle.adb_words.specs.declared.tool.Tool.{Tool}
 use Rattle.adb_remote_words.specs.declared.remote.Remote.{Remote}
@@ -11,12 +11,11 @@ use Rattle.adb_asking.specs.declared.ends.ToolEnd.{ToolEnd}
 use Rattle.adb_asking.specs.declared.ends.ToolEnd.TheVariants.{Done, Usage, ReadFault, WriteFault, OutOfMemory, Refused, BadAnswer, PortFault, TooLarge}
 use Rattle.adb_asking.specs.declared.input.InputError.{InputError}
 use Rattle.adb_asking.specs.declared.input.InputError.TheVariants as inputs
-use Rattle.adb_asking.specs.declared.input.TheConstants.{MAX_INPUT}
 use Rattle.adb_asking.specs.Asking.{Asks, answered}
 use Rattle.adb_asking.specs.Ends.{end_of, is_write_fault}
-use Rattle.adb_asking.specs.Telling.{CountsBoth, Leaves, Sight, TellsAnswer, parts_of, size_of}
+use Rattle.adb_asking.specs.Telling.{CountsBoth, Sight, TellsAnswer, size_of}
 use Rattle.adb_asking.specs.declared.job.Job.{Job}
-use Rattle.adb_asking.specs.Jobs.{HasInput, MakesJob, ReadsFor, failed_input, job_of}
+use Rattle.adb_asking.specs.Jobs.{MakesJob, ReadsFor, failed_input}
 use Rattle.adb_asking.specs.Calling.{Asked, CallsTool, EndsBy, IsDialled, is_read_fault}
 
 abbrev Answer : Type 0

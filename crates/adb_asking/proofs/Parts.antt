@@ -1,6 +1,5 @@
 -- Both parts of an outcome are told, or not all.
-use Rattle.std.proofs.Common.{ℕ, ◌≡◌, Bool, true, false, List, [], ◌++◌, refl}
-use Rattle.adb_asking.specs.declared.ends.ToolEnd.{ToolEnd}
+use Rattle.std.proofs.Common.{Bool, true, false, refl}
 use Rattle.adb_asking.specs.declared.ends.ToolEnd.TheVariants.{Done, WriteFault, OutOfMemory}
 use Rattle.adb_asking.specs.Telling.{Leaves, Parts, Sight}
 use Rattle.adb_asking.specs.Writing.{Puts}

@@ -1,5 +1,5 @@
 -- How the call of a tool ends, and what it leaves.
-use Rattle.std.specs.Prelude.{ℕ, ◌≡◌, ◌≢◌, ◌<◌, ◌⊎◌, Bool, true, false, List, length, Option, Some, Result, Ok, Err}
+use Rattle.std.specs.Prelude.{ℕ, ◌≡◌, ◌≢◌, ◌<◌, ◌⊎◌, Bool, true, false, List, length, Option, Some, Ok, Err}
 use Rattle.adb_outside.specs.Outside.{Counts}
 use Rattle.adb_words.specs.declared.tool.Tool.{Tool}
 use Rattle.adb_remote_words.specs.declared.remote.Remote.{Remote}

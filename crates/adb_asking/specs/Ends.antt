@@ -1,5 +1,5 @@
 -- How a client tool ends.
-use Rattle.std.specs.Prelude.{ℕ, ◌≡◌, Bool, true, false, List}
+use Rattle.std.specs.Prelude.{Bool, true, false}
 use Rattle.adb_remote_words.specs.declared.remote.RemoteError.{RemoteError}
 use Rattle.adb_remote_words.specs.declared.remote.RemoteError.TheVariants as errors
 use Rattle.adb_asking.specs.declared.ends.ToolEnd.{ToolEnd}

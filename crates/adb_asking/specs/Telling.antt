@@ -1,5 +1,5 @@
 -- What a tool tells, and how it then ends.
-use Rattle.std.specs.Prelude.{ℕ, ◌≡◌, ◌≢◌, ◌||◌, Bool, List, [], ◌++◌, length, Option, Some, Result, Ok, Err}
+use Rattle.std.specs.Prelude.{ℕ, ◌≡◌, ◌≢◌, ◌||◌, Bool, List, [], ◌++◌, length, Option, Result, Ok, Err}
 use Rattle.adb_outside.specs.Outside.{Counts}
 use Rattle.adb_remote_words.specs.declared.remote.Remote.{Remote}
 use Rattle.adb_remote_words.specs.declared.remote.Remote.TheVariants.{Devices, Push, Pull, Shell, Wait}
@@ -7,7 +7,7 @@ use Rattle.adb_remote_words.specs.declared.remote.Outcome.{Outcome}
 use Rattle.adb_remote_words.specs.declared.remote.Outcome.TheVariants.{Listed, Pushed, Pulled, Ran, Ready}
 use Rattle.adb_remote_words.specs.declared.remote.RemoteError.{RemoteError}
 use Rattle.adb_asking.specs.declared.ends.ToolEnd.{ToolEnd}
-use Rattle.adb_asking.specs.declared.ends.ToolEnd.TheVariants.{Done, Usage, ReadFault, WriteFault, OutOfMemory, Refused, BadAnswer, PortFault, TooLarge}
+use Rattle.adb_asking.specs.declared.ends.ToolEnd.TheVariants.{Done, WriteFault, OutOfMemory}
 use Rattle.adb_asking.specs.Ends.{end_of, is_write_fault}
 use Rattle.adb_asking.specs.Lines.{exit_line, pushed_line}
 use Rattle.adb_asking.specs.Writing.{HasText, HasFront}

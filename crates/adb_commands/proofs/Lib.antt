@@ -11,3 +11,6 @@ pub mod Checks
 pub mod Lines
 pub mod Loads
 pub mod Hands
+pub mod ScriptReading
+pub mod ScriptFronts
+pub mod Scripts

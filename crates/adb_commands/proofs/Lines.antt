@@ -1,5 +1,5 @@
 -- What a note has where its writes failed or did not.
-use Rattle.std.proofs.Common.{ℕ, ◌≡◌, ◌≢◌, Bool, true, List, [], ◌++◌, take, drop, Option, Some, refl, sym, ◌∙◌, ap, subst, arith, inl, inr}
+use Rattle.std.proofs.Common.{ℕ, ◌≡◌, ◌≢◌, Bool, true, List, [], ◌++◌, take, drop, Option, Some, refl, sym, subst, arith, inl, inr}
 use Rattle.std.proofs.lemmas.List.{append-nil, take-append-drop}
 use Rattle.adb_outside.specs.Outside.{Rises, Counted}
 use Rattle.adb_outside.specs.Bytes.{IsPrefixOf}

@@ -1,5 +1,5 @@
 -- From how a replay stopped to the status of the run.
-use Rattle.std.proofs.Common.{ℕ, ◌≡◌, ◌≢◌, ◌⊎◌, true, List, [], ◌++◌, Option, Some, None, Err, refl, sym, ◌∙◌, ap, subst, inl, inr}
+use Rattle.std.proofs.Common.{ℕ, ◌≡◌, true, List, [], ◌++◌, Option, Some, None, Err, refl, sym, ◌∙◌, ap, subst, inl, inr}
 use Rattle.std.proofs.lemmas.List.{append-nil}
 use Rattle.adb_history.specs.Accepted.{Accepted}
 use Rattle.adb_history.specs.declared.refusal.Refusal.{Refusal}

@@ -10,4 +10,7 @@ pub mod Replayed
 pub mod Run
 pub mod Loads
 pub mod Check
+pub mod ScriptStop
+pub mod ScriptInput
+pub mod Scripts
 pub mod Alone

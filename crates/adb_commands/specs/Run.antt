@@ -5,8 +5,9 @@ use Rattle.adb_history.specs.declared.refusal.Refusal.{Refusal}
 use Rattle.adb_words.specs.Words.{names_command, texts}
 use Rattle.adb_check.specs.Formed.{formed}
 use Rattle.adb_commands.specs.Notes.{bad_capture_line, illegal_history_line}
-use Rattle.adb_commands.specs.Words.{IsNoCommand, IsReplay, IsCheck}
+use Rattle.adb_commands.specs.Words.{IsNoCommand, IsReplay, IsCheck, IsScript}
 use Rattle.adb_commands.specs.Keeping.{HasFront}
+use Rattle.adb_commands.specs.Scripts.{IsScriptLine}
 use Rattle.adb_commands.specs.Replay.{IsReadWhole}
 use Rattle.adb_commands.specs.Replayed.{GrowsSpelled, GrowsWhole, WritesConsumed}
 use Rattle.adb_commands.specs.declared.status.Status.{Status}
@@ -170,7 +171,7 @@ abbrev pub IsAtHand : {A : Type 0} → List (String A)
     → (read_rose write_rose : Type 0) → Option (List ℕ) → Status → List ℕ → Type 0
 IsAtHand words read_rose write_rose left Done line = ⊥
 IsAtHand words read_rose write_rose left Usage line = IsNoCommand words
-IsAtHand words read_rose write_rose left ReadFault line = (IsReplay words ⊎ IsCheck words) × read_rose
+IsAtHand words read_rose write_rose left ReadFault line = (IsReplay words ⊎ IsCheck words ⊎ IsScript words) × read_rose
 IsAtHand words read_rose write_rose left WriteFault line = write_rose
 IsAtHand words read_rose write_rose left BadCapture line =
     (IsReplay words × IsReplayLine read_rose write_rose left BadCapture line)
@@ -178,7 +179,8 @@ IsAtHand words read_rose write_rose left BadCapture line =
 IsAtHand words read_rose write_rose left OutOfMemory line = Unit {0}
 IsAtHand words read_rose write_rose left RecordFault line = ⊥
 IsAtHand words read_rose write_rose left DoorFault line = ⊥
-IsAtHand words read_rose write_rose left BadScript line = ⊥
+IsAtHand words read_rose write_rose left BadScript line =
+    IsScript words × IsScriptLine read_rose write_rose left BadScript line
 IsAtHand words read_rose write_rose left Refused line = ⊥
 IsAtHand words read_rose write_rose left BadAnswer line = ⊥
 IsAtHand words read_rose write_rose left PortFault line = ⊥

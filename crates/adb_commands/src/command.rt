@@ -9,12 +9,18 @@ ghost use Rattle.adb_commands.specs.Notes.{WritesNote};
 ghost use Rattle.adb_commands.specs.Run.{WritesHistory, WritesRead, WritesLegal, WritesWhole};
 ghost use Rattle.adb_commands.specs.Run.{EndsCapture, NamesRefusal, Completes, IsUnheard};
 ghost use Rattle.adb_commands.specs.Run.{IsAtHand, IsReplayLine, IsCheckLine, IsLoadLine};
+ghost use Rattle.adb_commands.specs.ScriptInput.{ReadsWithin};
+ghost use Rattle.adb_commands.specs.Scripts.{CompletesScript, EndsScript, IsScriptLine, NamesLine};
+ghost use Rattle.adb_commands.specs.Scripts.{WritesAnswers};
 ghost use Rattle.adb_commands.specs.Words.{IsNoCommand, IsReplay, IsCheck, IsLoad};
+ghost use Rattle.adb_commands.specs.Words.{IsLocal, IsScript};
 
+use crate::answering::answer;
 use crate::checking::check;
 use crate::generating::generate;
 use crate::note::{say_illegal, say_out_of_memory, say_stop, say_usage};
 use crate::replay::replay;
+use crate::script_note::say_script_stop;
 use crate::status::Status;
 use adb_check::Judgement;
 use adb_outside::{Sink, Source};
@@ -35,6 +41,10 @@ use std::alloc::Global;
 /// `check` reads a capture with its hand-outs, and writes one line: how many entries it has, where
 /// its history is legal, and else which is the first that may not come, and the rule that it breaks.
 /// It keeps one record. After a kill too it reads on, to the end of the source.
+///
+/// `local <seed>` reads a script to its end, runs it in a new world, and writes its answer lines.
+/// The seed says only which side of the world moves next, and by how much. Nothing is read behind
+/// the byte that is one too many, and nothing is written where a line is refused.
 ///
 /// Each status but Done writes its one line to the note. Where that write fails the status is
 /// WriteFault, whose own line is tried then, once.
@@ -96,6 +106,23 @@ pub fn run_alone<S: Source, K: Sink, N: Sink>(
         S.left source.old source.new K.written sink.old sink.new }
     ensures illegal { result ≡ Status.Illegal → IsCheck words.now }
 
+    // A script: at Done its answer lines went out, by what its lines say alone, whatever the seed
+    // is; where a write failed a front of them did, and at every other status nothing.
+    ensures answers { (seed : ℕ) → IsLocal seed words.now
+        → WritesAnswers result (S.left source.old) K.written sink.old sink.new }
+
+    // Done: no line is refused, and the source was read to its end. BadScript: a line is refused.
+    ensures ends_script { (seed : ℕ) → IsLocal seed words.now
+        → EndsScript result S.left source.old source.new }
+
+    // Nothing is read behind the byte that is one too many.
+    ensures within { (seed : ℕ) → IsLocal seed words.now
+        → ReadsWithin (S.left source.old) (S.left source.new) }
+
+    // BadScript comes for a script alone, and nothing is written then.
+    ensures bad_script { result ≡ Status.BadScript → IsScript words.now }
+    ensures unwritten { result ≡ Status.BadScript → sink.new ≡ sink.old }
+
     // Nobody is served, and no server is dialled.
     ensures serves { (result ≢ Status.RecordFault) × (result ≢ Status.DoorFault) }
     ensures dials { (result ≢ Status.Refused) × (result ≢ Status.BadAnswer)
@@ -114,6 +141,10 @@ pub fn run_alone<S: Source, K: Sink, N: Sink>(
         → NamesRefusal result (S.left source.old) N.written note.old note.new }
     ensures names_form { IsCheck words.now
         → NamesForm result (S.left source.old) N.written note.old note.new }
+
+    // At BadScript it names the first line that is refused.
+    ensures names_line { (seed : ℕ) → IsLocal seed words.now
+        → NamesLine result (S.left source.old) N.written note.old note.new }
 
     // A fault comes only where the count of that very stream rose in this run,
     ensures read_fault { result ≡ Status.ReadFault → Rose S.faults source.old source.new }
@@ -143,16 +174,24 @@ pub fn run_alone<S: Source, K: Sink, N: Sink>(
         → ¬ Rose N.faults note.old note.new
         → CompletesCheck result (S.left source.old) }
 
-    // and a load is done, but for memory.
+    // and a load is done, but for memory;
     ensures makes { (seed streams : ℕ) → IsLoad seed streams words.now
         → ¬ Rose K.faults sink.old sink.new
         → ¬ Rose N.faults note.old note.new
         → (result ≡ Status.Done) ⊎ (result ≡ Status.OutOfMemory) }
+
+    // and a script with a line that is refused is BadScript, and any other is Done, but for memory.
+    ensures runs { (seed : ℕ) → IsLocal seed words.now
+        → ¬ Rose S.faults source.old source.new
+        → ¬ Rose K.faults sink.old sink.new
+        → ¬ Rose N.faults note.old note.new
+        → CompletesScript result (S.left source.old) }
 {
     match read_words(alloc, words) {
         Ok(Command::Replay) => run_replay(alloc, source, sink, note),
         Ok(Command::Check) => run_check(alloc, source, sink, note),
         Ok(Command::Gen { seed, streams }) => run_gen(alloc, seed, streams, sink, note),
+        Ok(Command::Local { seed }) => run_local(alloc, seed, source, sink, note),
         Err(WordsError::Usage) => say_usage(note),
         Err(WordsError::OutOfMemory) => say_out_of_memory(note),
     }
@@ -167,6 +206,7 @@ fn run_replay<S: Source, K: Sink, N: Sink>(
 ) -> Status
     ensures command { result ≢ Status.Usage }
     ensures illegal { result ≢ Status.Illegal }
+    ensures script { result ≢ Status.BadScript }
     ensures serves { (result ≢ Status.RecordFault) × (result ≢ Status.DoorFault) }
     ensures dials { (result ≢ Status.Refused) × (result ≢ Status.BadAnswer)
         × (result ≢ Status.PortFault) × (result ≢ Status.TooLarge) }
@@ -210,6 +250,7 @@ fn run_check<S: Source, K: Sink, N: Sink>(
     note: &mut N,
 ) -> Status
     ensures command { result ≢ Status.Usage }
+    ensures script { result ≢ Status.BadScript }
     ensures serves { (result ≢ Status.RecordFault) × (result ≢ Status.DoorFault) }
     ensures dials { (result ≢ Status.Refused) × (result ≢ Status.BadAnswer)
         × (result ≢ Status.PortFault) × (result ≢ Status.TooLarge) }
@@ -263,5 +304,44 @@ fn run_gen<K: Sink, N: Sink>(
     match generate(alloc, seed, streams, sink) {
         Ok(()) => Status::Done,
         Err(stop) => say_stop(alloc, note, stop),
+    }
+}
+
+/// Answers the script of a source, and tells the note how it ended where it is not done.
+fn run_local<S: Source, K: Sink, N: Sink>(
+    alloc: Global,
+    seed: u64,
+    source: &mut S,
+    sink: &mut K,
+    note: &mut N,
+) -> Status
+    ensures status { (result ≡ Status.Done) ⊎ (result ≡ Status.ReadFault)
+        ⊎ (result ≡ Status.WriteFault) ⊎ (result ≡ Status.OutOfMemory)
+        ⊎ (result ≡ Status.BadScript) }
+    ensures answers { WritesAnswers result (S.left source.old) K.written sink.old sink.new }
+    ensures ends { EndsScript result S.left source.old source.new }
+    ensures within { ReadsWithin (S.left source.old) (S.left source.new) }
+    ensures unwritten { result ≡ Status.BadScript → sink.new ≡ sink.old }
+    ensures notes { WritesNote result
+        (IsScriptLine (Rose S.faults source.old source.new)
+        (Rose K.faults sink.old sink.new) (S.left source.old))
+        N.faults N.written note.old note.new }
+    ensures names { NamesLine result (S.left source.old) N.written note.old note.new }
+    ensures read_fault { result ≡ Status.ReadFault → Rose S.faults source.old source.new }
+    ensures write_fault { result ≡ Status.WriteFault
+        → Rose K.faults sink.old sink.new ⊎ Rose N.faults note.old note.new }
+    ensures source_stood { IsFaultless result → Stood S.faults source.old source.new }
+    ensures sink_stood { result ≢ Status.WriteFault → Stood K.faults sink.old sink.new }
+    ensures note_stood { result ≢ Status.WriteFault → Stood N.faults note.old note.new }
+    ensures steady { S.steady source.old → K.steady sink.old → N.steady note.old
+        → IsFaultless result }
+    ensures complete { ¬ Rose S.faults source.old source.new
+        → ¬ Rose K.faults sink.old sink.new
+        → ¬ Rose N.faults note.old note.new
+        → CompletesScript result (S.left source.old) }
+{
+    match answer(alloc, seed, source, sink) {
+        Ok(()) => Status::Done,
+        Err(stop) => say_script_stop(alloc, note, stop),
     }
 }

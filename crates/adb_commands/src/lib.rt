@@ -1,12 +1,16 @@
 //! The commands of `adbhub` that neither serve nor dial: they read a source and write a sink.
 #![tactic(auto)]
 
+mod answering;
 mod checking;
 mod command;
 mod generating;
 mod note;
 mod output;
 mod replay;
+mod script_input;
+mod script_note;
+mod script_stop;
 mod status;
 mod stop;
 mod texts;

@@ -41,6 +41,7 @@ pub struct FakeYard<W: Wait + Copy + Drop> {
     accepts: Vec<u64>,
     spawns: Vec<u64>,
     answer: Option<Text>,
+    answers_at: u16,
     asked: Sent<W>,
     faults: u64,
 }
@@ -70,6 +71,7 @@ impl<W: Wait + Copy + Drop> FakeYard<W> {
             accepts: Vec::new(alloc),
             spawns: Vec::new(alloc),
             answer: None,
+            answers_at: 0,
             asked: Sent::new(rt, alloc)?,
             faults: 0,
         })
@@ -132,8 +134,10 @@ impl<W: Wait + Copy + Drop> FakeYard<W> {
         Ok(())
     }
 
-    /// Who dials next is answered these bytes. What it asks is seen in the answer of this call.
-    pub fn answer(&mut self, bytes: &[u8]) -> Result<Sent<W>, AllocError> {
+    /// Who dials this port next is answered these bytes. What it asks is seen in the answer of this
+    /// call.
+    pub fn answer(&mut self, port: u16, bytes: &[u8]) -> Result<Sent<W>, AllocError> {
+        self.answers_at = port;
         self.answer = Some(Text::from_slice(self.alloc, bytes)?);
         self.asked.handle()
     }
@@ -157,11 +161,14 @@ impl<W: Wait + Copy + Drop> FakeYard<W> {
         })
     }
 
-    /// The two halves of a connection to a server, where it answers.
-    fn connect(&mut self) -> Option<(MemoryIn, SharedOut<W>)>
+    /// The two halves of a connection to a server, where it answers at this port.
+    fn connect(&mut self, port: u16) -> Option<(MemoryIn, SharedOut<W>)>
         ensures answer { IfSome result (λ ends. self.old.answer ≡ Some ends.0.coming) }
         ensures faults { self.new.faults ≡ self.old.faults }
     {
+        if port != self.answers_at {
+            return None;
+        }
         let answer = self.answer.take()?;
         let output = SharedOut::new(self.asked.handle().ok()?, Vec::new(self.alloc));
         let input = MemoryIn::new(answer, PIECE, Vec::new(self.alloc));
@@ -241,8 +248,8 @@ impl<W: Wait + Copy + Send + Sync + Drop + 'static> Yard for FakeYard<W> {
         HoldingGate { holds }
     }
 
-    fn dial(&mut self, _port: u16) -> Dialled<MemoryIn, SharedOut<W>> {
-        match self.connect() {
+    fn dial(&mut self, port: u16) -> Dialled<MemoryIn, SharedOut<W>> {
+        match self.connect(port) {
             Some((input, output)) => Dialled::Here(input, output),
             None => {
                 self.count_fault();

@@ -2,27 +2,27 @@
 use Rattle.std.specs.Prelude.{ℕ, ◌+◌, ◌≡◌, ◌≢◌, ◌≤◌, ◌<◌, ◌&&◌, ◌||◌, not, Bool, true, false, cond, is_some, is_none, nat_eq, List, [], ◌∷◌, ◌++◌, length, codes}
 use Rattle.std.specs.Prelude.{if◌then◌else◌, Option, Some, None}
 use Rattle.std.proofs.Common.{refl, sym, ◌∙◌, ap, subst, arith, ◌⊎◌, inl, inr, zero, suc, add-one, append_assoc}
-use Rattle.std.proofs.lemmas.Bool.{cases_lt, cases_eq, eq-eqb, ne_eqb, eqb-true}
+use Rattle.std.proofs.lemmas.Bool.{cases_lt, cases_eq, eq-eqb, ne_eqb}
 use Rattle.std.proofs.lemmas.List.{length-append, append-nil}
 use Rattle.adb_outside.specs.Bytes.{IsPrefixOf}
 use Rattle.adb_outside.specs.Tables.{put_row}
+use Rattle.adb_outside.specs.declared.kinds.Cause.TheVariants.{Eof, Fault, Starved, NoThread}
 use Rattle.adb_registry.specs.Registry.{DeviceTable}
 use Rattle.adb_forward.specs.declared.row.ForwardRow.{ForwardRow}
 use Rattle.adb_reply.specs.declared.answer.Next.{Next}
 use Rattle.adb_reply.specs.declared.answer.Next.TheVariants.{Open}
-use Rattle.adb_capture.specs.declared.entry.Entry.{Entry}
 use Rattle.adb_capture.specs.declared.entry.Entry.TheVariants.{Join, Enter, Read, End, Bound, Attach, Recv, Detach, Put, Send}
 use Rattle.adb_history.specs.Asking.{Asked, nothing_asked, asks_with}
 use Rattle.adb_history.specs.Bytes.{has_joined, has_ended, bytes_read}
 use Rattle.adb_history.specs.Births.{births, births_at, birth_by}
 use Rattle.adb_history.specs.Book.{book, asked, devices, forwards, is_killed, is_asking, asked_with, newly, kills, forwards_by, led_by, devices_if}
-use Rattle.adb_history.specs.Machine.{History, state, IsLegal}
+use Rattle.adb_history.specs.Machine.{History, IsLegal}
 use Rattle.adb_history.specs.Tied.{came_count}
 use Rattle.adb_history.proofs.Numbers.{counted, next_number}
 use Rattle.adb_history.proofs.Pieces.{asks_pieces}
-use Rattle.adb_laws_sessions.specs.Words.{IsKnown, IsOfSession, requests_for, words_of}
+use Rattle.adb_laws_sessions.specs.Words.{IsOfSession, requests_for, words_of}
 use Rattle.adb_laws_sessions.specs.Model.{model_devices}
-use Rattle.adb_laws_sessions.specs.Asked.{Opens, HasOpened}
+use Rattle.adb_laws_sessions.specs.Asked.{Opens}
 use Rattle.adb_laws_sessions.specs.Sessions.{IsOfSessions, HasAsked, AsksForServices, done_among}
 use Rattle.adb_laws_sessions.proofs.Leading.{leads}
 use Rattle.adb_laws_sessions.proofs.Reading.{SpelledIsRead, opens_service}
@@ -82,6 +82,16 @@ front_of_front a b c (x, is) (y, too) = (x ++ y, sym (append_assoc a x y) ∙ (a
 or_true : (b : Bool) → (b || true) ≡ true
 or_true true = refl
 or_true false = refl
+
+-- a client that ended asked for what no request follows
+asks_on : (ended : Bool) (next : Option Next) → (ended ≡ true → is_some next ≡ true) → (true && not ended && is_none next) ≡ is_none next
+asks_on false next done = refl
+asks_on true (Some next) done = refl
+asks_on true None done = absurd (let clash : false ≡ true = done refl in cc)
+
+some_next : (next : Option Next) → is_some next ≡ true → is_none next ≡ false
+some_next None some = absurd (let clash : false ≡ true = some in cc)
+some_next (Some next) some = refl
 
 module _ (spelled : SpelledIsRead) where
   -- what a front of the words of a session asks is nothing more, or its service
@@ -171,7 +181,7 @@ module _ (spelled : SpelledIsRead) where
       asked_now = asked_with (is_asking c older (book older)) (devices older) (forwards older) piece q
 
       asks : is_asking c older (book older) ≡ is_none q.next
-      asks = (λ i. a.joined c some came i && not (a.ended c i) && is_none q.next)
+      asks = (λ i. a.joined c some came i && not (has_ended c older) && is_none q.next) ∙ asks_on (has_ended c older) q.next (a.ended c)
 
       now : asked_now ≡ asked_with (is_none q.next) model_devices [] piece q
       now = (λ i. asked_with (asks i) (known i) (a.forwards i) piece q)
@@ -205,6 +215,17 @@ module _ (spelled : SpelledIsRead) where
       here_asked : asked c h ≡ asked_now
       here_asked = ap (λ (b : Bool). cond b asked_now q) here
 
+      ended_now : (d : ℕ) → has_ended d older ≡ true → is_some (asked d h).next ≡ true
+      ended_now d ended = go (cases_eq c d)
+        where
+          go : (c ≡ d) ⊎ (c ≢ d) → is_some (asked d h).next ≡ true
+          go (inl is) =
+              let done : is_some q.next ≡ true = a.ended c (subst (λ (k : ℕ). has_ended k older ≡ true) (sym is) ended) in
+              subst (λ (k : ℕ). is_some (asked k h).next ≡ true) is
+              (ap (λ (x : Asked). is_some x.next) here_asked ∙ (ap is_some (kept (some_next q.next done)) ∙ done))
+          go (inr other) =
+              ap (λ (b : Bool). is_some (cond b asked_now (asked d older)).next) (ne_eqb c d other) ∙ a.ended d ended
+
       born_now : length (births_at (Read c piece) older) ≡ one_if next_now
       born_now =
           ap (λ (x : Asked). length (birth_by c x.used older (newly q.next x.next))) here_asked
@@ -231,7 +252,7 @@ module _ (spelled : SpelledIsRead) where
             let other : c ≢ d = λ same. omega (arith, same, past, came) in
             ap (λ (b : Bool). cond b (bytes_read d older ++ piece) (bytes_read d older)) (ne_eqb c d other) ∙ a.unread d past);
         joined = a.joined;
-        ended = a.ended;
+        ended = ended_now;
         births = births_now;
       }
 
@@ -261,6 +282,21 @@ module _ (spelled : SpelledIsRead) where
       joined d some (inl past) le = ap (λ (b : Bool). b || has_joined d older) (eq-eqb c d (omega (arith, number, past, le)))
       joined d some (inr below) le = ap (λ (b : Bool). nat_eq c d || b) (a.joined d some below) ∙ or_true (nat_eq c d)
 
+  end_asks : (older : History) (c : ℕ) → is_some (asked c older).next ≡ true → AsksForServices older → AsksForServices (End c Eof ∷ older)
+  end_asks older c done a = record {
+    killed = a.killed;
+    forwards = a.forwards;
+    clients = a.clients;
+    unread = a.unread;
+    joined = a.joined;
+    ended = λ d. ended d (cases_eq c d);
+    births = ap length (append-nil (births older)) ∙ a.births;
+  }
+    where
+      ended : (d : ℕ) → (c ≡ d) ⊎ (c ≢ d) → (nat_eq c d || has_ended d older) ≡ true → is_some (asked d older).next ≡ true
+      ended d (inl is) e = subst (λ (k : ℕ). is_some (asked k older).next ≡ true) is done
+      ended d (inr other) e = a.ended d (sym (ap (λ (b : Bool). b || has_ended d older) (ne_eqb c d other)) ∙ e)
+
   pub asks_for_services : (h : History) → IsLegal h → IsOfSessions h → AsksForServices h
   asks_for_services [] legal of = record {
     killed = refl;
@@ -279,7 +315,7 @@ module _ (spelled : SpelledIsRead) where
     };
     unread = λ c past. refl;
     joined = λ c some le. absurd (omega (arith, some, le));
-    ended = λ c. refl;
+    ended = λ c e. absurd (let clash : false ≡ true = e in cc);
     births = refl;
   }
   asks_for_services (Join c ∷ older) legal of =
@@ -289,7 +325,10 @@ module _ (spelled : SpelledIsRead) where
       let drawn = legal.2.1 in
       read_asks older legal.0 (asks_for_services older legal.0 of.0) of.1 c piece drawn.0 (omega (arith, came.joined, drawn.1)) of.2
   asks_for_services (Enter c port ∷ older) legal of = absurd of
-  asks_for_services (End c cause ∷ older) legal of = absurd of
+  asks_for_services (End c Eof ∷ older) legal of = end_asks older c of.1 (asks_for_services older legal.0 of.0)
+  asks_for_services (End c Fault ∷ older) legal of = absurd of
+  asks_for_services (End c Starved ∷ older) legal of = absurd of
+  asks_for_services (End c NoThread ∷ older) legal of = absurd of
   asks_for_services (Bound c port ∷ older) legal of = absurd of
   asks_for_services (Detach t cause ∷ older) legal of = absurd of
   asks_for_services (Attach t kind serial ∷ older) legal of = quiet older (asks_for_services older legal.0 of)

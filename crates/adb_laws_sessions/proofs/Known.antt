@@ -2,12 +2,11 @@
 use Rattle.std.specs.Prelude.{ℕ, ◌≡◌, ◌&&◌, Bool, true, false, cond, is_some, nat_eq, List, [], ◌∷◌, length, take, drop, codes, Option, Some, None, bytes_eq}
 use Rattle.std.specs.Cmp.Lexicographic.{pointwise}
 use Rattle.std.specs.List.{starts_with}
-use Rattle.std.proofs.Common.{refl, sym, ◌∙◌, ap, subst, ◌⊎◌, inl, inr, zero, suc}
+use Rattle.std.proofs.Common.{refl, sym, ◌∙◌, ap, ◌⊎◌, inl, inr, suc}
 use Rattle.std.proofs.lemmas.Bool.{eqb-true}
 use Rattle.adb_request.specs.Meaning.{meaning}
 use Rattle.adb_request.specs.declared.request.Request.TheVariants.{Service}
 use Rattle.adb_device_streams.specs.Asked.{Kind, Echoes, Syncs, Shells, service_of, shell_with}
-use Rattle.adb_laws_sessions.specs.Words.{IsKnown}
 
 -- a choice that gives something, by its test or behind it
 tested : {A : Type 0} (t : Bool) (one others : Option A) → is_some (cond t one others) ≡ true → (t ≡ true) ⊎ (is_some others ≡ true)

@@ -1,9 +1,9 @@
 -- What a front of the words of a session asks, of devices of which the request for the model device selects the first, and services are asked for there.
-use Rattle.std.specs.Prelude.{ℕ, ◌+◌, ◌/◌, ◌%◌, ◌≡◌, ◌≤◌, ◌<◌, Bool, true, false, cond, is_some, nat_lt, List, [], ◌∷◌, ◌++◌, length, take, drop, codes}
+use Rattle.std.specs.Prelude.{ℕ, ◌+◌, ◌/◌, ◌%◌, ◌≡◌, ◌≤◌, ◌<◌, Bool, cond, List, [], ◌∷◌, ◌++◌, length, take, drop, codes}
 use Rattle.std.specs.Prelude.{Option, Some, None}
-use Rattle.std.proofs.Common.{refl, sym, ◌∙◌, ap, subst, arith, ◌⊎◌, inl, inr, zero, suc, append_assoc}
+use Rattle.std.proofs.Common.{refl, sym, ◌∙◌, ap, subst, arith, ◌⊎◌, inl, inr, zero, suc}
 use Rattle.std.proofs.lemmas.Bool.{cases_lt, lt-ltb, le-ltb}
-use Rattle.std.proofs.lemmas.List.{length-append, take-append-le}
+use Rattle.std.proofs.lemmas.List.{take-append-le}
 use Rattle.std.proofs.Math.Seq.{take-append_seam}
 use Rattle.adb_outside.specs.Bytes.{IsPrefixOf}
 use Rattle.adb_registry.specs.Registry.{DeviceTable}
@@ -15,7 +15,6 @@ use Rattle.adb_request.specs.declared.request.Request.TheVariants.{Service}
 use Rattle.adb_reply.specs.Answer.{answer}
 use Rattle.adb_reply.specs.declared.answer.Answer.{Answer}
 use Rattle.adb_reply.specs.declared.answer.Next.TheVariants.{Select, Open}
-use Rattle.adb_device_streams.specs.Asked.{service_of}
 use Rattle.adb_history.specs.Asking.{Asked, nothing_asked, after_answer, after_found, reads_on, asks_with}
 use Rattle.adb_laws_sessions.specs.Words.{IsKnown, selects, requests_for, words_of}
 use Rattle.adb_laws_sessions.specs.Asked.{Opens, HasOpened}
@@ -28,7 +27,7 @@ SpelledIsRead = (n : ℕ) → n < 65536 → hex_number (hex_digits n) ≡ Some n
 -- what devices answer to the requests of sessions
 pub record Leads (devices : DeviceTable) : Type 0 where
   pub selecting : answer devices.rows [] None (meaning (codes "host:transport:model-1")) ≡ record { bytes = codes "OKAY"; next = Select 1 }
-  pub opening : (service : List ℕ) → length service ≤ 1000
+  pub opening : (service : List ℕ) → length service ≤ 1024
       → answer devices.rows [] (Some 1) (Service service) ≡ record { bytes = []; next = Open 1 service }
 
 -- ---- what bytes begin with

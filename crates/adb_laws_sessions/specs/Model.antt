@@ -1,5 +1,5 @@
 -- The devices of a server that has the model device alone, which said who it is.
-use Rattle.std.specs.Prelude.{ℕ, false, List, [], ◌∷◌, Some}
+use Rattle.std.specs.Prelude.{ℕ, false, [], ◌∷◌, Some}
 use Rattle.adb_outside.specs.declared.kinds.Kind.TheVariants.{Local}
 use Rattle.adb_registry.specs.Row.{new_row}
 use Rattle.adb_registry.specs.Registry.{DeviceTable}

@@ -22,7 +22,7 @@ words_of service text = requests_for service ++ text
 
 -- a service that the model device knows, in no more bytes than a session may ask for
 abbrev pub most_service : ℕ
-most_service = 1000
+most_service = 1024
 
 pub record IsKnown (service : List ℕ) : Type 0 where
   pub known : is_some (service_of service) ≡ true

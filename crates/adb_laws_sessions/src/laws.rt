@@ -22,8 +22,8 @@ pub fn requests_open_their_service()
 }
 
 /// In every legal history of sessions no kill was made and no forward is there; each client asked
-/// what a front of its bytes asks, which are all of them until it asked for a service; and as many
-/// streams were born as clients asked for one.
+/// what a front of its bytes asks, which are all of them until it asked for a service, and one that
+/// ended asked for its service; and as many streams were born as clients asked for one.
 pub fn sessions_ask_for_services()
     ensures { (history : History) → IsLegal history → IsOfSessions history
         → AsksForServices history }

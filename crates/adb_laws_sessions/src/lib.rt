@@ -1,5 +1,6 @@
-//! What sessions ask: clients of which each selects the model device, asks for a service of it and
-//! writes a text, and does nothing else. Each function does nothing: its contract is the law.
+//! What sessions ask: clients of which each selects the model device, asks for a service of it,
+//! writes a text and may end, and does nothing else. Each function does nothing: its contract is the
+//! law.
 #![tactic(auto)]
 
 mod laws;

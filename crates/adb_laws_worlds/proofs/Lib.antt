@@ -27,3 +27,4 @@ mod InTurn
 mod Took
 mod Refusals
 mod Ended
+mod Known

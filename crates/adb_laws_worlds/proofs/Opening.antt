@@ -121,7 +121,7 @@ module _ (l : ℕ) where
       ap (λ (b : Bool). cond b (1 + how_many (is_close_between 0 l) ps) (how_many (is_close_between 0 l) ps)) one.1.1 ∙ pending_closes ps one.0
 
   -- nor among packets that go elsewhere
-  else_okays : (own : ℕ) (ps : List Packet) → All (NotTo l) ps → okays_in own l ps ≡ 0
+  pub else_okays : (own : ℕ) (ps : List Packet) → All (NotTo l) ps → okays_in own l ps ≡ 0
   else_okays own [] all = refl
   else_okays own (p ∷ ps) all = by p.command refl (nat_eq p.arg0 own) (nat_eq p.arg1 l) refl (else_okays own ps (All-tail (NotTo l) p ps all))
     where
@@ -137,7 +137,7 @@ module _ (l : ℕ) where
       by Auth k a b e none = none
       by Stls k a b e none = none
 
-  else_closes : (ps : List Packet) → All (NotTo l) ps → how_many (is_close_between 0 l) ps ≡ 0
+  pub else_closes : (ps : List Packet) → All (NotTo l) ps → how_many (is_close_between 0 l) ps ≡ 0
   else_closes [] all = refl
   else_closes (p ∷ ps) all = by p.command refl (nat_eq p.arg0 0) (nat_eq p.arg1 l) refl (else_closes ps (All-tail (NotTo l) p ps all))
     where
@@ -160,14 +160,14 @@ front_all P [] ys all = All-nil P
 front_all P (x ∷ xs) ys all = All-cons P x xs (All-head P x (xs ++ ys) all) (front_all P xs ys (All-tail P x (xs ++ ys) all))
 
 -- where some packets are such, there is a first one
-record IsFirst (is_such : Command → Bool) (l : ℕ) (ps : List Packet) : Type 0 where
-  front : List Packet
-  p : Packet
-  rest : List Packet
-  is : front ++ p ∷ rest ≡ ps
-  such : is_such p.command ≡ true
-  from : p.arg0 ≡ l
-  none : count_from is_such l front ≡ 0
+pub record IsFirst (is_such : Command → Bool) (l : ℕ) (ps : List Packet) : Type 0 where
+  pub front : List Packet
+  pub p : Packet
+  pub rest : List Packet
+  pub is : front ++ p ∷ rest ≡ ps
+  pub such : is_such p.command ≡ true
+  pub from : p.arg0 ≡ l
+  pub none : count_from is_such l front ≡ 0
 
 first_of : (is_such : Command → Bool) (l : ℕ) (ps : List Packet) → 1 ≤ count_from is_such l ps → IsFirst is_such l ps
 first_of is_such l [] some = absurd (omega (arith, some))
@@ -279,8 +279,7 @@ linked_behind setting packets = all packets (step setting (first_device setting)
         by (Some link) some = refl
 
 module _ (setting : Setting) (short : setting.most < 2 ^ 32) (h : History) (legal : IsLegal h) (tied : IsJoined setting h)
-    (still : IsStill (packets_owed setting) h) (l : ℕ) (b : Birth) (x : Stream) (birth : born l h ≡ Some b) (own : b.link ≡ 1)
-    (live : (state h).streams l ≡ Some x) where
+    (still : IsStill (packets_owed setting) h) (l : ℕ) (b : Birth) (birth : born l h ≡ Some b) (own : b.link ≡ 1) where
   -- its OPEN was sent
   opens : 1 ≤ count_from is_open l (sent 1 h)
   opens = go (count_from is_open l (sent 1 h)) refl
@@ -295,10 +294,10 @@ module _ (setting : Setting) (short : setting.most < 2 ^ 32) (h : History) (lega
           (none_from is_open l (sent 1 h) none) due refl refl)
       go (suc n) is = omega (arith, is)
 
-  asking : IsFirst is_open l (sent 1 h)
+  pub asking : IsFirst is_open l (sent 1 h)
   asking = first_of is_open l (sent 1 h) opens
 
-  open_command : (c : Command) → is_open c ≡ true → c ≡ Open
+  pub open_command : (c : Command) → is_open c ≡ true → c ≡ Open
   open_command Open e = refl
   open_command Okay e = let clash : false ≡ true = e in cc
   open_command Wrte e = let clash : false ≡ true = e in cc
@@ -334,28 +333,26 @@ module _ (setting : Setting) (short : setting.most < 2 ^ 32) (h : History) (lega
           let head : q ≡ server_cnxn = cc in
           (front, ap (λ (z : Packet). z ∷ front) head)
 
-  sound : (device_behind setting asking.front).refused ≡ false
+  pub sound : (device_behind setting asking.front).refused ≡ false
   sound = sound_before setting asking.front (asking.p ∷ asking.rest)
       (subst (λ (ps : List Packet). (device_behind setting ps).refused ≡ false) (sym asking.is) (never_refused setting 1 h legal))
 
-  some_id : l ≢ 0
+  pub some_id : l ≢ 0
   some_id e =
       let none : born 0 h ≡ Some b = ap (λ (n : ℕ). born n h) (sym e) ∙ birth in
       let clash : None ≡ Some b = none in
       cc
 
-  replied : IsRepliedTo setting l (sent 1 h)
-  replied = go (device_behind setting asking.front).link refl there
+  -- so it is asked on a link
+  pub linked : is_some (device_behind setting asking.front).link ≡ true
+  linked = subst (λ (ps : List Packet). is_some (device_behind setting ps).link ≡ true) (sym begins.1) (linked_behind setting begins.0)
     where
-      command : asking.p.command ≡ Open
-      command = open_command asking.p.command asking.such
-
       begins : (more : List Packet) × (asking.front ≡ server_cnxn ∷ more)
       begins = greeted asking.front asking.rest asking.p (open_command asking.p.command asking.such) (asking.is ∙ still.sent_all)
 
-      there : is_some (device_behind setting asking.front).link ≡ true
-      there = subst (λ (ps : List Packet). is_some (device_behind setting ps).link ≡ true) (sym begins.1) (linked_behind setting begins.0)
-
+  replied : IsRepliedTo setting l (sent 1 h)
+  replied = go (device_behind setting asking.front).link refl linked
+    where
       go : (o : Option Link) → (device_behind setting asking.front).link ≡ o → is_some o ≡ true → IsRepliedTo setting l (sent 1 h)
       go None is some = let clash : false ≡ true = some in cc
       go (Some link) is some =
@@ -365,40 +362,41 @@ module _ (setting : Setting) (short : setting.most < 2 ^ 32) (h : History) (lega
           (λ e. some_id (sym asking.from ∙ e)) (ap (λ (n : ℕ). count_from is_open n asking.front) asking.from ∙ asking.none)))
 
   -- what was brought is what came before its birth, and what came since
-  parts : packets_owed setting (sent 1 h) ≡ take b.packets_before (brought 1 h) ++ since b h
+  pub parts : packets_owed setting (sent 1 h) ≡ take b.packets_before (brought 1 h) ++ since b h
   parts =
       sym still.brought_all
       ∙ (sym (take-append-drop b.packets_before (brought 1 h))
       ∙ ap (λ (t : ℕ). take b.packets_before (brought 1 h) ++ drop b.packets_before (brought t h)) (sym own))
 
-  none_before : All (NotTo l) (take b.packets_before (brought 1 h))
+  pub none_before : All (NotTo l) (take b.packets_before (brought 1 h))
   none_before = (unheard setting h legal (paired setting short h legal tied) l b birth own).1
 
-  pub is_open_now : x.part.remote ≢ 0
-  is_open_now zeroth = go replied
-    where
-      pending : IsPending l (since b h)
-      pending =
-          let kept = (all_born h legal).kept l x live in
-          let same : kept.birth ≡ b = (let both : Some kept.birth ≡ Some b = sym kept.is ∙ birth in cc) in
-          subst (λ (c : Birth). IsPending l (since c h)) same
-          (subst (λ (n : ℕ). IsHeard l n (since kept.birth h)) zeroth kept.heard_of)
+  module _ (x : Stream) (live : (state h).streams l ≡ Some x) where
+    pub is_open_now : x.part.remote ≢ 0
+    is_open_now zeroth = go replied
+      where
+        pending : IsPending l (since b h)
+        pending =
+            let kept = (all_born h legal).kept l x live in
+            let same : kept.birth ≡ b = (let both : Some kept.birth ≡ Some b = sym kept.is ∙ birth in cc) in
+            subst (λ (c : Birth). IsPending l (since c h)) same
+            (subst (λ (n : ℕ). IsHeard l n (since kept.birth h)) zeroth kept.heard_of)
 
-      go : IsRepliedTo setting l (sent 1 h) → ⊥
-      go (inl (n, (some, sends))) =
-          let all : okays_in n l (packets_owed setting (sent 1 h)) ≡ okays_in n l (take b.packets_before (brought 1 h) ++ since b h) =
-          ap (okays_in n l) parts in
-          let sum = okays_append n l (take b.packets_before (brought 1 h)) (since b h) in
-          let before = else_okays l n (take b.packets_before (brought 1 h)) none_before in
-          let after = pending_okays l n some (since b h) pending in
-          omega (arith, sends, all, sum, before, after)
-      go (inr closes) =
-          let all : how_many (is_close_between 0 l) (packets_owed setting (sent 1 h))
-          ≡ how_many (is_close_between 0 l) (take b.packets_before (brought 1 h) ++ since b h) = ap (how_many (is_close_between 0 l)) parts in
-          let sum = many_append (is_close_between 0 l) (take b.packets_before (brought 1 h)) (since b h) in
-          let before = else_closes l (take b.packets_before (brought 1 h)) none_before in
-          let after = pending_closes l (since b h) pending in
-          omega (arith, closes, all, sum, before, after)
+        go : IsRepliedTo setting l (sent 1 h) → ⊥
+        go (inl (n, (some, sends))) =
+            let all : okays_in n l (packets_owed setting (sent 1 h)) ≡ okays_in n l (take b.packets_before (brought 1 h) ++ since b h) =
+            ap (okays_in n l) parts in
+            let sum = okays_append n l (take b.packets_before (brought 1 h)) (since b h) in
+            let before = else_okays l n (take b.packets_before (brought 1 h)) none_before in
+            let after = pending_okays l n some (since b h) pending in
+            omega (arith, sends, all, sum, before, after)
+        go (inr closes) =
+            let all : how_many (is_close_between 0 l) (packets_owed setting (sent 1 h))
+            ≡ how_many (is_close_between 0 l) (take b.packets_before (brought 1 h) ++ since b h) = ap (how_many (is_close_between 0 l)) parts in
+            let sum = many_append (is_close_between 0 l) (take b.packets_before (brought 1 h)) (since b h) in
+            let before = else_closes l (take b.packets_before (brought 1 h)) none_before in
+            let after = pending_closes l (since b h) pending in
+            omega (arith, closes, all, sum, before, after)
 
 pub all_are_open : (setting : Setting) → setting.most < 2 ^ 32 → (h : History) → IsLegal h → IsJoined setting h → AllAreOpen setting h
-all_are_open setting short h legal tied still l b x birth own live = is_open_now setting short h legal tied still l b x birth own live
+all_are_open setting short h legal tied still l b x birth own live = is_open_now setting short h legal tied still l b birth own x live

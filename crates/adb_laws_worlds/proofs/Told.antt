@@ -29,7 +29,7 @@ use Rattle.adb_laws_worlds.proofs.Splits.{IsOpening, okays_append, at_split}
 use Rattle.adb_laws_worlds.proofs.Starts.{told_behind, told_written, okays_among, none_told, none_written}
 
 -- the name of a service that an OPEN asks for is what stands before its NUL
-named_service : (service : List ℕ) → name_of (service ++ 0 ∷ []) ≡ service
+pub named_service : (service : List ℕ) → name_of (service ++ 0 ∷ []) ≡ service
 named_service service =
     let sum : length (service ++ 0 ∷ []) ≡ length service + 1 = length-append service (0 ∷ []) in
     let last : length (service ++ 0 ∷ []) - 1 ≡ length service = omega (arith, sum) in

@@ -114,7 +114,7 @@ none_last ps none = go (last_cnxn ps) refl
         (all_reverse (λ p. is_cnxn p.command ≡ false) ps (found_counts ps none)) in
         absurd (let clash : true ≡ false = sym found.1 ∙ found.0 in cc)
 
-said_who : (h : History) → IsLegal h → (t : ℕ) → is_connected t (state h).devices ≡ true → 1 ≤ how_many is_cnxn_packet (brought t h)
+pub said_who : (h : History) → IsLegal h → (t : ℕ) → is_connected t (state h).devices ≡ true → 1 ≤ how_many is_cnxn_packet (brought t h)
 said_who h legal t connected = go (how_many is_cnxn_packet (brought t h)) refl
   where
     shows : ShowsDevices (state h) h

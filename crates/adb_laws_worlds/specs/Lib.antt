@@ -12,3 +12,4 @@ pub mod Unbroken
 pub mod InTurn
 pub mod Took
 pub mod Ended
+pub mod Known

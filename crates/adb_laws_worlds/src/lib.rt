@@ -16,6 +16,7 @@ pub use together::{
     a_device_breaks_no_link, a_device_writes_in_turn, clients_hold_nothing_at_rest,
     closed_streams_gave_their_answer, okays_come_in_time, open_streams_are_settled,
     open_streams_have_rows, streams_are_open_at_rest, streams_have_settled_at_rest,
-    streams_of_a_plain_device_are_plain, streams_of_one_plain_device_are_plain,
-    streams_outlive_a_link_that_stays, what_services_took_was_written,
+    streams_of_a_plain_device_are_plain, streams_of_known_services_are_opened,
+    streams_of_one_plain_device_are_plain, streams_outlive_a_link_that_stays,
+    what_services_took_was_written,
 };

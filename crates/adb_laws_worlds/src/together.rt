@@ -10,6 +10,7 @@ ghost use Rattle.adb_laws_worlds.specs.Credit.{FirstArePlain, HasOneDevice};
 ghost use Rattle.adb_laws_worlds.specs.Ended.{ClosedGaveAll};
 ghost use Rattle.adb_laws_worlds.specs.Held.{AllHaveSettled, HoldsNothing};
 ghost use Rattle.adb_laws_worlds.specs.InTurn.{AllInTurn};
+ghost use Rattle.adb_laws_worlds.specs.Known.{KnownAreOpened};
 ghost use Rattle.adb_laws_worlds.specs.Opening.{AllAreOpen};
 ghost use Rattle.adb_laws_worlds.specs.Rows.{OpenHaveRows};
 ghost use Rattle.adb_laws_worlds.specs.Took.{AllTookWritten};
@@ -104,4 +105,11 @@ pub fn what_services_took_was_written()
 pub fn closed_streams_gave_their_answer()
     ensures { (setting : Setting) (history : History) → setting.most < 2 ^ 32 → IsLegal history
         → IsJoined setting history → ClosedGaveAll setting history }
+{}
+
+/// A stream that was asked for a service that the device knows was opened, where nothing is on its
+/// way.
+pub fn streams_of_known_services_are_opened()
+    ensures { (setting : Setting) (history : History) → setting.most < 2 ^ 32 → IsLegal history
+        → IsJoined setting history → KnownAreOpened setting history }
 {}

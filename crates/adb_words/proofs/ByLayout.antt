@@ -1,24 +1,22 @@
 -- A simple command whose options and operands each add one value reads words as its layout has them.
-use Rattle.std.proofs.Common.{◌≡◌, ◌≢◌, ◌⊎◌, inl, inr, ◌&&◌, Bool, true, false, cond, List, []}
-use Rattle.std.proofs.Common.{◌∷◌, ◌++◌, Option, Some, None, Result, Ok, Err, IfOk, String, unwrap_or, subst}
-use Rattle.std.proofs.Common.{option_map, option_and_then, refl, sym, ◌∙◌, ap, true≢false}
+use Rattle.std.proofs.Common.{◌≡◌, ◌≢◌, ◌⊎◌, inl, inr, ◌&&◌, Bool, true, false, List, []}
+use Rattle.std.proofs.Common.{◌∷◌, Option, Some, None, Result, Ok, Err, IfOk, String, unwrap_or, subst}
+use Rattle.std.proofs.Common.{option_and_then, refl, sym, ◌∙◌, ap, true≢false}
 use Rattle.std.specs.Prelude.{if◌then◌else◌}
-use Rattle.clap.specs.Walk.{Row, Text, Held, nothing_held, walk, all_of, rows_of, finished, settled, idle}
+use Rattle.clap.specs.Walk.{Row, Text, Held, nothing_held, walk, rows_of, finished, settled, idle}
 use Rattle.clap.specs.Simple.{App, Shape, built, matches_of, is_simple, HasMatchesOf}
-use Rattle.clap.specs.Matches.{found_of, raw_values, matched_of}
+use Rattle.clap.specs.Matches.{found_of}
 use Rattle.clap.specs.Faults.{fault_of, walk_fault, settle_fault, check_fault, defaults_fault}
 use Rattle.clap.specs.Kinds.{Kinds, or_else}
-use Rattle.clap.specs.declared.error.kind.ErrorKind.{ErrorKind}
 use Rattle.clap.specs.declared.parser.matches.ArgMatches.{ArgMatches}
-use Rattle.clap.specs.declared.parser.matches.Found.{Found}
 use Rattle.clap.proofs.WalkLemmas.{raw_values-rows}
 use Rattle.adb_words.specs.Words.{texts, is_operand}
 use Rattle.adb_words.specs.Found.{Finds, are_known}
-use Rattle.adb_words.specs.Given.{Layout, Part, Operand, Setting, Awaiting, Switch, Wrong, Given, also, given_by, given_behind, given_in, values_of}
+use Rattle.adb_words.specs.Given.{Layout, Part, Operand, Setting, Awaiting, Switch, Wrong, Given, also, given_by, given_behind, given_in}
 use Rattle.adb_words.specs.Given.{part_of, hyphen_part}
 use Rattle.adb_words.proofs.Parts.{is_right_part, are_parts, known_parts}
 use Rattle.adb_words.proofs.Plain.{at_place, behind}
-use Rattle.adb_words.proofs.Rules.{rows_with, gathered, gathered_with, no_defaults, finished_as}
+use Rattle.adb_words.proofs.Rules.{gathered, gathered_with, no_defaults, finished_as}
 use Rattle.adb_words.proofs.Gives.{Fits, Between, Ends, ends}
 
 -- A command has the arguments of a layout, and no subcommand, and is given the words behind its name.

@@ -1,23 +1,23 @@
 -- What a simple command makes of words whose options and operands each add one value.
-use Rattle.std.proofs.Common.{ℕ, ◌≡◌, ◌≢◌, ◌==◌, ◌&&◌, ◌||◌, Bool, true, false, cond, nat_lt, List, [], ◌∷◌, ◌++◌, length, Option, Some, None, fold, bytes_eq}
+use Rattle.std.proofs.Common.{ℕ, ◌≡◌, ◌≢◌, ◌&&◌, Bool, true, false, cond, nat_lt, List, [], ◌∷◌, Option, Some, None, fold, bytes_eq}
 use Rattle.std.proofs.Common.{option_map, option_and_then, refl, sym, ◌∙◌, ap, subst, true≢false}
 use Rattle.std.specs.Prelude.{if◌then◌else◌}
 use Rattle.std.specs.Option.{option_map_or}
-use Rattle.clap.specs.Lexer.{long_of, short_of}
+use Rattle.clap.specs.Lexer.{long_of}
 use Rattle.clap.specs.Walk.{Held, Rule, Row, Text, Step, Walk, Waiting, idle, positional, walked, word_met, after_step, long_or_other, short_or_plain}
 use Rattle.clap.specs.Walk.{long_word, long_met, after_flag, plain_word, option_word, pending_count, pushed, to_positional, positional_held, is_pending}
 use Rattle.clap.specs.Walk.{takes_several, settled, settled_rows, used_by_id, reacted, used, arg_by_id, arg_by_long, arg_by_index}
 use Rattle.clap.specs.Walk as walk
 use Rattle.clap.specs.Simple.{Shape}
 use Rattle.clap.specs.Faults.{walk_fault, settle_fault, turn_fault, word_fault, step_fault, long_fault, use_fault, stray_fault, positional_fault}
-use Rattle.clap.specs.Faults.{flag_word_fault, bundle_fault, react_fault}
+use Rattle.clap.specs.Faults.{flag_word_fault, bundle_fault}
 use Rattle.clap.specs.Kinds.{Kinds, or_else}
 use Rattle.clap.specs.declared.error.kind.ErrorKind.{ErrorKind}
 use Rattle.clap.specs.declared.error.kind.ErrorKind.TheVariants as kind
 use Rattle.adb_words.specs.Words.{is_operand}
 use Rattle.adb_words.specs.Given.{Layout, Part, Operand, Setting, Awaiting, Switch, Wrong, Given, also, given_by, given_behind}
 use Rattle.adb_words.specs.Given.{is_one_of, part_of, hyphen_part}
-use Rattle.adb_words.proofs.Plain.{IsPlain, plain, split, filled}
+use Rattle.adb_words.proofs.Plain.{IsPlain, plain, split}
 use Rattle.adb_words.proofs.Parts.{IsLong, IsPart, view, hyphen_view, is_right_part, are_parts}
 use Rattle.adb_words.proofs.Rules.{valued, flagged, placed, added, rows_with, is_itself, HasNoDefaults}
 

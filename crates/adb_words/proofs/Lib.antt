@@ -1,6 +1,7 @@
 pub mod Plain
 pub mod Loads
 pub mod Bare
+pub mod Seeds
 pub mod Rules
 pub mod Parts
 pub mod Names

@@ -1,15 +1,15 @@
 -- What the words of options and operands are to a simple command.
-use Rattle.std.proofs.Common.{ℕ, ◌≡◌, ◌≢◌, ◌+◌, ◌<◌, ◌==◌, ◌&&◌, ◌||◌, Bool, true, false, cond, List, [], ◌∷◌, take, drop, length, position, nat_lt}
+use Rattle.std.proofs.Common.{ℕ, ◌≡◌, ◌≢◌, ◌+◌, ◌==◌, ◌&&◌, ◌||◌, Bool, true, false, cond, List, [], ◌∷◌, take, drop, length, position, nat_lt}
 use Rattle.std.proofs.Common.{Option, Some, None, String, string_bytes, refl, sym, ◌∙◌, ap, ap₂, bytes_eq, true≢false, zero, suc, not, one-add}
 use Rattle.std.proofs.lemmas.Bool.Decides.{nat_tests}
 use native.Mathlib.Omega.{arith}
 use Rattle.std.specs.Prelude.{if◌then◌else◌, option_and_then}
-use Rattle.std.specs.List.{list_all, list_any, position_or_len, before_first}
+use Rattle.std.specs.List.{list_all, position_or_len, before_first}
 use Rattle.clap.specs.Lexer.{long_of, long_of_rest, name_and_value, has_byte, strip_byte}
 use Rattle.clap.specs.Walk.{Text}
 use Rattle.adb_words.specs.Words.{is_operand, texts}
 use Rattle.adb_words.specs.Found.{is_known_at, is_known_option, is_known, are_known, equals_at}
-use Rattle.adb_words.specs.Given.{Layout, Part, Operand, Setting, Awaiting, Switch, Wrong, is_one_of, option_part, hyphen_part, part_of}
+use Rattle.adb_words.specs.Given.{Part, Operand, Setting, Awaiting, Switch, Wrong, is_one_of, option_part, hyphen_part, part_of}
 
 abbrev pub is_right_part : Part → Bool
 is_right_part Wrong = false

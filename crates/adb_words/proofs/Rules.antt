@@ -1,10 +1,10 @@
 -- Arguments each of whose uses adds one value to those of its name.
-use Rattle.std.proofs.Common.{ℕ, ◌≡◌, ◌+◌, ◌<◌, ◌==◌, ◌&&◌, ◌||◌, Bool, true, false, cond, List, [], ◌∷◌, ◌++◌, map, filter, Option, Some, None}
-use Rattle.std.proofs.Common.{option_map, refl, sym, ◌∙◌, ap, append_assoc, append-nil, bytes_eq, Decides, find, unwrap_or, fold, subst, true≢false}
+use Rattle.std.proofs.Common.{◌≡◌, ◌||◌, Bool, true, false, cond, List, [], ◌∷◌, ◌++◌, map, filter, Some, None}
+use Rattle.std.proofs.Common.{option_map, refl, sym, ◌∙◌, ap, append_assoc, append-nil, bytes_eq, unwrap_or, fold, subst, true≢false}
 use Rattle.std.specs.Prelude.{if◌then◌else◌}
-use Rattle.std.specs.List.{list_any, AllByRecursion}
+use Rattle.std.specs.List.{AllByRecursion}
 use Rattle.std.proofs.lemmas.Slice.Eq.{bytes_eq-Decides}
-use Rattle.clap.specs.Walk.{Rule, Row, Text, Held, with_values, all_of, has_row, default_rows, reading_by, with_default, finished, settled, is_empty}
+use Rattle.clap.specs.Walk.{Rule, Row, Text, with_values, all_of, has_row, default_rows, reading_by, with_default, is_empty}
 use Rattle.clap.specs.Simple.{filled, with_index}
 use Rattle.clap.specs.Faults.{default_fault, defaults_fault, given_default_fault}
 use Rattle.clap.specs.Kinds.{Kinds, or_else}

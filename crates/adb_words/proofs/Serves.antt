@@ -1,6 +1,6 @@
 -- The simple command of `serve` has the arguments of its layout.
-use Rattle.std.proofs.Common.{◌≡◌, List, [], ◌∷◌, Option, Some, None, Result, IfOk, refl, sym, ◌∙◌, ap, subst, codes, option_and_then}
-use Rattle.clap.specs.Walk.{Text, Row, arg_by_long, arg_by_id}
+use Rattle.std.proofs.Common.{◌≡◌, List, Option, Some, Result, IfOk, refl, sym, ◌∙◌, ap, subst, codes, option_and_then}
+use Rattle.clap.specs.Walk.{Text, arg_by_long, arg_by_id}
 use Rattle.clap.specs.Simple.{Shape, built}
 use Rattle.clap.proofs.OnLiterals.{clap_on_literals}
 use Rattle.adb_words.specs.Apps.{serve_app}

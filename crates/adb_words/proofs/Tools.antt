@@ -1,7 +1,7 @@
 -- The simple commands of the tools have the options and operands of their layouts.
-use Rattle.std.proofs.Common.{◌≡◌, List, [], ◌∷◌, Some, refl, codes, sym, ◌∙◌, ap, subst, option_and_then, true≢false}
-use Rattle.clap.specs.Walk.{Text, Row, arg_by_long, arg_by_id}
-use Rattle.clap.specs.Simple.{Shape, built}
+use Rattle.std.proofs.Common.{◌≡◌, List, Some, refl, codes, sym, ◌∙◌, ap, subst, option_and_then, true≢false}
+use Rattle.clap.specs.Walk.{Text, arg_by_long, arg_by_id}
+use Rattle.clap.specs.Simple.{built}
 use Rattle.clap.proofs.OnLiterals.{clap_on_literals}
 use Rattle.adb_words.specs.Apps.{port_app, serial_app, push_app}
 use Rattle.clap.specs.Matches.{found_of}
@@ -11,7 +11,7 @@ use Rattle.adb_words.specs.Given.{given_in}
 use Rattle.adb_words.specs.Found.{Finds, values_found}
 use Rattle.adb_words.specs.Tools.{call_of, called, called_by, layout_named, tool_by, port_layout, serial_layout, push_layout}
 use Rattle.adb_words.proofs.Plain.{fault_is}
-use Rattle.adb_words.proofs.Rules.{each_named, valued, flagged, placed}
+use Rattle.adb_words.proofs.Rules.{each_named, valued, placed}
 use Rattle.adb_words.proofs.Gives.{Fits}
 use Rattle.adb_words.proofs.ByLayout.{IsOf}
 

@@ -11,6 +11,10 @@ app_named name =
 abbrev pub required : List ℕ → Rule
 required id = record (new_rule id) { required = true }
 
+-- `local`
+abbrev pub seed_app : List ℕ → App
+seed_app name = with_rule (app_named name) (required (codes "seed"))
+
 abbrev pub gen_app : App
 gen_app = with_rule (with_rule (app_named (codes "gen")) (required (codes "seed"))) (required (codes "streams"))
 

@@ -37,6 +37,8 @@ pub enum Command {
     Check,
     /// A load is made, drawn from this seed, of that many streams.
     Gen { seed: u64, streams: u16 },
+    /// A script is read and answered, its choices drawn from this seed.
+    Local { seed: u64 },
 }
 
 /// Why words give no command.

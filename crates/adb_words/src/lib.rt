@@ -5,6 +5,7 @@ mod command;
 mod given;
 mod load;
 mod operands;
+mod seed;
 mod serve;
 mod tool;
 mod tool_matches;

@@ -1,13 +1,14 @@
 //! The command that words are.
 
-ghost use Rattle.std.specs.Prelude.{◌≡◌, ◌≢◌, Err, ok_or, true};
+ghost use Rattle.std.specs.Prelude.{◌≡◌, ◌≢◌, Err, ok_or, option_map, true};
 ghost use Rattle.clap.specs.Words.{app_of};
 ghost use Rattle.adb_words.specs.Apps.{app_named};
-ghost use Rattle.adb_words.specs.Words.{command_of, bare_of, names_command, texts};
+ghost use Rattle.adb_words.specs.Words.{command_of, bare_of, names_command, seed_of, texts};
 
 use crate::command::{Command, WordsError};
 use crate::load::read_load;
 use crate::operands::operands_of;
+use crate::seed::read_seed;
 use std::alloc::Global;
 
 /// The command that the words behind the program's name are. Where memory ran out it may be that
@@ -25,8 +26,18 @@ pub fn read_words(alloc: Global, words: &[String]) -> Result<Command, WordsError
         "replay" => read_bare(alloc, "replay", Command::Replay, words),
         "check" => read_bare(alloc, "check", Command::Check, words),
         "gen" => read_load(alloc, words),
+        "local" => read_local(alloc, words),
         _ => Err(WordsError::Usage),
     }
+}
+
+/// `local`, from the words behind it.
+fn read_local(alloc: Global, words: &[String]) -> Result<Command, WordsError>
+    ensures { result ≢ Err WordsError.OutOfMemory
+        → result ≡ ok_or (option_map Command.Local (seed_of (texts words.now))) WordsError.Usage }
+{
+    let seed = read_seed(alloc, "local", words)?;
+    Ok(Command::Local { seed })
 }
 
 /// A command that is its name alone, from the words behind that.

@@ -1,31 +1,27 @@
 -- What each entry of a world leaves.
-use Rattle.std.specs.Prelude.{ℕ, ◌+◌, ◌≡◌, ◌≢◌, ◌≤◌, ◌<◌, ◌&&◌, not, Bool, true, false}
-use Rattle.std.specs.Prelude.{cond, nat_eq, List, [], ◌∷◌, ◌++◌, length, take, drop, Option, Some, None}
-use Rattle.std.specs.Prelude.{option_map, Ok}
-use Rattle.std.proofs.Common.{refl, sym, ◌∙◌, ap, subst, arith, ◌⊎◌, inl, inr, append_assoc}
-use Rattle.std.proofs.lemmas.Bool.{cases_lt, cases_eq}
-use Rattle.std.proofs.lemmas.List.{take-append-drop, append-nil}
+use Rattle.std.specs.Prelude.{ℕ, ◌+◌, ◌≡◌, ◌≤◌, ◌&&◌, not, Bool}
+use Rattle.std.specs.Prelude.{cond, nat_eq, List, ◌∷◌, ◌++◌, length, take, drop, Option, Some, None}
+use Rattle.std.specs.Prelude.{option_map}
+use Rattle.std.proofs.Common.{sym, ◌∙◌, ap, subst}
+use Rattle.std.proofs.lemmas.List.{take-append-drop}
 use Rattle.adb_outside.specs.Bytes.{IsPrefixOf}
 use Rattle.adb_outside.specs.Tables.{at}
-use Rattle.adb_capture.specs.declared.entry.Entry.{Entry}
-use Rattle.adb_capture.specs.declared.entry.Entry.TheVariants.{Join, Read, Recv, Put, Send}
+use Rattle.adb_capture.specs.declared.entry.Entry.TheVariants.{Read, Recv, Put, Send}
 use Rattle.adb_history.specs.Book.{devices}
-use Rattle.adb_history.specs.Bytes.{bytes_received, bytes_sent, bytes_read, bytes_put, is_lost}
+use Rattle.adb_history.specs.Bytes.{bytes_received, bytes_sent, bytes_read}
 use Rattle.adb_history.specs.Kept.{Kept, IsLawful}
-use Rattle.adb_history.specs.Machine.{History, state, IsLegal}
-use Rattle.adb_daemon.specs.Daemon.{HasDone, owed, device_of}
-use Rattle.adb_daemon.specs.Serving.{sent_bytes}
+use Rattle.adb_history.specs.Machine.{History}
+use Rattle.adb_daemon.specs.Daemon.{HasDone, owed}
 use Rattle.adb_daemon.specs.declared.daemon.Daemon.{Daemon}
-use Rattle.adb_laws_model_device.specs.Joined.{IsJoined}
 use Rattle.adb_laws_model_device.specs.Owed.{bytes_owed}
-use Rattle.adb_laws_sessions.specs.Words.{IsOfSession, words_of}
+use Rattle.adb_laws_sessions.specs.Words.{IsOfSession}
 use Rattle.adb_laws_sessions.specs.Model.{model_devices, model_setting}
-use Rattle.adb_laws_sessions.specs.Sessions.{IsOfSessions}
-use Rattle.adb_world.specs.Parts.{Holds, most_sessions, IsKeptAt, Moved, AreSame}
-use Rattle.adb_world.specs.Session.{Changes, IsTold, IsNew, handed, wrote, left_of, text_of, new_session}
+use Rattle.adb_world.specs.Parts.{Holds, most_sessions, IsKeptAt}
+use Rattle.adb_world.specs.Session.{Changes, IsTold, handed, wrote, left_of, text_of}
 use Rattle.adb_world.specs.declared.parts.Parts.{Parts}
 use Rattle.adb_world.specs.declared.session.Session.{Session}
-use Rattle.adb_world.proofs.Stays.{kept_put, kept_read, changed_same, hears_same, writes_same, same_sessions}
+use Rattle.adb_world.proofs.Gone.{gone_recv, gone_send, none_stays}
+use Rattle.adb_world.proofs.Stays.{kept_put, kept_read}
 
 -- ---- the device
 -- what was taken, and what it owes, are the bytes of all that became due
@@ -58,8 +54,9 @@ module _ (h : History) (parts : Parts) (holds : Holds h parts) where
       kept c = go (at c parts.sessions.entries) (holds.sessions c)
         where
           go : (o : Option Session) → IsKeptAt parts.given h c o → IsKeptAt parts.given (Send 1 piece ∷ h) c o
-          go None k = k
-          go (Some session) k = (k.0, record { known = k.1.known; words = k.1.words; within = k.1.within; read = k.1.read; put = k.1.put })
+          go None k = none_stays parts.given c (Send 1 piece) h (λ e. e) (λ gone. gone_send h c gone 1 piece) k
+          go (Some session) k =
+              (k.0, record { known = k.1.known; words = k.1.words; within = k.1.within; read = k.1.read; put = k.1.put; alive = k.1.alive })
 
   -- ---- up
   abbrev received : List ℕ → List ℕ
@@ -95,8 +92,9 @@ module _ (h : History) (parts : Parts) (holds : Holds h parts) where
       kept c = go (at c parts.sessions.entries) (holds.sessions c)
         where
           go : (o : Option Session) → IsKeptAt parts.given h c o → IsKeptAt parts.given (Recv 1 piece ∷ h) c o
-          go None k = k
-          go (Some session) k = (k.0, record { known = k.1.known; words = k.1.words; within = k.1.within; read = k.1.read; put = k.1.put })
+          go None k = none_stays parts.given c (Recv 1 piece) h (λ e. e) (λ gone. gone_recv h c gone 1 piece) k
+          go (Some session) k =
+              (k.0, record { known = k.1.known; words = k.1.words; within = k.1.within; read = k.1.read; put = k.1.put; alive = k.1.alive })
 
   -- ---- handed to a session
   pub put_to : (hub : Kept) (c : ℕ) (piece : List ℕ) (new : Parts) → IsLawful hub (Put c piece ∷ h) → new.hub ≡ hub → new.device ≡ parts.device

@@ -1,11 +1,11 @@
 -- A client that did not come was put nothing; and a session that joins.
-use Rattle.std.specs.Prelude.{ℕ, ◌+◌, ◌^◌, ◌≡◌, ◌≢◌, ◌≤◌, ◌<◌, Bool, true, false, cond, nat_eq, List, [], ◌∷◌, ◌++◌, length, take, drop, Option, Some, None}
+use Rattle.std.specs.Prelude.{ℕ, ◌+◌, ◌≡◌, ◌≢◌, ◌≤◌, ◌<◌, ◌||◌, Bool, false, cond, List, [], ◌∷◌, ◌++◌, length, take, drop, Option, Some, None}
 use Rattle.std.proofs.Common.{refl, sym, ◌∙◌, ap, subst, arith, ◌⊎◌, inl, inr}
 use Rattle.std.proofs.lemmas.Bool.{cases_eq, ne_eqb}
 use Rattle.std.proofs.Math.Seq.{drop-append_seam}
 use Rattle.adb_outside.specs.Tables.{at, Puts}
 use Rattle.adb_capture.specs.declared.entry.Entry.TheVariants.{Join, Enter, Read, End, Bound, Attach, Recv, Detach, Put, Send}
-use Rattle.adb_history.specs.Bytes.{bytes_read, bytes_put, bytes_sent, bytes_received}
+use Rattle.adb_history.specs.Bytes.{bytes_put, bytes_sent, bytes_received, has_ended}
 use Rattle.adb_history.specs.Kept.{Kept, IsLawful}
 use Rattle.adb_history.specs.Machine.{History, state, IsLegal, MayPut}
 use Rattle.adb_history.specs.Rows.{Client}
@@ -16,10 +16,11 @@ use Rattle.adb_laws_sessions.specs.Words.{requests_for, words_of}
 use Rattle.adb_laws_sessions.specs.Model.{model_setting}
 use Rattle.adb_laws_sessions.specs.Sessions.{AsksForServices}
 use Rattle.adb_world.specs.Parts.{Holds, most_sessions, IsKeptAt}
-use Rattle.adb_world.specs.Session.{IsTold, IsNew, new_session, text_of}
+use Rattle.adb_world.specs.Session.{IsTold, IsNew}
 use Rattle.adb_world.specs.declared.parts.Parts.{Parts}
 use Rattle.adb_world.specs.declared.session.Session.{Session}
 use Rattle.adb_world.proofs.Entries.{comes_first}
+use Rattle.adb_world.proofs.Gone.{gone_join}
 
 pub none_put : (h : History) → IsLegal h → (c : ℕ) → came_count h < c → bytes_put c h ≡ []
 none_put [] legal c past = refl
@@ -44,6 +45,23 @@ none_put (Attach t kind serial ∷ older) legal c past = none_put older legal.0 
 none_put (Recv t bytes ∷ older) legal c past = none_put older legal.0 c past
 none_put (Detach t cause ∷ older) legal c past = none_put older legal.0 c past
 none_put (Send t bytes ∷ older) legal c past = none_put older legal.0 c past
+
+pub none_ended : (h : History) → IsLegal h → (c : ℕ) → came_count h < c → has_ended c h ≡ false
+none_ended [] legal c past = refl
+none_ended (End n cause ∷ older) legal c past =
+    ap (λ (b : Bool). b || has_ended c older) (ne_eqb n c other) ∙ none_ended older legal.0 c past
+  where
+    other : n ≡ c → ⊥
+    other same = let counts = (counted older).joined in let drawn = legal.2.1.1 in omega (arith, counts, drawn, same, past)
+none_ended (Join n ∷ older) legal c past = none_ended older legal.0 c (omega (arith, past))
+none_ended (Enter n port ∷ older) legal c past = none_ended older legal.0 c (omega (arith, past))
+none_ended (Read n bytes ∷ older) legal c past = none_ended older legal.0 c past
+none_ended (Bound n port ∷ older) legal c past = none_ended older legal.0 c past
+none_ended (Attach t kind serial ∷ older) legal c past = none_ended older legal.0 c past
+none_ended (Recv t bytes ∷ older) legal c past = none_ended older legal.0 c past
+none_ended (Detach t cause ∷ older) legal c past = none_ended older legal.0 c past
+none_ended (Put n bytes ∷ older) legal c past = none_ended older legal.0 c past
+none_ended (Send t bytes ∷ older) legal c past = none_ended older legal.0 c past
 
 -- ---- a session joins
 -- the text of a session that has written nothing is its own
@@ -71,6 +89,7 @@ module _ (h : History) (parts : Parts) (holds : Holds h parts) (asks : AsksForSe
     put = (
         let came = holds.came in
         none_put h holds.lawful.legal number (omega (arith, came)) ∙ sym (ap (λ (s : Session). s.got) fresh.is));
+    alive = (let came = holds.came in none_ended h holds.lawful.legal number (omega (arith, came)));
   }
 
   pub joined_by : (hub : Kept) (new : Parts) → parts.given < most_sessions → IsLawful hub (Join number ∷ h) → new.hub ≡ hub
@@ -90,11 +109,17 @@ module _ (h : History) (parts : Parts) (holds : Holds h parts) (asks : AsksForSe
   }
     where
       old_at : (c : ℕ) → c ≢ number → (o : Option Session) → IsKeptAt parts.given h c o → IsKeptAt number (Join number ∷ h) c o
-      old_at c other None (inl zeroth) = inl zeroth
-      old_at c other None (inr past) = inr (omega (arith, past, other))
+      old_at c other None (inl (inl zeroth)) = inl (inl zeroth)
+      old_at c other None (inl (inr past)) = inl (inr (omega (arith, past, other)))
+      old_at c other None (inr over) =
+          inr (record {
+            drawn = (over.drawn.0, (let le = over.drawn.1 in omega (arith, le)));
+            ended = over.ended;
+            gone = gone_join h c over.gone number (λ same. other (sym same));
+          })
       old_at c other (Some s) (drawn, told) = (
         (drawn.0, (let le = drawn.1 in omega (arith, le))),
-        record { known = told.known; words = told.words; within = told.within; read = told.read; put = told.put },
+        record { known = told.known; words = told.words; within = told.within; read = told.read; put = told.put; alive = told.alive },
       )
 
       kept : (c : ℕ) → IsKeptAt number (Join number ∷ h) c (at c new.sessions.entries)

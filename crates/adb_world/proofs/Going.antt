@@ -1,6 +1,6 @@
 -- Steps of a world that runs, one after the other.
-use Rattle.std.specs.Prelude.{ℕ, ◌^◌, ◌≡◌, ◌≤◌, ◌<◌, Bool, true, false, List, [], ◌∷◌, Option, Some, None, option_map}
-use Rattle.std.proofs.Common.{refl, sym, ◌∙◌, ap, subst, arith, ◌⊎◌, inl, inr}
+use Rattle.std.specs.Prelude.{ℕ, ◌^◌, ◌≡◌, ◌≤◌, ◌<◌, Bool, true, false, List, [], ◌∷◌, ◌++◌, Option, Some, None, option_map}
+use Rattle.std.proofs.Common.{refl, sym, ◌∙◌, ap, subst, arith, ◌⊎◌, inl, inr, append_assoc}
 use Rattle.std.proofs.lemmas.Bool.{cases_lt}
 use Rattle.adb_outside.specs.Tables.{at}
 use Rattle.adb_capture.specs.declared.entry.Entry.{Entry}
@@ -9,7 +9,7 @@ use Rattle.adb_hub.specs.Answers.{offered_to}
 use Rattle.adb_laws_births.specs.Laws.{GoesOn as StaysBehind}
 use Rattle.adb_world.specs.Calls.{HasNone}
 use Rattle.adb_world.specs.Parts.{Holds, IsKeptAt, IsRunning, Moved, Moves}
-use Rattle.adb_world.specs.Settled.{Anything, Goes, GoesOn, NoneDown, NoneHanded, NoneUp, NoneWritten, Rests}
+use Rattle.adb_world.specs.Settled.{Anything, Goes, GoesOn, GrowsFrom, NoneDown, NoneHanded, NoneUp, NoneWritten, Rests}
 use Rattle.adb_world.specs.Session.{left_of}
 use Rattle.adb_world.specs.declared.parts.Parts.{Parts}
 use Rattle.adb_world.specs.declared.session.Session.{Session}
@@ -21,23 +21,28 @@ abbrev pub AllStay : Type 0
 AllStay = (e : Entry) (older : History) → StaysBehind e older
 
 -- A step that was made leaves a world that runs.
-pub runs_on : AllStay → (e : List ℕ → Entry) (max : ℕ) (all : Option (List ℕ)) (old new : Parts) (runs : IsRunning old)
-    → Moved e max all runs.history old new → GoesOn old new
-runs_on stays e max all old new runs moved = record {
-  runs = record {
-    history = e moved.bytes ∷ runs.history;
-    holds = moved.holds;
-    greeted = stays_greeted (e moved.bytes) runs.history ((stays (e moved.bytes) runs.history).brings 1) runs.greeted;
-  };
-  same = moved.same;
-  given = moved.given;
+pub running_on : AllStay → (e : List ℕ → Entry) (max : ℕ) (all : Option (List ℕ)) (old new : Parts) (runs : IsRunning old)
+    → Moved e max all runs.history old new → IsRunning new
+running_on stays e max all old new runs moved = record {
+  history = e moved.bytes ∷ runs.history;
+  holds = moved.holds;
+  greeted = stays_greeted (e moved.bytes) runs.history ((stays (e moved.bytes) runs.history).brings 1) runs.greeted;
+}
+
+pub runs_on : AllStay → (e : List ℕ → Entry) (max : ℕ) (all : History → Option (List ℕ)) (old new : Parts) (runs : IsRunning old)
+    → ((h : History) → Holds h old → Moved e max (all h) h old new) → GoesOn old new
+runs_on stays e max all old new runs moves = record {
+  runs = running_on stays e max (all runs.history) old new runs (moves runs.history runs.holds);
+  grows = λ h holds. record { more = e (moves h holds).bytes ∷ []; holds = (moves h holds).holds };
+  same = (moves runs.history runs.holds).same;
+  given = (moves runs.history runs.holds).given;
 }
 
 -- A step of one kind.
 pub goes_by : AllStay → (e : List ℕ → Entry) (max : ℕ) (all : History → Option (List ℕ)) (Nothing : Parts → Type 0) (moved : Bool) (old new : Parts)
     → (runs : IsRunning old) → ((h : History) → Holds h old → Moves e max (all h) moved h old new)
     → (((h : History) → Holds h old → HasNone (all h)) → Nothing old) → Goes Nothing moved old new
-goes_by stays e max all Nothing true old new runs moves none = runs_on stays e max (all runs.history) old new runs (moves runs.history runs.holds)
+goes_by stays e max all Nothing true old new runs moves none = runs_on stays e max all old new runs moves
 goes_by stays e max all Nothing false old new runs moves none =
     ((moves runs.history runs.holds).0, none (λ h holds. (moves h holds).1))
 
@@ -66,14 +71,28 @@ all_rest old p q r s new false first down up hand goes =
 
 -- ---- many steps
 pub stays_here : (parts : Parts) → IsRunning parts → GoesOn parts parts
-stays_here parts runs = record { runs = runs; same = same_sessions parts.sessions.entries; given = refl }
+stays_here parts runs = record {
+  runs = runs;
+  grows = λ h holds. record { more = []; holds = holds };
+  same = same_sessions parts.sessions.entries;
+  given = refl;
+}
 
 pub goes_further : (old mid new : Parts) → GoesOn old mid → GoesOn mid new → GoesOn old new
 goes_further old mid new first more = record {
   runs = more.runs;
+  grows = λ h holds. grows h (first.grows h holds);
   same = then_same old.sessions.entries mid.sessions.entries new.sessions.entries first.same more.same;
   given = more.given ∙ first.given;
 }
+  where
+    grows : (h : History) → GrowsFrom h mid → GrowsFrom h new
+    grows h before =
+        let behind = more.grows (before.more ++ h) before.holds in
+        record {
+          more = behind.more ++ before.more;
+          holds = subst (λ (g : History). Holds g new) (sym (append_assoc behind.more before.more h)) behind.holds;
+        }
 
 -- ---- one session after the other
 -- what may be moved for the client of a number
@@ -147,7 +166,7 @@ pub tried_moves : AllStay → (what : Content) (from after : ℕ) (old now new :
     (max number : ℕ) → (runs : IsRunning now) → ((h : History) → Holds h now → Moves (e number) max (what now h number) true h now new) → GoesOn old new
 tried_moves stays what from after old now new tried e max number runs moves =
     subst (λ (p : Parts). GoesOn p new) tried.same
-    (runs_on stays (e number) max (what now runs.history number) now new runs (moves runs.history runs.holds))
+    (runs_on stays (e number) max (λ h. what now h number) now new runs moves)
 
 -- what may be handed to a client, and what a session may write
 abbrev pub to_hand_out : Content

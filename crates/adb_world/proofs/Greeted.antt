@@ -1,23 +1,20 @@
 -- A server that the model device told who it is knows that device.
-use Rattle.std.specs.Prelude.{ℕ, ◌+◌, ◌≡◌, ◌≤◌, ◌&&◌, ◌||◌, Bool, true, false, cond, is_some}
-use Rattle.std.specs.Prelude.{is_none, List, [], ◌∷◌, ◌++◌, reverse, find, Option, Some, None, option_map}
+use Rattle.std.specs.Prelude.{ℕ, ◌+◌, ◌≡◌, ◌&&◌, ◌||◌, Bool, true, false, cond, is_some}
+use Rattle.std.specs.Prelude.{is_none, List, [], ◌∷◌, ◌++◌, reverse, find, Some, None, option_map}
 use Rattle.std.specs.Prelude.{nat_lt}
 use Rattle.std.specs.List.{list_any}
-use Rattle.std.proofs.Common.{refl, sym, ◌∙◌, ap, subst, arith, append_assoc}
+use Rattle.std.proofs.Common.{refl, sym, ◌∙◌, ap, arith}
 use Rattle.std.proofs.lemmas.List.{reverse-append}
 use Rattle.adb_outside.specs.Tables.{listed, listed_at}
 use Rattle.adb_outside.specs.declared.kinds.Kind.TheVariants.{Local}
 use Rattle.adb_banner.specs.Banner.{identity_of, last_value}
 use Rattle.adb_registry.specs.Row.{new_row}
 use Rattle.adb_registry.specs.Registry.{DeviceTable}
-use Rattle.adb_registry.specs.declared.row.Row.{Row}
-use Rattle.adb_wire.specs.Cutting.{framed}
 use Rattle.adb_wire.specs.Format.{is_cnxn}
-use Rattle.adb_wire.specs.declared.format.PacketFault.{PacketFault}
 use Rattle.adb_wire.specs.declared.packets.Packet.{Packet}
 use Rattle.adb_capture.specs.declared.entry.Entry.{Entry}
 use Rattle.adb_history.specs.Book.{plugged, plugged_count, is_refused, is_broken, last_cnxn, row_by, device_of, devices, devices_if, is_killed}
-use Rattle.adb_history.specs.Bytes.{is_lost, bytes_received, brought}
+use Rattle.adb_history.specs.Bytes.{is_lost, brought}
 use Rattle.adb_history.specs.Machine.{History}
 use Rattle.adb_history.specs.Packets.{least_version, least_maxdata}
 use Rattle.adb_daemon.specs.Device.{own_cnxn}

@@ -1,26 +1,22 @@
 -- The two ends of the link say who they are.
-use Rattle.std.specs.Prelude.{ℕ, ◌+◌, ◌-◌, ◌^◌, ◌≡◌, ◌≢◌, ◌≤◌, ◌<◌, Bool, true, false, cond}
-use Rattle.std.specs.Prelude.{nat_eq, not, ◌&&◌, All, List, [], ◌∷◌, ◌++◌, length, take, Option, Some, None}
-use Rattle.std.proofs.Common.{refl, sym, ◌∙◌, ap, subst, arith}
-use Rattle.std.proofs.lemmas.List.{take_all, append-nil}
+use Rattle.std.specs.Prelude.{ℕ, ◌-◌, ◌^◌, ◌≡◌, ◌≤◌, Bool, true, false}
+use Rattle.std.specs.Prelude.{List, [], ◌∷◌, length, take, Some}
+use Rattle.std.proofs.Common.{sym, ◌∙◌, ap, subst, arith}
+use Rattle.std.proofs.lemmas.List.{take_all}
 use Rattle.std.proofs.lemmas.List.Elements.{All-nil}
 use Rattle.adb_wire.specs.Cutting.{framed}
-use Rattle.adb_wire.specs.declared.packets.Packet.{Packet}
-use Rattle.adb_capture.specs.declared.entry.Entry.{Entry}
 use Rattle.adb_capture.specs.declared.entry.Entry.TheVariants.{Recv, Send}
-use Rattle.adb_history.specs.Bytes.{bytes_received, brought}
-use Rattle.adb_history.specs.Machine.{History, state}
+use Rattle.adb_history.specs.Bytes.{bytes_received}
+use Rattle.adb_history.specs.Machine.{state}
 use Rattle.adb_hub.specs.Answers.{due_on}
 use Rattle.adb_daemon.specs.Daemon.{owed}
-use Rattle.adb_daemon.specs.Serving.{bytes_of}
-use Rattle.adb_daemon.specs.Device.{own_cnxn}
 use Rattle.adb_laws_model_device.specs.Owed.{bytes_owed}
 use Rattle.adb_laws_model_device.proofs.Bytes.{framed_owed}
 use Rattle.adb_laws_sessions.specs.Model.{model_setting}
-use Rattle.adb_world.specs.Parts.{Holds, IsGreeted, IsRunning, Moved, Moves, plugging}
+use Rattle.adb_world.specs.Parts.{Holds, IsRunning, Moves, plugging}
 use Rattle.adb_world.specs.declared.parts.Parts.{Parts}
 use Rattle.adb_world.proofs.Entries.{all_owed}
-use Rattle.adb_world.proofs.Going.{AllStay, runs_on}
+use Rattle.adb_world.proofs.Going.{AllStay, running_on}
 
 -- what a device owes that was fed nothing is its CNXN
 abbrev pub first_bytes : List ℕ
@@ -51,5 +47,5 @@ module _ (old : Parts) (holds : Holds (plugging ∷ []) old) where
 -- a step down leaves a world that runs
 pub still_runs : AllStay → (max : ℕ) (moved : Bool) (old new : Parts) → (runs : IsRunning old)
     → Moves (Send 1) max (due_on ((state runs.history).links 1)) moved runs.history old new → IsRunning new
-still_runs stays max true old new runs moves = (runs_on stays (Send 1) max (due_on ((state runs.history).links 1)) old new runs moves).runs
+still_runs stays max true old new runs moves = running_on stays (Send 1) max (due_on ((state runs.history).links 1)) old new runs moves
 still_runs stays max false old new runs moves = subst IsRunning (sym moves.0) runs

@@ -1,3 +1,4 @@
+pub mod Gone
 pub mod Stays
 pub mod Greeted
 pub mod Numbers
@@ -7,6 +8,21 @@ pub mod Devices
 pub mod Entries
 pub mod Moved
 pub mod Fresh
+pub mod Shows
+pub mod Counted
 pub mod Rest
+pub mod Ended
+pub mod Joining
 pub mod Going
+pub mod Unsent
+pub mod Unread
+pub mod NoMore
+pub mod Since
+pub mod SentAll
 pub mod Greeting
+pub mod Answered
+pub mod OneStream
+pub mod Alone
+pub mod Finishing
+pub mod Synced
+pub mod Files

@@ -1,9 +1,8 @@
 -- What the steps of a world move.
-use Rattle.std.specs.Prelude.{ℕ, ◌+◌, ◌≡◌, ◌≢◌, ◌≤◌, ◌<◌, Bool, true, false, min, List, [], ◌∷◌, ◌++◌, length, take, drop, Option, Some, None, option_map, Ok}
-use Rattle.std.proofs.Common.{refl, sym, ◌∙◌, ap, subst, arith, ◌⊎◌, inl, inr}
+use Rattle.std.specs.Prelude.{ℕ, ◌≡◌, ◌≢◌, ◌≤◌, ◌<◌, min, List, [], ◌∷◌, ◌++◌, length, take, Option, Some, option_map, Ok}
+use Rattle.std.proofs.Common.{refl, sym, ◌∙◌, ap, subst, arith}
 use Rattle.std.proofs.lemmas.List.{take_min, length-take}
 use Rattle.adb_outside.specs.Tables.{at}
-use Rattle.adb_capture.specs.declared.entry.Entry.{Entry}
 use Rattle.adb_capture.specs.declared.entry.Entry.TheVariants.{Read, Recv, Put, Send}
 use Rattle.adb_history.specs.Book.{devices}
 use Rattle.adb_history.specs.Bytes.{bytes_received, bytes_sent}
@@ -15,7 +14,7 @@ use Rattle.adb_daemon.specs.Device.{Setting}
 use Rattle.adb_daemon.specs.declared.daemon.Daemon.{Daemon}
 use Rattle.adb_laws_sessions.specs.Model.{model_devices, model_setting}
 use Rattle.adb_world.specs.Calls.{AreFirst, HasNone, HasTaken, TakesSoundly}
-use Rattle.adb_world.specs.Parts.{Holds, IsKeptAt, Moved, Moves}
+use Rattle.adb_world.specs.Parts.{Holds, Moved}
 use Rattle.adb_world.specs.Session.{Changes, handed, wrote, left_of}
 use Rattle.adb_world.specs.declared.parts.Parts.{Parts}
 use Rattle.adb_world.specs.declared.session.Session.{Session}

@@ -1,11 +1,11 @@
 -- The hub of a world takes what the world asks of it.
-use Rattle.std.specs.Prelude.{ℕ, ◌+◌, ◌-◌, ◌^◌, ◌≡◌, ◌≢◌, ◌≤◌, ◌<◌, Bool, true, false, is_some, List, [], ◌∷◌, ◌++◌, take, Option, Some, None}
-use Rattle.std.proofs.Common.{refl, sym, ◌∙◌, ap, subst, arith, ◌⊎◌, inl, inr}
+use Rattle.std.specs.Prelude.{ℕ, ◌+◌, ◌-◌, ◌^◌, ◌≡◌, ◌≤◌, ◌<◌, true, false, is_some, List, Option, Some, None}
+use Rattle.std.proofs.Common.{refl, ◌∙◌, ap, subst, arith}
 use Rattle.std.proofs.lemmas.Bool.Decides.{nat_tests}
 use Rattle.adb_outside.specs.Tables.{at}
 use Rattle.adb_capture.specs.declared.entry.Entry.{Entry}
 use Rattle.adb_history.specs.Accepted.{is_drawn}
-use Rattle.adb_history.specs.Kept.{Kept, kept, IsLawful}
+use Rattle.adb_history.specs.Kept.{Kept}
 use Rattle.adb_history.specs.Machine.{History, state, IsDrawn}
 use Rattle.adb_history.proofs.Books.{all_books}
 use Rattle.adb_history.proofs.Numbers.{counted}

@@ -1,40 +1,28 @@
 -- Where no step is possible, nothing is left to be moved.
-use Rattle.std.specs.Prelude.{ℕ, ◌+◌, ◌-◌, ◌^◌, ◌≡◌, ◌≢◌, ◌≤◌, ◌<◌, Bool, true, false, not, cond, if◌then◌else◌}
-use Rattle.std.specs.Prelude.{min, is_some, zero, suc, List, [], ◌∷◌, ◌++◌, length, map, take, drop, Option, Some, None}
-use Rattle.std.specs.Prelude.{option_map}
+use Rattle.std.specs.Prelude.{ℕ, ◌^◌, ◌≡◌, ◌≢◌, ◌≤◌, ◌<◌, Bool, true, false, not, cond, is_some, zero, suc}
+use Rattle.std.specs.Prelude.{List, [], ◌∷◌, ◌++◌, length, map, drop, Option, Some, None, option_map}
 use Rattle.std.specs.Ordering.{nat_cmp, is_eq}
-use Rattle.std.proofs.Common.{refl, sym, ◌∙◌, ap, subst, arith, ◌⊎◌, inl, inr, add-one}
+use Rattle.std.proofs.Common.{refl, sym, ◌∙◌, ap, subst, arith, ◌⊎◌, inl, inr}
 use Rattle.std.proofs.lemmas.Bool.{cases_lt}
-use Rattle.std.proofs.lemmas.List.{append-nil, take-append-drop, length-append}
+use Rattle.std.proofs.lemmas.List.{append-nil}
 use Rattle.std.proofs.Math.Seq.{drop-append_seam}
-use Rattle.adb_outside.specs.Bytes.{IsPrefixOf}
-use Rattle.adb_outside.specs.Tables.{at, Rows, listed}
-use Rattle.adb_outside.proofs.TableLaws.{shows}
+use Rattle.adb_outside.specs.Tables.{at}
 use Rattle.adb_wire.specs.Cutting.{framed}
-use Rattle.adb_wire.specs.declared.packets.Packet.{Packet}
 use Rattle.adb_registry.specs.Registry.{DeviceTable}
-use Rattle.adb_registry.specs.declared.row.Row.{Row as Device}
-use Rattle.adb_client.specs.declared.phase.Phase.{Phase}
-use Rattle.adb_client.specs.declared.phase.Phase.TheVariants.{Asking, Opening, Streaming, Binding, Tracking, Closing, Gone}
-use Rattle.adb_stream.specs.Flow.{is_idle, to_hand, has_credit}
+use Rattle.adb_client.specs.declared.phase.Phase.TheVariants.{Asking}
+use Rattle.adb_stream.specs.Flow.{is_idle, has_credit}
 use Rattle.adb_stream.specs.declared.flow.Flow.{Flow}
 use Rattle.adb_stream.specs.declared.flow.Flow.TheVariants.{One, Credit}
 use Rattle.adb_stream.specs.declared.row.Stream.{Stream}
-use Rattle.adb_reply.specs.declared.answer.Next.{Next}
-use Rattle.adb_reply.specs.declared.answer.Next.TheVariants.{Open}
-use Rattle.adb_history.specs.Asking.{Asked, nothing_asked, asks_with}
-use Rattle.adb_history.specs.Book.{asked, plugged_count}
-use Rattle.adb_history.specs.Births.{Birth, births, born, opening_of, remote_of, remote_in}
-use Rattle.adb_history.specs.Bytes.{bytes_read, bytes_received, bytes_sent, brought, sent}
+use Rattle.adb_history.specs.Book.{plugged_count}
+use Rattle.adb_history.specs.Births.{Birth, remote_of, remote_in}
+use Rattle.adb_history.specs.Bytes.{bytes_received, bytes_sent, brought, sent}
 use Rattle.adb_history.specs.Events.{spelled_to}
-use Rattle.adb_history.specs.Kept.{Kept, kept}
-use Rattle.adb_history.specs.Links.{is_connected}
+use Rattle.adb_history.specs.Kept.{kept}
 use Rattle.adb_history.specs.Lives.{packets_of}
 use Rattle.adb_history.specs.Machine.{History, state, told, IsLegal}
 use Rattle.adb_history.specs.Orderly.{IsDrawnOnly}
 use Rattle.adb_history.specs.Rows.{Client, Link, State}
-use Rattle.adb_history.specs.Streams.{stream_ids}
-use Rattle.adb_history.specs.Tied.{came_count}
 use Rattle.adb_history.specs.Tracking.{offered}
 use Rattle.adb_history.proofs.Books.{all_books, all_unread}
 use Rattle.adb_history.proofs.Numbers.{counted}
@@ -44,10 +32,10 @@ use Rattle.adb_laws_births.specs.Born.{IsBornAs, all_brought}
 use Rattle.adb_laws_births.proofs.Born.{all_born}
 use Rattle.adb_laws_births.proofs.Laws.{sends_first}
 use Rattle.adb_laws_causes.specs.Flows.{waiting}
-use Rattle.adb_device_streams.specs.Service.{out_of, service_answer}
+use Rattle.adb_device_streams.specs.Service.{out_of}
 use Rattle.adb_device_streams.specs.Stream.{Row, unsent, StandsFor}
 use Rattle.adb_device_streams.specs.declared.stream.Stream.{Stream as DeviceStream}
-use Rattle.adb_daemon.specs.Daemon.{HasDone, owed, device_of}
+use Rattle.adb_daemon.specs.Daemon.{owed}
 use Rattle.adb_daemon.specs.Held.{StandsAt}
 use Rattle.adb_laws_pairs.specs.Paired.{IsStill}
 use Rattle.adb_laws_model_device.specs.Owed.{packets_owed, bytes_owed}
@@ -63,24 +51,21 @@ use Rattle.adb_daemon.specs.Device.{Setting}
 use Rattle.adb_laws_worlds.specs.Settled as worlds
 use Rattle.adb_laws_worlds.specs.Unclosed.{IsUnclosed, HeardNoClose}
 use Rattle.adb_hub.specs.Answers.{due_on, offered_to}
-use Rattle.adb_laws_sessions.specs.Words.{IsKnown, requests_for, words_of}
 use Rattle.adb_laws_sessions.specs.Model.{model_devices, model_setting}
-use Rattle.adb_laws_sessions.specs.Asked.{Opens, HasOpened}
-use Rattle.adb_laws_sessions.specs.Sessions.{HasAsked, AsksForServices, done_among}
+use Rattle.adb_laws_sessions.specs.Sessions.{AsksForServices}
 use Rattle.adb_world.specs.Calls.{HasNone}
-use Rattle.adb_world.specs.Parts.{Holds, IsGreeted, IsKeptAt}
-use Rattle.adb_world.specs.Session.{IsTold, left_of, text_of}
-use Rattle.adb_world.specs.Settled.{IsAtRest, IsSettled, IsCounted, Rests}
-use Rattle.adb_world.specs.World.{end_of, ends_of, view_of}
+use Rattle.adb_world.specs.Parts.{Holds, IsGreeted, IsKeptAt, IsOver}
+use Rattle.adb_world.specs.Session.{left_of}
+use Rattle.adb_world.specs.Settled.{Each, IsAtRest, IsCalm, Rests}
+use Rattle.adb_world.specs.World.{end_of, ends_of}
 use Rattle.adb_world.specs.declared.parts.Parts.{Parts}
 use Rattle.adb_world.specs.declared.session.Session.{Session}
 use Rattle.adb_world.proofs.Greeted.{known_devices}
 use Rattle.adb_world.proofs.Entries.{all_owed}
+use Rattle.adb_world.proofs.Shows.{links_show, clients_show, streams_show}
+use Rattle.adb_world.proofs.Counted.{AsksAsWritten, IsThere, one_when, session_done, there}
 
 -- ---- small things
-abbrev one_when : Bool → ℕ
-one_when b = if b then 1 else 0
-
 idle_flow : (flow : Flow) → has_credit flow ≡ false → waiting flow ≡ 0 → is_idle flow ≡ true
 idle_flow (One window) plain none = go window.outstanding refl none
   where
@@ -98,13 +83,6 @@ none_due table client none = go client.due refl
     go (b ∷ due) is =
         let some : offered table client ≡ b ∷ due = ap (λ (d : List ℕ). offered table (record client { due = d })) is in
         let clash : b ∷ due ≡ [] = sym some ∙ none in cc
-
-all_done : (what : ℕ → Asked) (k : ℕ) → ((c : ℕ) → 0 < c → c ≤ k → is_some (what c).next ≡ true) → done_among what k ≡ k
-all_done what zero done = refl
-all_done what (suc k) done =
-    let here : one_when (is_some (what (suc k)).next) ≡ 1 = ap one_when (done (suc k) (omega arith) (omega arith)) in
-    let rest = all_done what k (λ c some le. done c some (omega (arith, le))) in
-    omega (arith, here, rest)
 
 -- a table of what rows show has what its row shows
 at_map : {A B : Type 0} (f : A → B) (n : ℕ) (table : List (ℕ × A)) → at n (map (λ (e : ℕ × A). (e.0, f e.1)) table) ≡ option_map f (at n table)
@@ -125,36 +103,6 @@ none_out row far stands none =
 model_there : is_some (at 1 model_devices.rows) ≡ true
 unfolding model_devices
 model_there = refl
-
--- what a server asked that reads the words of a session
-abbrev pub AsksAsWritten : Type 0
-AsksAsWritten = (h : History) → IsLegal h → (c : ℕ) (session : Session) → HasAsked (bytes_read c h) (asked c h)
-    → IsTold h c session → left_of session ≡ [] → is_some (asked c h).next ≡ true
-
--- what the requests of a session open
-abbrev pub RequestsOpen : Type 0
-RequestsOpen = (service text front : List ℕ) → IsKnown service → IsPrefixOf front (words_of service text)
-    → Opens service front (asks_with model_devices [] front nothing_asked)
-
--- A session that wrote all its words asked for its service.
-pub asks_as_written : RequestsOpen → AsksAsWritten
-asks_as_written opens h legal c session asks told none = go (asked c h).next refl
-  where
-    all : bytes_read c h ≡ words_of session.service (text_of session)
-    all =
-        told.read
-        ∙ (sym (append-nil (take session.written session.words))
-        ∙ (ap (λ (x : List ℕ). take session.written session.words ++ x) (sym none)
-        ∙ (take-append-drop session.written session.words ∙ told.words)))
-
-    go : (o : Option Next) → (asked c h).next ≡ o → is_some (asked c h).next ≡ true
-    go (Some next) is = ap is_some is
-    go None is =
-        let whole : asks.front ≡ words_of session.service (text_of session) = asks.all is ∙ all in
-        let long : length asks.front ≡ length (requests_for session.service) + length (text_of session) =
-        ap length whole ∙ length-append (requests_for session.service) (text_of session) in
-        let done = (opens session.service (text_of session) asks.front told.known ([], append-nil asks.front ∙ whole)).opened (omega (arith, long)) in
-        let clash : None ≡ Some (Open 1 session.service) = sym is ∙ (ap (λ (q : Asked). q.next) asks.asked ∙ done.next) in cc
 
 -- what holds of a server and its model device
 pub record Laws : Type 0 where
@@ -193,16 +141,6 @@ module _ (laws : Laws) (h : History) (parts : Parts) (holds : Holds h parts) (gr
       ∙ known_devices h (laws.sound model_setting h short legal holds.joined) holds.here holds.plugged_as greeted holds.one asks.killed
 
   -- ---- the sessions of the clients
-  -- the client of a number that was drawn is that of a session
-  there : (c : ℕ) → 0 < c → c ≤ parts.given → (session : Session) × ((at c parts.sessions.entries ≡ Some session) × IsTold h c session)
-  there c some le = go (at c parts.sessions.entries) refl (holds.sessions c)
-    where
-      go : (o : Option Session) → at c parts.sessions.entries ≡ o → IsKeptAt parts.given h c o
-          → (session : Session) × ((at c parts.sessions.entries ≡ Some session) × IsTold h c session)
-      go None is (inl zeroth) = absurd (omega (arith, zeroth, some))
-      go None is (inr past) = absurd (omega (arith, past, le))
-      go (Some session) is k = (session, (is, k.1))
-
   drawn_client : (c : ℕ) (client : Client) → (state h).clients c ≡ Some client → (0 < c) × (c ≤ parts.given)
   drawn_client c client is = go c (orderly h legal).clients is
     where
@@ -214,19 +152,24 @@ module _ (laws : Laws) (h : History) (parts : Parts) (holds : Holds h parts) (gr
           by (inl past) = absurd (let clash : None ≡ Some client = sym (only.above (suc n) past) ∙ e in cc)
           by (inr le) = let counts = (counted h).joined in let given = holds.came in omega (arith, le, counts, given)
 
-  -- each session asked for its service
-  session_done : (c : ℕ) → 0 < c → c ≤ parts.given → is_some (asked c h).next ≡ true
-  session_done c some le =
-      let t = there c some le in
-      written h legal c t.0 (asks.clients c) t.1.1 (rests.written c t.0 some t.1.0)
+  words : Each parts.sessions.entries (λ (session : Session). left_of session ≡ [])
+  words c session is = rests.written c session named is
+    where
+      named : 0 < c
+      named = (subst (IsKeptAt parts.given h c) is (holds.sessions c)).0.0
 
   -- ---- nothing is due
   client_due : (c : ℕ) (client : Client) → (state h).clients c ≡ Some client → client.due ≡ []
-  client_due c client is =
-      let drawn = drawn_client c client is in
-      let t = there c drawn.0 drawn.1 in
-      none_due (state h).devices client
-      (subst (λ (o : Option Client). HasNone (offered_to (state h).devices o)) is (rests.handed h holds c t.0 drawn.0 t.1.0))
+  client_due c client is = go (there h parts holds c drawn.0 drawn.1)
+    where
+      drawn : (0 < c) × (c ≤ parts.given)
+      drawn = drawn_client c client is
+
+      go : IsThere h parts c ⊎ IsOver parts.given h c → client.due ≡ []
+      go (inr over) = absurd (let clash : None ≡ Some client = sym over.gone ∙ is in cc)
+      go (inl t) =
+          none_due (state h).devices client
+          (subst (λ (o : Option Client). HasNone (offered_to (state h).devices o)) is (rests.handed h holds c t.session drawn.0 t.is))
 
   link_due : (link : Link) → (state h).links 1 ≡ Some link → link.due ≡ []
   link_due link is = subst (λ (o : Option Link). HasNone (due_on o)) is (rests.down h holds)
@@ -263,10 +206,10 @@ module _ (laws : Laws) (h : History) (parts : Parts) (holds : Holds h parts) (gr
       brought_all =
           ap (λ (x : List ℕ). (framed x).given) received ∙ framed_owed model_setting short (sent 1 h) (sent_words h legal)
 
-  at_rest : worlds.IsAtRest model_setting h
+  pub at_rest : worlds.IsAtRest model_setting h
   at_rest = record { still = still; clients = client_due }
 
-  one_device : plugged_count h ≤ 1
+  pub one_device : plugged_count h ≤ 1
   one_device = let one = holds.one in omega (arith, one)
 
   -- ---- the clients
@@ -277,11 +220,12 @@ module _ (laws : Laws) (h : History) (parts : Parts) (holds : Holds h parts) (gr
       asks_no_more phase =
           let drawn = drawn_client c client is in
           let none = (all_unread h legal c client is phase).asks in
-          let clash : false ≡ true = sym (ap is_some none) ∙ session_done c drawn.0 drawn.1 in cc
+          let clash : false ≡ true = sym (ap is_some none) ∙ session_done h parts holds asks words written c drawn.0 drawn.1 in cc
 
   -- ---- the streams
   stream_rests : (l : ℕ) (x : Stream) → (state h).streams l ≡ Some x → IsAtRest (ends_of parts.device) x
   stream_rests l x live = record {
+    opened = open_id;
     answered = idle_flow x.part.flow plain k.settled.waits;
     handed = k.settled.handed;
     far = end_of far.0;
@@ -332,21 +276,7 @@ module _ (laws : Laws) (h : History) (parts : Parts) (holds : Holds h parts) (gr
           go None is stands = absurd stands
           go (Some end) is stands = (end, (is, stands))
 
-  -- ---- what the hub shows
-  links_show : (t : ℕ) → at t parts.hub.links ≡ (state h).links t
-  links_show t =
-      ap (λ (k : Kept). at t k.links) seen
-      ∙ shows (state h).links (state h).devices.drawn (orderly h legal).links.zero (orderly h legal).links.above t
-
-  clients_show : (c : ℕ) → at c parts.hub.clients ≡ (state h).clients c
-  clients_show c =
-      ap (λ (k : Kept). at c k.clients) seen ∙ shows (state h).clients (state h).joined (orderly h legal).clients.zero (orderly h legal).clients.above c
-
-  streams_show : (l : ℕ) → at l parts.hub.streams.streams ≡ (state h).streams l
-  streams_show l =
-      ap (λ (k : Kept). at l k.streams.streams) seen
-      ∙ shows (state h).streams (state h).drawn (orderly h legal).streams.zero (orderly h legal).streams.above l
-
+  -- ---- the only link
   first_link : (t : ℕ) (link : Link) → (state h).links t ≡ Some link → t ≡ 1
   first_link t link is = go t (orderly h legal).links is
     where
@@ -358,35 +288,16 @@ module _ (laws : Laws) (h : History) (parts : Parts) (holds : Holds h parts) (gr
           by (inl past) = absurd (let clash : None ≡ Some link = sym (only.above (suc n) past) ∙ e in cc)
           by (inr le) = let counts = (counted h).plugged in let one = holds.one in omega (arith, le, counts, one)
 
-  pub is_settled : IsSettled (view_of parts false)
-  is_settled = record {
+  pub is_calm : IsCalm parts.hub (owed parts.device) (ends_of parts.device)
+  is_calm = record {
     link = λ t link is. (
-        let e = sym (links_show t) ∙ is in
+        let e = sym (links_show h parts.hub holds.lawful t) ∙ is in
         link_due link (ap (state h).links (sym (first_link t link e)) ∙ e));
-    clients = λ c client is. client_due c client (sym (clients_show c) ∙ is);
+    clients = λ c client is. client_due c client (sym (clients_show h parts.hub holds.lawful c) ∙ is);
     device = rests.up;
-    up = λ c client is. client_held c client (sym (clients_show c) ∙ is);
-    streams = λ l x is. stream_rests l x (sym (streams_show l) ∙ is);
-    words = λ c session is. rests.written c session (named c session is) is;
+    up = λ c client is. client_held c client (sym (clients_show h parts.hub holds.lawful c) ∙ is);
+    streams = λ l x is. stream_rests l x (sym (streams_show h parts.hub holds.lawful l) ∙ is);
   }
-    where
-      named : (c : ℕ) (session : Session) → at c parts.sessions.entries ≡ Some session → 0 < c
-      named c session is = (subst (IsKeptAt parts.given h c) is (holds.sessions c)).0.0
 
-  pub is_counted : IsCounted (view_of parts false)
-  is_counted = record {
-    clients = ap (λ (k : Kept). k.joined) seen ∙ ((counted h).joined ∙ holds.came);
-    streams = ap (λ (k : Kept). k.streams.drawn) seen ∙ drawn;
-  }
-    where
-      born_all : length (births h) ≡ parts.given
-      born_all =
-          asks.births
-          ∙ (ap (done_among (λ (c : ℕ). asked c h)) holds.came ∙ all_done (λ (c : ℕ). asked c h) parts.given session_done)
-
-      drawn : (state h).drawn ≡ parts.given
-      drawn =
-          let all = (all_born h legal).drawn in
-          let few = holds.few in
-          let born = born_all in
-          omega (arith, all, few, born)
+  pub all_written : Each parts.sessions.entries (λ (session : Session). left_of session ≡ [])
+  all_written = words

@@ -1,8 +1,7 @@
 -- Where an answer is no refusal, it is want of memory.
-use Rattle.std.specs.Prelude.{ℕ, ◌≡◌, ◌≢◌, List, [], ◌++◌, Option, Some, None, Result, Ok, Err}
+use Rattle.std.specs.Prelude.{ℕ, ◌≡◌, ◌≢◌, List, [], ◌++◌, Some, None, Result, Ok, Err}
 use Rattle.std.proofs.Common.{refl, sym, ◌∙◌}
 use Rattle.adb_outside.specs.declared.kinds.Kind.TheVariants.{Local}
-use Rattle.adb_capture.specs.declared.entry.Entry.{Entry}
 use Rattle.adb_capture.specs.declared.entry.Entry.TheVariants.{Attach}
 use Rattle.adb_history.specs.Kept.{Kept}
 use Rattle.adb_history.specs.Machine.{state}
@@ -10,7 +9,7 @@ use Rattle.adb_hub.specs.Answers.{Answers}
 use Rattle.adb_hub.specs.Refusal.{refusal}
 use Rattle.adb_hub.specs.declared.error.HubError.{HubError}
 use Rattle.adb_hub.specs.declared.error.HubError.TheVariants as hub
-use Rattle.adb_daemon.specs.Daemon.{HasDone, Answers as DeviceAnswers, answer_to}
+use Rattle.adb_daemon.specs.Daemon.{HasDone, Answers as DeviceAnswers}
 use Rattle.adb_daemon.specs.Device.{Setting}
 use Rattle.adb_daemon.specs.declared.daemon.Daemon.{Daemon}
 use Rattle.adb_daemon.specs.declared.error.DaemonError.{DaemonError}

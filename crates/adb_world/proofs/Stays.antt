@@ -1,18 +1,18 @@
 -- What entries leave of bytes, numbers and sessions.
-use Rattle.std.specs.Prelude.{ℕ, ◌+◌, ◌≡◌, ◌≢◌, ◌≤◌, ◌<◌, Bool, true, false, cond, nat_eq}
-use Rattle.std.specs.Prelude.{List, [], ◌∷◌, ◌++◌, length, take, drop, Option, Some, None, option_map}
-use Rattle.std.proofs.Common.{refl, sym, ◌∙◌, ap, subst, arith, ◌⊎◌, inl, inr, append_assoc}
+use Rattle.std.specs.Prelude.{ℕ, ◌+◌, ◌≡◌, ◌≢◌, Bool, cond}
+use Rattle.std.specs.Prelude.{List, ◌∷◌, ◌++◌, length, take, drop, Option, Some, None, option_map}
+use Rattle.std.proofs.Common.{refl, sym, ◌∙◌, ap, subst, arith, ◌⊎◌, inl, inr}
 use Rattle.std.proofs.lemmas.Bool.{cases_eq, eq-eqb, ne_eqb}
 use Rattle.std.proofs.lemmas.List.{length-take, length-drop, take-append-drop}
 use Rattle.std.proofs.Math.Seq.{take-add, take-append_seam}
-use Rattle.adb_outside.specs.Tables.{at, Puts}
+use Rattle.adb_outside.specs.Tables.{at}
 use Rattle.adb_capture.specs.declared.entry.Entry.TheVariants.{Read, Put}
 use Rattle.adb_history.specs.Machine.{History}
 use Rattle.adb_history.specs.Bytes.{bytes_read, bytes_put}
-use Rattle.adb_laws_sessions.specs.Words.{requests_for}
 use Rattle.adb_world.specs.Parts.{IsKeptAt, IsSame, AreSame}
 use Rattle.adb_world.specs.Session.{Changes, IsTold, handed, wrote, left_of}
 use Rattle.adb_world.specs.declared.session.Session.{Session}
+use Rattle.adb_world.proofs.Gone.{gone_put, gone_read, none_stays}
 
 -- ---- the same sessions
 same_session : (o : Option Session) → IsSame o o
@@ -68,6 +68,7 @@ put_told h c piece session told = record {
   put =
       ap (λ (b : Bool). cond b (bytes_put c h ++ piece) (bytes_put c h)) (eq-eqb c c refl)
       ∙ ap (λ (x : List ℕ). x ++ piece) told.put;
+  alive = told.alive;
 }
 
 put_other : (h : History) (n c : ℕ) (piece : List ℕ) (session : Session) → n ≢ c → IsTold h c session → IsTold (Put n piece ∷ h) c session
@@ -77,6 +78,7 @@ put_other h n c piece session other told = record {
   within = told.within;
   read = told.read;
   put = ap (λ (b : Bool). cond b (bytes_put c h ++ piece) (bytes_put c h)) (ne_eqb n c other) ∙ told.put;
+  alive = told.alive;
 }
 
 take_more : (n : ℕ) (words piece : List ℕ) (m : ℕ) → piece ≡ take m (drop n words)
@@ -103,6 +105,7 @@ read_told h c m piece session is told = record {
       ap (λ (b : Bool). cond b (bytes_read c h ++ piece) (bytes_read c h)) (eq-eqb c c refl)
       ∙ (ap (λ (x : List ℕ). x ++ piece) told.read ∙ take_more session.written session.words piece m is);
   put = told.put;
+  alive = told.alive;
 }
 
 read_other : (h : History) (n c : ℕ) (piece : List ℕ) (session : Session) → n ≢ c → IsTold h c session → IsTold (Read n piece ∷ h) c session
@@ -112,6 +115,7 @@ read_other h n c piece session other told = record {
   within = told.within;
   read = ap (λ (b : Bool). cond b (bytes_read c h ++ piece) (bytes_read c h)) (ne_eqb n c other) ∙ told.read;
   put = told.put;
+  alive = told.alive;
 }
 
 -- ---- the sessions behind an entry of one
@@ -120,11 +124,11 @@ module _ (given n : ℕ) (h : History) (piece : List ℕ) (old new : List (ℕ �
   kept_put puts c = go (cases_eq n c)
     where
       here : (o : Option Session) → IsKeptAt given h n o → IsKeptAt given (Put n piece ∷ h) n (option_map (handed piece) o)
-      here None k = k
+      here None k = none_stays given n (Put n piece) h (λ e. e) (λ gone. gone_put h n gone n piece) k
       here (Some session) (drawn, told) = (drawn, put_told h n piece session told)
 
       other_at : n ≢ c → (o : Option Session) → IsKeptAt given h c o → IsKeptAt given (Put n piece ∷ h) c o
-      other_at other None k = k
+      other_at other None k = none_stays given c (Put n piece) h (λ e. e) (λ gone. gone_put h c gone n piece) k
       other_at other (Some session) (drawn, told) = (drawn, put_other h n c piece session other told)
 
       go : (n ≡ c) ⊎ (n ≢ c) → IsKeptAt given (Put n piece ∷ h) c (at c new)
@@ -145,7 +149,7 @@ module _ (given n : ℕ) (h : History) (piece : List ℕ) (old new : List (ℕ �
       there = puts.here ∙ ap (option_map (wrote (length piece))) is
 
       other_at : n ≢ c → (o : Option Session) → IsKeptAt given h c o → IsKeptAt given (Read n piece ∷ h) c o
-      other_at other None k = k
+      other_at other None k = none_stays given c (Read n piece) h (λ e. e) (λ gone. gone_read h c gone n piece) k
       other_at other (Some s) (drawn, told) = (drawn, read_other h n c piece s other told)
 
       go : (n ≡ c) ⊎ (n ≢ c) → IsKeptAt given (Read n piece ∷ h) c (at c new)

@@ -3,3 +3,4 @@ pub mod Calls
 pub mod Parts
 pub mod World
 pub mod Settled
+pub mod Answered

@@ -1,15 +1,15 @@
 -- What the parts of a world hold: a history of sessions, and all that the device did on its link.
 use Rattle.std.specs.Prelude.{ℕ, ◌^◌, ◌≡◌, ◌≢◌, ◌≤◌, ◌<◌, ◌⊎◌, Bool, true, false, List, [], ◌∷◌, Option, Some, None}
-use Rattle.adb_outside.specs.Tables.{at, put_at}
+use Rattle.adb_outside.specs.Tables.{at, put_at, Puts}
 use Rattle.adb_outside.specs.declared.kinds.Kind.TheVariants.{Local}
 use Rattle.adb_registry.specs.Row.{new_row}
 use Rattle.adb_wire.specs.declared.packets.Packet.{Packet}
 use Rattle.adb_capture.specs.declared.entry.Entry.{Entry}
 use Rattle.adb_capture.specs.declared.entry.Entry.TheVariants.{Attach}
 use Rattle.adb_history.specs.Book.{plugged, plugged_count}
-use Rattle.adb_history.specs.Bytes.{bytes_received, bytes_sent, is_lost, brought}
+use Rattle.adb_history.specs.Bytes.{bytes_received, bytes_sent, has_ended, is_lost, brought}
 use Rattle.adb_history.specs.Kept.{IsLawful}
-use Rattle.adb_history.specs.Machine.{History, IsDrawn}
+use Rattle.adb_history.specs.Machine.{History, IsDrawn, state}
 use Rattle.adb_history.specs.Tied.{came_count}
 use Rattle.adb_daemon.specs.Daemon.{HasDone}
 use Rattle.adb_daemon.specs.Device.{own_cnxn}
@@ -22,9 +22,15 @@ use Rattle.adb_world.specs.Session.{IsTold}
 use Rattle.adb_world.specs.declared.parts.Parts.{Parts}
 use Rattle.adb_world.specs.declared.session.Session.{Session}
 
--- the sessions of a world stand under the numbers of their clients
+-- a client came, ended and is gone
+pub record IsOver (given : ℕ) (h : History) (c : ℕ) : Type 0 where
+  pub drawn : IsDrawn given c
+  pub ended : has_ended c h ≡ true
+  pub gone : (state h).clients c ≡ None
+
+-- The sessions of a world stand under the numbers of their clients; under each other number nobody came, or it is over.
 abbrev pub IsKeptAt : ℕ → History → ℕ → Option Session → Type 0
-IsKeptAt given h c None = (c ≡ 0) ⊎ (given < c)
+IsKeptAt given h c None = ((c ≡ 0) ⊎ (given < c)) ⊎ IsOver given h c
 IsKeptAt given h c (Some session) = IsDrawn given c × IsTold h c session
 
 -- how many sessions may be given
@@ -32,7 +38,7 @@ abbrev pub most_sessions : ℕ
 most_sessions = 2 ^ 31
 
 -- The hub holds what the history leaves; the device was fed what was sent to the first link, and what came on it was taken from the device; no other was
--- plugged in; and each client is that of a session.
+-- plugged in; and each client is that of a session, or is over.
 pub record Holds (h : History) (parts : Parts) : Type 0 where
   pub lawful : IsLawful parts.hub h
   pub done : HasDone model_setting (bytes_sent 1 h) (bytes_received 1 h) parts.device
@@ -75,10 +81,21 @@ IsSame _ _ = ⊥
 abbrev pub AreSame : List (ℕ × Session) → List (ℕ × Session) → Type 0
 AreSame old new = (c : ℕ) → IsSame (at c old) (at c new)
 
+-- Under a number no session is kept any more, and the others are the same.
+pub record AreSameBut (number : ℕ) (old new : List (ℕ × Session)) : Type 0 where
+  pub here : at number new ≡ None
+  pub others : (c : ℕ) → c ≢ number → IsSame (at c old) (at c new)
+
 -- a session is added under a number, and nothing else changes that the world keeps
 pub record Adds (number : ℕ) (session : Session) (old new : Parts) : Type 0 where
   pub sessions : new.sessions.entries ≡ put_at number session old.sessions.entries
   pub given : new.given ≡ number
+  pub device : new.device ≡ old.device
+
+-- The session of a number is kept no more, and nothing else changes that the world keeps.
+pub record Drops (number : ℕ) (old new : Parts) : Type 0 where
+  pub sessions : Puts number None old.sessions.entries new.sessions.entries
+  pub given : new.given ≡ old.given
   pub device : new.device ≡ old.device
 
 -- ---- steps

@@ -1,5 +1,5 @@
 -- What is seen of a world.
-use Rattle.std.specs.Prelude.{ℕ, ◌≡◌, Bool, true, false, List, map}
+use Rattle.std.specs.Prelude.{ℕ, ◌≡◌, Bool, List, map}
 use Rattle.adb_outside.specs.Tables.{put_at}
 use Rattle.adb_stream.specs.Flow.{is_idle}
 use Rattle.adb_files.specs.Entries.{Entry}
@@ -8,7 +8,6 @@ use Rattle.adb_device_streams.specs.Service.{out_of}
 use Rattle.adb_device_streams.specs.declared.stream.Stream.{Stream}
 use Rattle.adb_daemon.specs.Daemon.{files_of, owed}
 use Rattle.adb_daemon.specs.declared.daemon.Daemon.{Daemon}
-use Rattle.adb_world.specs.Parts.{IsRunning}
 use Rattle.adb_world.specs.declared.parts.Parts.{Parts}
 use Rattle.adb_world.specs.declared.session.Session.{Session}
 
@@ -25,7 +24,7 @@ abbrev pub ends_of : Daemon → List (ℕ × End)
 ends_of device = map (λ (entry : ℕ × Stream). (entry.0, end_of entry.1)) device.machine.services.table.rows.entries
 
 -- what the hub holds; what the device owes, its files, and its ends of the live streams, by its ids; the sessions by the numbers of their clients, and how
--- many were given; and whether memory ran out
+-- many were given; whether memory ran out; and whether all that was started has settled
 pub record View : Type 0 where
   pub hub : Kept
   pub owed : List ℕ
@@ -34,9 +33,10 @@ pub record View : Type 0 where
   pub sessions : List (ℕ × Session)
   pub given : ℕ
   pub spent : Bool
+  pub settled : Bool
 
-abbrev pub view_of : Parts → Bool → View
-view_of parts spent = record {
+abbrev pub view_of : Parts → (spent settled : Bool) → View
+view_of parts spent settled = record {
   hub = parts.hub;
   owed = owed parts.device;
   files = files_of parts.device;
@@ -44,12 +44,8 @@ view_of parts spent = record {
   sessions = parts.sessions.entries;
   given = parts.given;
   spent = spent;
+  settled = settled;
 }
-
--- A world that is not spent runs.
-abbrev pub IsSound : Bool → Parts → Type 0
-IsSound true parts = Unit {0}
-IsSound false parts = IsRunning parts
 
 -- A session was added under the next number, and the files are as before.
 pub record HasStarted (number : ℕ) (session : Session) (old new : View) : Type 0 where

@@ -1,6 +1,7 @@
 //! What a world asks of its hub and its device, which refuse none of it.
 
 ghost use Rattle.std.specs.Prelude.{◌≡◌, ◌<◌, ◌+◌, ◌-◌, ◌^◌, ◌++◌, ◌∷◌, [], true, false, ℕ, List, IfOk, OnOk};
+ghost use Rattle.adb_outside.specs.declared.kinds.Cause.{Cause};
 ghost use Rattle.adb_capture.specs.declared.entry.Entry.{Entry};
 ghost use Rattle.adb_history.specs.Accepted.{is_drawn};
 ghost use Rattle.adb_history.specs.Kept.{IsLawful};
@@ -13,7 +14,7 @@ ghost use Rattle.adb_world.specs.Parts.{plugging};
 
 use adb_daemon::{Daemon, DaemonError};
 use adb_hub::{Handed, Hub, HubError};
-use adb_outside::{Kind, Text};
+use adb_outside::{Cause, Kind, Text};
 use std::alloc::AllocError;
 
 /// The link of the model device, and its serial.
@@ -60,6 +61,20 @@ pub(crate) fn read(hub: &mut Hub, client: u32, piece: &[u8]) -> Result<(), Alloc
     match hub.read(client, piece) {
         Ok(_) => Ok(()),
         Err(HubError::OutOfMemory) => Err(AllocError),
+        Err(_) => unreachable!(),
+    }
+}
+
+/// The input of a client ends in order. It takes no memory.
+pub(crate) fn end(hub: &mut Hub, client: u32)
+    requires held { HasHistory hub.old }
+    requires on { hub.old.stopped ≡ false }
+    requires drawn { is_drawn hub.old.joined client ≡ true }
+    ensures { (h : History) → IsLawful hub.old h
+        → IsLawful hub.new (Entry.End client Cause.Eof ∷ h) }
+{
+    match hub.end(client, Cause::Eof) {
+        Ok(_) => {}
         Err(_) => unreachable!(),
     }
 }

@@ -2,11 +2,21 @@
 //! law.
 
 ghost use Rattle.adb_world.specs.Parts.{IsRunning};
-ghost use Rattle.adb_world.specs.Settled.{IsCounted, IsSettled, Rests};
-ghost use Rattle.std.specs.Prelude.{false};
+ghost use Rattle.adb_daemon.specs.Daemon.{files_of};
+ghost use Rattle.adb_outside.specs.Tables.{at};
+ghost use Rattle.adb_world.specs.Answered.{AreEchoes, IsAnswered, IsAnsweredAlone, IsNewAlone};
+ghost use Rattle.adb_world.specs.Settled.{Each, GoesOn, HasEnded, IsAtEase, IsCounted, IsDone, Rests};
+ghost use Rattle.std.specs.Prelude.{ℕ, ◌≡◌, [], Some, false, true};
 ghost use Rattle.adb_world.specs.World.{view_of};
 ghost use Rattle.adb_world.specs.declared.parts.Parts.{Parts};
+ghost use Rattle.adb_world.specs.declared.session.Session.{Session};
 
+use adb_laws_alone::{a_stream_alone_runs_over_its_files, echoes_leave_files};
+use adb_laws_answers::clients_are_answered;
+use adb_laws_births::what_came_stays;
+use adb_laws_fifo_up::carries_rest;
+use adb_laws_payloads::{an_ended_service_takes_no_more, payloads_in_turn_are_one};
+use adb_laws_resting::resting::{a_client_sends_up_its_own_stream, most_entries_send_nothing};
 use adb_laws_sessions::{requests_open_their_service, sessions_ask_for_services};
 use adb_laws_worlds::{
     a_device_breaks_no_link, clients_hold_nothing_at_rest, streams_are_open_at_rest,
@@ -14,14 +24,13 @@ use adb_laws_worlds::{
     streams_of_one_plain_device_are_plain, streams_that_live_heard_no_close,
 };
 
-/// Where no step is possible all is settled, and as many clients and streams were drawn as sessions
-/// were given.
+/// Where no step is possible all is settled, and each session was answered.
 pub(crate) fn worlds_that_rest_are_settled()
-    ensures settled { (parts : Parts) → IsRunning parts → Rests parts
-        → IsSettled (view_of parts false) }
-    ensures counted { (parts : Parts) → IsRunning parts → Rests parts
-        → IsCounted (view_of parts false) }
+    ensures done { (parts : Parts) → IsRunning parts → Rests parts → IsDone parts }
+    ensures answered { (parts : Parts) → IsRunning parts → Rests parts
+        → Each parts.sessions.entries IsAnswered }
 {
+    clients_are_answered();
     requests_open_their_service();
     sessions_ask_for_services();
     streams_have_settled_at_rest();
@@ -31,4 +40,82 @@ pub(crate) fn worlds_that_rest_are_settled()
     streams_of_one_device_are_on_its_link();
     a_device_breaks_no_link();
     streams_that_live_heard_no_close();
+}
+
+/// Where all is settled, as many clients and streams were drawn as sessions were given.
+pub(crate) fn settled_worlds_are_counted()
+    ensures { (parts : Parts) → IsDone parts → IsCounted (view_of parts false true) }
+{
+    requests_open_their_service();
+    sessions_ask_for_services();
+}
+
+/// Where all is settled, the end of a session's client and all that follows it changes no file.
+pub(crate) fn ended_sessions_change_no_file()
+    ensures { (number : ℕ) (old mid new : Parts) → IsDone old → HasEnded number old mid new
+        → files_of new.device ≡ files_of old.device }
+{
+    carries_rest();
+    what_came_stays();
+    most_entries_send_nothing();
+    a_client_sends_up_its_own_stream();
+    sessions_ask_for_services();
+    a_device_breaks_no_link();
+    settled_worlds_are_counted();
+}
+
+/// A world to which no session was given has no files.
+pub(crate) fn new_worlds_have_no_files()
+    ensures { (parts : Parts) → IsRunning parts → parts.given ≡ 0 → files_of parts.device ≡ [] }
+{
+    sessions_ask_for_services();
+}
+
+/// Where no step is possible a session that ran alone was answered over the files as they were, and
+/// left those that stand.
+pub(crate) fn sessions_alone_are_answered()
+    ensures { (old new : Parts) → IsAtEase old → GoesOn old new → Rests new
+        → (n : ℕ) (session : Session) → IsNewAlone n old.sessions.entries
+        → at n new.sessions.entries ≡ Some session
+        → IsAnsweredAlone session (files_of old.device) (files_of new.device) }
+{
+    carries_rest();
+    what_came_stays();
+    requests_open_their_service();
+    sessions_ask_for_services();
+    streams_have_settled_at_rest();
+    clients_hold_nothing_at_rest();
+    streams_are_open_at_rest();
+    streams_of_one_plain_device_are_plain();
+    streams_of_one_device_are_on_its_link();
+    a_device_breaks_no_link();
+    streams_that_live_heard_no_close();
+    clients_are_answered();
+    payloads_in_turn_are_one();
+    an_ended_service_takes_no_more();
+    a_stream_alone_runs_over_its_files();
+    echoes_leave_files();
+}
+
+/// Where no step is possible sessions that asked for echoes alone left the files as they were.
+pub(crate) fn echoes_change_no_file()
+    ensures { (old new : Parts) → IsAtEase old → GoesOn old new → Rests new
+        → AreEchoes old.sessions.entries → files_of new.device ≡ files_of old.device }
+{
+    carries_rest();
+    what_came_stays();
+    requests_open_their_service();
+    sessions_ask_for_services();
+    streams_have_settled_at_rest();
+    clients_hold_nothing_at_rest();
+    streams_are_open_at_rest();
+    streams_of_one_plain_device_are_plain();
+    streams_of_one_device_are_on_its_link();
+    a_device_breaks_no_link();
+    streams_that_live_heard_no_close();
+    clients_are_answered();
+    payloads_in_turn_are_one();
+    an_ended_service_takes_no_more();
+    a_stream_alone_runs_over_its_files();
+    echoes_leave_files();
 }

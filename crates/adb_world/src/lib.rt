@@ -2,15 +2,18 @@
 //! pieces and in an order that a seed picks, until none can move.
 #![tactic(auto)]
 
+mod asking;
 mod calls;
 mod choices;
+mod ending;
 mod laws;
 mod moving;
 mod parts;
 mod session;
 mod settling;
+mod starting;
 mod steps;
 mod world;
 
-pub use session::Session;
+pub use session::{REPLIES, Session};
 pub use world::{World, settle};

@@ -2,19 +2,24 @@
 
 ghost use Rattle.std.specs.Prelude.{◌≡◌, ◌+◌, ◌^◌, ◌<◌, [], ◌∷◌, ℕ, Some, None, true, is_some, IfOk, OnOk, MatchOption};
 ghost use Rattle.adb_outside.specs.Tables.{at, put_at, Puts};
+ghost use Rattle.adb_outside.specs.declared.kinds.Cause.{Cause};
 ghost use Rattle.adb_capture.specs.declared.entry.Entry.{Entry};
 ghost use Rattle.adb_history.specs.Machine.{History};
-ghost use Rattle.adb_world.specs.Parts.{Adds, Holds, IsHeld, IsRunning, most_sessions, plugging};
+ghost use Rattle.adb_daemon.specs.Daemon.{owed};
+ghost use Rattle.adb_world.specs.Parts.{Adds, Drops, Holds, IsHeld, IsRunning, most_sessions, plugging};
 ghost use Rattle.adb_world.specs.Session.{IsNew};
+ghost use Rattle.adb_world.specs.Settled.{IsCalm, IsDone};
+ghost use Rattle.adb_world.specs.World.{ends_of};
 ghost use Rattle.adb_world.specs.declared.session.Session.{Session};
 
-use crate::calls::{join, plug_in};
+use crate::calls::{end, join, plug_in};
 use crate::session::Session;
 use adb_daemon::Daemon;
 use adb_files::Files;
 use adb_hub::Hub;
 use adb_laws_births::what_came_stays;
-use adb_laws_sessions::sessions_ask_for_services;
+use adb_laws_resting::resting::{a_client_sends_up_its_own_stream, most_entries_send_nothing};
+use adb_laws_sessions::{requests_open_their_service, sessions_ask_for_services};
 use std::alloc::{AllocError, Global};
 use std::collections::BTreeMap;
 
@@ -71,12 +76,33 @@ impl Parts {
         ensures added { OnOk result (Adds (self.old.given + 1) session self.old self.new) }
         ensures holds { OnOk result ((h : History) → Holds h self.old
             → Holds (Entry.Join (self.old.given + 1) ∷ h) self.new) }
+        ensures calm { OnOk result
+            (IsCalm self.old.hub (owed self.old.device) (ends_of self.old.device)
+            → IsCalm self.new.hub (owed self.new.device) (ends_of self.new.device)) }
     {
         sessions_ask_for_services();
+        most_entries_send_nothing();
         let number = join(&mut self.hub)?;
         add(&mut self.sessions, number, session)?;
         self.given = number;
         Ok(number)
+    }
+
+    /// The client of a session ends in order, by which it is gone, and the session is kept no more.
+    /// It takes no memory.
+    pub(crate) fn end(&mut self, number: u32)
+        requires done { IsDone self.old }
+        requires there { is_some (at number self.old.sessions.entries) ≡ true }
+        ensures dropped { Drops number self.old self.new }
+        ensures holds { (h : History) → Holds h self.old
+            → Holds (Entry.End number Cause.Eof ∷ h) self.new }
+    {
+        sessions_ask_for_services();
+        requests_open_their_service();
+        most_entries_send_nothing();
+        a_client_sends_up_its_own_stream();
+        end(&mut self.hub, number);
+        drop_session(&mut self.sessions, number);
     }
 
     /// The least number of a session that is greater than this.
@@ -92,6 +118,13 @@ impl Parts {
         let (number, _session) = self.sessions.range(after + 1..=u32::MAX).next()?;
         Some(*number)
     }
+}
+
+/// No session is kept under a number.
+fn drop_session(sessions: &mut BTreeMap<u32, Session>, number: u32)
+    ensures { Puts number None sessions.old.entries sessions.new.entries }
+{
+    sessions.remove(&number);
 }
 
 /// A session is kept under a number.

@@ -2,6 +2,7 @@
 
 ghost use Rattle.std.specs.Prelude.{◌≡◌, ◌≤◌, ◌+◌, length, take, IfOk, OnOk};
 ghost use Rattle.adb_laws_sessions.specs.Words.{most_service};
+ghost use Rattle.adb_world.specs.Answered.{answer_of};
 ghost use Rattle.adb_world.specs.Session.{handed, left_of, new_session, wrote};
 
 use adb_outside::Text;
@@ -10,6 +11,9 @@ use std::alloc::{AllocError, Global};
 
 /// The request by which every session selects the model device.
 const SELECTS: &[u8] = b"0016host:transport:model-1";
+
+/// How many bytes the replies to the two requests of a session have.
+pub const REPLIES: usize = 8;
 
 /// A session. It writes two requests and its text, and then neither writes nor closes.
 #[derive(Drop)]
@@ -49,6 +53,14 @@ impl Session {
     {
         let left = &self.words.as_slice()[self.written..];
         &left[..max.min(left.len())]
+    }
+
+    /// What it was handed behind the replies to its requests.
+    pub(crate) fn answer(&self) -> &[u8]
+        ensures { result.now ≡ answer_of self.now }
+    {
+        let got = self.got.as_slice();
+        &got[REPLIES.min(got.len())..]
     }
 
     /// It is handed some bytes.

@@ -1,12 +1,17 @@
 //! Running a world until nothing in it can move.
 
-ghost use Rattle.std.specs.Prelude.{◌<◌, false, IfOk, OnOk};
+ghost use Rattle.std.specs.Prelude.{ℕ, ◌<◌, ◌≡◌, Some, IfOk, OnOk};
+ghost use Rattle.adb_outside.specs.Tables.{at};
+ghost use Rattle.adb_daemon.specs.Daemon.{files_of};
+ghost use Rattle.adb_world.specs.Answered.{AreEchoes, IsAnswered, IsAnsweredAlone, IsNewAlone};
 ghost use Rattle.adb_world.specs.Parts.{IsRunning};
-ghost use Rattle.adb_world.specs.Settled.{Anything, Goes, GoesOn, IsCounted, IsSettled, Rests};
-ghost use Rattle.adb_world.specs.World.{view_of};
+ghost use Rattle.adb_world.specs.Settled.{Anything, Each, Goes, GoesOn, IsAtEase, IsDone, Rests};
+ghost use Rattle.adb_world.specs.declared.session.Session.{Session};
 
 use crate::choices::{Side, Turn, turn_of};
-use crate::laws::worlds_that_rest_are_settled;
+use crate::laws::{
+    echoes_change_no_file, sessions_alone_are_answered, worlds_that_rest_are_settled,
+};
 use crate::moving::{down, hand_behind, up, write_behind};
 use crate::parts::Parts;
 use rand_core::SeedableRng;
@@ -18,10 +23,18 @@ use std::alloc::AllocError;
 pub(crate) fn settle_parts(parts: &mut Parts, seed: u64) -> Result<u64, AllocError>
     requires { IsRunning parts.old }
     ensures goes { OnOk result (GoesOn parts.old parts.new) }
-    ensures settled { OnOk result (IsSettled (view_of parts.new false)) }
-    ensures counted { OnOk result (IsCounted (view_of parts.new false)) }
+    ensures done { OnOk result (IsDone parts.new) }
+    ensures answered { OnOk result (Each parts.new.sessions.entries IsAnswered) }
+    ensures alone { IsAtEase parts.old → (n : ℕ) (session : Session)
+        → IsNewAlone n parts.old.sessions.entries → at n parts.new.sessions.entries ≡ Some session
+        → OnOk result (IsAnsweredAlone session (files_of parts.old.device)
+        (files_of parts.new.device)) }
+    ensures files { IsAtEase parts.old → AreEchoes parts.old.sessions.entries
+        → OnOk result (files_of parts.new.device ≡ files_of parts.old.device) }
 {
     worlds_that_rest_are_settled();
+    sessions_alone_are_answered();
+    echoes_change_no_file();
     let mut words = Pcg32::seed_from_u64(seed);
     for steps in 0..u64::MAX {
         let side = words.next_word();

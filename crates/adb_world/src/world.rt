@@ -1,18 +1,25 @@
 //! A world.
 
-ghost use Rattle.std.specs.Prelude.{◌≡◌, ◌+◌, ◌<◌, ◌≤◌, [], true, false, is_some, length, IfOk, OnOk, OnErr, IsErr, option_map, option_copied};
+ghost use Rattle.std.specs.Prelude.{ℕ, ◌≡◌, ◌+◌, ◌<◌, ◌≤◌, [], true, false, is_some, length, Some, IfOk, OnOk, OnErr, IsErr, option_map, option_copied};
 ghost use Rattle.adb_outside.specs.Tables.{at};
 ghost use Rattle.adb_device_streams.specs.Asked.{service_of};
-ghost use Rattle.adb_laws_sessions.specs.Words.{IsKnown, most_service};
-ghost use Rattle.adb_world.specs.Parts.{Adds, AreSame, IsRunning, most_sessions};
+ghost use Rattle.adb_files.specs.Served.{served};
+ghost use Rattle.adb_laws_sessions.specs.Words.{most_service};
+ghost use Rattle.adb_world.specs.Answered.{AreEchoes, IsAnswered, IsAnsweredAlone, IsNewAlone, answer_of};
+ghost use Rattle.adb_world.specs.Parts.{AreSame, most_sessions};
 ghost use Rattle.adb_world.specs.Session.{new_session};
-ghost use Rattle.adb_world.specs.Settled.{IsCounted, IsSettled};
+ghost use Rattle.adb_world.specs.Settled.{Each, IsCounted, IsSettled};
 ghost use Rattle.adb_world.specs.World.{HasStarted};
+ghost use Rattle.adb_world.specs.declared.session.Session.{Session};
 
+use crate::asking::sync_parts;
+use crate::ending::finish_parts;
+use crate::laws::{new_worlds_have_no_files, settled_worlds_are_counted};
 use crate::parts::Parts;
-use crate::session::Session;
 use crate::settling::settle_parts;
+use crate::starting::begin;
 use adb_files::Files;
+use adb_outside::Text;
 use std::alloc::{AllocError, Global};
 use std::marker::Model;
 
@@ -23,6 +30,8 @@ pub struct World {
     alloc: Global,
     parts: Parts,
     spent: bool,
+    /// Whether all that was started has settled.
+    settled: bool,
 }
 
 impl Model for World {
@@ -30,11 +39,12 @@ impl Model for World {
 
     ghost Value = { View };
 
-    ghost use Rattle.adb_world.specs.World.{IsSound, view_of};
+    ghost use Rattle.adb_world.specs.World.{view_of};
+    ghost use Rattle.adb_world.specs.Settled.{IsSound};
 
-    ghost view = { λ world. view_of world.parts world.spent };
+    ghost view = { λ world. view_of world.parts world.spent world.settled };
 
-    ghost invariant = { λ world. IsSound world.spent world.parts };
+    ghost invariant = { λ world. IsSound world.spent world.settled world.parts };
 }
 
 impl World {
@@ -42,14 +52,22 @@ impl World {
     pub fn new(alloc: Global) -> Result<World, AllocError>
         ensures empty { IfOk result (λ world. world.sessions ≡ []) }
         ensures given { IfOk result (λ world. world.given ≡ 0) }
+        ensures files { IfOk result (λ world. world.files ≡ []) }
         ensures whole { IfOk result (λ world. world.spent ≡ false) }
+        ensures settled { IfOk result (λ world. world.settled ≡ true) }
+        ensures calm { IfOk result IsSettled }
+        ensures counted { IfOk result IsCounted }
     {
+        settled_worlds_are_counted();
+        new_worlds_have_no_files();
         let mut parts = Parts::new(alloc)?;
         parts.greet()?;
+        settle_parts(&mut parts, 0)?;
         Ok(World {
             alloc,
             parts,
             spent: false,
+            settled: true,
         })
     }
 
@@ -64,6 +82,7 @@ impl World {
         ensures started { OnOk result (HasStarted (self.old.given + 1)
             (new_session service.now text.now) self.old self.new) }
         ensures whole { OnOk result (self.new.spent ≡ false) }
+        ensures new { OnOk result (self.new.settled ≡ false) }
         ensures spent { OnErr result (self.new.spent ≡ true) }
         ensures stays { self.old.spent ≡ true → IsErr result × (self.new ≡ self.old) }
     {
@@ -71,7 +90,10 @@ impl World {
             return Err(AllocError);
         }
         match begin(self.alloc, &mut self.parts, service, text) {
-            Ok(number) => Ok(number),
+            Ok(number) => {
+                self.settled = false;
+                Ok(number)
+            }
             Err(error) => {
                 self.spent = true;
                 Err(error)
@@ -90,6 +112,77 @@ impl World {
         }
     }
 
+    /// What a session was handed behind the replies to its two requests; `None` exactly where no
+    /// session has the number.
+    pub fn answer(&self, session: u32) -> Option<&[u8]>
+        ensures { option_copied result
+            ≡ option_map answer_of (at session self.now.sessions) }
+    {
+        match self.parts.sessions.get(&session) {
+            Some(session) => Some(session.answer()),
+            None => None,
+        }
+    }
+
+    /// What a new session of the file service is answered to some bytes, alone: what is served to
+    /// their whole requests, in order, over the files. The session is dropped then, and the others
+    /// stay. All that was started has to have settled. After want of memory the world is spent.
+    pub fn sync(&mut self, seed: u64, ask: &[u8]) -> Result<Text, AllocError>
+        requires settled { self.old.settled ≡ true }
+        requires room { self.old.given < most_sessions }
+        ensures answer { IfOk result (λ answer.
+            answer ≡ (served self.old.files ask.now).answer) }
+        ensures files { OnOk result (self.new.files ≡ (served self.old.files ask.now).files) }
+        ensures same { OnOk result (AreSame self.old.sessions self.new.sessions) }
+        ensures given { OnOk result (self.new.given ≡ self.old.given + 1) }
+        ensures calm { OnOk result (IsSettled self.new) }
+        ensures counted { OnOk result (IsCounted self.new) }
+        ensures settled { OnOk result (self.new.settled ≡ true) }
+        ensures whole { OnOk result (self.new.spent ≡ false) }
+        ensures spent { OnErr result (self.new.spent ≡ true) }
+        ensures stays { self.old.spent ≡ true → IsErr result × (self.new ≡ self.old) }
+    {
+        settled_worlds_are_counted();
+        if self.spent {
+            return Err(AllocError);
+        }
+        match sync_parts(self.alloc, &mut self.parts, ask, seed) {
+            Ok(answer) => Ok(answer),
+            Err(error) => {
+                self.spent = true;
+                Err(error)
+            }
+        }
+    }
+
+    /// Ends the client of each session in order, one after the other, and drops the sessions, whose
+    /// numbers are not given again. All settles without them. All that was started has to have
+    /// settled. After want of memory the world is spent.
+    pub fn finish(&mut self, seed: u64) -> Result<(), AllocError>
+        requires settled { self.old.settled ≡ true }
+        ensures empty { OnOk result (self.new.sessions ≡ []) }
+        ensures calm { OnOk result (IsSettled self.new) }
+        ensures counted { OnOk result (IsCounted self.new) }
+        ensures given { OnOk result (self.new.given ≡ self.old.given) }
+        ensures files { OnOk result (self.new.files ≡ self.old.files) }
+        ensures settled { OnOk result (self.new.settled ≡ true) }
+        ensures whole { OnOk result (self.new.spent ≡ false) }
+        ensures spent { OnErr result (self.new.spent ≡ true) }
+        ensures stays { self.old.spent ≡ true → IsErr result × (self.new ≡ self.old) }
+    {
+        settled_worlds_are_counted();
+        if self.spent {
+            return Err(AllocError);
+        }
+        match finish_parts(&mut self.parts, seed) {
+            Ok(()) => Ok(()),
+            Err(error) => {
+                self.spent = true;
+                Err(error)
+            }
+        }
+    }
+
     /// The files of the device.
     pub fn files(&self) -> &Files
         ensures { result.now ≡ self.now.files }
@@ -105,32 +198,29 @@ pub fn settle(world: &mut World, seed: u64) -> Result<u64, AllocError>
     ensures counted { OnOk result (IsCounted world.new) }
     ensures same { OnOk result (AreSame world.old.sessions world.new.sessions) }
     ensures given { OnOk result (world.new.given ≡ world.old.given) }
+    ensures answered { OnOk result (Each world.new.sessions IsAnswered) }
+    ensures alone { (n : ℕ) (session : Session) → IsNewAlone n world.old.sessions
+        → at n world.new.sessions ≡ Some session
+        → OnOk result (IsAnsweredAlone session world.old.files world.new.files) }
+    ensures files { AreEchoes world.old.sessions
+        → OnOk result (world.new.files ≡ world.old.files) }
+    ensures rests { OnOk result (world.new.settled ≡ true) }
     ensures whole { OnOk result (world.new.spent ≡ false) }
     ensures spent { OnErr result (world.new.spent ≡ true) }
     ensures stays { world.old.spent ≡ true → IsErr result × (world.new ≡ world.old) }
 {
+    settled_worlds_are_counted();
     if world.spent {
         return Err(AllocError);
     }
     match settle_parts(&mut world.parts, seed) {
-        Ok(steps) => Ok(steps),
+        Ok(steps) => {
+            world.settled = true;
+            Ok(steps)
+        }
         Err(error) => {
             world.spent = true;
             Err(error)
         }
     }
-}
-
-/// A session is made, and its client comes.
-fn begin(alloc: Global, parts: &mut Parts, service: &[u8], text: &[u8]) -> Result<u32, AllocError>
-    requires runs { IsRunning parts.old }
-    requires known { IsKnown service.now }
-    requires room { parts.old.given < most_sessions }
-    ensures number { IfOk result (λ number. number ≡ parts.old.given + 1) }
-    ensures added { OnOk result (Adds (parts.old.given + 1)
-        (new_session service.now text.now) parts.old parts.new) }
-    ensures runs { OnOk result (IsRunning parts.new) }
-{
-    let session = Session::new(alloc, service, text)?;
-    parts.join(session)
 }

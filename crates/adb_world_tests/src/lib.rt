@@ -1,5 +1,7 @@
-//! Worlds: what no clause says.
+//! Worlds and the scripts that run in them: what no clause says.
 #![tactic(auto)]
 
 #[cfg(test)]
-mod settling;
+mod local;
+#[cfg(test)]
+mod world;

@@ -1,22 +1,19 @@
 //! `adbhub`: the host server of the Android Debug Bridge.
 #![tactic(auto)]
 
-mod start;
-mod streams;
-#[cfg(test)]
-mod tests;
-
-use start::{start, words_of};
+use adb_serving::{Stream, start, words_of};
 use std::process::ExitCode;
 use std::{env, io};
-use streams::Stream;
 
 /// Runs the words of the command line over the standard streams, and ends with the status's code.
 fn main(rt: HostRuntime) -> ExitCode {
     let mut source = Stream::new(rt.stdin());
     let mut sink = Stream::new(rt.stdout());
     let mut note = Stream::new(rt.stderr());
-    let status = start(rt.alloc(), words(&rt), &mut source, &mut sink, &mut note);
+    let history = Stream::new(rt.stdout());
+    let words = words(&rt);
+    let alloc = rt.alloc();
+    let status = start(rt, alloc, words, &mut source, &mut sink, &mut note, history);
     ExitCode::from(status.code())
 }
 

@@ -2,8 +2,9 @@ use Rattle.std.proofs.Common.{◌∙◌, ap, Ok, Err}
 use Rattle.adb_words.specs.declared.command.Command.{Command}
 use Rattle.adb_words.specs.declared.command.WordsError.{WordsError}
 use Rattle.adb_commands.proofs.Loads.{load_unmade}
-use Rattle.adb_words.specs.declared.command.Command.TheVariants.{Replay, Check}
-use Rattle.adb_commands.proofs.Hands.{words_named, none_named, replay_notes, check_notes, load_notes, usage_notes, memory_notes}
+use Rattle.adb_commands.proofs.Scripts.{unanswered, unread_ends, script_unread}
+use Rattle.adb_words.specs.declared.command.Command.TheVariants.{Replay, Check, Local}
+use Rattle.adb_commands.proofs.Hands.{words_named, none_named, replay_notes, check_notes, script_notes, load_notes, usage_notes, memory_notes}
 use Rattle.adb_commands.proofs.command.run_alone.Goals as goal
 
 pub returns-in-Ok-Replay-clause-notes : goal.returns-in-Ok-Replay-clause-notes
@@ -22,6 +23,23 @@ pub returns-in-Ok-Gen-clause-notes : goal.returns-in-Ok-Gen-clause-notes
 returns-in-Ok-Gen-clause-notes g c = λ had has.
     load_notes c.args.words.now _ _ _ c.run_gen.result _ _ had _ (c.run_gen.ensures.notes had has)
 
+pub returns-in-Ok-Local-clause-notes : goal.returns-in-Ok-Local-clause-notes
+returns-in-Ok-Local-clause-notes g c = λ had has.
+    let seed = c.in-Ok-Local.seed in
+    script_notes c.args.words.now _ _ _ c.run_local.result _ _ had _ (
+      seed,
+      words_named _ c.read_words.result (Local seed) c.read_words.ensures.command
+          (c.in-Ok-Local.is ∙ ap (λ (command : Command). Ok command) c.in-Ok-Local.field-0-is),
+    ) (c.run_local.ensures.notes had has)
+
+pub returns-in-Ok-Local-clause-bad_script : goal.returns-in-Ok-Local-clause-bad_script
+returns-in-Ok-Local-clause-bad_script g c = λ bad.
+    let seed = c.in-Ok-Local.seed in (
+      seed,
+      words_named _ c.read_words.result (Local seed) c.read_words.ensures.command
+          (c.in-Ok-Local.is ∙ ap (λ (command : Command). Ok command) c.in-Ok-Local.field-0-is),
+    )
+
 pub returns-in-Err-Usage-clause-notes : goal.returns-in-Err-Usage-clause-notes
 returns-in-Err-Usage-clause-notes g c = λ had has.
     usage_notes c.args.words.now _ _ _ c.say_usage.result _ _ had _
@@ -35,3 +53,14 @@ returns-in-Err-OutOfMemory-clause-notes g c = λ had has.
 pub returns-in-Err-OutOfMemory-clause-load : goal.returns-in-Err-OutOfMemory-clause-load
 returns-in-Err-OutOfMemory-clause-load g c = λ seed streams load had has.
     load_unmade c.say_out_of_memory.result _ had _ c.say_out_of_memory.ensures.status has
+
+pub returns-in-Err-OutOfMemory-clause-answers : goal.returns-in-Err-OutOfMemory-clause-answers
+returns-in-Err-OutOfMemory-clause-answers g c = λ seed local script had was has.
+    unanswered c.say_out_of_memory.result script had _ c.say_out_of_memory.ensures.status has
+
+pub returns-in-Err-OutOfMemory-clause-ends_script : goal.returns-in-Err-OutOfMemory-clause-ends_script
+returns-in-Err-OutOfMemory-clause-ends_script g c = λ seed local script was.
+    unread_ends c.say_out_of_memory.result _ _ c.say_out_of_memory.ensures.status
+
+pub returns-in-Err-OutOfMemory-clause-within : goal.returns-in-Err-OutOfMemory-clause-within
+returns-in-Err-OutOfMemory-clause-within g c = λ seed local. script_unread _

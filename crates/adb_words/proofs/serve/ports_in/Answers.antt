@@ -1,4 +1,4 @@
-use Rattle.std.proofs.Common.{rules, ◌≡◌, ◌++◌, ◌∷◌, [], ℕ, List, Some, sym, ◌∙◌, ap, option_map}
+use Rattle.std.proofs.Common.{rules, ◌≡◌, ◌++◌, ◌∷◌, [], Some, sym, ◌∙◌}
 use native.Mathlib.Omega.{arith}
 use Rattle.std.specs.Prelude.{slice_index_or}
 use Rattle.adb_words.specs.Words.{number_within}

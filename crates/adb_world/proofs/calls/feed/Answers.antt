@@ -1,5 +1,4 @@
-use Rattle.std.proofs.Common.{◌≡◌, Result, Ok, Err, subst, rules, arith}
-use Rattle.adb_daemon.specs.declared.error.DaemonError.{DaemonError}
+use Rattle.std.proofs.Common.{◌≡◌, subst, rules, arith}
 use Rattle.adb_daemon.specs.declared.error.DaemonError.TheVariants.{OutOfMemory}
 use Rattle.adb_laws_sessions.specs.Model.{model_setting}
 use Rattle.adb_world.proofs.Starving.{Whole, device_starves}

@@ -1,8 +1,10 @@
-use Rattle.adb_world.proofs.Rest.{Laws, asks_as_written, is_settled, is_counted}
+use Rattle.adb_world.proofs.Answered.{all_answered}
+use Rattle.adb_world.proofs.Counted.{asks_as_written}
+use Rattle.adb_world.proofs.Rest.{Laws, is_calm, all_written}
 use Rattle.adb_world.proofs.laws.worlds_that_rest_are_settled.Goals as goal
 
-pub returns-clause-settled : goal.returns-clause-settled
-returns-clause-settled c = λ parts runs rests.
+pub returns-clause-done : goal.returns-clause-done
+returns-clause-done c = λ parts runs rests.
     let laws : Laws = record {
       settled = c.streams_have_settled_at_rest.ensures;
       nothing = c.clients_hold_nothing_at_rest.ensures;
@@ -12,12 +14,18 @@ returns-clause-settled c = λ parts runs rests.
       sound = c.a_device_breaks_no_link.ensures;
       unclosed = c.streams_that_live_heard_no_close.ensures;
     } in
-    is_settled laws runs.history parts runs.holds runs.greeted
-    (c.sessions_ask_for_services.ensures runs.history runs.holds.lawful.legal runs.holds.asks) rests
-    (asks_as_written c.requests_open_their_service.ensures)
+    let asks = c.sessions_ask_for_services.ensures runs.history runs.holds.lawful.legal runs.holds.asks in
+    let written = asks_as_written c.requests_open_their_service.ensures in
+    record {
+      ease = record {
+        runs = runs;
+        calm = is_calm laws runs.history parts runs.holds runs.greeted asks rests written;
+      };
+      words = all_written laws runs.history parts runs.holds runs.greeted asks rests written;
+    }
 
-pub returns-clause-counted : goal.returns-clause-counted
-returns-clause-counted c = λ parts runs rests.
+pub returns-clause-answered : goal.returns-clause-answered
+returns-clause-answered c = λ parts runs rests.
     let laws : Laws = record {
       settled = c.streams_have_settled_at_rest.ensures;
       nothing = c.clients_hold_nothing_at_rest.ensures;
@@ -27,6 +35,6 @@ returns-clause-counted c = λ parts runs rests.
       sound = c.a_device_breaks_no_link.ensures;
       unclosed = c.streams_that_live_heard_no_close.ensures;
     } in
-    is_counted laws runs.history parts runs.holds runs.greeted
-    (c.sessions_ask_for_services.ensures runs.history runs.holds.lawful.legal runs.holds.asks) rests
-    (asks_as_written c.requests_open_their_service.ensures)
+    all_answered laws runs.history parts runs.holds runs.greeted
+    (c.sessions_ask_for_services.ensures runs.history runs.holds.lawful.legal runs.holds.asks) rests c.requests_open_their_service.ensures
+    c.clients_are_answered.ensures

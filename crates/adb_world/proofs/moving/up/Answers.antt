@@ -1,4 +1,4 @@
-use Rattle.std.specs.Prelude.{List, Some}
+use Rattle.std.specs.Prelude.{Some}
 use Rattle.adb_capture.specs.declared.entry.Entry.TheVariants.{Recv}
 use Rattle.adb_history.specs.Machine.{History}
 use Rattle.adb_daemon.specs.Daemon.{owed}

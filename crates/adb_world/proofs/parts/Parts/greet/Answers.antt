@@ -1,5 +1,5 @@
-use Rattle.std.specs.Prelude.{ℕ, ◌-◌, ◌^◌, [], ◌∷◌}
-use Rattle.adb_world.specs.Parts.{plugging, IsRunning}
+use Rattle.std.specs.Prelude.{◌-◌, ◌^◌, [], ◌∷◌}
+use Rattle.adb_world.specs.Parts.{plugging}
 use Rattle.adb_world.proofs.Greeting.{fits_first, greets, still_runs}
 use Rattle.adb_world.proofs.parts.Parts.greet.Goals as goal
 

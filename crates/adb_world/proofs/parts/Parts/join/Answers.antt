@@ -1,10 +1,11 @@
-use Rattle.std.specs.Prelude.{ℕ, ◌+◌, ◌∷◌, List, Some}
-use Rattle.std.proofs.Common.{◌≡◌, ◌∙◌, refl, sym, ap, subst}
+use Rattle.std.specs.Prelude.{ℕ, ◌+◌, ◌∷◌, Some}
+use Rattle.std.proofs.Common.{◌≡◌, ◌∙◌, refl, ap, subst}
 use Rattle.adb_outside.specs.Tables.{Puts, put_at}
 use Rattle.adb_capture.specs.declared.entry.Entry.TheVariants.{Join}
 use Rattle.adb_history.specs.Kept.{IsLawful}
 use Rattle.adb_laws_sessions.specs.Sessions.{AsksForServices}
 use Rattle.adb_world.proofs.Fresh.{joined_by}
+use Rattle.adb_world.proofs.Joining.{joined_calm}
 use Rattle.adb_world.proofs.Open.{goes_on, number, room}
 use Rattle.adb_world.proofs.parts.Parts.join.Goals as goal
 
@@ -40,3 +41,10 @@ returns-clause-holds c h holds =
     let puts = subst (λ (n : ℕ). Puts n (Some c.args.session) c.args.self.now.sessions.entries c.add.new.sessions.entries) is
     c.in_ok-add.ensures.puts in
     joined_by h c.args.self.now holds asks c.args.session c.requires.fresh c.join.new.hub _ c.requires.room lawful refl refl is puts
+
+pub returns-clause-calm : goal.returns-clause-calm
+returns-clause-calm c calm =
+    let held = c.requires.held in
+    let now = c.in_ok-number.ensures.joined held.history held.holds.lawful in
+    joined_calm held.history (c.args.self.now.hub.joined + 1) c.args.self.now.hub c.join.new.hub _ _ held.holds.lawful now
+    (c.most_entries_send_nothing.ensures held.history held.holds.lawful.legal) calm

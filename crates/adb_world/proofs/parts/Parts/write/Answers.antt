@@ -1,10 +1,8 @@
-use Rattle.std.specs.Prelude.{ℕ, List, length, Some}
+use Rattle.std.specs.Prelude.{Some}
 use Rattle.std.specs.Option.{option_copied}
 use Rattle.std.proofs.Common.{◌≡◌, ◌∙◌, refl, sym, ap, arith}
 use Rattle.adb_outside.specs.Tables.{at}
-use Rattle.adb_history.specs.Machine.{History}
 use Rattle.adb_laws_sessions.specs.Sessions.{AsksForServices}
-use Rattle.adb_world.specs.Parts.{Holds}
 use Rattle.adb_laws_sessions.specs.Model.{model_setting}
 use Rattle.adb_world.proofs.Devices.{devices_of}
 use Rattle.adb_world.proofs.Moved.{write_moved}

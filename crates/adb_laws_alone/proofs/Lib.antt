@@ -1,0 +1,3 @@
+pub mod Quiet
+mod Watching
+mod Alone

@@ -1,0 +1,7 @@
+//! What a model device makes of the streams of one client alone, and of echoes. Each function does
+//! nothing: its contract is the law.
+#![tactic(auto)]
+
+mod laws;
+
+pub use laws::{a_stream_alone_runs_over_its_files, echoes_leave_files};

@@ -1,0 +1,3 @@
+pub mod Asked
+mod Ends
+mod Answered

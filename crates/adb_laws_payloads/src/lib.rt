@@ -1,0 +1,7 @@
+//! What a service makes of payloads that come one behind the other. Each function does nothing: its
+//! contract is the law.
+#![tactic(auto)]
+
+mod laws;
+
+pub use laws::{an_ended_service_takes_no_more, payloads_in_turn_are_one};

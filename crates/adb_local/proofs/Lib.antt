@@ -1,0 +1,5 @@
+pub mod Standing
+pub mod Exchanges
+pub mod Alone
+pub mod Echoes
+pub mod Lines

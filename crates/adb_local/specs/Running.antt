@@ -1,0 +1,52 @@
+-- Scripts that run in a world.
+use Rattle.std.specs.Prelude.{ℕ, ◌+◌, ◌≡◌, ◌≤◌, ◌<◌, true, List, [], ◌∷◌, length, map}
+use Rattle.adb_script.specs.Answers.{line_answer, sessions_of}
+use Rattle.adb_script.specs.Lines.{Line, Asked, Pushes, Pulls, Stats, Lists, Runs, Asks, Echoes}
+use Rattle.adb_world.specs.Settled.{IsCounted, IsSettled}
+use Rattle.adb_world.specs.World.{View}
+use Rattle.adb_local.specs.declared.line.Line.{Line as Answer}
+
+-- a world in which all that was started has settled, and that keeps no session
+pub record IsIdle (world : View) : Type 0 where
+  pub rests : world.settled ≡ true
+  pub empty : world.sessions ≡ []
+  pub calm : IsSettled world
+  pub counted : IsCounted world
+
+-- a world as it is made: nothing was given to it, and its device has no files
+pub record IsNew (world : View) : Type 0 where
+  pub idle : IsIdle world
+  pub given : world.given ≡ 0
+  pub files : world.files ≡ []
+
+-- the texts of answer lines
+abbrev pub texts_of : List Answer → List (List ℕ)
+texts_of lines = map (λ (line : Answer). line.text) lines
+
+-- how many sessions lines have
+abbrev pub sessions_in : List Line → ℕ
+sessions_in [] = 0
+sessions_in (line ∷ more) = sessions_of line + sessions_in more
+
+-- what a session may be asked: a command of at most 1,000 bytes
+abbrev pub MayAsk : Asked → Type 0
+MayAsk (Pushes path size) = Unit {0}
+MayAsk (Pulls path) = Unit {0}
+MayAsk (Stats path) = Unit {0}
+MayAsk (Lists path) = Unit {0}
+MayAsk (Runs command) = length command ≤ 1000
+
+-- a line that may stand in a script has one session, or 1 to 64 streams
+abbrev pub MayStand : Line → Type 0
+MayStand (Asks asked) = MayAsk asked
+MayStand (Echoes streams size) = (0 < streams) × (streams ≤ 64)
+
+abbrev pub AllMayStand : List Line → Type 0
+AllMayStand [] = Unit {0}
+AllMayStand (line ∷ more) = MayStand line × AllMayStand more
+
+-- The line of a number was run: its sessions were given, and are kept no more, and the files are those that it leaves.
+pub record RunsLine (number : ℕ) (line : Line) (old new : View) : Type 0 where
+  pub idle : IsIdle new
+  pub files : new.files ≡ (line_answer old.files number line).files
+  pub given : new.given ≡ old.given + sessions_of line

@@ -1,0 +1,49 @@
+//! A client tool over the sockets of this machine.
+
+ghost use Rattle.std.specs.Prelude.{◌≡◌, None, false, true};
+ghost use Rattle.adb_top.specs.Serve.{IsUnheard};
+ghost use Rattle.adb_words.specs.Serve.{is_serve};
+ghost use Rattle.adb_words.specs.Tools.{names_tool, tool_of};
+ghost use Rattle.adb_words.specs.Words.{texts};
+
+use crate::devices::LocalDevice;
+use crate::yards::open_yard;
+use adb_outside::{NeverSink, Sink, Source};
+use adb_ports::Ending;
+use adb_top::{Status, run, say_out_of_memory};
+use std::alloc::Global;
+use std::net::{Net, TcpListener, TcpStream};
+use std::sync::Wait;
+use std::thread::Threads;
+
+/// Calls a client tool as the words say: `adb_top::run` over a yard of this machine, which dials the
+/// server's port. Words that are no tool's call nobody.
+pub(crate) fn call_live<
+    W: Net<Listener = TcpListener, Stream = TcpStream>
+        + Threads
+        + Wait
+        + Copy
+        + Send
+        + Sync
+        + Drop
+        + 'static,
+    S: Source,
+    K: Sink,
+    N: Sink,
+>(rt: W, alloc: Global, words: &[String], source: &mut S, sink: &mut K, note: &mut N) -> Status
+    requires serves { is_serve (texts words.now) ≡ false }
+    requires tool { names_tool (texts words.now) ≡ true }
+    ensures unheard { tool_of (texts words.now) ≡ None
+        → IsUnheard result × (source.new ≡ source.old) × (sink.new ≡ sink.old) }
+{
+    let Ok(ending) = Ending::new(alloc) else {
+        return say_out_of_memory(note);
+    };
+    let Ok((yard, helpers)) = open_yard(rt, alloc, ending, NeverSink::new()) else {
+        return say_out_of_memory(note);
+    };
+    let nobody = Vec::<LocalDevice<W>>::new(alloc);
+    let status = run(rt, alloc, words, source, sink, note, yard, nobody);
+    let _ = helpers.finish();
+    status
+}

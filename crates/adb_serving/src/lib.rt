@@ -1,0 +1,15 @@
+//! The program over this machine: its streams, sockets and threads, its devices, and what its words
+//! say.
+#![tactic(auto)]
+
+mod calling;
+mod devices;
+mod either;
+mod running;
+mod serving;
+mod starting;
+mod streams;
+mod yards;
+
+pub use starting::{start, words_of};
+pub use streams::Stream;

@@ -1,0 +1,70 @@
+//! Words are run over this machine.
+
+ghost use Rattle.std.specs.Prelude.{◌≡◌, None, true, false};
+ghost use Rattle.adb_commands.specs.Alone.{RunsAlone};
+ghost use Rattle.adb_top.specs.Serve.{IsUnheard};
+ghost use Rattle.adb_words.specs.Serve.{is_serve, serve_of};
+ghost use Rattle.adb_words.specs.Tools.{names_tool, tool_of};
+ghost use Rattle.adb_words.specs.Words.{texts};
+
+use crate::calling::call_live;
+use crate::devices::LocalDevice;
+use crate::serving::serve_live;
+use adb_outside::{Sink, Source};
+use adb_top::{Status, run};
+use adb_words::{is_serve, names_tool};
+use adb_yard::NoYard;
+use std::alloc::Global;
+use std::net::{Net, TcpListener, TcpStream};
+use std::sync::Wait;
+use std::thread::Threads;
+
+/// Does what words say: `adb_top::run`, over a yard of this machine where they serve or dial. A
+/// server's record goes to a sink of its own.
+pub(crate) fn run_live<
+    W: Net<Listener = TcpListener, Stream = TcpStream>
+        + Threads
+        + Wait
+        + Copy
+        + Send
+        + Sync
+        + Drop
+        + 'static,
+    S: Source,
+    K: Sink,
+    N: Sink,
+    R: Sink + Send + Drop + 'static,
+>(
+    rt: W,
+    alloc: Global,
+    words: &[String],
+    source: &mut S,
+    sink: &mut K,
+    note: &mut N,
+    history: R,
+) -> Status
+    ensures alone { is_serve (texts words.now) ≡ false → names_tool (texts words.now) ≡ false
+        → RunsAlone words.now result
+        (record { told = S.left; faults = S.faults; steady = S.steady })
+        (record { told = K.written; faults = K.faults; steady = K.steady })
+        (record { told = N.written; faults = N.faults; steady = N.steady })
+        source.old source.new sink.old sink.new note.old note.new }
+    ensures unheard { is_serve (texts words.now) ≡ false → names_tool (texts words.now) ≡ true
+        → tool_of (texts words.now) ≡ None
+        → IsUnheard result × (source.new ≡ source.old) × (sink.new ≡ sink.old) }
+    ensures serves { is_serve (texts words.now) ≡ true
+        → (source.new ≡ source.old) × (sink.new ≡ sink.old) }
+    ensures usage { is_serve (texts words.now) ≡ true → serve_of (texts words.now) ≡ None
+        → IsUnheard result }
+    ensures command { is_serve (texts words.now) ≡ true → result ≡ Status.Usage
+        → serve_of (texts words.now) ≡ None }
+{
+    if is_serve(words) {
+        return serve_live(rt, alloc, words, source, sink, note, history);
+    }
+    if names_tool(words) {
+        return call_live(rt, alloc, words, source, sink, note);
+    }
+    let (yard, devices) = (NoYard::new(alloc), Vec::<LocalDevice<W>>::new(alloc));
+    run(rt, alloc, words, source, sink, note, yard, devices)
+}

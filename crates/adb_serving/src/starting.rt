@@ -1,0 +1,99 @@
+//! What a run is given of the command line.
+
+ghost use Rattle.std.specs.Prelude.{◌≡◌, ◌≢◌, ◌⊎◌, drop, IfErr, IfOk, None, Some, true, false};
+ghost use Rattle.std.specs.IoError.{error_kind};
+ghost use Rattle.adb_commands.specs.Alone.{RunsAlone};
+ghost use Rattle.adb_commands.specs.Notes.{usage_line, out_of_memory_line, IsJust, WritesNote};
+ghost use Rattle.adb_top.specs.Serve.{IsUnheard};
+ghost use Rattle.adb_words.specs.Serve.{is_serve, serve_of};
+ghost use Rattle.adb_words.specs.Tools.{names_tool, tool_of};
+ghost use Rattle.adb_words.specs.Words.{texts};
+
+use crate::running::run_live;
+use adb_outside::{Sink, Source};
+use adb_top::{Status, say_out_of_memory, say_usage};
+use std::alloc::Global;
+use std::io;
+use std::io::ErrorKind;
+use std::net::{Net, TcpListener, TcpStream};
+use std::sync::Wait;
+use std::thread::Threads;
+
+/// Runs the words of the command line: a server over this machine, whose history goes to a sink of
+/// its own, a client tool, or a command that neither serves nor dials. Where memory was wanting for
+/// the words nothing is read, nothing goes out, and the note has the line of that. Where one of them
+/// is no text they are no command.
+pub fn start<
+    W: Net<Listener = TcpListener, Stream = TcpStream>
+        + Threads
+        + Wait
+        + Copy
+        + Send
+        + Sync
+        + Drop
+        + 'static,
+    S: Source,
+    K: Sink,
+    N: Sink,
+    R: Sink + Send + Drop + 'static,
+>(
+    rt: W,
+    alloc: Global,
+    words: io::Result<Vec<String>>,
+    source: &mut S,
+    sink: &mut K,
+    note: &mut N,
+    history: R,
+) -> Status
+    // Words that are there are run: a command that neither serves nor dials,
+    ensures alone { IfOk words (λ list. is_serve (texts list.items) ≡ false
+        → names_tool (texts list.items) ≡ false → RunsAlone list.items result
+        (record { told = S.left; faults = S.faults; steady = S.steady })
+        (record { told = K.written; faults = K.faults; steady = K.steady })
+        (record { told = N.written; faults = N.faults; steady = N.steady })
+        source.old source.new sink.old sink.new note.old note.new) }
+
+    // or a client tool,
+    ensures unheard { IfOk words (λ list. is_serve (texts list.items) ≡ false
+        → names_tool (texts list.items) ≡ true → tool_of (texts list.items) ≡ None
+        → IsUnheard result × (source.new ≡ source.old) × (sink.new ≡ sink.old)) }
+
+    // or a server, which reads nothing and writes to the note and to its history alone.
+    ensures serves { IfOk words (λ list. is_serve (texts list.items) ≡ true
+        → (source.new ≡ source.old) × (sink.new ≡ sink.old)) }
+    ensures usage { IfOk words (λ list. is_serve (texts list.items) ≡ true
+        → serve_of (texts list.items) ≡ None → IsUnheard result) }
+    ensures command { IfOk words (λ list. is_serve (texts list.items) ≡ true
+        → result ≡ Status.Usage → serve_of (texts list.items) ≡ None) }
+
+    // Where they are not there, nothing is read and nothing goes out, and the note says why: want
+    // of memory, or that they are no command.
+    ensures untouched { IfErr words (λ _. (source.new ≡ source.old) × (sink.new ≡ sink.old)) }
+    ensures memory { IfErr words (λ error. error_kind error ≡ ErrorKind.OutOfMemory
+        → (result ≡ Status.OutOfMemory) ⊎ (result ≡ Status.WriteFault)) }
+    ensures memory_note { IfErr words (λ error. error_kind error ≡ ErrorKind.OutOfMemory
+        → WritesNote result (IsJust Status.OutOfMemory out_of_memory_line)
+        N.faults N.written note.old note.new) }
+    ensures no_text { IfErr words (λ error. error_kind error ≢ ErrorKind.OutOfMemory
+        → (result ≡ Status.Usage) ⊎ (result ≡ Status.WriteFault)) }
+    ensures no_text_note { IfErr words (λ error. error_kind error ≢ ErrorKind.OutOfMemory
+        → WritesNote result (IsJust Status.Usage usage_line)
+        N.faults N.written note.old note.new) }
+{
+    match words {
+        Ok(words) => run_live(rt, alloc, words.as_slice(), source, sink, note, history),
+        Err(error) if error.kind() == ErrorKind::OutOfMemory => say_out_of_memory(note),
+        Err(_) => say_usage(note),
+    }
+}
+
+/// The words behind the program's name, which is the first of the arguments.
+pub fn words_of(arguments: Vec<String>) -> Vec<String>
+    ensures { result.items ≡ drop 1 arguments.items }
+{
+    let mut words = arguments;
+    if !words.is_empty() {
+        drop(words.remove(0));
+    }
+    words
+}

@@ -1,0 +1,4 @@
+pub mod Serve
+pub mod Tells
+pub mod Tools
+pub mod Wanted

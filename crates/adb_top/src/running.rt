@@ -1,0 +1,97 @@
+//! The top call.
+
+ghost use Rattle.std.specs.Prelude.{◌≡◌, true, false, None, Some};
+ghost use Rattle.adb_words.specs.Serve.{Serving, is_serve, serve_of};
+ghost use Rattle.adb_words.specs.Tools.{names_tool, tool_of};
+ghost use Rattle.adb_words.specs.Words.{texts};
+ghost use Rattle.adb_asking.specs.Telling.{seen};
+ghost use Rattle.adb_commands.specs.Alone.{RunsAlone};
+ghost use Rattle.adb_top.specs.Serve.{IsUnheard, Serves};
+ghost use Rattle.adb_top.specs.Tools.{RunsTool};
+
+use crate::serving::run_serve;
+use crate::tools::run_call;
+use adb_commands::{Status, run_alone};
+use adb_connections::{DeviceIn, DeviceOut};
+use adb_device_reader::Device;
+use adb_outside::{Sink, Source};
+use adb_words::{is_serve, names_tool};
+use adb_yard::Yard;
+use std::alloc::Global;
+use std::sync::Wait;
+use std::thread::Threads;
+
+/// Does what the words behind the program's name say: `serve`, a client tool, or a command of
+/// `run_alone`.
+///
+/// `serve` listens at a port of the yard, plugs in the devices that it is given, and serves the
+/// clients that come, until one of them kills the server. It reads nothing of the source and writes
+/// nothing to the sink; the history goes to the yard's recorder. It waits as long as its clients and
+/// devices do.
+///
+/// A client tool asks the server at a port of this machine for one thing, and tells what it answers
+/// (`adb_tools::run_tool`). It waits as long as that server does.
+///
+/// Each status but Done writes its one line to the note, behind the line that says where a server
+/// listens. Where that write fails the status is WriteFault, whose own line is tried then, once.
+pub fn run<
+    W: Threads + Wait + Copy + Send + Sync + Drop + 'static,
+    S: Source,
+    K: Sink,
+    N: Sink,
+    Y: Yard + 'static,
+    X: DeviceIn + Send + 'static,
+    Z: DeviceOut + Send + 'static,
+>(
+    rt: W,
+    alloc: Global,
+    words: &[String],
+    source: &mut S,
+    sink: &mut K,
+    note: &mut N,
+    yard: Y,
+    devices: Vec<Device<X, Z>>,
+) -> Status
+    // A command that neither serves nor dials keeps each promise of `run_alone`.
+    ensures alone { is_serve (texts words.now) ≡ false → names_tool (texts words.now) ≡ false
+        → RunsAlone words.now result
+        (record { told = S.left; faults = S.faults; steady = S.steady })
+        (record { told = K.written; faults = K.faults; steady = K.steady })
+        (record { told = N.written; faults = N.faults; steady = N.steady })
+        source.old source.new sink.old sink.new note.old note.new }
+
+    // A server reads nothing, and writes to the note alone.
+    ensures untouched { is_serve (texts words.now) ≡ true
+        → (source.new ≡ source.old) × (sink.new ≡ sink.old) }
+
+    // Words that begin with `serve` and are no command serve nobody.
+    ensures usage { is_serve (texts words.now) ≡ true → serve_of (texts words.now) ≡ None
+        → IsUnheard result }
+    ensures command { is_serve (texts words.now) ≡ true → result ≡ Status.Usage
+        → serve_of (texts words.now) ≡ None }
+
+    // How a server ends, what the note has, and what no steady and no lasting yard comes to.
+    ensures serves { (asked : Serving) → serve_of (texts words.now) ≡ Some asked
+        → Serves asked result (Y.steady yard) (Y.lasting yard)
+        N.steady N.faults N.written note.old note.new }
+
+    // Words that begin with a tool's name and are none call nobody.
+    ensures unheard { is_serve (texts words.now) ≡ false → names_tool (texts words.now) ≡ true
+        → tool_of (texts words.now) ≡ None
+        → IsUnheard result × (source.new ≡ source.old) × (sink.new ≡ sink.old) }
+
+    // What a client tool asked for, what it told of the answer, and how it ended.
+    ensures tools { is_serve (texts words.now) ≡ false → names_tool (texts words.now) ≡ true
+        → RunsTool words.now
+        (seen S.steady S.faults S.left) (seen K.steady K.faults K.written)
+        (seen N.steady N.faults N.written) (seen Y.steady Y.faults Y.answers)
+        source.old source.new sink.old sink.new note.old note.new yard result }
+{
+    if is_serve(words) {
+        run_serve(rt, alloc, words, note, yard, devices)
+    } else if names_tool(words) {
+        run_call(rt, alloc, words, source, sink, note, yard)
+    } else {
+        run_alone(alloc, words, source, sink, note)
+    }
+}

@@ -1,0 +1,65 @@
+//! `serve`.
+
+ghost use Rattle.std.specs.Prelude.{◌≡◌, None, Some, true};
+ghost use Rattle.adb_words.specs.Serve.{Serving, is_serve, serve_of};
+ghost use Rattle.adb_words.specs.Words.{texts};
+ghost use Rattle.adb_top.specs.Serve.{IsUnheard, Serves};
+ghost use Rattle.adb_top.specs.Tells.{Tells};
+
+use adb_commands::{
+    Status, say_door_fault, say_lost_line, say_out_of_memory, say_record_fault, say_usage,
+};
+use adb_connections::{DeviceIn, DeviceOut};
+use adb_device_reader::Device;
+use adb_outside::Sink;
+use adb_server::{Served, serve};
+use adb_words::{WordsError, read_serve};
+use adb_yard::Yard;
+use std::alloc::Global;
+use std::sync::Wait;
+use std::thread::Threads;
+
+/// Serves as the words say, and tells the note how that ended where it is not done.
+pub(crate) fn run_serve<
+    W: Threads + Wait + Copy + Send + Sync + Drop + 'static,
+    N: Sink,
+    Y: Yard + 'static,
+    X: DeviceIn + Send + 'static,
+    Z: DeviceOut + Send + 'static,
+>(
+    rt: W,
+    alloc: Global,
+    words: &[String],
+    note: &mut N,
+    yard: Y,
+    devices: Vec<Device<X, Z>>,
+) -> Status
+    requires serve { is_serve (texts words.now) ≡ true }
+    ensures usage { serve_of (texts words.now) ≡ None → IsUnheard result }
+    ensures command { result ≡ Status.Usage → serve_of (texts words.now) ≡ None }
+    ensures serves { (asked : Serving) → serve_of (texts words.now) ≡ Some asked
+        → Serves asked result (Y.steady yard) (Y.lasting yard)
+        N.steady N.faults N.written note.old note.new }
+{
+    match read_serve(alloc, words) {
+        Ok(asked) => {
+            let served = serve(rt, alloc, yard, devices, asked.port, asked.records, note);
+            say_served(note, served)
+        }
+        Err(WordsError::Usage) => say_usage(note),
+        Err(WordsError::OutOfMemory) => say_served(note, Served::OutOfMemory),
+    }
+}
+
+/// Tells the note how a server ended, where it is not done.
+fn say_served<N: Sink>(note: &mut N, served: Served) -> Status
+    ensures { Tells served result N.steady N.faults N.written note.old note.new }
+{
+    match served {
+        Served::Done => Status::Done,
+        Served::WriteFault => say_lost_line(note),
+        Served::OutOfMemory => say_out_of_memory(note),
+        Served::RecordFault => say_record_fault(note),
+        Served::DoorFault => say_door_fault(note),
+    }
+}

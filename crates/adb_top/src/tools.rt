@@ -1,0 +1,79 @@
+//! Client tools.
+
+ghost use Rattle.std.specs.Prelude.{◌≡◌, IfOk, None};
+ghost use Rattle.adb_asking.specs.Telling.{seen};
+ghost use Rattle.adb_script.specs.Output.{escaped};
+ghost use Rattle.adb_top.specs.Serve.{IsUnheard};
+ghost use Rattle.adb_top.specs.Tools.{RunsTool, TellsEnd};
+ghost use Rattle.adb_words.specs.Tools.{tool_of};
+ghost use Rattle.adb_words.specs.Words.{texts};
+
+use adb_commands::{
+    Status, say_bad_answer, say_lost_line, say_out_of_memory, say_port_fault, say_read_fault,
+    say_refused, say_too_large, say_usage,
+};
+use adb_outside::{Sink, Source, Text};
+use adb_script::push_escaped;
+use adb_tools::{ToolEnd, run_tool};
+use adb_yard::Yard;
+use std::alloc::{AllocError, Global};
+use std::sync::Wait;
+
+/// Calls a tool as the words say, and tells the note how that ended where it is not done.
+#[tactic(auto, using(crate::proofs::Calls::unheard))]
+pub(crate) fn run_call<W: Wait + Copy + Drop, S: Source, K: Sink, N: Sink, Y: Yard>(
+    rt: W,
+    alloc: Global,
+    words: &[String],
+    source: &mut S,
+    sink: &mut K,
+    note: &mut N,
+    yard: Y,
+) -> Status
+    ensures tool { RunsTool words.now (seen S.steady S.faults S.left) (seen K.steady K.faults K.written)
+        (seen N.steady N.faults N.written) (seen Y.steady Y.faults Y.answers)
+        source.old source.new sink.old sink.new note.old note.new yard result }
+    ensures unheard { tool_of (texts words.now) ≡ None
+        → IsUnheard result × (source.new ≡ source.old) × (sink.new ≡ sink.old) }
+{
+    let mut yard = yard;
+    let end = run_tool(rt, alloc, words, source, sink, note, &mut yard);
+    say_end(alloc, note, end)
+}
+
+/// Tells the note how a tool ended, where it is not done.
+fn say_end<N: Sink>(alloc: Global, note: &mut N, end: ToolEnd) -> Status
+    ensures { TellsEnd end result (seen N.steady N.faults N.written) note.old note.new }
+{
+    match end {
+        ToolEnd::Done => Status::Done,
+        ToolEnd::Usage => say_usage(note),
+        ToolEnd::ReadFault => say_read_fault(note),
+        ToolEnd::WriteFault => say_lost_line(note),
+        ToolEnd::OutOfMemory => say_out_of_memory(note),
+        ToolEnd::Refused(text) => say_refusal(alloc, note, &text),
+        ToolEnd::BadAnswer { offset } => say_bad_answer(alloc, note, offset),
+        ToolEnd::PortFault => say_port_fault(note),
+        ToolEnd::TooLarge => say_too_large(note),
+    }
+}
+
+/// Tells the note that a server refused with a text.
+fn say_refusal<N: Sink>(alloc: Global, note: &mut N, text: &Text) -> Status
+    ensures { TellsEnd (ToolEnd.Refused text.now) result (seen N.steady N.faults N.written)
+        note.old note.new }
+{
+    match shown(alloc, text) {
+        Ok(shown) => say_refused(alloc, note, shown.as_slice()),
+        Err(AllocError) => say_out_of_memory(note),
+    }
+}
+
+/// A text as it is shown.
+fn shown(alloc: Global, text: &Text) -> Result<Text, AllocError>
+    ensures { IfOk result (λ shown. shown ≡ escaped text.now) }
+{
+    let mut shown = Text::new(alloc);
+    push_escaped(&mut shown, text.as_slice())?;
+    Ok(shown)
+}

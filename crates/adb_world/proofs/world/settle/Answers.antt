@@ -1,0 +1,23 @@
+use Rattle.std.proofs.Common.{◌∙◌, sym, ap, subst}
+use Rattle.adb_daemon.specs.Daemon.{files_of}
+use Rattle.adb_world.specs.Answered.{AreEchoes, IsAnsweredAlone, IsNewAlone}
+use Rattle.adb_world.specs.World.{View}
+use Rattle.adb_world.proofs.Finishing.{ease_of}
+use Rattle.adb_world.proofs.world.settle.Goals as goal
+
+pub returns-in-Ok-clause-counted : goal.returns-in-Ok-clause-counted
+returns-in-Ok-clause-counted c =
+    let counted = c.settled_worlds_are_counted.ensures c.settle_parts.new.parts c.in-Ok.ensures.done in
+    record { clients = counted.clients; streams = counted.streams }
+
+pub returns-in-Ok-clause-alone : goal.returns-in-Ok-clause-alone
+returns-in-Ok-clause-alone c n session alone is =
+    let ease = ease_of c.world.inside.spent c.world.inside.settled c.world.inside.parts c.if-world.false c.world.invariant in
+    subst (λ (w : View). IsAnsweredAlone session w.files (files_of c.settle_parts.new.parts.device)) c.world.view_is
+    (c.in-Ok.ensures.alone ease n session (subst (λ (w : View). IsNewAlone n w.sessions) (sym c.world.view_is) alone) is)
+
+pub returns-in-Ok-clause-files : goal.returns-in-Ok-clause-files
+returns-in-Ok-clause-files c echoes =
+    let ease = ease_of c.world.inside.spent c.world.inside.settled c.world.inside.parts c.if-world.false c.world.invariant in
+    c.in-Ok.ensures.files ease (subst (λ (w : View). AreEchoes w.sessions) (sym c.world.view_is) echoes)
+    ∙ ap (λ (w : View). w.files) c.world.view_is
