@@ -1,0 +1,5 @@
+pub mod Splits
+pub mod Fitting
+pub mod InPlace
+pub mod Sent
+pub mod Steps
