@@ -3,3 +3,5 @@ pub mod Fitting
 pub mod InPlace
 pub mod Sent
 pub mod Steps
+pub mod Exchanged
+mod Worked

@@ -17,7 +17,7 @@ use Rattle.adb_world.specs.declared.session.Session.{Session}
 use Rattle.adb_copy.specs.declared.error.CopyError.{CopyError}
 use Rattle.adb_copy.specs.declared.error.CopyError.TheVariants as errors
 use Rattle.adb_copy.specs.Pushing.{FilesPushed, Pushes}
-use Rattle.adb_copy.specs.Trees.{AreCopied, IsCopied, Pushed, all_pushed, entry_of, pushed, pushed_by, refused_at}
+use Rattle.adb_copy.specs.Trees.{AreCopied, IsCopied, Pushed, Refusal, all_pushed, entry_of, pushed, pushed_by, refused_at}
 use Rattle.adb_copy.specs.Worlds.{Syncs, SyncsAtMost}
 use Rattle.adb_copy.proofs.Splits.{are_before, behind_middle, behind_nothing, found_middle}
 
@@ -80,7 +80,7 @@ syncs_more {n} {m} {old} {mid} {new} p q = record {
 }
 
 -- ---- pushes behind pushes
-on_ok : {A B : Type 0} (result : Result ⊤ CopyError) → (A → B) → OnOk result A → OnOk result B
+pub on_ok : {A B : Type 0} (result : Result ⊤ CopyError) → (A → B) → OnOk result A → OnOk result B
 on_ok (Ok done) more is = more is
 on_ok (Err error) more is = is
 
@@ -110,26 +110,27 @@ module _ (done more : List Entry) (old mid new : View) (result : Result ⊤ Copy
           syncs = syncs_more p.syncs part.1.syncs;
         })
 
-      stay : (done : List Entry) → (old.spent ≡ true → (done ≢ [] → ⊥) × (mid ≡ old)) → old.spent ≡ true → (done ++ more ≢ [] → IsErr result) × (new ≡ old)
+      stay : (done : List Entry) → (old.spent ≡ true → (done ≢ [] → IsErr {T = ⊤} {E = CopyError} (Ok tt)) × (mid ≡ old)) → old.spent ≡ true
+          → (done ++ more ≢ [] → IsErr result) × (new ≡ old)
       stay [] first spent =
           let same = (first spent).1 in
           let rest = q.stays (ap (λ (w : View). w.spent) same ∙ spent) in
           (rest.0, rest.1 ∙ same)
-      stay (e ∷ done) first spent = absurd ((first spent).0 (λ none. cc))
+      stay (e ∷ done) first spent = let clash : false ≡ true = (first spent).0 (λ none. cc) in absurd (cc)
 
 module _ (done more : List Entry) (old new : View) (result : Result ⊤ CopyError) (stopped : IsErr result) (p : Pushes done result old new) where
   pub pushes_stop : Pushes (done ++ more) result old new
   pushes_stop = record {
-    ok = never result stopped;
-    syncs = never result stopped;
+    ok = never _ result stopped;
+    syncs = never _ result stopped;
     refused = λ path text is. refused_behind done more old.files new.files path text (p.refused path text is);
     part = λ whole left. both (p.part whole left);
     stays = λ spent. ((λ some. stopped), (p.stays spent).1);
   }
     where
-      never : {A : Type 0} (result : Result ⊤ CopyError) → IsErr result → OnOk result A
-      never (Ok done) is = absurd is
-      never (Err error) is = tt
+      never : (A : Type 0) (result : Result ⊤ CopyError) → IsErr result → OnOk result A
+      never A (Ok done) is = let clash : false ≡ true = is in absurd (cc)
+      never A (Err error) is = tt
 
       both : FilesPushed done old.files new.files × SyncsAtMost (length done) old new
           → FilesPushed (done ++ more) old.files new.files × SyncsAtMost (length (done ++ more)) old new
@@ -153,7 +154,7 @@ pushes_none old rests = record {
   syncs = syncs_none old rests;
   refused = λ path text is. absurd (cc);
   part = λ whole left. (record { done = []; left = []; split = refl; stored = refl }, record { sessions = 0; few = omega arith; syncs = syncs_none old rests });
-  stays = λ spent. ((λ some. some refl), refl);
+  stays = λ spent. ((λ some. absurd (some refl)), refl);
 }
 
 -- memory ran out before a file was sent
@@ -163,7 +164,7 @@ pushes_nothing tree old rests = record {
   syncs = tt;
   refused = λ path text is. absurd (cc);
   part = λ whole left. (record { done = []; left = tree; split = refl; stored = refl }, record { sessions = 0; few = omega arith; syncs = syncs_none old rests });
-  stays = λ spent. ((λ some. tt), refl);
+  stays = λ spent. ((λ some. refl), refl);
 }
 
 -- memory ran out in the world
@@ -173,16 +174,21 @@ pushes_spent tree old new spent stays = record {
   syncs = tt;
   refused = λ path text is. absurd (cc);
   part = λ whole left. let clash = sym spent ∙ left in absurd (cc);
-  stays = λ is. ((λ some. tt), stays is);
+  stays = λ is. ((λ some. refl), stays is);
 }
 
--- a refusal, or none, is told
-pub is_told : (tree : List Entry) (old new : View) (result : Result ⊤ CopyError) → Pushes tree result old new → (path text : List ℕ)
-    → (pushed old.files tree).refused ≡ Some (record { path = path; text = text }) → result ≢ Err errors.OutOfMemory → result ≡ Err (errors.Refused path text)
-is_told tree old new (Ok done) p path text is memory = let clash = sym is ∙ ap (λ (q : Pushed). q.refused) p.ok in absurd (cc)
-is_told tree old new (Err errors.OutOfMemory) p path text is memory = absurd (memory refl)
-is_told tree old new (Err (errors.Refused at why)) p path text is memory =
-    let same = sym is ∙ ap (λ (q : Pushed). q.refused) (p.refused at why refl) in cc
+-- a refusal is told
+error_of : Option Refusal → Result ⊤ CopyError
+error_of None = Ok tt
+error_of (Some refusal) = Err (errors.Refused refusal.path refusal.text)
+
+pub is_told : (tree : List Entry) (old new : View) (result : Result ⊤ CopyError) → Pushes tree result old new → (refusal : Refusal)
+    → (pushed old.files tree).refused ≡ Some refusal → result ≢ Err errors.OutOfMemory → result ≡ Err (errors.Refused refusal.path refusal.text)
+unfolding error_of
+is_told tree old new (Ok done) p refusal is memory = let clash = sym is ∙ ap (λ (q : Pushed). q.refused) p.ok in absurd (cc)
+is_told tree old new (Err errors.OutOfMemory) p refusal is memory = absurd (memory refl)
+is_told tree old new (Err (errors.Refused from why)) p refusal is memory =
+    ap error_of (sym (ap (λ (q : Pushed). q.refused) (p.refused from why refl)) ∙ is)
 
 -- ---- along a tree
 -- The files of a tree up to a path were pushed, and those behind it are left.

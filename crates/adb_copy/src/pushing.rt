@@ -1,6 +1,6 @@
 //! Pushing a tree of files.
 
-ghost use Rattle.std.specs.Prelude.{◌≡◌, ◌≢◌, ◌+◌, ◌<◌, ◌≤◌, [], ◌∷◌, List, ℕ, true, false, is_some, length, Some, Err, IsErr, OnOk};
+ghost use Rattle.std.specs.Prelude.{◌≡◌, ◌≢◌, ◌+◌, ◌<◌, ◌≤◌, ◌^◌, [], ◌∷◌, List, ℕ, true, false, is_some, length, Some, Err, IsErr, OnOk};
 ghost use Rattle.adb_copy.specs.Pushing.{FilesPushed, Pushes};
 ghost use Rattle.adb_copy.specs.Trees.{AreCopied, IsCopied, Refusal, all_pushed, entry_of, pushed, refused_at};
 ghost use Rattle.adb_copy.specs.Worlds.{Syncs, SyncsAtMost};
@@ -35,9 +35,10 @@ pub fn push_tree(
     ensures syncs { OnOk result (Syncs (length tree.now) world.old world.new) }
     ensures refused { (path text : List ℕ) → result ≡ Err (errors.Refused path text)
         → pushed world.old.files tree.now ≡ refused_at world.new.files path text }
-    ensures told { (path text : List ℕ)
-        → (pushed world.old.files tree.now).refused ≡ Some (record { path = path; text = text })
-        → result ≢ Err errors.OutOfMemory → result ≡ Err (errors.Refused path text) }
+    ensures told { (refusal : Refusal)
+        → (pushed world.old.files tree.now).refused ≡ Some refusal
+        → result ≢ Err errors.OutOfMemory
+        → result ≡ Err (errors.Refused refusal.path refusal.text) }
     ensures part { world.old.spent ≡ false → world.new.spent ≡ false
         → FilesPushed tree.now world.old.files world.new.files
         × SyncsAtMost (length tree.now) world.old world.new }
@@ -110,7 +111,13 @@ fn push_file(
     requires room { world.old.given < most_sessions }
     ensures { Pushes (entry_of path.now file.now ∷ []) result world.old world.new }
 {
+    has_32_bits(file.mtime);
     let ask = push_text(alloc, path, file)?;
     let answer = world.sync(seed, ask.as_slice())?;
     read_answer(alloc, path, answer.as_slice())
 }
+
+/// A time has 32 bits.
+fn has_32_bits(time: u32)
+    ensures { time < 2 ^ 32 }
+{}
