@@ -4,4 +4,5 @@ pub mod InPlace
 pub mod Sent
 pub mod Steps
 pub mod Exchanged
+pub mod Ends
 mod Worked
