@@ -89,7 +89,8 @@ module _ (done more : List Entry) (old mid new : View) (result : Result ⊤ Copy
   pub pushes_more : Pushes (done ++ more) result old new
   pushes_more = record {
     ok = on_ok result (λ is. pushed_behind done more old.files mid.files p.ok ∙ is) q.ok;
-    syncs = on_ok result (λ (is : Syncs (length more) mid new). subst (λ (n : ℕ). Syncs n old new) (sym (length-append done more)) (syncs_more p.syncs is)) q.syncs;
+    syncs = on_ok result (λ (is : Syncs (length more) mid new).
+        subst (λ (n : ℕ). Syncs n old new) (sym (length-append done more)) (syncs_more p.syncs is)) q.syncs;
     refused = λ path text is. pushed_behind done more old.files mid.files p.ok ∙ q.refused path text is;
     part = λ whole left. both (q.part (p.syncs.whole whole) left);
     stays = λ spent. stay done p.stays spent;
@@ -165,7 +166,8 @@ pushes_nothing tree old rests = record {
   ok = tt;
   syncs = tt;
   refused = λ path text is. absurd (cc);
-  part = λ whole left. (record { done = []; left = tree; split = refl; stored = refl }, record { sessions = 0; few = omega arith; syncs = syncs_none old rests });
+  part = λ whole left.
+      (record { done = []; left = tree; split = refl; stored = refl }, record { sessions = 0; few = omega arith; syncs = syncs_none old rests });
   stays = λ spent. ((λ some. refl), refl);
 }
 
@@ -265,7 +267,8 @@ module _ (after : List ℕ) (tree : List Entry) (old now : View) (walk : Walks a
       let parts = length-append walk.done (behind after tree) in
       omega (arith, rest, all, whole, parts)
 
-  module _ (new : View) (result : Result ⊤ CopyError) (one : (file : File) → file_at path tree ≡ Some file → Pushes (entry_of path file ∷ []) result now new) where
+  module _ (new : View) (result : Result ⊤ CopyError)
+      (one : (file : File) → file_at path tree ≡ Some file → Pushes (entry_of path file ∷ []) result now new) where
     pub next_pushed : Pushes (next_is.entry ∷ []) result now new
     next_pushed =
         subst (λ (p : List ℕ). Pushes (entry_of p next_is.entry.file ∷ []) result now new) (sym next_is.here) (one next_is.entry.file next_file)

@@ -1,5 +1,5 @@
-//! Copying trees of files: a whole tree goes to the model device of a world, file by file, and comes
-//! back.
+//! Copying trees of files: a whole tree goes to the model device of a world, file by file, and
+//! comes back.
 #![tactic(auto)]
 
 mod error;

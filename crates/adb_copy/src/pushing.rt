@@ -19,11 +19,11 @@ use rand_core::SeedableRng;
 use rand_pcg::Pcg32;
 use std::alloc::Global;
 
-/// Pushes each file of a tree to the world's device, in the order of the bytes of their paths and by
-/// a session of its own: its mode, time and bytes are there alike, and all else is as before.
-/// `Refused` comes exactly where the device refuses the next file, and those before it stay; a device
-/// without files refuses none. Where memory runs out the world is spent, or some first files of the
-/// tree are there.
+/// Pushes each file of a tree to the world's device, in the order of the bytes of their paths and
+/// by a session of its own: its mode, time and bytes are there alike, and all else is as before.
+/// `Refused` comes exactly where the device refuses the next file, and those before it stay; a
+/// device without files refuses none. Where memory runs out the world is spent, or some first files
+/// of the tree are there.
 pub fn push_tree(alloc: Global, world: &mut World, seed: u64, tree: &Files) -> Result<(), CopyError>
     requires settled { world.old.settled ≡ true }
     requires tree { AreCopied tree.now }
