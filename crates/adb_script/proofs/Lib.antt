@@ -2,6 +2,6 @@ mod Cutting
 mod FirstBad
 mod Patterns
 mod Printed
-mod Requests
+pub mod Requests
 mod Stored
 mod Worked
