@@ -5,3 +5,14 @@ pub mod Sent
 pub mod Steps
 pub mod Exchanged
 mod Worked
+pub mod PullPaths
+pub mod PullListing
+pub mod PullAnswers
+pub mod PullDirectories
+pub mod PullCounts
+pub mod PullSteps
+pub mod PullFile
+pub mod PullDirectory
+pub mod PullWalk
+pub mod PullWorlds
+pub mod PullVisit
