@@ -16,3 +16,4 @@ pub mod PullDirectory
 pub mod PullWalk
 pub mod PullWorlds
 pub mod PullVisit
+mod PullWorked

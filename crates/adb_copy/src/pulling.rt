@@ -20,8 +20,11 @@ use rand_core::SeedableRng;
 use rand_pcg::Pcg32;
 use std::alloc::{AllocError, Global};
 
-/// The files of the world's device, asked for as a client does: a session of its own lists each
-/// directory, and one pulls each file. They stay as they are.
+/// The files of the world's device, asked for as a client does, each time by a session of its own:
+/// a LIST of the root and of each directory that a listing tells of, and a RECV of each file. They
+/// come back entry for entry, and stay as they are. All that was started has to have settled, and
+/// the time of a file has 32 bits, as each that a device stores. After want of memory the world is
+/// spent, or only some sessions were given.
 pub fn pull_tree(alloc: Global, world: &mut World, seed: u64) -> Result<Files, AllocError>
     requires settled { world.old.settled ≡ true }
     requires files { AreCopied world.old.files }
