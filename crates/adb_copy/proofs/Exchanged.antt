@@ -1,5 +1,5 @@
 -- A file was sent in a session of its own, and the answer was read.
-use Rattle.std.proofs.Common.{ℕ, ◌^◌, ◌≡◌, ◌<◌, Bool, true, false, List, [], ◌∷◌, Result, Ok, Err, refl, sym, ◌∙◌, ap, subst, arith}
+use Rattle.std.proofs.Common.{ℕ, ◌^◌, ◌≡◌, ◌<◌, true, List, [], ◌∷◌, Result, Ok, Err, sym, ◌∙◌, ap, subst, arith}
 use Rattle.std.specs.Prelude.{OnOk, ⊤}
 use Rattle.adb_files.specs.Entries.{Entry}
 use Rattle.adb_files.specs.Served.{served}
@@ -54,7 +54,8 @@ module _ (old new : View) (entry : Entry) (copied : IsCopied entry) (time : entr
             ∙ (ap (λ (files : List Entry). refused_at files entry.path text) (sym exchanged.files)
             ∙ ap (λ (path : List ℕ). refused_at new.files path text) (sym told.0));
         part = λ whole left. (
-            subst (λ (files : List Entry). FilesPushed (entry ∷ []) old.files files) (sym exchanged.files) own.first,
-            record { sessions = 1; few = omega arith; syncs = exchanged.syncs });
+          subst (λ (files : List Entry). FilesPushed (entry ∷ []) old.files files) (sym exchanged.files) own.first,
+          record { sessions = 1; few = omega arith; syncs = exchanged.syncs },
+        );
         stays = λ is. absurd (exchanged.unspent is);
       }

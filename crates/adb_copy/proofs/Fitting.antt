@@ -12,7 +12,7 @@ use Rattle.adb_files.specs.declared.file.FileError.{FileError}
 use Rattle.adb_files.specs.declared.file.FileError.TheVariants as refusals
 use Rattle.adb_files.specs.declared.files.TheConstants.{MAX_STORED}
 use Rattle.adb_files.specs.Entries.{Entry}
-use Rattle.adb_files.specs.Files.{IsFileMap, before, behind, is_directory, is_under_file, put_refusal, total, with_file, without}
+use Rattle.adb_files.specs.Files.{IsFileMap, behind, is_directory, is_under_file, put_refusal, total, with_file, without}
 use Rattle.adb_files.specs.Paths.{is_below, is_path}
 use Rattle.adb_copy.specs.Trees.{all_pushed, pushed, pushed_by}
 use Rattle.adb_copy.proofs.Splits.{AreBefore, all_before, are_before, entry_at, none_behind}

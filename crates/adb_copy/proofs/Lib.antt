@@ -4,6 +4,7 @@ pub mod InPlace
 pub mod Sent
 pub mod Steps
 pub mod Exchanged
+pub mod Ends
 mod Worked
 pub mod PullPaths
 pub mod PullListing

@@ -2,7 +2,7 @@
 use Rattle.std.proofs.Common.{ℕ, ◌^◌, ◌≡◌, ◌<◌, List, [], ◌∷◌, length, Option, Some, None, refl, sym, ◌∙◌, ap, subst}
 use Rattle.adb_files.specs.declared.file.FileError.{FileError}
 use Rattle.adb_files.specs.Entries.{Entry}
-use Rattle.adb_files.specs.Files.{put_refusal, refusal_text, with_file}
+use Rattle.adb_files.specs.Files.{put_refusal, refusal_text}
 use Rattle.adb_files.specs.Served.{Served, send_by, served}
 use Rattle.adb_script.proofs.Requests.{push_refused, push_served}
 use Rattle.adb_sync_client.specs.declared.step.Step.TheVariants as steps

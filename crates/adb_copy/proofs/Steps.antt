@@ -1,5 +1,5 @@
 -- Pushes one behind the other, up to one that is refused or the end of the tree.
-use Rattle.std.proofs.Common.{ℕ, zero, ◌+◌, ◌≡◌, ◌≢◌, ◌<◌, ◌≤◌, Bool, true, false, cond, List, [], ◌∷◌, ◌++◌, length, Option, Some, None, Result, Ok, Err}
+use Rattle.std.proofs.Common.{ℕ, ◌+◌, ◌≡◌, ◌≢◌, ◌<◌, ◌≤◌, Bool, true, false, cond, List, [], ◌∷◌, ◌++◌, length, Option, Some, None, Result, Ok, Err}
 use Rattle.std.proofs.Common.{refl, sym, ◌∙◌, ap, subst, append_assoc, arith}
 use Rattle.std.specs.Prelude.{IsErr, OnOk, bytes_eq, is_some, option_map, slice_get, ⊤}
 use Rattle.std.specs.List.{find}
@@ -11,7 +11,7 @@ use Rattle.adb_files.specs.declared.file.File.{File}
 use Rattle.adb_files.specs.declared.file.FileError.{FileError}
 use Rattle.adb_files.specs.Entries.{Entry}
 use Rattle.adb_files.specs.Files.{IsFileMap, behind, file_at, next_path, put_refusal, with_file}
-use Rattle.adb_world.specs.Parts.{AreSame, IsSame, most_sessions}
+use Rattle.adb_world.specs.Parts.{IsSame, most_sessions}
 use Rattle.adb_world.specs.World.{View}
 use Rattle.adb_world.specs.declared.session.Session.{Session}
 use Rattle.adb_copy.specs.declared.error.CopyError.{CopyError}
@@ -108,7 +108,8 @@ module _ (done more : List Entry) (old mid new : View) (result : Result ⊤ Copy
           sessions = length done + part.1.sessions;
           few = (let size = length-append done more in let few = part.1.few in omega (arith, size, few));
           syncs = syncs_more p.syncs part.1.syncs;
-        })
+        },
+      )
 
       stay : (done : List Entry) → (old.spent ≡ true → (done ≢ [] → IsErr {T = ⊤} {E = CopyError} (Ok tt)) × (mid ≡ old)) → old.spent ≡ true
           → (done ++ more ≢ [] → IsErr result) × (new ≡ old)
@@ -145,7 +146,8 @@ module _ (done more : List Entry) (old new : View) (result : Result ⊤ CopyErro
           sessions = part.1.sessions;
           few = (let size = length-append done more in let few = part.1.few in omega (arith, size, few));
           syncs = part.1.syncs;
-        })
+        },
+      )
 
 -- no file was pushed yet
 pub pushes_none : (old : View) → old.settled ≡ true → Pushes [] (Ok tt) old old

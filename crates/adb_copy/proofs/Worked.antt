@@ -1,5 +1,5 @@
 -- A push that is refused, computed: a file below a file of the device.
-use Rattle.std.proofs.Common.{ℕ, ◌≡◌, List, [], ◌∷◌, refl}
+use Rattle.std.proofs.Common.{◌≡◌, List, [], ◌∷◌, refl}
 use Rattle.std.specs.Prelude.{codes}
 use Rattle.adb_files.specs.declared.file.File.{File}
 use Rattle.adb_files.specs.Entries.{Entry}

@@ -31,9 +31,9 @@ pub fn pushed_files_are_in_place()
 pub fn files_are_sent_whole()
     ensures { (files : List Entry) (entry : Entry) → IsCopied entry → entry.file.mtime < 2 ^ 32
         → served files
-            (push_text entry.path entry.file.mode entry.file.mtime entry.file.bytes)
+        (push_text entry.path entry.file.mode entry.file.mtime entry.file.bytes)
         ≡ send_by files entry.path entry.file
-            (put_refusal files entry.path (length entry.file.bytes)) }
+        (put_refusal files entry.path (length entry.file.bytes)) }
 {}
 
 /// Files lie in few directories: the root, and at most 500 for each of them.

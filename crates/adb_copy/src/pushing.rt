@@ -1,6 +1,7 @@
 //! Pushing a tree of files.
 
-ghost use Rattle.std.specs.Prelude.{◌≡◌, ◌≢◌, ◌+◌, ◌<◌, ◌≤◌, ◌^◌, [], ◌∷◌, List, ℕ, true, false, is_some, length, Some, Err, IsErr, OnOk};
+ghost use Rattle.std.specs.Option.{option_or};
+ghost use Rattle.std.specs.Prelude.{◌≡◌, ◌≢◌, ◌+◌, ◌<◌, ◌≤◌, ◌^◌, [], ◌∷◌, List, ℕ, true, false, is_some, length, Some, Ok, Err, IsErr, OnOk};
 ghost use Rattle.adb_copy.specs.Pushing.{FilesPushed, Pushes};
 ghost use Rattle.adb_copy.specs.Trees.{AreCopied, IsCopied, Refusal, all_pushed, entry_of, pushed, refused_at};
 ghost use Rattle.adb_copy.specs.Worlds.{Syncs, SyncsAtMost};
@@ -19,20 +20,20 @@ use rand_pcg::Pcg32;
 use std::alloc::Global;
 
 /// Pushes each file of a tree to the world's device, in the order of the bytes of their paths and by
-/// a session of its own: its path, mode, time and bytes are there alike, and all else is as before.
-/// `Refused` comes exactly where the device refuses the next file, and those before it stay. Where
-/// memory runs out the world is spent, or some first files of the tree are there.
-pub fn push_tree(
-    alloc: Global,
-    world: &mut World,
-    seed: u64,
-    tree: &Files,
-) -> Result<(), CopyError>
+/// a session of its own: its mode, time and bytes are there alike, and all else is as before.
+/// `Refused` comes exactly where the device refuses the next file, and those before it stay; a device
+/// without files refuses none. Where memory runs out the world is spent, or some first files of the
+/// tree are there.
+pub fn push_tree(alloc: Global, world: &mut World, seed: u64, tree: &Files) -> Result<(), CopyError>
     requires settled { world.old.settled ≡ true }
     requires tree { AreCopied tree.now }
     requires room { world.old.given + length tree.now ≤ most_sessions }
     ensures ok { OnOk result (pushed world.old.files tree.now ≡ all_pushed world.new.files) }
+    ensures in_place { OnOk result ((path : List ℕ) → file_at path world.new.files
+        ≡ option_or (file_at path tree.now) (file_at path world.old.files)) }
     ensures syncs { OnOk result (Syncs (length tree.now) world.old world.new) }
+    ensures empty { world.old.files ≡ [] → result ≢ Err errors.OutOfMemory
+        → (result ≡ Ok tt) × (world.new.files ≡ tree.now) }
     ensures refused { (path text : List ℕ) → result ≡ Err (errors.Refused path text)
         → pushed world.old.files tree.now ≡ refused_at world.new.files path text }
     ensures told { (refusal : Refusal)
@@ -45,22 +46,18 @@ pub fn push_tree(
     ensures stays { world.old.spent ≡ true
         → (tree.now ≢ [] → IsErr result) × (world.new ≡ world.old) }
 {
+    are_a_map(tree);
     push_files(alloc, world, seed, tree)
 }
 
 /// Pushes the files of a tree in order.
-fn push_files(
-    alloc: Global,
-    world: &mut World,
-    seed: u64,
-    tree: &Files,
-) -> Result<(), CopyError>
+fn push_files(alloc: Global, world: &mut World, seed: u64, tree: &Files) -> Result<(), CopyError>
     requires settled { world.old.settled ≡ true }
+    requires map { IsFileMap tree.now }
     requires tree { AreCopied tree.now }
     requires room { world.old.given + length tree.now ≤ most_sessions }
     ensures { Pushes tree.now result world.old world.new }
 {
-    are_a_map(tree);
     let mut words = Pcg32::seed_from_u64(seed);
     let mut after: &[u8] = b"";
     while let Some(path) = tree.next_path(after) {

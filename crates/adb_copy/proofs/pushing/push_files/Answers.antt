@@ -4,7 +4,7 @@ use Rattle.adb_copy.proofs.Steps.{next_less, next_there, walks_all, walks_none, 
 use Rattle.adb_copy.proofs.pushing.push_files.Goals as goal
 
 pub loop-path-init : goal.loop-path-init
-loop-path-init c = walks_none c.args.tree.now c.args.world.now c.are_a_map.ensures c.requires.settled
+loop-path-init c = walks_none c.args.tree.now c.args.world.now c.requires.map c.requires.settled
 
 pub push_next-requires-clause-there : goal.push_next-requires-clause-there
 push_next-requires-clause-there c =
