@@ -1,7 +1,6 @@
 -- What a device's sync service answers to a LIST and to a RECV, as the asking side reads it.
-use Rattle.std.proofs.Common.{ℕ, ◌+◌, ◌^◌, ◌≡◌, ◌<◌, ◌≤◌, Bool, true, false, cond, List, [], ◌∷◌, ◌++◌, length, take, drop, Option, Some, None}
-use Rattle.std.proofs.Common.{sym, refl, ◌∙◌, ap, subst, append_assoc, arith}
-use Rattle.std.specs.Prelude.{codes}
+use Rattle.std.proofs.Common.{ℕ, ◌+◌, ◌^◌, ◌≡◌, ◌<◌, ◌≤◌, Bool, true, false, List, [], ◌∷◌, ◌++◌, length, take, drop, Option, Some, None}
+use Rattle.std.proofs.Common.{sym, refl, ◌∙◌, ap, append_assoc, arith}
 use Rattle.std.specs.List.{AllByRecursion, flat_map}
 use Rattle.std.proofs.lemmas.List.{append-nil}
 use Rattle.byteorder.specs.Endian.{little_bytes}
@@ -69,7 +68,8 @@ means e said bytes =
 
 means_frame : (e : Expected) (said : Said) (frame more : List ℕ) → expected_front e frame ≡ Whole (length frame)
     → means e said (frame ++ more)
-    ≡ ended_or (next_of (expected_answer e frame)) (told_by said (expected_answer e frame)) (means (past_expected e frame) (told_by said (expected_answer e frame)) more)
+    ≡ ended_or (next_of (expected_answer e frame)) (told_by said (expected_answer e frame))
+    (means (past_expected e frame) (told_by said (expected_answer e frame)) more)
 means_frame e said frame more is =
     ap (λ (c : Cut Expected SyncAnswer ℕ). meant said c.given c.fault)
     (frame_first expected_front expected_answer past_expected expected_are_framed e frame more is)

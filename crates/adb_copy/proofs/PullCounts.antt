@@ -1,19 +1,18 @@
 -- Filters of files and of paths, and how many they leave.
-use Rattle.std.proofs.Common.{ℕ, ◌+◌, ◌≡◌, ◌≢◌, ◌<◌, ◌≤◌, ◌&&◌, ◌||◌, Bool, true, false, cond, not, List, [], ◌∷◌, ◌++◌, length, filter, map, Option, Some, None, ◌⊎◌, inl, inr}
-use Rattle.std.proofs.Common.{refl, ◌∙◌, ap, sym, subst, append_assoc, arith, Ordering}
-use Rattle.std.specs.Prelude.{codes, bytes_eq, option_map}
+use Rattle.std.proofs.Common.{ℕ, ◌+◌, ◌≡◌, ◌≢◌, ◌≤◌, ◌||◌, Bool, true, false, cond, List, [], ◌∷◌, ◌++◌, length, filter, map, Some, inl, inr}
+use Rattle.std.proofs.Common.{refl, ◌∙◌, ap, sym, subst, arith}
+use Rattle.std.specs.Prelude.{bytes_eq, option_map}
 use Rattle.std.specs.Ordering.{is_lt}
-use Rattle.std.specs.declared.cmp.Ordering.TheVariants.{Less, Equal, Greater}
+use Rattle.std.specs.declared.cmp.Ordering.TheVariants.{Less, Greater}
 use Rattle.std.specs.List.{AllByRecursion, find, list_any}
 use Rattle.std.specs.List.Sorted.{IsStrictlySortedBy}
-use Rattle.std.proofs.lemmas.List.{length-append}
 use Rattle.std.proofs.lemmas.List.Sums.{sum_by-cons}
 use Rattle.std.proofs.lemmas.Slice.Eq.{bytes_eq-Decides}
 use Rattle.adb_files.specs.declared.file.File.{File}
 use Rattle.adb_files.specs.Entries.{Entry}
 use Rattle.adb_files.specs.Files.{IsRising, file_at, total, with_file}
 use Rattle.adb_files.specs.Paths.{path_cmp}
-use Rattle.adb_files.proofs.Lookups.{same_by_test, apart_by_test, apart_by_order}
+use Rattle.adb_files.proofs.Lookups.{same_by_test, apart_by_order}
 use Rattle.adb_files.proofs.Order.{greater_back, path_cmp-same}
 use Rattle.adb_files.proofs.Rising.{entry_of}
 use Rattle.adb_copy.proofs.PullListing.{IsAmong}
@@ -168,13 +167,15 @@ path_counted entry (e ∷ files) rising (inl same) =
     let none = all_fail (λ (x : Entry). bytes_eq entry.path x.path) files (all_from_among (λ (x : Entry). bytes_eq entry.path x.path ≡ false) files
     (λ x among. apart_by_order entry.path x.path Less refl (ap (λ (y : Entry). path_cmp y.path x.path) same
     ∙ all_among (λ (y : Entry). path_cmp e.path y.path ≡ Less) x files parts.0 among))) in
-    ap (λ (b : Bool). length (cond b (e ∷ filter (λ (x : Entry). bytes_eq entry.path x.path) files) (filter (λ (x : Entry). bytes_eq entry.path x.path) files))) here
+    ap (λ (b : Bool). length (cond b (e ∷ filter (λ (x : Entry). bytes_eq entry.path x.path) files)
+    (filter (λ (x : Entry). bytes_eq entry.path x.path) files))) here
     ∙ omega (arith, none)
 path_counted entry (e ∷ files) rising (inr among) =
     let parts = rising_parts e files rising in
     let less = all_among (λ (x : Entry). path_cmp e.path x.path ≡ Less) entry files parts.0 among in
     let other : bytes_eq entry.path e.path ≡ false = apart_by_order entry.path e.path Greater refl (greater_back e.path entry.path less) in
-    ap (λ (b : Bool). length (cond b (e ∷ filter (λ (x : Entry). bytes_eq entry.path x.path) files) (filter (λ (x : Entry). bytes_eq entry.path x.path) files))) other
+    ap (λ (b : Bool). length (cond b (e ∷ filter (λ (x : Entry). bytes_eq entry.path x.path) files)
+    (filter (λ (x : Entry). bytes_eq entry.path x.path) files))) other
     ∙ path_counted entry files parts.1 among
 
 -- a file that two filters tell apart is put between those that the one keeps

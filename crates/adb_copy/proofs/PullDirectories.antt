@@ -1,20 +1,20 @@
 -- The directories of files: each once, those in which a file lies, and how many they are.
-use Rattle.std.proofs.Common.{ℕ, ◌+◌, ◌*◌, ◌≡◌, ◌≢◌, ◌<◌, ◌≤◌, ◌&&◌, ◌||◌, Bool, true, false, cond, not, eqb, List, [], ◌∷◌, ◌++◌, length, take, drop, filter, ◌⊎◌, inl, inr}
+use Rattle.std.proofs.Common.{ℕ, ◌+◌, ◌*◌, ◌≡◌, ◌≤◌, ◌&&◌, ◌||◌, Bool, true, false, cond, eqb, List, [], ◌∷◌, ◌++◌, length, drop, filter, ◌⊎◌, inl, inr}
 use Rattle.std.proofs.Common.{refl, ◌∙◌, ap, sym, subst, append_assoc, arith}
-use Rattle.std.specs.Prelude.{codes, bytes_eq, nat_eq, All}
+use Rattle.std.specs.Prelude.{codes, bytes_eq, nat_eq}
 use Rattle.std.specs.List.{AllByRecursion, flat_map, list_all, list_any, starts_with, slice_split, onto_first}
-use Rattle.std.proofs.lemmas.Bool.{and_parts, eqb-true, eq-eqb, false_from_ne_true}
+use Rattle.std.proofs.lemmas.Bool.{and_parts, eqb-true}
 use Rattle.std.proofs.lemmas.List.{length-append, append-nil}
 use Rattle.std.proofs.lemmas.List.Elements.{recursion_from_All}
 use Rattle.std.proofs.lemmas.List.Folds.{list_any-append}
 use Rattle.std.proofs.lemmas.Slice.Eq.{bytes_eq-Decides}
 use Rattle.adb_files.specs.Entries.{Entry}
 use Rattle.adb_files.specs.Files.{IsFileMap, is_directory}
-use Rattle.adb_files.specs.Paths.{is_path, is_name, is_below, inside, slash_behind, parts_of}
-use Rattle.adb_files.proofs.Lookups.{same_by_test, apart_by_test}
+use Rattle.adb_files.specs.Paths.{is_path, is_name, is_below, inside, parts_of}
+use Rattle.adb_files.proofs.Lookups.{same_by_test}
 use Rattle.adb_copy.specs.Pulling.{leading_behind, leading, each_once, directories}
 use Rattle.adb_copy.specs.Trees.{AreCopied, IsCopied}
-use Rattle.adb_copy.proofs.PullPaths.{is_slash, in_parts, starts_front, starts_there}
+use Rattle.adb_copy.proofs.PullPaths.{is_slash, in_parts, starts_front}
 use Rattle.adb_copy.proofs.PullListing.{IsAmong}
 
 -- ---- each once

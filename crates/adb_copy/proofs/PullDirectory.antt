@@ -1,8 +1,8 @@
 -- A directory makes place for its entries.
-use Rattle.std.proofs.Common.{ℕ, ◌+◌, ◌≡◌, ◌≢◌, ◌<◌, ◌≤◌, ◌&&◌, ◌||◌, Bool, true, false, cond, not, ltb, List, [], ◌∷◌, ◌++◌, length, drop, take, filter, map, Option, Some, None, ◌⊎◌, inl, inr}
+use Rattle.std.proofs.Common.{ℕ, ◌+◌, ◌≡◌, ◌≢◌, ◌<◌, ◌≤◌, ◌&&◌, ◌||◌, Bool, true, false, cond, not, ltb, List, [], ◌∷◌, ◌++◌, length, filter, map, Option, Some, None, inl, inr}
 use Rattle.std.proofs.Common.{refl, ◌∙◌, ap, sym, subst, arith}
 use Rattle.std.specs.Prelude.{codes, bytes_eq, nat_eq}
-use Rattle.std.specs.List.{AllByRecursion, list_all, list_any, starts_with, slice_split, position_or_len}
+use Rattle.std.specs.List.{AllByRecursion, list_all, list_any, starts_with, position_or_len}
 use Rattle.std.proofs.lemmas.Bool.{and_parts, and_from, false_from_ne_true}
 use Rattle.std.proofs.lemmas.Bool.Decides.{nat_tests}
 use Rattle.std.proofs.lemmas.List.{length-append}
@@ -11,15 +11,14 @@ use Rattle.adb_sync.specs.declared.answer.Dirent.{Dirent}
 use Rattle.adb_files.specs.Entries.{Entry}
 use Rattle.adb_files.specs.declared.stat.Stat.{Stat}
 use Rattle.adb_files.specs.Files.{IsFileMap, file_at, is_directory}
-use Rattle.adb_files.specs.Listing.{dirent_of, directory_stat, listing, name_below, part_at, rest_below, shown_in, slash_in, stat_at, stat_below}
+use Rattle.adb_files.specs.Listing.{dirent_of, listing, name_below, part_at, rest_below, shown_in, slash_in, stat_at}
 use Rattle.adb_files.specs.Paths.{is_path, is_name, is_below, inside, parts_of}
 use Rattle.adb_files.proofs.Lookups.{same_by_test, apart_by_test}
 use Rattle.adb_copy.specs.declared.found.Found.{Found}
 use Rattle.adb_copy.specs.Pulling.{directories}
-use Rattle.adb_copy.specs.Waiting.{IsDirectory, IsFile, IsThere, Walks, found_in, owed, reaches, waits}
+use Rattle.adb_copy.specs.Waiting.{IsThere, Walks, found_in, owed, reaches, waits}
 use Rattle.adb_copy.proofs.PullCounts.{all_among, all_append, all_fail, all_from_among, all_front, any_from_among, file_among, none_from_among, one, same_filter, split_count}
 use Rattle.adb_copy.proofs.PullDirectories.{IsRootOrHasFile, directories_have_files, directory_counted, directory_form, path_starts}
-use Rattle.adb_copy.proofs.PullFile.{one_of}
 use Rattle.adb_copy.proofs.PullListing.{IsAmong, IsShownBy, Shown, has_name, shown_alone, shown_once, shown_there}
 use Rattle.adb_copy.proofs.PullPaths.{HasNoSlash, eq_front, first_clean, first_is, first_of, in_parts, is_deeper, is_slash, reaches_child, reaches_no_child, reaches_up, starts_long}
 use Rattle.adb_copy.proofs.PullSteps.{first_part, form_of, forms, here_gone, name_some, one_part, others_wait_not, parts_below, plain_of, plains, reaches_same, times, times_append, wait_before, waits_append}
@@ -63,7 +62,8 @@ pub record IsNameIn (name : List ℕ) : Type 0 where
   pub some : 0 < length name
 
 without_slash : (rest : List ℕ) → HasNoSlash rest → slash_in rest ≡ None
-without_slash rest clean = ap (λ (t : Bool). cond t (Some (position_or_len is_slash rest)) None) (past (position_or_len is_slash rest) (length rest) (all rest clean))
+without_slash rest clean =
+    ap (λ (t : Bool). cond t (Some (position_or_len is_slash rest)) None) (past (position_or_len is_slash rest) (length rest) (all rest clean))
   where
     all : (rest : List ℕ) → HasNoSlash rest → position_or_len is_slash rest ≡ length rest
     all [] clean = refl
@@ -101,7 +101,8 @@ module _ (files : List Entry) (ok : IsFileMap files) (directory : List ℕ) (the
       (form_of files ok e among) in
       let here = (parts_below directory rest form).1 (sym (ap (λ (p : List ℕ). list_all is_name (parts_of p)) is) ∙ names) in
       let p = first_part rest in
-      let good : is_name (first_of rest) ≡ true = (and_parts (is_name (first_of rest)) (list_all is_name p.others) (sym (ap (list_all is_name) p.is) ∙ here)).0 in
+      let good : is_name (first_of rest) ≡ true =
+      (and_parts (is_name (first_of rest)) (list_all is_name p.others) (sym (ap (list_all is_name) p.is) ∙ here)).0 in
       subst IsNameIn (sym (first_is rest)) (record { clean = first_clean rest; form = good; some = name_some (first_of rest) good })
 
   pub names_in : AllByRecursion (λ (s : Shown). IsNameIn s.0) shown
@@ -140,8 +141,13 @@ module _ (files : List Entry) (ok : IsFileMap files) (directory : List ℕ) (the
       go : (t : Bool) → is_below directory path ≡ t → times entries path ≤ one t
       go true below =
           let few = shown_once directory (name_below directory path) files in
-          omega (arith, few, times_is path, ap (λ (ss : List Shown). length ss)
-          (same_filter (reach_by path) (has_name (name_below directory path)) shown (by_name path below)))
+          omega (
+            arith,
+            few,
+            times_is path,
+            ap (λ (ss : List Shown). length ss)
+                (same_filter (reach_by path) (has_name (name_below directory path)) shown (by_name path below)),
+          )
       go false below = omega (arith, times_is path, all_fail (reach_by path) shown (by_none path below))
 
   none_up : waits entries directory ≡ false
@@ -194,7 +200,8 @@ module _ (files : List Entry) (ok : IsFileMap files) (directory : List ℕ) (the
   child_form name n =
       let q = inside directory ++ name in
       let starts : starts_with nat_eq q (codes "/") ≡ true =
-      ap (λ (d : List ℕ). starts_with nat_eq ((d ++ cond (bytes_eq directory (codes "/")) (codes "") (codes "/")) ++ name) (codes "/")) (path_starts directory form) in
+      ap (λ (d : List ℕ). starts_with nat_eq ((d ++ cond (bytes_eq directory (codes "/")) (codes "") (codes "/")) ++ name) (codes "/"))
+      (path_starts directory form) in
       let names = (parts_below directory name form).0 (one_part name n.clean ∙ n.form) in
       or_right (bytes_eq q (codes "/")) (starts_with nat_eq q (codes "/") && list_all is_name (parts_of q))
       (and_from (starts_with nat_eq q (codes "/")) (list_all is_name (parts_of q)) starts names)
@@ -232,7 +239,8 @@ module _ (files : List Entry) (ok : IsFileMap files) (directory : List ℕ) (the
       go (Some i) some =
           let stat = h.stat ∙ ap (λ (o : Option ℕ). stat_at o e.file) some in
           let q = inside directory ++ s.0 in
-          let reached : reaches q e.path ≡ true = reaches_child directory s.0 e.path n.clean n.some h.below ∙ same_by_test s.0 (name_below directory e.path) h.name in
+          let reached : reaches q e.path ≡ true =
+          reaches_child directory s.0 e.path n.clean n.some h.below ∙ same_by_test s.0 (name_below directory e.path) h.name in
           let apart : bytes_eq q e.path ≡ false = false_from_ne_true (bytes_eq q e.path) (λ t. let same = (bytes_eq-Decides s.0 rest).0
           (sym (eq_front (inside directory) s.0 rest) ∙ (ap (bytes_eq q) (sym is) ∙ t)) in
           let none = without_slash rest (subst HasNoSlash same n.clean) in let clash = sym some ∙ none in cc) in
@@ -286,7 +294,8 @@ module _ (files : List Entry) (ok : IsFileMap files) (pending : List Found) (fou
   directory_walks = record {
     known = all_append (IsThere files) pending within (all_front (IsThere files) pending (found ∷ []) w.known) (entries_known files ok found.path is);
     once = once_still;
-    tree = w.tree ∙ same_filter (λ (e : Entry). not (waits (pending ++ found ∷ []) e.path)) (λ (e : Entry). not (waits (pending ++ within) e.path)) files not_alike;
+    tree = w.tree
+        ∙ same_filter (λ (e : Entry). not (waits (pending ++ found ∷ []) e.path)) (λ (e : Entry). not (waits (pending ++ within) e.path)) files not_alike;
   }
 
   counted_one : (d : List ℕ) → IsRootOrHasFile files d

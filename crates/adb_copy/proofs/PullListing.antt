@@ -1,17 +1,16 @@
 -- What a listing shows: each name once, all that lies below, and nothing else.
-use Rattle.std.proofs.Common.{ℕ, ◌+◌, ◌^◌, ◌≡◌, ◌≢◌, ◌<◌, ◌≤◌, ◌&&◌, ◌||◌, Bool, true, false, cond, not, List, [], ◌∷◌, ◌++◌, length, take, drop, filter, map, Option, Some, None}
-use Rattle.std.proofs.Common.{refl, ◌∙◌, ap, sym, subst, append_assoc, arith, Ordering, ◌⊎◌, inl, inr}
-use Rattle.std.specs.Prelude.{codes, bytes_eq, nat_eq, fold}
+use Rattle.std.proofs.Common.{ℕ, ◌≡◌, ◌≤◌, ◌||◌, Bool, true, false, cond, List, [], ◌∷◌, length, filter}
+use Rattle.std.proofs.Common.{refl, ◌∙◌, ap, sym, subst, arith, Ordering, ◌⊎◌, inl, inr}
+use Rattle.std.specs.Prelude.{bytes_eq, fold}
 use Rattle.std.specs.Ordering.{match_ordering}
 use Rattle.std.specs.declared.cmp.Ordering.TheVariants.{Less, Equal, Greater}
 use Rattle.std.specs.BTreeMap.{insert_entry}
 use Rattle.std.specs.List.{AllByRecursion, list_any}
-use Rattle.std.proofs.lemmas.Bool.{false_from_ne_true}
 use Rattle.std.proofs.lemmas.Cmp.{nat_list_cmp_total}
 use Rattle.std.proofs.lemmas.Slice.Eq.{bytes_eq-Decides}
 use Rattle.adb_files.specs.Entries.{Entry}
 use Rattle.adb_files.specs.declared.stat.Stat.{Stat}
-use Rattle.adb_files.specs.Paths.{path_cmp, is_path, is_below}
+use Rattle.adb_files.specs.Paths.{path_cmp, is_below}
 use Rattle.adb_files.specs.Listing.{name_below, stat_below, with_shown, shown_in}
 use Rattle.adb_files.proofs.Lookups.{same_by_test, apart_by_test, apart_by_order}
 use Rattle.adb_files.proofs.Order.{same_path, less_back}

@@ -1,16 +1,14 @@
 -- Paths below a directory, by the name that they show there.
-use Rattle.std.proofs.Common.{ℕ, suc, ◌+◌, ◌≡◌, ◌≢◌, ◌<◌, ◌≤◌, ◌&&◌, ◌||◌, Bool, true, false, cond, not, eqb, ltb, List, [], ◌∷◌, ◌++◌, length, take, drop, Option, Some, None}
-use Rattle.std.proofs.Common.{refl, ◌∙◌, ap, sym, subst, append_assoc, arith}
+use Rattle.std.proofs.Common.{ℕ, suc, ◌+◌, ◌≡◌, ◌<◌, ◌≤◌, ◌&&◌, ◌||◌, Bool, true, false, cond, not, eqb, ltb, List, [], ◌∷◌, ◌++◌, length, take, drop, Some, None}
+use Rattle.std.proofs.Common.{refl, ◌∙◌, ap, sym, append_assoc, arith}
 use Rattle.std.specs.Prelude.{codes, bytes_eq, nat_eq}
-use Rattle.std.specs.List.{AllByRecursion, list_all, list_any, starts_with, slice_split, onto_first, position_or_len}
-use Rattle.std.proofs.lemmas.Bool.{and_parts, and_from, eqb-true, eq-eqb, false_from_ne_true, ltb-false}
-use Rattle.std.proofs.lemmas.Bool.Decides.{nat_tests}
-use Rattle.std.proofs.lemmas.List.{length-append, length-take, length-drop, take_all, take-append-drop}
-use Rattle.std.proofs.lemmas.List.Folds.{list_all-append}
+use Rattle.std.specs.List.{AllByRecursion, starts_with, position_or_len}
+use Rattle.std.proofs.lemmas.Bool.{eqb-true, eq-eqb, false_from_ne_true, ltb-false}
+use Rattle.std.proofs.lemmas.List.{length-append, length-take, take_all, take-append-drop}
 use Rattle.std.proofs.lemmas.Slice.Eq.{bytes_eq-Decides}
-use Rattle.adb_files.specs.Paths.{is_path, is_name, is_below, inside, slash_behind, parts_of}
+use Rattle.adb_files.specs.Paths.{is_below, inside, slash_behind}
 use Rattle.adb_files.specs.Listing.{rest_below, slash_in, part_at, name_below}
-use Rattle.adb_files.proofs.Lookups.{same_by_test, apart_by_test}
+use Rattle.adb_files.proofs.Lookups.{apart_by_test}
 use Rattle.adb_files.proofs.Order.{starts_with-neither}
 use Rattle.adb_files.proofs.Siblings.{front_there}
 use Rattle.adb_copy.specs.Waiting.{reaches}
@@ -108,7 +106,8 @@ same_first [] (b ∷ rest) clean = go (is_slash b) refl
   where
     go : (t : Bool) → is_slash b ≡ t → (nat_eq 47 b && true) ≡ bytes_eq [] (cond t [] (b ∷ first_of rest))
     go true is = ap (λ (t : Bool). t && true) (eq-eqb 47 b (sym (eqb-true b 47 is)))
-    go false is = ap (λ (t : Bool). t && true) (false_from_ne_true (nat_eq 47 b) (λ same. let e = eq-eqb b 47 (sym (eqb-true 47 b same)) in let clash = sym e ∙ is in cc))
+    go false is = ap (λ (t : Bool). t && true)
+        (false_from_ne_true (nat_eq 47 b) (λ same. let e = eq-eqb b 47 (sym (eqb-true 47 b same)) in let clash = sym e ∙ is in cc))
 same_first (a ∷ name) [] clean = refl
 same_first (a ∷ name) (b ∷ rest) clean = go (nat_eq a b) refl (is_slash b) refl (same_first name rest clean.1)
   where

@@ -1,32 +1,23 @@
 -- A walk goes on: a directory makes place for its entries, and a file comes into the tree.
-use Rattle.std.proofs.Common.{ℕ, ◌+◌, ◌*◌, ◌^◌, ◌≡◌, ◌≢◌, ◌<◌, ◌≤◌, ◌&&◌, ◌||◌, Bool, true, false, cond, not, ltb, List, [], ◌∷◌, ◌++◌, length, take, drop, filter, map, Option, Some, None, ◌⊎◌, inl, inr}
-use Rattle.std.proofs.Common.{refl, ◌∙◌, ap, sym, subst, append_assoc, arith}
-use Rattle.std.specs.Prelude.{codes, bytes_eq, nat_eq, All}
+use Rattle.std.proofs.Common.{ℕ, ◌+◌, ◌≡◌, ◌<◌, ◌&&◌, ◌||◌, Bool, true, false, cond, List, [], ◌∷◌, ◌++◌, length, drop, filter, inl, inr}
+use Rattle.std.proofs.Common.{refl, ◌∙◌, ap, sym, append_assoc, arith}
+use Rattle.std.specs.Prelude.{codes, bytes_eq, nat_eq}
 use Rattle.std.specs.List.{AllByRecursion, list_all, list_any, starts_with, slice_split, onto_first}
-use Rattle.std.proofs.lemmas.Bool.{and_parts, and_from, false_from_ne_true}
-use Rattle.std.proofs.lemmas.Bool.Decides.{nat_tests}
-use Rattle.std.proofs.lemmas.List.{length-append, append-nil}
+use Rattle.std.proofs.lemmas.Bool.{and_parts, and_from}
+use Rattle.std.proofs.lemmas.List.{length-append}
 use Rattle.std.proofs.lemmas.List.Elements.{filter-append, recursion_from_All}
 use Rattle.std.proofs.lemmas.List.Folds.{list_all-append, list_any-append}
 use Rattle.std.proofs.lemmas.Slice.Eq.{bytes_eq-Decides}
-use Rattle.adb_sync.specs.declared.answer.Dirent.{Dirent}
-use Rattle.adb_files.specs.declared.file.File.{File}
-use Rattle.adb_files.specs.declared.file.FileError.{FileError}
-use Rattle.adb_files.specs.declared.file.FileError.TheVariants as refusals
-use Rattle.adb_files.specs.declared.files.TheConstants.{MAX_STORED}
 use Rattle.adb_files.specs.Entries.{Entry}
-use Rattle.adb_files.specs.Files.{IsFileMap, file_at, is_directory, is_under_file, none_there, put_refusal, read_refusal, total, with_file, without}
-use Rattle.adb_files.specs.Listing.{dirent_of, directory_stat, listing, name_below, rest_below, shown_in, slash_in, stat_at, stat_of}
-use Rattle.adb_files.specs.Paths.{is_path, is_name, is_below, inside, slash_behind, parts_of}
-use Rattle.adb_files.proofs.Lookups.{same_by_test, apart_by_test}
-use Rattle.adb_files.proofs.Rising.{entry_of, total-with}
+use Rattle.adb_files.specs.Files.{IsFileMap, is_directory}
+use Rattle.adb_files.specs.Paths.{is_path, is_name, is_below, inside, parts_of}
+use Rattle.adb_files.proofs.Lookups.{same_by_test}
 use Rattle.adb_copy.specs.declared.found.Found.{Found}
-use Rattle.adb_copy.specs.Pulling.{directories}
-use Rattle.adb_copy.specs.Waiting.{IsDirectory, IsFile, IsThere, Walks, found_in, owed, reaches, root, waits}
-use Rattle.adb_copy.proofs.PullCounts.{all_among, all_append, all_back, all_fail, all_from_among, all_front, among_file, any_among, any_from_among, file_among, none_counted, none_from_among, none_pass, one, path_counted, put_between, same_filter, split_count, total_fewer}
-use Rattle.adb_copy.proofs.PullDirectories.{HasFile, IsRootOrHasFile, directories_have_files, directory_counted, directory_form, path_starts}
-use Rattle.adb_copy.proofs.PullListing.{IsAmong, IsShownBy, Shown, has_name, shown_alone, shown_once, shown_there}
-use Rattle.adb_copy.proofs.PullPaths.{HasNoSlash, first_all, first_clean, first_is, first_of, in_parts, inside_long, is_deeper, is_slash, reaches_child, reaches_no_child, reaches_up, starts_front, starts_long, starts_there}
+use Rattle.adb_copy.specs.Waiting.{Walks, reaches, waits}
+use Rattle.adb_copy.proofs.PullCounts.{all_among, any_among, none_counted, one}
+use Rattle.adb_copy.proofs.PullDirectories.{IsRootOrHasFile, path_starts}
+use Rattle.adb_copy.proofs.PullListing.{IsAmong}
+use Rattle.adb_copy.proofs.PullPaths.{HasNoSlash, first_of, is_deeper, is_slash, starts_long}
 
 -- ---- names
 abbrev reach : Found → List ℕ → Bool
@@ -126,10 +117,11 @@ parts_below directory rest form = go (bytes_eq directory (codes "/")) refl
         ap (λ (t : Bool). (directory ++ cond t (codes "") (codes "/")) ++ rest) is
         ∙ (append_assoc directory (codes "/") rest ∙ ap (λ (d : List ℕ). d ++ 47 ∷ rest) starts) in
         let whole : list_all is_name (parts_of (inside directory ++ rest))
-            ≡ (list_all is_name (slice_split is_slash tail) && list_all is_name (slice_split is_slash rest)) =
-        ap (λ (p : List ℕ). list_all is_name (parts_of p)) front ∙ slash_cut tail rest true in
-        (λ h. whole ∙ and_from (list_all is_name (slice_split is_slash tail)) (list_all is_name (slice_split is_slash rest)) (names is) h,
-        λ h. (and_parts (list_all is_name (slice_split is_slash tail)) (list_all is_name (slice_split is_slash rest)) (sym whole ∙ h)).1)
+        ≡ (list_all is_name (slice_split is_slash tail) && list_all is_name (slice_split is_slash rest)) =
+        ap (λ (p : List ℕ). list_all is_name (parts_of p)) front ∙ slash_cut tail rest true in (
+          λ h. whole ∙ and_from (list_all is_name (slice_split is_slash tail)) (list_all is_name (slice_split is_slash rest)) (names is) h,
+          λ h. (and_parts (list_all is_name (slice_split is_slash tail)) (list_all is_name (slice_split is_slash rest)) (sym whole ∙ h)).1,
+        )
 
 pub name_some : (name : List ℕ) → is_name name ≡ true → 0 < length name
 name_some [] h = absurd (cc)

@@ -1,8 +1,8 @@
 -- What is popped is a directory that is listed, or a file that is pulled.
-use Rattle.std.proofs.Common.{ℕ, ◌+◌, ◌/◌, ◌≡◌, ◌≢◌, ◌<◌, ◌≤◌, Bool, true, false, List, [], ◌∷◌, ◌++◌, length, map, None}
+use Rattle.std.proofs.Common.{ℕ, ◌+◌, ◌/◌, ◌≡◌, ◌≢◌, ◌<◌, ◌≤◌, List, [], ◌∷◌, ◌++◌, length, map, None}
 use Rattle.std.proofs.Common.{◌∙◌, ap, sym, subst, arith}
 use Rattle.adb_files.specs.Entries.{Entry}
-use Rattle.adb_files.specs.Files.{IsFileMap, is_directory, put_refusal, with_file}
+use Rattle.adb_files.specs.Files.{IsFileMap, put_refusal, with_file}
 use Rattle.adb_files.specs.Listing.{listing}
 use Rattle.adb_copy.specs.declared.found.Found.{Found}
 use Rattle.adb_copy.specs.Trees.{AreCopied}
@@ -29,9 +29,10 @@ module _ (files : List Entry) (ok : IsFileMap files) (copied : AreCopied files) 
       → Walks files next tree × (owed files (pending ++ found ∷ []) ≡ owed files next + 1)
   visit_listed next mode is =
       let d = found_directory files ok copied found there mode in
-      let within = is ∙ ap (λ (fs : List Found). pending ++ fs) (listed files ok pending found tree w d) in
-      (subst (λ (fs : List Found). Walks files fs tree) (sym within) (directory_walks files ok pending found tree w d),
-      directory_owed files ok pending found tree w d ∙ ap (λ (fs : List Found). owed files fs + 1) (sym within))
+      let within = is ∙ ap (λ (fs : List Found). pending ++ fs) (listed files ok pending found tree w d) in (
+        subst (λ (fs : List Found). Walks files fs tree) (sym within) (directory_walks files ok pending found tree w d),
+        directory_owed files ok pending found tree w d ∙ ap (λ (fs : List Found). owed files fs + 1) (sym within),
+      )
 
   -- a file
   pub visit_file : found.mode / 4096 ≢ 4 → IsFile files found
@@ -42,6 +43,7 @@ module _ (files : List Entry) (ok : IsFileMap files) (copied : AreCopied files) 
 
   pub visit_pulled : (grown : List Entry) (is : IsFile files found) → grown ≡ with_file found.path is.file tree
       → Walks files pending grown × (owed files (pending ++ found ∷ []) ≡ owed files pending + 1)
-  visit_pulled grown is put =
-      (subst (λ (es : List Entry). Walks files pending es) (sym put) (file_walks files ok pending found tree w is),
-      file_owed files ok pending found tree w is)
+  visit_pulled grown is put = (
+    subst (λ (es : List Entry). Walks files pending es) (sym put) (file_walks files ok pending found tree w is),
+    file_owed files ok pending found tree w is,
+  )

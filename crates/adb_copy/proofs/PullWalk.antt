@@ -1,30 +1,27 @@
 -- A walk begins at the root, and ends with all files; what is asked for on it is short.
-use Rattle.std.proofs.Common.{ℕ, ◌+◌, ◌^◌, ◌≡◌, ◌≢◌, ◌<◌, ◌≤◌, ◌/◌, ◌&&◌, ◌||◌, Bool, true, false, cond, not, List, [], ◌∷◌, ◌++◌, length, drop, filter, map, Option, Some, None, ◌⊎◌, inl, inr}
-use Rattle.std.proofs.Common.{refl, ◌∙◌, ap, sym, subst, arith}
-use Rattle.std.specs.Prelude.{codes, bytes_eq, nat_eq, All}
+use Rattle.std.proofs.Common.{ℕ, ◌+◌, ◌^◌, ◌≡◌, ◌≢◌, ◌<◌, ◌≤◌, ◌/◌, ◌&&◌, ◌||◌, Bool, true, false, cond, not, List, [], ◌∷◌, length, map, Option, Some, None, ◌⊎◌, inl, inr}
+use Rattle.std.proofs.Common.{refl, ◌∙◌, ap, sym, arith}
+use Rattle.std.specs.Prelude.{codes, bytes_eq, nat_eq}
 use Rattle.std.specs.List.{AllByRecursion, list_any, starts_with}
-use Rattle.std.proofs.lemmas.Bool.{and_parts}
 use Rattle.std.proofs.lemmas.List.{length-drop, length-take}
 use Rattle.std.proofs.lemmas.List.Elements.{recursion_from_All}
 use Rattle.std.proofs.lemmas.List.Sums.{sum_by-cons}
 use Rattle.std.proofs.lemmas.Slice.Eq.{bytes_eq-Decides}
-use Rattle.adb_sync.specs.declared.answer.Dirent.{Dirent}
-use Rattle.adb_files.specs.declared.files.TheConstants.{MAX_STORED}
 use Rattle.adb_files.specs.declared.stat.Stat.{Stat}
 use Rattle.adb_files.specs.Entries.{Entry}
 use Rattle.adb_files.specs.Files.{IsFileMap, is_directory, total}
-use Rattle.adb_files.specs.Listing.{dirent_of, listing, name_below, part_at, rest_below, shown_in, slash_in, stat_at, stat_below}
+use Rattle.adb_files.specs.Listing.{dirent_of, listing, part_at, rest_below, shown_in, slash_in, stat_at}
 use Rattle.adb_files.specs.Paths.{is_path, is_below, inside}
 use Rattle.adb_files.proofs.Rising.{entry_of}
 use Rattle.adb_copy.specs.declared.found.Found.{Found}
 use Rattle.adb_copy.specs.Pulling.{HaveTimes, directories}
 use Rattle.adb_copy.specs.Trees.{AreCopied, IsCopied}
-use Rattle.adb_copy.specs.Waiting.{IsDirectory, IsFile, IsThere, Walks, owed, reaches, root, waits}
+use Rattle.adb_copy.specs.Waiting.{IsFile, IsThere, Walks, owed, reaches, root, waits}
 use Rattle.adb_copy.proofs.PullAnswers.{HasWords}
 use Rattle.adb_copy.proofs.PullCounts.{all_among, all_fail, all_from_among, all_pass, among_file, none_pass, one}
 use Rattle.adb_copy.proofs.PullDirectories.{IsRootOrHasFile, directories_have_files, path_starts}
 use Rattle.adb_copy.proofs.PullListing.{IsAmong, IsShownBy, Shown, shown_alone}
-use Rattle.adb_copy.proofs.PullPaths.{in_parts, inside_longer, starts_long}
+use Rattle.adb_copy.proofs.PullPaths.{inside_longer, starts_long}
 use Rattle.adb_copy.proofs.PullSteps.{form_of, forms, times, times_one, waits_one}
 
 or_right : (a b : Bool) → b ≡ true → (a || b) ≡ true
@@ -72,7 +69,8 @@ module _ (files : List Entry) (ok : IsFileMap files) where
 
 -- ---- the end
 pub ends : (files tree : List Entry) → Walks files [] tree → tree ≡ files
-ends files tree w = w.tree ∙ all_pass (λ (e : Entry). not (waits [] e.path)) files (all_from_among (λ (e : Entry). not (waits [] e.path) ≡ true) files (λ e _. refl))
+ends files tree w =
+    w.tree ∙ all_pass (λ (e : Entry). not (waits [] e.path)) files (all_from_among (λ (e : Entry). not (waits [] e.path) ≡ true) files (λ e _. refl))
 
 pub owed_last : (files : List Entry) → owed files [] ≡ 0
 owed_last files =
@@ -157,12 +155,19 @@ module _ (files : List Entry) (ok : IsFileMap files) (all : AreCopied files) whe
       go None is =
           let stat = h.stat ∙ ap (λ (o : Option ℕ). stat_at o e.file) is in
           let room = ok.room in
-          let few = bytes_within e files h.among in
-          (omega (arith, name_short), omega (arith, c.2, ap (λ (st : Stat). st.mode) stat), omega (arith, few, room, ap (λ (st : Stat). st.size) stat),
-          omega (arith, time, ap (λ (st : Stat). st.mtime) stat))
+          let few = bytes_within e files h.among in (
+            omega (arith, name_short),
+            omega (arith, c.2, ap (λ (st : Stat). st.mode) stat),
+            omega (arith, few, room, ap (λ (st : Stat). st.size) stat),
+            omega (arith, time, ap (λ (st : Stat). st.mtime) stat),
+          )
       go (Some i) is =
-          let stat = h.stat ∙ ap (λ (o : Option ℕ). stat_at o e.file) is in
-          (omega (arith, name_short), omega (arith, ap (λ (st : Stat). st.mode) stat), omega (arith, ap (λ (st : Stat). st.size) stat), omega (arith, ap (λ (st : Stat). st.mtime) stat))
+          let stat = h.stat ∙ ap (λ (o : Option ℕ). stat_at o e.file) is in (
+            omega (arith, name_short),
+            omega (arith, ap (λ (st : Stat). st.mode) stat),
+            omega (arith, ap (λ (st : Stat). st.size) stat),
+            omega (arith, ap (λ (st : Stat). st.mtime) stat),
+          )
 
   pub listing_words : HaveTimes files → (directory : List ℕ) → AllByRecursion HasWords (listing directory files)
   listing_words times directory = go (is_path directory)

@@ -1,5 +1,5 @@
 -- What a pull leaves of a world, step by step.
-use Rattle.std.proofs.Common.{ℕ, ◌+◌, ◌-◌, ◌≡◌, ◌<◌, ◌≤◌, Bool, true, false, List, [], ◌∷◌, ◌++◌, length, take, Option, Some, None, ◌⊎◌, inl, inr}
+use Rattle.std.proofs.Common.{ℕ, ◌+◌, ◌-◌, ◌≡◌, ◌≤◌, true, false, List, [], ◌∷◌, ◌++◌, length, take, inl, inr}
 use Rattle.std.proofs.Common.{refl, ◌∙◌, ap, sym, subst, arith}
 use Rattle.std.proofs.lemmas.List.{append-nil}
 use Rattle.adb_files.specs.Entries.{Entry}
@@ -120,10 +120,11 @@ pub pulled : (first now : View) (items : List Found) (tree : List Entry) → Pul
 pulled first now items tree p none =
     let left = ap (owed first.files) none ∙ owed_last first.files in
     let all = p.all in
-    let sum : p.done ≡ length first.files + length (directories first.files) = omega (arith, left, all) in
-    (subst (λ (n : ℕ). Pulls n first now) sum p.pulls,
-    ends first.files tree (subst (λ (fs : List Found). Walks first.files fs tree) none p.walks),
-    λ spent. let only = (p.fresh spent).1 in let clash = sym none ∙ only in cc)
+    let sum : p.done ≡ length first.files + length (directories first.files) = omega (arith, left, all) in (
+      subst (λ (n : ℕ). Pulls n first now) sum p.pulls,
+      ends first.files tree (subst (λ (fs : List Found). Walks first.files fs tree) none p.walks),
+      λ spent. let only = (p.fresh spent).1 in let clash = sym none ∙ only in cc,
+    )
 
 -- ---- one session
 pub synced : (old new : View) → new.files ≡ old.files → new.given ≡ old.given + 1 → AreSame old.sessions new.sessions → IsSettled new → IsCounted new

@@ -1,5 +1,5 @@
 -- What a world is behind a pull, or a part of it.
-use Rattle.std.specs.Prelude.{ℕ, ◌≡◌, ◌≤◌, List}
+use Rattle.std.specs.Prelude.{ℕ, ◌≡◌, ◌≤◌}
 use Rattle.adb_world.specs.World.{View}
 use Rattle.adb_copy.specs.Worlds.{Syncs}
 

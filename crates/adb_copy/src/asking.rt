@@ -13,11 +13,11 @@ ghost use Rattle.adb_sync_client.specs.declared.step.Step.TheVariants as steps;
 ghost use Rattle.adb_sync_client.specs.declared.request.TheConstants.{MAX_ASKED_PATH};
 
 use crate::found::Found;
-use adb_world::World;
 use adb_files::File;
 use adb_outside::Text;
 use adb_sync::Dirent;
 use adb_sync_client::{Entries, PathAsk, PathValue, Step, written_files_are_pulled};
+use adb_world::World;
 use std::alloc::{AllocError, Global};
 
 /// The entries of a directory.
@@ -45,12 +45,7 @@ pub fn list(
 }
 
 /// A file that was found, with its bytes.
-pub fn pull(
-    alloc: Global,
-    world: &mut World,
-    seed: u64,
-    found: &Found,
-) -> Result<File, AllocError>
+pub fn pull(alloc: Global, world: &mut World, seed: u64, found: &Found) -> Result<File, AllocError>
     requires settled { world.old.settled ≡ true }
     requires room { world.old.given < most_sessions }
     requires map { IsFileMap world.old.files }

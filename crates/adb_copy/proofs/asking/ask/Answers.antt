@@ -1,4 +1,4 @@
-use Rattle.std.proofs.Common.{ℕ, ◌≡◌, ◌∙◌, ap, List, []}
+use Rattle.std.proofs.Common.{ℕ, ◌∙◌, ap, List, []}
 use Rattle.adb_files.specs.Served.{served}
 use Rattle.adb_copy.proofs.PullWorlds.{one_at_most, synced}
 use Rattle.adb_copy.proofs.asking.ask.Goals as goal

@@ -1,8 +1,6 @@
-use Rattle.std.proofs.Common.{ℕ, ◌≡◌, ◌∙◌, ap, sym, subst, List}
+use Rattle.std.proofs.Common.{◌∙◌, sym, subst, List}
 use Rattle.adb_sync.specs.declared.answer.Dirent.{Dirent}
 use Rattle.adb_sync_client.specs.declared.step.Step.{Step}
-use Rattle.adb_sync_client.specs.declared.step.Step.TheVariants as steps
-use Rattle.adb_files.specs.Listing.{listing}
 use Rattle.adb_copy.specs.Waiting.{IsDone}
 use Rattle.adb_copy.proofs.PullAnswers.{done_is, listing_read}
 use Rattle.adb_copy.proofs.PullWalk.{listing_words}

@@ -1,9 +1,9 @@
-use Rattle.std.proofs.Common.{ℕ, ◌≡◌, ◌∙◌, ap, sym, subst, List}
+use Rattle.std.proofs.Common.{ℕ, ◌∙◌, ap, sym, subst, List}
 use Rattle.adb_sync_client.specs.declared.step.Step.{Step}
 use Rattle.adb_sync_client.specs.Texts.{pull_text}
 use Rattle.adb_sync_client.specs.Values.{pull_value}
 use Rattle.adb_files.specs.Served.{served}
-use Rattle.adb_copy.specs.Waiting.{IsDone, IsFile}
+use Rattle.adb_copy.specs.Waiting.{IsDone}
 use Rattle.adb_copy.proofs.PullAnswers.{done_is, file_read}
 use Rattle.adb_copy.proofs.PullFile.{file_readable}
 use Rattle.adb_copy.proofs.asking.pull.Goals as goal

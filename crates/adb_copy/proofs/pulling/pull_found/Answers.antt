@@ -1,4 +1,4 @@
-use Rattle.std.proofs.Common.{ℕ, ◌≡◌, ◌∙◌, ap, List, length}
+use Rattle.std.proofs.Common.{ℕ, ◌∙◌, ap, List, length}
 use Rattle.adb_files.specs.declared.file.File.{File}
 use Rattle.adb_files.specs.Files.{put_refusal, with_file}
 use Rattle.adb_copy.proofs.pulling.pull_found.Goals as goal

@@ -1,4 +1,4 @@
-use Rattle.std.proofs.Common.{ℕ, ◌≡◌, ◌∙◌, ap, sym, subst, List, [], ◌∷◌, ◌++◌}
+use Rattle.std.proofs.Common.{◌∙◌, ap, sym, subst, List, [], ◌∷◌, ◌++◌}
 use Rattle.adb_files.specs.Entries.{Entry}
 use Rattle.adb_files.specs.Files.{IsFileMap}
 use Rattle.adb_copy.specs.declared.found.Found.{Found}

@@ -1,4 +1,4 @@
-use Rattle.std.proofs.Common.{ℕ, ◌/◌, ◌≡◌, ◌≢◌, ◌∙◌, sym}
+use Rattle.std.proofs.Common.{◌/◌, ◌≡◌, ◌∙◌, sym}
 use Rattle.std.proofs.lemmas.Bool.{eqb-true, eq-eqb}
 use Rattle.adb_world.specs.Parts.{most_sessions}
 use Rattle.adb_copy.proofs.PullVisit.{visit_file, visit_granted, visit_listed, visit_pulled, visit_room, visit_short}
