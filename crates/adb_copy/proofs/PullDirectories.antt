@@ -249,14 +249,14 @@ cut_at (b ∷ bytes) = go (eqb b 47) (cut_at bytes) refl
           omega (arith, few, now);
     }
 
-no_more : (path : List ℕ) (root starts names : Bool) → (root || (starts && names)) ≡ true → (root ≡ true) ⊎ (names ≡ true)
-no_more path true starts names h = inl refl
-no_more path false true names h = inr h
-no_more path false false names h = absurd (cc)
+no_more : (root starts names : Bool) → (root || (starts && names)) ≡ true → (root ≡ true) ⊎ (names ≡ true)
+no_more true starts names h = inl refl
+no_more false true names h = inr h
+no_more false false names h = absurd (cc)
 
 leads_few : (path : List ℕ) → is_path path ≡ true → length path ≤ 1000 → length (leading path) ≤ 500
 leads_few path form short =
-    go (no_more path (bytes_eq path (codes "/")) (starts_with nat_eq path (codes "/")) (list_all is_name (parts_of path)) form)
+    go (no_more (bytes_eq path (codes "/")) (starts_with nat_eq path (codes "/")) (list_all is_name (parts_of path)) form)
   where
     tail : List ℕ
     tail = drop 1 path

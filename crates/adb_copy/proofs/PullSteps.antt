@@ -20,16 +20,10 @@ use Rattle.adb_copy.proofs.PullListing.{IsAmong}
 use Rattle.adb_copy.proofs.PullPaths.{HasNoSlash, first_of, is_deeper, is_slash, starts_long}
 
 -- ---- names
-abbrev reach : Found → List ℕ → Bool
-reach found path = reaches found.path path
-
-slash_cut : (xs ys : List ℕ) (names : Bool) → list_all is_name (slice_split is_slash (xs ++ 47 ∷ ys))
+slash_cut : (xs ys : List ℕ) → list_all is_name (slice_split is_slash (xs ++ 47 ∷ ys))
     ≡ (list_all is_name (slice_split is_slash xs) && list_all is_name (slice_split is_slash ys))
-slash_cut xs ys names = ap (list_all is_name) (cut xs ys) ∙ list_all-append is_name (slice_split is_slash xs) (slice_split is_slash ys)
+slash_cut xs ys = ap (list_all is_name) (cut xs ys) ∙ list_all-append is_name (slice_split is_slash xs) (slice_split is_slash ys)
   where
-    onto_append : (b : ℕ) (x : List ℕ) (ps qs : List (List ℕ)) → onto_first b ((x ∷ ps) ++ qs) ≡ onto_first b (x ∷ ps) ++ qs
-    onto_append b x ps qs = refl
-
     some : (xs : List ℕ) (b : ℕ) (qs : List (List ℕ)) → onto_first b (slice_split is_slash xs ++ qs) ≡ onto_first b (slice_split is_slash xs) ++ qs
     some [] b qs = refl
     some (x ∷ xs) b qs = go (is_slash x) (some xs x qs)
@@ -118,7 +112,7 @@ parts_below directory rest form = go (bytes_eq directory (codes "/")) refl
         ∙ (append_assoc directory (codes "/") rest ∙ ap (λ (d : List ℕ). d ++ 47 ∷ rest) starts) in
         let whole : list_all is_name (parts_of (inside directory ++ rest))
         ≡ (list_all is_name (slice_split is_slash tail) && list_all is_name (slice_split is_slash rest)) =
-        ap (λ (p : List ℕ). list_all is_name (parts_of p)) front ∙ slash_cut tail rest true in (
+        ap (λ (p : List ℕ). list_all is_name (parts_of p)) front ∙ slash_cut tail rest in (
           λ h. whole ∙ and_from (list_all is_name (slice_split is_slash tail)) (list_all is_name (slice_split is_slash rest)) (names is) h,
           λ h. (and_parts (list_all is_name (slice_split is_slash tail)) (list_all is_name (slice_split is_slash rest)) (sym whole ∙ h)).1,
         )

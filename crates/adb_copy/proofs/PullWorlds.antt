@@ -27,10 +27,6 @@ pulls_on n m a b c first second = record {
   syncs = syncs_more {n = n} {m = m} {old = a} {mid = b} {new = c} first.syncs second.syncs;
 }
 
-pub none_at_most : (most : ℕ) (a b : View) → a.settled ≡ true → b ≡ a → PullsAtMost most a b
-none_at_most most a b settled same =
-    subst (λ (v : View). PullsAtMost most a v) (sym same) (record { sessions = 0; few = omega arith; pulls = pulls_none a settled })
-
 pub one_at_most : (a b : View) → Pulls 1 a b → PullsAtMost 1 a b
 one_at_most a b pulls = record { sessions = 1; few = omega arith; pulls = pulls }
 
