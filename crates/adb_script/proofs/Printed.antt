@@ -9,7 +9,7 @@ use Rattle.adb_sync_client.specs.Values.{push_value, pull_value}
 use Rattle.adb_files.specs.declared.file.File.{File}
 use Rattle.adb_files.specs.declared.file.FileError.{FileError}
 use Rattle.adb_files.specs.Entries.{Entry}
-use Rattle.adb_files.specs.Files.{refusal_text, put_refusal, read_refusal, file_at}
+use Rattle.adb_files.specs.Files.{put_refusal, read_refusal, file_at}
 use Rattle.adb_files.specs.Served.{Served, recv_by, send_by}
 use Rattle.adb_script.specs.Answers.{Answered, line_answer, exchange, pushed_line, pulled_line}
 use Rattle.adb_script.specs.Lines.{Asks, Pulls, Pushes}
