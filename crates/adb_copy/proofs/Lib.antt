@@ -17,4 +17,3 @@ pub mod PullDirectory
 pub mod PullWalk
 pub mod PullWorlds
 pub mod PullVisit
-mod PullWorked
