@@ -5,16 +5,16 @@ ghost use Rattle.std.specs.List.{concat};
 ghost use Rattle.adb_outside.specs.Outside.{Counts};
 ghost use Rattle.adb_script.specs.Answers.{script_answers};
 ghost use Rattle.adb_script.specs.Script.{first_bad};
-ghost use Rattle.adb_local.specs.Running.{texts_of};
+ghost use Rattle.adb_script.specs.Told.{texts_of};
 ghost use Rattle.adb_commands.specs.ScriptInput.{ReadsWithin};
 ghost use Rattle.adb_commands.specs.ScriptStop.{IsRunEnd, stops_reading, stops_writing};
 ghost use Rattle.adb_commands.specs.Scripts.{AnswersAs, RefusesAs, answer_lines};
 
 use crate::script_input::read_script;
 use crate::script_stop::ScriptStop;
-use adb_local::{Line, run_script};
+use adb_local::run_script;
 use adb_outside::{Sink, Source, Text, Wrote};
-use adb_script::ScriptError;
+use adb_script::{Line, ScriptError};
 use adb_world::World;
 use std::alloc::{AllocError, Global};
 

@@ -2,7 +2,7 @@ use Rattle.std.proofs.Common.{rules, ℕ, ◌≡◌, ◌∙◌, ap, sym, take, l
 use Rattle.std.specs.Prelude.{bytes_eq}
 use Rattle.adb_script.specs.Pattern.{pattern}
 use Rattle.adb_script.proofs.Patterns.{other_length, compared}
-use Rattle.adb_script.proofs.pattern.is_pattern.Goals as goal
+use Rattle.adb_script.proofs.sent.is_pattern.Goals as goal
 
 pub returns-then-bytes-size : goal.returns-then-bytes-size
 returns-then-bytes-size c = other_length c.args.bytes.now c.args.shift c.args.size (search (rules))

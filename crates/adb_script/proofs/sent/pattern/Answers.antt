@@ -1,7 +1,7 @@
 use Rattle.std.proofs.Common.{rules, ℕ, ◌≡◌, ◌-◌, ◌∙◌, ap, min, take, length, List, ◌++◌}
 use Rattle.adb_script.specs.Pattern.{pattern}
 use Rattle.adb_script.proofs.Patterns.{Grown, grows}
-use Rattle.adb_script.proofs.pattern.pattern.Goals as goal
+use Rattle.adb_script.proofs.sent.pattern.Goals as goal
 
 pub loop-period-preserved : goal.loop-period-preserved
 loop-period-preserved c =

@@ -1,5 +1,5 @@
 use Rattle.std.proofs.Common.{ℕ, ◌≡◌, ◌<◌, ◌+◌, ◌%◌, get_or, length}
-use Rattle.adb_script.proofs.pattern.period.Given as goal
+use Rattle.adb_script.proofs.sent.period.Given as goal
 
 abbrev pub invariant-loop-place : goal.invariant-loop-place
 invariant-loop-place l = record {

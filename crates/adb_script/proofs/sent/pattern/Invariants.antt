@@ -1,6 +1,6 @@
 use Rattle.std.proofs.Common.{◌≡◌, ◌-◌, ◌++◌, ◌≤◌, length}
 use Rattle.adb_script.specs.Pattern.{pattern}
-use Rattle.adb_script.proofs.pattern.pattern.Given as goal
+use Rattle.adb_script.proofs.sent.pattern.Given as goal
 
 abbrev pub invariant-loop-period : goal.invariant-loop-period
 invariant-loop-period l = record {

@@ -1,0 +1,13 @@
+-- The lines that show a tree.
+use Rattle.std.specs.Prelude.{ℕ, List, ◌++◌, length, map, sum, codes, decimal}
+use Rattle.adb_files.specs.Entries.{Entry}
+
+-- a file: its path, mode, time, how many bytes it has, and their sum
+abbrev pub shown : Entry → List ℕ
+shown entry =
+    entry.path ++ codes " " ++ decimal entry.file.mode ++ codes " " ++ decimal entry.file.mtime
+    ++ codes " " ++ decimal (length entry.file.bytes) ++ codes " " ++ decimal (sum entry.file.bytes) ++ codes "\n"
+
+-- all files, in the order of the bytes of their paths, which is theirs
+abbrev pub lines_of : List Entry → List (List ℕ)
+lines_of files = map shown files

@@ -1,0 +1,89 @@
+//! A tree, as lines name its files.
+
+ghost use Rattle.std.specs.Prelude.{◌≡◌, Some, IfOk};
+ghost use Rattle.adb_trees.specs.Lines.{line_of};
+ghost use Rattle.adb_trees.specs.Trees.{Takes, behind, no_tree};
+
+use crate::line::{FileLine, read_line};
+use adb_files::{File, FileError, Files};
+use adb_script::pattern;
+use std::alloc::{AllocError, Global};
+use std::marker::Model;
+
+/// The most bytes that all files of a tree may have.
+pub const MAX_TREE: u32 = 67_108_864;
+
+/// The files that the lines so far name. Contracts see them, and how many bytes they have together.
+#[derive(Drop)]
+pub struct Tree {
+    alloc: Global,
+    files: Files,
+    size: u32,
+}
+
+impl Model for Tree {
+    ghost use Rattle.std.specs.Prelude.{◌≤◌};
+    ghost use Rattle.adb_trees.specs.Trees.{Tree};
+    ghost use Rattle.adb_trees.specs.declared.tree.TheConstants.{MAX_TREE};
+
+    ghost Value = { Tree };
+
+    ghost view = { λ tree. record { files = tree.files; size = tree.size } };
+
+    ghost invariant = { λ tree. tree.size ≤ MAX_TREE };
+}
+
+impl Tree {
+    /// No files. It takes no memory.
+    pub fn new(alloc: Global) -> Tree
+        ensures { result ≡ no_tree }
+    {
+        Tree {
+            alloc,
+            files: Files::new(alloc),
+            size: 0,
+        }
+    }
+
+    /// Takes the file that a line names, without its newline; `false` where the line is refused. The
+    /// tree is as before then.
+    pub fn take(&mut self, text: &[u8]) -> Result<bool, AllocError>
+        ensures { IfOk result (λ taken.
+            Takes taken (behind self.old (line_of text.now)) self.old self.new) }
+    {
+        match read_line(text) {
+            Some(line) => self.take_file(&line),
+            None => Ok(false),
+        }
+    }
+
+    /// The files.
+    pub fn into_files(self) -> Files
+        ensures { result ≡ self.old.files }
+    {
+        self.files
+    }
+
+    /// Takes the file of a line.
+    fn take_file(&mut self, line: &FileLine<'_>) -> Result<bool, AllocError>
+        ensures { IfOk result (λ taken.
+            Takes taken (behind self.old (Some line.now)) self.old self.new) }
+    {
+        if self.files.get(line.path.as_slice()).is_some() || line.size > MAX_TREE - self.size {
+            return Ok(false);
+        }
+        let file = File {
+            mode: line.mode,
+            mtime: line.mtime,
+            bytes: pattern(self.alloc, 0, line.size)?,
+        };
+        match self.files.put(line.path.as_slice(), file) {
+            Ok(()) => {
+                self.size += line.size;
+                Ok(true)
+            }
+            Err(FileError::OutOfMemory) => Err(AllocError),
+            Err(_) => Ok(false),
+        }
+    }
+}
