@@ -1,0 +1,36 @@
+-- Trees of files, and what a device makes of one that is pushed.
+use Rattle.std.specs.Prelude.{ℕ, ◌≤◌, List, [], ◌∷◌, length, All, Option, Some, None}
+use Rattle.adb_files.specs.declared.file.FileError.{FileError}
+use Rattle.adb_files.specs.Entries.{Entry}
+use Rattle.adb_files.specs.Files.{put_refusal, refusal_text, with_file}
+
+-- a file that can be copied: a path of at most 1,000 bytes, and the mode of a regular file with its lowest nine bits
+abbrev pub IsCopied : Entry → Type 0
+IsCopied entry = (length entry.path ≤ 1000) × (32768 ≤ entry.file.mode) × (entry.file.mode ≤ 33279)
+
+abbrev pub AreCopied : List Entry → Type 0
+AreCopied files = All IsCopied files
+
+-- a file that was refused, and why
+pub record Refusal : Type 0 where
+  pub path : List ℕ
+  pub text : List ℕ
+
+-- what a push leaves: the files, and the file at which it stopped
+pub record Pushed : Type 0 where
+  pub files : List Entry
+  pub refused : Option Refusal
+
+abbrev pub all_pushed : List Entry → Pushed
+all_pushed files = record { files = files; refused = None }
+
+abbrev pub refused_at : List Entry → List ℕ → List ℕ → Pushed
+refused_at files path text = record { files = files; refused = Some (record { path = path; text = text }) }
+
+-- the files with those of a tree, in their order, up to the first that is refused
+abbrev pub pushed : List Entry → List Entry → Pushed
+abbrev pub pushed_by : Option FileError → List Entry → Entry → List Entry → Pushed
+pushed files [] = all_pushed files
+pushed files (entry ∷ more) = pushed_by (put_refusal files entry.path (length entry.file.bytes)) files entry more
+pushed_by None files entry more = pushed (with_file entry.path entry.file files) more
+pushed_by (Some refusal) files entry more = refused_at files entry.path (refusal_text refusal)

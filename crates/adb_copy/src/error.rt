@@ -1,0 +1,24 @@
+//! Why a tree is not copied.
+
+use adb_outside::Text;
+use std::alloc::AllocError;
+
+/// Why a tree was not pushed.
+#[derive(Drop)]
+pub enum CopyError {
+    /// The device refused the file of this path, with this text.
+    Refused { path: Text, text: Text },
+    /// Memory ran out.
+    OutOfMemory,
+}
+
+impl From<AllocError> for CopyError {
+    ghost use Rattle.std.specs.Prelude.{◌≡◌};
+    ghost use Rattle.adb_copy.specs.declared.error.CopyError.TheVariants.{OutOfMemory};
+
+    ghost from_gives = { λ _ error. error ≡ OutOfMemory };
+
+    fn from(_error: AllocError) -> CopyError {
+        CopyError::OutOfMemory
+    }
+}
