@@ -21,18 +21,18 @@ mtime_of word = number_within 0 (2 ^ 32 - 1) word
 abbrev pub size_of : List ℕ → Option ℕ
 size_of word = number_within 0 MAX_FILE word
 
--- a file at a path, where all three numbers are there
+-- a file at a path of at most 1,000 bytes, where all three numbers are there
 abbrev pub file_line : List ℕ → Option ℕ → Option ℕ → Option ℕ → Option FileLine
-file_line path (Some mode) (Some mtime) (Some size) = Some (record { path = path; mode = mode; mtime = mtime; size = size })
+file_line path (Some mode) (Some mtime) (Some size) =
+    if is_word path then Some (record { path = path; mode = mode; mtime = mtime; size = size }) else None
 file_line path _ _ _ = None
 
--- The line of its words: a path of at most 1,000 bytes, the mode, the time, and how many bytes the file has. No word has a space.
+-- the line of its words: a path, the mode, the time, and how many bytes the file has
 abbrev pub line_of_words : List (List ℕ) → Option FileLine
-line_of_words (path ∷ mode ∷ mtime ∷ size ∷ []) =
-    if is_word path then file_line path (mode_of mode) (mtime_of mtime) (size_of size) else None
+line_of_words (path ∷ mode ∷ mtime ∷ size ∷ []) = file_line path (mode_of mode) (mtime_of mtime) (size_of size)
 line_of_words _ = None
 
--- what a line says, without its newline, where it is one
+-- what a line says, without its newline, where it is one: it is cut at single spaces, so that no word has a space
 abbrev pub line_of : List ℕ → Option FileLine
 line_of text = line_of_words (words_of text)
 

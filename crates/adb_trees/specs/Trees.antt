@@ -1,5 +1,5 @@
 -- The tree of files that the lines of a script name, and the first line that is refused.
-use Rattle.std.specs.Prelude.{ℕ, ◌+◌, ◌-◌, ◌≡◌, ◌≤◌, ◌||◌, nat_lt, if◌then◌else◌, Bool, true, false, not, List, [], ◌∷◌, length}
+use Rattle.std.specs.Prelude.{ℕ, ◌+◌, ◌-◌, ◌≡◌, ◌≤◌, ◌||◌, nat_lt, if◌then◌else◌, Bool, true, false, not, List, [], ◌∷◌, length, All}
 use Rattle.std.specs.Prelude.{Option, Some, None, is_some, option_map, Result, Ok, Err}
 use Rattle.std.specs.Result.{result_ok, result_err}
 use Rattle.adb_files.specs.declared.file.File.{File}
@@ -10,7 +10,9 @@ use Rattle.adb_script.specs.Pattern.{pattern}
 use Rattle.adb_script.specs.Script.{is_too_far, lines_of}
 use Rattle.adb_script.specs.declared.script.TheConstants.{MAX_LINES}
 use Rattle.adb_trees.specs.Lines.{line_of, said}
+use Rattle.adb_script.specs.declared.word.TheConstants.{MAX_WORD}
 use Rattle.adb_trees.specs.declared.line.FileLine.{FileLine}
+use Rattle.adb_trees.specs.declared.line.TheConstants.{MIN_MODE, MAX_MODE}
 use Rattle.adb_trees.specs.declared.tree.TheConstants.{MAX_TREE}
 
 -- the files that the lines so far name, and how many bytes they have together
@@ -64,6 +66,15 @@ first_bad script = result_err (read script)
 -- the files that the lines name, where none of them is refused
 abbrev pub tree_of : List ℕ → Option (List Entry)
 tree_of script = option_map (λ (tree : Tree). tree.files) (result_ok (read script))
+
+-- a file that a line may name: a path of at most 1,000 bytes, and a mode of a regular file
+abbrev pub IsNamed : Entry → Type 0
+IsNamed entry = (length entry.path ≤ MAX_WORD) × (MIN_MODE ≤ entry.file.mode) × (entry.file.mode ≤ MAX_MODE)
+
+-- files that a script may name
+pub record AreNamed (files : List Entry) : Type 0 where
+  pub each : All IsNamed files
+  pub few : length files ≤ MAX_LINES
 
 -- ---- as a tree is read
 -- A line was taken: or it is refused, and the tree stays.

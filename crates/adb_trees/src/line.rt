@@ -1,9 +1,8 @@
 //! What a line of a tree's script names.
 
-ghost use Rattle.std.specs.Prelude.{◌≡◌, ◌≤◌, ◌^◌, ◌-◌};
-ghost use Rattle.adb_trees.specs.Lines.{file_line, line_of, line_of_words, mode_of, mtime_of};
+ghost use Rattle.std.specs.Prelude.{◌≡◌};
+ghost use Rattle.adb_trees.specs.Lines.{file_line, line_of, mode_of, mtime_of};
 ghost use Rattle.adb_trees.specs.Lines.{number_within, size_of};
-ghost use Rattle.adb_script.specs.Lines.{words_of};
 
 use adb_outside::read_number;
 use adb_script::{Word, split_once};
@@ -49,13 +48,15 @@ fn file_line<'a>(
     mtime: Option<u32>,
     size: Option<u32>,
 ) -> Option<FileLine<'a>>
+    ensures { result ≡ file_line path.now mode mtime size }
 {
+    let (mode, mtime, size) = (mode?, mtime?, size?);
     let path = Word::read(path)?;
     Some(FileLine {
         path,
-        mode: mode?,
-        mtime: mtime?,
-        size: size?,
+        mode,
+        mtime,
+        size,
     })
 }
 

@@ -1,7 +1,7 @@
 //! Reading the tree of a script.
 
 ghost use Rattle.std.specs.Prelude.{◌≡◌, ◌≢◌, ◌<◌, ◌+◌, ℕ, Some, None, Err, length, IfOk, OnOk};
-ghost use Rattle.adb_trees.specs.Trees.{Reads, first_bad, tree_of};
+ghost use Rattle.adb_trees.specs.Trees.{AreNamed, Reads, first_bad, tree_of};
 
 use crate::tree::Tree;
 use adb_files::Files;
@@ -12,6 +12,7 @@ use std::alloc::{AllocError, Global};
 /// it among them. Where a line is refused the first such is told, or want of memory.
 pub fn read_tree(alloc: Global, script: &[u8]) -> Result<Files, ScriptError>
     ensures tree { IfOk result (λ files. tree_of script.now ≡ Some files) }
+    ensures named { IfOk result (λ files. AreNamed files) }
     ensures good { OnOk result (first_bad script.now ≡ None) }
     ensures bad { (line : ℕ) → result ≡ Err (ScriptError.BadLine line)
         → first_bad script.now ≡ Some line }

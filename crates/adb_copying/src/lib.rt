@@ -1,0 +1,7 @@
+//! Copying the tree that a script names: it goes to the model device of a new world, comes back, and
+//! is shown.
+#![tactic(auto)]
+
+mod copying;
+
+pub use copying::copy_tree;
