@@ -1,0 +1,5 @@
+mod Taking
+mod Readings
+mod Cutting
+mod Named
+pub mod Walks

@@ -82,6 +82,11 @@ abbrev pub Takes : Bool → Option Tree → (old new : Tree) → Type 0
 Takes true next old new = next ≡ Some new
 Takes false next old new = (next ≡ None) × (new ≡ old)
 
+-- A file was put: or it is refused, and the files stay.
+abbrev pub Puts : Bool → List ℕ → File → (old new : List Entry) → Type 0
+Puts true path file old new = (put_refusal old path (length file.bytes) ≡ None) × (new ≡ with_file path file old)
+Puts false path file old new = (is_some (put_refusal old path (length file.bytes)) ≡ true) × (new ≡ old)
+
 -- So many lines were read: with what is left of the script their tree becomes what the whole script says.
 pub record Reads (script rest : List ℕ) (lines : ℕ) (tree : Tree) : Type 0 where
   pub so : reads_from (lines + 1) (length script - length rest) tree (lines_of rest) ≡ read script

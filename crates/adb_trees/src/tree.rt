@@ -1,8 +1,10 @@
 //! A tree, as lines name its files.
 
-ghost use Rattle.std.specs.Prelude.{◌≡◌, Some, IfOk};
+ghost use Rattle.std.specs.Prelude.{◌≡◌, ◌+◌, ◌^◌, ◌<◌, length, nat_lt, is_some, Some, IfOk};
+ghost use Rattle.adb_files.specs.Files.{file_at};
 ghost use Rattle.adb_trees.specs.Lines.{line_of};
-ghost use Rattle.adb_trees.specs.Trees.{Takes, behind, no_tree};
+ghost use Rattle.adb_trees.specs.Trees.{Puts, Takes, behind, no_tree};
+ghost use Rattle.adb_trees.specs.declared.tree.TheConstants.{MAX_TREE};
 
 use crate::line::{FileLine, read_line};
 use adb_files::{File, FileError, Files};
@@ -69,7 +71,7 @@ impl Tree {
         ensures { IfOk result (λ taken.
             Takes taken (behind self.old (Some line.now)) self.old self.new) }
     {
-        if self.files.get(line.path.as_slice()).is_some() || line.size > MAX_TREE - self.size {
+        if self.has(line.path.as_slice()) || self.is_too_much(line.size) {
             return Ok(false);
         }
         let file = File {
@@ -77,13 +79,36 @@ impl Tree {
             mtime: line.mtime,
             bytes: pattern(self.alloc, 0, line.size)?,
         };
-        match self.files.put(line.path.as_slice(), file) {
-            Ok(()) => {
-                self.size += line.size;
-                Ok(true)
-            }
-            Err(FileError::OutOfMemory) => Err(AllocError),
-            Err(_) => Ok(false),
+        if !put(&mut self.files, line.path.as_slice(), file)? {
+            return Ok(false);
         }
+        self.size += line.size;
+        Ok(true)
+    }
+
+    /// Whether a path was named.
+    fn has(&self, path: &[u8]) -> bool
+        ensures { result ≡ is_some (file_at path.now self.now.files) }
+    {
+        self.files.get(path).is_some()
+    }
+
+    /// Whether so many bytes more are too many.
+    fn is_too_much(&self, size: u32) -> bool
+        ensures { result ≡ nat_lt MAX_TREE (self.now.size + size) }
+    {
+        size > MAX_TREE - self.size
+    }
+}
+
+/// Puts a file; `false` where it is refused.
+fn put(files: &mut Files, path: &[u8], file: File) -> Result<bool, AllocError>
+    requires { length path.now < 2 ^ 32 }
+    ensures { IfOk result (λ put. Puts put path.now file files.old files.new) }
+{
+    match files.put(path, file) {
+        Ok(()) => Ok(true),
+        Err(FileError::OutOfMemory) => Err(AllocError),
+        Err(_) => Ok(false),
     }
 }
