@@ -1,15 +1,15 @@
 //! Copying the tree of a script.
 
-ghost use Rattle.std.specs.Prelude.{ℕ, ◌≡◌, ◌≢◌, [], Err, Some, true, IfOk, OnOk};
-ghost use Rattle.adb_files.specs.Files.{IsFileMap};
+ghost use Rattle.std.specs.Prelude.{ℕ, ◌≡◌, ◌≢◌, [], Err, Some, true, length, IfOk, OnOk};
 ghost use Rattle.adb_script.specs.Told.{texts_of};
 ghost use Rattle.adb_trees.specs.Shown.{copied_lines, lines_of};
 ghost use Rattle.adb_trees.specs.Trees.{AreNamed, first_bad, tree_of};
 
-use adb_copy::{CopyError, pull_tree, push_tree};
+use crate::showing::{are_a_map, show_files};
+use adb_copy::{CopyError, new_devices_take_any_tree, pull_tree, push_tree};
 use adb_files::Files;
 use adb_script::{Line, ScriptError};
-use adb_trees::{read_tree, show_files};
+use adb_trees::read_tree;
 use adb_world::World;
 use std::alloc::{AllocError, Global};
 
@@ -72,6 +72,8 @@ fn push(alloc: Global, world: &mut World, tree: &Files, seed: u64) -> Result<(),
     ensures settled { OnOk result (world.new.settled ≡ true) }
     ensures given { OnOk result (world.new.given ≡ length tree.now) }
 {
+    new_devices_take_any_tree();
+    are_a_map(tree);
     match push_tree(alloc, world, seed, tree) {
         Ok(()) => Ok(()),
         Err(CopyError::OutOfMemory) => Err(AllocError),

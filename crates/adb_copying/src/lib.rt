@@ -3,5 +3,6 @@
 #![tactic(auto)]
 
 mod copying;
+mod showing;
 
 pub use copying::copy_tree;

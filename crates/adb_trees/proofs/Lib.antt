@@ -2,4 +2,3 @@ mod Taking
 mod Readings
 mod Cutting
 mod Named
-pub mod Walks

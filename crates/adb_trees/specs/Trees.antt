@@ -1,5 +1,5 @@
 -- The tree of files that the lines of a script name, and the first line that is refused.
-use Rattle.std.specs.Prelude.{ℕ, ◌+◌, ◌-◌, ◌≡◌, ◌≤◌, ◌||◌, nat_lt, if◌then◌else◌, Bool, true, false, not, List, [], ◌∷◌, length, All}
+use Rattle.std.specs.Prelude.{ℕ, ◌+◌, ◌-◌, ◌^◌, ◌≡◌, ◌<◌, ◌≤◌, ◌||◌, nat_lt, if◌then◌else◌, Bool, true, false, not, List, [], ◌∷◌, length, All}
 use Rattle.std.specs.Prelude.{Option, Some, None, is_some, option_map, Result, Ok, Err}
 use Rattle.std.specs.Result.{result_ok, result_err}
 use Rattle.adb_files.specs.declared.file.File.{File}
@@ -67,9 +67,12 @@ first_bad script = result_err (read script)
 abbrev pub tree_of : List ℕ → Option (List Entry)
 tree_of script = option_map (λ (tree : Tree). tree.files) (result_ok (read script))
 
--- a file that a line may name: a path of at most 1,000 bytes, and a mode of a regular file
-abbrev pub IsNamed : Entry → Type 0
-IsNamed entry = (length entry.path ≤ MAX_WORD) × (MIN_MODE ≤ entry.file.mode) × (entry.file.mode ≤ MAX_MODE)
+-- a file that a line may name: a path of at most 1,000 bytes, a mode of a regular file, and a time of 32 bits
+pub record IsNamed (entry : Entry) : Type 0 where
+  pub path : length entry.path ≤ MAX_WORD
+  pub least : MIN_MODE ≤ entry.file.mode
+  pub most : entry.file.mode ≤ MAX_MODE
+  pub mtime : entry.file.mtime < 2 ^ 32
 
 -- files that a script may name
 pub record AreNamed (files : List Entry) : Type 0 where

@@ -61,7 +61,7 @@ impl Tree {
 
     /// The files.
     pub fn into_files(self) -> Files
-        ensures { result ≡ self.old.files }
+        ensures { result ≡ self.files }
     {
         self.files
     }

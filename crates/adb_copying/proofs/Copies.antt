@@ -1,0 +1,42 @@
+-- A tree that went to a device without files and came back.
+use Rattle.std.proofs.Common.{ℕ, ◌+◌, ◌≡◌, ◌≤◌, List, [], length, Option, Some, refl, sym, ◌∙◌, ap, subst, arith}
+use Rattle.std.specs.Prelude.{All}
+use Rattle.std.proofs.lemmas.List.Elements.{All-cons, All-head, All-nil, All-tail}
+use Rattle.adb_files.specs.Entries.{Entry}
+use Rattle.adb_world.specs.Parts.{most_sessions}
+use Rattle.adb_copy.specs.Pulling.{directories}
+use Rattle.adb_copy.specs.Trees.{AreCopied, IsCopied, Pushed, all_pushed, pushed}
+use Rattle.adb_trees.specs.Trees.{AreNamed, IsNamed}
+use Rattle.adb_copying.proofs.Rooms.{directories_few}
+
+-- what a device without files holds behind a push is the tree
+pub pushed_whole : (old new tree : List Entry) → old ≡ [] → pushed [] tree ≡ all_pushed tree → pushed old tree ≡ all_pushed new → new ≡ tree
+pushed_whole old new tree none all is =
+    let same : all_pushed new ≡ all_pushed tree = sym is ∙ (ap (λ (files : List Entry). pushed files tree) none ∙ all) in
+    ap (λ (p : Pushed). p.files) same
+
+-- files that a script names are such as can be copied
+is_copied : (entry : Entry) → IsNamed entry → IsCopied entry
+is_copied entry is = (is.path, is.least, is.most)
+
+all_copied : (files : List Entry) → All IsNamed files → AreCopied files
+all_copied [] all = All-nil IsCopied
+all_copied (entry ∷ files) all =
+    All-cons IsCopied entry files (is_copied entry (All-head IsNamed entry files all)) (all_copied files (All-tail IsNamed entry files all))
+
+pub are_copied : (tree : List Entry) → AreNamed tree → AreCopied tree
+are_copied tree named = all_copied tree named.each
+
+pub left_copied : (files tree : List Entry) → files ≡ tree → AreNamed tree → AreCopied files
+left_copied files tree same named = subst AreCopied (sym same) (are_copied tree named)
+
+pub push_room : (given : ℕ) (tree : List Entry) → given ≡ 0 → AreNamed tree → given + length tree ≤ most_sessions
+push_room given tree new named = let few = named.few in omega (arith, new, few)
+
+pub pull_room : (given : ℕ) (files tree : List Entry) → given ≡ length tree → files ≡ tree → AreNamed tree
+    → given + (length files + length (directories files)) ≤ most_sessions
+pull_room given files tree is same named =
+    let few = named.few in
+    let size = ap (λ (fs : List Entry). length fs) same in
+    let listed = ap (λ (fs : List Entry). length (directories fs)) same in
+    omega (arith, is, size, listed, few, directories_few tree named)
