@@ -83,5 +83,8 @@ fn number_within(word: &[u8], least: u32, most: u32) -> Option<u32>
     ensures { result ≡ number_within least most word.now }
 {
     let number = read_number(word, DIGITS)?;
-    (u128::from(least) <= number && number <= u128::from(most)).then_some(number as u32)
+    if number < u128::from(least) || number > u128::from(most) {
+        return None;
+    }
+    Some(number as u32)
 }
