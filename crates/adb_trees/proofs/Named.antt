@@ -5,7 +5,7 @@ use Rattle.std.specs.Prelude.{All, nat_le, option_and_then, option_map}
 use Rattle.std.specs.declared.cmp.Ordering.{Ordering}
 use Rattle.std.specs.declared.cmp.Ordering.TheVariants.{Less, Equal, Greater}
 use Rattle.std.specs.Ordering.{is_lt}
-use Rattle.std.specs.Result.{result_ok}
+use Rattle.std.specs.List.{before_first}
 use Rattle.std.proofs.lemmas.Bool.Decides.{nat_tests}
 use Rattle.std.proofs.lemmas.List.{length-append}
 use Rattle.std.proofs.lemmas.List.Elements.{All-nil}
@@ -17,7 +17,7 @@ use Rattle.adb_files.specs.Paths.{path_cmp}
 use Rattle.adb_files.proofs.Order.{greater_back}
 use Rattle.adb_files.proofs.Rising.{all-with}
 use Rattle.adb_script.specs.Lines.{is_word, words_of}
-use Rattle.adb_script.specs.Script.{is_too_far, lines_of}
+use Rattle.adb_script.specs.Script.{is_newline, is_too_far, lines_of}
 use Rattle.adb_script.specs.declared.script.TheConstants.{MAX_LINES}
 use Rattle.adb_script.specs.declared.word.TheConstants.{MAX_WORD}
 use Rattle.adb_trees.specs.declared.line.FileLine.{FileLine}
@@ -125,7 +125,7 @@ module _ (lines end : ℕ) (tree : Tree) (line : List ℕ) (old : Names lines tr
   by_line (Some named) next says within e = go (is_refused tree named) e
     where
       is : IsLine named
-      is = by_words _ named says
+      is = by_words (words_of (before_first is_newline line)) named says
 
       go : (t : Bool) → cond t None (Some (with_line tree named)) ≡ Some next → Names (lines + 1) next.files
       go true e = absurd (let clash : None ≡ Some next = e in cc)
@@ -146,13 +146,13 @@ all_from [] number before tree final old e =
     let same : tree ≡ final = (let both : ◌≡◌ {A = Result Tree ℕ} (Ok tree) (Ok final) = e in cc) in
     subst (λ (t : Tree). AreNamed t.files) same (record { each = old.each; few = (let few = old.few in let within = old.within in omega (arith, few, within)) })
 all_from (line ∷ lines) number before tree final old e =
-    go (behind_line (number + 1) (before + length line) tree line) refl e
+    go (behind_line (number + 1) (before + length line) tree line) refl (λ next. all_from lines (number + 1) (before + length line) next final) e
   where
     go : (o : Option Tree) → behind_line (number + 1) (before + length line) tree line ≡ o
+        → ((next : Tree) → Names (number + 1) next.files → reads_from (number + 1 + 1) (before + length line) next lines ≡ Ok final → AreNamed final.files)
         → then_reads (number + 1) o (λ next. reads_from (number + 1 + 1) (before + length line) next lines) ≡ Ok final → AreNamed final.files
-    go None is e = absurd (let clash : ◌≡◌ {A = Result Tree ℕ} (Err (number + 1)) (Ok final) = e in cc)
-    go (Some next) is e =
-        all_from lines (number + 1) (before + length line) next final (next_named number (before + length line) tree line old next is) e
+    go None is more e = absurd (let clash : ◌≡◌ {A = Result Tree ℕ} (Err (number + 1)) (Ok final) = e in cc)
+    go (Some next) is more e = more next (next_named number (before + length line) tree line old next is) e
 
 pub all_named_few : (script : List ℕ) (tree : Tree) → read script ≡ Ok tree → AreNamed tree.files
 all_named_few script tree is =

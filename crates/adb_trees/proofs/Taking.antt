@@ -11,7 +11,7 @@ use Rattle.adb_script.specs.Pattern.{pattern}
 use Rattle.adb_script.proofs.Patterns.{length_pattern}
 use Rattle.adb_trees.specs.declared.line.FileLine.{FileLine}
 use Rattle.adb_trees.specs.declared.tree.TheConstants.{MAX_TREE}
-use Rattle.adb_trees.specs.Trees.{Tree, Puts, Takes, behind, file_of, is_refused, with_line}
+use Rattle.adb_trees.specs.Trees.{Tree, Puts, PutsLine, Takes, behind, file_of, is_refused, with_line}
 
 by_name : (form named large refused : Bool) → (named || large) ≡ true → (not form || named || large || refused) ≡ true
 by_name true true large refused is = refl
@@ -62,7 +62,47 @@ module _ (tree : Tree) (line : FileLine) where
       by_none (is_path line.path) named large (is_some refusal) (granted tree.files line.path line.size put).form free (ap is_some put) in
       ap (λ (t : Bool). cond t None (Some (with_line tree line))) none ∙ ap Some (sym is)
 
--- so many bytes are those of the file of a line
-pub size_put : (files : List Entry) (line : FileLine) (o : Option FileError) → put_refusal files line.path (length (file_of line).bytes) ≡ o
-    → put_refusal files line.path line.size ≡ o
-size_put files line o is = ap (put_refusal files line.path) (sym (length_pattern 0 line.size)) ∙ is
+-- ---- the file of a line is put
+abbrev with_bytes : FileLine → List ℕ → File
+with_bytes line bytes = record { mode = line.mode; mtime = line.mtime; bytes = bytes }
+
+size_put : (files : List Entry) (line : FileLine) → put_refusal files line.path line.size ≡ put_refusal files line.path (length (file_of line).bytes)
+size_put files line = ap (put_refusal files line.path) (sym (length_pattern 0 line.size))
+
+by_size : (put : Bool) (line : FileLine) (old new : List Entry) → Puts put line.path (file_of line) old new → PutsLine put line old new
+by_size true line old new p = (size_put old line ∙ p.0, p.1)
+by_size false line old new p = (ap is_some (size_put old line) ∙ p.0, p.1)
+
+pub puts_line : (put : Bool) (line : FileLine) (path bytes : List ℕ) (old new : List Entry) → path ≡ line.path → bytes ≡ pattern 0 line.size
+    → Puts put path (with_bytes line bytes) old new → PutsLine put line old new
+puts_line put line path bytes old new at is p =
+    by_size put line old new
+    (subst (λ (bs : List ℕ). Puts put line.path (with_bytes line bs) old new) is
+    (subst (λ (q : List ℕ). Puts put q (with_bytes line bytes) old new) at p))
+
+module _ (files new : List Entry) (size : ℕ) (line : FileLine) where
+  abbrev tree_before : Tree
+  tree_before = record { files = files; size = size }
+
+  pub line_refused : (put : Bool) → put ≡ false → PutsLine put line files new
+      → Takes false (behind tree_before (Some line)) tree_before (record { files = new; size = size })
+  line_refused put is p =
+      let no_put = subst (λ (b : Bool). PutsLine b line files new) is p in
+      refused_put tree_before line (record { files = new; size = size }) no_put.0 (ap (λ (fs : List Entry). record { files = fs; size = size }) no_put.1)
+
+  pub line_taken : (put : Bool) → put ≡ true → PutsLine put line files new → is_some (file_at line.path files) ≡ false
+      → nat_lt MAX_TREE (size + line.size) ≡ false
+      → Takes true (behind tree_before (Some line)) tree_before (record { files = new; size = size + line.size })
+  line_taken put is p free room =
+      let done = subst (λ (b : Bool). PutsLine b line files new) is p in
+      taken tree_before line (record { files = new; size = size + line.size })
+      (ap (λ (t : Bool). t || nat_lt MAX_TREE (size + line.size)) free ∙ room) done.0
+      (ap (λ (fs : List Entry). record { files = fs; size = size + line.size }) done.1)
+
+pub not_true : (b : Bool) → not b ≡ true → b ≡ false
+not_true true e = absurd (cc)
+not_true false e = refl
+
+pub not_false : (b : Bool) → not b ≡ false → b ≡ true
+not_false true e = refl
+not_false false e = absurd (cc)

@@ -90,6 +90,11 @@ abbrev pub Puts : Bool → List ℕ → File → (old new : List Entry) → Type
 Puts true path file old new = (put_refusal old path (length file.bytes) ≡ None) × (new ≡ with_file path file old)
 Puts false path file old new = (is_some (put_refusal old path (length file.bytes)) ≡ true) × (new ≡ old)
 
+-- The same of the file of a line.
+abbrev pub PutsLine : Bool → FileLine → (old new : List Entry) → Type 0
+PutsLine true line old new = (put_refusal old line.path line.size ≡ None) × (new ≡ with_file line.path (file_of line) old)
+PutsLine false line old new = (is_some (put_refusal old line.path line.size) ≡ true) × (new ≡ old)
+
 -- So many lines were read: with what is left of the script their tree becomes what the whole script says.
 pub record Reads (script rest : List ℕ) (lines : ℕ) (tree : Tree) : Type 0 where
   pub so : reads_from (lines + 1) (length script - length rest) tree (lines_of rest) ≡ read script

@@ -3,7 +3,7 @@
 ghost use Rattle.std.specs.Prelude.{◌≡◌, ◌+◌, ◌^◌, ◌<◌, length, nat_lt, is_some, Some, IfOk};
 ghost use Rattle.adb_files.specs.Files.{file_at};
 ghost use Rattle.adb_trees.specs.Lines.{line_of};
-ghost use Rattle.adb_trees.specs.Trees.{Puts, Takes, behind, no_tree};
+ghost use Rattle.adb_trees.specs.Trees.{Puts, PutsLine, Takes, behind, no_tree};
 ghost use Rattle.adb_trees.specs.declared.tree.TheConstants.{MAX_TREE};
 
 use crate::line::{FileLine, read_line};
@@ -74,12 +74,7 @@ impl Tree {
         if self.has(line.path.as_slice()) || self.is_too_much(line.size) {
             return Ok(false);
         }
-        let file = File {
-            mode: line.mode,
-            mtime: line.mtime,
-            bytes: pattern(self.alloc, 0, line.size)?,
-        };
-        if !put(&mut self.files, line.path.as_slice(), file)? {
+        if !put_line(self.alloc, &mut self.files, line)? {
             return Ok(false);
         }
         self.size += line.size;
@@ -99,6 +94,23 @@ impl Tree {
     {
         size > MAX_TREE - self.size
     }
+}
+
+/// Puts the file of a line; `false` where it is refused.
+fn put_line(
+    alloc: Global,
+    files: &mut Files,
+    line: &FileLine<'_>,
+) -> Result<bool, AllocError>
+    ensures { IfOk result (λ put. PutsLine put line.now files.old files.new) }
+{
+    let file = File {
+        mode: line.mode,
+        mtime: line.mtime,
+        bytes: pattern(alloc, 0, line.size)?,
+    };
+    let done = put(files, line.path.as_slice(), file)?;
+    Ok(done)
 }
 
 /// Puts a file; `false` where it is refused.
