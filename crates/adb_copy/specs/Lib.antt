@@ -1,3 +1,4 @@
 pub mod Trees
 pub mod Worlds
+pub mod Pushing
 pub mod Pulling

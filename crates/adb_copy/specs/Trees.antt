@@ -1,8 +1,15 @@
 -- Trees of files, and what a device makes of one that is pushed.
-use Rattle.std.specs.Prelude.{ℕ, ◌≤◌, List, [], ◌∷◌, length, All, Option, Some, None}
+use Rattle.std.specs.Prelude.{ℕ, ◌≤◌, List, [], ◌∷◌, length, All, Option, Some, None, ⊤}
+use Rattle.adb_files.specs.declared.file.File.{File}
 use Rattle.adb_files.specs.declared.file.FileError.{FileError}
 use Rattle.adb_files.specs.Entries.{Entry}
 use Rattle.adb_files.specs.Files.{put_refusal, refusal_text, with_file}
+use Rattle.adb_sync_client.specs.declared.step.Step.{Step}
+use Rattle.adb_sync_client.specs.declared.step.Step.TheVariants as steps
+
+-- a file at a path
+abbrev pub entry_of : List ℕ → File → Entry
+entry_of path file = record { path = path; file = file }
 
 -- a file that can be copied: a path of at most 1,000 bytes, and the mode of a regular file with its lowest nine bits
 abbrev pub IsCopied : Entry → Type 0
@@ -27,10 +34,20 @@ all_pushed files = record { files = files; refused = None }
 abbrev pub refused_at : List Entry → List ℕ → List ℕ → Pushed
 refused_at files path text = record { files = files; refused = Some (record { path = path; text = text }) }
 
+-- a file stored, and then what follows it; or refused, and nothing follows
+abbrev pub pushed_by : Option FileError → List Entry → Entry → (List Entry → Pushed) → Pushed
+pushed_by None files entry more = more (with_file entry.path entry.file files)
+pushed_by (Some refusal) files entry more = refused_at files entry.path (refusal_text refusal)
+
 -- the files with those of a tree, in their order, up to the first that is refused
 abbrev pub pushed : List Entry → List Entry → Pushed
-abbrev pub pushed_by : Option FileError → List Entry → Entry → List Entry → Pushed
 pushed files [] = all_pushed files
-pushed files (entry ∷ more) = pushed_by (put_refusal files entry.path (length entry.file.bytes)) files entry more
-pushed_by None files entry more = pushed (with_file entry.path entry.file files) more
-pushed_by (Some refusal) files entry more = refused_at files entry.path (refusal_text refusal)
+pushed files (entry ∷ left) =
+    pushed_by (put_refusal files entry.path (length entry.file.bytes)) files entry (λ stored. pushed stored left)
+
+-- the answer to a SEND says that the file is stored, or that it is refused
+abbrev pub HasAnswered : Step ⊤ → Type 0
+HasAnswered steps.More = ⊥
+HasAnswered (steps.Done done) = Unit {0}
+HasAnswered (steps.Refused text) = Unit {0}
+HasAnswered (steps.BadAnswer offset) = ⊥

@@ -1,1 +1,36 @@
 //! What holds of all trees. Each function does nothing: its contract is the law.
+
+ghost use Rattle.std.specs.Option.{option_or};
+ghost use Rattle.std.specs.Prelude.{◌≡◌, ◌<◌, ◌^◌, [], List, ℕ, length};
+ghost use Rattle.adb_copy.specs.Trees.{IsCopied, all_pushed, pushed};
+ghost use Rattle.adb_files.specs.Entries.{Entry};
+ghost use Rattle.adb_files.specs.Files.{IsFileMap, file_at, put_refusal};
+ghost use Rattle.adb_files.specs.Served.{send_by, served};
+ghost use Rattle.adb_sync_client.specs.Texts.{push_text};
+
+/// A device without files takes any tree: no file of it is refused, and behind the push the device's
+/// files are the tree.
+#[tactic(auto, using(crate::proofs::Fitting::all_taken))]
+pub fn new_devices_take_any_tree()
+    ensures { (tree : List Entry) → IsFileMap tree → pushed [] tree ≡ all_pushed tree }
+{}
+
+/// Where no file of a tree was refused, the device has at each path the file of the tree, mode, time
+/// and bytes alike, and at a path that the tree does not have what it had before.
+#[tactic(auto, using(crate::proofs::InPlace::are_in_place))]
+pub fn pushed_files_are_in_place()
+    ensures { (tree files new : List Entry) → IsFileMap tree → pushed files tree ≡ all_pushed new
+        → (path : List ℕ)
+        → file_at path new ≡ option_or (file_at path tree) (file_at path files) }
+{}
+
+/// What a device is sent for a file is served as one SEND, with its mode and time: the file is stored,
+/// or refused as a put of it is.
+#[tactic(auto, using(crate::proofs::Sent::sent_by))]
+pub fn files_are_sent_whole()
+    ensures { (files : List Entry) (entry : Entry) → IsCopied entry → entry.file.mtime < 2 ^ 32
+        → served files
+        (push_text entry.path entry.file.mode entry.file.mtime entry.file.bytes)
+        ≡ send_by files entry.path entry.file
+        (put_refusal files entry.path (length entry.file.bytes)) }
+{}

@@ -6,7 +6,10 @@ mod error;
 mod laws;
 mod pulling;
 mod pushing;
+mod seeds;
+mod sending;
 
 pub use error::CopyError;
+pub use laws::{files_are_sent_whole, new_devices_take_any_tree, pushed_files_are_in_place};
 pub use pulling::pull_tree;
 pub use pushing::push_tree;

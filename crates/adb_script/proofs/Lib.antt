@@ -2,6 +2,6 @@ pub mod Cutting
 mod FirstBad
 pub mod Patterns
 mod Printed
-mod Requests
+pub mod Requests
 mod Stored
 mod Worked

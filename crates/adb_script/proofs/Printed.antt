@@ -1,5 +1,5 @@
 -- What pushes and pulls print.
-use Rattle.std.proofs.Common.{ℕ, ◌^◌, ◌≡◌, ◌<◌, ◌≤◌, List, ◌++◌, length, Option, Some, None, refl, ◌∙◌, ap}
+use Rattle.std.proofs.Common.{ℕ, ◌^◌, ◌≡◌, ◌<◌, ◌≤◌, List, ◌++◌, length, Option, Some, None, refl, ◌∙◌, ap, arith}
 use Rattle.adb_sync.specs.declared.answer.SyncAnswer.TheVariants as answers
 use Rattle.adb_sync.specs.Answers.{answer_bytes}
 use Rattle.adb_sync.specs.Chunk.{chunk_bytes}
@@ -8,26 +8,17 @@ use Rattle.adb_sync_client.specs.declared.step.Step.TheVariants as steps
 use Rattle.adb_sync_client.specs.Values.{push_value, pull_value}
 use Rattle.adb_files.specs.declared.file.File.{File}
 use Rattle.adb_files.specs.declared.file.FileError.{FileError}
-use Rattle.adb_files.specs.declared.file.FileError.TheVariants as refusals
 use Rattle.adb_files.specs.Entries.{Entry}
 use Rattle.adb_files.specs.Files.{refusal_text, put_refusal, read_refusal, file_at}
-use Rattle.adb_files.specs.Served.{Served, fail_bytes, recv_by, send_by}
+use Rattle.adb_files.specs.Served.{Served, recv_by, send_by}
 use Rattle.adb_script.specs.Answers.{Answered, line_answer, exchange, pushed_line, pulled_line}
 use Rattle.adb_script.specs.Lines.{Asks, Pulls, Pushes}
 use Rattle.adb_script.specs.Meanings.{pushed_file, pushed_by, pulled_by, pulled_text}
 use Rattle.adb_script.specs.Pattern.{pattern}
 use Rattle.adb_script.proofs.Patterns.{length_pattern}
-use Rattle.adb_script.proofs.Requests.{push_served, pull_served}
+use Rattle.adb_script.proofs.Requests.{push_refused, push_served, pull_refused, pull_served}
 
 -- ---- a push
-push_refused : (refusal : FileError) → push_value (fail_bytes (refusal_text refusal)) ≡ steps.Refused (refusal_text refusal)
-push_refused refusals.BadPath = refl
-push_refused refusals.IsDirectory = refl
-push_refused refusals.NotDirectory = refl
-push_refused refusals.NoSpace = refl
-push_refused refusals.NoFile = refl
-push_refused refusals.OutOfMemory = refl
-
 -- what a push prints by what was served
 abbrev push_line_of : List ℕ → ℕ → Served → Answered
 push_line_of path size s = record { files = s.files; text = pushed_line path size (push_value s.answer) }
@@ -41,19 +32,11 @@ pushed_as files number path size (Some refusal) =
 pub push_printed : (files : List Entry) (number size : ℕ) (path : List ℕ) → length path ≤ 1000 → number < 2 ^ 32
     → line_answer files number (Asks (Pushes path size)) ≡ pushed_by files number path size (put_refusal files path size)
 push_printed files number size path short time =
-    ap (push_line_of path size) (push_served files path (pattern 0 size) number short time)
+    ap (push_line_of path size) (push_served 33188 (omega arith) (omega arith) files path (pattern 0 size) number short time)
     ∙ (ap (λ (n : ℕ). push_line_of path size (send_by files path (pushed_file number size) (put_refusal files path n))) (length_pattern 0 size)
     ∙ pushed_as files number path size (put_refusal files path size))
 
 -- ---- a pull
-pull_refused : (refusal : FileError) → pull_value (fail_bytes (refusal_text refusal)) ≡ steps.Refused (refusal_text refusal)
-pull_refused refusals.BadPath = refl
-pull_refused refusals.IsDirectory = refl
-pull_refused refusals.NotDirectory = refl
-pull_refused refusals.NoSpace = refl
-pull_refused refusals.NoFile = refl
-pull_refused refusals.OutOfMemory = refl
-
 -- the chunks of a file are read as its bytes
 abbrev pub Reads : Type 0
 Reads = (bytes : List ℕ) → pull_value (chunk_bytes bytes ++ answer_bytes answers.ChunkEnd) ≡ steps.Done bytes
