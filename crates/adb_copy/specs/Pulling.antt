@@ -1,7 +1,11 @@
--- The directories of a device, which are listed where its files are pulled.
-use Rattle.std.specs.Prelude.{ℕ, ◌==◌, if◌then◌else◌, not, List, [], ◌∷◌, ◌++◌, drop, filter, fold, codes, bytes_eq}
-use Rattle.std.specs.List.{list_any}
+-- What is asked for where the files of a device are pulled: its directories, and then its files, whose times are spelled in 32 bits.
+use Rattle.std.specs.Prelude.{ℕ, ◌^◌, ◌==◌, ◌<◌, if◌then◌else◌, List, [], ◌∷◌, ◌++◌, drop, All, codes, bytes_eq}
+use Rattle.std.specs.List.{flat_map, list_any}
 use Rattle.adb_files.specs.Entries.{Entry}
+
+-- the time of each file is one of 32 bits, as all that a device stores
+abbrev pub HaveTimes : List Entry → Type 0
+HaveTimes files = All (λ (entry : Entry). entry.file.mtime < 2 ^ 32) files
 
 -- the directories that a path leads through behind its first bytes
 abbrev pub leading_behind : List ℕ → List ℕ → List (List ℕ)
@@ -13,10 +17,11 @@ leading_behind front (byte ∷ more) =
 abbrev pub leading : List ℕ → List (List ℕ)
 leading path = leading_behind (codes "/") (drop 1 path)
 
--- with those in which one more file lies, each once
-abbrev pub with_leading : List (List ℕ) → Entry → List (List ℕ)
-with_leading found entry = found ++ filter (λ path. not (list_any (λ other. bytes_eq other path) found)) (leading entry.path)
+-- each of some paths once
+abbrev pub each_once : List (List ℕ) → List (List ℕ)
+each_once [] = []
+each_once (path ∷ more) = if list_any (bytes_eq path) more then each_once more else path ∷ each_once more
 
 -- the root, and all directories in which files lie
 abbrev pub directories : List Entry → List (List ℕ)
-directories files = fold with_leading (codes "/" ∷ []) files
+directories files = each_once (codes "/" ∷ flat_map (λ (entry : Entry). leading entry.path) files)

@@ -1,8 +1,9 @@
 //! What holds of all trees. Each function does nothing: its contract is the law.
 
 ghost use Rattle.std.specs.Option.{option_or};
-ghost use Rattle.std.specs.Prelude.{◌≡◌, ◌<◌, ◌^◌, [], List, ℕ, length};
-ghost use Rattle.adb_copy.specs.Trees.{IsCopied, all_pushed, pushed};
+ghost use Rattle.std.specs.Prelude.{◌≡◌, ◌<◌, ◌≤◌, ◌+◌, ◌*◌, ◌^◌, [], List, ℕ, length};
+ghost use Rattle.adb_copy.specs.Pulling.{directories};
+ghost use Rattle.adb_copy.specs.Trees.{AreCopied, IsCopied, all_pushed, pushed};
 ghost use Rattle.adb_files.specs.Entries.{Entry};
 ghost use Rattle.adb_files.specs.Files.{IsFileMap, file_at, put_refusal};
 ghost use Rattle.adb_files.specs.Served.{send_by, served};
@@ -33,4 +34,11 @@ pub fn files_are_sent_whole()
         (push_text entry.path entry.file.mode entry.file.mtime entry.file.bytes)
         ≡ send_by files entry.path entry.file
         (put_refusal files entry.path (length entry.file.bytes)) }
+{}
+
+/// Files lie in few directories: the root, and at most 500 for each of them.
+#[tactic(auto, using(crate::proofs::PullDirectories::few_directories))]
+pub fn directories_are_few()
+    ensures { (files : List Entry) → IsFileMap files → AreCopied files
+        → length (directories files) ≤ 1 + 500 * length files }
 {}

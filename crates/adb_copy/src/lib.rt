@@ -2,7 +2,9 @@
 //! back.
 #![tactic(auto)]
 
+mod asking;
 mod error;
+mod found;
 mod laws;
 mod pulling;
 mod pushing;
@@ -10,6 +12,8 @@ mod seeds;
 mod sending;
 
 pub use error::CopyError;
-pub use laws::{files_are_sent_whole, new_devices_take_any_tree, pushed_files_are_in_place};
+pub use laws::{
+    directories_are_few, files_are_sent_whole, new_devices_take_any_tree, pushed_files_are_in_place,
+};
 pub use pulling::pull_tree;
 pub use pushing::push_tree;

@@ -1,27 +1,174 @@
 //! Pulling the files of the device.
 
-ghost use Rattle.std.specs.Prelude.{◌≡◌, ◌+◌, ◌≤◌, true, length, IfOk, IsErr, OnOk, OnErr};
-ghost use Rattle.adb_copy.specs.Pulling.{directories};
+ghost use Rattle.std.specs.Prelude.{◌≡◌, ◌+◌, ◌<◌, ◌≤◌, ◌++◌, ◌∷◌, [], true, false, length, map, None, IfOk, IsErr, OnOk};
+ghost use Rattle.adb_files.specs.Files.{IsFileMap, put_refusal, with_file};
+ghost use Rattle.adb_files.specs.Listing.{listing};
+ghost use Rattle.adb_copy.specs.Pulled.{Pulls, PullsAtMost};
+ghost use Rattle.adb_copy.specs.Pulling.{HaveTimes, directories};
 ghost use Rattle.adb_copy.specs.Trees.{AreCopied};
-ghost use Rattle.adb_copy.specs.Worlds.{Syncs};
+ghost use Rattle.adb_copy.specs.Waiting.{IsFile, Walks, found_in, owed};
 ghost use Rattle.adb_world.specs.Parts.{most_sessions};
+ghost use Rattle.adb_copy.specs.Worlds.{Syncs};
 
-use adb_files::Files;
+use crate::asking::{list, pull};
+use crate::found::Found;
+use crate::seeds::next_seed;
+use adb_files::{File, FileError, Files};
+use adb_sync::Dirent;
 use adb_world::World;
+use rand_core::SeedableRng;
+use rand_pcg::Pcg32;
 use std::alloc::{AllocError, Global};
 
-/// The files of the world's device, asked for as a client does: a session of its own lists each
-/// directory, and one pulls each file. They stay as they are.
+/// The files of the world's device, asked for as a client does, each time by a session of its own:
+/// a LIST of the root and of each directory that a listing tells of, and a RECV of each file. They
+/// come back entry for entry, and stay as they are. All that was started has to have settled, and
+/// the time of a file has 32 bits, as each that a device stores. After want of memory the world is
+/// spent, or only some sessions were given.
 pub fn pull_tree(alloc: Global, world: &mut World, seed: u64) -> Result<Files, AllocError>
     requires settled { world.old.settled ≡ true }
     requires files { AreCopied world.old.files }
+    requires times { HaveTimes world.old.files }
     requires room { world.old.given
         + (length world.old.files + length (directories world.old.files)) ≤ most_sessions }
     ensures tree { IfOk result (λ tree. tree ≡ world.old.files) }
     ensures files { OnOk result (world.new.files ≡ world.old.files) }
     ensures syncs { OnOk result (Syncs
         (length world.old.files + length (directories world.old.files)) world.old world.new) }
+    ensures left { world.new.spent ≡ false → PullsAtMost
+        (length world.old.files + length (directories world.old.files)) world.old world.new }
     ensures stays { world.old.spent ≡ true → IsErr result × (world.new ≡ world.old) }
 {
-    Err(AllocError)
+    look_at_files(world);
+    let mut words = Pcg32::seed_from_u64(seed);
+    let mut tree = Files::new(alloc);
+    let mut pending = Vec::new(alloc);
+    let root = Found::root(alloc)?;
+    pending.push(root)?;
+    while let Some(found) = pending.pop() {
+        let seed = next_seed(&mut words);
+        visit(alloc, world, seed, found, &mut pending, &mut tree)?;
+    }
+    Ok(tree)
+}
+
+/// The files of the device are a map. None of them is read.
+fn look_at_files(world: &World)
+    ensures { IsFileMap world.now.files }
+{
+    let _root = world.files().get(b"/");
+}
+
+/// Lists a directory that was found, or pulls a file.
+fn visit(
+    alloc: Global,
+    world: &mut World,
+    seed: u64,
+    found: Found,
+    pending: &mut Vec<Found>,
+    tree: &mut Files,
+) -> Result<(), AllocError>
+    requires settled { world.old.settled ≡ true }
+    requires map { IsFileMap world.old.files }
+    requires files { AreCopied world.old.files }
+    requires times { HaveTimes world.old.files }
+    requires walks { Walks world.old.files (pending.old.items ++ found ∷ []) tree.old }
+    requires room { world.old.given
+        + owed world.old.files (pending.old.items ++ found ∷ []) ≤ most_sessions }
+    ensures walks { OnOk result (Walks world.old.files pending.new.items tree.new) }
+    ensures owed { OnOk result (owed world.old.files (pending.old.items ++ found ∷ [])
+        ≡ owed world.old.files pending.new.items + 1) }
+    ensures pulls { OnOk result (Pulls 1 world.old world.new) }
+    ensures left { world.new.spent ≡ false → PullsAtMost 1 world.old world.new }
+    ensures stays { world.old.spent ≡ true → IsErr result × (world.new ≡ world.old) }
+{
+    if found.is_directory() {
+        list_found(alloc, world, seed, &found, pending)?;
+        Ok(())
+    } else {
+        pull_found(alloc, world, seed, &found, tree)?;
+        Ok(())
+    }
+}
+
+/// Lists a directory that was found.
+fn list_found(
+    alloc: Global,
+    world: &mut World,
+    seed: u64,
+    found: &Found,
+    pending: &mut Vec<Found>,
+) -> Result<(), AllocError>
+    requires settled { world.old.settled ≡ true }
+    requires room { world.old.given < most_sessions }
+    requires map { IsFileMap world.old.files }
+    requires files { AreCopied world.old.files }
+    requires times { HaveTimes world.old.files }
+    requires short { length found.now.path ≤ 1000 }
+    ensures entries { OnOk result (pending.new.items ≡ pending.old.items
+        ++ map (found_in found.now.path) (listing found.now.path world.old.files)) }
+    ensures pulls { OnOk result (Pulls 1 world.old world.new) }
+    ensures left { world.new.spent ≡ false → PullsAtMost 1 world.old world.new }
+    ensures stays { world.old.spent ≡ true → IsErr result × (world.new ≡ world.old) }
+{
+    let directory = found.path.as_slice();
+    let entries = list(alloc, world, seed, directory)?;
+    add_entries(alloc, pending, directory, entries.as_slice())?;
+    Ok(())
+}
+
+/// Pulls a file that was found into a tree that does not refuse it.
+fn pull_found(
+    alloc: Global,
+    world: &mut World,
+    seed: u64,
+    found: &Found,
+    tree: &mut Files,
+) -> Result<(), AllocError>
+    requires settled { world.old.settled ≡ true }
+    requires room { world.old.given < most_sessions }
+    requires map { IsFileMap world.old.files }
+    requires short { length found.now.path ≤ 1000 }
+    requires there { IsFile world.old.files found.now }
+    requires granted { (is : IsFile world.old.files found.now)
+        → put_refusal tree.old found.now.path (length is.file.bytes) ≡ None }
+    ensures put { (is : IsFile world.old.files found.now)
+        → OnOk result (tree.new ≡ with_file found.now.path is.file tree.old) }
+    ensures pulls { OnOk result (Pulls 1 world.old world.new) }
+    ensures left { world.new.spent ≡ false → PullsAtMost 1 world.old world.new }
+    ensures stays { world.old.spent ≡ true → IsErr result × (world.new ≡ world.old) }
+{
+    let file = pull(alloc, world, seed, found)?;
+    put(tree, found.path.as_slice(), file)?;
+    Ok(())
+}
+
+/// Adds what the entries of a directory tell.
+fn add_entries(
+    alloc: Global,
+    pending: &mut Vec<Found>,
+    directory: &[u8],
+    entries: &[Dirent],
+) -> Result<(), AllocError>
+    ensures { OnOk result (pending.new.items
+        ≡ pending.old.items ++ map (found_in directory.now) entries.now) }
+{
+    for entry in entries {
+        let found = Found::in_directory(alloc, directory, entry)?;
+        pending.push(found)?;
+    }
+    Ok(())
+}
+
+/// Puts a file that is not refused at its path.
+fn put(tree: &mut Files, path: &[u8], file: File) -> Result<(), AllocError>
+    requires short { length path.now ≤ 1000 }
+    requires granted { put_refusal tree.old path.now (length file.bytes) ≡ None }
+    ensures { OnOk result (tree.new ≡ with_file path.now file tree.old) }
+{
+    match tree.put(path, file) {
+        Ok(()) => Ok(()),
+        Err(FileError::OutOfMemory) => Err(AllocError),
+        Err(_) => unreachable!(),
+    }
 }
