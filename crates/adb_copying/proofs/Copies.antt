@@ -1,13 +1,12 @@
 -- A tree that went to a device without files and came back.
-use Rattle.std.proofs.Common.{ℕ, ◌+◌, ◌^◌, ◌≡◌, ◌<◌, ◌≤◌, List, [], length, Option, Some, refl, sym, ◌∙◌, ap, subst, arith}
+use Rattle.std.proofs.Common.{ℕ, ◌+◌, ◌*◌, ◌^◌, ◌≡◌, ◌<◌, ◌≤◌, List, [], length, Option, Some, refl, sym, ◌∙◌, ap, subst, arith}
 use Rattle.std.specs.Prelude.{All}
 use Rattle.std.proofs.lemmas.List.Elements.{All-cons, All-head, All-nil, All-tail}
 use Rattle.adb_files.specs.Entries.{Entry}
 use Rattle.adb_world.specs.Parts.{most_sessions}
 use Rattle.adb_copy.specs.Pulling.{HaveTimes, directories}
-use Rattle.adb_copy.specs.Trees.{AreCopied, IsCopied, Pushed, all_pushed, pushed}
+use Rattle.adb_copy.specs.Trees.{AreCopied, IsCopied, Pushed, all_pushed, pushed, refused_at}
 use Rattle.adb_trees.specs.Trees.{AreNamed, IsNamed}
-use Rattle.adb_copying.proofs.Rooms.{directories_few}
 
 -- what a device without files holds behind a push is the tree
 pub pushed_whole : (old new tree : List Entry) → old ≡ [] → pushed [] tree ≡ all_pushed tree → pushed old tree ≡ all_pushed new → new ≡ tree
@@ -43,9 +42,19 @@ pub push_room : (given : ℕ) (tree : List Entry) → given ≡ 0 → AreNamed t
 push_room given tree new named = let few = named.few in omega (arith, new, few)
 
 pub pull_room : (given : ℕ) (files tree : List Entry) → given ≡ length tree → files ≡ tree → AreNamed tree
-    → given + (length files + length (directories files)) ≤ most_sessions
-pull_room given files tree is same named =
+    → length (directories tree) ≤ 1 + 500 * length tree → given + (length files + length (directories files)) ≤ most_sessions
+pull_room given files tree is same named listed =
     let few = named.few in
     let size = ap (λ (fs : List Entry). length fs) same in
-    let listed = ap (λ (fs : List Entry). length (directories fs)) same in
-    omega (arith, is, size, listed, few, directories_few tree named)
+    let all = ap (λ (fs : List Entry). length (directories fs)) same in
+    omega (arith, is, size, all, few, listed)
+
+-- it refuses none
+pub never_refused : (old new tree : List Entry) (path text : List ℕ) → old ≡ [] → pushed [] tree ≡ all_pushed tree
+    → pushed old tree ≡ refused_at new path text → ⊥
+never_refused old new tree path text none all is =
+    let clash : all_pushed tree ≡ refused_at new path text = sym all ∙ (sym (ap (λ (files : List Entry). pushed files tree) none) ∙ is) in
+    let told = ap (λ (p : Pushed). p.refused) clash in cc
+
+pub given_is : (old new size : ℕ) → old ≡ 0 → new ≡ old + size → new ≡ size
+given_is old new size none is = omega (arith, none, is)

@@ -6,7 +6,9 @@ ghost use Rattle.adb_trees.specs.Shown.{copied_lines, lines_of};
 ghost use Rattle.adb_trees.specs.Trees.{AreNamed, first_bad, tree_of};
 
 use crate::showing::{are_a_map, show_files};
-use adb_copy::{CopyError, new_devices_take_any_tree, pull_tree, push_tree};
+use adb_copy::{
+    CopyError, directories_are_few, new_devices_take_any_tree, pull_tree, push_tree,
+};
 use adb_files::Files;
 use adb_script::{Line, ScriptError};
 use adb_trees::read_tree;
@@ -57,6 +59,8 @@ fn copy_files(
     ensures lines { IfOk result (λ lines. texts_of lines.items ≡ lines_of tree.now) }
     ensures files { OnOk result (world.new.files ≡ tree.now) }
 {
+    directories_are_few();
+    are_a_map(tree);
     push(alloc, world, tree, seed)?;
     let copied = pull_tree(alloc, world, seed)?;
     show_files(alloc, &copied)

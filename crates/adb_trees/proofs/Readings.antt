@@ -2,7 +2,7 @@
 use Rattle.std.proofs.Common.{ℕ, ◌+◌, ◌-◌, ◌≡◌, ◌≤◌, Bool, true, false, cond, List, [], ◌∷◌, length, take, Option, Some, None, Result, Ok, Err}
 use Rattle.std.proofs.Common.{refl, ◌∙◌, ap, sym, arith}
 use Rattle.std.specs.Result.{result_err, result_ok}
-use Rattle.std.specs.Prelude.{option_map}
+use Rattle.std.specs.Prelude.{◌==◌, option_map}
 use Rattle.std.proofs.lemmas.Bool.Decides.{nat_tests}
 use Rattle.std.proofs.lemmas.List.{length-take}
 use Rattle.adb_files.specs.Entries.{Entry}
@@ -65,6 +65,10 @@ pub not_far : (number end : ℕ) → number ≤ MAX_LINES → end ≤ MAX_SCRIPT
 not_far number end few short = grind (arith, nat_tests)
 
 -- ---- all lines were read
+pub no_bytes : (rest : List ℕ) → (length rest == 0) ≡ true → rest ≡ []
+no_bytes [] is = refl
+no_bytes (byte ∷ rest) is = absurd (cc)
+
 module _ (script : List ℕ) (lines : ℕ) (tree : Tree) (all : Reads script [] lines tree) where
   pub read_all : read script ≡ Ok tree
   read_all = sym all.so

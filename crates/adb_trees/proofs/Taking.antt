@@ -98,11 +98,3 @@ module _ (files new : List Entry) (size : ℕ) (line : FileLine) where
       taken tree_before line (record { files = new; size = size + line.size })
       (ap (λ (t : Bool). t || nat_lt MAX_TREE (size + line.size)) free ∙ room) done.0
       (ap (λ (fs : List Entry). record { files = fs; size = size + line.size }) done.1)
-
-pub not_true : (b : Bool) → not b ≡ true → b ≡ false
-not_true true e = absurd (cc)
-not_true false e = refl
-
-pub not_false : (b : Bool) → not b ≡ false → b ≡ true
-not_false true e = refl
-not_false false e = absurd (cc)
