@@ -37,6 +37,8 @@ def spelled(words):
         return MAGIC
     if words[0] == 'Lines' and len(words) == 3:
         return text(words[2]) * int(words[1])
+    if words[0] == 'Line' and len(words) > 2:
+        return piece(words[2:])
     if len(words) == 1:
         return text(words[0])
     if words[0] == 'Record' and len(words) == 4:

@@ -10,7 +10,8 @@ use Rattle.adb_commands.specs.Notes.{usage_line, out_of_memory_line, IsJust, IsL
 use Rattle.adb_commands.specs.Scripts.{IsScriptLine}
 use Rattle.adb_commands.specs.Replay.{EndsAs}
 use Rattle.adb_commands.specs.Run.{IsAtHand, IsReplayLine, IsCheckLine, IsLoadLine}
-use Rattle.adb_commands.specs.Words.{IsNoCommand, IsReplay, IsCheck, IsScript}
+use Rattle.adb_commands.specs.Words.{IsNoCommand, IsReplay, IsCheck, IsOfKind}
+use Rattle.adb_commands.specs.declared.script_kind.ScriptKind.{ScriptKind}
 use Rattle.adb_commands.specs.declared.stop.Stop.{Stop}
 use Rattle.adb_commands.specs.declared.stop.Stop.TheVariants as stop
 use Rattle.adb_commands.specs.declared.status.Status.{Status}
@@ -113,21 +114,21 @@ module _ {A : Type 0} (words : List (String A)) (read_rose write_rose : Type 0) 
   check_hand check TooLarge line is = absurd is
   check_hand check Illegal line is = (check, is)
 
-  script_hand : IsScript words → (s : Status) (line : List ℕ) → IsScriptLine read_rose write_rose left s line → hand s line
-  script_hand script Done line is = absurd is
-  script_hand script Usage line is = absurd is
-  script_hand script ReadFault line is = (inr (inr script), is)
-  script_hand script WriteFault line is = is
-  script_hand script BadCapture line is = absurd is
-  script_hand script OutOfMemory line is = tt
-  script_hand script RecordFault line is = absurd is
-  script_hand script DoorFault line is = absurd is
-  script_hand script BadScript line is = (script, is)
-  script_hand script Refused line is = absurd is
-  script_hand script BadAnswer line is = absurd is
-  script_hand script PortFault line is = absurd is
-  script_hand script TooLarge line is = absurd is
-  script_hand script Illegal line is = absurd is
+  script_hand : (kind : ScriptKind) → IsOfKind kind words → (s : Status) (line : List ℕ) → IsScriptLine kind read_rose write_rose left s line → hand s line
+  script_hand kind script Done line is = absurd is
+  script_hand kind script Usage line is = absurd is
+  script_hand kind script ReadFault line is = (inr (inr (kind, script)), is)
+  script_hand kind script WriteFault line is = is
+  script_hand kind script BadCapture line is = absurd is
+  script_hand kind script OutOfMemory line is = tt
+  script_hand kind script RecordFault line is = absurd is
+  script_hand kind script DoorFault line is = absurd is
+  script_hand kind script BadScript line is = (kind, script, is)
+  script_hand kind script Refused line is = absurd is
+  script_hand kind script BadAnswer line is = absurd is
+  script_hand kind script PortFault line is = absurd is
+  script_hand kind script TooLarge line is = absurd is
+  script_hand kind script Illegal line is = absurd is
 
   module _ (status : Status) (rose again : Type 0) (had : List ℕ) (after : Option (List ℕ)) where
     pub replay_notes : IsReplay words → NotesBy status (IsReplayLine read_rose write_rose left) rose again had after → NotesBy status hand rose again had after
@@ -136,8 +137,8 @@ module _ {A : Type 0} (words : List (String A)) (read_rose write_rose : Type 0) 
     pub check_notes : IsCheck words → NotesBy status (IsCheckLine read_rose write_rose left) rose again had after → NotesBy status hand rose again had after
     check_notes check n = notes_as (IsCheckLine read_rose write_rose left) hand (check_hand check) status rose again had after n
 
-    pub script_notes : IsScript words → NotesBy status (IsScriptLine read_rose write_rose left) rose again had after → NotesBy status hand rose again had after
-    script_notes script n = notes_as (IsScriptLine read_rose write_rose left) hand (script_hand script) status rose again had after n
+    pub script_notes : (kind : ScriptKind) → IsOfKind kind words → NotesBy status (IsScriptLine kind read_rose write_rose left) rose again had after → NotesBy status hand rose again had after
+    script_notes kind script n = notes_as (IsScriptLine kind read_rose write_rose left) hand (script_hand kind script) status rose again had after n
 
     pub load_notes : NotesBy status (IsLoadLine write_rose) rose again had after → NotesBy status hand rose again had after
     load_notes n = notes_as (IsLoadLine write_rose) hand load_hand status rose again had after n

@@ -12,7 +12,7 @@ use Rattle.adb_laws_loads.proofs.Legal.{load_legal}
 use Rattle.adb_headline.proofs.Fifo.{all_fifo}
 use Rattle.adb_words.specs.Words.{command_of, gen_of, load_of, number_within, bare_of, seed_of}
 use Rattle.adb_words.specs.declared.command.Command.{Command}
-use Rattle.adb_words.specs.declared.command.Command.TheVariants.{Replay, Check, Gen, Local}
+use Rattle.adb_words.specs.declared.command.Command.TheVariants.{Replay, Check, Gen, Local, Copy}
 use Rattle.adb_words.specs.declared.command.TheConstants.{MAX_STREAMS, MAX_DIGITS}
 use Rattle.adb_commands.specs.Keeping.{HasFront}
 use Rattle.adb_commands.specs.Loads.{IsPromised, WritesLines, LoadBy, made}
@@ -97,22 +97,25 @@ no_load : (command : Command) (words : List (List ℕ)) (seed streams : ℕ) →
 no_load command [] seed streams other e = other e
 no_load command (word ∷ words) seed streams other e = let clash : None ≡ Some (Gen seed streams) = e in cc
 
-no_script : (seed_named : Option ℕ) (seed streams : ℕ) → option_map Local seed_named ≡ Some (Gen seed streams) → ⊥
-no_script None seed streams e = let clash : None ≡ Some (Gen seed streams) = e in cc
-no_script (Some named) seed streams e = let clash : Some (Local named) ≡ Some (Gen seed streams) = e in cc
+no_script : (seeded : ℕ → Command) (seed_named : Option ℕ) (seed streams : ℕ) → ((named : ℕ) → ¬ (Some (seeded named) ≡ Some (Gen seed streams)))
+    → option_map seeded seed_named ≡ Some (Gen seed streams) → ⊥
+no_script seeded None seed streams other e = let clash : None ≡ Some (Gen seed streams) = e in cc
+no_script seeded (Some named) seed streams other e = other named e
 
 few_named : (words : List (List ℕ)) (seed streams : ℕ) → command_of words ≡ Some (Gen seed streams) → streams ≤ MAX_STREAMS
 few_named [] seed streams e = absurd (let clash : None ≡ Some (Gen seed streams) = e in cc)
 few_named (name ∷ words) seed streams e = go (bytes_eq name (codes "replay")) (bytes_eq name (codes "check")) (bytes_eq name (codes "gen"))
-    (bytes_eq name (codes "local")) e
+    (bytes_eq name (codes "local")) (bytes_eq name (codes "copy")) e
   where
-    go : (a b c d : Bool) → (if a then bare_of Replay words else (if b then bare_of Check words else (if c then gen_of words
-        else (if d then option_map Local (seed_of words) else None)))) ≡ Some (Gen seed streams) → streams ≤ MAX_STREAMS
-    go true b c d is = absurd (no_load Replay words seed streams (λ e. cc) is)
-    go false true c d is = absurd (no_load Check words seed streams (λ e. cc) is)
-    go false false true d is = few_streams words seed streams is
-    go false false false true is = absurd (no_script (seed_of words) seed streams is)
-    go false false false false is = absurd (let clash : None ≡ Some (Gen seed streams) = is in cc)
+    go : (a b c d f : Bool) → (if a then bare_of Replay words else (if b then bare_of Check words else (if c then gen_of words
+        else (if d then option_map Local (seed_of words) else (if f then option_map Copy (seed_of words) else None))))) ≡ Some (Gen seed streams)
+        → streams ≤ MAX_STREAMS
+    go true b c d f is = absurd (no_load Replay words seed streams (λ e. cc) is)
+    go false true c d f is = absurd (no_load Check words seed streams (λ e. cc) is)
+    go false false true d f is = few_streams words seed streams is
+    go false false false true f is = absurd (no_script Local (seed_of words) seed streams (λ named e. cc) is)
+    go false false false false true is = absurd (no_script Copy (seed_of words) seed streams (λ named e. cc) is)
+    go false false false false false is = absurd (let clash : None ≡ Some (Gen seed streams) = is in cc)
 
 -- what a server makes of a load that words name is promised
 pub load_promised : (words : List (List ℕ)) (seed streams : ℕ) → command_of words ≡ Some (Gen seed streams) → IsPromised (made seed streams)

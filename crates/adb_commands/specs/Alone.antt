@@ -8,7 +8,8 @@ use Rattle.adb_commands.specs.Notes.{WritesNote}
 use Rattle.adb_commands.specs.Run.{WritesHistory, WritesRead, WritesLegal, WritesWhole, EndsCapture, NamesRefusal, Completes, IsUnheard, IsAtHand}
 use Rattle.adb_commands.specs.ScriptInput.{ReadsWithin}
 use Rattle.adb_commands.specs.Scripts.{WritesAnswers, EndsScript, NamesLine, CompletesScript}
-use Rattle.adb_commands.specs.Words.{IsNoCommand, IsReplay, IsCheck, IsLoad, IsLocal, IsScript}
+use Rattle.adb_commands.specs.Words.{IsNoCommand, IsReplay, IsCheck, IsLoad, IsLocal, IsCopy, IsScript}
+use Rattle.adb_commands.specs.declared.script_kind.ScriptKind.TheVariants as kinds
 use Rattle.adb_commands.specs.declared.status.Status.{Status}
 use Rattle.adb_commands.specs.declared.status.Status.TheVariants.{Done, Usage, ReadFault, WriteFault, OutOfMemory, RecordFault, DoorFault, BadScript, Refused, BadAnswer, PortFault, TooLarge, Illegal}
 
@@ -41,9 +42,12 @@ pub record RunsAlone {A S K N : Type 0} (words : List (String A)) (status : Stat
   pub promised : (seed streams : ℕ) → IsLoad seed streams words → IsPromised (made seed streams)
   pub judged : IsCheck words → WritesVerdict status s.told source source_new k.told sink sink_new
   pub illegal : status ≡ Illegal → IsCheck words
-  pub answers : (seed : ℕ) → IsLocal seed words → WritesAnswers status (s.told source) k.told sink sink_new
-  pub ends_script : (seed : ℕ) → IsLocal seed words → EndsScript status s.told source source_new
+  pub answers : (seed : ℕ) → IsLocal seed words → WritesAnswers kinds.Local status (s.told source) k.told sink sink_new
+  pub copies : (seed : ℕ) → IsCopy seed words → WritesAnswers kinds.Copy status (s.told source) k.told sink sink_new
+  pub ends_script : (seed : ℕ) → IsLocal seed words → EndsScript kinds.Local status s.told source source_new
+  pub ends_copy : (seed : ℕ) → IsCopy seed words → EndsScript kinds.Copy status s.told source source_new
   pub within : (seed : ℕ) → IsLocal seed words → ReadsWithin (s.told source) (s.told source_new)
+  pub within_copy : (seed : ℕ) → IsCopy seed words → ReadsWithin (s.told source) (s.told source_new)
   pub bad_script : status ≡ BadScript → IsScript words
   pub unwritten : status ≡ BadScript → sink_new ≡ sink
   pub serves : (status ≢ RecordFault) × (status ≢ DoorFault)
@@ -51,7 +55,8 @@ pub record RunsAlone {A S K N : Type 0} (words : List (String A)) (status : Stat
   pub notes : WritesNote status (IsAtHand words (Rose s.faults source source_new) (Rose k.faults sink sink_new) (s.told source)) n.faults n.told note note_new
   pub names : IsReplay words → NamesRefusal status (s.told source) n.told note note_new
   pub names_form : IsCheck words → NamesForm status (s.told source) n.told note note_new
-  pub names_line : (seed : ℕ) → IsLocal seed words → NamesLine status (s.told source) n.told note note_new
+  pub names_line : (seed : ℕ) → IsLocal seed words → NamesLine kinds.Local status (s.told source) n.told note note_new
+  pub names_copied : (seed : ℕ) → IsCopy seed words → NamesLine kinds.Copy status (s.told source) n.told note note_new
   pub read_fault : status ≡ ReadFault → Rose s.faults source source_new
   pub write_fault : status ≡ WriteFault → Rose k.faults sink sink_new ⊎ Rose n.faults note note_new
   pub source_stood : IsFaultless status → Stood s.faults source source_new
@@ -62,4 +67,5 @@ pub record RunsAlone {A S K N : Type 0} (words : List (String A)) (status : Stat
   pub checks : IsCheck words → NoneRose s k n source source_new sink sink_new note note_new → CompletesCheck status (s.told source)
   pub makes : (seed streams : ℕ) → IsLoad seed streams words → ¬ Rose k.faults sink sink_new → ¬ Rose n.faults note note_new
       → (status ≡ Done) ⊎ (status ≡ OutOfMemory)
-  pub runs : (seed : ℕ) → IsLocal seed words → NoneRose s k n source source_new sink sink_new note note_new → CompletesScript status (s.told source)
+  pub runs : (seed : ℕ) → IsLocal seed words → NoneRose s k n source source_new sink sink_new note note_new → CompletesScript kinds.Local status (s.told source)
+  pub runs_copy : (seed : ℕ) → IsCopy seed words → NoneRose s k n source source_new sink sink_new note note_new → CompletesScript kinds.Copy status (s.told source)

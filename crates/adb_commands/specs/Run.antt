@@ -5,11 +5,12 @@ use Rattle.adb_history.specs.declared.refusal.Refusal.{Refusal}
 use Rattle.adb_words.specs.Words.{names_command, texts}
 use Rattle.adb_check.specs.Formed.{formed}
 use Rattle.adb_commands.specs.Notes.{bad_capture_line, illegal_history_line}
-use Rattle.adb_commands.specs.Words.{IsNoCommand, IsReplay, IsCheck, IsScript}
+use Rattle.adb_commands.specs.Words.{IsNoCommand, IsReplay, IsCheck, IsOfKind, IsScript}
 use Rattle.adb_commands.specs.Keeping.{HasFront}
 use Rattle.adb_commands.specs.Scripts.{IsScriptLine}
 use Rattle.adb_commands.specs.Replay.{IsReadWhole}
 use Rattle.adb_commands.specs.Replayed.{GrowsSpelled, GrowsWhole, WritesConsumed}
+use Rattle.adb_commands.specs.declared.script_kind.ScriptKind.{ScriptKind}
 use Rattle.adb_commands.specs.declared.status.Status.{Status}
 use Rattle.adb_commands.specs.declared.status.Status.TheVariants.{Done, Usage, ReadFault, WriteFault, BadCapture, OutOfMemory, RecordFault, DoorFault, BadScript, Refused, BadAnswer, PortFault, TooLarge, Illegal}
 
@@ -180,7 +181,7 @@ IsAtHand words read_rose write_rose left OutOfMemory line = Unit {0}
 IsAtHand words read_rose write_rose left RecordFault line = ⊥
 IsAtHand words read_rose write_rose left DoorFault line = ⊥
 IsAtHand words read_rose write_rose left BadScript line =
-    IsScript words × IsScriptLine read_rose write_rose left BadScript line
+    (kind : ScriptKind) × IsOfKind kind words × IsScriptLine kind read_rose write_rose left BadScript line
 IsAtHand words read_rose write_rose left Refused line = ⊥
 IsAtHand words read_rose write_rose left BadAnswer line = ⊥
 IsAtHand words read_rose write_rose left PortFault line = ⊥

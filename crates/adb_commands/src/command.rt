@@ -13,13 +13,14 @@ ghost use Rattle.adb_commands.specs.ScriptInput.{ReadsWithin};
 ghost use Rattle.adb_commands.specs.Scripts.{CompletesScript, EndsScript, IsScriptLine, NamesLine};
 ghost use Rattle.adb_commands.specs.Scripts.{WritesAnswers};
 ghost use Rattle.adb_commands.specs.Words.{IsNoCommand, IsReplay, IsCheck, IsLoad};
-ghost use Rattle.adb_commands.specs.Words.{IsLocal, IsScript};
+ghost use Rattle.adb_commands.specs.Words.{IsCopy, IsLocal, IsScript};
 
 use crate::answering::answer;
 use crate::checking::check;
 use crate::generating::generate;
 use crate::note::{say_illegal, say_out_of_memory, say_stop, say_usage};
 use crate::replay::replay;
+use crate::script_kind::ScriptKind;
 use crate::script_note::say_script_stop;
 use crate::status::Status;
 use adb_check::Judgement;
@@ -45,6 +46,9 @@ use std::alloc::Global;
 /// `local <seed>` reads a script to its end, runs it in a new world, and writes its answer lines.
 /// The seed says only which side of the world moves next, and by how much. Nothing is read behind
 /// the byte that is one too many, and nothing is written where a line is refused.
+///
+/// `copy <seed>` reads a script to its end whose lines name files, copies these to the device of a
+/// new world and back, and writes a line for each file that came. The seed says as little.
 ///
 /// Each status but Done writes its one line to the note. Where that write fails the status is
 /// WriteFault, whose own line is tried then, once.
@@ -108,15 +112,21 @@ pub fn run_alone<S: Source, K: Sink, N: Sink>(
 
     // A script: at Done its answer lines went out, by what its lines say alone, whatever the seed
     // is; where a write failed a front of them did, and at every other status nothing.
-    ensures answers { (seed : ℕ) → IsLocal seed words.now
-        → WritesAnswers result (S.left source.old) K.written sink.old sink.new }
+    ensures answers { (seed : ℕ) → IsLocal seed words.now → WritesAnswers ScriptKind.Local
+        result (S.left source.old) K.written sink.old sink.new }
+    ensures copies { (seed : ℕ) → IsCopy seed words.now → WritesAnswers ScriptKind.Copy
+        result (S.left source.old) K.written sink.old sink.new }
 
     // Done: no line is refused, and the source was read to its end. BadScript: a line is refused.
     ensures ends_script { (seed : ℕ) → IsLocal seed words.now
-        → EndsScript result S.left source.old source.new }
+        → EndsScript ScriptKind.Local result S.left source.old source.new }
+    ensures ends_copy { (seed : ℕ) → IsCopy seed words.now
+        → EndsScript ScriptKind.Copy result S.left source.old source.new }
 
     // Nothing is read behind the byte that is one too many.
     ensures within { (seed : ℕ) → IsLocal seed words.now
+        → ReadsWithin (S.left source.old) (S.left source.new) }
+    ensures within_copy { (seed : ℕ) → IsCopy seed words.now
         → ReadsWithin (S.left source.old) (S.left source.new) }
 
     // BadScript comes for a script alone, and nothing is written then.
@@ -143,8 +153,10 @@ pub fn run_alone<S: Source, K: Sink, N: Sink>(
         → NamesForm result (S.left source.old) N.written note.old note.new }
 
     // At BadScript it names the first line that is refused.
-    ensures names_line { (seed : ℕ) → IsLocal seed words.now
-        → NamesLine result (S.left source.old) N.written note.old note.new }
+    ensures names_line { (seed : ℕ) → IsLocal seed words.now → NamesLine ScriptKind.Local
+        result (S.left source.old) N.written note.old note.new }
+    ensures names_copied { (seed : ℕ) → IsCopy seed words.now → NamesLine ScriptKind.Copy
+        result (S.left source.old) N.written note.old note.new }
 
     // A fault comes only where the count of that very stream rose in this run,
     ensures read_fault { result ≡ Status.ReadFault → Rose S.faults source.old source.new }
@@ -185,13 +197,23 @@ pub fn run_alone<S: Source, K: Sink, N: Sink>(
         → ¬ Rose S.faults source.old source.new
         → ¬ Rose K.faults sink.old sink.new
         → ¬ Rose N.faults note.old note.new
-        → CompletesScript result (S.left source.old) }
+        → CompletesScript ScriptKind.Local result (S.left source.old) }
+    ensures runs_copy { (seed : ℕ) → IsCopy seed words.now
+        → ¬ Rose S.faults source.old source.new
+        → ¬ Rose K.faults sink.old sink.new
+        → ¬ Rose N.faults note.old note.new
+        → CompletesScript ScriptKind.Copy result (S.left source.old) }
 {
     match read_words(alloc, words) {
         Ok(Command::Replay) => run_replay(alloc, source, sink, note),
         Ok(Command::Check) => run_check(alloc, source, sink, note),
         Ok(Command::Gen { seed, streams }) => run_gen(alloc, seed, streams, sink, note),
-        Ok(Command::Local { seed }) => run_local(alloc, seed, source, sink, note),
+        Ok(Command::Local { seed }) => {
+            run_script(alloc, ScriptKind::Local, seed, source, sink, note)
+        }
+        Ok(Command::Copy { seed }) => {
+            run_script(alloc, ScriptKind::Copy, seed, source, sink, note)
+        }
         Err(WordsError::Usage) => say_usage(note),
         Err(WordsError::OutOfMemory) => say_out_of_memory(note),
     }
@@ -308,8 +330,9 @@ fn run_gen<K: Sink, N: Sink>(
 }
 
 /// Answers the script of a source, and tells the note how it ended where it is not done.
-fn run_local<S: Source, K: Sink, N: Sink>(
+fn run_script<S: Source, K: Sink, N: Sink>(
     alloc: Global,
+    kind: ScriptKind,
     seed: u64,
     source: &mut S,
     sink: &mut K,
@@ -318,15 +341,15 @@ fn run_local<S: Source, K: Sink, N: Sink>(
     ensures status { (result ≡ Status.Done) ⊎ (result ≡ Status.ReadFault)
         ⊎ (result ≡ Status.WriteFault) ⊎ (result ≡ Status.OutOfMemory)
         ⊎ (result ≡ Status.BadScript) }
-    ensures answers { WritesAnswers result (S.left source.old) K.written sink.old sink.new }
-    ensures ends { EndsScript result S.left source.old source.new }
+    ensures answers { WritesAnswers kind result (S.left source.old) K.written sink.old sink.new }
+    ensures ends { EndsScript kind result S.left source.old source.new }
     ensures within { ReadsWithin (S.left source.old) (S.left source.new) }
     ensures unwritten { result ≡ Status.BadScript → sink.new ≡ sink.old }
     ensures notes { WritesNote result
-        (IsScriptLine (Rose S.faults source.old source.new)
+        (IsScriptLine kind (Rose S.faults source.old source.new)
         (Rose K.faults sink.old sink.new) (S.left source.old))
         N.faults N.written note.old note.new }
-    ensures names { NamesLine result (S.left source.old) N.written note.old note.new }
+    ensures names { NamesLine kind result (S.left source.old) N.written note.old note.new }
     ensures read_fault { result ≡ Status.ReadFault → Rose S.faults source.old source.new }
     ensures write_fault { result ≡ Status.WriteFault
         → Rose K.faults sink.old sink.new ⊎ Rose N.faults note.old note.new }
@@ -338,9 +361,9 @@ fn run_local<S: Source, K: Sink, N: Sink>(
     ensures complete { ¬ Rose S.faults source.old source.new
         → ¬ Rose K.faults sink.old sink.new
         → ¬ Rose N.faults note.old note.new
-        → CompletesScript result (S.left source.old) }
+        → CompletesScript kind result (S.left source.old) }
 {
-    match answer(alloc, seed, source, sink) {
+    match answer(alloc, kind, seed, source, sink) {
         Ok(()) => Status::Done,
         Err(stop) => say_script_stop(alloc, note, stop),
     }

@@ -28,7 +28,7 @@ pub fn say_usage<N: Sink>(note: &mut N) -> Status
     say(
         note,
         Status::Usage,
-        b"usage: adbhub replay | gen <seed> <streams> | local <seed> | serve [--port <n>] [--device <serial>] [--connect <port>] [--record] | check | devices | push <path> | pull <path> | shell <command> | wait <serial> <state>\n",
+        b"usage: adbhub replay | gen <seed> <streams> | local <seed> | serve [--port <n>] [--device <serial>] [--connect <port>] [--record] | check | devices | push <path> | pull <path> | shell <command> | wait <serial> <state> | copy <seed>\n",
     )
 }
 

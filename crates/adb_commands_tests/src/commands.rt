@@ -67,7 +67,7 @@ const KILL: &[u8] = b"R\x01\0\0\0\x0d\0\0\00009host:kill";
 const STOPPED: &[u8] = b"P\x01\0\0\0\x04\0\0\0OKAY";
 
 const USAGE: &[u8] =
-    b"usage: adbhub replay | gen <seed> <streams> | local <seed> | serve [--port <n>] [--device <serial>] [--connect <port>] [--record] | check | devices | push <path> | pull <path> | shell <command> | wait <serial> <state>\n";
+    b"usage: adbhub replay | gen <seed> <streams> | local <seed> | serve [--port <n>] [--device <serial>] [--connect <port>] [--record] | check | devices | push <path> | pull <path> | shell <command> | wait <serial> <state> | copy <seed>\n";
 
 const READ_FAULT: &[u8] = b"adbhub: read fault\n";
 

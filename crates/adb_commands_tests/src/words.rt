@@ -48,6 +48,13 @@ const RIGHT: &[(&[&str], Command)] = &[
         &["local", "00000000000000000000"],
         Command::Local { seed: 0 },
     ),
+    (&["copy", "3"], Command::Copy { seed: 3 }),
+    (
+        &["copy", "18446744073709551615"],
+        Command::Copy {
+            seed: 18_446_744_073_709_551_615,
+        },
+    ),
 ];
 
 const WRONG: &[&[&str]] = &[
@@ -92,6 +99,12 @@ const WRONG: &[&[&str]] = &[
     &["local", ""],
     &["local", "18446744073709551616"],
     &["local", "000000000000000000007"],
+    &["copy"],
+    &["copy", "x"],
+    &["copy", "7", "1"],
+    &["copy", "--", "7"],
+    &["copy", "-7"],
+    &["Copy", "7"],
     &["Local", "7"],
     &["copy", "7"],
     &["serve"],

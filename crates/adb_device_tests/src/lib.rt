@@ -11,3 +11,5 @@ mod shell_service;
 mod sync_client;
 #[cfg(test)]
 mod sync_service;
+#[cfg(test)]
+mod trees;

@@ -5,8 +5,9 @@ use Rattle.std.proofs.lemmas.List.{append-nil}
 use Rattle.adb_script.specs.Answers.{answers_from, line_answer, sessions_of}
 use Rattle.adb_script.specs.Lines.{Line}
 use Rattle.adb_world.specs.World.{View}
-use Rattle.adb_local.specs.Running.{AllMayStand, IsIdle, RunsLine, sessions_in, texts_of}
-use Rattle.adb_local.specs.declared.line.Line.{Line as Answer}
+use Rattle.adb_local.specs.Running.{AllMayStand, IsIdle, RunsLine, sessions_in}
+use Rattle.adb_script.specs.Told.{texts_of}
+use Rattle.adb_script.specs.declared.told.Line.{Line as Answer}
 
 -- Some lines were run, and these are still to be.
 pub record Running (rest script : List Line) (old now : View) (lines : List Answer) : Type 0 where

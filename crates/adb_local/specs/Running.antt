@@ -1,10 +1,9 @@
 -- Scripts that run in a world.
-use Rattle.std.specs.Prelude.{ℕ, ◌+◌, ◌≡◌, ◌≤◌, ◌<◌, true, List, [], ◌∷◌, length, map}
+use Rattle.std.specs.Prelude.{ℕ, ◌+◌, ◌≡◌, ◌≤◌, ◌<◌, true, List, [], ◌∷◌, length}
 use Rattle.adb_script.specs.Answers.{line_answer, sessions_of}
 use Rattle.adb_script.specs.Lines.{Line, Asked, Pushes, Pulls, Stats, Lists, Runs, Asks, Echoes}
 use Rattle.adb_world.specs.Settled.{IsCounted, IsSettled}
 use Rattle.adb_world.specs.World.{View}
-use Rattle.adb_local.specs.declared.line.Line.{Line as Answer}
 
 -- a world in which all that was started has settled, and that keeps no session
 pub record IsIdle (world : View) : Type 0 where
@@ -18,10 +17,6 @@ pub record IsNew (world : View) : Type 0 where
   pub idle : IsIdle world
   pub given : world.given ≡ 0
   pub files : world.files ≡ []
-
--- the texts of answer lines
-abbrev pub texts_of : List Answer → List (List ℕ)
-texts_of lines = map (λ (line : Answer). line.text) lines
 
 -- how many sessions lines have
 abbrev pub sessions_in : List Line → ℕ

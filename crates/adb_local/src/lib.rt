@@ -3,9 +3,7 @@
 #![tactic(auto)]
 
 mod echoing;
-mod line;
 mod running;
 mod session;
 
-pub use line::Line;
 pub use running::run_script;

@@ -1,17 +1,17 @@
 //! Running a script, line by line.
 
-ghost use Rattle.std.specs.Prelude.{ℕ, ◌≡◌, ◌≢◌, ◌≤◌, ◌+◌, ◌++◌, [], ◌∷◌, Some, Err, IfOk, OnOk, map, length};
+ghost use Rattle.std.specs.Prelude.{ℕ, ◌≡◌, ◌≢◌, ◌≤◌, ◌+◌, Some, Err, IfOk, OnOk, map, length};
 ghost use Rattle.adb_script.specs.Answers.{answers_from, line_answer, script_answers, sessions_of};
 ghost use Rattle.adb_script.specs.Lines.{seen};
 ghost use Rattle.adb_script.specs.Script.{first_bad, lines_in};
+ghost use Rattle.adb_script.specs.Told.{texts_of};
 ghost use Rattle.adb_world.specs.Parts.{most_sessions};
-ghost use Rattle.adb_local.specs.Running.{AllMayStand, IsIdle, IsNew, MayStand, RunsLine, sessions_in, texts_of};
+ghost use Rattle.adb_local.specs.Running.{AllMayStand, IsIdle, IsNew, MayStand, RunsLine, sessions_in};
 
 use crate::echoing::run_echo;
-use crate::line::Line;
 use crate::session::run_session;
 use adb_outside::Text;
-use adb_script::{Script, ScriptError, ScriptLine};
+use adb_script::{Line, Script, ScriptError, ScriptLine, add_line};
 use adb_world::World;
 use rand_core::SeedableRng;
 use rand_core::utils::NextWord;
@@ -105,12 +105,4 @@ fn run_line(
             Ok(text)
         }
     }
-}
-
-/// Adds an answer line.
-fn add_line(lines: &mut Vec<Line>, text: Text) -> Result<(), AllocError>
-    ensures { OnOk result (texts_of lines.new.items ≡ texts_of lines.old.items ++ text ∷ []) }
-{
-    lines.push(Line { text })?;
-    Ok(())
 }

@@ -138,7 +138,7 @@ cuts_last text some e =
     }
 
 -- ---- the words of a text
-some_words : (text : List ℕ) → words_of text ≡ [] → ⊥
+pub some_words : (text : List ℕ) → words_of text ≡ [] → ⊥
 some_words [] e = cc
 some_words (x ∷ xs) e = go (is_space x) e
   where

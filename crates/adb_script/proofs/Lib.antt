@@ -1,6 +1,6 @@
-mod Cutting
+pub mod Cutting
 mod FirstBad
-mod Patterns
+pub mod Patterns
 mod Printed
 pub mod Requests
 mod Stored

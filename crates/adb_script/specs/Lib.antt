@@ -4,3 +4,4 @@ pub mod Meanings
 pub mod Output
 pub mod Pattern
 pub mod Script
+pub mod Told

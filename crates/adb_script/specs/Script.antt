@@ -16,9 +16,13 @@ lines_of (byte ∷ bytes) = if is_newline byte then (byte ∷ []) ∷ lines_of b
 abbrev pub said : List ℕ → Option Line
 said line = line_of (before_first is_newline line)
 
--- whether a line is refused, by its number, from 1, and how many bytes of the script there are up to its end
+-- Whether a line is refused for its place alone: by its number, from 1, and how many bytes of the script there are up to its end.
+abbrev pub is_too_far : ℕ → ℕ → Bool
+is_too_far number end = nat_lt MAX_LINES number || nat_lt MAX_SCRIPT end
+
+-- whether a line is refused
 abbrev pub is_bad : ℕ → ℕ → List ℕ → Bool
-is_bad number end line = nat_lt MAX_LINES number || nat_lt MAX_SCRIPT end || is_none (said line)
+is_bad number end line = is_too_far number end || is_none (said line)
 
 -- the number of the first line that is refused, of lines from a number on, behind so many bytes
 abbrev pub bad_among : ℕ → ℕ → List (List ℕ) → Option ℕ

@@ -8,7 +8,7 @@ ghost use Rattle.adb_sync_client.specs.Texts.{push_text};
 
 use crate::line::SessionLine;
 use crate::output::CLOSE_STDIN;
-use crate::pattern::pattern;
+use crate::sent::pattern;
 use crate::word::Word;
 use adb_outside::Text;
 use adb_shell::write_packet;

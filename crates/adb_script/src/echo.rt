@@ -6,7 +6,7 @@ ghost use Rattle.adb_script.specs.Pattern.{pattern};
 
 use crate::counting::push_number;
 use crate::line::EchoLine;
-use crate::pattern::{is_pattern, pattern};
+use crate::sent::{is_pattern, pattern};
 use adb_outside::Text;
 use std::alloc::{AllocError, Global};
 

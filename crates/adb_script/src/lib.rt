@@ -1,5 +1,6 @@
 //! Scripts of the command `local`: their lines, what each session of a line asks for and writes, and
-//! what is printed of its answer.
+//! what is printed of its answer. What all scripts share stands here too: how their lines and words
+//! are cut, how much one may have, and the bytes of files.
 #![tactic(auto)]
 
 mod answers;
@@ -9,13 +10,18 @@ mod echo;
 mod laws;
 mod line;
 mod output;
-mod pattern;
 mod reading;
 mod script;
+mod sent;
+mod told;
 mod word;
 
+pub use counting::{byte_sum, push_number};
 pub use laws::{limits_are, pulls_are_read, pushed_files_are_pulled, pushes_are_stored};
 pub use line::{EchoLine, ScriptLine, SessionLine};
 pub use output::push_escaped;
-pub use script::{Script, ScriptError};
-pub use word::Word;
+pub use reading::split_once;
+pub use script::{MAX_LINES, MAX_SCRIPT, Script, ScriptError, split_line};
+pub use sent::pattern;
+pub use told::{Line, add_line};
+pub use word::{MAX_WORD, Word};

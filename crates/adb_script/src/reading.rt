@@ -36,7 +36,7 @@ fn read_words(text: &[u8]) -> Option<ScriptLine<'_>>
 }
 
 /// A text up to its first space, and what follows that; `None` exactly where it has no space.
-fn split_once(text: &[u8]) -> Option<(&[u8], &[u8])>
+pub fn split_once(text: &[u8]) -> Option<(&[u8], &[u8])>
     ensures { MatchOption result
         (words_of text.now ≡ text.now ∷ [])
         (λ parts. words_of text.now ≡ parts.0.now ∷ words_of parts.1.now) }

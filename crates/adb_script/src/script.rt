@@ -110,7 +110,7 @@ fn add_line<'a>(
 }
 
 /// The first line of a text, without its newline, and what follows it.
-fn split_line(text: &[u8]) -> (&[u8], &[u8])
+pub fn split_line(text: &[u8]) -> (&[u8], &[u8])
     requires { 0 < length text.now }
     ensures { CutsLine text.now result.0.now result.1.now }
 {

@@ -27,7 +27,7 @@ impl<'a> Model for Word<'a> {
 
 impl<'a> Word<'a> {
     /// The word that these bytes are; `None` exactly where there are none of them, or too many.
-    pub(crate) fn read(bytes: &'a [u8]) -> Option<Word<'a>>
+    pub fn read(bytes: &'a [u8]) -> Option<Word<'a>>
         ensures { result ≡ (if is_word bytes.now then Some bytes.now else None) }
     {
         if bytes.is_empty() || bytes.len() > MAX_WORD {

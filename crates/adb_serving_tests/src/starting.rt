@@ -128,7 +128,7 @@ fn words_of_a_run(rt: HostRuntime) -> Result<(), Fail> {
             Err(io::Error::from(ErrorKind::InvalidData)),
             Status::Usage,
             b"",
-            b"usage: adbhub replay | gen <seed> <streams> | local <seed> | serve [--port <n>] [--device <serial>] [--connect <port>] [--record] | check | devices | push <path> | pull <path> | shell <command> | wait <serial> <state>\n",
+            b"usage: adbhub replay | gen <seed> <streams> | local <seed> | serve [--port <n>] [--device <serial>] [--connect <port>] [--record] | check | devices | push <path> | pull <path> | shell <command> | wait <serial> <state> | copy <seed>\n",
         ),
         (
             Err(io::Error::from(ErrorKind::OutOfMemory)),

@@ -11,7 +11,7 @@ app_named name =
 abbrev pub required : List ℕ → Rule
 required id = record (new_rule id) { required = true }
 
--- `local`
+-- `local` and `copy`
 abbrev pub seed_app : List ℕ → App
 seed_app name = with_rule (app_named name) (required (codes "seed"))
 

@@ -4,7 +4,7 @@ use Rattle.std.specs.Prelude.{string_bytes, codes, bytes_eq, Option, Some, None,
 use Rattle.std.specs.List.{list_all}
 use Rattle.adb_outside.specs.Decimal.{number_in}
 use Rattle.adb_words.specs.declared.command.Command.{Command}
-use Rattle.adb_words.specs.declared.command.Command.TheVariants.{Replay, Check, Gen, Local}
+use Rattle.adb_words.specs.declared.command.Command.TheVariants.{Replay, Check, Gen, Local, Copy}
 use Rattle.adb_words.specs.declared.command.TheConstants.{MAX_STREAMS, MAX_DIGITS}
 
 -- the bytes of words
@@ -43,7 +43,8 @@ command_named name words =
     else (if bytes_eq name (codes "check") then bare_of Check words
     else (if bytes_eq name (codes "gen") then gen_of words
     else (if bytes_eq name (codes "local") then option_map Local (seed_of words)
-    else None)))
+    else (if bytes_eq name (codes "copy") then option_map Copy (seed_of words)
+    else None))))
 
 -- the command that words are
 abbrev pub command_of : List (List ℕ) → Option Command
@@ -54,7 +55,7 @@ command_of (name ∷ words) = command_named name words
 abbrev pub names_command : List (List ℕ) → Bool
 names_command [] = false
 names_command (name ∷ words) = bytes_eq name (codes "replay") || bytes_eq name (codes "check") || bytes_eq name (codes "gen")
-    || bytes_eq name (codes "local")
+    || bytes_eq name (codes "local") || bytes_eq name (codes "copy")
 
 -- a word that begins with a hyphen is an option, or nothing
 abbrev pub is_operand : List ℕ → Bool

@@ -39,6 +39,8 @@ pub enum Command {
     Gen { seed: u64, streams: u16 },
     /// A script is read and answered, its choices drawn from this seed.
     Local { seed: u64 },
+    /// A tree of files is copied, the choices of its copying drawn from this seed.
+    Copy { seed: u64 },
 }
 
 /// Why words give no command.

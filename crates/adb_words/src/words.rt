@@ -27,6 +27,7 @@ pub fn read_words(alloc: Global, words: &[String]) -> Result<Command, WordsError
         "check" => read_bare(alloc, "check", Command::Check, words),
         "gen" => read_load(alloc, words),
         "local" => read_local(alloc, words),
+        "copy" => read_copy(alloc, words),
         _ => Err(WordsError::Usage),
     }
 }
@@ -38,6 +39,15 @@ fn read_local(alloc: Global, words: &[String]) -> Result<Command, WordsError>
 {
     let seed = read_seed(alloc, "local", words)?;
     Ok(Command::Local { seed })
+}
+
+/// `copy`, from the words behind it.
+fn read_copy(alloc: Global, words: &[String]) -> Result<Command, WordsError>
+    ensures { result ≢ Err WordsError.OutOfMemory
+        → result ≡ ok_or (option_map Command.Copy (seed_of (texts words.now))) WordsError.Usage }
+{
+    let seed = read_seed(alloc, "copy", words)?;
+    Ok(Command::Copy { seed })
 }
 
 /// A command that is its name alone, from the words behind that.

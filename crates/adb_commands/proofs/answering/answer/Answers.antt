@@ -6,18 +6,18 @@ use Rattle.adb_commands.proofs.answering.answer.Goals as goal
 
 pub returns-in-Ok-clause-refuses : goal.returns-in-Ok-clause-refuses
 returns-in-Ok-clause-refuses g c = λ coming was.
-    refuses_all c.as_slice.result.now coming _ (read_as _ _ _ _ c.as_slice.ensures c.in-Ok.ensures.script coming was)
+    refuses_all c.args.kind c.as_slice.result.now coming _ (read_as _ _ _ _ c.as_slice.ensures c.in-Ok.ensures.script coming was)
     c.answer_text.result c.answer_text.ensures.refuses
 
 pub returns-in-Ok-clause-writes : goal.returns-in-Ok-clause-writes
 returns-in-Ok-clause-writes g c = λ coming had was has.
-    answers_all c.as_slice.result.now coming _ (read_as _ _ _ _ c.as_slice.ensures c.in-Ok.ensures.script coming was)
+    answers_all c.args.kind c.as_slice.result.now coming _ (read_as _ _ _ _ c.as_slice.ensures c.in-Ok.ensures.script coming was)
     c.answer_text.result had _ c.answer_text.ensures.refuses
     (c.answer_text.ensures.writes had has)
 
 pub returns-in-Ok-clause-whole : goal.returns-in-Ok-clause-whole
 returns-in-Ok-clause-whole g c = λ is coming was.
-    reads_all c.as_slice.result.now coming _ (read_as _ _ _ _ c.as_slice.ensures c.in-Ok.ensures.script coming was)
+    reads_all c.args.kind c.as_slice.result.now coming _ (read_as _ _ _ _ c.as_slice.ensures c.in-Ok.ensures.script coming was)
     c.answer_text.result c.answer_text.ensures.refuses is
 
 pub returns-in-Ok-clause-reads : goal.returns-in-Ok-clause-reads
@@ -29,7 +29,7 @@ pub returns-in-Err-clause-refuses : goal.returns-in-Err-clause-refuses
 returns-in-Err-clause-refuses g c = λ coming was. read_stop_refuses c.in-Err.stop _ c.in-Err.ensures.ends
 
 pub returns-in-Err-clause-writes : goal.returns-in-Err-clause-writes
-returns-in-Err-clause-writes g c = λ coming had was has. read_stop_out c.in-Err.stop coming had _ c.in-Err.ensures.ends has
+returns-in-Err-clause-writes g c = λ coming had was has. read_stop_out c.args.kind c.in-Err.stop coming had _ c.in-Err.ensures.ends has
 
 pub returns-in-Err-clause-counts : goal.returns-in-Err-clause-counts
 returns-in-Err-clause-counts g c =

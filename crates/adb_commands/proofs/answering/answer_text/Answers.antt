@@ -5,7 +5,7 @@ use Rattle.adb_commands.proofs.Scripts.{lines_lost, run_stop_out, run_stop_reads
 use Rattle.adb_commands.proofs.answering.answer_text.Goals as goal
 
 pub returns-in-Err-clause-writes : goal.returns-in-Err-clause-writes
-returns-in-Err-clause-writes g c = λ had has. run_stop_out c.in-Err.stop c.args.script.now had _ c.in-Err.ensures.ends has
+returns-in-Err-clause-writes g c = λ had has. run_stop_out c.args.kind c.in-Err.stop c.args.script.now had _ c.in-Err.ensures.ends has
 
 pub returns-in-Err-clause-reads : goal.returns-in-Err-clause-reads
 returns-in-Err-clause-reads g c = run_stop_reads c.in-Err.stop c.in-Err.ensures.ends
@@ -18,5 +18,5 @@ returns-in-Err-clause-counts g c =
 
 pub returns-clause-writes : goal.returns-clause-writes
 returns-clause-writes g c = λ had has.
-    lines_lost c.args.script.now c.in-Ok.answers had _ c.in-Ok.ensures.lines c.as_slice.result.now c.in-Failed.taken c.as_slice.ensures
+    lines_lost c.args.kind c.args.script.now c.in-Ok.answers had _ c.in-Ok.ensures.lines c.as_slice.result.now c.in-Failed.taken c.as_slice.ensures
     (c.in-Failed.ensures.told had has)

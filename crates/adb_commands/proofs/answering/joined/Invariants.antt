@@ -1,6 +1,6 @@
 use Rattle.std.proofs.Common.{◌≡◌, ◌++◌, drop}
 use Rattle.std.specs.List.{concat}
-use Rattle.adb_local.specs.Running.{texts_of}
+use Rattle.adb_script.specs.Told.{texts_of}
 use Rattle.adb_commands.proofs.answering.joined.Given as goal
 
 abbrev pub invariant-loop-line : goal.invariant-loop-line

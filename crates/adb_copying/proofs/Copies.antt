@@ -1,0 +1,60 @@
+-- A tree that went to a device without files and came back.
+use Rattle.std.proofs.Common.{ℕ, ◌+◌, ◌*◌, ◌^◌, ◌≡◌, ◌<◌, ◌≤◌, List, [], length, Option, Some, refl, sym, ◌∙◌, ap, subst, arith}
+use Rattle.std.specs.Prelude.{All}
+use Rattle.std.proofs.lemmas.List.Elements.{All-cons, All-head, All-nil, All-tail}
+use Rattle.adb_files.specs.Entries.{Entry}
+use Rattle.adb_world.specs.Parts.{most_sessions}
+use Rattle.adb_copy.specs.Pulling.{HaveTimes, directories}
+use Rattle.adb_copy.specs.Trees.{AreCopied, IsCopied, Pushed, all_pushed, pushed, refused_at}
+use Rattle.adb_trees.specs.Trees.{AreNamed, IsNamed}
+
+-- what a device without files holds behind a push is the tree
+pub pushed_whole : (old new tree : List Entry) → old ≡ [] → pushed [] tree ≡ all_pushed tree → pushed old tree ≡ all_pushed new → new ≡ tree
+pushed_whole old new tree none all is =
+    let same : all_pushed new ≡ all_pushed tree = sym is ∙ (ap (λ (files : List Entry). pushed files tree) none ∙ all) in
+    ap (λ (p : Pushed). p.files) same
+
+-- files that a script names are such as can be copied
+is_copied : (entry : Entry) → IsNamed entry → IsCopied entry
+is_copied entry is = (is.path, is.least, is.most)
+
+all_copied : (files : List Entry) → All IsNamed files → AreCopied files
+all_copied [] all = All-nil IsCopied
+all_copied (entry ∷ files) all =
+    All-cons IsCopied entry files (is_copied entry (All-head IsNamed entry files all)) (all_copied files (All-tail IsNamed entry files all))
+
+all_timed : (files : List Entry) → All IsNamed files → HaveTimes files
+all_timed [] all = All-nil (λ (entry : Entry). entry.file.mtime < 2 ^ 32)
+all_timed (entry ∷ files) all =
+    let is = All-head IsNamed entry files all in
+    All-cons (λ (entry : Entry). entry.file.mtime < 2 ^ 32) entry files is.mtime (all_timed files (All-tail IsNamed entry files all))
+
+pub left_timed : (files tree : List Entry) → files ≡ tree → AreNamed tree → HaveTimes files
+left_timed files tree same named = subst HaveTimes (sym same) (all_timed tree named.each)
+
+pub are_copied : (tree : List Entry) → AreNamed tree → AreCopied tree
+are_copied tree named = all_copied tree named.each
+
+pub left_copied : (files tree : List Entry) → files ≡ tree → AreNamed tree → AreCopied files
+left_copied files tree same named = subst AreCopied (sym same) (are_copied tree named)
+
+pub push_room : (given : ℕ) (tree : List Entry) → given ≡ 0 → AreNamed tree → given + length tree ≤ most_sessions
+push_room given tree new named = let few = named.few in omega (arith, new, few)
+
+pub pull_room : (given : ℕ) (files tree : List Entry) → given ≡ length tree → files ≡ tree → AreNamed tree
+    → length (directories tree) ≤ 1 + 500 * length tree → given + (length files + length (directories files)) ≤ most_sessions
+pull_room given files tree is same named listed =
+    let few = named.few in
+    let size = ap (λ (fs : List Entry). length fs) same in
+    let all = ap (λ (fs : List Entry). length (directories fs)) same in
+    omega (arith, is, size, all, few, listed)
+
+-- it refuses none
+pub never_refused : (old new tree : List Entry) (path text : List ℕ) → old ≡ [] → pushed [] tree ≡ all_pushed tree
+    → pushed old tree ≡ refused_at new path text → ⊥
+never_refused old new tree path text none all is =
+    let clash : all_pushed tree ≡ refused_at new path text = sym all ∙ (sym (ap (λ (files : List Entry). pushed files tree) none) ∙ is) in
+    let told = ap (λ (p : Pushed). p.refused) clash in cc
+
+pub given_is : (old new size : ℕ) → old ≡ 0 → new ≡ old + size → new ≡ size
+given_is old new size none is = omega (arith, none, is)

@@ -1,0 +1,13 @@
+use Rattle.adb_copying.proofs.Copies.{are_copied, left_copied, left_timed, pull_room}
+use Rattle.adb_copying.proofs.copying.copy_files.Goals as goal
+
+pub pull_tree-requires-clause-files : goal.pull_tree-requires-clause-files
+pull_tree-requires-clause-files c = left_copied c.push.new.world.files c.args.tree.now c.in_ok-push.ensures.files c.requires.tree
+
+pub pull_tree-requires-clause-times : goal.pull_tree-requires-clause-times
+pull_tree-requires-clause-times c = left_timed c.push.new.world.files c.args.tree.now c.in_ok-push.ensures.files c.requires.tree
+
+pub pull_tree-requires-clause-room : goal.pull_tree-requires-clause-room
+pull_tree-requires-clause-room c =
+    pull_room c.push.new.world.given c.push.new.world.files c.args.tree.now c.in_ok-push.ensures.given c.in_ok-push.ensures.files c.requires.tree
+    (c.directories_are_few.ensures c.args.tree.now c.are_a_map.ensures (are_copied c.args.tree.now c.requires.tree))

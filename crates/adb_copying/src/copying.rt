@@ -1,0 +1,86 @@
+//! Copying the tree of a script.
+
+ghost use Rattle.std.specs.Prelude.{ℕ, ◌≡◌, ◌≢◌, [], Err, Some, true, length, IfOk, OnOk};
+ghost use Rattle.adb_script.specs.Told.{texts_of};
+ghost use Rattle.adb_trees.specs.Shown.{copied_lines, lines_of};
+ghost use Rattle.adb_trees.specs.Trees.{AreNamed, first_bad, tree_of};
+
+use crate::showing::{are_a_map, show_files};
+use adb_copy::{
+    CopyError, directories_are_few, new_devices_take_any_tree, pull_tree, push_tree,
+};
+use adb_files::Files;
+use adb_script::{Line, ScriptError};
+use adb_trees::read_tree;
+use adb_world::World;
+use std::alloc::{AllocError, Global};
+
+/// Copies the tree that a script names to the device of a new world and back, and gives a line for
+/// each file that came, which the seed does not change. The whole script is looked at first: where a
+/// line is refused the first such is told, and nothing runs. After want of memory the world is spent,
+/// or a part of the tree was copied.
+pub fn copy_tree(
+    alloc: Global,
+    world: &mut World,
+    script: &[u8],
+    seed: u64,
+) -> Result<Vec<Line>, ScriptError>
+    requires settled { world.old.settled ≡ true }
+    requires given { world.old.given ≡ 0 }
+    requires empty { world.old.files ≡ [] }
+    ensures lines { IfOk result (λ lines.
+        copied_lines script.now ≡ Some (texts_of lines.items)) }
+    ensures files { OnOk result (tree_of script.now ≡ Some world.new.files) }
+    ensures bad { (line : ℕ) → result ≡ Err (ScriptError.BadLine line)
+        → first_bad script.now ≡ Some line }
+    ensures told { (line : ℕ) → first_bad script.now ≡ Some line
+        → result ≢ Err ScriptError.OutOfMemory → result ≡ Err (ScriptError.BadLine line) }
+    ensures before { (line : ℕ) → result ≡ Err (ScriptError.BadLine line)
+        → world.new ≡ world.old }
+{
+    let tree = read_tree(alloc, script)?;
+    match copy_files(alloc, world, &tree, seed) {
+        Ok(lines) => Ok(lines),
+        Err(AllocError) => Err(ScriptError::OutOfMemory),
+    }
+}
+
+/// Copies files to the device and back, and shows what came.
+fn copy_files(
+    alloc: Global,
+    world: &mut World,
+    tree: &Files,
+    seed: u64,
+) -> Result<Vec<Line>, AllocError>
+    requires settled { world.old.settled ≡ true }
+    requires given { world.old.given ≡ 0 }
+    requires empty { world.old.files ≡ [] }
+    requires tree { AreNamed tree.now }
+    ensures lines { IfOk result (λ lines. texts_of lines.items ≡ lines_of tree.now) }
+    ensures files { OnOk result (world.new.files ≡ tree.now) }
+{
+    directories_are_few();
+    are_a_map(tree);
+    push(alloc, world, tree, seed)?;
+    let copied = pull_tree(alloc, world, seed)?;
+    show_files(alloc, &copied)
+}
+
+/// Pushes files to a device that has none, which refuses no tree.
+fn push(alloc: Global, world: &mut World, tree: &Files, seed: u64) -> Result<(), AllocError>
+    requires settled { world.old.settled ≡ true }
+    requires given { world.old.given ≡ 0 }
+    requires empty { world.old.files ≡ [] }
+    requires tree { AreNamed tree.now }
+    ensures files { OnOk result (world.new.files ≡ tree.now) }
+    ensures settled { OnOk result (world.new.settled ≡ true) }
+    ensures given { OnOk result (world.new.given ≡ length tree.now) }
+{
+    new_devices_take_any_tree();
+    are_a_map(tree);
+    match push_tree(alloc, world, seed, tree) {
+        Ok(()) => Ok(()),
+        Err(CopyError::OutOfMemory) => Err(AllocError),
+        Err(CopyError::Refused { .. }) => unreachable!(),
+    }
+}

@@ -1,0 +1,8 @@
+//! Copying the tree that a script names: it goes to the model device of a new world, comes back, and
+//! is shown.
+#![tactic(auto)]
+
+mod copying;
+mod showing;
+
+pub use copying::copy_tree;

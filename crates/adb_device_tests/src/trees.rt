@@ -1,0 +1,62 @@
+//! Trees that scripts name, worked out by hand.
+
+use adb_files::Files;
+use adb_script::ScriptError;
+use adb_trees::read_tree;
+use std::alloc::Global;
+use std::test::Fail;
+
+/// Scripts, how many files they name, and the number of the first line that is refused, or 0.
+const TREES: &[(&[u8], usize, u32)] = &[
+    (b"", 0, 0),
+    (b"/b/y 33188 5 3\n/a 33261 0 0\n", 2, 0),
+    (b"/b/y 33188 5 3\n/a 33261 0 0", 2, 0),
+    (b"/a 0000033188 0000000007 0000000003\n", 1, 0),
+    (b"/a 32768 4294967295 1\n/b 33279 0 1\n", 2, 0),
+    (b"/a 33188 0 1\n/a/x 33188 0 1\n", 0, 2),
+    (b"/a/x 33188 0 1\n/a 33188 0 1\n", 0, 2),
+    (b"/a 33188 0 1\n/a 33188 0 1\n", 0, 2),
+    (b"/a 33188 0\n", 0, 1),
+    (b"/a 33188 0 1 1\n", 0, 1),
+    (b"/a 33188 0 1 1 1\n", 0, 1),
+    (b"\n", 0, 1),
+    (b"/ 33188 0 1\n", 0, 1),
+    (b"/a/../b 33188 0 1\n", 0, 1),
+    (b"a 33188 0 1\n", 0, 1),
+    (b" 33188 0 1\n", 0, 1),
+    (b"/a 32767 0 1\n", 0, 1),
+    (b"/a 33280 0 1\n", 0, 1),
+    (b"/a 33188 4294967296 1\n", 0, 1),
+    (b"/a 33188 0 16777217\n", 0, 1),
+    (b"/a 33188 0 \n", 0, 1),
+];
+
+/// The files of a script, and the first line that is refused, or 0; want of memory is none.
+fn files_of(alloc: Global, script: &[u8]) -> (usize, u32) {
+    match read_tree(alloc, script) {
+        Ok(files) => (count(&files), 0),
+        Err(ScriptError::BadLine { line }) => (0, line),
+        Err(ScriptError::OutOfMemory) => (0, u32::MAX),
+    }
+}
+
+/// How many files there are.
+fn count(files: &Files) -> usize {
+    let mut after: &[u8] = b"";
+    for number in 0..1_025 {
+        match files.next_path(after) {
+            Some(path) => after = path,
+            None => return number,
+        }
+    }
+    1_025
+}
+
+#[test]
+fn trees_are_read(rt: HostRuntime) -> Result<(), Fail> {
+    let alloc = rt.alloc();
+    for &(script, files, line) in TREES {
+        assert!(rt; files_of(alloc, script) == (files, line), "{script:?}");
+    }
+    Ok(())
+}

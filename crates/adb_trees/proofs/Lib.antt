@@ -1,0 +1,4 @@
+mod Taking
+mod Readings
+mod Cutting
+mod Named

@@ -1,0 +1,24 @@
+use Rattle.std.proofs.Common.{◌≡◌, ◌+◌, ◌∙◌, false, List, ℕ, Some, ap, subst, sym}
+use Rattle.std.specs.Prelude.{is_some, nat_lt}
+use Rattle.adb_files.specs.Files.{file_at}
+use Rattle.adb_trees.specs.Trees.{Takes, Tree, behind}
+use Rattle.adb_trees.specs.declared.tree.TheConstants.{MAX_TREE}
+use Rattle.adb_trees.proofs.Taking.{line_refused, line_taken}
+use Rattle.adb_trees.proofs.tree.Tree.take_file.Goals as goal
+
+pub returns-then-not-branch : goal.returns-then-not-branch
+returns-then-not-branch c =
+    let after : Tree = record { files = c.put_line.new.files; size = c.self.inside.size } in
+    subst (λ (t : Tree). Takes false (behind t (Some c.args.line.now)) t after) c.self.view_is
+    (line_refused c.self.inside.files c.put_line.new.files c.self.inside.size c.args.line.now _ c.if-not-branch.true c.in_ok-put_line.ensures)
+
+pub returns : goal.returns
+returns c =
+    let after : Tree = record { files = c.put_line.new.files; size = c.self.inside.size + c.args.line.now.size } in
+    let free : is_some (file_at c.args.line.now.path c.args.self.now.files) ≡ false =
+    ap (λ (path : List ℕ). is_some (file_at path c.args.self.now.files)) (sym c.as_slice.ensures.bytes) ∙ (sym c.has.ensures ∙ c.if-has.false) in
+    let room : nat_lt MAX_TREE (c.args.self.now.size + c.args.line.now.size) ≡ false = sym c.is_too_much.ensures ∙ c.if-is_too_much.false in
+    subst (λ (t : Tree). behind t (Some c.args.line.now) ≡ Some after) c.self.view_is
+    (line_taken c.self.inside.files c.put_line.new.files c.self.inside.size c.args.line.now _ c.if-not-branch.false c.in_ok-put_line.ensures
+    (subst (λ (t : Tree). is_some (file_at c.args.line.now.path t.files) ≡ false) (sym c.self.view_is) free)
+    (subst (λ (t : Tree). nat_lt MAX_TREE (t.size + c.args.line.now.size) ≡ false) (sym c.self.view_is) room))

@@ -1,0 +1,10 @@
+//! Trees of files that the scripts of the command `copy` name, and which of their lines are refused.
+#![tactic(auto)]
+
+mod laws;
+mod line;
+mod reading;
+mod tree;
+
+pub use laws::limits_are;
+pub use reading::read_tree;
