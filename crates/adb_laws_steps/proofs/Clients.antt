@@ -1,4 +1,4 @@
--- The streams are paid by their clients.
+-- The clients of streams, and what these carry.
 use Rattle.std.specs.Prelude.{ℕ, ◌+◌, ◌-◌, ◌*◌, ◌≡◌, ◌≢◌, ◌≤◌, ◌<◌, ◌&&◌, zero, suc, Bool, true, false, cond, nat_eq, nat_lt, is_some, All, List, [], ◌∷◌, ◌++◌}
 use Rattle.std.specs.Prelude.{length, drop, Option, Some, None, slice_get}
 use Rattle.std.proofs.Common.{refl, sym, ap, subst, arith, ◌∙◌, ◌⊎◌, inl, inr}
@@ -27,11 +27,7 @@ use Rattle.adb_laws_births.proofs.Born.{all_births}
 use Rattle.adb_laws_births.proofs.Crossing.{owes_own}
 use Rattle.adb_laws_births.proofs.Single.{asked_stays, births_of, one_stream_each}
 use Rattle.adb_laws_fifo_up.specs.Carrying.{IsCarried}
-use Rattle.adb_laws_steps.specs.Sums.{sum_to}
-use Rattle.adb_laws_steps.specs.Sends.{stream_cost, cost_of}
-use Rattle.adb_laws_steps.specs.Moved.{NoneEnters, stream_share, share_of}
-use Rattle.adb_laws_steps.proofs.Parts.{HasOf, spread}
-use Rattle.adb_laws_steps.proofs.Sends.{WasBorn, was_born}
+use Rattle.adb_laws_steps.specs.Steps.{NoneEnters}
 
 -- ---- births
 -- A birth is of a client that came by itself, and asked for this service.
@@ -166,7 +162,7 @@ module _ (h : History) (legal : IsLegal h) where
       go Stls e of m f none = absurd of
 
   module _ (carried : OfEachStream h (λ l b. IsCarried l b h)) where
-    carried_within : (l : ℕ) (b : Birth) → born l h ≡ Some b → length (carried_in l (packets_of 1 h)) + b.head ≤ length (bytes_read b.client h)
+    pub carried_within : (l : ℕ) (b : Birth) → born l h ≡ Some b → length (carried_in l (packets_of 1 h)) + b.head ≤ length (bytes_read b.client h)
     carried_within l b birth = go (cases_eq b.link 1)
       where
         is : IsCarried l b h
@@ -190,33 +186,8 @@ module _ (h : History) (legal : IsLegal h) where
             let le = head in
             omega (arith, both, rest, less, le)
 
-    abbrev OfClient : ℕ → ℕ → Type 0
+    abbrev pub OfClient : ℕ → ℕ → Type 0
     OfClient l c = (b : Birth) × (born l h ≡ Some b) × (b.client ≡ c)
 
-    apart : (l k c : ℕ) → OfClient l c → OfClient k c → l ≡ k
+    pub apart : (l k c : ℕ) → OfClient l c → OfClient k c → l ≡ k
     apart l k c x y = one_stream_each h legal l k x.0 y.0 x.1 y.1 (x.2 ∙ sym y.2)
-
-    module _ (asks : All (IsAskedFor h) (births h)) where
-      share : (l : ℕ) → 0 < l → l ≤ (state h).drawn → HasOf OfClient apart (λ k. cost_of k h) (λ c. share_of c h) (came_count h) l
-      share l some le =
-          let w = was_born l h (all_births h legal) some le in
-          let b = w.birth in
-          let for_it = asked_for h asks l w.birth w.is in
-          let within = carried_within l w.birth w.is in
-          let head = for_it.head in
-          let cost = ap (λ (o : Option Birth). stream_cost o (length (carried_in l (packets_of 1 h)))) w.is in
-          let shared = ap (λ (o : Option Next). stream_share o (asked w.birth.client h).used (length (bytes_read w.birth.client h))) for_it.next in
-          record {
-            c = w.birth.client;
-            is = (w.birth, w.is, refl);
-            some = for_it.some;
-            within = (births_of h legal l w.birth w.is).came;
-            le = omega (arith, within, head, cost, shared);
-          }
-
-      streams_of_clients : sum_to (λ k. cost_of k h) (state h).drawn ≤ sum_to (λ c. share_of c h) (came_count h)
-      streams_of_clients = spread OfClient apart (λ k. cost_of k h) (λ c. share_of c h) (state h).drawn (came_count h) (λ l some le. inr (share l some le))
-
-pub streams_shared : (h : History) → IsLegal h → NoneEnters h → OfEachStream h (λ l b. IsCarried l b h)
-    → sum_to (λ k. cost_of k h) (state h).drawn ≤ sum_to (λ c. share_of c h) (came_count h)
-streams_shared h legal none carried = streams_of_clients h legal carried (all_asked_for h legal none)

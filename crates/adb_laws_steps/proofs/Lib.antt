@@ -11,9 +11,10 @@ pub mod Sizes
 pub mod Sends
 pub mod Receives
 pub mod Worth
-pub mod Link
+pub mod Unsent
 pub mod Moved
 pub mod Clients
-pub mod Paid
 pub mod Written
-pub mod Whole
+pub mod Watched
+pub mod Streams
+pub mod Paid

@@ -1,4 +1,4 @@
--- What moved is what was read, put, received and sent.
+-- What steps moved is what was read, put, received and sent since.
 use Rattle.std.specs.Prelude.{ℕ, ◌+◌, ◌*◌, ◌≡◌, ◌≢◌, ◌≤◌, ◌<◌, ◌&&◌, ◌||◌, not, zero, suc, Bool, true, false, cond, nat_eq, List, [], ◌∷◌, ◌++◌, length}
 use Rattle.std.specs.Prelude.{Option, Some, None}
 use Rattle.std.proofs.Common.{refl, sym, ap, subst, arith, ◌∙◌, ◌⊎◌, inl, inr, add-one}
@@ -8,7 +8,7 @@ use Rattle.adb_outside.specs.Tables.{Rows}
 use Rattle.adb_capture.specs.declared.entry.Entry.{Entry}
 use Rattle.adb_capture.specs.declared.entry.Entry.TheVariants.{Join, Enter, Read, End, Bound, Attach, Recv, Detach, Put, Send}
 use Rattle.adb_history.specs.Book.{plugged_count}
-use Rattle.adb_history.specs.Bytes.{is_lost, bytes_read, bytes_put, bytes_received, bytes_sent}
+use Rattle.adb_history.specs.Bytes.{is_lost, has_ended, bytes_read, bytes_put, bytes_received, bytes_sent}
 use Rattle.adb_history.specs.Machine.{History, state, MayPut, MaySend, IsLegal}
 use Rattle.adb_history.specs.Orderly.{IsDrawnOnly}
 use Rattle.adb_history.specs.Rows.{Client, Link}
@@ -17,7 +17,7 @@ use Rattle.adb_history.proofs.Numbers.{counted}
 use Rattle.adb_history.proofs.OwnedStep.{all_owned}
 use Rattle.adb_laws_steps.specs.Sums.{sum_to}
 use Rattle.adb_laws_steps.specs.Tolls.{puts_made}
-use Rattle.adb_laws_steps.specs.Moved.{moved, moved_by_clients, MovesWhatIsCounted}
+use Rattle.adb_laws_steps.specs.Moved.{AreSteps, moved, handled, of_here, on_link}
 use Rattle.adb_laws_steps.proofs.Sums.{sum_within, sum_less}
 
 -- ---- numbers that stand in a table were drawn
@@ -32,127 +32,272 @@ some_drawn drawn n rows row only is = (above (cases_eq n 0), within (cases_lt dr
     within (inl past) = absurd (let clash : None ≡ Some row = sym (only.above n past) ∙ is in cc)
     within (inr le) = le
 
--- ---- one number has more
-module _ (c n : ℕ) (bytes : List ℕ) (old : ℕ → List ℕ) (some : 0 < c) (le : c ≤ n) where
-  abbrev pub with_more : ℕ → List ℕ
-  with_more k = cond (nat_eq c k) (old k ++ bytes) (old k)
+-- ---- what steps leave as it was
+module _ (before : History) where
+  pub came_same : (more : History) → AreSteps before more → came_count (more ++ before) ≡ came_count before
+  came_same [] steps = refl
+  came_same (Read c bytes ∷ more) steps = came_same more steps.0
+  came_same (Put c bytes ∷ more) steps = came_same more steps.0
+  came_same (Recv t bytes ∷ more) steps = came_same more steps.0
+  came_same (Send t bytes ∷ more) steps = came_same more steps.0
+  came_same (Join c ∷ more) steps = absurd steps
+  came_same (Enter c port ∷ more) steps = absurd steps
+  came_same (End c cause ∷ more) steps = absurd steps
+  came_same (Bound c port ∷ more) steps = absurd steps
+  came_same (Attach t kind serial ∷ more) steps = absurd steps
+  came_same (Detach t cause ∷ more) steps = absurd steps
 
-  pub sum_with : sum_to (λ k. length (old k)) n + length bytes ≤ sum_to (λ k. length (with_more k)) n
-  sum_with = sum_less (λ k. length (with_more k)) (λ k. length (old k)) c (length bytes) n others here some le
+  pub plugged_same : (more : History) → AreSteps before more → plugged_count (more ++ before) ≡ plugged_count before
+  plugged_same [] steps = refl
+  plugged_same (Read c bytes ∷ more) steps = plugged_same more steps.0
+  plugged_same (Put c bytes ∷ more) steps = plugged_same more steps.0
+  plugged_same (Recv t bytes ∷ more) steps = plugged_same more steps.0
+  plugged_same (Send t bytes ∷ more) steps = plugged_same more steps.0
+  plugged_same (Join c ∷ more) steps = absurd steps
+  plugged_same (Enter c port ∷ more) steps = absurd steps
+  plugged_same (End c cause ∷ more) steps = absurd steps
+  plugged_same (Bound c port ∷ more) steps = absurd steps
+  plugged_same (Attach t kind serial ∷ more) steps = absurd steps
+  plugged_same (Detach t cause ∷ more) steps = absurd steps
+
+  lost_same : (more : History) → AreSteps before more → is_lost 1 (more ++ before) ≡ is_lost 1 before
+  lost_same [] steps = refl
+  lost_same (Read c bytes ∷ more) steps = lost_same more steps.0
+  lost_same (Put c bytes ∷ more) steps = lost_same more steps.0
+  lost_same (Recv t bytes ∷ more) steps = lost_same more steps.0
+  lost_same (Send t bytes ∷ more) steps = lost_same more steps.0
+  lost_same (Join c ∷ more) steps = absurd steps
+  lost_same (Enter c port ∷ more) steps = absurd steps
+  lost_same (End c cause ∷ more) steps = absurd steps
+  lost_same (Bound c port ∷ more) steps = absurd steps
+  lost_same (Attach t kind serial ∷ more) steps = absurd steps
+  lost_same (Detach t cause ∷ more) steps = absurd steps
+
+  pub ended_same : (c : ℕ) (more : History) → AreSteps before more → has_ended c (more ++ before) ≡ has_ended c before
+  ended_same c [] steps = refl
+  ended_same c (Read n bytes ∷ more) steps = ended_same c more steps.0
+  ended_same c (Put n bytes ∷ more) steps = ended_same c more steps.0
+  ended_same c (Recv t bytes ∷ more) steps = ended_same c more steps.0
+  ended_same c (Send t bytes ∷ more) steps = ended_same c more steps.0
+  ended_same c (Join n ∷ more) steps = absurd steps
+  ended_same c (Enter n port ∷ more) steps = absurd steps
+  ended_same c (End n cause ∷ more) steps = absurd steps
+  ended_same c (Bound n port ∷ more) steps = absurd steps
+  ended_same c (Attach t kind serial ∷ more) steps = absurd steps
+  ended_same c (Detach t cause ∷ more) steps = absurd steps
+
+  -- a client whose input had ended reads no more and is put no more
+  other_client : (c n : ℕ) → has_ended c before ≡ true → has_ended n before ≡ false → n ≢ c
+  other_client c n ended open_yet same =
+      let clash : true ≡ false = sym ended ∙ (ap (λ (k : ℕ). has_ended k before) (sym same) ∙ open_yet) in cc
+
+  pub handled_same : (c : ℕ) → has_ended c before ≡ true → (more : History) → AreSteps before more → handled c (more ++ before) ≡ handled c before
+  handled_same c ended [] steps = refl
+  handled_same c ended (Read n bytes ∷ more) steps =
+      ap (λ (b : Bool). length (cond b (bytes_read c (more ++ before) ++ bytes) (bytes_read c (more ++ before))) + length (bytes_put c (more ++ before)))
+      (ne_eqb n c (other_client c n ended steps.2)) ∙ handled_same c ended more steps.0
+  handled_same c ended (Put n bytes ∷ more) steps =
+      ap (λ (b : Bool). length (bytes_read c (more ++ before)) + length (cond b (bytes_put c (more ++ before) ++ bytes) (bytes_put c (more ++ before))))
+      (ne_eqb n c (other_client c n ended steps.2)) ∙ handled_same c ended more steps.0
+  handled_same c ended (Recv t bytes ∷ more) steps = handled_same c ended more steps.0
+  handled_same c ended (Send t bytes ∷ more) steps = handled_same c ended more steps.0
+  handled_same c ended (Join n ∷ more) steps = absurd steps
+  handled_same c ended (Enter n port ∷ more) steps = absurd steps
+  handled_same c ended (End n cause ∷ more) steps = absurd steps
+  handled_same c ended (Bound n port ∷ more) steps = absurd steps
+  handled_same c ended (Attach t kind serial ∷ more) steps = absurd steps
+  handled_same c ended (Detach t cause ∷ more) steps = absurd steps
+
+  pub put_same : (c : ℕ) → has_ended c before ≡ true → (more : History) → AreSteps before more
+      → length (bytes_put c (more ++ before)) ≡ length (bytes_put c before)
+  put_same c ended [] steps = refl
+  put_same c ended (Put n bytes ∷ more) steps =
+      ap (λ (b : Bool). length (cond b (bytes_put c (more ++ before) ++ bytes) (bytes_put c (more ++ before))))
+      (ne_eqb n c (other_client c n ended steps.2)) ∙ put_same c ended more steps.0
+  put_same c ended (Read n bytes ∷ more) steps = put_same c ended more steps.0
+  put_same c ended (Recv t bytes ∷ more) steps = put_same c ended more steps.0
+  put_same c ended (Send t bytes ∷ more) steps = put_same c ended more steps.0
+  put_same c ended (Join n ∷ more) steps = absurd steps
+  put_same c ended (Enter n port ∷ more) steps = absurd steps
+  put_same c ended (End n cause ∷ more) steps = absurd steps
+  put_same c ended (Bound n port ∷ more) steps = absurd steps
+  put_same c ended (Attach t kind serial ∷ more) steps = absurd steps
+  put_same c ended (Detach t cause ∷ more) steps = absurd steps
+
+has_byte : (l : List ℕ) → l ≢ [] → 1 ≤ length l
+has_byte [] some = absurd (some refl)
+has_byte (b ∷ l) some = omega arith
+
+-- each step moves a byte at least
+pub steps_move : (before more : History) → AreSteps before more → length more ≤ moved more
+steps_move before [] steps = omega arith
+steps_move before (Read c bytes ∷ more) steps =
+    let later = steps_move before more steps.0 in let some = has_byte bytes steps.1 in omega (arith, later, some)
+steps_move before (Put c bytes ∷ more) steps =
+    let later = steps_move before more steps.0 in let some = has_byte bytes steps.1 in omega (arith, later, some)
+steps_move before (Recv t bytes ∷ more) steps =
+    let later = steps_move before more steps.0 in let some = has_byte bytes steps.1 in omega (arith, later, some)
+steps_move before (Send t bytes ∷ more) steps =
+    let later = steps_move before more steps.0 in let some = has_byte bytes steps.1 in omega (arith, later, some)
+steps_move before (Join c ∷ more) steps = absurd steps
+steps_move before (Enter c port ∷ more) steps = absurd steps
+steps_move before (End c cause ∷ more) steps = absurd steps
+steps_move before (Bound c port ∷ more) steps = absurd steps
+steps_move before (Attach t kind serial ∷ more) steps = absurd steps
+steps_move before (Detach t cause ∷ more) steps = absurd steps
+
+-- ---- one client has more
+module _ (before : History) (here : is_lost 1 before ≡ false) where
+  put_drawn : (older : History) → IsLegal older → (c : ℕ) (bytes : List ℕ) (o : Option Client) → (state older).clients c ≡ o → MayPut (state older) o bytes
+      → (0 < c) × (c ≤ (state older).joined)
+  put_drawn older legal c bytes None is may = absurd may
+  put_drawn older legal c bytes (Some client) is may =
+      some_drawn (state older).joined c (state older).clients client (all_owned older legal).rows.clients is
+
+  -- what was read of clients and put to them
+  abbrev all_handled : History → ℕ
+  all_handled h = sum_to (λ c. handled c h) (came_count before)
+
+  abbrev all_put : History → ℕ
+  all_put h = sum_to (λ c. length (bytes_put c h)) (came_count before)
+
+  read_more : (older : History) (c : ℕ) (bytes : List ℕ) → 0 < c → c ≤ came_count before
+      → all_handled older + length bytes ≤ all_handled (Read c bytes ∷ older)
+  read_more older c bytes some le =
+      sum_less (λ k. handled k (Read c bytes ∷ older)) (λ k. handled k older) c (length bytes) (came_count before) others mine some le
     where
-      others : (k : ℕ) → k ≢ c → length (old k) ≡ length (with_more k)
-      others k other = sym (ap (λ (b : Bool). length (cond b (old k ++ bytes) (old k))) (ne_eqb c k (λ same. other (sym same))))
+      others : (k : ℕ) → k ≢ c → handled k older ≡ handled k (Read c bytes ∷ older)
+      others k other =
+          sym (ap (λ (b : Bool). length (cond b (bytes_read k older ++ bytes) (bytes_read k older)) + length (bytes_put k older))
+          (ne_eqb c k (λ same. other (sym same))))
 
-      here : length (old c) + length bytes ≤ length (with_more c)
-      here =
-          let e = ap (λ (b : Bool). length (cond b (old c ++ bytes) (old c))) (eq-eqb c c refl) in
-          let sum = length-append (old c) bytes in
+      mine : handled c older + length bytes ≤ handled c (Read c bytes ∷ older)
+      mine =
+          let e = ap (λ (b : Bool). length (cond b (bytes_read c older ++ bytes) (bytes_read c older))) (eq-eqb c c refl) in
+          let sum = length-append (bytes_read c older) bytes in
           omega (arith, e, sum)
 
--- one number more
-sum_longer : (f : ℕ → ℕ) (n : ℕ) → sum_to f n ≤ sum_to f (n + 1)
-sum_longer f n = let e = ap (λ (m : ℕ). sum_to f m) (add-one n) in omega (arith, e)
+  put_more : (older : History) (c : ℕ) (bytes : List ℕ) → 0 < c → c ≤ came_count before
+      → all_handled older + length bytes ≤ all_handled (Put c bytes ∷ older)
+  put_more older c bytes some le =
+      sum_less (λ k. handled k (Put c bytes ∷ older)) (λ k. handled k older) c (length bytes) (came_count before) others mine some le
+    where
+      others : (k : ℕ) → k ≢ c → handled k older ≡ handled k (Put c bytes ∷ older)
+      others k other =
+          sym (ap (λ (b : Bool). length (bytes_read k older) + length (cond b (bytes_put k older ++ bytes) (bytes_put k older)))
+          (ne_eqb c k (λ same. other (sym same))))
 
-or_false : (a b : Bool) → (a || b) ≡ false → b ≡ false
-or_false true b e = absurd (let clash : true ≡ false = e in cc)
-or_false false b e = e
+      mine : handled c older + length bytes ≤ handled c (Put c bytes ∷ older)
+      mine =
+          let e = ap (λ (b : Bool). length (cond b (bytes_put c older ++ bytes) (bytes_put c older))) (eq-eqb c c refl) in
+          let sum = length-append (bytes_put c older) bytes in
+          omega (arith, e, sum)
 
-pub moves_counted : (h : History) → IsLegal h → is_lost 1 h ≡ false → plugged_count h ≤ 1 → MovesWhatIsCounted h
-moves_counted [] legal here one = omega arith
-moves_counted (Join c ∷ older) legal here one =
-    let before = moves_counted older legal.0 here one in
-    let read = sum_longer (λ c. length (bytes_read c older)) (came_count older) in
-    let put = sum_longer (λ c. length (bytes_put c older)) (came_count older) in
-    omega (arith, before, read, put)
-moves_counted (Enter c port ∷ older) legal here one =
-    let before = moves_counted older legal.0 here one in
-    let read = sum_longer (λ c. length (bytes_read c older)) (came_count older) in
-    let put = sum_longer (λ c. length (bytes_put c older)) (came_count older) in
-    omega (arith, before, read, put)
-moves_counted (Read c bytes ∷ older) legal here one =
-    let before = moves_counted older legal.0 here one in
-    let drawn = legal.2.1 in
-    let joined = (counted older).joined in
-    let more = sum_with c (came_count older) bytes (λ k. bytes_read k older) drawn.0 (let le = drawn.1 in omega (arith, le, joined)) in
-    omega (arith, before, more)
-moves_counted (End c cause ∷ older) legal here one = moves_counted older legal.0 here one
-moves_counted (Bound c port ∷ older) legal here one = moves_counted older legal.0 here one
-moves_counted (Attach t kind serial ∷ older) legal here one = moves_counted older legal.0 here (omega (arith, one))
-moves_counted (Recv t bytes ∷ older) legal here one =
-    let before = moves_counted older legal.0 here one in
-    let drawn = legal.2.1 in
-    let plugged = (counted older).plugged in
-    let some = drawn.0 in
-    let le = drawn.1 in
-    let same : t ≡ 1 = omega (arith, some, le, plugged, one) in
-    let all : bytes_received 1 (Recv t bytes ∷ older) ≡ bytes_received 1 older ++ bytes =
-    ap (λ (b : Bool). cond (b && not (is_lost 1 older)) (bytes_received 1 older ++ bytes) (bytes_received 1 older)) (eq-eqb t 1 same)
-    ∙ ap (λ (b : Bool). cond (not b) (bytes_received 1 older ++ bytes) (bytes_received 1 older)) here in
-    let size = ap (length {A = ℕ}) all in
-    let sum = length-append (bytes_received 1 older) bytes in
-    omega (arith, before, size, sum)
-moves_counted (Detach t cause ∷ older) legal here one = moves_counted older legal.0 (or_false (nat_eq t 1) (is_lost 1 older) here) one
-moves_counted (Put c bytes ∷ older) legal here one =
-    let before = moves_counted older legal.0 here one in
-    let joined = (counted older).joined in
-    let drawn = put_drawn ((state older).clients c) refl legal.2 in
-    let le = drawn.1 in
-    let more = sum_with c (came_count older) bytes (λ k. bytes_put k older) drawn.0 (omega (arith, le, joined)) in
-    omega (arith, before, more)
-  where
-    put_drawn : (o : Option Client) → (state older).clients c ≡ o → MayPut (state older) o bytes → (0 < c) × (c ≤ (state older).joined)
-    put_drawn None is may = absurd may
-    put_drawn (Some client) is may =
-        some_drawn (state older).joined c (state older).clients client (all_owned older legal.0).rows.clients is
-moves_counted (Send t bytes ∷ older) legal here one =
-    let before = moves_counted older legal.0 here one in
-    let plugged = (counted older).plugged in
-    let drawn = link_drawn ((state older).links t) refl legal.2 in
-    let some = drawn.0 in
-    let le = drawn.1 in
-    let same : t ≡ 1 = omega (arith, some, le, plugged, one) in
-    let all : bytes_sent 1 (Send t bytes ∷ older) ≡ bytes_sent 1 older ++ bytes =
-    ap (λ (b : Bool). cond b (bytes_sent 1 older ++ bytes) (bytes_sent 1 older)) (eq-eqb t 1 same) in
-    let size = ap (length {A = ℕ}) all in
-    let sum = length-append (bytes_sent 1 older) bytes in
-    omega (arith, before, size, sum)
-  where
-    link_drawn : (o : Option Link) → (state older).links t ≡ o → MaySend o bytes → (0 < t) × (t ≤ (state older).devices.drawn)
-    link_drawn None is may = absurd may
-    link_drawn (Some link) is may =
-        some_drawn (state older).devices.drawn t (state older).links link (all_owned older legal.0).rows.links is
+  puts_more : (older : History) (c : ℕ) (bytes : List ℕ) → 0 < c → c ≤ came_count before
+      → all_put older + length bytes ≤ all_put (Put c bytes ∷ older)
+  puts_more older c bytes some le =
+      sum_less (λ k. length (bytes_put k (Put c bytes ∷ older))) (λ k. length (bytes_put k older)) c (length bytes) (came_count before) others mine some le
+    where
+      others : (k : ℕ) → k ≢ c → length (bytes_put k older) ≡ length (bytes_put k (Put c bytes ∷ older))
+      others k other =
+          sym (ap (λ (b : Bool). length (cond b (bytes_put k older ++ bytes) (bytes_put k older))) (ne_eqb c k (λ same. other (sym same))))
 
--- ---- what was put has bytes
-pub puts_within : (h : History) → IsLegal h → puts_made h ≤ sum_to (λ c. length (bytes_put c h)) (came_count h)
-puts_within [] legal = omega arith
-puts_within (Join c ∷ older) legal =
-    let before = puts_within older legal.0 in let put = sum_longer (λ c. length (bytes_put c older)) (came_count older) in omega (arith, before, put)
-puts_within (Enter c port ∷ older) legal =
-    let before = puts_within older legal.0 in let put = sum_longer (λ c. length (bytes_put c older)) (came_count older) in omega (arith, before, put)
-puts_within (Read c bytes ∷ older) legal = puts_within older legal.0
-puts_within (End c cause ∷ older) legal = puts_within older legal.0
-puts_within (Bound c port ∷ older) legal = puts_within older legal.0
-puts_within (Attach t kind serial ∷ older) legal = puts_within older legal.0
-puts_within (Recv t bytes ∷ older) legal = puts_within older legal.0
-puts_within (Detach t cause ∷ older) legal = puts_within older legal.0
-puts_within (Send t bytes ∷ older) legal = puts_within older legal.0
-puts_within (Put c bytes ∷ older) legal =
-    let before = puts_within older legal.0 in
-    let joined = (counted older).joined in
-    let drawn = put_drawn ((state older).clients c) refl legal.2 in
-    let le = drawn.0.1 in
-    let some = drawn.1 in
-    let more = sum_with c (came_count older) bytes (λ k. bytes_put k older) drawn.0.0 (omega (arith, le, joined)) in
-    omega (arith, before, more, some)
-  where
-    has_byte : (l : List ℕ) → l ≢ [] → 1 ≤ length l
-    has_byte [] some = absurd (some refl)
-    has_byte (b ∷ l) some = omega arith
+      mine : length (bytes_put c older) + length bytes ≤ length (bytes_put c (Put c bytes ∷ older))
+      mine =
+          let e = ap (λ (b : Bool). length (cond b (bytes_put c older ++ bytes) (bytes_put c older))) (eq-eqb c c refl) in
+          let sum = length-append (bytes_put c older) bytes in
+          omega (arith, e, sum)
 
-    put_drawn : (o : Option Client) → (state older).clients c ≡ o → MayPut (state older) o bytes
-        → ((0 < c) × (c ≤ (state older).joined)) × (1 ≤ length bytes)
-    put_drawn None is may = absurd may
-    put_drawn (Some client) is may = (
-      some_drawn (state older).joined c (state older).clients client (all_owned older legal.0).rows.clients is,
-      has_byte bytes may.some,
-    )
+  pub moves_counted : (more : History) → IsLegal (more ++ before) → AreSteps before more
+      → moved more + all_handled before + on_link before ≤ all_handled (more ++ before) + on_link (more ++ before)
+  moves_counted [] legal steps = omega arith
+  moves_counted (Read c bytes ∷ more) legal steps =
+      let older = moves_counted more legal.0 steps.0 in
+      let drawn = legal.2.1 in
+      let le = drawn.1 in
+      let joined = (counted (more ++ before)).joined in
+      let came = came_same before more steps.0 in
+      let grown = read_more (more ++ before) c bytes drawn.0 (omega (arith, le, joined, came)) in
+      omega (arith, older, grown)
+  moves_counted (Put c bytes ∷ more) legal steps =
+      let older = moves_counted more legal.0 steps.0 in
+      let drawn = put_drawn (more ++ before) legal.0 c bytes ((state (more ++ before)).clients c) refl legal.2 in
+      let le = drawn.1 in
+      let joined = (counted (more ++ before)).joined in
+      let came = came_same before more steps.0 in
+      let grown = put_more (more ++ before) c bytes drawn.0 (omega (arith, le, joined, came)) in
+      omega (arith, older, grown)
+  moves_counted (Recv t bytes ∷ more) legal steps =
+      let older = moves_counted more legal.0 steps.0 in
+      let all : bytes_received 1 (Recv t bytes ∷ (more ++ before)) ≡ bytes_received 1 (more ++ before) ++ bytes =
+      ap (λ (b : Bool). cond (b && not (is_lost 1 (more ++ before))) (bytes_received 1 (more ++ before) ++ bytes) (bytes_received 1 (more ++ before)))
+      (eq-eqb t 1 steps.2)
+      ∙ ap (λ (b : Bool). cond (not b) (bytes_received 1 (more ++ before) ++ bytes) (bytes_received 1 (more ++ before)))
+      (lost_same before more steps.0 ∙ here) in
+      let size = ap (length {A = ℕ}) all in
+      let sum = length-append (bytes_received 1 (more ++ before)) bytes in
+      omega (arith, older, size, sum)
+  moves_counted (Send t bytes ∷ more) legal steps =
+      let older = moves_counted more legal.0 steps.0 in
+      let all : bytes_sent 1 (Send t bytes ∷ (more ++ before)) ≡ bytes_sent 1 (more ++ before) ++ bytes =
+      ap (λ (b : Bool). cond b (bytes_sent 1 (more ++ before) ++ bytes) (bytes_sent 1 (more ++ before))) (eq-eqb t 1 steps.2) in
+      let size = ap (length {A = ℕ}) all in
+      let sum = length-append (bytes_sent 1 (more ++ before)) bytes in
+      omega (arith, older, size, sum)
+  moves_counted (Join c ∷ more) legal steps = absurd steps
+  moves_counted (Enter c port ∷ more) legal steps = absurd steps
+  moves_counted (End c cause ∷ more) legal steps = absurd steps
+  moves_counted (Bound c port ∷ more) legal steps = absurd steps
+  moves_counted (Attach t kind serial ∷ more) legal steps = absurd steps
+  moves_counted (Detach t cause ∷ more) legal steps = absurd steps
+
+  -- what was put has bytes
+  pub puts_within : (more : History) → IsLegal (more ++ before) → AreSteps before more
+      → puts_made (more ++ before) + all_put before ≤ puts_made before + all_put (more ++ before)
+  puts_within [] legal steps = omega arith
+  puts_within (Read c bytes ∷ more) legal steps = puts_within more legal.0 steps.0
+  puts_within (Recv t bytes ∷ more) legal steps = puts_within more legal.0 steps.0
+  puts_within (Send t bytes ∷ more) legal steps = puts_within more legal.0 steps.0
+  puts_within (Put c bytes ∷ more) legal steps =
+      let older = puts_within more legal.0 steps.0 in
+      let drawn = put_drawn (more ++ before) legal.0 c bytes ((state (more ++ before)).clients c) refl legal.2 in
+      let le = drawn.1 in
+      let joined = (counted (more ++ before)).joined in
+      let came = came_same before more steps.0 in
+      let some = has_byte bytes steps.1 in
+      let grown = puts_more (more ++ before) c bytes drawn.0 (omega (arith, le, joined, came)) in
+      omega (arith, older, grown, some)
+  puts_within (Join c ∷ more) legal steps = absurd steps
+  puts_within (Enter c port ∷ more) legal steps = absurd steps
+  puts_within (End c cause ∷ more) legal steps = absurd steps
+  puts_within (Bound c port ∷ more) legal steps = absurd steps
+  puts_within (Attach t kind serial ∷ more) legal steps = absurd steps
+  puts_within (Detach t cause ∷ more) legal steps = absurd steps
+
+-- ---- clients whose input had not ended pay
+module _ (before more : History) (steps : AreSteps before more) where
+  pub handled_here : (n : ℕ) → sum_to (λ c. handled c (more ++ before)) n
+      ≤ sum_to (λ c. handled c before) n + sum_to (λ c. of_here before c (handled c (more ++ before))) n
+  handled_here zero = omega arith
+  handled_here (suc n) =
+      let below = handled_here n in
+      let one = go (has_ended (suc n) before) refl in
+      omega (arith, below, one)
+    where
+      go : (b : Bool) → has_ended (suc n) before ≡ b
+          → handled (suc n) (more ++ before) ≤ handled (suc n) before + cond b 0 (handled (suc n) (more ++ before))
+      go true is = let same = handled_same before (suc n) is more steps in omega (arith, same)
+      go false is = omega arith
+
+  pub put_here : (n : ℕ) → sum_to (λ c. length (bytes_put c (more ++ before))) n
+      ≤ sum_to (λ c. length (bytes_put c before)) n + sum_to (λ c. of_here before c (length (bytes_put c (more ++ before)))) n
+  put_here zero = omega arith
+  put_here (suc n) =
+      let below = put_here n in
+      let one = go (has_ended (suc n) before) refl in
+      omega (arith, below, one)
+    where
+      go : (b : Bool) → has_ended (suc n) before ≡ b
+          → length (bytes_put (suc n) (more ++ before)) ≤ length (bytes_put (suc n) before) + cond b 0 (length (bytes_put (suc n) (more ++ before)))
+      go true is = let same = put_same before (suc n) is more steps in omega (arith, same)
+      go false is = omega arith

@@ -1,5 +1,5 @@
 -- A sum over packets, by the ids that they name; and a sum over streams, by their clients.
-use Rattle.std.specs.Prelude.{ℕ, ◌+◌, ◌≡◌, ◌≢◌, ◌≤◌, ◌<◌, zero, suc, Bool, true, false, cond, nat_eq, All, List, [], ◌∷◌}
+use Rattle.std.specs.Prelude.{ℕ, ◌+◌, ◌≡◌, ◌≢◌, ◌≤◌, ◌<◌, zero, suc, Bool, true, false, cond, nat_eq, All, List, [], ◌∷◌, ◌++◌}
 use Rattle.std.proofs.Common.{refl, sym, ap, subst, arith, ◌∙◌, ◌⊎◌, inl, inr}
 use Rattle.std.proofs.lemmas.Bool.{eq-eqb, ne_eqb}
 use Rattle.std.proofs.lemmas.List.Elements.{All-head, All-tail}
@@ -16,6 +16,14 @@ module _ (weight key : Packet → ℕ) where
   abbrev pub part : ℕ → List Packet → ℕ
   part l [] = 0
   part l (p ∷ packets) = cond (nat_eq (key p) l) (weight p) 0 + part l packets
+
+  pub total_append : (front rest : List Packet) → total (front ++ rest) ≡ total front + total rest
+  total_append [] rest = refl
+  total_append (p ∷ front) rest = let e = total_append front rest in omega (arith, e)
+
+  pub part_append : (l : ℕ) (front rest : List Packet) → part l (front ++ rest) ≡ part l front + part l rest
+  part_append l [] rest = refl
+  part_append l (p ∷ front) rest = let e = part_append l front rest in omega (arith, e)
 
   -- a packet without weight, or of an id up to this
   abbrev pub IsWithin : ℕ → Packet → Type 0

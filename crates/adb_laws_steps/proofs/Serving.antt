@@ -1,5 +1,5 @@
--- What a model device serves: the tolls of all that became due, against the CLSEs of the rows that live.
-use Rattle.std.specs.Prelude.{ℕ, ◌+◌, ◌-◌, ◌==◌, ◌≡◌, ◌≢◌, ◌≤◌, ◌||◌, ◌&&◌, if◌then◌else◌, Bool, true, false, All, List, [], ◌∷◌, ◌++◌, length, map, fold, Option}
+-- What a model device serves behind what it owed: the tolls of what becomes due, against the CLSEs of the rows that live.
+use Rattle.std.specs.Prelude.{ℕ, ◌+◌, ◌-◌, ◌==◌, ◌≡◌, ◌≢◌, ◌≤◌, ◌||◌, ◌&&◌, if◌then◌else◌, Bool, true, false, All, List, [], ◌∷◌, ◌++◌, length, map, fold, cond, Option}
 use Rattle.std.specs.Prelude.{Some, None, nat_eq, zero, suc, option_map, unwrap_or}
 use Rattle.std.specs.List.{sum_by}
 use Rattle.std.specs.List.Sorted.{IsStrictlySortedBy}
@@ -7,21 +7,20 @@ use Rattle.std.specs.Map.{values_of}
 use Rattle.std.specs.BTreeMap.{is_at}
 use Rattle.std.specs.Ordering.{nat_cmp}
 use Rattle.std.proofs.Common.{refl, sym, ◌∙◌, ap, subst, arith, append_assoc, ◌⊎◌, inl, inr}
-use Rattle.std.proofs.lemmas.Bool.{cases_eq, eq-eqb}
+use Rattle.std.proofs.lemmas.Bool.{eqb-true}
+use Rattle.std.proofs.lemmas.List.{append-nil}
 use Rattle.std.proofs.lemmas.Cmp.{nat_cmp_total}
 use Rattle.std.proofs.lemmas.Map.Entries.{sum_by-remove_entry, sum_by-insert_entry}
 use Rattle.std.proofs.lemmas.List.Elements.{All-nil, All-cons, All-append, All-head, All-tail}
 use Rattle.byteorder.specs.Endian.{little_bytes}
 use Rattle.adb_outside.specs.Tables.{at, IsRising, put_at, without}
-use Rattle.adb_outside.proofs.TableLaws.{puts_put_at, puts_without, put_at_rises, without_rises}
+use Rattle.adb_outside.proofs.TableLaws.{put_at_rises, without_rises}
 use Rattle.adb_wire.specs.declared.command.Command.{Command}
 use Rattle.adb_wire.specs.declared.command.Command.TheVariants as commands
 use Rattle.adb_wire.specs.declared.packets.Packet.{Packet}
 use Rattle.adb_wire.specs.Format.{is_cnxn}
 use Rattle.adb_stream.specs.declared.flow.Flow.{Flow}
 use Rattle.adb_stream.specs.declared.flow.Flow.TheVariants as flows
-use Rattle.adb_history.specs.Births.{count_from, is_open, is_wrte}
-use Rattle.adb_laws_births.proofs.Once.{count_append}
 use Rattle.adb_device_streams.specs.Asked.{Kind}
 use Rattle.adb_device_streams.specs.Service.{came_over, files_fed, files_opened}
 use Rattle.adb_device_streams.specs.Stream.{Row, opened, row_took, row_acked, row_past, row_past_all, row_written, writes, writes_at, next_payload, unsent, is_done}
@@ -32,110 +31,102 @@ use Rattle.adb_daemon.specs.Serving.{Serving, Sent, with_sum, owing, granted, ke
 use Rattle.adb_daemon.specs.Serving.{kind_for, on_open, named, sent_ack, written_to, on_write, acked_to, on_okay, closed_to, closable, on_close, all_gone, served}
 use Rattle.adb_daemon.specs.Device.{Setting, Device, own_cnxn, identity_text, first_device, linked_to, served_on, treated, step, device_behind}
 use Rattle.adb_laws_steps.specs.Tolls.{toll, IsWorth}
-use Rattle.adb_laws_steps.specs.Owed.{answer_toll, answer_tolls, sent_tolls, IsFine, OpensFor, AnswersAlone, DeviceAnswersAlone}
-
--- ---- rows that live have their CLSEs still to come
-abbrev row_toll : Row → ℕ
-row_toll row = 24
-
-abbrev live_tolls : List (ℕ × Row) → ℕ
-live_tolls rows = sum_by row_toll (values_of rows)
-
-abbrev here_toll : Option Row → ℕ
-here_toll found = unwrap_or (option_map row_toll found) 0
-
-put_tolls : (n : ℕ) (row : Row) (rows : List (ℕ × Row)) → IsRising rows → live_tolls (put_at n row rows) + here_toll (at n rows) ≡ live_tolls rows + 24
-put_tolls n row rows rises = sum_by-insert_entry row_toll nat_cmp_total rows n row rises
-
-left_tolls : (n : ℕ) (rows : List (ℕ × Row)) → live_tolls (without n rows) + here_toll (at n rows) ≡ live_tolls rows
-left_tolls n rows = sum_by-remove_entry row_toll (is_at (nat_cmp n)) rows
+use Rattle.adb_laws_steps.specs.Owed.{answer_toll, answer_tolls, asks, sent_tolls, IsFine, AsksFor, row_toll, row_tolls, AnswersAlone, DeviceAnswersAlone}
 
 sent_tolls_append : (a b : List Sent) → sent_tolls (a ++ b) ≡ sent_tolls a + sent_tolls b
 sent_tolls_append [] b = omega arith
 sent_tolls_append (one ∷ a) b = let e = sent_tolls_append a b in omega (arith, e)
 
--- ---- what stands of what is served
-module _ (P : ℕ → Type 0) where
-  -- all that became due is fine, the live rows are for ids of which P holds, and the tolls are paid, with so much left over
+-- ---- what stands of what is served behind what was owed before, for ids of the host that are watched
+module _ (q : ℕ → Bool) (base : List Sent) where
+  abbrev P : ℕ → Type 0
+  P l = q l ≡ true
+
+  -- a row of such an id has its CLSE still to come
+  toll_at_most : (row : Row) → row_toll q row ≤ 24
+  toll_at_most row = go (q row.host)
+    where
+      go : (b : Bool) → cond b 24 0 ≤ 24
+      go true = omega arith
+      go false = omega arith
+
+  abbrev here_toll : Option Row → ℕ
+  here_toll found = unwrap_or (option_map (row_toll q) found) 0
+
+  put_tolls : (n : ℕ) (row : Row) (rows : List (ℕ × Row)) → IsRising rows
+      → row_tolls q (put_at n row rows) + here_toll (at n rows) ≡ row_tolls q rows + row_toll q row
+  put_tolls n row rows rises = sum_by-insert_entry (row_toll q) nat_cmp_total rows n row rises
+
+  left_tolls : (n : ℕ) (rows : List (ℕ × Row)) → row_tolls q (without n rows) + here_toll (at n rows) ≡ row_tolls q rows
+  left_tolls n rows = sum_by-remove_entry (row_toll q) (is_at (nat_cmp n)) rows
+
+  -- what became due is fine, and the tolls are paid, with so much left over
   record Stands (n left : ℕ) (s : Serving) : Type 0 where
     rises : IsRising s.rows
-    hosts : (own : ℕ) (row : Row) → at own s.rows ≡ Some row → P row.host
-    fine : All (IsFine P) s.made
-    cost : sent_tolls s.made + live_tolls s.rows + left ≤ n
+    more : List Sent
+    is : s.made ≡ base ++ more
+    fine : All (IsFine P) more
+    cost : sent_tolls more + row_tolls q s.rows + left ≤ n
 
   within : (a b k l : ℕ) (s : Serving) → a + l ≤ b + k → Stands a k s → Stands b l s
-  within a b k l s le h = record { rises = h.rises; hosts = h.hosts; fine = h.fine; cost = (let cost = h.cost in omega (arith, cost, le)) }
+  within a b k l s le h = record { rises = h.rises; more = h.more; is = h.is; fine = h.fine; cost = (let cost = h.cost in omega (arith, cost, le)) }
 
   -- more becomes due
   owes : (n m left : ℕ) (more : List Sent) (s : Serving) → All (IsFine P) more → sent_tolls more ≤ m → Stands n left s → Stands (n + m) left (owing more s)
   owes n m left more s fine le h = record {
     rises = h.rises;
-    hosts = h.hosts;
-    fine = All-append (IsFine P) s.made more h.fine fine;
-    cost = (let cost = h.cost in let sum = sent_tolls_append s.made more in omega (arith, cost, le, sum));
+    more = h.more ++ more;
+    is = ap (λ (x : List Sent). x ++ more) h.is ∙ append_assoc base h.more more;
+    fine = All-append (IsFine P) h.more more h.fine fine;
+    cost = (let cost = h.cost in let sum = sent_tolls_append h.more more in omega (arith, cost, le, sum));
   }
 
   -- a row is kept, which stood there or not
-  keeps_hosts : (own : ℕ) (row : Row) (s : Serving) → ((k : ℕ) (x : Row) → at k s.rows ≡ Some x → P x.host) → P row.host
-      → (k : ℕ) (x : Row) → at k (put_at own row s.rows) ≡ Some x → P x.host
-  keeps_hosts own row s hosts host k x is = go (cases_eq k own)
-    where
-      go : (k ≡ own) ⊎ (k ≡ own → ⊥) → P x.host
-      go (inl same) =
-          let here : Some row ≡ Some x = sym (puts_put_at own row s.rows).here ∙ (ap (λ q. at q (put_at own row s.rows)) (sym same) ∙ is) in
-          let one : row ≡ x = cc in
-          subst (λ (y : Row). P y.host) one host
-      go (inr apart) = hosts k x (sym ((puts_put_at own row s.rows).others k apart) ∙ is)
-
-  keeps : (n left : ℕ) (own : ℕ) (row : Row) (s : Serving) → P row.host → Stands n left s → Stands (n + 24) left (kept own row s)
-  keeps n left own row s host h = record {
+  keeps : (n left : ℕ) (own : ℕ) (row : Row) (s : Serving) → Stands n left s → Stands (n + 24) left (kept own row s)
+  keeps n left own row s h = record {
     rises = put_at_rises own row s.rows h.rises;
-    hosts = keeps_hosts own row s h.hosts host;
+    more = h.more;
+    is = h.is;
     fine = h.fine;
-    cost = (let cost = h.cost in let sum = put_tolls own row s.rows h.rises in omega (arith, cost, sum));
+    cost = (let cost = h.cost in let sum = put_tolls own row s.rows h.rises in let most = toll_at_most row in omega (arith, cost, sum, most));
   }
 
-  keeps_there : (n left : ℕ) (own : ℕ) (row old : Row) (s : Serving) → at own s.rows ≡ Some old → P row.host → Stands n left s
+  keeps_there : (n left : ℕ) (own : ℕ) (row old : Row) (s : Serving) → at own s.rows ≡ Some old → row.host ≡ old.host → Stands n left s
       → Stands n left (kept own row s)
-  keeps_there n left own row old s is host h = record {
+  keeps_there n left own row old s is same h = record {
     rises = put_at_rises own row s.rows h.rises;
-    hosts = keeps_hosts own row s h.hosts host;
+    more = h.more;
+    is = h.is;
     fine = h.fine;
     cost = (
         let cost = h.cost in
         let sum = put_tolls own row s.rows h.rises in
-        let there : here_toll (at own s.rows) ≡ 24 = ap here_toll is in
-        omega (arith, cost, sum, there));
+        let there : here_toll (at own s.rows) ≡ row_toll q old = ap here_toll is in
+        let toll : row_toll q row ≡ row_toll q old = ap (λ (k : ℕ). cond (q k) 24 0) same in
+        omega (arith, cost, sum, there, toll));
   }
 
   -- a row goes
-  left_hosts : (own : ℕ) (s : Serving) → IsRising s.rows → ((k : ℕ) (x : Row) → at k s.rows ≡ Some x → P x.host)
-      → (k : ℕ) (x : Row) → at k (without own s.rows) ≡ Some x → P x.host
-  left_hosts own s rises hosts k x is = go (cases_eq k own)
-    where
-      go : (k ≡ own) ⊎ (k ≡ own → ⊥) → P x.host
-      go (inl same) = absurd (
-          let clash : None ≡ Some x = sym (puts_without own s.rows rises).here ∙ (ap (λ q. at q (without own s.rows)) (sym same) ∙ is) in cc)
-      go (inr apart) = hosts k x (sym ((puts_without own s.rows rises).others k apart) ∙ is)
-
   goes : (n left : ℕ) (closed : Bool) (own : ℕ) (row : Row) (s : Serving) → Stands n left s → Stands n left (gone closed own row s)
   goes n left closed own row s h = record {
     rises = without_rises own s.rows h.rises;
-    hosts = left_hosts own s h.rises h.hosts;
+    more = h.more;
+    is = h.is;
     fine = h.fine;
     cost = (let cost = h.cost in let sum = left_tolls own s.rows in omega (arith, cost, sum));
   }
 
-  goes_there : (n left : ℕ) (closed : Bool) (own : ℕ) (row old : Row) (s : Serving) → at own s.rows ≡ Some old → Stands n left s
+  goes_there : (n left : ℕ) (closed : Bool) (own : ℕ) (row old : Row) (s : Serving) → at own s.rows ≡ Some old → P old.host → Stands n left s
       → Stands n (left + 24) (gone closed own row s)
-  goes_there n left closed own row old s is h = record {
+  goes_there n left closed own row old s is host h = record {
     rises = without_rises own s.rows h.rises;
-    hosts = left_hosts own s h.rises h.hosts;
+    more = h.more;
+    is = h.is;
     fine = h.fine;
     cost = (
         let cost = h.cost in
         let sum = left_tolls own s.rows in
-        let there : here_toll (at own s.rows) ≡ 24 = ap here_toll is in
+        let there : here_toll (at own s.rows) ≡ 24 = ap here_toll is ∙ ap (λ (b : Bool). cond b 24 0) host in
         omega (arith, cost, sum, there));
   }
 
@@ -196,33 +187,30 @@ module _ (P : ℕ → Type 0) where
       later : Stands n left (owing (sent_writes link own row) s)
       later = wrote n left link own row s host h
 
-      to : P (row_written link.most row).host
-      to = subst P (sym (same_host (writes link.most row) row)) host
-
       go : (b : Bool) → Stands (n + 24) left (settled_as b link own (row_written link.most row) (owing (sent_writes link own row) s))
-      go false = keeps n left own (row_written link.most row) (owing (sent_writes link own row) s) to later
+      go false = keeps n left own (row_written link.most row) (owing (sent_writes link own row) s) later
       go true =
           goes (n + 24) left true own (row_written link.most row)
           (owing (sent_close true link own (row_written link.most row).host) (owing (sent_writes link own row) s))
           (owes n 24 left (sent_close true link own (row_written link.most row).host) (owing (sent_writes link own row) s)
           (close_fine link own (row_written link.most row).host) (omega arith) later)
 
-  settles_there : (n : ℕ) (link : Link) (own : ℕ) (row old : Row) (s : Serving) → at own s.rows ≡ Some old → P row.host → Stands n 0 s
-      → Stands n 0 (settled link own row s)
-  settles_there n link own row old s is host h = go (is_done (row_written link.most row))
+  settles_there : (n : ℕ) (link : Link) (own : ℕ) (row old : Row) (s : Serving) → at own s.rows ≡ Some old → P old.host → row.host ≡ old.host
+      → Stands n 0 s → Stands n 0 (settled link own row s)
+  settles_there n link own row old s is host same h = go (is_done (row_written link.most row))
     where
       later : Stands n 0 (owing (sent_writes link own row) s)
-      later = wrote n 0 link own row s host h
+      later = wrote n 0 link own row s (subst P (sym same) host) h
 
-      to : P (row_written link.most row).host
-      to = subst P (sym (same_host (writes link.most row) row)) host
+      to : (row_written link.most row).host ≡ old.host
+      to = same_host (writes link.most row) row ∙ same
 
       go : (b : Bool) → Stands n 0 (settled_as b link own (row_written link.most row) (owing (sent_writes link own row) s))
       go false = keeps_there n 0 own (row_written link.most row) old (owing (sent_writes link own row) s) is to later
       go true =
           let closing : Serving = owing (sent_close true link own (row_written link.most row).host) (owing (sent_writes link own row) s) in
           within (n + 24) n (0 + 24) 0 (gone true own (row_written link.most row) closing) (omega arith)
-          (goes_there (n + 24) 0 true own (row_written link.most row) old closing is
+          (goes_there (n + 24) 0 true own (row_written link.most row) old closing is host
           (owes n 24 0 (sent_close true link own (row_written link.most row).host) (owing (sent_writes link own row) s)
           (close_fine link own (row_written link.most row).host) (omega arith) later))
 
@@ -246,7 +234,7 @@ module _ (P : ℕ → Type 0) where
       } in
       within (n + 28 + 24) (n + 52) 0 0 (open_as link p (Some kind) s) (omega arith)
       (settles (n + 28) 0 link (s.drawn + 1) (opened p.arg0 kind s.files (credit_of link p)) drawn host
-      (record { rises = okayed.rises; hosts = okayed.hosts; fine = okayed.fine; cost = okayed.cost }))
+      (record { rises = okayed.rises; more = okayed.more; is = okayed.is; fine = okayed.fine; cost = okayed.cost }))
 
   on_open_stands : (n : ℕ) (link : Link) (p : Packet) (s : Serving) → P p.arg0 → Stands n 0 s → Stands (n + 52) 0 (on_open link p s)
   on_open_stands n link p s host h = go (p.arg0 == 0 || is_taken p.arg0 s.rows)
@@ -264,12 +252,14 @@ module _ (P : ℕ → Type 0) where
       go true e = e
       go false e = absurd (let clash : None ≡ Some row = e in cc)
 
-  closable_there : (host : ℕ) (found : Option Row) (row : Row) → closable host found ≡ Some row → found ≡ Some row
-  closable_there host found row is = go (host == 0) is
+  -- and is for that name
+  named_host : (host : ℕ) (found : Option Row) (row : Row) → named host found ≡ Some row → row.host ≡ host
+  named_host host None row is = absurd (let clash : None ≡ Some row = is in cc)
+  named_host host (Some x) row is = go (x.host == host) refl is
     where
-      go : (b : Bool) → (if b then found else named host found) ≡ Some row → found ≡ Some row
-      go true e = e
-      go false e = named_there host found row e
+      go : (b : Bool) → (x.host == host) ≡ b → (if b then Some x else None) ≡ Some row → row.host ≡ host
+      go true f e = (let same : x ≡ row = cc in ap (λ (r : Row). r.host) (sym same) ∙ eqb-true x.host host f)
+      go false f e = absurd (let clash : None ≡ Some row = e in cc)
 
   ack_fine : (link : Link) (own host : ℕ) (flow : Flow) (k : ℕ) → All (IsFine P) (sent_ack link own host flow k) × (sent_tolls (sent_ack link own host flow k) ≤ 28)
   ack_fine link own host (flows.One window) k = (okay_fine link own host [], omega arith)
@@ -280,37 +270,42 @@ module _ (P : ℕ → Type 0) where
       go true = (All-nil (IsFine P), omega arith)
       go false = let size : length (little_bytes 4 k) ≡ 4 = refl in (okay_fine link own host (little_bytes 4 k), omega (arith, size))
 
-  write_stands : (n : ℕ) (link : Link) (p : Packet) (found : Option Row) (s : Serving) → ((row : Row) → found ≡ Some row → at p.arg1 s.rows ≡ Some row)
-      → Stands n 0 s → Stands (n + 28) 0 (written_to link p found s)
-  write_stands n link p None s there h = within n (n + 28) 0 0 s (omega arith) h
-  write_stands n link p (Some row) s there h =
-      let is = there row refl in
+  write_stands : (n : ℕ) (link : Link) (p : Packet) (found : Option Row) (s : Serving) → P p.arg0
+      → ((row : Row) → found ≡ Some row → (at p.arg1 s.rows ≡ Some row) × (row.host ≡ p.arg0)) → Stands n 0 s → Stands (n + 28) 0 (written_to link p found s)
+  write_stands n link p None s host there h = within n (n + 28) 0 0 s (omega arith) h
+  write_stands n link p (Some row) s host there h =
+      let is = (there row refl).0 in
+      let for_it = subst P (sym (there row refl).1) host in
       let ack = ack_fine link p.arg1 row.host row.flow (length p.payload) in
       let okayed = owes n 28 0 (sent_ack link p.arg1 row.host row.flow (length p.payload)) s ack.0 ack.1 h in
       settles_there (n + 28) link p.arg1 (row_took (came_over p.payload s.files) row) row
       (record (owing (sent_ack link p.arg1 row.host row.flow (length p.payload)) s) { files = files_fed row.kind row.past (came_over p.payload s.files) })
-      is (h.hosts p.arg1 row is) (record { rises = okayed.rises; hosts = okayed.hosts; fine = okayed.fine; cost = okayed.cost })
+      is for_it refl (record { rises = okayed.rises; more = okayed.more; is = okayed.is; fine = okayed.fine; cost = okayed.cost })
 
-  ack_stands : (n : ℕ) (link : Link) (p : Packet) (found : Option Row) (s : Serving) → ((row : Row) → found ≡ Some row → at p.arg1 s.rows ≡ Some row)
-      → Stands n 0 s → Stands n 0 (acked_to link p found s)
-  ack_stands n link p None s there h = h
-  ack_stands n link p (Some row) s there h =
-      let is = there row refl in
+  ack_stands : (n : ℕ) (link : Link) (p : Packet) (found : Option Row) (s : Serving) → P p.arg0
+      → ((row : Row) → found ≡ Some row → (at p.arg1 s.rows ≡ Some row) × (row.host ≡ p.arg0)) → Stands n 0 s → Stands n 0 (acked_to link p found s)
+  ack_stands n link p None s host there h = h
+  ack_stands n link p (Some row) s host there h =
+      let is = (there row refl).0 in
+      let for_it = subst P (sym (there row refl).1) host in
       settles_there n link p.arg1 (row_acked (credit_word_in p.payload) row) row (granted p.arg1 (credit_word_in p.payload) s)
-      is (h.hosts p.arg1 row is) (record { rises = h.rises; hosts = h.hosts; fine = h.fine; cost = h.cost })
+      is for_it refl (record { rises = h.rises; more = h.more; is = h.is; fine = h.fine; cost = h.cost })
 
   close_stands : (n own : ℕ) (found : Option Row) (s : Serving) → Stands n 0 s → Stands n 0 (closed_to own found s)
   close_stands n own None s h = h
   close_stands n own (Some row) s h = goes n 0 false own row s h
 
-  served_stands : (n : ℕ) (command : Command) (link : Link) (p : Packet) (s : Serving) → (is_open command ≡ true → P p.arg0) → Stands n 0 s
+  named_as : (p : Packet) (s : Serving) (row : Row) → named p.arg0 (at p.arg1 s.rows) ≡ Some row → (at p.arg1 s.rows ≡ Some row) × (row.host ≡ p.arg0)
+  named_as p s row is = (named_there p.arg0 (at p.arg1 s.rows) row is, named_host p.arg0 (at p.arg1 s.rows) row is)
+
+  served_stands : (n : ℕ) (command : Command) (link : Link) (p : Packet) (s : Serving) → (asks command ≡ true → P p.arg0) → Stands n 0 s
       → Stands (n + answer_toll command) 0 (served command link p s)
   served_stands n commands.Open link p s host h = on_open_stands n link p s (host refl) h
   served_stands n commands.Wrte link p s host h =
-      write_stands n link p (named p.arg0 (at p.arg1 s.rows)) s (λ row is. named_there p.arg0 (at p.arg1 s.rows) row is) h
+      write_stands n link p (named p.arg0 (at p.arg1 s.rows)) s (host refl) (λ row is. named_as p s row is) h
   served_stands n commands.Okay link p s host h =
       within n (n + 0) 0 0 (on_okay link p s) (omega arith)
-      (ack_stands n link p (named p.arg0 (at p.arg1 s.rows)) s (λ row is. named_there p.arg0 (at p.arg1 s.rows) row is) h)
+      (ack_stands n link p (named p.arg0 (at p.arg1 s.rows)) s (host refl) (λ row is. named_as p s row is) h)
   served_stands n commands.Clse link p s host h =
       within n (n + 0) 0 0 (on_close p s) (omega arith) (close_stands n p.arg1 (closable p.arg0 (at p.arg1 s.rows)) s h)
   served_stands n commands.Cnxn link p s host h = within n (n + 0) 0 0 s (omega arith) h
@@ -321,7 +316,8 @@ module _ (P : ℕ → Type 0) where
   unfolding IsStrictlySortedBy
   gone_stands n s h = record {
     rises = tt;
-    hosts = λ own row is. absurd (let clash : None ≡ Some row = is in cc);
+    more = h.more;
+    is = h.is;
     fine = h.fine;
     cost = (let cost = h.cost in omega (arith, cost));
   }
@@ -331,12 +327,12 @@ module _ (P : ℕ → Type 0) where
   linked_stands n None d h = h
   linked_stands n (Some link) d h = gone_stands n d.serving h
 
-  on_link_stands : (n : ℕ) (o : Option Link) (p : Packet) (d : Device) → OpensFor P p → Stands n 0 d.serving
+  on_link_stands : (n : ℕ) (o : Option Link) (p : Packet) (d : Device) → AsksFor q p → Stands n 0 d.serving
       → Stands (n + answer_toll p.command) 0 (served_on o p d).serving
   on_link_stands n None p d host h = within n (n + answer_toll p.command) 0 0 d.serving (omega arith) h
   on_link_stands n (Some link) p d host h = served_stands n p.command link p d.serving host h
 
-  step_stands : (n : ℕ) (setting : Setting) (d : Device) (p : Packet) → OpensFor P p → Stands n 0 d.serving
+  step_stands : (n : ℕ) (setting : Setting) (d : Device) (p : Packet) → AsksFor q p → Stands n 0 d.serving
       → Stands (n + answer_toll p.command) 0 (step setting d p).serving
   unfolding step
   step_stands n setting d p host h = go d.refused (is_cnxn p.command)
@@ -349,53 +345,65 @@ module _ (P : ℕ → Type 0) where
           (linked_stands n (link_of setting.most setting.credit p) d h)
       go false false = on_link_stands n d.link p d host h
 
-  behind_stands : (n : ℕ) (setting : Setting) (packets : List Packet) (d : Device) → All (OpensFor P) packets → Stands n 0 d.serving
+  behind_stands : (n : ℕ) (setting : Setting) (packets : List Packet) (d : Device) → All (AsksFor q) packets → Stands n 0 d.serving
       → Stands (n + answer_tolls packets) 0 (fold (step setting) d packets).serving
   behind_stands n setting [] d all h = within n (n + 0) 0 0 d.serving (omega arith) h
   behind_stands n setting (p ∷ packets) d all h =
       within (n + answer_toll p.command + answer_tolls packets) (n + answer_tolls (p ∷ packets)) 0 0
       (fold (step setting) (step setting d p) packets).serving (omega arith)
-      (behind_stands (n + answer_toll p.command) setting packets (step setting d p) (All-tail (OpensFor P) p packets all)
-      (step_stands n setting d p (All-head (OpensFor P) p packets all) h))
+      (behind_stands (n + answer_toll p.command) setting packets (step setting d p) (All-tail (AsksFor q) p packets all)
+      (step_stands n setting d p (All-head (AsksFor q) p packets all) h))
 
-  identity_short : (credit : Bool) → length (identity_text credit) ≤ 106
-  identity_short true = let size : length (identity_text true) ≡ 106 = refl in omega (arith, size)
-  identity_short false = let size : length (identity_text false) ≡ 95 = refl in omega (arith, size)
+-- ---- what a device made from the beginning
+identity_short : (credit : Bool) → length (identity_text credit) ≤ 106
+identity_short true = let size : length (identity_text true) ≡ 106 = refl in omega (arith, size)
+identity_short false = let size : length (identity_text false) ≡ 95 = refl in omega (arith, size)
 
-  first_stands : (setting : Setting) → Stands 130 0 (first_device setting).serving
-  unfolding IsStrictlySortedBy
-  first_stands setting = record {
-    rises = tt;
-    hosts = λ own row is. absurd (let clash : None ≡ Some row = is in cc);
-    fine = All-cons (IsFine P) (own_cnxn setting) [] (record { worth = tt; host = λ e. cc }) (All-nil (IsFine P));
-    cost = (let short = identity_short setting.credit in omega (arith, short));
-  }
+abbrev any : ℕ → Bool
+any l = true
 
-all_any : (packets : List Packet) → All (OpensFor (λ l. Unit {0})) packets
-all_any [] = All-nil (OpensFor (λ l. Unit {0}))
-all_any (p ∷ packets) = All-cons (OpensFor (λ l. Unit {0})) p packets (λ e. tt) (all_any packets)
-
--- each OPEN is one of those that were counted
-all_counted : (front packets : List Packet) → All (OpensFor (λ l. 1 ≤ count_from is_open l (front ++ packets))) packets
-all_counted front [] = All-nil (OpensFor (λ l. 1 ≤ count_from is_open l (front ++ [])))
-all_counted front (p ∷ packets) =
-    let whole : (front ++ p ∷ []) ++ packets ≡ front ++ p ∷ packets = append_assoc front (p ∷ []) packets in
-    All-cons (OpensFor (λ l. 1 ≤ count_from is_open l (front ++ p ∷ packets))) p packets here
-    (subst (λ (ps : List Packet). All (OpensFor (λ l. 1 ≤ count_from is_open l ps)) packets) whole (all_counted (front ++ p ∷ []) packets))
-  where
-    here : is_open p.command ≡ true → 1 ≤ count_from is_open p.arg0 (front ++ p ∷ packets)
-    here e =
-        let one : count_from is_open p.arg0 (p ∷ packets) ≡ 1 + count_from is_open p.arg0 packets =
-        ap (λ (b : Bool). if b && nat_eq p.arg0 p.arg0 then 1 + count_from is_open p.arg0 packets else count_from is_open p.arg0 packets) e
-        ∙ ap (λ (b : Bool). if b then 1 + count_from is_open p.arg0 packets else count_from is_open p.arg0 packets) (eq-eqb p.arg0 p.arg0 refl) in
-        let sum = count_append is_open p.arg0 front (p ∷ packets) in
-        omega (arith, one, sum)
-
-pub answers_alone : (setting : Setting) → DeviceAnswersAlone setting
-answers_alone setting packets = record {
-  tolls = (
-      let cost = (behind_stands (λ l. Unit {0}) 130 setting packets (first_device setting) (all_any packets) (first_stands (λ l. Unit {0}) setting)).cost in
-      omega (arith, cost));
-  fine = (behind_stands (λ l. 1 ≤ count_from is_open l packets) 130 setting packets (first_device setting) (all_counted [] packets)
-      (first_stands (λ l. 1 ≤ count_from is_open l packets) setting)).fine;
+first_stands : (setting : Setting) → Stands any [] 130 0 (first_device setting).serving
+unfolding IsStrictlySortedBy
+first_stands setting = record {
+  rises = tt;
+  more = own_cnxn setting ∷ [];
+  is = refl;
+  fine = All-cons (IsFine (λ l. true ≡ true)) (own_cnxn setting) [] (record { worth = tt; host = λ e. cc }) (All-nil (IsFine (λ l. true ≡ true)));
+  cost = (let short = identity_short setting.credit in omega (arith, short));
 }
+
+all_any : (packets : List Packet) → All (AsksFor any) packets
+all_any [] = All-nil (AsksFor any)
+all_any (p ∷ packets) = All-cons (AsksFor any) p packets (λ e. refl) (all_any packets)
+
+whole : (setting : Setting) (packets : List Packet) → Stands any [] (130 + answer_tolls packets) 0 (device_behind setting packets).serving
+whole setting packets = behind_stands any [] 130 setting packets (first_device setting) (all_any packets) (first_stands setting)
+
+-- its rows rise, and each of its packets is worth its answer
+pub rows_rise : (setting : Setting) (packets : List Packet) → IsRising (device_behind setting packets).serving.rows
+rows_rise setting packets = (whole setting packets).rises
+
+pub all_worth : (setting : Setting) (packets : List Packet) → All (IsFine (λ l. true ≡ true)) (device_behind setting packets).serving.made
+all_worth setting packets = subst (All (IsFine (λ l. true ≡ true))) (sym (whole setting packets).is) (whole setting packets).fine
+
+-- ---- behind some packets
+pub answers_alone : (setting : Setting) → DeviceAnswersAlone setting
+answers_alone setting q front more all = record { made = stands.more; is = stands.is; tolls = (let cost = stands.cost in omega (arith, cost)); fine = stands.fine }
+  where
+    begins : Stands q (device_behind setting front).serving.made (row_tolls q (device_behind setting front).serving.rows) 0 (device_behind setting front).serving
+    begins = record {
+      rises = rows_rise setting front;
+      more = [];
+      is = sym (append-nil (device_behind setting front).serving.made);
+      fine = All-nil (IsFine (λ l. q l ≡ true));
+      cost = omega arith;
+    }
+
+    stands : Stands q (device_behind setting front).serving.made (row_tolls q (device_behind setting front).serving.rows + answer_tolls more) 0
+        (device_behind setting (front ++ more)).serving
+    stands =
+        subst (λ (d : Device). Stands q (device_behind setting front).serving.made
+        (row_tolls q (device_behind setting front).serving.rows + answer_tolls more) 0 d.serving)
+        (sym (step_more setting (first_device setting) front more))
+        (behind_stands q (device_behind setting front).serving.made (row_tolls q (device_behind setting front).serving.rows) setting more
+        (device_behind setting front) all begins)

@@ -22,7 +22,7 @@ use Rattle.adb_laws_steps.proofs.Entering.{reads_costs, enters_costs, bound_cost
 use Rattle.adb_laws_steps.proofs.Brings.{cut_costs}
 
 -- ---- of all packets, those behind and those before
-all_behind : (P : Packet → Type 0) (front rest : List Packet) → All P (front ++ rest) → All P rest
+pub all_behind : (P : Packet → Type 0) (front rest : List Packet) → All P (front ++ rest) → All P rest
 all_behind P [] rest all = all
 all_behind P (p ∷ front) rest all = all_behind P front rest (All-tail P p (front ++ rest) all)
 
@@ -84,12 +84,12 @@ puts_more (Detach t cause) older = omega arith
 puts_more (Put c bytes) older = omega arith
 puts_more (Send t bytes) older = omega arith
 
-pub tolls_paid : (h : History) → IsLegal h → BringWorth h → TollsArePaid h
-tolls_paid [] legal worth = omega arith
-tolls_paid (e ∷ older) legal worth =
-    let before = tolls_paid older legal.0 (worth_before e older worth) in
-    let step = step_costs e older legal.0 worth in
+pub tolls_paid : (before more : History) → IsLegal (more ++ before) → BringWorth (more ++ before) → TollsArePaid before more
+tolls_paid before [] legal worth = omega arith
+tolls_paid before (e ∷ more) legal worth =
+    let older = tolls_paid before more legal.0 (worth_before e (more ++ before) worth) in
+    let step = step_costs e (more ++ before) legal.0 worth in
     let cost = step.cost in
-    let puts = puts_more e older in
-    let all = tolls_append (told older) (told_at e older) in
-    omega (arith, before, cost, puts, all)
+    let puts = puts_more e (more ++ before) in
+    let all = tolls_append (told (more ++ before)) (told_at e (more ++ before)) in
+    omega (arith, older, cost, puts, all)

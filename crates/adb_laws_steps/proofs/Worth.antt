@@ -6,7 +6,6 @@ use Rattle.std.proofs.lemmas.List.Elements.{All-nil, All-cons, All-head, All-tai
 use Rattle.adb_wire.specs.Cutting.{framed}
 use Rattle.adb_wire.specs.declared.packets.Packet.{Packet}
 use Rattle.adb_capture.specs.declared.entry.Entry.TheVariants.{Join, Enter, Read, End, Bound, Attach, Recv, Detach, Put, Send}
-use Rattle.adb_history.specs.Births.{count_from, is_open}
 use Rattle.adb_history.specs.Book.{plugged_count}
 use Rattle.adb_history.specs.Bytes.{is_lost, bytes_received, brought, sent}
 use Rattle.adb_history.specs.Machine.{History, IsLegal}
@@ -19,7 +18,7 @@ use Rattle.adb_laws_model_device.specs.Joined.{IsJoined}
 use Rattle.adb_laws_model_device.specs.Owed.{packets_owed, packets_of_sent}
 use Rattle.adb_laws_steps.specs.Tolls.{IsWorthwhile, BringWorth}
 use Rattle.adb_laws_steps.specs.Owed.{IsFine}
-use Rattle.adb_laws_steps.proofs.Serving.{answers_alone}
+use Rattle.adb_laws_steps.proofs.Serving.{all_worth}
 use Rattle.adb_laws_steps.proofs.Tolls.{all_before}
 
 -- ---- a link that was not plugged in brought nothing
@@ -50,7 +49,7 @@ all_fine P (one ∷ more) fine =
     All-cons IsWorthwhile one.packet (packets_of_sent more) (All-head (IsFine P) one more fine).worth (all_fine P more (All-tail (IsFine P) one more fine))
 
 pub owed_worth : (setting : Setting) (packets : List Packet) → All IsWorthwhile (packets_owed setting packets)
-owed_worth setting packets = all_fine (λ l. 1 ≤ count_from is_open l packets) (device_behind setting packets).serving.made (answers_alone setting packets).fine
+owed_worth setting packets = all_fine (λ l. true ≡ true) (device_behind setting packets).serving.made (all_worth setting packets)
 
 first_worth : (setting : Setting) (h : History) → IsPaired (packets_owed setting) h → All IsWorthwhile (brought 1 h)
 first_worth setting [] pairs = All-nil IsWorthwhile

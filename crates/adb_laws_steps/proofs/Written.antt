@@ -14,16 +14,16 @@ use Rattle.adb_daemon.specs.Serving.{Sent}
 use Rattle.adb_daemon.specs.Streams.{written, payload_of, is_write}
 use Rattle.adb_laws_model_device.specs.Opened.{ComesFrom, is_of_stream}
 use Rattle.adb_laws_model_device.specs.Owed.{packets_of_sent}
-use Rattle.adb_laws_steps.specs.Receives.{write_bytes}
+use Rattle.adb_laws_steps.specs.Receives.{write_bytes, write_len, writes_to}
 use Rattle.adb_laws_steps.proofs.Parts.{total, part}
-
--- the payload bytes of a write
-abbrev pub write_len : Packet → ℕ
-write_len p = cond (is_wrte p.command) (length p.payload) 0
 
 pub total_written : (packets : List Packet) → write_bytes packets ≡ total write_len (λ p. p.arg1) packets
 total_written [] = refl
 total_written (p ∷ packets) = let e = total_written packets in omega (arith, e)
+
+pub part_is : (l : ℕ) (packets : List Packet) → writes_to l packets ≡ part write_len (λ p. p.arg1) l packets
+part_is l [] = refl
+part_is l (p ∷ packets) = let e = part_is l packets in omega (arith, e)
 
 -- what goes to one id comes from one
 pub part_written : (l id : ℕ) (made : List Sent) → All (ComesFrom l id) made

@@ -1,16 +1,17 @@
--- How much moved in a history, and what its clients pay for it.
-use Rattle.std.specs.Prelude.{ℕ, ◌+◌, ◌-◌, ◌*◌, ◌≤◌, [], ◌∷◌, length, Option, Some, None}
-use Rattle.adb_capture.specs.declared.entry.Entry.TheVariants.{Enter, Read, Recv, Put, Send}
-use Rattle.adb_reply.specs.declared.answer.Next.{Next}
-use Rattle.adb_reply.specs.declared.answer.Next.TheVariants.{Open}
+-- Steps: entries of which each moves some bytes; how much they moved, and how often bytes were put.
+use Rattle.std.specs.Prelude.{ℕ, ◌+◌, ◌≡◌, ◌≢◌, ◌≤◌, false, cond, [], ◌∷◌, ◌++◌, length}
+use Rattle.adb_capture.specs.declared.entry.Entry.TheVariants.{Read, Recv, Put, Send}
+use Rattle.adb_history.specs.Bytes.{bytes_read, bytes_put, bytes_received, bytes_sent, has_ended}
 use Rattle.adb_history.specs.Machine.{History}
-use Rattle.adb_history.specs.Book.{asked}
-use Rattle.adb_history.specs.Bytes.{bytes_read, bytes_put, bytes_received, bytes_sent, sent}
-use Rattle.adb_history.specs.Tied.{came_count}
-use Rattle.adb_daemon.specs.Device.{Setting}
-use Rattle.adb_laws_model_device.specs.Owed.{packets_owed}
-use Rattle.adb_laws_steps.specs.Sums.{sum_to}
-use Rattle.adb_laws_steps.specs.Receives.{write_bytes}
+
+-- Each of these entries moves some bytes: on the first link, or of a client whose input had not ended before all of them.
+abbrev pub AreSteps : (before more : History) → Type 0
+AreSteps before [] = Unit {0}
+AreSteps before (Read c bytes ∷ more) = AreSteps before more × (bytes ≢ []) × (has_ended c before ≡ false)
+AreSteps before (Put c bytes ∷ more) = AreSteps before more × (bytes ≢ []) × (has_ended c before ≡ false)
+AreSteps before (Recv t bytes ∷ more) = AreSteps before more × (bytes ≢ []) × (t ≡ 1)
+AreSteps before (Send t bytes ∷ more) = AreSteps before more × (bytes ≢ []) × (t ≡ 1)
+AreSteps before (_ ∷ more) = ⊥
 
 -- the bytes that were read and put, received and sent, entry by entry
 abbrev pub moved : History → ℕ
@@ -21,32 +22,13 @@ moved (Put c bytes ∷ older) = length bytes + moved older
 moved (Send t bytes ∷ older) = length bytes + moved older
 moved (_ ∷ older) = moved older
 
--- the bytes of clients, and of the first link
-abbrev pub moved_by_clients : History → ℕ
-moved_by_clients h = sum_to (λ c. length (bytes_read c h)) (came_count h) + sum_to (λ c. length (bytes_put c h)) (came_count h)
+-- what was read of a client and put to it; and what was moved on the first link
+abbrev pub handled : ℕ → History → ℕ
+handled c h = length (bytes_read c h) + length (bytes_put c h)
 
-abbrev pub MovesWhatIsCounted : History → Type 0
-MovesWhatIsCounted h = moved h ≤ moved_by_clients h + (length (bytes_sent 1 h) + length (bytes_received 1 h))
+abbrev pub on_link : History → ℕ
+on_link h = length (bytes_sent 1 h) + length (bytes_received 1 h)
 
--- no client comes through a forward
-abbrev pub NoneEnters : History → Type 0
-NoneEnters [] = Unit {0}
-NoneEnters (Enter c port ∷ older) = ⊥
-NoneEnters (_ ∷ older) = NoneEnters older
-
--- what the stream of a client costs, which asked for a service in so many bytes and wrote so many: its OPEN and its CLSE with their answers, and for each
--- byte past its requests a write with its OKAY
-abbrev pub stream_share : Option Next → (used read : ℕ) → ℕ
-stream_share (Some (Open transport service)) used read = 101 + length service + 53 * (read - used)
-stream_share _ used read = 0
-
-abbrev pub share_of : ℕ → History → ℕ
-share_of c h = stream_share (asked c h).next (asked c h).used (length (bytes_read c h))
-
--- a client pays for what it wrote, for its stream, and for each byte that it was handed with an OKAY
-abbrev pub client_cost : ℕ → History → ℕ
-client_cost c h = length (bytes_read c h) + share_of c h + 29 * length (bytes_put c h)
-
--- The clients, two CNXNs, and a write for each byte that the device's services answered pay for all that moved.
-abbrev pub AllIsPaid : Setting → History → Type 0
-AllIsPaid setting h = moved h ≤ 188 + 25 * write_bytes (packets_owed setting (sent 1 h)) + sum_to (λ c. client_cost c h) (came_count h)
+-- so much of a client whose input had not ended before
+abbrev pub of_here : History → ℕ → ℕ → ℕ
+of_here before c n = cond (has_ended c before) 0 n

@@ -1,10 +1,13 @@
 -- What a model device owes for what its host sent, but for the payloads that it writes.
-use Rattle.std.specs.Prelude.{ℕ, ◌+◌, ◌≡◌, ◌≤◌, true, All, List, [], ◌∷◌}
+use Rattle.std.specs.Prelude.{ℕ, ◌+◌, ◌≡◌, ◌≤◌, Bool, true, false, cond, All, List, [], ◌∷◌, ◌++◌}
+use Rattle.std.specs.List.{sum_by}
+use Rattle.std.specs.Map.{values_of}
 use Rattle.adb_wire.specs.declared.command.Command.{Command}
-use Rattle.adb_wire.specs.declared.command.Command.TheVariants.{Open, Wrte}
+use Rattle.adb_wire.specs.declared.command.Command.TheVariants.{Open, Okay, Wrte}
 use Rattle.adb_wire.specs.declared.packets.Packet.{Packet}
-use Rattle.adb_history.specs.Births.{count_from, is_open, is_wrte}
-use Rattle.adb_daemon.specs.Serving.{Sent}
+use Rattle.adb_history.specs.Births.{is_wrte}
+use Rattle.adb_device_streams.specs.Stream.{Row}
+use Rattle.adb_daemon.specs.Serving.{Sent, Serving}
 use Rattle.adb_daemon.specs.Device.{Setting, device_behind}
 use Rattle.adb_laws_steps.specs.Tolls.{toll, IsWorthwhile}
 
@@ -28,15 +31,33 @@ pub record IsFine (P : ℕ → Type 0) (one : Sent) : Type 0 where
   pub worth : IsWorthwhile one.packet
   pub host : is_wrte one.packet.command ≡ true → P one.packet.arg1
 
--- an OPEN comes from an id of which this holds
-abbrev pub OpensFor : (ℕ → Type 0) → Packet → Type 0
-OpensFor P p = is_open p.command ≡ true → P p.arg0
+-- a packet by which the host asks for a stream, or goes on with one
+abbrev pub asks : Command → Bool
+asks Open = true
+asks Okay = true
+asks Wrte = true
+asks _ = false
 
--- The tolls of the device are at most its own CNXN and the answers to its host; no packet of it opens a stream, no write is without bytes, and each write goes to an
--- id that the host asked for.
-pub record AnswersAlone (packets : List Packet) (made : List Sent) : Type 0 where
-  pub tolls : sent_tolls made ≤ 130 + answer_tolls packets
-  pub fine : All (IsFine (λ l. 1 ≤ count_from is_open l packets)) made
+-- a packet that asks comes from an id that is watched
+abbrev pub AsksFor : (ℕ → Bool) → Packet → Type 0
+AsksFor q p = asks p.command ≡ true → q p.arg0 ≡ true
 
+-- the rows of ids that are watched have their CLSEs still to come
+abbrev pub row_toll : (ℕ → Bool) → Row → ℕ
+row_toll q row = cond (q row.host) 24 0
+
+abbrev pub row_tolls : (ℕ → Bool) → List (ℕ × Row) → ℕ
+row_tolls q rows = sum_by (row_toll q) (values_of rows)
+
+-- Behind what a device owed, more becomes due: its tolls are at most the answers to its host and the CLSEs of rows that lived, of ids that are watched; no packet
+-- of it opens a stream, no write is without bytes, and each write goes to an id that is watched.
+pub record AnswersAlone (q : ℕ → Bool) (more : List Packet) (before behind : Serving) : Type 0 where
+  pub made : List Sent
+  pub is : behind.made ≡ before.made ++ made
+  pub tolls : sent_tolls made ≤ answer_tolls more + row_tolls q before.rows
+  pub fine : All (IsFine (λ l. q l ≡ true)) made
+
+-- So where all that ask are watched.
 abbrev pub DeviceAnswersAlone : Setting → Type 0
-DeviceAnswersAlone setting = (packets : List Packet) → AnswersAlone packets (device_behind setting packets).serving.made
+DeviceAnswersAlone setting = (q : ℕ → Bool) (front more : List Packet) → All (AsksFor q) more
+    → AnswersAlone q more (device_behind setting front).serving (device_behind setting (front ++ more)).serving

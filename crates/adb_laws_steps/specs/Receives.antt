@@ -1,18 +1,16 @@
--- What comes on the first link from its model device at most.
-use Rattle.std.specs.Prelude.{ℕ, ◌+◌, ◌*◌, ◌≤◌, if◌then◌else◌, List, [], ◌∷◌, length}
+-- What a model device writes.
+use Rattle.std.specs.Prelude.{ℕ, ◌+◌, cond, nat_eq, List, [], ◌∷◌, length}
 use Rattle.adb_wire.specs.declared.packets.Packet.{Packet}
-use Rattle.adb_history.specs.Machine.{History}
-use Rattle.adb_history.specs.Bytes.{bytes_received, sent}
 use Rattle.adb_history.specs.Births.{is_wrte}
-use Rattle.adb_daemon.specs.Device.{Setting}
-use Rattle.adb_laws_model_device.specs.Owed.{packets_owed}
-use Rattle.adb_laws_steps.specs.Owed.{answer_tolls}
 
--- the payload bytes of writes
+-- the payload bytes of a write, of all writes, and of those to one id
+abbrev pub write_len : Packet → ℕ
+write_len p = cond (is_wrte p.command) (length p.payload) 0
+
 abbrev pub write_bytes : List Packet → ℕ
 write_bytes [] = 0
-write_bytes (p ∷ packets) = (if is_wrte p.command then length p.payload else 0) + write_bytes packets
+write_bytes (p ∷ packets) = write_len p + write_bytes packets
 
--- The device's own CNXN, the answers to what it was sent, and a write for each byte that its services answered pay for all that came.
-abbrev pub ReceivesWithin : Setting → History → Type 0
-ReceivesWithin setting h = length (bytes_received 1 h) ≤ 130 + answer_tolls (sent 1 h) + 25 * write_bytes (packets_owed setting (sent 1 h))
+abbrev pub writes_to : ℕ → List Packet → ℕ
+writes_to l [] = 0
+writes_to l (p ∷ packets) = cond (nat_eq p.arg1 l) (write_len p) 0 + writes_to l packets

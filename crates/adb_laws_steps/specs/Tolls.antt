@@ -1,5 +1,5 @@
 -- What the packets of a server cost that no payload pays.
-use Rattle.std.specs.Prelude.{ℕ, ◌+◌, ◌*◌, ◌≡◌, ◌≢◌, ◌≤◌, All, List, [], ◌∷◌, length, Option, Some, None}
+use Rattle.std.specs.Prelude.{ℕ, ◌+◌, ◌*◌, ◌≡◌, ◌≢◌, ◌≤◌, All, List, [], ◌∷◌, ◌++◌, length, Option, Some, None}
 use Rattle.adb_outside.specs.Tables.{Rows}
 use Rattle.adb_wire.specs.declared.command.Command.{Command}
 use Rattle.adb_wire.specs.declared.command.Command.TheVariants.{Cnxn, Open, Okay, Wrte, Clse, Auth, Stls}
@@ -57,8 +57,11 @@ IsWorthwhile p = IsWorth p.command p.payload
 abbrev pub BringWorth : History → Type 0
 BringWorth h = (t : ℕ) → All IsWorthwhile (brought t h)
 
--- The tolls are at most a CNXN for each link, an OKAY for each time that bytes were put to a client, and a CLSE for each stream; and those that live have
--- theirs still to come.
-abbrev pub TollsArePaid : History → Type 0
-TollsArePaid h =
-    tolls (told h) + close_tolls (state h).streams (state h).drawn ≤ 58 * plugged_count h + 28 * puts_made h + 24 * (state h).drawn
+-- Behind a history the tolls that were told since are at most a CNXN for each link, an OKAY for each time that bytes were put to a client, and a CLSE for each stream
+-- that lived or was drawn since; and those that live have theirs still to come.
+abbrev pub TollsArePaid : (before more : History) → Type 0
+TollsArePaid before more =
+    tolls (told (more ++ before)) + close_tolls (state (more ++ before)).streams (state (more ++ before)).drawn
+    + (58 * plugged_count before + 28 * puts_made before + 24 * (state before).drawn)
+    ≤ tolls (told before) + close_tolls (state before).streams (state before).drawn
+    + (58 * plugged_count (more ++ before) + 28 * puts_made (more ++ before) + 24 * (state (more ++ before)).drawn)

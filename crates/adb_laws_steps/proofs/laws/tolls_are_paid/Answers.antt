@@ -2,4 +2,4 @@ use Rattle.adb_laws_steps.proofs.Tolls.{tolls_paid}
 use Rattle.adb_laws_steps.proofs.laws.tolls_are_paid.Goals as goal
 
 pub returns : goal.returns
-returns c = λ history legal worth. tolls_paid history legal worth
+returns c = λ before more legal worth. tolls_paid before more legal worth
