@@ -18,3 +18,4 @@ pub mod Written
 pub mod Watched
 pub mod Streams
 pub mod Paid
+pub mod Put

@@ -1,5 +1,5 @@
 -- What a model device serves behind what it owed: the tolls of what becomes due, against the CLSEs of the rows that live.
-use Rattle.std.specs.Prelude.{ℕ, ◌+◌, ◌-◌, ◌==◌, ◌≡◌, ◌≢◌, ◌≤◌, ◌||◌, ◌&&◌, if◌then◌else◌, Bool, true, false, All, List, [], ◌∷◌, ◌++◌, length, map, fold, cond, Option}
+use Rattle.std.specs.Prelude.{ℕ, ◌+◌, ◌-◌, ◌==◌, ◌≡◌, ◌≢◌, ◌≤◌, ◌<◌, ◌||◌, ◌&&◌, if◌then◌else◌, Bool, true, false, All, List, [], ◌∷◌, ◌++◌, length, map, fold, cond, Option}
 use Rattle.std.specs.Prelude.{Some, None, nat_eq, zero, suc, option_map, unwrap_or}
 use Rattle.std.specs.List.{sum_by}
 use Rattle.std.specs.List.Sorted.{IsStrictlySortedBy}
@@ -7,14 +7,14 @@ use Rattle.std.specs.Map.{values_of}
 use Rattle.std.specs.BTreeMap.{is_at}
 use Rattle.std.specs.Ordering.{nat_cmp}
 use Rattle.std.proofs.Common.{refl, sym, ◌∙◌, ap, subst, arith, append_assoc, ◌⊎◌, inl, inr}
-use Rattle.std.proofs.lemmas.Bool.{eqb-true}
+use Rattle.std.proofs.lemmas.Bool.{cases_eq, cases_lt, eqb-true}
 use Rattle.std.proofs.lemmas.List.{append-nil}
 use Rattle.std.proofs.lemmas.Cmp.{nat_cmp_total}
 use Rattle.std.proofs.lemmas.Map.Entries.{sum_by-remove_entry, sum_by-insert_entry}
 use Rattle.std.proofs.lemmas.List.Elements.{All-nil, All-cons, All-append, All-head, All-tail}
 use Rattle.byteorder.specs.Endian.{little_bytes}
 use Rattle.adb_outside.specs.Tables.{at, IsRising, put_at, without}
-use Rattle.adb_outside.proofs.TableLaws.{put_at_rises, without_rises}
+use Rattle.adb_outside.proofs.TableLaws.{at_head, at_tail, puts_put_at, puts_without, put_at_rises, without_rises}
 use Rattle.adb_wire.specs.declared.command.Command.{Command}
 use Rattle.adb_wire.specs.declared.command.Command.TheVariants as commands
 use Rattle.adb_wire.specs.declared.packets.Packet.{Packet}
@@ -27,11 +27,53 @@ use Rattle.adb_device_streams.specs.Stream.{Row, opened, row_took, row_acked, ro
 use Rattle.adb_device_streams.specs.Stream.{opening_word, wrte, okay, clse}
 use Rattle.adb_device_streams.specs.Link.{link_of, credit_word_in}
 use Rattle.adb_device_streams.specs.declared.link.Link.{Link}
-use Rattle.adb_daemon.specs.Serving.{Serving, Sent, with_sum, owing, granted, kept, gone, sent_writes, sent_close, settled_as, settled, credit_of, open_as, is_taken}
+use Rattle.adb_daemon.specs.Streams.{over_at}
+use Rattle.adb_daemon.proofs.Machines.{step_more}
+use Rattle.adb_daemon.proofs.Standing.{other_over}
+use Rattle.adb_daemon.specs.Serving.{Serving, Ended, Sent, ended_at, with_sum, owing, granted, kept, gone, sent_writes, sent_close, settled_as, settled, credit_of, open_as, is_taken}
 use Rattle.adb_daemon.specs.Serving.{kind_for, on_open, named, sent_ack, written_to, on_write, acked_to, on_okay, closed_to, closable, on_close, all_gone, served}
 use Rattle.adb_daemon.specs.Device.{Setting, Device, own_cnxn, identity_text, first_device, linked_to, served_on, treated, step, device_behind}
 use Rattle.adb_laws_steps.specs.Tolls.{toll, IsWorth}
 use Rattle.adb_laws_steps.specs.Owed.{answer_toll, answer_tolls, asks, sent_tolls, IsFine, AsksFor, row_toll, row_tolls, AnswersAlone, DeviceAnswersAlone}
+
+-- ---- ids that were drawn
+-- an id that was not drawn
+abbrev pub IsUndrawn : ℕ → ℕ → Type 0
+IsUndrawn drawn own = (own ≡ 0) ⊎ (drawn < own)
+
+not_drawn : (drawn own k : ℕ) → (0 < own) × (own ≤ drawn) → IsUndrawn drawn k → k ≡ own → ⊥
+not_drawn drawn own k (some, le) (inl zeroth) same = omega (arith, some, zeroth, same)
+not_drawn drawn own k (some, le) (inr past) same = omega (arith, le, past, same)
+
+fewer_drawn : (drawn own : ℕ) → IsUndrawn (drawn + 1) own → IsUndrawn drawn own
+fewer_drawn drawn own (inl zeroth) = inl zeroth
+fewer_drawn drawn own (inr past) = inr (omega (arith, past))
+
+there_drawn : (own : ℕ) (row : Row) (s : Serving)
+    → ((k : ℕ) → IsUndrawn s.drawn k → (at k s.rows ≡ None) × (over_at k s.ended ≡ None)) → at own s.rows ≡ Some row → (0 < own) × (own ≤ s.drawn)
+there_drawn own row s fresh is = (some (cases_eq own 0), within (cases_lt s.drawn own))
+  where
+    some : (own ≡ 0) ⊎ (own ≡ 0 → ⊥) → 0 < own
+    some (inl e) = absurd (let clash : None ≡ Some row = sym (fresh own (inl e)).0 ∙ is in cc)
+    some (inr other) = omega (arith, other)
+
+    within : (s.drawn < own) ⊎ (own ≤ s.drawn) → own ≤ s.drawn
+    within (inl past) = absurd (let clash : None ≡ Some row = sym (fresh own (inr past)).0 ∙ is in cc)
+    within (inr le) = le
+
+-- all rows end: nothing of an id that has none
+all_over : (own : ℕ) (rows : List (ℕ × Row)) (ended : List Ended) → at own rows ≡ None
+    → over_at own (map (ended_at false) rows ++ ended) ≡ over_at own ended
+all_over own [] ended none = refl
+all_over own (e ∷ rows) ended none = go (cases_eq own e.0)
+  where
+    go : (own ≡ e.0) ⊎ (own ≡ e.0 → ⊥) → over_at own (map (ended_at false) (e ∷ rows) ++ ended) ≡ over_at own ended
+    go (inl same) =
+        absurd (let clash : Some e.1 ≡ None =
+        sym (at_head e rows) ∙ (ap (λ (k : ℕ). at k (e ∷ rows)) (sym same) ∙ none) in cc)
+    go (inr other) =
+        other_over own (ended_at false e) (map (ended_at false) rows ++ ended) (λ same. other (sym same))
+        ∙ all_over own rows ended (sym (at_tail own e rows other) ∙ none)
 
 sent_tolls_append : (a b : List Sent) → sent_tolls (a ++ b) ≡ sent_tolls a + sent_tolls b
 sent_tolls_append [] b = omega arith
@@ -60,31 +102,54 @@ module _ (q : ℕ → Bool) (base : List Sent) where
   left_tolls : (n : ℕ) (rows : List (ℕ × Row)) → row_tolls q (without n rows) + here_toll (at n rows) ≡ row_tolls q rows
   left_tolls n rows = sum_by-remove_entry (row_toll q) (is_at (nat_cmp n)) rows
 
-  -- what became due is fine, and the tolls are paid, with so much left over
+  -- no id has both a row that lives and one that has ended, and none of those that were not drawn has any; what became due is fine, and the tolls are paid, with
+  -- so much left over
   record Stands (n left : ℕ) (s : Serving) : Type 0 where
     rises : IsRising s.rows
+    fresh : (own : ℕ) → IsUndrawn s.drawn own → (at own s.rows ≡ None) × (over_at own s.ended ≡ None)
+    apart : (own : ℕ) (row : Row) → at own s.rows ≡ Some row → over_at own s.ended ≡ None
     more : List Sent
     is : s.made ≡ base ++ more
     fine : All (IsFine P) more
     cost : sent_tolls more + row_tolls q s.rows + left ≤ n
 
   within : (a b k l : ℕ) (s : Serving) → a + l ≤ b + k → Stands a k s → Stands b l s
-  within a b k l s le h = record { rises = h.rises; more = h.more; is = h.is; fine = h.fine; cost = (let cost = h.cost in omega (arith, cost, le)) }
+  within a b k l s le h = record { rises = h.rises; fresh = h.fresh; apart = h.apart; more = h.more; is = h.is; fine = h.fine; cost = (let cost = h.cost in omega (arith, cost, le)) }
 
   -- more becomes due
   owes : (n m left : ℕ) (more : List Sent) (s : Serving) → All (IsFine P) more → sent_tolls more ≤ m → Stands n left s → Stands (n + m) left (owing more s)
   owes n m left more s fine le h = record {
     rises = h.rises;
+    fresh = h.fresh;
+    apart = h.apart;
     more = h.more ++ more;
     is = ap (λ (x : List Sent). x ++ more) h.is ∙ append_assoc base h.more more;
     fine = All-append (IsFine P) h.more more h.fine fine;
     cost = (let cost = h.cost in let sum = sent_tolls_append h.more more in omega (arith, cost, le, sum));
   }
 
-  -- a row is kept, which stood there or not
-  keeps : (n left : ℕ) (own : ℕ) (row : Row) (s : Serving) → Stands n left s → Stands (n + 24) left (kept own row s)
-  keeps n left own row s h = record {
+  -- a row is kept, which stood there or not; none of its id has ended
+  fresh_kept : (own : ℕ) (row : Row) (s : Serving) → (0 < own) × (own ≤ s.drawn)
+      → ((k : ℕ) → IsUndrawn s.drawn k → (at k s.rows ≡ None) × (over_at k s.ended ≡ None))
+      → (k : ℕ) → IsUndrawn s.drawn k → (at k (put_at own row s.rows) ≡ None) × (over_at k s.ended ≡ None)
+  fresh_kept own row s drawn fresh k undrawn =
+      ((puts_put_at own row s.rows).others k (not_drawn s.drawn own k drawn undrawn) ∙ (fresh k undrawn).0, (fresh k undrawn).1)
+
+  apart_kept : (own : ℕ) (row : Row) (s : Serving) → over_at own s.ended ≡ None
+      → ((k : ℕ) (x : Row) → at k s.rows ≡ Some x → over_at k s.ended ≡ None)
+      → (k : ℕ) (x : Row) → at k (put_at own row s.rows) ≡ Some x → over_at k s.ended ≡ None
+  apart_kept own row s none apart k x is = go (cases_eq k own)
+    where
+      go : (k ≡ own) ⊎ (k ≡ own → ⊥) → over_at k s.ended ≡ None
+      go (inl same) = ap (λ (j : ℕ). over_at j s.ended) same ∙ none
+      go (inr other) = apart k x (sym ((puts_put_at own row s.rows).others k other) ∙ is)
+
+  keeps : (n left : ℕ) (own : ℕ) (row : Row) (s : Serving) → (0 < own) × (own ≤ s.drawn) → over_at own s.ended ≡ None → Stands n left s
+      → Stands (n + 24) left (kept own row s)
+  keeps n left own row s drawn none h = record {
     rises = put_at_rises own row s.rows h.rises;
+    fresh = fresh_kept own row s drawn h.fresh;
+    apart = apart_kept own row s none h.apart;
     more = h.more;
     is = h.is;
     fine = h.fine;
@@ -95,6 +160,8 @@ module _ (q : ℕ → Bool) (base : List Sent) where
       → Stands n left (kept own row s)
   keeps_there n left own row old s is same h = record {
     rises = put_at_rises own row s.rows h.rises;
+    fresh = fresh_kept own row s (there_drawn own old s h.fresh is) h.fresh;
+    apart = apart_kept own row s (h.apart own old is) h.apart;
     more = h.more;
     is = h.is;
     fine = h.fine;
@@ -107,9 +174,33 @@ module _ (q : ℕ → Bool) (base : List Sent) where
   }
 
   -- a row goes
-  goes : (n left : ℕ) (closed : Bool) (own : ℕ) (row : Row) (s : Serving) → Stands n left s → Stands n left (gone closed own row s)
-  goes n left closed own row s h = record {
+  fresh_gone : (closed : Bool) (own : ℕ) (row : Row) (s : Serving) → (0 < own) × (own ≤ s.drawn) → IsRising s.rows
+      → ((k : ℕ) → IsUndrawn s.drawn k → (at k s.rows ≡ None) × (over_at k s.ended ≡ None))
+      → (k : ℕ) → IsUndrawn s.drawn k → (at k (without own s.rows) ≡ None) × (over_at k (ended_at closed (own, row) ∷ s.ended) ≡ None)
+  fresh_gone closed own row s drawn rises fresh k undrawn = (
+    (puts_without own s.rows rises).others k (not_drawn s.drawn own k drawn undrawn) ∙ (fresh k undrawn).0,
+    other_over k (ended_at closed (own, row)) s.ended (λ same. not_drawn s.drawn own k drawn undrawn (sym same)) ∙ (fresh k undrawn).1,
+  )
+
+  apart_gone : (closed : Bool) (own : ℕ) (row : Row) (s : Serving) → IsRising s.rows
+      → ((k : ℕ) (x : Row) → at k s.rows ≡ Some x → over_at k s.ended ≡ None)
+      → (k : ℕ) (x : Row) → at k (without own s.rows) ≡ Some x → over_at k (ended_at closed (own, row) ∷ s.ended) ≡ None
+  apart_gone closed own row s rises apart k x is = go (cases_eq k own)
+    where
+      go : (k ≡ own) ⊎ (k ≡ own → ⊥) → over_at k (ended_at closed (own, row) ∷ s.ended) ≡ None
+      go (inl same) =
+          absurd (let clash : None ≡ Some x =
+          sym (puts_without own s.rows rises).here ∙ (ap (λ (j : ℕ). at j (without own s.rows)) (sym same) ∙ is) in cc)
+      go (inr other) =
+          other_over k (ended_at closed (own, row)) s.ended (λ same. other (sym same))
+          ∙ apart k x (sym ((puts_without own s.rows rises).others k other) ∙ is)
+
+  goes : (n left : ℕ) (closed : Bool) (own : ℕ) (row : Row) (s : Serving) → (0 < own) × (own ≤ s.drawn) → Stands n left s
+      → Stands n left (gone closed own row s)
+  goes n left closed own row s drawn h = record {
     rises = without_rises own s.rows h.rises;
+    fresh = fresh_gone closed own row s drawn h.rises h.fresh;
+    apart = apart_gone closed own row s h.rises h.apart;
     more = h.more;
     is = h.is;
     fine = h.fine;
@@ -120,6 +211,8 @@ module _ (q : ℕ → Bool) (base : List Sent) where
       → Stands n (left + 24) (gone closed own row s)
   goes_there n left closed own row old s is host h = record {
     rises = without_rises own s.rows h.rises;
+    fresh = fresh_gone closed own row s (there_drawn own old s h.fresh is) h.rises h.fresh;
+    apart = apart_gone closed own row s h.rises h.apart;
     more = h.more;
     is = h.is;
     fine = h.fine;
@@ -178,8 +271,9 @@ module _ (q : ℕ → Bool) (base : List Sent) where
   okay_fine link own host word =
       All-cons (IsFine P) (with_sum link.sums (okay own host word)) [] (record { worth = tt; host = λ e. cc }) (All-nil (IsFine P))
 
-  settles : (n left : ℕ) (link : Link) (own : ℕ) (row : Row) (s : Serving) → P row.host → Stands n left s → Stands (n + 24) left (settled link own row s)
-  settles n left link own row s host h = go (is_done (row_written link.most row))
+  settles : (n left : ℕ) (link : Link) (own : ℕ) (row : Row) (s : Serving) → P row.host → (0 < own) × (own ≤ s.drawn) → over_at own s.ended ≡ None
+      → Stands n left s → Stands (n + 24) left (settled link own row s)
+  settles n left link own row s host drawn none h = go (is_done (row_written link.most row))
     where
       last : Row
       last = row_written link.most row
@@ -188,10 +282,10 @@ module _ (q : ℕ → Bool) (base : List Sent) where
       later = wrote n left link own row s host h
 
       go : (b : Bool) → Stands (n + 24) left (settled_as b link own (row_written link.most row) (owing (sent_writes link own row) s))
-      go false = keeps n left own (row_written link.most row) (owing (sent_writes link own row) s) later
+      go false = keeps n left own (row_written link.most row) (owing (sent_writes link own row) s) drawn none later
       go true =
           goes (n + 24) left true own (row_written link.most row)
-          (owing (sent_close true link own (row_written link.most row).host) (owing (sent_writes link own row) s))
+          (owing (sent_close true link own (row_written link.most row).host) (owing (sent_writes link own row) s)) drawn
           (owes n 24 left (sent_close true link own (row_written link.most row).host) (owing (sent_writes link own row) s)
           (close_fine link own (row_written link.most row).host) (omega arith) later)
 
@@ -233,8 +327,17 @@ module _ (q : ℕ → Bool) (base : List Sent) where
         files = files_opened kind s.files;
       } in
       within (n + 28 + 24) (n + 52) 0 0 (open_as link p (Some kind) s) (omega arith)
-      (settles (n + 28) 0 link (s.drawn + 1) (opened p.arg0 kind s.files (credit_of link p)) drawn host
-      (record { rises = okayed.rises; more = okayed.more; is = okayed.is; fine = okayed.fine; cost = okayed.cost }))
+      (settles (n + 28) 0 link (s.drawn + 1) (opened p.arg0 kind s.files (credit_of link p)) drawn host (omega arith, omega arith)
+      (h.fresh (s.drawn + 1) (inr (omega arith))).1
+      (record {
+        rises = okayed.rises;
+        fresh = λ own undrawn. h.fresh own (fewer_drawn s.drawn own undrawn);
+        apart = okayed.apart;
+        more = okayed.more;
+        is = okayed.is;
+        fine = okayed.fine;
+        cost = okayed.cost;
+      }))
 
   on_open_stands : (n : ℕ) (link : Link) (p : Packet) (s : Serving) → P p.arg0 → Stands n 0 s → Stands (n + 52) 0 (on_open link p s)
   on_open_stands n link p s host h = go (p.arg0 == 0 || is_taken p.arg0 s.rows)
@@ -261,6 +364,13 @@ module _ (q : ℕ → Bool) (base : List Sent) where
       go true f e = (let same : x ≡ row = cc in ap (λ (r : Row). r.host) (sym same) ∙ eqb-true x.host host f)
       go false f e = absurd (let clash : None ≡ Some row = e in cc)
 
+  closable_there : (host : ℕ) (found : Option Row) (row : Row) → closable host found ≡ Some row → found ≡ Some row
+  closable_there host found row is = go (host == 0) is
+    where
+      go : (b : Bool) → (if b then found else named host found) ≡ Some row → found ≡ Some row
+      go true e = e
+      go false e = named_there host found row e
+
   ack_fine : (link : Link) (own host : ℕ) (flow : Flow) (k : ℕ) → All (IsFine P) (sent_ack link own host flow k) × (sent_tolls (sent_ack link own host flow k) ≤ 28)
   ack_fine link own host (flows.One window) k = (okay_fine link own host [], omega arith)
   ack_fine link own host (flows.Credit credit) k = go (k == 0)
@@ -280,7 +390,8 @@ module _ (q : ℕ → Bool) (base : List Sent) where
       let okayed = owes n 28 0 (sent_ack link p.arg1 row.host row.flow (length p.payload)) s ack.0 ack.1 h in
       settles_there (n + 28) link p.arg1 (row_took (came_over p.payload s.files) row) row
       (record (owing (sent_ack link p.arg1 row.host row.flow (length p.payload)) s) { files = files_fed row.kind row.past (came_over p.payload s.files) })
-      is for_it refl (record { rises = okayed.rises; more = okayed.more; is = okayed.is; fine = okayed.fine; cost = okayed.cost })
+      is for_it refl
+      (record { rises = okayed.rises; fresh = okayed.fresh; apart = okayed.apart; more = okayed.more; is = okayed.is; fine = okayed.fine; cost = okayed.cost })
 
   ack_stands : (n : ℕ) (link : Link) (p : Packet) (found : Option Row) (s : Serving) → P p.arg0
       → ((row : Row) → found ≡ Some row → (at p.arg1 s.rows ≡ Some row) × (row.host ≡ p.arg0)) → Stands n 0 s → Stands n 0 (acked_to link p found s)
@@ -289,11 +400,13 @@ module _ (q : ℕ → Bool) (base : List Sent) where
       let is = (there row refl).0 in
       let for_it = subst P (sym (there row refl).1) host in
       settles_there n link p.arg1 (row_acked (credit_word_in p.payload) row) row (granted p.arg1 (credit_word_in p.payload) s)
-      is for_it refl (record { rises = h.rises; more = h.more; is = h.is; fine = h.fine; cost = h.cost })
+      is for_it refl
+      (record { rises = h.rises; fresh = h.fresh; apart = h.apart; more = h.more; is = h.is; fine = h.fine; cost = h.cost })
 
-  close_stands : (n own : ℕ) (found : Option Row) (s : Serving) → Stands n 0 s → Stands n 0 (closed_to own found s)
-  close_stands n own None s h = h
-  close_stands n own (Some row) s h = goes n 0 false own row s h
+  close_stands : (n own : ℕ) (found : Option Row) (s : Serving) → ((row : Row) → found ≡ Some row → at own s.rows ≡ Some row) → Stands n 0 s
+      → Stands n 0 (closed_to own found s)
+  close_stands n own None s there h = h
+  close_stands n own (Some row) s there h = goes n 0 false own row s (there_drawn own row s h.fresh (there row refl)) h
 
   named_as : (p : Packet) (s : Serving) (row : Row) → named p.arg0 (at p.arg1 s.rows) ≡ Some row → (at p.arg1 s.rows ≡ Some row) × (row.host ≡ p.arg0)
   named_as p s row is = (named_there p.arg0 (at p.arg1 s.rows) row is, named_host p.arg0 (at p.arg1 s.rows) row is)
@@ -307,7 +420,8 @@ module _ (q : ℕ → Bool) (base : List Sent) where
       within n (n + 0) 0 0 (on_okay link p s) (omega arith)
       (ack_stands n link p (named p.arg0 (at p.arg1 s.rows)) s (host refl) (λ row is. named_as p s row is) h)
   served_stands n commands.Clse link p s host h =
-      within n (n + 0) 0 0 (on_close p s) (omega arith) (close_stands n p.arg1 (closable p.arg0 (at p.arg1 s.rows)) s h)
+      within n (n + 0) 0 0 (on_close p s) (omega arith) 
+      (close_stands n p.arg1 (closable p.arg0 (at p.arg1 s.rows)) s (λ row is. closable_there p.arg0 (at p.arg1 s.rows) row is) h)
   served_stands n commands.Cnxn link p s host h = within n (n + 0) 0 0 s (omega arith) h
   served_stands n commands.Auth link p s host h = within n (n + 0) 0 0 s (omega arith) h
   served_stands n commands.Stls link p s host h = within n (n + 0) 0 0 s (omega arith) h
@@ -316,6 +430,8 @@ module _ (q : ℕ → Bool) (base : List Sent) where
   unfolding IsStrictlySortedBy
   gone_stands n s h = record {
     rises = tt;
+    fresh = λ own undrawn. (refl, all_over own s.rows s.ended (h.fresh own undrawn).0 ∙ (h.fresh own undrawn).1);
+    apart = λ own row is. absurd (let clash : None ≡ Some row = is in cc);
     more = h.more;
     is = h.is;
     fine = h.fine;
@@ -366,6 +482,8 @@ first_stands : (setting : Setting) → Stands any [] 130 0 (first_device setting
 unfolding IsStrictlySortedBy
 first_stands setting = record {
   rises = tt;
+  fresh = λ own undrawn. (refl, refl);
+  apart = λ own row is. refl;
   more = own_cnxn setting ∷ [];
   is = refl;
   fine = All-cons (IsFine (λ l. true ≡ true)) (own_cnxn setting) [] (record { worth = tt; host = λ e. cc }) (All-nil (IsFine (λ l. true ≡ true)));
@@ -378,6 +496,15 @@ all_any (p ∷ packets) = All-cons (AsksFor any) p packets (λ e. refl) (all_any
 
 whole : (setting : Setting) (packets : List Packet) → Stands any [] (130 + answer_tolls packets) 0 (device_behind setting packets).serving
 whole setting packets = behind_stands any [] 130 setting packets (first_device setting) (all_any packets) (first_stands setting)
+
+-- no id has both a row that lives and one that has ended, and those that have one were drawn
+pub rows_apart : (setting : Setting) (packets : List Packet) (own : ℕ) (row : Row) → at own (device_behind setting packets).serving.rows ≡ Some row
+    → over_at own (device_behind setting packets).serving.ended ≡ None
+rows_apart setting packets own row is = (whole setting packets).apart own row is
+
+pub none_undrawn : (setting : Setting) (packets : List Packet) (own : ℕ) → IsUndrawn (device_behind setting packets).serving.drawn own
+    → (at own (device_behind setting packets).serving.rows ≡ None) × (over_at own (device_behind setting packets).serving.ended ≡ None)
+none_undrawn setting packets own undrawn = (whole setting packets).fresh own undrawn
 
 -- its rows rise, and each of its packets is worth its answer
 pub rows_rise : (setting : Setting) (packets : List Packet) → IsRising (device_behind setting packets).serving.rows
@@ -393,6 +520,8 @@ answers_alone setting q front more all = record { made = stands.more; is = stand
     begins : Stands q (device_behind setting front).serving.made (row_tolls q (device_behind setting front).serving.rows) 0 (device_behind setting front).serving
     begins = record {
       rises = rows_rise setting front;
+      fresh = none_undrawn setting front;
+      apart = rows_apart setting front;
       more = [];
       is = sym (append-nil (device_behind setting front).serving.made);
       fine = All-nil (IsFine (λ l. q l ≡ true));

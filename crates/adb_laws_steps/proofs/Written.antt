@@ -75,7 +75,7 @@ part_written l id (one ∷ more) all =
     go Auth e m f le = other Auth e refl m le
     go Stls e m f le = other Stls e refl m le
 
--- ---- the opening names the one id
+-- ---- OKAYs name the one id
 -- an OKAY to a stream comes from one id
 abbrev pub OkaysFrom : (l id : ℕ) → Packet → Type 0
 OkaysFrom l id p = is_okay p.command ≡ true → p.arg1 ≡ l → p.arg0 ≡ id
@@ -101,31 +101,3 @@ okays_from l id (one ∷ more) all =
     go Cnxn e is to = clash Cnxn e refl is to
     go Auth e is to = clash Auth e refl is to
     go Stls e is to = clash Stls e refl is to
-
-pub opened_from : (l id : ℕ) (packets : List Packet) (o : Opening) → All (OkaysFrom l id) packets → opening_in l packets ≡ Some o → o.remote ≡ id
-opened_from l id [] o all is = absurd (let clash : None ≡ Some o = is in cc)
-opened_from l id (p ∷ packets) o all is =
-    go p.command refl is (λ later. opened_from l id packets o (All-tail (OkaysFrom l id) p packets all) later)
-  where
-    go : (c : Command) → p.command ≡ c → opening_by c l p packets (opening_in l packets) ≡ Some o → (opening_in l packets ≡ Some o → o.remote ≡ id)
-        → o.remote ≡ id
-    go Okay e found later = by (nat_eq p.arg1 l) refl (p.arg0 == 0) found
-      where
-        by : (a : Bool) → nat_eq p.arg1 l ≡ a → (b : Bool)
-            → cond (a && not b) (Some (record { remote = p.arg0; word = credit_word p.payload; later = packets })) (opening_in l packets) ≡ Some o
-            → o.remote ≡ id
-        by true f false found =
-            let same : record { remote = p.arg0; word = credit_word p.payload; later = packets } ≡ o = cc in
-            sym (ap (λ (x : Opening). x.remote) same) ∙ All-head (OkaysFrom l id) p packets all (ap is_okay e) (eqb-true p.arg1 l f)
-        by true f true found = later found
-        by false f b found = later found
-    go Clse e found later = by (is_between 0 l p) found
-      where
-        by : (b : Bool) → cond b None (opening_in l packets) ≡ Some o → o.remote ≡ id
-        by true found = absurd (let clash : None ≡ Some o = found in cc)
-        by false found = later found
-    go Cnxn e found later = absurd (let clash : None ≡ Some o = found in cc)
-    go Open e found later = later found
-    go Wrte e found later = later found
-    go Auth e found later = later found
-    go Stls e found later = later found

@@ -1,19 +1,22 @@
 -- How much moves from a time at which nothing is on its way to the next such time, and who pays for it.
-use Rattle.std.specs.Prelude.{ℕ, ◌+◌, ◌-◌, ◌*◌, ◌≡◌, ◌≤◌, ◌<◌, ◌^◌, false, [], ◌∷◌, ◌++◌, length, Option, Some}
+use Rattle.std.specs.Prelude.{ℕ, ◌+◌, ◌-◌, ◌*◌, ◌≡◌, ◌≤◌, ◌<◌, ◌^◌, true, false, is_some, [], ◌∷◌, ◌++◌, length, Option, Some}
 use Rattle.adb_capture.specs.declared.entry.Entry.TheVariants.{Enter}
 use Rattle.adb_reply.specs.declared.answer.Next.{Next}
 use Rattle.adb_reply.specs.declared.answer.Next.TheVariants.{Open}
 use Rattle.adb_stream.specs.declared.row.Stream.{Stream}
-use Rattle.adb_history.specs.Births.{Birth, born}
-use Rattle.adb_history.specs.Book.{asked, plugged_count}
+use Rattle.adb_history.specs.Births.{Birth, births, born}
+use Rattle.adb_history.specs.Book.{asked, is_killed, plugged_count}
 use Rattle.adb_history.specs.Bytes.{bytes_put, bytes_received, bytes_read, bytes_sent, has_ended, is_lost, sent}
 use Rattle.adb_history.specs.Events.{spelled_to}
 use Rattle.adb_history.specs.Lives.{packets_of}
 use Rattle.adb_history.specs.Machine.{History, IsLegal, state, told}
+use Rattle.adb_history.specs.Streams.{stream_ids}
 use Rattle.adb_history.specs.Tied.{came_count}
+use Rattle.adb_device_streams.specs.Asked.{service_of}
 use Rattle.adb_daemon.specs.Device.{Setting}
 use Rattle.adb_laws_model_device.specs.Joined.{IsJoined}
 use Rattle.adb_laws_model_device.specs.Owed.{bytes_owed, packets_owed}
+use Rattle.adb_laws_worlds.specs.Settled.{IsAtRest}
 use Rattle.adb_laws_steps.specs.Moved.{AreSteps, moved, handled, of_here}
 use Rattle.adb_laws_steps.specs.Receives.{writes_to}
 use Rattle.adb_laws_steps.specs.Sums.{sum_to}
@@ -57,3 +60,10 @@ pays c h = handled c h + stream_pays (asked c h).next (asked c h).used (length (
 -- The clients whose input had not ended pay for all that moved.
 abbrev pub ClientsPay : (before more : History) → Type 0
 ClientsPay before more = moved more ≤ sum_to (λ c. of_here before c (pays c (more ++ before))) (came_count before)
+
+-- At rest each client whose input did not end, and which asked for a service that its device knows, was put all that the device wrote to its stream; where the
+-- link stays, no kill stands, an id was left for each stream, and no client came through a forward.
+abbrev pub WritesWerePut : Setting → History → Type 0
+WritesWerePut setting h = IsAtRest setting h → is_lost 1 h ≡ false → is_killed h ≡ false → length (births h) ≤ stream_ids → NoneEnters h → (l : ℕ) (b : Birth) → born l h ≡ Some b → b.link ≡ 1
+    → is_some (service_of b.service) ≡ true → has_ended b.client h ≡ false
+    → writes_to l (packets_owed setting (sent 1 h)) ≤ length (bytes_put b.client h)

@@ -6,5 +6,5 @@ mod laws;
 
 pub use laws::{
     a_device_brings_what_is_worth_its_answer, clients_pay_for_all_that_moves, steps_move_bytes,
-    the_device_answers_alone, tolls_are_paid,
+    the_device_answers_alone, tolls_are_paid, writes_were_put_at_rest,
 };
