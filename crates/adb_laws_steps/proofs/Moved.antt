@@ -301,3 +301,19 @@ module _ (before more : History) (steps : AreSteps before more) where
           → length (bytes_put (suc n) (more ++ before)) ≤ length (bytes_put (suc n) before) + cond b 0 (length (bytes_put (suc n) (more ++ before)))
       go true is = let same = put_same before (suc n) is more steps in omega (arith, same)
       go false is = omega arith
+
+-- ---- steps behind steps
+pub steps_both : (before more even : History) → AreSteps before more → AreSteps (more ++ before) even → AreSteps before (even ++ more)
+steps_both before more [] steps later = steps
+steps_both before more (Read c bytes ∷ even) steps later =
+    (steps_both before more even steps later.0, later.1, sym (ended_same before c more steps) ∙ later.2)
+steps_both before more (Put c bytes ∷ even) steps later =
+    (steps_both before more even steps later.0, later.1, sym (ended_same before c more steps) ∙ later.2)
+steps_both before more (Recv t bytes ∷ even) steps later = (steps_both before more even steps later.0, later.1, later.2)
+steps_both before more (Send t bytes ∷ even) steps later = (steps_both before more even steps later.0, later.1, later.2)
+steps_both before more (Join c ∷ even) steps later = absurd later
+steps_both before more (Enter c port ∷ even) steps later = absurd later
+steps_both before more (End c cause ∷ even) steps later = absurd later
+steps_both before more (Bound c port ∷ even) steps later = absurd later
+steps_both before more (Attach t kind serial ∷ even) steps later = absurd later
+steps_both before more (Detach t cause ∷ even) steps later = absurd later
