@@ -29,7 +29,7 @@ use Rattle.adb_laws_steps.specs.Owed.{answer_tolls, row_tolls, sent_tolls, IsFin
 use Rattle.adb_laws_steps.specs.Receives.{write_bytes, write_len}
 use Rattle.adb_laws_steps.specs.Steps.{ClientsPay, Settles, pays, stream_pays}
 use Rattle.adb_laws_steps.specs.Sums.{sum_to}
-use Rattle.adb_laws_steps.specs.Tolls.{BringWorth, tolls}
+use Rattle.adb_laws_steps.specs.Tolls.{BringWorth, close_tolls, tolls}
 use Rattle.adb_laws_steps.proofs.Costs.{tolls_append}
 use Rattle.adb_laws_steps.proofs.Moved.{handled_here, moves_counted, plugged_same, put_here, puts_within}
 use Rattle.adb_laws_steps.proofs.Parts.{total, total_append, part, IsWithin, covered}
@@ -77,14 +77,8 @@ module _ (setting : Setting) (before more : History) (s : Settles setting before
   legal_old : IsLegal before
   legal_old = legal_before more before s.legal
 
-  abbrev drawn : ℕ
-  drawn = (state (more ++ before)).drawn
-
   more_now : (state before).drawn ≤ (state (more ++ before)).drawn
   more_now = more_drawn more before s.legal
-
-  watch : ℕ → Bool
-  watch = q setting before more s
 
   -- a stream that is watched was drawn
   watched_drawn : (l : ℕ) → q setting before more s l ≡ true → (0 < l) × (l ≤ (state (more ++ before)).drawn)
@@ -147,7 +141,9 @@ module _ (setting : Setting) (before more : History) (s : Settles setting before
       let paid = tolls_paid before more s.legal worth in
       let same = plugged_same before more s.steps in
       let puts = puts_within before s.here more s.legal s.steps in
-      let kept = closes_kept before (state (more ++ before)).drawn more_now in
+      let kept : close_tolls (state before).streams (state before).drawn + 24 * (state (more ++ before)).drawn
+      ≤ sum_to (λ l. keeps (q setting before more s) l) (state (more ++ before)).drawn + 24 * (state before).drawn =
+      closes_kept before (state (more ++ before)).drawn more_now in
       let all : tolls (told (more ++ before)) ≡ tolls (told before) + tolls (told_since more before).0 =
       ap tolls (told_since more before).1 ∙ tolls_append (told before) (told_since more before).0 in
       omega (arith, paid, same, puts, kept, all)
@@ -156,16 +152,24 @@ module _ (setting : Setting) (before more : History) (s : Settles setting before
       ≤ on_link before + 28 * sum_to (λ c. length (bytes_put c (more ++ before))) (came_count before)
       + sum_to (costs setting before more s) (state (more ++ before)).drawn
   link_paid =
-      let made = (alone setting before more s).made in
       let up = made_size (λ l. q setting before more s l ≡ true) (alone setting before more s).made (alone setting before more s).fine in
-      let owed = (alone setting before more s).tolls in
+      let owed : sent_tolls (alone setting before more s).made ≤ answer_tolls (due_since setting before more s)
+      + row_tolls (q setting before more s) (device_behind setting (sent 1 before)).serving.rows = (alone setting before more s).tolls in
       let both = shared (due_since setting before more s) in
       let tolled = packet_tolls_within 1 (told_since more before).0 in
-      let shares = covered stream_share (λ p. p.arg0) (state (more ++ before)).drawn (due_since setting before more s) (shares_in setting before more s) in
+      let shares : total stream_share (λ p. p.arg0) (due_since setting before more s)
+      ≤ sum_to (λ l. part stream_share (λ p. p.arg0) l (due_since setting before more s)) (state (more ++ before)).drawn =
+      covered stream_share (λ p. p.arg0) (state (more ++ before)).drawn (due_since setting before more s) (shares_in setting before more s) in
       let written = total_written (packets_of_sent (alone setting before more s).made) in
-      let writes = covered write_len (λ p. p.arg1) (state (more ++ before)).drawn (packets_of_sent (alone setting before more s).made)
+      let writes : total write_len (λ p. p.arg1) (packets_of_sent (alone setting before more s).made)
+      ≤ sum_to (λ l. part write_len (λ p. p.arg1) l (packets_of_sent (alone setting before more s).made)) (state (more ++ before)).drawn =
+      covered write_len (λ p. p.arg1) (state (more ++ before)).drawn (packets_of_sent (alone setting before more s).made)
       (writes_in (q setting before more s) (state (more ++ before)).drawn watched_drawn (alone setting before more s).made (alone setting before more s).fine) in
-      let sums = three_sums (λ l. part stream_share (λ p. p.arg0) l (due_since setting before more s))
+      let sums : sum_to (costs setting before more s) (state (more ++ before)).drawn
+      ≡ sum_to (λ l. part stream_share (λ p. p.arg0) l (due_since setting before more s)) (state (more ++ before)).drawn
+      + 25 * sum_to (λ l. part write_len (λ p. p.arg1) l (packets_of_sent (alone setting before more s).made)) (state (more ++ before)).drawn
+      + 2 * sum_to (λ l. keeps (q setting before more s) l) (state (more ++ before)).drawn =
+      three_sums (λ l. part stream_share (λ p. p.arg0) l (due_since setting before more s))
       (λ l. part write_len (λ p. p.arg1) l (packets_of_sent (alone setting before more s).made)) (λ l. keeps (q setting before more s) l)
       (state (more ++ before)).drawn in
       let down = sent_size in
@@ -178,7 +182,10 @@ module _ (setting : Setting) (before more : History) (s : Settles setting before
   clients_pay =
       let moves = moves_counted before s.here more s.legal s.steps in
       let link = link_paid in
-      let streams = streams_paid setting before more s carried in
+      let streams : sum_to (costs setting before more s) (state (more ++ before)).drawn
+      ≤ sum_to (λ c. of_here before c (stream_pays (asked c (more ++ before)).next (asked c (more ++ before)).used (length (bytes_read c (more ++ before)))
+      + 25 * length (bytes_put c (more ++ before)))) (came_count before) =
+      streams_paid setting before more s carried in
       let mine = handled_here before more s.steps (came_count before) in
       let put = put_here before more s.steps (came_count before) in
       let pay = both_pay before (more ++ before) (came_count before) in

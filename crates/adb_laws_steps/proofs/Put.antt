@@ -66,12 +66,9 @@ pub record DeviceLaws (setting : Setting) : Type 0 where
   pub write : (packets : List Packet) (own : ℕ) → 0 < own
       → Writes own (device_behind setting packets).serving.made (device_behind setting packets).serving.acks
       (at own (device_behind setting packets).serving.rows) (over_at own (device_behind setting packets).serving.ended)
-  pub asked : AllWereAsked setting
+  pub were_asked : AllWereAsked setting
 
 module _ (setting : Setting) (laws : DeviceLaws setting) (h : History) (legal : IsLegal h) where
-  abbrev s : Serving
-  s = (device_behind setting (sent 1 h)).serving
-
   -- an id that has ended was drawn
   over_drawn : (own : ℕ) (e : Ended) → over_at own (device_behind setting (sent 1 h)).serving.ended ≡ Some e
       → (0 < own) × (own ≤ (device_behind setting (sent 1 h)).serving.drawn)
@@ -113,7 +110,7 @@ module _ (setting : Setting) (laws : DeviceLaws setting) (h : History) (legal : 
       drawn = over_drawn own e is
 
       was : WasAsked setting own (sent 1 h)
-      was = laws.asked (sent 1 h) own drawn.0 (never_refused setting 1 h legal) drawn.1
+      was = laws.were_asked (sent 1 h) own drawn.0 (never_refused setting 1 h legal) drawn.1
 
       gone : at own (device_behind setting (sent 1 h)).serving.rows ≡ None
       gone = go (at own (device_behind setting (sent 1 h)).serving.rows) refl

@@ -114,7 +114,15 @@ module _ (q : ℕ → Bool) (base : List Sent) where
     cost : sent_tolls more + row_tolls q s.rows + left ≤ n
 
   within : (a b k l : ℕ) (s : Serving) → a + l ≤ b + k → Stands a k s → Stands b l s
-  within a b k l s le h = record { rises = h.rises; fresh = h.fresh; apart = h.apart; more = h.more; is = h.is; fine = h.fine; cost = (let cost = h.cost in omega (arith, cost, le)) }
+  within a b k l s le h = record {
+    rises = h.rises;
+    fresh = h.fresh;
+    apart = h.apart;
+    more = h.more;
+    is = h.is;
+    fine = h.fine;
+    cost = (let cost = h.cost in omega (arith, cost, le));
+  }
 
   -- more becomes due
   owes : (n m left : ℕ) (more : List Sent) (s : Serving) → All (IsFine P) more → sent_tolls more ≤ m → Stands n left s → Stands (n + m) left (owing more s)
@@ -326,8 +334,9 @@ module _ (q : ℕ → Bool) (base : List Sent) where
         drawn = s.drawn + 1;
         files = files_opened kind s.files;
       } in
+      let in_range : (0 < s.drawn + 1) × (s.drawn + 1 ≤ s.drawn + 1) = (omega arith, omega arith) in
       within (n + 28 + 24) (n + 52) 0 0 (open_as link p (Some kind) s) (omega arith)
-      (settles (n + 28) 0 link (s.drawn + 1) (opened p.arg0 kind s.files (credit_of link p)) drawn host (omega arith, omega arith)
+      (settles (n + 28) 0 link (s.drawn + 1) (opened p.arg0 kind s.files (credit_of link p)) drawn host in_range
       (h.fresh (s.drawn + 1) (inr (omega arith))).1
       (record {
         rises = okayed.rises;
@@ -420,7 +429,7 @@ module _ (q : ℕ → Bool) (base : List Sent) where
       within n (n + 0) 0 0 (on_okay link p s) (omega arith)
       (ack_stands n link p (named p.arg0 (at p.arg1 s.rows)) s (host refl) (λ row is. named_as p s row is) h)
   served_stands n commands.Clse link p s host h =
-      within n (n + 0) 0 0 (on_close p s) (omega arith) 
+      within n (n + 0) 0 0 (on_close p s) (omega arith)
       (close_stands n p.arg1 (closable p.arg0 (at p.arg1 s.rows)) s (λ row is. closable_there p.arg0 (at p.arg1 s.rows) row is) h)
   served_stands n commands.Cnxn link p s host h = within n (n + 0) 0 0 s (omega arith) h
   served_stands n commands.Auth link p s host h = within n (n + 0) 0 0 s (omega arith) h
@@ -515,7 +524,12 @@ all_worth setting packets = subst (All (IsFine (λ l. true ≡ true))) (sym (who
 
 -- ---- behind some packets
 pub answers_alone : (setting : Setting) → DeviceAnswersAlone setting
-answers_alone setting q front more all = record { made = stands.more; is = stands.is; tolls = (let cost = stands.cost in omega (arith, cost)); fine = stands.fine }
+answers_alone setting q front more all = record {
+  made = stands.more;
+  is = stands.is;
+  tolls = (let cost = stands.cost in omega (arith, cost));
+  fine = stands.fine;
+}
   where
     begins : Stands q (device_behind setting front).serving.made (row_tolls q (device_behind setting front).serving.rows) 0 (device_behind setting front).serving
     begins = record {

@@ -10,7 +10,7 @@ use Rattle.adb_wire.specs.declared.command.Command.TheVariants.{Cnxn, Open, Okay
 use Rattle.adb_wire.specs.declared.packets.Packet.{Packet}
 use Rattle.adb_reply.specs.declared.answer.Next.{Next}
 use Rattle.adb_stream.specs.declared.row.Stream.{Stream}
-use Rattle.adb_history.specs.Births.{Birth, births, born, carried_in, count_from, is_open, is_wrte}
+use Rattle.adb_history.specs.Births.{Birth, births, births_at, born, carried_in, count_from, is_open, is_wrte}
 use Rattle.adb_history.specs.Book.{asked}
 use Rattle.adb_history.specs.Bytes.{bytes_put, bytes_read, has_ended, sent}
 use Rattle.adb_history.specs.Events.{Event, packets_to}
@@ -36,7 +36,7 @@ use Rattle.adb_laws_steps.specs.Sums.{sum_to}
 use Rattle.adb_laws_steps.proofs.Clients.{IsAskedFor, OfClient, all_asked_for, apart, asked_for, carried_within}
 use Rattle.adb_laws_steps.proofs.Moved.{came_same}
 use Rattle.adb_laws_steps.proofs.Parts.{part, part_append, IsWithin, HasOf, spread}
-use Rattle.adb_laws_steps.proofs.Sends.{drawn_for, own, share_now, was_born}
+use Rattle.adb_laws_steps.proofs.Sends.{all_within, drawn_for, own, share_now, was_born}
 use Rattle.adb_laws_steps.proofs.Serving.{answers_alone}
 use Rattle.adb_laws_steps.proofs.Sizes.{stream_share}
 use Rattle.adb_laws_steps.proofs.Tolls.{all_behind}
@@ -63,7 +63,7 @@ born_behind l b (e ∷ more) before is = born_stays l e (more ++ before) b (born
 
 more_births : (more before : History) → length (births before) ≤ length (births (more ++ before))
 more_births [] before = omega arith
-more_births (e ∷ more) before = go (births (e ∷ (more ++ before))) _ refl (more_births more before)
+more_births (e ∷ more) before = go (births (e ∷ (more ++ before))) (births_at e (more ++ before)) refl (more_births more before)
   where
     go : (all : List Birth) (now : List Birth) → all ≡ births (more ++ before) ++ now → length (births before) ≤ length (births (more ++ before))
         → length (births before) ≤ length all
@@ -119,26 +119,6 @@ module _ (h : History) (legal : IsLegal h) (q : ℕ → Bool) where
           go true e = e
           go false e = absurd (asks_once p ps on (none p.arg0 drawn.0 drawn.1 e))
 
-  -- what has a share is of a stream that is watched
-  shares_within : (ps : List Packet) → All (λ p. IsOwn h 1 p.command p) ps → All (IsWithin stream_share (λ p. p.arg0) (state h).drawn) ps
-  shares_within [] all = All-nil (IsWithin stream_share (λ p. p.arg0) (state h).drawn)
-  shares_within (p ∷ ps) all =
-      All-cons (IsWithin stream_share (λ p. p.arg0) (state h).drawn) p ps
-      (go p.command refl (All-head (λ p. IsOwn h 1 p.command p) p ps all)) (shares_within ps (All-tail (λ p. IsOwn h 1 p.command p) p ps all))
-    where
-      none : (c : Command) → p.command ≡ c → cond (is_wrte c) (53 * length p.payload) 0 + cond (is_open c) (76 + length p.payload) 0 ≡ 0
-          → stream_share p ≡ 0
-      none c e zeroth = ap (λ (k : Command). cond (is_wrte k) (53 * length p.payload) 0 + cond (is_open k) (76 + length p.payload) 0) e ∙ zeroth
-
-      go : (c : Command) → p.command ≡ c → IsOwn h 1 c p → IsWithin stream_share (λ p. p.arg0) (state h).drawn p
-      go Open e of = inr (drawn_for h legal p.arg0 of.birth of.is)
-      go Wrte e of = inr (drawn_for h legal p.arg0 of.birth of.is)
-      go Okay e of = inl (none Okay e refl)
-      go Clse e of = inl (none Clse e refl)
-      go Cnxn e of = inl (none Cnxn e refl)
-      go Auth e of = absurd of
-      go Stls e of = absurd of
-
 -- what asks for nothing has no share
 unasked_share : (l : ℕ) (ps : List Packet) → count_from asks l ps ≡ 0 → part stream_share (λ p. p.arg0) l ps ≡ 0
 unasked_share l [] none = refl
@@ -155,9 +135,7 @@ unasked_share l (p ∷ ps) none = go p.command refl (nat_eq p.arg0 l) refl none 
         → part stream_share (λ p. p.arg0) l ps ≡ 0
         → cond m (cond (is_wrte p.command) (53 * length p.payload) 0 + cond (is_open p.command) (76 + length p.payload) 0) 0
         + part stream_share (λ p. p.arg0) l ps ≡ 0
-    free c e m zeroth later =
-        let same = ap (λ (k : Command). cond (is_wrte k) (53 * length p.payload) 0 + cond (is_open k) (76 + length p.payload) 0) e in
-        by m
+    free c e m zeroth later = by m
       where
         by : (m : Bool) → cond m (cond (is_wrte p.command) (53 * length p.payload) 0 + cond (is_open p.command) (76 + length p.payload) 0) 0
             + part stream_share (λ p. p.arg0) l ps ≡ 0
@@ -231,7 +209,7 @@ module _ (setting : Setting) (before more : History) (s : Settles setting before
       omega (arith, same, both)
 
   pub shares_in : All (IsWithin stream_share (λ p. p.arg0) (state (more ++ before)).drawn) due_since
-  shares_in = shares_within (more ++ before) s.legal q due_since own_since
+  shares_in = all_within (more ++ before) s.legal due_since own_since
 
   -- what the device made since
   pub alone : AnswersAlone q due_since (device_behind setting (sent 1 before)).serving (device_behind setting (sent 1 before ++ due_since)).serving

@@ -137,11 +137,8 @@ module _ (q : ℕ → Bool) where
       → row_tolls q rows ≤ sum_to (λ l. keeps q l) n
   rows_kept zero rows rises ones within = let none = none_at_all rows rows (at_each rows rises) within in omega (arith, none)
   rows_kept (suc n) rows rises ones within =
-      go (at id rows) refl (λ xs xs_rise xs_ones xs_within. rows_kept n xs xs_rise xs_ones xs_within)
+      go (at (ones (suc n)).0 rows) refl (λ xs xs_rise xs_ones xs_within. rows_kept n xs xs_rise xs_ones xs_within)
     where
-      id : ℕ
-      id = (ones (suc n)).0
-
       -- where no row is for the last number, they are within the others
       fewer : (xs : List (ℕ × Row)) → AreWithin (suc n) xs → ((own : ℕ) (row : Row) → at own xs ≡ Some row → row.host ≢ suc n) → AreWithin n xs
       fewer xs all other own row is on =
@@ -150,7 +147,7 @@ module _ (q : ℕ → Bool) where
           let le = w.1 in
           (w.0, omega (arith, le, apart))
 
-      go : (o : Option Row) → at id rows ≡ o
+      go : (o : Option Row) → at (ones (suc n)).0 rows ≡ o
           → ((xs : List (ℕ × Row)) → IsRising xs → ((l : ℕ) → HasOneRow xs l) → AreWithin n xs → row_tolls q xs ≤ sum_to (λ l. keeps q l) n)
           → row_tolls q rows ≤ keeps q (suc n) + sum_to (λ l. keeps q l) n
       go None gone below =
@@ -165,29 +162,25 @@ module _ (q : ℕ → Bool) where
               let one : r ≡ row = cc in
               ap (λ (x : Row). x.host) one ∙ same
 
-          -- the others
-          left : List (ℕ × Row)
-          left = without id rows
-
-          stood : (own : ℕ) (row : Row) → at own (without id rows) ≡ Some row → (own ≢ id) × (at own rows ≡ Some row)
-          stood own row is = find (cases_eq own id)
+          stood : (own : ℕ) (row : Row) → at own (without (ones (suc n)).0 rows) ≡ Some row → (own ≢ (ones (suc n)).0) × (at own rows ≡ Some row)
+          stood own row is = find (cases_eq own (ones (suc n)).0)
             where
-              find : (own ≡ id) ⊎ (own ≢ id) → (own ≢ id) × (at own rows ≡ Some row)
+              find : (own ≡ (ones (suc n)).0) ⊎ (own ≢ (ones (suc n)).0) → (own ≢ (ones (suc n)).0) × (at own rows ≡ Some row)
               find (inl same) =
                   absurd (let clash : None ≡ Some row =
-                  sym (puts_without id rows rises).here ∙ (ap (λ (k : ℕ). at k (without id rows)) (sym same) ∙ is) in cc)
-              find (inr other) = (other, sym ((puts_without id rows rises).others own other) ∙ is)
+                  sym (puts_without (ones (suc n)).0 rows rises).here ∙ (ap (λ (k : ℕ). at k (without (ones (suc n)).0 rows)) (sym same) ∙ is) in cc)
+              find (inr other) = (other, sym ((puts_without (ones (suc n)).0 rows rises).others own other) ∙ is)
 
           by : (r.host ≡ suc n) ⊎ (r.host ≢ suc n) → row_tolls q rows ≤ keeps q (suc n) + sum_to (λ l. keeps q l) n
           by (inr other) =
               let le = below rows rises ones (fewer rows within (λ own row is same. other (only own row is same))) in
               omega (arith, le)
           by (inl same) =
-              let le = below (without id rows) (without_rises id rows rises)
+              let le = below (without (ones (suc n)).0 rows) (without_rises (ones (suc n)).0 rows rises)
               (λ l. ((ones l).0, λ own row is host. (ones l).1 own row (stood own row is).1 host))
-              (fewer (without id rows) (λ own row is on. within own row (stood own row is).1 on)
+              (fewer (without (ones (suc n)).0 rows) (λ own row is on. within own row (stood own row is).1 on)
               (λ own row is host. (stood own row is).0 ((ones (suc n)).1 own row (stood own row is).1 host))) in
-              let sum = sum_by-remove_entry (row_toll q) (is_at (nat_cmp id)) rows in
-              let toll : unwrap_or (option_map (row_toll q) (at id rows)) 0 ≡ keeps q (suc n) =
+              let sum = sum_by-remove_entry (row_toll q) (is_at (nat_cmp (ones (suc n)).0)) rows in
+              let toll : unwrap_or (option_map (row_toll q) (at (ones (suc n)).0 rows)) 0 ≡ keeps q (suc n) =
               ap (λ (o : Option Row). unwrap_or (option_map (row_toll q) o) 0) there ∙ ap (λ (k : ℕ). cond (q k) 24 0) same in
               omega (arith, le, sum, toll)

@@ -23,7 +23,7 @@ total_written (p ∷ packets) = let e = total_written packets in omega (arith, e
 
 pub part_is : (l : ℕ) (packets : List Packet) → writes_to l packets ≡ part write_len (λ p. p.arg1) l packets
 part_is l [] = refl
-part_is l (p ∷ packets) = let e = part_is l packets in omega (arith, e)
+part_is l (p ∷ packets) = ap (λ (n : ℕ). cond (nat_eq p.arg1 l) (write_len p) 0 + n) (part_is l packets)
 
 -- what goes to one id comes from one
 pub part_written : (l id : ℕ) (made : List Sent) → All (ComesFrom l id) made

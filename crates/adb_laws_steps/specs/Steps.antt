@@ -64,6 +64,7 @@ ClientsPay before more = moved more ≤ sum_to (λ c. of_here before c (pays c (
 -- At rest each client whose input did not end, and which asked for a service that its device knows, was put all that the device wrote to its stream; where the
 -- link stays, no kill stands, an id was left for each stream, and no client came through a forward.
 abbrev pub WritesWerePut : Setting → History → Type 0
-WritesWerePut setting h = IsAtRest setting h → is_lost 1 h ≡ false → is_killed h ≡ false → length (births h) ≤ stream_ids → NoneEnters h → (l : ℕ) (b : Birth) → born l h ≡ Some b → b.link ≡ 1
+WritesWerePut setting h = IsAtRest setting h → is_lost 1 h ≡ false → is_killed h ≡ false → length (births h) ≤ stream_ids → NoneEnters h
+    → (l : ℕ) (b : Birth) → born l h ≡ Some b → b.link ≡ 1
     → is_some (service_of b.service) ≡ true → has_ended b.client h ≡ false
     → writes_to l (packets_owed setting (sent 1 h)) ≤ length (bytes_put b.client h)

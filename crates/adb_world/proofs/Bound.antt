@@ -28,12 +28,13 @@ use Rattle.adb_daemon.specs.Daemon.{owed}
 use Rattle.adb_daemon.specs.Device.{Setting}
 use Rattle.adb_laws_answers.proofs.Asked.{born_as}
 use Rattle.adb_laws_model_device.specs.Joined.{IsJoined}
-use Rattle.adb_laws_model_device.specs.Owed.{bytes_owed}
+use Rattle.adb_laws_model_device.specs.Owed.{bytes_owed, packets_owed}
 use Rattle.adb_laws_sessions.specs.Words.{requests_for, selects}
 use Rattle.adb_laws_sessions.specs.Model.{model_devices, model_setting}
 use Rattle.adb_laws_sessions.specs.Asked.{HasOpened}
 use Rattle.adb_laws_sessions.specs.Sessions.{AsksForServices, IsOfSessions}
 use Rattle.adb_laws_steps.specs.Moved.{AreSteps, moved, of_here}
+use Rattle.adb_laws_steps.specs.Receives.{writes_to}
 use Rattle.adb_laws_steps.specs.Steps.{ClientsPay, NoneEnters, Settles, WritesWerePut, pays, stream_pays}
 use Rattle.adb_laws_steps.specs.Sums.{sum_to}
 use Rattle.adb_laws_steps.proofs.Clients.{all_asked_for, asked_for}
@@ -45,7 +46,7 @@ use Rattle.adb_laws_worlds.specs.Unbroken.{BringsSound}
 use Rattle.adb_world.specs.Parts.{Holds, IsGreeted, IsKeptAt, IsOver, IsRunning}
 use Rattle.adb_world.specs.Session.{IsTold, left_of, text_of}
 use Rattle.adb_world.specs.Settled.{GoesOn, HasMade, IsAtEase, Rests}
-use Rattle.adb_world.specs.Steps.{bytes_of, most_steps}
+use Rattle.adb_world.specs.Steps.{bytes_of_all, most_steps}
 use Rattle.adb_world.specs.declared.parts.Parts.{Parts}
 use Rattle.adb_world.specs.declared.session.Session.{Session}
 use Rattle.adb_world.proofs.Answered.{all_read, few_births, has_opened}
@@ -99,7 +100,7 @@ by_number (e ∷ entries) n =
     (λ k other. ap paid_at (at_tail k e entries other)) here in
     omega (arith, below, more)
 
-all_within : (entries : List (ℕ × Session)) → all_pay entries ≤ 64 * bytes_of entries + 1024 * length entries
+all_within : (entries : List (ℕ × Session)) → all_pay entries ≤ 64 * bytes_of_all entries + 1024 * length entries
 all_within [] = omega arith
 all_within (e ∷ entries) = let below = all_within entries in omega (arith, below)
 
@@ -241,7 +242,8 @@ module _ (laws : StepLaws) (old new : Parts) (ease : IsAtEase old) (goes : GoesO
           sym over.gone ∙ (ap (state h).clients (sym of_client) ∙ owner.1) in cc)
 
   -- what its device wrote to the stream of a client whose input had not ended was put
-  put : (l : ℕ) (b : Birth) → born l now ≡ Some b → has_ended b.client h ≡ false → _
+  put : (l : ℕ) (b : Birth) → born l now ≡ Some b → has_ended b.client h ≡ false
+      → writes_to l (packets_owed model_setting (sent 1 now)) ≤ length (bytes_put b.client now)
   put l b is open_yet =
       let by = asked_of_birth now legal_now holds_now.asks asks_now l b is in
       let t = there_now b.client by.some by.came open_yet in

@@ -7,6 +7,6 @@ returns c = λ setting history short some plain legal tied one.
     (record {
       ids = λ l packets once. c.streams_have_one_id.ensures setting l packets once;
       write = λ packets own positive. c.streams_write_their_answers.ensures setting packets own positive;
-      asked = c.ids_were_asked_for.ensures setting;
+      were_asked = c.ids_were_asked_for.ensures setting;
     })
     history legal (c.clients_are_answered.ensures setting history short some plain legal tied one)
