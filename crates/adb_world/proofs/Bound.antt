@@ -329,6 +329,6 @@ module _ (laws : StepLaws) (old new : Parts) (ease : IsAtEase old) (goes : GoesO
 
 pub makes_few_steps : StepLaws → (old new : Parts) → IsAtEase old → (n : ℕ) → HasMade n old new → Rests new → n ≤ most_steps new.sessions.entries
 makes_few_steps laws old new ease n made rests =
-    let few = few_steps laws old new ease made.0 rests in
-    let count = made.1 in
+    let few = few_steps laws old new ease made.goes rests in
+    let count = made.counted in
     omega (arith, few, count)

@@ -40,7 +40,7 @@ running_on stays e max all old new runs moved = record {
 
 pub runs_on : AllStay → (e : List ℕ → Entry) (max : ℕ) (all : History → Option (List ℕ)) (old new : Parts) (runs : IsRunning old)
     → MakesSteps e old → ((h : History) → Holds h old → Moved e max (all h) h old new) → HasMade 1 old new
-runs_on stays e max all old new runs steps moves = (made, refl)
+runs_on stays e max all old new runs steps moves = record { goes = made; counted = refl }
   where
     made : GoesOn old new
     made = record {
@@ -122,11 +122,13 @@ goes_further old mid new first more = record {
 
 -- none and one more step
 pub made_none : (parts : Parts) → IsRunning parts → HasMade 0 parts parts
-made_none parts runs = (stays_here parts runs, refl)
+made_none parts runs = record { goes = stays_here parts runs; counted = refl }
 
 pub made_more : (n : ℕ) (old mid new : Parts) → HasMade n old mid → HasMade 1 mid new → HasMade (n + 1) old new
-made_more n old mid new first more =
-    (goes_further old mid new first.0 more.0, (let one = first.1 in let two = more.1 in omega (arith, one, two)))
+made_more n old mid new first more = record {
+  goes = goes_further old mid new first.goes more.goes;
+  counted = (let one = first.counted in let two = more.counted in omega (arith, one, two));
+}
 
 -- ---- one session after the other
 -- what may be moved for the client of a number

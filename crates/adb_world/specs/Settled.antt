@@ -110,9 +110,10 @@ pub record GoesOn (old new : Parts) : Type 0 where
   pub same : AreSame old.sessions.entries new.sessions.entries
   pub given : new.given ≡ old.given
 
--- so many steps were made
-abbrev pub HasMade : ℕ → Parts → Parts → Type 0
-HasMade n old new = (goes : GoesOn old new) × (goes.steps ≡ n)
+-- So many steps were made.
+pub record HasMade (n : ℕ) (old new : Parts) : Type 0 where
+  pub goes : GoesOn old new
+  pub counted : goes.steps ≡ n
 
 -- A step was made; or none of its kind was possible, and nothing has changed.
 abbrev pub Goes : (Parts → Type 0) → Bool → Parts → Parts → Type 0

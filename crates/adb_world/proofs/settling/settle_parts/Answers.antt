@@ -9,31 +9,31 @@ use Rattle.adb_world.proofs.settling.settle_parts.Goals as goal
 pub returns-then-not-branch-clause-done : goal.returns-then-not-branch-clause-done
 returns-then-not-branch-clause-done c =
     let goes = subst (λ (b : Bool). Goes Rests b c.loop-steps.parts c.step.new.parts) c.if-not-branch.true c.in_ok-step.ensures in
-    c.worlds_that_rest_are_settled.ensures.done c.step.new.parts (subst IsRunning (sym goes.0) c.loop-steps.invariant.0.runs)
+    c.worlds_that_rest_are_settled.ensures.done c.step.new.parts (subst IsRunning (sym goes.0) c.loop-steps.invariant.goes.runs)
     (subst Rests (sym goes.0) goes.1)
 
 pub returns-then-not-branch-clause-answered : goal.returns-then-not-branch-clause-answered
 returns-then-not-branch-clause-answered c =
     let goes = subst (λ (b : Bool). Goes Rests b c.loop-steps.parts c.step.new.parts) c.if-not-branch.true c.in_ok-step.ensures in
-    c.worlds_that_rest_are_settled.ensures.answered c.step.new.parts (subst IsRunning (sym goes.0) c.loop-steps.invariant.0.runs)
+    c.worlds_that_rest_are_settled.ensures.answered c.step.new.parts (subst IsRunning (sym goes.0) c.loop-steps.invariant.goes.runs)
     (subst Rests (sym goes.0) goes.1)
 
 pub returns-then-not-branch-clause-alone : goal.returns-then-not-branch-clause-alone
 returns-then-not-branch-clause-alone c = λ ease n session alone is.
     let goes = subst (λ (b : Bool). Goes Rests b c.loop-steps.parts c.step.new.parts) c.if-not-branch.true c.in_ok-step.ensures in
     c.sessions_alone_are_answered.ensures c.args.parts.now c.step.new.parts ease
-    (subst (λ (parts : Parts). GoesOn c.args.parts.now parts) (sym goes.0) c.loop-steps.invariant.0) (subst Rests (sym goes.0) goes.1) n session alone is
+    (subst (λ (parts : Parts). GoesOn c.args.parts.now parts) (sym goes.0) c.loop-steps.invariant.goes) (subst Rests (sym goes.0) goes.1) n session alone is
 
 pub returns-then-not-branch-clause-files : goal.returns-then-not-branch-clause-files
 returns-then-not-branch-clause-files c = λ ease echoes.
     let goes = subst (λ (b : Bool). Goes Rests b c.loop-steps.parts c.step.new.parts) c.if-not-branch.true c.in_ok-step.ensures in
     c.echoes_change_no_file.ensures c.args.parts.now c.step.new.parts ease
-    (subst (λ (parts : Parts). GoesOn c.args.parts.now parts) (sym goes.0) c.loop-steps.invariant.0) (subst Rests (sym goes.0) goes.1) echoes
+    (subst (λ (parts : Parts). GoesOn c.args.parts.now parts) (sym goes.0) c.loop-steps.invariant.goes) (subst Rests (sym goes.0) goes.1) echoes
 
 pub returns-then-not-branch-clause-goes : goal.returns-then-not-branch-clause-goes
 returns-then-not-branch-clause-goes c =
     let goes = subst (λ (b : Bool). Goes Rests b c.loop-steps.parts c.step.new.parts) c.if-not-branch.true c.in_ok-step.ensures in
-    subst (λ (parts : Parts). GoesOn c.args.parts.now parts) (sym goes.0) c.loop-steps.invariant.0
+    subst (λ (parts : Parts). GoesOn c.args.parts.now parts) (sym goes.0) c.loop-steps.invariant.goes
 
 pub returns-then-not-branch-clause-steps : goal.returns-then-not-branch-clause-steps
 returns-then-not-branch-clause-steps c = λ ease.
