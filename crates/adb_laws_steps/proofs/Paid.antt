@@ -29,7 +29,7 @@ use Rattle.adb_laws_steps.specs.Owed.{answer_tolls, row_tolls, sent_tolls, IsFin
 use Rattle.adb_laws_steps.specs.Receives.{write_bytes, write_len}
 use Rattle.adb_laws_steps.specs.Steps.{ClientsPay, Settles, pays, stream_pays}
 use Rattle.adb_laws_steps.specs.Sums.{sum_to}
-use Rattle.adb_laws_steps.specs.Tolls.{BringWorth, close_tolls, tolls}
+use Rattle.adb_laws_steps.specs.Tolls.{BringWorth, close_tolls, puts_made, tolls}
 use Rattle.adb_laws_steps.proofs.Costs.{tolls_append}
 use Rattle.adb_laws_steps.proofs.Moved.{handled_here, moves_counted, plugged_same, put_here, puts_within}
 use Rattle.adb_laws_steps.proofs.Parts.{total, total_append, part, IsWithin, covered}
@@ -117,8 +117,10 @@ module _ (setting : Setting) (before more : History) (s : Settles setting before
   -- ---- what its device sent since
   taken_size : length (bytes_received 1 (more ++ before)) ≡ length (bytes_received 1 before) + length (sent_bytes (alone setting before more s).made)
   taken_size =
-      let now = ap (length {A = ℕ}) s.taken_now in
-      let old = ap (length {A = ℕ}) s.taken_before in
+      let now : length (bytes_received 1 (more ++ before)) ≡ length (sent_bytes (device_behind setting (sent 1 (more ++ before))).serving.made) =
+      ap (length {A = ℕ}) s.taken_now in
+      let old : length (bytes_received 1 before) ≡ length (sent_bytes (device_behind setting (sent 1 before)).serving.made) =
+      ap (length {A = ℕ}) s.taken_before in
       let made : length (sent_bytes (device_behind setting (sent 1 (more ++ before))).serving.made)
       ≡ length (sent_bytes (device_behind setting (sent 1 before)).serving.made) + length (sent_bytes (alone setting before more s).made) =
       ap (λ (made : List Sent). length (sent_bytes made)) (made_now setting before more s)
@@ -140,7 +142,8 @@ module _ (setting : Setting) (before more : History) (s : Settles setting before
   tolls_since =
       let paid = tolls_paid before more s.legal worth in
       let same = plugged_same before more s.steps in
-      let puts = puts_within before s.here more s.legal s.steps in
+      let puts : puts_made (more ++ before) + sum_to (λ c. length (bytes_put c before)) (came_count before)
+      ≤ puts_made before + sum_to (λ c. length (bytes_put c (more ++ before))) (came_count before) = puts_within before s.here more s.legal s.steps in
       let kept : close_tolls (state before).streams (state before).drawn + 24 * (state (more ++ before)).drawn
       ≤ sum_to (λ l. keeps (q setting before more s) l) (state (more ++ before)).drawn + 24 * (state before).drawn =
       closes_kept before (state (more ++ before)).drawn more_now in
@@ -180,7 +183,8 @@ module _ (setting : Setting) (before more : History) (s : Settles setting before
 
   pub clients_pay : ClientsPay before more
   clients_pay =
-      let moves = moves_counted before s.here more s.legal s.steps in
+      let moves : moved more + sum_to (λ c. handled c before) (came_count before) + on_link before
+      ≤ sum_to (λ c. handled c (more ++ before)) (came_count before) + on_link (more ++ before) = moves_counted before s.here more s.legal s.steps in
       let link = link_paid in
       let streams : sum_to (costs setting before more s) (state (more ++ before)).drawn
       ≤ sum_to (λ c. of_here before c (stream_pays (asked c (more ++ before)).next (asked c (more ++ before)).used (length (bytes_read c (more ++ before)))

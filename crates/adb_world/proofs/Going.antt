@@ -40,21 +40,21 @@ running_on stays e max all old new runs moved = record {
 
 pub runs_on : AllStay → (e : List ℕ → Entry) (max : ℕ) (all : History → Option (List ℕ)) (old new : Parts) (runs : IsRunning old)
     → MakesSteps e old → ((h : History) → Holds h old → Moved e max (all h) h old new) → HasMade 1 old new
-runs_on stays e max all old new runs steps moves = record { goes = made; counted = refl }
-  where
-    made : GoesOn old new
-    made = record {
-      runs = running_on stays e max (all runs.history) old new runs (moves runs.history runs.holds);
-      steps = 1;
-      grows = λ h holds. record {
-        more = e (moves h holds).bytes ∷ [];
-        moves = steps h (moves h holds).bytes holds (moves h holds).some;
-        counted = refl;
-        holds = (moves h holds).holds;
-      };
-      same = (moves runs.history runs.holds).same;
-      given = (moves runs.history runs.holds).given;
-    }
+runs_on stays e max all old new runs steps moves = record {
+  goes = record {
+    runs = running_on stays e max (all runs.history) old new runs (moves runs.history runs.holds);
+    steps = 1;
+    grows = λ h holds. record {
+      more = e (moves h holds).bytes ∷ [];
+      moves = steps h (moves h holds).bytes holds (moves h holds).some;
+      counted = refl;
+      holds = (moves h holds).holds;
+    };
+    same = (moves runs.history runs.holds).same;
+    given = (moves runs.history runs.holds).given;
+  };
+  counted = refl;
+}
 
 -- A step of one kind.
 pub goes_by : AllStay → (e : List ℕ → Entry) (max : ℕ) (all : History → Option (List ℕ)) (Nothing : Parts → Type 0) (moved : Bool) (old new : Parts)
@@ -122,9 +122,11 @@ goes_further old mid new first more = record {
 
 -- none and one more step
 pub made_none : (parts : Parts) → IsRunning parts → HasMade 0 parts parts
+unfolding stays_here
 made_none parts runs = record { goes = stays_here parts runs; counted = refl }
 
 pub made_more : (n : ℕ) (old mid new : Parts) → HasMade n old mid → HasMade 1 mid new → HasMade (n + 1) old new
+unfolding goes_further
 made_more n old mid new first more = record {
   goes = goes_further old mid new first.goes more.goes;
   counted = (let one = first.counted in let two = more.counted in omega (arith, one, two));
