@@ -228,8 +228,8 @@ module _ (l : ℕ) (b : Birth) (bytes : List ℕ) (older : History) (legal : IsL
       → (rule (Put b.client bytes) (state older)).state.clients b.client ≡ closing_with (drop (length bytes) a.due) (record a { due = drop (length bytes) a.due })
   rule_is d due due_is =
       ap (λ (o : Option Client). (puts_to o b.client (length bytes) (state older)).state.clients b.client) is
-      ∙ (ap (λ (x : List ℕ). (then_also (lists_first b.client x a (state older)) (λ s. takes_of b.client (length bytes) (s.clients b.client) s)).state.clients
-      b.client) due_is
+      ∙ (ap (λ (x : List ℕ). (then_also (lists_first b.client x a (state older))
+      (λ s. takes_of b.client (length bytes) (s.clients b.client) s)).state.clients b.client) due_is
       ∙ (ap (λ (o : Option Client). (takes_of b.client (length bytes) o (state older)).state.clients b.client) is
       ∙ (ap (λ (p : Phase). (client_left p (length (drop (length bytes) a.due)) (to_client b.client (hands (length bytes)) (state older))).state.clients
       b.client) phase
