@@ -18,11 +18,11 @@ module _ (weight key : Packet → ℕ) where
   part l (p ∷ packets) = cond (nat_eq (key p) l) (weight p) 0 + part l packets
 
   pub total_append : (front rest : List Packet) → total (front ++ rest) ≡ total front + total rest
-  total_append [] rest = refl
+  total_append [] rest = omega arith
   total_append (p ∷ front) rest = let e = total_append front rest in omega (arith, e)
 
   pub part_append : (l : ℕ) (front rest : List Packet) → part l (front ++ rest) ≡ part l front + part l rest
-  part_append l [] rest = refl
+  part_append l [] rest = omega arith
   part_append l (p ∷ front) rest = let e = part_append l front rest in omega (arith, e)
 
   -- a packet without weight, or of an id up to this

@@ -48,7 +48,7 @@ made_size P (one ∷ more) fine =
     omega (arith, here, later, both, size)
 
 pub bytes_append : (a b : List Sent) → length (sent_bytes (a ++ b)) ≡ length (sent_bytes a) + length (sent_bytes b)
-bytes_append [] b = refl
+bytes_append [] b = omega arith
 bytes_append (one ∷ a) b =
     let later = bytes_append a b in
     let left = length-append (bytes_of one) (sent_bytes (a ++ b)) in

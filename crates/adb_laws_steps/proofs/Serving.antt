@@ -65,15 +65,16 @@ there_drawn own row s fresh is = (some (cases_eq own 0), within (cases_lt s.draw
 all_over : (own : ℕ) (rows : List (ℕ × Row)) (ended : List Ended) → at own rows ≡ None
     → over_at own (map (ended_at false) rows ++ ended) ≡ over_at own ended
 all_over own [] ended none = refl
-all_over own (e ∷ rows) ended none = go (cases_eq own e.0)
+all_over own (e ∷ rows) ended none = go (cases_eq own e.0) (λ later. all_over own rows ended later)
   where
-    go : (own ≡ e.0) ⊎ (own ≡ e.0 → ⊥) → over_at own (map (ended_at false) (e ∷ rows) ++ ended) ≡ over_at own ended
-    go (inl same) =
+    go : (own ≡ e.0) ⊎ (own ≡ e.0 → ⊥) → (at own rows ≡ None → over_at own (map (ended_at false) rows ++ ended) ≡ over_at own ended)
+        → over_at own (map (ended_at false) (e ∷ rows) ++ ended) ≡ over_at own ended
+    go (inl same) others =
         absurd (let clash : Some e.1 ≡ None =
         sym (at_head e rows) ∙ (ap (λ (k : ℕ). at k (e ∷ rows)) (sym same) ∙ none) in cc)
-    go (inr other) =
+    go (inr other) others =
         other_over own (ended_at false e) (map (ended_at false) rows ++ ended) (λ same. other (sym same))
-        ∙ all_over own rows ended (sym (at_tail own e rows other) ∙ none)
+        ∙ others (sym (at_tail own e rows other) ∙ none)
 
 sent_tolls_append : (a b : List Sent) → sent_tolls (a ++ b) ≡ sent_tolls a + sent_tolls b
 sent_tolls_append [] b = omega arith

@@ -142,15 +142,15 @@ unasked_share l (p ∷ ps) none = go p.command refl (nat_eq p.arg0 l) refl none 
         by true =
             let same = ap (λ (k : Command). cond (is_wrte k) (53 * length p.payload) 0 + cond (is_open k) (76 + length p.payload) 0) e in
             omega (arith, same, zeroth, later)
-        by false = later
+        by false = omega (arith, later)
 
     go : (c : Command) → p.command ≡ c → (m : Bool) → nat_eq p.arg0 l ≡ m → count_from asks l (p ∷ ps) ≡ 0 → part stream_share (λ p. p.arg0) l ps ≡ 0
         → cond m (cond (is_wrte p.command) (53 * length p.payload) 0 + cond (is_open p.command) (76 + length p.payload) 0) 0
         + part stream_share (λ p. p.arg0) l ps ≡ 0
     go Open e true f none later = absurd (clash Open e refl f none)
-    go Open e false f none later = later
+    go Open e false f none later = omega (arith, later)
     go Wrte e true f none later = absurd (clash Wrte e refl f none)
-    go Wrte e false f none later = later
+    go Wrte e false f none later = omega (arith, later)
     go Okay e m f none later = free Okay e m refl later
     go Clse e m f none later = free Clse e m refl later
     go Cnxn e m f none later = free Cnxn e m refl later
@@ -168,7 +168,7 @@ unwatched_writes q l (one ∷ made) fine off =
     go : (m : Bool) → nat_eq one.packet.arg1 l ≡ m → (w : Bool) → is_wrte one.packet.command ≡ w
         → part write_len (λ p. p.arg1) l (packets_of_sent made) ≡ 0
         → cond m (cond (is_wrte one.packet.command) (length one.packet.payload) 0) 0 + part write_len (λ p. p.arg1) l (packets_of_sent made) ≡ 0
-    go false f w e later = later
+    go false f w e later = omega (arith, later)
     go true f false e later = let len = ap (λ (b : Bool). cond b (length one.packet.payload) 0) e in omega (arith, len, later)
     go true f true e later =
         absurd (let clash : true ≡ false =

@@ -120,7 +120,7 @@ module _ (q : ℕ → Bool) where
   toll_or_none : (row : Row) → (q row.host ≡ true → ⊥) → row_toll q row ≡ 0
   toll_or_none row off = go (q row.host) refl
     where
-      go : (b : Bool) → q row.host ≡ b → cond b 24 0 ≡ 0
+      go : (b : Bool) → q row.host ≡ b → ◌≡◌ {A = ℕ} (cond b 24 0) 0
       go true e = absurd (off e)
       go false e = refl
 
