@@ -1,15 +1,20 @@
 -- Steps of a world that runs, one after the other.
-use Rattle.std.specs.Prelude.{ℕ, ◌^◌, ◌≡◌, ◌≤◌, ◌<◌, Bool, true, false, List, [], ◌∷◌, ◌++◌, Option, Some, None, option_map}
+use Rattle.std.specs.Prelude.{ℕ, ◌+◌, ◌^◌, ◌≡◌, ◌≢◌, ◌≤◌, ◌<◌, Bool, true, false, is_some, length, List, [], ◌∷◌, ◌++◌, Option, Some, None, option_map}
 use Rattle.std.proofs.Common.{refl, sym, ◌∙◌, ap, subst, arith, ◌⊎◌, inl, inr, append_assoc}
 use Rattle.std.proofs.lemmas.Bool.{cases_lt}
+use Rattle.std.proofs.lemmas.List.{length-append}
 use Rattle.adb_outside.specs.Tables.{at}
 use Rattle.adb_capture.specs.declared.entry.Entry.{Entry}
+use Rattle.adb_capture.specs.declared.entry.Entry.TheVariants.{Put, Read, Recv, Send}
+use Rattle.adb_history.specs.Bytes.{has_ended}
 use Rattle.adb_history.specs.Machine.{History, state}
 use Rattle.adb_hub.specs.Answers.{offered_to}
 use Rattle.adb_laws_births.specs.Laws.{GoesOn as StaysBehind}
+use Rattle.adb_laws_steps.specs.Moved.{AreSteps}
+use Rattle.adb_laws_steps.proofs.Moved.{steps_both}
 use Rattle.adb_world.specs.Calls.{HasNone}
 use Rattle.adb_world.specs.Parts.{Holds, IsKeptAt, IsRunning, Moved, Moves}
-use Rattle.adb_world.specs.Settled.{Anything, Goes, GoesOn, GrowsFrom, NoneDown, NoneHanded, NoneUp, NoneWritten, Rests}
+use Rattle.adb_world.specs.Settled.{Anything, Goes, GoesOn, GrowsFrom, HasMade, NoneDown, NoneHanded, NoneUp, NoneWritten, Rests}
 use Rattle.adb_world.specs.Session.{left_of}
 use Rattle.adb_world.specs.declared.parts.Parts.{Parts}
 use Rattle.adb_world.specs.declared.session.Session.{Session}
@@ -19,6 +24,10 @@ use Rattle.adb_world.proofs.Stays.{same_sessions, then_same}
 -- births, and what links brought, stay
 abbrev pub AllStay : Type 0
 AllStay = (e : Entry) (older : History) → StaysBehind e older
+
+-- entries of this kind are steps of a world
+abbrev pub MakesSteps : (List ℕ → Entry) → Parts → Type 0
+MakesSteps e parts = (h : History) (bytes : List ℕ) → Holds h parts → bytes ≢ [] → AreSteps h (e bytes ∷ [])
 
 -- A step that was made leaves a world that runs.
 pub running_on : AllStay → (e : List ℕ → Entry) (max : ℕ) (all : Option (List ℕ)) (old new : Parts) (runs : IsRunning old)
@@ -30,26 +39,35 @@ running_on stays e max all old new runs moved = record {
 }
 
 pub runs_on : AllStay → (e : List ℕ → Entry) (max : ℕ) (all : History → Option (List ℕ)) (old new : Parts) (runs : IsRunning old)
-    → ((h : History) → Holds h old → Moved e max (all h) h old new) → GoesOn old new
-runs_on stays e max all old new runs moves = record {
-  runs = running_on stays e max (all runs.history) old new runs (moves runs.history runs.holds);
-  grows = λ h holds. record { more = e (moves h holds).bytes ∷ []; holds = (moves h holds).holds };
-  same = (moves runs.history runs.holds).same;
-  given = (moves runs.history runs.holds).given;
+    → MakesSteps e old → ((h : History) → Holds h old → Moved e max (all h) h old new) → HasMade 1 old new
+runs_on stays e max all old new runs steps moves = record {
+  goes = record {
+    runs = running_on stays e max (all runs.history) old new runs (moves runs.history runs.holds);
+    steps = 1;
+    grows = λ h holds. record {
+      more = e (moves h holds).bytes ∷ [];
+      moves = steps h (moves h holds).bytes holds (moves h holds).some;
+      counted = refl;
+      holds = (moves h holds).holds;
+    };
+    same = (moves runs.history runs.holds).same;
+    given = (moves runs.history runs.holds).given;
+  };
+  counted = refl;
 }
 
 -- A step of one kind.
 pub goes_by : AllStay → (e : List ℕ → Entry) (max : ℕ) (all : History → Option (List ℕ)) (Nothing : Parts → Type 0) (moved : Bool) (old new : Parts)
-    → (runs : IsRunning old) → ((h : History) → Holds h old → Moves e max (all h) moved h old new)
+    → (runs : IsRunning old) → MakesSteps e old → ((h : History) → Holds h old → Moves e max (all h) moved h old new)
     → (((h : History) → Holds h old → HasNone (all h)) → Nothing old) → Goes Nothing moved old new
-goes_by stays e max all Nothing true old new runs moves none = runs_on stays e max all old new runs moves
-goes_by stays e max all Nothing false old new runs moves none =
+goes_by stays e max all Nothing true old new runs steps moves none = runs_on stays e max all old new runs steps moves
+goes_by stays e max all Nothing false old new runs steps moves none =
     ((moves runs.history runs.holds).0, none (λ h holds. (moves h holds).1))
 
 -- ---- one kind behind another
 -- a step was made behind none
-pub behind_none : (old mid new : Parts) → mid ≡ old → GoesOn mid new → GoesOn old new
-behind_none old mid new same goes = subst (λ (p : Parts). GoesOn p new) same goes
+pub behind_none : (old mid new : Parts) → mid ≡ old → HasMade 1 mid new → HasMade 1 old new
+behind_none old mid new same goes = subst (λ (p : Parts). HasMade 1 p new) same goes
 
 pub runs_still : (old mid : Parts) → mid ≡ old → IsRunning old → IsRunning mid
 runs_still old mid same runs = subst IsRunning (sym same) runs
@@ -73,7 +91,8 @@ all_rest old p q r s new false first down up hand goes =
 pub stays_here : (parts : Parts) → IsRunning parts → GoesOn parts parts
 stays_here parts runs = record {
   runs = runs;
-  grows = λ h holds. record { more = []; holds = holds };
+  steps = 0;
+  grows = λ h holds. record { more = []; moves = tt; counted = refl; holds = holds };
   same = same_sessions parts.sessions.entries;
   given = refl;
 }
@@ -81,18 +100,37 @@ stays_here parts runs = record {
 pub goes_further : (old mid new : Parts) → GoesOn old mid → GoesOn mid new → GoesOn old new
 goes_further old mid new first more = record {
   runs = more.runs;
+  steps = first.steps + more.steps;
   grows = λ h holds. grows h (first.grows h holds);
   same = then_same old.sessions.entries mid.sessions.entries new.sessions.entries first.same more.same;
   given = more.given ∙ first.given;
 }
   where
-    grows : (h : History) → GrowsFrom h mid → GrowsFrom h new
+    grows : (h : History) → GrowsFrom first.steps h mid → GrowsFrom (first.steps + more.steps) h new
     grows h before =
         let behind = more.grows (before.more ++ h) before.holds in
         record {
           more = behind.more ++ before.more;
+          moves = steps_both h before.more behind.more before.moves behind.moves;
+          counted = (
+              let both = length-append behind.more before.more in
+              let one = before.counted in
+              let two = behind.counted in
+              omega (arith, both, one, two));
           holds = subst (λ (g : History). Holds g new) (sym (append_assoc behind.more before.more h)) behind.holds;
         }
+
+-- none and one more step
+pub made_none : (parts : Parts) → IsRunning parts → HasMade 0 parts parts
+unfolding stays_here
+made_none parts runs = record { goes = stays_here parts runs; counted = refl }
+
+pub made_more : (n : ℕ) (old mid new : Parts) → HasMade n old mid → HasMade 1 mid new → HasMade (n + 1) old new
+unfolding goes_further
+made_more n old mid new first more = record {
+  goes = goes_further old mid new first.goes more.goes;
+  counted = (let one = first.counted in let two = more.counted in omega (arith, one, two));
+}
 
 -- ---- one session after the other
 -- what may be moved for the client of a number
@@ -163,10 +201,11 @@ module _ (what : Content) (from after : ℕ) (old now : Parts) (tried : Tried wh
 
 -- a step for one of them is a step
 pub tried_moves : AllStay → (what : Content) (from after : ℕ) (old now new : Parts) → Tried what from after old now → (e : ℕ → List ℕ → Entry)
-    (max number : ℕ) → (runs : IsRunning now) → ((h : History) → Holds h now → Moves (e number) max (what now h number) true h now new) → GoesOn old new
-tried_moves stays what from after old now new tried e max number runs moves =
-    subst (λ (p : Parts). GoesOn p new) tried.same
-    (runs_on stays (e number) max (λ h. what now h number) now new runs moves)
+    (max number : ℕ) → (runs : IsRunning now) → MakesSteps (e number) now
+    → ((h : History) → Holds h now → Moves (e number) max (what now h number) true h now new) → HasMade 1 old new
+tried_moves stays what from after old now new tried e max number runs steps moves =
+    subst (λ (p : Parts). HasMade 1 p new) tried.same
+    (runs_on stays (e number) max (λ h. what now h number) now new runs steps moves)
 
 -- what may be handed to a client, and what a session may write
 abbrev pub to_hand_out : Content
@@ -178,3 +217,24 @@ to_write parts h c = option_map left_of (at c parts.sessions.entries)
 pub none_written : (from : ℕ) (parts : Parts) → IsRunning parts → NoneOf to_write from parts → NoneWritten from parts
 none_written from parts runs none c session past is =
     subst (λ (o : Option Session). HasNone (option_map left_of o)) is (none runs.history runs.holds c session past is)
+
+-- ---- what is moved of a session
+-- the input of its client has not ended
+session_open : (number : ℕ) (parts : Parts) → is_some (at number parts.sessions.entries) ≡ true → (h : History) → Holds h parts → has_ended number h ≡ false
+session_open number parts there h holds = go (at number parts.sessions.entries) there (holds.sessions number)
+  where
+    go : (o : Option Session) → is_some o ≡ true → IsKeptAt parts.given h number o → has_ended number h ≡ false
+    go None e kept = absurd (let clash : false ≡ true = e in cc)
+    go (Some session) e kept = kept.1.alive
+
+pub reads_step : (number : ℕ) (parts : Parts) → is_some (at number parts.sessions.entries) ≡ true → MakesSteps (λ (x : List ℕ). Read number x) parts
+reads_step number parts there h bytes holds some = (tt, some, session_open number parts there h holds)
+
+pub puts_step : (number : ℕ) (parts : Parts) → is_some (at number parts.sessions.entries) ≡ true → MakesSteps (λ (x : List ℕ). Put number x) parts
+puts_step number parts there h bytes holds some = (tt, some, session_open number parts there h holds)
+
+pub sends_step : (parts : Parts) → MakesSteps (Send 1) parts
+sends_step parts h bytes holds some = (tt, some, refl)
+
+pub receives_step : (parts : Parts) → MakesSteps (Recv 1) parts
+receives_step parts h bytes holds some = (tt, some, refl)

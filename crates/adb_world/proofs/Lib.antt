@@ -26,3 +26,4 @@ pub mod Alone
 pub mod Finishing
 pub mod Synced
 pub mod Files
+pub mod Bound

@@ -35,13 +35,13 @@ module _ (h : History) (hub : Kept) (lawful : IsLawful hub h) (known : (state h)
       go None is = absurd (let clash : false ≡ true = sym (ap is_some is) ∙ plugged in cc)
       go (Some link) is = (link, is)
 
-  pub all_sent : sent 1 h ≡ packets_of 1 h
-  all_sent = ap (λ (x : List ℕ). (framed x).given) (sym bytes) ∙ (sends_first h lawful.legal 1).packets
+  pub all_bytes : spelled_to 1 (told h) ≡ bytes_sent 1 h
+  all_bytes =
+      all_due_past_sent h lawful.legal 1 link_there.0 link_there.1
+      ∙ (ap (λ (x : List ℕ). bytes_sent 1 h ++ x) due ∙ append-nil (bytes_sent 1 h))
     where
       due : link_there.0.due ≡ []
       due = none 1 link_there.0 (links_show h hub lawful 1 ∙ link_there.1)
 
-      bytes : spelled_to 1 (told h) ≡ bytes_sent 1 h
-      bytes =
-          all_due_past_sent h lawful.legal 1 link_there.0 link_there.1
-          ∙ (ap (λ (x : List ℕ). bytes_sent 1 h ++ x) due ∙ append-nil (bytes_sent 1 h))
+  pub all_sent : sent 1 h ≡ packets_of 1 h
+  all_sent = ap (λ (x : List ℕ). (framed x).given) (sym all_bytes) ∙ (sends_first h lawful.legal 1).packets

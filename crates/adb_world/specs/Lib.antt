@@ -4,3 +4,4 @@ pub mod Parts
 pub mod World
 pub mod Settled
 pub mod Answered
+pub mod Steps

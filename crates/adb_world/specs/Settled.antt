@@ -1,5 +1,5 @@
 -- A world in which nothing can move, and in which nothing is left to be moved.
-use Rattle.std.specs.Prelude.{ℕ, ◌≡◌, ◌≢◌, ◌<◌, Bool, true, false, List, [], ◌∷◌, ◌++◌, Some}
+use Rattle.std.specs.Prelude.{ℕ, ◌≡◌, ◌≢◌, ◌<◌, Bool, true, false, List, [], ◌∷◌, ◌++◌, length, Some}
 use Rattle.adb_outside.specs.Tables.{at}
 use Rattle.adb_outside.specs.declared.kinds.Cause.TheVariants.{Eof}
 use Rattle.adb_capture.specs.declared.entry.Entry.TheVariants.{End as Ends}
@@ -10,6 +10,7 @@ use Rattle.adb_history.specs.Kept.{Kept}
 use Rattle.adb_history.specs.Machine.{History, state}
 use Rattle.adb_hub.specs.Answers.{due_on, offered_to}
 use Rattle.adb_daemon.specs.Daemon.{owed}
+use Rattle.adb_laws_steps.specs.Moved.{AreSteps}
 use Rattle.adb_world.specs.Session.{left_of}
 use Rattle.adb_world.specs.Calls.{HasNone}
 use Rattle.adb_world.specs.Parts.{Holds, IsRunning, AreSame, Drops}
@@ -94,21 +95,29 @@ pub record Rests (parts : Parts) : Type 0 where
   pub handed : NoneHanded 0 parts
   pub written : NoneWritten 0 parts
 
--- The parts hold a history that goes on behind another.
-pub record GrowsFrom (h : History) (new : Parts) : Type 0 where
+-- The parts hold a history that goes on behind another, by so many steps.
+pub record GrowsFrom (steps : ℕ) (h : History) (new : Parts) : Type 0 where
   pub more : History
+  pub moves : AreSteps h more
+  pub counted : length more ≡ steps
   pub holds : Holds (more ++ h) new
 
--- The parts go on running, with the same sessions.
+-- The parts go on running, with the same sessions; so many steps were made.
 pub record GoesOn (old new : Parts) : Type 0 where
   pub runs : IsRunning new
-  pub grows : (h : History) → Holds h old → GrowsFrom h new
+  pub steps : ℕ
+  pub grows : (h : History) → Holds h old → GrowsFrom steps h new
   pub same : AreSame old.sessions.entries new.sessions.entries
   pub given : new.given ≡ old.given
 
+-- So many steps were made.
+pub record HasMade (n : ℕ) (old new : Parts) : Type 0 where
+  pub goes : GoesOn old new
+  pub counted : goes.steps ≡ n
+
 -- A step was made; or none of its kind was possible, and nothing has changed.
 abbrev pub Goes : (Parts → Type 0) → Bool → Parts → Parts → Type 0
-Goes Nothing true old new = GoesOn old new
+Goes Nothing true old new = HasMade 1 old new
 Goes Nothing false old new = (new ≡ old) × Nothing old
 
 -- where nothing more is said of the steps that were not possible

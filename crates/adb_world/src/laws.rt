@@ -5,8 +5,9 @@ ghost use Rattle.adb_world.specs.Parts.{IsRunning};
 ghost use Rattle.adb_daemon.specs.Daemon.{files_of};
 ghost use Rattle.adb_outside.specs.Tables.{at};
 ghost use Rattle.adb_world.specs.Answered.{AreEchoes, IsAnswered, IsAnsweredAlone, IsNewAlone};
-ghost use Rattle.adb_world.specs.Settled.{Each, GoesOn, HasEnded, IsAtEase, IsCounted, IsDone, Rests};
-ghost use Rattle.std.specs.Prelude.{ℕ, ◌≡◌, [], Some, false, true};
+ghost use Rattle.adb_world.specs.Settled.{Each, GoesOn, HasEnded, HasMade, IsAtEase, IsCounted, IsDone, Rests};
+ghost use Rattle.adb_world.specs.Steps.{most_steps};
+ghost use Rattle.std.specs.Prelude.{ℕ, ◌≡◌, ◌≤◌, [], Some, false, true};
 ghost use Rattle.adb_world.specs.World.{view_of};
 ghost use Rattle.adb_world.specs.declared.parts.Parts.{Parts};
 ghost use Rattle.adb_world.specs.declared.session.Session.{Session};
@@ -18,6 +19,7 @@ use adb_laws_fifo_up::carries_rest;
 use adb_laws_payloads::{an_ended_service_takes_no_more, payloads_in_turn_are_one};
 use adb_laws_resting::resting::{a_client_sends_up_its_own_stream, most_entries_send_nothing};
 use adb_laws_sessions::{requests_open_their_service, sessions_ask_for_services};
+use adb_laws_steps::{clients_pay_for_all_that_moves, steps_move_bytes, writes_were_put_at_rest};
 use adb_laws_worlds::{
     a_device_breaks_no_link, clients_hold_nothing_at_rest, streams_are_open_at_rest,
     streams_have_settled_at_rest, streams_of_one_device_are_on_its_link,
@@ -95,6 +97,26 @@ pub(crate) fn sessions_alone_are_answered()
     an_ended_service_takes_no_more();
     a_stream_alone_runs_over_its_files();
     echoes_leave_files();
+}
+
+/// Where no step is possible, the steps from a time at which nothing was on its way are few.
+pub(crate) fn settling_takes_few_steps()
+    ensures { (old new : Parts) → IsAtEase old → (n : ℕ) → HasMade n old new → Rests new
+        → n ≤ most_steps new.sessions.entries }
+{
+    what_came_stays();
+    clients_pay_for_all_that_moves();
+    steps_move_bytes();
+    writes_were_put_at_rest();
+    requests_open_their_service();
+    sessions_ask_for_services();
+    streams_have_settled_at_rest();
+    clients_hold_nothing_at_rest();
+    streams_are_open_at_rest();
+    streams_of_one_plain_device_are_plain();
+    streams_of_one_device_are_on_its_link();
+    a_device_breaks_no_link();
+    streams_that_live_heard_no_close();
 }
 
 /// Where no step is possible sessions that asked for echoes alone left the files as they were.

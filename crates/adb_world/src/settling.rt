@@ -1,16 +1,18 @@
 //! Running a world until nothing in it can move.
 
-ghost use Rattle.std.specs.Prelude.{ℕ, ◌<◌, ◌≡◌, Some, IfOk, OnOk};
+ghost use Rattle.std.specs.Prelude.{ℕ, ◌<◌, ◌≤◌, ◌≡◌, Some, IfOk, OnOk};
 ghost use Rattle.adb_outside.specs.Tables.{at};
 ghost use Rattle.adb_daemon.specs.Daemon.{files_of};
 ghost use Rattle.adb_world.specs.Answered.{AreEchoes, IsAnswered, IsAnsweredAlone, IsNewAlone};
 ghost use Rattle.adb_world.specs.Parts.{IsRunning};
 ghost use Rattle.adb_world.specs.Settled.{Anything, Each, Goes, GoesOn, IsAtEase, IsDone, Rests};
+ghost use Rattle.adb_world.specs.Steps.{most_steps};
 ghost use Rattle.adb_world.specs.declared.session.Session.{Session};
 
 use crate::choices::{Side, Turn, turn_of};
 use crate::laws::{
-    echoes_change_no_file, sessions_alone_are_answered, worlds_that_rest_are_settled,
+    echoes_change_no_file, sessions_alone_are_answered, settling_takes_few_steps,
+    worlds_that_rest_are_settled,
 };
 use crate::moving::{down, hand_behind, up, write_behind};
 use crate::parts::Parts;
@@ -31,7 +33,10 @@ pub(crate) fn settle_parts(parts: &mut Parts, seed: u64) -> Result<u64, AllocErr
         (files_of parts.new.device)) }
     ensures files { IsAtEase parts.old → AreEchoes parts.old.sessions.entries
         → OnOk result (files_of parts.new.device ≡ files_of parts.old.device) }
+    ensures steps { IsAtEase parts.old
+        → IfOk result (λ steps. steps ≤ most_steps parts.new.sessions.entries) }
 {
+    settling_takes_few_steps();
     worlds_that_rest_are_settled();
     sessions_alone_are_answered();
     echoes_change_no_file();

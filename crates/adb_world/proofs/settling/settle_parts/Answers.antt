@@ -1,36 +1,51 @@
 use Rattle.std.specs.Prelude.{Bool}
 use Rattle.std.proofs.Common.{sym, subst}
 use Rattle.adb_world.specs.Parts.{IsRunning}
-use Rattle.adb_world.specs.Settled.{Goes, GoesOn, Rests}
+use Rattle.adb_world.specs.Settled.{Goes, GoesOn, HasMade, Rests}
 use Rattle.adb_world.specs.declared.parts.Parts.{Parts}
-use Rattle.adb_world.proofs.Going.{goes_further}
+use Rattle.adb_world.proofs.Going.{made_more, made_none}
 use Rattle.adb_world.proofs.settling.settle_parts.Goals as goal
 
 pub returns-then-not-branch-clause-done : goal.returns-then-not-branch-clause-done
 returns-then-not-branch-clause-done c =
     let goes = subst (λ (b : Bool). Goes Rests b c.loop-steps.parts c.step.new.parts) c.if-not-branch.true c.in_ok-step.ensures in
-    c.worlds_that_rest_are_settled.ensures.done c.step.new.parts (subst IsRunning (sym goes.0) c.loop-steps.invariant.runs)
+    c.worlds_that_rest_are_settled.ensures.done c.step.new.parts (subst IsRunning (sym goes.0) c.loop-steps.invariant.goes.runs)
     (subst Rests (sym goes.0) goes.1)
 
 pub returns-then-not-branch-clause-answered : goal.returns-then-not-branch-clause-answered
 returns-then-not-branch-clause-answered c =
     let goes = subst (λ (b : Bool). Goes Rests b c.loop-steps.parts c.step.new.parts) c.if-not-branch.true c.in_ok-step.ensures in
-    c.worlds_that_rest_are_settled.ensures.answered c.step.new.parts (subst IsRunning (sym goes.0) c.loop-steps.invariant.runs)
+    c.worlds_that_rest_are_settled.ensures.answered c.step.new.parts (subst IsRunning (sym goes.0) c.loop-steps.invariant.goes.runs)
     (subst Rests (sym goes.0) goes.1)
 
 pub returns-then-not-branch-clause-alone : goal.returns-then-not-branch-clause-alone
 returns-then-not-branch-clause-alone c = λ ease n session alone is.
     let goes = subst (λ (b : Bool). Goes Rests b c.loop-steps.parts c.step.new.parts) c.if-not-branch.true c.in_ok-step.ensures in
     c.sessions_alone_are_answered.ensures c.args.parts.now c.step.new.parts ease
-    (subst (λ (parts : Parts). GoesOn c.args.parts.now parts) (sym goes.0) c.loop-steps.invariant) (subst Rests (sym goes.0) goes.1) n session alone is
+    (subst (λ (parts : Parts). GoesOn c.args.parts.now parts) (sym goes.0) c.loop-steps.invariant.goes) (subst Rests (sym goes.0) goes.1) n session alone is
 
 pub returns-then-not-branch-clause-files : goal.returns-then-not-branch-clause-files
 returns-then-not-branch-clause-files c = λ ease echoes.
     let goes = subst (λ (b : Bool). Goes Rests b c.loop-steps.parts c.step.new.parts) c.if-not-branch.true c.in_ok-step.ensures in
     c.echoes_change_no_file.ensures c.args.parts.now c.step.new.parts ease
-    (subst (λ (parts : Parts). GoesOn c.args.parts.now parts) (sym goes.0) c.loop-steps.invariant) (subst Rests (sym goes.0) goes.1) echoes
+    (subst (λ (parts : Parts). GoesOn c.args.parts.now parts) (sym goes.0) c.loop-steps.invariant.goes) (subst Rests (sym goes.0) goes.1) echoes
+
+pub returns-then-not-branch-clause-goes : goal.returns-then-not-branch-clause-goes
+returns-then-not-branch-clause-goes c =
+    let goes = subst (λ (b : Bool). Goes Rests b c.loop-steps.parts c.step.new.parts) c.if-not-branch.true c.in_ok-step.ensures in
+    subst (λ (parts : Parts). GoesOn c.args.parts.now parts) (sym goes.0) c.loop-steps.invariant.goes
+
+pub returns-then-not-branch-clause-steps : goal.returns-then-not-branch-clause-steps
+returns-then-not-branch-clause-steps c = λ ease.
+    let goes = subst (λ (b : Bool). Goes Rests b c.loop-steps.parts c.step.new.parts) c.if-not-branch.true c.in_ok-step.ensures in
+    c.settling_takes_few_steps.ensures c.args.parts.now c.step.new.parts ease c.loop-steps.steps
+    (subst (λ (parts : Parts). HasMade c.loop-steps.steps c.args.parts.now parts) (sym goes.0) c.loop-steps.invariant)
+    (subst Rests (sym goes.0) goes.1)
+
+pub loop-steps-init : goal.loop-steps-init
+loop-steps-init c = made_none c.args.parts.now c.requires
 
 pub loop-steps-preserved : goal.loop-steps-preserved
 loop-steps-preserved c =
-    goes_further c.args.parts.now c.loop-steps.parts c.step.new.parts c.loop-steps.invariant
+    made_more c.loop-steps.steps c.args.parts.now c.loop-steps.parts c.step.new.parts c.loop-steps.invariant
     (subst (λ (b : Bool). Goes Rests b c.loop-steps.parts c.step.new.parts) c.if-not-branch.false c.in_ok-step.ensures)

@@ -21,3 +21,7 @@ returns-in-Ok-clause-files c echoes =
     let ease = ease_of c.world.inside.spent c.world.inside.settled c.world.inside.parts c.if-world.false c.world.invariant in
     c.in-Ok.ensures.files ease (subst (λ (w : View). AreEchoes w.sessions) (sym c.world.view_is) echoes)
     ∙ ap (λ (w : View). w.files) c.world.view_is
+
+pub returns-in-Ok-clause-steps : goal.returns-in-Ok-clause-steps
+returns-in-Ok-clause-steps c =
+    c.in-Ok.ensures.steps (ease_of c.world.inside.spent c.world.inside.settled c.world.inside.parts c.if-world.false c.world.invariant)
