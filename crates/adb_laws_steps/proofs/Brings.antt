@@ -1,7 +1,7 @@
 -- Packets of a device that cost no answer out of turn.
-use Rattle.std.specs.Prelude.{ℕ, ◌+◌, ◌-◌, ◌==◌, ◌≡◌, ◌≢◌, ◌≤◌, Bool, true, false, cond, ◌||◌, not, nat_eq, nat_lt, All, List, [], ◌∷◌, ◌++◌, length, codes}
+use Rattle.std.specs.Prelude.{ℕ, ◌==◌, ◌≡◌, ◌≢◌, Bool, true, false, cond, ◌||◌, not, nat_eq, nat_lt, All, List, [], ◌∷◌, length, codes}
 use Rattle.std.specs.Prelude.{Option, Some, None}
-use Rattle.std.proofs.Common.{refl, sym, ap, subst, arith, ◌∙◌}
+use Rattle.std.proofs.Common.{refl, arith}
 use Rattle.std.proofs.lemmas.List.Elements.{All-head, All-tail}
 use Rattle.adb_outside.specs.Tables.{at}
 use Rattle.adb_outside.specs.Framing.{Cut}
@@ -10,7 +10,6 @@ use Rattle.adb_outside.specs.declared.identity.State.{State as DeviceState}
 use Rattle.adb_outside.specs.declared.identity.State.TheVariants.{Bootloader, Device, Host, Offline, Recovery, Rescue, Sideload, Unauthorized}
 use Rattle.adb_banner.specs.Banner.{identity_of}
 use Rattle.adb_registry.specs.declared.row.Row.{Row}
-use Rattle.adb_wire.specs.Cutting.{cut_packets}
 use Rattle.adb_wire.specs.declared.command.Command.{Command}
 use Rattle.adb_wire.specs.declared.command.Command.TheVariants.{Cnxn, Open, Okay, Wrte, Clse, Auth, Stls}
 use Rattle.adb_wire.specs.declared.packets.Packet.{Packet}
@@ -20,17 +19,17 @@ use Rattle.adb_stream.specs.Flow.{first_credit, acknowledged, is_out_of_turn, ac
 use Rattle.adb_stream.specs.declared.row.Stream.{Stream}
 use Rattle.adb_client.specs.declared.phase.Phase.TheVariants.{Streaming}
 use Rattle.adb_history.specs.Rows.{Client, Link, State, to_client, to_link, to_stream, none_kept, in_phase, with_stream_part}
-use Rattle.adb_history.specs.Events.{Made, quietly, then_also, peer_closed, out_of_turn, lost, broken}
-use Rattle.adb_history.specs.Links.{close_packet, credit_word, owe_link, is_connected}
+use Rattle.adb_history.specs.Events.{Made, quietly, peer_closed, out_of_turn, lost, broken}
+use Rattle.adb_history.specs.Links.{close_packet, credit_word, is_connected}
 use Rattle.adb_history.specs.Clients.{owe_client}
-use Rattle.adb_history.specs.Streams.{ends_row, ends_telling, all_end}
+use Rattle.adb_history.specs.Streams.{ends_row, ends_telling}
 use Rattle.adb_history.specs.Flow.{with_flow}
 use Rattle.adb_history.specs.Losing.{link_ends}
 use Rattle.adb_history.specs.Packets.{least_version, least_maxdata, goes_online, streams_end_first, connects, cnxn, unauthorized_from, unauthorized, at_stream}
 use Rattle.adb_history.specs.Packets.{with_remote, hears_okay, opened, orphan_opened, okay_open, okay_first, takes_okay, accepts, takes_write, takes_close}
-use Rattle.adb_history.specs.Packets.{treat_open, treat_any, treat_on, treat, treat_all, faulty_on, faulty, with_rest, receives_cut, receives_on, receives}
+use Rattle.adb_history.specs.Packets.{treat_open, treat_any, treat_on, treat, treat_all, faulty_on, faulty, with_rest, receives_cut}
 use Rattle.adb_laws_steps.specs.Tolls.{IsWorth, IsWorthwhile}
-use Rattle.adb_laws_steps.proofs.Costs.{InRange, Costs, Quiets, costs_quiet, costs_aside, costs_then, costs_after, costs_within, quiets_row, quiets_gone, costs_owe}
+use Rattle.adb_laws_steps.proofs.Costs.{InRange, Costs, costs_quiet, costs_aside, costs_then, costs_after, costs_within, quiets_row, quiets_gone, costs_owe}
 use Rattle.adb_laws_steps.proofs.Ends.{ends_row_costs, ends_telling_costs, all_end_costs, link_ends_costs}
 
 -- ---- CNXN, AUTH and STLS

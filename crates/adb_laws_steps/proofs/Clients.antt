@@ -1,6 +1,6 @@
 -- The clients of streams, and what these carry.
-use Rattle.std.specs.Prelude.{ℕ, ◌+◌, ◌-◌, ◌*◌, ◌≡◌, ◌≢◌, ◌≤◌, ◌<◌, ◌&&◌, zero, suc, Bool, true, false, cond, nat_eq, nat_lt, is_some, All, List, [], ◌∷◌, ◌++◌}
-use Rattle.std.specs.Prelude.{length, drop, Option, Some, None, slice_get}
+use Rattle.std.specs.Prelude.{ℕ, ◌+◌, ◌≡◌, ◌≢◌, ◌≤◌, ◌<◌, ◌&&◌, zero, suc, Bool, true, false, cond, nat_eq, nat_lt, is_some, All, List, [], ◌∷◌, ◌++◌}
+use Rattle.std.specs.Prelude.{length, Option, Some, None, slice_get}
 use Rattle.std.proofs.Common.{refl, sym, ap, subst, arith, ◌∙◌, ◌⊎◌, inl, inr}
 use Rattle.std.proofs.lemmas.Bool.{cases_eq, eqb-true}
 use Rattle.std.proofs.lemmas.List.{length-append, length-drop}
@@ -20,12 +20,10 @@ use Rattle.adb_history.specs.Bytes.{bytes_read, brought}
 use Rattle.adb_history.specs.Fifo.{IsOwn, OfEachStream}
 use Rattle.adb_history.specs.Lives.{ending_of, lived, packets_of, rest_of}
 use Rattle.adb_history.specs.Events.{ending_in}
-use Rattle.adb_history.specs.Machine.{History, state, told_at, IsLegal}
+use Rattle.adb_history.specs.Machine.{History, told_at, IsLegal}
 use Rattle.adb_history.specs.Streams.{stream_ids}
-use Rattle.adb_history.specs.Tied.{came_count}
-use Rattle.adb_laws_births.proofs.Born.{all_births}
 use Rattle.adb_laws_births.proofs.Crossing.{owes_own}
-use Rattle.adb_laws_births.proofs.Single.{asked_stays, births_of, one_stream_each}
+use Rattle.adb_laws_births.proofs.Single.{asked_stays, one_stream_each}
 use Rattle.adb_laws_fifo_up.specs.Carrying.{IsCarried}
 use Rattle.adb_laws_steps.specs.Steps.{NoneEnters}
 

@@ -1,8 +1,8 @@
 -- What the parts of a rule cost: the tolls of what they tell, against the CLSEs of the streams that live.
-use Rattle.std.specs.Prelude.{ℕ, ◌+◌, ◌*◌, ◌≡◌, ◌≢◌, ◌≤◌, ◌<◌, zero, suc, Bool, true, false, cond, nat_eq, List, [], ◌∷◌, ◌++◌, length, Option, Some, None}
+use Rattle.std.specs.Prelude.{ℕ, ◌+◌, ◌*◌, ◌≡◌, ◌≢◌, ◌≤◌, ◌<◌, Bool, cond, List, [], ◌∷◌, ◌++◌, Option, Some, None}
 use Rattle.std.specs.Prelude.{option_and_then}
 use Rattle.std.proofs.Common.{refl, sym, ap, subst, arith, ◌∙◌, ◌⊎◌, inl, inr}
-use Rattle.std.proofs.lemmas.Bool.{cases_eq, ne_eqb, eq-eqb, cases_lt}
+use Rattle.std.proofs.lemmas.Bool.{cases_eq, eq-eqb, cases_lt}
 use Rattle.adb_outside.specs.Tables.{Rows, change_row}
 use Rattle.adb_wire.specs.declared.packets.Packet.{Packet}
 use Rattle.adb_stream.specs.declared.row.Stream.{Stream}
@@ -10,9 +10,9 @@ use Rattle.adb_history.specs.Rows.{State, to_stream, none_kept}
 use Rattle.adb_history.specs.Events.{Made, Event, due_to_client, due_to_link, ended, quietly, then_also}
 use Rattle.adb_history.specs.Links.{owe_link}
 use Rattle.adb_history.specs.Orderly.{IsDrawnOnly}
-use Rattle.adb_history.proofs.Following.{changed_other, changed_none, changed_here}
+use Rattle.adb_history.proofs.Following.{changed_other, changed_none}
 use Rattle.adb_laws_steps.specs.Tolls.{toll, tolls, close_toll, close_tolls}
-use Rattle.adb_laws_steps.proofs.Sums.{sum_within, sum_more, sum_less}
+use Rattle.adb_laws_steps.proofs.Sums.{sum_more, sum_less}
 
 -- no stream lives under a number that was not drawn
 abbrev pub InRange : State → Type 0

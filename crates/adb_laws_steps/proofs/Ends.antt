@@ -1,6 +1,6 @@
 -- Clients that close and streams that end: the end of a stream pays its CLSE.
-use Rattle.std.specs.Prelude.{ℕ, ◌+◌, ◌≡◌, ◌≢◌, ◌≤◌, zero, suc, Bool, true, false, cond, nat_eq, List, [], ◌∷◌, ◌++◌, Option, Some, None}
-use Rattle.std.proofs.Common.{refl, sym, ap, subst, arith, ◌∙◌}
+use Rattle.std.specs.Prelude.{ℕ, ◌≡◌, zero, suc, Bool, true, false, cond, nat_eq, [], ◌∷◌, Option, Some, None}
+use Rattle.std.proofs.Common.{refl, arith}
 use Rattle.adb_outside.specs.Tables.{Rows}
 use Rattle.adb_outside.specs.declared.kinds.Cause.{Cause}
 use Rattle.adb_outside.specs.declared.kinds.Cause.TheVariants.{Eof, Fault, Starved, NoThread}
@@ -8,16 +8,15 @@ use Rattle.adb_stream.specs.declared.row.Stream.{Stream}
 use Rattle.adb_client.specs.declared.phase.Phase.{Phase}
 use Rattle.adb_client.specs.declared.phase.Phase.TheVariants.{Asking, Opening, Streaming, Binding, Tracking, Closing, Gone}
 use Rattle.adb_history.specs.Rows.{Client, Link, State, to_client, to_stream, none_kept, with_stream_part}
-use Rattle.adb_history.specs.Events.{Made, Event, Ending, quietly, then_also, ended, client_failed, stopped}
+use Rattle.adb_history.specs.Events.{Ending, quietly, ended, client_failed, stopped}
 use Rattle.adb_history.specs.Links.{close_packet, owe_link}
 use Rattle.adb_history.specs.Streams.{loses, client_loses, tells_end, ends_row, ends_telling, ends_if_of, ends_of, all_end}
 use Rattle.adb_history.specs.Tracking.{mark_all}
 use Rattle.adb_history.specs.Losing.{forgets, link_ends, orphaned, stream_fails, stream_of, client_fails, input_ends, client_ends, tells_stop, all_stop, stops}
 use Rattle.adb_history.specs.Machine.{unplugs_on}
-use Rattle.adb_laws_steps.specs.Sums.{sum_to}
-use Rattle.adb_laws_steps.specs.Tolls.{tolls, close_toll, close_tolls}
+use Rattle.adb_laws_steps.specs.Tolls.{tolls}
 use Rattle.adb_laws_steps.proofs.Sums.{sum_none}
-use Rattle.adb_laws_steps.proofs.Costs.{InRange, Costs, Quiets, tolls_append, costs_quiet, costs_aside, costs_then, costs_after, costs_within, quiets_row, quiets_gone}
+use Rattle.adb_laws_steps.proofs.Costs.{InRange, Costs, tolls_append, costs_quiet, costs_aside, costs_then, costs_after, costs_within, quiets_row, quiets_gone}
 use Rattle.adb_laws_steps.proofs.Costs.{costs_owe}
 
 -- ---- the client of a stream that ended

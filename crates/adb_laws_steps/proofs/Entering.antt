@@ -1,7 +1,7 @@
 -- Entries of clients: what they ask, and what they are handed.
-use Rattle.std.specs.Prelude.{ℕ, ◌+◌, ◌*◌, ◌==◌, ◌≡◌, ◌≢◌, ◌≤◌, ◌<◌, zero, suc, Bool, true, false, cond, nat_eq, min, List, [], ◌∷◌, ◌++◌, length, drop, codes}
+use Rattle.std.specs.Prelude.{ℕ, ◌+◌, ◌==◌, ◌≡◌, ◌≤◌, zero, suc, Bool, true, false, cond, nat_eq, min, List, [], ◌∷◌, length, drop}
 use Rattle.std.specs.Prelude.{Option, Some, None}
-use Rattle.std.proofs.Common.{refl, sym, ap, subst, arith, ◌∙◌, add-one}
+use Rattle.std.proofs.Common.{refl, ap, arith, ◌∙◌, add-one}
 use Rattle.std.proofs.lemmas.Bool.{ne_eqb}
 use Rattle.adb_outside.specs.Tables.{at, put_row}
 use Rattle.adb_outside.specs.declared.kinds.Kind.{Kind}
@@ -18,18 +18,17 @@ use Rattle.adb_client.specs.declared.phase.Phase.TheVariants.{Asking, Opening, S
 use Rattle.adb_reply.specs.declared.answer.Next.{Next}
 use Rattle.adb_reply.specs.declared.answer.Next.TheVariants as what
 use Rattle.adb_history.specs.Rows.{Client, State, to_client, to_stream, in_phase, with_stream_part}
-use Rattle.adb_history.specs.Events.{Made, quietly, then_also}
-use Rattle.adb_history.specs.Links.{open_packet, server_cnxn, okay_packet, credit_packet, owe_link, is_connected, is_credit}
+use Rattle.adb_history.specs.Events.{quietly}
+use Rattle.adb_history.specs.Links.{open_packet, server_cnxn, is_connected, is_credit}
 use Rattle.adb_history.specs.Streams.{stream_ids, draw, asks_for, no_ids_left, opens}
-use Rattle.adb_history.specs.Clients.{owe_client, closes}
+use Rattle.adb_history.specs.Clients.{owe_client}
 use Rattle.adb_history.specs.Flow.{with_flow}
 use Rattle.adb_history.specs.Asking.{Asked, asks_with}
-use Rattle.adb_history.specs.Forwarding.{Binding as Bound}
 use Rattle.adb_history.specs.Reading.{comes, comes_in_vain, enters_by, enters, plugs_in, goes_on, asked_before, has_asked, asks, reads_in, reads_from, reads}
 use Rattle.adb_history.specs.Reading.{bound_for, bound_in, bound_at, bound}
 use Rattle.adb_history.specs.Handing.{lists_first, hands, tells_credit, tells_handed, stream_hands, stream_left, client_left, takes_of, puts_to, puts}
 use Rattle.adb_laws_steps.specs.Sums.{sum_to}
-use Rattle.adb_laws_steps.specs.Tolls.{toll, tolls, close_toll, close_tolls}
+use Rattle.adb_laws_steps.specs.Tolls.{toll, close_toll, close_tolls}
 use Rattle.adb_laws_steps.proofs.Sums.{sum_within}
 use Rattle.adb_laws_steps.proofs.Costs.{InRange, Costs, Quiets, costs_quiet, costs_aside, costs_then, costs_after, costs_within, quiets_row, costs_owe}
 use Rattle.adb_laws_steps.proofs.Ends.{stops_costs}

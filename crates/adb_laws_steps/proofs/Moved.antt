@@ -1,24 +1,22 @@
 -- What steps moved is what was read, put, received and sent since.
-use Rattle.std.specs.Prelude.{ℕ, ◌+◌, ◌*◌, ◌≡◌, ◌≢◌, ◌≤◌, ◌<◌, ◌&&◌, ◌||◌, not, zero, suc, Bool, true, false, cond, nat_eq, List, [], ◌∷◌, ◌++◌, length}
+use Rattle.std.specs.Prelude.{ℕ, ◌+◌, ◌≡◌, ◌≢◌, ◌≤◌, ◌<◌, ◌&&◌, not, zero, suc, Bool, true, false, cond, List, [], ◌∷◌, ◌++◌, length}
 use Rattle.std.specs.Prelude.{Option, Some, None}
-use Rattle.std.proofs.Common.{refl, sym, ap, subst, arith, ◌∙◌, ◌⊎◌, inl, inr, add-one}
+use Rattle.std.proofs.Common.{refl, sym, ap, arith, ◌∙◌, ◌⊎◌, inl, inr}
 use Rattle.std.proofs.lemmas.Bool.{eq-eqb, ne_eqb, cases_lt, cases_eq}
 use Rattle.std.proofs.lemmas.List.{length-append}
-use Rattle.adb_outside.specs.Tables.{Rows}
-use Rattle.adb_capture.specs.declared.entry.Entry.{Entry}
 use Rattle.adb_capture.specs.declared.entry.Entry.TheVariants.{Join, Enter, Read, End, Bound, Attach, Recv, Detach, Put, Send}
 use Rattle.adb_history.specs.Book.{plugged_count}
 use Rattle.adb_history.specs.Bytes.{is_lost, has_ended, bytes_read, bytes_put, bytes_received, bytes_sent}
-use Rattle.adb_history.specs.Machine.{History, state, MayPut, MaySend, IsLegal}
+use Rattle.adb_history.specs.Machine.{History, state, MayPut, IsLegal}
 use Rattle.adb_history.specs.Orderly.{IsDrawnOnly}
-use Rattle.adb_history.specs.Rows.{Client, Link}
+use Rattle.adb_history.specs.Rows.{Client}
 use Rattle.adb_history.specs.Tied.{came_count}
 use Rattle.adb_history.proofs.Numbers.{counted}
 use Rattle.adb_history.proofs.OwnedStep.{all_owned}
 use Rattle.adb_laws_steps.specs.Sums.{sum_to}
 use Rattle.adb_laws_steps.specs.Tolls.{puts_made}
 use Rattle.adb_laws_steps.specs.Moved.{AreSteps, moved, handled, of_here, on_link}
-use Rattle.adb_laws_steps.proofs.Sums.{sum_within, sum_less}
+use Rattle.adb_laws_steps.proofs.Sums.{sum_less}
 
 -- ---- numbers that stand in a table were drawn
 some_drawn : {A : Type 0} (drawn n : ℕ) (rows : ℕ → Option A) (row : A) → IsDrawnOnly drawn rows → rows n ≡ Some row → (0 < n) × (n ≤ drawn)

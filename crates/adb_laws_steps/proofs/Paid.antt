@@ -1,15 +1,14 @@
 -- All that moves from a time at which nothing is on its way to the next is paid by the clients.
 use Rattle.std.specs.Prelude.{ℕ, ◌+◌, ◌*◌, ◌≡◌, ◌≤◌, ◌<◌, zero, suc, Bool, true, false, cond, is_some, All, List, [], ◌∷◌, ◌++◌, length, Option, Some, None}
-use Rattle.std.proofs.Common.{refl, sym, ap, subst, arith, ◌∙◌, ◌⊎◌, inl, inr}
+use Rattle.std.proofs.Common.{refl, sym, ap, arith, ◌∙◌, ◌⊎◌, inl, inr}
 use Rattle.std.proofs.lemmas.List.{length-append}
 use Rattle.std.proofs.lemmas.List.Elements.{All-nil, All-cons, All-head, All-tail}
-use Rattle.adb_outside.specs.Tables.{at}
 use Rattle.adb_wire.specs.declared.packets.Packet.{Packet}
 use Rattle.adb_stream.specs.declared.row.Stream.{Stream}
-use Rattle.adb_history.specs.Births.{Birth, count_from, is_open, is_wrte}
+use Rattle.adb_history.specs.Births.{count_from, is_open, is_wrte}
 use Rattle.adb_history.specs.Bytes.{bytes_put, bytes_read, bytes_received, bytes_sent, has_ended, sent}
 use Rattle.adb_history.specs.Book.{asked}
-use Rattle.adb_history.specs.Events.{Event, packets_to, spelled_to}
+use Rattle.adb_history.specs.Events.{spelled_to}
 use Rattle.adb_history.specs.Fifo.{OfEachStream}
 use Rattle.adb_history.specs.Lives.{packets_of}
 use Rattle.adb_history.specs.Machine.{History, IsLegal, state, told}
@@ -19,14 +18,13 @@ use Rattle.adb_laws_births.proofs.Crossing.{no_crossing}
 use Rattle.adb_laws_births.proofs.Sent.{sent_first}
 use Rattle.adb_laws_fifo_up.specs.Carrying.{IsCarried}
 use Rattle.adb_laws_fifo_up.proofs.BirthSteps.{born_drawn}
-use Rattle.adb_device_streams.specs.Stream.{Row}
 use Rattle.adb_daemon.specs.Serving.{Sent, sent_bytes}
 use Rattle.adb_daemon.specs.Device.{Setting, device_behind}
 use Rattle.adb_laws_model_device.specs.Opened.{HasOneId}
 use Rattle.adb_laws_model_device.specs.Owed.{packets_of_sent}
 use Rattle.adb_laws_steps.specs.Moved.{moved, handled, of_here, on_link}
 use Rattle.adb_laws_steps.specs.Owed.{answer_tolls, row_tolls, sent_tolls, IsFine}
-use Rattle.adb_laws_steps.specs.Receives.{write_bytes, write_len}
+use Rattle.adb_laws_steps.specs.Receives.{write_len}
 use Rattle.adb_laws_steps.specs.Steps.{ClientsPay, Settles, pays, stream_pays}
 use Rattle.adb_laws_steps.specs.Sums.{sum_to}
 use Rattle.adb_laws_steps.specs.Tolls.{BringWorth, close_tolls, puts_made, tolls}
@@ -35,8 +33,8 @@ use Rattle.adb_laws_steps.proofs.Moved.{handled_here, moves_counted, plugged_sam
 use Rattle.adb_laws_steps.proofs.Parts.{total, total_append, part, IsWithin, covered}
 use Rattle.adb_laws_steps.proofs.Receives.{bytes_append, made_size}
 use Rattle.adb_laws_steps.proofs.Serving.{rows_rise}
-use Rattle.adb_laws_steps.proofs.Sizes.{size, packet_toll, stream_share, shared, spelled_size, packet_tolls_within}
-use Rattle.adb_laws_steps.proofs.Streams.{alone, client_pays, costs, due_now, due_since, legal_before, made_now, more_drawn, q, shares_in, streams_paid, told_since}
+use Rattle.adb_laws_steps.proofs.Sizes.{size, stream_share, shared, spelled_size, packet_tolls_within}
+use Rattle.adb_laws_steps.proofs.Streams.{alone, costs, due_now, due_since, legal_before, made_now, more_drawn, q, shares_in, streams_paid, told_since}
 use Rattle.adb_laws_steps.proofs.Tolls.{tolls_paid}
 use Rattle.adb_laws_steps.proofs.Watched.{closes_kept, is_watched, keeps, rows_kept}
 use Rattle.adb_laws_steps.proofs.Written.{total_written}

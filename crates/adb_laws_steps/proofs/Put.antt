@@ -1,5 +1,5 @@
 -- At rest a client whose input did not end was put all that the device wrote to its stream.
-use Rattle.std.specs.Prelude.{ℕ, ◌+◌, ◌^◌, ◌≡◌, ◌≤◌, ◌<◌, ◌&&◌, Bool, true, false, cond, is_some, nat_eq, zero, suc, All, List, [], ◌∷◌, ◌++◌, length, drop, codes}
+use Rattle.std.specs.Prelude.{ℕ, ◌+◌, ◌≡◌, ◌≤◌, ◌<◌, ◌&&◌, Bool, true, false, cond, nat_eq, All, List, [], ◌∷◌, ◌++◌, length, drop, codes}
 use Rattle.std.specs.Prelude.{Option, Some, None}
 use Rattle.std.proofs.Common.{refl, sym, ap, subst, arith, ◌∙◌, ◌⊎◌, inl, inr}
 use Rattle.std.proofs.lemmas.Bool.{cases_eq, cases_lt, eqb-true}
@@ -7,32 +7,27 @@ use Rattle.std.proofs.lemmas.List.{length-append}
 use Rattle.std.proofs.lemmas.List.Elements.{All-head, All-tail}
 use Rattle.adb_outside.specs.Tables.{at}
 use Rattle.adb_wire.specs.declared.packets.Packet.{Packet}
-use Rattle.adb_reply.specs.declared.answer.Next.{Next}
 use Rattle.adb_reply.specs.declared.answer.Next.TheVariants.{Open}
-use Rattle.adb_history.specs.Births.{Birth, births, born, count_from, is_okay, is_open, is_between}
-use Rattle.adb_history.specs.Book.{asked, is_killed}
-use Rattle.adb_history.specs.Bytes.{bytes_put, bytes_read, has_ended, is_lost, sent}
+use Rattle.adb_history.specs.Births.{count_from, is_okay, is_open}
+use Rattle.adb_history.specs.Book.{asked}
+use Rattle.adb_history.specs.Bytes.{bytes_put, bytes_read, sent}
 use Rattle.adb_history.specs.Fifo.{okays_in}
-use Rattle.adb_history.specs.Machine.{History, state, IsLegal}
-use Rattle.adb_history.specs.Streams.{stream_ids}
+use Rattle.adb_history.specs.Machine.{History, IsLegal}
 use Rattle.adb_laws_births.proofs.Crossing.{no_crossing}
 use Rattle.adb_laws_births.proofs.Single.{one_stream_each}
-use Rattle.adb_device_streams.specs.Asked.{service_of}
 use Rattle.adb_device_streams.specs.Service.{service_answer}
 use Rattle.adb_device_streams.specs.Stream.{Row, unsent}
 use Rattle.adb_daemon.specs.Device.{Setting, device_behind}
-use Rattle.adb_daemon.specs.Serving.{Ended, Sent, Serving}
+use Rattle.adb_daemon.specs.Serving.{Ended, Sent}
 use Rattle.adb_daemon.specs.Streams.{Writes, WritesFront, over_at, written}
 use Rattle.adb_laws_model_device.specs.Opened.{EndedFor, HasOneId, LivesFor}
 use Rattle.adb_laws_model_device.specs.Owed.{packets_owed, packets_of_sent}
 use Rattle.adb_laws_model_device.proofs.Sound.{never_refused}
 use Rattle.adb_laws_worlds.specs.Asked.{AllWereAsked, WasAsked}
-use Rattle.adb_laws_worlds.specs.Settled.{IsAtRest}
 use Rattle.adb_laws_answers.specs.Answers.{ClientsAreAnswered, HasEndedAs, IsAnswered}
-use Rattle.adb_laws_steps.specs.Receives.{write_len, writes_to}
-use Rattle.adb_laws_steps.specs.Steps.{NoneEnters, WritesWerePut}
+use Rattle.adb_laws_steps.specs.Receives.{writes_to}
+use Rattle.adb_laws_steps.specs.Steps.{WritesWerePut}
 use Rattle.adb_laws_steps.proofs.Clients.{all_asked_for, asked_for}
-use Rattle.adb_laws_steps.proofs.Parts.{part}
 use Rattle.adb_laws_steps.proofs.Serving.{IsUndrawn, none_undrawn, rows_apart}
 use Rattle.adb_laws_steps.proofs.Written.{part_is, part_written, OkaysFrom, okays_from}
 

@@ -1,25 +1,14 @@
 -- The bytes of what a model device owes.
-use Rattle.std.specs.Prelude.{ℕ, ◌+◌, ◌*◌, ◌^◌, ◌≡◌, ◌≢◌, ◌≤◌, ◌<◌, Bool, true, false, cond, All, List, [], ◌∷◌, ◌++◌, length}
-use Rattle.std.proofs.Common.{refl, sym, ap, subst, arith, ◌∙◌}
+use Rattle.std.specs.Prelude.{ℕ, ◌+◌, ◌*◌, ◌≡◌, ◌≤◌, cond, All, List, [], ◌∷◌, ◌++◌, length}
+use Rattle.std.proofs.Common.{refl, arith}
 use Rattle.std.proofs.lemmas.List.{length-append}
 use Rattle.std.proofs.lemmas.List.Elements.{All-head, All-tail}
-use Rattle.adb_wire.specs.Header.{header_bytes}
-use Rattle.adb_wire.specs.Packet.{spelling, head_for, check_of}
+use Rattle.adb_wire.specs.Packet.{check_of}
 use Rattle.adb_wire.specs.declared.command.Command.{Command}
 use Rattle.adb_wire.specs.declared.command.Command.TheVariants.{Cnxn, Open, Okay, Wrte, Clse, Auth, Stls}
-use Rattle.adb_wire.specs.declared.headers.Head.{Head}
-use Rattle.adb_wire.specs.declared.packets.Packet.{Packet}
-use Rattle.adb_capture.specs.declared.entry.Entry.{Entry}
-use Rattle.adb_history.specs.Births.{count_from, is_open, is_wrte}
-use Rattle.adb_history.specs.Bytes.{bytes_received, sent}
-use Rattle.adb_history.specs.Machine.{History, IsLegal}
+use Rattle.adb_history.specs.Births.{is_wrte}
 use Rattle.adb_daemon.specs.Serving.{Sent, bytes_of, sent_bytes}
-use Rattle.adb_daemon.specs.Device.{Setting, device_behind}
-use Rattle.adb_laws_births.specs.Brought.{ComeFirst}
-use Rattle.adb_laws_births.specs.Laws.{GoesOn}
-use Rattle.adb_laws_model_device.specs.Owed.{packets_owed, packets_of_sent}
-use Rattle.adb_laws_model_device.specs.Joined.{IsJoined}
-use Rattle.adb_laws_pairs.specs.Devices.{IsPlain}
+use Rattle.adb_laws_model_device.specs.Owed.{packets_of_sent}
 use Rattle.adb_laws_steps.specs.Tolls.{toll, IsWorth}
 use Rattle.adb_laws_steps.specs.Owed.{sent_tolls, IsFine}
 use Rattle.adb_laws_steps.specs.Receives.{write_bytes}

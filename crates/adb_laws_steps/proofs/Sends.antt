@@ -1,15 +1,15 @@
 -- What the packets of the streams of a link cost.
-use Rattle.std.specs.Prelude.{ℕ, ◌+◌, ◌*◌, ◌≡◌, ◌≢◌, ◌≤◌, ◌<◌, zero, suc, Bool, true, false, cond, nat_eq, nat_lt, min, All, List, [], ◌∷◌, ◌++◌, length}
+use Rattle.std.specs.Prelude.{ℕ, ◌+◌, ◌*◌, ◌≡◌, ◌≤◌, ◌<◌, zero, suc, Bool, true, false, cond, nat_lt, min, All, List, [], ◌∷◌, ◌++◌, length}
 use Rattle.std.specs.Prelude.{Option, Some, None, slice_get}
-use Rattle.std.proofs.Common.{refl, sym, ap, subst, arith, ◌∙◌, ◌⊎◌, inl, inr}
+use Rattle.std.proofs.Common.{refl, sym, ap, arith, ◌∙◌, inl, inr}
 use Rattle.std.proofs.lemmas.Bool.{lt-ltb}
 use Rattle.std.proofs.lemmas.List.{length-append}
 use Rattle.std.proofs.lemmas.List.Elements.{All-nil, All-cons, All-head, All-tail}
 use Rattle.adb_wire.specs.declared.command.Command.{Command}
 use Rattle.adb_wire.specs.declared.command.Command.TheVariants.{Cnxn, Open, Okay, Wrte, Clse, Auth, Stls}
 use Rattle.adb_wire.specs.declared.packets.Packet.{Packet}
-use Rattle.adb_history.specs.Births.{Birth, births, born, carried_in, count_from, is_open, is_wrte}
-use Rattle.adb_history.specs.Fifo.{HasBirths, IsOf, IsOpenOf, IsOwn}
+use Rattle.adb_history.specs.Births.{Birth, births, born, carried_in, is_open, is_wrte}
+use Rattle.adb_history.specs.Fifo.{HasBirths, IsOwn}
 use Rattle.adb_history.specs.Lives.{packets_of}
 use Rattle.adb_history.specs.Machine.{History, state, IsLegal}
 use Rattle.adb_history.specs.Streams.{stream_ids}

@@ -1,9 +1,7 @@
 -- What a model device serves behind what it owed: the tolls of what becomes due, against the CLSEs of the rows that live.
-use Rattle.std.specs.Prelude.{ℕ, ◌+◌, ◌-◌, ◌==◌, ◌≡◌, ◌≢◌, ◌≤◌, ◌<◌, ◌||◌, ◌&&◌, if◌then◌else◌, Bool, true, false, All, List, [], ◌∷◌, ◌++◌, length, map, fold, cond, Option}
-use Rattle.std.specs.Prelude.{Some, None, nat_eq, zero, suc, option_map, unwrap_or}
-use Rattle.std.specs.List.{sum_by}
+use Rattle.std.specs.Prelude.{ℕ, ◌+◌, ◌==◌, ◌≡◌, ◌≢◌, ◌≤◌, ◌<◌, ◌||◌, if◌then◌else◌, Bool, true, false, All, List, [], ◌∷◌, ◌++◌, length, map, fold, cond, Option}
+use Rattle.std.specs.Prelude.{Some, None, zero, suc, option_map, unwrap_or}
 use Rattle.std.specs.List.Sorted.{IsStrictlySortedBy}
-use Rattle.std.specs.Map.{values_of}
 use Rattle.std.specs.BTreeMap.{is_at}
 use Rattle.std.specs.Ordering.{nat_cmp}
 use Rattle.std.proofs.Common.{refl, sym, ◌∙◌, ap, subst, arith, append_assoc, ◌⊎◌, inl, inr}
@@ -31,10 +29,10 @@ use Rattle.adb_daemon.specs.Streams.{over_at}
 use Rattle.adb_daemon.proofs.Machines.{step_more}
 use Rattle.adb_daemon.proofs.Standing.{other_over}
 use Rattle.adb_daemon.specs.Serving.{Serving, Ended, Sent, ended_at, with_sum, owing, granted, kept, gone, sent_writes, sent_close, settled_as, settled, credit_of, open_as, is_taken}
-use Rattle.adb_daemon.specs.Serving.{kind_for, on_open, named, sent_ack, written_to, on_write, acked_to, on_okay, closed_to, closable, on_close, all_gone, served}
-use Rattle.adb_daemon.specs.Device.{Setting, Device, own_cnxn, identity_text, first_device, linked_to, served_on, treated, step, device_behind}
-use Rattle.adb_laws_steps.specs.Tolls.{toll, IsWorth}
-use Rattle.adb_laws_steps.specs.Owed.{answer_toll, answer_tolls, asks, sent_tolls, IsFine, AsksFor, row_toll, row_tolls, AnswersAlone, DeviceAnswersAlone}
+use Rattle.adb_daemon.specs.Serving.{kind_for, on_open, named, sent_ack, written_to, acked_to, on_okay, closed_to, closable, on_close, all_gone, served}
+use Rattle.adb_daemon.specs.Device.{Setting, Device, own_cnxn, identity_text, first_device, linked_to, served_on, step, device_behind}
+use Rattle.adb_laws_steps.specs.Tolls.{toll}
+use Rattle.adb_laws_steps.specs.Owed.{answer_toll, answer_tolls, asks, sent_tolls, IsFine, AsksFor, row_toll, row_tolls, DeviceAnswersAlone}
 
 -- ---- ids that were drawn
 -- an id that was not drawn

@@ -1,6 +1,6 @@
 -- What each stream costs from a time at which nothing is on its way to the next.
-use Rattle.std.specs.Prelude.{ℕ, ◌+◌, ◌*◌, ◌≡◌, ◌≢◌, ◌≤◌, ◌<◌, ◌&&◌, zero, suc, Bool, true, false, cond, nat_eq, is_some, All, List, [], ◌∷◌, ◌++◌, length}
-use Rattle.std.specs.Prelude.{min, Option, Some, None}
+use Rattle.std.specs.Prelude.{ℕ, ◌+◌, ◌*◌, ◌≡◌, ◌≤◌, ◌<◌, ◌&&◌, Bool, true, false, cond, nat_eq, is_some, All, List, [], ◌∷◌, ◌++◌, length}
+use Rattle.std.specs.Prelude.{Option, Some, None}
 use Rattle.std.proofs.Common.{refl, sym, ap, subst, arith, ◌∙◌, ◌⊎◌, inl, inr, append_assoc}
 use Rattle.std.proofs.lemmas.Bool.{eq-eqb, eqb-true}
 use Rattle.std.proofs.lemmas.List.{append-nil, length-append}
@@ -17,7 +17,6 @@ use Rattle.adb_history.specs.Events.{Event, packets_to}
 use Rattle.adb_history.specs.Fifo.{IsOwn, OfEachStream}
 use Rattle.adb_history.specs.Lives.{packets_of}
 use Rattle.adb_history.specs.Machine.{History, IsLegal, state, told, told_at}
-use Rattle.adb_history.specs.Streams.{stream_ids}
 use Rattle.adb_history.specs.Tied.{came_count}
 use Rattle.adb_laws_births.proofs.Born.{all_births}
 use Rattle.adb_laws_births.proofs.Once.{count_append, packets_append}
@@ -30,10 +29,10 @@ use Rattle.adb_laws_model_device.specs.Owed.{packets_owed, packets_of_sent}
 use Rattle.adb_laws_model_device.proofs.Owing.{sent_append}
 use Rattle.adb_laws_steps.specs.Moved.{of_here}
 use Rattle.adb_laws_steps.specs.Owed.{asks, IsFine, AsksFor, AnswersAlone}
-use Rattle.adb_laws_steps.specs.Receives.{write_len, writes_to}
+use Rattle.adb_laws_steps.specs.Receives.{write_len}
 use Rattle.adb_laws_steps.specs.Steps.{Settles, stream_pays}
 use Rattle.adb_laws_steps.specs.Sums.{sum_to}
-use Rattle.adb_laws_steps.proofs.Clients.{IsAskedFor, OfClient, all_asked_for, apart, asked_for, carried_within}
+use Rattle.adb_laws_steps.proofs.Clients.{OfClient, all_asked_for, apart, asked_for, carried_within}
 use Rattle.adb_laws_steps.proofs.Moved.{came_same}
 use Rattle.adb_laws_steps.proofs.Parts.{part, part_append, IsWithin, HasOf, spread}
 use Rattle.adb_laws_steps.proofs.Sends.{all_within, drawn_for, own, share_now, was_born}

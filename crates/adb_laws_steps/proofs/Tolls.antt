@@ -1,20 +1,19 @@
 -- The tolls of whole histories, entry by entry.
-use Rattle.std.specs.Prelude.{ℕ, ◌+◌, ◌*◌, ◌≡◌, ◌≢◌, ◌≤◌, zero, suc, Bool, true, false, nat_eq, All, List, [], ◌∷◌, ◌++◌, length, Option, Some, None}
-use Rattle.std.proofs.Common.{refl, sym, ap, subst, arith, ◌∙◌, ◌⊎◌, inl, inr}
+use Rattle.std.specs.Prelude.{ℕ, ◌+◌, ◌*◌, ◌≡◌, All, List, [], ◌∷◌, ◌++◌, length, Option, Some, None}
+use Rattle.std.proofs.Common.{refl, sym, subst, arith}
 use Rattle.std.proofs.lemmas.List.Elements.{All-nil, All-cons, All-head, All-tail}
 use Rattle.adb_wire.specs.declared.packets.Packet.{Packet}
 use Rattle.adb_capture.specs.declared.entry.Entry.{Entry}
 use Rattle.adb_capture.specs.declared.entry.Entry.TheVariants.{Join, Enter, Read, End, Bound, Attach, Recv, Detach, Put, Send}
-use Rattle.adb_history.specs.Rows.{Link, State}
-use Rattle.adb_history.specs.Events.{Made, quietly}
+use Rattle.adb_history.specs.Rows.{Link}
 use Rattle.adb_history.specs.Packets.{receives_on}
 use Rattle.adb_history.specs.Machine.{History, state, told, told_at, rule, ups, step, IsLegal}
 use Rattle.adb_history.specs.Book.{plugged_count}
 use Rattle.adb_history.specs.Bytes.{brought}
 use Rattle.adb_history.proofs.OwnedStep.{all_owned}
-use Rattle.adb_laws_births.specs.Brought.{ComeFirst, brought_grows}
+use Rattle.adb_laws_births.specs.Brought.{brought_grows}
 use Rattle.adb_laws_births.proofs.Receiving.{brought_more, cut_now}
-use Rattle.adb_laws_steps.specs.Tolls.{tolls, close_tolls, puts_made, IsWorthwhile, BringWorth, TollsArePaid}
+use Rattle.adb_laws_steps.specs.Tolls.{puts_made, IsWorthwhile, BringWorth, TollsArePaid}
 use Rattle.adb_laws_steps.proofs.Costs.{InRange, Costs, costs_quiet, costs_aside, costs_then, tolls_append}
 use Rattle.adb_laws_steps.proofs.Ends.{client_ends_costs, unplugs_costs}
 use Rattle.adb_laws_steps.proofs.Ups.{up_all_costs}

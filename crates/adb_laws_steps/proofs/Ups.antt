@@ -1,12 +1,12 @@
 -- What goes up: each write has bytes, and so costs no toll.
-use Rattle.std.specs.Prelude.{ℕ, ◌+◌, ◌-◌, ◌≡◌, ◌≤◌, ◌<◌, zero, suc, Bool, true, false, cond, min, List, [], ◌∷◌, length, take, drop, Option, Some, None}
-use Rattle.std.proofs.Common.{refl, sym, ap, subst, arith, ◌∙◌}
+use Rattle.std.specs.Prelude.{ℕ, ◌-◌, ◌≡◌, ◌≤◌, zero, suc, Bool, true, false, cond, List, [], ◌∷◌, length, take, drop, Option, Some, None}
+use Rattle.std.proofs.Common.{refl, arith}
 use Rattle.adb_stream.specs.declared.flow.Flow.{Flow}
 use Rattle.adb_stream.specs.declared.flow.Flow.TheVariants.{One, Credit}
 use Rattle.adb_stream.specs.declared.row.Stream.{Stream}
 use Rattle.adb_wire.specs.declared.command.Command.TheVariants.{Wrte}
-use Rattle.adb_history.specs.Rows.{Client, State, to_client, to_stream, with_held, with_stream_part}
-use Rattle.adb_history.specs.Events.{Made, quietly, then_also, client_closed}
+use Rattle.adb_history.specs.Rows.{Client, State, with_stream_part}
+use Rattle.adb_history.specs.Events.{quietly, client_closed}
 use Rattle.adb_history.specs.Links.{maxdata_of}
 use Rattle.adb_history.specs.Flow.{write_len, write_before, writes, payloads, total, with_flow, goes_up, all_go_up, flow_after, noted, is_over, closes_if, sends_up}
 use Rattle.adb_history.specs.Flow.{is_streaming, up_client, up_stream, up, up_all}

@@ -1,5 +1,5 @@
 -- What a model device brings is worth its answers.
-use Rattle.std.specs.Prelude.{ℕ, ◌+◌, ◌^◌, ◌≡◌, ◌≢◌, ◌≤◌, ◌<◌, ◌&&◌, not, zero, suc, Bool, true, false, cond, nat_eq, All, List, [], ◌∷◌, ◌++◌}
+use Rattle.std.specs.Prelude.{ℕ, ◌≡◌, ◌≢◌, ◌≤◌, ◌&&◌, not, zero, suc, Bool, true, cond, All, List, [], ◌∷◌, ◌++◌}
 use Rattle.std.proofs.Common.{refl, sym, ap, subst, arith, ◌∙◌, ◌⊎◌, inl, inr}
 use Rattle.std.proofs.lemmas.Bool.{cases_eq, ne_eqb}
 use Rattle.std.proofs.lemmas.List.Elements.{All-nil, All-cons, All-head, All-tail}
@@ -12,9 +12,7 @@ use Rattle.adb_history.specs.Machine.{History, IsLegal}
 use Rattle.adb_history.proofs.Received.{received}
 use Rattle.adb_daemon.specs.Serving.{Sent}
 use Rattle.adb_daemon.specs.Device.{Setting, device_behind}
-use Rattle.adb_laws_births.specs.Brought.{ComeFirst}
 use Rattle.adb_laws_pairs.specs.Paired.{IsPaired}
-use Rattle.adb_laws_model_device.specs.Joined.{IsJoined}
 use Rattle.adb_laws_model_device.specs.Owed.{packets_owed, packets_of_sent}
 use Rattle.adb_laws_steps.specs.Tolls.{IsWorthwhile, BringWorth}
 use Rattle.adb_laws_steps.specs.Owed.{IsFine}

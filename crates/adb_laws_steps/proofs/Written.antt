@@ -1,15 +1,13 @@
 -- What a device wrote to one id of its host, of one id of its own.
-use Rattle.std.specs.Prelude.{ℕ, ◌+◌, ◌≡◌, ◌≢◌, ◌≤◌, ◌<◌, ◌==◌, ◌&&◌, not, zero, suc, Bool, true, false, cond, nat_eq, All, List, [], ◌∷◌, ◌++◌, length, drop, Option}
-use Rattle.std.specs.Prelude.{Some, None}
-use Rattle.std.proofs.Common.{refl, sym, ap, subst, arith, ◌∙◌, ◌⊎◌, inl, inr}
+use Rattle.std.specs.Prelude.{ℕ, ◌+◌, ◌≡◌, ◌≤◌, ◌==◌, ◌&&◌, Bool, true, false, cond, nat_eq, All, List, [], ◌∷◌, length}
+use Rattle.std.proofs.Common.{refl, sym, ap, arith, ◌∙◌, ◌⊎◌, inl, inr}
 use Rattle.std.proofs.lemmas.Bool.{eq-eqb, eqb-true}
 use Rattle.std.proofs.lemmas.List.{length-append}
 use Rattle.std.proofs.lemmas.List.Elements.{All-nil, All-cons, All-head, All-tail}
 use Rattle.adb_wire.specs.declared.command.Command.{Command}
 use Rattle.adb_wire.specs.declared.command.Command.TheVariants.{Cnxn, Open, Okay, Wrte, Clse, Auth, Stls}
 use Rattle.adb_wire.specs.declared.packets.Packet.{Packet}
-use Rattle.adb_history.specs.Links.{credit_word}
-use Rattle.adb_history.specs.Births.{Opening, is_clse, is_okay, is_wrte, is_between, opening_by, opening_in}
+use Rattle.adb_history.specs.Births.{is_clse, is_okay, is_wrte}
 use Rattle.adb_daemon.specs.Serving.{Sent}
 use Rattle.adb_daemon.specs.Streams.{written, payload_of, is_write}
 use Rattle.adb_laws_model_device.specs.Opened.{ComesFrom, is_of_stream}

@@ -1,5 +1,5 @@
 -- Steps: entries of which each moves some bytes; how much they moved, and how often bytes were put.
-use Rattle.std.specs.Prelude.{ℕ, ◌+◌, ◌≡◌, ◌≢◌, ◌≤◌, false, cond, [], ◌∷◌, ◌++◌, length}
+use Rattle.std.specs.Prelude.{ℕ, ◌+◌, ◌≡◌, ◌≢◌, false, cond, [], ◌∷◌, length}
 use Rattle.adb_capture.specs.declared.entry.Entry.TheVariants.{Read, Recv, Put, Send}
 use Rattle.adb_history.specs.Bytes.{bytes_read, bytes_put, bytes_received, bytes_sent, has_ended}
 use Rattle.adb_history.specs.Machine.{History}

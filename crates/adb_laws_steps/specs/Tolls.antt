@@ -1,5 +1,5 @@
 -- What the packets of a server cost that no payload pays.
-use Rattle.std.specs.Prelude.{ℕ, ◌+◌, ◌*◌, ◌≡◌, ◌≢◌, ◌≤◌, All, List, [], ◌∷◌, ◌++◌, length, Option, Some, None}
+use Rattle.std.specs.Prelude.{ℕ, ◌+◌, ◌*◌, ◌≢◌, ◌≤◌, All, List, [], ◌∷◌, ◌++◌, length, Option, Some, None}
 use Rattle.adb_outside.specs.Tables.{Rows}
 use Rattle.adb_wire.specs.declared.command.Command.{Command}
 use Rattle.adb_wire.specs.declared.command.Command.TheVariants.{Cnxn, Open, Okay, Wrte, Clse, Auth, Stls}
