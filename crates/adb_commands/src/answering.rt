@@ -77,12 +77,7 @@ fn answer_text<K: Sink>(
 }
 
 /// All answer lines of a script, one behind the other.
-fn answers_to(
-    alloc: Global,
-    kind: ScriptKind,
-    script: &[u8],
-    seed: u64,
-) -> Result<Text, ScriptStop>
+fn answers_to(alloc: Global, kind: ScriptKind, script: &[u8], seed: u64) -> Result<Text, ScriptStop>
     ensures lines { IfOk result (λ answers. answer_lines kind script.now ≡ Some answers) }
     ensures refuses { RefusesAs result (first_bad kind script.now) }
     ensures ends { IsRunEnd result }

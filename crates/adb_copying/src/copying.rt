@@ -6,9 +6,7 @@ ghost use Rattle.adb_trees.specs.Shown.{copied_lines, lines_of};
 ghost use Rattle.adb_trees.specs.Trees.{AreNamed, first_bad, tree_of};
 
 use crate::showing::{are_a_map, show_files};
-use adb_copy::{
-    CopyError, directories_are_few, new_devices_take_any_tree, pull_tree, push_tree,
-};
+use adb_copy::{CopyError, directories_are_few, new_devices_take_any_tree, pull_tree, push_tree};
 use adb_files::Files;
 use adb_script::{Line, ScriptError};
 use adb_trees::read_tree;

@@ -67,7 +67,9 @@ not_far number end few short = grind (arith, nat_tests)
 -- ---- all lines were read
 pub no_bytes : (rest : List ℕ) → (length rest == 0) ≡ true → rest ≡ []
 no_bytes [] is = refl
-no_bytes (byte ∷ rest) is = absurd (cc)
+no_bytes (byte ∷ rest) is =
+    let none : length (byte ∷ rest) ≡ 0 = grind (arith, nat_tests, is) in
+    absurd (omega (arith, none))
 
 module _ (script : List ℕ) (lines : ℕ) (tree : Tree) (all : Reads script [] lines tree) where
   pub read_all : read script ≡ Ok tree

@@ -97,11 +97,7 @@ impl Tree {
 }
 
 /// Puts the file of a line; `false` where it is refused.
-fn put_line(
-    alloc: Global,
-    files: &mut Files,
-    line: &FileLine<'_>,
-) -> Result<bool, AllocError>
+fn put_line(alloc: Global, files: &mut Files, line: &FileLine<'_>) -> Result<bool, AllocError>
     ensures { IfOk result (λ put. PutsLine put line.now files.old files.new) }
 {
     let file = File {
