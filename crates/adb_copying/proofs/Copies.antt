@@ -1,18 +1,26 @@
 -- A tree that went to a device without files and came back.
-use Rattle.std.proofs.Common.{ℕ, ◌+◌, ◌*◌, ◌^◌, ◌≡◌, ◌<◌, ◌≤◌, List, [], length, Option, Some, refl, sym, ◌∙◌, ap, subst, arith}
-use Rattle.std.specs.Prelude.{All}
+use Rattle.std.proofs.Common.{ℕ, ◌+◌, ◌*◌, ◌^◌, ◌≡◌, ◌≢◌, ◌<◌, ◌≤◌, List, [], ◌∷◌, length, Result, Ok, Err, refl, sym, ap, subst, arith}
+use Rattle.std.specs.Prelude.{All, ⊤, tt}
 use Rattle.std.proofs.lemmas.List.Elements.{All-cons, All-head, All-nil, All-tail}
 use Rattle.adb_files.specs.Entries.{Entry}
 use Rattle.adb_world.specs.Parts.{most_sessions}
 use Rattle.adb_copy.specs.Pulling.{HaveTimes, directories}
-use Rattle.adb_copy.specs.Trees.{AreCopied, IsCopied, Pushed, all_pushed, pushed, refused_at}
+use Rattle.adb_copy.specs.Trees.{AreCopied, IsCopied}
+use Rattle.adb_copy.specs.declared.error.CopyError.{CopyError}
+use Rattle.adb_copy.specs.declared.error.CopyError.TheVariants as errors
 use Rattle.adb_trees.specs.Trees.{AreNamed, IsNamed}
 
--- what a device without files holds behind a push is the tree
-pub pushed_whole : (old new tree : List Entry) → old ≡ [] → pushed [] tree ≡ all_pushed tree → pushed old tree ≡ all_pushed new → new ≡ tree
-pushed_whole old new tree none all is =
-    let same : all_pushed new ≡ all_pushed tree = sym is ∙ (ap (λ (files : List Entry). pushed files tree) none ∙ all) in
-    ap (λ (p : Pushed). p.files) same
+-- what a push onto a device without files says: where memory suffices, no file was refused, and the tree is there
+abbrev TakesAll : Result ⊤ CopyError → (new tree : List Entry) → Type 0
+TakesAll result new tree = result ≢ Err errors.OutOfMemory → (result ≡ Ok tt) × (new ≡ tree)
+
+pub whole_there : (result : Result ⊤ CopyError) (new tree : List Entry) → TakesAll result new tree → result ≡ Ok tt → new ≡ tree
+whole_there result new tree takes is = (takes (λ memory. (cc))).1
+
+pub only_memory : (error : CopyError) (result : Result ⊤ CopyError) (new tree : List Entry) → TakesAll result new tree → result ≡ Err error
+    → error ≡ errors.OutOfMemory
+only_memory errors.OutOfMemory result new tree takes is = refl
+only_memory (errors.Refused path text) result new tree takes is = let pushed = (takes (λ memory. (cc))).0 in absurd (cc)
 
 -- files that a script names are such as can be copied
 is_copied : (entry : Entry) → IsNamed entry → IsCopied entry
@@ -48,13 +56,6 @@ pull_room given files tree is same named listed =
     let size = ap (λ (fs : List Entry). length fs) same in
     let all = ap (λ (fs : List Entry). length (directories fs)) same in
     omega (arith, is, size, all, few, listed)
-
--- it refuses none
-pub never_refused : (old new tree : List Entry) (path text : List ℕ) → old ≡ [] → pushed [] tree ≡ all_pushed tree
-    → pushed old tree ≡ refused_at new path text → ⊥
-never_refused old new tree path text none all is =
-    let clash : all_pushed tree ≡ refused_at new path text = sym all ∙ (sym (ap (λ (files : List Entry). pushed files tree) none) ∙ is) in
-    let told = ap (λ (p : Pushed). p.refused) clash in cc
 
 pub given_is : (old new size : ℕ) → old ≡ 0 → new ≡ old + size → new ≡ size
 given_is old new size none is = omega (arith, none, is)

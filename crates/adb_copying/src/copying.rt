@@ -1,12 +1,13 @@
 //! Copying the tree of a script.
 
 ghost use Rattle.std.specs.Prelude.{ℕ, ◌≡◌, ◌≢◌, [], Err, Some, true, length, IfOk, OnOk};
+ghost use Rattle.adb_copy.specs.declared.error.CopyError.TheVariants as errors;
 ghost use Rattle.adb_script.specs.Told.{texts_of};
 ghost use Rattle.adb_trees.specs.Shown.{copied_lines, lines_of};
 ghost use Rattle.adb_trees.specs.Trees.{AreNamed, first_bad, tree_of};
 
 use crate::showing::{are_a_map, show_files};
-use adb_copy::{CopyError, directories_are_few, new_devices_take_any_tree, pull_tree, push_tree};
+use adb_copy::{CopyError, directories_are_few, pull_tree, push_tree};
 use adb_files::Files;
 use adb_script::{Line, ScriptError};
 use adb_trees::read_tree;
@@ -74,11 +75,18 @@ fn push(alloc: Global, world: &mut World, tree: &Files, seed: u64) -> Result<(),
     ensures settled { OnOk result (world.new.settled ≡ true) }
     ensures given { OnOk result (world.new.given ≡ length tree.now) }
 {
-    new_devices_take_any_tree();
-    are_a_map(tree);
     match push_tree(alloc, world, seed, tree) {
         Ok(()) => Ok(()),
-        Err(CopyError::OutOfMemory) => Err(AllocError),
-        Err(CopyError::Refused { .. }) => unreachable!(),
+        Err(error) => Err(memory_of(error)),
+    }
+}
+
+/// Want of memory, where no file was refused.
+fn memory_of(error: CopyError) -> AllocError
+    requires { error ≡ errors.OutOfMemory }
+{
+    match error {
+        CopyError::OutOfMemory => AllocError,
+        CopyError::Refused { .. } => unreachable!(),
     }
 }

@@ -1,0 +1,27 @@
+use Rattle.std.proofs.Common.{sym}
+use Rattle.adb_script.specs.Told.{texts_of}
+use Rattle.adb_copying.proofs.Shows.{next_less, next_there, shows_all, shows_none, shows_on}
+use Rattle.adb_copying.proofs.showing.show_files.Goals as goal
+
+pub loop-path-init : goal.loop-path-init
+loop-path-init c = shows_none c.args.files.now c.are_a_map.ensures
+
+pub show_next-requires : goal.show_next-requires
+show_next-requires c = record {
+  there = next_there c.args.files.now c.loop-path.after.now c.in-Some.path.now (texts_of c.loop-path.lines.items) c.loop-path.invariant
+      (sym c.in-Some.ensures.path);
+}
+
+pub loop-path-smaller : goal.loop-path-smaller
+loop-path-smaller c =
+    next_less c.args.files.now c.loop-path.after.now c.in-Some.path.now (texts_of c.loop-path.lines.items) c.loop-path.invariant
+    (sym c.in-Some.ensures.path)
+
+pub loop-path-preserved : goal.loop-path-preserved
+loop-path-preserved c =
+    shows_on c.args.files.now c.loop-path.after.now c.in-Some.path.now (texts_of c.loop-path.lines.items) c.loop-path.invariant
+    (sym c.in-Some.ensures.path) (texts_of c.show_next.new.lines.items) c.in_ok-show_next.ensures
+
+pub returns : goal.returns
+returns c =
+    shows_all c.args.files.now c.loop-path.after.now (texts_of c.loop-path.lines.items) c.loop-path.invariant (sym c.in_default.ensures.path)
