@@ -16,8 +16,8 @@ pub record Shows (files : List Entry) (after : List ℕ) (lines : List (List ℕ
   pub said : lines ≡ lines_of done
   pub fits : IsFileMap files
 
-pub shows_none : (files : List Entry) → IsFileMap files → Shows files [] []
-shows_none files fits = record { done = []; split = behind_nothing files fits.paths; said = refl; fits = fits }
+pub shows_none : (files : List Entry) (lines : List (List ℕ)) → IsFileMap files → lines ≡ [] → Shows files [] lines
+shows_none files lines fits none = record { done = []; split = behind_nothing files fits.paths; said = none; fits = fits }
 
 lines-append : (xs ys : List Entry) → lines_of (xs ++ ys) ≡ lines_of xs ++ lines_of ys
 lines-append [] ys = refl

@@ -1,10 +1,11 @@
-use Rattle.std.proofs.Common.{sym}
+use Rattle.std.proofs.Common.{ap, sym}
 use Rattle.adb_script.specs.Told.{texts_of}
 use Rattle.adb_copying.proofs.Shows.{next_less, next_there, shows_all, shows_none, shows_on}
 use Rattle.adb_copying.proofs.showing.show_files.Goals as goal
 
 pub loop-path-init : goal.loop-path-init
-loop-path-init c = shows_none c.args.files.now c.are_a_map.ensures
+loop-path-init c =
+    shows_none c.args.files.now (texts_of c.new-lines.result.items) c.are_a_map.ensures (ap texts_of c.new-lines.ensures.items)
 
 pub show_next-requires : goal.show_next-requires
 show_next-requires c = record {
