@@ -1,7 +1,7 @@
 -- A script that is too long is refused as every front of it is that is too long.
 use Rattle.std.proofs.Common.{ℕ, ◌+◌, ◌≡◌, ◌<◌, ◌≤◌, Bool, true, false, cond, List, [], ◌∷◌, ◌++◌, length, Option, Some, None, refl, sym, ◌∙◌, ap, subst, arith}
 use Rattle.std.specs.List.{onto_first}
-use Rattle.std.specs.Prelude.{is_none, ◌||◌, Result}
+use Rattle.std.specs.Prelude.{if◌then◌else◌, is_none, ◌||◌, Result}
 use Rattle.std.specs.Result.{result_err}
 use Rattle.std.proofs.lemmas.Bool.Decides.{nat_tests}
 use Rattle.std.proofs.lemmas.List.{length-append, append_assoc}

@@ -47,11 +47,11 @@ returns-in-Ok-Local-clause-bad_script g c = λ bad.
 pub returns-in-Ok-Copy-clause-notes : goal.returns-in-Ok-Copy-clause-notes
 returns-in-Ok-Copy-clause-notes g c = λ had has.
     let seed = c.in-Ok-Copy.seed in
-    script_notes c.args.words.now _ _ _ c.run_script.result _ _ had _ kinds.Copy (
+    script_notes c.args.words.now _ _ _ c.run_script-in-Ok-Copy.result _ _ had _ kinds.Copy (
       seed,
       words_named _ c.read_words.result (Copy seed) c.read_words.ensures.command
           (c.in-Ok-Copy.is ∙ ap (λ (command : Command). Ok command) c.in-Ok-Copy.field-0-is),
-    ) (c.run_script.ensures.notes had has)
+    ) (c.run_script-in-Ok-Copy.ensures.notes had has)
 
 pub returns-in-Ok-Copy-clause-bad_script : goal.returns-in-Ok-Copy-clause-bad_script
 returns-in-Ok-Copy-clause-bad_script g c = λ bad.
