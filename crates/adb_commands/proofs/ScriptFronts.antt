@@ -142,18 +142,21 @@ module _ {S : Type 0} (w : Walk S) where
       (refused_alike script more [] 1 0 s (omega arith) (omega (arith, far))))
 
 -- ---- scripts of `local`: a line is refused by itself alone
-abbrev next_asked : ℕ → ℕ → Unit {0} → List ℕ → Option (Unit {0})
-next_asked number end s line = if asked.is_bad number end line then None else Some tt
+abbrev taken : Option (Unit {0})
+taken = Some tt
 
-far_asked : (too_far none : Bool) → too_far ≡ true → (if too_far || none then None else Some tt) ≡ None
+abbrev next_asked : ℕ → ℕ → Unit {0} → List ℕ → Option (Unit {0})
+next_asked number end s line = if asked.is_bad number end line then None else taken
+
+far_asked : (too_far none : Bool) → too_far ≡ true → (if too_far || none then None else taken) ≡ None
 far_asked true none is = refl
 far_asked false none is = absurd (cc)
 
-refused_asked : (bad : Bool) (number : ℕ) (more : Option ℕ) → (if bad then None else Some tt) ≡ None → (if bad then Some number else more) ≡ Some number
+refused_asked : (bad : Bool) (number : ℕ) (more : Option ℕ) → (if bad then None else taken) ≡ None → (if bad then Some number else more) ≡ Some number
 refused_asked true number more is = refl
-refused_asked false number more is = absurd (let clash : Some tt ≡ None = is in cc)
+refused_asked false number more is = absurd (let clash : taken ≡ None = is in cc)
 
-passed_asked : (bad : Bool) (number : ℕ) (more : Option ℕ) (now : Unit {0}) → (if bad then None else Some tt) ≡ Some now
+passed_asked : (bad : Bool) (number : ℕ) (more : Option ℕ) (now : Unit {0}) → (if bad then None else taken) ≡ Some now
     → (if bad then Some number else more) ≡ more
 passed_asked true number more now is = absurd (let clash : None ≡ Some now = is in cc)
 passed_asked false number more now is = refl
@@ -197,6 +200,7 @@ pub record AreBad (kind : ScriptKind) (script whole : List ℕ) : Type 0 where
   pub other : first_bad kind whole ≡ Some at
 
 pub front_refused : (kind : ScriptKind) (script more : List ℕ) → most < length script → AreBad kind script (script ++ more)
+unfolding asked_walk named_walk
 front_refused kinds.Local script more far =
     let r = all_refused asked_walk tt script more far in record { at = r.at; one = r.one; other = r.other }
 front_refused kinds.Copy script more far =
