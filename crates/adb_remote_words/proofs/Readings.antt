@@ -203,7 +203,7 @@ pub reading_none : (job : Remote) (o : HeldOpening) (n : ℕ) (body : Body) → 
     → BodyStands job [] body → ReadingStands job [] (answer_of o body 0)
 reading_none job o n body is counted stands =
     let at = subst (λ (k : ℕ). ReadingStands job [] (answer_of (record { held = []; okays = 0; left = k }) body 0)) (sym counted)
-        (first_of_all job body stands) in
+    (first_of_all job body stands) in
     subst (λ (h : HeldOpening). ReadingStands job [] (answer_of h body 0)) (sym is) at
 
 -- ---- the bytes that are looked at
