@@ -106,7 +106,6 @@ const WRONG: &[&[&str]] = &[
     &["copy", "-7"],
     &["Copy", "7"],
     &["Local", "7"],
-    &["copy", "7"],
     &["serve"],
 ];
 
