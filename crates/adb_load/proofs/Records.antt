@@ -1,12 +1,12 @@
 -- Every entry of a load has a record.
 use Rattle.std.proofs.Common.{ℕ, ◌+◌, ◌*◌, ◌%◌, ◌^◌, ◌≡◌, ◌<◌, ◌≤◌, List, [], ◌∷◌, ◌++◌}
-use Rattle.std.proofs.Common.{length, refl, sym, arith, lit<, lit≤, get_or, nat_lt, true, subst, Result, Ok, Err}
+use Rattle.std.proofs.Common.{length, drop, refl, sym, ap, ◌∙◌, arith, lit<, lit≤, get_or, nat_lt, true, subst, Result, Ok, Err}
 use Rattle.std.specs.Result.{IfOk}
 use Rattle.std.specs.List.{flat_map, list_all, range_with_len}
 use Rattle.std.specs.Prelude.{codes}
 use Rattle.std.specs.Fmt.{decimal}
 use Rattle.std.proofs.Math.Nat.{mod-lt}
-use Rattle.std.proofs.lemmas.List.{length-append, length-take, length-drop}
+use Rattle.std.proofs.lemmas.List.{length-append, length-take, length-drop, drop-append-le}
 use Rattle.std.proofs.lemmas.List.Elements.{All-append, All-from_recursion, All-map, All-from_get_or, All-nil, All-take, All-drop}
 use Rattle.std.proofs.lemmas.Fmt.{length-decimal-le, IsAscii-decimal}
 use Rattle.std.proofs.lemmas.Bool.{ltb-true}
@@ -54,7 +54,7 @@ pub joined_bytes : (front back : List ℕ) → AreBytes front → AreBytes back 
 joined_bytes front back = All-append (λ b. b < 256) front back
 
 -- ---- the texts of a load
-words_length : (words : List ℕ) → length (flat_map (little_bytes 4) words) ≡ 4 * length words
+pub words_length : (words : List ℕ) → length (flat_map (little_bytes 4) words) ≡ 4 * length words
 words_length [] = refl
 words_length (word ∷ words) = omega (arith, words_length words)
 
@@ -139,3 +139,15 @@ pub ruleset have_records = (join_has, read_has, end_has, attach_has, recv_has)
 pub short_by : {E : Type 0} (r : Result (List ℕ) E) (text : List ℕ) → IsShort text → IfOk r (λ t. t ≡ text) → IfOk r IsShort
 short_by (Ok t) text short is = subst IsShort (sym is) short
 short_by (Err e) text short is = tt
+
+-- what a result is, by an equation
+pub is_by : {E : Type 0} (r : Result (List ℕ) E) (text other : List ℕ) → text ≡ other → IfOk r (λ t. t ≡ text) → IfOk r (λ t. t ≡ other)
+is_by (Ok t) text other same is = is ∙ same
+is_by (Err e) text other same is = tt
+
+-- what comes behind the first piece of a packet, where that ends within the header
+pub rest_is : (bytes payload front : List ℕ) → length front ≡ 24 → bytes ++ payload ≡ front ++ payload
+    → drop HEAD_LEN bytes ++ payload ≡ drop HEAD_LEN (front ++ payload)
+rest_is bytes payload front long same =
+    sym (drop-append-le HEAD_LEN bytes payload (omega (arith, ap length same, length-append bytes payload, length-append front payload, long)))
+    ∙ ap (drop HEAD_LEN) same

@@ -6,6 +6,7 @@ ghost use Rattle.adb_load.specs.Acts.{entry_of};
 
 use crate::act::Act;
 use crate::names::{client_of, link_of};
+use crate::patterns::Pattern;
 use crate::texts::{answer, asked_of, bare_packet, greeting, serial_of, up_bytes};
 use adb_capture::Entry;
 use adb_outside::{Cause, Kind};
@@ -14,7 +15,7 @@ use std::alloc::{AllocError, Global};
 
 /// The entry of an act. It has a record.
 #[tactic(auto, using(crate::proofs::Records::have_records))]
-pub(crate) fn entry(alloc: Global, act: Act) -> Result<Entry, AllocError>
+pub(crate) fn entry(alloc: Global, pattern: &Pattern, act: Act) -> Result<Entry, AllocError>
     ensures told { IfOk result (λ e. e ≡ entry_of act) }
     ensures form { IfOk result HasRecord }
 {
@@ -45,7 +46,7 @@ pub(crate) fn entry(alloc: Global, act: Act) -> Result<Entry, AllocError>
             count,
         } => Entry::Read {
             client: client_of(stream),
-            bytes: up_bytes(alloc, stream, from, count)?,
+            bytes: up_bytes(alloc, pattern, stream, from, count)?,
         },
         Act::Answer {
             stream,
@@ -54,7 +55,7 @@ pub(crate) fn entry(alloc: Global, act: Act) -> Result<Entry, AllocError>
             piece,
         } => Entry::Recv {
             link: link_of(stream),
-            bytes: answer(alloc, stream, from, count, piece)?,
+            bytes: answer(alloc, pattern, stream, from, count, piece)?,
         },
         Act::Leave { stream } => Entry::End {
             client: client_of(stream),

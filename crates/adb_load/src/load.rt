@@ -7,16 +7,18 @@ ghost use Rattle.adb_load.specs.Load.{GivesFirst, IsOver, ahead, load};
 use crate::act::Act;
 use crate::course::Course;
 use crate::entries::entry;
+use crate::patterns::Pattern;
 use adb_capture::Entry;
 use std::alloc::{AllocError, Global};
 use std::marker::Model;
 
 /// A load, of which some entries may be given already. Contracts see it as the list of the entries
-/// that are still to come. It holds the live streams, at most 16, and nothing of those that are
-/// over.
+/// that are still to come. It holds the live streams, at most 16, 64 KiB of the pattern that their
+/// payloads are cut from, and nothing of those that are over.
 #[derive(Drop)]
 pub struct Load {
     alloc: Global,
+    pattern: Pattern,
     due: Option<Act>,
     course: Course,
 }
@@ -39,6 +41,7 @@ impl Load {
     {
         Ok(Load {
             alloc,
+            pattern: Pattern::new(alloc)?,
             due: None,
             course: Course::new(alloc, seed, streams as u16)?,
         })
@@ -54,7 +57,7 @@ impl Load {
         let Some(act) = self.due else {
             return Ok(None);
         };
-        let first = entry(self.alloc, act)?;
+        let first = entry(self.alloc, &self.pattern, act)?;
         self.due = act.follower();
         Ok(Some(first))
     }

@@ -1,15 +1,14 @@
 //! What the clients and the devices of a load say.
 
-ghost use Rattle.std.specs.Prelude.{◌≡◌, ◌≤◌, [], length, IfOk};
+ghost use Rattle.std.specs.Prelude.{◌≡◌, ◌≤◌, ◌++◌, [], length, drop, IfOk};
 ghost use Rattle.adb_load.specs.Acts.{IsShort, asked_of, device_packet, greeting, packet_of, piece_of, serial_of, up_bytes, down_bytes};
 
 use crate::act::Piece;
 use crate::names::{client_of, link_of, remote_of};
 use crate::numbers::HEAD_LEN;
-use crate::patterns::cycle;
+use crate::patterns::Pattern;
 use adb_outside::Text;
-use adb_wire::{Command, MAX_PAYLOAD, Packet, frame};
-use bytes::Bytes;
+use adb_wire::{Command, HEADER_LEN, Head, MAX_PAYLOAD, header};
 use itoa::Buffer;
 use std::alloc::{AllocError, Global};
 
@@ -29,8 +28,12 @@ pub(crate) fn greeting(alloc: Global) -> Result<Text, AllocError>
     ensures is { IfOk result (λ t. t ≡ greeting) }
     ensures short { IfOk result IsShort }
 {
-    let who = Text::from_slice(alloc, b"device::features=shell_v2;")?;
-    packet_of(alloc, Command::Cnxn, 0x0100_0001, 65_536, who)
+    let who = b"device::features=shell_v2;";
+    joined(
+        alloc,
+        &head_of(Command::Cnxn, 0x0100_0001, 65_536, who),
+        who,
+    )
 }
 
 /// The requests of a stream's client.
@@ -48,6 +51,7 @@ pub(crate) fn asked_of(alloc: Global, stream: u16) -> Result<Text, AllocError>
 #[tactic(auto, using(crate::proofs::Records::cycle_short))]
 pub(crate) fn up_bytes(
     alloc: Global,
+    pattern: &Pattern,
     stream: u16,
     from: u16,
     count: u16,
@@ -55,12 +59,13 @@ pub(crate) fn up_bytes(
     ensures is { IfOk result (λ t. t ≡ up_bytes stream from count) }
     ensures short { IfOk result IsShort }
 {
-    cycle(alloc, u32::from(stream), from, count)
+    Text::from_slice(alloc, pattern.slice(u32::from(stream), from, count))
 }
 
 /// A write of a stream's device, or a piece of it.
 pub(crate) fn answer(
     alloc: Global,
+    pattern: &Pattern,
     stream: u16,
     from: u16,
     count: u16,
@@ -70,68 +75,70 @@ pub(crate) fn answer(
         (device_packet Command.Wrte stream (down_bytes stream from count))) }
     ensures short { IfOk result IsShort }
 {
-    let bytes = cycle(alloc, 2 * u32::from(stream), from, count)?;
-    let packet = device_packet(alloc, Command::Wrte, stream, bytes)?;
-    piece_of(alloc, piece, packet)
+    let payload = pattern.slice(2 * u32::from(stream), from, count);
+    write_piece(alloc, stream, payload, piece)
 }
 
-/// A packet, or a piece of it.
-fn piece_of(alloc: Global, piece: Piece, packet: Text) -> Result<Text, AllocError>
-    requires { HEAD_LEN ≤ length packet }
-    ensures { IfOk result (λ t. t ≡ piece_of piece packet) }
+/// A write with that payload, or a piece of it.
+fn write_piece(alloc: Global, stream: u16, payload: &[u8], piece: Piece) -> Result<Text, AllocError>
+    requires { length payload.now ≤ MAX_PAYLOAD }
+    ensures { IfOk result (λ t. t ≡ piece_of piece
+        (device_packet Command.Wrte stream payload.now)) }
 {
+    let head = device_head(Command::Wrte, stream, payload);
     match piece {
-        Piece::Whole => Ok(packet),
-        Piece::Head => Text::from_slice(alloc, &packet.as_slice()[..HEAD_LEN]),
-        Piece::Tail => Text::from_slice(alloc, &packet.as_slice()[HEAD_LEN..]),
+        Piece::Whole => joined(alloc, &head, payload),
+        Piece::Head => Text::from_slice(alloc, &head[..HEAD_LEN]),
+        Piece::Tail => joined(alloc, rest_of(&head), payload),
     }
 }
 
-/// A packet of a stream's device on that stream.
-fn device_packet(
-    alloc: Global,
-    command: Command,
-    stream: u16,
-    payload: Text,
-) -> Result<Text, AllocError>
-    requires { length payload ≤ MAX_PAYLOAD }
-    ensures { IfOk result (λ t. t ≡ device_packet command stream payload) }
+/// What of a header comes in the second piece of its packet.
+fn rest_of(head: &[u8; HEADER_LEN]) -> &[u8]
+    ensures { result.now ≡ drop HEAD_LEN head.now }
 {
-    packet_of(
-        alloc,
-        command,
-        remote_of(stream),
-        client_of(stream),
-        payload,
-    )
+    &head[HEAD_LEN..]
 }
 
-/// The same without a payload.
+/// A packet without a payload of a stream's device on that stream.
 pub(crate) fn bare_packet(alloc: Global, command: Command, stream: u16) -> Result<Text, AllocError>
     ensures is { IfOk result (λ t. t ≡ device_packet command stream []) }
     ensures short { IfOk result IsShort }
 {
-    device_packet(alloc, command, stream, Text::new(alloc))
+    Text::from_slice(alloc, &device_head(command, stream, &[]))
 }
 
-/// The bytes of a packet whose check word is 0.
-fn packet_of(
-    alloc: Global,
-    command: Command,
-    arg0: u32,
-    arg1: u32,
-    payload: Text,
-) -> Result<Text, AllocError>
-    requires { length payload ≤ MAX_PAYLOAD }
-    ensures { IfOk result (λ t. t ≡ packet_of command arg0 arg1 payload) }
+/// The header of a packet of a stream's device on that stream.
+fn device_head(command: Command, stream: u16, payload: &[u8]) -> [u8; HEADER_LEN]
+    requires { length payload.now ≤ MAX_PAYLOAD }
+    ensures { result ++ payload.now ≡ device_packet command stream payload.now }
 {
-    let packet = Packet {
+    head_of(command, remote_of(stream), client_of(stream), payload)
+}
+
+/// The header of a packet whose check word is 0.
+fn head_of(command: Command, arg0: u32, arg1: u32, payload: &[u8]) -> [u8; HEADER_LEN]
+    requires { length payload.now ≤ MAX_PAYLOAD }
+    ensures { result ++ payload.now ≡ packet_of command arg0 arg1 payload.now }
+{
+    let mut bytes = [0; HEADER_LEN];
+    let head = Head {
         command,
         arg0,
         arg1,
-        payload: Bytes::from_vec(payload.into_vec())?,
+        length: payload.len() as u32,
+        check: 0,
     };
-    let mut bytes = Text::new(alloc);
-    frame(alloc, &packet, false, &mut bytes)?;
-    Ok(bytes)
+    header(&head, &mut bytes);
+    bytes
+}
+
+/// Bytes, and others behind them.
+fn joined(alloc: Global, front: &[u8], back: &[u8]) -> Result<Text, AllocError>
+    ensures { IfOk result (λ t. t ≡ front.now ++ back.now) }
+{
+    let mut bytes = Vec::with_capacity(alloc, front.len() + back.len())?;
+    bytes.extend_from_slice(front)?;
+    bytes.extend_from_slice(back)?;
+    Ok(Text::from_vec(bytes))
 }
