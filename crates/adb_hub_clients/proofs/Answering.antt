@@ -117,10 +117,6 @@ module _ (rows : List (ℕ × Row)) where
       go (Some row) is = short row (nat_lt row.maxdata (length text + 1)) is refl
 
   answer_fits : (forwards : List (ℕ × ForwardRow)) (selected : Option ℕ) (request : Request) → FitsDevice rows (answer rows forwards selected request).next
-  answer_fits forwards selected asks.Version = tt
-  answer_fits forwards selected asks.Kill = tt
-  answer_fits forwards selected (asks.Devices long) = tt
-  answer_fits forwards selected (asks.Track long) = tt
   answer_fits forwards selected (asks.Transport by tell_id) = selecting tell_id by (choice (values_of rows) by true)
   answer_fits forwards selected (asks.Serialno on) = search telling
   answer_fits forwards selected (asks.Devpath on) = search telling
@@ -128,12 +124,9 @@ module _ (rows : List (ℕ × Row)) where
   answer_fits forwards selected (asks.Features on) = search telling
   answer_fits forwards selected (asks.Forward on norebind local remote) =
       forwarding forwards norebind local remote selected on
-  answer_fits forwards selected asks.BadForward = tt
   answer_fits forwards selected (asks.KillForward port) = unbinding forwards port
-  answer_fits forwards selected asks.KillAll = tt
-  answer_fits forwards selected asks.ListForward = tt
   answer_fits forwards selected (asks.Service text) = opening selected text
-  answer_fits forwards selected asks.UnknownHost = tt
+  answer_fits forwards selected _ = tt
 
 -- where no device takes more than a packet has, what follows a request fits
 module _ (devices : DeviceTable) (sized : (t : ℕ) → maxdata_of t devices ≤ MAX_PAYLOAD) (forwards : List (ℕ × ForwardRow)) where

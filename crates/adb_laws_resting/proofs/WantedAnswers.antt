@@ -106,19 +106,12 @@ module _ (rows : List (ℕ × Row)) (forwards : List (ℕ × ForwardRow)) where
 
     -- What follows a request that can be done can be done.
     pub answer_sound : (selected : Option ℕ) (request : Request) → IsSoundRequest request → CanFollow forwards (answer rows forwards selected request).next
-    answer_sound selected asks.Version sound = tt
-    answer_sound selected asks.Kill sound = tt
-    answer_sound selected (asks.Devices long) sound = tt
-    answer_sound selected (asks.Track long) sound = tt
     answer_sound selected (asks.Transport by tell_id) sound = selecting tell_id selected (By by)
     answer_sound selected (asks.Serialno on) sound = search (telling)
     answer_sound selected (asks.Devpath on) sound = search (telling)
     answer_sound selected (asks.GetState on) sound = search (telling)
     answer_sound selected (asks.Features on) sound = search (telling)
     answer_sound selected (asks.Forward on norebind local remote) sound = forwarding norebind local remote selected on sound
-    answer_sound selected asks.BadForward sound = tt
     answer_sound selected (asks.KillForward port) sound = unbinding port
-    answer_sound selected asks.KillAll sound = tt
-    answer_sound selected asks.ListForward sound = tt
     answer_sound selected (asks.Service text) sound = opening selected text sound
-    answer_sound selected asks.UnknownHost sound = tt
+    answer_sound selected _ sound = tt

@@ -7,7 +7,6 @@ use Rattle.adb_outside.specs.declared.kinds.Selector.TheVariants.{Any, Id}
 use Rattle.adb_registry.specs.Choice.{choice}
 use Rattle.adb_registry.specs.declared.row.Row.{Row}
 use Rattle.adb_registry.specs.declared.choice.Refusal.{Refusal}
-use Rattle.adb_forward.specs.Forwards.{forward_list}
 use Rattle.adb_forward.specs.declared.row.ForwardRow.{ForwardRow}
 use Rattle.adb_forward.specs.declared.table.TheConstants.{MAX_FORWARDS}
 use Rattle.adb_request.specs.declared.request.Which.{Which}
@@ -111,9 +110,7 @@ opening rows (Some id) text = opening_at id text (at id rows)
 
 pub all_begin : (rows : List (ℕ × Row)) (forwards : List (ℕ × ForwardRow)) (selected : Option ℕ) (request : Request)
     → BeginsRight (answer rows forwards selected request)
-all_begin rows forwards selected asks.Version = inl (codes "00040029", refl)
 all_begin rows forwards selected asks.Kill = ([], refl)
-all_begin rows forwards selected (asks.Devices long) = tells_text (device_list rows long)
 all_begin rows forwards selected (asks.Track long) = (string (device_list rows long), refl)
 all_begin rows forwards selected (asks.Transport by tell_id) =
     selecting tell_id (asked_device rows selected (By by) true) (of_device rows selected (By by) true)
@@ -126,6 +123,6 @@ all_begin rows forwards selected (asks.Forward on norebind local remote) =
 all_begin rows forwards selected asks.BadForward = fails (codes "bad forward specification")
 all_begin rows forwards selected (asks.KillForward port) = unbinding forwards port
 all_begin rows forwards selected asks.KillAll = (codes "OKAY", refl)
-all_begin rows forwards selected asks.ListForward = tells_text (forward_list forwards)
 all_begin rows forwards selected (asks.Service text) = opening rows selected text
 all_begin rows forwards selected asks.UnknownHost = fails (codes "unknown host service")
+all_begin rows forwards selected _ = inl (_, refl)

@@ -105,10 +105,6 @@ module _ (rows : List (ℕ × Row)) where
 
   -- A service is opened only on a device that takes payloads.
   pub answer_ready : (forwards : List (ℕ × ForwardRow)) (selected : Option ℕ) (request : Request) → OpensReady rows (answer rows forwards selected request).next
-  answer_ready forwards selected asks.Version = tt
-  answer_ready forwards selected asks.Kill = tt
-  answer_ready forwards selected (asks.Devices long) = tt
-  answer_ready forwards selected (asks.Track long) = tt
   answer_ready forwards selected (asks.Transport by tell_id) = selecting tell_id (asked_device rows selected (By by) true) (of_device selected (By by) true)
   answer_ready forwards selected (asks.Serialno on) = telling Serialno (asked_device rows selected on false) (of_device selected on false)
   answer_ready forwards selected (asks.Devpath on) = telling Devpath (asked_device rows selected on false) (of_device selected on false)
@@ -116,9 +112,6 @@ module _ (rows : List (ℕ × Row)) where
   answer_ready forwards selected (asks.Features on) = telling Features (asked_device rows selected on true) (of_device selected on true)
   answer_ready forwards selected (asks.Forward on norebind local remote) =
       forwarding forwards norebind local remote (asked_device rows selected on true) (of_device selected on true)
-  answer_ready forwards selected asks.BadForward = tt
   answer_ready forwards selected (asks.KillForward port) = unbinding forwards port
-  answer_ready forwards selected asks.KillAll = tt
-  answer_ready forwards selected asks.ListForward = tt
   answer_ready forwards selected (asks.Service text) = opening selected text
-  answer_ready forwards selected asks.UnknownHost = tt
+  answer_ready forwards selected _ = tt

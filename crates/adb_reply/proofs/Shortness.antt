@@ -152,10 +152,6 @@ module _ (most : ℕ) (room : 513 ≤ most) (rows : List (ℕ × Row)) (small : 
   -- What follows a request is short.
   pub answer_short : (forwards : List (ℕ × ForwardRow)) (selected : Option ℕ) (request : Request) → IsShortRequest request
       → IsShortNext most (answer rows forwards selected request).next
-  answer_short forwards selected asks.Version short = tt
-  answer_short forwards selected asks.Kill short = tt
-  answer_short forwards selected (asks.Devices long) short = tt
-  answer_short forwards selected (asks.Track long) short = tt
   answer_short forwards selected (asks.Transport by tell_id) short =
       selecting tell_id (asked_device rows selected (By by) true) (of_device selected (By by) true)
   answer_short forwards selected (asks.Serialno on) short = telling Serialno (asked_device rows selected on false) (of_device selected on false)
@@ -164,9 +160,6 @@ module _ (most : ℕ) (room : 513 ≤ most) (rows : List (ℕ × Row)) (small : 
   answer_short forwards selected (asks.Features on) short = telling Features (asked_device rows selected on true) (of_device selected on true)
   answer_short forwards selected (asks.Forward on norebind local remote) short =
       forwarding forwards norebind local remote (asked_device rows selected on true) (omega (arith, short, room)) (of_device selected on true)
-  answer_short forwards selected asks.BadForward short = tt
   answer_short forwards selected (asks.KillForward port) short = unbinding forwards port
-  answer_short forwards selected asks.KillAll short = tt
-  answer_short forwards selected asks.ListForward short = tt
   answer_short forwards selected (asks.Service text) short = opening selected text
-  answer_short forwards selected asks.UnknownHost short = tt
+  answer_short forwards selected _ short = tt
