@@ -12,8 +12,8 @@ ghost use Rattle.adb_hub_tables.specs.declared.words.Kind.TheVariants.{News};
 use crate::marks::Marks;
 use crate::owes::Owes;
 use crate::words::Kind;
+use adb_rows::RowMap;
 use std::alloc::{AllocError, Global};
-use std::collections::BTreeMap;
 use std::marker::Model;
 
 /// Rows under numbers. Contracts see it as std's map of them. A row that was not touched, that is,
@@ -25,7 +25,7 @@ use std::marker::Model;
 /// who went cost nothing.
 #[derive(Drop)]
 pub struct TouchedMap<V: Owes> {
-    rows: BTreeMap<u32, V>,
+    rows: RowMap<V>,
     marks: Marks,
     /// Whether anybody asked whom to name.
     watched: bool,
@@ -53,7 +53,7 @@ impl<V: Owes> TouchedMap<V> {
         ensures empty { result.entries ≡ [] }
     {
         TouchedMap {
-            rows: BTreeMap::new(alloc),
+            rows: RowMap::new(alloc),
             marks: Marks::new(alloc),
             watched: false,
         }
@@ -170,7 +170,7 @@ impl<V: Owes + Drop> TouchedMap<V> {
 }
 
 /// Whether there is a row to which something is due.
-fn is_owed<V: Owes>(rows: &BTreeMap<u32, V>, id: u32) -> bool
+fn is_owed<V: Owes>(rows: &RowMap<V>, id: u32) -> bool
     ensures { result ≡ owes_at V.owed id rows.now.entries }
 {
     match rows.get(&id) {
@@ -181,7 +181,7 @@ fn is_owed<V: Owes>(rows: &BTreeMap<u32, V>, id: u32) -> bool
 
 /// Names the least number that is news, which it is no more. Where it has no row it is not known
 /// any more.
-fn name_first<V>(rows: &BTreeMap<u32, V>, marks: &mut Marks) -> Option<u32>
+fn name_first<V>(rows: &RowMap<V>, marks: &mut Marks) -> Option<u32>
     requires { AreBlocks marks.old.entries }
     ensures first { result ≡ first_mark News marks.old.entries }
     ensures fits { IfSome result (λ id. id < 2 ^ 32) }
@@ -211,7 +211,7 @@ fn leave(marks: &mut Marks, watched: bool, id: u32)
 }
 
 /// A row stands under a number, in place of the one there.
-fn put_row<V: Drop>(rows: &mut BTreeMap<u32, V>, id: u32, row: V) -> Result<Option<V>, AllocError>
+fn put_row<V: Drop>(rows: &mut RowMap<V>, id: u32, row: V) -> Result<Option<V>, AllocError>
     ensures old { IfOk result (λ old. old ≡ at id rows.old.entries) }
     ensures puts { OnOk result (Puts id (Some row) rows.old.entries rows.new.entries) }
     ensures entries { OnOk result (rows.new.entries ≡ put_at id row rows.old.entries) }
@@ -223,7 +223,7 @@ fn put_row<V: Drop>(rows: &mut BTreeMap<u32, V>, id: u32, row: V) -> Result<Opti
 }
 
 /// No row stands under a number.
-fn take_row<V: Drop>(rows: &mut BTreeMap<u32, V>, id: u32) -> Option<V>
+fn take_row<V: Drop>(rows: &mut RowMap<V>, id: u32) -> Option<V>
     ensures value { result ≡ at id rows.old.entries }
     ensures puts { Puts id None rows.old.entries rows.new.entries }
     ensures entries { rows.new.entries ≡ without id rows.old.entries }
@@ -232,8 +232,8 @@ fn take_row<V: Drop>(rows: &mut BTreeMap<u32, V>, id: u32) -> Option<V>
 }
 
 /// Of these rows one alone stays.
-fn keep_row<V: Drop>(rows: &mut BTreeMap<u32, V>, id: u32)
+fn keep_row<V: Drop>(rows: &mut RowMap<V>, id: u32)
     ensures { rows.new.entries ≡ filter (λ row. nat_eq row.0 id) rows.old.entries }
 {
-    rows.retain(|number, _| *number == id);
+    rows.keep_only(id);
 }

@@ -1,0 +1,115 @@
+//! A map by numbers that are drawn in order.
+
+ghost use Rattle.std.specs.Prelude.{◌≡◌, ◌^◌, ◌<◌, [], length, Some, None, filter, nat_eq, is_some, IfOk, OnOk, OnErr};
+ghost use Rattle.std.specs.Option.{option_copied, option_copied_mut};
+ghost use Rattle.std.specs.Ordering.{nat_cmp};
+ghost use Rattle.std.specs.Borrow.{sem};
+ghost use Rattle.adb_outside.specs.Tables.{at, put_at, without, IsRising, Puts};
+
+use crate::shelf::Shelf;
+use std::alloc::{AllocError, Global};
+use std::marker::Model;
+
+/// Rows under numbers. Contracts see it as std's map of them. Where numbers are drawn in order a
+/// new row comes behind the others, and rows whose numbers are close are found without a search;
+/// else a search takes as many steps as the number of rows has binary digits. What is kept of rows
+/// that are gone is no more than of those that live, and a few.
+#[derive(Drop)]
+pub struct RowMap<V> {
+    shelf: Shelf<V>,
+}
+
+impl<V> Model for RowMap<V> {
+    ghost use Rattle.adb_rows.specs.Slots.{IsSound, rows_of};
+    ghost use Rattle.adb_rows.specs.Table.{Table, table, table_code};
+
+    ghost Value = { Table V };
+
+    ghost coded = { table_code V.code };
+
+    ghost view = { λ m. table (rows_of m.shelf.slots.items) };
+
+    ghost invariant = { λ m. IsSound m.shelf };
+}
+
+impl<V> RowMap<V> {
+    ghost use Rattle.adb_rows.specs.Lending.{lends_row};
+
+    /// No rows. It takes no memory.
+    pub fn new(alloc: Global) -> RowMap<V>
+        ensures { result.entries ≡ [] }
+    {
+        RowMap {
+            shelf: Shelf::new(alloc),
+        }
+    }
+
+    /// How many rows there are.
+    pub fn len(&self) -> usize
+        ensures len { result ≡ length self.now.entries }
+        ensures small { result < 2 ^ 63 }
+        ensures ordered { IsRising self.now.entries }
+    {
+        self.shelf.live
+    }
+
+    /// The row of a number.
+    pub fn get(&self, id: &u32) -> Option<&V>
+        ensures value { option_copied result ≡ at id.now self.now.entries }
+    {
+        self.shelf.get(*id)
+    }
+
+    /// Whether a number has a row.
+    pub fn contains_key(&self, id: &u32) -> bool
+        ensures { result ≡ is_some (at id.now self.now.entries) }
+    {
+        self.get(id).is_some()
+    }
+
+    /// The row of a number, to be written. It takes no memory.
+    pub fn get_mut(&mut self, id: &u32) -> Option<&mut V>
+        ensures* writes_back { sem 𝓛 (lends_row V.row self.entry (nat_cmp id.now) result) }
+        ensures value { option_copied_mut result ≡ at id.now self.old.entries }
+        ensures ordered { IsRising self.old.entries }
+    {
+        let place = self.shelf.seek(*id)?;
+        self.shelf.lend(place)
+    }
+}
+
+impl<V: Drop> RowMap<V> {
+    /// A row stands under a number, in place of the one there, which is answered. After want of
+    /// memory the rows are as before, and the new one is dropped.
+    pub fn insert(&mut self, id: u32, row: V) -> Result<Option<V>, AllocError>
+        ensures old { IfOk result (λ old. old ≡ at id self.old.entries) }
+        ensures puts { OnOk result (Puts id (Some row) self.old.entries self.new.entries) }
+        ensures entries { OnOk result (self.new.entries ≡ put_at id row self.old.entries) }
+        ensures err { OnErr result (self.new.entries ≡ self.old.entries) }
+    {
+        self.shelf.insert(id, row)
+    }
+
+    /// No row stands under a number. The one that did is answered.
+    pub fn remove(&mut self, id: &u32) -> Option<V>
+        ensures value { result ≡ at id.now self.old.entries }
+        ensures puts { Puts id.now None self.old.entries self.new.entries }
+        ensures entries { self.new.entries ≡ without id.now self.old.entries }
+    {
+        self.shelf.remove(*id)
+    }
+
+    /// No row stays.
+    pub fn clear(&mut self)
+        ensures { self.new.entries ≡ [] }
+    {
+        self.shelf.clear();
+    }
+
+    /// No row stays but that of one number.
+    pub fn keep_only(&mut self, id: u32)
+        ensures { self.new.entries ≡ filter (λ row. nat_eq row.0 id) self.old.entries }
+    {
+        self.shelf.keep_only(id);
+    }
+}

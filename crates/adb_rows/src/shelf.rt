@@ -1,0 +1,184 @@
+//! Slots in rising number, and how many of them have a row.
+
+ghost use Rattle.std.specs.Prelude.{◌≡◌, ◌<◌, [], length, filter, nat_eq, None, Some, IfOk, MatchOption, OnErr, OnOk};
+ghost use Rattle.std.specs.Option.{option_copied, option_copied_mut};
+ghost use Rattle.std.specs.Borrow.{sem};
+ghost use Rattle.adb_outside.specs.Tables.{at, Puts};
+ghost use Rattle.adb_rows.specs.Lending.{LendsAt};
+ghost use Rattle.adb_rows.specs.Slots.{IsSound, FitsAt, RisesFrom, StandsAt, row_at, rows_of, with_row_at};
+
+use crate::slots::{Slot, count, drop_empty, find, guess, held, keep_only, row_of};
+use std::alloc::{AllocError, Global};
+use std::mem;
+
+/// So many slots without a row may stand beside as many as have one.
+const SPARE: usize = 32;
+
+/// Slots in rising number. A row that goes leaves its slot, and those without a row go once they
+/// are more than the others and a few.
+#[derive(Drop)]
+pub(crate) struct Shelf<V> {
+    pub slots: Vec<Slot<V>>,
+    /// How many slots have a row.
+    pub live: usize,
+    /// The place that was found last. It says where to look first, and nothing rests on it.
+    pub last: usize,
+}
+
+impl<V> Shelf<V> {
+    /// No slots. It takes no memory.
+    pub(crate) fn new(alloc: Global) -> Shelf<V>
+        ensures empty { result.slots.items ≡ [] }
+        ensures sound { IsSound result }
+    {
+        Shelf {
+            slots: Vec::new(alloc),
+            live: 0,
+            last: 0,
+        }
+    }
+
+    /// The row of a number.
+    pub(crate) fn get(&self, number: u32) -> Option<&V>
+        requires { IsSound self.now }
+        ensures { option_copied result ≡ at number (rows_of self.now.slots.items) }
+    {
+        let slots = self.slots.as_slice();
+        row_of(slots, guess(slots, self.last, number), number)
+    }
+
+    /// The place of a number, which is remembered.
+    pub(crate) fn seek(&mut self, number: u32) -> Option<usize>
+        requires { IsSound self.old }
+        ensures place { MatchOption result (at number (rows_of self.old.slots.items) ≡ None)
+            (StandsAt number self.old.slots.items) }
+        ensures slots { self.new.slots ≡ self.old.slots }
+        ensures live { self.new.live ≡ self.old.live }
+    {
+        let near = guess(self.slots.as_slice(), self.last, number);
+        match find(self.slots.as_slice(), near, number) {
+            Ok(place) => {
+                self.last = place;
+                Some(place)
+            }
+            Err(_) => None,
+        }
+    }
+
+    /// The row at a place, to be written.
+    pub(crate) fn lend(&mut self, place: usize) -> Option<&mut V>
+        ensures* writes_back { sem 𝓛 (LendsAt V.row self.entry place result) }
+        ensures value { option_copied_mut result ≡ row_at place self.old.slots.items }
+    {
+        let slot = self.slots.get_mut(place)?;
+        slot.row.as_mut()
+    }
+}
+
+impl<V: Drop> Shelf<V> {
+    /// A row stands under a number, in place of the one there, which is answered. After want of
+    /// memory the rows are as before, and the new one is dropped.
+    pub(crate) fn insert(&mut self, number: u32, row: V) -> Result<Option<V>, AllocError>
+        requires { IsSound self.old }
+        ensures sound { IsSound self.new }
+        ensures old { IfOk result (λ old. old ≡ at number (rows_of self.old.slots.items)) }
+        ensures puts { OnOk result (Puts number (Some row)
+            (rows_of self.old.slots.items) (rows_of self.new.slots.items)) }
+        ensures err { OnErr result (self.new.slots.items ≡ self.old.slots.items) }
+    {
+        let near = guess(self.slots.as_slice(), self.last, number);
+        match find(self.slots.as_slice(), near, number) {
+            Ok(place) => Ok(self.swap(number, place, Some(row))),
+            Err(place) => {
+                self.add(number, place, row)?;
+                Ok(None)
+            }
+        }
+    }
+
+    /// No row stands under a number. The one that did is answered.
+    pub(crate) fn remove(&mut self, number: u32) -> Option<V>
+        requires { IsSound self.old }
+        ensures sound { IsSound self.new }
+        ensures value { result ≡ at number (rows_of self.old.slots.items) }
+        ensures puts { Puts number None
+            (rows_of self.old.slots.items) (rows_of self.new.slots.items) }
+    {
+        let place = self.seek(number)?;
+        let row = self.swap(number, place, None);
+        self.thin_out();
+        row
+    }
+
+    /// Another row stands in the slot of a number, or none. The one there is answered.
+    fn swap(&mut self, number: u32, place: usize, row: Option<V>) -> Option<V>
+        requires sound { IsSound self.old }
+        requires place { StandsAt number self.old.slots.items place }
+        ensures sound { IsSound self.new }
+        ensures old { result ≡ at number (rows_of self.old.slots.items) }
+        ensures puts { Puts number row
+            (rows_of self.old.slots.items) (rows_of self.new.slots.items) }
+    {
+        self.last = place;
+        self.live += held(&row);
+        let old = put_in(&mut self.slots, place, row);
+        self.live -= held(&old);
+        old
+    }
+
+    /// A number that has no slot gets one, with a row. After want of memory it has none.
+    fn add(&mut self, number: u32, place: usize, row: V) -> Result<(), AllocError>
+        requires sound { IsSound self.old }
+        requires place { FitsAt number self.old.slots.items place }
+        ensures sound { IsSound self.new }
+        ensures puts { OnOk result (Puts number (Some row)
+            (rows_of self.old.slots.items) (rows_of self.new.slots.items)) }
+        ensures err { OnErr result (self.new.slots.items ≡ self.old.slots.items) }
+    {
+        let row = Some(row);
+        self.slots.insert(place, Slot { number, row })?;
+        self.last = place;
+        self.live += 1;
+        Ok(())
+    }
+
+    /// Where slots without a row are more than the others and a few, they go.
+    fn thin_out(&mut self)
+        requires { IsSound self.old }
+        ensures sound { IsSound self.new }
+        ensures rows { rows_of self.new.slots.items ≡ rows_of self.old.slots.items }
+    {
+        if self.slots.len() / 2 > self.live + SPARE {
+            drop_empty(&mut self.slots);
+        }
+    }
+
+    /// No row stays.
+    pub(crate) fn clear(&mut self)
+        ensures empty { self.new.slots.items ≡ [] }
+        ensures sound { IsSound self.new }
+    {
+        self.slots.clear();
+        self.live = 0;
+    }
+
+    /// No row stays but that of one number.
+    pub(crate) fn keep_only(&mut self, number: u32)
+        requires { IsSound self.old }
+        ensures sound { IsSound self.new }
+        ensures rows { rows_of self.new.slots.items
+            ≡ filter (λ row. nat_eq row.0 number) (rows_of self.old.slots.items) }
+    {
+        keep_only(&mut self.slots, number);
+        self.live = count(self.slots.as_slice());
+    }
+}
+
+/// Another row stands in the slot at a place, or none. The one there is answered.
+fn put_in<V>(slots: &mut Vec<Slot<V>>, place: usize, row: Option<V>) -> Option<V>
+    requires { place < length slots.old.items }
+    ensures old { result ≡ row_at place slots.old.items }
+    ensures slots { slots.new.items ≡ with_row_at place row slots.old.items }
+{
+    mem::replace(&mut slots[place].row, row)
+}

@@ -1,0 +1,104 @@
+//! Slots, each of a number, in rising order of these.
+
+ghost use Rattle.std.specs.Prelude.{◌≡◌, ◌≤◌, ◌<◌, true, length, filter, nat_eq, MatchResult, OnErr, OnOk};
+ghost use Rattle.std.specs.Option.{option_copied};
+ghost use Rattle.adb_outside.specs.Tables.{at};
+ghost use Rattle.adb_rows.specs.Slots.{FitsAt, RisesFrom, StandsAt, count_of, rows_of};
+
+/// A number, with its row, or with none where that is gone.
+#[derive(Drop)]
+pub(crate) struct Slot<V> {
+    pub number: u32,
+    pub row: Option<V>,
+}
+
+/// The place of a number, or the one where it would stand. Where it stands at `near` nobody
+/// searches.
+pub(crate) fn find<V>(slots: &[Slot<V>], near: usize, number: u32) -> Result<usize, usize>
+    requires { RisesFrom 0 slots.now }
+    ensures { MatchResult result (StandsAt number slots.now) (FitsAt number slots.now) }
+{
+    if stands_at(slots, near, number) {
+        return Ok(near);
+    }
+    search(slots, number)
+}
+
+/// Whether a number stands at a place.
+fn stands_at<V>(slots: &[Slot<V>], place: usize, number: u32) -> bool
+    ensures { result ≡ true → StandsAt number slots.now place }
+{
+    match slots.get(place) {
+        Some(slot) => slot.number == number,
+        None => false,
+    }
+}
+
+/// The place of a number, or the one where it would stand.
+fn search<V>(slots: &[Slot<V>], number: u32) -> Result<usize, usize>
+    requires { RisesFrom 0 slots.now }
+    ensures { MatchResult result (StandsAt number slots.now) (FitsAt number slots.now) }
+{
+    slots.binary_search_by_key(&number, |slot| slot.number)
+}
+
+/// Where a number stands if each number has a slot from that at a place on.
+pub(crate) fn guess<V>(slots: &[Slot<V>], place: usize, number: u32) -> usize {
+    match slots.get(place) {
+        Some(slot) => place
+            .wrapping_add(number as usize)
+            .wrapping_sub(slot.number as usize),
+        None => place,
+    }
+}
+
+/// The row of a number.
+pub(crate) fn row_of<V>(slots: &[Slot<V>], near: usize, number: u32) -> Option<&V>
+    requires { RisesFrom 0 slots.now }
+    ensures { option_copied result ≡ at number (rows_of slots.now) }
+{
+    match find(slots, near, number) {
+        Ok(place) => slots[place].row.as_ref(),
+        Err(_) => None,
+    }
+}
+
+/// How many slots have a row.
+pub(crate) fn count<V>(slots: &[Slot<V>]) -> usize
+    ensures { result ≡ length (rows_of slots.now) }
+{
+    let mut rows = 0;
+    for slot in slots {
+        rows += held(&slot.row);
+    }
+    rows
+}
+
+/// One for a row, and none for no row.
+pub(crate) fn held<V>(row: &Option<V>) -> usize
+    ensures { result ≡ count_of row.now }
+{
+    match row {
+        Some(_) => 1,
+        None => 0,
+    }
+}
+
+/// The slots without a row go.
+pub(crate) fn drop_empty<V: Drop>(slots: &mut Vec<Slot<V>>)
+    requires { RisesFrom 0 slots.old.items }
+    ensures rows { rows_of slots.new.items ≡ rows_of slots.old.items }
+    ensures rises { RisesFrom 0 slots.new.items }
+{
+    slots.retain(|slot| slot.row.is_some());
+}
+
+/// All slots go but that of one number.
+pub(crate) fn keep_only<V: Drop>(slots: &mut Vec<Slot<V>>, number: u32)
+    requires { RisesFrom 0 slots.old.items }
+    ensures rows { rows_of slots.new.items
+        ≡ filter (λ row. nat_eq row.0 number) (rows_of slots.old.items) }
+    ensures rises { RisesFrom 0 slots.new.items }
+{
+    slots.retain(|slot| slot.number == number);
+}
