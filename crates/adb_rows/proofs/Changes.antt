@@ -1,7 +1,8 @@
 -- Slots after a change, and the rows that they show then.
-use Rattle.std.proofs.Common.{ℕ, ◌+◌, ◌≡◌, ◌≢◌, ◌≤◌, ◌<◌, zero, suc, Bool, true, false, cond, List, [], ◌∷◌, length, filter, Option, Some, None}
-use Rattle.std.proofs.Common.{refl, sym, ◌∙◌, ap, subst, arith, tt}
+use Rattle.std.proofs.Common.{ℕ, ◌+◌, ◌≡◌, ◌≢◌, ◌≤◌, ◌<◌, zero, suc, Bool, true, false, cond, List, [], ◌∷◌, length, get_or, drop, filter, Option, Some, None}
+use Rattle.std.proofs.Common.{refl, sym, ◌∙◌, ap, subst, arith}
 use Rattle.std.specs.Prelude.{nat_eq, is_some}
+use Rattle.std.proofs.lemmas.List.{at_drop_more}
 use Rattle.std.specs.BTreeMap.{is_at}
 use Rattle.std.specs.List.{insert}
 use Rattle.std.specs.Map.{set_value}
@@ -17,14 +18,14 @@ module _ {X : Type 0} where
   listed_count number None es = omega arith
   listed_count number (Some x) es = omega arith
 
+  pub one_at_most : (row : Option X) → count_of row ≤ 1
+  one_at_most None = omega arith
+  one_at_most (Some x) = omega arith
+
   -- no more rows than slots
   pub count_within : (ss : List (Slot X)) → length (rows_of ss) ≤ length ss
   count_within [] = omega arith
-  count_within (s ∷ ss) = omega (arith, listed_count s.number s.row (rows_of ss), one s.row, count_within ss)
-    where
-      one : (row : Option X) → count_of row ≤ 1
-      one None = omega arith
-      one (Some x) = omega arith
+  count_within (s ∷ ss) = omega (arith, listed_count s.number s.row (rows_of ss), one_at_most s.row, count_within ss)
 
   -- ---- another row in a slot, or none
   pub put_rises : (low : ℕ) (ss : List (Slot X)) (i : ℕ) (row : Option X) → RisesFrom low ss → RisesFrom low (with_row_at i row ss)
@@ -94,7 +95,7 @@ module _ {X : Type 0} where
 
   -- ---- a new slot
   module _ (n : ℕ) (row : Option X) where
-    new : Slot X
+    abbrev pub new : Slot X
     new = record { number = n; row = row }
 
     pub add_rises : (low : ℕ) (ss : List (Slot X)) (i : ℕ) → low ≤ n → RisesFrom low ss → FitsAt n ss i → RisesFrom low (insert ss i new)
@@ -120,8 +121,8 @@ module _ {X : Type 0} where
     add_puts ss i r f = record { here = add_here 0 ss i r f; others = λ q apart. add_other q ss i apart }
 
     pub add_count : (ss : List (Slot X)) (i : ℕ) → length (rows_of (insert ss i new)) ≡ length (rows_of ss) + count_of row
-    add_count [] zero = omega (arith, listed_count {X = X} n row [])
-    add_count [] (suc i) = omega (arith, listed_count {X = X} n row [])
+    add_count [] zero = omega (arith, listed_count n row [])
+    add_count [] (suc i) = omega (arith, listed_count n row [])
     add_count (s ∷ ss) zero = omega (arith, listed_count n row (rows_of (s ∷ ss)))
     add_count (s ∷ ss) (suc i) =
         omega (arith, listed_count s.number s.row (rows_of (insert ss i new)), listed_count s.number s.row (rows_of ss), add_count ss i)
@@ -171,3 +172,15 @@ module _ {X : Type 0} where
           → rows_of (cond b (s ∷ left) left) ≡ filter (λ (e : ℕ × X). nat_eq e.0 n) (rows_of (s ∷ ss))
       go true is row later = shown true s.row is later
       go false is row later = shown false s.row is later
+
+  -- ---- rows that are counted
+  pub count_start : (ss : List (Slot X)) → length (rows_of (drop 0 ss)) ≡ length (rows_of ss)
+  count_start [] = refl
+  count_start (s ∷ ss) = refl
+
+  pub count_step : (ss : List (Slot X)) (i : ℕ) (s : Slot X) → i < length ss → s ≡ get_or ss i s
+      → length (rows_of (drop i ss)) ≡ count_of s.row + length (rows_of (drop (i + 1) ss))
+  count_step ss i s h is =
+      at_drop_more (λ (l : List (Slot X)). length (rows_of l)) ss i s h
+      ∙ subst (λ (t : Slot X). length (rows_of (t ∷ drop (i + 1) ss)) ≡ count_of s.row + length (rows_of (drop (i + 1) ss))) is
+      (listed_count s.number s.row (rows_of (drop (i + 1) ss)))

@@ -1,18 +1,30 @@
 -- Slots by their places, and the rows that they show.
-use Rattle.std.proofs.Common.{ℕ, ◌+◌, ◌≡◌, ◌≢◌, ◌≤◌, ◌<◌, zero, suc, Bool, true, false, cond, List, [], ◌∷◌, length, get_or, take, drop, filter, Option, Some, None}
-use Rattle.std.proofs.Common.{refl, sym, ◌∙◌, ap, subst, arith, tt, Result, Ok, Err}
-use Rattle.std.specs.Prelude.{nat_eq, is_some, MatchResult}
-use Rattle.std.specs.BTreeMap.{is_at}
-use Rattle.std.specs.List.{AllByRecursion, HoldsAt, AllWithin, insert, slice_set}
+use Rattle.std.proofs.Common.{ℕ, ◌≡◌, ◌≢◌, ◌≤◌, ◌<◌, zero, suc, false, cond, List, [], ◌∷◌, length, get_or, Option, Some, None}
+use Rattle.std.proofs.Common.{refl, sym, ◌∙◌, ap, subst, arith, Result, Ok, Err}
+use Rattle.std.specs.Prelude.{is_some, MatchResult}
+use Rattle.std.specs.List.{AllByRecursion, HoldsAt, AllWithin, slice_set}
 use Rattle.std.specs.List.Sorted.{IsBinarySearchResult, IsSearchInRange, IsNonDecreasingBy, IsStrictlySortedBy}
-use Rattle.std.specs.Map.{keys_of, set_value}
+use Rattle.std.specs.Map.{keys_of}
 use Rattle.std.specs.Ordering.{nat_cmp, is_eq, ordering_index}
 use Rattle.std.specs.declared.cmp.Ordering.TheVariants.{Less, Equal, Greater}
 use Rattle.std.proofs.lemmas.Bool.Decides.{nat_tests}
 use Rattle.adb_outside.specs.Tables.{at, IsRising, listed_at}
-use Rattle.adb_outside.proofs.TableLaws.{less, at_same, at_other, at_head, at_tail}
+use Rattle.adb_outside.proofs.TableLaws.{less, at_head, at_tail}
 use Rattle.adb_rows.specs.declared.slots.Slot.{Slot}
-use Rattle.adb_rows.specs.Slots.{FitsAt, RisesFrom, StandsAt, count_of, row_at, rows_of, with_row_at}
+use Rattle.adb_rows.specs.Slots.{FitsAt, RisesFrom, StandsAt, row_at, rows_of, with_row_at}
+
+-- two numbers as they compare
+equal : (a b : ℕ) → nat_cmp a b ≡ Equal → a ≡ b
+equal a b is = grind (arith, nat_tests)
+
+lesser : (a b : ℕ) → nat_cmp a b ≡ Less → a < b
+lesser a b is = grind (arith, nat_tests)
+
+greater : (a b : ℕ) → nat_cmp a b ≡ Greater → b < a
+greater a b is = grind (arith, nat_tests)
+
+higher : (a b n : ℕ) → a ≤ b → ordering_index (nat_cmp a n) ≤ ordering_index (nat_cmp b n)
+higher a b n le = grind (arith, nat_tests)
 
 module _ {X : Type 0} where
   -- ---- one slot before others
@@ -90,7 +102,7 @@ module _ {X : Type 0} where
   fits_within n (s ∷ ss) zero f = omega arith
   fits_within n (s ∷ ss) (suc i) f = omega (arith, fits_within n ss i f.1)
 
-  stands_low : (low n : ℕ) (ss : List (Slot X)) (i : ℕ) → RisesFrom low ss → StandsAt n ss i → low ≤ n
+  pub stands_low : (low n : ℕ) (ss : List (Slot X)) (i : ℕ) → RisesFrom low ss → StandsAt n ss i → low ≤ n
   stands_low low n [] i r st = absurd st
   stands_low low n (s ∷ ss) zero r st = omega (arith, r.0, st)
   stands_low low n (s ∷ ss) (suc i) r st = omega (arith, r.0, stands_low (suc s.number) n ss i r.1 st)
@@ -119,6 +131,10 @@ module _ {X : Type 0} where
   row_there zero (s ∷ ss) d h = refl
   row_there (suc i) (s ∷ ss) d h = row_there i ss d (omega (arith, h))
 
+  pub no_row : (row : Option X) → is_some row ≡ false → row ≡ None
+  no_row None empty = refl
+  no_row (Some x) clash = cc
+
   pub set_there : (i : ℕ) (ss : List (Slot X)) (d : Slot X) (row : Option X) → i < length ss
       → slice_set ss i (record (get_or ss i d) { row = row }) ≡ with_row_at i row ss
   set_there i [] d row h = absurd (omega (arith, h))
@@ -130,19 +146,13 @@ module _ {X : Type 0} where
   stands_there n (s ∷ ss) zero h at = at s
   stands_there n (s ∷ ss) (suc i) h at = stands_there n ss i (omega (arith, h)) (λ d. at d)
 
+  -- the slot that was read at a place stands there
+  pub stands_got : (n : ℕ) (ss : List (Slot X)) (i : ℕ) (s : Slot X) → i < length ss → s ≡ get_or ss i s → s.number ≡ n → StandsAt n ss i
+  stands_got n [] i s h is same = absurd (omega (arith, h))
+  stands_got n (t ∷ ss) zero s h is same = subst (λ (u : Slot X). u.number ≡ n) is same
+  stands_got n (t ∷ ss) (suc i) s h is same = stands_got n ss i s (omega (arith, h)) is same
+
   -- ---- what a search finds
-  equal : (a b : ℕ) → nat_cmp a b ≡ Equal → a ≡ b
-  equal a b is = grind (arith, nat_tests)
-
-  lesser : (a b : ℕ) → nat_cmp a b ≡ Less → a < b
-  lesser a b is = grind (arith, nat_tests)
-
-  greater : (a b : ℕ) → nat_cmp a b ≡ Greater → b < a
-  greater a b is = grind (arith, nat_tests)
-
-  higher : (a b n : ℕ) → a ≤ b → ordering_index (nat_cmp a n) ≤ ordering_index (nat_cmp b n)
-  higher a b n le = grind (arith, nat_tests)
-
   fits_there : (n : ℕ) (ss : List (Slot X)) (i : ℕ) → i ≤ length ss → AllWithin (λ s. nat_cmp s.number n ≡ Less) ss 0 i
       → AllWithin (λ s. nat_cmp s.number n ≡ Greater) ss i (length ss) → FitsAt n ss i
   fits_there n [] zero h under over = tt

@@ -1,5 +1,5 @@
 -- A table after a row that was lent was written.
-use Rattle.std.proofs.Common.{ℕ, ◌≡◌, Bool, true, false, cond, List, [], ◌∷◌, Option, Some, refl, sym, ◌∙◌, ap, subst}
+use Rattle.std.proofs.Common.{ℕ, ◌≡◌, Bool, true, false, cond, List, [], ◌∷◌, Some, None, refl, sym, ◌∙◌, ap, subst}
 use Rattle.std.specs.Prelude.{IsSome}
 use Rattle.std.specs.BTreeMap.{is_at}
 use Rattle.std.specs.Cmp.{eq_by_cmp_equiv}
@@ -49,3 +49,14 @@ module _ {X : Type 0} (n : ℕ) (w : X) where
         updates es,
         subst (IsStrictlySortedBy nat_cmp) (sym (keys-set_value (is_at (nat_cmp n)) es w)) rises,
       )
+
+module _ {X : Type 0} where
+  -- Where nothing stands under a number, nothing is written.
+  pub write_none : (n : ℕ) (w : X) (es : List (ℕ × X)) → at n es ≡ None → es ≡ set_value (is_at (nat_cmp n)) es w
+  write_none n w [] none = refl
+  write_none n w (e ∷ es) none = go (is_at (nat_cmp n) e.0) none (λ later. write_none n w es later)
+    where
+      go : (b : Bool) → cond b (Some e.1) (at n es) ≡ None → (at n es ≡ None → es ≡ set_value (is_at (nat_cmp n)) es w)
+          → e ∷ es ≡ cond b ((e.0, w) ∷ es) (e ∷ set_value (is_at (nat_cmp n)) es w)
+      go true clash rest = cc
+      go false none rest = ap (λ (l : List (ℕ × X)). e ∷ l) (rest none)

@@ -1,6 +1,6 @@
 -- A row, lent.
 use Rattle.std.specs.Prelude.{ℕ, ◌≡◌, Option, Some, None}
-use Rattle.std.specs.List.{slice_get}
+use Rattle.std.specs.List.{slice_index_or}
 use Rattle.std.specs.declared.cmp.Ordering.{Ordering}
 use Rattle.std.specs.Borrow.{Fml, RattleType, MutBor, LendsIf, follows_so}
 use Rattle.std.specs.Option.{ghost_name_of}
@@ -12,15 +12,18 @@ use Rattle.adb_rows.specs.contracts.row_map.RowMap.{the_row as map_row}
 use Rattle.adb_rows.specs.contracts.shelf.Shelf.{the_row as shelf_row}
 
 module _ {X : Type 0} where
-  -- the shelf with another row in a slot
-  abbrev pub with_row_in : Shelf X → ℕ → Option (Slot X) → X → Shelf X
-  with_row_in shelf place None row = shelf
-  with_row_in shelf place (Some slot) row = record shelf { slots = with_item shelf.slots place (record slot { row = Some row }) }
+  -- the slot at a place
+  abbrev pub slot_at : Shelf X → ℕ → Slot X
+  slot_at shelf place = slice_index_or shelf.slots.items place (record { number = 0; row = None })
+
+  -- the shelf with another row in a slot, or none
+  abbrev pub with_row_in : Shelf X → ℕ → Option X → Shelf X
+  with_row_in shelf place row = record shelf { slots = with_item shelf.slots place (record (slot_at shelf place) { row = row }) }
 
 -- The shelf ends with the last row that was put behind the result at that place.
 abbrev pub LendsAt : (V : RattleType) → MutBor (Shelf V.Denot) → ℕ → Option (MutBor V.Denot) → Fml
 LendsAt V shelf place result =
-    LendsIf (shelf_row V) V shelf result (with_row_in shelf.now place (slice_get shelf.now.slots.items place)) shelf.now
+    LendsIf (shelf_row V) V shelf result (λ row. with_row_in shelf.now place (Some row)) (with_row_in shelf.now place (slot_at shelf.now place).row)
 
 -- The rows have, at the number that the query finds, what was last written through the result, and are as before where it is `None`.
 abbrev pub lends_row : (V : RattleType) → MutBor (Table V.Denot) → (ℕ → Ordering) → Option (MutBor V.Denot) → Fml

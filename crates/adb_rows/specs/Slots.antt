@@ -1,5 +1,5 @@
 -- Slots in rising number, and the rows that they show.
-use Rattle.std.specs.Prelude.{ℕ, zero, suc, ◌≡◌, ◌<◌, ◌≤◌, ⊤, List, [], ◌∷◌, length, Option, Some, None}
+use Rattle.std.specs.Prelude.{ℕ, zero, suc, ◌≡◌, ◌<◌, ◌≤◌, ⊤, List, [], ◌∷◌, length, Option, Some, None, IsSome}
 use Rattle.adb_outside.specs.Tables.{listed_at}
 use Rattle.adb_rows.specs.declared.shelf.Shelf.{Shelf}
 use Rattle.adb_rows.specs.declared.slots.Slot.{Slot}
@@ -38,6 +38,10 @@ module _ {X : Type 0} where
   row_at place [] = None
   row_at zero (slot ∷ slots) = slot.row
   row_at (suc place) (slot ∷ slots) = row_at place slots
+
+  -- The slot at a place is that of a number, and has a row.
+  abbrev pub HasRowAt : ℕ → List (Slot X) → ℕ → Type 0
+  HasRowAt number slots place = StandsAt number slots place × IsSome (row_at place slots)
 
   -- the slots with another row at a place, or none
   abbrev pub with_row_at : ℕ → Option X → List (Slot X) → List (Slot X)

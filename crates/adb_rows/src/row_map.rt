@@ -73,18 +73,22 @@ impl<V> RowMap<V> {
         ensures value { option_copied_mut result ≡ at id.now self.old.entries }
         ensures ordered { IsRising self.old.entries }
     {
-        let place = self.shelf.seek(*id)?;
+        let Some(place) = self.shelf.seek(*id) else {
+            return None;
+        };
         self.shelf.lend(place)
     }
 }
 
 impl<V: Drop> RowMap<V> {
-    /// A row stands under a number, in place of the one there, which is answered. After want of
-    /// memory the rows are as before, and the new one is dropped.
+    /// A row stands under a number, in place of the one there, which is answered. It takes memory
+    /// only where there is none; after want of memory the rows are as before, and the new one is
+    /// dropped.
     pub fn insert(&mut self, id: u32, row: V) -> Result<Option<V>, AllocError>
         ensures old { IfOk result (λ old. old ≡ at id self.old.entries) }
         ensures puts { OnOk result (Puts id (Some row) self.old.entries self.new.entries) }
         ensures entries { OnOk result (self.new.entries ≡ put_at id row self.old.entries) }
+        ensures absent { OnErr result (at id self.old.entries ≡ None) }
         ensures err { OnErr result (self.new.entries ≡ self.old.entries) }
     {
         self.shelf.insert(id, row)

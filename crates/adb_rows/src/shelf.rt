@@ -5,9 +5,9 @@ ghost use Rattle.std.specs.Option.{option_copied, option_copied_mut};
 ghost use Rattle.std.specs.Borrow.{sem};
 ghost use Rattle.adb_outside.specs.Tables.{at, Puts};
 ghost use Rattle.adb_rows.specs.Lending.{LendsAt};
-ghost use Rattle.adb_rows.specs.Slots.{IsSound, FitsAt, RisesFrom, StandsAt, row_at, rows_of, with_row_at};
+ghost use Rattle.adb_rows.specs.Slots.{IsSound, FitsAt, HasRowAt, StandsAt, row_at, rows_of, with_row_at};
 
-use crate::slots::{Slot, count, drop_empty, find, guess, held, keep_only, row_of};
+use crate::slots::{Slot, count, drop_empty, find, guess, held, keep_only, place_of, row_of};
 use std::alloc::{AllocError, Global};
 use std::mem;
 
@@ -43,35 +43,29 @@ impl<V> Shelf<V> {
         requires { IsSound self.now }
         ensures { option_copied result ≡ at number (rows_of self.now.slots.items) }
     {
-        let slots = self.slots.as_slice();
-        row_of(slots, guess(slots, self.last, number), number)
+        row_of(self.slots.as_slice(), self.last, number)
     }
 
-    /// The place of a number, which is remembered.
+    /// The place of a number that has a row, which is remembered.
     pub(crate) fn seek(&mut self, number: u32) -> Option<usize>
         requires { IsSound self.old }
         ensures place { MatchOption result (at number (rows_of self.old.slots.items) ≡ None)
-            (StandsAt number self.old.slots.items) }
+            (HasRowAt number self.old.slots.items) }
         ensures slots { self.new.slots ≡ self.old.slots }
         ensures live { self.new.live ≡ self.old.live }
     {
-        let near = guess(self.slots.as_slice(), self.last, number);
-        match find(self.slots.as_slice(), near, number) {
-            Ok(place) => {
-                self.last = place;
-                Some(place)
-            }
-            Err(_) => None,
-        }
+        let place = place_of(self.slots.as_slice(), self.last, number)?;
+        self.last = place;
+        Some(place)
     }
 
     /// The row at a place, to be written.
     pub(crate) fn lend(&mut self, place: usize) -> Option<&mut V>
+        requires { place < length self.old.slots.items }
         ensures* writes_back { sem 𝓛 (LendsAt V.row self.entry place result) }
         ensures value { option_copied_mut result ≡ row_at place self.old.slots.items }
     {
-        let slot = self.slots.get_mut(place)?;
-        slot.row.as_mut()
+        self.slots[place].row.as_mut()
     }
 }
 
@@ -84,15 +78,13 @@ impl<V: Drop> Shelf<V> {
         ensures old { IfOk result (λ old. old ≡ at number (rows_of self.old.slots.items)) }
         ensures puts { OnOk result (Puts number (Some row)
             (rows_of self.old.slots.items) (rows_of self.new.slots.items)) }
+        ensures absent { OnErr result (at number (rows_of self.old.slots.items) ≡ None) }
         ensures err { OnErr result (self.new.slots.items ≡ self.old.slots.items) }
     {
         let near = guess(self.slots.as_slice(), self.last, number);
         match find(self.slots.as_slice(), near, number) {
             Ok(place) => Ok(self.swap(number, place, Some(row))),
-            Err(place) => {
-                self.add(number, place, row)?;
-                Ok(None)
-            }
+            Err(place) => self.add(number, place, row),
         }
     }
 
@@ -127,10 +119,12 @@ impl<V: Drop> Shelf<V> {
     }
 
     /// A number that has no slot gets one, with a row. After want of memory it has none.
-    fn add(&mut self, number: u32, place: usize, row: V) -> Result<(), AllocError>
+    fn add(&mut self, number: u32, place: usize, row: V) -> Result<Option<V>, AllocError>
         requires sound { IsSound self.old }
         requires place { FitsAt number self.old.slots.items place }
         ensures sound { IsSound self.new }
+        ensures old { IfOk result (λ old. old ≡ None) }
+        ensures absent { at number (rows_of self.old.slots.items) ≡ None }
         ensures puts { OnOk result (Puts number (Some row)
             (rows_of self.old.slots.items) (rows_of self.new.slots.items)) }
         ensures err { OnErr result (self.new.slots.items ≡ self.old.slots.items) }
@@ -139,7 +133,7 @@ impl<V: Drop> Shelf<V> {
         self.slots.insert(place, Slot { number, row })?;
         self.last = place;
         self.live += 1;
-        Ok(())
+        Ok(None)
     }
 
     /// Where slots without a row are more than the others and a few, they go.

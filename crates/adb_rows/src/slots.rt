@@ -1,9 +1,9 @@
 //! Slots, each of a number, in rising order of these.
 
-ghost use Rattle.std.specs.Prelude.{◌≡◌, ◌≤◌, ◌<◌, true, length, filter, nat_eq, MatchResult, OnErr, OnOk};
+ghost use Rattle.std.specs.Prelude.{◌≡◌, true, length, filter, nat_eq, None, MatchOption, MatchResult};
 ghost use Rattle.std.specs.Option.{option_copied};
 ghost use Rattle.adb_outside.specs.Tables.{at};
-ghost use Rattle.adb_rows.specs.Slots.{FitsAt, RisesFrom, StandsAt, count_of, rows_of};
+ghost use Rattle.adb_rows.specs.Slots.{FitsAt, HasRowAt, RisesFrom, StandsAt, count_of, rows_of};
 
 /// A number, with its row, or with none where that is gone.
 #[derive(Drop)]
@@ -52,15 +52,28 @@ pub(crate) fn guess<V>(slots: &[Slot<V>], place: usize, number: u32) -> usize {
     }
 }
 
+/// The place of a number that has a row.
+pub(crate) fn place_of<V>(slots: &[Slot<V>], last: usize, number: u32) -> Option<usize>
+    requires { RisesFrom 0 slots.now }
+    ensures { MatchOption result (at number (rows_of slots.now) ≡ None)
+        (HasRowAt number slots.now) }
+{
+    let Ok(place) = find(slots, guess(slots, last, number), number) else {
+        return None;
+    };
+    if slots[place].row.is_none() {
+        return None;
+    }
+    Some(place)
+}
+
 /// The row of a number.
-pub(crate) fn row_of<V>(slots: &[Slot<V>], near: usize, number: u32) -> Option<&V>
+pub(crate) fn row_of<V>(slots: &[Slot<V>], last: usize, number: u32) -> Option<&V>
     requires { RisesFrom 0 slots.now }
     ensures { option_copied result ≡ at number (rows_of slots.now) }
 {
-    match find(slots, near, number) {
-        Ok(place) => slots[place].row.as_ref(),
-        Err(_) => None,
-    }
+    let place = place_of(slots, last, number)?;
+    slots[place].row.as_ref()
 }
 
 /// How many slots have a row.
