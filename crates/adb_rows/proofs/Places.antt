@@ -2,12 +2,13 @@
 use Rattle.std.proofs.Common.{ℕ, ◌≡◌, ◌≢◌, ◌≤◌, ◌<◌, zero, suc, false, cond, List, [], ◌∷◌, length, get_or, Option, Some, None}
 use Rattle.std.proofs.Common.{refl, sym, ◌∙◌, ap, subst, arith, Result, Ok, Err}
 use Rattle.std.specs.Prelude.{is_some, MatchResult}
-use Rattle.std.specs.List.{AllByRecursion, HoldsAt, AllWithin, slice_set}
+use Rattle.std.specs.List.{AllByRecursion, HoldsAt, AllWithin, slice_get, slice_set}
 use Rattle.std.specs.List.Sorted.{IsBinarySearchResult, IsSearchInRange, IsNonDecreasingBy, IsStrictlySortedBy}
 use Rattle.std.specs.Map.{keys_of}
 use Rattle.std.specs.Ordering.{nat_cmp, is_eq, ordering_index}
 use Rattle.std.specs.declared.cmp.Ordering.TheVariants.{Less, Equal, Greater}
 use Rattle.std.proofs.lemmas.Bool.Decides.{nat_tests}
+use Rattle.std.proofs.lemmas.Option.{same_Some}
 use Rattle.adb_outside.specs.Tables.{at, IsRising, listed_at}
 use Rattle.adb_outside.proofs.TableLaws.{less, at_head, at_tail}
 use Rattle.adb_rows.specs.declared.slots.Slot.{Slot}
@@ -106,6 +107,17 @@ module _ {X : Type 0} where
   stands_low low n [] i r st = absurd st
   stands_low low n (s ∷ ss) zero r st = omega (arith, r.0, st)
   stands_low low n (s ∷ ss) (suc i) r st = omega (arith, r.0, stands_low (suc s.number) n ss i r.1 st)
+
+  -- a number behind that of the last slot
+  pub fits_behind : (low n : ℕ) (ss : List (Slot X)) (k : ℕ) (last : Slot X) → RisesFrom low ss → length ss ≡ suc k → Some last ≡ slice_get ss k
+      → last.number < n → FitsAt n ss (length ss)
+  fits_behind low n [] k last r long is behind = tt
+  fits_behind low n (s ∷ []) zero last r long is behind = (subst (λ (t : Slot X). t.number < n) (same_Some last s is) behind, tt)
+  fits_behind low n (s ∷ []) (suc k) last r long is behind = absurd (omega (arith, long))
+  fits_behind low n (s ∷ t ∷ ss) zero last r long is behind = absurd (omega (arith, long))
+  fits_behind low n (s ∷ t ∷ ss) (suc k) last r long is behind =
+      let later = fits_behind (suc s.number) n (t ∷ ss) k last r.1 (omega (arith, long)) is behind in
+      (omega (arith, r.1.0, later.0), later)
 
   -- the row of a number that stands at a place
   pub stands_row : (low n : ℕ) (ss : List (Slot X)) (i : ℕ) → RisesFrom low ss → StandsAt n ss i → row_at i ss ≡ at n (rows_of ss)

@@ -7,7 +7,7 @@ ghost use Rattle.adb_outside.specs.Tables.{at, Puts};
 ghost use Rattle.adb_rows.specs.Lending.{LendsAt};
 ghost use Rattle.adb_rows.specs.Slots.{IsSound, FitsAt, HasRowAt, StandsAt, row_at, rows_of, with_row_at};
 
-use crate::slots::{Slot, count, drop_empty, find, guess, held, keep_only, place_of, row_of};
+use crate::slots::{Slot, count, drop_empty, find, held, keep_only, place_of, row_of};
 use std::alloc::{AllocError, Global};
 use std::mem;
 
@@ -81,8 +81,7 @@ impl<V: Drop> Shelf<V> {
         ensures absent { OnErr result (at number (rows_of self.old.slots.items) ≡ None) }
         ensures err { OnErr result (self.new.slots.items ≡ self.old.slots.items) }
     {
-        let near = guess(self.slots.as_slice(), self.last, number);
-        match find(self.slots.as_slice(), near, number) {
+        match find(self.slots.as_slice(), self.last, number) {
             Ok(place) => Ok(self.swap(number, place, Some(row))),
             Err(place) => self.add(number, place, row),
         }
@@ -153,6 +152,7 @@ impl<V: Drop> Shelf<V> {
         ensures sound { IsSound self.new }
     {
         self.slots.clear();
+        self.slots.shrink_to_fit();
         self.live = 0;
     }
 

@@ -12,14 +12,18 @@ pub(crate) struct Slot<V> {
     pub row: Option<V>,
 }
 
-/// The place of a number, or the one where it would stand. Where it stands at `near` nobody
-/// searches.
-pub(crate) fn find<V>(slots: &[Slot<V>], near: usize, number: u32) -> Result<usize, usize>
+/// The place of a number, or the one where it would stand. Nobody searches where it stands as far
+/// from the place that was found last as its number from the one there, or behind all others.
+pub(crate) fn find<V>(slots: &[Slot<V>], last: usize, number: u32) -> Result<usize, usize>
     requires { RisesFrom 0 slots.now }
     ensures { MatchResult result (StandsAt number slots.now) (FitsAt number slots.now) }
 {
+    let near = guess(slots, last, number);
     if stands_at(slots, near, number) {
         return Ok(near);
+    }
+    if is_behind(slots, number) {
+        return Err(slots.len());
     }
     search(slots, number)
 }
@@ -34,6 +38,17 @@ fn stands_at<V>(slots: &[Slot<V>], place: usize, number: u32) -> bool
     }
 }
 
+/// Whether there are slots, and a number is greater than those of all.
+fn is_behind<V>(slots: &[Slot<V>], number: u32) -> bool
+    requires { RisesFrom 0 slots.now }
+    ensures { result ≡ true → FitsAt number slots.now (length slots.now) }
+{
+    match slots.last() {
+        Some(slot) => slot.number < number,
+        None => false,
+    }
+}
+
 /// The place of a number, or the one where it would stand.
 fn search<V>(slots: &[Slot<V>], number: u32) -> Result<usize, usize>
     requires { RisesFrom 0 slots.now }
@@ -43,7 +58,7 @@ fn search<V>(slots: &[Slot<V>], number: u32) -> Result<usize, usize>
 }
 
 /// Where a number stands if each number has a slot from that at a place on.
-pub(crate) fn guess<V>(slots: &[Slot<V>], place: usize, number: u32) -> usize {
+fn guess<V>(slots: &[Slot<V>], place: usize, number: u32) -> usize {
     match slots.get(place) {
         Some(slot) => place
             .wrapping_add(number as usize)
@@ -58,7 +73,7 @@ pub(crate) fn place_of<V>(slots: &[Slot<V>], last: usize, number: u32) -> Option
     ensures { MatchOption result (at number (rows_of slots.now) ≡ None)
         (HasRowAt number slots.now) }
 {
-    let Ok(place) = find(slots, guess(slots, last, number), number) else {
+    let Ok(place) = find(slots, last, number) else {
         return None;
     };
     if slots[place].row.is_none() {
@@ -97,16 +112,17 @@ pub(crate) fn held<V>(row: &Option<V>) -> usize
     }
 }
 
-/// The slots without a row go.
+/// The slots without a row go, and the memory that they had.
 pub(crate) fn drop_empty<V: Drop>(slots: &mut Vec<Slot<V>>)
     requires { RisesFrom 0 slots.old.items }
     ensures rows { rows_of slots.new.items ≡ rows_of slots.old.items }
     ensures rises { RisesFrom 0 slots.new.items }
 {
     slots.retain(|slot| slot.row.is_some());
+    slots.shrink_to_fit();
 }
 
-/// All slots go but that of one number.
+/// All slots go but that of one number, and the memory that they had.
 pub(crate) fn keep_only<V: Drop>(slots: &mut Vec<Slot<V>>, number: u32)
     requires { RisesFrom 0 slots.old.items }
     ensures rows { rows_of slots.new.items
@@ -114,4 +130,5 @@ pub(crate) fn keep_only<V: Drop>(slots: &mut Vec<Slot<V>>, number: u32)
     ensures rises { RisesFrom 0 slots.new.items }
 {
     slots.retain(|slot| slot.number == number);
+    slots.shrink_to_fit();
 }

@@ -5,8 +5,8 @@ use Rattle.adb_rows.specs.Slots.{RisesFrom, rows_of}
 use Rattle.adb_rows.proofs.Changes.{rises_still, without_empty}
 use Rattle.adb_rows.proofs.slots.drop_empty.Goals as goal
 
-left : (g : _) (c : goal.After-retain g) → c.retain.new.self.items ≡ filter (λ s. is_some s.row) c.args.slots.now.items
-left g c = filter_same _ (λ s. is_some s.row) _ (λ x b f' h. search rules) _ _ c.retain.ensures.filtered
+left : (g : _) (c : goal.After-shrink_to_fit g) → c.shrink_to_fit.new.self.items ≡ filter (λ s. is_some s.row) c.args.slots.now.items
+left g c = c.shrink_to_fit.ensures.items ∙ filter_same _ (λ s. is_some s.row) _ (λ x b f' h. search rules) _ _ c.retain.ensures.filtered
 
 pub returns-clause-rows : goal.returns-clause-rows
 returns-clause-rows g c = ap rows_of (left g c) ∙ without_empty c.args.slots.now.items
