@@ -225,7 +225,8 @@ module _ (l : ℕ) (b : Birth) (bytes : List ℕ) (older : History) (legal : IsL
   put_here = ap (λ (t : Bool). cond t (bytes_put b.client older ++ bytes) (bytes_put b.client older)) (eq-eqb b.client b.client refl)
 
   rule_is : (d : ℕ) (due : List ℕ) → a.due ≡ d ∷ due
-      → (rule (Put b.client bytes) (state older)).state.clients b.client ≡ closing_with (drop (length bytes) a.due) (record a { due = drop (length bytes) a.due })
+      → (rule (Put b.client bytes) (state older)).state.clients b.client
+      ≡ closing_with (drop (length bytes) a.due) (record a { due = drop (length bytes) a.due })
   rule_is d due due_is =
       ap (λ (o : Option Client). (puts_to o b.client (length bytes) (state older)).state.clients b.client) is
       ∙ (ap (λ (x : List ℕ). (then_also (lists_first b.client x a (state older))
