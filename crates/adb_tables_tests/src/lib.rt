@@ -12,4 +12,6 @@ mod registry;
 #[cfg(test)]
 mod reply;
 #[cfg(test)]
+mod rows;
+#[cfg(test)]
 mod stream;
