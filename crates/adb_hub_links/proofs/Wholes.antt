@@ -1,8 +1,9 @@
 -- A packet that came whole makes the step of its entry.
 use Rattle.std.proofs.Common.{ℕ, ◌≡◌, ◌<◌, ◌≤◌, Bool, true, false, cond, List, [], ◌∷◌, ◌++◌, length, drop, Option, Some, None, Ok, refl, sym, ◌∙◌, ap, subst, arith, inl}
-use Rattle.std.specs.Prelude.{◌&&◌, not}
+use Rattle.std.specs.Prelude.{◌&&◌, not, is_some}
 use Rattle.std.proofs.lemmas.List.{append-nil, length-drop}
-use Rattle.std.proofs.lemmas.List.Elements.{All-drop}
+use Rattle.std.specs.List.{All}
+use Rattle.std.proofs.lemmas.List.Elements.{All-drop, All-cons, All-nil}
 use Rattle.adb_outside.specs.Tables.{at}
 use Rattle.adb_wire.specs.declared.headers.Head.{Head}
 use Rattle.adb_wire.specs.declared.headers.TheConstants.{HEADER_LEN, MAX_PAYLOAD}
@@ -21,6 +22,9 @@ use Rattle.adb_hub_tables.specs.declared.ports.Port.{Port}
 use Rattle.adb_hub_tables.specs.declared.tables.Tables.{Tables}
 use Rattle.adb_hub_tables.specs.Tables.{state_of}
 use Rattle.adb_hub_tables.specs.Fit.{IsFit, IsReached, Makes}
+use Rattle.adb_hub_rules.specs.declared.came.Came.{Came}
+use Rattle.adb_hub_rules.specs.Came as came_packet
+use Rattle.adb_hub_rules.specs.Came.{IsCame, packets_of}
 use Rattle.adb_hub_links.specs.declared.cutting.Cutting.{Cutting}
 use Rattle.adb_hub_links.specs.Cutting.{IsCutTo, cut_of, cut_in}
 use Rattle.adb_hub_links.specs.Settling.{LeavesNamed, HasSettled}
@@ -100,3 +104,14 @@ module _ {link : ℕ} {bytes : List ℕ} {old : Tables} (h : ComesAlone link byt
 
   pub alone_made : (new : Tables) → HasSettled link cutting old new → Makes (Recv link bytes) old new
   alone_made new settled = piece_made h.comes cut_here new settled
+
+-- ---- what it is cut to
+pub whole_cut : (bytes : List ℕ) (cutting : Cutting) (came : Came) → StandsAlone bytes → IsCame came → came_packet.packet_of came ≡ packet_of bytes
+    → cutting.packets.items ≡ came ∷ [] → cutting.incoming ≡ no_bytes → cutting.broken ≡ false → IsCutTo (cut_of no_bytes bytes) cutting
+whole_cut bytes cutting came alone is_came is items new sound = record {
+  came = subst (All IsCame) (sym items) (All-cons IsCame came [] is_came (All-nil IsCame));
+  packets = ap packets_of items ∙ (ap (λ (p : Packet). p ∷ []) is ∙ sym (ap (λ (d : Deframing). d.given) alone));
+  incoming = new ∙ sym (ap (λ (d : Deframing). record d { given = [] }) alone);
+  broken = sound ∙ sym (ap (λ (d : Deframing). is_some d.fault) alone);
+  unfed = λ unfed. new;
+}
