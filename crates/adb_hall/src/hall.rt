@@ -152,11 +152,7 @@ pub trait Hall<E: Ledger, M: Ledger, K: Marks> {
 
     /// A whole packet comes from the device: one Recv, as `recv` of its bytes, and no payload is
     /// copied where nobody keeps it.
-    fn recv_whole(
-        &mut self,
-        pass: &mut LinkIn<E, M, K>,
-        packet: &Whole,
-    ) -> Result<Life, DeskError>
+    fn recv_whole(&mut self, pass: &mut LinkIn<E, M, K>, packet: &Whole) -> Result<Life, DeskError>
         requires { length packet.now ≤ MAX_DATA }
         ensures pass { pass.new.pass ≡ after_life pass.old.pass (length packet.now) result }
         ensures told { let n = pass.old.pass.number in Where (tells self.old)

@@ -63,7 +63,8 @@ impl Whole {
 
     /// Whether it is good where no check words are looked at, and asks for none behind it.
     pub(crate) fn stands_alone(&self) -> bool
-        ensures { result ≡ true → StandsAlone self.now }
+        ensures alone { result ≡ true → StandsAlone self.now }
+        ensures bytes { IsBytes self.now }
     {
         let bytes = self.bytes.as_slice();
         are_bytes(bytes);
