@@ -51,7 +51,8 @@ impl Cutting {
         requires { StandsAlone packet.now }
         ensures { IfOk result (IsCutTo (cut_of no_bytes packet.now)) }
     {
-        let came = came(alloc, packet.packet()?)?;
+        let packet = packet.packet()?;
+        let came = came(alloc, packet)?;
         let mut packets = VecDeque::new(alloc);
         packets.push_back(came)?;
         Ok(Cutting {
