@@ -11,7 +11,7 @@ ghost use Rattle.adb_desk.specs.Desk.{Lives, Draws, Rung, link_life};
 use crate::desk::Desk;
 use adb_capture::{Entry, Owner, Recorder};
 use adb_desk_log::{DeskError, Marks, keep_attach, marks_error, marks_life};
-use adb_hub::{HubError, Life};
+use adb_hub::{HubError, Life, Whole};
 use adb_outside::{Cause, Kind, Text};
 use std::sync::ledger::Ledger;
 
@@ -37,6 +37,18 @@ impl<R: Recorder, E: Ledger, M: Ledger, K: Marks> Desk<R, E, M, K> {
         ensures steady { K.steady → result ≢ Err DeskError.RecordFault }
     {
         let answer = self.try_recv(link, piece);
+        self.log.ring(marks_life(&answer));
+        answer
+    }
+
+    /// A whole packet comes from a device: one Recv, as `recv` of its bytes.
+    pub fn recv_whole(&mut self, link: u32, packet: &Whole) -> Result<Life, DeskError>
+        requires { length packet.now ≤ MAX_DATA }
+        ensures received { Rung (marks_life result)
+            (Lives self.old (Entry.Recv link packet.now) (link_life link) result) self.new }
+        ensures steady { K.steady → result ≢ Err DeskError.RecordFault }
+    {
+        let answer = self.try_recv_whole(link, packet);
         self.log.ring(marks_life(&answer));
         answer
     }
@@ -84,6 +96,24 @@ impl<R: Recorder, E: Ledger, M: Ledger, K: Marks> Desk<R, E, M, K> {
         match self.hub.recv(link, piece) {
             Err(error) => Err(DeskError::Hub(error)),
             Ok(life) => match self.log.keep_piece(Owner::Link(link), piece) {
+                Err(error) => Err(error),
+                Ok(()) => Ok(life),
+            },
+        }
+    }
+
+    fn try_recv_whole(&mut self, link: u32, packet: &Whole) -> Result<Life, DeskError>
+        requires { length packet.now ≤ MAX_DATA }
+        ensures received { Lives self.old (Entry.Recv link packet.now) (link_life link)
+            result self.new }
+        ensures steady { K.steady → result ≢ Err DeskError.RecordFault }
+    {
+        if let Some(answer) = self.log.shut() {
+            return Err(answer);
+        }
+        match self.hub.recv_whole(link, packet) {
+            Err(error) => Err(DeskError::Hub(error)),
+            Ok(life) => match self.log.keep_piece(Owner::Link(link), packet.as_slice()) {
                 Err(error) => Err(error),
                 Ok(()) => Ok(life),
             },

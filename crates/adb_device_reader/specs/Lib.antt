@@ -1,3 +1,4 @@
 pub mod Handing
 pub mod Reading
 pub mod Plugging
+pub mod Packets

@@ -9,7 +9,7 @@ ghost use Rattle.adb_device_reader.specs.Handing.{Stands, Finished, Handed};
 use adb_connections::{Gate, Place};
 use adb_desk_log::{DeskError, LinkIn, Marks};
 use adb_hall::Hall;
-use adb_hub::{HubError, Life};
+use adb_hub::{HubError, Life, Whole};
 use adb_outside::Cause;
 use std::sync::ledger::Ledger;
 
@@ -45,6 +45,32 @@ pub fn hand_in<E: Ledger, M: Ledger, K: Marks, H: Hall<E, M, K>, G: Gate>(
 {
     gate.pass(Place::DeviceReader as u8, pass.number());
     match hall.recv(pass, piece) {
+        Ok(Life::Live) => true,
+        Ok(Life::Gone) => false,
+        Err(DeskError::Hub(HubError::OutOfMemory)) => {
+            finish(hall, pass, Cause::Starved);
+            false
+        }
+        Err(_) => false,
+    }
+}
+
+/// Hands in a whole packet, as `hand_in` does its bytes.
+pub fn hand_in_packet<E: Ledger, M: Ledger, K: Marks, H: Hall<E, M, K>, G: Gate>(
+    hall: &mut H,
+    pass: &mut LinkIn<E, M, K>,
+    packet: &Whole,
+    gate: &G,
+) -> bool
+    requires { length packet.now ≤ MAX_DATA }
+    ensures number { pass.new.pass.number ≡ pass.old.pass.number }
+    ensures told { (entries : List Entry) → Stands entries (H.tells hall.old)
+        → Handed result pass.old.pass.number packet.now entries pass.new.pass.starved
+        (H.tells hall.new) }
+    ensures mark { H.marked hall.new ≡ H.marked hall.old }
+{
+    gate.pass(Place::DeviceReader as u8, pass.number());
+    match hall.recv_whole(pass, packet) {
         Ok(Life::Live) => true,
         Ok(Life::Gone) => false,
         Err(DeskError::Hub(HubError::OutOfMemory)) => {

@@ -5,34 +5,38 @@ ghost use Rattle.adb_outside.specs.declared.kinds.Cause.{Cause};
 ghost use Rattle.adb_wire.specs.Slicing.{need_of};
 ghost use Rattle.adb_device_reader.specs.Reading.{Start, SoFar, Fed, Done, HasEndedBy};
 
-use crate::ending::{finish, hand_in};
+use crate::ending::{finish, hand_in, hand_in_packet};
+use crate::packets::Packets;
 use adb_connections::Gate;
 use adb_desk_log::{LinkIn, Marks};
 use adb_hall::Hall;
 use adb_outside::Cause;
-use adb_wire::Slicer;
 use std::sync::ledger::Ledger;
 
-/// Hands in the slice that is held, where one is whole. Answers whether more may follow.
+/// Hands in the slice that is held, where one is whole: a packet in memory of its own with no copy.
+/// Answers whether more may follow.
 fn hand_in_whole<E: Ledger, M: Ledger, K: Marks, H: Hall<E, M, K>, G: Gate>(
     hall: &mut H,
     pass: &mut LinkIn<E, M, K>,
-    slicer: &mut Slicer,
+    packets: &mut Packets,
     gate: &G,
 ) -> bool
     ensures number { pass.new.pass.number ≡ pass.old.pass.number }
-    ensures open { 0 < need_of slicer.new }
+    ensures open { 0 < need_of packets.new }
     ensures told { (start : Start) (coming : List ℕ)
-        → SoFar pass.old.pass.number start slicer.old coming (H.tells hall.old)
-        → Fed result pass.old.pass.number start slicer.new coming pass.new.pass.starved
+        → SoFar pass.old.pass.number start packets.old coming (H.tells hall.old)
+        → Fed result pass.old.pass.number start packets.new coming pass.new.pass.starved
         (H.tells hall.new) }
     ensures mark { H.marked hall.new ≡ H.marked hall.old }
 {
-    let Some(slice) = slicer.whole() else {
+    if let Some(packet) = packets.share() {
+        return hand_in_packet(hall, pass, &packet, gate);
+    }
+    let Some(slice) = packets.whole() else {
         return true;
     };
     let going = hand_in(hall, pass, slice, gate);
-    slicer.clear();
+    packets.clear();
     going
 }
 
@@ -40,24 +44,24 @@ fn hand_in_whole<E: Ledger, M: Ledger, K: Marks, H: Hall<E, M, K>, G: Gate>(
 pub fn feed<E: Ledger, M: Ledger, K: Marks, H: Hall<E, M, K>, G: Gate>(
     hall: &mut H,
     pass: &mut LinkIn<E, M, K>,
-    slicer: &mut Slicer,
+    packets: &mut Packets,
     piece: &[u8],
     gate: &G,
 ) -> bool
-    requires { 0 < need_of slicer.old }
+    requires { 0 < need_of packets.old }
     ensures number { pass.new.pass.number ≡ pass.old.pass.number }
-    ensures open { 0 < need_of slicer.new }
+    ensures open { 0 < need_of packets.new }
     ensures told { (start : Start) (rest : List ℕ)
-        → SoFar pass.old.pass.number start slicer.old (piece.now ++ rest) (H.tells hall.old)
-        → Fed result pass.old.pass.number start slicer.new rest pass.new.pass.starved
+        → SoFar pass.old.pass.number start packets.old (piece.now ++ rest) (H.tells hall.old)
+        → Fed result pass.old.pass.number start packets.new rest pass.new.pass.starved
         (H.tells hall.new) }
     ensures mark { H.marked hall.new ≡ H.marked hall.old }
 {
     let mut rest = piece;
     while !rest.is_empty() {
-        let taken = slicer.take(rest);
+        let taken = packets.take(rest);
         rest = &rest[taken..];
-        if !hand_in_whole(hall, pass, slicer, gate) {
+        if !hand_in_whole(hall, pass, packets, gate) {
             return false;
         }
     }
@@ -68,18 +72,18 @@ pub fn feed<E: Ledger, M: Ledger, K: Marks, H: Hall<E, M, K>, G: Gate>(
 pub fn end_input<E: Ledger, M: Ledger, K: Marks, H: Hall<E, M, K>, G: Gate>(
     hall: &mut H,
     pass: &mut LinkIn<E, M, K>,
-    slicer: &Slicer,
+    packets: &Packets,
     cause: Cause,
     gate: &G,
 )
-    requires { 0 < need_of slicer.now }
+    requires { 0 < need_of packets.now }
     ensures number { pass.new.pass.number ≡ pass.old.pass.number }
     ensures told { (start : Start) (rest : List ℕ) (faults : ℕ) → HasEndedBy start rest faults cause
-        → SoFar pass.old.pass.number start slicer.now rest (H.tells hall.old)
+        → SoFar pass.old.pass.number start packets.now rest (H.tells hall.old)
         → Done pass.old.pass.number start rest faults pass.new.pass.starved (H.tells hall.new) }
     ensures mark { H.marked hall.new ≡ H.marked hall.old }
 {
-    let held = slicer.held();
+    let held = packets.held();
     if held.is_empty() {
         finish(hall, pass, cause);
     } else if hand_in(hall, pass, held, gate) {

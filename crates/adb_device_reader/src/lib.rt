@@ -4,7 +4,9 @@
 mod device;
 mod ending;
 mod feeding;
+mod packets;
 mod reader;
 
 pub use device::{Device, Plugged, plug_in};
+pub use packets::Packets;
 pub use reader::read_device;

@@ -8,11 +8,11 @@ ghost use Rattle.adb_hall.specs.Made.{Tells};
 ghost use Rattle.adb_device_reader.specs.Reading.{Start, HasRead, IsReading, Turned};
 
 use crate::feeding::{end_input, feed};
+use crate::packets::Packets;
 use adb_connections::{DeviceIn, Gate};
 use adb_desk_log::{LinkIn, Marks};
 use adb_hall::Hall;
 use adb_outside::{Cause, Got};
-use adb_wire::Slicer;
 use std::sync::Wait;
 use std::sync::ledger::Ledger;
 
@@ -25,30 +25,30 @@ fn turn<E: Ledger, M: Ledger, K: Marks, H: Hall<E, M, K>, I: DeviceIn, G: Gate>(
     hall: &mut H,
     port: &mut I,
     pass: &mut LinkIn<E, M, K>,
-    slicer: &mut Slicer,
+    packets: &mut Packets,
     buffer: &mut [u8],
     gate: &G,
 ) -> bool
     requires room { 0 < length buffer.old }
-    requires open { 0 < need_of slicer.old }
+    requires open { 0 < need_of packets.old }
     ensures number { pass.new.pass.number ≡ pass.old.pass.number }
-    ensures open { 0 < need_of slicer.new }
+    ensures open { 0 < need_of packets.new }
     ensures count { I.faults port.old ≤ I.faults port.new }
     ensures plugs { I.plugs port.new ≡ I.plugs port.old }
     ensures mark { H.marked hall.new ≡ H.marked hall.old }
     ensures told { (start : Start) → start.faults ≤ I.faults port.old
-        → IsReading pass.old.pass.number start slicer.old (H.tells hall.old) (I.left port.old)
-        → Turned result pass.old.pass.number start slicer.new (I.faults port.new)
+        → IsReading pass.old.pass.number start packets.old (H.tells hall.old) (I.left port.old)
+        → Turned result pass.old.pass.number start packets.new (I.faults port.new)
         pass.new.pass.starved (H.tells hall.new) (I.left port.new) }
 {
     match port.read(buffer) {
-        Got::Bytes(n) => feed(hall, pass, slicer, &buffer[..n], gate),
+        Got::Bytes(n) => feed(hall, pass, packets, &buffer[..n], gate),
         Got::End => {
-            end_input(hall, pass, slicer, Cause::Eof, gate);
+            end_input(hall, pass, packets, Cause::Eof, gate);
             false
         }
         Got::Failed => {
-            end_input(hall, pass, slicer, Cause::Fault, gate);
+            end_input(hall, pass, packets, Cause::Fault, gate);
             false
         }
     }
@@ -59,7 +59,7 @@ fn turn<E: Ledger, M: Ledger, K: Marks, H: Hall<E, M, K>, I: DeviceIn, G: Gate>(
 /// its 24 bytes. Where the device ends or fails, the bytes of a packet that is not whole are handed
 /// in, and then the link's input is ended by one Detach, of `Eof` or `Fault`.
 ///
-/// The slicer holds nothing yet. Where the hall finds no memory for a piece, the link's input is
+/// Of the packets nothing is held yet. Where the hall finds no memory for a piece, the link's input is
 /// ended by one Detach of `Starved`, and that piece is lost, with what was read behind it. The gate
 /// is passed at the place of a device's reader, before each piece. The pass that comes back has its
 /// shares and its mark.
@@ -76,10 +76,10 @@ pub fn read_device<
     hall: &mut H,
     port: &mut I,
     pass: LinkIn<E, M, K>,
-    slicer: Slicer,
+    packets: Packets,
     gate: &G,
 ) -> LinkIn<E, M, K>
-    requires { slicer ≡ [] }
+    requires { packets ≡ [] }
     ensures number { result.pass.number ≡ pass.pass.number }
     ensures count { I.faults port.old ≤ I.faults port.new }
     ensures plugs { I.plugs port.new ≡ I.plugs port.old }
@@ -91,10 +91,10 @@ pub fn read_device<
         (I.faults port.new) result.pass.starved (H.tells hall.new) (I.left port.new) }
 {
     let mut pass = pass;
-    let mut slicer = slicer;
+    let mut packets = packets;
     let mut buffer = [0u8; MAX_READ];
     for _ in rt.forever() {
-        if !turn(hall, port, &mut pass, &mut slicer, &mut buffer, gate) {
+        if !turn(hall, port, &mut pass, &mut packets, &mut buffer, gate) {
             return pass;
         }
     }

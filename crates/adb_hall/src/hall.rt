@@ -1,7 +1,7 @@
 //! The calls that the workers of a server make.
 
 use adb_desk_log::{ClientIn, ClientOut, DeskError, LinkIn, LinkOut, Marks};
-use adb_hub::{Handed, Life, Room};
+use adb_hub::{Handed, Life, Room, Whole};
 use adb_outside::{Cause, Kind};
 use adb_spawner::NoThread;
 use std::sync::ledger::Ledger;
@@ -147,6 +147,16 @@ pub trait Hall<E: Ledger, M: Ledger, K: Marks> {
         ensures pass { pass.new.pass ≡ after_life pass.old.pass (length piece.now) result }
         ensures told { let n = pass.old.pass.number in Where (tells self.old)
             (Lives (Entry.Recv n piece.now) (link_life n) result) (tells self.new) }
+        ensures steady { K.steady → result ≢ Err DeskError.RecordFault }
+        ensures mark { marked self.new ≡ marked self.old };
+
+    /// A whole packet comes from the device: one Recv, as `recv` of its bytes, and no payload is
+    /// copied where nobody keeps it.
+    fn recv_whole(&mut self, pass: &mut LinkIn<E, M, K>, packet: &Whole) -> Result<Life, DeskError>
+        requires { length packet.now ≤ MAX_DATA }
+        ensures pass { pass.new.pass ≡ after_life pass.old.pass (length packet.now) result }
+        ensures told { let n = pass.old.pass.number in Where (tells self.old)
+            (Lives (Entry.Recv n packet.now) (link_life n) result) (tells self.new) }
         ensures steady { K.steady → result ≢ Err DeskError.RecordFault }
         ensures mark { marked self.new ≡ marked self.old };
 

@@ -15,6 +15,8 @@ pub mod section {
     pub use crate::client_sections::{
         bound, break_out, end, enter, join, put, read, room, strand_client, waiting,
     };
-    pub use crate::link_sections::{attach, break_send, detach, recv, send, strand_link};
+    pub use crate::link_sections::{
+        attach, break_send, detach, recv, recv_whole, send, strand_link,
+    };
     pub use crate::sections::{halt, mark_handle, over};
 }

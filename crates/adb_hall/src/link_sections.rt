@@ -18,7 +18,7 @@ use crate::sections::seat_pair;
 use adb_capture::Recorder;
 use adb_desk::Desk;
 use adb_desk_log::{DeskError, LinkIn, LinkOut, Marks};
-use adb_hub::{Handed, Life};
+use adb_hub::{Handed, Life, Whole};
 use adb_outside::{Cause, Kind};
 use std::sync::ledger::Ledger;
 
@@ -57,6 +57,23 @@ pub fn recv<R: Recorder, E: Ledger, M: Ledger, K: Marks>(
 {
     let answer = desk.recv(pass.number(), piece);
     note_life(desk, &mut pass.pass, &answer, piece.len());
+    answer
+}
+
+/// A whole packet comes from the device of a pass.
+pub fn recv_whole<R: Recorder, E: Ledger, M: Ledger, K: Marks>(
+    desk: &mut Desk<R, E, M, K>,
+    pass: &mut LinkIn<E, M, K>,
+    packet: &Whole,
+) -> Result<Life, DeskError>
+    requires { length packet.now ≤ MAX_DATA }
+    ensures pass { pass.new.pass ≡ after_life pass.old.pass (length packet.now) result }
+    ensures told { let n = pass.old.pass.number in Lives (Entry.Recv n packet.now) (link_life n) result
+        (telling_of desk.old) (telling_of desk.new) }
+    ensures steady { K.steady → result ≢ Err DeskError.RecordFault }
+{
+    let answer = desk.recv_whole(pass.number(), packet);
+    note_life(desk, &mut pass.pass, &answer, packet.as_slice().len());
     answer
 }
 

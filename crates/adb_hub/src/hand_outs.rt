@@ -95,7 +95,7 @@ fn nothing(life: Life) -> Handed
     }
 }
 
-/// What was handed out are bytes.
-fn are_bytes(bytes: &[u8])
+/// A slice of bytes has bytes.
+pub(crate) fn are_bytes(bytes: &[u8])
     ensures { All (λ b. b < 256) bytes.now }
 {}

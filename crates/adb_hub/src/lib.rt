@@ -10,6 +10,7 @@ mod hub;
 mod links;
 
 pub use adb_capture::Owner;
+pub use adb_hub_links::Whole;
 pub use answers::{Handed, Life, Room, Summary};
 pub use error::HubError;
 pub use hub::{Hub, MAX_HELD, limits_are};

@@ -12,7 +12,9 @@ ghost use Rattle.adb_hub.specs.Answers.{Answers, AnswersLink, life_of, err_if};
 use crate::answers::Life;
 use crate::clients::life_if;
 use crate::error::HubError;
+use crate::hand_outs::are_bytes;
 use crate::hub::Hub;
+use adb_hub_links::Whole;
 use adb_outside::{Cause, Kind};
 
 impl Hub {
@@ -38,6 +40,19 @@ impl Hub {
     {
         self.look_for_link(link)?;
         adb_hub_links::recv(&mut self.tables, link, piece)?;
+        Ok(self.link_life(link))
+    }
+
+    /// A whole packet comes on a link, as `recv` of its bytes. Where a link's packets all come whole
+    /// and it looks at no check words, a header is not read again, and no payload is copied.
+    pub fn recv_whole(&mut self, link: u32, packet: &Whole) -> Result<Life, HubError>
+        ensures received { (h : List Entry) → IsLawful self.old h
+            → AnswersLink link (Entry.Recv link packet.now) result h self.new }
+        ensures err { OnErr result (self.new ≡ self.old) }
+    {
+        self.look_for_link(link)?;
+        are_bytes(packet.as_slice());
+        adb_hub_links::recv_whole(&mut self.tables, link, packet)?;
         Ok(self.link_life(link))
     }
 

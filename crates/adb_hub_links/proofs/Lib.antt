@@ -11,3 +11,4 @@ mod Settled
 mod Lawful
 mod Received
 mod Waited
+mod Wholes

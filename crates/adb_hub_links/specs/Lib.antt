@@ -4,3 +4,4 @@ pub mod Naming
 pub mod Counting
 pub mod Reserving
 pub mod Settling
+pub mod Whole

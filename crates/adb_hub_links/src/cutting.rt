@@ -8,8 +8,11 @@ ghost use Rattle.adb_hub_tables.specs.declared.ports.Port.{Port};
 ghost use Rattle.adb_hub_rules.specs.Came.{IsCame, packet_of, packets_of};
 ghost use Rattle.adb_wire.specs.declared.command.Command.TheVariants.{Cnxn};
 ghost use Rattle.adb_wire.specs.declared.headers.TheConstants.{MAX_PAYLOAD};
+ghost use Rattle.adb_wire.specs.Deframing.{no_bytes};
 ghost use Rattle.adb_hub_links.specs.Cutting.{IsClear, IsCutTo, TakesNext, cut_of};
+ghost use Rattle.adb_hub_links.specs.Whole.{StandsAlone};
 
+use crate::whole::Whole;
 use adb_banner::IdentityError;
 use adb_hub_rules::Came;
 use adb_hub_tables::{Port, TouchedMap};
@@ -18,11 +21,12 @@ use adb_wire::{Command, Deframer, Head, Packet};
 use std::alloc::{AllocError, Global};
 use std::collections::VecDeque;
 
-/// What came in on a link with a piece: the packets, what is held behind them, and whether a byte
-/// there was wrong.
+/// What came in on a link with a piece: the packets, what is held behind them, whether that was fed,
+/// and whether a byte there was wrong.
 #[derive(Drop)]
 pub(crate) struct Cutting {
     pub(crate) incoming: Deframer,
+    pub(crate) is_fed: bool,
     pub(crate) packets: VecDeque<Came>,
     pub(crate) broken: bool,
 }
@@ -36,8 +40,26 @@ impl Cutting {
         let packets = take_all(alloc, &mut incoming)?;
         Ok(Cutting {
             incoming,
+            is_fed: true,
             packets,
             broken,
+        })
+    }
+
+    /// A whole packet that stands alone, on a link to which nothing was fed. It is not copied.
+    pub(crate) fn whole(alloc: Global, packet: &Whole) -> Result<Cutting, AllocError>
+        requires { StandsAlone packet.now }
+        ensures { IfOk result (IsCutTo (cut_of no_bytes packet.now)) }
+    {
+        let packet = packet.packet()?;
+        let came = came(alloc, packet)?;
+        let mut packets = VecDeque::new(alloc);
+        packets.push_back(came)?;
+        Ok(Cutting {
+            incoming: Deframer::new(alloc),
+            is_fed: false,
+            packets,
+            broken: false,
         })
     }
 }

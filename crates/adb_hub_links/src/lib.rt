@@ -13,7 +13,9 @@ mod receiving;
 mod reserving;
 mod settling;
 mod waiting;
+mod whole;
 
 pub use attaches::attach;
 pub use detaches::detach;
-pub use receiving::recv;
+pub use receiving::{recv, recv_whole};
+pub use whole::Whole;

@@ -1,18 +1,21 @@
 //! Bytes that come on a device's link.
 
-ghost use Rattle.std.specs.Prelude.{OnOk, OnErr};
+ghost use Rattle.std.specs.Prelude.{◌≡◌, true, OnOk, OnErr};
+ghost use Rattle.adb_outside.specs.Tables.{at};
 ghost use Rattle.adb_capture.specs.declared.entry.Entry.{Entry};
 ghost use Rattle.adb_history.specs.Machine.{May};
 ghost use Rattle.adb_hub_tables.specs.Fit.{IsFit, IsReached, Keeps, Makes};
 ghost use Rattle.adb_hub_tables.specs.Tables.{state_of};
 ghost use Rattle.adb_hub_links.specs.Cutting.{IsCutting, cut_in};
 ghost use Rattle.adb_hub_links.specs.Settling.{HasSettled, LeavesNamed};
+ghost use Rattle.adb_hub_links.specs.Whole.{IsFreshAt};
 
 use crate::cutting::{Cutting, with_piece};
 use crate::reserving::reserve;
 use crate::settling::settle;
 use crate::waiting::wait;
-use adb_hub_tables::Tables;
+use crate::whole::Whole;
+use adb_hub_tables::{Port, Tables, TouchedMap};
 use std::alloc::AllocError;
 
 /// Bytes came on a link: the packets that are whole now are treated, in order, a byte that is wrong
@@ -35,6 +38,32 @@ pub fn recv(tables: &mut Tables, link: u32, piece: &[u8]) -> Result<(), AllocErr
     let incoming = with_piece(tables.alloc, &mut tables.links, link, piece)?;
     let cutting = Cutting::of(tables.alloc, incoming)?;
     take(tables, link, cutting)
+}
+
+/// A whole packet came on a link, as `recv` of its bytes. Where nothing is known to be held of the
+/// link, and no check words are looked at, its header is not read again, and its payload is shared.
+pub fn recv_whole(tables: &mut Tables, link: u32, packet: &Whole) -> Result<(), AllocError>
+    requires fit { IsFit tables.old }
+    requires reached { IsReached (state_of tables.old) }
+    requires may { May (state_of tables.old) (Entry.Recv link packet.now) }
+    ensures made { OnOk result (Makes (Entry.Recv link packet.now) tables.old tables.new) }
+    ensures kept { OnErr result (Keeps tables.old tables.new) }
+{
+    if is_fresh(&tables.links, link) && packet.stands_alone() {
+        let cutting = Cutting::whole(tables.alloc, packet)?;
+        return take(tables, link, cutting);
+    }
+    recv(tables, link, packet.as_slice())
+}
+
+/// Whether a link lives of which nothing is known to be held, and no check words are looked at.
+fn is_fresh(links: &TouchedMap<Port>, link: u32) -> bool
+    ensures { result ≡ true → IsFreshAt (at link links.now.entries) }
+{
+    match links.get(&link) {
+        Some(port) => port.link.is_fresh(),
+        None => false,
+    }
 }
 
 /// The packets of a link are treated, with all memory taken before.

@@ -1,8 +1,8 @@
 //! The packets of a link are treated, and the streams that they name go up. It takes no memory.
 
-ghost use Rattle.std.specs.Prelude.{◌≡◌, ◌≢◌, ℕ, Some, All, length, is_some, option_map};
+ghost use Rattle.std.specs.Prelude.{◌≡◌, ◌≢◌, ℕ, false, Some, All, length, is_some, option_map};
 ghost use Rattle.adb_outside.specs.Tables.{at};
-ghost use Rattle.adb_wire.specs.Deframing.{Deframing};
+ghost use Rattle.adb_wire.specs.Deframing.{Deframing, no_bytes};
 ghost use Rattle.adb_wire.specs.declared.format.PacketFault.{PacketFault};
 ghost use Rattle.adb_history.specs.Events.{then_also};
 ghost use Rattle.adb_history.specs.Packets.{faulty, treat_all};
@@ -25,22 +25,24 @@ pub(crate) fn settle(tables: &mut Tables, link: u32, cutting: Cutting, ids: &BTr
 {
     let Cutting {
         incoming,
+        is_fed,
         packets,
         broken,
     } = cutting;
-    put_incoming(&mut tables.links, link, incoming);
+    put_incoming(&mut tables.links, link, incoming, is_fed);
     treat(tables, link, packets, broken);
     up_each(tables, ids);
 }
 
-/// Something else came in on a link.
-fn put_incoming(links: &mut TouchedMap<Port>, link: u32, incoming: Deframer)
+/// Something else came in on a link, which was fed or is new.
+fn put_incoming(links: &mut TouchedMap<Port>, link: u32, incoming: Deframer, is_fed: bool)
+    requires { is_fed ≡ false → incoming ≡ no_bytes }
     ensures here { at link links.new.entries
         ≡ option_map (reading incoming) (at link links.old.entries) }
     ensures apart { (k : ℕ) → k ≢ link → at k links.new.entries ≡ at k links.old.entries }
 {
     if let Some(port) = links.get_mut(&link) {
-        port.link.put_incoming(incoming);
+        port.link.put_incoming(incoming, is_fed);
     }
 }
 

@@ -7,7 +7,7 @@ use adb_desk_log::{
     ClientIn, ClientOut, DeskError, LinkIn, LinkOut, Marks, marks_error, marks_life,
 };
 use adb_hall::{Hall, section};
-use adb_hub::{Handed, HubError, Life, Owner, Room};
+use adb_hub::{Handed, HubError, Life, Owner, Room, Whole};
 use adb_outside::{Cause, Kind};
 use adb_spawner::NoThread;
 use std::sync::ledger::Ledger;
@@ -168,6 +168,17 @@ impl<R: Recorder, E: Ledger, M: Ledger, K: Marks, W: Wait + Copy + Drop> Hall<E,
     fn recv(&mut self, pass: &mut LinkIn<E, M, K>, piece: &[u8]) -> Result<Life, DeskError> {
         let mut guard = self.shared.locked.lock(&self.rt);
         let answer = section::recv(&mut guard.desk, pass, piece);
+        self.shared.leave(guard);
+        answer
+    }
+
+    fn recv_whole(
+        &mut self,
+        pass: &mut LinkIn<E, M, K>,
+        packet: &Whole,
+    ) -> Result<Life, DeskError> {
+        let mut guard = self.shared.locked.lock(&self.rt);
+        let answer = section::recv_whole(&mut guard.desk, pass, packet);
         self.shared.leave(guard);
         answer
     }

@@ -6,7 +6,7 @@ use adb_desk_log::{
     ClientIn, ClientOut, DeskError, LinkIn, LinkOut, Marks, marks_error, marks_life,
 };
 use adb_hall::{Hall, section};
-use adb_hub::{Handed, Life, Room};
+use adb_hub::{Handed, Life, Room, Whole};
 use adb_outside::{Cause, Kind};
 use adb_spawner::NoThread;
 use std::sync::ledger::Ledger;
@@ -75,6 +75,14 @@ impl<R: Recorder, E: Ledger, M: Ledger, K: Marks> Hall<E, M, K> for OneDesk<R, E
 
     fn recv(&mut self, pass: &mut LinkIn<E, M, K>, piece: &[u8]) -> Result<Life, DeskError> {
         section::recv(&mut self.desk, pass, piece)
+    }
+
+    fn recv_whole(
+        &mut self,
+        pass: &mut LinkIn<E, M, K>,
+        packet: &Whole,
+    ) -> Result<Life, DeskError> {
+        section::recv_whole(&mut self.desk, pass, packet)
     }
 
     fn detach(&mut self, pass: &mut LinkIn<E, M, K>, cause: Cause) -> Result<Life, DeskError> {

@@ -7,10 +7,9 @@ use crate::server::Served;
 use adb_capture::Recorder;
 use adb_connections::{Bell, DeviceIn, DeviceOut, Gate};
 use adb_desk_log::{LinkIn, LinkOut, Marks};
-use adb_device_reader::{Device, Plugged, plug_in};
+use adb_device_reader::{Device, Packets, Plugged, plug_in};
 use adb_hall::Hall;
 use adb_locked_hall::LockedHall;
-use adb_wire::Slicer;
 use adb_work::{BellHandle, Kits, Task, make_kits};
 use adb_yard::Yard;
 use std::alloc::{AllocError, Global};
@@ -30,7 +29,7 @@ pub(crate) struct Transport<
     X: Drop,
     Z: Drop,
 > {
-    pub(crate) read: Task<W, R, E, M, K, G, B, LinkIn<E, M, K>, X, Slicer>,
+    pub(crate) read: Task<W, R, E, M, K, G, B, LinkIn<E, M, K>, X, Packets>,
     pub(crate) write: Task<W, R, E, M, K, G, B, LinkOut<E, M, K>, Z, ()>,
 }
 
@@ -47,7 +46,7 @@ struct Provision<
     B: Drop,
 > {
     kits: Kits<W, R, E, M, K, G, B>,
-    slicer: Slicer,
+    packets: Packets,
 }
 
 /// Plugs in devices, in their order. Those that come are added to `plugged`; one that does not, and
@@ -104,9 +103,9 @@ fn provide<
     ensures room { OnOk result (vec_len plugged.new < vec_capacity plugged.new) }
 {
     let kits = make_kits(rt, (yard.gate(), yard.gate()), hall, bell)?;
-    let slicer = Slicer::new(alloc)?;
+    let packets = Packets::new(alloc)?;
     plugged.reserve(1)?;
-    Ok(Provision { kits, slicer })
+    Ok(Provision { kits, packets })
 }
 
 fn plug<
@@ -179,14 +178,14 @@ fn connect<
     writing: LinkOut<E, M, K>,
 ) -> Transport<W, R, E, M, K, G, B, X, Z> {
     let (input, output) = halves;
-    let Provision { kits, slicer } = provision;
+    let Provision { kits, packets } = provision;
     let Kits { reader, writer } = kits;
     Transport {
         read: Task {
             kit: reader,
             pass: reading,
             port: input,
-            aid: slicer,
+            aid: packets,
         },
         write: Task {
             kit: writer,

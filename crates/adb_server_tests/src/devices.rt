@@ -4,11 +4,10 @@ use crate::over_one_desk::{Case, is_told, stands};
 use adb_capture::MemoryRecorder;
 use adb_connections::{MemoryDeviceIn, OpenGate, Plug};
 use adb_desk_log::Marks;
-use adb_device_reader::{Device, Plugged, plug_in, read_device};
+use adb_device_reader::{Device, Packets, Plugged, plug_in, read_device};
 use adb_fakes::{Sent, SharedOut};
 use adb_one_desk::OneDesk;
 use adb_outside::{Kind, Text};
-use adb_wire::Slicer;
 use adb_writers::write_device;
 use log::sink::Writer;
 use log::{Level, Log, Logged};
@@ -114,8 +113,8 @@ fn works<W: Wait + Copy + Send + Sync + Drop + 'static, E: Ledger, M: Ledger, K:
     match plug_in(hall, device.kind, device.serial.as_slice(), &mut input) {
         Plugged::Link { reading, writing } => {
             if reads {
-                let slicer = Slicer::new(alloc)?;
-                let _pass = read_device(rt, hall, &mut input, reading, slicer, &gate);
+                let packets = Packets::new(alloc)?;
+                let _pass = read_device(rt, hall, &mut input, reading, packets, &gate);
             } else {
                 let _pass = write_device(rt, hall, &mut output, writing, &gate);
             }

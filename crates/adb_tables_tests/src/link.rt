@@ -134,15 +134,15 @@ fn a_piece_is_cut_beside_what_is_held(rt: HostRuntime) {
     assert_eq!(rt; device.payload.as_slice(), b"device::".as_slice());
     assert_eq!(rt; link.missing(), 24);
     assert!(rt; !incoming.is_broken());
-    link.put_incoming(incoming);
+    link.put_incoming(incoming, true);
     let incoming = link
         .with_piece(&WRITE_WITHOUT_SUM[..26])
         .expect(&rt, "memory");
     assert!(rt; !incoming.is_broken());
-    link.put_incoming(incoming);
+    link.put_incoming(incoming, true);
     assert_eq!(rt; link.missing(), 1);
     let incoming = link.with_piece(b"\n").expect(&rt, "memory");
     assert!(rt; incoming.is_broken());
-    link.put_incoming(incoming);
+    link.put_incoming(incoming, true);
     assert_eq!(rt; link.missing(), usize::MAX);
 }

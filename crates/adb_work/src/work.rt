@@ -6,9 +6,8 @@ use adb_capture::Recorder;
 use adb_client_reader::read_client;
 use adb_connections::{DeviceIn, DeviceOut, Gate, PortIn, PortOut};
 use adb_desk_log::{ClientIn, ClientOut, LinkIn, LinkOut, Marks};
-use adb_device_reader::read_device;
+use adb_device_reader::{Packets, read_device};
 use adb_spawner::Job;
-use adb_wire::Slicer;
 use adb_writers::{write_client, write_device};
 use std::sync::Wait;
 use std::sync::ledger::Ledger;
@@ -30,7 +29,7 @@ pub struct Task<
     pub kit: Kit<W, R, E, M, K, G, B>,
     pub pass: T,
     pub port: H,
-    /// The binder of a client's reader, the slicer of a device's, and nothing of a writer.
+    /// The binder of a client's reader, the packets of a device's, and nothing of a writer.
     pub aid: A,
 }
 
@@ -54,7 +53,7 @@ pub enum Work<
 > {
     ReadClient(Task<W, R, E, M, K, G, B, ClientIn<E, M, K>, I, P>),
     WriteClient(Task<W, R, E, M, K, G, B, ClientOut<E, M, K>, O, ()>),
-    ReadDevice(Task<W, R, E, M, K, G, B, LinkIn<E, M, K>, X, Slicer>),
+    ReadDevice(Task<W, R, E, M, K, G, B, LinkIn<E, M, K>, X, Packets>),
     WriteDevice(Task<W, R, E, M, K, G, B, LinkOut<E, M, K>, Z, ()>),
 }
 
@@ -145,16 +144,16 @@ fn read_one_device<
     G: Gate + Drop,
     B: Ringing,
     X: DeviceIn,
->(task: Task<W, R, E, M, K, G, B, LinkIn<E, M, K>, X, Slicer>) {
+>(task: Task<W, R, E, M, K, G, B, LinkIn<E, M, K>, X, Packets>) {
     let Task {
         kit,
         pass,
         port,
         aid,
     } = task;
-    let (mut kit, mut port, mut slicer) = (kit, port, aid);
-    slicer.clear();
-    let pass = read_device(kit.rt, &mut kit.hall, &mut port, pass, slicer, &kit.gate);
+    let (mut kit, mut port, mut packets) = (kit, port, aid);
+    packets.clear();
+    let pass = read_device(kit.rt, &mut kit.hall, &mut port, pass, packets, &kit.gate);
     kit.hall.retire_link_in(pass);
     kit.ring();
 }

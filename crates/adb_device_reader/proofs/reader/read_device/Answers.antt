@@ -12,7 +12,7 @@ loop-init g c = (
   refl,
   same_le _,
   refl,
-  λ a entries bytes is h left. record { rest = bytes; left_now = left; so_far = begins _ entries bytes c.args.slicer _ _ a c.requires is h },
+  λ a entries bytes is h left. record { rest = bytes; left_now = left; so_far = begins _ entries bytes c.args.packets _ _ a c.requires is h },
 )
 
 pub returns-then-not-turn-clause-told : goal.returns-then-not-turn-clause-told

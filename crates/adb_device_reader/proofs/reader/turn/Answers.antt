@@ -6,7 +6,7 @@ pub returns-in-Bytes-clause-told : goal.returns-in-Bytes-clause-told
 returns-in-Bytes-clause-told g c start le r =
     let read = c.in-Bytes.ensures.told r.rest r.left_now in
     let rest = drop c.in-Bytes.n r.rest in
-    turned_by c.feed.result _ start c.feed.new.slicer rest _ c.feed.new.pass.pass.starved _ _ read.rest
+    turned_by c.feed.result _ start c.feed.new.packets rest _ c.feed.new.pass.pass.starved _ _ read.rest
     (c.feed.ensures.told start rest (so_far_read _ start _ _ r.rest c.in-Bytes.n _ read.front r.so_far))
 
 pub returns-in-Failed-clause-told : goal.returns-in-Failed-clause-told

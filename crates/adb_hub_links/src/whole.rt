@@ -1,0 +1,90 @@
+//! Packets that came whole.
+
+ghost use Rattle.std.specs.Prelude.{◌≡◌, ◌≤◌, true, length, drop, IfOk};
+ghost use Rattle.adb_wire.specs.Format.{packet_of};
+ghost use Rattle.adb_wire.specs.Header.{IsBytes};
+ghost use Rattle.adb_wire.specs.declared.headers.TheConstants.{MAX_PAYLOAD};
+ghost use Rattle.adb_hub_links.specs.Whole.{IsWhole, StandsAlone, is_plain};
+
+use adb_wire::{Command, HEADER_LEN, Head, Packet, VERSION, byte_sum};
+use bytes::Bytes;
+use std::alloc::AllocError;
+use std::marker::Model;
+
+/// A packet that came whole: its bytes, which are shared, and the header that was read of them.
+/// Contracts see it as its bytes.
+#[derive(Drop)]
+pub struct Whole {
+    head: Head,
+    bytes: Bytes,
+}
+
+impl Model for Whole {
+    ghost use Rattle.std.specs.Prelude.{List, ℕ};
+    ghost use Rattle.adb_hub_links.specs.Whole.{IsWhole};
+
+    ghost Value = { List ℕ };
+
+    ghost view = { λ whole. whole.bytes };
+
+    ghost invariant = { λ whole. IsWhole whole.head whole.bytes };
+}
+
+impl Whole {
+    /// A packet in its bytes, of the header that they begin with. It takes no memory.
+    pub fn new(head: Head, bytes: Bytes) -> Whole
+        requires { IsWhole head bytes }
+        ensures { result ≡ bytes }
+    {
+        Whole { head, bytes }
+    }
+
+    /// Its bytes.
+    pub fn as_slice(&self) -> &[u8]
+        ensures { result.now ≡ self.now }
+    {
+        self.bytes.as_slice()
+    }
+
+    /// The packet, which shares the payload.
+    pub(crate) fn packet(&self) -> Result<Packet, AllocError>
+        ensures packet { IfOk result (λ packet. packet ≡ packet_of self.now) }
+        ensures size { IfOk result (λ packet. length packet.payload ≤ MAX_PAYLOAD) }
+    {
+        let mut payload = self.bytes.clone()?;
+        payload.advance(HEADER_LEN);
+        Ok(Packet {
+            command: self.head.command,
+            arg0: self.head.arg0,
+            arg1: self.head.arg1,
+            payload,
+        })
+    }
+
+    /// Whether it is good where no check words are looked at, and asks for none behind it.
+    pub(crate) fn stands_alone(&self) -> bool
+        ensures alone { result ≡ true → StandsAlone self.now }
+        ensures bytes { IsBytes self.now }
+    {
+        let bytes = self.bytes.as_slice();
+        are_bytes(bytes);
+        is_plain(&self.head, &bytes[HEADER_LEN..])
+    }
+}
+
+/// Whether a packet is good where no check words are looked at, and asks for none behind it.
+fn is_plain(head: &Head, payload: &[u8]) -> bool
+    ensures { result ≡ is_plain head.now payload.now }
+{
+    match head.command {
+        Command::Cnxn => {
+            (head.check == 0 || head.check == byte_sum(payload)) && !(head.arg0 < VERSION)
+        }
+        _ => true,
+    }
+}
+
+/// A slice of bytes has bytes.
+fn are_bytes(bytes: &[u8])
+    ensures { IsBytes bytes.now }
+{}
