@@ -18,7 +18,7 @@ use Rattle.adb_hub_tables.specs.declared.words.Kind.{Kind}
 use Rattle.adb_hub_tables.specs.declared.words.Kind.TheVariants.{Due, News}
 use Rattle.adb_hub_tables.specs.Marked.{bit, marks_of, with_mark, without_mark, without_place, known, forgotten}
 use Rattle.adb_hub_tables.specs.Marked.{is_empty, Thins, Forgets, Names, Loses}
-use Rattle.adb_hub_tables.specs.Marked.{place_in, mark_in, place, mark, IsBlock, IsMarkedAt, IsMarked, weight}
+use Rattle.adb_hub_tables.specs.Marked.{place_in, mark_in, mark, IsBlock, IsMarkedAt, IsMarked, weight}
 use Rattle.adb_hub_tables.proofs.TouchedRows.{written_other, written_none, left_at}
 use Rattle.adb_hub_tables.proofs.Marking.{Turns, low, turned, place_now, mark_now, known_same, placed, created, marked_in, unmarked_in, leaves, marks_block, knows_block, unmarks_block, empties_block, forgets_block}
 
