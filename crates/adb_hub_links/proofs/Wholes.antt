@@ -1,5 +1,5 @@
 -- A packet that came whole makes the step of its entry.
-use Rattle.std.proofs.Common.{ℕ, ◌≡◌, ◌<◌, ◌≤◌, Bool, true, false, cond, List, [], ◌∷◌, ◌++◌, length, drop, Option, Some, None, Ok, refl, sym, ◌∙◌, ap, subst, arith, inl}
+use Rattle.std.proofs.Common.{ℕ, ◌^◌, ◌≡◌, ◌<◌, ◌≤◌, Bool, true, false, cond, List, [], ◌∷◌, ◌++◌, length, drop, Option, Some, None, Ok, refl, sym, ◌∙◌, ap, subst, arith, inl}
 use Rattle.std.specs.Prelude.{◌&&◌, not, is_some}
 use Rattle.std.proofs.lemmas.List.{append-nil, length-drop}
 use Rattle.std.specs.List.{All}
@@ -77,6 +77,10 @@ stands_alone head bytes are w plain =
     ∙ ap (λ (q : Packet). record no_bytes { given = q ∷ [] }) (whole_packet head bytes w))
 
 -- ---- on a link to which nothing was fed
+-- its entry is in range
+pub whole_in_range : (link : ℕ) (bytes : List ℕ) → link < 2 ^ 32 → IsBytes bytes → IsInRange (Recv link bytes)
+whole_in_range link bytes number are = record { owner = number; port = tt; bytes = are }
+
 -- A packet that stands alone came on a link that holds nothing.
 pub record ComesAlone (link : ℕ) (bytes : List ℕ) (old : Tables) : Type 0 where
   pub port : Port
