@@ -1,5 +1,5 @@
 -- A packet that came whole makes the step of its entry.
-use Rattle.std.proofs.Common.{ℕ, ◌≡◌, ◌<◌, ◌≤◌, Bool, true, false, cond, List, [], ◌∷◌, ◌++◌, length, drop, Option, Some, None, Ok, refl, sym, ◌∙◌, ap, subst, arith, inl}
+use Rattle.std.proofs.Common.{ℕ, ◌^◌, ◌≡◌, ◌<◌, ◌≤◌, Bool, true, false, cond, List, [], ◌∷◌, ◌++◌, length, drop, Option, Some, None, refl, sym, ◌∙◌, ap, subst, arith, inl}
 use Rattle.std.specs.Prelude.{◌&&◌, not, is_some}
 use Rattle.std.proofs.lemmas.List.{append-nil, length-drop}
 use Rattle.std.specs.List.{All}
@@ -9,10 +9,10 @@ use Rattle.adb_wire.specs.declared.headers.Head.{Head}
 use Rattle.adb_wire.specs.declared.headers.TheConstants.{HEADER_LEN, MAX_PAYLOAD}
 use Rattle.adb_wire.specs.declared.packets.Packet.{Packet}
 use Rattle.adb_wire.specs.declared.format.PacketFormat.{PacketFormat}
-use Rattle.adb_wire.specs.Header.{IsBytes, IsHead, byte_sum_of, header_bytes}
+use Rattle.adb_wire.specs.Header.{IsBytes, IsHead, header_bytes}
 use Rattle.adb_wire.specs.Packet.{spelling}
-use Rattle.adb_wire.specs.Format.{packet_of, packet_under, packet_with, may_carry, is_cnxn, has_sums}
-use Rattle.adb_wire.specs.Cutting.{Begins, cut_packets}
+use Rattle.adb_wire.specs.Format.{packet_of, packet_under, packet_with, is_cnxn, has_sums}
+use Rattle.adb_wire.specs.Cutting.{Begins}
 use Rattle.adb_wire.specs.Deframing.{Deframing, no_bytes}
 use Rattle.adb_wire.proofs.HeaderLaws.{head_spelled, head_reads}
 use Rattle.adb_wire.proofs.CuttingLaws.{behind_push, spells_cut}
@@ -77,6 +77,10 @@ stands_alone head bytes are w plain =
     ∙ ap (λ (q : Packet). record no_bytes { given = q ∷ [] }) (whole_packet head bytes w))
 
 -- ---- on a link to which nothing was fed
+-- its entry is in range
+pub whole_in_range : (link : ℕ) (bytes : List ℕ) → link < 2 ^ 32 → IsBytes bytes → IsInRange (Recv link bytes)
+whole_in_range link bytes number are = record { owner = number; port = tt; bytes = are }
+
 -- A packet that stands alone came on a link that holds nothing.
 pub record ComesAlone (link : ℕ) (bytes : List ℕ) (old : Tables) : Type 0 where
   pub port : Port

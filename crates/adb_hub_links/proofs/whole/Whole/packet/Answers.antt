@@ -1,5 +1,5 @@
-use Rattle.std.proofs.Common.{◌≡◌, ◌≤◌, ◌∙◌, drop, length, ap, sym, subst, arith}
-use Rattle.adb_wire.specs.declared.headers.TheConstants.{HEADER_LEN, MAX_PAYLOAD}
+use Rattle.std.proofs.Common.{◌≡◌, ◌∙◌, drop, length, ap, arith}
+use Rattle.adb_wire.specs.declared.headers.TheConstants.{HEADER_LEN}
 use Rattle.adb_wire.specs.Format.{packet_of, packet_under}
 use Rattle.adb_hub_links.proofs.Wholes.{whole_packet, whole_size}
 use Rattle.adb_hub_links.proofs.whole.Whole.packet.Goals as goal
