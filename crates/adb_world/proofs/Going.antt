@@ -14,7 +14,7 @@ use Rattle.adb_laws_steps.specs.Moved.{AreSteps}
 use Rattle.adb_laws_steps.proofs.Moved.{steps_both}
 use Rattle.adb_world.specs.Calls.{HasNone}
 use Rattle.adb_world.specs.Parts.{Holds, IsKeptAt, IsRunning, Moved, Moves}
-use Rattle.adb_world.specs.Settled.{Anything, Goes, GoesOn, GrowsFrom, HasMade, NoneDown, NoneHanded, NoneUp, NoneWritten, Rests}
+use Rattle.adb_world.specs.Settled.{Anything, Goes, GoesOn, GrowsFrom, HasMade, HasMoved, NoneDown, NoneHanded, NoneUp, NoneWritten, Rests}
 use Rattle.adb_world.specs.Session.{left_of}
 use Rattle.adb_world.specs.declared.parts.Parts.{Parts}
 use Rattle.adb_world.specs.declared.session.Session.{Session}
@@ -124,6 +124,19 @@ goes_further old mid new first more = record {
 pub made_none : (parts : Parts) → IsRunning parts → HasMade 0 parts parts
 unfolding stays_here
 made_none parts runs = record { goes = stays_here parts runs; counted = refl }
+
+-- of the hub alone
+pub has_moved : (n : ℕ) (old new : Parts) → IsRunning old → HasMade n old new → HasMoved n old.hub new.hub
+has_moved n old new runs made =
+    let grown = made.goes.grows runs.history runs.holds in
+    record {
+      before = runs.history;
+      held = runs.holds.lawful;
+      more = grown.more;
+      moves = grown.moves;
+      counted = grown.counted ∙ made.counted;
+      holds = grown.holds.lawful;
+    }
 
 pub made_more : (n : ℕ) (old mid new : Parts) → HasMade n old mid → HasMade 1 mid new → HasMade (n + 1) old new
 unfolding goes_further

@@ -6,7 +6,7 @@ use Rattle.adb_capture.specs.declared.entry.Entry.TheVariants.{End as Ends}
 use Rattle.adb_stream.specs.declared.row.Stream.{Stream}
 use Rattle.adb_stream.specs.Flow.{is_idle, to_hand}
 use Rattle.adb_history.specs.Rows.{Client, Link}
-use Rattle.adb_history.specs.Kept.{Kept}
+use Rattle.adb_history.specs.Kept.{Kept, IsLawful}
 use Rattle.adb_history.specs.Machine.{History, state}
 use Rattle.adb_hub.specs.Answers.{due_on, offered_to}
 use Rattle.adb_daemon.specs.Daemon.{owed}
@@ -114,6 +114,15 @@ pub record GoesOn (old new : Parts) : Type 0 where
 pub record HasMade (n : ℕ) (old new : Parts) : Type 0 where
   pub goes : GoesOn old new
   pub counted : goes.steps ≡ n
+
+-- A hub holds a history that goes on, by so many moves, behind one that it held before.
+pub record HasMoved (steps : ℕ) (old new : Kept) : Type 0 where
+  pub before : History
+  pub held : IsLawful old before
+  pub more : History
+  pub moves : AreSteps before more
+  pub counted : length more ≡ steps
+  pub holds : IsLawful new (more ++ before)
 
 -- A step was made; or none of its kind was possible, and nothing has changed.
 abbrev pub Goes : (Parts → Type 0) → Bool → Parts → Parts → Type 0

@@ -5,7 +5,7 @@ ghost use Rattle.adb_outside.specs.Tables.{at};
 ghost use Rattle.adb_daemon.specs.Daemon.{files_of};
 ghost use Rattle.adb_world.specs.Answered.{AreEchoes, IsAnswered, IsAnsweredAlone, IsNewAlone};
 ghost use Rattle.adb_world.specs.Parts.{IsRunning};
-ghost use Rattle.adb_world.specs.Settled.{Anything, Each, Goes, GoesOn, IsAtEase, IsDone, Rests};
+ghost use Rattle.adb_world.specs.Settled.{Anything, Each, Goes, GoesOn, HasMade, IsAtEase, IsDone, Rests};
 ghost use Rattle.adb_world.specs.Steps.{most_steps};
 ghost use Rattle.adb_world.specs.declared.session.Session.{Session};
 
@@ -25,6 +25,7 @@ use std::alloc::AllocError;
 pub(crate) fn settle_parts(parts: &mut Parts, seed: u64) -> Result<u64, AllocError>
     requires { IsRunning parts.old }
     ensures goes { OnOk result (GoesOn parts.old parts.new) }
+    ensures made { IfOk result (λ steps. HasMade steps parts.old parts.new) }
     ensures done { OnOk result (IsDone parts.new) }
     ensures answered { OnOk result (Each parts.new.sessions.entries IsAnswered) }
     ensures alone { IsAtEase parts.old → (n : ℕ) (session : Session)

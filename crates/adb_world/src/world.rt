@@ -8,7 +8,7 @@ ghost use Rattle.adb_laws_sessions.specs.Words.{most_service};
 ghost use Rattle.adb_world.specs.Answered.{AreEchoes, IsAnswered, IsAnsweredAlone, IsNewAlone, answer_of};
 ghost use Rattle.adb_world.specs.Parts.{AreSame, most_sessions};
 ghost use Rattle.adb_world.specs.Session.{new_session};
-ghost use Rattle.adb_world.specs.Settled.{Each, IsCounted, IsSettled};
+ghost use Rattle.adb_world.specs.Settled.{Each, HasMoved, IsCounted, IsSettled};
 ghost use Rattle.adb_world.specs.Steps.{most_steps};
 ghost use Rattle.adb_world.specs.World.{HasStarted};
 ghost use Rattle.adb_world.specs.declared.session.Session.{Session};
@@ -193,7 +193,7 @@ impl World {
 }
 
 /// Moves bytes, in pieces and between sides that the seed picks, until none can move, and gives the
-/// number of steps: at most 64 for each byte of the sessions' services, of their texts and of what
+/// number of steps, each of which is an entry of the hub's history: at most 64 for each byte of the sessions' services, of their texts and of what
 /// they were handed, 1,024 for each session, and 1,024. After want of memory the world is spent.
 pub fn settle(world: &mut World, seed: u64) -> Result<u64, AllocError>
     ensures settled { OnOk result (IsSettled world.new) }
@@ -206,6 +206,7 @@ pub fn settle(world: &mut World, seed: u64) -> Result<u64, AllocError>
         → OnOk result (IsAnsweredAlone session world.old.files world.new.files) }
     ensures files { AreEchoes world.old.sessions
         → OnOk result (world.new.files ≡ world.old.files) }
+    ensures moved { IfOk result (λ steps. HasMoved steps world.old.hub world.new.hub) }
     ensures steps { IfOk result (λ steps. steps ≤ most_steps world.new.sessions) }
     ensures rests { OnOk result (world.new.settled ≡ true) }
     ensures whole { OnOk result (world.new.spent ≡ false) }

@@ -49,3 +49,8 @@ pub loop-steps-preserved : goal.loop-steps-preserved
 loop-steps-preserved c =
     made_more c.loop-steps.steps c.args.parts.now c.loop-steps.parts c.step.new.parts c.loop-steps.invariant
     (subst (λ (b : Bool). Goes Rests b c.loop-steps.parts c.step.new.parts) c.if-not-branch.false c.in_ok-step.ensures)
+
+pub returns-then-not-branch-clause-made : goal.returns-then-not-branch-clause-made
+returns-then-not-branch-clause-made c =
+    let goes = subst (λ (b : Bool). Goes Rests b c.loop-steps.parts c.step.new.parts) c.if-not-branch.true c.in_ok-step.ensures in
+    subst (λ (parts : Parts). HasMade c.loop-steps.steps c.args.parts.now parts) (sym goes.0) c.loop-steps.invariant

@@ -1,8 +1,10 @@
 use Rattle.std.proofs.Common.{◌∙◌, sym, ap, subst}
 use Rattle.adb_daemon.specs.Daemon.{files_of}
 use Rattle.adb_world.specs.Answered.{AreEchoes, IsAnsweredAlone, IsNewAlone}
+use Rattle.adb_world.specs.Settled.{HasMoved}
 use Rattle.adb_world.specs.World.{View}
 use Rattle.adb_world.proofs.Finishing.{ease_of}
+use Rattle.adb_world.proofs.Going.{has_moved}
 use Rattle.adb_world.proofs.world.settle.Goals as goal
 
 pub returns-in-Ok-clause-counted : goal.returns-in-Ok-clause-counted
@@ -25,3 +27,9 @@ returns-in-Ok-clause-files c echoes =
 pub returns-in-Ok-clause-steps : goal.returns-in-Ok-clause-steps
 returns-in-Ok-clause-steps c =
     c.in-Ok.ensures.steps (ease_of c.world.inside.spent c.world.inside.settled c.world.inside.parts c.if-world.false c.world.invariant)
+
+pub returns-in-Ok-clause-moved : goal.returns-in-Ok-clause-moved
+returns-in-Ok-clause-moved c =
+    let ease = ease_of c.world.inside.spent c.world.inside.settled c.world.inside.parts c.if-world.false c.world.invariant in
+    subst (λ (w : View). HasMoved c.in-Ok.value w.hub c.settle_parts.new.parts.hub) c.world.view_is
+    (has_moved c.in-Ok.value c.world.inside.parts c.settle_parts.new.parts ease.runs c.in-Ok.ensures.made)
