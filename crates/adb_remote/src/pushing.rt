@@ -39,10 +39,17 @@ fn begun(alloc: Global, path: &[u8]) -> Result<Text, AllocError>
     requires { length path.now ≤ MAX_WORD }
     ensures { IfOk result (λ text. text ≡ ask_bytes (SyncAsk.Send path.now (decimal FILE_MODE))) }
 {
-    let mut digits = Buffer::new();
-    let mode = Text::from_slice(alloc, digits.format(FILE_MODE).as_bytes())?;
+    let mode = decimal_mode(alloc)?;
     let path = Text::from_slice(alloc, path)?;
     spelled(alloc, &SyncAsk::Send { path, mode })
+}
+
+/// The decimal digits of the mode of a file.
+fn decimal_mode(alloc: Global) -> Result<Text, AllocError>
+    ensures { IfOk result (λ text. text ≡ decimal FILE_MODE) }
+{
+    let mut digits = Buffer::new();
+    Text::from_slice(alloc, digits.format(FILE_MODE).as_bytes())
 }
 
 /// The end of a file that has a time.
