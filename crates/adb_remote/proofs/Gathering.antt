@@ -1,7 +1,6 @@
 -- Bytes are gathered off the front of those that are left.
-use Rattle.std.proofs.Common.{ℕ, ◌+◌, ◌≡◌, ◌≢◌, ◌≤◌, ◌<◌, List, [], ◌∷◌, ◌++◌, length, take, drop, refl, sym, ◌∙◌, ap, arith, append_assoc}
+use Rattle.std.proofs.Common.{ℕ, ◌+◌, ◌≡◌, ◌≤◌, List, ◌++◌, length, take, drop, refl, sym, ◌∙◌, ap, arith, append_assoc}
 use Rattle.std.proofs.lemmas.List.{length-append, take-append-drop}
-use Rattle.adb_remote.proofs.Writes.{some_there}
 
 -- a front and what is behind it
 lengths : (left front : List ℕ) → take (length front) left ≡ front → length front + length (drop (length front) left) ≡ length left
@@ -11,11 +10,6 @@ lengths left front starts =
 
 pub front_within : (left front : List ℕ) → take (length front) left ≡ front → length front ≤ length left
 front_within left front starts = omega (arith, lengths left front starts)
-
-pub front_less : (left front after : List ℕ) → take (length front) left ≡ front → (left ≢ [] → front ≢ []) → after ≡ drop (length front) left → left ≢ []
-    → length after < length left
-front_less left front after starts some is there =
-    omega (arith, lengths left front starts, some_there front (some there), ap (length {A = ℕ}) is)
 
 pub front_gathered : (held left front new after : List ℕ) → take (length front) left ≡ front → new ≡ held ++ front → after ≡ drop (length front) left
     → new ++ after ≡ held ++ left

@@ -186,7 +186,7 @@ module _ {A : Type 0} (steady : A → Type 0) (view : A → Outlet) where
   none_there (byte ∷ left) [] some empty = absurd (some (λ e. cc) refl)
   none_there (byte ∷ left) (b ∷ out) some empty = absurd (let size = eqb-true (length (b ∷ out)) 0 empty in omega (arith, size))
 
-  pub some_there : (front : List ℕ) → front ≢ [] → 0 < length front
+  some_there : (front : List ℕ) → front ≢ [] → 0 < length front
   some_there [] some = absurd (some refl)
   some_there (byte ∷ front) some = omega arith
 
