@@ -1,3 +1,5 @@
+mod Gathering
+mod Modes
 mod Pieces
 mod Talks
 mod Writes

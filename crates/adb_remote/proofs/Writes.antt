@@ -2,7 +2,7 @@
 use Rattle.std.proofs.Common.{ℕ, zero, suc, ◌+◌, ◌-◌, ◌≡◌, ◌≢◌, ◌≤◌, ◌<◌, inl, inr, Bool, List, [], ◌∷◌, ◌++◌, length, take, drop, Option, Some, Result, Ok, Err, refl, sym, ◌∙◌, ap, subst, arith, append_assoc}
 use Rattle.std.specs.Prelude.{⊤, ◌==◌, true}
 use Rattle.std.proofs.lemmas.Bool.{eqb-true}
-use Rattle.std.proofs.lemmas.List.{append-nil, length-append, take-append-drop}
+use Rattle.std.proofs.lemmas.List.{append-nil, take-append-drop}
 use Rattle.adb_outside.specs.Outside.{Rises, Counts}
 use Rattle.adb_outside.specs.Sink.{TellsWrite, is_failed_write}
 use Rattle.adb_outside.specs.declared.sink.Wrote.{Wrote}
@@ -11,7 +11,7 @@ use Rattle.adb_remote_words.specs.declared.remote.Remote.{Remote}
 use Rattle.adb_remote_words.specs.Words.{word, words_to}
 use Rattle.adb_remote.specs.declared.sending.SendError.{SendError}
 use Rattle.adb_remote.specs.declared.sending.SendError.TheVariants.{PortFault, OutOfMemory}
-use Rattle.adb_remote.specs.Sending.{Outlet, seen, Sends, SaysTo, SendsFront}
+use Rattle.adb_remote.specs.Sending.{Outlet, seen, Sends, SaysTo, SendsPart}
 
 pub rises_later : (a b c : ℕ) → a ≤ b → Rises b c → Rises a c
 rises_later a b c le (inl lt) = inl (omega (arith, le, lt))
@@ -190,45 +190,54 @@ module _ {A : Type 0} (steady : A → Type 0) (view : A → Outlet) where
   some_there [] some = absurd (some refl)
   some_there (byte ∷ front) some = omega arith
 
-  pub front_sent : (before after front : List ℕ) (old new : A) (answer : Result ⊤ SendError) → take (length front) before ≡ front
-      → (before ≢ [] → front ≢ []) → S front old new answer → (answer ≡ Ok tt → after ≡ drop (length front) before)
-      → SendsFront steady view before after old new answer
-  front_sent before after front old new answer starts some sends left = record {
-    front = front;
-    rest = drop (length front) before;
-    split = ap (λ f. f ++ drop (length front) before) (sym starts) ∙ take-append-drop (length front) before;
-    sends = sends;
-    left = left;
-    less = λ there. some_there front (some there);
-  }
+  -- the text that is left is all of it
+  pub part_begun : (text left : List ℕ) (o : A) → left ≡ text → SendsPart steady view text left o o
+  part_begun text left o is = record { gone = []; all = is; sends = sends_nothing o }
 
-  -- the first of a text were written
-  pub record LeftSo (text left : List ℕ) (old now : A) : Type 0 where
-    pub gone : List ℕ
-    pub all : gone ++ left ≡ text
-    pub sends : S gone old now (Ok tt)
+  pub part_sent : (text left : List ℕ) (old new : A) → left ≡ [] → S text old new (Ok tt) → SendsPart steady view text left old new
+  part_sent text left old new none s = record { gone = text; all = ap (λ t. text ++ t) none ∙ append-nil text; sends = s }
 
-  pub left_none : (text : List ℕ) (o : A) → LeftSo text text o o
-  left_none text o = record { gone = []; all = refl; sends = sends_nothing o }
+  module _ (text left : List ℕ) (old mid : A) (h : SendsPart steady view text left old mid) where
+    -- what is left is written
+    pub part_then : (new : A) (answer : Result ⊤ SendError) → S left mid new answer → S text old new answer
+    part_then new answer s = subst (λ t. S t old new answer) h.all (sends_then h.gone left old mid new answer h.sends s)
 
-  module _ (text left after : List ℕ) (old mid new : A) (h : LeftSo text left old mid) where
-    pub left_one : SendsFront steady view left after mid new (Ok tt) → LeftSo text after old new
-    left_one f = record {
-      gone = h.gone ++ f.front;
-      all = append_assoc h.gone f.front after ∙ (ap (λ t. h.gone ++ (f.front ++ t)) (f.left refl) ∙ (ap (λ t. h.gone ++ t) f.split ∙ h.all));
-      sends = sends_then h.gone f.front old mid new (Ok tt) h.sends f.sends;
+    -- memory ran out before what is left, and more behind it
+    pub part_starved : (more : List ℕ) → S (text ++ more) old mid (Err OutOfMemory)
+    part_starved more = sends_stopped text more old mid OutOfMemory (part_then mid (Err OutOfMemory) (sends_starved left mid))
+
+    -- a part of what is left is written
+    pub part_on : (after : List ℕ) (new : A) → SendsPart steady view left after mid new → SendsPart steady view text after old new
+    part_on after new p = record {
+      gone = h.gone ++ p.gone;
+      all = append_assoc h.gone p.gone after ∙ (ap (λ t. h.gone ++ t) p.all ∙ h.all);
+      sends = sends_then h.gone p.gone old mid new (Ok tt) h.sends p.sends;
     }
 
-    pub left_not : (error : SendError) → SendsFront steady view left after mid new (Err error) → S text old new (Err error)
-    left_not error f =
-        let all : (h.gone ++ f.front) ++ f.rest ≡ text = append_assoc h.gone f.front f.rest ∙ (ap (λ t. h.gone ++ t) f.split ∙ h.all) in
-        subst (λ t. S t old new (Err error)) all
-        (sends_stopped (h.gone ++ f.front) f.rest old new error (sends_then h.gone f.front old mid new (Err error) h.sends f.sends))
+    -- more is gathered behind what is left
+    pub part_behind : (more after : List ℕ) → after ≡ left ++ more → SendsPart steady view (text ++ more) after old mid
+    part_behind more after is = record {
+      gone = h.gone;
+      all = ap (λ t. h.gone ++ t) is ∙ (sym (append_assoc h.gone left more) ∙ ap (λ t. t ++ more) h.all);
+      sends = h.sends;
+    }
 
-    pub left_less : left ≢ [] → SendsFront steady view left after mid new (Ok tt) → length after < length left
-    left_less some f = omega (arith, f.less some, ap (length {A = ℕ}) (f.left refl), ap (length {A = ℕ}) f.split, length-append f.front f.rest)
+    -- the rest of what is left is none
+    pub part_held : (held rest : List ℕ) → left ≡ held ++ rest → rest ≡ [] → SendsPart steady view text held old mid
+    part_held held rest is none = record {
+      gone = h.gone;
+      all = ap (λ t. h.gone ++ t) (sym (is ∙ (ap (λ t. held ++ t) none ∙ append-nil held))) ∙ h.all;
+      sends = h.sends;
+    }
 
-  pub left_all : (text left : List ℕ) (old now : A) → left ≡ [] → LeftSo text left old now → S text old now (Ok tt)
-  left_all text left old now none h =
-      let all : h.gone ≡ text = sym (append-nil h.gone) ∙ (ap (λ t. h.gone ++ t) (sym none) ∙ h.all) in
-      subst (λ t. S t old now (Ok tt)) all h.sends
+  -- what is held, bytes, and what stands behind them
+  pub around_sent : (head bytes end held : List ℕ) (old mid new : A) (answer : Result ⊤ SendError) → SendsPart steady view (head ++ bytes) held old mid
+      → S (held ++ end) mid new answer → S (head ++ (bytes ++ end)) old new answer
+  around_sent head bytes end held old mid new answer h s =
+      let more = part_behind (head ++ bytes) held old mid h end (held ++ end) refl in
+      subst (λ t. S t old new answer) (append_assoc head bytes end) (part_then ((head ++ bytes) ++ end) (held ++ end) old mid more new answer s)
+
+  pub around_stopped : (head bytes end : List ℕ) (old new : A) (error : SendError) → S (head ++ bytes) old new (Err error)
+      → S (head ++ (bytes ++ end)) old new (Err error)
+  around_stopped head bytes end old new error s =
+      subst (λ t. S t old new (Err error)) (append_assoc head bytes end) (sends_stopped (head ++ bytes) end old new error s)

@@ -1,5 +1,5 @@
 -- What is written to a port.
-use Rattle.std.specs.Prelude.{ℕ, ◌≡◌, ◌≢◌, ◌≤◌, ◌<◌, Bool, List, [], ◌++◌, length, Option, Some, Result, Ok, Err, ⊤}
+use Rattle.std.specs.Prelude.{ℕ, ◌≡◌, ◌≢◌, ◌≤◌, Bool, List, ◌++◌, Option, Some, Result, Ok, Err, ⊤}
 use Rattle.adb_outside.specs.Bytes.{IsPrefixOf}
 use Rattle.adb_outside.specs.Outside.{Rises}
 use Rattle.adb_remote_words.specs.declared.remote.Remote.{Remote}
@@ -45,12 +45,13 @@ pub record SaysTo {A : Type 0} (steady : A → Type 0) (view : A → Outlet) (jo
   pub same : from ≤ to → words_to job on from ++ text ≡ words_to job on to
   pub sends : Sends steady view text old new answer
 
--- The first bytes of those that are left were written: some, where some are.
-pub record SendsFront {A : Type 0} (steady : A → Type 0) (view : A → Outlet) (before after : List ℕ) (old new : A) (answer : Result ⊤ SendError)
-    : Type 0 where
-  pub front : List ℕ
-  pub rest : List ℕ
-  pub split : front ++ rest ≡ before
-  pub sends : Sends steady view front old new answer
-  pub left : answer ≡ Ok tt → after ≡ rest
-  pub less : before ≢ [] → 0 < length front
+-- The first of a text were written, and these are left.
+pub record SendsPart {A : Type 0} (steady : A → Type 0) (view : A → Outlet) (text left : List ℕ) (old new : A) : Type 0 where
+  pub gone : List ℕ
+  pub all : gone ++ left ≡ text
+  pub sends : Sends steady view gone old new (Ok tt)
+
+-- A text was written but for what is left, unless a call failed.
+abbrev pub SendsSome : {A : Type 0} (steady : A → Type 0) (view : A → Outlet) (text left : List ℕ) (old new : A) → Result ⊤ SendError → Type 0
+SendsSome steady view text left old new (Ok done) = SendsPart steady view text left old new
+SendsSome steady view text left old new (Err error) = Sends steady view text old new (Err error)

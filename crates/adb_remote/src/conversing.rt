@@ -19,8 +19,9 @@ use adb_sync_client::Step;
 use std::alloc::Global;
 use std::sync::Wait;
 
-/// The most bytes that are read at once.
-pub const MAX_PIECE: usize = 65_536;
+/// The most bytes that are read at once: four whole chunks of a file, with their headers. Reads that
+/// are filled then end where chunks end, and none of these has to be gathered.
+pub const MAX_PIECE: usize = 262_176;
 
 /// Asks a server for a job, on the device of a serial where there is one, and tells what it was
 /// answered. It sleeps in the reads and writes of the port; each byte is looked at once, and lists

@@ -3,6 +3,7 @@
 #![tactic(auto)]
 
 mod conversing;
+mod pushing;
 mod saying;
 mod sending;
 mod turning;

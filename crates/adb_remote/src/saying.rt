@@ -2,14 +2,15 @@
 
 ghost use Rattle.std.specs.Prelude.{◌≡◌, ◌≤◌, ◌<◌, ◌++◌, option_map, length, IfSome};
 ghost use Rattle.adb_remote_words.specs.Words.{HasWords, second_word, third_word, word};
-ghost use Rattle.adb_remote.specs.Sending.{SaysTo, Sends, SendsFront, seen};
+ghost use Rattle.adb_remote.specs.Sending.{SaysTo, Sends, seen};
 
+use crate::pushing::send_push;
 use crate::sending::{SendError, send};
 use adb_connections::PortOut;
 use adb_outside::Text;
-use adb_remote_words::{FILE_MODE, MAX_WORD, Remote, first_word, second_word};
+use adb_remote_words::{MAX_WORD, Remote, first_word, second_word};
 use adb_shell::write_packet;
-use adb_sync_client::{Pull, Push};
+use adb_sync_client::Pull;
 use std::alloc::Global;
 
 /// The id of the packet that ends a command's input.
@@ -94,8 +95,7 @@ fn say_third<O: PortOut>(alloc: Global, job: &Remote, output: &mut O) -> Result<
     match job {
         Remote::Devices | Remote::Wait { .. } => Ok(()),
         Remote::Push { path, mtime, bytes } => {
-            let push = Push::new(alloc, path.as_slice(), FILE_MODE, *mtime, bytes.as_slice())?;
-            send_push(push, output)
+            send_push(alloc, path.as_slice(), *mtime, bytes.as_slice(), output)
         }
         Remote::Pull { path } => {
             let pull = Pull::new(alloc, path.as_slice())?;
@@ -106,35 +106,5 @@ fn say_third<O: PortOut>(alloc: Global, job: &Remote, output: &mut O) -> Result<
             write_packet(alloc, CLOSE_STDIN, b"", &mut packet)?;
             send(output, packet.as_slice())
         }
-    }
-}
-
-/// Writes all the bytes of a push.
-fn send_push<O: PortOut>(push: Push, output: &mut O) -> Result<(), SendError>
-    ensures { Sends O.steady (seen O.faults O.written O.closed) push.left output.old output.new
-        result }
-{
-    let mut push = push;
-    while !push.out().is_empty() {
-        if let Err(error) = send_front(&mut push, output) {
-            return Err(error);
-        }
-    }
-    Ok(())
-}
-
-/// Writes the first bytes of a push that are left.
-fn send_front<O: PortOut>(push: &mut Push, output: &mut O) -> Result<(), SendError>
-    ensures { SendsFront O.steady (seen O.faults O.written O.closed) push.old.left
-        push.new.left output.old output.new result }
-{
-    let front = push.out();
-    let size = front.len();
-    match send(output, front) {
-        Ok(()) => {
-            push.taken(size);
-            Ok(())
-        }
-        Err(error) => Err(error),
     }
 }
