@@ -137,7 +137,8 @@ module _ {A : Type 0} (words : List (String A)) (read_rose write_rose : Type 0) 
     pub check_notes : IsCheck words → NotesBy status (IsCheckLine read_rose write_rose left) rose again had after → NotesBy status hand rose again had after
     check_notes check n = notes_as (IsCheckLine read_rose write_rose left) hand (check_hand check) status rose again had after n
 
-    pub script_notes : (kind : ScriptKind) → IsOfKind kind words → NotesBy status (IsScriptLine kind read_rose write_rose left) rose again had after → NotesBy status hand rose again had after
+    pub script_notes : (kind : ScriptKind) → IsOfKind kind words → NotesBy status (IsScriptLine kind read_rose write_rose left) rose again had after
+        → NotesBy status hand rose again had after
     script_notes kind script n = notes_as (IsScriptLine kind read_rose write_rose left) hand (script_hand kind script) status rose again had after n
 
     pub load_notes : NotesBy status (IsLoadLine write_rose) rose again had after → NotesBy status hand rose again had after

@@ -29,7 +29,8 @@ read_stop_writes stop.WriteFault e = absurd e
 read_stop_writes stop.OutOfMemory e = refl
 read_stop_writes (stop.BadLine line) e = absurd e
 
-pub read_stop_out : (kind : ScriptKind) (why : ScriptStop) (script had : List ℕ) (written : Option (List ℕ)) → IsReadStop why → written ≡ Some had → StopsOut kind why script had written
+pub read_stop_out : (kind : ScriptKind) (why : ScriptStop) (script had : List ℕ) (written : Option (List ℕ)) → IsReadStop why
+    → written ≡ Some had → StopsOut kind why script had written
 read_stop_out kind stop.ReadFault script had written e is = is
 read_stop_out kind stop.WriteFault script had written e is = absurd e
 read_stop_out kind stop.OutOfMemory script had written e is = is
@@ -47,14 +48,16 @@ run_stop_writes stop.WriteFault e = absurd e
 run_stop_writes stop.OutOfMemory e = refl
 run_stop_writes (stop.BadLine line) e = refl
 
-pub run_stop_out : (kind : ScriptKind) (why : ScriptStop) (script had : List ℕ) (written : Option (List ℕ)) → IsRunStop why → written ≡ Some had → StopsOut kind why script had written
+pub run_stop_out : (kind : ScriptKind) (why : ScriptStop) (script had : List ℕ) (written : Option (List ℕ)) → IsRunStop why
+    → written ≡ Some had → StopsOut kind why script had written
 run_stop_out kind stop.ReadFault script had written e is = absurd e
 run_stop_out kind stop.WriteFault script had written e is = absurd e
 run_stop_out kind stop.OutOfMemory script had written e is = is
 run_stop_out kind (stop.BadLine line) script had written e is = is
 
 -- the sink failed over the answer lines
-pub lines_lost : (kind : ScriptKind) (script text had : List ℕ) (written : Option (List ℕ)) → answer_lines kind script ≡ Some text → (piece : List ℕ) (taken : ℕ) → piece ≡ text
+pub lines_lost : (kind : ScriptKind) (script text had : List ℕ) (written : Option (List ℕ)) → answer_lines kind script ≡ Some text
+    → (piece : List ℕ) (taken : ℕ) → piece ≡ text
     → written ≡ Some (had ++ take taken piece) → LosesLines kind script had written
 lines_lost kind script text had written answers piece taken same is =
     record { text = text; answers = answers; front = part_out text piece had taken written same is }
@@ -225,7 +228,8 @@ read_rises why e = ap is_read_stop e
 pub write_rises : (why : ScriptStop) → why ≡ stop.WriteFault → is_write_stop why ≡ true
 write_rises why e = ap is_write_stop e
 
-pub line_named : (kind : ScriptKind) (why : ScriptStop) (script had : List ℕ) (line : ℕ) (after : Option (List ℕ)) → why ≡ stop.BadLine line → RefusesBy why (first_bad kind script)
+pub line_named : (kind : ScriptKind) (why : ScriptStop) (script had : List ℕ) (line : ℕ) (after : Option (List ℕ)) → why ≡ stop.BadLine line
+    → RefusesBy why (first_bad kind script)
     → after ≡ Some (had ++ bad_script_line line) → IsLineNamed kind script had after
 line_named kind why script had line after is refuses named = record {
   line = line;

@@ -68,4 +68,5 @@ pub record RunsAlone {A S K N : Type 0} (words : List (String A)) (status : Stat
   pub makes : (seed streams : ℕ) → IsLoad seed streams words → ¬ Rose k.faults sink sink_new → ¬ Rose n.faults note note_new
       → (status ≡ Done) ⊎ (status ≡ OutOfMemory)
   pub runs : (seed : ℕ) → IsLocal seed words → NoneRose s k n source source_new sink sink_new note note_new → CompletesScript kinds.Local status (s.told source)
-  pub runs_copy : (seed : ℕ) → IsCopy seed words → NoneRose s k n source source_new sink sink_new note note_new → CompletesScript kinds.Copy status (s.told source)
+  pub runs_copy : (seed : ℕ) → IsCopy seed words → NoneRose s k n source source_new sink sink_new note note_new
+      → CompletesScript kinds.Copy status (s.told source)

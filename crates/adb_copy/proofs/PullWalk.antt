@@ -14,7 +14,7 @@ use Rattle.adb_files.specs.Listing.{dirent_of, listing, part_at, rest_below, sho
 use Rattle.adb_files.specs.Paths.{is_path, is_below, inside}
 use Rattle.adb_files.proofs.Rising.{entry_of}
 use Rattle.adb_copy.specs.declared.found.Found.{Found}
-use Rattle.adb_copy.specs.Pulling.{HaveTimes, directories}
+use Rattle.adb_copy.specs.Pulling.{directories}
 use Rattle.adb_copy.specs.Trees.{AreCopied, IsCopied}
 use Rattle.adb_copy.specs.Waiting.{IsFile, IsThere, Walks, owed, reaches, root, waits}
 use Rattle.adb_copy.proofs.PullAnswers.{HasWords}
@@ -128,8 +128,8 @@ module _ (files : List Entry) (ok : IsFileMap files) (all : AreCopied files) whe
   found_file found (inl is) mode = absurd (mode (omega (arith, is.mode)))
   found_file found (inr is) mode = is
 
-  entry_words : HaveTimes files → (directory : List ℕ) (s : Shown) → IsShownBy directory files s → HasWords (dirent_of s)
-  entry_words times directory s h = go (slash_in (rest_below directory h.entry.path)) refl
+  entry_words : (directory : List ℕ) (s : Shown) → IsShownBy directory files s → HasWords (dirent_of s)
+  entry_words directory s h = go (slash_in (rest_below directory h.entry.path)) refl
     where
       e : Entry
       e = h.entry
@@ -138,7 +138,7 @@ module _ (files : List Entry) (ok : IsFileMap files) (all : AreCopied files) whe
       c = all_among IsCopied e files copied h.among
 
       time : e.file.mtime < 2 ^ 32
-      time = all_among (λ (x : Entry). x.file.mtime < 2 ^ 32) e files (recursion_from_All (λ (x : Entry). x.file.mtime < 2 ^ 32) files times) h.among
+      time = all_among (λ (x : Entry). x.file.mtime < 2 ^ 32) e files (recursion_from_All (λ (x : Entry). x.file.mtime < 2 ^ 32) files ok.times) h.among
 
       name_short : length s.0 ≤ 1000
       name_short =
@@ -169,15 +169,15 @@ module _ (files : List Entry) (ok : IsFileMap files) (all : AreCopied files) whe
             omega (arith, ap (λ (st : Stat). st.mtime) stat),
           )
 
-  pub listing_words : HaveTimes files → (directory : List ℕ) → AllByRecursion HasWords (listing directory files)
-  listing_words times directory = go (is_path directory)
+  pub listing_words : (directory : List ℕ) → AllByRecursion HasWords (listing directory files)
+  listing_words directory = go (is_path directory)
     where
       each : AllByRecursion HasWords (map dirent_of (shown_in directory files))
       each = all_dirents (shown_in directory files) (shown_alone directory files)
         where
           all_dirents : (ss : List Shown) → AllByRecursion (IsShownBy directory files) ss → AllByRecursion HasWords (map dirent_of ss)
           all_dirents [] all = tt
-          all_dirents (s ∷ ss) all = (entry_words times directory s all.0, all_dirents ss all.1)
+          all_dirents (s ∷ ss) all = (entry_words directory s all.0, all_dirents ss all.1)
 
       go : (t : Bool) → AllByRecursion HasWords (cond t (map dirent_of (shown_in directory files)) [])
       go true = each

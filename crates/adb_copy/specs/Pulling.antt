@@ -1,11 +1,7 @@
--- What is asked for where the files of a device are pulled: its directories, and then its files, whose times are spelled in 32 bits.
-use Rattle.std.specs.Prelude.{ℕ, ◌^◌, ◌==◌, ◌<◌, if◌then◌else◌, List, [], ◌∷◌, ◌++◌, drop, All, codes, bytes_eq}
+-- What is asked for where the files of a device are pulled: its directories, and then its files.
+use Rattle.std.specs.Prelude.{ℕ, ◌==◌, if◌then◌else◌, List, [], ◌∷◌, ◌++◌, drop, codes, bytes_eq}
 use Rattle.std.specs.List.{flat_map, list_any}
 use Rattle.adb_files.specs.Entries.{Entry}
-
--- the time of each file is one of 32 bits, as all that a device stores
-abbrev pub HaveTimes : List Entry → Type 0
-HaveTimes files = All (λ (entry : Entry). entry.file.mtime < 2 ^ 32) files
 
 -- the directories that a path leads through behind its first bytes
 abbrev pub leading_behind : List ℕ → List ℕ → List (List ℕ)

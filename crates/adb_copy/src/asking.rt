@@ -5,7 +5,6 @@ ghost use Rattle.adb_files.specs.Files.{IsFileMap};
 ghost use Rattle.adb_files.specs.Listing.{listing};
 ghost use Rattle.adb_files.specs.Served.{served};
 ghost use Rattle.adb_copy.specs.Pulled.{Pulls, PullsAtMost};
-ghost use Rattle.adb_copy.specs.Pulling.{HaveTimes};
 ghost use Rattle.adb_copy.specs.Trees.{AreCopied};
 ghost use Rattle.adb_copy.specs.Waiting.{IsDone, IsFile};
 ghost use Rattle.adb_world.specs.Parts.{most_sessions};
@@ -31,7 +30,6 @@ pub fn list(
     requires room { world.old.given < most_sessions }
     requires map { IsFileMap world.old.files }
     requires files { AreCopied world.old.files }
-    requires times { HaveTimes world.old.files }
     requires short { length directory.now ≤ MAX_ASKED_PATH }
     ensures entries { IfOk result (λ entries.
         entries.items ≡ listing directory.now world.old.files) }

@@ -1,20 +1,13 @@
 //! What holds of all trees. Each function does nothing: its contract is the law.
 
 ghost use Rattle.std.specs.Option.{option_or};
-ghost use Rattle.std.specs.Prelude.{◌≡◌, ◌<◌, ◌≤◌, ◌+◌, ◌*◌, ◌^◌, [], List, ℕ, length};
+ghost use Rattle.std.specs.Prelude.{◌≡◌, ◌<◌, ◌≤◌, ◌+◌, ◌*◌, ◌^◌, List, ℕ, length};
 ghost use Rattle.adb_copy.specs.Pulling.{directories};
 ghost use Rattle.adb_copy.specs.Trees.{AreCopied, IsCopied, all_pushed, pushed};
 ghost use Rattle.adb_files.specs.Entries.{Entry};
 ghost use Rattle.adb_files.specs.Files.{IsFileMap, file_at, put_refusal};
 ghost use Rattle.adb_files.specs.Served.{send_by, served};
 ghost use Rattle.adb_sync_client.specs.Texts.{push_text};
-
-/// A device without files takes any tree: no file of it is refused, and behind the push the
-/// device's files are the tree.
-#[tactic(auto, using(crate::proofs::Fitting::all_taken))]
-pub fn new_devices_take_any_tree()
-    ensures { (tree : List Entry) → IsFileMap tree → pushed [] tree ≡ all_pushed tree }
-{}
 
 /// Where no file of a tree was refused, the device has at each path the file of the tree, mode,
 /// time and bytes alike, and at a path that the tree does not have what it had before.

@@ -12,8 +12,6 @@ mod seeds;
 mod sending;
 
 pub use error::CopyError;
-pub use laws::{
-    directories_are_few, files_are_sent_whole, new_devices_take_any_tree, pushed_files_are_in_place,
-};
+pub use laws::{directories_are_few, files_are_sent_whole, pushed_files_are_in_place};
 pub use pulling::pull_tree;
 pub use pushing::push_tree;

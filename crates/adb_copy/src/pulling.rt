@@ -4,7 +4,7 @@ ghost use Rattle.std.specs.Prelude.{◌≡◌, ◌+◌, ◌<◌, ◌≤◌, ◌+
 ghost use Rattle.adb_files.specs.Files.{IsFileMap, put_refusal, with_file};
 ghost use Rattle.adb_files.specs.Listing.{listing};
 ghost use Rattle.adb_copy.specs.Pulled.{Pulls, PullsAtMost};
-ghost use Rattle.adb_copy.specs.Pulling.{HaveTimes, directories};
+ghost use Rattle.adb_copy.specs.Pulling.{directories};
 ghost use Rattle.adb_copy.specs.Trees.{AreCopied};
 ghost use Rattle.adb_copy.specs.Waiting.{IsFile, Walks, found_in, owed};
 ghost use Rattle.adb_world.specs.Parts.{most_sessions};
@@ -22,13 +22,11 @@ use std::alloc::{AllocError, Global};
 
 /// The files of the world's device, asked for as a client does, each time by a session of its own:
 /// a LIST of the root and of each directory that a listing tells of, and a RECV of each file. They
-/// come back entry for entry, and stay as they are. All that was started has to have settled, and
-/// the time of a file has 32 bits, as each that a device stores. After want of memory the world is
-/// spent, or only some sessions were given.
+/// come back entry for entry, and stay as they are. All that was started has to have settled. After
+/// want of memory the world is spent, or only some sessions were given.
 pub fn pull_tree(alloc: Global, world: &mut World, seed: u64) -> Result<Files, AllocError>
     requires settled { world.old.settled ≡ true }
     requires files { AreCopied world.old.files }
-    requires times { HaveTimes world.old.files }
     requires room { world.old.given
         + (length world.old.files + length (directories world.old.files)) ≤ most_sessions }
     ensures tree { IfOk result (λ tree. tree ≡ world.old.files) }
@@ -71,7 +69,6 @@ fn visit(
     requires settled { world.old.settled ≡ true }
     requires map { IsFileMap world.old.files }
     requires files { AreCopied world.old.files }
-    requires times { HaveTimes world.old.files }
     requires walks { Walks world.old.files (pending.old.items ++ found ∷ []) tree.old }
     requires room { world.old.given
         + owed world.old.files (pending.old.items ++ found ∷ []) ≤ most_sessions }
@@ -103,7 +100,6 @@ fn list_found(
     requires room { world.old.given < most_sessions }
     requires map { IsFileMap world.old.files }
     requires files { AreCopied world.old.files }
-    requires times { HaveTimes world.old.files }
     requires short { length found.now.path ≤ 1000 }
     ensures entries { OnOk result (pending.new.items ≡ pending.old.items
         ++ map (found_in found.now.path) (listing found.now.path world.old.files)) }

@@ -12,7 +12,7 @@ ghost use Rattle.adb_world.specs.Parts.{most_sessions};
 
 use crate::error::CopyError;
 use crate::seeds::next_seed;
-use crate::sending::{push_text, read_answer};
+use crate::sending::{file_text, read_answer};
 use adb_files::{File, Files};
 use adb_world::World;
 use rand_core::SeedableRng;
@@ -109,7 +109,7 @@ fn push_file(
     ensures { Pushes (entry_of path.now file.now ∷ []) result world.old world.new }
 {
     has_32_bits(file.mtime);
-    let ask = push_text(alloc, path, file)?;
+    let ask = file_text(alloc, path, file)?;
     let answer = world.sync(seed, ask.as_slice())?;
     read_answer(alloc, path, answer.as_slice())
 }

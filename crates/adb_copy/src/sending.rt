@@ -1,6 +1,6 @@
 //! The text by which a file is sent, and what its answer means.
 
-ghost use Rattle.std.specs.Prelude.{◌≡◌, ◌≢◌, ◌++◌, ◌<◌, ◌≤◌, [], List, ℕ, length, Err, IfOk, OnOk};
+ghost use Rattle.std.specs.Prelude.{◌≡◌, ◌≤◌, List, ℕ, length, Err, IfOk, OnOk};
 ghost use Rattle.adb_copy.specs.Trees.{HasAnswered};
 ghost use Rattle.adb_copy.specs.declared.error.CopyError.TheVariants as errors;
 ghost use Rattle.adb_sync_client.specs.Texts.{push_text};
@@ -11,41 +11,17 @@ ghost use Rattle.adb_sync_client.specs.declared.step.Step.TheVariants as steps;
 use crate::error::CopyError;
 use adb_files::File;
 use adb_outside::Text;
+use adb_script::push_text;
 use adb_sync_client::{Push, Step};
 use std::alloc::{AllocError, Global};
 
-/// The text of a push.
-pub(crate) fn push_text(alloc: Global, path: &[u8], file: &File) -> Result<Text, AllocError>
+/// The text by which a file is sent.
+pub(crate) fn file_text(alloc: Global, path: &[u8], file: &File) -> Result<Text, AllocError>
     requires { length path.now ≤ MAX_ASKED_PATH }
     ensures { IfOk result (λ text. text
         ≡ push_text path.now file.now.mode file.now.mtime file.now.bytes) }
 {
-    let mut push = Push::new(alloc, path, file.mode, file.mtime, file.bytes.as_slice())?;
-    all_out(alloc, &mut push)
-}
-
-/// All the bytes of a push.
-fn all_out(alloc: Global, push: &mut Push) -> Result<Text, AllocError>
-    ensures { IfOk result (λ text. text ≡ push.old.left) }
-{
-    let mut text = Text::new(alloc);
-    while !push.out().is_empty() {
-        take_front(push, &mut text)?;
-    }
-    Ok(text)
-}
-
-/// Takes the first bytes of a push that are left.
-fn take_front(push: &mut Push, text: &mut Text) -> Result<(), AllocError>
-    ensures all { OnOk result (text.new ++ push.new.left ≡ text.old ++ push.old.left) }
-    ensures less { OnOk result (push.old.left ≢ []
-        → length push.new.left < length push.old.left) }
-{
-    let front = push.out();
-    let size = front.len();
-    text.push_slice(front)?;
-    push.taken(size);
-    Ok(())
+    push_text(alloc, path, file.mode, file.mtime, file.bytes.as_slice())
 }
 
 /// What the answer to a push means.

@@ -1,10 +1,10 @@
 -- A tree that went to a device without files and came back.
-use Rattle.std.proofs.Common.{ℕ, ◌+◌, ◌*◌, ◌^◌, ◌≡◌, ◌≢◌, ◌<◌, ◌≤◌, List, [], ◌∷◌, length, Result, Ok, Err, refl, sym, ap, subst, arith}
+use Rattle.std.proofs.Common.{ℕ, ◌+◌, ◌*◌, ◌≡◌, ◌≢◌, ◌≤◌, List, [], ◌∷◌, length, Result, Ok, Err, refl, sym, ap, subst, arith}
 use Rattle.std.specs.Prelude.{All, ⊤}
 use Rattle.std.proofs.lemmas.List.Elements.{All-cons, All-head, All-nil, All-tail}
 use Rattle.adb_files.specs.Entries.{Entry}
 use Rattle.adb_world.specs.Parts.{most_sessions}
-use Rattle.adb_copy.specs.Pulling.{HaveTimes, directories}
+use Rattle.adb_copy.specs.Pulling.{directories}
 use Rattle.adb_copy.specs.Trees.{AreCopied, IsCopied}
 use Rattle.adb_copy.specs.declared.error.CopyError.{CopyError}
 use Rattle.adb_copy.specs.declared.error.CopyError.TheVariants as errors
@@ -30,15 +30,6 @@ all_copied : (files : List Entry) → All IsNamed files → AreCopied files
 all_copied [] all = All-nil IsCopied
 all_copied (entry ∷ files) all =
     All-cons IsCopied entry files (is_copied entry (All-head IsNamed entry files all)) (all_copied files (All-tail IsNamed entry files all))
-
-all_timed : (files : List Entry) → All IsNamed files → HaveTimes files
-all_timed [] all = All-nil (λ (entry : Entry). entry.file.mtime < 2 ^ 32)
-all_timed (entry ∷ files) all =
-    let is = All-head IsNamed entry files all in
-    All-cons (λ (entry : Entry). entry.file.mtime < 2 ^ 32) entry files is.mtime (all_timed files (All-tail IsNamed entry files all))
-
-pub left_timed : (files tree : List Entry) → files ≡ tree → AreNamed tree → HaveTimes files
-left_timed files tree same named = subst HaveTimes (sym same) (all_timed tree named.each)
 
 pub are_copied : (tree : List Entry) → AreNamed tree → AreCopied tree
 are_copied tree named = all_copied tree named.each

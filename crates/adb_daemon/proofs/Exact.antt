@@ -4,7 +4,7 @@ use Rattle.std.proofs.Common.{refl, sym, ◌∙◌, ap, subst, arith, ◌⊎◌,
 use Rattle.std.proofs.lemmas.Bool.{cases_eq, eq-eqb, ne_eqb}
 use Rattle.std.proofs.lemmas.List.{append-nil}
 use Rattle.std.specs.List.Sorted.{IsStrictlySortedBy}
-use Rattle.adb_outside.specs.Tables.{at, IsRising, put_at, without}
+use Rattle.adb_outside.specs.Tables.{at, IsRising, without}
 use Rattle.adb_outside.proofs.TableLaws.{puts_put_at, puts_without}
 use Rattle.adb_wire.specs.Format.{is_cnxn}
 use Rattle.adb_wire.specs.declared.command.Command.{Command}
@@ -21,9 +21,9 @@ use Rattle.adb_device_streams.specs.Stream.{unsent, is_done, okay, clse, opening
 use Rattle.adb_device_streams.specs.Link.{credit_word_in, link_of}
 use Rattle.adb_device_streams.specs.declared.link.Link.{Link}
 use Rattle.adb_daemon.specs.Serving.{Serving, Sent, with_sum, owing, granted, gone, sent_ack, sent_writes, sent_close, settled_as, settled, named, closable}
-use Rattle.adb_daemon.specs.Serving.{is_taken, kind_for, credit_of, open_as, on_open, written_to, on_write, acked_to, on_okay, closed_to, on_close, all_gone, served}
+use Rattle.adb_daemon.specs.Serving.{is_taken, kind_for, credit_of, open_as, on_open, written_to, on_write, acked_to, on_okay, closed_to, on_close, served}
 use Rattle.adb_daemon.specs.Device.{Device, Setting, step, treated, linked_to, served_on, first_device, device_behind}
-use Rattle.adb_daemon.specs.Streams.{free_of, over_at, writes_of, acks_of, Writes, IsExact, ExactAt, IsAckedInTime}
+use Rattle.adb_daemon.specs.Streams.{free_of, writes_of, acks_of, IsExact, ExactAt, IsAckedInTime}
 use Rattle.adb_daemon.proofs.Standing.{IsOrderly, silent_writes, silent_close, own_count, writes_more}
 use Rattle.adb_daemon.proofs.Rules.{named_is, silent_ack, drawn, step_orderly}
 use Rattle.adb_daemon.proofs.Machines.{step_more}

@@ -12,12 +12,14 @@ use Rattle.adb_files.proofs.Directories.{plain-with, plain-without}
 use Rattle.adb_files.proofs.Lookups.{Granted}
 
 pub map-with : (path : List ℕ) (file : File) (files : List Entry) → IsFileMap files → Granted files path (length file.bytes) → length path < 2 ^ 32
-    → IsFileMap (with_file path file files)
-map-with path file files ok may short = record {
+    → file.mode < 2 ^ 32 → file.mtime < 2 ^ 32 → IsFileMap (with_file path file files)
+map-with path file files ok may short mode mtime = record {
   rising = rising-with path file files ok.rising;
   paths = all-with (λ (e : Entry). is_path e.path ≡ true) path file files ok.paths may.form;
   plain = plain-with path file files ok.paths ok.plain may.form may.plain may.above;
   short = all-with (λ (e : Entry). length e.path < 2 ^ 32) path file files ok.short short;
+  modes = all-with (λ (e : Entry). e.file.mode < 2 ^ 32) path file files ok.modes mode;
+  times = all-with (λ (e : Entry). e.file.mtime < 2 ^ 32) path file files ok.times mtime;
   room = omega (arith, total-with path file files, may.room);
 }
 
@@ -27,6 +29,8 @@ map-without path files ok less = record {
   paths = all-without (λ (e : Entry). is_path e.path ≡ true) path files ok.paths;
   plain = plain-without path files ok.plain;
   short = all-without (λ (e : Entry). length e.path < 2 ^ 32) path files ok.short;
+  modes = all-without (λ (e : Entry). e.file.mode < 2 ^ 32) path files ok.modes;
+  times = all-without (λ (e : Entry). e.file.mtime < 2 ^ 32) path files ok.times;
   room = omega (arith, less, ok.room);
 }
 
@@ -37,5 +41,7 @@ map-empty = record {
   paths = All-nil (λ (e : Entry). is_path e.path ≡ true);
   plain = All-nil (λ (e : Entry). is_directory [] e.path ≡ false);
   short = All-nil (λ (e : Entry). length e.path < 2 ^ 32);
+  modes = All-nil (λ (e : Entry). e.file.mode < 2 ^ 32);
+  times = All-nil (λ (e : Entry). e.file.mtime < 2 ^ 32);
   room = omega arith;
 }

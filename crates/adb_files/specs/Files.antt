@@ -85,10 +85,13 @@ read_refusal files path =
 abbrev pub IsRising : List Entry → Type 0
 IsRising files = IsStrictlySortedBy path_cmp (map (λ (entry : Entry). entry.path) files)
 
--- a map of files: the paths rise, none of them is that of a directory, and all files together keep the limit
+-- a map of files: the paths rise, none of them is that of a directory, modes and times are within their width,
+-- and all files together keep the limit
 pub record IsFileMap (files : List Entry) : Type 0 where
   pub rising : IsRising files
   pub paths : All (λ (entry : Entry). is_path entry.path ≡ true) files
   pub plain : All (λ (entry : Entry). is_directory files entry.path ≡ false) files
   pub short : All (λ (entry : Entry). length entry.path < 2 ^ 32) files
+  pub modes : All (λ (entry : Entry). entry.file.mode < 2 ^ 32) files
+  pub times : All (λ (entry : Entry). entry.file.mtime < 2 ^ 32) files
   pub room : total files ≤ MAX_STORED

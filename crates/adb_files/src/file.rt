@@ -1,7 +1,7 @@
 //! One file, and why one may be refused.
 
 ghost use Rattle.adb_files.specs.declared.file.FileError.TheVariants.{OutOfMemory};
-ghost use Rattle.std.specs.Prelude.{◌≡◌, ◌≤◌, length};
+ghost use Rattle.std.specs.Prelude.{◌≡◌, ◌^◌, ◌<◌, ◌≤◌, length};
 ghost use Rattle.adb_files.specs.Files.{refusal_text};
 
 use adb_outside::Text;
@@ -16,6 +16,12 @@ pub struct File {
     pub mtime: u32,
     pub bytes: Text,
 }
+
+/// A mode and a time of a file have 32 bits each.
+pub(crate) fn have_32_bits(mode: u32, mtime: u32)
+    ensures mode { mode < 2 ^ 32 }
+    ensures mtime { mtime < 2 ^ 32 }
+{}
 
 /// Why a file was not put or removed. The files are then as before.
 #[derive(Clone, Copy, Debug, PartialEq, Eq, Drop)]

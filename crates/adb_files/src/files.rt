@@ -11,7 +11,7 @@ ghost use Rattle.adb_files.specs.Listing.{listing};
 ghost use Rattle.adb_files.specs.Served.{stat_in};
 ghost use Rattle.adb_files.specs.Places.{StandsAt, FitsAt};
 
-use crate::file::{File, FileError};
+use crate::file::{File, FileError, have_32_bits};
 use crate::listing::{dirent_of, shown_in};
 use crate::path::{ROOT, is_below, is_path, slash_behind};
 use crate::place::{first_from, place_at, store};
@@ -84,6 +84,7 @@ impl Files {
         ensures granted { put_refusal self.old path.now (length file.bytes) ≡ None
             → OnErr result (result ≡ Err FileError.OutOfMemory) }
     {
+        have_32_bits(file.mode, file.mtime);
         let size = file.bytes.len();
         if let Some(refusal) = self.put_refusal(path, size) {
             return Err(refusal);

@@ -1,11 +1,10 @@
 -- What the close of its device makes of the client of a stream: it is gone where nothing is due to it, and else it is closing; and it is told no more.
-use Rattle.std.proofs.Common.{◌≡◌, ◌≢◌, ◌≤◌, ◌+◌, ℕ, zero, suc, Bool, true, false, cond, not, ◌||◌, ◌&&◌, List, [], ◌∷◌, ◌++◌, Option, Some, None, refl}
+use Rattle.std.proofs.Common.{◌≡◌, ◌≢◌, ◌≤◌, ◌+◌, ℕ, zero, suc, Bool, true, false, cond, ◌||◌, ◌&&◌, List, [], ◌∷◌, ◌++◌, Option, Some, None, refl}
 use Rattle.std.proofs.Common.{sym, ap, subst, ◌∙◌, eqb, arith, append_assoc, ◌⊎◌, inl, inr}
 use Rattle.std.specs.Prelude.{codes, nat_eq, is_some}
 use Rattle.std.specs.Option.{option_or}
 use Rattle.std.proofs.lemmas.Bool.{eq-eqb, eqb-true}
 use Rattle.std.proofs.lemmas.List.{append-nil}
-use Rattle.adb_wire.specs.Format.{is_cnxn}
 use Rattle.adb_wire.specs.declared.command.Command.{Command}
 use Rattle.adb_wire.specs.declared.command.Command.TheVariants.{Cnxn, Open, Okay, Wrte, Clse, Auth, Stls}
 use Rattle.adb_wire.specs.declared.packets.Packet.{Packet}
@@ -13,10 +12,9 @@ use Rattle.adb_stream.specs.declared.row.Stream.{Stream}
 use Rattle.adb_client.specs.declared.phase.Phase.{Phase}
 use Rattle.adb_client.specs.declared.phase.Phase.TheVariants.{Asking, Opening, Streaming, Binding, Tracking, Closing, Gone}
 use Rattle.adb_reply.specs.Strings.{failed}
-use Rattle.adb_history.specs.Births.{is_between, is_close_of, is_clse}
+use Rattle.adb_history.specs.Births.{is_close_of, is_clse}
 use Rattle.adb_history.specs.Clients.{closing, closing_with, closes, owe_client}
 use Rattle.adb_history.specs.Events.{Made, Event, Ending, peer_closed, ended, quietly, then_also, owed_to, ending_in}
-use Rattle.adb_history.specs.Links.{is_connected}
 use Rattle.adb_history.specs.Moves.{After, HasOne}
 use Rattle.adb_history.specs.Owned.{OwnerIn, IsOwned}
 use Rattle.adb_history.specs.Orderly.{phase_for}
@@ -36,14 +34,13 @@ use Rattle.adb_laws_causes.proofs.PacketEffects.{treat_effect}
 use Rattle.adb_laws_causes.proofs.PacketFates.{OfLink, treat_fate}
 use Rattle.adb_laws_causes.proofs.Runs.{alive_told}
 use Rattle.adb_laws_causes.proofs.Turning.{Here, Turn}
-use Rattle.adb_laws_causes.proofs.Turns.{Passes, Falls, Strikes}
+use Rattle.adb_laws_causes.proofs.Turns.{Passes, Strikes}
 use Rattle.adb_laws_causes.proofs.TurnsOfPackets.{treat_turn}
 use Rattle.adb_laws_causes.proofs.UntouchedEntries.{Pair, pair_of, pair_apart, has_stream}
-use Rattle.adb_laws_answered.specs.Turns.{everywhere}
 use Rattle.adb_laws_answered.specs.Served.{IsDone}
 use Rattle.adb_laws_answered.proofs.DoneMoves.{done_turns}
 use Rattle.adb_laws_answered.proofs.TurnPackets as turns
-use Rattle.adb_laws_gone.proofs.Staying.{HasNone, Stays, s_all}
+use Rattle.adb_laws_gone.proofs.Staying.{HasNone, s_all}
 
 -- ---- a client that is closing has no stream
 module _ (c : ℕ) (k : Client) (s : State) (h : IsOwned s) (here : s.clients c ≡ Some k) (closes : k.about.phase ≡ Closing) where

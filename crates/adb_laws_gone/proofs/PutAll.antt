@@ -1,5 +1,5 @@
 -- A client whose device closed its stream is gone only when it was put all that became due to it.
-use Rattle.std.proofs.Common.{◌≡◌, ◌≢◌, ◌≤◌, ◌<◌, ◌+◌, ℕ, zero, suc, Bool, true, false, cond, not, ◌||◌, ◌&&◌, List, [], ◌∷◌, ◌++◌, length, drop, min}
+use Rattle.std.proofs.Common.{◌≡◌, ◌≢◌, ◌≤◌, ◌+◌, ℕ, Bool, true, false, cond, not, ◌||◌, ◌&&◌, List, [], ◌∷◌, ◌++◌, length, drop}
 use Rattle.std.proofs.Common.{Option, Some, None, refl, sym, ap, subst, ◌∙◌, eqb, arith, append_assoc, ◌⊎◌, inl, inr}
 use Rattle.std.specs.Prelude.{nat_eq, is_some, option_map}
 use Rattle.std.specs.Option.{option_or}
@@ -13,32 +13,28 @@ use Rattle.adb_wire.specs.declared.packets.Packet.{Packet}
 use Rattle.adb_wire.specs.declared.format.PacketFault.{PacketFault}
 use Rattle.adb_wire.specs.declared.format.PacketFormat.{PacketFormat}
 use Rattle.adb_stream.specs.declared.row.Stream.{Stream}
-use Rattle.adb_client.specs.declared.about.Want.{Want}
 use Rattle.adb_client.specs.declared.phase.Phase.{Phase}
 use Rattle.adb_client.specs.declared.phase.Phase.TheVariants.{Closing}
 use Rattle.adb_capture.specs.declared.entry.Entry.{Entry}
 use Rattle.adb_capture.specs.declared.entry.Entry.TheVariants.{Join, Enter, Read, End, Bound, Attach, Recv, Detach, Put, Send}
-use Rattle.adb_history.specs.Births.{Birth, born, births}
-use Rattle.adb_history.specs.Book.{book, is_killed, kills, bound_turn, devices}
+use Rattle.adb_history.specs.Births.{Birth, born}
+use Rattle.adb_history.specs.Book.{is_killed, devices}
 use Rattle.adb_history.specs.Bytes.{is_orderly, has_failed, bytes_put, brought}
-use Rattle.adb_history.specs.Causes.{brings, closes_in}
+use Rattle.adb_history.specs.Causes.{closes_in}
 use Rattle.adb_history.specs.Clients.{closing_with}
-use Rattle.adb_history.specs.Events.{Made, Event, Ending, peer_closed, client_closed, client_failed, broken, lost, stopped, then_also, owed_to, ending_in}
-use Rattle.adb_history.specs.Fifo.{IsKeptAs, HasBirths}
+use Rattle.adb_history.specs.Events.{Made, Ending, peer_closed, client_closed, client_failed, broken, lost, stopped, then_also, owed_to, ending_in}
 use Rattle.adb_history.specs.Handing.{lists_first, left_in, hands, client_left, takes_of, puts_to}
 use Rattle.adb_history.specs.Lives.{ending_of, output_of}
-use Rattle.adb_history.specs.Machine.{rule, ups, step, History, state, told, told_at, IsSomeOf, MayPut, May, IsLegal}
+use Rattle.adb_history.specs.Machine.{rule, ups, History, state, told, told_at, IsSomeOf, MayPut, May, IsLegal}
 use Rattle.adb_history.specs.Orderly.{IsResting}
 use Rattle.adb_history.specs.Owned.{IsOwned}
 use Rattle.adb_history.specs.Packets.{treat_all, faulty, with_rest, receives_on, receives}
 use Rattle.adb_history.specs.Rows.{Client, Link, State, to_client, to_link}
-use Rattle.adb_history.specs.Streams.{stream_ids}
 use Rattle.adb_history.specs.Tied.{came_count}
 use Rattle.adb_history.specs.Tracking.{due_or, list_if_stale, offered}
 use Rattle.adb_history.specs.Book.{plugged_count}
 use Rattle.adb_history.proofs.Books.{all_books}
 use Rattle.adb_history.proofs.Following.{after_then, changed_here}
-use Rattle.adb_history.proofs.Growing.{owed_append}
 use Rattle.adb_history.proofs.Numbers.{counted}
 use Rattle.adb_history.proofs.OrderlyStates.{orderly}
 use Rattle.adb_history.proofs.OutputEntries.{tied, all_due_past_put}
@@ -54,14 +50,14 @@ use Rattle.adb_laws_fifo_down.specs.Follows.{Follows}
 use Rattle.adb_laws_fifo_down.specs.Followed.{LifeOf}
 use Rattle.adb_laws_fifo_down.specs.Life.{IsDone as IsOver, LivesIn, heard}
 use Rattle.adb_laws_fifo_down.specs.Follows.{is_shut}
-use Rattle.adb_laws_fifo_down.specs.Line.{SeenStream, SeenClient, View, seen, seen_client}
+use Rattle.adb_laws_fifo_down.specs.Line.{SeenStream, View, seen, seen_client}
 use Rattle.adb_laws_fifo_down.proofs.BornNow.{born_when}
 use Rattle.adb_laws_fifo_down.proofs.Handed.{has_lives}
 use Rattle.adb_laws_causes.proofs.Endings.{EndsAt, ends_at, stopped_after}
 use Rattle.adb_laws_causes.proofs.Fates.{ending_append}
 use Rattle.adb_laws_causes.proofs.Lives.{WhyStep}
-use Rattle.adb_laws_causes.proofs.Receiving.{LinkThere, here_at, there_at, RecvEnds, recv_ends, Brought, brought_cut}
-use Rattle.adb_laws_causes.proofs.Runs.{Run, RunsOn, Fell, Struck, StruckBy, run}
+use Rattle.adb_laws_causes.proofs.Receiving.{LinkThere, here_at, there_at, RecvEnds, recv_ends, brought_cut}
+use Rattle.adb_laws_causes.proofs.Runs.{Run, StruckBy, run}
 use Rattle.adb_laws_causes.proofs.Turning.{Here}
 use Rattle.adb_laws_causes.proofs.UntouchedEntries.{Pair, pair_of}
 use Rattle.adb_laws_answered.specs.Served.{IsDone}
@@ -70,7 +66,7 @@ use Rattle.adb_laws_answered.proofs.DoneMoves.{done_turns}
 use Rattle.adb_laws_answered.proofs.ServedClients.{done_client}
 use Rattle.adb_laws_answered.proofs.TurnPackets as turns
 use Rattle.adb_laws_gone.specs.Gone.{PutsAllOfClosed}
-use Rattle.adb_laws_gone.proofs.Staying.{HasNone, Stays, s_faulty, s_ups}
+use Rattle.adb_laws_gone.proofs.Staying.{HasNone, s_faulty, s_ups}
 use Rattle.adb_laws_gone.proofs.StayingEntries.{Spares, stays_rule}
 use Rattle.adb_laws_gone.proofs.Falling.{none_closing, IsClosing, Fallen, falls}
 
@@ -225,7 +221,8 @@ module _ (l : ℕ) (b : Birth) (bytes : List ℕ) (older : History) (legal : IsL
   put_here = ap (λ (t : Bool). cond t (bytes_put b.client older ++ bytes) (bytes_put b.client older)) (eq-eqb b.client b.client refl)
 
   rule_is : (d : ℕ) (due : List ℕ) → a.due ≡ d ∷ due
-      → (rule (Put b.client bytes) (state older)).state.clients b.client ≡ closing_with (drop (length bytes) a.due) (record a { due = drop (length bytes) a.due })
+      → (rule (Put b.client bytes) (state older)).state.clients b.client
+      ≡ closing_with (drop (length bytes) a.due) (record a { due = drop (length bytes) a.due })
   rule_is d due due_is =
       ap (λ (o : Option Client). (puts_to o b.client (length bytes) (state older)).state.clients b.client) is
       ∙ (ap (λ (x : List ℕ). (then_also (lists_first b.client x a (state older))

@@ -1,6 +1,6 @@
 -- A client that is closing, and has no stream, stays as it is through what comes on links and what goes up.
 use Rattle.std.proofs.Common.{◌≡◌, ◌≢◌, ℕ, zero, suc, Bool, true, false, cond, not, ◌||◌, List, [], ◌∷◌, ◌++◌, length, Option, Some, None, refl, sym}
-use Rattle.std.proofs.Common.{ap, subst, ◌∙◌, eqb, ◌⊎◌, inl, inr}
+use Rattle.std.proofs.Common.{ap, ◌∙◌, eqb, ◌⊎◌, inl, inr}
 use Rattle.std.specs.Prelude.{option_map, nat_eq, nat_lt, codes, drop}
 use Rattle.std.proofs.lemmas.Bool.{cases_eq}
 use Rattle.adb_outside.specs.Tables.{at}
@@ -20,7 +20,7 @@ use Rattle.adb_stream.specs.declared.flow.Flow.{Flow}
 use Rattle.adb_stream.specs.declared.flow.Flow.TheVariants.{One, Credit}
 use Rattle.adb_stream.specs.declared.row.Stream.{Stream}
 use Rattle.adb_stream.specs.declared.row.Part.{Part}
-use Rattle.adb_stream.specs.Flow.{first_credit, acknowledged, is_out_of_turn, accepted}
+use Rattle.adb_stream.specs.Flow.{is_out_of_turn}
 use Rattle.adb_client.specs.declared.phase.Phase.{Phase}
 use Rattle.adb_client.specs.declared.phase.Phase.TheVariants.{Asking, Opening, Streaming, Binding, Tracking, Closing, Gone}
 use Rattle.adb_reply.specs.Strings.{failed}
@@ -34,7 +34,7 @@ use Rattle.adb_history.specs.Losing.{forgets, link_ends}
 use Rattle.adb_history.specs.Flow.{with_flow, payloads, total, flow_after, all_go_up, noted, is_over, closes_if, sends_up, is_streaming}
 use Rattle.adb_history.specs.Flow.{up_client, up_stream, up, up_all}
 use Rattle.adb_history.specs.Packets.{least_version, least_maxdata, goes_online, streams_end_first, connects, cnxn, unauthorized_from, unauthorized}
-use Rattle.adb_history.specs.Packets.{refuses_open, at_stream, with_remote, hears_okay, opened, orphan_opened, okay_open, okay_first, takes_okay}
+use Rattle.adb_history.specs.Packets.{at_stream, hears_okay, opened, okay_open, okay_first, takes_okay}
 use Rattle.adb_history.specs.Packets.{accepts_none, accepts, takes_write, takes_close, treat_open, treat_any, treat_on, treat, treat_all}
 use Rattle.adb_history.specs.Packets.{faulty_on, faulty, with_rest, receives_cut, receives_on, receives}
 use Rattle.adb_history.specs.Moves.{open_now}

@@ -1,5 +1,5 @@
 -- A client that is closing, and has no stream, stays as it is through each entry of others.
-use Rattle.std.proofs.Common.{◌≡◌, ◌≢◌, ◌≤◌, ◌+◌, ℕ, zero, suc, Bool, true, false, cond, not, List, [], ◌∷◌, ◌++◌, length, drop, min, Option, Some, None, refl, sym}
+use Rattle.std.proofs.Common.{◌≡◌, ◌≢◌, ◌≤◌, ◌+◌, ℕ, zero, suc, Bool, true, false, cond, List, [], ◌∷◌, ◌++◌, length, drop, min, Option, Some, None, refl, sym}
 use Rattle.std.proofs.Common.{ap, subst, ◌∙◌, eqb, arith, ◌⊎◌, inl, inr}
 use Rattle.std.specs.Prelude.{codes, nat_eq}
 use Rattle.std.proofs.lemmas.Bool.{cases_eq, ne_eqb}
@@ -21,12 +21,12 @@ use Rattle.adb_reply.specs.declared.answer.Next.TheVariants as what
 use Rattle.adb_capture.specs.declared.entry.Entry.{Entry}
 use Rattle.adb_capture.specs.declared.entry.Entry.TheVariants.{Join, Enter, Read, End, Bound, Attach, Recv, Detach, Put, Send}
 use Rattle.adb_history.specs.Rows.{Client, Link, State, new_client, new_link, to_client, to_stream, none_kept, with_due, with_held, in_phase, with_stream_part}
-use Rattle.adb_history.specs.Events.{Made, lost, quietly}
-use Rattle.adb_history.specs.Links.{is_connected, is_credit}
+use Rattle.adb_history.specs.Events.{lost, quietly}
+use Rattle.adb_history.specs.Links.{is_connected}
 use Rattle.adb_history.specs.Clients.{owe_client, closing}
 use Rattle.adb_history.specs.Streams.{stream_ids, asks_for, no_ids_left, opens}
 use Rattle.adb_history.specs.Tracking.{offered}
-use Rattle.adb_history.specs.Losing.{stream_fails, stream_of, input_ended, input_ends, client_ends, stops}
+use Rattle.adb_history.specs.Losing.{stream_fails, stream_of, input_ended, input_ends, client_ends}
 use Rattle.adb_history.specs.Asking.{Asked, asks_with}
 use Rattle.adb_history.specs.Bytes.{is_orderly}
 use Rattle.adb_history.specs.Flow.{with_flow}

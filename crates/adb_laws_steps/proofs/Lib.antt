@@ -6,6 +6,7 @@ pub mod Entering
 pub mod Brings
 pub mod Tolls
 pub mod Serving
+pub mod Answering
 pub mod Parts
 pub mod Sizes
 pub mod Sends

@@ -32,7 +32,7 @@ use Rattle.adb_laws_steps.proofs.Costs.{tolls_append}
 use Rattle.adb_laws_steps.proofs.Moved.{handled_here, moves_counted, plugged_same, put_here, puts_within}
 use Rattle.adb_laws_steps.proofs.Parts.{total, total_append, part, IsWithin, covered}
 use Rattle.adb_laws_steps.proofs.Receives.{bytes_append, made_size}
-use Rattle.adb_laws_steps.proofs.Serving.{rows_rise}
+use Rattle.adb_laws_steps.proofs.Answering.{rows_rise}
 use Rattle.adb_laws_steps.proofs.Sizes.{size, stream_share, shared, spelled_size, packet_tolls_within}
 use Rattle.adb_laws_steps.proofs.Streams.{alone, costs, due_now, due_since, legal_before, made_now, more_drawn, q, shares_in, streams_paid, told_since}
 use Rattle.adb_laws_steps.proofs.Tolls.{tolls_paid}
@@ -165,7 +165,8 @@ module _ (setting : Setting) (before more : History) (s : Settles setting before
       let writes : total write_len (λ p. p.arg1) (packets_of_sent (alone setting before more s).made)
       ≤ sum_to (λ l. part write_len (λ p. p.arg1) l (packets_of_sent (alone setting before more s).made)) (state (more ++ before)).drawn =
       covered write_len (λ p. p.arg1) (state (more ++ before)).drawn (packets_of_sent (alone setting before more s).made)
-      (writes_in (q setting before more s) (state (more ++ before)).drawn watched_drawn (alone setting before more s).made (alone setting before more s).fine) in
+      (writes_in (q setting before more s) (state (more ++ before)).drawn watched_drawn (alone setting before more s).made
+      (alone setting before more s).fine) in
       let sums : sum_to (costs setting before more s) (state (more ++ before)).drawn
       ≡ sum_to (λ l. part stream_share (λ p. p.arg0) l (due_since setting before more s)) (state (more ++ before)).drawn
       + 25 * sum_to (λ l. part write_len (λ p. p.arg1) l (packets_of_sent (alone setting before more s).made)) (state (more ++ before)).drawn

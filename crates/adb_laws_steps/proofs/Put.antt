@@ -28,7 +28,8 @@ use Rattle.adb_laws_answers.specs.Answers.{ClientsAreAnswered, HasEndedAs, IsAns
 use Rattle.adb_laws_steps.specs.Receives.{writes_to}
 use Rattle.adb_laws_steps.specs.Steps.{WritesWerePut}
 use Rattle.adb_laws_steps.proofs.Clients.{all_asked_for, asked_for}
-use Rattle.adb_laws_steps.proofs.Serving.{IsUndrawn, none_undrawn, rows_apart}
+use Rattle.adb_laws_steps.proofs.Serving.{IsUndrawn}
+use Rattle.adb_laws_steps.proofs.Answering.{none_undrawn, rows_apart}
 use Rattle.adb_laws_steps.proofs.Written.{part_is, part_written, OkaysFrom, okays_from}
 
 -- what a row wrote is no more than its service answered
@@ -137,7 +138,8 @@ module _ (setting : Setting) (laws : DeviceLaws setting) (h : History) (legal : 
       over_wrote : length (written id.id (device_behind setting (sent 1 h)).serving.made)
           ≤ length (service_answer e.row.kind e.row.first e.row.past).bytes
       over_wrote =
-          let w = subst (λ (o : Option Ended). Writes own (device_behind setting (sent 1 h)).serving.made (device_behind setting (sent 1 h)).serving.acks None o) is
+          let w = subst (λ (o : Option Ended). Writes own (device_behind setting (sent 1 h)).serving.made
+          (device_behind setting (sent 1 h)).serving.acks None o) is
           (subst (λ (o : Option Row). Writes own (device_behind setting (sent 1 h)).serving.made (device_behind setting (sent 1 h)).serving.acks o
           (over_at own (device_behind setting (sent 1 h)).serving.ended)) gone (laws.write (sent 1 h) own drawn.0)) in
           let few = front_short e.own e.row (device_behind setting (sent 1 h)).serving.made w.1.writes in

@@ -6,7 +6,6 @@ use Rattle.std.specs.BTreeMap.{is_at}
 use Rattle.std.specs.Ordering.{nat_cmp}
 use Rattle.std.proofs.Common.{refl, sym, ◌∙◌, ap, subst, arith, append_assoc, ◌⊎◌, inl, inr}
 use Rattle.std.proofs.lemmas.Bool.{cases_eq, cases_lt, eqb-true}
-use Rattle.std.proofs.lemmas.List.{append-nil}
 use Rattle.std.proofs.lemmas.Cmp.{nat_cmp_total}
 use Rattle.std.proofs.lemmas.Map.Entries.{sum_by-remove_entry, sum_by-insert_entry}
 use Rattle.std.proofs.lemmas.List.Elements.{All-nil, All-cons, All-append, All-head, All-tail}
@@ -26,13 +25,12 @@ use Rattle.adb_device_streams.specs.Stream.{opening_word, wrte, okay, clse}
 use Rattle.adb_device_streams.specs.Link.{link_of, credit_word_in}
 use Rattle.adb_device_streams.specs.declared.link.Link.{Link}
 use Rattle.adb_daemon.specs.Streams.{over_at}
-use Rattle.adb_daemon.proofs.Machines.{step_more}
 use Rattle.adb_daemon.proofs.Standing.{other_over}
 use Rattle.adb_daemon.specs.Serving.{Serving, Ended, Sent, ended_at, with_sum, owing, granted, kept, gone, sent_writes, sent_close, settled_as, settled, credit_of, open_as, is_taken}
 use Rattle.adb_daemon.specs.Serving.{kind_for, on_open, named, sent_ack, written_to, acked_to, on_okay, closed_to, closable, on_close, all_gone, served}
-use Rattle.adb_daemon.specs.Device.{Setting, Device, own_cnxn, identity_text, first_device, linked_to, served_on, step, device_behind}
+use Rattle.adb_daemon.specs.Device.{Setting, Device, linked_to, served_on, step}
 use Rattle.adb_laws_steps.specs.Tolls.{toll}
-use Rattle.adb_laws_steps.specs.Owed.{answer_toll, answer_tolls, asks, sent_tolls, IsFine, AsksFor, row_toll, row_tolls, DeviceAnswersAlone}
+use Rattle.adb_laws_steps.specs.Owed.{answer_toll, answer_tolls, asks, sent_tolls, IsFine, AsksFor, row_toll, row_tolls}
 
 -- ---- ids that were drawn
 -- an id that was not drawn
@@ -101,16 +99,16 @@ module _ (q : ℕ → Bool) (base : List Sent) where
   left_tolls : (n : ℕ) (rows : List (ℕ × Row)) → row_tolls q (without n rows) + here_toll (at n rows) ≡ row_tolls q rows
   left_tolls n rows = sum_by-remove_entry (row_toll q) (is_at (nat_cmp n)) rows
 
-  -- no id has both a row that lives and one that has ended, and none of those that were not drawn has any; what became due is fine, and the tolls are paid, with
-  -- so much left over
-  record Stands (n left : ℕ) (s : Serving) : Type 0 where
-    rises : IsRising s.rows
-    fresh : (own : ℕ) → IsUndrawn s.drawn own → (at own s.rows ≡ None) × (over_at own s.ended ≡ None)
-    apart : (own : ℕ) (row : Row) → at own s.rows ≡ Some row → over_at own s.ended ≡ None
-    more : List Sent
-    is : s.made ≡ base ++ more
-    fine : All (IsFine P) more
-    cost : sent_tolls more + row_tolls q s.rows + left ≤ n
+  -- no id has both a row that lives and one that has ended, and none of those that were not drawn has any;
+  -- what became due is fine, and the tolls are paid, with so much left over
+  pub record Stands (n left : ℕ) (s : Serving) : Type 0 where
+    pub rises : IsRising s.rows
+    pub fresh : (own : ℕ) → IsUndrawn s.drawn own → (at own s.rows ≡ None) × (over_at own s.ended ≡ None)
+    pub apart : (own : ℕ) (row : Row) → at own s.rows ≡ Some row → over_at own s.ended ≡ None
+    pub more : List Sent
+    pub is : s.made ≡ base ++ more
+    pub fine : All (IsFine P) more
+    pub cost : sent_tolls more + row_tolls q s.rows + left ≤ n
 
   within : (a b k l : ℕ) (s : Serving) → a + l ≤ b + k → Stands a k s → Stands b l s
   within a b k l s le h = record {
@@ -379,7 +377,8 @@ module _ (q : ℕ → Bool) (base : List Sent) where
       go true e = e
       go false e = named_there host found row e
 
-  ack_fine : (link : Link) (own host : ℕ) (flow : Flow) (k : ℕ) → All (IsFine P) (sent_ack link own host flow k) × (sent_tolls (sent_ack link own host flow k) ≤ 28)
+  ack_fine : (link : Link) (own host : ℕ) (flow : Flow) (k : ℕ)
+      → All (IsFine P) (sent_ack link own host flow k) × (sent_tolls (sent_ack link own host flow k) ≤ 28)
   ack_fine link own host (flows.One window) k = (okay_fine link own host [], omega arith)
   ack_fine link own host (flows.Credit credit) k = go (k == 0)
     where
@@ -469,7 +468,7 @@ module _ (q : ℕ → Bool) (base : List Sent) where
           (linked_stands n (link_of setting.most setting.credit p) d h)
       go false false = on_link_stands n d.link p d host h
 
-  behind_stands : (n : ℕ) (setting : Setting) (packets : List Packet) (d : Device) → All (AsksFor q) packets → Stands n 0 d.serving
+  pub behind_stands : (n : ℕ) (setting : Setting) (packets : List Packet) (d : Device) → All (AsksFor q) packets → Stands n 0 d.serving
       → Stands (n + answer_tolls packets) 0 (fold (step setting) d packets).serving
   behind_stands n setting [] d all h = within n (n + 0) 0 0 d.serving (omega arith) h
   behind_stands n setting (p ∷ packets) d all h =
@@ -477,75 +476,3 @@ module _ (q : ℕ → Bool) (base : List Sent) where
       (fold (step setting) (step setting d p) packets).serving (omega arith)
       (behind_stands (n + answer_toll p.command) setting packets (step setting d p) (All-tail (AsksFor q) p packets all)
       (step_stands n setting d p (All-head (AsksFor q) p packets all) h))
-
--- ---- what a device made from the beginning
-identity_short : (credit : Bool) → length (identity_text credit) ≤ 106
-identity_short true = let size : length (identity_text true) ≡ 106 = refl in omega (arith, size)
-identity_short false = let size : length (identity_text false) ≡ 95 = refl in omega (arith, size)
-
-abbrev any : ℕ → Bool
-any l = true
-
-first_stands : (setting : Setting) → Stands any [] 130 0 (first_device setting).serving
-unfolding IsStrictlySortedBy
-first_stands setting = record {
-  rises = tt;
-  fresh = λ own undrawn. (refl, refl);
-  apart = λ own row is. refl;
-  more = own_cnxn setting ∷ [];
-  is = refl;
-  fine = All-cons (IsFine (λ l. true ≡ true)) (own_cnxn setting) [] (record { worth = tt; host = λ e. cc }) (All-nil (IsFine (λ l. true ≡ true)));
-  cost = (let short = identity_short setting.credit in omega (arith, short));
-}
-
-all_any : (packets : List Packet) → All (AsksFor any) packets
-all_any [] = All-nil (AsksFor any)
-all_any (p ∷ packets) = All-cons (AsksFor any) p packets (λ e. refl) (all_any packets)
-
-whole : (setting : Setting) (packets : List Packet) → Stands any [] (130 + answer_tolls packets) 0 (device_behind setting packets).serving
-whole setting packets = behind_stands any [] 130 setting packets (first_device setting) (all_any packets) (first_stands setting)
-
--- no id has both a row that lives and one that has ended, and those that have one were drawn
-pub rows_apart : (setting : Setting) (packets : List Packet) (own : ℕ) (row : Row) → at own (device_behind setting packets).serving.rows ≡ Some row
-    → over_at own (device_behind setting packets).serving.ended ≡ None
-rows_apart setting packets own row is = (whole setting packets).apart own row is
-
-pub none_undrawn : (setting : Setting) (packets : List Packet) (own : ℕ) → IsUndrawn (device_behind setting packets).serving.drawn own
-    → (at own (device_behind setting packets).serving.rows ≡ None) × (over_at own (device_behind setting packets).serving.ended ≡ None)
-none_undrawn setting packets own undrawn = (whole setting packets).fresh own undrawn
-
--- its rows rise, and each of its packets is worth its answer
-pub rows_rise : (setting : Setting) (packets : List Packet) → IsRising (device_behind setting packets).serving.rows
-rows_rise setting packets = (whole setting packets).rises
-
-pub all_worth : (setting : Setting) (packets : List Packet) → All (IsFine (λ l. true ≡ true)) (device_behind setting packets).serving.made
-all_worth setting packets = subst (All (IsFine (λ l. true ≡ true))) (sym (whole setting packets).is) (whole setting packets).fine
-
--- ---- behind some packets
-pub answers_alone : (setting : Setting) → DeviceAnswersAlone setting
-answers_alone setting q front more all = record {
-  made = stands.more;
-  is = stands.is;
-  tolls = (let cost = stands.cost in omega (arith, cost));
-  fine = stands.fine;
-}
-  where
-    begins : Stands q (device_behind setting front).serving.made (row_tolls q (device_behind setting front).serving.rows) 0 (device_behind setting front).serving
-    begins = record {
-      rises = rows_rise setting front;
-      fresh = none_undrawn setting front;
-      apart = rows_apart setting front;
-      more = [];
-      is = sym (append-nil (device_behind setting front).serving.made);
-      fine = All-nil (IsFine (λ l. q l ≡ true));
-      cost = omega arith;
-    }
-
-    stands : Stands q (device_behind setting front).serving.made (row_tolls q (device_behind setting front).serving.rows + answer_tolls more) 0
-        (device_behind setting (front ++ more)).serving
-    stands =
-        subst (λ (d : Device). Stands q (device_behind setting front).serving.made
-        (row_tolls q (device_behind setting front).serving.rows + answer_tolls more) 0 d.serving)
-        (sym (step_more setting (first_device setting) front more))
-        (behind_stands q (device_behind setting front).serving.made (row_tolls q (device_behind setting front).serving.rows) setting more
-        (device_behind setting front) all begins)

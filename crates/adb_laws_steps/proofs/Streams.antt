@@ -36,7 +36,7 @@ use Rattle.adb_laws_steps.proofs.Clients.{OfClient, all_asked_for, apart, asked_
 use Rattle.adb_laws_steps.proofs.Moved.{came_same}
 use Rattle.adb_laws_steps.proofs.Parts.{part, part_append, IsWithin, HasOf, spread}
 use Rattle.adb_laws_steps.proofs.Sends.{all_within, drawn_for, own, share_now, was_born}
-use Rattle.adb_laws_steps.proofs.Serving.{answers_alone}
+use Rattle.adb_laws_steps.proofs.Answering.{answers_alone}
 use Rattle.adb_laws_steps.proofs.Sizes.{stream_share}
 use Rattle.adb_laws_steps.proofs.Tolls.{all_behind}
 use Rattle.adb_laws_steps.proofs.Unsent.{all_unsent}

@@ -84,4 +84,5 @@ up_stream_costs l (Some stream) s range = up_client_costs l stream (s.clients st
 pub up_all_costs : (k : ℕ) (s : State) → InRange s → Costs 0 0 s (up_all k s)
 up_all_costs zero s range = costs_quiet s range
 up_all_costs (suc k) s range =
-    costs_then 0 0 0 0 s (up_all k s) (up (suc k)) (up_all_costs k s range) (λ later. up_stream_costs (suc k) ((up_all k s).state.streams (suc k)) (up_all k s).state later)
+    costs_then 0 0 0 0 s (up_all k s) (up (suc k)) (up_all_costs k s range)
+    (λ later. up_stream_costs (suc k) ((up_all k s).state.streams (suc k)) (up_all k s).state later)

@@ -16,7 +16,7 @@ use Rattle.adb_laws_pairs.specs.Paired.{IsPaired}
 use Rattle.adb_laws_model_device.specs.Owed.{packets_owed, packets_of_sent}
 use Rattle.adb_laws_steps.specs.Tolls.{IsWorthwhile, BringWorth}
 use Rattle.adb_laws_steps.specs.Owed.{IsFine}
-use Rattle.adb_laws_steps.proofs.Serving.{all_worth}
+use Rattle.adb_laws_steps.proofs.Answering.{all_worth}
 use Rattle.adb_laws_steps.proofs.Tolls.{all_before}
 
 -- ---- a link that was not plugged in brought nothing

@@ -33,7 +33,8 @@ part_written l id (one ∷ more) all =
     from : ComesFrom l id one
     from = All-head (ComesFrom l id) one more all
 
-    other : (c : Command) → one.packet.command ≡ c → is_wrte c ≡ false → (m : Bool) → part write_len (λ p. p.arg1) l (packets_of_sent more) ≤ length (written id more)
+    other : (c : Command) → one.packet.command ≡ c → is_wrte c ≡ false → (m : Bool)
+        → part write_len (λ p. p.arg1) l (packets_of_sent more) ≤ length (written id more)
         → cond m (cond (is_wrte one.packet.command) (length one.packet.payload) 0) 0 + part write_len (λ p. p.arg1) l (packets_of_sent more)
         ≤ length (written id (one ∷ more))
     other c e lacks m le = none m (ap (λ (b : Bool). cond b (length one.packet.payload) 0) (ap is_wrte e ∙ lacks))

@@ -49,8 +49,9 @@ row_toll q row = cond (q row.host) 24 0
 abbrev pub row_tolls : (ℕ → Bool) → List (ℕ × Row) → ℕ
 row_tolls q rows = sum_by (row_toll q) (values_of rows)
 
--- Behind what a device owed, more becomes due: its tolls are at most the answers to its host and the CLSEs of rows that lived, of ids that are watched; no packet
--- of it opens a stream, no write is without bytes, and each write goes to an id that is watched.
+-- Behind what a device owed, more becomes due: its tolls are at most the answers to its host and the CLSEs of
+-- rows that lived, of ids that are watched; no packet of it opens a stream, no write is without bytes, and each
+-- write goes to an id that is watched.
 pub record AnswersAlone (q : ℕ → Bool) (more : List Packet) (before behind : Serving) : Type 0 where
   pub made : List Sent
   pub is : behind.made ≡ before.made ++ made

@@ -57,8 +57,9 @@ IsWorthwhile p = IsWorth p.command p.payload
 abbrev pub BringWorth : History → Type 0
 BringWorth h = (t : ℕ) → All IsWorthwhile (brought t h)
 
--- Behind a history the tolls that were told since are at most a CNXN for each link, an OKAY for each time that bytes were put to a client, and a CLSE for each stream
--- that lived or was drawn since; and those that live have theirs still to come.
+-- Behind a history the tolls that were told since are at most a CNXN for each link, an OKAY for each time that
+-- bytes were put to a client, and a CLSE for each stream that lived or was drawn since; and those that live have
+-- theirs still to come.
 abbrev pub TollsArePaid : (before more : History) → Type 0
 TollsArePaid before more =
     tolls (told (more ++ before)) + close_tolls (state (more ++ before)).streams (state (more ++ before)).drawn

@@ -9,14 +9,13 @@ use Rattle.adb_wire.specs.declared.command.Command.{Command}
 use Rattle.adb_wire.specs.declared.command.Command.TheVariants as commands
 use Rattle.adb_wire.specs.declared.packets.Packet.{Packet}
 use Rattle.adb_wire.specs.Format.{is_cnxn}
-use Rattle.adb_wire.specs.Cutting.{parts_of}
 use Rattle.adb_device_streams.specs.Asked.{Kind}
 use Rattle.adb_device_streams.specs.Service.{came_over, files_fed, files_opened}
 use Rattle.adb_device_streams.specs.Stream.{Row, opened, row_took, row_acked, row_written, is_done, okay, clse, opening_word}
 use Rattle.adb_device_streams.specs.Link.{credit_word_in, link_of}
 use Rattle.adb_device_streams.specs.declared.link.Link.{Link}
 use Rattle.adb_daemon.specs.Serving.{Serving, Sent, with_sum, bytes_of, sent_bytes, owing, granted, sent_ack, sent_writes, sent_close, settled_as, settled}
-use Rattle.adb_daemon.specs.Serving.{named, closable, is_taken, kind_for, credit_of, open_as, on_open, written_to, on_write, acked_to, on_okay, closed_to, on_close, served}
+use Rattle.adb_daemon.specs.Serving.{named, closable, is_taken, kind_for, credit_of, open_as, written_to, acked_to, closed_to, served}
 use Rattle.adb_daemon.specs.Device.{Device, Setting, step, treated, linked_to, served_on, first_device, device_behind}
 use Rattle.adb_daemon.specs.declared.daemon.Daemon.{Daemon}
 use Rattle.adb_daemon.specs.Daemon.{HasDone, HasDoneFront, owed}

@@ -1,5 +1,5 @@
 -- Turns of a device, one behind the other.
-use Rattle.std.specs.Prelude.{ℕ, ◌≡◌, ◌≢◌, ◌⊎◌, Bool, true, false, List, [], ◌∷◌, ◌++◌, take, length, Result, Ok, Err, MatchResult}
+use Rattle.std.specs.Prelude.{ℕ, ◌≡◌, ◌≢◌, Bool, true, false, List, [], ◌∷◌, ◌++◌, take, length, Result, Ok, Err, MatchResult}
 use Rattle.std.proofs.Common.{refl, sym, ◌∙◌, ap, subst, inl, inr}
 use Rattle.std.specs.List.{concat}
 use Rattle.std.proofs.Math.Seq.{take-length}
@@ -13,7 +13,7 @@ use Rattle.adb_daemon.specs.declared.daemon.Daemon.{Daemon}
 use Rattle.adb_daemon.specs.declared.error.DaemonError.{DaemonError}
 use Rattle.adb_daemon.specs.declared.error.DaemonError.TheVariants.{OutOfMemory, Broken, BadCnxn}
 use Rattle.adb_daemon.specs.Device.{Setting}
-use Rattle.adb_daemon.specs.Daemon.{HasDone, HasDoneFront, Answers, answer_to, owed}
+use Rattle.adb_daemon.specs.Daemon.{HasDone, HasDoneFront, Answers, owed}
 use Rattle.adb_model_device.specs.declared.running.DeviceEnd.{DeviceEnd}
 use Rattle.adb_model_device.specs.declared.running.DeviceEnd.TheVariants.{End, Lost, Refused, Error}
 use Rattle.adb_model_device.proofs.Made.{done_front, cut_front}

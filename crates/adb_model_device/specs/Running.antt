@@ -1,5 +1,5 @@
 -- What a model device between two pipes does with their ends.
-use Rattle.std.specs.Prelude.{ℕ, ◌≡◌, ◌⊎◌, true, false, List, ◌++◌, Result, Ok, Err}
+use Rattle.std.specs.Prelude.{ℕ, ◌≡◌, ◌⊎◌, true, false, List, ◌++◌, Err}
 use Rattle.std.specs.List.{concat}
 use Rattle.adb_outside.specs.Outside.{counted_on}
 use Rattle.adb_outside.specs.Bytes.{IsPrefixOf}

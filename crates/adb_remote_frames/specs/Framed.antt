@@ -1,24 +1,23 @@
 -- What the bytes begin with stays so, whatever follows: frames are a format.
-use Rattle.std.specs.Prelude.{ℕ, zero, suc, ◌==◌, ◌||◌, not, bytes_eq, ◌+◌, ◌-◌, ◌≡◌, ◌≤◌, ◌<◌, nat_lt, if◌then◌else◌, cond, Bool, true, false, List, [], ◌∷◌, ◌++◌, length, take, drop, refl, Option, Some, None}
+use Rattle.std.specs.Prelude.{ℕ, zero, suc, ◌==◌, ◌||◌, not, bytes_eq, ◌+◌, ◌-◌, ◌≡◌, ◌≤◌, ◌<◌, nat_lt, cond, Bool, true, false, List, [], ◌∷◌, ◌++◌, length, take, drop, refl, Option, Some, None}
 use Rattle.std.specs.Prelude.{codes}
 use Rattle.adb_remote_frames.specs.declared.frame.TheConstants.{EXIT, STDERR, STDOUT}
 use Rattle.adb_remote_frames.specs.declared.packets.TheConstants.{MAX_OUTPUT}
 use Rattle.std.proofs.lemmas.Slice.Eq.{bytes_eq-Decides}
 use Rattle.std.specs.List.{list_all}
-use Rattle.std.proofs.Common.{◌∙◌, ap, sym, arith, append_assoc}
+use Rattle.std.proofs.Common.{ap, arith}
 use Rattle.std.proofs.lemmas.List.{length-append, length-take, length-drop}
 use Rattle.std.proofs.lemmas.Bool.Decides.{nat_tests}
 use Rattle.byteorder.specs.Endian.{little_number}
 use Rattle.adb_outside.specs.declared.framer.Front.{Front}
-use Rattle.adb_outside.specs.declared.framer.Front.TheVariants.{More, Bad, Whole}
-use Rattle.adb_outside.specs.Framing.{IsFraming, offset_past}
+use Rattle.adb_outside.specs.declared.framer.Front.TheVariants.{Bad, Whole}
+use Rattle.adb_outside.specs.Framing.{IsFraming}
 use Rattle.adb_request.specs.Requests.{hex_number}
 use Rattle.adb_remote_frames.specs.declared.head.Awaited.{Awaited}
 use Rattle.adb_remote_frames.specs.declared.head.Awaited.TheVariants as awaited
 use Rattle.adb_remote_frames.specs.declared.head.Head.{Head}
 use Rattle.adb_remote_frames.specs.declared.head.Head.TheVariants.{Short, Stray, Says}
-use Rattle.adb_remote_frames.specs.declared.place.Place.{Place}
-use Rattle.adb_remote_frames.specs.Heads.{is_front, is_lower_hex, says_behind, counted, status_head, output_head, exit_head, packet_head, head, whole_of, by_head, found_behind, found}
+use Rattle.adb_remote_frames.specs.Heads.{is_front, is_lower_hex, says_behind, counted, status_head, output_head, exit_head, packet_head, head, whole_of, by_head, found_behind}
 use Rattle.adb_remote_frames.specs.Frames.{frame_at, frame_of, past_frame}
 
 says_same : (a b : ℕ) → Says a ≡ Says b → a ≡ b

@@ -1,17 +1,20 @@
 -- What a text asks by the table of requests: a forward with a remote end that can be one, or the service of its own name.
-use Rattle.std.proofs.Common.{ℕ, ◌≡◌, ◌+◌, Bool, true, false, cond, List, [], take, drop, codes, Option, Some, None, refl}
+use Rattle.std.proofs.Common.{ℕ, ◌≡◌, ◌+◌, Bool, true, false, cond, List, [], ◌∷◌, ◌++◌, take, drop, codes, Option, Some, None, refl}
 use Rattle.std.proofs.Common.{nat_eq}
-use Rattle.std.specs.Prelude.{option_map, option_and_then, unwrap_or, position, find, bytes_eq, ◌==◌}
+use Rattle.std.specs.Prelude.{option_map, option_and_then, unwrap_or, position, find, bytes_eq, ◌==◌, ◌&&◌}
 use Rattle.std.specs.Option.{option_or}
-use Rattle.adb_outside.specs.declared.kinds.Selector.TheVariants.{Any, Usb, Local, Serial, Id}
+use Rattle.std.specs.List.{list_all}
+use Rattle.adb_outside.specs.declared.kinds.Selector.TheVariants.{Usb, Local, Serial, Id}
 use Rattle.adb_request.specs.declared.request.Which.{Which}
 use Rattle.adb_request.specs.declared.request.Which.TheVariants.{Own, By}
 use Rattle.adb_request.specs.declared.request.Request.{Request}
 use Rattle.adb_request.specs.declared.request.Request.TheVariants as asks
 use Rattle.adb_request.specs.Forms.{behind, is_remote, is_form, semicolon, local_in, forward_between, forward_at, forward_of, killed_at, row, fixed_form}
 use Rattle.adb_request.specs.Forms.{forward_form, form}
-use Rattle.adb_request.specs.Meaning.{Split, id_in, splits_behind, colon, fixed_transport, fixed_request, host_request, serial_request, id_request, or_unknown}
+use Rattle.adb_request.specs.Rows.{plain_rows, transport_rows, row_of}
+use Rattle.adb_request.specs.Meaning.{Split, id_in, splits_behind, colon, host_request, serial_request, id_request, or_unknown}
 use Rattle.adb_request.specs.Meaning.{host_meaning, meaning}
+use Rattle.adb_request.proofs.RowLaws.{both_true}
 
 -- what is so of the request that a text is
 abbrev pub IsAskedBy : List ℕ → Request → Type 0
@@ -24,6 +27,16 @@ abbrev IsHosts : Request → Type 0
 IsHosts (asks.Forward on norebind local remote) = is_remote remote ≡ true
 IsHosts (asks.Service service) = ⊥
 IsHosts _ = Unit {0}
+
+abbrev is_hosts : Request → Bool
+is_hosts (asks.Forward on norebind local remote) = false
+is_hosts (asks.Service service) = false
+is_hosts _ = true
+
+asks_host : (request : Request) → is_hosts request ≡ true → IsHosts request
+asks_host (asks.Forward on norebind local remote) e = cc
+asks_host (asks.Service service) e = cc
+asks_host _ e = tt
 
 abbrev Each : Option Request → Type 0
 Each None = Unit {0}
@@ -90,28 +103,19 @@ form_asked on text = or_each (fixed_form on text) (forward_form on text)
     (or_each _ _ (map_each (forward_of on false) (behind (codes "forward:") text) (forward_asked on false))
     (map_each (λ local. killed_at (local_in local)) (behind (codes "killforward:") text) (λ local. killed_asked (local_in local)))))
 
-transport_asked : (text : List ℕ) → Each (fixed_transport text)
-transport_asked text =
-    or_each _ _ (row_each (codes "transport-usb") (asks.Transport Usb false) text tt)
-    (or_each _ _ (row_each (codes "transport-local") (asks.Transport Local false) text tt)
-    (or_each _ _ (row_each (codes "transport-any") (asks.Transport Any false) text tt)
-    (or_each _ _ (row_each (codes "tport:usb") (asks.Transport Usb true) text tt)
-    (or_each _ _ (row_each (codes "tport:local") (asks.Transport Local true) text tt)
-    (row_each (codes "tport:any") (asks.Transport Any true) text tt)))))
-
-fixed_asked : (text : List ℕ) → Each (fixed_request text)
-fixed_asked text =
-    or_each _ _ (row_each (codes "version") asks.Version text tt)
-    (or_each _ _ (row_each (codes "kill") asks.Kill text tt)
-    (or_each _ _ (row_each (codes "devices") (asks.Devices false) text tt)
-    (or_each _ _ (row_each (codes "devices-l") (asks.Devices true) text tt)
-    (or_each _ _ (row_each (codes "track-devices") (asks.Track false) text tt)
-    (or_each _ _ (row_each (codes "track-devices-l") (asks.Track true) text tt)
-    (transport_asked text))))))
+row_asked : (rows : List (List ℕ × Request)) (text : List ℕ) → list_all (λ row. is_hosts row.1) rows ≡ true → Each (row_of rows text)
+row_asked [] text all = tt
+row_asked (first ∷ rows) text all =
+    let both = both_true (is_hosts first.1) (list_all (λ row. is_hosts row.1) rows) all in
+    by_test (bytes_eq text first.0) (asks_host first.1 both.0) (row_asked rows text both.1)
+  where
+    by_test : (b : Bool) → IsHosts first.1 → Each (row_of rows text) → Each (cond b (Some first.1) (row_of rows text))
+    by_test true here others = here
+    by_test false here others = others
 
 host_asked : (text : List ℕ) → Each (host_request text)
 host_asked text =
-    or_each _ _ (fixed_asked text)
+    or_each _ _ (row_asked (plain_rows ++ transport_rows) text refl)
     (or_each _ _ (map_each (λ serial. asks.Transport (Serial serial) false) (behind (codes "transport:") text) (λ serial. tt))
     (or_each _ _ (map_each (λ serial. asks.Transport (Serial serial) true) (behind (codes "tport:serial:") text) (λ serial. tt))
     (or_each _ _ (map_each (λ id. asks.Transport (Id id) false) (option_and_then id_in (behind (codes "transport-id:") text)) (λ id. tt))

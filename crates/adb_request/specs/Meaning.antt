@@ -3,36 +3,20 @@ use Rattle.std.specs.Prelude.{ℕ, ◌+◌, ◌==◌, true, false, if◌then◌e
 use Rattle.std.specs.Prelude.{option_and_then, option_map, position, find}
 use Rattle.std.specs.Option.{option_or}
 use Rattle.adb_outside.specs.Decimal.{number_in}
-use Rattle.adb_outside.specs.declared.kinds.Selector.TheVariants.{Any, Usb, Local, Serial, Id}
-use Rattle.adb_request.specs.Forms.{behind, at_most, row, form, is_form}
+use Rattle.adb_outside.specs.declared.kinds.Selector.TheVariants.{Usb, Local, Serial, Id}
+use Rattle.adb_request.specs.Forms.{behind, at_most, form, is_form}
+use Rattle.adb_request.specs.Rows.{plain_rows, transport_rows, row_of}
 use Rattle.adb_request.specs.declared.request.Which.TheVariants.{Own, By}
 use Rattle.adb_request.specs.declared.request.Request.{Request}
-use Rattle.adb_request.specs.declared.request.Request.TheVariants.{Version, Kill, Devices, Track, Transport, Service, UnknownHost}
+use Rattle.adb_request.specs.declared.request.Request.TheVariants.{Transport, Service, UnknownHost}
 
 -- a transport id: 1 to 10 digits of at most 4,294,967,295
 abbrev pub id_in : List ℕ → Option ℕ
 id_in text = option_and_then (at_most 4294967295) (number_in 10 text)
 
--- the requests behind `host:` that select a device by its kind
-abbrev pub fixed_transport : List ℕ → Option Request
-fixed_transport text =
-    option_or (row (codes "transport-usb") (Transport Usb false) text)
-    (option_or (row (codes "transport-local") (Transport Local false) text)
-    (option_or (row (codes "transport-any") (Transport Any false) text)
-    (option_or (row (codes "tport:usb") (Transport Usb true) text)
-    (option_or (row (codes "tport:local") (Transport Local true) text)
-    (row (codes "tport:any") (Transport Any true) text)))))
-
--- the requests behind `host:` that say nothing else
+-- the requests behind `host:` that are one text
 abbrev pub fixed_request : List ℕ → Option Request
-fixed_request text =
-    option_or (row (codes "version") Version text)
-    (option_or (row (codes "kill") Kill text)
-    (option_or (row (codes "devices") (Devices false) text)
-    (option_or (row (codes "devices-l") (Devices true) text)
-    (option_or (row (codes "track-devices") (Track false) text)
-    (option_or (row (codes "track-devices-l") (Track true) text)
-    (fixed_transport text))))))
+fixed_request text = row_of (plain_rows ++ transport_rows) text
 
 -- the request behind `host:`; a serial is the whole rest, also an empty one
 abbrev pub host_request : List ℕ → Option Request

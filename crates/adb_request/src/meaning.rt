@@ -2,7 +2,8 @@
 
 ghost use Rattle.std.specs.Prelude.{◌≡◌, ◌+◌, ◌<◌, [], length, IfOk, IfSome, option_map, find};
 ghost use Rattle.adb_request.specs.Forms.{is_form};
-ghost use Rattle.adb_request.specs.Meaning.{id_in, fixed_request, fixed_transport, host_request, split_at, splits_behind, serial_request, id_request, host_meaning, meaning, or_unknown};
+ghost use Rattle.adb_request.specs.Meaning.{id_in, fixed_request, host_request, split_at, splits_behind, serial_request, id_request, host_meaning, meaning, or_unknown};
+ghost use Rattle.adb_request.specs.Rows.{row_of, transport_rows};
 
 use crate::forms::{behind, form, is_form, place_of};
 use crate::request::{Request, Which};
@@ -95,7 +96,7 @@ fn fixed_request(text: &[u8]) -> Option<Request>
 
 /// The request behind `host:` that selects a device by its kind, where the text is one.
 fn fixed_transport(text: &[u8]) -> Option<Request>
-    ensures { result ≡ fixed_transport text.now }
+    ensures { result ≡ row_of transport_rows text.now }
 {
     let (by, tell_id) = if text == b"transport-usb".as_slice() {
         (Selector::Usb, false)

@@ -1,6 +1,6 @@
 //! What a session of a line asks for and writes.
 
-ghost use Rattle.std.specs.Prelude.{◌≡◌, ◌≢◌, ◌++◌, ◌<◌, [], codes, length, IfOk, OnOk};
+ghost use Rattle.std.specs.Prelude.{◌≡◌, ◌++◌, codes, IfOk};
 ghost use Rattle.adb_script.specs.Answers.{end_of_input, service_of, text_of};
 ghost use Rattle.adb_script.specs.Lines.{asked_of};
 ghost use Rattle.adb_script.specs.Pattern.{pattern};
@@ -8,11 +8,12 @@ ghost use Rattle.adb_sync_client.specs.Texts.{push_text};
 
 use crate::line::SessionLine;
 use crate::output::CLOSE_STDIN;
+use crate::pushing::push_text;
 use crate::sent::pattern;
 use crate::word::Word;
 use adb_outside::Text;
 use adb_shell::write_packet;
-use adb_sync_client::{Entries, PathAsk, PathValue, Push, StatValue};
+use adb_sync_client::{Entries, PathAsk, PathValue, StatValue};
 use std::alloc::{AllocError, Global};
 
 /// The mode of a file that is pushed: a regular one, which its owner may write and all may read.
@@ -37,7 +38,7 @@ impl SessionLine<'_> {
         ensures { IfOk result (λ text. text ≡ text_of number (asked_of self.now)) }
     {
         match self {
-            SessionLine::Push { path, size } => push_text(alloc, path, *size, number),
+            SessionLine::Push { path, size } => line_text(alloc, path, *size, number),
             SessionLine::Pull { path } => request::<Text>(alloc, path),
             SessionLine::Stat { path } => request::<StatValue>(alloc, path),
             SessionLine::List { path } => request::<Entries>(alloc, path),
@@ -55,37 +56,12 @@ fn shell_service(alloc: Global, command: &Word<'_>) -> Result<Text, AllocError>
     Ok(service)
 }
 
-/// The text of a push.
-fn push_text(alloc: Global, path: &Word<'_>, size: u32, number: u32) -> Result<Text, AllocError>
+/// The text of a line's push.
+fn line_text(alloc: Global, path: &Word<'_>, size: u32, number: u32) -> Result<Text, AllocError>
     ensures { IfOk result (λ text. text ≡ push_text path.now FILE_MODE number (pattern 0 size)) }
 {
     let bytes = pattern(alloc, 0, size)?;
-    let mut push = Push::new(alloc, path.as_slice(), FILE_MODE, number, bytes.as_slice())?;
-    all_out(alloc, &mut push)
-}
-
-/// All the bytes of a push.
-fn all_out(alloc: Global, push: &mut Push) -> Result<Text, AllocError>
-    ensures { IfOk result (λ text. text ≡ push.old.left) }
-{
-    let mut text = Text::new(alloc);
-    while !push.out().is_empty() {
-        take_front(push, &mut text)?;
-    }
-    Ok(text)
-}
-
-/// Takes the first bytes of a push that are left.
-fn take_front(push: &mut Push, text: &mut Text) -> Result<(), AllocError>
-    ensures all { OnOk result (text.new ++ push.new.left ≡ text.old ++ push.old.left) }
-    ensures less { OnOk result (push.old.left ≢ []
-        → length push.new.left < length push.old.left) }
-{
-    let front = push.out();
-    let size = front.len();
-    text.push_slice(front)?;
-    push.taken(size);
-    Ok(())
+    push_text(alloc, path.as_slice(), FILE_MODE, number, bytes.as_slice())
 }
 
 /// The text of a request about a path.

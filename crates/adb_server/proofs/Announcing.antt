@@ -1,7 +1,6 @@
 -- What the note of a server that ended holds.
 use Rattle.std.proofs.Common.{ℕ, ◌≡◌, ◌≢◌, inl, inr, false, List, Option, Ok, Err, refl}
-use Rattle.adb_outside.specs.declared.sink.Wrote.TheVariants.{All}
-use Rattle.adb_server.specs.Served.{HasAnnounced, TellsPort, Announces, is_write_fault}
+use Rattle.adb_server.specs.Served.{HasAnnounced, Announces, is_write_fault}
 use Rattle.adb_server.specs.declared.server.Served.{Served}
 use Rattle.adb_server.specs.declared.server.Served.TheVariants.{Done, WriteFault, OutOfMemory, RecordFault, DoorFault}
 

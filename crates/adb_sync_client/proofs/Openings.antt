@@ -16,7 +16,6 @@ use Rattle.adb_sync.specs.declared.answer_id.AnswerId.TheVariants as ids
 use Rattle.adb_sync.specs.declared.layout.TheConstants.{MAX_CHUNK}
 use Rattle.adb_sync.specs.Messages.{number_at, head_number, chunk_limit, limit_fault}
 use Rattle.adb_sync.specs.Answers.{answer_layout}
-use Rattle.adb_sync.specs.Framed.{there}
 use Rattle.adb_sync.proofs.AnswerCuts.{letters}
 use Rattle.adb_sync_client.specs.declared.kind.AnswerKind.{AnswerKind}
 use Rattle.adb_sync_client.specs.declared.kind.AnswerKind.TheVariants as kinds

@@ -1,12 +1,9 @@
 -- What a service writes of a file, and of a refusal, is what the asking side reads.
-use Rattle.std.proofs.Common.{ℕ, zero, suc, ◌+◌, ◌-◌, ◌^◌, ◌≡◌, ◌<◌, ◌≤◌, ◌&&◌, ◌||◌, Bool, true, false, cond, List, [], ◌∷◌, ◌++◌, length, take, drop, Option, Some, None}
-use Rattle.std.proofs.Common.{eqb, leb, sym, refl, ◌∙◌, ap, subst, append_assoc, arith}
-use Rattle.std.specs.Prelude.{codes}
+use Rattle.std.proofs.Common.{ℕ, zero, suc, ◌+◌, ◌-◌, ◌≡◌, ◌≤◌, ◌||◌, Bool, true, false, cond, List, [], ◌∷◌, ◌++◌, length, take, drop, None}
+use Rattle.std.proofs.Common.{eqb, leb, sym, refl, ◌∙◌, ap, append_assoc, arith}
 use Rattle.std.proofs.lemmas.Bool.Decides.{nat_tests}
-use Rattle.std.proofs.lemmas.List.{length-append, length-take, length-drop, take-append-drop, append-nil}
-use Rattle.byteorder.specs.Endian.{little_bytes}
+use Rattle.std.proofs.lemmas.List.{length-take, length-drop, take-append-drop, append-nil}
 use Rattle.byteorder.specs.Numbers.{little_number-reads_back}
-use Rattle.adb_outside.specs.declared.framer.Front.{Front}
 use Rattle.adb_outside.specs.declared.framer.Front.TheVariants.{Whole}
 use Rattle.adb_sync.specs.declared.answer.SyncAnswer.TheVariants as answers
 use Rattle.adb_sync.specs.declared.answer_id.AnswerId.TheVariants as ids
@@ -16,12 +13,10 @@ use Rattle.adb_sync.specs.Chunk.{chunks_at, chunk_bytes}
 use Rattle.adb_sync.specs.Messages.{number_at, chunk_limit, limit_fault}
 use Rattle.adb_sync.specs.Answers.{answer_bytes, answer_front, past_answer, answers_start}
 use Rattle.adb_sync_client.specs.declared.expected.Expected.{Expected}
-use Rattle.adb_sync_client.specs.declared.kind.AnswerKind.{AnswerKind}
 use Rattle.adb_sync_client.specs.declared.kind.AnswerKind.TheVariants as kinds
-use Rattle.adb_sync_client.specs.declared.step.Step.{Step}
 use Rattle.adb_sync_client.specs.declared.step.Step.TheVariants as steps
 use Rattle.adb_sync_client.specs.Expected.{may_begin, stray_in, whole_front, or_stray, expected_front}
-use Rattle.adb_sync_client.specs.Values.{Said, told_nothing, answer_value, pull_value, step_map}
+use Rattle.adb_sync_client.specs.Values.{Said, told_nothing, pull_value, step_map}
 use Rattle.adb_sync_client.proofs.Completing.{enough}
 use Rattle.adb_sync_client.proofs.FirstBad.{means, means_frame}
 use Rattle.adb_sync_client.proofs.Openings.{clear_of_begins}

@@ -2,7 +2,6 @@
 use Rattle.std.proofs.Common.{ℕ, ◌≡◌, List, [], ◌∷◌, None, refl, ◌∙◌, ap, sym}
 use Rattle.adb_script.specs.Lines.{words_of}
 use Rattle.adb_script.proofs.Cutting.{some_words}
-use Rattle.adb_trees.specs.declared.line.FileLine.{FileLine}
 use Rattle.adb_trees.specs.Lines.{line_of_words}
 
 -- a line of five words and more names none

@@ -1,7 +1,7 @@
 -- The files that a script names are few, and may be copied.
-use Rattle.std.proofs.Common.{ℕ, ◌+◌, ◌-◌, ◌^◌, ◌≡◌, ◌<◌, ◌≤◌, ◌&&◌, Bool, true, false, cond, List, [], ◌∷◌, ◌++◌, length, filter, Option, Some, None, Result, Ok, Err}
-use Rattle.std.proofs.Common.{refl, ◌∙◌, ap, sym, subst, arith}
-use Rattle.std.specs.Prelude.{All, nat_le, option_and_then, option_map}
+use Rattle.std.proofs.Common.{ℕ, ◌+◌, ◌-◌, ◌^◌, ◌≡◌, ◌<◌, ◌≤◌, ◌&&◌, Bool, true, false, cond, List, [], ◌∷◌, length, Option, Some, None, Result, Ok, Err}
+use Rattle.std.proofs.Common.{refl, ap, subst, arith}
+use Rattle.std.specs.Prelude.{All, nat_le, option_and_then}
 use Rattle.std.specs.declared.cmp.Ordering.{Ordering}
 use Rattle.std.specs.declared.cmp.Ordering.TheVariants.{Less, Equal, Greater}
 use Rattle.std.specs.Ordering.{is_lt}
@@ -22,9 +22,9 @@ use Rattle.adb_script.specs.declared.script.TheConstants.{MAX_LINES}
 use Rattle.adb_script.specs.declared.word.TheConstants.{MAX_WORD}
 use Rattle.adb_trees.specs.declared.line.FileLine.{FileLine}
 use Rattle.adb_trees.specs.declared.line.TheConstants.{DIGITS, MIN_MODE, MAX_MODE}
-use Rattle.adb_trees.specs.Lines.{file_line, line_of, line_of_words, mode_of, mtime_of, size_of, said}
+use Rattle.adb_trees.specs.Lines.{file_line, line_of_words, mode_of, mtime_of, size_of, said}
 use Rattle.adb_trees.specs.Trees as trees
-use Rattle.adb_trees.specs.Trees.{AreNamed, IsNamed, Tree, behind_line, file_of, is_refused, no_tree, read, reads_from, then_reads, tree_of, with_line}
+use Rattle.adb_trees.specs.Trees.{AreNamed, IsNamed, Tree, behind_line, file_of, is_refused, no_tree, read, reads_from, then_reads, with_line}
 
 -- ---- a line
 bounds : (least most : ℕ) (o : Option ℕ) (n : ℕ) → option_and_then (λ m. cond (nat_le least m && nat_le m most) (Some m) None) o ≡ Some n

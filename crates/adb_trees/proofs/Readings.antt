@@ -1,14 +1,12 @@
 -- The lines of a script are read one behind the other.
-use Rattle.std.proofs.Common.{ℕ, ◌+◌, ◌-◌, ◌≡◌, ◌≤◌, Bool, true, false, cond, List, [], ◌∷◌, length, take, Option, Some, None, Result, Ok, Err}
+use Rattle.std.proofs.Common.{ℕ, ◌+◌, ◌-◌, ◌≡◌, ◌≤◌, Bool, true, false, cond, List, [], ◌∷◌, length, take, Option, Some, None, Result, Ok}
 use Rattle.std.proofs.Common.{refl, ◌∙◌, ap, sym, arith}
 use Rattle.std.specs.Result.{result_err, result_ok}
 use Rattle.std.specs.Prelude.{◌==◌, option_map}
 use Rattle.std.proofs.lemmas.Bool.Decides.{nat_tests}
 use Rattle.std.proofs.lemmas.List.{length-take}
-use Rattle.adb_files.specs.Entries.{Entry}
 use Rattle.adb_script.specs.declared.script.TheConstants.{MAX_LINES, MAX_SCRIPT}
 use Rattle.adb_script.specs.Script.{CutsLine, is_too_far, lines_of}
-use Rattle.adb_trees.specs.declared.line.FileLine.{FileLine}
 use Rattle.adb_trees.specs.Lines.{line_of, said}
 use Rattle.adb_trees.specs.Trees.{Tree, Reads, behind, behind_line, first_bad, no_tree, read, reads_from, then_reads, tree_of}
 

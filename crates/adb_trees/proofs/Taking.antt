@@ -4,7 +4,7 @@ use Rattle.std.specs.Prelude.{is_some, nat_lt}
 use Rattle.adb_files.specs.declared.file.File.{File}
 use Rattle.adb_files.specs.declared.file.FileError.{FileError}
 use Rattle.adb_files.specs.Entries.{Entry}
-use Rattle.adb_files.specs.Files.{file_at, put_refusal, with_file}
+use Rattle.adb_files.specs.Files.{file_at, put_refusal}
 use Rattle.adb_files.specs.Paths.{is_path}
 use Rattle.adb_files.proofs.Lookups.{granted}
 use Rattle.adb_script.specs.Pattern.{pattern}

@@ -9,7 +9,7 @@ use Rattle.adb_files.specs.Paths.{is_path}
 use Rattle.adb_script.specs.Pattern.{pattern}
 use Rattle.adb_script.specs.Script.{is_too_far, lines_of}
 use Rattle.adb_script.specs.declared.script.TheConstants.{MAX_LINES}
-use Rattle.adb_trees.specs.Lines.{line_of, said}
+use Rattle.adb_trees.specs.Lines.{said}
 use Rattle.adb_script.specs.declared.word.TheConstants.{MAX_WORD}
 use Rattle.adb_trees.specs.declared.line.FileLine.{FileLine}
 use Rattle.adb_trees.specs.declared.line.TheConstants.{MIN_MODE, MAX_MODE}

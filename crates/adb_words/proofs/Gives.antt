@@ -5,8 +5,8 @@ use Rattle.std.specs.Prelude.{if◌then◌else◌}
 use Rattle.std.specs.Option.{option_map_or}
 use Rattle.clap.specs.Lexer.{long_of}
 use Rattle.clap.specs.Walk.{Held, Rule, Row, Text, Step, Walk, Waiting, idle, positional, walked, word_met, after_step, long_or_other, short_or_plain}
-use Rattle.clap.specs.Walk.{long_word, long_met, after_flag, plain_word, option_word, pending_count, pushed, to_positional, positional_held, is_pending}
-use Rattle.clap.specs.Walk.{takes_several, settled, settled_rows, used_by_id, reacted, used, arg_by_id, arg_by_long, arg_by_index}
+use Rattle.clap.specs.Walk.{long_word, long_met, after_flag, plain_word, option_word, pushed, to_positional, is_pending}
+use Rattle.clap.specs.Walk.{settled, used_by_id, reacted, arg_by_id, arg_by_long, arg_by_index}
 use Rattle.clap.specs.Walk as walk
 use Rattle.clap.specs.Simple.{Shape}
 use Rattle.clap.specs.Faults.{walk_fault, settle_fault, turn_fault, word_fault, step_fault, long_fault, use_fault, stray_fault, positional_fault}

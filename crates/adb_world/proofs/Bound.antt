@@ -1,5 +1,5 @@
 -- From a time at which nothing is on its way, the steps to one at which no step is possible are few.
-use Rattle.std.specs.Prelude.{ℕ, ◌+◌, ◌-◌, ◌*◌, ◌^◌, ◌≡◌, ◌≢◌, ◌≤◌, ◌<◌, Bool, true, false, cond, is_some, zero, suc, List, [], ◌∷◌, ◌++◌, length, Option, Some, None}
+use Rattle.std.specs.Prelude.{ℕ, ◌+◌, ◌-◌, ◌*◌, ◌^◌, ◌≡◌, ◌≤◌, ◌<◌, Bool, true, false, cond, is_some, suc, List, [], ◌∷◌, ◌++◌, length, Option, Some, None}
 use Rattle.std.proofs.Common.{refl, sym, ◌∙◌, ap, subst, arith, ◌⊎◌, inl, inr}
 use Rattle.std.proofs.lemmas.List.{append-nil, length-append}
 use Rattle.adb_outside.specs.Tables.{at}
@@ -13,7 +13,6 @@ use Rattle.adb_stream.specs.declared.row.Stream.{Stream}
 use Rattle.adb_history.specs.Births.{Birth, born}
 use Rattle.adb_history.specs.Book.{asked}
 use Rattle.adb_history.specs.Bytes.{bytes_put, bytes_read, bytes_received, bytes_sent, has_ended, sent}
-use Rattle.adb_history.specs.Lives.{packets_of}
 use Rattle.adb_history.specs.Machine.{History, IsLegal, state}
 use Rattle.adb_history.specs.Orderly.{HasOwner}
 use Rattle.adb_history.specs.Rows.{Client}
@@ -31,7 +30,6 @@ use Rattle.adb_laws_model_device.specs.Joined.{IsJoined}
 use Rattle.adb_laws_model_device.specs.Owed.{bytes_owed, packets_owed}
 use Rattle.adb_laws_sessions.specs.Words.{requests_for, selects}
 use Rattle.adb_laws_sessions.specs.Model.{model_devices, model_setting}
-use Rattle.adb_laws_sessions.specs.Asked.{HasOpened}
 use Rattle.adb_laws_sessions.specs.Sessions.{AsksForServices, IsOfSessions}
 use Rattle.adb_laws_steps.specs.Moved.{AreSteps, moved, of_here}
 use Rattle.adb_laws_steps.specs.Receives.{writes_to}

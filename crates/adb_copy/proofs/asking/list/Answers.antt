@@ -10,12 +10,12 @@ pub value_of-entries-requires : goal.value_of-entries-requires
 value_of-entries-requires c =
     let files = c.args.world.now.files in
     let path = c.args.directory.now in
-    let read = listing_read files path c.requires.short (listing_words files c.requires.map c.requires.files c.requires.times path) in
+    let read = listing_read files path c.requires.short (listing_words files c.requires.map c.requires.files path) in
     subst (λ (s : Step (List Dirent)). IsDone s) (sym (c.in_ok-step.ensures.step ∙ read)) tt
 
 pub returns-clause-entries : goal.returns-clause-entries
 returns-clause-entries c =
     let files = c.args.world.now.files in
     let path = c.args.directory.now in
-    let read = listing_read files path c.requires.short (listing_words files c.requires.map c.requires.files c.requires.times path) in
+    let read = listing_read files path c.requires.short (listing_words files c.requires.map c.requires.files path) in
     c.into_vec.ensures ∙ done_is (sym c.value_of-entries.ensures ∙ (c.in_ok-step.ensures.step ∙ read))

@@ -2,7 +2,6 @@ use Rattle.std.proofs.Common.{◌∙◌, ap, sym, subst, List, [], ◌∷◌, �
 use Rattle.adb_files.specs.Entries.{Entry}
 use Rattle.adb_files.specs.Files.{IsFileMap}
 use Rattle.adb_copy.specs.declared.found.Found.{Found}
-use Rattle.adb_copy.specs.Pulling.{HaveTimes}
 use Rattle.adb_copy.specs.Trees.{AreCopied}
 use Rattle.adb_copy.proofs.PullWorlds.{next_pulling, next_room, next_walks, none_left, pulled, pulling_begins, stopped}
 use Rattle.adb_copy.proofs.pulling.pull_tree.Goals as goal
@@ -18,9 +17,6 @@ visit-requires-clause-map c = subst IsFileMap (sym c.loop-found.invariant.pulls.
 
 pub visit-requires-clause-files : goal.visit-requires-clause-files
 visit-requires-clause-files c = subst (λ (es : List Entry). AreCopied es) (sym c.loop-found.invariant.pulls.files) c.requires.files
-
-pub visit-requires-clause-times : goal.visit-requires-clause-times
-visit-requires-clause-times c = subst (λ (es : List Entry). HaveTimes es) (sym c.loop-found.invariant.pulls.files) c.requires.times
 
 pub visit-requires-clause-walks : goal.visit-requires-clause-walks
 visit-requires-clause-walks c =

@@ -1,11 +1,8 @@
-use Rattle.adb_copying.proofs.Copies.{are_copied, left_copied, left_timed, pull_room}
+use Rattle.adb_copying.proofs.Copies.{are_copied, left_copied, pull_room}
 use Rattle.adb_copying.proofs.copying.copy_files.Goals as goal
 
 pub pull_tree-requires-clause-files : goal.pull_tree-requires-clause-files
 pull_tree-requires-clause-files c = left_copied c.push.new.world.files c.args.tree.now c.in_ok-push.ensures.files c.requires.tree
-
-pub pull_tree-requires-clause-times : goal.pull_tree-requires-clause-times
-pull_tree-requires-clause-times c = left_timed c.push.new.world.files c.args.tree.now c.in_ok-push.ensures.files c.requires.tree
 
 pub pull_tree-requires-clause-room : goal.pull_tree-requires-clause-room
 pull_tree-requires-clause-room c =

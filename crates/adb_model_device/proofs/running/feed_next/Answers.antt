@@ -1,4 +1,4 @@
-use Rattle.std.proofs.Common.{◌≡◌, ◌∙◌, ℕ, List, [], ◌∷◌, ◌++◌, Err, refl, sym, ap}
+use Rattle.std.proofs.Common.{◌∙◌, ℕ, List, [], ◌∷◌, ◌++◌, Err, sym, ap}
 use Rattle.adb_model_device.proofs.Turns.{goes_on, feeds_well, feeds_badly, ends_here, is_lost}
 use Rattle.adb_model_device.proofs.running.feed_next.Goals as goal
 

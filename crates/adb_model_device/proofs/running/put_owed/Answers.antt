@@ -1,4 +1,4 @@
-use Rattle.std.proofs.Common.{◌≡◌, ◌∙◌, ℕ, length, ap}
+use Rattle.std.proofs.Common.{◌∙◌, ℕ, length, ap}
 use Rattle.adb_model_device.proofs.Turns.{goes_nowhere, runs_out, puts_all, is_refused}
 use Rattle.adb_model_device.proofs.running.put_owed.Goals as goal
 

@@ -14,7 +14,7 @@ kept c =
     let none : put_refusal c.args.self.now c.args.path.now c.len-size.result ≡ None = sym c.put_refusal.ensures ∙ c.in_default.is in
     let may = granted c.args.self.now c.args.path.now c.len-size.result none in
     subst IsFileMap (sym (stored c)) (map-with c.args.path.now c.args.file c.args.self.now c.used_without.ensures.files
-    (subst (Granted c.args.self.now c.args.path.now) size may) c.requires)
+    (subst (Granted c.args.self.now c.args.path.now) size may) c.requires c.have_32_bits.ensures.mode c.have_32_bits.ensures.mtime)
 
 pub invariant_of-self-2 : goal.invariant_of-self-2
 invariant_of-self-2 c =

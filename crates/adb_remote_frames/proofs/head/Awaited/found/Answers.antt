@@ -1,4 +1,4 @@
-use Rattle.std.proofs.Common.{◌≡◌, ◌≤◌, ◌<◌, ◌+◌, length, take, sym, ◌∙◌, ap, arith}
+use Rattle.std.proofs.Common.{◌≡◌, sym, ◌∙◌, ap, arith}
 use Rattle.adb_outside.specs.declared.framer.Front.TheVariants.{Bad}
 use Rattle.adb_outside.specs.Framing.{offset_past}
 use Rattle.adb_remote_frames.proofs.Walks.{stray_here, whole_here, short_here}

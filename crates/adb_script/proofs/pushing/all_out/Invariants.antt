@@ -1,5 +1,5 @@
 use Rattle.std.proofs.Common.{◌≡◌, ◌++◌, length}
-use Rattle.adb_script.proofs.asking.all_out.Given as goal
+use Rattle.adb_script.proofs.pushing.all_out.Given as goal
 
 abbrev pub invariant-loop-push : goal.invariant-loop-push
 invariant-loop-push l = l.text ++ l.push.left ≡ l.initial.push.left
