@@ -65,4 +65,5 @@ Clears old new = (fed : List ℕ) (gave : List (List ℕ)) → need_of old ≡ 0
 
 pub clears : (own : Option (List ℕ)) (held new : List ℕ) → IsAlone own held → new ≡ [] → Clears held new → Clears (held_of own held) new
 clears None held new alone none stands = stands
-clears (Some front) held new alone none stands = λ fed gave whole h. subst (HasSliced fed (gave ++ front ∷ [])) (sym none) (goes_on front alone.1 whole fed gave h)
+clears (Some front) held new alone none stands = λ fed gave whole h.
+    subst (HasSliced fed (gave ++ front ∷ [])) (sym none) (goes_on front alone.1 whole fed gave h)
