@@ -1,5 +1,5 @@
 -- What calls of a hall leave when pieces are handed in and a link's input is ended.
-use Rattle.std.proofs.Common.{ℕ, ◌≡◌, Bool, true, false, List, [], ◌∷◌, ◌++◌, Option, Some, None, Result, Ok, Err}
+use Rattle.std.proofs.Common.{ℕ, ◌≡◌, Bool, true, false, List, [], ◌∷◌, ◌++◌, length, Option, Some, None, Result, Ok, Err}
 use Rattle.std.proofs.Common.{refl, sym, ap, ◌∙◌, subst, ◌⊎◌, inl, inr, zero, suc, arith}
 use Rattle.std.specs.Prelude.{◌||◌, reverse, is_some}
 use Rattle.std.proofs.lemmas.Bool.{cases_lt}
@@ -26,7 +26,7 @@ use Rattle.adb_desk.specs.Desk.{desk_refusal, or_later, link_life}
 use Rattle.adb_hall.specs.Telling.{Telling, Where, Entered, Fails, Lives}
 use Rattle.adb_hall.specs.Passes.{after_life}
 use Rattle.adb_hall.proofs.Made.{where_some, tells_more}
-use Rattle.adb_device_reader.specs.Handing.{Stands, IsGone, IsCutOff, Breaks, Finished, Handed}
+use Rattle.adb_device_reader.specs.Handing.{Stands, IsGone, IsCutOff, Breaks, Finished, Answered, Handed}
 
 -- ---- passes
 pub same_number : (p : PassView) (n : ℕ) (result : Result Life DeskError) → (after_life p n result).number ≡ p.number
@@ -163,12 +163,7 @@ finished t cause result entries old new p q pass told s =
     subst (λ (x : PassView). Finished t cause entries x.starved new) (sym pass) (finished_by t cause result entries old new s w.0 p w.1 w.2)
 
 -- ---- a piece is handed in
-pub went_on : (t : ℕ) (piece : List ℕ) (starved : Bool) (entries : List Entry) (old new : Option Telling)
-    → Where old (Lives (Recv t piece) (link_life t) (Ok Live)) new → Stands entries old → Handed true t piece entries starved new
-went_on t piece starved entries old new told s =
-    let w = where_some _ old new s.now s.tells_now told in entered_stands (Recv t piece) entries old new s w.0 w.1 w.2.0
-
-pub gone : (t : ℕ) (piece : List ℕ) (starved : Bool) (entries : List Entry) (old new : Option Telling)
+gone : (t : ℕ) (piece : List ℕ) (starved : Bool) (entries : List Entry) (old new : Option Telling)
     → Where old (Lives (Recv t piece) (link_life t) (Ok Gone)) new → Stands entries old → Handed false t piece entries starved new
 gone t piece starved entries old new told s =
     let w = where_some _ old new s.now s.tells_now told in
@@ -202,7 +197,7 @@ refused_piece t piece error entries old new p q n pass told s =
     subst (λ (x : PassView). Unmade t entries x.starved new) (sym pass)
     (unmade t (Recv t piece) error entries old new s w.0 (after_life p n (Err error)).starved (λ s. refl) (starved_by p n error) w.1 w.2)
 
-pub refused : (t : ℕ) (piece : List ℕ) (error : DeskError) (entries : List Entry) (old new : Option Telling) (p q : PassView) (n : ℕ)
+refused : (t : ℕ) (piece : List ℕ) (error : DeskError) (entries : List Entry) (old new : Option Telling) (p q : PassView) (n : ℕ)
     → q ≡ after_life p n (Err error) → Where old (Lives (Recv t piece) (link_life t) (Err error)) new → Stands entries old
     → Handed false t piece entries q.starved new
 refused t piece error entries old new p q n pass told s =
@@ -215,7 +210,7 @@ gave_up_by t piece entries starved new is (inl stands) =
 gave_up_by t piece entries starved new is (inr breaks) = lost_all t piece starved entries [] new breaks
 
 -- memory ran out, and the link's input was ended for it
-pub gave_up : (piece : List ℕ) (error : DeskError) (entries : List Entry) (old now new : Option Telling) (p q : PassView) (n : ℕ) (starved : Bool)
+gave_up : (piece : List ℕ) (error : DeskError) (entries : List Entry) (old now new : Option Telling) (p q : PassView) (n : ℕ) (starved : Bool)
     → error ≡ Hub OutOfMemory → q ≡ after_life p n (Err error) → Where old (Lives (Recv p.number piece) (link_life p.number) (Err error)) now
     → Stands entries old → (q.starved ≡ true → starved ≡ true) → (Stands entries now → Finished q.number Starved entries starved new)
     → Handed false p.number piece entries starved new
@@ -225,3 +220,18 @@ gave_up piece error entries old now new p q n starved wants pass told s keeps fi
     let first : q.starved ≡ true = ap (λ (x : PassView). x.starved) pass ∙ starved_by p n error wants in
     gave_up_by p.number piece entries starved new (keeps first)
     (subst (λ (t : ℕ). Finished t Starved entries starved new) same (finish left.hall))
+
+-- ---- what a piece was answered with
+module _ {before : PassView} {piece : List ℕ} {entries : List Entry} {answer : Result Life DeskError} {now : PassView} {tells : Option Telling}
+    (a : Answered before piece entries answer now tells) where
+  pub answered_gone : answer ≡ Ok Gone → Handed false before.number piece entries now.starved tells
+  answered_gone is = gone before.number piece now.starved entries a.tells_before tells (rw is at a.told) a.stood
+
+  pub answered_no : (error : DeskError) → answer ≡ Err error → Handed false before.number piece entries now.starved tells
+  answered_no error is = refused before.number piece error entries a.tells_before tells before now (length piece) (rw is at a.pass) (rw is at a.told) a.stood
+
+  pub answered_want : (error : DeskError) (starved : Bool) (new : Option Telling) → answer ≡ Err error → error ≡ Hub OutOfMemory
+      → (now.starved ≡ true → starved ≡ true) → (Stands entries tells → Finished now.number Starved entries starved new)
+      → Handed false before.number piece entries starved new
+  answered_want error starved new is wants keeps finish =
+      gave_up piece error entries a.tells_before tells new before now (length piece) starved wants (rw is at a.pass) (rw is at a.told) a.stood keeps finish

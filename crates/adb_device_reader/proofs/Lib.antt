@@ -1,3 +1,4 @@
 pub mod Handing
 pub mod Marks
 pub mod Readings
+mod Fronts

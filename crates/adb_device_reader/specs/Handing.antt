@@ -1,14 +1,18 @@
 -- What a hall tells when pieces are handed in and a link's input is ended.
-use Rattle.std.specs.Prelude.{ℕ, ◌≡◌, Bool, true, false, List, [], ◌∷◌, ◌++◌, map, reverse, Option, Some, is_some, ◌⊎◌}
+use Rattle.std.specs.Prelude.{ℕ, ◌≡◌, Bool, true, false, List, [], ◌∷◌, ◌++◌, map, reverse, length, Option, Some, is_some, Result, ◌⊎◌}
 use Rattle.adb_outside.specs.declared.kinds.Cause.{Cause}
 use Rattle.adb_outside.specs.declared.kinds.Cause.TheVariants.{Starved}
 use Rattle.adb_capture.specs.declared.entry.Entry.{Entry}
 use Rattle.adb_capture.specs.declared.entry.Entry.TheVariants.{Recv, Detach}
 use Rattle.adb_history.specs.Machine.{state}
 use Rattle.adb_history.specs.Kept.{IsLawful}
+use Rattle.adb_hub.specs.declared.answers.Life.{Life}
 use Rattle.adb_hub.specs.declared.answers.Life.TheVariants.{Gone}
 use Rattle.adb_desk.specs.Desk.{link_life}
-use Rattle.adb_hall.specs.Telling.{Telling}
+use Rattle.adb_desk_log.specs.declared.error.DeskError.{DeskError}
+use Rattle.adb_desk_log.specs.Pass.{PassView}
+use Rattle.adb_hall.specs.Telling.{Telling, Where, Lives}
+use Rattle.adb_hall.specs.Passes.{after_life}
 use Rattle.adb_hall.specs.Made.{IsStopped}
 
 -- the entries by which the pieces came on a link
@@ -62,3 +66,11 @@ pub record Stops (t : ℕ) (piece : List ℕ) (entries : List Entry) (starved : 
 abbrev pub Handed : Bool → ℕ → List ℕ → List Entry → Bool → Option Telling → Type 0
 Handed true t piece entries starved tells = Stands (entries ++ received t (piece ∷ [])) tells
 Handed false t piece entries starved tells = Stops t piece entries starved tells
+
+-- A piece was handed in with a pass, behind these entries, and this was answered.
+pub record Answered (before : PassView) (piece : List ℕ) (entries : List Entry) (answer : Result Life DeskError) (now : PassView)
+    (tells : Option Telling) : Type 0 where
+  pub pass : now ≡ after_life before (length piece) answer
+  pub tells_before : Option Telling
+  pub stood : Stands entries tells_before
+  pub told : Where tells_before (Lives (Recv before.number piece) (link_life before.number) answer) tells

@@ -5,7 +5,7 @@ use Rattle.adb_wire.specs.declared.headers.Head.{Head}
 use Rattle.adb_wire.specs.declared.headers.TheConstants.{HEADER_LEN}
 use Rattle.adb_wire.specs.Header.{head_at}
 use Rattle.adb_wire.specs.Format.{packet_len}
-use Rattle.adb_wire.specs.Slicing.{need_of, IsSlice, HasSliced}
+use Rattle.adb_wire.specs.Slicing.{slice_len, IsSlice, HasSliced}
 
 -- The bytes are a front of that header's packet, and there is room for all of it.
 pub record IsFrontOf (head : Head) (front : Filled) : Type 0 where
@@ -19,10 +19,10 @@ abbrev pub held_of : Option (List ℕ) → List ℕ → List ℕ
 held_of None held = held
 held_of (Some front) held = front
 
--- Where a packet has memory of its own, the slicer holds nothing.
+-- Where a packet has memory of its own, the slicer holds nothing, and the packet is not too long.
 abbrev pub IsAlone : Option (List ℕ) → List ℕ → Type 0
 IsAlone None held = Unit {0}
-IsAlone (Some front) held = held ≡ []
+IsAlone (Some front) held = (held ≡ []) × (length front ≤ slice_len front)
 
 -- The packet was whole and is given, and nothing is held.
 pub record Shares (old new whole : List ℕ) : Type 0 where

@@ -1,10 +1,11 @@
 //! Pieces are handed in, and a link's input is ended.
 
-ghost use Rattle.std.specs.Prelude.{◌≡◌, ◌≤◌, List, true, length};
+ghost use Rattle.std.specs.Prelude.{◌≡◌, ◌≤◌, List, ℕ, true, length};
 ghost use Rattle.adb_capture.specs.declared.entry.Entry.{Entry};
 ghost use Rattle.adb_capture.specs.declared.limits.TheConstants.{MAX_DATA};
 ghost use Rattle.adb_outside.specs.declared.kinds.Cause.{Cause};
-ghost use Rattle.adb_device_reader.specs.Handing.{Stands, Finished, Handed};
+ghost use Rattle.adb_desk_log.specs.Pass.{PassView};
+ghost use Rattle.adb_device_reader.specs.Handing.{Stands, Finished, Answered, Handed};
 
 use adb_connections::{Gate, Place};
 use adb_desk_log::{DeskError, LinkIn, Marks};
@@ -28,6 +29,30 @@ pub fn finish<E: Ledger, M: Ledger, K: Marks, H: Hall<E, M, K>>(
     let _ = hall.detach(pass, cause);
 }
 
+/// Whether more may follow behind a piece, by what the hall answered: not where the link is gone or
+/// the piece is refused. Where memory ran out, the link's input is ended.
+fn goes_on<E: Ledger, M: Ledger, K: Marks, H: Hall<E, M, K>>(
+    hall: &mut H,
+    pass: &mut LinkIn<E, M, K>,
+    answer: Result<Life, DeskError>,
+) -> bool
+    ensures number { pass.new.pass.number ≡ pass.old.pass.number }
+    ensures told { (before : PassView) (piece : List ℕ) (entries : List Entry)
+        → Answered before piece entries answer pass.old.pass (H.tells hall.old)
+        → Handed result before.number piece entries pass.new.pass.starved (H.tells hall.new) }
+    ensures mark { H.marked hall.new ≡ H.marked hall.old }
+{
+    match answer {
+        Ok(Life::Live) => true,
+        Ok(Life::Gone) => false,
+        Err(DeskError::Hub(HubError::OutOfMemory)) => {
+            finish(hall, pass, Cause::Starved);
+            false
+        }
+        Err(_) => false,
+    }
+}
+
 /// Hands in a piece. Answers whether more may follow: not where the link is gone or the piece is
 /// refused. Where memory ran out, the link's input is ended.
 pub fn hand_in<E: Ledger, M: Ledger, K: Marks, H: Hall<E, M, K>, G: Gate>(
@@ -44,15 +69,8 @@ pub fn hand_in<E: Ledger, M: Ledger, K: Marks, H: Hall<E, M, K>, G: Gate>(
     ensures mark { H.marked hall.new ≡ H.marked hall.old }
 {
     gate.pass(Place::DeviceReader as u8, pass.number());
-    match hall.recv(pass, piece) {
-        Ok(Life::Live) => true,
-        Ok(Life::Gone) => false,
-        Err(DeskError::Hub(HubError::OutOfMemory)) => {
-            finish(hall, pass, Cause::Starved);
-            false
-        }
-        Err(_) => false,
-    }
+    let answer = hall.recv(pass, piece);
+    goes_on(hall, pass, answer)
 }
 
 /// Hands in a whole packet, as `hand_in` does its bytes.
@@ -70,13 +88,6 @@ pub fn hand_in_packet<E: Ledger, M: Ledger, K: Marks, H: Hall<E, M, K>, G: Gate>
     ensures mark { H.marked hall.new ≡ H.marked hall.old }
 {
     gate.pass(Place::DeviceReader as u8, pass.number());
-    match hall.recv_whole(pass, packet) {
-        Ok(Life::Live) => true,
-        Ok(Life::Gone) => false,
-        Err(DeskError::Hub(HubError::OutOfMemory)) => {
-            finish(hall, pass, Cause::Starved);
-            false
-        }
-        Err(_) => false,
-    }
+    let answer = hall.recv_whole(pass, packet);
+    goes_on(hall, pass, answer)
 }

@@ -34,7 +34,8 @@ impl Front {
     /// A packet of which only the header came, where that has no fault and there is memory for the
     /// packet.
     fn begin(alloc: Global, held: &[u8]) -> Option<Front>
-        ensures { IfSome result (λ front. front ≡ held.now) }
+        ensures held { IfSome result (λ front. front ≡ held.now) }
+        ensures within { IfSome result (λ front. length front ≤ slice_len front) }
     {
         if held.len() != HEADER_LEN {
             return None;

@@ -59,10 +59,10 @@ fn turn<E: Ledger, M: Ledger, K: Marks, H: Hall<E, M, K>, I: DeviceIn, G: Gate>(
 /// its 24 bytes. Where the device ends or fails, the bytes of a packet that is not whole are handed
 /// in, and then the link's input is ended by one Detach, of `Eof` or `Fault`.
 ///
-/// Of the packets nothing is held yet. Where the hall finds no memory for a piece, the link's input is
-/// ended by one Detach of `Starved`, and that piece is lost, with what was read behind it. The gate
-/// is passed at the place of a device's reader, before each piece. The pass that comes back has its
-/// shares and its mark.
+/// Of the packets nothing is held yet. Where the hall finds no memory for a piece, the link's input
+/// is ended by one Detach of `Starved`, and that piece is lost, with what was read behind it. The
+/// gate is passed at the place of a device's reader, before each piece. The pass that comes back
+/// has its shares and its mark.
 pub fn read_device<
     W: Wait + Copy + Drop,
     E: Ledger,

@@ -68,7 +68,8 @@ pub fn recv_whole<R: Recorder, E: Ledger, M: Ledger, K: Marks>(
 ) -> Result<Life, DeskError>
     requires { length packet.now ≤ MAX_DATA }
     ensures pass { pass.new.pass ≡ after_life pass.old.pass (length packet.now) result }
-    ensures told { let n = pass.old.pass.number in Lives (Entry.Recv n packet.now) (link_life n) result
+    ensures told { let n = pass.old.pass.number in
+        Lives (Entry.Recv n packet.now) (link_life n) result
         (telling_of desk.old) (telling_of desk.new) }
     ensures steady { K.steady → result ≢ Err DeskError.RecordFault }
 {
