@@ -1,13 +1,10 @@
 //! Whom to wake: a bell for each pass that may wait.
 
+use crate::rings::Rings;
 use adb_hub::Owner;
 use std::alloc::{AllocError, Global};
 use std::collections::BTreeMap;
 use std::sync::{Arc, Condvar};
-
-/// How many bells are rung while the lock is held. Who is woken under the lock may sleep once more
-/// until it is free, so the others are rung behind it.
-const FEW: usize = 4;
 
 /// Which pass of a number waits.
 #[derive(Clone, Copy, Debug, PartialEq, Eq, Drop)]
@@ -57,54 +54,6 @@ impl Pair {
         match side {
             Side::Reader => &mut self.reader,
             Side::Writer => &mut self.writer,
-        }
-    }
-}
-
-/// Bells that are rung when the lock is free again, beside those that were rung at once.
-#[derive(Drop)]
-pub struct Rings {
-    rung: usize,
-    later: Vec<Arc<Condvar, Global>>,
-    strays: bool,
-}
-
-impl Rings {
-    fn new(alloc: Global) -> Rings {
-        Rings {
-            rung: 0,
-            later: Vec::new(alloc),
-            strays: false,
-        }
-    }
-
-    fn ring(&mut self, bell: &Arc<Condvar, Global>) {
-        if self.rung < FEW {
-            self.rung += 1;
-            bell.notify_one();
-            return;
-        }
-        let is_kept = match Arc::try_clone(bell) {
-            Ok(copy) => self.later.push(copy).is_ok(),
-            Err(_) => false,
-        };
-        if !is_kept {
-            bell.notify_one();
-        }
-    }
-
-    /// How many bells it rings, but for the common one.
-    pub fn len(&self) -> usize {
-        self.rung.saturating_add(self.later.len())
-    }
-
-    /// Rings what is left, behind the lock.
-    pub fn ring_rest(self, common: &Condvar) {
-        for bell in &self.later {
-            bell.notify_one();
-        }
-        if self.strays {
-            common.notify_all();
         }
     }
 }
@@ -169,8 +118,7 @@ impl Bells {
 
     /// Rings for who sleeps on the common bell.
     pub fn ring_strays(&mut self) -> Rings {
-        let mut rings = Rings::new(self.alloc);
-        rings.strays = self.strays;
+        let rings = Rings::new(self.alloc, self.strays);
         self.strays = false;
         rings
     }

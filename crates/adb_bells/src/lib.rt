@@ -3,6 +3,8 @@
 
 mod bells;
 mod locked;
+mod rings;
 
-pub use bells::{Bells, Pair, Rings, Side};
+pub use bells::{Bells, Pair, Side};
 pub use locked::Locked;
+pub use rings::Rings;

@@ -1,6 +1,7 @@
 //! What lies under the lock.
 
-use crate::bells::{Bells, Rings, Side};
+use crate::bells::{Bells, Side};
+use crate::rings::Rings;
 use adb_capture::Recorder;
 use adb_desk::Desk;
 use adb_desk_log::Marks;

@@ -18,8 +18,9 @@ use std::sync::ledger::Ledger;
 /// The length of a reader's first buffer: most clients ask for little.
 pub const FIRST_PIECE: usize = 4_096;
 
-/// The most bytes that a reader takes of its port at once.
-pub const MAX_PIECE: usize = 65_536;
+/// The most bytes that a reader takes of its port at once: all that a client has room for. Less would
+/// leave room for a few, which a turn of their own would bring.
+pub const MAX_PIECE: usize = 65_540;
 
 /// Whether a reader goes on.
 #[derive(Clone, Copy, Debug, PartialEq, Eq, Drop)]
