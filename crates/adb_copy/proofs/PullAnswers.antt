@@ -28,6 +28,7 @@ use Rattle.adb_files.specs.Files.{file_at, read_refusal}
 use Rattle.adb_files.specs.Listing.{listing}
 use Rattle.adb_files.specs.Requests.{Request, Lists, Receives, completed, requests_of, fault_request, requests_in}
 use Rattle.adb_files.specs.Served.{Served, answered, dent_bytes, list_bytes, recv_by, recv_bytes, serve_all, served, then_served}
+use Rattle.adb_sync_client.specs.declared.request.TheConstants.{MAX_ASKED_PATH}
 use Rattle.adb_sync_client.specs.declared.expected.Expected.{Expected}
 use Rattle.adb_sync_client.specs.declared.kind.AnswerKind.TheVariants as kinds
 use Rattle.adb_sync_client.specs.declared.step.Step.{Step}
@@ -50,13 +51,13 @@ one_request ask request good words place is =
 alone_answered : (files : List Entry) (answer : List ℕ) → then_served (answered files answer) (λ left. answered left []) ≡ answered files answer
 alone_answered files answer = ap (answered files) (append-nil answer)
 
-pub list_served : (files : List Entry) (path : List ℕ) → length path ≤ 1000
+pub list_served : (files : List Entry) (path : List ℕ) → length path ≤ MAX_ASKED_PATH
     → served files (list_text path) ≡ answered files (list_bytes (listing path files))
 list_served files path short =
     ap (serve_all files) (one_request (asks.List path) (Lists path) (omega (arith, short)) tt refl refl)
     ∙ alone_answered files (list_bytes (listing path files))
 
-pub recv_served : (files : List Entry) (path : List ℕ) → length path ≤ 1000 → served files (pull_text path) ≡ answered files (recv_bytes files path)
+pub recv_served : (files : List Entry) (path : List ℕ) → length path ≤ MAX_ASKED_PATH → served files (pull_text path) ≡ answered files (recv_bytes files path)
 recv_served files path short =
     ap (serve_all files) (one_request (asks.Recv path) (Receives path) (omega (arith, short)) tt refl refl)
     ∙ alone_answered files (recv_bytes files path)
@@ -143,7 +144,7 @@ pub list_read : (entries : List Dirent) → AllByRecursion HasWords entries → 
 list_read entries words = ap (step_map (λ (said : Said). said.entries)) (listed (answers_start true) told_nothing entries refl words)
 
 -- ---- both
-pub listing_read : (files : List Entry) (path : List ℕ) → length path ≤ 1000 → AllByRecursion HasWords (listing path files)
+pub listing_read : (files : List Entry) (path : List ℕ) → length path ≤ MAX_ASKED_PATH → AllByRecursion HasWords (listing path files)
     → list_value (served files (list_text path)).answer ≡ steps.Done (listing path files)
 listing_read files path short words =
     ap (λ (s : Served). list_value s.answer) (list_served files path short) ∙ list_read (listing path files) words
@@ -151,7 +152,7 @@ listing_read files path short words =
 abbrev pub Reads : Type 0
 Reads = (bytes : List ℕ) → pull_value (chunk_bytes bytes ++ answer_bytes answers.ChunkEnd) ≡ steps.Done bytes
 
-pub file_read : Reads → (files : List Entry) (path : List ℕ) (file : File) → length path ≤ 1000 → read_refusal files path ≡ None
+pub file_read : Reads → (files : List Entry) (path : List ℕ) (file : File) → length path ≤ MAX_ASKED_PATH → read_refusal files path ≡ None
     → file_at path files ≡ Some file → pull_value (served files (pull_text path)).answer ≡ steps.Done file.bytes
 file_read reads files path file short granted there =
     ap (λ (s : Served). pull_value s.answer) (recv_served files path short)

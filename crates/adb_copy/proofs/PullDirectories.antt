@@ -12,6 +12,7 @@ use Rattle.adb_files.specs.Entries.{Entry}
 use Rattle.adb_files.specs.Files.{IsFileMap, is_directory}
 use Rattle.adb_files.specs.Paths.{is_path, is_name, is_below, inside, parts_of}
 use Rattle.adb_files.proofs.Lookups.{same_by_test}
+use Rattle.adb_sync_client.specs.declared.request.TheConstants.{MAX_ASKED_PATH}
 use Rattle.adb_copy.specs.Pulling.{leading_behind, leading, each_once, directories}
 use Rattle.adb_copy.specs.Trees.{AreCopied, IsCopied}
 use Rattle.adb_copy.proofs.PullPaths.{is_slash, in_parts, starts_front}
@@ -254,7 +255,7 @@ no_more true starts names h = inl refl
 no_more false true names h = inr h
 no_more false false names h = absurd (cc)
 
-leads_few : (path : List ℕ) → is_path path ≡ true → length path ≤ 1000 → length (leading path) ≤ 500
+leads_few : (path : List ℕ) → is_path path ≡ true → length path ≤ MAX_ASKED_PATH → length (leading path) ≤ 500
 leads_few path form short =
     go (no_more (bytes_eq path (codes "/")) (starts_with nat_eq path (codes "/")) (list_all is_name (parts_of path)) form)
   where

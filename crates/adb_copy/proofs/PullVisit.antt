@@ -4,6 +4,7 @@ use Rattle.std.proofs.Common.{◌∙◌, ap, sym, subst, arith}
 use Rattle.adb_files.specs.Entries.{Entry}
 use Rattle.adb_files.specs.Files.{IsFileMap, put_refusal, with_file}
 use Rattle.adb_files.specs.Listing.{listing}
+use Rattle.adb_sync_client.specs.declared.request.TheConstants.{MAX_ASKED_PATH}
 use Rattle.adb_copy.specs.declared.found.Found.{Found}
 use Rattle.adb_copy.specs.Trees.{AreCopied}
 use Rattle.adb_copy.specs.Waiting.{IsFile, IsThere, Walks, found_in, owed}
@@ -18,7 +19,7 @@ module _ (files : List Entry) (ok : IsFileMap files) (copied : AreCopied files) 
   there : IsThere files found
   there = (all_back (IsThere files) pending (found ∷ []) w.known).0
 
-  pub visit_short : length found.path ≤ 1000
+  pub visit_short : length found.path ≤ MAX_ASKED_PATH
   visit_short = found_short files ok copied found there
 
   pub visit_room : (given most : ℕ) → given + owed files (pending ++ found ∷ []) ≤ most → given < most

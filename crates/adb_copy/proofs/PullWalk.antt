@@ -13,6 +13,7 @@ use Rattle.adb_files.specs.Files.{IsFileMap, is_directory, total}
 use Rattle.adb_files.specs.Listing.{dirent_of, listing, part_at, rest_below, shown_in, slash_in, stat_at}
 use Rattle.adb_files.specs.Paths.{is_path, is_below, inside}
 use Rattle.adb_files.proofs.Rising.{entry_of}
+use Rattle.adb_sync_client.specs.declared.request.TheConstants.{MAX_ASKED_PATH}
 use Rattle.adb_copy.specs.declared.found.Found.{Found}
 use Rattle.adb_copy.specs.Pulling.{directories}
 use Rattle.adb_copy.specs.Trees.{AreCopied, IsCopied}
@@ -22,7 +23,7 @@ use Rattle.adb_copy.proofs.PullCounts.{all_among, all_fail, all_from_among, all_
 use Rattle.adb_copy.proofs.PullDirectories.{IsRootOrHasFile, directories_have_files, path_starts}
 use Rattle.adb_copy.proofs.PullListing.{IsAmong, IsShownBy, Shown, shown_alone}
 use Rattle.adb_copy.proofs.PullPaths.{inside_longer, starts_long}
-use Rattle.adb_copy.proofs.PullSteps.{form_of, forms, times, times_one, waits_one}
+use Rattle.adb_copy.proofs.PullSteps.{form_of, forms, times_one, waits_one}
 
 or_right : (a b : Bool) → b ≡ true → (a || b) ≡ true
 or_right true b h = refl
@@ -79,12 +80,13 @@ owed_last files =
     omega (arith, left, right)
 
 -- ---- lengths and numbers
-any_short : (d : List ℕ) (files : List Entry) → AllByRecursion IsCopied files → list_any (λ (e : Entry). is_below d e.path) files ≡ true → length d ≤ 1000
+any_short : (d : List ℕ) (files : List Entry) → AllByRecursion IsCopied files → list_any (λ (e : Entry). is_below d e.path) files ≡ true
+    → length d ≤ MAX_ASKED_PATH
 any_short d [] copied some = absurd (cc)
 any_short d (e ∷ files) copied some = go (is_below d e.path) refl some (any_short d files copied.1)
   where
     go : (t : Bool) → is_below d e.path ≡ t → (t || list_any (λ (x : Entry). is_below d x.path) files) ≡ true
-        → (list_any (λ (x : Entry). is_below d x.path) files ≡ true → length d ≤ 1000) → length d ≤ 1000
+        → (list_any (λ (x : Entry). is_below d x.path) files ≡ true → length d ≤ MAX_ASKED_PATH) → length d ≤ MAX_ASKED_PATH
     go true below h more = let short = copied.0.0 in omega (arith, short, starts_long e.path (inside d) below, inside_longer d)
     go false below h more = more h
 
@@ -106,14 +108,14 @@ module _ (files : List Entry) (ok : IsFileMap files) (all : AreCopied files) whe
   copied : AllByRecursion IsCopied files
   copied = recursion_from_All IsCopied files all
 
-  pub directory_short : (d : List ℕ) → is_directory files d ≡ true → length d ≤ 1000
+  pub directory_short : (d : List ℕ) → is_directory files d ≡ true → length d ≤ MAX_ASKED_PATH
   directory_short d is = go (by_parts (is_path d) (bytes_eq d (codes "/")) (list_any (λ (e : Entry). is_below d e.path) files) is)
     where
-      go : (bytes_eq d (codes "/") ≡ true) ⊎ (list_any (λ (e : Entry). is_below d e.path) files ≡ true) → length d ≤ 1000
+      go : (bytes_eq d (codes "/") ≡ true) ⊎ (list_any (λ (e : Entry). is_below d e.path) files ≡ true) → length d ≤ MAX_ASKED_PATH
       go (inl same) = omega (arith, ap (λ (bs : List ℕ). length bs) ((bytes_eq-Decides d (codes "/")).0 same))
       go (inr some) = any_short d files copied some
 
-  pub found_short : (found : Found) → IsThere files found → length found.path ≤ 1000
+  pub found_short : (found : Found) → IsThere files found → length found.path ≤ MAX_ASKED_PATH
   found_short found (inl is) = directory_short found.path is.there
   found_short found (inr is) = (all_among IsCopied (entry_of found.path is.file) files copied (among_file found.path is.file files is.there)).0
 
@@ -140,7 +142,7 @@ module _ (files : List Entry) (ok : IsFileMap files) (all : AreCopied files) whe
       time : e.file.mtime < 2 ^ 32
       time = all_among (λ (x : Entry). x.file.mtime < 2 ^ 32) e files (recursion_from_All (λ (x : Entry). x.file.mtime < 2 ^ 32) files ok.times) h.among
 
-      name_short : length s.0 ≤ 1000
+      name_short : length s.0 ≤ MAX_ASKED_PATH
       name_short =
           let rest = rest_below directory e.path in
           let part = name_fits (slash_in rest) rest in

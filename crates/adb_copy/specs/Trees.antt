@@ -4,6 +4,8 @@ use Rattle.adb_files.specs.declared.file.File.{File}
 use Rattle.adb_files.specs.declared.file.FileError.{FileError}
 use Rattle.adb_files.specs.Entries.{Entry}
 use Rattle.adb_files.specs.Files.{put_refusal, refusal_text, with_file}
+use Rattle.adb_script.specs.declared.pushing.TheConstants.{MAX_MODE, MIN_MODE}
+use Rattle.adb_sync_client.specs.declared.request.TheConstants.{MAX_ASKED_PATH}
 use Rattle.adb_sync_client.specs.declared.step.Step.{Step}
 use Rattle.adb_sync_client.specs.declared.step.Step.TheVariants as steps
 
@@ -13,7 +15,7 @@ entry_of path file = record { path = path; file = file }
 
 -- a file that can be copied: a path of at most 1,000 bytes, and the mode of a regular file with its lowest nine bits
 abbrev pub IsCopied : Entry → Type 0
-IsCopied entry = (length entry.path ≤ 1000) × (32768 ≤ entry.file.mode) × (entry.file.mode ≤ 33279)
+IsCopied entry = (length entry.path ≤ MAX_ASKED_PATH) × (MIN_MODE ≤ entry.file.mode) × (entry.file.mode ≤ MAX_MODE)
 
 abbrev pub AreCopied : List Entry → Type 0
 AreCopied files = All IsCopied files

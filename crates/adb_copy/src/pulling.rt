@@ -9,6 +9,7 @@ ghost use Rattle.adb_copy.specs.Trees.{AreCopied};
 ghost use Rattle.adb_copy.specs.Waiting.{IsFile, Walks, found_in, owed};
 ghost use Rattle.adb_world.specs.Parts.{most_sessions};
 ghost use Rattle.adb_copy.specs.Worlds.{Syncs};
+ghost use Rattle.adb_sync_client.specs.declared.request.TheConstants.{MAX_ASKED_PATH};
 
 use crate::asking::{list, pull};
 use crate::found::Found;
@@ -100,7 +101,7 @@ fn list_found(
     requires room { world.old.given < most_sessions }
     requires map { IsFileMap world.old.files }
     requires files { AreCopied world.old.files }
-    requires short { length found.now.path ≤ 1000 }
+    requires short { length found.now.path ≤ MAX_ASKED_PATH }
     ensures entries { OnOk result (pending.new.items ≡ pending.old.items
         ++ map (found_in found.now.path) (listing found.now.path world.old.files)) }
     ensures pulls { OnOk result (Pulls 1 world.old world.new) }
@@ -124,7 +125,7 @@ fn pull_found(
     requires settled { world.old.settled ≡ true }
     requires room { world.old.given < most_sessions }
     requires map { IsFileMap world.old.files }
-    requires short { length found.now.path ≤ 1000 }
+    requires short { length found.now.path ≤ MAX_ASKED_PATH }
     requires there { IsFile world.old.files found.now }
     requires granted { (is : IsFile world.old.files found.now)
         → put_refusal tree.old found.now.path (length is.file.bytes) ≡ None }
@@ -158,7 +159,7 @@ fn add_entries(
 
 /// Puts a file that is not refused at its path.
 fn put(tree: &mut Files, path: &[u8], file: File) -> Result<(), AllocError>
-    requires short { length path.now ≤ 1000 }
+    requires short { length path.now ≤ MAX_ASKED_PATH }
     requires granted { put_refusal tree.old path.now (length file.bytes) ≡ None }
     ensures { OnOk result (tree.new ≡ with_file path.now file tree.old) }
 {

@@ -1,2 +1,2 @@
-mod Copies
+pub mod Copies
 mod Shows

@@ -30,6 +30,7 @@ use Rattle.adb_files.specs.Paths.{is_path}
 use Rattle.adb_files.specs.Requests.{OpenSend, Request, Sends, Receives, requests_of, fault_request, requests_in}
 use Rattle.adb_files.specs.Served.{Served, answered, fail_bytes, send_by, send_moded, sent_file, serve_one, serve_all, served, recv_bytes}
 use Rattle.adb_files.specs.Served.{kept_mode, stored_mode, then_served}
+use Rattle.adb_script.specs.declared.pushing.TheConstants.{MAX_MODE, MIN_MODE}
 use Rattle.adb_sync_client.specs.declared.step.Step.TheVariants as steps
 use Rattle.adb_sync_client.specs.Texts.{push_text, pull_text}
 use Rattle.adb_sync_client.specs.Values.{push_value, pull_value}
@@ -121,7 +122,7 @@ send_is_ask path mode short some fits =
     (omega (arith, short, size), ap last_comma (decimal-digits_of mode some (omega (arith, fits))) ∙ no_comma (digits_of 10 mode))
 
 -- a regular file's mode, with its lowest nine bits, is kept
-module _ (mode : ℕ) (least : 32768 ≤ mode) (most : mode ≤ 33279) where
+module _ (mode : ℕ) (least : MIN_MODE ≤ mode) (most : mode ≤ MAX_MODE) where
   kept : stored_mode (decimal mode) ≡ Some mode
   kept =
       let fits : ltb mode 4294967296 ≡ true = grind (arith, nat_tests, most) in
@@ -154,7 +155,7 @@ sent_goes_on : (files : List Entry) (path : List ℕ) (file : File) (o : Option 
 sent_goes_on files path file None = refl
 sent_goes_on files path file (Some refusal) = refl
 
-module _ (mode : ℕ) (least : 32768 ≤ mode) (most : mode ≤ 33279) where
+module _ (mode : ℕ) (least : MIN_MODE ≤ mode) (most : mode ≤ MAX_MODE) where
   sent_as : (files : List Entry) (path bytes : List ℕ) (mtime : ℕ)
       → serve_one files (Sends path (decimal mode) bytes mtime) ≡ send_by files path (sent_file mode mtime bytes) (put_refusal files path (length bytes))
   sent_as files path bytes mtime = go (is_path path) refl

@@ -11,6 +11,7 @@ ghost use Rattle.adb_sync_client.specs.declared.step.Step.{Step};
 ghost use Rattle.adb_script.specs.declared.asking.TheConstants.{FILE_MODE};
 ghost use Rattle.adb_script.specs.declared.line.TheConstants.{COUNT_DIGITS, MAX_ECHOED, MAX_PUSHED, MAX_STREAMS};
 ghost use Rattle.adb_script.specs.declared.output.TheConstants.{CLOSE_STDIN, EXIT, STDERR, STDOUT};
+ghost use Rattle.adb_script.specs.declared.pushing.TheConstants.{MAX_MODE, MIN_MODE};
 ghost use Rattle.adb_script.specs.declared.script.TheConstants.{MAX_LINES, MAX_SCRIPT};
 ghost use Rattle.adb_script.specs.declared.word.TheConstants.{MAX_WORD};
 
@@ -26,6 +27,8 @@ pub fn limits_are()
     ensures streams { MAX_STREAMS ≡ 64 }
     ensures echoed { MAX_ECHOED ≡ 67108864 }
     ensures mode { FILE_MODE ≡ 33188 }
+    ensures least_mode { MIN_MODE ≡ 32768 }
+    ensures most_mode { MAX_MODE ≡ 33279 }
     ensures output { STDOUT ≡ 1 }
     ensures error_output { STDERR ≡ 2 }
     ensures exit { EXIT ≡ 3 }

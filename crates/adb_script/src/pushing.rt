@@ -8,6 +8,11 @@ use adb_outside::Text;
 use adb_sync_client::Push;
 use std::alloc::{AllocError, Global};
 
+/// The modes that a device keeps whole: those of a regular file, with all of its nine bits.
+pub const MIN_MODE: u32 = 32_768;
+
+pub const MAX_MODE: u32 = 33_279;
+
 /// What a session writes that pushes a file of these bytes to a path, with its mode and its time.
 pub fn push_text(
     alloc: Global,

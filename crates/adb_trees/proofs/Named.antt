@@ -18,10 +18,11 @@ use Rattle.adb_files.proofs.Order.{greater_back}
 use Rattle.adb_files.proofs.Rising.{all-with}
 use Rattle.adb_script.specs.Lines.{is_word, words_of}
 use Rattle.adb_script.specs.Script.{is_newline, is_too_far, lines_of}
+use Rattle.adb_script.specs.declared.pushing.TheConstants.{MAX_MODE, MIN_MODE}
 use Rattle.adb_script.specs.declared.script.TheConstants.{MAX_LINES}
 use Rattle.adb_script.specs.declared.word.TheConstants.{MAX_WORD}
 use Rattle.adb_trees.specs.declared.line.FileLine.{FileLine}
-use Rattle.adb_trees.specs.declared.line.TheConstants.{DIGITS, MIN_MODE, MAX_MODE}
+use Rattle.adb_trees.specs.declared.line.TheConstants.{DIGITS}
 use Rattle.adb_trees.specs.Lines.{file_line, line_of_words, mode_of, mtime_of, size_of, said}
 use Rattle.adb_trees.specs.Trees as trees
 use Rattle.adb_trees.specs.Trees.{AreNamed, IsNamed, Tree, behind_line, file_of, is_refused, no_tree, read, reads_from, then_reads, with_line}

@@ -4,8 +4,9 @@ use Rattle.std.specs.List.{before_first}
 use Rattle.adb_outside.specs.Decimal.{number_in}
 use Rattle.adb_script.specs.Lines.{is_word, words_of}
 use Rattle.adb_script.specs.Script.{is_newline}
+use Rattle.adb_script.specs.declared.pushing.TheConstants.{MAX_MODE, MIN_MODE}
 use Rattle.adb_trees.specs.declared.line.FileLine.{FileLine}
-use Rattle.adb_trees.specs.declared.line.TheConstants.{DIGITS, MIN_MODE, MAX_MODE, MAX_FILE}
+use Rattle.adb_trees.specs.declared.line.TheConstants.{DIGITS, MAX_FILE}
 
 -- the number of 1 to 10 decimal digits that a word is, between these
 abbrev pub number_within : ℕ → ℕ → List ℕ → Option ℕ

@@ -8,11 +8,11 @@ use Rattle.adb_files.specs.Files.{file_at, put_refusal, with_file}
 use Rattle.adb_files.specs.Paths.{is_path}
 use Rattle.adb_script.specs.Pattern.{pattern}
 use Rattle.adb_script.specs.Script.{is_too_far, lines_of}
+use Rattle.adb_script.specs.declared.pushing.TheConstants.{MAX_MODE, MIN_MODE}
 use Rattle.adb_script.specs.declared.script.TheConstants.{MAX_LINES}
 use Rattle.adb_trees.specs.Lines.{said}
 use Rattle.adb_script.specs.declared.word.TheConstants.{MAX_WORD}
 use Rattle.adb_trees.specs.declared.line.FileLine.{FileLine}
-use Rattle.adb_trees.specs.declared.line.TheConstants.{MIN_MODE, MAX_MODE}
 use Rattle.adb_trees.specs.declared.tree.TheConstants.{MAX_TREE}
 
 -- the files that the lines so far name, and how many bytes they have together

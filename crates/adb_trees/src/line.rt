@@ -5,15 +5,10 @@ ghost use Rattle.adb_trees.specs.Lines.{file_line, line_of, mode_of, mtime_of};
 ghost use Rattle.adb_trees.specs.Lines.{number_within, size_of};
 
 use adb_outside::read_number;
-use adb_script::{Word, split_once};
+use adb_script::{MAX_MODE, MIN_MODE, Word, split_once};
 
 /// The most decimal digits of a number.
 pub const DIGITS: usize = 10;
-
-/// The modes that a file may have: those of a regular file, with all of its nine bits.
-pub const MIN_MODE: u32 = 32_768;
-
-pub const MAX_MODE: u32 = 33_279;
 
 /// The most bytes of a file.
 pub const MAX_FILE: u32 = 16_777_216;
