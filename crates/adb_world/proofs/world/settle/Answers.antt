@@ -31,5 +31,5 @@ returns-in-Ok-clause-steps c =
 pub returns-in-Ok-clause-moved : goal.returns-in-Ok-clause-moved
 returns-in-Ok-clause-moved c =
     let ease = ease_of c.world.inside.spent c.world.inside.settled c.world.inside.parts c.if-world.false c.world.invariant in
-    subst (λ (w : View). HasMoved c.in-Ok.value w.hub c.settle_parts.new.parts.hub) c.world.view_is
-    (has_moved c.in-Ok.value c.world.inside.parts c.settle_parts.new.parts ease.runs c.in-Ok.ensures.made)
+    subst (λ (w : View). HasMoved c.in-Ok.steps w.hub c.settle_parts.new.parts.hub) c.world.view_is
+    (has_moved c.in-Ok.steps c.world.inside.parts c.settle_parts.new.parts ease.runs c.in-Ok.ensures.made)
