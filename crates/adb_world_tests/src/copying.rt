@@ -52,7 +52,11 @@ const ROWS: &[Row] = &[
 fn trees_are_refused(rt: HostRuntime) -> Result<(), AllocError> {
     for row in ROWS {
         let mut world = World::new(rt.alloc())?;
-        assert!(rt; is_refused(rt.alloc(), &mut world, row)?, "{:?}", row.refused);
+        assert!(rt;
+            is_refused(rt.alloc(), &mut world, row)?,
+            "{:?}",
+            row.refused
+        );
     }
     Ok(())
 }
