@@ -53,8 +53,10 @@ endif
 test:
 	rt ci
 
+# A folder whose build.sh makes another program that replays, to compare with; without it, or without rustc, nothing is.
+YARDSTICK ?= ../shared/rust_replay
 cost: build
-	@examples/replay_cost bin/adbhub
+	@examples/replay_cost bin/adbhub $(YARDSTICK)
 
 serve: build
 	@echo 'ask it by another terminal, with the port that it names:'
