@@ -9,7 +9,7 @@ use Rattle.adb_registry.specs.Registry.{DeviceTable}
 use Rattle.adb_forward.specs.declared.row.ForwardRow.{ForwardRow}
 use Rattle.adb_stream.specs.declared.row.Stream.{Stream}
 use Rattle.adb_client.specs.declared.phase.Phase.{Phase}
-use Rattle.adb_client.specs.declared.phase.Phase.TheVariants.{Asking, Opening, Streaming, Binding, Tracking, Closing, Gone}
+use Rattle.adb_client.specs.declared.phase.Phase.TheVariants.{Asking, Opening, Streaming}
 use Rattle.adb_reply.specs.declared.answer.Next.{Next}
 use Rattle.adb_reply.specs.declared.answer.Next.TheVariants as what
 use Rattle.adb_reply.specs.Strings.{failed}
@@ -150,15 +150,10 @@ goes_as s next same drawn = record {
 goes_on_makes : (next : Option Next) (c used : ℕ) (older : History) (s : State) → devices older ≡ s.devices
     → Makes s.streams s.drawn (birth_by c used older next) (goes_on next c s)
 goes_on_makes None c used older s same = goes_quiet s
-goes_on_makes (Some what.Close) c used older s same = goes_as s _ refl refl
 goes_on_makes (Some (what.Select id)) c used older s same = goes_quiet s
-goes_on_makes (Some (what.Track long)) c used older s same = goes_as s _ refl refl
 goes_on_makes (Some (what.Open t service)) c used older s same = opens_makes _ s (ap (is_credit t) same)
-goes_on_makes (Some (what.Bind t local remote chosen)) c used older s same = goes_as s _ refl refl
-goes_on_makes (Some (what.Rebind t local remote)) c used older s same = goes_as s _ refl refl
-goes_on_makes (Some (what.Unbind local)) c used older s same = goes_as s _ refl refl
-goes_on_makes (Some what.UnbindAll) c used older s same = goes_as s _ refl refl
 goes_on_makes (Some what.Stop) c used older s same = goes_stops c s
+goes_on_makes _ c used older s same = goes_as s _ refl refl
 
 module _ (older : History) (legal : IsLegal older) where
   abbrev s : State
@@ -235,10 +230,7 @@ module _ (older : History) (legal : IsLegal older) where
         quiet_makes (quietly (to_client c (with_held (client.held ++ bytes)) s)) (ap asks_now is ∙ ap asks_in e) (goes_as s _ refl refl)
     reads_in_makes (Streaming l) client is e =
         quiet_makes (quietly (to_client c (with_held (client.held ++ bytes)) s)) (ap asks_now is ∙ ap asks_in e) (goes_as s _ refl refl)
-    reads_in_makes Binding client is e = quiet_makes (quietly s) (ap asks_now is ∙ ap asks_in e) (goes_quiet s)
-    reads_in_makes Tracking client is e = quiet_makes (quietly s) (ap asks_now is ∙ ap asks_in e) (goes_quiet s)
-    reads_in_makes Closing client is e = quiet_makes (quietly s) (ap asks_now is ∙ ap asks_in e) (goes_quiet s)
-    reads_in_makes Gone client is e = quiet_makes (quietly s) (ap asks_now is ∙ ap asks_in e) (goes_quiet s)
+    reads_in_makes _ client is e = quiet_makes (quietly s) (ap asks_now is ∙ ap asks_in e) (goes_quiet s)
 
     -- which stream is born by bytes that are read
     pub reads_make : (o : Option Client) → s.clients c ≡ o → Makes s.streams s.drawn (births_at (Read c bytes) older) (reads_from o c bytes s)

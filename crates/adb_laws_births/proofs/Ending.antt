@@ -9,7 +9,7 @@ use Rattle.adb_wire.specs.declared.packets.Packet.{Packet}
 use Rattle.adb_stream.specs.declared.row.Part.{Part}
 use Rattle.adb_stream.specs.declared.row.Stream.{Stream}
 use Rattle.adb_client.specs.declared.phase.Phase.{Phase}
-use Rattle.adb_client.specs.declared.phase.Phase.TheVariants.{Asking, Opening, Streaming, Binding, Tracking, Closing, Gone}
+use Rattle.adb_client.specs.declared.phase.Phase.TheVariants.{Streaming}
 use Rattle.adb_history.specs.Rows.{Client, State, to_stream, none_kept, with_stream_part}
 use Rattle.adb_history.specs.Events.{Made, Event, Ending, quietly, then_also, due_to_client, due_to_link, ended, ending_in}
 use Rattle.adb_history.specs.Links.{close_packet, owe_link}
@@ -115,18 +115,8 @@ steps_part n stream part s is same = steps_change n (with_stream_part part) [] s
 -- ---- the client of a stream that ends
 steps_loses : (forwarded : Bool) (phase : Phase) (c : ℕ) (s : State) → EndSteps s.streams (loses forwarded phase c s)
 steps_loses forwarded (Streaming k) c s l = step_same (s.streams l)
-steps_loses true (Opening k) c s l = step_same (s.streams l)
-steps_loses false (Opening k) c s l = step_same (s.streams l)
-steps_loses true Asking c s l = step_same (s.streams l)
-steps_loses false Asking c s l = step_same (s.streams l)
-steps_loses true Binding c s l = step_same (s.streams l)
-steps_loses false Binding c s l = step_same (s.streams l)
-steps_loses true Tracking c s l = step_same (s.streams l)
-steps_loses false Tracking c s l = step_same (s.streams l)
-steps_loses true Closing c s l = step_same (s.streams l)
-steps_loses false Closing c s l = step_same (s.streams l)
-steps_loses true Gone c s l = step_same (s.streams l)
-steps_loses false Gone c s l = step_same (s.streams l)
+steps_loses true _ c s l = step_same (s.streams l)
+steps_loses false _ c s l = step_same (s.streams l)
 
 steps_client_loses : (o : Option Client) (c : ℕ) (s : State) → EndSteps s.streams (client_loses o c s)
 steps_client_loses None c s = steps_quiet s

@@ -10,7 +10,7 @@ use Rattle.adb_outside.specs.declared.kinds.Cause.{Cause}
 use Rattle.adb_outside.specs.declared.kinds.Cause.TheVariants.{Eof, Fault, Starved, NoThread}
 use Rattle.adb_outside.specs.declared.identity.Identity.{Identity}
 use Rattle.adb_outside.specs.declared.identity.State.{State as DeviceState}
-use Rattle.adb_outside.specs.declared.identity.State.TheVariants.{Offline, Unauthorized, Device, Bootloader, Recovery, Sideload, Rescue, Host}
+use Rattle.adb_outside.specs.declared.identity.State.TheVariants.{Offline}
 use Rattle.adb_banner.specs.Banner.{identity_of}
 use Rattle.adb_registry.specs.declared.row.Row.{Row}
 use Rattle.adb_wire.specs.declared.command.Command.{Command}
@@ -26,7 +26,7 @@ use Rattle.adb_stream.specs.declared.row.Stream.{Stream}
 use Rattle.adb_stream.specs.Flow.{first_credit, acknowledged, is_out_of_turn, accepted, to_hand, credit_back, handed_to}
 use Rattle.adb_client.specs.declared.about.Want.{Want}
 use Rattle.adb_client.specs.declared.phase.Phase.{Phase}
-use Rattle.adb_client.specs.declared.phase.Phase.TheVariants.{Asking, Opening, Streaming, Binding, Tracking, Closing, Gone}
+use Rattle.adb_client.specs.declared.phase.Phase.TheVariants.{Opening, Streaming, Binding, Closing, Gone}
 use Rattle.adb_history.specs.Rows.{Client, Link, State, to_client, to_link, to_stream, none_kept, with_stream_part}
 use Rattle.adb_history.specs.Events.{Made, Event, Ending, quietly, due_to_link, ended, ending_in, client_closed, client_failed, peer_closed}
 use Rattle.adb_history.specs.Events.{out_of_turn, lost, broken, stopped}
@@ -124,12 +124,7 @@ steps_stream_left due n (Some stream) s is = steps_stream_hands (min (to_hand st
 
 steps_client_left : (phase : Phase) (due : ℕ) (s : State) → EndSteps s.streams (client_left phase due s)
 steps_client_left (Streaming n) due s = steps_stream_left due n (s.streams n) s refl
-steps_client_left Asking due s = steps_quiet s
-steps_client_left (Opening n) due s = steps_quiet s
-steps_client_left Binding due s = steps_quiet s
-steps_client_left Tracking due s = steps_quiet s
-steps_client_left Closing due s = steps_quiet s
-steps_client_left Gone due s = steps_quiet s
+steps_client_left _ due s = steps_quiet s
 
 steps_takes_of : (c n : ℕ) (o : Option Client) (s : State) → EndSteps s.streams (takes_of c n o s)
 steps_takes_of c n None s = steps_quiet s
@@ -188,22 +183,12 @@ steps_stream_fails : (phase : Phase) (cause : Cause) (o : Option Stream) (s : St
     → EndSteps s.streams (stream_fails phase cause o s)
 steps_stream_fails (Streaming n) cause (Some stream) s is own = steps_fails_open n cause stream s is (own stream is)
 steps_stream_fails (Opening n) cause (Some stream) s is own = steps_fails_asked n cause stream s is (own stream is)
-steps_stream_fails (Streaming n) cause None s is own = steps_quiet s
-steps_stream_fails (Opening n) cause None s is own = steps_quiet s
-steps_stream_fails Asking cause o s is own = steps_quiet s
-steps_stream_fails Binding cause o s is own = steps_quiet s
-steps_stream_fails Tracking cause o s is own = steps_quiet s
-steps_stream_fails Closing cause o s is own = steps_quiet s
-steps_stream_fails Gone cause o s is own = steps_quiet s
+steps_stream_fails _ cause _ s is own = steps_quiet s
 
 steps_input_ends : (phase : Phase) (c : ℕ) (s : State) → EndSteps s.streams (quietly (input_ends phase c s))
-steps_input_ends Asking c s = λ l. step_same (s.streams l)
-steps_input_ends Binding c s = λ l. step_same (s.streams l)
-steps_input_ends Tracking c s = λ l. step_same (s.streams l)
-steps_input_ends (Opening n) c s = λ l. step_same (s.streams l)
-steps_input_ends (Streaming n) c s = λ l. step_same (s.streams l)
 steps_input_ends Closing c s = steps_quiet s
 steps_input_ends Gone c s = steps_quiet s
+steps_input_ends _ c s = λ l. step_same (s.streams l)
 
 steps_client_fails : (c : ℕ) (cause : Cause) (client : Client) (s : State) → OwnsOf client.about.phase s.streams
     → EndSteps s.streams (client_fails c cause client s)
@@ -225,12 +210,7 @@ steps_bound_for (Some want) c port s = λ l. step_same (s.streams l)
 
 steps_bound_in : (phase : Phase) (want : Option Want) (c port : ℕ) (s : State) → EndSteps s.streams (bound_in phase want c port s)
 steps_bound_in Binding want c port s = steps_bound_for want c port s
-steps_bound_in Asking want c port s = steps_quiet s
-steps_bound_in (Opening n) want c port s = steps_quiet s
-steps_bound_in (Streaming n) want c port s = steps_quiet s
-steps_bound_in Tracking want c port s = steps_quiet s
-steps_bound_in Closing want c port s = steps_quiet s
-steps_bound_in Gone want c port s = steps_quiet s
+steps_bound_in _ want c port s = steps_quiet s
 
 pub steps_bound : (o : Option Client) (c port : ℕ) (s : State) → EndSteps s.streams (bound_at o c port s)
 steps_bound None c port s = steps_quiet s
@@ -263,13 +243,7 @@ steps_login t (Some row) s = go row.state
   where
     go : (state : DeviceState) → EndSteps s.streams (quietly (unauthorized_from t state s))
     go Offline l = step_same (s.streams l)
-    go Unauthorized l = step_same (s.streams l)
-    go Device l = step_same (s.streams l)
-    go Bootloader l = step_same (s.streams l)
-    go Recovery l = step_same (s.streams l)
-    go Sideload l = step_same (s.streams l)
-    go Rescue l = step_same (s.streams l)
-    go Host l = step_same (s.streams l)
+    go _ l = step_same (s.streams l)
 
 steps_refuses : (t id : ℕ) (s : State) → EndSteps s.streams (refuses_open t id s)
 steps_refuses t id s =
@@ -350,9 +324,7 @@ steps_treat_open t Okay p s = steps_at t p.arg1 (s.streams p.arg1) (takes_okay p
 steps_treat_open t Wrte p s = steps_at t p.arg1 (s.streams p.arg1) (takes_write p.arg1 p.arg0 p.payload) s refl
     (λ stream is. steps_write p.arg1 stream s is p.arg0 p.payload)
 steps_treat_open t Clse p s = steps_at t p.arg1 (s.streams p.arg1) (takes_close p.arg1 p.arg0) s refl (λ stream is. steps_close p.arg1 stream s is p.arg0)
-steps_treat_open t Cnxn p s = steps_quiet s
-steps_treat_open t Auth p s = steps_quiet s
-steps_treat_open t Stls p s = steps_quiet s
+steps_treat_open t _ p s = steps_quiet s
 
 steps_when : (t : ℕ) (command : Command) (p : Packet) (s : State)
     → EndSteps s.streams (cond (is_connected t s.devices) (treat_open t command p s) (quietly s))

@@ -10,7 +10,7 @@ use Rattle.adb_stream.specs.Flow.{new_flow}
 use Rattle.adb_stream.specs.Stream.{new_stream}
 use Rattle.adb_stream.specs.declared.row.Stream.{Stream}
 use Rattle.adb_client.specs.declared.phase.Phase.{Phase}
-use Rattle.adb_client.specs.declared.phase.Phase.TheVariants.{Asking, Opening, Streaming, Binding, Tracking, Closing, Gone}
+use Rattle.adb_client.specs.declared.phase.Phase.TheVariants.{Asking, Opening, Streaming}
 use Rattle.adb_reply.specs.declared.answer.Next.{Next}
 use Rattle.adb_reply.specs.declared.answer.Next.TheVariants as what
 use Rattle.adb_capture.specs.declared.entry.Entry.{Entry}
@@ -66,15 +66,10 @@ opens_made forwarded c t service s = go (eqb s.drawn stream_ids)
 
 goes_on_made : (next : Option Next) (c : ℕ) (s : State) → IsDrawnOnly s.drawn s.streams → EndsMade s.streams s.drawn (goes_on next c s)
 goes_on_made None c s rows = inl (refl, steps_quiet s)
-goes_on_made (Some what.Close) c s rows = inl (refl, λ l. step_same (s.streams l))
 goes_on_made (Some (what.Select id)) c s rows = inl (refl, steps_quiet s)
-goes_on_made (Some (what.Track long)) c s rows = inl (refl, λ l. step_same (s.streams l))
 goes_on_made (Some (what.Open t service)) c s rows = opens_made false c t service s
-goes_on_made (Some (what.Bind t local remote chosen)) c s rows = inl (refl, λ l. step_same (s.streams l))
-goes_on_made (Some (what.Rebind t local remote)) c s rows = inl (refl, λ l. step_same (s.streams l))
-goes_on_made (Some (what.Unbind local)) c s rows = inl (refl, λ l. step_same (s.streams l))
-goes_on_made (Some what.UnbindAll) c s rows = inl (refl, λ l. step_same (s.streams l))
 goes_on_made (Some what.Stop) c s rows = inl (refl, steps_stops c s rows)
+goes_on_made _ c s rows = inl (refl, λ l. step_same (s.streams l))
 
 reads_in_made : (phase : Phase) (c : ℕ) (bytes : List ℕ) (client : Client) (s : State) → IsDrawnOnly s.drawn s.streams
     → EndsMade s.streams s.drawn (reads_in phase c bytes client s)
@@ -83,10 +78,7 @@ reads_in_made Asking c bytes client s rows =
     goes_on_made q.next c (owe_client c q.replies (to_client c (has_asked q) s)).state rows
 reads_in_made (Opening n) c bytes client s rows = inl (refl, λ l. step_same (s.streams l))
 reads_in_made (Streaming n) c bytes client s rows = inl (refl, λ l. step_same (s.streams l))
-reads_in_made Binding c bytes client s rows = inl (refl, steps_quiet s)
-reads_in_made Tracking c bytes client s rows = inl (refl, steps_quiet s)
-reads_in_made Closing c bytes client s rows = inl (refl, steps_quiet s)
-reads_in_made Gone c bytes client s rows = inl (refl, steps_quiet s)
+reads_in_made _ c bytes client s rows = inl (refl, steps_quiet s)
 
 reads_made : (o : Option Client) (c : ℕ) (bytes : List ℕ) (s : State) → IsDrawnOnly s.drawn s.streams
     → EndsMade s.streams s.drawn (reads_from o c bytes s)
@@ -113,11 +105,7 @@ owns_of s h c client is stream at_s = go client.about.phase (h.owned.client c cl
     go : (phase : Phase) → HoldsIn phase s.streams c client → stream_of phase s.streams ≡ Some stream → stream.part.orphan ≡ false
     go (Opening n) of there = own n of there
     go (Streaming n) of there = own n of there
-    go Asking of there = absurd (let clash : None ≡ Some stream = there in cc)
-    go Binding of there = absurd (let clash : None ≡ Some stream = there in cc)
-    go Tracking of there = absurd (let clash : None ≡ Some stream = there in cc)
-    go Closing of there = absurd (let clash : None ≡ Some stream = there in cc)
-    go Gone of there = absurd (let clash : None ≡ Some stream = there in cc)
+    go _ of there = absurd (let clash : None ≡ Some stream = there in cc)
 
 -- ---- each entry
 module _ (older : History) (legal : IsLegal older) where

@@ -5,7 +5,7 @@ use Rattle.std.proofs.lemmas.Bool.{eqb-true, eq-eqb}
 use Rattle.adb_outside.specs.Tables.{Rows, change_row, put_row}
 use Rattle.adb_stream.specs.declared.row.Stream.{Stream}
 use Rattle.adb_client.specs.declared.phase.Phase.{Phase}
-use Rattle.adb_client.specs.declared.phase.Phase.TheVariants.{Asking, Opening, Streaming, Binding, Tracking, Closing, Gone}
+use Rattle.adb_client.specs.declared.phase.Phase.TheVariants.{Opening, Streaming, Binding, Tracking, Closing}
 use Rattle.adb_reply.specs.Strings.{failed}
 use Rattle.adb_capture.specs.declared.entry.Entry.{Entry}
 use Rattle.adb_capture.specs.declared.entry.Entry.TheVariants.{Join, Enter, Read, End, Bound, Attach, Recv, Detach, Put, Send}
@@ -55,12 +55,7 @@ module _ (f : ℕ → Bool) where
 
   left_keeps : (phase : Phase) (due : List ℕ) (a b : Client) → left_in phase due a ≡ Some b → b.about.forwarded ≡ a.about.forwarded
   left_keeps Closing due a b e = closing_keeps due (record a { due = due }) b e
-  left_keeps Asking due a b e = let same : record a { due = due } ≡ b = cc in ap (λ (y : Client). y.about.forwarded) (sym same)
-  left_keeps (Opening l) due a b e = let same : record a { due = due } ≡ b = cc in ap (λ (y : Client). y.about.forwarded) (sym same)
-  left_keeps (Streaming l) due a b e = let same : record a { due = due } ≡ b = cc in ap (λ (y : Client). y.about.forwarded) (sym same)
-  left_keeps Binding due a b e = let same : record a { due = due } ≡ b = cc in ap (λ (y : Client). y.about.forwarded) (sym same)
-  left_keeps Tracking due a b e = let same : record a { due = due } ≡ b = cc in ap (λ (y : Client). y.about.forwarded) (sym same)
-  left_keeps Gone due a b e = let same : record a { due = due } ≡ b = cc in ap (λ (y : Client). y.about.forwarded) (sym same)
+  left_keeps _ due a b e = let same : record a { due = due } ≡ b = cc in ap (λ (y : Client). y.about.forwarded) (sym same)
 
   -- a change that is there for each client
   some_keeps : (g : Client → Client) → ((a : Client) → (g a).about.forwarded ≡ a.about.forwarded) → (a b : Client) → Some (g a) ≡ Some b
@@ -72,12 +67,7 @@ module _ (f : ℕ → Bool) where
 
   marked_keeps : (phase : Phase) (a : Client) → (marked_in phase a).about.forwarded ≡ a.about.forwarded
   marked_keeps Tracking a = refl
-  marked_keeps Asking a = refl
-  marked_keeps (Opening l) a = refl
-  marked_keeps (Streaming l) a = refl
-  marked_keeps Binding a = refl
-  marked_keeps Closing a = refl
-  marked_keeps Gone a = refl
+  marked_keeps _ a = refl
 
   marks_came : (clients : Rows (Option Client)) → AsCame f clients → AsCame f (λ c. option_map marked (clients c))
   marks_came clients h c client is = go (clients c) refl is
@@ -100,16 +90,8 @@ module _ (f : ℕ → Bool) where
   loses_came true (Opening l) c s h = closes_came c s h
   loses_came false (Opening l) c s h =
       closes_came c (to_client c (with_due (failed (codes "closed")).bytes) s) (due_came c (failed (codes "closed")).bytes s.clients h)
-  loses_came true Asking c s h = h
-  loses_came false Asking c s h = h
-  loses_came true Binding c s h = h
-  loses_came false Binding c s h = h
-  loses_came true Tracking c s h = h
-  loses_came false Tracking c s h = h
-  loses_came true Closing c s h = h
-  loses_came false Closing c s h = h
-  loses_came true Gone c s h = h
-  loses_came false Gone c s h = h
+  loses_came true _ c s h = h
+  loses_came false _ c s h = h
 
   client_loses_came : (o : Option Client) (c : ℕ) (s : State) → AsCame f s.clients → AsCame f (client_loses o c s).state.clients
   client_loses_came None c s h = h

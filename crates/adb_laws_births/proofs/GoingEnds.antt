@@ -6,7 +6,7 @@ use Rattle.std.proofs.lemmas.List.Elements.{All-nil}
 use Rattle.adb_outside.specs.Tables.{Rows, change_row}
 use Rattle.adb_stream.specs.declared.row.Stream.{Stream}
 use Rattle.adb_client.specs.declared.phase.Phase.{Phase}
-use Rattle.adb_client.specs.declared.phase.Phase.TheVariants.{Asking, Opening, Streaming, Binding, Tracking, Closing, Gone}
+use Rattle.adb_client.specs.declared.phase.Phase.TheVariants.{Opening, Streaming}
 use Rattle.adb_reply.specs.Strings.{failed}
 use Rattle.adb_history.specs.Rows.{Client, State, to_stream, none_kept}
 use Rattle.adb_history.specs.Events.{Made, Ending, quietly, due_to_client, ended}
@@ -31,16 +31,8 @@ goes_loses : (forwarded : Bool) (phase : Phase) (c : ℕ) (s : State) → Goes s
 goes_loses forwarded (Streaming l) c s = goes_closes c s
 goes_loses true (Opening l) c s = goes_closes c s
 goes_loses false (Opening l) c s = goes_closes_with c (failed (codes "closed")).bytes s
-goes_loses true Asking c s = goes_quiet s
-goes_loses false Asking c s = goes_quiet s
-goes_loses true Binding c s = goes_quiet s
-goes_loses false Binding c s = goes_quiet s
-goes_loses true Tracking c s = goes_quiet s
-goes_loses false Tracking c s = goes_quiet s
-goes_loses true Closing c s = goes_quiet s
-goes_loses false Closing c s = goes_quiet s
-goes_loses true Gone c s = goes_quiet s
-goes_loses false Gone c s = goes_quiet s
+goes_loses true _ c s = goes_quiet s
+goes_loses false _ c s = goes_quiet s
 
 goes_client_loses : (o : Option Client) (c : ℕ) (s : State) → Goes s.streams s.drawn (client_loses o c s)
 goes_client_loses None c s = goes_quiet s

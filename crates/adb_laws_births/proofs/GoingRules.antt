@@ -20,7 +20,7 @@ use Rattle.adb_stream.specs.declared.row.Stream.{Stream}
 use Rattle.adb_stream.specs.Flow.{to_hand, credit_back, handed_to, has_credit}
 use Rattle.adb_client.specs.declared.about.Want.{Want}
 use Rattle.adb_client.specs.declared.phase.Phase.{Phase}
-use Rattle.adb_client.specs.declared.phase.Phase.TheVariants.{Asking, Opening, Streaming, Binding, Tracking, Closing, Gone}
+use Rattle.adb_client.specs.declared.phase.Phase.TheVariants.{Opening, Streaming, Binding, Closing, Gone}
 use Rattle.adb_history.specs.Rows.{Client, Link, State, to_client, to_stream, none_kept, with_stream_part}
 use Rattle.adb_history.specs.Events.{Made, quietly, due_to_client, due_to_link, ended, client_closed, client_failed, lost, broken}
 use Rattle.adb_history.specs.Links.{wants_sums, owe_link, write_packet, close_packet, okay_packet, credit_packet, maxdata_of}
@@ -71,12 +71,7 @@ open_known s h c l client stream is in_ at_l =
 
 streaming_is : (l : ℕ) (phase : Phase) → is_streaming l phase ≡ true → phase ≡ Streaming l
 streaming_is l (Streaming k) e = ap (λ (n : ℕ). Streaming n) (eqb-true k l e)
-streaming_is l (Opening k) e = absurd (let clash : false ≡ true = e in cc)
-streaming_is l Asking e = absurd (let clash : false ≡ true = e in cc)
-streaming_is l Binding e = absurd (let clash : false ≡ true = e in cc)
-streaming_is l Tracking e = absurd (let clash : false ≡ true = e in cc)
-streaming_is l Closing e = absurd (let clash : false ≡ true = e in cc)
-streaming_is l Gone e = absurd (let clash : false ≡ true = e in cc)
+streaming_is l _ e = absurd (let clash : false ≡ true = e in cc)
 
 -- the stream with another flow is there
 open_part : (rows : Rows (Option Stream)) (l : ℕ) (stream : Stream) (flow : Flow) → rows l ≡ Some stream → stream.part.remote ≢ 0
@@ -229,12 +224,7 @@ goes_client_left : (phase : Phase) (due : ℕ) (s : State)
     → ((l : ℕ) (stream : Stream) → phase ≡ Streaming l → s.streams l ≡ Some stream → stream.part.remote ≢ 0)
     → Goes s.streams s.drawn (client_left phase due s)
 goes_client_left (Streaming l) due s known = goes_stream_left due l (s.streams l) s refl (λ stream is. known l stream refl is)
-goes_client_left Asking due s known = goes_quiet s
-goes_client_left (Opening l) due s known = goes_quiet s
-goes_client_left Binding due s known = goes_quiet s
-goes_client_left Tracking due s known = goes_quiet s
-goes_client_left Closing due s known = goes_quiet s
-goes_client_left Gone due s known = goes_quiet s
+goes_client_left _ due s known = goes_quiet s
 
 goes_takes_of : (c n : ℕ) (o : Option Client) (s : State) → IsOwned s → s.clients c ≡ o → Goes s.streams s.drawn (takes_of c n o s)
 goes_takes_of c n None s h is = goes_quiet s
@@ -289,13 +279,7 @@ goes_stream_fails : (phase : Phase) (cause : Cause) (o : Option Stream) (s : Sta
     → Goes s.streams s.drawn (stream_fails phase cause o s)
 goes_stream_fails (Streaming l) cause (Some stream) s is known = goes_fails_open l cause stream s is (known l stream refl is)
 goes_stream_fails (Opening l) cause (Some stream) s is known = goes_fails_asked l cause stream s is
-goes_stream_fails (Streaming l) cause None s is known = goes_quiet s
-goes_stream_fails (Opening l) cause None s is known = goes_quiet s
-goes_stream_fails Asking cause o s is known = goes_quiet s
-goes_stream_fails Binding cause o s is known = goes_quiet s
-goes_stream_fails Tracking cause o s is known = goes_quiet s
-goes_stream_fails Closing cause o s is known = goes_quiet s
-goes_stream_fails Gone cause o s is known = goes_quiet s
+goes_stream_fails _ cause _ s is known = goes_quiet s
 
 goes_client_fails : (c : ℕ) (cause : Cause) (client : Client) (s : State) → IsOwned s → s.clients c ≡ Some client
     → Goes s.streams s.drawn (client_fails c cause client s)
@@ -304,13 +288,9 @@ goes_client_fails c cause client s h is =
     (λ l stream in_ at_l. open_known s h c l client stream is in_ at_l)
 
 goes_input_ends : (phase : Phase) (c : ℕ) (s : State) → Goes s.streams s.drawn (quietly (input_ends phase c s))
-goes_input_ends Asking c s = record { rows = go_on_same s.streams; drawn_is = refl; told = All-nil (IsFrom s.streams) }
-goes_input_ends Binding c s = record { rows = go_on_same s.streams; drawn_is = refl; told = All-nil (IsFrom s.streams) }
-goes_input_ends Tracking c s = record { rows = go_on_same s.streams; drawn_is = refl; told = All-nil (IsFrom s.streams) }
-goes_input_ends (Opening l) c s = record { rows = go_on_same s.streams; drawn_is = refl; told = All-nil (IsFrom s.streams) }
-goes_input_ends (Streaming l) c s = record { rows = go_on_same s.streams; drawn_is = refl; told = All-nil (IsFrom s.streams) }
 goes_input_ends Closing c s = goes_quiet s
 goes_input_ends Gone c s = goes_quiet s
+goes_input_ends _ c s = record { rows = go_on_same s.streams; drawn_is = refl; told = All-nil (IsFrom s.streams) }
 
 pub goes_client_ends : (c : ℕ) (cause : Cause) (o : Option Client) (s : State) → IsOwned s → s.clients c ≡ o
     → Goes s.streams s.drawn (client_ends c cause o s)
@@ -331,12 +311,7 @@ goes_bound_for (Some want) c port s = record {
 
 goes_bound_in : (phase : Phase) (want : Option Want) (c port : ℕ) (s : State) → Goes s.streams s.drawn (bound_in phase want c port s)
 goes_bound_in Binding want c port s = goes_bound_for want c port s
-goes_bound_in Asking want c port s = goes_quiet s
-goes_bound_in (Opening l) want c port s = goes_quiet s
-goes_bound_in (Streaming l) want c port s = goes_quiet s
-goes_bound_in Tracking want c port s = goes_quiet s
-goes_bound_in Closing want c port s = goes_quiet s
-goes_bound_in Gone want c port s = goes_quiet s
+goes_bound_in _ want c port s = goes_quiet s
 
 pub goes_bound : (o : Option Client) (c port : ℕ) (s : State) → Goes s.streams s.drawn (bound_at o c port s)
 goes_bound None c port s = goes_quiet s

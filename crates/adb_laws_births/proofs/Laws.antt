@@ -244,15 +244,7 @@ sent_grows t (Send n bytes) older = go (eqb n t)
     go : (b : Bool) → ComeFirst (sent t older) (framed (cond b (bytes_sent t older ++ bytes) (bytes_sent t older))).given
     go true = framed_front (bytes_sent t older) bytes
     go false = come_first_same (sent t older)
-sent_grows t (Join c) older = come_first_same (sent t older)
-sent_grows t (Enter c port) older = come_first_same (sent t older)
-sent_grows t (Read c bytes) older = come_first_same (sent t older)
-sent_grows t (End c cause) older = come_first_same (sent t older)
-sent_grows t (Bound c port) older = come_first_same (sent t older)
-sent_grows t (Attach n kind serial) older = come_first_same (sent t older)
-sent_grows t (Recv n bytes) older = come_first_same (sent t older)
-sent_grows t (Detach n cause) older = come_first_same (sent t older)
-sent_grows t (Put c bytes) older = come_first_same (sent t older)
+sent_grows t _ older = come_first_same (sent t older)
 
 pub goes_on_so : (e : Entry) (older : History) → GoesOn e older
 goes_on_so e older = record {

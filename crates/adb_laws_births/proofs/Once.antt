@@ -6,7 +6,7 @@ use Rattle.std.proofs.lemmas.Bool.{ne_eqb, cases_eq}
 use Rattle.std.proofs.lemmas.List.Elements.{All-nil, All-cons, All-append, All-weaker, All-head, All-tail}
 use Rattle.adb_outside.specs.Tables.{Rows}
 use Rattle.adb_wire.specs.declared.command.Command.{Command}
-use Rattle.adb_wire.specs.declared.command.Command.TheVariants.{Cnxn, Open, Okay, Wrte, Clse, Auth, Stls}
+use Rattle.adb_wire.specs.declared.command.Command.TheVariants.{Okay, Wrte, Clse}
 use Rattle.adb_wire.specs.declared.packets.Packet.{Packet}
 use Rattle.adb_stream.specs.declared.row.Stream.{Stream}
 use Rattle.adb_capture.specs.declared.entry.Entry.{Entry}
@@ -86,10 +86,7 @@ open_not : (command : Command) → IsOfOpen command → is_open command ≡ fals
 open_not Okay of = refl
 open_not Wrte of = refl
 open_not Clse of = refl
-open_not Cnxn of = absurd of
-open_not Open of = absurd of
-open_not Auth of = absurd of
-open_not Stls of = absurd of
+open_not _ of = absurd of
 
 from_none : (streams : Rows (Option Stream)) (e : Event) → IsFrom streams e → AsksNone e
 from_none streams (due_to_client client bytes) from = tt

@@ -6,7 +6,7 @@ use Rattle.std.proofs.lemmas.List.{length-append}
 use Rattle.std.proofs.lemmas.List.Elements.{All-nil, All-cons, All-append, All-weaker, All-contains, Contains-append_left}
 use Rattle.adb_outside.specs.declared.kinds.Kind.{Kind}
 use Rattle.adb_wire.specs.declared.command.Command.{Command}
-use Rattle.adb_wire.specs.declared.command.Command.TheVariants.{Cnxn, Open, Okay, Wrte, Clse, Auth, Stls}
+use Rattle.adb_wire.specs.declared.command.Command.TheVariants.{Cnxn, Open, Okay, Wrte, Clse}
 use Rattle.adb_wire.specs.declared.headers.TheConstants.{MAX_PAYLOAD}
 use Rattle.adb_wire.specs.declared.packets.Packet.{Packet}
 use Rattle.adb_capture.specs.declared.entry.Entry.{Entry}
@@ -59,14 +59,12 @@ module _ (e : Entry) (older : History) where
       }
 
   pub own_later : (t : ℕ) (command : Command) (p : Packet) → IsOwn older t command p → IsOwn (e ∷ older) t command p
-  own_later t Cnxn p own = own
   own_later t Open p own = record { birth = own.birth; is = born_stays p.arg0 e older own.birth own.is; link = own.link; packet = own.packet }
   own_later t Okay p own = of_later t p own
   own_later t Wrte p own = of_later t p own
   own_later t Clse p (inl own) = inl (of_later t p own)
   own_later t Clse p (inr own) = inr (refusal_later t p own)
-  own_later t Auth p own = own
-  own_later t Stls p own = own
+  own_later t _ p own = own
 
   pub right_later : (ev : Event) → IsRightEvent older ev → IsRightEvent (e ∷ older) ev
   right_later (due_to_client client bytes) h = tt

@@ -7,7 +7,7 @@ use Rattle.std.proofs.lemmas.List.{drop-append-le}
 use Rattle.std.proofs.lemmas.List.Elements.{All-nil, All-append, All-weaker, Contains-append_right}
 use Rattle.adb_outside.specs.Tables.{Rows, put_row}
 use Rattle.adb_wire.specs.declared.command.Command.{Command}
-use Rattle.adb_wire.specs.declared.command.Command.TheVariants.{Cnxn, Open, Okay, Wrte, Clse, Auth, Stls}
+use Rattle.adb_wire.specs.declared.command.Command.TheVariants.{Cnxn, Okay, Wrte, Clse}
 use Rattle.adb_wire.specs.declared.packets.Packet.{Packet}
 use Rattle.adb_stream.specs.declared.row.Stream.{Stream}
 use Rattle.adb_history.specs.Rows.{State}
@@ -34,19 +34,13 @@ own_open : (h : History) (t : ℕ) (p : Packet) (command : Command) → IsOfOpen
 own_open h t p Okay of is = is
 own_open h t p Wrte of is = is
 own_open h t p Clse of is = inl is
-own_open h t p Cnxn of is = absurd of
-own_open h t p Open of is = absurd of
-own_open h t p Auth of is = absurd of
-own_open h t p Stls of is = absurd of
+own_open h t p _ of is = absurd of
 
 not_cnxn : (command : Command) → IsOfOpen command → command ≡ Cnxn → ⊥
-not_cnxn Cnxn of e = of
 not_cnxn Okay of e = let clash : Okay ≡ Cnxn = e in cc
 not_cnxn Wrte of e = let clash : Wrte ≡ Cnxn = e in cc
 not_cnxn Clse of e = let clash : Clse ≡ Cnxn = e in cc
-not_cnxn Open of e = of
-not_cnxn Auth of e = of
-not_cnxn Stls of e = of
+not_cnxn _ of e = of
 
 -- what was heard until now comes first in what each link brought in all
 abbrev pub IsAhead : History → (ℕ → List Packet) → Type 0

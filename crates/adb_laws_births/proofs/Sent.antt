@@ -57,12 +57,7 @@ born_below (suc k) h b is = go (nat_lt k stream_ids) refl is
 
 carries_other : (command : Command) (check total : ℕ) → is_cnxn command ≡ false → may_carry false command check total ≡ true
 carries_other Cnxn check total e = absurd (let clash : true ≡ false = e in cc)
-carries_other Open check total e = refl
-carries_other Okay check total e = refl
-carries_other Wrte check total e = refl
-carries_other Clse check total e = refl
-carries_other Auth check total e = refl
-carries_other Stls check total e = refl
+carries_other _ check total e = refl
 
 window_word : (credit : Bool) → cond credit CREDIT_WINDOW 0 < 2 ^ 32
 window_word true = omega arith
@@ -93,12 +88,7 @@ module _ (h : History) (legal : IsLegal h) (t : ℕ) (p : Packet) (check : ℕ) 
 
       own_sum : (command : Command) (total : ℕ) → may_carry false command total total ≡ true
       own_sum Cnxn total = ap (λ (b : Bool). (total == 0) || b) (eq-eqb total total refl) ∙ or_true (total == 0)
-      own_sum Open total = refl
-      own_sum Okay total = refl
-      own_sum Wrte total = refl
-      own_sum Clse total = refl
-      own_sum Auth total = refl
-      own_sum Stls total = refl
+      own_sum _ total = refl
 
   id_word : (b : Birth) → born p.arg0 h ≡ Some b → p.arg0 < 2 ^ 32
   id_word b is = omega (arith, born_below p.arg0 h b is)

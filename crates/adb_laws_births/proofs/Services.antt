@@ -50,14 +50,7 @@ module _ (devices : DeviceTable) (small : AreSmall MAX_PAYLOAD devices.rows) whe
   next_short : (next : Next) (reply : List ℕ) (size : ℕ) (others : Asked → Asked) (q : Asked) → ((q : Asked) → EachNext q.next → EachNext (others q).next)
       → IsShortNext MAX_PAYLOAD next → EachNext q.next → EachNext (after_next next reply size others q).next
   next_short (what.Select id) reply size others q later right h = later (record (replied reply size q) { selected = Some id }) h
-  next_short what.Close reply size others q later right h = right
-  next_short (what.Track long) reply size others q later right h = right
-  next_short (what.Open t service) reply size others q later right h = right
-  next_short (what.Bind t local remote chosen) reply size others q later right h = right
-  next_short (what.Rebind t local remote) reply size others q later right h = right
-  next_short (what.Unbind local) reply size others q later right h = right
-  next_short what.UnbindAll reply size others q later right h = right
-  next_short what.Stop reply size others q later right h = right
+  next_short _ reply size others q later right h = right
 
   found_short : (forwards : List (ℕ × ForwardRow)) (f : Found) (others : Asked → Asked) (q : Asked)
       → ((q : Asked) → EachNext q.next → EachNext (others q).next) → EachNext q.next → EachNext (after_found devices forwards f others q).next
@@ -110,39 +103,24 @@ bound_short want port devices forwards short all =
           reply = codes "OKAYOKAY" ++ told_port want.local port;
           forwards = put_forward port want.transport want.remote devices forwards;
         })))).forwards
-    go true gone full = all
-    go false true full = all
-    go false false true = all
     go false false false = put_short port want.transport want.remote devices forwards short all
+    go _ _ _ = all
 
 by_short : (next : Option Next) (devices : DeviceTable) (forwards : List (ℕ × ForwardRow)) → EachNext next → All FitsRow forwards
     → All FitsRow (forwards_by next devices forwards)
-by_short None devices forwards short all = all
 by_short (Some (what.Rebind t local remote)) devices forwards short all = put_short local t remote devices forwards short all
 by_short (Some (what.Unbind local)) devices forwards short all = All-without FitsRow local forwards all
 by_short (Some what.UnbindAll) devices forwards short all = All-nil FitsRow
 by_short (Some what.Stop) devices forwards short all = All-nil FitsRow
-by_short (Some what.Close) devices forwards short all = all
-by_short (Some (what.Select id)) devices forwards short all = all
-by_short (Some (what.Track long)) devices forwards short all = all
-by_short (Some (what.Open t service)) devices forwards short all = all
-by_short (Some (what.Bind t local remote chosen)) devices forwards short all = all
+by_short _ devices forwards short all = all
 
 abbrev FitsWant : Option Want → Type 0
 FitsWant None = Unit {0}
 FitsWant (Some want) = Fits want.remote
 
 wanted_short : (next : Option Next) (waits : Option Want) → EachNext next → FitsWant waits → FitsWant (wanted_by next waits)
-wanted_short None waits short h = h
 wanted_short (Some (what.Bind t local remote chosen)) waits short h = short
-wanted_short (Some what.Close) waits short h = h
-wanted_short (Some (what.Select id)) waits short h = h
-wanted_short (Some (what.Track long)) waits short h = h
-wanted_short (Some (what.Open t service)) waits short h = h
-wanted_short (Some (what.Rebind t local remote)) waits short h = h
-wanted_short (Some (what.Unbind local)) waits short h = h
-wanted_short (Some what.UnbindAll) waits short h = h
-wanted_short (Some what.Stop) waits short h = h
+wanted_short _ waits short h = h
 
 -- ---- all that the entries say
 record IsShortBook (b : Book) : Type 0 where
@@ -210,15 +188,7 @@ short_book (e ∷ older) legal =
 -- ---- births
 birth_short : (c head : ℕ) (older : History) (next : Option Next) → EachNext next → All HasShortService (birth_by c head older next)
 birth_short c head older (Some (what.Open t service)) short = All-cons HasShortService _ [] short (All-nil HasShortService)
-birth_short c head older None short = All-nil HasShortService
-birth_short c head older (Some what.Close) short = All-nil HasShortService
-birth_short c head older (Some (what.Select id)) short = All-nil HasShortService
-birth_short c head older (Some (what.Track long)) short = All-nil HasShortService
-birth_short c head older (Some (what.Bind t local remote chosen)) short = All-nil HasShortService
-birth_short c head older (Some (what.Rebind t local remote)) short = All-nil HasShortService
-birth_short c head older (Some (what.Unbind local)) short = All-nil HasShortService
-birth_short c head older (Some what.UnbindAll) short = All-nil HasShortService
-birth_short c head older (Some what.Stop) short = All-nil HasShortService
+birth_short c head older _ short = All-nil HasShortService
 
 -- the row of a port is one of the table
 row_short : (port : ℕ) (forwards : List (ℕ × ForwardRow)) (row : ForwardRow) → All FitsRow forwards → at port forwards ≡ Some row → Fits row.remote
@@ -257,11 +227,4 @@ births_short (Read c bytes) older legal =
     (newly_short (asked c older).next after ((short_book (Read c bytes ∷ older) legal).nexts c))
 births_short (Enter c port) older legal =
     through_short c older (at port (forwards older)) (λ row is. row_short port (forwards older) row (short_book older legal.0).rows is)
-births_short (Join c) older legal = All-nil HasShortService
-births_short (End c cause) older legal = All-nil HasShortService
-births_short (Bound c port) older legal = All-nil HasShortService
-births_short (Attach t kind serial) older legal = All-nil HasShortService
-births_short (Recv t bytes) older legal = All-nil HasShortService
-births_short (Detach t cause) older legal = All-nil HasShortService
-births_short (Put c bytes) older legal = All-nil HasShortService
-births_short (Send t bytes) older legal = All-nil HasShortService
+births_short _ older legal = All-nil HasShortService

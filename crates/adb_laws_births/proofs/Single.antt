@@ -11,7 +11,7 @@ use Rattle.adb_client.specs.declared.about.Want.{Want}
 use Rattle.adb_reply.specs.declared.answer.Next.{Next}
 use Rattle.adb_reply.specs.declared.answer.Next.TheVariants as what
 use Rattle.adb_capture.specs.declared.entry.Entry.{Entry}
-use Rattle.adb_capture.specs.declared.entry.Entry.TheVariants.{Join, Enter, Read, End, Bound, Attach, Recv, Detach, Put, Send}
+use Rattle.adb_capture.specs.declared.entry.Entry.TheVariants.{Join, Enter, Read, Bound}
 use Rattle.adb_history.specs.Links.{is_connected, is_credit}
 use Rattle.adb_history.specs.Streams.{stream_ids}
 use Rattle.adb_history.specs.Asking.{Asked}
@@ -55,40 +55,17 @@ asked_stays c (Read n bytes) older done = go (eqb n c) refl
     go false apart = refl
 asked_stays c (Bound n port) older done =
     ap (λ (rows : ℕ → Asked). rows c) (asked_bound n port (devices_if (book older).killed older) ((book older).waits n) (book older))
-asked_stays c (Join n) older done = refl
-asked_stays c (Enter n port) older done = refl
-asked_stays c (End n cause) older done = refl
-asked_stays c (Attach t kind serial) older done = refl
-asked_stays c (Recv t bytes) older done = refl
-asked_stays c (Detach t cause) older done = refl
-asked_stays c (Put n bytes) older done = refl
-asked_stays c (Send t bytes) older done = refl
+asked_stays c _ older done = refl
 
 -- ---- what a birth says of its client
 joined_stays : (c : ℕ) (e : Entry) (older : History) → IsLegal (e ∷ older) → c ≤ came_count older → has_joined c (e ∷ older) ≡ has_joined c older
 joined_stays c (Join n) older legal came =
     ap (λ (b : Bool). b || has_joined c older) (ne_eqb n c (λ same. omega (arith, same, came, next_number (Join n) older legal.2)))
-joined_stays c (Enter n port) older legal came = refl
-joined_stays c (Read n bytes) older legal came = refl
-joined_stays c (End n cause) older legal came = refl
-joined_stays c (Bound n port) older legal came = refl
-joined_stays c (Attach t kind serial) older legal came = refl
-joined_stays c (Recv t bytes) older legal came = refl
-joined_stays c (Detach t cause) older legal came = refl
-joined_stays c (Put n bytes) older legal came = refl
-joined_stays c (Send t bytes) older legal came = refl
+joined_stays c _ older legal came = refl
 
 pub came_more : (e : Entry) (older : History) → came_count older ≤ came_count (e ∷ older)
 came_more (Join n) older = omega arith
-came_more (Enter n port) older = omega arith
-came_more (Read n bytes) older = omega arith
-came_more (End n cause) older = omega arith
-came_more (Bound n port) older = omega arith
-came_more (Attach t kind serial) older = omega arith
-came_more (Recv t bytes) older = omega arith
-came_more (Detach t cause) older = omega arith
-came_more (Put n bytes) older = omega arith
-came_more (Send t bytes) older = omega arith
+came_more _ older = omega arith
 
 birth_stays : (e : Entry) (older : History) (b : Birth) → IsLegal (e ∷ older) → IsBirthOf older b → IsBirthOf (e ∷ older) b
 birth_stays e older b legal h = record {
@@ -177,15 +154,7 @@ module _ (c : ℕ) (bytes : List ℕ) (older : History) (legal : IsLegal (Read c
       let same : here ≡ b = cc in
       read_first (new refl) b
       (ap (λ (x : Birth). x.client) (sym same), ap (λ (x : Birth). x.forwarded) (sym same), ap (λ (x : Birth). x.head) (sym same))
-  by_first None b new is = absurd (let clash : [] ≡ b ∷ [] = is in cc)
-  by_first (Some what.Close) b new is = absurd (let clash : [] ≡ b ∷ [] = is in cc)
-  by_first (Some (what.Select id)) b new is = absurd (let clash : [] ≡ b ∷ [] = is in cc)
-  by_first (Some (what.Track long)) b new is = absurd (let clash : [] ≡ b ∷ [] = is in cc)
-  by_first (Some (what.Bind t local remote chosen)) b new is = absurd (let clash : [] ≡ b ∷ [] = is in cc)
-  by_first (Some (what.Rebind t local remote)) b new is = absurd (let clash : [] ≡ b ∷ [] = is in cc)
-  by_first (Some (what.Unbind local)) b new is = absurd (let clash : [] ≡ b ∷ [] = is in cc)
-  by_first (Some what.UnbindAll) b new is = absurd (let clash : [] ≡ b ∷ [] = is in cc)
-  by_first (Some what.Stop) b new is = absurd (let clash : [] ≡ b ∷ [] = is in cc)
+  by_first _ b new is = absurd (let clash : [] ≡ b ∷ [] = is in cc)
 
 through_first : (c port : ℕ) (older : History) (o : Option ForwardRow) (b : Birth) → IsLegal (Enter c port ∷ older) → birth_through c older o ≡ b ∷ []
     → IsFirstOf (Enter c port) older b
@@ -220,14 +189,7 @@ entry_first : (e : Entry) (older : History) (b : Birth) → IsLegal (e ∷ older
 entry_first (Read c bytes) older b legal is =
     by_first c bytes older legal (newly (asked c older).next (asked c (Read c bytes ∷ older)).next) b (λ some. some) is
 entry_first (Enter c port) older b legal is = through_first c port older (at port (forwards older)) b legal is
-entry_first (Join c) older b legal is = absurd (let clash : [] ≡ b ∷ [] = is in cc)
-entry_first (End c cause) older b legal is = absurd (let clash : [] ≡ b ∷ [] = is in cc)
-entry_first (Bound c port) older b legal is = absurd (let clash : [] ≡ b ∷ [] = is in cc)
-entry_first (Attach t kind serial) older b legal is = absurd (let clash : [] ≡ b ∷ [] = is in cc)
-entry_first (Recv t bytes) older b legal is = absurd (let clash : [] ≡ b ∷ [] = is in cc)
-entry_first (Detach t cause) older b legal is = absurd (let clash : [] ≡ b ∷ [] = is in cc)
-entry_first (Put c bytes) older b legal is = absurd (let clash : [] ≡ b ∷ [] = is in cc)
-entry_first (Send t bytes) older b legal is = absurd (let clash : [] ≡ b ∷ [] = is in cc)
+entry_first _ older b legal is = absurd (let clash : [] ≡ b ∷ [] = is in cc)
 
 -- ---- all births
 -- what stands at a place with one more

@@ -7,7 +7,7 @@ use Rattle.std.proofs.lemmas.List.Elements.{All-nil, All-cons, All-weaker, All-a
 use Rattle.adb_outside.specs.Tables.{Rows, change_row, at}
 use Rattle.adb_outside.specs.declared.identity.Identity.{Identity}
 use Rattle.adb_outside.specs.declared.identity.State.{State as DeviceState}
-use Rattle.adb_outside.specs.declared.identity.State.TheVariants.{Offline, Unauthorized, Device, Bootloader, Recovery, Sideload, Rescue, Host}
+use Rattle.adb_outside.specs.declared.identity.State.TheVariants.{Offline}
 use Rattle.adb_banner.specs.Banner.{identity_of}
 use Rattle.adb_registry.specs.declared.row.Row.{Row}
 use Rattle.adb_wire.specs.declared.command.Command.{Command}
@@ -197,13 +197,7 @@ module _ (t : ℕ) (p : Packet) (s : State) (h : IsLinked s) where
     where
       go : (state : DeviceState) → Treats t p s.streams s.drawn (quietly (unauthorized_from t state s))
       go Offline = treats_same (unauthorized_from t Offline s) refl refl skips
-      go Unauthorized = treats_same s refl refl skips
-      go Device = treats_same s refl refl skips
-      go Bootloader = treats_same s refl refl skips
-      go Recovery = treats_same s refl refl skips
-      go Sideload = treats_same s refl refl skips
-      go Rescue = treats_same s refl refl skips
-      go Host = treats_same s refl refl skips
+      go _ = treats_same s refl refl skips
 
   treats_open : p.command ≡ Open → Treats t p s.streams s.drawn (refuses_open t p.arg0 s)
   treats_open is = go (eqb p.arg0 0)
