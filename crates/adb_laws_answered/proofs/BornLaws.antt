@@ -9,7 +9,7 @@ use Rattle.adb_forward.specs.declared.row.ForwardRow.{ForwardRow}
 use Rattle.adb_reply.specs.declared.answer.Next.{Next}
 use Rattle.adb_reply.specs.declared.answer.Next.TheVariants as what
 use Rattle.adb_capture.specs.declared.entry.Entry.{Entry}
-use Rattle.adb_capture.specs.declared.entry.Entry.TheVariants.{Join, Enter, Read, End, Bound, Attach, Recv, Detach, Put, Send}
+use Rattle.adb_capture.specs.declared.entry.Entry.TheVariants.{Join, Enter, Read}
 use Rattle.adb_history.specs.Links.{is_connected, is_credit}
 use Rattle.adb_history.specs.Bytes.{brought}
 use Rattle.adb_history.specs.Streams.{stream_ids}
@@ -63,15 +63,7 @@ by_client c head older (Some (what.Open t service)) zero b e = ap client_of (sym
     client_of (Some b) = b.client
 by_client c head older (Some (what.Open t service)) (suc zero) b e = absurd (let clash : None ≡ Some b = e in cc)
 by_client c head older (Some (what.Open t service)) (suc (suc k)) b e = absurd (let clash : None ≡ Some b = e in cc)
-by_client c head older None k b e = absurd (nothing k b e)
-by_client c head older (Some what.Close) k b e = absurd (nothing k b e)
-by_client c head older (Some (what.Select id)) k b e = absurd (nothing k b e)
-by_client c head older (Some (what.Track long)) k b e = absurd (nothing k b e)
-by_client c head older (Some (what.Bind transport local remote chosen)) k b e = absurd (nothing k b e)
-by_client c head older (Some (what.Rebind transport local remote)) k b e = absurd (nothing k b e)
-by_client c head older (Some (what.Unbind local)) k b e = absurd (nothing k b e)
-by_client c head older (Some what.UnbindAll) k b e = absurd (nothing k b e)
-by_client c head older (Some what.Stop) k b e = absurd (nothing k b e)
+by_client c head older _ k b e = absurd (nothing k b e)
 
 through_client : (c : ℕ) (older : History) (o : Option ForwardRow) (k : ℕ) (b : Birth) → slice_get (birth_through c older o) k ≡ Some b → b.client ≡ c
 through_client c older None k b e = absurd (nothing k b e)
@@ -105,38 +97,16 @@ pub birth_of : (e : Entry) (older : History) (k : ℕ) (b : Birth) → slice_get
 birth_of (Read c bytes) older k b e = by_client c (asked c (Read c bytes ∷ older)).used older
     (newly (asked c older).next (asked c (Read c bytes ∷ older)).next) k b e
 birth_of (Enter c port) older k b e = through_client c older (at port (forwards older)) k b e
-birth_of (Join c) older k b e = nothing k b e
-birth_of (End c cause) older k b e = nothing k b e
-birth_of (Bound c port) older k b e = nothing k b e
-birth_of (Attach t kind serial) older k b e = nothing k b e
-birth_of (Recv t bytes) older k b e = nothing k b e
-birth_of (Detach t cause) older k b e = nothing k b e
-birth_of (Put c bytes) older k b e = nothing k b e
-birth_of (Send t bytes) older k b e = nothing k b e
+birth_of _ older k b e = nothing k b e
 
 came_more : (e : Entry) (older : History) → came_count older ≤ came_count (e ∷ older)
 came_more (Join c) older = omega arith
-came_more (Enter c port) older = omega arith
-came_more (Read c bytes) older = omega arith
-came_more (End c cause) older = omega arith
-came_more (Bound c port) older = omega arith
-came_more (Attach t kind serial) older = omega arith
-came_more (Recv t bytes) older = omega arith
-came_more (Detach t cause) older = omega arith
-came_more (Put c bytes) older = omega arith
-came_more (Send t bytes) older = omega arith
+came_more _ older = omega arith
 
 birth_came : (e : Entry) (older : History) (n : ℕ) → May (state older) e → IsBirthOf e n → n ≤ came_count (e ∷ older)
 birth_came (Read c bytes) older n may of = omega (arith, of, may.1.1, (counted older).joined)
 birth_came (Enter c port) older n may of = omega (arith, of, may.1, (counted older).joined)
-birth_came (Join c) older n may of = absurd of
-birth_came (End c cause) older n may of = absurd of
-birth_came (Bound c port) older n may of = absurd of
-birth_came (Attach t kind serial) older n may of = absurd of
-birth_came (Recv t bytes) older n may of = absurd of
-birth_came (Detach t cause) older n may of = absurd of
-birth_came (Put c bytes) older n may of = absurd of
-birth_came (Send t bytes) older n may of = absurd of
+birth_came _ older n may of = absurd of
 
 -- the client of a birth came
 pub births_came : (h : History) → IsLegal h → (k : ℕ) (b : Birth) → slice_get (births h) k ≡ Some b → b.client ≤ came_count h

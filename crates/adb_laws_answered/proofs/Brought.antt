@@ -87,12 +87,7 @@ refused_cnxn p e = go (is_cnxn p.command) e
 
 cnxn_is : (c : Command) → is_cnxn c ≡ true → c ≡ Cnxn
 cnxn_is Cnxn e = refl
-cnxn_is Open e = absurd (let clash : false ≡ true = e in cc)
-cnxn_is Okay e = absurd (let clash : false ≡ true = e in cc)
-cnxn_is Wrte e = absurd (let clash : false ≡ true = e in cc)
-cnxn_is Clse e = absurd (let clash : false ≡ true = e in cc)
-cnxn_is Auth e = absurd (let clash : false ≡ true = e in cc)
-cnxn_is Stls e = absurd (let clash : false ≡ true = e in cc)
+cnxn_is _ e = absurd (let clash : false ≡ true = e in cc)
 
 module _ (l : ℕ) where
   -- what is pending behind a packet was pending

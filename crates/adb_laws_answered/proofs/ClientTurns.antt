@@ -6,7 +6,7 @@ use Rattle.std.proofs.lemmas.Bool.{ne_eqb, eqb-true, eqb-false}
 use Rattle.adb_outside.specs.Bytes.{IsPrefixOf}
 use Rattle.adb_outside.specs.declared.kinds.Kind.{Kind}
 use Rattle.adb_client.specs.declared.phase.Phase.{Phase}
-use Rattle.adb_client.specs.declared.phase.Phase.TheVariants.{Asking, Opening, Streaming, Binding, Tracking, Closing, Gone}
+use Rattle.adb_client.specs.declared.phase.Phase.TheVariants.{Opening, Streaming, Closing}
 use Rattle.adb_capture.specs.declared.entry.Entry.{Entry}
 use Rattle.adb_capture.specs.declared.entry.Entry.TheVariants.{Join, Enter, Read, End, Bound, Attach, Recv, Detach, Put, Send}
 use Rattle.adb_history.specs.Rows.{Client, State, new_client, new_link, to_client, with_held}
@@ -59,29 +59,16 @@ Covers scope (Detach t cause) = scope.cuts t
 Covers scope _ = Unit {0}
 
 pub covers_all : (e : Entry) → Covers everywhere e
-covers_all (Join n) = tt
-covers_all (Enter n port) = tt
-covers_all (Read n bytes) = tt
 covers_all (End n cause) = λ e. tt
-covers_all (Bound n port) = tt
-covers_all (Attach t kind serial) = tt
 covers_all (Recv t bytes) = ((λ p. record { reaches = λ e. tt; renews = λ e. tt; cuts = λ e. tt }), tt)
-covers_all (Detach t cause) = tt
-covers_all (Put n bytes) = tt
-covers_all (Send t bytes) = tt
+covers_all _ = tt
 
 -- who comes has a number that was not drawn
 pub another_comes : (c t : ℕ) (s : State) (e : Entry) → (c ≤ s.joined) × (t ≤ s.devices.drawn) → May s e → IsAnother c t e
 another_comes c t s (Join n) below may = λ same. omega (arith, same, below.0, may.1)
 another_comes c t s (Enter n port) below may = λ same. omega (arith, same, below.0, may.1)
-another_comes c t s (Read n bytes) below may = tt
-another_comes c t s (End n cause) below may = tt
-another_comes c t s (Bound n port) below may = tt
 another_comes c t s (Attach n kind serial) below may = λ same. omega (arith, same, below.1, may.1)
-another_comes c t s (Recv n bytes) below may = tt
-another_comes c t s (Detach n cause) below may = tt
-another_comes c t s (Put n bytes) below may = tt
-another_comes c t s (Send n bytes) below may = tt
+another_comes c t s _ below may = tt
 
 module _ {scope : Scope} {c t : ℕ} {P : State → List Event → Type 0} (k : IsOfClient scope c t P) where
   other : c + 1 ≢ c
@@ -124,28 +111,22 @@ module _ {scope : Scope} {c t : ℕ} {P : State → List Event → Type 0} (k : 
 
     own_reads_in : (bytes : List ℕ) (client : Client) → s.clients c ≡ Some client → (p : Phase) → client.about.phase ≡ p → IsBusy p
         → After P w (reads_in p c bytes client s)
-    own_reads_in bytes client is Asking e busy = absurd busy
     own_reads_in bytes client is (Opening l) e busy = after_quietly P w (to_client c (with_held (client.held ++ bytes)) s)
         (own_turns.holds c client (client.held ++ bytes) s w is (subst HasOne (sym e) tt) h)
     own_reads_in bytes client is (Streaming l) e busy = after_quietly P w (to_client c (with_held (client.held ++ bytes)) s)
         (own_turns.holds c client (client.held ++ bytes) s w is (subst HasOne (sym e) tt) h)
-    own_reads_in bytes client is Binding e busy = absurd busy
-    own_reads_in bytes client is Tracking e busy = absurd busy
     own_reads_in bytes client is Closing e busy = after_quietly P w s h
-    own_reads_in bytes client is Gone e busy = absurd busy
+    own_reads_in bytes client is _ e busy = absurd busy
 
     own_read : (bytes : List ℕ) (o : Option Client) → s.clients c ≡ o → After P w (reads_from o c bytes s)
     own_read bytes None is = after_quietly P w s h
     own_read bytes (Some client) is = own_reads_in bytes client is client.about.phase refl (k.busy s w client h is)
 
     own_bound_in : (port : ℕ) (client : Client) (p : Phase) → IsBusy p → After P w (bound_in p client.about.want c port s)
-    own_bound_in port client Asking busy = absurd busy
     own_bound_in port client (Opening l) busy = after_quietly P w s h
     own_bound_in port client (Streaming l) busy = after_quietly P w s h
-    own_bound_in port client Binding busy = absurd busy
-    own_bound_in port client Tracking busy = absurd busy
     own_bound_in port client Closing busy = after_quietly P w s h
-    own_bound_in port client Gone busy = absurd busy
+    own_bound_in port client _ busy = absurd busy
 
     own_bound : (port : ℕ) (o : Option Client) → s.clients c ≡ o → After P w (bound_at o c port s)
     own_bound port None is = after_quietly P w s h

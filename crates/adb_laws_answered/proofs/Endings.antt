@@ -5,7 +5,7 @@ use Rattle.std.proofs.lemmas.Bool.{eqb-true}
 use Rattle.adb_outside.specs.Tables.{Rows}
 use Rattle.adb_stream.specs.declared.row.Stream.{Stream}
 use Rattle.adb_client.specs.declared.phase.Phase.{Phase}
-use Rattle.adb_client.specs.declared.phase.Phase.TheVariants.{Asking, Opening, Streaming, Binding, Tracking, Closing, Gone}
+use Rattle.adb_client.specs.declared.phase.Phase.TheVariants.{Streaming}
 use Rattle.adb_history.specs.Rows.{Client, State}
 use Rattle.adb_history.specs.Events.{Event, Ending, quietly, due_to_client, due_to_link, ended, stopped, ending_in}
 use Rattle.adb_history.specs.Clients.{owe_client}
@@ -45,18 +45,8 @@ module _ (l : ℕ) where
   loses_ending : (forwarded : Bool) (p : Phase) (n : ℕ) (s : State) → ending_in l (loses forwarded p n s).told ≡ None
   loses_ending true (Streaming k) n s = refl
   loses_ending false (Streaming k) n s = refl
-  loses_ending true (Opening k) n s = refl
-  loses_ending false (Opening k) n s = refl
-  loses_ending true Asking n s = refl
-  loses_ending false Asking n s = refl
-  loses_ending true Binding n s = refl
-  loses_ending false Binding n s = refl
-  loses_ending true Tracking n s = refl
-  loses_ending false Tracking n s = refl
-  loses_ending true Closing n s = refl
-  loses_ending false Closing n s = refl
-  loses_ending true Gone n s = refl
-  loses_ending false Gone n s = refl
+  loses_ending true _ n s = refl
+  loses_ending false _ n s = refl
 
   pub client_loses_ending : (o : Option Client) (n : ℕ) (s : State) → ending_in l (client_loses o n s).told ≡ None
   client_loses_ending None n s = refl

@@ -8,7 +8,7 @@ use Rattle.adb_outside.specs.declared.kinds.Cause.{Cause}
 use Rattle.adb_outside.specs.declared.kinds.Cause.TheVariants.{Eof, Fault, Starved, NoThread}
 use Rattle.adb_stream.specs.declared.row.Stream.{Stream}
 use Rattle.adb_client.specs.declared.phase.Phase.{Phase}
-use Rattle.adb_client.specs.declared.phase.Phase.TheVariants.{Asking, Opening, Streaming, Binding, Tracking, Closing, Gone}
+use Rattle.adb_client.specs.declared.phase.Phase.TheVariants.{Opening, Streaming}
 use Rattle.adb_capture.specs.declared.entry.Entry.{Entry}
 use Rattle.adb_capture.specs.declared.entry.Entry.TheVariants.{Join, Enter, Read, End, Bound, Attach, Recv, Detach, Put, Send}
 use Rattle.adb_history.specs.Rows.{Client, State, to_client, none_kept}
@@ -52,11 +52,7 @@ fails_clients (Streaming l) cause (Some stream) s = refl
 fails_clients (Streaming l) cause None s = refl
 fails_clients (Opening l) cause (Some stream) s = refl
 fails_clients (Opening l) cause None s = refl
-fails_clients Asking cause o s = refl
-fails_clients Binding cause o s = refl
-fails_clients Tracking cause o s = refl
-fails_clients Closing cause o s = refl
-fails_clients Gone cause o s = refl
+fails_clients _ cause o s = refl
 
 none_row : (o : Option Client) → option_and_then none_kept o ≡ None
 none_row None = refl

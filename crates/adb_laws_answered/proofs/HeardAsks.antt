@@ -9,7 +9,7 @@ use Rattle.adb_outside.specs.Tables.{Rows, change_row}
 use Rattle.adb_registry.specs.Registry.{DeviceTable}
 use Rattle.adb_forward.specs.declared.row.ForwardRow.{ForwardRow}
 use Rattle.adb_client.specs.declared.phase.Phase.{Phase}
-use Rattle.adb_client.specs.declared.phase.Phase.TheVariants.{Asking, Opening, Streaming, Binding, Tracking, Closing, Gone}
+use Rattle.adb_client.specs.declared.phase.Phase.TheVariants.{Asking, Opening, Streaming, Binding, Tracking}
 use Rattle.adb_client.specs.declared.about.Want.{Want}
 use Rattle.adb_reply.specs.Strings.{failed}
 use Rattle.adb_reply.specs.declared.answer.Next.{Next}
@@ -132,16 +132,9 @@ module _ (c : ℕ) (r : Heard) (left : State) where
 
 -- nothing is due behind the replies yet
 pub after_none : (r : Heard) (next : Option Next) (devices : DeviceTable) → IsNewlyAsked r next devices → after_replies next r ≡ []
-after_none r None devices n = refl
-after_none r (Some what.Close) devices n = refl
-after_none r (Some (what.Select id)) devices n = refl
 after_none r (Some (what.Track long)) devices n = n.lists long
-after_none r (Some (what.Open t service)) devices n = refl
 after_none r (Some (what.Bind transport local remote chosen)) devices n = n.bound
-after_none r (Some (what.Rebind transport local remote)) devices n = refl
-after_none r (Some (what.Unbind local)) devices n = refl
-after_none r (Some what.UnbindAll) devices n = refl
-after_none r (Some what.Stop) devices n = refl
+after_none r _ devices n = refl
 
 -- what became due with the replies
 module _ (r next : Heard) (out replies more : List ℕ) where
@@ -163,12 +156,7 @@ module _ (r next : Heard) (out replies more : List ℕ) where
 -- a phase in which a client asks
 pub asks_asking : (phase : Phase) → asks_in phase ≡ true → phase ≡ Asking
 asks_asking Asking e = refl
-asks_asking (Opening l) e = absurd (let clash : false ≡ true = e in cc)
-asks_asking (Streaming l) e = absurd (let clash : false ≡ true = e in cc)
-asks_asking Binding e = absurd (let clash : false ≡ true = e in cc)
-asks_asking Tracking e = absurd (let clash : false ≡ true = e in cc)
-asks_asking Closing e = absurd (let clash : false ≡ true = e in cc)
-asks_asking Gone e = absurd (let clash : false ≡ true = e in cc)
+asks_asking _ e = absurd (let clash : false ≡ true = e in cc)
 
 -- ---- read
 module _ (c : ℕ) (older : History) (legal : IsLegal older) (bytes : List ℕ) (may : May (state older) (Read c bytes)) where
@@ -315,10 +303,7 @@ module _ (c : ℕ) (older : History) (legal : IsLegal older) (bytes : List ℕ) 
     holds_more (Streaming l) client is e idle =
         after_quietly (λ x v. Answers c (heard c older) x.devices x v) w (to_client c (with_held (client.held ++ bytes)) s)
         (turns.holds c client (client.held ++ bytes) s w is (subst HasOne (sym e) tt) h)
-    holds_more Binding client is e idle = after_quietly (λ x v. Answers c (heard c older) x.devices x v) w s h
-    holds_more Tracking client is e idle = after_quietly (λ x v. Answers c (heard c older) x.devices x v) w s h
-    holds_more Closing client is e idle = after_quietly (λ x v. Answers c (heard c older) x.devices x v) w s h
-    holds_more Gone client is e idle = after_quietly (λ x v. Answers c (heard c older) x.devices x v) w s h
+    holds_more _ client is e idle = after_quietly (λ x v. Answers c (heard c older) x.devices x v) w s h
 
     pub own_read_answers : After (λ x v. Answers c (heard c (Read c bytes ∷ older)) x.devices x v) w (rule (Read c bytes) s)
     own_read_answers = go (s.clients c) refl

@@ -35,27 +35,11 @@ use Rattle.adb_laws_answered.proofs.HeardAsks.{rows_closed}
 -- ---- a client that waits for a listener
 bind_streams : (next : Option Next) → asks_bind next ≡ true → asks_stream next ≡ false
 bind_streams (Some (what.Bind transport local remote chosen)) e = refl
-bind_streams None e = absurd (let clash : false ≡ true = e in cc)
-bind_streams (Some what.Close) e = absurd (let clash : false ≡ true = e in cc)
-bind_streams (Some (what.Select id)) e = absurd (let clash : false ≡ true = e in cc)
-bind_streams (Some (what.Track long)) e = absurd (let clash : false ≡ true = e in cc)
-bind_streams (Some (what.Open t service)) e = absurd (let clash : false ≡ true = e in cc)
-bind_streams (Some (what.Rebind transport local remote)) e = absurd (let clash : false ≡ true = e in cc)
-bind_streams (Some (what.Unbind local)) e = absurd (let clash : false ≡ true = e in cc)
-bind_streams (Some what.UnbindAll) e = absurd (let clash : false ≡ true = e in cc)
-bind_streams (Some what.Stop) e = absurd (let clash : false ≡ true = e in cc)
+bind_streams _ e = absurd (let clash : false ≡ true = e in cc)
 
 bind_after : (r : Heard) (next : Option Next) → asks_bind next ≡ true → after_replies next r ≡ r.bound
 bind_after r (Some (what.Bind transport local remote chosen)) e = refl
-bind_after r None e = absurd (let clash : false ≡ true = e in cc)
-bind_after r (Some what.Close) e = absurd (let clash : false ≡ true = e in cc)
-bind_after r (Some (what.Select id)) e = absurd (let clash : false ≡ true = e in cc)
-bind_after r (Some (what.Track long)) e = absurd (let clash : false ≡ true = e in cc)
-bind_after r (Some (what.Open t service)) e = absurd (let clash : false ≡ true = e in cc)
-bind_after r (Some (what.Rebind transport local remote)) e = absurd (let clash : false ≡ true = e in cc)
-bind_after r (Some (what.Unbind local)) e = absurd (let clash : false ≡ true = e in cc)
-bind_after r (Some what.UnbindAll) e = absurd (let clash : false ≡ true = e in cc)
-bind_after r (Some what.Stop) e = absurd (let clash : false ≡ true = e in cc)
+bind_after r _ e = absurd (let clash : false ≡ true = e in cc)
 
 -- it is told of its listener, and of nothing else
 owes_bound : (r : Heard) (out reply : List ℕ) → IsUnbound r → Owes r out → Owes (record r { bound = reply }) (out ++ reply)

@@ -109,28 +109,16 @@ handed_front (Send t bytes ∷ older) legal c = stays_front c (Send t bytes) old
 
 -- ---- the fields
 all_streams : (next : Option Next) → is_all next ≡ true → asks_stream next ≡ false
-all_streams None e = refl
-all_streams (Some what.Close) e = refl
-all_streams (Some (what.Select id)) e = refl
 all_streams (Some (what.Track long)) e = absurd (let clash : false ≡ true = e in cc)
 all_streams (Some (what.Open t service)) e = absurd (let clash : false ≡ true = e in cc)
 all_streams (Some (what.Bind transport local remote chosen)) e = absurd (let clash : false ≡ true = e in cc)
-all_streams (Some (what.Rebind transport local remote)) e = refl
-all_streams (Some (what.Unbind local)) e = refl
-all_streams (Some what.UnbindAll) e = refl
-all_streams (Some what.Stop) e = refl
+all_streams _ e = refl
 
 all_after : (r : Heard) (next : Option Next) → is_all next ≡ true → after_replies next r ≡ []
-all_after r None e = refl
-all_after r (Some what.Close) e = refl
-all_after r (Some (what.Select id)) e = refl
 all_after r (Some (what.Track long)) e = absurd (let clash : false ≡ true = e in cc)
 all_after r (Some (what.Open t service)) e = absurd (let clash : false ≡ true = e in cc)
 all_after r (Some (what.Bind transport local remote chosen)) e = absurd (let clash : false ≡ true = e in cc)
-all_after r (Some (what.Rebind transport local remote)) e = refl
-all_after r (Some (what.Unbind local)) e = refl
-all_after r (Some what.UnbindAll) e = refl
-all_after r (Some what.Stop) e = refl
+all_after r _ e = refl
 
 module _ (h : History) (legal : IsLegal h) (c : ℕ) (came : has_joined c h ≡ true) where
   answers : Answers c (heard c h) (state h).devices (state h) (told h)

@@ -8,7 +8,7 @@ use Rattle.adb_outside.specs.Bytes.{IsPrefixOf}
 use Rattle.adb_outside.specs.Tables.{Rows, change_row}
 use Rattle.adb_registry.specs.Registry.{DeviceTable}
 use Rattle.adb_client.specs.declared.phase.Phase.{Phase}
-use Rattle.adb_client.specs.declared.phase.Phase.TheVariants.{Asking, Opening, Streaming, Binding, Tracking, Closing, Gone}
+use Rattle.adb_client.specs.declared.phase.Phase.TheVariants.{Binding, Tracking, Closing, Gone}
 use Rattle.adb_history.specs.Rows.{Client, none_kept, with_due}
 use Rattle.adb_history.specs.Events.{Event, owed_to}
 use Rattle.adb_history.specs.Clients.{closing_with, closing}
@@ -65,22 +65,15 @@ module _ (r : Heard) (d : DeviceTable) where
   says_marked_in Tracking new x e h =
       subst (λ (p : Phase). PhaseSays p r new x.about.long true) (sym e)
       (record { next = h.next; present = λ m. absurd (let clash : true ≡ false = m in cc) })
-  says_marked_in Asking new x e h = subst (λ (p : Phase). PhaseSays p r new x.about.long x.about.mark) (sym e) h
-  says_marked_in (Opening l) new x e h = subst (λ (p : Phase). PhaseSays p r new x.about.long x.about.mark) (sym e) h
-  says_marked_in (Streaming l) new x e h = subst (λ (p : Phase). PhaseSays p r new x.about.long x.about.mark) (sym e) h
   says_marked_in Binding new x e h =
       subst (λ (p : Phase). PhaseSays p r new x.about.long x.about.mark) (sym e) (record { next = h.next; bound = h.bound })
   says_marked_in Closing new x e h = subst (λ (p : Phase). PhaseSays p r new x.about.long x.about.mark) (sym e) tt
   says_marked_in Gone new x e h = subst (λ (p : Phase). PhaseSays p r new x.about.long x.about.mark) (sym e) tt
+  says_marked_in _ new x e h = subst (λ (p : Phase). PhaseSays p r new x.about.long x.about.mark) (sym e) h
 
   pub says_left : (p : Phase) (due : List ℕ) (x y : Client) → x.about.phase ≡ p → left_in p due x ≡ Some y → RowSays r d x → RowSays r d y
   says_left Closing due x y e is h = says_closing due (record x { due = due }) y is
-  says_left Asking due x y e is h = let row : record x { due = due } ≡ y = cc in subst (λ (z : Client). RowSays r d z) row h
-  says_left (Opening l) due x y e is h = let row : record x { due = due } ≡ y = cc in subst (λ (z : Client). RowSays r d z) row h
-  says_left (Streaming l) due x y e is h = let row : record x { due = due } ≡ y = cc in subst (λ (z : Client). RowSays r d z) row h
-  says_left Binding due x y e is h = let row : record x { due = due } ≡ y = cc in subst (λ (z : Client). RowSays r d z) row h
-  says_left Tracking due x y e is h = let row : record x { due = due } ≡ y = cc in subst (λ (z : Client). RowSays r d z) row h
-  says_left Gone due x y e is h = let row : record x { due = due } ≡ y = cc in subst (λ (z : Client). RowSays r d z) row h
+  says_left _ due x y e is h = let row : record x { due = due } ≡ y = cc in subst (λ (z : Client). RowSays r d z) row h
 
 -- ---- all rows
 module _ (c : ℕ) (r : Heard) (d : DeviceTable) where

@@ -54,16 +54,8 @@ module _ (r : Heard) (lists last : Bool → List ℕ) (keeps : KeepsLists r (rec
   says_phase Gone d long mark h = tt
 
   after_same : (next : Option Next) → r.next ≡ next → after_replies next other ≡ after_replies next r
-  after_same None e = refl
-  after_same (Some what.Close) e = refl
-  after_same (Some (what.Select id)) e = refl
   after_same (Some (what.Track long)) e = keeps.lists long e
-  after_same (Some (what.Open t service)) e = refl
-  after_same (Some (what.Bind transport local remote chosen)) e = refl
-  after_same (Some (what.Rebind transport local remote)) e = refl
-  after_same (Some (what.Unbind local)) e = refl
-  after_same (Some what.UnbindAll) e = refl
-  after_same (Some what.Stop) e = refl
+  after_same _ e = refl
 
   pub answers_listed : (c : ℕ) (d : DeviceTable) (s : State) (w : List Event) → Answers c r d s w → Answers c other d s w
   answers_listed c d s w h = record {

@@ -9,7 +9,7 @@ use Rattle.adb_outside.specs.declared.identity.State.TheVariants.{Offline}
 use Rattle.adb_registry.specs.Registry.{DeviceTable}
 use Rattle.adb_stream.specs.declared.row.Stream.{Stream}
 use Rattle.adb_client.specs.declared.phase.Phase.{Phase}
-use Rattle.adb_client.specs.declared.phase.Phase.TheVariants.{Asking, Opening, Streaming, Binding, Tracking, Closing, Gone}
+use Rattle.adb_client.specs.declared.phase.Phase.TheVariants.{Opening, Streaming}
 use Rattle.adb_reply.specs.Strings.{failed}
 use Rattle.adb_history.specs.Rows.{Client, State, to_stream, none_kept, in_phase}
 use Rattle.adb_history.specs.Events.{Made, Event, Ending, quietly, then_also, due_to_client, due_to_link, ended, lost, client_failed, owed_to}
@@ -46,16 +46,7 @@ module _ (c : ℕ) where
     loses_rows false (Opening l) n s h =
         let told : Made = owe_client n (failed (codes "closed")).bytes s in
         rows_closing c r d n told.state.clients (rows_due c r d n (failed (codes "closed")).bytes s.clients h)
-    loses_rows true Asking n s h = h
-    loses_rows false Asking n s h = h
-    loses_rows true Binding n s h = h
-    loses_rows false Binding n s h = h
-    loses_rows true Tracking n s h = h
-    loses_rows false Tracking n s h = h
-    loses_rows true Closing n s h = h
-    loses_rows false Closing n s h = h
-    loses_rows true Gone n s h = h
-    loses_rows false Gone n s h = h
+    loses_rows _ _ n s h = h
 
     client_loses_rows : (o : Option Client) (n : ℕ) (s : State) → RowsSay c r d s.clients → RowsSay c r d (client_loses o n s).state.clients
     client_loses_rows None n s h = h

@@ -4,7 +4,7 @@ use Rattle.std.proofs.Common.{inl, inr, ◌⊎◌}
 use Rattle.std.specs.Prelude.{nat_eq}
 use Rattle.std.proofs.lemmas.Bool.{eqb-true, eqb-false, ne_eqb}
 use Rattle.adb_wire.specs.declared.command.Command.{Command}
-use Rattle.adb_wire.specs.declared.command.Command.TheVariants.{Cnxn, Open, Okay, Wrte, Clse, Auth, Stls}
+use Rattle.adb_wire.specs.declared.command.Command.TheVariants.{Cnxn, Okay, Clse}
 use Rattle.adb_wire.specs.declared.packets.Packet.{Packet}
 use Rattle.adb_history.specs.Links.{credit_word}
 use Rattle.adb_history.specs.Births.{is_between, Opening, opening_by, opening_in, remote_in}
@@ -37,10 +37,7 @@ module _ (l : ℕ) where
       go true e = absurd (let clash : None ≡ Some o = e in cc)
       go false e = h o e
   stays_by Cnxn p ps qs h o e = absurd (let clash : None ≡ Some o = e in cc)
-  stays_by Open p ps qs h o e = h o e
-  stays_by Wrte p ps qs h o e = h o e
-  stays_by Auth p ps qs h o e = h o e
-  stays_by Stls p ps qs h o e = h o e
+  stays_by _ p ps qs h o e = h o e
 
   pub opening_stays : (ps qs : List Packet) → Stays ps qs
   opening_stays [] qs o e = absurd (let clash : None ≡ Some o = e in cc)
@@ -61,10 +58,7 @@ module _ (l : ℕ) where
       go true e = refl
       go false e = h e
   sealed_by Cnxn p ps qs h e = refl
-  sealed_by Open p ps qs h e = h e
-  sealed_by Wrte p ps qs h e = h e
-  sealed_by Auth p ps qs h e = h e
-  sealed_by Stls p ps qs h e = h e
+  sealed_by _ p ps qs h e = h e
 
   pub sealed_none : (ps qs : List Packet) → sealed_in l ps ≡ true → opening_in l (ps ++ qs) ≡ None
   sealed_none [] qs e = absurd (let clash : false ≡ true = e in cc)
@@ -82,10 +76,7 @@ module _ (l : ℕ) where
       go true e = e
       go false e = h e
   seals_more Cnxn p before after h e = e
-  seals_more Open p before after h e = h e
-  seals_more Wrte p before after h e = h e
-  seals_more Auth p before after h e = h e
-  seals_more Stls p before after h e = h e
+  seals_more _ p before after h e = h e
 
   pub sealed_stays : (ps qs : List Packet) → sealed_in l ps ≡ true → sealed_in l (ps ++ qs) ≡ true
   sealed_stays [] qs e = absurd (let clash : false ≡ true = e in cc)
@@ -118,10 +109,7 @@ module _ (l : ℕ) where
       go true e f = absurd (let clash : true ≡ false = f in cc)
       go false e f = h (e, f)
   pending_by Cnxn p ps qs h e f = absurd (let clash : true ≡ false = f in cc)
-  pending_by Open p ps qs h e f = h (e, f)
-  pending_by Wrte p ps qs h e f = h (e, f)
-  pending_by Auth p ps qs h e f = h (e, f)
-  pending_by Stls p ps qs h e f = h (e, f)
+  pending_by _ p ps qs h e f = h (e, f)
 
   pub pending_more : (ps qs : List Packet) → IsPending ps → (opening_in l (ps ++ qs) ≡ opening_in l qs) × (sealed_in l (ps ++ qs) ≡ sealed_in l qs)
   pending_more [] qs e = (refl, refl)
@@ -148,10 +136,7 @@ module _ (l : ℕ) where
       go true e same = let clash : None ≡ Some o = e in cc
       go false e same = h o e same
   named_by Cnxn p ps h o e same = let clash : None ≡ Some o = e in cc
-  named_by Open p ps h o e same = h o e same
-  named_by Wrte p ps h o e same = h o e same
-  named_by Auth p ps h o e same = h o e same
-  named_by Stls p ps h o e same = h o e same
+  named_by _ p ps h o e same = h o e same
 
   pub opening_named : (ps : List Packet) (o : Opening) → opening_in l ps ≡ Some o → o.remote ≢ 0
   opening_named [] o e same = let clash : None ≡ Some o = e in cc
@@ -214,10 +199,7 @@ module _ (l : ℕ) where
       neither true = refl
       neither false = refl
   nothing_one Cnxn p apart = absurd apart
-  nothing_one Open p apart = (refl, refl)
-  nothing_one Wrte p apart = (refl, refl)
-  nothing_one Auth p apart = (refl, refl)
-  nothing_one Stls p apart = (refl, refl)
+  nothing_one _ p apart = (refl, refl)
 
   seen_cases : (ps : List Packet) → (remote_in (opening_in l ps) ≢ 0) ⊎ (remote_in (opening_in l ps) ≡ 0)
   seen_cases ps = go (eqb (remote_in (opening_in l ps)) 0) refl

@@ -9,7 +9,7 @@ use Rattle.adb_reply.specs.Strings.{okay}
 use Rattle.adb_wire.specs.declared.packets.Packet.{Packet}
 use Rattle.adb_stream.specs.declared.row.Stream.{Stream}
 use Rattle.adb_capture.specs.declared.entry.Entry.{Entry}
-use Rattle.adb_capture.specs.declared.entry.Entry.TheVariants.{Join, Enter, Read, End, Bound, Attach, Recv, Detach, Put, Send}
+use Rattle.adb_capture.specs.declared.entry.Entry.TheVariants.{Enter, Read}
 use Rattle.adb_history.specs.Events.{Ending, client_failed, owed_to, ending_in}
 use Rattle.adb_history.specs.Asking.{Asked}
 use Rattle.adb_history.specs.Machine.{History, state, told, told_at, IsLegal}
@@ -113,14 +113,7 @@ born_behind l b (Read c bytes) older is =
 born_behind l b (Enter c port) older is =
     let by = by_forward c older (at port (forwards older)) b is in
     ap (λ (x : Birth). x.packets_before) by.birth ∙ ap (λ (t : ℕ). length (brought t older)) (sym (ap (λ (x : Birth). x.link) by.birth))
-born_behind l b (Join c) older is = absurd (let clash : [] ≡ b ∷ [] = is in cc)
-born_behind l b (End c cause) older is = absurd (let clash : [] ≡ b ∷ [] = is in cc)
-born_behind l b (Bound c port) older is = absurd (let clash : [] ≡ b ∷ [] = is in cc)
-born_behind l b (Attach t kind serial) older is = absurd (let clash : [] ≡ b ∷ [] = is in cc)
-born_behind l b (Recv t bytes) older is = absurd (let clash : [] ≡ b ∷ [] = is in cc)
-born_behind l b (Detach t cause) older is = absurd (let clash : [] ≡ b ∷ [] = is in cc)
-born_behind l b (Put c bytes) older is = absurd (let clash : [] ≡ b ∷ [] = is in cc)
-born_behind l b (Send t bytes) older is = absurd (let clash : [] ≡ b ∷ [] = is in cc)
+born_behind l b _ older is = absurd (let clash : [] ≡ b ∷ [] = is in cc)
 
 nothing_told : (l : ℕ) (b : Birth) (e : Entry) (older : History) → IsBornNow l b e older → joined (told_to l b older) ≡ []
 nothing_told l b e older now =

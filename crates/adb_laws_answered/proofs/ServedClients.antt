@@ -2,7 +2,7 @@
 use Rattle.std.proofs.Common.{ℕ, ◌≤◌, Bool, List, Option, sym, ap, subst, ◌∙◌}
 use Rattle.adb_stream.specs.declared.row.Stream.{Stream}
 use Rattle.adb_client.specs.declared.phase.Phase.{Phase}
-use Rattle.adb_client.specs.declared.phase.Phase.TheVariants.{Asking, Opening, Streaming, Binding, Tracking, Closing, Gone}
+use Rattle.adb_client.specs.declared.phase.Phase.TheVariants.{Opening, Streaming, Closing}
 use Rattle.adb_laws_answered.specs.Turns.{everywhere}
 use Rattle.adb_laws_answered.specs.Served.{PhaseFor, IsDone}
 use Rattle.adb_laws_answered.proofs.SteadyRows.{at_marked}
@@ -16,10 +16,7 @@ pub served_busy : (p : Phase) (l : ℕ) (heard : Bool) → PhaseFor p l heard �
 served_busy (Opening k) l heard h = tt
 served_busy (Streaming k) l heard h = tt
 served_busy Closing l heard h = tt
-served_busy Asking l heard h = h
-served_busy Binding l heard h = h
-served_busy Tracking l heard h = h
-served_busy Gone l heard h = h
+served_busy _ l heard h = h
 
 -- a client whose stream was not drawn, or that asked for it and failed
 pub done_client : (c : ℕ) (out : List ℕ) → IsOfClient everywhere c 0 (λ s w. IsDone c out s w)

@@ -46,27 +46,11 @@ pub record IsOpen (next : Option Next) : Type 0 where
 
 pub stream_open : (next : Option Next) → asks_stream next ≡ true → IsOpen next
 stream_open (Some (what.Open t service)) e = record { transport = t; service = service; is = refl }
-stream_open None e = absurd (let clash : false ≡ true = e in cc)
-stream_open (Some what.Close) e = absurd (let clash : false ≡ true = e in cc)
-stream_open (Some (what.Select id)) e = absurd (let clash : false ≡ true = e in cc)
-stream_open (Some (what.Track long)) e = absurd (let clash : false ≡ true = e in cc)
-stream_open (Some (what.Bind transport local remote chosen)) e = absurd (let clash : false ≡ true = e in cc)
-stream_open (Some (what.Rebind transport local remote)) e = absurd (let clash : false ≡ true = e in cc)
-stream_open (Some (what.Unbind local)) e = absurd (let clash : false ≡ true = e in cc)
-stream_open (Some what.UnbindAll) e = absurd (let clash : false ≡ true = e in cc)
-stream_open (Some what.Stop) e = absurd (let clash : false ≡ true = e in cc)
+stream_open _ e = absurd (let clash : false ≡ true = e in cc)
 
 pub no_birth : (c head : ℕ) (older : History) (next : Option Next) → asks_stream next ≡ false → birth_by c head older next ≡ []
 no_birth c head older (Some (what.Open t service)) e = absurd (let clash : true ≡ false = e in cc)
-no_birth c head older None e = refl
-no_birth c head older (Some what.Close) e = refl
-no_birth c head older (Some (what.Select id)) e = refl
-no_birth c head older (Some (what.Track long)) e = refl
-no_birth c head older (Some (what.Bind transport local remote chosen)) e = refl
-no_birth c head older (Some (what.Rebind transport local remote)) e = refl
-no_birth c head older (Some (what.Unbind local)) e = refl
-no_birth c head older (Some what.UnbindAll) e = refl
-no_birth c head older (Some what.Stop) e = refl
+no_birth c head older _ e = refl
 
 pub none_at : (k : ℕ) (b : Birth) (bs : List Birth) → bs ≡ [] → slice_get bs k ≡ Some b → ⊥
 none_at k b bs e is = nothing k (ap (λ (x : List Birth). slice_get x k) (sym e) ∙ is)

@@ -109,14 +109,7 @@ module _ (l : ℕ) (b : Birth) (older : History) (legal : IsLegal older) where
     same_replies : (e : Entry) → May (state older) e → (asked b.client (e ∷ older)).replies ≡ (asked b.client older).replies
     same_replies (Read n bytes) may = read_replies n bytes may (eqb n b.client) refl
     same_replies (Bound n port) may = (silent_bound b.client n port older).replies
-    same_replies (Join n) may = refl
-    same_replies (Enter n port) may = refl
-    same_replies (End n cause) may = refl
-    same_replies (Attach t kind serial) may = refl
-    same_replies (Recv t bytes) may = refl
-    same_replies (Detach t cause) may = refl
-    same_replies (Put n bytes) may = refl
-    same_replies (Send t bytes) may = refl
+    same_replies _ may = refl
 
   came_before : (e : Entry) → May (state older) e → born l older ≡ Some b → has_joined b.client (e ∷ older) ≡ true → has_joined b.client older ≡ true
   came_before (Join n) may old came = go (eqb n b.client) refl came
@@ -126,15 +119,7 @@ module _ (l : ℕ) (b : Birth) (older : History) (legal : IsLegal older) where
           let above : came_count older < n = omega (arith, may.1, (counted older).joined) in
           absurd (none_unborn older legal n above l b old (sym (eqb-true n b.client e)))
       go false e came = came
-  came_before (Read n bytes) may old came = came
-  came_before (Bound n port) may old came = came
-  came_before (Enter n port) may old came = came
-  came_before (End n cause) may old came = came
-  came_before (Attach t kind serial) may old came = came
-  came_before (Recv t bytes) may old came = came
-  came_before (Detach t cause) may old came = came
-  came_before (Put n bytes) may old came = came
-  came_before (Send t bytes) may old came = came
+  came_before _ may old came = came
 
   -- ---- a stream that is born now
   module _ (c : ℕ) (bytes : List ℕ) (may : May (state older) (Read c bytes)) (came : has_joined c older ≡ true)

@@ -17,7 +17,7 @@ use Rattle.adb_reply.specs.Laws.{TakesPayloads}
 use Rattle.adb_reply.specs.declared.answer.Next.{Next}
 use Rattle.adb_reply.specs.declared.answer.Next.TheVariants as what
 use Rattle.adb_capture.specs.declared.entry.Entry.{Entry}
-use Rattle.adb_capture.specs.declared.entry.Entry.TheVariants.{Join, Enter, Read, End, Bound, Attach, Recv, Detach, Put, Send}
+use Rattle.adb_capture.specs.declared.entry.Entry.TheVariants.{Read, Recv}
 use Rattle.adb_history.specs.Rows.{Client, State, to_client}
 use Rattle.adb_history.specs.Events.{Made, Event, then_also}
 use Rattle.adb_history.specs.Clients.{owe_client}
@@ -58,15 +58,7 @@ brought_grows t (Recv n bytes) older = go (eqb n t) refl
     go : (same : Bool) → eqb n t ≡ same → length (brought t older) ≤ length (brought t (Recv n bytes ∷ older))
     go false e = let less = ap length (brought_apart n t bytes older (eqb-false n t e)) in omega (arith, less)
     go true e = subst (λ (m : ℕ). length (brought t older) ≤ length (brought t (Recv m bytes ∷ older))) (sym (eqb-true n t e)) here
-brought_grows t (Join n) older = omega arith
-brought_grows t (Enter n port) older = omega arith
-brought_grows t (Read n bytes) older = omega arith
-brought_grows t (End n cause) older = omega arith
-brought_grows t (Bound n port) older = omega arith
-brought_grows t (Attach n kind serial) older = omega arith
-brought_grows t (Detach n cause) older = omega arith
-brought_grows t (Put n bytes) older = omega arith
-brought_grows t (Send n bytes) older = omega arith
+brought_grows t _ older = omega arith
 
 drop_none : (n : ℕ) (ps : List Packet) → length ps ≤ n → drop n ps ≡ []
 drop_none zero [] le = refl

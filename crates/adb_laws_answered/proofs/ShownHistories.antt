@@ -9,7 +9,7 @@ use Rattle.adb_registry.specs.Row.{new_row}
 use Rattle.adb_wire.specs.declared.packets.Packet.{Packet}
 use Rattle.adb_stream.specs.declared.row.Stream.{Stream}
 use Rattle.adb_capture.specs.declared.entry.Entry.{Entry}
-use Rattle.adb_capture.specs.declared.entry.Entry.TheVariants.{Join, Enter, Read, End, Bound, Attach, Recv, Detach, Put, Send}
+use Rattle.adb_capture.specs.declared.entry.Entry.TheVariants.{Join, End, Attach, Recv}
 use Rattle.adb_history.specs.Rows.{Link, State}
 use Rattle.adb_history.specs.Events.{Made, Event, owed_to}
 use Rattle.adb_history.specs.Machine.{History, state, told, told_at, rule, ups, IsLegal}
@@ -102,12 +102,10 @@ module _ (heard_before some_now some_before failed_before : Bool) where
 
       go : (a s b f : Bool) → a ≡ false → ((s ≡ false) ⊎ ((b ≡ true) ⊎ (f ≡ true))) → (a || (s && not b && not f)) ≡ false
       go true s b f e why = e
-      go false false b f e why = refl
-      go false true true f e why = refl
-      go false true false true e why = refl
       go false true false false e (inl s) = s
       go false true false false e (inr (inl b)) = absurd (let clash : false ≡ true = b in cc)
       go false true false false e (inr (inr f)) = absurd (let clash : false ≡ true = f in cc)
+      go false _ _ _ e why = refl
 
 failed_more : (c : ℕ) (e : Entry) (older : History) → has_failed c older ≡ true → has_failed c (e ∷ older) ≡ true
 failed_more c (End n cause) older h = go (nat_eq n c && not (is_orderly cause)) h
@@ -115,15 +113,7 @@ failed_more c (End n cause) older h = go (nat_eq n c && not (is_orderly cause)) 
     go : (b : Bool) → has_failed c older ≡ true → (b || has_failed c older) ≡ true
     go true h = refl
     go false h = h
-failed_more c (Join n) older h = h
-failed_more c (Enter n port) older h = h
-failed_more c (Read n bytes) older h = h
-failed_more c (Bound n port) older h = h
-failed_more c (Attach t kind serial) older h = h
-failed_more c (Recv t bytes) older h = h
-failed_more c (Detach t cause) older h = h
-failed_more c (Put n bytes) older h = h
-failed_more c (Send t bytes) older h = h
+failed_more c _ older h = h
 
 joined_more : (c : ℕ) (e : Entry) (older : History) → has_joined c older ≡ true → has_joined c (e ∷ older) ≡ true
 joined_more c (Join n) older h = go (nat_eq n c) h
@@ -131,27 +121,11 @@ joined_more c (Join n) older h = go (nat_eq n c) h
     go : (b : Bool) → has_joined c older ≡ true → (b || has_joined c older) ≡ true
     go true h = refl
     go false h = h
-joined_more c (End n cause) older h = h
-joined_more c (Enter n port) older h = h
-joined_more c (Read n bytes) older h = h
-joined_more c (Bound n port) older h = h
-joined_more c (Attach t kind serial) older h = h
-joined_more c (Recv t bytes) older h = h
-joined_more c (Detach t cause) older h = h
-joined_more c (Put n bytes) older h = h
-joined_more c (Send t bytes) older h = h
+joined_more c _ older h = h
 
 plugged_more : (e : Entry) (older : History) → plugged_count older ≤ plugged_count (e ∷ older)
 plugged_more (Attach t kind serial) older = omega arith
-plugged_more (Join n) older = omega arith
-plugged_more (End n cause) older = omega arith
-plugged_more (Enter n port) older = omega arith
-plugged_more (Read n bytes) older = omega arith
-plugged_more (Bound n port) older = omega arith
-plugged_more (Recv t bytes) older = omega arith
-plugged_more (Detach t cause) older = omega arith
-plugged_more (Put n bytes) older = omega arith
-plugged_more (Send t bytes) older = omega arith
+plugged_more _ older = omega arith
 
 plugged_still : (t : ℕ) (e : Entry) (older : History) → is_some (plugged t older) ≡ true → is_some (plugged t (e ∷ older)) ≡ true
 plugged_still t (Attach n kind serial) older h = go (nat_eq n t)
@@ -159,15 +133,7 @@ plugged_still t (Attach n kind serial) older h = go (nat_eq n t)
     go : (b : Bool) → is_some (cond b (Some (new_row t kind serial)) (plugged t older)) ≡ true
     go true = refl
     go false = h
-plugged_still t (Join n) older h = h
-plugged_still t (End n cause) older h = h
-plugged_still t (Enter n port) older h = h
-plugged_still t (Read n bytes) older h = h
-plugged_still t (Bound n port) older h = h
-plugged_still t (Recv n bytes) older h = h
-plugged_still t (Detach n cause) older h = h
-plugged_still t (Put n bytes) older h = h
-plugged_still t (Send n bytes) older h = h
+plugged_still t _ older h = h
 
 -- who heard may
 hears_may : (c : Bool) (x : Subject) (a : Seen) (s : State) (w : List Event) → IsShown c x a s w → c ≡ true → x.may ≡ true

@@ -62,10 +62,7 @@ module _ (x : Subject) where
         go (inl same) = (heard, close_here x p e same ps s w linked heard h)
         go (inr apart) = nothing_here (subst (λ (c : Command). SaysNothing c x.stream p) (sym e) apart)
     by_command Cnxn e = (heard, cnxn_here x p e ps s w linked heard h)
-    by_command Open e = nothing_here (subst (λ (c : Command). SaysNothing c x.stream p) (sym e) tt)
-    by_command Wrte e = nothing_here (subst (λ (c : Command). SaysNothing c x.stream p) (sym e) tt)
-    by_command Auth e = nothing_here (subst (λ (c : Command). SaysNothing c x.stream p) (sym e) tt)
-    by_command Stls e = nothing_here (subst (λ (c : Command). SaysNothing c x.stream p) (sym e) tt)
+    by_command _ e = nothing_here (subst (λ (c : Command). SaysNothing c x.stream p) (sym e) tt)
 
     packet_here : Next
     packet_here = by_command p.command refl

@@ -4,7 +4,7 @@ use Rattle.std.specs.Prelude.{codes, option_and_then, option_map}
 use Rattle.std.proofs.lemmas.Bool.{eqb-true}
 use Rattle.adb_outside.specs.Tables.{Rows, change_row}
 use Rattle.adb_client.specs.declared.phase.Phase.{Phase}
-use Rattle.adb_client.specs.declared.phase.Phase.TheVariants.{Asking, Opening, Streaming, Binding, Tracking, Closing, Gone}
+use Rattle.adb_client.specs.declared.phase.Phase.TheVariants.{Opening, Streaming, Tracking, Closing}
 use Rattle.adb_reply.specs.Strings.{failed}
 use Rattle.adb_history.specs.Rows.{Client, State, none_kept, with_due}
 use Rattle.adb_history.specs.Events.{Made}
@@ -33,12 +33,7 @@ closed_about (b ∷ due) x y e = (ap phase_of (sym e), ap forwarded_of (sym e))
 
 marked_about : (p : Phase) (x : Client) → ((marked_in p x).about.phase ≡ x.about.phase) × ((marked_in p x).about.forwarded ≡ x.about.forwarded)
 marked_about Tracking x = (refl, refl)
-marked_about Asking x = (refl, refl)
-marked_about (Opening l) x = (refl, refl)
-marked_about (Streaming l) x = (refl, refl)
-marked_about Binding x = (refl, refl)
-marked_about Closing x = (refl, refl)
-marked_about Gone x = (refl, refl)
+marked_about _ x = (refl, refl)
 
 module _ {Q : Client → Type 0} (steady : IsSteady Q) where
   steady_closed : (due : List ℕ) (x y : Client) → closing_with due x ≡ Some y → Q x → Q y
@@ -50,12 +45,7 @@ module _ {Q : Client → Type 0} (steady : IsSteady Q) where
 
   steady_left : (p : Phase) (due : List ℕ) (x y : Client) → left_in p due x ≡ Some y → Q x → Q y
   steady_left Closing due x y e h = steady_closed due (record x { due = due }) y e (steady.like x (record x { due = due }) refl refl h)
-  steady_left Asking due x y e h = steady_with x y (record x { due = due }) refl refl e h
-  steady_left (Opening l) due x y e h = steady_with x y (record x { due = due }) refl refl e h
-  steady_left (Streaming l) due x y e h = steady_with x y (record x { due = due }) refl refl e h
-  steady_left Binding due x y e h = steady_with x y (record x { due = due }) refl refl e h
-  steady_left Tracking due x y e h = steady_with x y (record x { due = due }) refl refl e h
-  steady_left Gone due x y e h = steady_with x y (record x { due = due }) refl refl e h
+  steady_left _ due x y e h = steady_with x y (record x { due = due }) refl refl e h
 
   module _ (c : ℕ) where
     -- it holds of a client, while it lives
@@ -107,16 +97,7 @@ module _ {Q : Client → Type 0} (steady : IsSteady Q) where
     at_loses false (Opening l) n s h =
         let told : Made = owe_client n (failed (codes "closed")).bytes s in
         at_closing n told.state.clients (at_due n (failed (codes "closed")).bytes s.clients h)
-    at_loses true Asking n s h = h
-    at_loses false Asking n s h = h
-    at_loses true Binding n s h = h
-    at_loses false Binding n s h = h
-    at_loses true Tracking n s h = h
-    at_loses false Tracking n s h = h
-    at_loses true Closing n s h = h
-    at_loses false Closing n s h = h
-    at_loses true Gone n s h = h
-    at_loses false Gone n s h = h
+    at_loses _ _ n s h = h
 
     pub at_client_loses : (o : Option Client) (n : ℕ) (s : State) → At s.clients → At (client_loses o n s).state.clients
     at_client_loses None n s h = h

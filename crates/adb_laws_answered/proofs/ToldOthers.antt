@@ -5,7 +5,7 @@ use Rattle.std.proofs.lemmas.List.{append-nil}
 use Rattle.adb_outside.specs.Tables.{Rows, change_row}
 use Rattle.adb_stream.specs.declared.row.Stream.{Stream}
 use Rattle.adb_client.specs.declared.phase.Phase.{Phase}
-use Rattle.adb_client.specs.declared.phase.Phase.TheVariants.{Asking, Opening, Streaming, Binding, Tracking, Closing, Gone}
+use Rattle.adb_client.specs.declared.phase.Phase.TheVariants.{Opening, Streaming}
 use Rattle.adb_reply.specs.Strings.{failed}
 use Rattle.adb_history.specs.Rows.{Client, State, to_stream, none_kept}
 use Rattle.adb_history.specs.Events.{Event, Ending, quietly, ended, stopped, owed_to}
@@ -32,19 +32,8 @@ module _ (c : ℕ) where
 
   loses_owed : (forwarded : Bool) (p : Phase) (n : ℕ) (s : State) → eqb n c ≡ false → owed_to c (loses forwarded p n s).told ≡ []
   loses_owed true (Streaming l) n s e = refl
-  loses_owed false (Streaming l) n s e = refl
-  loses_owed true (Opening l) n s e = refl
   loses_owed false (Opening l) n s e = ap (λ (b : Bool). cond b (failed (codes "closed")).bytes [] ++ []) e
-  loses_owed true Asking n s e = refl
-  loses_owed false Asking n s e = refl
-  loses_owed true Binding n s e = refl
-  loses_owed false Binding n s e = refl
-  loses_owed true Tracking n s e = refl
-  loses_owed false Tracking n s e = refl
-  loses_owed true Closing n s e = refl
-  loses_owed false Closing n s e = refl
-  loses_owed true Gone n s e = refl
-  loses_owed false Gone n s e = refl
+  loses_owed _ _ n s e = refl
 
   pub client_loses_owed : (o : Option Client) (n : ℕ) (s : State) → eqb n c ≡ false → owed_to c (client_loses o n s).told ≡ []
   client_loses_owed None n s e = refl

@@ -11,7 +11,7 @@ use Rattle.adb_forward.specs.declared.row.ForwardRow.{ForwardRow}
 use Rattle.adb_wire.specs.declared.packets.Packet.{Packet}
 use Rattle.adb_stream.specs.declared.row.Stream.{Stream}
 use Rattle.adb_client.specs.declared.phase.Phase.{Phase}
-use Rattle.adb_client.specs.declared.phase.Phase.TheVariants.{Asking, Opening, Streaming, Binding, Tracking, Closing, Gone}
+use Rattle.adb_client.specs.declared.phase.Phase.TheVariants.{Asking, Opening, Streaming, Binding, Closing, Gone}
 use Rattle.adb_client.specs.declared.about.Want.{Want}
 use Rattle.adb_reply.specs.declared.answer.Next.{Next}
 use Rattle.adb_reply.specs.declared.answer.Next.TheVariants.{Close, Select, Track, Open, Bind, Rebind, Unbind, UnbindAll, Stop}
@@ -90,10 +90,7 @@ module _ {scope : Scope} {asker : ℕ} {P : State → List Event → Type 0} (k 
     reads_in_kept (Streaming l) bytes x may asked =
         after_quietly P w (to_client asker (with_held (x.client.held ++ bytes)) s)
         (k.holds asker x.client (x.client.held ++ bytes) s w x.here (subst HasOne (sym x.in_phase) tt) h)
-    reads_in_kept Binding bytes x may asked = after_quietly P w s h
-    reads_in_kept Tracking bytes x may asked = after_quietly P w s h
-    reads_in_kept Closing bytes x may asked = after_quietly P w s h
-    reads_in_kept Gone bytes x may asked = after_quietly P w s h
+    reads_in_kept _ bytes x may asked = after_quietly P w s h
 
     -- ---- bound
     bound_for_kept : (want : Option Want) (port : ℕ) → IsClientIn s asker Binding → After P w (bound_for want asker port s)
@@ -106,12 +103,7 @@ module _ {scope : Scope} {asker : ℕ} {P : State → List Event → Type 0} (k 
 
     bound_in_kept : (phase : Phase) (want : Option Want) (port : ℕ) → IsClientIn s asker phase → After P w (bound_in phase want asker port s)
     bound_in_kept Binding want port x = bound_for_kept want port x
-    bound_in_kept Asking want port x = after_quietly P w s h
-    bound_in_kept (Opening l) want port x = after_quietly P w s h
-    bound_in_kept (Streaming l) want port x = after_quietly P w s h
-    bound_in_kept Tracking want port x = after_quietly P w s h
-    bound_in_kept Closing want port x = after_quietly P w s h
-    bound_in_kept Gone want port x = after_quietly P w s h
+    bound_in_kept _ want port x = after_quietly P w s h
 
     pub bound_kept : (o : Option Client) (port : ℕ) → s.clients asker ≡ o → After P w (bound_at o asker port s)
     bound_kept None port is = after_quietly P w s h
@@ -143,20 +135,14 @@ module _ {scope : Scope} {asker : ℕ} {P : State → List Event → Type 0} (k 
         → After P w (stream_fails phase cause (stream_of phase s.streams) (to_client c none_kept s))
     fails_in_kept (Streaming l) c cause may x = fails_open_kept c l cause (s.streams l) x refl
     fails_in_kept (Opening l) c cause may x = fails_asked_kept c l cause (s.streams l) may x refl
-    fails_in_kept Asking c cause may x = drops_kept c x.client x.here (ap (λ p. stream_of p s.streams) x.in_phase)
-    fails_in_kept Binding c cause may x = drops_kept c x.client x.here (ap (λ p. stream_of p s.streams) x.in_phase)
-    fails_in_kept Tracking c cause may x = drops_kept c x.client x.here (ap (λ p. stream_of p s.streams) x.in_phase)
-    fails_in_kept Closing c cause may x = drops_kept c x.client x.here (ap (λ p. stream_of p s.streams) x.in_phase)
-    fails_in_kept Gone c cause may x = drops_kept c x.client x.here (ap (λ p. stream_of p s.streams) x.in_phase)
+    fails_in_kept _ c cause may x = drops_kept c x.client x.here (ap (λ p. stream_of p s.streams) x.in_phase)
 
     input_kept : (phase : Phase) (c : ℕ) → IsClientIn s c phase → P (input_ends phase c s) w
-    input_kept Asking c x = k.closes c x.client s w x.here (subst IsFree (sym x.in_phase) tt) h
-    input_kept Binding c x = k.closes c x.client s w x.here (subst IsFree (sym x.in_phase) tt) h
-    input_kept Tracking c x = k.closes c x.client s w x.here (subst IsFree (sym x.in_phase) tt) h
     input_kept (Opening l) c x = k.input_ended c s w h
     input_kept (Streaming l) c x = k.input_ended c s w h
     input_kept Closing c x = h
     input_kept Gone c x = h
+    input_kept _ c x = k.closes c x.client s w x.here (subst IsFree (sym x.in_phase) tt) h
 
     pub client_ends_kept : (c : ℕ) (cause : Cause) (o : Option Client) → (is_orderly cause ≡ false → scope.fails c) → s.clients c ≡ o
         → After P w (client_ends c cause o s)

@@ -7,7 +7,7 @@ use Rattle.adb_wire.specs.declared.packets.Packet.{Packet}
 use Rattle.adb_stream.specs.declared.flow.Flow.{Flow}
 use Rattle.adb_stream.specs.declared.row.Stream.{Stream}
 use Rattle.adb_client.specs.declared.phase.Phase.{Phase}
-use Rattle.adb_client.specs.declared.phase.Phase.TheVariants.{Asking, Opening, Streaming, Binding, Tracking, Closing, Gone}
+use Rattle.adb_client.specs.declared.phase.Phase.TheVariants.{Asking, Streaming}
 use Rattle.adb_reply.specs.Strings.{failed}
 use Rattle.adb_history.specs.Rows.{Client, State, to_client, to_stream, with_due, with_held, with_stream_part, none_kept}
 use Rattle.adb_history.specs.Events.{Made, Event, Ending, quietly, client_closed}
@@ -24,12 +24,7 @@ use Rattle.adb_laws_answered.specs.Turns.{HasOpen, Scope, EndsSo, Turns}
 -- a client that has a stream open
 streaming_at : (l : ℕ) (phase : Phase) → is_streaming l phase ≡ true → phase ≡ Streaming l
 streaming_at l (Streaming k) e = ap Streaming (eqb-true k l e)
-streaming_at l (Opening k) e = absurd (let clash : false ≡ true = e in cc)
-streaming_at l Asking e = absurd (let clash : false ≡ true = e in cc)
-streaming_at l Binding e = absurd (let clash : false ≡ true = e in cc)
-streaming_at l Tracking e = absurd (let clash : false ≡ true = e in cc)
-streaming_at l Closing e = absurd (let clash : false ≡ true = e in cc)
-streaming_at l Gone e = absurd (let clash : false ≡ true = e in cc)
+streaming_at l _ e = absurd (let clash : false ≡ true = e in cc)
 
 -- writes change no client, and no stream
 go_up_clients : (l : ℕ) (stream : Stream) (payloads : List (List ℕ)) (s : State) → (all_go_up l stream payloads s).state.clients ≡ s.clients
