@@ -3,10 +3,10 @@ use Rattle.std.proofs.Common.{◌≡◌, ◌≢◌, ℕ, Bool, true, false, cond
 use Rattle.std.specs.Prelude.{nat_eq}
 use Rattle.std.proofs.lemmas.Bool.{eq-eqb, ne_eqb}
 use Rattle.adb_client.specs.declared.phase.Phase.{Phase}
-use Rattle.adb_client.specs.declared.phase.Phase.TheVariants.{Asking, Opening, Streaming, Binding, Tracking, Closing, Gone}
+use Rattle.adb_client.specs.declared.phase.Phase.TheVariants.{Asking}
 use Rattle.adb_client.specs.declared.about.Want.{Want}
 use Rattle.adb_capture.specs.declared.entry.Entry.{Entry}
-use Rattle.adb_capture.specs.declared.entry.Entry.TheVariants.{Join, Enter, Read, End, Bound, Attach, Recv, Detach, Put, Send}
+use Rattle.adb_capture.specs.declared.entry.Entry.TheVariants.{Join, Read, End, Bound}
 use Rattle.adb_history.specs.Rows.{Client}
 use Rattle.adb_history.specs.Asking.{Asked, asks_with}
 use Rattle.adb_history.specs.Machine.{History, state, IsLegal}
@@ -53,12 +53,7 @@ asking_row (Some k) e = record { client = k; is = refl; asks = go k.about.phase 
   where
     go : (phase : Phase) → k.about.phase ≡ phase → asks_in phase ≡ true → k.about.phase ≡ Asking
     go Asking is f = is
-    go (Opening l) is f = absurd (let clash : false ≡ true = f in cc)
-    go (Streaming l) is f = absurd (let clash : false ≡ true = f in cc)
-    go Binding is f = absurd (let clash : false ≡ true = f in cc)
-    go Tracking is f = absurd (let clash : false ≡ true = f in cc)
-    go Closing is f = absurd (let clash : false ≡ true = f in cc)
-    go Gone is f = absurd (let clash : false ≡ true = f in cc)
+    go _ is f = absurd (let clash : false ≡ true = f in cc)
 
 or_false : (a b : Bool) → not (a || b) ≡ true → not b ≡ true
 or_false true b e = absurd (let clash : false ≡ true = e in cc)
@@ -67,27 +62,11 @@ or_false false b e = e
 -- one that asks after an entry by which it did not come
 pub joined_before : (e : Entry) (older : History) (c : ℕ) → (e ≢ Join c) → has_joined c (e ∷ older) ≡ true → has_joined c older ≡ true
 joined_before (Join n) older c other joined = ap (λ b. b || has_joined c older) (sym (ne_eqb n c (λ same. other (ap Join same)))) ∙ joined
-joined_before (Enter n port) older c other joined = joined
-joined_before (Read n bytes) older c other joined = joined
-joined_before (End n cause) older c other joined = joined
-joined_before (Bound n port) older c other joined = joined
-joined_before (Attach t kind serial) older c other joined = joined
-joined_before (Recv t bytes) older c other joined = joined
-joined_before (Detach t cause) older c other joined = joined
-joined_before (Put n bytes) older c other joined = joined
-joined_before (Send t bytes) older c other joined = joined
+joined_before _ older c other joined = joined
 
 pub not_ended_before : (e : Entry) (older : History) (c : ℕ) → not (has_ended c (e ∷ older)) ≡ true → not (has_ended c older) ≡ true
 not_ended_before (End n cause) older c on = or_false (nat_eq n c) (has_ended c older) on
-not_ended_before (Join n) older c on = on
-not_ended_before (Enter n port) older c on = on
-not_ended_before (Read n bytes) older c on = on
-not_ended_before (Bound n port) older c on = on
-not_ended_before (Attach t kind serial) older c on = on
-not_ended_before (Recv t bytes) older c on = on
-not_ended_before (Detach t cause) older c on = on
-not_ended_before (Put n bytes) older c on = on
-not_ended_before (Send t bytes) older c on = on
+not_ended_before _ older c on = on
 
 -- what it asked before, by entries that are not its own
 pub asked_before_is : (e : Entry) (older : History) (c : ℕ) → ((bytes : List ℕ) → e ≢ Read c bytes) → asked c (e ∷ older) ≡ asked c older
@@ -100,14 +79,7 @@ asked_before_is (Bound n port) older c other = go ((book older).waits n)
     go : (o : Option Want) → (bound_turn n port (devices_if (book older).killed older) o (book older)).asked c ≡ (book older).asked c
     go None = refl
     go (Some want) = refl
-asked_before_is (Join n) older c other = refl
-asked_before_is (Enter n port) older c other = refl
-asked_before_is (End n cause) older c other = refl
-asked_before_is (Attach t kind serial) older c other = refl
-asked_before_is (Recv t bytes) older c other = refl
-asked_before_is (Detach t cause) older c other = refl
-asked_before_is (Put n bytes) older c other = refl
-asked_before_is (Send t bytes) older c other = refl
+asked_before_is _ older c other = refl
 
 -- ---- what a client that asks reads
 module _ (c : ℕ) (bytes : List ℕ) (older : History) (legal : IsLegal (Read c bytes ∷ older)) where

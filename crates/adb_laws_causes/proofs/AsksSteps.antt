@@ -67,16 +67,9 @@ still_before (Read n bytes) older c known on = go (cases_eq n c)
     go : (n ≡ c) ⊎ (n ≡ c → ⊥) → still_asks (asked c older) ≡ true
     go (inl same) = mine (is_asking c older (book older)) refl (ap still_asks (sym (own same)) ∙ on)
     go (inr far) = ap still_asks (sym (asked_before_is (Read n bytes) older c (λ other f. far (let same : Read n bytes ≡ Read c other = f in cc)))) ∙ on
-still_before (Join n) older c known on = on
-still_before (Enter n port) older c known on = on
-still_before (End n cause) older c known on = on
 still_before (Bound n port) older c known on =
     ap still_asks (sym (asked_before_is (Bound n port) older c (λ other f. let clash : Bound n port ≡ Read c other = f in cc))) ∙ on
-still_before (Attach t kind serial) older c known on = on
-still_before (Recv t bytes) older c known on = on
-still_before (Detach t cause) older c known on = on
-still_before (Put n bytes) older c known on = on
-still_before (Send t bytes) older c known on = on
+still_before _ older c known on = on
 
 or_left : (a b : Bool) → (a || b) ≡ false → a ≡ false
 or_left true b e = e
@@ -85,14 +78,7 @@ or_left false b e = refl
 not_killed_before : (e : Entry) (older : History) → is_killed (e ∷ older) ≡ false → is_killed older ≡ false
 not_killed_before (Read c bytes) older on = or_left (is_killed older) _ on
 not_killed_before (Bound c port) older on = sym (bound_killed c port older ((book older).waits c)) ∙ on
-not_killed_before (Join c) older on = on
-not_killed_before (Enter c port) older on = on
-not_killed_before (End c cause) older on = on
-not_killed_before (Attach t kind serial) older on = on
-not_killed_before (Recv t bytes) older on = on
-not_killed_before (Detach t cause) older on = on
-not_killed_before (Put c bytes) older on = on
-not_killed_before (Send t bytes) older on = on
+not_killed_before _ older on = on
 
 module _ (e : Entry) (older : History) (c : ℕ) (k : Client) (legal : IsLegal (e ∷ older)) (here : (state (e ∷ older)).clients c ≡ Some k)
     (asks : k.about.phase ≡ Asking) where

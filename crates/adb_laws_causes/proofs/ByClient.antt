@@ -4,7 +4,7 @@ use Rattle.std.proofs.Common.{arith, ◌⊎◌, inl, inr}
 use Rattle.std.specs.Prelude.{is_some}
 use Rattle.adb_stream.specs.declared.row.Stream.{Stream}
 use Rattle.adb_capture.specs.declared.entry.Entry.{Entry}
-use Rattle.adb_capture.specs.declared.entry.Entry.TheVariants.{Join, Enter, Read, End, Bound, Attach, Recv, Detach, Put, Send}
+use Rattle.adb_capture.specs.declared.entry.Entry.TheVariants.{Read, End, Detach}
 use Rattle.adb_stream.specs.Flow.{has_credit}
 use Rattle.adb_history.specs.Rows.{Client}
 use Rattle.adb_history.specs.Events.{Made}
@@ -35,16 +35,10 @@ use Rattle.adb_laws_causes.proofs.Middle.{AfterRule, done_at}
 
 -- the rule of an entry ends no stream by its client
 no_close : (e : Entry) (kill : Type 0) (client link : ℕ) → WhyBy e kill client link client_closed → ⊥
-no_close (Recv t bytes) kill client link why = why
 no_close (Detach t cause) kill client link why = let clash : client_closed ≡ lost = why.0 in cc
 no_close (End c cause) kill client link why = let clash : client_closed ≡ client_failed cause = why.0 in cc
 no_close (Read c bytes) kill client link why = let clash : client_closed ≡ stopped = why.0 in cc
-no_close (Join c) kill client link why = why
-no_close (Enter c port) kill client link why = why
-no_close (Bound c port) kill client link why = why
-no_close (Attach t kind serial) kill client link why = why
-no_close (Put c bytes) kill client link why = why
-no_close (Send t bytes) kill client link why = why
+no_close _ kill client link why = why
 
 -- what is told of a stream that its client ends
 pub record ClosesAt (e : Entry) (older : History) (l : ℕ) : Type 0 where

@@ -9,11 +9,11 @@ use Rattle.adb_stream.specs.Stream.{new_stream}
 use Rattle.adb_stream.specs.Flow.{new_flow}
 use Rattle.adb_stream.specs.declared.row.Stream.{Stream}
 use Rattle.adb_client.specs.declared.phase.Phase.{Phase}
-use Rattle.adb_client.specs.declared.phase.Phase.TheVariants.{Asking, Opening, Streaming, Binding, Tracking, Closing, Gone}
+use Rattle.adb_client.specs.declared.phase.Phase.TheVariants.{Asking, Opening, Streaming}
 use Rattle.adb_reply.specs.declared.answer.Next.{Next}
 use Rattle.adb_reply.specs.declared.answer.Next.TheVariants.{Close, Select, Track, Open, Bind, Rebind, Unbind, UnbindAll, Stop}
 use Rattle.adb_capture.specs.declared.entry.Entry.{Entry}
-use Rattle.adb_capture.specs.declared.entry.Entry.TheVariants.{Join, Enter, Read, End, Bound, Attach, Recv, Detach, Put, Send}
+use Rattle.adb_capture.specs.declared.entry.Entry.TheVariants.{Enter, Read}
 use Rattle.adb_history.specs.Rows.{Client, State, to_client, in_phase}
 use Rattle.adb_history.specs.Events.{Made, Ending, quietly, ending_in}
 use Rattle.adb_history.specs.Links.{is_connected, is_credit}
@@ -118,10 +118,7 @@ module _ (l : ℕ) where
     reads_in_fresh Asking c bytes client = asks_fresh (asks_with s.devices s.forwards bytes (asked_before client)) c
     reads_in_fresh (Opening k) c bytes client = same_fresh s next none (reads_in (Opening k) c bytes client s) refl refl refl
     reads_in_fresh (Streaming k) c bytes client = same_fresh s next none (reads_in (Streaming k) c bytes client s) refl refl refl
-    reads_in_fresh Binding c bytes client = same_fresh s next none (quietly s) refl refl refl
-    reads_in_fresh Tracking c bytes client = same_fresh s next none (quietly s) refl refl refl
-    reads_in_fresh Closing c bytes client = same_fresh s next none (quietly s) refl refl refl
-    reads_in_fresh Gone c bytes client = same_fresh s next none (quietly s) refl refl refl
+    reads_in_fresh _ c bytes client = same_fresh s next none (quietly s) refl refl refl
 
     reads_fresh : (o : Option Client) (c : ℕ) (bytes : List ℕ) → Fresh l (reads_from o c bytes s)
     reads_fresh None c bytes = same_fresh s next none (quietly s) refl refl refl
@@ -136,11 +133,4 @@ module _ (l : ℕ) where
     pub rule_fresh : (e : Entry) → draws e ≡ true → Fresh l (rule e s)
     rule_fresh (Enter c port) yes_draws = enters_fresh c (at port s.forwards)
     rule_fresh (Read c bytes) yes_draws = reads_fresh (s.clients c) c bytes
-    rule_fresh (Join c) e = absurd (let clash : false ≡ true = e in cc)
-    rule_fresh (End c cause) e = absurd (let clash : false ≡ true = e in cc)
-    rule_fresh (Bound c port) e = absurd (let clash : false ≡ true = e in cc)
-    rule_fresh (Attach t kind serial) e = absurd (let clash : false ≡ true = e in cc)
-    rule_fresh (Recv t bytes) e = absurd (let clash : false ≡ true = e in cc)
-    rule_fresh (Detach t cause) e = absurd (let clash : false ≡ true = e in cc)
-    rule_fresh (Put c bytes) e = absurd (let clash : false ≡ true = e in cc)
-    rule_fresh (Send t bytes) e = absurd (let clash : false ≡ true = e in cc)
+    rule_fresh _ e = absurd (let clash : false ≡ true = e in cc)

@@ -9,7 +9,7 @@ use Rattle.adb_laws_causes.proofs.StreamSteps.{ups_hold}
 use Rattle.std.proofs.Common.{◌≡◌, ◌≢◌, ◌≤◌, ◌<◌, ◌+◌, ℕ, suc, true, false, [], ◌∷◌, Option, Some, None, refl, sym, ap, subst, ◌∙◌, arith, ◌⊎◌, inl, inr}
 use Rattle.adb_stream.specs.declared.row.Stream.{Stream}
 use Rattle.adb_capture.specs.declared.entry.Entry.{Entry}
-use Rattle.adb_capture.specs.declared.entry.Entry.TheVariants.{Join, Enter, Read, End, Bound, Attach, Recv, Detach, Put, Send}
+use Rattle.adb_capture.specs.declared.entry.Entry.TheVariants.{Enter, Read}
 use Rattle.adb_history.specs.Machine.{rule, ups, History, state, IsLegal}
 use Rattle.adb_laws_causes.specs.Flows.{IsAsTold, HoldsAsTold}
 use Rattle.adb_laws_causes.proofs.UntouchedEntries.{pair_of}
@@ -91,14 +91,7 @@ born_by (Read c bytes) older l b legal new birth z is =
     read_newborn c bytes older legal l new.1 b z is ((all_linked older legal.0).owned.rows.streams.above l (omega (arith, new.1))) birth
 born_by (Enter n port) older l b legal new birth z is =
     enter_newborn n port older legal l new.1 b z is ((all_linked older legal.0).owned.rows.streams.above l (omega (arith, new.1))) birth
-born_by (Join n) older l b legal new birth z is = absurd (let clash : false ≡ true = new.0 in cc)
-born_by (End n cause) older l b legal new birth z is = absurd (let clash : false ≡ true = new.0 in cc)
-born_by (Bound n port) older l b legal new birth z is = absurd (let clash : false ≡ true = new.0 in cc)
-born_by (Attach t kind serial) older l b legal new birth z is = absurd (let clash : false ≡ true = new.0 in cc)
-born_by (Recv t bytes) older l b legal new birth z is = absurd (let clash : false ≡ true = new.0 in cc)
-born_by (Detach t cause) older l b legal new birth z is = absurd (let clash : false ≡ true = new.0 in cc)
-born_by (Put n bytes) older l b legal new birth z is = absurd (let clash : false ≡ true = new.0 in cc)
-born_by (Send t bytes) older l b legal new birth z is = absurd (let clash : false ≡ true = new.0 in cc)
+born_by _ older l b legal new birth z is = absurd (let clash : false ≡ true = new.0 in cc)
 
 module _ (e : Entry) (older : History) (legal : IsLegal (e ∷ older)) where
   newborn_holds : HasBirths older → (l : ℕ) (b : Birth) (y : Stream) (k : Client) → (draws e ≡ true) × (l ≡ (state older).drawn + 1)

@@ -6,9 +6,9 @@ use Rattle.std.proofs.lemmas.Bool.{cases_eq}
 use Rattle.adb_outside.specs.Tables.{at}
 use Rattle.adb_forward.specs.declared.row.ForwardRow.{ForwardRow}
 use Rattle.adb_reply.specs.declared.answer.Next.{Next}
-use Rattle.adb_reply.specs.declared.answer.Next.TheVariants.{Close, Select, Track, Open, Bind, Rebind, Unbind, UnbindAll, Stop}
+use Rattle.adb_reply.specs.declared.answer.Next.TheVariants.{Close}
 use Rattle.adb_capture.specs.declared.entry.Entry.{Entry}
-use Rattle.adb_capture.specs.declared.entry.Entry.TheVariants.{Join, Enter, Read, End, Bound, Attach, Recv, Detach, Put, Send}
+use Rattle.adb_capture.specs.declared.entry.Entry.TheVariants.{Enter, Read}
 use Rattle.adb_stream.specs.declared.row.Stream.{Stream}
 use Rattle.adb_history.specs.Rows.{State}
 use Rattle.adb_history.specs.Events.{Event, Ending, client_closed, ending_in}
@@ -30,16 +30,8 @@ use Rattle.adb_laws_causes.proofs.Fresh.{rule_fresh}
 
 -- ---- how many streams an entry draws
 request_few : (c head : ℕ) (older : History) (next : Option Next) → length (birth_by c head older next) ≤ 1
-request_few c head older None = omega arith
 request_few c head older (Some Close) = omega arith
-request_few c head older (Some (Select id)) = omega arith
-request_few c head older (Some (Track long)) = omega arith
-request_few c head older (Some (Open t service)) = omega arith
-request_few c head older (Some (Bind transport local remote chosen)) = omega arith
-request_few c head older (Some (Rebind transport local remote)) = omega arith
-request_few c head older (Some (Unbind local)) = omega arith
-request_few c head older (Some UnbindAll) = omega arith
-request_few c head older (Some Stop) = omega arith
+request_few c head older _ = omega arith
 
 through_few : (c : ℕ) (older : History) (o : Option ForwardRow) → length (birth_through c older o) ≤ 1
 through_few c older None = omega arith
@@ -53,14 +45,7 @@ births_few : (e : Entry) (older : History) → length (births_at e older) ≤ co
 births_few (Read c bytes) older =
     request_few c (asked c (Read c bytes ∷ older)).used older (newly (asked c older).next (asked c (Read c bytes ∷ older)).next)
 births_few (Enter c port) older = through_few c older (at port (forwards older))
-births_few (Join c) older = omega arith
-births_few (End c cause) older = omega arith
-births_few (Bound c port) older = omega arith
-births_few (Attach t kind serial) older = omega arith
-births_few (Recv t bytes) older = omega arith
-births_few (Detach t cause) older = omega arith
-births_few (Put c bytes) older = omega arith
-births_few (Send t bytes) older = omega arith
+births_few _ older = omega arith
 
 min_grows : (a b n : ℕ) → (min a n ≤ min (a + b) n) × (min (a + b) n ≤ min a n + b)
 min_grows a b n = (omega arith, omega arith)

@@ -117,27 +117,11 @@ LeavesLink t _ = Unit {0}
 
 same_lost : (t : ℕ) (e : Entry) (older : History) → LeavesLink t e → is_lost t (e ∷ older) ≡ is_lost t older
 same_lost t (Detach n cause) older far = ap (λ b. b || is_lost t older) (ne_eqb n t far)
-same_lost t (Join n) older far = refl
-same_lost t (Enter n port) older far = refl
-same_lost t (Read n bytes) older far = refl
-same_lost t (End n cause) older far = refl
-same_lost t (Bound n port) older far = refl
-same_lost t (Attach n kind serial) older far = refl
-same_lost t (Recv n bytes) older far = refl
-same_lost t (Put n bytes) older far = refl
-same_lost t (Send n bytes) older far = refl
+same_lost t _ older far = refl
 
 same_plugged : (t : ℕ) (e : Entry) (older : History) → LeavesLink t e → plugged t (e ∷ older) ≡ plugged t older
 same_plugged t (Attach n kind serial) older far = ap (λ b. cond b (Some (new_row t kind serial)) (plugged t older)) (ne_eqb n t far)
-same_plugged t (Detach n cause) older far = refl
-same_plugged t (Join n) older far = refl
-same_plugged t (Enter n port) older far = refl
-same_plugged t (Read n bytes) older far = refl
-same_plugged t (End n cause) older far = refl
-same_plugged t (Bound n port) older far = refl
-same_plugged t (Recv n bytes) older far = refl
-same_plugged t (Put n bytes) older far = refl
-same_plugged t (Send n bytes) older far = refl
+same_plugged t _ older far = refl
 
 same_device : (t : ℕ) (e : Entry) (older : History) → LeavesLink t e → bytes_received t (e ∷ older) ≡ bytes_received t older
     → device_of t (e ∷ older) ≡ device_of t older

@@ -10,10 +10,10 @@ use Rattle.adb_outside.specs.declared.kinds.Cause.{Cause}
 use Rattle.adb_outside.specs.declared.kinds.Cause.TheVariants.{Eof, Fault, Starved, NoThread}
 use Rattle.adb_stream.specs.declared.row.Stream.{Stream}
 use Rattle.adb_client.specs.declared.phase.Phase.{Phase}
-use Rattle.adb_client.specs.declared.phase.Phase.TheVariants.{Asking, Opening, Streaming, Binding, Tracking, Closing, Gone}
+use Rattle.adb_client.specs.declared.phase.Phase.TheVariants.{Asking, Opening, Streaming}
 use Rattle.adb_client.specs.declared.about.Want.{Want}
 use Rattle.adb_reply.specs.declared.answer.Next.{Next}
-use Rattle.adb_reply.specs.declared.answer.Next.TheVariants.{Close, Select, Track, Open, Bind, Rebind, Unbind, UnbindAll, Stop}
+use Rattle.adb_reply.specs.declared.answer.Next.TheVariants.{Open, Stop}
 use Rattle.adb_capture.specs.declared.entry.Entry.{Entry}
 use Rattle.adb_capture.specs.declared.entry.Entry.TheVariants.{Join, Enter, Read, End, Bound, Attach, Recv, Detach, Put, Send}
 use Rattle.adb_history.specs.Rows.{Client, State, to_client, none_kept}
@@ -80,15 +80,7 @@ module _ (l : ℕ) (b : Birth) (older : History) (a : Alive l b older) (legal : 
       go true false e f = absurd (falls (eqb-true n b.client e) f)
       go true true e f = refl
       go false orderly e f = refl
-  not_failed (Join c) none = refl
-  not_failed (Enter c port) none = refl
-  not_failed (Read c bytes) none = refl
-  not_failed (Bound c port) none = refl
-  not_failed (Attach t kind serial) none = refl
-  not_failed (Recv t bytes) none = refl
-  not_failed (Detach t cause) none = refl
-  not_failed (Put c bytes) none = refl
-  not_failed (Send t bytes) none = refl
+  not_failed _ none = refl
 
 -- ---- the server was not stopped
 -- a kill is made with all streams, or not at all
@@ -108,27 +100,15 @@ module _ (l : ℕ) where
       go false = inl refl
 
   goes_on_kills : (next : Option Next) (c : ℕ) (s : State) → Kills s (goes_on next c s)
-  goes_on_kills None c s = inl refl
-  goes_on_kills (Some Close) c s = inl refl
-  goes_on_kills (Some (Select id)) c s = inl refl
-  goes_on_kills (Some (Track long)) c s = inl refl
   goes_on_kills (Some (Open t service)) c s = opens_kills false c t service s
-  goes_on_kills (Some (Bind transport local remote chosen)) c s = inl refl
-  goes_on_kills (Some (Rebind transport local remote)) c s = inl refl
-  goes_on_kills (Some (Unbind local)) c s = inl refl
-  goes_on_kills (Some UnbindAll) c s = inl refl
   goes_on_kills (Some Stop) c s = inr refl
+  goes_on_kills _ c s = inl refl
 
   reads_in_kills : (phase : Phase) (c : ℕ) (bytes : List ℕ) (client : Client) (s : State) → Kills s (reads_in phase c bytes client s)
   reads_in_kills Asking c bytes client s =
       let q = asks_with s.devices s.forwards bytes (asked_before client) in
       goes_on_kills q.next c (owe_client c q.replies (to_client c (has_asked q) s)).state
-  reads_in_kills (Opening k) c bytes client s = inl refl
-  reads_in_kills (Streaming k) c bytes client s = inl refl
-  reads_in_kills Binding c bytes client s = inl refl
-  reads_in_kills Tracking c bytes client s = inl refl
-  reads_in_kills Closing c bytes client s = inl refl
-  reads_in_kills Gone c bytes client s = inl refl
+  reads_in_kills _ c bytes client s = inl refl
 
   pub reads_kills : (o : Option Client) (c : ℕ) (bytes : List ℕ) (s : State) → Kills s (reads_from o c bytes s)
   reads_kills None c bytes s = inl refl

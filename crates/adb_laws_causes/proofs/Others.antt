@@ -200,12 +200,4 @@ module _ (l : ℕ) (b : Birth) (older : History) (a : Alive l b older) where
       go : (c : Bool) → eqb t b.link ≡ c → eqb t b.link ≡ false
       go false e = e
       go true e = absurd (falls (eqb-true t b.link e))
-  not_detached (Join c) legal none = refl
-  not_detached (Enter c port) legal none = refl
-  not_detached (Read c bytes) legal none = refl
-  not_detached (End c cause) legal none = refl
-  not_detached (Bound c port) legal none = refl
-  not_detached (Attach t kind serial) legal none = refl
-  not_detached (Recv t bytes) legal none = refl
-  not_detached (Put c bytes) legal none = refl
-  not_detached (Send t bytes) legal none = refl
+  not_detached _ legal none = refl

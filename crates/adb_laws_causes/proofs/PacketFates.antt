@@ -6,7 +6,7 @@ use Rattle.adb_outside.specs.Tables.{at}
 use Rattle.adb_outside.specs.Framing.{Cut}
 use Rattle.adb_outside.specs.declared.identity.Identity.{Identity}
 use Rattle.adb_outside.specs.declared.identity.State.{State as DeviceState}
-use Rattle.adb_outside.specs.declared.identity.State.TheVariants.{Offline, Unauthorized, Device, Bootloader, Recovery, Sideload, Rescue, Host}
+use Rattle.adb_outside.specs.declared.identity.State.TheVariants.{Offline}
 use Rattle.adb_banner.specs.Banner.{identity_of}
 use Rattle.adb_registry.specs.declared.row.Row.{Row}
 use Rattle.adb_wire.specs.Cutting.{cut_packets}
@@ -70,13 +70,7 @@ module _ (l t : ℕ) where
     where
       go : (state : DeviceState) → FateOf l (OfLink t) s (quietly (unauthorized_from t state s))
       go Offline = fate_same l (OfLink t) (s.streams l) [] refl
-      go Unauthorized = quiet l (OfLink t) s
-      go Device = quiet l (OfLink t) s
-      go Bootloader = quiet l (OfLink t) s
-      go Recovery = quiet l (OfLink t) s
-      go Sideload = quiet l (OfLink t) s
-      go Rescue = quiet l (OfLink t) s
-      go Host = quiet l (OfLink t) s
+      go _ = quiet l (OfLink t) s
 
   refuses_fate : (id : ℕ) (s : State) → FateOf l (OfLink t) s (refuses_open t id s)
   refuses_fate id s = if_fate l (OfLink t) s (eqb id 0) (quietly s) (owe_link t (close_packet 0 id) s) (λ e. quiet l (OfLink t) s)
@@ -153,9 +147,7 @@ module _ (l t : ℕ) where
   open_fate Wrte p s =
       at_stream_fate p.arg1 (s.streams p.arg1) (takes_write p.arg1 p.arg0 p.payload) s refl (λ x is here. write_fate p.arg1 p.arg0 p.payload x s is here)
   open_fate Clse p s = at_stream_fate p.arg1 (s.streams p.arg1) (takes_close p.arg1 p.arg0) s refl (λ x is here. close_fate p.arg1 p.arg0 x s is here)
-  open_fate Cnxn p s = quiet l (OfLink t) s
-  open_fate Auth p s = quiet l (OfLink t) s
-  open_fate Stls p s = quiet l (OfLink t) s
+  open_fate _ p s = quiet l (OfLink t) s
 
   if_connected_fate : (command : Command) (p : Packet) (s : State)
       → FateOf l (OfLink t) s (cond (is_connected t s.devices) (treat_open t command p s) (quietly s))

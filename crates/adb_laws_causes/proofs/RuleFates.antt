@@ -15,10 +15,10 @@ use Rattle.adb_stream.specs.declared.flow.Flow.{Flow}
 use Rattle.adb_stream.specs.declared.flow.Flow.TheVariants.{One, Credit}
 use Rattle.adb_stream.specs.declared.row.Stream.{Stream}
 use Rattle.adb_client.specs.declared.phase.Phase.{Phase}
-use Rattle.adb_client.specs.declared.phase.Phase.TheVariants.{Asking, Opening, Streaming, Binding, Tracking, Closing, Gone}
+use Rattle.adb_client.specs.declared.phase.Phase.TheVariants.{Asking, Opening, Streaming, Binding, Closing, Gone}
 use Rattle.adb_client.specs.declared.about.Want.{Want}
 use Rattle.adb_reply.specs.declared.answer.Next.{Next}
-use Rattle.adb_reply.specs.declared.answer.Next.TheVariants.{Close, Select, Track, Open, Bind, Rebind, Unbind, UnbindAll, Stop}
+use Rattle.adb_reply.specs.declared.answer.Next.TheVariants.{Select, Open, Stop}
 use Rattle.adb_capture.specs.declared.entry.Entry.{Entry}
 use Rattle.adb_capture.specs.declared.entry.Entry.TheVariants.{Join, Enter, Read, End, Bound, Attach, Recv, Detach, Put, Send}
 use Rattle.adb_history.specs.Rows.{Client, Link, State, to_client, to_stream, none_kept, with_stream_part}
@@ -177,15 +177,10 @@ module _ (l : ℕ) (Why : Reason) where
   goes_on_fate : (next : Option Next) (c : ℕ) (s : State) → l ≢ s.drawn + 1 → IsDrawnOnly s.drawn s.streams
       → ((goes_on next c s).state.stopped ≡ true → (n t : ℕ) → Why n t stopped) → FateOf l Why s (goes_on next c s)
   goes_on_fate None c s other rows why = quiet l Why s
-  goes_on_fate (Some Close) c s other rows why = fate_same l Why (s.streams l) [] refl
   goes_on_fate (Some (Select id)) c s other rows why = quiet l Why s
-  goes_on_fate (Some (Track long)) c s other rows why = fate_same l Why (s.streams l) [] refl
   goes_on_fate (Some (Open t service)) c s other rows why = opens_fate false c t service s other
-  goes_on_fate (Some (Bind transport local remote chosen)) c s other rows why = fate_same l Why (s.streams l) [] refl
-  goes_on_fate (Some (Rebind transport local remote)) c s other rows why = fate_same l Why (s.streams l) [] refl
-  goes_on_fate (Some (Unbind local)) c s other rows why = fate_same l Why (s.streams l) [] refl
-  goes_on_fate (Some UnbindAll) c s other rows why = fate_same l Why (s.streams l) [] refl
   goes_on_fate (Some Stop) c s other rows why = stops_fate c s rows (why refl)
+  goes_on_fate _ c s other rows why = fate_same l Why (s.streams l) [] refl
 
   asks_fate : (q : Asked) (c : ℕ) (s : State) → l ≢ s.drawn + 1 → IsDrawnOnly s.drawn s.streams
       → ((asks q c s).state.stopped ≡ true → (n t : ℕ) → Why n t stopped) → FateOf l Why s (asks q c s)
@@ -198,10 +193,7 @@ module _ (l : ℕ) (Why : Reason) where
   reads_in_fate Asking c bytes client s other rows why = asks_fate (asks_with s.devices s.forwards bytes (asked_before client)) c s other rows why
   reads_in_fate (Opening k) c bytes client s other rows why = fate_same l Why (s.streams l) [] refl
   reads_in_fate (Streaming k) c bytes client s other rows why = fate_same l Why (s.streams l) [] refl
-  reads_in_fate Binding c bytes client s other rows why = quiet l Why s
-  reads_in_fate Tracking c bytes client s other rows why = quiet l Why s
-  reads_in_fate Closing c bytes client s other rows why = quiet l Why s
-  reads_in_fate Gone c bytes client s other rows why = quiet l Why s
+  reads_in_fate _ c bytes client s other rows why = quiet l Why s
 
   reads_fate : (o : Option Client) (c : ℕ) (bytes : List ℕ) (s : State) → l ≢ s.drawn + 1 → IsDrawnOnly s.drawn s.streams
       → ((reads_from o c bytes s).state.stopped ≡ true → (n t : ℕ) → Why n t stopped) → FateOf l Why s (reads_from o c bytes s)
@@ -215,12 +207,7 @@ module _ (l : ℕ) (Why : Reason) where
 
   bound_in_fate : (phase : Phase) (want : Option Want) (c port : ℕ) (s : State) → FateOf l Why s (bound_in phase want c port s)
   bound_in_fate Binding want c port s = bound_for_fate want c port s
-  bound_in_fate Asking want c port s = quiet l Why s
-  bound_in_fate (Opening k) want c port s = quiet l Why s
-  bound_in_fate (Streaming k) want c port s = quiet l Why s
-  bound_in_fate Tracking want c port s = quiet l Why s
-  bound_in_fate Closing want c port s = quiet l Why s
-  bound_in_fate Gone want c port s = quiet l Why s
+  bound_in_fate _ want c port s = quiet l Why s
 
   bound_fate : (o : Option Client) (c port : ℕ) (s : State) → FateOf l Why s (bound_at o c port s)
   bound_fate None c port s = quiet l Why s
@@ -245,20 +232,12 @@ module _ (l : ℕ) (Why : Reason) where
       go : (o : Option Stream) → s.streams k ≡ o → FateOf l Why s (stream_fails (Opening k) cause o (to_client c none_kept s))
       go None is = quiet l Why s
       go (Some x) is = (let h = why k x is is in fate_left l Why k (client_failed cause) x s (is, h.0) h.1)
-  stream_fails_fate Asking c cause s why = quiet l Why s
-  stream_fails_fate Binding c cause s why = quiet l Why s
-  stream_fails_fate Tracking c cause s why = quiet l Why s
-  stream_fails_fate Closing c cause s why = quiet l Why s
-  stream_fails_fate Gone c cause s why = quiet l Why s
+  stream_fails_fate _ c cause s why = quiet l Why s
 
   input_fate : (phase : Phase) (c : ℕ) (s : State) → FateOf l Why s (quietly (input_ends phase c s))
-  input_fate Asking c s = fate_same l Why (s.streams l) [] refl
-  input_fate Binding c s = fate_same l Why (s.streams l) [] refl
-  input_fate Tracking c s = fate_same l Why (s.streams l) [] refl
-  input_fate (Opening k) c s = fate_same l Why (s.streams l) [] refl
-  input_fate (Streaming k) c s = fate_same l Why (s.streams l) [] refl
   input_fate Closing c s = quiet l Why s
   input_fate Gone c s = quiet l Why s
+  input_fate _ c s = fate_same l Why (s.streams l) [] refl
 
   -- ---- put
   lists_fate : (c : ℕ) (due : List ℕ) (client : Client) (s : State) → FateOf l Why s (lists_first c due client s)
@@ -289,12 +268,7 @@ module _ (l : ℕ) (Why : Reason) where
 
   client_left_fate : (phase : Phase) (due : ℕ) (s : State) → FateOf l Why s (client_left phase due s)
   client_left_fate (Streaming k) due s = left_fate due k (s.streams k) s refl
-  client_left_fate Asking due s = quiet l Why s
-  client_left_fate (Opening k) due s = quiet l Why s
-  client_left_fate Binding due s = quiet l Why s
-  client_left_fate Tracking due s = quiet l Why s
-  client_left_fate Closing due s = quiet l Why s
-  client_left_fate Gone due s = quiet l Why s
+  client_left_fate _ due s = quiet l Why s
 
   takes_fate : (c n : ℕ) (o : Option Client) (s : State) → FateOf l Why s (takes_of c n o s)
   takes_fate c n None s = quiet l Why s
@@ -319,11 +293,7 @@ own_stream (Streaming k) c s client holds x is =
 own_stream (Opening k) c s client holds x is =
     let same : holds.stream ≡ x = (let both : Some holds.stream ≡ Some x = sym holds.is ∙ is in cc) in
     subst (λ (y : Stream). (y.part.orphan ≡ false) × (y.client ≡ c)) same (holds.owned, holds.client)
-own_stream Asking c s client holds x is = absurd (let clash : None ≡ Some x = is in cc)
-own_stream Binding c s client holds x is = absurd (let clash : None ≡ Some x = is in cc)
-own_stream Tracking c s client holds x is = absurd (let clash : None ≡ Some x = is in cc)
-own_stream Closing c s client holds x is = absurd (let clash : None ≡ Some x = is in cc)
-own_stream Gone c s client holds x is = absurd (let clash : None ≡ Some x = is in cc)
+own_stream _ c s client holds x is = absurd (let clash : None ≡ Some x = is in cc)
 
 module _ (l : ℕ) (s : State) (h : IsOwned s) where
   fails_fate : (c : ℕ) (cause : Cause) (client : Client) → s.clients c ≡ Some client → is_orderly cause ≡ false

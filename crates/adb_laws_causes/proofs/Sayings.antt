@@ -104,10 +104,7 @@ opening_more l (p ∷ a) b o is = go p.command is (opening_more l a b o)
     go Okay e ih = okay (nat_eq p.arg1 l && not (eqb p.arg0 0)) e ih
     go Clse e ih = close (is_between 0 l p) e ih
     go Cnxn e ih = absurd (let clash : None ≡ Some o = e in cc)
-    go Open e ih = ih e
-    go Wrte e ih = ih e
-    go Auth e ih = ih e
-    go Stls e ih = ih e
+    go _ e ih = ih e
 
 -- ---- a stream that is not open yet
 -- what packets say of it that neither close it nor say who its device is

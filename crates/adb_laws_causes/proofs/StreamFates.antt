@@ -5,7 +5,7 @@ use Rattle.std.specs.Prelude.{nat_eq}
 use Rattle.std.proofs.lemmas.Bool.{eqb-true, eqb-false, cases_eq}
 use Rattle.adb_stream.specs.declared.row.Stream.{Stream}
 use Rattle.adb_client.specs.declared.phase.Phase.{Phase}
-use Rattle.adb_client.specs.declared.phase.Phase.TheVariants.{Asking, Opening, Streaming, Binding, Tracking, Closing, Gone}
+use Rattle.adb_client.specs.declared.phase.Phase.TheVariants.{Streaming}
 use Rattle.adb_history.specs.Rows.{Client, State, to_stream, none_kept}
 use Rattle.adb_history.specs.Events.{Made, Ending, client_closed, quietly, then_also, ending_in}
 use Rattle.adb_history.specs.Links.{owe_link, close_packet, maxdata_of}
@@ -31,18 +31,8 @@ module _ (l : ℕ) (Why : Reason) where
   loses_fate : (forwarded : Bool) (phase : Phase) (c : ℕ) (s : State) → FateOf l Why s (loses forwarded phase c s)
   loses_fate true (Streaming k) c s = fate_same l Why (s.streams l) _ refl
   loses_fate false (Streaming k) c s = fate_same l Why (s.streams l) _ refl
-  loses_fate true (Opening k) c s = fate_same l Why (s.streams l) _ refl
-  loses_fate false (Opening k) c s = fate_same l Why (s.streams l) _ refl
-  loses_fate true Asking c s = fate_same l Why (s.streams l) _ refl
-  loses_fate false Asking c s = fate_same l Why (s.streams l) _ refl
-  loses_fate true Binding c s = fate_same l Why (s.streams l) _ refl
-  loses_fate false Binding c s = fate_same l Why (s.streams l) _ refl
-  loses_fate true Tracking c s = fate_same l Why (s.streams l) _ refl
-  loses_fate false Tracking c s = fate_same l Why (s.streams l) _ refl
-  loses_fate true Closing c s = fate_same l Why (s.streams l) _ refl
-  loses_fate false Closing c s = fate_same l Why (s.streams l) _ refl
-  loses_fate true Gone c s = fate_same l Why (s.streams l) _ refl
-  loses_fate false Gone c s = fate_same l Why (s.streams l) _ refl
+  loses_fate true _ c s = fate_same l Why (s.streams l) _ refl
+  loses_fate false _ c s = fate_same l Why (s.streams l) _ refl
 
   client_fate : (o : Option Client) (c : ℕ) (s : State) → FateOf l Why s (client_loses o c s)
   client_fate None c s = quiet s

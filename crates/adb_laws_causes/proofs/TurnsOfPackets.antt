@@ -7,7 +7,7 @@ use Rattle.std.proofs.lemmas.Bool.{cases_eq}
 use Rattle.adb_outside.specs.Tables.{at}
 use Rattle.adb_outside.specs.declared.identity.Identity.{Identity}
 use Rattle.adb_outside.specs.declared.identity.State.{State as DeviceState}
-use Rattle.adb_outside.specs.declared.identity.State.TheVariants.{Offline, Unauthorized, Device, Bootloader, Recovery, Sideload, Rescue, Host}
+use Rattle.adb_outside.specs.declared.identity.State.TheVariants.{Offline}
 use Rattle.adb_banner.specs.Banner.{identity_of}
 use Rattle.adb_registry.specs.declared.row.Row.{Row}
 use Rattle.adb_wire.specs.Format.{is_cnxn}
@@ -83,13 +83,7 @@ module _ (t l : ℕ) (x : Stream) (p : Packet) (s : State) (h : Here t l x s) wh
     where
       go : (state : DeviceState) → is_connected_state state ≡ true → Turn t l x p (quietly (unauthorized_from t state s))
       go Offline e = absurd (let clash : false ≡ true = e in cc)
-      go Unauthorized e = turn
-      go Device e = turn
-      go Bootloader e = turn
-      go Recovery e = turn
-      go Sideload e = turn
-      go Rescue e = turn
-      go Host e = turn
+      go _ e = turn
 
   open_turn : p.command ≡ Open → Turn t l x p (refuses_open t p.arg0 s)
   open_turn c = go (eqb p.arg0 0)

@@ -6,10 +6,10 @@ use Rattle.std.specs.Prelude.{nat_eq, is_some}
 use Rattle.std.proofs.Math.Bool.{or-true}
 use Rattle.std.proofs.lemmas.Bool.{eqb-true, eq-eqb, ne_eqb}
 use Rattle.adb_wire.specs.declared.command.Command.{Command}
-use Rattle.adb_wire.specs.declared.command.Command.TheVariants.{Cnxn, Open, Okay, Wrte, Clse, Auth, Stls}
+use Rattle.adb_wire.specs.declared.command.Command.TheVariants.{Cnxn, Okay, Clse}
 use Rattle.adb_wire.specs.declared.packets.Packet.{Packet}
 use Rattle.adb_client.specs.declared.phase.Phase.{Phase}
-use Rattle.adb_client.specs.declared.phase.Phase.TheVariants.{Asking, Opening, Streaming, Binding, Tracking, Closing, Gone}
+use Rattle.adb_client.specs.declared.phase.Phase.TheVariants.{Opening, Streaming}
 use Rattle.adb_client.specs.declared.about.Want.{Want}
 use Rattle.adb_capture.specs.declared.entry.Entry.{Entry}
 use Rattle.adb_capture.specs.declared.entry.Entry.TheVariants.{Join, Enter, Read, End, Bound, Attach, Recv, Detach, Put, Send}
@@ -50,10 +50,7 @@ opened_some l (p ∷ packets) o is = go p.command is (opened_some l packets o)
     go Okay e ih = here (eqb p.arg0 0) refl (nat_eq p.arg1 l) e ih
     go Clse e ih = close (is_between 0 l p) e ih
     go Cnxn e ih = absurd (let clash : None ≡ Some o = e in cc)
-    go Open e ih = ih e
-    go Wrte e ih = ih e
-    go Auth e ih = ih e
-    go Stls e ih = ih e
+    go _ e ih = ih e
 
 -- how many bytes were handed to the client of a stream whose device told this id
 pub handed_is : (l : ℕ) (b : Birth) (h : History) (r : ℕ) → remote_of l b h ≡ r
@@ -75,11 +72,7 @@ handed_is l b h r is = go (opening_of l b h) refl
 idle_in : (phase : Phase) → HasOne phase → asks_in phase ≡ false
 idle_in (Opening l) has = refl
 idle_in (Streaming l) has = refl
-idle_in Asking has = absurd has
-idle_in Binding has = absurd has
-idle_in Tracking has = absurd has
-idle_in Closing has = absurd has
-idle_in Gone has = absurd has
+idle_in _ has = absurd has
 
 -- of a client that has a stream no further request is read
 not_asking : (c : ℕ) (k : Client) (older : History) → IsLegal older → (state older).stopped ≡ false → (state older).clients c ≡ Some k → HasOne k.about.phase
@@ -107,14 +100,7 @@ asked_same (Bound n port) c k older legal here has = go ((book older).waits n)
     go : (o : Option Want) → (bound_turn n port (devices_if (book older).killed older) o (book older)).asked c ≡ (book older).asked c
     go None = refl
     go (Some want) = refl
-asked_same (Join n) c k older legal here has = refl
-asked_same (Enter n port) c k older legal here has = refl
-asked_same (End n cause) c k older legal here has = refl
-asked_same (Attach t kind serial) c k older legal here has = refl
-asked_same (Recv t bytes) c k older legal here has = refl
-asked_same (Detach t cause) c k older legal here has = refl
-asked_same (Put n bytes) c k older legal here has = refl
-asked_same (Send t bytes) c k older legal here has = refl
+asked_same _ c k older legal here has = refl
 
 -- ---- what an entry does not change
 pub record SameBytes (e : Entry) (older : History) (c t : ℕ) : Type 0 where

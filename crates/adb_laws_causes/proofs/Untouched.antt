@@ -9,7 +9,7 @@ use Rattle.adb_stream.specs.declared.flow.Flow.TheVariants.{One, Credit}
 use Rattle.adb_stream.specs.declared.row.Stream.{Stream}
 use Rattle.adb_stream.specs.Flow.{first_credit, acknowledged, is_out_of_turn, accepted}
 use Rattle.adb_client.specs.declared.phase.Phase.{Phase}
-use Rattle.adb_client.specs.declared.phase.Phase.TheVariants.{Asking, Opening, Streaming, Binding, Tracking, Closing, Gone}
+use Rattle.adb_client.specs.declared.phase.Phase.TheVariants.{Asking, Opening, Streaming}
 use Rattle.adb_reply.specs.Strings.{failed}
 use Rattle.adb_history.specs.Rows.{Client, State, to_client, to_stream, none_kept, with_due, in_phase, with_stream_part}
 use Rattle.adb_history.specs.Events.{Made, Ending, peer_closed, out_of_turn, quietly, then_also, owed_to}
@@ -106,10 +106,7 @@ module _ (l c : ℕ) where
       same k (Opening n) e has = ap (λ p. marked_in p k) e
       same k (Streaming n) e has = ap (λ p. marked_in p k) e
       same k Asking e has = ap (λ p. marked_in p k) e
-      same k Binding e has = absurd has
-      same k Tracking e has = absurd has
-      same k Closing e has = absurd has
-      same k Gone e has = absurd has
+      same k _ e has = absurd has
 
   -- ---- the end of another stream
   u_loses : (forwarded : Bool) (phase : Phase) (n : ℕ) (s : State) → n ≢ c → Untouched l c s (loses forwarded phase n s)
@@ -117,16 +114,7 @@ module _ (l c : ℕ) where
   u_loses false (Streaming k) n s apart = u_client n closing s apart
   u_loses true (Opening k) n s apart = u_client n closing s apart
   u_loses false (Opening k) n s apart = u_closes_with n (failed (codes "closed")).bytes s apart
-  u_loses true Asking n s apart = u_quiet s
-  u_loses false Asking n s apart = u_quiet s
-  u_loses true Binding n s apart = u_quiet s
-  u_loses false Binding n s apart = u_quiet s
-  u_loses true Tracking n s apart = u_quiet s
-  u_loses false Tracking n s apart = u_quiet s
-  u_loses true Closing n s apart = u_quiet s
-  u_loses false Closing n s apart = u_quiet s
-  u_loses true Gone n s apart = u_quiet s
-  u_loses false Gone n s apart = u_quiet s
+  u_loses _ _ n s apart = u_quiet s
 
   u_client_loses : (o : Option Client) (n : ℕ) (s : State) → n ≢ c → Untouched l c s (client_loses o n s)
   u_client_loses None n s apart = u_quiet s

@@ -11,7 +11,7 @@ use Rattle.adb_stream.specs.Stream.{new_stream}
 use Rattle.adb_stream.specs.Flow.{new_flow}
 use Rattle.adb_stream.specs.declared.row.Stream.{Stream}
 use Rattle.adb_client.specs.declared.phase.Phase.{Phase}
-use Rattle.adb_client.specs.declared.phase.Phase.TheVariants.{Asking, Opening, Streaming, Binding, Tracking, Closing, Gone}
+use Rattle.adb_client.specs.declared.phase.Phase.TheVariants.{Asking, Opening, Streaming, Binding, Closing, Gone}
 use Rattle.adb_client.specs.declared.about.Want.{Want}
 use Rattle.adb_reply.specs.Strings.{failed}
 use Rattle.adb_reply.specs.declared.answer.Next.{Next}
@@ -68,12 +68,6 @@ module _ (l c : ℕ) where
   far_goes_on (Some (what.Open t service)) n s other on = far_opens false n t service s other
   far_goes_on (Some (what.Bind transport local remote chosen)) n s other on =
       u_client l c n (awaits (record { transport = transport; local = local; remote = remote })) s other.0
-  far_goes_on (Some (what.Rebind transport local remote)) n s other on =
-      record { row = refl; client = λ k is has. changed_other n c closing s.clients other.0 ∙ is; owed = refl; silent = tt }
-  far_goes_on (Some (what.Unbind local)) n s other on =
-      record { row = refl; client = λ k is has. changed_other n c closing s.clients other.0 ∙ is; owed = refl; silent = tt }
-  far_goes_on (Some what.UnbindAll) n s other on =
-      record { row = refl; client = λ k is has. changed_other n c closing s.clients other.0 ∙ is; owed = refl; silent = tt }
   far_goes_on (Some what.Stop) n s other on = absurd (gone on)
     where
       gone : LeftBy l c (stops n s) → ⊥
@@ -83,6 +77,8 @@ module _ (l c : ℕ) where
           changed_other n c closing (only_client n s.clients) other.0 ∙ ap (λ b. cond b (s.clients c) None) (ne_eqb n c other.0) in
           let clash : false ≡ true = sym (ap is_some none) ∙ some in
           cc
+  far_goes_on _ n s other on =
+      record { row = refl; client = λ k is has. changed_other n c closing s.clients other.0 ∙ is; owed = refl; silent = tt }
 
   far_asks : (q : Asked) (n : ℕ) (s : State) → (n ≢ c) × (l ≢ s.drawn + 1) → LeftBy l c (asks q n s) → Untouched l c s (asks q n s)
   far_asks q n s other on =
@@ -99,10 +95,7 @@ module _ (l c : ℕ) where
   far_reads_in Asking n bytes client s other on = far_asks (asks_with s.devices s.forwards bytes (asked_before client)) n s other on
   far_reads_in (Opening k) n bytes client s other on = u_client l c n (with_held (client.held ++ bytes)) s other.0
   far_reads_in (Streaming k) n bytes client s other on = u_client l c n (with_held (client.held ++ bytes)) s other.0
-  far_reads_in Binding n bytes client s other on = u_quiet l c s
-  far_reads_in Tracking n bytes client s other on = u_quiet l c s
-  far_reads_in Closing n bytes client s other on = u_quiet l c s
-  far_reads_in Gone n bytes client s other on = u_quiet l c s
+  far_reads_in _ n bytes client s other on = u_quiet l c s
 
   far_reads : (o : Option Client) (n : ℕ) (bytes : List ℕ) (s : State) → (n ≢ c) × (l ≢ s.drawn + 1)
       → LeftBy l c (reads_from o n bytes s) → Untouched l c s (reads_from o n bytes s)
@@ -138,12 +131,7 @@ module _ (l c : ℕ) where
 
       go : (phase : Phase) → k.about.phase ≡ phase → Untouched l c s (bound_in phase k.about.want n port s)
       go Binding e = wanted k.about.want e
-      go Asking e = u_quiet l c s
-      go (Opening m) e = u_quiet l c s
-      go (Streaming m) e = u_quiet l c s
-      go Tracking e = u_quiet l c s
-      go Closing e = u_quiet l c s
-      go Gone e = u_quiet l c s
+      go _ e = u_quiet l c s
 
   far_fails : (phase : Phase) (n : ℕ) (cause : Cause) (s : State) → (n ≢ c) × OtherIn l phase
       → Untouched l c s (stream_fails phase cause (stream_of phase s.streams) (to_client n none_kept s))
@@ -167,20 +155,14 @@ module _ (l c : ℕ) where
         owed = refl;
         silent = tt;
       }
-  far_fails Asking n cause s other = u_client l c n none_kept s other.0
-  far_fails Binding n cause s other = u_client l c n none_kept s other.0
-  far_fails Tracking n cause s other = u_client l c n none_kept s other.0
-  far_fails Closing n cause s other = u_client l c n none_kept s other.0
-  far_fails Gone n cause s other = u_client l c n none_kept s other.0
+  far_fails _ n cause s other = u_client l c n none_kept s other.0
 
   far_input : (phase : Phase) (n : ℕ) (s : State) → n ≢ c → Untouched l c s (quietly (input_ends phase n s))
-  far_input Asking n s other = u_client l c n closing s other
-  far_input Binding n s other = u_client l c n closing s other
-  far_input Tracking n s other = u_client l c n closing s other
   far_input (Opening k) n s other = u_client l c n input_ended s other
   far_input (Streaming k) n s other = u_client l c n input_ended s other
   far_input Closing n s other = u_quiet l c s
   far_input Gone n s other = u_quiet l c s
+  far_input _ n s other = u_client l c n closing s other
 
   far_ends : (n : ℕ) (cause : Cause) (o : Option Client) (s : State) → n ≢ c → ((k : Client) → o ≡ Some k → OtherIn l k.about.phase)
       → Untouched l c s (client_ends n cause o s)
@@ -258,11 +240,7 @@ module _ (l n : ℕ) (x : Stream) where
       go : (phase : Phase) → HoldsIn phase s.streams n k → OtherIn l phase
       go (Opening m) holds = none m holds
       go (Streaming m) holds = none m holds
-      go Asking holds = tt
-      go Binding holds = tt
-      go Tracking holds = tt
-      go Closing holds = tt
-      go Gone holds = tt
+      go _ holds = tt
 
 -- ---- entries
 -- an entry of another client and another link than these
@@ -362,11 +340,7 @@ module _ (c : ℕ) (k : Client) (s : State) (h : IsOwned s) (here : s.clients c 
       go : (phase : Phase) → HoldsIn phase s.streams n y → OtherIn 0 phase
       go (Opening m) holds = none m holds
       go (Streaming m) holds = none m holds
-      go Asking holds = tt
-      go Binding holds = tt
-      go Tracking holds = tt
-      go Closing holds = tt
-      go Gone holds = tt
+      go _ holds = tt
 
   -- an entry of others
   abbrev pub IsOthers : Entry → Type 0

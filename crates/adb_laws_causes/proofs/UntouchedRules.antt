@@ -7,7 +7,7 @@ use Rattle.adb_outside.specs.Tables.{at}
 use Rattle.adb_outside.specs.Framing.{Cut}
 use Rattle.adb_outside.specs.declared.identity.Identity.{Identity}
 use Rattle.adb_outside.specs.declared.identity.State.{State as DeviceState}
-use Rattle.adb_outside.specs.declared.identity.State.TheVariants.{Offline, Unauthorized, Device, Bootloader, Recovery, Sideload, Rescue, Host}
+use Rattle.adb_outside.specs.declared.identity.State.TheVariants.{Offline}
 use Rattle.adb_banner.specs.Banner.{identity_of}
 use Rattle.adb_registry.specs.declared.row.Row.{Row}
 use Rattle.adb_wire.specs.Cutting.{cut_packets}
@@ -21,7 +21,7 @@ use Rattle.adb_stream.specs.declared.flow.Flow.TheVariants.{One, Credit}
 use Rattle.adb_stream.specs.declared.row.Stream.{Stream}
 use Rattle.adb_stream.specs.Flow.{to_hand, credit_back, handed_to}
 use Rattle.adb_client.specs.declared.phase.Phase.{Phase}
-use Rattle.adb_client.specs.declared.phase.Phase.TheVariants.{Asking, Opening, Streaming, Binding, Tracking, Closing, Gone}
+use Rattle.adb_client.specs.declared.phase.Phase.TheVariants.{Opening, Streaming}
 use Rattle.adb_history.specs.Rows.{Client, Link, State, to_client, to_link, to_stream, with_due, with_stream_part}
 use Rattle.adb_history.specs.Events.{Made, lost, broken, quietly}
 use Rattle.adb_history.specs.Links.{close_packet, okay_packet, credit_packet, credit_word, owe_link, is_connected}
@@ -74,13 +74,7 @@ module _ (l c t : ℕ) where
     where
       go : (state : DeviceState) → Untouched l c s (quietly (unauthorized_from t state s))
       go Offline = (let marks = u_marks l c s in record { row = marks.row; client = marks.client; owed = refl; silent = tt })
-      go Unauthorized = u_quiet l c s
-      go Device = u_quiet l c s
-      go Bootloader = u_quiet l c s
-      go Recovery = u_quiet l c s
-      go Sideload = u_quiet l c s
-      go Rescue = u_quiet l c s
-      go Host = u_quiet l c s
+      go _ = u_quiet l c s
 
   pub far_refuses : (id : ℕ) (s : State) → Untouched l c s (refuses_open t id s)
   far_refuses id s = u_if l c s (eqb id 0) (quietly s) (owe_link t (close_packet 0 id) s) (λ e. u_quiet l c s)
@@ -101,9 +95,7 @@ module _ (l c t : ℕ) where
   far_open Wrte p s h = far_at p.arg1 (s.streams p.arg1) (takes_write p.arg1 p.arg0 p.payload) s refl h
       (λ z apart. u_write l c p.arg1 z apart p.arg0 p.payload s)
   far_open Clse p s h = far_at p.arg1 (s.streams p.arg1) (takes_close p.arg1 p.arg0) s refl h (λ z apart. u_close l c p.arg1 z apart p.arg0 s)
-  far_open Cnxn p s h = u_quiet l c s
-  far_open Auth p s h = u_quiet l c s
-  far_open Stls p s h = u_quiet l c s
+  far_open _ p s h = u_quiet l c s
 
   far_if : (command : Command) (p : Packet) (s : State) → Away l c t s → Untouched l c s (cond (is_connected t s.devices) (treat_open t command p s)
       (quietly s))
@@ -195,12 +187,7 @@ module _ (l c n : ℕ) (other : n ≢ c) where
 
   far_left : (phase : Phase) (due : ℕ) (s : State) → OtherIn l phase → Untouched l c s (client_left phase due s)
   far_left (Streaming k) due s apart = far_stream_left due k (s.streams k) s apart
-  far_left Asking due s apart = u_quiet l c s
-  far_left (Opening k) due s apart = u_quiet l c s
-  far_left Binding due s apart = u_quiet l c s
-  far_left Tracking due s apart = u_quiet l c s
-  far_left Closing due s apart = u_quiet l c s
-  far_left Gone due s apart = u_quiet l c s
+  far_left _ due s apart = u_quiet l c s
 
   far_takes : (count : ℕ) (o : Option Client) (s : State) → ((k : Client) → o ≡ Some k → OtherIn l k.about.phase) → Untouched l c s (takes_of n count o s)
   far_takes count None s apart = u_quiet l c s

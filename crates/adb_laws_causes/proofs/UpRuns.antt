@@ -9,7 +9,7 @@ use Rattle.adb_stream.specs.declared.row.Part.{Part}
 use Rattle.adb_stream.specs.declared.row.Stream.{Stream}
 use Rattle.adb_stream.specs.Flow.{has_credit}
 use Rattle.adb_client.specs.declared.phase.Phase.{Phase}
-use Rattle.adb_client.specs.declared.phase.Phase.TheVariants.{Asking, Opening, Streaming, Binding, Tracking, Closing, Gone}
+use Rattle.adb_client.specs.declared.phase.Phase.TheVariants.{Streaming}
 use Rattle.adb_history.specs.Rows.{Client, State, to_stream, with_held, with_stream_part}
 use Rattle.adb_history.specs.Events.{Made, Event, client_closed, quietly, then_also, owed_to, packets_to, ending_in}
 use Rattle.adb_history.specs.Links.{write_packet, owe_link, maxdata_of}
@@ -122,12 +122,7 @@ loses_quiet : (l c n : ℕ) (forwarded : Bool) (phase : Phase) (s : State) → i
     → (owed_to c (loses forwarded phase n s).told ≡ []) × AreSilent l (loses forwarded phase n s).told
 loses_quiet l c n true (Streaming k) s e = (refl, tt)
 loses_quiet l c n false (Streaming k) s e = (refl, tt)
-loses_quiet l c n f (Opening k) s e = absurd (let clash : false ≡ true = e in cc)
-loses_quiet l c n f Asking s e = absurd (let clash : false ≡ true = e in cc)
-loses_quiet l c n f Binding s e = absurd (let clash : false ≡ true = e in cc)
-loses_quiet l c n f Tracking s e = absurd (let clash : false ≡ true = e in cc)
-loses_quiet l c n f Closing s e = absurd (let clash : false ≡ true = e in cc)
-loses_quiet l c n f Gone s e = absurd (let clash : false ≡ true = e in cc)
+loses_quiet l c n f _ s e = absurd (let clash : false ≡ true = e in cc)
 
 module _ (l : ℕ) (s : State) (x : Stream) (h : Pair l x s) where
   -- it sends nothing
