@@ -10,7 +10,7 @@ use Rattle.adb_registry.specs.Registry.{DeviceTable}
 use Rattle.adb_forward.specs.declared.row.ForwardRow.{ForwardRow}
 use Rattle.adb_stream.specs.declared.row.Stream.{Stream}
 use Rattle.adb_client.specs.declared.phase.Phase.{Phase}
-use Rattle.adb_client.specs.declared.phase.Phase.TheVariants.{Asking, Opening, Streaming, Binding, Tracking, Closing, Gone}
+use Rattle.adb_client.specs.declared.phase.Phase.TheVariants.{Asking, Tracking}
 use Rattle.adb_reply.specs.declared.answer.Next.{Next}
 use Rattle.adb_reply.specs.declared.answer.Next.TheVariants as what
 use Rattle.adb_capture.specs.declared.entry.Entry.TheVariants.{Read}
@@ -153,12 +153,7 @@ asks_row (Some a) e = (a, refl, by a.about.phase e)
   where
     by : (phase : Phase) → asks_in phase ≡ true → phase ≡ Asking
     by Asking e = refl
-    by (Opening l) e = absurd (cc)
-    by (Streaming l) e = absurd (cc)
-    by Binding e = absurd (cc)
-    by Tracking e = absurd (cc)
-    by Closing e = absurd (cc)
-    by Gone e = absurd (cc)
+    by _ e = absurd (cc)
 
 -- a client that asks, and what it asks with more bytes
 pub record AsksBehind (c : ℕ) (bytes : List ℕ) (older : History) : Type 0 where
@@ -206,9 +201,7 @@ asks_behind_it c bytes older legal on asking = record { client = a; is = row.1; 
 -- the two halves of what a client is asked to be
 pub asking_parts : (joined ended asks : Bool) → (joined && not ended && asks) ≡ true → (joined ≡ true) × (ended ≡ false) × (asks ≡ true)
 asking_parts true false true e = (refl, refl, refl)
-asking_parts true false false e = absurd (cc)
-asking_parts true true asks e = absurd (cc)
-asking_parts false ended asks e = absurd (cc)
+asking_parts _ _ _ e = absurd (cc)
 
 module _ (c : ℕ) (older : History) (legal : IsLegal older) where
   linked : IsLinked (state older)

@@ -191,16 +191,9 @@ module _ (c : ℕ) (older : History) (legal : IsLegal older)
 
 -- whether the server stopped before
 still_on : (e : Entry) (older : History) → IsLegal (e ∷ older) → (state (e ∷ older)).stopped ≡ false → (state older).stopped ≡ false
-still_on (Join c) older legal going = legal.2.0
-still_on (Enter c port) older legal going = legal.2.0
-still_on (Read c bytes) older legal going = legal.2.0
-still_on (End c cause) older legal going = legal.2.0
-still_on (Bound c port) older legal going = legal.2.0
-still_on (Attach t kind serial) older legal going = legal.2.0
-still_on (Recv t bytes) older legal going = legal.2.0
-still_on (Detach t cause) older legal going = legal.2.0
 still_on (Put c bytes) older legal going = (all_books older legal.0).killed ∙ (sym (all_books (Put c bytes ∷ older) legal).killed ∙ going)
 still_on (Send t bytes) older legal going = (all_books older legal.0).killed ∙ (sym (all_books (Send t bytes ∷ older) legal).killed ∙ going)
+still_on _ older legal going = legal.2.0
 
 -- A client that asks came by itself, has no stream, and was told the replies to its whole requests.
 pub asking_at : (h : History) → IsLegal h → (state h).stopped ≡ false → (c : ℕ) → is_asking c h (book h) ≡ true

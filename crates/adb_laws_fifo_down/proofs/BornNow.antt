@@ -8,7 +8,7 @@ use Rattle.adb_forward.specs.declared.row.ForwardRow.{ForwardRow}
 use Rattle.adb_reply.specs.declared.answer.Next.{Next}
 use Rattle.adb_reply.specs.declared.answer.Next.TheVariants as what
 use Rattle.adb_capture.specs.declared.entry.Entry.{Entry}
-use Rattle.adb_capture.specs.declared.entry.Entry.TheVariants.{Join, Enter, Read, End, Bound, Attach, Recv, Detach, Put, Send}
+use Rattle.adb_capture.specs.declared.entry.Entry.TheVariants.{Enter, Read}
 use Rattle.adb_history.specs.Links.{is_connected, is_credit}
 use Rattle.adb_history.specs.Streams.{stream_ids}
 use Rattle.adb_history.specs.Machine.{History}
@@ -35,15 +35,7 @@ IsFew bs = length bs ≤ 1
 
 by_few : (c head : ℕ) (older : History) (next : Option Next) → IsFew (birth_by c head older next)
 by_few c head older (Some (what.Open transport service)) = omega arith
-by_few c head older None = omega arith
-by_few c head older (Some what.Close) = omega arith
-by_few c head older (Some (what.Select id)) = omega arith
-by_few c head older (Some (what.Track long)) = omega arith
-by_few c head older (Some (what.Bind transport local remote chosen)) = omega arith
-by_few c head older (Some (what.Rebind transport local remote)) = omega arith
-by_few c head older (Some (what.Unbind local)) = omega arith
-by_few c head older (Some what.UnbindAll) = omega arith
-by_few c head older (Some what.Stop) = omega arith
+by_few c head older _ = omega arith
 
 through_few : (c : ℕ) (older : History) (o : Option ForwardRow) → IsFew (birth_through c older o)
 through_few c older None = omega arith
@@ -65,14 +57,7 @@ few : (e : Entry) (older : History) → IsFew (births_at e older)
 few (Read c bytes) older =
     by_few c (asked c (Read c bytes ∷ older)).used older (newly (asked c older).next (asked c (Read c bytes ∷ older)).next)
 few (Enter c port) older = through_few c older (at port (forwards older))
-few (Join c) older = omega arith
-few (End c cause) older = omega arith
-few (Bound c port) older = omega arith
-few (Attach t kind serial) older = omega arith
-few (Recv t bytes) older = omega arith
-few (Detach t cause) older = omega arith
-few (Put c bytes) older = omega arith
-few (Send t bytes) older = omega arith
+few _ older = omega arith
 
 only_one : {A : Type 0} (xs : List A) (i : ℕ) (x : A) → length xs ≤ 1 → slice_get xs i ≡ Some x → (i ≡ 0) × (xs ≡ x ∷ [])
 only_one [] i x le e = absurd (let clash : None ≡ Some x = e in cc)
@@ -128,15 +113,7 @@ no_births b e = let clash : [] ≡ b ∷ [] = e in cc
 pub by_request : (c head : ℕ) (older : History) (next : Option Next) (b : Birth) → birth_by c head older next ≡ b ∷ [] → IsBy c head older next b
 by_request c head older (Some (what.Open transport service)) b e =
     record { transport = transport; service = service; opens = refl; birth = (let both : _ ≡ b ∷ [] = e in cc) }
-by_request c head older None b e = absurd (no_births b e)
-by_request c head older (Some what.Close) b e = absurd (no_births b e)
-by_request c head older (Some (what.Select id)) b e = absurd (no_births b e)
-by_request c head older (Some (what.Track long)) b e = absurd (no_births b e)
-by_request c head older (Some (what.Bind transport local remote chosen)) b e = absurd (no_births b e)
-by_request c head older (Some (what.Rebind transport local remote)) b e = absurd (no_births b e)
-by_request c head older (Some (what.Unbind local)) b e = absurd (no_births b e)
-by_request c head older (Some what.UnbindAll) b e = absurd (no_births b e)
-by_request c head older (Some what.Stop) b e = absurd (no_births b e)
+by_request c head older _ b e = absurd (no_births b e)
 
 -- a birth through a forward
 pub record IsThrough (c : ℕ) (older : History) (o : Option ForwardRow) (b : Birth) : Type 0 where

@@ -39,15 +39,7 @@ use Rattle.adb_laws_fifo_down.proofs.Rules.{held_by, holds_ends}
 -- ---- whether what follows a request is a kill
 pub kill_is : (next : Option Next) → kills next ≡ true → next ≡ Some what.Stop
 kill_is (Some what.Stop) e = refl
-kill_is None e = absurd (cc)
-kill_is (Some what.Close) e = absurd (cc)
-kill_is (Some (what.Select id)) e = absurd (cc)
-kill_is (Some (what.Track long)) e = absurd (cc)
-kill_is (Some (what.Open transport service)) e = absurd (cc)
-kill_is (Some (what.Bind transport local remote chosen)) e = absurd (cc)
-kill_is (Some (what.Rebind transport local remote)) e = absurd (cc)
-kill_is (Some (what.Unbind local)) e = absurd (cc)
-kill_is (Some what.UnbindAll) e = absurd (cc)
+kill_is _ e = absurd (cc)
 
 pub no_kill : (next : Option Next) → kills next ≡ false → next ≢ Some what.Stop
 no_kill next e is = let clash : true ≡ false = sym (ap kills is) ∙ e in cc
@@ -57,10 +49,7 @@ in_line_no_tracker : (l : ℕ) (phase : Phase) → IsInLine l phase → phase �
 in_line_no_tracker l (Opening k) i e = cc
 in_line_no_tracker l (Streaming k) i e = cc
 in_line_no_tracker l Closing i e = cc
-in_line_no_tracker l Asking i e = absurd i
-in_line_no_tracker l Binding i e = absurd i
-in_line_no_tracker l Tracking i e = absurd i
-in_line_no_tracker l Gone i e = absurd i
+in_line_no_tracker l _ i e = absurd i
 
 pub due_itself : (due : List ℕ) → due_or due [] ≡ due
 due_itself [] = refl

@@ -63,14 +63,7 @@ asked_fixed (Bound n port) older c done = by ((book older).waits n)
     by : (want : Option Want) → (bound_turn n port (devices older) want (book older)).asked c ≡ asked c older
     by None = refl
     by (Some want) = refl
-asked_fixed (Join n) older c done = refl
-asked_fixed (Enter n port) older c done = refl
-asked_fixed (End n cause) older c done = refl
-asked_fixed (Attach t kind serial) older c done = refl
-asked_fixed (Recv t bytes) older c done = refl
-asked_fixed (Detach t cause) older c done = refl
-asked_fixed (Put n bytes) older c done = refl
-asked_fixed (Send t bytes) older c done = refl
+asked_fixed _ older c done = refl
 
 -- a link brings no fewer packets
 brought_recv : (t n : ℕ) (bytes : List ℕ) (older : History) → length (brought t older) ≤ length (brought t (Recv n bytes ∷ older))
@@ -90,15 +83,7 @@ brought_recv t n bytes older = by (cases_eq n t)
 
 brought_no_fewer : (e : Entry) (t : ℕ) (older : History) → length (brought t older) ≤ length (brought t (e ∷ older))
 brought_no_fewer (Recv n bytes) t older = brought_recv t n bytes older
-brought_no_fewer (Join n) t older = omega arith
-brought_no_fewer (Enter n port) t older = omega arith
-brought_no_fewer (Read n bytes) t older = omega arith
-brought_no_fewer (End n cause) t older = omega arith
-brought_no_fewer (Bound n port) t older = omega arith
-brought_no_fewer (Attach n kind serial) t older = omega arith
-brought_no_fewer (Detach n cause) t older = omega arith
-brought_no_fewer (Put n bytes) t older = omega arith
-brought_no_fewer (Send n bytes) t older = omega arith
+brought_no_fewer _ t older = omega arith
 
 -- ---- no OKAY of a stream that was not born
 okay_no_cnxn : (c : Command) → is_okay c ≡ true → c ≢ Cnxn

@@ -76,19 +76,14 @@ module _ (l : ℕ) (k : Cradle) (packets : List Packet) (out : List ℕ) (v : Vi
 
       pub orphan_goes : (c : Command) → Life l k more false out (treated_as l c p x v)
       orphan_goes Cnxn = orphan_over (cnxn_ending p)
-      orphan_goes Open = orphan_on
-      orphan_goes Auth = orphan_on
-      orphan_goes Stls = orphan_on
       orphan_goes Okay = by (eqb p.arg1 l) (eqb p.arg0 0) (eqb x.remote 0)
         where
           opened : Life l k more false out (opened_as x.orphan l p.arg0 x v)
           opened = subst (λ (c : Bool). Life l k more false out (opened_as c l p.arg0 x v)) (sym is_orphan) orphan_gone
 
           by : (c d e : Bool) → Life l k more false out (cond c (cond d v (cond e (opened_as x.orphan l p.arg0 x v) v)) v)
-          by false d e = orphan_on
-          by true true e = orphan_on
           by true false true = opened
-          by true false false = orphan_on
+          by _ _ _ = orphan_on
       orphan_goes Wrte = by (eqb p.arg1 l)
         where
           never : (eqb p.arg0 0 || not (eqb p.arg0 x.remote)) ≡ true
@@ -107,6 +102,7 @@ module _ (l : ℕ) (k : Cradle) (packets : List Packet) (out : List ℕ) (v : Vi
           by false d = orphan_on
           by true true = orphan_over peer_closed
           by true false = orphan_on
+      orphan_goes _ = orphan_on
 
     -- ---- one that waits
     module _ (is_owned : x.orphan ≡ false) (fresh : x.remote ≡ 0) (o : IsWaiting l k packets (heard v)) where

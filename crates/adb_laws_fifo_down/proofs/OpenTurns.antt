@@ -7,7 +7,7 @@ use Rattle.adb_wire.specs.declared.command.Command.{Command}
 use Rattle.adb_wire.specs.declared.command.Command.TheVariants.{Cnxn, Open, Okay, Wrte, Clse, Auth, Stls}
 use Rattle.adb_wire.specs.declared.packets.Packet.{Packet}
 use Rattle.adb_client.specs.declared.phase.Phase.{Phase}
-use Rattle.adb_client.specs.declared.phase.Phase.TheVariants.{Asking, Opening, Streaming, Binding, Tracking, Closing, Gone}
+use Rattle.adb_client.specs.declared.phase.Phase.TheVariants.{Streaming}
 use Rattle.adb_history.specs.Events.{Ending, peer_closed, out_of_turn}
 use Rattle.adb_history.specs.Births as birth
 use Rattle.adb_history.specs.Births.{told_in, is_between, is_wrte, opening_by, opening_in}
@@ -18,18 +18,8 @@ use Rattle.adb_laws_fifo_down.proofs.LifeFresh.{always_or, and_false}
 -- ---- what an end leaves
 loss_okays : (forwarded : Bool) (phase : Phase) (a : SeenClient) (v : View) → (loss forwarded phase a v).okays ≡ v.okays
 loss_okays forwarded (Streaming l) a v = refl
-loss_okays true (Opening l) a v = refl
-loss_okays false (Opening l) a v = refl
-loss_okays true Asking a v = refl
-loss_okays false Asking a v = refl
-loss_okays true Binding a v = refl
-loss_okays false Binding a v = refl
-loss_okays true Tracking a v = refl
-loss_okays false Tracking a v = refl
-loss_okays true Closing a v = refl
-loss_okays false Closing a v = refl
-loss_okays true Gone a v = refl
-loss_okays false Gone a v = refl
+loss_okays true _ a v = refl
+loss_okays false _ a v = refl
 
 lost_okays : (o : Option SeenClient) (v : View) → (lost_by o v).okays ≡ v.okays
 lost_okays None v = refl
@@ -187,16 +177,11 @@ module _ (l : ℕ) (p : Packet) (x : SeenStream) (v : View) where
 
     fresh_goes : (c : Command) → FreshTurn (treated_as l c p x v)
     fresh_goes Cnxn = over_turn (cnxn_ending p)
-    fresh_goes Open = same_turn
-    fresh_goes Auth = same_turn
-    fresh_goes Stls = same_turn
     fresh_goes Okay = by (eqb p.arg1 l) (eqb p.arg0 0) (eqb x.remote 0)
       where
         by : (c d e : Bool) → FreshTurn (cond c (cond d v (cond e (opened_as x.orphan l p.arg0 x v) v)) v)
-        by false d e = same_turn
-        by true true e = same_turn
         by true false true = opened_turn x.orphan
-        by true false false = same_turn
+        by _ _ _ = same_turn
     fresh_goes Clse = by (eqb p.arg1 l) (eqb p.arg0 0 || eqb p.arg0 x.remote)
       where
         by : (c d : Bool) → FreshTurn (cond c (cond d (over x.orphan peer_closed v) v) v)
@@ -213,6 +198,7 @@ module _ (l : ℕ) (p : Packet) (x : SeenStream) (v : View) where
         by true =
             subst (λ (c : Bool). FreshTurn (cond c v (cond (is_late x (length p.payload)) (over x.orphan out_of_turn v) (accepts_as l p.payload x v))))
             (sym never) same_turn
+    fresh_goes _ = same_turn
 
     pub fresh_turn : FreshTurn (treated_as l p.command p x v)
     fresh_turn = fresh_goes p.command
@@ -232,8 +218,4 @@ first_later l p o e = by p.command e
     by : (c : Command) → opening_by c l p [] None ≡ Some o → o.later ≡ []
     by Okay e = okay (eqb p.arg1 l && not (eqb p.arg0 0)) _ refl e
     by Clse e = close (is_between 0 l p) e
-    by Cnxn e = absurd (let clash : None ≡ Some o = e in cc)
-    by Open e = absurd (let clash : None ≡ Some o = e in cc)
-    by Wrte e = absurd (let clash : None ≡ Some o = e in cc)
-    by Auth e = absurd (let clash : None ≡ Some o = e in cc)
-    by Stls e = absurd (let clash : None ≡ Some o = e in cc)
+    by _ e = absurd (let clash : None ≡ Some o = e in cc)

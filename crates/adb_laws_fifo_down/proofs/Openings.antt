@@ -4,7 +4,7 @@ use Rattle.std.proofs.lemmas.List.{append-nil}
 use Rattle.std.specs.Prelude.{◌&&◌, not}
 use Rattle.adb_outside.specs.Bytes.{IsPrefixOf}
 use Rattle.adb_wire.specs.declared.command.Command.{Command}
-use Rattle.adb_wire.specs.declared.command.Command.TheVariants.{Cnxn, Open, Okay, Wrte, Clse, Auth, Stls}
+use Rattle.adb_wire.specs.declared.command.Command.TheVariants.{Cnxn, Okay, Clse}
 use Rattle.adb_wire.specs.declared.packets.Packet.{Packet}
 use Rattle.adb_history.specs.Links.{credit_word}
 use Rattle.adb_history.specs.Births.{Opening, opening_by, opening_in, told_in, before_close, is_close_of, is_between, is_wrte, joined}
@@ -41,10 +41,7 @@ opening_stays l (p ∷ packets) more o e = by p.command e (λ f. opening_stays l
     by Okay e rest = okay (eqb p.arg1 l && not (eqb p.arg0 0)) e rest
     by Clse e rest = close (is_between 0 l p) e rest
     by Cnxn e rest = absurd (let clash : None ≡ Some o = e in cc)
-    by Open e rest = rest e
-    by Wrte e rest = rest e
-    by Auth e rest = rest e
-    by Stls e rest = rest e
+    by _ e rest = rest e
 
 -- ---- a packet that neither opens nor closes, and one that closes
 pub pending_on : (l : ℕ) (packets : List Packet) (p : Packet) → IsPending l packets → ((more : List Packet) → opening_in l (p ∷ more) ≡ opening_in l more)

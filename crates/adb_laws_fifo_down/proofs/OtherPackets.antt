@@ -6,7 +6,7 @@ use Rattle.std.specs.Prelude.{◌||◌, not, nat_lt}
 use Rattle.adb_outside.specs.Tables.{at}
 use Rattle.adb_outside.specs.declared.identity.Identity.{Identity}
 use Rattle.adb_outside.specs.declared.identity.State.{State as DeviceState}
-use Rattle.adb_outside.specs.declared.identity.State.TheVariants.{Offline, Unauthorized, Device, Bootloader, Recovery, Sideload, Rescue, Host}
+use Rattle.adb_outside.specs.declared.identity.State.TheVariants.{Offline}
 use Rattle.adb_banner.specs.Banner.{identity_of}
 use Rattle.adb_registry.specs.Row.{unauthorized_row}
 use Rattle.adb_registry.specs.Registry.{changed}
@@ -117,13 +117,7 @@ module _ (b : Line) (v : View) where
       where
         go : (state : DeviceState) → Shows b v (unauthorized_from t state s) w
         go Offline = shows_mark_all b v (record s { devices = changed t unauthorized_row s.devices }) w h
-        go Unauthorized = h
-        go Device = h
-        go Bootloader = h
-        go Recovery = h
-        go Sideload = h
-        go Rescue = h
-        go Host = h
+        go _ = h
 
     pub shows_online : (t version maxdata : ℕ) (identity : Identity) → Shows b v (goes_online t version maxdata identity s) w
     shows_online t version maxdata identity = shows_mark_all b v s w h
@@ -145,9 +139,7 @@ module _ (b : Line) (v : View) where
         (λ x is on. shows_write p.arg1 (other x is on) x s w h is p.arg0 p.payload)
     shows_treat_open Clse p other = shows_at p.arg1 (s.streams p.arg1) (takes_close p.arg1 p.arg0) refl
         (λ x is on. shows_close p.arg1 (other x is on) x s w h is p.arg0)
-    shows_treat_open Cnxn p other = after_quietly (Shows b v) w s h
-    shows_treat_open Auth p other = after_quietly (Shows b v) w s h
-    shows_treat_open Stls p other = after_quietly (Shows b v) w s h
+    shows_treat_open _ p other = after_quietly (Shows b v) w s h
 
   -- ---- a link of which the stream is none
   module _ (t : ℕ) (apart : IsElsewhere b v t) where

@@ -13,7 +13,7 @@ use Rattle.adb_stream.specs.declared.row.Stream.{Stream}
 use Rattle.adb_stream.specs.declared.row.Part.{Part}
 use Rattle.adb_stream.specs.Flow.{handed_to, credit_back, to_hand}
 use Rattle.adb_client.specs.declared.phase.Phase.{Phase}
-use Rattle.adb_client.specs.declared.phase.Phase.TheVariants.{Asking, Opening, Streaming, Binding, Tracking, Closing, Gone}
+use Rattle.adb_client.specs.declared.phase.Phase.TheVariants.{Asking, Opening, Streaming}
 use Rattle.adb_reply.specs.declared.answer.Next.TheVariants as what
 use Rattle.adb_history.specs.Rows.{Client, State, new_client, new_link, to_client, to_stream, with_due, with_held, with_stream_part}
 use Rattle.adb_history.specs.Events.{Made, Event, quietly, then_also}
@@ -76,12 +76,7 @@ module _ (b : Line) (v : View) where
   shows_client_left : (phase : Phase) (due : ℕ) (s : State) (w : List Event) → ((k : ℕ) → phase ≡ Streaming k → k ≢ b.id) → Shows b v s w
       → After (Shows b v) w (client_left phase due s)
   shows_client_left (Streaming k) due s w other h = shows_left due k (s.streams k) s w (other k refl) h
-  shows_client_left (Opening k) due s w other h = after_quietly (Shows b v) w s h
-  shows_client_left Asking due s w other h = after_quietly (Shows b v) w s h
-  shows_client_left Binding due s w other h = after_quietly (Shows b v) w s h
-  shows_client_left Tracking due s w other h = after_quietly (Shows b v) w s h
-  shows_client_left Closing due s w other h = after_quietly (Shows b v) w s h
-  shows_client_left Gone due s w other h = after_quietly (Shows b v) w s h
+  shows_client_left _ due s w other h = after_quietly (Shows b v) w s h
 
   module _ (n : ℕ) (other : n ≢ b.client) (count : ℕ) where
     shows_takes : (o : Option Client) (s : State) (w : List Event) → ((a : Client) → o ≡ Some a → (k : ℕ) → a.about.phase ≡ Streaming k → k ≢ b.id)
@@ -144,7 +139,4 @@ module _ (b : Line) (v : View) where
         after_quietly (Shows b v) w (to_client n (with_held (a.held ++ bytes)) s) (shows_client b v n (with_held (a.held ++ bytes)) s w other h)
     shows_reads_in (Streaming l) n bytes a other goes fresh =
         after_quietly (Shows b v) w (to_client n (with_held (a.held ++ bytes)) s) (shows_client b v n (with_held (a.held ++ bytes)) s w other h)
-    shows_reads_in Binding n bytes a other goes fresh = after_quietly (Shows b v) w s h
-    shows_reads_in Tracking n bytes a other goes fresh = after_quietly (Shows b v) w s h
-    shows_reads_in Closing n bytes a other goes fresh = after_quietly (Shows b v) w s h
-    shows_reads_in Gone n bytes a other goes fresh = after_quietly (Shows b v) w s h
+    shows_reads_in _ n bytes a other goes fresh = after_quietly (Shows b v) w s h

@@ -7,7 +7,7 @@ use Rattle.adb_outside.specs.declared.kinds.Cause.TheVariants.{Eof, Fault, Starv
 use Rattle.adb_stream.specs.declared.row.Stream.{Stream}
 use Rattle.adb_stream.specs.declared.row.Part.{Part}
 use Rattle.adb_client.specs.declared.phase.Phase.{Phase}
-use Rattle.adb_client.specs.declared.phase.Phase.TheVariants.{Asking, Opening, Streaming, Binding, Tracking, Closing, Gone}
+use Rattle.adb_client.specs.declared.phase.Phase.TheVariants.{Opening, Streaming, Binding, Closing, Gone}
 use Rattle.adb_client.specs.declared.about.Want.{Want}
 use Rattle.adb_reply.specs.Strings.{failed}
 use Rattle.adb_reply.specs.declared.answer.Next.{Next}
@@ -85,16 +85,8 @@ module _ (b : Line) (v : View) where
     shows_loses forwarded (Streaming l) n other = after_quietly (Shows b v) w (closes n s) (shows_client b v n closing s w other h)
     shows_loses true (Opening l) n other = after_quietly (Shows b v) w (closes n s) (shows_client b v n closing s w other h)
     shows_loses false (Opening l) n other = shows_closes_with n (failed (codes "closed")).bytes other
-    shows_loses true Asking n other = after_quietly (Shows b v) w s h
-    shows_loses false Asking n other = after_quietly (Shows b v) w s h
-    shows_loses true Binding n other = after_quietly (Shows b v) w s h
-    shows_loses false Binding n other = after_quietly (Shows b v) w s h
-    shows_loses true Tracking n other = after_quietly (Shows b v) w s h
-    shows_loses false Tracking n other = after_quietly (Shows b v) w s h
-    shows_loses true Closing n other = after_quietly (Shows b v) w s h
-    shows_loses false Closing n other = after_quietly (Shows b v) w s h
-    shows_loses true Gone n other = after_quietly (Shows b v) w s h
-    shows_loses false Gone n other = after_quietly (Shows b v) w s h
+    shows_loses true _ n other = after_quietly (Shows b v) w s h
+    shows_loses false _ n other = after_quietly (Shows b v) w s h
 
     shows_client_loses : (o : Option Client) (n : ℕ) → n ≢ b.client → After (Shows b v) w (client_loses o n s)
     shows_client_loses None n other = after_quietly (Shows b v) w s h
@@ -189,27 +181,19 @@ module _ (b : Line) (v : View) where
         after_then (Shows b v) w owed (λ s. record { state = s; told = ended l (client_failed cause) ∷ [] })
         (shows_owe_link b v x.link (close_packet l x.part.remote) gone w refl (shows_stream b v l none_kept s w l_other none_keeps h))
         (λ u now. shows_told b v (ended l (client_failed cause)) owed.state u (quiet_ended b l (client_failed cause) l_other) now)
-    shows_stream_fails (Streaming l) cause None apart = after_quietly (Shows b v) w s h
     shows_stream_fails (Opening l) cause (Some x) apart =
         let l_other : l ≢ b.id = apart l (inl refl) (λ e. cc) in
         let left : State = to_stream l (with_stream_part (orphaned x.part)) s in
         shows_told b v (ended l (client_failed cause)) left w (quiet_ended b l (client_failed cause) l_other)
         (shows_stream b v l (with_stream_part (orphaned x.part)) s w l_other (part_keeps (orphaned x.part)) h)
-    shows_stream_fails (Opening l) cause None apart = after_quietly (Shows b v) w s h
-    shows_stream_fails Asking cause o apart = after_quietly (Shows b v) w s h
-    shows_stream_fails Binding cause o apart = after_quietly (Shows b v) w s h
-    shows_stream_fails Tracking cause o apart = after_quietly (Shows b v) w s h
-    shows_stream_fails Closing cause o apart = after_quietly (Shows b v) w s h
-    shows_stream_fails Gone cause o apart = after_quietly (Shows b v) w s h
+    shows_stream_fails _ cause _ apart = after_quietly (Shows b v) w s h
 
     pub shows_input_ends : (phase : Phase) → Shows b v (input_ends phase n s) w
-    shows_input_ends Asking = shows_client b v n closing s w other h
-    shows_input_ends Binding = shows_client b v n closing s w other h
-    shows_input_ends Tracking = shows_client b v n closing s w other h
     shows_input_ends (Opening l) = shows_client b v n input_ended s w other h
     shows_input_ends (Streaming l) = shows_client b v n input_ended s w other h
     shows_input_ends Closing = h
     shows_input_ends Gone = h
+    shows_input_ends _ = shows_client b v n closing s w other h
 
     -- its listener stands
     shows_bound_for : (want : Option Want) (port : ℕ) → After (Shows b v) w (bound_for want n port s)
@@ -220,12 +204,7 @@ module _ (b : Line) (v : View) where
 
     shows_bound_in : (phase : Phase) (want : Option Want) (port : ℕ) → After (Shows b v) w (bound_in phase want n port s)
     shows_bound_in Binding want port = shows_bound_for want port
-    shows_bound_in Asking want port = after_quietly (Shows b v) w s h
-    shows_bound_in (Opening l) want port = after_quietly (Shows b v) w s h
-    shows_bound_in (Streaming l) want port = after_quietly (Shows b v) w s h
-    shows_bound_in Tracking want port = after_quietly (Shows b v) w s h
-    shows_bound_in Closing want port = after_quietly (Shows b v) w s h
-    shows_bound_in Gone want port = after_quietly (Shows b v) w s h
+    shows_bound_in _ want port = after_quietly (Shows b v) w s h
 
     pub shows_bound : (o : Option Client) (port : ℕ) → After (Shows b v) w (bound_at o n port s)
     shows_bound None port = after_quietly (Shows b v) w s h

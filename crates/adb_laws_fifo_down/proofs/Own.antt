@@ -7,7 +7,7 @@ use Rattle.std.specs.Prelude.{option_map}
 use Rattle.adb_stream.specs.declared.row.Stream.{Stream}
 use Rattle.adb_stream.specs.declared.row.Part.{Part}
 use Rattle.adb_client.specs.declared.phase.Phase.{Phase}
-use Rattle.adb_client.specs.declared.phase.Phase.TheVariants.{Asking, Opening, Streaming, Binding, Tracking, Closing, Gone}
+use Rattle.adb_client.specs.declared.phase.Phase.TheVariants.{Opening, Streaming}
 use Rattle.adb_reply.specs.Strings.{failed}
 use Rattle.adb_history.specs.Rows.{Client, State, to_client, to_stream, none_kept, with_due, with_stream_part}
 use Rattle.adb_history.specs.Events.{Made, Event, Ending, due_to_client, ended}
@@ -136,16 +136,8 @@ module _ (b : Line) where
   own_loses v forwarded (Streaming l) a s w is h = after_quietly (Shows b _) w (closes b.client s) (own_closes v a s w is h)
   own_loses v true (Opening l) a s w is h = after_quietly (Shows b _) w (closes b.client s) (own_closes v a s w is h)
   own_loses v false (Opening l) a s w is h = own_closes_with v (failed (codes "closed")).bytes a s w is h
-  own_loses v true Asking a s w is h = after_quietly (Shows b v) w s h
-  own_loses v false Asking a s w is h = after_quietly (Shows b v) w s h
-  own_loses v true Binding a s w is h = after_quietly (Shows b v) w s h
-  own_loses v false Binding a s w is h = after_quietly (Shows b v) w s h
-  own_loses v true Tracking a s w is h = after_quietly (Shows b v) w s h
-  own_loses v false Tracking a s w is h = after_quietly (Shows b v) w s h
-  own_loses v true Closing a s w is h = after_quietly (Shows b v) w s h
-  own_loses v false Closing a s w is h = after_quietly (Shows b v) w s h
-  own_loses v true Gone a s w is h = after_quietly (Shows b v) w s h
-  own_loses v false Gone a s w is h = after_quietly (Shows b v) w s h
+  own_loses v true _ a s w is h = after_quietly (Shows b v) w s h
+  own_loses v false _ a s w is h = after_quietly (Shows b v) w s h
 
   own_client_loses : (v : View) (o : Option Client) (s : State) (w : List Event) → s.clients b.client ≡ o → Shows b v s w
       → After (Shows b (lost_by (option_map seen_client o) v)) w (client_loses o b.client s)

@@ -9,7 +9,7 @@ use Rattle.adb_stream.specs.declared.row.Stream.{Stream}
 use Rattle.adb_stream.specs.declared.row.Part.{Part}
 use Rattle.adb_stream.specs.Flow.{to_hand, credit_back, handed_to}
 use Rattle.adb_client.specs.declared.phase.Phase.{Phase}
-use Rattle.adb_client.specs.declared.phase.Phase.TheVariants.{Asking, Opening, Streaming, Binding, Tracking, Closing, Gone}
+use Rattle.adb_client.specs.declared.phase.Phase.TheVariants.{Opening, Streaming, Closing}
 use Rattle.adb_history.specs.Rows.{Client, State, to_client, to_stream, with_stream_part}
 use Rattle.adb_history.specs.Events.{Event, quietly, then_also}
 use Rattle.adb_history.specs.Links.{okay_packet, credit_packet}
@@ -98,10 +98,7 @@ module _ (b : Line) where
         after_quietly (Shows b (handed_in Closing b.id n (seen_client a) v)) w (to_client b.client (hands n) s)
         (subst (λ (o : Option SeenClient). Shows b (with_client o v) (to_client b.client (hands n) s) w)
         (closing_is b d (record a { due = d }) ∙ closing_any d d (seen_client a)) (handed Closing e))
-    by_phase Asking e i = absurd i
-    by_phase Binding e i = absurd i
-    by_phase Tracking e i = absurd i
-    by_phase Gone e i = absurd i
+    by_phase _ e i = absurd i
 
     takes : (o : Option Client) → s.clients b.client ≡ o → IsInLine b.id a.about.phase
         → After (Shows b (handed_out b n (seen_client a) v)) w (takes_of b.client n o s)

@@ -9,7 +9,7 @@ use Rattle.adb_outside.specs.declared.kinds.Cause.{Cause}
 use Rattle.adb_wire.specs.declared.packets.Packet.{Packet}
 use Rattle.adb_stream.specs.declared.row.Stream.{Stream}
 use Rattle.adb_client.specs.declared.phase.Phase.{Phase}
-use Rattle.adb_client.specs.declared.phase.Phase.TheVariants.{Asking, Opening, Streaming, Binding, Tracking, Closing, Gone}
+use Rattle.adb_client.specs.declared.phase.Phase.TheVariants.{Opening, Streaming, Closing}
 use Rattle.adb_history.specs.Rows.{Client, State, to_client, to_stream, none_kept, with_held, with_stream_part}
 use Rattle.adb_history.specs.Events.{Made, Event, Ending, ended, client_failed, stopped, owed_to, packets_to, ending_in}
 use Rattle.adb_history.specs.Links.{owe_link, close_packet}
@@ -39,19 +39,13 @@ module _ (b : Line) (v : View) where
         by (Opening l) i = after_quietly (Shows b v) w (to_client b.client (with_held (a.held ++ bytes)) s) held
         by (Streaming l) i = after_quietly (Shows b v) w (to_client b.client (with_held (a.held ++ bytes)) s) held
         by Closing i = after_quietly (Shows b v) w s h
-        by Asking i = absurd i
-        by Binding i = absurd i
-        by Tracking i = absurd i
-        by Gone i = absurd i
+        by _ i = absurd i
 
     pub own_input_ends : (phase : Phase) → IsInLine b.id phase → Shows b v (input_ends phase b.client s) w
     own_input_ends (Opening l) i = shows_same b v b.client (λ c. record c { about = record c.about { ended = true } }) s w (λ c. refl) h
     own_input_ends (Streaming l) i = shows_same b v b.client (λ c. record c { about = record c.about { ended = true } }) s w (λ c. refl) h
     own_input_ends Closing i = h
-    own_input_ends Asking i = absurd i
-    own_input_ends Binding i = absurd i
-    own_input_ends Tracking i = absurd i
-    own_input_ends Gone i = absurd i
+    own_input_ends _ i = absurd i
 
     pub own_bound : (a : Client) (port : ℕ) → IsInLine b.id a.about.phase → After (Shows b v) w (bound_in a.about.phase a.about.want b.client port s)
     own_bound a port in_line = by a.about.phase in_line
@@ -60,10 +54,7 @@ module _ (b : Line) (v : View) where
         by (Opening l) i = after_quietly (Shows b v) w s h
         by (Streaming l) i = after_quietly (Shows b v) w s h
         by Closing i = after_quietly (Shows b v) w s h
-        by Asking i = absurd i
-        by Binding i = absurd i
-        by Tracking i = absurd i
-        by Gone i = absurd i
+        by _ i = absurd i
 
   -- ---- it fails
   module _ (cause : Cause) (a : Client) (s : State) (w : List Event) (is : s.clients b.client ≡ Some a) (h : Shows b v s w) where
@@ -104,10 +95,7 @@ module _ (b : Line) (v : View) where
         subst (λ (k : ℕ). After (Shows b (row_fails (Opening k) (client_failed cause) (option_map seen (s.streams b.id)) v)) w
         (stream_fails (Opening k) cause (s.streams k) gone)) (sym same) (asked_fails (s.streams b.id) refl)
     by_phase Closing i = after_quietly (Shows b (with_client None v)) w gone gone_shows
-    by_phase Asking i = absurd i
-    by_phase Binding i = absurd i
-    by_phase Tracking i = absurd i
-    by_phase Gone i = absurd i
+    by_phase _ i = absurd i
 
     pub own_fails : IsInLine b.id a.about.phase → After (Shows b (failed_by cause (seen_client a) v)) w (client_fails b.client cause a s)
     own_fails in_line =

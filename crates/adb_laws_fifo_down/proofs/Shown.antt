@@ -9,7 +9,7 @@ use Rattle.adb_stream.specs.Flow.{new_flow}
 use Rattle.adb_stream.specs.Stream.{new_stream}
 use Rattle.adb_stream.specs.declared.row.Stream.{Stream}
 use Rattle.adb_client.specs.declared.phase.Phase.{Phase}
-use Rattle.adb_client.specs.declared.phase.Phase.TheVariants.{Asking, Opening, Streaming, Binding, Tracking, Closing, Gone}
+use Rattle.adb_client.specs.declared.phase.Phase.TheVariants.{Asking}
 use Rattle.adb_history.specs.Rows.{Client, State, to_client, to_stream, with_due}
 use Rattle.adb_history.specs.Events.{Event, Ending, due_to_client, due_to_link, ended, bytes_for, owed_to, packets_to, ending_in}
 use Rattle.adb_history.specs.Links.{owe_link}
@@ -154,12 +154,7 @@ module _ (b : Line) (v : View) where
     where
       by : (phase : Phase) (a : Client) → seen_client (marked_in phase a) ≡ seen_client a
       by Asking a = refl
-      by (Opening l) a = refl
-      by (Streaming l) a = refl
-      by Binding a = refl
-      by Tracking a = refl
-      by Closing a = refl
-      by Gone a = refl
+      by _ a = refl
 
       go : (o : Option Client) → option_map seen_client (option_map marked o) ≡ option_map seen_client o
       go None = refl

@@ -58,16 +58,9 @@ drawn_plain n = record {
 }
 
 begins_drawn : (e : Entry) (s : State) (w : List Event) → Begins (plain_moves (drawn_plain s.drawn)) e s w
-begins_drawn (Join c) s w = omega arith
 begins_drawn (Enter c port) s w = (omega arith, omega arith)
-begins_drawn (Attach t kind serial) s w = omega arith
 begins_drawn (Read c bytes) s w = (omega arith, λ client is asking. omega arith)
-begins_drawn (End c cause) s w = omega arith
-begins_drawn (Bound c port) s w = omega arith
-begins_drawn (Recv t bytes) s w = omega arith
-begins_drawn (Detach t cause) s w = omega arith
-begins_drawn (Put c bytes) s w = omega arith
-begins_drawn (Send t bytes) s w = omega arith
+begins_drawn _ s w = omega arith
 
 pub drawn_more : (e : Entry) (older : History) → (state older).drawn ≤ (state (e ∷ older)).drawn
 drawn_more e older = step_kept (plain_moves (drawn_plain (state older).drawn)) e (state older) [] (begins_drawn e (state older) [])

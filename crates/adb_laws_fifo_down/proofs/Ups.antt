@@ -8,7 +8,7 @@ use Rattle.adb_stream.specs.declared.row.Stream.{Stream}
 use Rattle.adb_stream.specs.declared.row.Part.{Part}
 use Rattle.adb_stream.specs.Flow.{wrote}
 use Rattle.adb_client.specs.declared.phase.Phase.{Phase}
-use Rattle.adb_client.specs.declared.phase.Phase.TheVariants.{Asking, Opening, Streaming, Binding, Tracking, Closing, Gone}
+use Rattle.adb_client.specs.declared.phase.Phase.TheVariants.{Streaming}
 use Rattle.adb_history.specs.Rows.{Client, State, to_stream, with_stream_part}
 use Rattle.adb_history.specs.Events.{Made, Event, Ending, quietly, client_closed}
 use Rattle.adb_history.specs.Links.{write_packet, maxdata_of}
@@ -26,18 +26,8 @@ use Rattle.adb_laws_fifo_down.proofs.OwnPackets.{own_same, own_ends_telling}
 -- ---- a stream that ended is there no more
 loss_gone : (forwarded : Bool) (phase : Phase) (a : SeenClient) (v : View) → v.stream ≡ None → (loss forwarded phase a v).stream ≡ None
 loss_gone forwarded (Streaming l) a v none = none
-loss_gone true (Opening l) a v none = none
-loss_gone false (Opening l) a v none = none
-loss_gone true Asking a v none = none
-loss_gone false Asking a v none = none
-loss_gone true Binding a v none = none
-loss_gone false Binding a v none = none
-loss_gone true Tracking a v none = none
-loss_gone false Tracking a v none = none
-loss_gone true Closing a v none = none
-loss_gone false Closing a v none = none
-loss_gone true Gone a v none = none
-loss_gone false Gone a v none = none
+loss_gone true _ a v none = none
+loss_gone false _ a v none = none
 
 lost_gone : (o : Option SeenClient) (v : View) → v.stream ≡ None → (lost_by o v).stream ≡ None
 lost_gone None v none = none
@@ -55,12 +45,7 @@ seen_after x (payload ∷ payloads) (Credit credit) = seen_after x payloads (wro
 
 streaming_is : (l : ℕ) (phase : Phase) → is_streaming l phase ≡ true → phase ≡ Streaming l
 streaming_is l (Streaming k) e = ap Streaming (eqb-true k l e)
-streaming_is l (Opening k) e = absurd (cc)
-streaming_is l Asking e = absurd (cc)
-streaming_is l Binding e = absurd (cc)
-streaming_is l Tracking e = absurd (cc)
-streaming_is l Closing e = absurd (cc)
-streaming_is l Gone e = absurd (cc)
+streaming_is l _ e = absurd (cc)
 
 module _ (b : Line) where
   module _ (v : View) where

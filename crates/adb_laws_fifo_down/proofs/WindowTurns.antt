@@ -6,7 +6,7 @@ use Rattle.adb_outside.specs.Bytes.{IsPrefixOf}
 use Rattle.adb_outside.specs.declared.kinds.Cause.{Cause}
 use Rattle.adb_wire.specs.declared.packets.Packet.{Packet}
 use Rattle.adb_client.specs.declared.phase.Phase.{Phase}
-use Rattle.adb_client.specs.declared.phase.Phase.TheVariants.{Asking, Opening, Streaming, Binding, Tracking, Closing, Gone}
+use Rattle.adb_client.specs.declared.phase.Phase.TheVariants.{Opening, Streaming, Closing}
 use Rattle.adb_history.specs.Events.{Ending, client_failed}
 use Rattle.adb_history.specs.Births as birth
 use Rattle.adb_history.specs.Births.{opening_in, told_in, joined}
@@ -56,24 +56,14 @@ module _ (l : ℕ) (k : Cradle) where
     fails_okays (Opening m) ending (Some x) = refl
     fails_okays (Streaming m) ending None = refl
     fails_okays (Opening m) ending None = refl
-    fails_okays Asking ending o = refl
-    fails_okays Binding ending o = refl
-    fails_okays Tracking ending o = refl
-    fails_okays Closing ending o = refl
-    fails_okays Gone ending o = refl
+    fails_okays _ ending o = refl
 
     fails_flow : (phase : Phase) (ending : Ending) (o : Option SeenStream) → a.phase ≡ phase → v.stream ≡ o
         → FlowIn (row_fails phase ending o v).stream l k packets v.okays (handed_past k out)
     fails_flow (Streaming m) ending (Some x) is there = tt
     fails_flow (Opening m) ending (Some x) is there =
         let u = asked_unused x m there is in (u.0, record { none = u.1.none; to_hand = u.1.to_hand; gathered = u.1.gathered })
-    fails_flow (Streaming m) ending None is there = w.flow
-    fails_flow (Opening m) ending None is there = w.flow
-    fails_flow Asking ending o is there = w.flow
-    fails_flow Binding ending o is there = w.flow
-    fails_flow Tracking ending o is there = w.flow
-    fails_flow Closing ending o is there = w.flow
-    fails_flow Gone ending o is there = w.flow
+    fails_flow _ ending _ is there = w.flow
 
     pub window_fails : (cause : Cause) → Life l k packets shut out (failed_by cause a v) → Window l k packets shut out (failed_by cause a v)
     window_fails cause life = record {
