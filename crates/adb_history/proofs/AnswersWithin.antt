@@ -11,7 +11,7 @@ use Rattle.adb_request.specs.declared.cutting.Found.{Found}
 use Rattle.adb_request.specs.declared.cutting.Found.TheVariants.{More, Malformed, Whole}
 use Rattle.adb_reply.specs.Answer.{answer}
 use Rattle.adb_reply.specs.declared.answer.Next.{Next}
-use Rattle.adb_reply.specs.declared.answer.Next.TheVariants.{Close, Select, Track, Open, Bind, Rebind, Unbind, UnbindAll, Stop}
+use Rattle.adb_reply.specs.declared.answer.Next.TheVariants.{Select, Open}
 use Rattle.adb_reply.proofs.Openings.{OpensThere, opens_there}
 use Rattle.adb_history.specs.Asking.{Asked, replied, after_next, after_found, reads_on, asks_with}
 use Rattle.adb_history.proofs.Changes.{HasRowsWithin}
@@ -36,27 +36,13 @@ row_within plugged id devices h e = go (cases_lt plugged id)
 module _ (plugged : ℕ) (devices : DeviceTable) (within : HasRowsWithin plugged devices) where
   opens_within : (next : Next) → OpensThere devices.rows next → OpensWithin plugged next
   opens_within (Open transport service) e = row_within plugged transport devices within e
-  opens_within Close e = tt
-  opens_within (Select id) e = tt
-  opens_within (Track long) e = tt
-  opens_within (Bind transport local remote chosen) e = tt
-  opens_within (Rebind transport local remote) e = tt
-  opens_within (Unbind local) e = tt
-  opens_within UnbindAll e = tt
-  opens_within Stop e = tt
+  opens_within _ e = tt
 
   next_within : (next : Next) (reply : List ℕ) (size : ℕ) (others : Asked → Asked) (q : Asked) → OpensWithin plugged next
       → ((x : Asked) → NextWithin plugged x.next → NextWithin plugged (others x).next) → NextWithin plugged q.next
       → NextWithin plugged (after_next next reply size others q).next
   next_within (Select id) reply size others q opens rest h = rest (record (replied reply size q) { selected = Some id }) h
-  next_within Close reply size others q opens rest h = opens
-  next_within (Track long) reply size others q opens rest h = opens
-  next_within (Open transport service) reply size others q opens rest h = opens
-  next_within (Bind transport local remote chosen) reply size others q opens rest h = opens
-  next_within (Rebind transport local remote) reply size others q opens rest h = opens
-  next_within (Unbind local) reply size others q opens rest h = opens
-  next_within UnbindAll reply size others q opens rest h = opens
-  next_within Stop reply size others q opens rest h = opens
+  next_within _ reply size others q opens rest h = opens
 
   found_within : (forwards : List (ℕ × ForwardRow)) (found : Found) (others : Asked → Asked) (q : Asked)
       → ((x : Asked) → NextWithin plugged x.next → NextWithin plugged (others x).next) → NextWithin plugged q.next

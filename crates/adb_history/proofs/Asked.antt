@@ -1,5 +1,5 @@
 -- What follows from reading requests: on what was asked before, on the bytes past them, and on what comes last.
-use Rattle.std.proofs.Common.{ℕ, ◌+◌, ◌≡◌, ◌≤◌, cond, List, [], ◌∷◌, ◌++◌, length, take, drop, Option, Some, None, refl, sym, ◌∙◌, ap, append_assoc}
+use Rattle.std.proofs.Common.{ℕ, ◌+◌, ◌≡◌, ◌≤◌, cond, List, ◌∷◌, ◌++◌, length, take, drop, Option, Some, None, refl, sym, ◌∙◌, ap, append_assoc}
 use Rattle.std.proofs.Common.{arith, zero, suc, ltb}
 use Rattle.std.proofs.lemmas.List.{length-append, length-drop, drop-drop, drop-append-le}
 use Rattle.std.proofs.lemmas.Bool.Decides.{nat_tests}
@@ -24,11 +24,8 @@ fits_behind (Some zero) m len e = cc
 fits_behind (Some (suc k)) m len e = fits_test m k len e
 
 pub request_fits : (x : List ℕ) (len : ℕ) → request_at x ≡ Whole len → 4 + len ≤ length x
-request_fits [] len e = cc
-request_fits (a ∷ []) len e = cc
-request_fits (a ∷ b ∷ []) len e = cc
-request_fits (a ∷ b ∷ c ∷ []) len e = cc
 request_fits (a ∷ b ∷ c ∷ d ∷ r) len e = let le = fits_behind (hex_value a b c d) (length r) len e in omega (arith, le)
+request_fits _ len e = cc
 
 -- ---- what was asked before
 -- what is asked, behind what was asked before
@@ -108,14 +105,7 @@ module _ (devices : DeviceTable) (forwards : List (ℕ × ForwardRow)) where
 
       go : (next : Next) → Unused input (after_next next reply size others q)
       go (Select id) = rest (record (replied reply size q) { selected = Some id }) (record { within = u.within; rest = u.rest })
-      go Close = record { within = u.within; rest = u.rest }
-      go (Track long) = record { within = u.within; rest = u.rest }
-      go (Open transport service) = record { within = u.within; rest = u.rest }
-      go (Bind transport local remote chosen) = record { within = u.within; rest = u.rest }
-      go (Rebind transport local remote) = record { within = u.within; rest = u.rest }
-      go (Unbind local) = record { within = u.within; rest = u.rest }
-      go UnbindAll = record { within = u.within; rest = u.rest }
-      go Stop = record { within = u.within; rest = u.rest }
+      go _ = record { within = u.within; rest = u.rest }
 
   found_unused : (found : Found) (input : List ℕ) (others : Asked → Asked) (q : Asked) → request_at q.rest ≡ found → Unused input q
       → ((x : Asked) → Unused input x → Unused input (others x)) → Unused input (after_found devices forwards found others q)
@@ -138,14 +128,7 @@ module _ (devices : DeviceTable) (forwards : List (ℕ × ForwardRow)) where
   next_ends : (next : Next) (reply : List ℕ) (size : ℕ) (others : Asked → Asked) (q : Asked) → EndsReading q.next
       → ((x : Asked) → EndsReading x.next → EndsReading (others x).next) → EndsReading (after_next next reply size others q).next
   next_ends (Select id) reply size others q h rest = rest (record (replied reply size q) { selected = Some id }) h
-  next_ends Close reply size others q h rest = tt
-  next_ends (Track long) reply size others q h rest = tt
-  next_ends (Open transport service) reply size others q h rest = tt
-  next_ends (Bind transport local remote chosen) reply size others q h rest = tt
-  next_ends (Rebind transport local remote) reply size others q h rest = tt
-  next_ends (Unbind local) reply size others q h rest = tt
-  next_ends UnbindAll reply size others q h rest = tt
-  next_ends Stop reply size others q h rest = tt
+  next_ends _ reply size others q h rest = tt
 
   found_ends : (found : Found) (others : Asked → Asked) (q : Asked) → EndsReading q.next
       → ((x : Asked) → EndsReading x.next → EndsReading (others x).next) → EndsReading (after_found devices forwards found others q).next

@@ -6,7 +6,7 @@ use Rattle.adb_wire.specs.declared.command.Command.TheVariants.{Cnxn}
 use Rattle.adb_wire.specs.declared.packets.Packet.{Packet}
 use Rattle.adb_stream.specs.declared.row.Stream.{Stream}
 use Rattle.adb_capture.specs.declared.entry.Entry.{Entry}
-use Rattle.adb_capture.specs.declared.entry.Entry.TheVariants.{Join, Enter, Read, End, Bound, Attach, Recv, Detach, Put, Send}
+use Rattle.adb_capture.specs.declared.entry.Entry.TheVariants.{Join, Enter, Read, Attach}
 use Rattle.adb_history.specs.Rows.{State}
 use Rattle.adb_history.specs.Events.{Event, due_to_client, due_to_link, ended}
 use Rattle.adb_history.specs.Moves.{IsOfStream}
@@ -72,12 +72,7 @@ begins_born (Enter c port) s w may h =
 begins_born (Attach t kind serial) s w may h = record { rows = begins_drawn (Attach t kind serial) s may h.rows; told = h.told }
 begins_born (Read c bytes) s w may h =
     (h, λ client is asking. record { rows = (begins_drawn (Read c bytes) s may h.rows).1 client is asking; told = h.told })
-begins_born (End c cause) s w may h = h
-begins_born (Bound c port) s w may h = h
-begins_born (Recv t bytes) s w may h = h
-begins_born (Detach t cause) s w may h = h
-begins_born (Put c bytes) s w may h = h
-begins_born (Send t bytes) s w may h = h
+begins_born _ s w may h = h
 
 all_born : (h : History) → IsLegal h → Born (state h) (told h)
 all_born [] legal = record { rows = all_drawn [] tt; told = All-nil (IsOfBorn 0) }

@@ -8,7 +8,7 @@ use Rattle.adb_outside.specs.declared.kinds.Cause.{Cause}
 use Rattle.adb_registry.specs.Registry.{DeviceTable}
 use Rattle.adb_forward.specs.declared.row.ForwardRow.{ForwardRow}
 use Rattle.adb_client.specs.declared.phase.Phase.{Phase}
-use Rattle.adb_client.specs.declared.phase.Phase.TheVariants.{Asking, Opening, Streaming, Binding, Tracking, Closing, Gone}
+use Rattle.adb_client.specs.declared.phase.Phase.TheVariants.{Binding}
 use Rattle.adb_client.specs.declared.about.Want.{Want}
 use Rattle.adb_capture.specs.declared.entry.Entry.TheVariants.{End, Bound}
 use Rattle.adb_history.specs.Rows.{Client, State}
@@ -126,10 +126,8 @@ module _ (older : History) (legal : IsLegal older) (b : IsBooked (state older) o
             reply = codes "OKAYOKAY" ++ told_port want.local port;
             forwards = put_forward port want.transport want.remote s.devices s.forwards;
           })))).forwards
-      go true none full = b.led on
-      go false true full = b.led on
-      go false false true = b.led on
       go false false false = led_put s.devices port want.transport want.remote s.forwards (b.led on)
+      go _ _ _ = b.led on
 
   pub devices_now : s.devices ≡ devices_if (book older).killed older
   devices_now = all_devices older legal ∙ ap (λ (x : Bool). devices_if x older) b.killed
@@ -199,12 +197,7 @@ module _ (older : History) (legal : IsLegal older) (b : IsBooked (state older) o
       by : (client : Client) → s.clients n ≡ Some client → (phase : Phase) → client.about.phase ≡ phase
           → IsBooked (bound_in phase client.about.want n port s).state (Bound n port ∷ older)
       by client is Binding e = wanted client is e client.about.want refl
-      by client is Asking e = bound_none n port may (ap wants_now is ∙ ap (λ (p : Phase). wants_in p client.about.want) e)
-      by client is (Opening l) e = bound_none n port may (ap wants_now is ∙ ap (λ (p : Phase). wants_in p client.about.want) e)
-      by client is (Streaming l) e = bound_none n port may (ap wants_now is ∙ ap (λ (p : Phase). wants_in p client.about.want) e)
-      by client is Tracking e = bound_none n port may (ap wants_now is ∙ ap (λ (p : Phase). wants_in p client.about.want) e)
-      by client is Closing e = bound_none n port may (ap wants_now is ∙ ap (λ (p : Phase). wants_in p client.about.want) e)
-      by client is Gone e = bound_none n port may (ap wants_now is ∙ ap (λ (p : Phase). wants_in p client.about.want) e)
+      by client is _ e = bound_none n port may (ap wants_now is ∙ ap (λ (p : Phase). wants_in p client.about.want) e)
 
       go : (o : Option Client) → s.clients n ≡ o → IsBooked (bound_at o n port s).state (Bound n port ∷ older)
       go None is = bound_none n port may (ap wants_now is)

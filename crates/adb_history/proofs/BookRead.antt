@@ -5,7 +5,7 @@ use Rattle.std.specs.Prelude.{◌&&◌, ◌||◌, not, option_and_then}
 use Rattle.adb_registry.specs.Registry.{DeviceTable}
 use Rattle.adb_forward.specs.declared.row.ForwardRow.{ForwardRow}
 use Rattle.adb_client.specs.declared.phase.Phase.{Phase}
-use Rattle.adb_client.specs.declared.phase.Phase.TheVariants.{Asking, Opening, Streaming, Binding, Tracking, Closing, Gone}
+use Rattle.adb_client.specs.declared.phase.Phase.TheVariants.{Asking, Opening, Streaming}
 use Rattle.adb_client.specs.declared.about.Want.{Want}
 use Rattle.adb_reply.specs.declared.answer.Next.{Next}
 use Rattle.adb_reply.specs.declared.answer.Next.TheVariants as what
@@ -39,16 +39,8 @@ or_false true = refl
 or_false false = refl
 
 kills_is : (next : Option Next) → kills next ≡ true → next ≡ Some what.Stop
-kills_is None e = let clash : false ≡ true = e in cc
 kills_is (Some what.Stop) e = refl
-kills_is (Some what.Close) e = let clash : false ≡ true = e in cc
-kills_is (Some (what.Select id)) e = let clash : false ≡ true = e in cc
-kills_is (Some (what.Track long)) e = let clash : false ≡ true = e in cc
-kills_is (Some (what.Open transport service)) e = let clash : false ≡ true = e in cc
-kills_is (Some (what.Bind transport local remote chosen)) e = let clash : false ≡ true = e in cc
-kills_is (Some (what.Rebind transport local remote)) e = let clash : false ≡ true = e in cc
-kills_is (Some (what.Unbind local)) e = let clash : false ≡ true = e in cc
-kills_is (Some what.UnbindAll) e = let clash : false ≡ true = e in cc
+kills_is _ e = let clash : false ≡ true = e in cc
 
 -- a client that holds more, and does not ask
 other_held : (client : Client) (held : List ℕ) (r : Said) → asks_in client.about.phase ≡ false → IsAs (Some client) r
@@ -285,10 +277,7 @@ module _ (older : History) (legal : IsLegal older) (b : IsBooked (state older) o
         by client is Asking e = read_asking client is e
         by client is (Opening l) e = held client is (ap asks_in e)
         by client is (Streaming l) e = held client is (ap asks_in e)
-        by client is Binding e = quiet (ap asks_now is ∙ ap asks_in e)
-        by client is Tracking e = quiet (ap asks_now is ∙ ap asks_in e)
-        by client is Closing e = quiet (ap asks_now is ∙ ap asks_in e)
-        by client is Gone e = quiet (ap asks_now is ∙ ap asks_in e)
+        by client is _ e = quiet (ap asks_now is ∙ ap asks_in e)
 
         go : (o : Option Client) → s.clients n ≡ o → IsBooked (reads_from o n bytes s).state (Read n bytes ∷ older)
         go None is = quiet (ap asks_now is)

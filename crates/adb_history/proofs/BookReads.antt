@@ -45,30 +45,17 @@ led_put devices local transport remote forwards led = led_with devices local tra
 
 pub led_next : (next : Option Next) (devices : DeviceTable) (forwards : List (ℕ × ForwardRow)) → AreLed devices forwards
     → AreLed devices (forwards_by next devices forwards)
-led_next None devices forwards led = led
 led_next (Some (what.Rebind transport local remote)) devices forwards led = led_put devices local transport remote forwards led
 led_next (Some (what.Unbind local)) devices forwards led =
     All-without (λ (entry : ℕ × ForwardRow). is_some (at entry.1.transport devices.rows) ≡ true) local forwards led
 led_next (Some what.UnbindAll) devices forwards led = All-nil (λ (entry : ℕ × ForwardRow). is_some (at entry.1.transport devices.rows) ≡ true)
 led_next (Some what.Stop) devices forwards led = All-nil (λ (entry : ℕ × ForwardRow). is_some (at entry.1.transport devices.rows) ≡ true)
-led_next (Some what.Close) devices forwards led = led
-led_next (Some (what.Select id)) devices forwards led = led
-led_next (Some (what.Track long)) devices forwards led = led
-led_next (Some (what.Open transport service)) devices forwards led = led
-led_next (Some (what.Bind transport local remote chosen)) devices forwards led = led
+led_next _ devices forwards led = led
 
 pub goes_on_forwards : (came plugged c : ℕ) (next : Option Next) (s : State) → c ≤ came → NextWithin plugged next
     → (goes_on next c s).state.forwards ≡ forwards_by next s.devices s.forwards
-goes_on_forwards came plugged c None s le within = refl
-goes_on_forwards came plugged c (Some what.Close) s le within = refl
-goes_on_forwards came plugged c (Some (what.Select id)) s le within = refl
-goes_on_forwards came plugged c (Some (what.Track long)) s le within = refl
 goes_on_forwards came plugged c (Some (what.Open transport service)) s le within = (keeps_opens came plugged false c transport service s le within).forwards
-goes_on_forwards came plugged c (Some (what.Bind transport local remote chosen)) s le within = refl
-goes_on_forwards came plugged c (Some (what.Rebind transport local remote)) s le within = refl
-goes_on_forwards came plugged c (Some (what.Unbind local)) s le within = refl
-goes_on_forwards came plugged c (Some what.UnbindAll) s le within = refl
-goes_on_forwards came plugged c (Some what.Stop) s le within = refl
+goes_on_forwards came plugged c _ s le within = refl
 
 -- ---- what comes next
 pub none_next : (next : Option Next) → is_none next ≡ true → next ≡ None
@@ -86,9 +73,7 @@ and_false false b = refl
 
 pub and_parts : (a b c : Bool) → (a && b && c) ≡ true → (a ≡ true) × (b ≡ true) × (c ≡ true)
 and_parts true true true e = (refl, refl, refl)
-and_parts true true false e = let clash : false ≡ true = e in cc
-and_parts true false c e = let clash : false ≡ true = e in cc
-and_parts false b c e = let clash : false ≡ true = e in cc
+and_parts _ _ _ e = let clash : false ≡ true = e in cc
 
 -- ---- a client that asks reads
 module _ (c : ℕ) (bytes : List ℕ) (client : Client) (s : State) (before : Asked) (is : s.clients c ≡ Some client) (asking : client.about.phase ≡ Asking)

@@ -6,7 +6,7 @@ use Rattle.adb_registry.specs.Registry.{DeviceTable}
 use Rattle.adb_forward.specs.declared.row.ForwardRow.{ForwardRow}
 use Rattle.adb_client.specs.declared.about.Want.{Want}
 use Rattle.adb_capture.specs.declared.entry.Entry.{Entry}
-use Rattle.adb_capture.specs.declared.entry.Entry.TheVariants.{Join, Enter, Read, End, Bound, Attach, Recv, Detach, Put, Send}
+use Rattle.adb_capture.specs.declared.entry.Entry.TheVariants.{Join, Enter, Read, End, Bound}
 use Rattle.adb_history.specs.Rows.{State}
 use Rattle.adb_history.specs.Events.{Made, owed_to}
 use Rattle.adb_history.specs.Asking.{nothing_asked}
@@ -84,15 +84,7 @@ module _ (older : History) (tie : IsTied older) (un : (c : ℕ) → came_count o
         input = u.input;
         waits = bound_waits n port c d ((book older).waits n) older (apart n c may.1.1 lt) ∙ u.waits;
       }
-  unheard_rule (Attach n kind serial) may c lt =
-      let u = un c lt in record { joined = u.joined; ended = u.ended; asked = u.asked; input = u.input; waits = u.waits }
-  unheard_rule (Recv n bytes) may c lt =
-      let u = un c lt in record { joined = u.joined; ended = u.ended; asked = u.asked; input = u.input; waits = u.waits }
-  unheard_rule (Detach n cause) may c lt =
-      let u = un c lt in record { joined = u.joined; ended = u.ended; asked = u.asked; input = u.input; waits = u.waits }
-  unheard_rule (Put n bytes) may c lt =
-      let u = un c lt in record { joined = u.joined; ended = u.ended; asked = u.asked; input = u.input; waits = u.waits }
-  unheard_rule (Send n bytes) may c lt =
+  unheard_rule _ may c lt =
       let u = un c lt in record { joined = u.joined; ended = u.ended; asked = u.asked; input = u.input; waits = u.waits }
 
 pub all_unheard : (h : History) → IsLegal h → (c : ℕ) → came_count h < c → IsUnheard h c

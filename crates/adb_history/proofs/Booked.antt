@@ -8,7 +8,7 @@ use Rattle.adb_wire.specs.declared.packets.Packet.{Packet}
 use Rattle.adb_wire.specs.declared.format.PacketFault.{PacketFault}
 use Rattle.adb_wire.specs.declared.format.PacketFormat.{PacketFormat}
 use Rattle.adb_client.specs.declared.phase.Phase.{Phase}
-use Rattle.adb_client.specs.declared.phase.Phase.TheVariants.{Asking, Opening, Streaming, Binding, Tracking, Closing, Gone}
+use Rattle.adb_client.specs.declared.phase.Phase.TheVariants.{Asking, Binding, Closing}
 use Rattle.adb_client.specs.declared.about.Want.{Want}
 use Rattle.adb_history.specs.Rows.{Client, Link, State, to_client, to_link}
 use Rattle.adb_history.specs.Events.{owed_to}
@@ -100,30 +100,15 @@ holds_then o p q h i = row_then (record {
 
 asks_not : (phase : Phase) → is_waiting phase ≡ false → asks_in phase ≡ false
 asks_not Asking e = e
-asks_not (Opening l) e = refl
-asks_not (Streaming l) e = refl
-asks_not Binding e = refl
-asks_not Tracking e = refl
-asks_not Closing e = refl
-asks_not Gone e = refl
+asks_not _ e = refl
 
 wants_not : (phase : Phase) (want : Option Want) → is_waiting phase ≡ false → wants_in phase want ≡ None
 wants_not Binding want e = let clash : true ≡ false = e in cc
-wants_not Asking want e = refl
-wants_not (Opening l) want e = refl
-wants_not (Streaming l) want e = refl
-wants_not Tracking want e = refl
-wants_not Closing want e = refl
-wants_not Gone want e = refl
+wants_not _ want e = refl
 
 wants_same : (phase : Phase) (want next : Option Want) → (phase ≡ Binding → next ≡ want) → wants_in phase next ≡ wants_in phase want
 wants_same Binding want next e = e refl
-wants_same Asking want next e = refl
-wants_same (Opening l) want next e = refl
-wants_same (Streaming l) want next e = refl
-wants_same Tracking want next e = refl
-wants_same Closing want next e = refl
-wants_same Gone want next e = refl
+wants_same _ want next e = refl
 
 -- a client that waits no more
 pub idle_is : (o : Option Client) (r : Said) → NoneWaits o → r.asking ≡ false → r.waits ≡ None → IsAs o r
@@ -184,12 +169,7 @@ module _ (came plugged : ℕ) where
   holds_left : (phase : Phase) (due : List ℕ) (a : Client) → RowStep Holds (Some a) (left_in phase due a) []
   holds_left Closing [] a = tt
   holds_left Closing (b ∷ due) a = record { asks = λ e. let clash : Closing ≡ Asking = e in cc; binds = λ e. let clash : Closing ≡ Binding = e in cc }
-  holds_left Asking due a = record { asks = λ e. record { phase = e; held = refl; selected = refl }; binds = λ e. record { phase = e; want = refl } }
-  holds_left (Opening l) due a = record { asks = λ e. record { phase = e; held = refl; selected = refl }; binds = λ e. record { phase = e; want = refl } }
-  holds_left (Streaming l) due a = record { asks = λ e. record { phase = e; held = refl; selected = refl }; binds = λ e. record { phase = e; want = refl } }
-  holds_left Binding due a = record { asks = λ e. record { phase = e; held = refl; selected = refl }; binds = λ e. record { phase = e; want = refl } }
-  holds_left Tracking due a = record { asks = λ e. record { phase = e; held = refl; selected = refl }; binds = λ e. record { phase = e; want = refl } }
-  holds_left Gone due a = record { asks = λ e. record { phase = e; held = refl; selected = refl }; binds = λ e. record { phase = e; want = refl } }
+  holds_left _ due a = record { asks = λ e. record { phase = e; held = refl; selected = refl }; binds = λ e. record { phase = e; want = refl } }
 
   holds_hands : (c n : ℕ) (s : State) (k : ℕ) → RowStep Holds (s.clients k) ((to_client c (hands n) s).clients k) []
   holds_hands c n s k = go (eqb c k) (s.clients k)

@@ -10,7 +10,7 @@ use Rattle.adb_stream.specs.declared.flow.Flow.TheVariants.{One, Credit}
 use Rattle.adb_stream.specs.declared.row.Stream.{Stream}
 use Rattle.adb_stream.specs.Flow.{to_hand, credit_back, handed_to, is_idle}
 use Rattle.adb_client.specs.declared.phase.Phase.{Phase}
-use Rattle.adb_client.specs.declared.phase.Phase.TheVariants.{Asking, Opening, Streaming, Binding, Tracking, Closing, Gone}
+use Rattle.adb_client.specs.declared.phase.Phase.TheVariants.{Streaming, Closing}
 use Rattle.adb_history.specs.Rows.{Client, State, to_client, to_stream, with_due, with_stream_part}
 use Rattle.adb_history.specs.Events.{quietly}
 use Rattle.adb_history.specs.Links.{maxdata_of}
@@ -145,12 +145,7 @@ calm_left due l (Some stream) s is calm = calm_hands (min (to_hand stream.part.f
 
 calm_client_left : (phase : Phase) (due : ℕ) (s : State) → IsCalm s → IsCalm (client_left phase due s).state
 calm_client_left (Streaming l) due s calm = calm_left due l (s.streams l) s refl calm
-calm_client_left Asking due s calm = calm
-calm_client_left (Opening l) due s calm = calm
-calm_client_left Binding due s calm = calm
-calm_client_left Tracking due s calm = calm
-calm_client_left Closing due s calm = calm
-calm_client_left Gone due s calm = calm
+calm_client_left _ due s calm = calm
 
 -- a client that is handed some of what is due sends what it did, or is closing
 closing_sends : (l : ℕ) (due : List ℕ) (old new : Client) → closing_with due old ≡ Some new → is_streaming l new.about.phase ≡ true → SendsSame l old new
@@ -176,12 +171,7 @@ left_sends l n phase old new is made streaming = by_phase phase made
     by_phase Closing same =
         let x = closing_sends l (drop n old.due) (record old { due = drop n old.due }) new same streaming in
         record { streaming = x.streaming; held = x.held; ended = x.ended }
-    by_phase Asking same = kept same
-    by_phase (Opening k) same = kept same
-    by_phase (Streaming k) same = kept same
-    by_phase Binding same = kept same
-    by_phase Tracking same = kept same
-    by_phase Gone same = kept same
+    by_phase _ same = kept same
 
 calm_takes : (c n : ℕ) (o : Option Client) (s : State) → IsCalm s → IsCalm (takes_of c n o s).state
 calm_takes c n None s calm = calm

@@ -13,7 +13,7 @@ use Rattle.adb_registry.specs.Row.{online_row, unauthorized_row}
 use Rattle.adb_registry.specs.declared.row.Row.{Row}
 use Rattle.adb_wire.specs.Format.{is_cnxn}
 use Rattle.adb_wire.specs.declared.command.Command.{Command}
-use Rattle.adb_wire.specs.declared.command.Command.TheVariants.{Cnxn, Open, Okay, Wrte, Clse, Auth, Stls}
+use Rattle.adb_wire.specs.declared.command.Command.TheVariants.{Cnxn, Auth, Stls}
 use Rattle.adb_wire.specs.declared.packets.Packet.{Packet}
 use Rattle.adb_wire.specs.declared.limits.TheConstants.{VERSION}
 use Rattle.adb_wire.specs.declared.headers.TheConstants.{MAX_PAYLOAD}
@@ -162,10 +162,7 @@ module _ (row : Row) (offline : row.state ≡ device.Offline) (ps : List Packet)
   by_command Cnxn e who = more_cnxn (nat_lt p.arg0 least_version || nat_lt p.arg1 least_maxdata) (identity_of p.payload)
   by_command Auth e who = ap Some (more_login (last_cnxn ps) (ap is_login e) who)
   by_command Stls e who = ap Some (more_login (last_cnxn ps) (ap is_login e) who)
-  by_command Open e who = ap Some (more_other (last_cnxn ps) (ap is_login e))
-  by_command Okay e who = ap Some (more_other (last_cnxn ps) (ap is_login e))
-  by_command Wrte e who = ap Some (more_other (last_cnxn ps) (ap is_login e))
-  by_command Clse e who = ap Some (more_other (last_cnxn ps) (ap is_login e))
+  by_command _ e who = ap Some (more_other (last_cnxn ps) (ap is_login e))
 
   one_more : (refused : Bool) → (refused ≡ false → SaysWho (last_cnxn ps))
       → row_after p (cond refused None (Some (row_by (last_cnxn ps) ps row)))

@@ -181,13 +181,7 @@ module _ (came plugged t : ℕ) where
   turns_waiting device.Offline row s good is =
       turns_set (Some (unauthorized_row row)) s.links s (unauthorized_from t device.Offline s) good
       (ap (λ (o : Option Row). set_at t (option_map unauthorized_row o) s.devices.rows) is) refl (good.linked t ∙ ap is_some is) (λ k apart. refl)
-  turns_waiting device.Unauthorized row s good is = turns_still row s (quietly s) good.linked is (keeps_all came plugged s)
-  turns_waiting device.Device row s good is = turns_still row s (quietly s) good.linked is (keeps_all came plugged s)
-  turns_waiting device.Bootloader row s good is = turns_still row s (quietly s) good.linked is (keeps_all came plugged s)
-  turns_waiting device.Recovery row s good is = turns_still row s (quietly s) good.linked is (keeps_all came plugged s)
-  turns_waiting device.Sideload row s good is = turns_still row s (quietly s) good.linked is (keeps_all came plugged s)
-  turns_waiting device.Rescue row s good is = turns_still row s (quietly s) good.linked is (keeps_all came plugged s)
-  turns_waiting device.Host row s good is = turns_still row s (quietly s) good.linked is (keeps_all came plugged s)
+  turns_waiting _ row s good is = turns_still row s (quietly s) good.linked is (keeps_all came plugged s)
 
   turns_unauthorized : (o : Option Row) (row : Row) (s : State) → IsGood came plugged s → at t s.devices.rows ≡ Some row → o ≡ Some row
       → Turns t (Some (row_waiting row.state row)) s (unauthorized t o s)

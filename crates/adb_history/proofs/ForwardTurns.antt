@@ -109,13 +109,7 @@ module _ (came plugged t : ℕ) where
     where
       go : (state : DeviceState) → Leads t s (quietly (unauthorized_from t state s))
       go device.Offline = inl (refl, refl)
-      go device.Unauthorized = inl (refl, refl)
-      go device.Device = inl (refl, refl)
-      go device.Bootloader = inl (refl, refl)
-      go device.Recovery = inl (refl, refl)
-      go device.Sideload = inl (refl, refl)
-      go device.Rescue = inl (refl, refl)
-      go device.Host = inl (refl, refl)
+      go _ = inl (refl, refl)
 
   leads_open : (command : Command) (p : Packet) (s : State) → t ≤ plugged → AreWithin came plugged s.streams
       → Leads t s (cond (is_connected t s.devices) (treat_open t command p s) (quietly s))

@@ -3,7 +3,7 @@ use Rattle.std.proofs.Common.{ℕ, ◌≡◌, ◌≤◌, Bool, true, false, cond
 use Rattle.std.proofs.lemmas.List.{append-nil}
 use Rattle.std.specs.Prelude.{option_map, ◌==◌, ◌||◌, not}
 use Rattle.adb_wire.specs.declared.command.Command.{Command}
-use Rattle.adb_wire.specs.declared.command.Command.TheVariants.{Cnxn, Open, Okay, Wrte, Clse, Auth, Stls}
+use Rattle.adb_wire.specs.declared.command.Command.TheVariants.{Open, Okay, Wrte, Clse}
 use Rattle.adb_wire.specs.declared.packets.Packet.{Packet}
 use Rattle.adb_stream.specs.declared.row.Stream.{Stream}
 use Rattle.adb_stream.specs.declared.flow.Flow.{Flow}
@@ -133,9 +133,7 @@ module _ (came plugged : ℕ) where
       (λ stream within. keeps_takes_write p.arg1 p.arg0 p.payload stream s within)
   keeps_treat_open t Clse p s le all = keeps_at_stream t (s.streams p.arg1) (takes_close p.arg1 p.arg0) s (all p.arg1)
       (λ stream within. keeps_takes_close p.arg1 p.arg0 stream s within)
-  keeps_treat_open t Cnxn p s le all = keeps_all came plugged s
-  keeps_treat_open t Auth p s le all = keeps_all came plugged s
-  keeps_treat_open t Stls p s le all = keeps_all came plugged s
+  keeps_treat_open t _ p s le all = keeps_all came plugged s
 
   -- ---- trackers
   stays_marked : (phase : Phase) (a : Client) → a.about.phase ≡ phase → ClientStays a (marked_in phase a) []
@@ -210,9 +208,4 @@ module _ (came plugged : ℕ) where
 
   pub keeps_client_left : (phase : Phase) (due : ℕ) (s : State) → AreWithin came plugged s.streams → Keeps came plugged s (client_left phase due s)
   keeps_client_left (Streaming l) due s all = keeps_stream_left due l (s.streams l) s (all l)
-  keeps_client_left Asking due s all = keeps_all came plugged s
-  keeps_client_left (Opening l) due s all = keeps_all came plugged s
-  keeps_client_left Binding due s all = keeps_all came plugged s
-  keeps_client_left Tracking due s all = keeps_all came plugged s
-  keeps_client_left Closing due s all = keeps_all came plugged s
-  keeps_client_left Gone due s all = keeps_all came plugged s
+  keeps_client_left _ due s all = keeps_all came plugged s

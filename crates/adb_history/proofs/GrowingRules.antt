@@ -9,7 +9,7 @@ use Rattle.adb_stream.specs.declared.row.Stream.{Stream}
 use Rattle.adb_stream.specs.Flow.{new_flow}
 use Rattle.adb_stream.specs.Stream.{new_stream}
 use Rattle.adb_client.specs.declared.phase.Phase.{Phase}
-use Rattle.adb_client.specs.declared.phase.Phase.TheVariants.{Asking, Opening, Streaming, Binding, Tracking, Closing, Gone}
+use Rattle.adb_client.specs.declared.phase.Phase.TheVariants.{Asking, Opening, Streaming, Binding, Closing, Gone}
 use Rattle.adb_reply.specs.Strings.{failed}
 use Rattle.adb_history.specs.Rows.{Client, State, to_client, to_stream, none_kept, with_held, in_phase, with_stream_part}
 use Rattle.adb_history.specs.Events.{Ending, ended, quietly, client_closed, client_failed}
@@ -105,11 +105,7 @@ module _ (came plugged : ℕ) where
   keeps_loses forwarded (Streaming l) c s le = keeps_closes c s
   keeps_loses true (Opening l) c s le = keeps_closes c s
   keeps_loses false (Opening l) c s le = keeps_closes_with c (failed (codes "closed")).bytes s le
-  keeps_loses forwarded Asking c s le = keeps_all came plugged s
-  keeps_loses forwarded Binding c s le = keeps_all came plugged s
-  keeps_loses forwarded Tracking c s le = keeps_all came plugged s
-  keeps_loses forwarded Closing c s le = keeps_all came plugged s
-  keeps_loses forwarded Gone c s le = keeps_all came plugged s
+  keeps_loses forwarded _ c s le = keeps_all came plugged s
 
   keeps_client_loses : (o : Option Client) (c : ℕ) (s : State) → c ≤ came → Keeps came plugged s (client_loses o c s)
   keeps_client_loses None c s le = keeps_all came plugged s
@@ -187,13 +183,8 @@ module _ (came plugged : ℕ) where
       keeps_then came plugged s m (λ s. closes_if over l (s.streams l) s) first (keeps_closes_if over l (m.state.streams l) m.state (first.streams all l))
 
   streaming_only : (l : ℕ) (phase : Phase) → is_streaming l phase ≡ true → (phase ≢ Asking) × (phase ≢ Binding)
-  streaming_only l Asking e = let clash : false ≡ true = e in cc
-  streaming_only l (Opening k) e = let clash : false ≡ true = e in cc
   streaming_only l (Streaming k) e = (λ e. cc, λ e. cc)
-  streaming_only l Binding e = let clash : false ≡ true = e in cc
-  streaming_only l Tracking e = let clash : false ≡ true = e in cc
-  streaming_only l Closing e = let clash : false ≡ true = e in cc
-  streaming_only l Gone e = let clash : false ≡ true = e in cc
+  streaming_only l _ e = let clash : false ≡ true = e in cc
 
   pub same_client : (o : Option Client) (a b : Client) → o ≡ Some a → o ≡ Some b → a ≡ b
   same_client o a b e f = let same : Some a ≡ Some b = sym e ∙ f in cc
@@ -236,26 +227,16 @@ module _ (came plugged : ℕ) where
       (keeps_over came plugged s gone m (keeps_no_stream came plugged l s)
       (keeps_owe_link came plugged stream.link (close_packet l stream.part.remote) gone within.1))
       (keeps_told_end came plugged l (client_failed cause) m.state)
-  keeps_stream_fails (Streaming l) cause None s within = keeps_all came plugged s
   keeps_stream_fails (Opening l) cause (Some stream) s within =
       let left = to_stream l (with_stream_part (orphaned stream.part)) s in
       keeps_over came plugged s left (record { state = left; told = ended l (client_failed cause) ∷ [] })
       (keeps_part came plugged l (orphaned stream.part) s) (keeps_told_end came plugged l (client_failed cause) left)
-  keeps_stream_fails (Opening l) cause None s within = keeps_all came plugged s
-  keeps_stream_fails Asking cause o s within = keeps_all came plugged s
-  keeps_stream_fails Binding cause o s within = keeps_all came plugged s
-  keeps_stream_fails Tracking cause o s within = keeps_all came plugged s
-  keeps_stream_fails Closing cause o s within = keeps_all came plugged s
-  keeps_stream_fails Gone cause o s within = keeps_all came plugged s
+  keeps_stream_fails _ cause _ s within = keeps_all came plugged s
 
   within_stream_of : (phase : Phase) (streams : ℕ → Option Stream) → AreWithin came plugged streams → IsWithin came plugged (stream_of phase streams)
   within_stream_of (Streaming l) streams all = all l
   within_stream_of (Opening l) streams all = all l
-  within_stream_of Asking streams all = tt
-  within_stream_of Binding streams all = tt
-  within_stream_of Tracking streams all = tt
-  within_stream_of Closing streams all = tt
-  within_stream_of Gone streams all = tt
+  within_stream_of _ streams all = tt
 
   keeps_client_fails : (c : ℕ) (cause : Cause) (client : Client) (s : State) → AreWithin came plugged s.streams
       → Keeps came plugged s (client_fails c cause client s)
@@ -274,13 +255,11 @@ module _ (came plugged : ℕ) where
       })
 
   keeps_input_ends : (phase : Phase) (c : ℕ) (s : State) → Keeps came plugged s (quietly (input_ends phase c s))
-  keeps_input_ends Asking c s = keeps_closes c s
-  keeps_input_ends Binding c s = keeps_closes c s
-  keeps_input_ends Tracking c s = keeps_closes c s
   keeps_input_ends (Opening l) c s = keeps_input_ended c s
   keeps_input_ends (Streaming l) c s = keeps_input_ended c s
   keeps_input_ends Closing c s = keeps_all came plugged s
   keeps_input_ends Gone c s = keeps_all came plugged s
+  keeps_input_ends _ c s = keeps_closes c s
 
   pub keeps_client_ends : (c : ℕ) (cause : Cause) (o : Option Client) (s : State) → AreWithin came plugged s.streams
       → Keeps came plugged s (client_ends c cause o s)

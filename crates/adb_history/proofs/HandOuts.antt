@@ -16,7 +16,7 @@ use Rattle.adb_stream.specs.declared.flow.Flow.TheVariants.{One, Credit}
 use Rattle.adb_stream.specs.declared.row.Stream.{Stream}
 use Rattle.adb_stream.specs.Flow.{credit_back, to_hand, handed_to}
 use Rattle.adb_client.specs.declared.phase.Phase.{Phase}
-use Rattle.adb_client.specs.declared.phase.Phase.TheVariants.{Asking, Opening, Streaming, Binding, Tracking, Closing, Gone}
+use Rattle.adb_client.specs.declared.phase.Phase.TheVariants.{Streaming, Closing}
 use Rattle.adb_capture.specs.declared.entry.Entry.{Entry}
 use Rattle.adb_capture.specs.declared.entry.Entry.TheVariants.{Put, Send}
 use Rattle.adb_history.specs.declared.hand_out.TheConstants.{MAX_HAND_OUT}
@@ -142,13 +142,8 @@ adds_left due l None s = adds_nothing s
 adds_left due l (Some stream) s = adds_hands (min (to_hand stream.part.flow) due) l stream s
 
 adds_client_left : (phase : Phase) (due : ℕ) (s : State) → AddsAnswer s (client_left phase due s).state
-adds_client_left Asking due s = adds_nothing s
-adds_client_left (Opening l) due s = adds_nothing s
 adds_client_left (Streaming l) due s = adds_left due l (s.streams l) s
-adds_client_left Binding due s = adds_nothing s
-adds_client_left Tracking due s = adds_nothing s
-adds_client_left Closing due s = adds_nothing s
-adds_client_left Gone due s = adds_nothing s
+adds_client_left _ due s = adds_nothing s
 
 -- ---- what a put takes from a client
 -- a client that is handed some of what is due owes so many fewer
@@ -160,12 +155,7 @@ hands_less : (devices : DeviceTable) (phase : Phase) (n : ℕ) (c : Client) → 
     → owed_client devices (left_in phase (drop n c.due) c) + n ≤ owed_client devices (Some c)
 hands_less devices Closing n c some =
     omega (arith, closing_less devices (drop n c.due) (record c { due = drop n c.due }), length-drop n c.due, some)
-hands_less devices Asking n c some = omega (arith, length-drop n c.due, some)
-hands_less devices (Opening l) n c some = omega (arith, length-drop n c.due, some)
-hands_less devices (Streaming l) n c some = omega (arith, length-drop n c.due, some)
-hands_less devices Binding n c some = omega (arith, length-drop n c.due, some)
-hands_less devices Tracking n c some = omega (arith, length-drop n c.due, some)
-hands_less devices Gone n c some = omega (arith, length-drop n c.due, some)
+hands_less devices _ n c some = omega (arith, length-drop n c.due, some)
 
 -- A put takes so many from one client, and makes no more than an OKAY due.
 pub record TakesSome (c n : ℕ) (old new : State) : Type 0 where

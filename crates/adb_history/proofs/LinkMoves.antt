@@ -22,7 +22,7 @@ use Rattle.adb_stream.specs.declared.flow.Flow.TheVariants.{One, Credit}
 use Rattle.adb_stream.specs.declared.row.Part.{Part}
 use Rattle.adb_stream.specs.declared.row.Stream.{Stream}
 use Rattle.adb_capture.specs.declared.entry.Entry.{Entry}
-use Rattle.adb_capture.specs.declared.entry.Entry.TheVariants.{Join, Enter, Read, End, Bound, Attach, Recv, Detach, Put, Send}
+use Rattle.adb_capture.specs.declared.entry.Entry.TheVariants.{Join, Enter, Read, Attach}
 use Rattle.adb_history.specs.Rows.{Link, State, new_link, to_stream, none_kept, with_stream_part}
 use Rattle.adb_history.specs.Events.{Event, Ending, quietly, lost}
 use Rattle.adb_history.specs.Links.{is_connected, is_connected_row, is_connected_state, is_credit}
@@ -361,12 +361,7 @@ module _ (s : State) (h : IsLinked s) where
       record { owned = begins_owned s h.owned (Attach t kind serial) w may; rows = plugged.0; on = plugged.1 }
   begins_linked (Read c bytes) w may =
       (h, λ client is asking. record { owned = (begins_owned s h.owned (Read c bytes) w may).1 client is asking; rows = h.rows; on = h.on })
-  begins_linked (End c cause) w may = h
-  begins_linked (Bound c port) w may = h
-  begins_linked (Recv t bytes) w may = h
-  begins_linked (Detach t cause) w may = h
-  begins_linked (Put c bytes) w may = h
-  begins_linked (Send t bytes) w may = h
+  begins_linked _ w may = h
 
 -- In every state that a legal history leaves, links, devices, forwards and streams fit together.
 pub all_linked : (h : History) → IsLegal h → IsLinked (state h)

@@ -135,12 +135,8 @@ changed_rows devices links forwards t f silent h = record {
     go q row is (inr apart) = h.silent q row (sym (puts.others q apart) ∙ is)
 
 online_state : (a b c d e : Bool) → is_connected_state (cond a Device (cond b Bootloader (cond c Recovery (cond d Sideload (cond e Rescue Host))))) ≡ true
-online_state true b c d e = refl
-online_state false true c d e = refl
-online_state false false true d e = refl
-online_state false false false true e = refl
 online_state false false false false true = refl
-online_state false false false false false = refl
+online_state _ _ _ _ _ = refl
 
 pub online_silent : (identity : Identity) (version maxdata : ℕ) (row : Row) → Silent (online_row identity version maxdata row)
 online_silent identity version maxdata row e =

@@ -75,28 +75,12 @@ step_counted e s j d h =
 came_next : (e : Entry) (older : History) → came_with e (came_count older) ≡ came_count (e ∷ older)
 unfolding came_with
 came_next (Join c) older = refl
-came_next (Enter c port) older = refl
-came_next (Attach t kind serial) older = refl
-came_next (Read c bytes) older = refl
-came_next (End c cause) older = refl
-came_next (Bound c port) older = refl
-came_next (Recv t bytes) older = refl
-came_next (Detach t cause) older = refl
-came_next (Put c bytes) older = refl
-came_next (Send t bytes) older = refl
+came_next _ older = refl
 
 plugged_next : (e : Entry) (older : History) → plugged_with e (plugged_count older) ≡ plugged_count (e ∷ older)
 unfolding plugged_with
 plugged_next (Join c) older = refl
-plugged_next (Enter c port) older = refl
-plugged_next (Attach t kind serial) older = refl
-plugged_next (Read c bytes) older = refl
-plugged_next (End c cause) older = refl
-plugged_next (Bound c port) older = refl
-plugged_next (Recv t bytes) older = refl
-plugged_next (Detach t cause) older = refl
-plugged_next (Put c bytes) older = refl
-plugged_next (Send t bytes) older = refl
+plugged_next _ older = refl
 
 -- As many numbers were drawn as clients came, and as links were plugged in.
 pub counted : (h : History) → IsCounted h
@@ -113,13 +97,7 @@ pub next_number : (e : Entry) (older : History) → May (state older) e → IsNe
 next_number (Join c) older may = may.1 ∙ ap (λ n. n + 1) (counted older).joined
 next_number (Enter c port) older may = may.1 ∙ ap (λ n. n + 1) (counted older).joined
 next_number (Attach t kind serial) older may = may.1 ∙ ap (λ n. n + 1) (counted older).plugged
-next_number (Read c bytes) older may = tt
-next_number (End c cause) older may = tt
-next_number (Bound c port) older may = tt
-next_number (Recv t bytes) older may = tt
-next_number (Detach t cause) older may = tt
-next_number (Put c bytes) older may = tt
-next_number (Send t bytes) older may = tt
+next_number _ older may = tt
 
 -- ---- nothing is kept under a number that was not drawn
 module _ {A : Type 0} where

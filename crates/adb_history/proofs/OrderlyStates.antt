@@ -10,7 +10,7 @@ use Rattle.adb_registry.specs.Registry.{DeviceTable}
 use Rattle.adb_forward.specs.declared.row.ForwardRow.{ForwardRow}
 use Rattle.adb_stream.specs.declared.row.Stream.{Stream}
 use Rattle.adb_client.specs.declared.phase.Phase.{Phase}
-use Rattle.adb_client.specs.declared.phase.Phase.TheVariants.{Asking, Opening, Streaming, Binding, Tracking, Closing, Gone}
+use Rattle.adb_client.specs.declared.phase.Phase.TheVariants.{Asking, Opening, Streaming}
 use Rattle.adb_history.specs.Rows.{Client, State}
 use Rattle.adb_history.specs.Events.{Made, quietly}
 use Rattle.adb_history.specs.Flow.{is_streaming}
@@ -97,10 +97,7 @@ module _ (s : State) (h : AtRest s) where
   rests_orderly Asking c x holds = h.unread.more c x.client (λ b. b) x.here x.in_phase
   rests_orderly (Opening l) c x holds = has_stream c l holds
   rests_orderly (Streaming l) c x holds = (has_stream c l holds, streaming_quiet c l x holds)
-  rests_orderly Binding c x holds = holds
-  rests_orderly Tracking c x holds = holds
-  rests_orderly Closing c x holds = holds
-  rests_orderly Gone c x holds = holds
+  rests_orderly _ c x holds = holds
 
   client_orderly : (c : ℕ) (client : Client) → s.clients c ≡ Some client → IsOrderlyClient s c client
   client_orderly c client is =

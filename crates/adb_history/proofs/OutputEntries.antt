@@ -14,7 +14,7 @@ use Rattle.adb_registry.specs.Row.{new_row}
 use Rattle.adb_registry.specs.declared.row.Row.{Row}
 use Rattle.adb_forward.specs.declared.row.ForwardRow.{ForwardRow}
 use Rattle.adb_client.specs.declared.phase.Phase.{Phase}
-use Rattle.adb_client.specs.declared.phase.Phase.TheVariants.{Asking, Opening, Streaming, Binding, Tracking, Closing, Gone}
+use Rattle.adb_client.specs.declared.phase.Phase.TheVariants.{Closing}
 use Rattle.adb_capture.specs.declared.entry.Entry.{Entry}
 use Rattle.adb_capture.specs.declared.entry.Entry.TheVariants.{Join, Enter, Read, End, Bound, Attach, Recv, Detach, Put, Send}
 use Rattle.adb_stream.specs.declared.row.Stream.{Stream}
@@ -179,12 +179,7 @@ module _ (came plugged : ℕ) (put sent : ℕ → List ℕ) (s : State) (events 
 
   tie_left : (phase : Phase) (due : List ℕ) (c : Client) (output out : List ℕ) → output ≡ out ++ due → ClientTie (left_in phase due c) output out
   tie_left Closing due c output out e = tie_left_closing due c output out e
-  tie_left Asking due c output out e = e
-  tie_left (Opening l) due c output out e = e
-  tie_left (Streaming l) due c output out e = e
-  tie_left Binding due c output out e = e
-  tie_left Tracking due c output out e = e
-  tie_left Gone due c output out e = e
+  tie_left _ due c output out e = e
 
   -- bytes that are due are handed out to a client
   tie_hands : (n : ℕ) (bytes : List ℕ) (client : Client) → s.clients n ≡ Some client → IsPrefixOf bytes client.due

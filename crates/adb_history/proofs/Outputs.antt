@@ -6,7 +6,7 @@ use Rattle.std.proofs.lemmas.List.{append-nil}
 use Rattle.std.specs.Prelude.{option_and_then}
 use Rattle.adb_outside.specs.Bytes.{IsPrefixOf}
 use Rattle.adb_capture.specs.declared.entry.Entry.{Entry}
-use Rattle.adb_capture.specs.declared.entry.Entry.TheVariants.{Join, Enter, Read, End, Bound, Attach, Recv, Detach, Put, Send}
+use Rattle.adb_capture.specs.declared.entry.Entry.TheVariants.{Read, End, Bound, Recv, Detach}
 use Rattle.adb_outside.specs.Framing.{Cut}
 use Rattle.adb_wire.specs.Cutting.{cut_packets}
 use Rattle.adb_wire.specs.declared.packets.Packet.{Packet}
@@ -187,8 +187,4 @@ module _ (came plugged : ℕ) (put sent : ℕ → List ℕ) where
   tie_inner (Recv t bytes) s events may h inner = tie_changes s events (receives t bytes s) h
       (owes_receives (s.links t) t bytes s (omega (arith, may.1.1, h.drawn)) h.streams)
   tie_inner (Detach t cause) s events may h inner = tie_changes s events (unplugs t s) h (owes_unplugs (s.links t) t s h.streams)
-  tie_inner (Join c) s events may h inner = absurd inner
-  tie_inner (Enter c port) s events may h inner = absurd inner
-  tie_inner (Attach t kind serial) s events may h inner = absurd inner
-  tie_inner (Put c bytes) s events may h inner = absurd inner
-  tie_inner (Send t bytes) s events may h inner = absurd inner
+  tie_inner _ s events may h inner = absurd inner

@@ -219,11 +219,7 @@ module _ (c : ℕ) where
   fails_clients (Streaming l) cause None s = refl
   fails_clients (Opening l) cause (Some stream) s = refl
   fails_clients (Opening l) cause None s = refl
-  fails_clients Asking cause o s = refl
-  fails_clients Binding cause o s = refl
-  fails_clients Tracking cause o s = refl
-  fails_clients Closing cause o s = refl
-  fails_clients Gone cause o s = refl
+  fails_clients _ cause o s = refl
 
   owns_fails : (cause : Cause) (client : Client) (s : State) → Owns c s (client_fails c cause client s)
   owns_fails cause client s =
@@ -240,9 +236,6 @@ module _ (c : ℕ) where
 
   input_row : (phase : Phase) (client : Client) (s : State) → s.clients c ≡ Some client → client.about.phase ≡ phase
       → NoneWaits ((input_ends phase c s).clients c)
-  input_row Asking client s is e = closed_row s
-  input_row Binding client s is e = closed_row s
-  input_row Tracking client s is e = closed_row s
   input_row (Opening l) client s is e = ended_row (ap is_waiting e)
     where
       ended_row : is_waiting client.about.phase ≡ false → NoneWaits ((to_client c input_ended s).clients c)
@@ -253,17 +246,16 @@ module _ (c : ℕ) where
       (own_row input_ended s.clients ∙ ap (option_and_then input_ended) is) (ap is_waiting e)
   input_row Closing client s is e = none_of (s.clients c) client is (ap is_waiting e)
   input_row Gone client s is e = none_of (s.clients c) client is (ap is_waiting e)
+  input_row _ client s is e = closed_row s
 
   owns_input : (phase : Phase) (s : State) → Owns c s (quietly (input_ends phase c s))
-  owns_input Asking s = owns_closes s
-  owns_input Binding s = owns_closes s
-  owns_input Tracking s = owns_closes s
   owns_input (Opening l) s = owns_to_client input_ended s
       (λ none a e. none_of (input_ended a) (record a { about = record a.about { ended = true } }) refl (none a e))
   owns_input (Streaming l) s = owns_to_client input_ended s
       (λ none a e. none_of (input_ended a) (record a { about = record a.about { ended = true } }) refl (none a e))
   owns_input Closing s = owns_all s (quietly s) refl refl
   owns_input Gone s = owns_all s (quietly s) refl refl
+  owns_input _ s = owns_closes s
 
   pub owns_ends : (cause : Cause) (o : Option Client) (s : State) → Owns c s (client_ends c cause o s)
   owns_ends cause None s = owns_all s (quietly s) refl refl

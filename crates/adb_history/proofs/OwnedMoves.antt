@@ -34,13 +34,9 @@ joined_client s c client rows is = go (order c s.joined)
     go (inr above) = absurd (let clash : None ≡ Some client = sym (rows.clients.above c above) ∙ is in cc)
 
 pub free_only : (l : ℕ) (phase : Phase) → IsFree phase → IsOnly l phase
-free_only l Asking h = tt
-free_only l Binding h = tt
-free_only l Tracking h = tt
 free_only l (Opening k) h = absurd h
 free_only l (Streaming k) h = absurd h
-free_only l Closing h = tt
-free_only l Gone h = tt
+free_only l _ h = tt
 
 module _ (s : State) (h : IsOwned s) where
   -- ---- one client changes, which has no stream
@@ -108,13 +104,9 @@ module _ (s : State) (h : IsOwned s) where
           (record { number = was.number; mark = λ m. absurd (no_mark x was.mark asking m); holds = (refl, refl) })
 
 streamless : (streams : Rows (Option Stream)) (c : ℕ) (x : Client) (phase : Phase) → HoldsIn phase streams c x → stream_of phase streams ≡ None → IsOnly 0 phase
-streamless streams c x Asking h e = tt
 streamless streams c x (Opening l) h e = absurd (let clash : None ≡ Some h.stream = sym e ∙ h.is in cc)
 streamless streams c x (Streaming l) h e = absurd (let clash : None ≡ Some h.stream = sym e ∙ h.is in cc)
-streamless streams c x Binding h e = tt
-streamless streams c x Tracking h e = tt
-streamless streams c x Closing h e = tt
-streamless streams c x Gone h e = tt
+streamless streams c x _ h e = tt
 
 module _ (s : State) (h : IsOwned s) where
   pub drops_owned : (c : ℕ) (x : Client) → s.clients c ≡ Some x → stream_of x.about.phase s.streams ≡ None
@@ -126,17 +118,12 @@ module _ (s : State) (h : IsOwned s) where
 -- ---- clients that are alike
 holds_due : (streams : Rows (Option Stream)) (c : ℕ) (x : Client) (bytes : List ℕ) (phase : Phase) → HoldsIn phase streams c x
     → HoldsIn phase streams c (record x { due = x.due ++ bytes })
-holds_due streams c x bytes Asking h = h
-holds_due streams c x bytes (Opening l) h = h
-holds_due streams c x bytes (Streaming l) h = h
-holds_due streams c x bytes Binding h = h
-holds_due streams c x bytes Tracking h = h
 holds_due streams c x bytes Closing h = (h.0, go x.due h.1)
   where
     go : (due : List ℕ) → due ≢ [] → (due ++ bytes) ≢ []
     go [] some nil = some refl
     go (b ∷ due) some nil = absurd (cc)
-holds_due streams c x bytes Gone h = h
+holds_due streams c x bytes _ h = h
 
 module _ (s : State) (h : IsOwned s) where
   pub due_owned : (c : ℕ) (bytes : List ℕ) → Owned s.joined (to_client c (with_due bytes) s).clients s.streams
@@ -154,11 +141,7 @@ holds_held : (streams : Rows (Option Stream)) (c : ℕ) (x : Client) (bytes : Li
     → HoldsIn phase streams c (record x { held = bytes })
 holds_held streams c x bytes (Opening l) one h = h
 holds_held streams c x bytes (Streaming l) one h = h
-holds_held streams c x bytes Asking one h = absurd one
-holds_held streams c x bytes Binding one h = absurd one
-holds_held streams c x bytes Tracking one h = absurd one
-holds_held streams c x bytes Closing one h = absurd one
-holds_held streams c x bytes Gone one h = absurd one
+holds_held streams c x bytes _ one h = absurd one
 
 module _ (s : State) (h : IsOwned s) where
   pub held_owned : (c : ℕ) (bytes : List ℕ) (client : Client) → s.clients c ≡ Some client → HasOne client.about.phase
@@ -180,12 +163,10 @@ module _ (s : State) (h : IsOwned s) where
 holds_about : (streams : Rows (Option Stream)) (c : ℕ) (x y : Client) (phase : Phase) → (y.held ≡ x.held) × (y.due ≡ x.due) × (y.about.want ≡ x.about.want)
     → HoldsIn phase streams c x → HoldsIn phase streams c y
 holds_about streams c x y Asking e h = tt
-holds_about streams c x y (Opening l) e h = h
-holds_about streams c x y (Streaming l) e h = h
 holds_about streams c x y Binding e h = (e.0 ∙ h.0, ap is_some e.2 ∙ h.1)
 holds_about streams c x y Tracking e h = e.0 ∙ h
 holds_about streams c x y Closing e h = (e.0 ∙ h.0, λ nil. h.1 (sym e.1 ∙ nil))
-holds_about streams c x y Gone e h = h
+holds_about streams c x y _ e h = h
 
 module _ (s : State) (h : IsOwned s) where
   pub unmark_owned : (c : ℕ) → Owned s.joined (to_client c unmarked s).clients s.streams

@@ -75,18 +75,8 @@ loses_frame : (forwarded : Bool) (phase : Phase) (c : ℕ) (s : State)
     → (loses forwarded phase c s).state ≡ record s { clients = (loses forwarded phase c s).state.clients }
 loses_frame true (Streaming l) c s = refl
 loses_frame false (Streaming l) c s = refl
-loses_frame true (Opening l) c s = refl
-loses_frame false (Opening l) c s = refl
-loses_frame true Asking c s = refl
-loses_frame false Asking c s = refl
-loses_frame true Binding c s = refl
-loses_frame false Binding c s = refl
-loses_frame true Tracking c s = refl
-loses_frame false Tracking c s = refl
-loses_frame true Closing c s = refl
-loses_frame false Closing c s = refl
-loses_frame true Gone c s = refl
-loses_frame false Gone c s = refl
+loses_frame true _ c s = refl
+loses_frame false _ c s = refl
 
 pub client_loses_frame : (o : Option Client) (c : ℕ) (s : State) → (client_loses o c s).state ≡ record s { clients = (client_loses o c s).state.clients }
 client_loses_frame None c s = refl

@@ -7,7 +7,7 @@ use Rattle.adb_outside.specs.Tables.{Rows, change_row}
 use Rattle.adb_stream.specs.declared.row.Stream.{Stream}
 use Rattle.adb_stream.specs.Flow.{to_hand}
 use Rattle.adb_client.specs.declared.phase.Phase.{Phase}
-use Rattle.adb_client.specs.declared.phase.Phase.TheVariants.{Asking, Opening, Streaming, Binding, Tracking, Closing, Gone}
+use Rattle.adb_client.specs.declared.phase.Phase.TheVariants.{Opening, Streaming}
 use Rattle.adb_history.specs.Rows.{Client, State}
 use Rattle.adb_history.specs.Orderly.{IsSoundFlow, phase_for}
 use Rattle.adb_history.specs.Owned.{StreamOf, ClientOf, OwnerIn, StreamIn, HoldsIn, ClientIn, Owned}
@@ -15,13 +15,9 @@ use Rattle.adb_history.specs.Owned.{StreamOf, ClientOf, OwnerIn, StreamIn, Holds
 -- what a client holds speaks of streams only by its own
 pub holds_map : (old new : Rows (Option Stream)) (phase : Phase) (c : ℕ) (client : Client)
     → ((l : ℕ) → StreamOf old c l → StreamOf new c l) → HoldsIn phase old c client → HoldsIn phase new c client
-holds_map old new Asking c client f h = h
 holds_map old new (Opening l) c client f h = f l h
 holds_map old new (Streaming l) c client f h = f l h
-holds_map old new Binding c client f h = h
-holds_map old new Tracking c client f h = h
-holds_map old new Closing c client f h = h
-holds_map old new Gone c client f h = h
+holds_map old new _ c client f h = h
 
 -- ---- clients that are alike
 pub record Alike (streams : Rows (Option Stream)) (c : ℕ) (before after : Client) : Type 0 where

@@ -7,7 +7,7 @@ use Rattle.adb_outside.specs.Tables.{at}
 use Rattle.adb_outside.specs.Framing.{Cut}
 use Rattle.adb_outside.specs.declared.identity.Identity.{Identity}
 use Rattle.adb_outside.specs.declared.identity.State.{State as DeviceState}
-use Rattle.adb_outside.specs.declared.identity.State.TheVariants.{Offline, Unauthorized, Device, Bootloader, Recovery, Sideload, Rescue, Host}
+use Rattle.adb_outside.specs.declared.identity.State.TheVariants.{Offline}
 use Rattle.adb_banner.specs.Banner.{identity_of}
 use Rattle.adb_registry.specs.declared.row.Row.{Row}
 use Rattle.adb_wire.specs.Cutting.{cut_packets}
@@ -75,13 +75,7 @@ module _ {P : State → List Event → Type 0} (k : Moves P) where
       where
         go : (state : DeviceState) → row.state ≡ state → P (unauthorized_from t state s) w
         go Offline e = k.unauthorized t row s w is e h
-        go Unauthorized e = h
-        go Device e = h
-        go Bootloader e = h
-        go Recovery e = h
-        go Sideload e = h
-        go Rescue e = h
-        go Host e = h
+        go _ e = h
 
     -- ---- OPEN
     refuses_kept : (t id : ℕ) → After P w (refuses_open t id s)
@@ -171,9 +165,7 @@ module _ {P : State → List Event → Type 0} (k : Moves P) where
         at_stream_kept t p.arg1 (s.streams p.arg1) (takes_write p.arg1 p.arg0 p.payload) refl (λ stream is. write_kept p.arg1 p.arg0 p.payload stream is)
     treat_open_kept t Clse p =
         at_stream_kept t p.arg1 (s.streams p.arg1) (takes_close p.arg1 p.arg0) refl (λ stream is. close_kept p.arg1 p.arg0 stream is)
-    treat_open_kept t Cnxn p = after_quietly P w s h
-    treat_open_kept t Auth p = after_quietly P w s h
-    treat_open_kept t Stls p = after_quietly P w s h
+    treat_open_kept t _ p = after_quietly P w s h
 
     if_connected_kept : (t : ℕ) (command : Command) (p : Packet) → After P w (cond (is_connected t s.devices) (treat_open t command p s) (quietly s))
     if_connected_kept t command p =

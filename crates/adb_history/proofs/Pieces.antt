@@ -26,11 +26,8 @@ after_whole (Some zero) m n len le e = cc
 after_whole (Some (suc k)) m n len le e = whole_test m n k len le e
 
 whole_front : (x y : List ℕ) (len : ℕ) → request_at x ≡ Whole len → request_at (x ++ y) ≡ Whole len
-whole_front [] y len e = cc
-whole_front (a ∷ []) y len e = cc
-whole_front (a ∷ b ∷ []) y len e = cc
-whole_front (a ∷ b ∷ c ∷ []) y len e = cc
 whole_front (a ∷ b ∷ c ∷ d ∷ r) y len e = after_whole (hex_value a b c d) (length r) (length (r ++ y)) len (omega (arith, length-append r y)) e
+whole_front _ y len e = cc
 
 -- what is asked, with more bytes that are not read yet
 abbrev more : List ℕ → Asked → Asked
@@ -45,14 +42,7 @@ module _ (devices : DeviceTable) (forwards : List (ℕ × ForwardRow)) where
       → ((id : ℕ) → f (record (replied reply size q) { selected = Some id }) ≡ g (record (replied reply size q) { selected = Some id }))
       → after_next next reply size f q ≡ after_next next reply size g q
   next_same (Select id) reply size f g q same = same id
-  next_same Close reply size f g q same = refl
-  next_same (Track long) reply size f g q same = refl
-  next_same (Open transport service) reply size f g q same = refl
-  next_same (Bind transport local remote chosen) reply size f g q same = refl
-  next_same (Rebind transport local remote) reply size f g q same = refl
-  next_same (Unbind local) reply size f g q same = refl
-  next_same UnbindAll reply size f g q same = refl
-  next_same Stop reply size f g q same = refl
+  next_same _ reply size f g q same = refl
 
   none_there : (q : Asked) (rest : List ℕ) (f : Asked → Asked) → q.rest ≡ rest → length rest ≤ 0 → after_found devices forwards (request_at q.rest) f q ≡ q
   none_there q [] f is le = ap (λ (x : List ℕ). after_found devices forwards (request_at x) f q) is

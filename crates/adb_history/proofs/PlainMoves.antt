@@ -10,7 +10,7 @@ use Rattle.adb_wire.specs.declared.packets.Packet.{Packet}
 use Rattle.adb_wire.specs.Packet.{spelling}
 use Rattle.adb_stream.specs.declared.row.Stream.{Stream}
 use Rattle.adb_client.specs.declared.phase.Phase.{Phase}
-use Rattle.adb_client.specs.declared.phase.Phase.TheVariants.{Asking, Opening, Streaming, Binding, Tracking, Closing, Gone}
+use Rattle.adb_client.specs.declared.phase.Phase.TheVariants.{Opening, Streaming}
 use Rattle.adb_reply.specs.Strings.{failed}
 use Rattle.adb_history.specs.Rows.{Client, Link, State, to_client, to_link, to_stream, none_kept, with_due, with_held, with_link_due, with_stream_part}
 use Rattle.adb_history.specs.Events.{Made, Event, Ending, quietly, due_to_client, due_to_link, ended, lost, stopped}
@@ -68,16 +68,8 @@ module _ {P : State → List Event → Type 0} (k : Plain P) where
   loses_plain forwarded (Streaming l) c s w h = after_quietly P w (closes c s) (k.client c closing s w h)
   loses_plain true (Opening l) c s w h = after_quietly P w (closes c s) (k.client c closing s w h)
   loses_plain false (Opening l) c s w h = closes_with_plain c (failed (codes "closed")).bytes s w h
-  loses_plain true Asking c s w h = after_quietly P w s h
-  loses_plain false Asking c s w h = after_quietly P w s h
-  loses_plain true Binding c s w h = after_quietly P w s h
-  loses_plain false Binding c s w h = after_quietly P w s h
-  loses_plain true Tracking c s w h = after_quietly P w s h
-  loses_plain false Tracking c s w h = after_quietly P w s h
-  loses_plain true Closing c s w h = after_quietly P w s h
-  loses_plain false Closing c s w h = after_quietly P w s h
-  loses_plain true Gone c s w h = after_quietly P w s h
-  loses_plain false Gone c s w h = after_quietly P w s h
+  loses_plain true _ c s w h = after_quietly P w s h
+  loses_plain false _ c s w h = after_quietly P w s h
 
   client_loses_plain : (o : Option Client) (c : ℕ) (s : State) (w : List Event) → P s w → After P w (client_loses o c s)
   client_loses_plain None c s w h = after_quietly P w s h

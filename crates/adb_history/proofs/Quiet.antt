@@ -8,7 +8,7 @@ use Rattle.adb_registry.specs.Registry.{DeviceTable}
 use Rattle.adb_stream.specs.declared.row.Part.{Part}
 use Rattle.adb_stream.specs.declared.row.Stream.{Stream}
 use Rattle.adb_client.specs.declared.phase.Phase.{Phase}
-use Rattle.adb_client.specs.declared.phase.Phase.TheVariants.{Asking, Opening, Streaming, Binding, Tracking, Closing, Gone}
+use Rattle.adb_client.specs.declared.phase.Phase.TheVariants.{Streaming, Closing}
 use Rattle.adb_history.specs.Rows.{Client, Link, State, to_stream, none_kept, with_held, with_stream_part}
 use Rattle.adb_history.specs.Events.{Made, quietly, then_also}
 use Rattle.adb_history.specs.Links.{maxdata_of}
@@ -83,12 +83,7 @@ module _ (l : ℕ) (s : State) where
 -- ---- and each other stays so
 pub other_phase : (l m : ℕ) (phase : Phase) → l ≢ m → is_streaming l phase ≡ true → is_streaming m phase ≡ true → ⊥
 other_phase l m (Streaming k) apart e f = apart (sym (eqb-true k l e) ∙ eqb-true k m f)
-other_phase l m (Opening k) apart e f = let clash : false ≡ true = e in cc
-other_phase l m Asking apart e f = let clash : false ≡ true = e in cc
-other_phase l m Binding apart e f = let clash : false ≡ true = e in cc
-other_phase l m Tracking apart e f = let clash : false ≡ true = e in cc
-other_phase l m Closing apart e f = let clash : false ≡ true = e in cc
-other_phase l m Gone apart e f = let clash : false ≡ true = e in cc
+other_phase l m _ apart e f = let clash : false ≡ true = e in cc
 
 pub closing_idle : (due : List ℕ) (x y : Client) (m : ℕ) → closing_with due x ≡ Some y → is_streaming m y.about.phase ≡ true → ⊥
 closing_idle [] x y m e f = let clash : None ≡ Some y = e in cc

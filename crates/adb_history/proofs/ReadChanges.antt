@@ -9,7 +9,7 @@ use Rattle.adb_registry.specs.declared.row.Row.{Row}
 use Rattle.adb_forward.specs.declared.row.ForwardRow.{ForwardRow}
 use Rattle.adb_stream.specs.declared.row.Stream.{Stream}
 use Rattle.adb_client.specs.declared.phase.Phase.{Phase}
-use Rattle.adb_client.specs.declared.phase.Phase.TheVariants.{Asking, Opening, Streaming, Binding, Tracking, Closing, Gone}
+use Rattle.adb_client.specs.declared.phase.Phase.TheVariants.{Asking, Opening, Streaming, Binding}
 use Rattle.adb_client.specs.declared.about.Want.{Want}
 use Rattle.adb_reply.specs.declared.answer.Next.{Next}
 use Rattle.adb_reply.specs.declared.answer.Next.TheVariants as what
@@ -203,10 +203,7 @@ module _ (came plugged c : ℕ) where
       (asks_within plugged s.devices within s.forwards bytes (asked_before client) tt)
   read_in (Opening l) bytes client s le within = read_held bytes client s
   read_in (Streaming l) bytes client s le within = read_held bytes client s
-  read_in Binding bytes client s le within = read_keeps s (quietly s) (keeps_all came plugged s)
-  read_in Tracking bytes client s le within = read_keeps s (quietly s) (keeps_all came plugged s)
-  read_in Closing bytes client s le within = read_keeps s (quietly s) (keeps_all came plugged s)
-  read_in Gone bytes client s le within = read_keeps s (quietly s) (keeps_all came plugged s)
+  read_in _ bytes client s le within = read_keeps s (quietly s) (keeps_all came plugged s)
 
   pub read_from : (o : Option Client) (bytes : List ℕ) (s : State) → c ≤ came → HasRowsWithin plugged s.devices
       → Changes came plugged (ReadOn c) LinkStay s (reads_from o c bytes s)
@@ -229,12 +226,7 @@ module _ (came plugged : ℕ) where
   changes_bound_in : (phase : Phase) (want : Option Want) (c port : ℕ) (s : State) → c ≤ came
       → Changes came plugged Stay LinkStay s (bound_in phase want c port s)
   changes_bound_in Binding want c port s le = changes_bound_for want c port s le
-  changes_bound_in Asking want c port s le = changes_keeps came plugged s (quietly s) (keeps_all came plugged s)
-  changes_bound_in (Opening l) want c port s le = changes_keeps came plugged s (quietly s) (keeps_all came plugged s)
-  changes_bound_in (Streaming l) want c port s le = changes_keeps came plugged s (quietly s) (keeps_all came plugged s)
-  changes_bound_in Tracking want c port s le = changes_keeps came plugged s (quietly s) (keeps_all came plugged s)
-  changes_bound_in Closing want c port s le = changes_keeps came plugged s (quietly s) (keeps_all came plugged s)
-  changes_bound_in Gone want c port s le = changes_keeps came plugged s (quietly s) (keeps_all came plugged s)
+  changes_bound_in _ want c port s le = changes_keeps came plugged s (quietly s) (keeps_all came plugged s)
 
   pub changes_bound : (o : Option Client) (c port : ℕ) (s : State) → c ≤ came → Changes came plugged Stay LinkStay s (bound_at o c port s)
   changes_bound None c port s le = changes_keeps came plugged s (quietly s) (keeps_all came plugged s)

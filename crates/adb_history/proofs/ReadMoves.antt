@@ -1,5 +1,5 @@
 -- What each move keeps, the requests of clients keep, their ends, and the listeners that stand.
-use Rattle.std.proofs.Common.{◌≡◌, ℕ, Bool, true, false, cond, All, List, [], ◌∷◌, ◌++◌, length, Option, Some, None, refl, sym, ap, subst, ◌∙◌, inl, inr, eqb}
+use Rattle.std.proofs.Common.{◌≡◌, ℕ, Bool, false, cond, All, List, [], ◌∷◌, ◌++◌, length, Option, Some, None, refl, sym, ap, subst, ◌∙◌, inl, inr, eqb}
 use Rattle.std.specs.Prelude.{codes, is_some, is_none}
 use Rattle.std.proofs.lemmas.List.Elements.{All-nil}
 use Rattle.adb_outside.specs.Tables.{at, without}
@@ -14,7 +14,7 @@ use Rattle.adb_forward.specs.declared.table.TheConstants.{MAX_FORWARDS}
 use Rattle.adb_wire.specs.declared.packets.Packet.{Packet}
 use Rattle.adb_stream.specs.declared.row.Stream.{Stream}
 use Rattle.adb_client.specs.declared.phase.Phase.{Phase}
-use Rattle.adb_client.specs.declared.phase.Phase.TheVariants.{Asking, Opening, Streaming, Binding, Tracking, Closing, Gone}
+use Rattle.adb_client.specs.declared.phase.Phase.TheVariants.{Asking, Opening, Streaming, Binding, Closing, Gone}
 use Rattle.adb_client.specs.declared.about.Want.{Want}
 use Rattle.adb_reply.specs.Strings.{failed}
 use Rattle.adb_reply.specs.Refusals.{no_transport}
@@ -55,10 +55,8 @@ led_bound want port devices forwards all =
           reply = codes "OKAYOKAY" ++ told_port want.local port;
           forwards = put_forward port want.transport want.remote devices forwards;
         })))).forwards
-    go true gone full = all
-    go false true full = all
-    go false false true = all
     go false false false = led_put port want.transport want.remote devices forwards all
+    go _ _ _ = all
 
 module _ {P : State → List Event → Type 0} (k : Moves P) where
   module _ (s : State) (w : List Event) (h : P s w) where
@@ -116,10 +114,7 @@ module _ {P : State → List Event → Type 0} (k : Moves P) where
     reads_in_kept (Streaming l) c bytes x asked =
         after_quietly P w (to_client c (with_held (x.client.held ++ bytes)) s)
         (k.holds c x.client (x.client.held ++ bytes) s w x.here (subst HasOne (sym x.in_phase) tt) h)
-    reads_in_kept Binding c bytes x asked = after_quietly P w s h
-    reads_in_kept Tracking c bytes x asked = after_quietly P w s h
-    reads_in_kept Closing c bytes x asked = after_quietly P w s h
-    reads_in_kept Gone c bytes x asked = after_quietly P w s h
+    reads_in_kept _ c bytes x asked = after_quietly P w s h
 
     -- ---- bound
     bound_for_kept : (want : Option Want) (c port : ℕ) → IsClientIn s c Binding → After P w (bound_for want c port s)
@@ -132,12 +127,7 @@ module _ {P : State → List Event → Type 0} (k : Moves P) where
 
     bound_in_kept : (phase : Phase) (want : Option Want) (c port : ℕ) → IsClientIn s c phase → After P w (bound_in phase want c port s)
     bound_in_kept Binding want c port x = bound_for_kept want c port x
-    bound_in_kept Asking want c port x = after_quietly P w s h
-    bound_in_kept (Opening l) want c port x = after_quietly P w s h
-    bound_in_kept (Streaming l) want c port x = after_quietly P w s h
-    bound_in_kept Tracking want c port x = after_quietly P w s h
-    bound_in_kept Closing want c port x = after_quietly P w s h
-    bound_in_kept Gone want c port x = after_quietly P w s h
+    bound_in_kept _ want c port x = after_quietly P w s h
 
     pub bound_kept : (o : Option Client) (c port : ℕ) → s.clients c ≡ o → After P w (bound_at o c port s)
     bound_kept None c port is = after_quietly P w s h
@@ -170,20 +160,14 @@ module _ {P : State → List Event → Type 0} (k : Moves P) where
         → After P w (stream_fails phase cause (stream_of phase s.streams) (to_client c none_kept s))
     fails_in_kept (Streaming l) c cause x = fails_open_kept c l cause (s.streams l) x refl
     fails_in_kept (Opening l) c cause x = fails_asked_kept c l cause (s.streams l) x refl
-    fails_in_kept Asking c cause x = drops_kept c x.client x.here (ap (λ p. stream_of p s.streams) x.in_phase)
-    fails_in_kept Binding c cause x = drops_kept c x.client x.here (ap (λ p. stream_of p s.streams) x.in_phase)
-    fails_in_kept Tracking c cause x = drops_kept c x.client x.here (ap (λ p. stream_of p s.streams) x.in_phase)
-    fails_in_kept Closing c cause x = drops_kept c x.client x.here (ap (λ p. stream_of p s.streams) x.in_phase)
-    fails_in_kept Gone c cause x = drops_kept c x.client x.here (ap (λ p. stream_of p s.streams) x.in_phase)
+    fails_in_kept _ c cause x = drops_kept c x.client x.here (ap (λ p. stream_of p s.streams) x.in_phase)
 
     input_kept : (phase : Phase) (c : ℕ) → IsClientIn s c phase → P (input_ends phase c s) w
-    input_kept Asking c x = k.closes c x.client s w x.here (subst IsFree (sym x.in_phase) tt) h
-    input_kept Binding c x = k.closes c x.client s w x.here (subst IsFree (sym x.in_phase) tt) h
-    input_kept Tracking c x = k.closes c x.client s w x.here (subst IsFree (sym x.in_phase) tt) h
     input_kept (Opening l) c x = k.input_ended c s w h
     input_kept (Streaming l) c x = k.input_ended c s w h
     input_kept Closing c x = h
     input_kept Gone c x = h
+    input_kept _ c x = k.closes c x.client s w x.here (subst IsFree (sym x.in_phase) tt) h
 
     pub client_ends_kept : (c : ℕ) (cause : Cause) (o : Option Client) → s.clients c ≡ o → After P w (client_ends c cause o s)
     client_ends_kept c cause None is = after_quietly P w s h

@@ -11,7 +11,7 @@ use Rattle.adb_reply.specs.Answer.{answer}
 use Rattle.adb_reply.specs.Laws.{OpensReady}
 use Rattle.adb_reply.specs.declared.answer.Answer.{Answer}
 use Rattle.adb_reply.specs.declared.answer.Next.{Next}
-use Rattle.adb_reply.specs.declared.answer.Next.TheVariants.{Close, Select, Track, Open, Bind, Rebind, Unbind, UnbindAll, Stop}
+use Rattle.adb_reply.specs.declared.answer.Next.TheVariants.{Select}
 use Rattle.adb_reply.proofs.Readiness.{answer_ready}
 use Rattle.adb_history.specs.Asking.{Asked, replied, after_next, after_found, reads_on, asks_with}
 
@@ -26,14 +26,7 @@ module _ (devices : DeviceTable) where
     next_ready : (next : Next) (q : Asked) → OpensReady devices.rows next → IsAskedReady devices q.next → IsAskedReady devices
         (after_next next reply size others q).next
     next_ready (Select id) q right h = later (record (replied reply size q) { selected = Some id }) h
-    next_ready Close q right h = right
-    next_ready (Track long) q right h = right
-    next_ready (Open t service) q right h = right
-    next_ready (Bind transport local remote chosen) q right h = right
-    next_ready (Rebind transport local remote) q right h = right
-    next_ready (Unbind local) q right h = right
-    next_ready UnbindAll q right h = right
-    next_ready Stop q right h = right
+    next_ready _ q right h = right
 
   found_ready : (forwards : List (ℕ × ForwardRow)) (f : Found) (others : Asked → Asked) (q : Asked)
       → ((q : Asked) → IsAskedReady devices q.next → IsAskedReady devices (others q).next) → IsAskedReady devices q.next

@@ -360,11 +360,6 @@ module _ (older : History) (tie : IsTied older) (h : IsReceived older) where
   -- a link that was not plugged in has nothing
   fresh_rule : (e : Entry) → May s e → (t : ℕ) → plugged_count (e ∷ older) < t
       → (is_lost t (e ∷ older) ≡ false) × (bytes_received t (e ∷ older) ≡ [])
-  fresh_rule (Join c) may t lt = h.fresh t lt
-  fresh_rule (Enter c port) may t lt = h.fresh t lt
-  fresh_rule (Read c bytes) may t lt = h.fresh t lt
-  fresh_rule (End c cause) may t lt = h.fresh t lt
-  fresh_rule (Bound c port) may t lt = h.fresh t lt
   fresh_rule (Attach n kind serial) may t lt = h.fresh t (omega (arith, lt))
   fresh_rule (Recv n bytes) may t lt =
       let before = h.fresh t lt in (
@@ -375,8 +370,7 @@ module _ (older : History) (tie : IsTied older) (h : IsReceived older) where
   fresh_rule (Detach n cause) may t lt =
       let before = h.fresh t lt in
       (ap (λ (b : Bool). b || is_lost t older) (ne_eqb n t (λ e. omega (arith, lt, e, may.1.1, tie.drawn))) ∙ before.0, before.1)
-  fresh_rule (Put c bytes) may t lt = h.fresh t lt
-  fresh_rule (Send n bytes) may t lt = h.fresh t lt
+  fresh_rule _ may t lt = h.fresh t lt
 
   received_step : (e : Entry) → May s e → IsReceived (e ∷ older)
   received_step e may = record {

@@ -3,7 +3,7 @@ use Rattle.std.proofs.Common.{ℕ, ◌≡◌, true, false, Some, ◌∙◌, ap, 
 use Rattle.std.proofs.lemmas.Bool.{eqb-true}
 use Rattle.adb_stream.specs.declared.row.Stream.{Stream}
 use Rattle.adb_client.specs.declared.phase.Phase.{Phase}
-use Rattle.adb_client.specs.declared.phase.Phase.TheVariants.{Asking, Opening, Streaming, Binding, Tracking, Closing, Gone}
+use Rattle.adb_client.specs.declared.phase.Phase.TheVariants.{Streaming}
 use Rattle.adb_history.specs.Rows.{Client, State}
 use Rattle.adb_history.specs.Flow.{is_streaming}
 use Rattle.adb_history.specs.Machine.{History, state}
@@ -20,12 +20,7 @@ rests_calm s l c stream client (Streaming k) rests open_now there =
     let same : k ≡ l = eqb-true k l open_now in
     let quiet = rests.1 stream (ap s.streams same ∙ there) in
     record { nothing = quiet.nothing; goes_on = quiet.goes_on }
-rests_calm s l c stream client Asking rests open_now there = absurd (let clash : false ≡ true = open_now in cc)
-rests_calm s l c stream client (Opening k) rests open_now there = absurd (let clash : false ≡ true = open_now in cc)
-rests_calm s l c stream client Binding rests open_now there = absurd (let clash : false ≡ true = open_now in cc)
-rests_calm s l c stream client Tracking rests open_now there = absurd (let clash : false ≡ true = open_now in cc)
-rests_calm s l c stream client Closing rests open_now there = absurd (let clash : false ≡ true = open_now in cc)
-rests_calm s l c stream client Gone rests open_now there = absurd (let clash : false ≡ true = open_now in cc)
+rests_calm s l c stream client _ rests open_now there = absurd (let clash : false ≡ true = open_now in cc)
 
 pub orderly_is_calm : (s : State) → IsOrderly s → IsCalm s
 orderly_is_calm s orderly l stream client there here open_now =

@@ -9,7 +9,7 @@ use Rattle.adb_stream.specs.declared.flow.Flow.TheVariants.{One, Credit}
 use Rattle.adb_stream.specs.declared.row.Stream.{Stream}
 use Rattle.adb_stream.specs.Flow.{wrote}
 use Rattle.adb_client.specs.declared.phase.Phase.{Phase}
-use Rattle.adb_client.specs.declared.phase.Phase.TheVariants.{Asking, Opening, Streaming, Binding, Tracking, Closing, Gone}
+use Rattle.adb_client.specs.declared.phase.Phase.TheVariants.{Asking, Opening, Streaming}
 use Rattle.adb_reply.specs.Strings.{failed}
 use Rattle.adb_history.specs.Rows.{Client, State, to_client, to_stream, with_due, with_stream_part, none_kept}
 use Rattle.adb_history.specs.Events.{Made, Event, Ending, quietly, client_closed}
@@ -33,11 +33,7 @@ asks_streamless phase streams asking = ap (λ p. stream_of p streams) asking
 streaming_has : (l : ℕ) (phase : Phase) → is_streaming l phase ≡ true → HasOne phase
 streaming_has l (Streaming k) e = tt
 streaming_has l (Opening k) e = tt
-streaming_has l Asking e = absurd (cc)
-streaming_has l Binding e = absurd (cc)
-streaming_has l Tracking e = absurd (cc)
-streaming_has l Closing e = absurd (cc)
-streaming_has l Gone e = absurd (cc)
+streaming_has l _ e = absurd (cc)
 
 -- ---- a flow after writes
 like_same : (flow : Flow) → IsLike flow flow

@@ -4,7 +4,7 @@ use Rattle.adb_outside.specs.Tables.{Rows}
 use Rattle.adb_stream.specs.declared.row.Part.{Part}
 use Rattle.adb_stream.specs.declared.row.Stream.{Stream}
 use Rattle.adb_client.specs.declared.phase.Phase.{Phase}
-use Rattle.adb_client.specs.declared.phase.Phase.TheVariants.{Asking, Opening, Streaming, Binding, Tracking, Closing, Gone}
+use Rattle.adb_client.specs.declared.phase.Phase.TheVariants.{Streaming}
 use Rattle.adb_history.specs.Rows.{Client, Link, State, to_stream, none_kept, with_held, with_stream_part}
 use Rattle.adb_history.specs.Events.{quietly, client_closed}
 use Rattle.adb_history.specs.Links.{maxdata_of, owe_link, close_packet}
@@ -49,12 +49,7 @@ go_up_frame l stream (p ∷ ps) s = go_up_frame l stream ps (goes_up l stream p 
 streaming_loses : (l : ℕ) (phase : Phase) (forwarded : Bool) (c : ℕ) (s : State) → is_streaming l phase ≡ true → (loses forwarded phase c s).state ≡ closes c s
 streaming_loses l (Streaming k) true c s e = refl
 streaming_loses l (Streaming k) false c s e = refl
-streaming_loses l (Opening k) f c s e = absurd (let clash : false ≡ true = e in cc)
-streaming_loses l Asking f c s e = absurd (let clash : false ≡ true = e in cc)
-streaming_loses l Binding f c s e = absurd (let clash : false ≡ true = e in cc)
-streaming_loses l Tracking f c s e = absurd (let clash : false ≡ true = e in cc)
-streaming_loses l Closing f c s e = absurd (let clash : false ≡ true = e in cc)
-streaming_loses l Gone f c s e = absurd (let clash : false ≡ true = e in cc)
+streaming_loses l _ f c s e = absurd (let clash : false ≡ true = e in cc)
 
 module _ (Q : State → Type 0) (l : ℕ) (s : State) (q : UpTo Q l s) where
   sends_case : (x : Sending l s) → Q (sends_up l x.stream x.client (sent l s x) s).state

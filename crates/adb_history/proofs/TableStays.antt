@@ -5,7 +5,7 @@ use Rattle.adb_outside.specs.Tables.{at, without}
 use Rattle.adb_registry.specs.Registry.{DeviceTable}
 use Rattle.adb_forward.specs.declared.row.ForwardRow.{ForwardRow}
 use Rattle.adb_client.specs.declared.phase.Phase.{Phase}
-use Rattle.adb_client.specs.declared.phase.Phase.TheVariants.{Asking, Opening, Streaming, Binding, Tracking, Closing, Gone}
+use Rattle.adb_client.specs.declared.phase.Phase.TheVariants.{Asking, Opening, Streaming, Binding}
 use Rattle.adb_client.specs.declared.about.Want.{Want}
 use Rattle.adb_reply.specs.declared.answer.Next.{Next}
 use Rattle.adb_reply.specs.declared.answer.Next.TheVariants as what
@@ -121,10 +121,7 @@ module _ (came plugged c : ℕ) where
       (asks_within plugged s.devices within s.forwards bytes (asked_before client) tt)
   reads_in_tables (Opening l) bytes client s le within = tables_same s (to_client c (with_held (client.held ++ bytes)) s) refl refl refl
   reads_in_tables (Streaming l) bytes client s le within = tables_same s (to_client c (with_held (client.held ++ bytes)) s) refl refl refl
-  reads_in_tables Binding bytes client s le within = tables_same s s refl refl refl
-  reads_in_tables Tracking bytes client s le within = tables_same s s refl refl refl
-  reads_in_tables Closing bytes client s le within = tables_same s s refl refl refl
-  reads_in_tables Gone bytes client s le within = tables_same s s refl refl refl
+  reads_in_tables _ bytes client s le within = tables_same s s refl refl refl
 
   -- ---- bound
   bound_to_tables : (b : Bound) (s : State) → c ≤ came → StaysTables s (bound_to c b s)
@@ -139,12 +136,7 @@ module _ (came plugged c : ℕ) where
 
   bound_in_tables : (phase : Phase) (want : Option Want) (port : ℕ) (s : State) → c ≤ came → StaysTables s (bound_in phase want c port s)
   bound_in_tables Binding want port s le = bound_for_tables want port s le
-  bound_in_tables Asking want port s le = tables_same s s refl refl refl
-  bound_in_tables (Opening l) want port s le = tables_same s s refl refl refl
-  bound_in_tables (Streaming l) want port s le = tables_same s s refl refl refl
-  bound_in_tables Tracking want port s le = tables_same s s refl refl refl
-  bound_in_tables Closing want port s le = tables_same s s refl refl refl
-  bound_in_tables Gone want port s le = tables_same s s refl refl refl
+  bound_in_tables _ want port s le = tables_same s s refl refl refl
 
   pub bound_tables : (o : Option Client) (port : ℕ) (s : State) → c ≤ came → StaysTables s (bound_at o c port s)
   bound_tables None port s le = tables_same s s refl refl refl

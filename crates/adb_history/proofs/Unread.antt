@@ -12,7 +12,7 @@ use Rattle.adb_request.specs.declared.cutting.Found.{Found}
 use Rattle.adb_request.specs.declared.cutting.Found.TheVariants.{More, Malformed, Whole}
 use Rattle.adb_stream.specs.declared.row.Stream.{Stream}
 use Rattle.adb_client.specs.declared.phase.Phase.{Phase}
-use Rattle.adb_client.specs.declared.phase.Phase.TheVariants.{Asking, Opening, Streaming, Binding, Tracking, Closing, Gone}
+use Rattle.adb_client.specs.declared.phase.Phase.TheVariants.{Asking, Opening, Streaming, Binding, Tracking, Closing}
 use Rattle.adb_client.specs.declared.about.Want.{Want}
 use Rattle.adb_capture.specs.declared.entry.Entry.{Entry}
 use Rattle.adb_capture.specs.declared.entry.Entry.TheVariants.{Join, Enter, Read, End, Bound, Attach, Recv, Detach, Put, Send}
@@ -119,12 +119,7 @@ calm_hands clients c n x y is e asks = go x.about.phase refl e
 
     go : (phase : Phase) → x.about.phase ≡ phase → left_in phase (drop n x.due) x ≡ Some y → (x.about.phase ≡ Asking) × (y.held ≡ x.held)
     go Closing f g = absurd (closing_asks (drop n x.due) less y g asks)
-    go Asking f g = calm_same x y less g (refl, refl) asks
-    go (Opening l) f g = calm_same x y less g (refl, refl) asks
-    go (Streaming l) f g = calm_same x y less g (refl, refl) asks
-    go Binding f g = calm_same x y less g (refl, refl) asks
-    go Tracking f g = calm_same x y less g (refl, refl) asks
-    go Gone f g = calm_same x y less g (refl, refl) asks
+    go _ f g = calm_same x y less g (refl, refl) asks
 
 unread_closes : (e : ℕ → Type 0) (c : ℕ) (clients : Rows (Option Client)) → UnreadBut e clients → UnreadBut e (change_row c (option_and_then closing) clients)
 unread_closes e c clients h = unread_change e c closing clients (calm_closing clients c) h
@@ -139,16 +134,8 @@ loses_unread e forwarded (Streaming l) c s h = unread_closes e c s.clients h
 loses_unread e true (Opening l) c s h = unread_closes e c s.clients h
 loses_unread e false (Opening l) c s h =
     unread_closes e c (to_client c (with_due (failed (codes "closed")).bytes) s).clients (unread_due e c (failed (codes "closed")).bytes s.clients h)
-loses_unread e true Asking c s h = h
-loses_unread e false Asking c s h = h
-loses_unread e true Binding c s h = h
-loses_unread e false Binding c s h = h
-loses_unread e true Tracking c s h = h
-loses_unread e false Tracking c s h = h
-loses_unread e true Closing c s h = h
-loses_unread e false Closing c s h = h
-loses_unread e true Gone c s h = h
-loses_unread e false Gone c s h = h
+loses_unread e true _ c s h = h
+loses_unread e false _ c s h = h
 
 client_loses_unread : (e : ℕ → Type 0) (o : Option Client) (c : ℕ) (s : State) → UnreadBut e s.clients → UnreadBut e (client_loses o c s).state.clients
 client_loses_unread e None c s h = h
@@ -165,12 +152,7 @@ marks_unread e clients h = record { more = λ k y apart is asks. go k y apart (c
   where
     one : (phase : Phase) (x : Client) → ((marked_in phase x).about.phase ≡ x.about.phase) × ((marked_in phase x).held ≡ x.held)
     one Tracking x = (refl, refl)
-    one Asking x = (refl, refl)
-    one (Opening l) x = (refl, refl)
-    one (Streaming l) x = (refl, refl)
-    one Binding x = (refl, refl)
-    one Closing x = (refl, refl)
-    one Gone x = (refl, refl)
+    one _ x = (refl, refl)
 
     go : (k : ℕ) (y : Client) → (e k → ⊥) → (o : Option Client) → clients k ≡ o → option_map marked o ≡ Some y → y.about.phase ≡ Asking
         → request_at y.held ≡ More
@@ -300,17 +282,14 @@ module _ (c : ℕ) (s : State) (x : Client) (is : s.clients c ≡ Some x) where
 
   goes_on_not : (devices : DeviceTable) (next : Next) → IsAskedReady devices (Some next) → NotAsking c (goes_on (Some next) c s).state.clients
   goes_on_not devices (Select id) ready = absurd ready
-  goes_on_not devices Close ready = closes_not c s.clients x is
   goes_on_not devices (Track long) ready =
       other_not c s.clients x is (tracks long) (record x { about = record x.about { phase = Tracking; long = long; mark = false }; held = [] }) refl no_tracking
   goes_on_not devices (Open t service) ready = opens_not t service
   goes_on_not devices (Bind t local remote chosen) ready =
       let want : Want = record { transport = t; local = local; remote = remote } in
       other_not c s.clients x is (awaits want) (record x { about = record x.about { phase = Binding; want = Some want }; held = [] }) refl no_binding
-  goes_on_not devices (Rebind t local remote) ready = closes_not c s.clients x is
-  goes_on_not devices (Unbind local) ready = closes_not c s.clients x is
-  goes_on_not devices UnbindAll ready = closes_not c s.clients x is
   goes_on_not devices Stop ready = closes_not c (only_client c s.clients) x (rw (eq-eqb c c refl) is)
+  goes_on_not devices _ ready = closes_not c s.clients x is
 
 -- ---- read
 -- a client asked: each client that asks keeps no whole request then
@@ -370,10 +349,7 @@ reads_unread c bytes s h = go (s.clients c) refl
         (calm_held s.clients c (client.held ++ bytes) client is (subst HasOne (sym e) tt)) h
     in_phase_of client is (Streaming l) e = unread_change (λ _. ⊥) c (with_held (client.held ++ bytes)) s.clients
         (calm_held s.clients c (client.held ++ bytes) client is (subst HasOne (sym e) tt)) h
-    in_phase_of client is Binding e = h
-    in_phase_of client is Tracking e = h
-    in_phase_of client is Closing e = h
-    in_phase_of client is Gone e = h
+    in_phase_of client is _ e = h
 
     go : (o : Option Client) → s.clients c ≡ o → UnreadBut (λ _. ⊥) (reads_from o c bytes s).state.clients
     go None is = h

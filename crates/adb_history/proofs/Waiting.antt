@@ -8,7 +8,7 @@ use Rattle.adb_wire.specs.declared.packets.Packet.{Packet}
 use Rattle.adb_stream.specs.declared.row.Stream.{Stream}
 use Rattle.adb_stream.specs.declared.row.Part.{Part}
 use Rattle.adb_client.specs.declared.phase.Phase.{Phase}
-use Rattle.adb_client.specs.declared.phase.Phase.TheVariants.{Asking, Opening, Streaming, Binding, Tracking, Closing, Gone}
+use Rattle.adb_client.specs.declared.phase.Phase.TheVariants.{Asking, Opening, Streaming, Binding}
 use Rattle.adb_reply.specs.Strings.{failed}
 use Rattle.adb_history.specs.Rows.{Client, State, to_client, to_stream, none_kept, with_due, with_held, with_stream_part}
 use Rattle.adb_history.specs.Events.{Made, Ending, quietly, then_also, client_closed}
@@ -22,11 +22,7 @@ use Rattle.adb_history.specs.Flow.{up_client, up_stream, up, up_all}
 abbrev pub is_waiting : Phase → Bool
 is_waiting Asking = true
 is_waiting Binding = true
-is_waiting (Opening l) = false
-is_waiting (Streaming l) = false
-is_waiting Tracking = false
-is_waiting Closing = false
-is_waiting Gone = false
+is_waiting _ = false
 
 -- a client keeps its phase, or waits neither before nor afterwards
 abbrev pub PhaseStep : Phase → Phase → Type 0
@@ -189,11 +185,7 @@ leaves_loses : (forwarded : Bool) (phase : Phase) (c : ℕ) (s : State) → (is_
 leaves_loses forwarded (Streaming l) c s free = leaves_closes c s (free refl)
 leaves_loses true (Opening l) c s free = leaves_closes c s (free refl)
 leaves_loses false (Opening l) c s free = leaves_closes_with c (failed (codes "closed")).bytes s (free refl)
-leaves_loses forwarded Asking c s free = leaves_same s
-leaves_loses forwarded Binding c s free = leaves_same s
-leaves_loses forwarded Tracking c s free = leaves_same s
-leaves_loses forwarded Closing c s free = leaves_same s
-leaves_loses forwarded Gone c s free = leaves_same s
+leaves_loses forwarded _ c s free = leaves_same s
 
 leaves_client_loses : (o : Option Client) (c : ℕ) (s : State) → s.clients c ≡ o → Leaves s (client_loses o c s)
 leaves_client_loses None c s is = leaves_same s

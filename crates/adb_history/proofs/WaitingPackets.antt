@@ -20,7 +20,7 @@ use Rattle.adb_stream.specs.declared.flow.Flow.{Flow}
 use Rattle.adb_stream.specs.declared.flow.Flow.TheVariants.{One, Credit}
 use Rattle.adb_stream.specs.Flow.{first_credit, acknowledged, is_out_of_turn, accepted, to_hand, credit_back, handed_to}
 use Rattle.adb_client.specs.declared.phase.Phase.{Phase}
-use Rattle.adb_client.specs.declared.phase.Phase.TheVariants.{Asking, Opening, Streaming, Binding, Tracking, Closing, Gone}
+use Rattle.adb_client.specs.declared.phase.Phase.TheVariants.{Asking, Streaming, Closing}
 use Rattle.adb_history.specs.Rows.{Client, Link, State, to_client, to_link, to_stream, none_kept, in_phase, with_stream_part}
 use Rattle.adb_history.specs.Events.{Made, Ending, quietly, peer_closed, out_of_turn, lost, broken}
 use Rattle.adb_history.specs.Links.{close_packet, okay_packet, credit_packet, credit_word, owe_link, is_connected}
@@ -130,18 +130,11 @@ leaves_treat_open t Wrte p s free = leaves_at_stream t (s.streams p.arg1) (takes
     (λ stream is. leaves_takes_write p.arg1 p.arg0 p.payload stream s)
 leaves_treat_open t Clse p s free = leaves_at_stream t (s.streams p.arg1) (takes_close p.arg1 p.arg0) s
     (λ stream is. leaves_takes_close p.arg1 p.arg0 stream s)
-leaves_treat_open t Cnxn p s free = leaves_same s
-leaves_treat_open t Auth p s free = leaves_same s
-leaves_treat_open t Stls p s free = leaves_same s
+leaves_treat_open t _ p s free = leaves_same s
 
 wait_marked : (phase : Phase) (a : Client) → a.about.phase ≡ phase → WaitStep (Some a) (Some (marked_in phase a))
 wait_marked Asking a e = inr refl
-wait_marked (Opening l) a e = inr refl
-wait_marked (Streaming l) a e = inr refl
-wait_marked Binding a e = inr refl
-wait_marked Tracking a e = inr refl
-wait_marked Closing a e = inr refl
-wait_marked Gone a e = inr refl
+wait_marked _ a e = inr refl
 
 pub leaves_mark_all : (s : State) → Leaves s (quietly (mark_all s))
 leaves_mark_all s = record { clients = λ c. go (s.clients c); streams = λ l. stream_same (s.streams l) }
@@ -258,21 +251,11 @@ leaves_stream_left due l (Some stream) s = go (eqb left (to_hand stream.part.flo
 
 leaves_client_left : (phase : Phase) (due : ℕ) (s : State) → Leaves s (client_left phase due s)
 leaves_client_left (Streaming l) due s = leaves_stream_left due l (s.streams l) s
-leaves_client_left Asking due s = leaves_same s
-leaves_client_left (Opening l) due s = leaves_same s
-leaves_client_left Binding due s = leaves_same s
-leaves_client_left Tracking due s = leaves_same s
-leaves_client_left Closing due s = leaves_same s
-leaves_client_left Gone due s = leaves_same s
+leaves_client_left _ due s = leaves_same s
 
 wait_left : (phase : Phase) (n : ℕ) (a : Client) → a.about.phase ≡ phase → WaitStep (Some a) (left_in phase (drop n a.due) a)
-wait_left Asking n a e = inr refl
-wait_left (Opening l) n a e = inr refl
-wait_left (Streaming l) n a e = inr refl
-wait_left Binding n a e = inr refl
-wait_left Tracking n a e = inr refl
 wait_left Closing n a e = wait_closing (drop n a.due) (record a { due = drop n a.due }) (ap is_waiting e)
-wait_left Gone n a e = inr refl
+wait_left _ n a e = inr refl
 
 leaves_takes : (c n : ℕ) (o : Option Client) (s : State) → Leaves s (takes_of c n o s)
 leaves_takes c n None s = leaves_same s
