@@ -75,9 +75,7 @@ module _ (ids : List ℕ) (t : ℕ) where
     treat_open_passes Clse p named =
         at_stream_passes ids s h t p.arg1 (s.streams p.arg1) (takes_close p.arg1 p.arg0) refl
         (λ stream is of. close_passes ids s h p.arg1 p.arg0 stream)
-    treat_open_passes Cnxn p named = passes_same ids s
-    treat_open_passes Auth p named = passes_same ids s
-    treat_open_passes Stls p named = passes_same ids s
+    treat_open_passes _ p named = passes_same ids s
 
     if_connected_passes : (command : Command) (p : Packet) → IsNamed s command p.arg1
         → PassesWith ids (granted_by command p) s (cond (is_connected t s.devices) (treat_open t command p s) (quietly s)).state

@@ -8,7 +8,7 @@ use Rattle.adb_stream.specs.declared.row.Part.{Part}
 use Rattle.adb_stream.specs.declared.row.Stream.{Stream}
 use Rattle.adb_stream.specs.Flow.{has_credit}
 use Rattle.adb_client.specs.declared.phase.Phase.{Phase}
-use Rattle.adb_client.specs.declared.phase.Phase.TheVariants.{Asking, Opening, Streaming, Binding, Tracking, Closing, Gone}
+use Rattle.adb_client.specs.declared.phase.Phase.TheVariants.{Opening, Streaming, Tracking, Closing}
 use Rattle.adb_history.specs.Rows.{Client, State, none_kept, with_due, in_phase, with_stream_part}
 use Rattle.adb_history.specs.Clients.{closing_with, closing}
 use Rattle.adb_history.specs.Tracking.{marked_in, marked}
@@ -249,12 +249,7 @@ module _ (ids : List ℕ) where
   marked_was : (old : Client) (phase : Phase) → ClientWas (Some old) (marked_in phase old)
   marked_was old Tracking =
       record { old = old; is = refl; ended = refl; had = λ l is. record { has = is; held = refl }; open_before = λ l none is. is }
-  marked_was old Asking = client_same old
-  marked_was old (Opening l) = client_same old
-  marked_was old (Streaming l) = client_same old
-  marked_was old Binding = client_same old
-  marked_was old Closing = client_same old
-  marked_was old Gone = client_same old
+  marked_was old _ = client_same old
 
   pub marks_were : (x : Kept) → AllWere no_credit x (record x { clients = λ c. option_map marked (x.clients c) })
   marks_were x = record {

@@ -7,7 +7,7 @@ use Rattle.adb_outside.specs.Tables.{at}
 use Rattle.adb_outside.proofs.TableLaws.{puts_without}
 use Rattle.adb_outside.specs.declared.identity.Identity.{Identity}
 use Rattle.adb_outside.specs.declared.identity.State.{State as DeviceState}
-use Rattle.adb_outside.specs.declared.identity.State.TheVariants.{Offline, Unauthorized, Device, Bootloader, Recovery, Sideload, Rescue, Host}
+use Rattle.adb_outside.specs.declared.identity.State.TheVariants.{Offline}
 use Rattle.adb_banner.specs.Banner.{identity_of}
 use Rattle.adb_registry.specs.Row.{online_row, unauthorized_row}
 use Rattle.adb_registry.specs.Registry.{changed}
@@ -20,7 +20,7 @@ use Rattle.adb_stream.specs.declared.row.Part.{Part}
 use Rattle.adb_stream.specs.declared.row.Stream.{Stream}
 use Rattle.adb_stream.specs.Flow.{is_idle, first_credit, acknowledged, is_out_of_turn, accepted, has_credit}
 use Rattle.adb_client.specs.declared.phase.Phase.{Phase}
-use Rattle.adb_client.specs.declared.phase.Phase.TheVariants.{Asking, Opening, Streaming, Binding, Tracking, Closing, Gone}
+use Rattle.adb_client.specs.declared.phase.Phase.TheVariants.{Opening, Streaming}
 use Rattle.adb_reply.specs.Strings.{failed}
 use Rattle.adb_history.specs.Rows.{Client, State, to_stream, none_kept, with_due, with_stream_part}
 use Rattle.adb_history.specs.Events.{Made, Ending, quietly, lost, broken, out_of_turn, peer_closed}
@@ -145,16 +145,8 @@ module _ (ids : List ℕ) where
       let owed : State = (owe_client c (failed (codes "closed")).bytes s).state in
       all_then ids (kept_of s) (kept_of owed) (kept_of (closes c owed)) (owes_were ids c (failed (codes "closed")).bytes (kept_of s))
       (closes_were ids c (kept_of owed))
-  loses_were true Asking c s = all_same ids (kept_of s)
-  loses_were true Binding c s = all_same ids (kept_of s)
-  loses_were true Tracking c s = all_same ids (kept_of s)
-  loses_were true Closing c s = all_same ids (kept_of s)
-  loses_were true Gone c s = all_same ids (kept_of s)
-  loses_were false Asking c s = all_same ids (kept_of s)
-  loses_were false Binding c s = all_same ids (kept_of s)
-  loses_were false Tracking c s = all_same ids (kept_of s)
-  loses_were false Closing c s = all_same ids (kept_of s)
-  loses_were false Gone c s = all_same ids (kept_of s)
+  loses_were true _ c s = all_same ids (kept_of s)
+  loses_were false _ c s = all_same ids (kept_of s)
 
   client_loses_were : (o : Option Client) (c : ℕ) (s : State) → Were s (client_loses o c s).state
   client_loses_were None c s = all_same ids (kept_of s)
@@ -266,13 +258,7 @@ module _ (ids : List ℕ) where
       where
         go : (state : DeviceState) → row.state ≡ state → Passes s (unauthorized_from t state s)
         go Offline e = waiting_passes t row is e
-        go Unauthorized e = passes_same s
-        go Device e = passes_same s
-        go Bootloader e = passes_same s
-        go Recovery e = passes_same s
-        go Sideload e = passes_same s
-        go Rescue e = passes_same s
-        go Host e = passes_same s
+        go _ e = passes_same s
 
     -- ---- OPEN
     pub refuses_passes : (t id : ℕ) → Passes s (refuses_open t id s).state

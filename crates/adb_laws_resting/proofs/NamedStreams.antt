@@ -5,7 +5,7 @@ use Rattle.adb_registry.specs.declared.row.Row.{Row}
 use Rattle.adb_wire.specs.declared.packets.Packet.{Packet}
 use Rattle.adb_stream.specs.declared.row.Stream.{Stream}
 use Rattle.adb_client.specs.declared.phase.Phase.{Phase}
-use Rattle.adb_client.specs.declared.phase.Phase.TheVariants.{Asking, Opening, Streaming, Binding, Tracking, Closing, Gone}
+use Rattle.adb_client.specs.declared.phase.Phase.TheVariants.{Streaming}
 use Rattle.adb_history.specs.Rows.{Client, Link, State, to_link}
 use Rattle.adb_history.specs.Links.{maxdata_of}
 use Rattle.adb_history.specs.Flow.{payloads, is_over, is_streaming}
@@ -49,12 +49,7 @@ all_still h legal (suc l) = at_row ((state h).streams (suc l)) refl
 -- a client that has a stream open has it
 has_open : (l : ℕ) (phase : Phase) → is_streaming l phase ≡ true → is_for l phase ≡ true
 has_open l (Streaming k) is = is
-has_open l Asking is = absurd (let clash : false ≡ true = is in cc)
-has_open l (Opening k) is = absurd (let clash : false ≡ true = is in cc)
-has_open l Binding is = absurd (let clash : false ≡ true = is in cc)
-has_open l Tracking is = absurd (let clash : false ≡ true = is in cc)
-has_open l Closing is = absurd (let clash : false ≡ true = is in cc)
-has_open l Gone is = absurd (let clash : false ≡ true = is in cc)
+has_open l _ is = absurd (let clash : false ≡ true = is in cc)
 
 module _ (ids : List ℕ) (more : ℕ → ℕ) (s now : State) (h : PassesWith ids more s now) where
   same_maxdata : (l : ℕ) (stream : Stream) → now.streams l ≡ Some stream → maxdata_of stream.link now.devices ≡ maxdata_of stream.link s.devices

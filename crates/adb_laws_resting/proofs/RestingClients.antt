@@ -107,10 +107,7 @@ module _ (c : ℕ) (s : State) (unopened : has_open_stream (s.clients c) ≡ fal
   reads_in_calm Asking bytes client e = asks_calm (asks_with s.devices s.forwards bytes (asked_before client))
   reads_in_calm (Opening l) bytes client e = unopened_calm c (λ y. record y { held = client.held ++ bytes }) s (λ y. refl) unopened h
   reads_in_calm (Streaming l) bytes client e = absurd (let clash : true ≡ false = e in cc)
-  reads_in_calm Binding bytes client e = h
-  reads_in_calm Tracking bytes client e = h
-  reads_in_calm Closing bytes client e = h
-  reads_in_calm Gone bytes client e = h
+  reads_in_calm _ bytes client e = h
 
   pub reads_calm : (bytes : List ℕ) → AllCalm (reads_from (s.clients c) c bytes s).state
   reads_calm bytes = by_row (s.clients c) unopened
@@ -120,13 +117,11 @@ module _ (c : ℕ) (s : State) (unopened : has_open_stream (s.clients c) ≡ fal
       by_row (Some client) e = reads_in_calm client.about.phase bytes client e
 
   input_ends_calm : (phase : Phase) → is_open_phase phase ≡ false → AllCalm (input_ends phase c s)
-  input_ends_calm Asking e = closes_calm c s h
-  input_ends_calm Binding e = closes_calm c s h
-  input_ends_calm Tracking e = closes_calm c s h
   input_ends_calm (Opening l) e = unopened_calm c (λ y. record y { about = record y.about { ended = true } }) s (λ y. refl) unopened h
   input_ends_calm (Streaming l) e = absurd (let clash : true ≡ false = e in cc)
   input_ends_calm Closing e = h
   input_ends_calm Gone e = h
+  input_ends_calm _ e = closes_calm c s h
 
   pub eof_calm : AllCalm (client_ends c Eof (s.clients c) s).state
   eof_calm = by_row (s.clients c) unopened
@@ -143,12 +138,7 @@ bound_for_calm (Some want) c port s h =
 
 bound_in_calm : (phase : Phase) (want : Option Want) (c port : ℕ) (s : State) → AllCalm s → AllCalm (bound_in phase want c port s).state
 bound_in_calm Binding want c port s h = bound_for_calm want c port s h
-bound_in_calm Asking want c port s h = h
-bound_in_calm (Opening l) want c port s h = h
-bound_in_calm (Streaming l) want c port s h = h
-bound_in_calm Tracking want c port s h = h
-bound_in_calm Closing want c port s h = h
-bound_in_calm Gone want c port s h = h
+bound_in_calm _ want c port s h = h
 
 pub bound_calm : (o : Option Client) (c port : ℕ) (s : State) → AllCalm s → AllCalm (bound_at o c port s).state
 bound_calm None c port s h = h
@@ -181,11 +171,7 @@ stream_fails_calm (Opening l) cause s h = by_row (s.streams l) refl
     by_row : (o : Option Stream) → s.streams l ≡ o → AllCalm (stream_fails (Opening l) cause o s).state
     by_row None is = h
     by_row (Some stream) is = orphaned_calm l stream s is h
-stream_fails_calm Asking cause s h = h
-stream_fails_calm Binding cause s h = h
-stream_fails_calm Tracking cause s h = h
-stream_fails_calm Closing cause s h = h
-stream_fails_calm Gone cause s h = h
+stream_fails_calm _ cause s h = h
 
 client_fails_calm : (c : ℕ) (cause : Cause) (client : Client) (s : State) → AllCalm s → AllCalm (client_fails c cause client s).state
 client_fails_calm c cause client s h = stream_fails_calm client.about.phase cause (to_client c none_kept s) (dropped_calm c s h)

@@ -13,7 +13,7 @@ use Rattle.adb_wire.specs.declared.limits.TheConstants.{VERSION}
 use Rattle.adb_wire.specs.declared.headers.TheConstants.{MAX_PAYLOAD}
 use Rattle.adb_stream.specs.declared.row.Stream.{Stream}
 use Rattle.adb_capture.specs.declared.entry.Entry.{Entry}
-use Rattle.adb_capture.specs.declared.entry.Entry.TheVariants.{Join, Enter, Read, End, Bound, Attach, Recv, Detach, Put, Send}
+use Rattle.adb_capture.specs.declared.entry.Entry.TheVariants.{Enter, Read, Attach}
 use Rattle.adb_history.specs.Rows.{State, to_stream, none_kept}
 use Rattle.adb_history.specs.Events.{Event, Ending, lost}
 use Rattle.adb_history.specs.Links.{is_connected, maxdata_of}
@@ -108,17 +108,11 @@ sized_moves = record {
 
 -- ---- histories
 begins_sized : (e : Entry) (s : State) → AreSized s.devices → Begins sized_moves e s []
-begins_sized (Join c) s h = h
 begins_sized (Enter c port) s h = (h, h)
 begins_sized (Attach t kind serial) s h =
     All-put_at IsSized s.devices.rows (s.devices.drawn + 1) (new_row (s.devices.drawn + 1) kind serial) (omega arith) h
 begins_sized (Read c bytes) s h = (h, λ client is asking. h)
-begins_sized (End c cause) s h = h
-begins_sized (Bound c port) s h = h
-begins_sized (Recv t bytes) s h = h
-begins_sized (Detach t cause) s h = h
-begins_sized (Put c bytes) s h = h
-begins_sized (Send t bytes) s h = h
+begins_sized _ s h = h
 
 rows_sized : (h : History) → AreSized (state h).devices
 rows_sized [] = All-nil IsSized

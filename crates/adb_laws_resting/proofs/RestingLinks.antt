@@ -16,7 +16,7 @@ use Rattle.adb_wire.specs.declared.format.PacketFault.{PacketFault}
 use Rattle.adb_wire.specs.declared.format.PacketFormat.{PacketFormat}
 use Rattle.adb_stream.specs.declared.row.Stream.{Stream}
 use Rattle.adb_client.specs.declared.phase.Phase.{Phase}
-use Rattle.adb_client.specs.declared.phase.Phase.TheVariants.{Asking, Opening, Streaming, Binding, Tracking, Closing, Gone}
+use Rattle.adb_client.specs.declared.phase.Phase.TheVariants.{Opening, Streaming}
 use Rattle.adb_history.specs.Rows.{Client, Link, State, new_link, to_link, to_stream, none_kept}
 use Rattle.adb_history.specs.Events.{Ending, lost}
 use Rattle.adb_history.specs.Links.{maxdata_of}
@@ -37,16 +37,7 @@ loses_calm true (Streaming l) c s h = closes_calm c s h
 loses_calm false (Streaming l) c s h = closes_calm c s h
 loses_calm true (Opening l) c s h = closes_calm c s h
 loses_calm false (Opening l) c s h = closes_with_calm c (failed (codes "closed")).bytes s h
-loses_calm true Asking c s h = h
-loses_calm false Asking c s h = h
-loses_calm true Binding c s h = h
-loses_calm false Binding c s h = h
-loses_calm true Tracking c s h = h
-loses_calm false Tracking c s h = h
-loses_calm true Closing c s h = h
-loses_calm false Closing c s h = h
-loses_calm true Gone c s h = h
-loses_calm false Gone c s h = h
+loses_calm _ _ c s h = h
 
 client_loses_calm : (o : Option Client) (c : ℕ) (s : State) → AllCalm s → AllCalm (client_loses o c s).state
 client_loses_calm None c s h = h

@@ -11,7 +11,7 @@ use Rattle.adb_stream.specs.declared.flow.Flow.{Flow}
 use Rattle.adb_stream.specs.declared.flow.Flow.TheVariants.{One, Credit}
 use Rattle.adb_stream.specs.declared.row.Stream.{Stream}
 use Rattle.adb_client.specs.declared.phase.Phase.{Phase}
-use Rattle.adb_client.specs.declared.phase.Phase.TheVariants.{Asking, Opening, Streaming, Binding, Tracking, Closing, Gone}
+use Rattle.adb_client.specs.declared.phase.Phase.TheVariants.{Streaming, Tracking, Closing}
 use Rattle.adb_history.specs.Rows.{Client, State, new_client, to_client, to_stream, none_kept, with_due}
 use Rattle.adb_history.specs.Links.{maxdata_of}
 use Rattle.adb_history.specs.Clients.{closing, closing_with, closes}
@@ -121,12 +121,7 @@ due_calm c bytes s h = stays_calm c (λ y. record y { due = y.due ++ bytes }) s 
 -- a client that has no stream open, and stays where it is
 open_phase : (m : ℕ) (phase : Phase) → is_streaming m phase ≡ true → is_open_phase phase ≡ true
 open_phase m (Streaming l) is = refl
-open_phase m Asking is = absurd (let clash : false ≡ true = is in cc)
-open_phase m (Opening l) is = absurd (let clash : false ≡ true = is in cc)
-open_phase m Binding is = absurd (let clash : false ≡ true = is in cc)
-open_phase m Tracking is = absurd (let clash : false ≡ true = is in cc)
-open_phase m Closing is = absurd (let clash : false ≡ true = is in cc)
-open_phase m Gone is = absurd (let clash : false ≡ true = is in cc)
+open_phase m _ is = absurd (let clash : false ≡ true = is in cc)
 
 pub unopened_calm : (c : ℕ) (g : Client → Client) (s : State) → ((y : Client) → (g y).about.phase ≡ y.about.phase)
     → has_open_stream (s.clients c) ≡ false → AllCalm s → AllCalm (to_client c (λ y. Some (g y)) s)
@@ -171,12 +166,7 @@ comes_calm forwarded c s h m stream client there here streaming = by_row (before
 marked_same : (m : ℕ) (phase : Phase) (c : Client) → c.about.phase ≡ phase → is_streaming m (marked_in phase c).about.phase ≡ true
     → SendsSame m c (marked_in phase c)
 marked_same m Tracking c is streaming = record { streaming = streaming; held = refl; ended = refl }
-marked_same m Asking c is streaming = record { streaming = streaming; held = refl; ended = refl }
-marked_same m (Opening l) c is streaming = record { streaming = streaming; held = refl; ended = refl }
-marked_same m (Streaming l) c is streaming = record { streaming = streaming; held = refl; ended = refl }
-marked_same m Binding c is streaming = record { streaming = streaming; held = refl; ended = refl }
-marked_same m Closing c is streaming = record { streaming = streaming; held = refl; ended = refl }
-marked_same m Gone c is streaming = record { streaming = streaming; held = refl; ended = refl }
+marked_same m _ c is streaming = record { streaming = streaming; held = refl; ended = refl }
 
 pub marks_calm : (s : State) → AllCalm s → AllCalm (mark_all s)
 marks_calm s h m stream client there here streaming = by_row (s.clients stream.client) refl here

@@ -5,7 +5,7 @@ use Rattle.std.specs.Prelude.{option_and_then, option_map, codes}
 use Rattle.adb_outside.specs.Tables.{Rows, change_row}
 use Rattle.adb_stream.specs.declared.row.Stream.{Stream}
 use Rattle.adb_client.specs.declared.phase.Phase.{Phase}
-use Rattle.adb_client.specs.declared.phase.Phase.TheVariants.{Asking, Opening, Streaming, Binding, Tracking, Closing, Gone}
+use Rattle.adb_client.specs.declared.phase.Phase.TheVariants.{Asking, Opening, Streaming, Binding, Tracking, Closing}
 use Rattle.adb_client.specs.declared.about.Want.{Want}
 use Rattle.adb_capture.specs.declared.entry.Entry.{Entry}
 use Rattle.adb_capture.specs.declared.entry.Entry.TheVariants.{Join, Enter, Read, End, Bound, Attach, Recv, Detach, Put, Send}
@@ -91,12 +91,7 @@ hands_wants c n clients h = change_wants c (hands n) clients (λ old new is to w
   where
     by_phase : (old new : Client) (phase : Phase) → left_in phase (drop n old.due) old ≡ Some new → Wants old → Wants new
     by_phase old new Closing to wants = closing_with_wants (drop n old.due) (record old { due = drop n old.due }) new to
-    by_phase old new Asking to wants = made_wants (record old { due = drop n old.due }) new to wants
-    by_phase old new (Opening l) to wants = made_wants (record old { due = drop n old.due }) new to wants
-    by_phase old new (Streaming l) to wants = made_wants (record old { due = drop n old.due }) new to wants
-    by_phase old new Binding to wants = made_wants (record old { due = drop n old.due }) new to wants
-    by_phase old new Tracking to wants = made_wants (record old { due = drop n old.due }) new to wants
-    by_phase old new Gone to wants = made_wants (record old { due = drop n old.due }) new to wants
+    by_phase old new _ to wants = made_wants (record old { due = drop n old.due }) new to wants
 
 -- a client that wants nothing goes on to another phase
 module _ (c : ℕ) (clients : Rows (Option Client)) (client : Client) (is : clients c ≡ Some client) (none : client.about.want ≡ None)
@@ -114,12 +109,7 @@ marks_wants clients h k x is = by_row (clients k) refl is
   where
     kept : (phase : Phase) (old : Client) → Wants old → Wants (marked_in phase old)
     kept Tracking old wants = wants
-    kept Asking old wants = wants
-    kept (Opening l) old wants = wants
-    kept (Streaming l) old wants = wants
-    kept Binding old wants = wants
-    kept Closing old wants = wants
-    kept Gone old wants = wants
+    kept _ old wants = wants
 
     by_row : (o : Option Client) → clients k ≡ o → option_map marked o ≡ Some x → Wants x
     by_row None there e = absurd (let clash : None ≡ Some x = e in cc)
@@ -138,16 +128,8 @@ loses_wants forwarded (Streaming l) c s h = closes_wants c s.clients h
 loses_wants true (Opening l) c s h = closes_wants c s.clients h
 loses_wants false (Opening l) c s h =
     closes_wants c (to_client c (with_due (failed (codes "closed")).bytes) s).clients (due_wants c (failed (codes "closed")).bytes s.clients h)
-loses_wants true Asking c s h = h
-loses_wants false Asking c s h = h
-loses_wants true Binding c s h = h
-loses_wants false Binding c s h = h
-loses_wants true Tracking c s h = h
-loses_wants false Tracking c s h = h
-loses_wants true Closing c s h = h
-loses_wants false Closing c s h = h
-loses_wants true Gone c s h = h
-loses_wants false Gone c s h = h
+loses_wants true _ c s h = h
+loses_wants false _ c s h = h
 
 client_loses_wants : (o : Option Client) (c : ℕ) (s : State) → AllWant s.clients → AllWant (client_loses o c s).state.clients
 client_loses_wants None c s h = h

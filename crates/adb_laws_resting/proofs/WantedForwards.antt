@@ -14,9 +14,9 @@ use Rattle.adb_client.specs.declared.about.Want.{Want}
 use Rattle.adb_reply.specs.Strings.{failed}
 use Rattle.adb_reply.specs.Refusals.{no_transport}
 use Rattle.adb_reply.specs.declared.answer.Next.{Next}
-use Rattle.adb_reply.specs.declared.answer.Next.TheVariants.{Close, Select, Track, Open, Bind, Rebind, Unbind, UnbindAll, Stop}
+use Rattle.adb_reply.specs.declared.answer.Next.TheVariants.{Bind, Rebind, Unbind, UnbindAll, Stop}
 use Rattle.adb_capture.specs.declared.entry.Entry.{Entry}
-use Rattle.adb_capture.specs.declared.entry.Entry.TheVariants.{Join, Enter, Read, End, Bound, Attach, Recv, Detach, Put, Send}
+use Rattle.adb_capture.specs.declared.entry.Entry.TheVariants.{Read, End, Bound, Recv, Detach}
 use Rattle.adb_history.specs.Asking.{Asked}
 use Rattle.adb_history.specs.Forwarding.{Binding, forwards_with, put_forward, told_port, is_unbound, bound_by}
 use Rattle.adb_history.specs.Book.{Book, devices_if, newly, forwards_by, led_by, wanted_by, asked_with, is_asking, bound_turn, turn, book}
@@ -38,16 +38,11 @@ module _ (devices : DeviceTable) (forwards : List (ℕ × ForwardRow)) (all : Ar
       by_row (Some row) = All-put_at IsForward forwards local (forward_row local transport row.serial remote) can all
 
   next_forwards : (next : Option Next) → IsSoundNext forwards next → AreForwards (forwards_by next devices forwards)
-  next_forwards None can = all
-  next_forwards (Some Close) can = all
-  next_forwards (Some (Select id)) can = all
-  next_forwards (Some (Track long)) can = all
-  next_forwards (Some (Open transport service)) can = all
-  next_forwards (Some (Bind transport local remote chosen)) can = all
   next_forwards (Some (Rebind transport local remote)) can = put_forwards local transport remote can.specification
   next_forwards (Some (Unbind local)) can = All-without IsForward local forwards all
   next_forwards (Some UnbindAll) can = All-nil IsForward
   next_forwards (Some Stop) can = All-nil IsForward
+  next_forwards _ can = all
 
   -- a listener stands at a port that is not 0
   bound_forwards : (want : Want) (port : ℕ) → IsRemote want.remote → AreForwards (bound_by want port devices forwards).forwards
@@ -65,26 +60,16 @@ module _ (devices : DeviceTable) (forwards : List (ℕ × ForwardRow)) (all : Ar
           → AreForwards (cond unbound (record { reply = (failed (codes "cannot bind listener")).bytes; forwards = forwards })
           (cond gone (record { reply = (failed no_transport).bytes; forwards = forwards })
           (cond full (record { reply = (failed (codes "too many forwards")).bytes; forwards = forwards }) bound))).forwards
-      by_port true e gone full = all
-      by_port false e true full = all
-      by_port false e false true = all
       by_port false e false false =
           let some = stands port (not (want.local == 0) && not (want.local == port)) (is_some (at port forwards)) e in
           put_forwards port want.transport want.remote (specified port want.remote some remote)
+      by_port _ e _ _ = all
 
 -- ---- what a client waits for
 wanted_next : (forwards : List (ℕ × ForwardRow)) (next : Option Next) (waits : Option Want) → IsSoundNext forwards next → IsWanted waits
     → IsWanted (wanted_by next waits)
-wanted_next forwards None waits can h = h
-wanted_next forwards (Some Close) waits can h = h
-wanted_next forwards (Some (Select id)) waits can h = h
-wanted_next forwards (Some (Track long)) waits can h = h
-wanted_next forwards (Some (Open transport service)) waits can h = h
 wanted_next forwards (Some (Bind transport local remote chosen)) waits can h = can
-wanted_next forwards (Some (Rebind transport local remote)) waits can h = h
-wanted_next forwards (Some (Unbind local)) waits can h = h
-wanted_next forwards (Some UnbindAll) waits can h = h
-wanted_next forwards (Some Stop) waits can h = h
+wanted_next forwards _ waits can h = h
 
 -- what follows a request that is whole only now
 newly_sound : (forwards : List (ℕ × ForwardRow)) (before after : Option Next) → (before ≡ None → IsSoundNext forwards after)
@@ -145,11 +130,7 @@ module _ (older : History) (b : Book) (h : IsSoundBook b) where
   turn_sound (End c cause) = record { forwards = h.forwards; waits = put_wanted c None b.waits tt h.waits }
   turn_sound (Recv t bytes) = led_sound (devices_if b.killed (Recv t bytes ∷ older))
   turn_sound (Detach t cause) = led_sound (devices_if b.killed (Detach t cause ∷ older))
-  turn_sound (Join c) = h
-  turn_sound (Enter c port) = h
-  turn_sound (Attach t kind serial) = h
-  turn_sound (Put c bytes) = h
-  turn_sound (Send t bytes) = h
+  turn_sound _ = h
 
 -- In every history each forward, and each that a client waits for, is one that can be.
 pub book_sound : (h : History) → IsSoundBook (book h)

@@ -16,7 +16,7 @@ use Rattle.adb_request.specs.declared.cutting.Found.{Found}
 use Rattle.adb_request.specs.declared.cutting.Found.TheVariants.{More, Malformed, Whole}
 use Rattle.adb_reply.specs.Answer.{answer}
 use Rattle.adb_reply.specs.declared.answer.Next.{Next}
-use Rattle.adb_reply.specs.declared.answer.Next.TheVariants.{Close, Select, Track, Open, Bind, Rebind, Unbind, UnbindAll, Stop}
+use Rattle.adb_reply.specs.declared.answer.Next.TheVariants.{Select}
 use Rattle.adb_history.specs.Asking.{Asked, replied, after_next, after_found, reads_on, asks_with}
 use Rattle.adb_laws_resting.specs.Wanted.{IsService, CanFollow, IsSoundNext, AreForwards}
 use Rattle.adb_laws_resting.proofs.WantedRequests.{meaning_sound}
@@ -74,11 +74,8 @@ behind_short (Some (suc n)) have h = by_test (nat_lt have (suc n))
     by_test false = h
 
 request_short : (bytes : List ℕ) → IsShortFound (request_at bytes)
-request_short [] = tt
-request_short (a ∷ []) = tt
-request_short (a ∷ b ∷ []) = tt
-request_short (a ∷ b ∷ c ∷ []) = tt
 request_short (a ∷ b ∷ c ∷ d ∷ rest) = behind_short (hex_value a b c d) (length rest) (value_below a b c d)
+request_short _ = tt
 
 text_short : (len : ℕ) (bytes : List ℕ) → len < 2 ^ 16 → IsService (take len bytes)
 text_short len bytes short = omega (arith, length-take len bytes, short)
@@ -91,14 +88,7 @@ module _ (forwards : List (ℕ × ForwardRow)) (others : Asked → Asked) (later
     (h : IsSoundNext forwards q.next) where
   next_sound : (next : Next) (reply : List ℕ) (size : ℕ) → CanFollow forwards next → IsSoundNext forwards (after_next next reply size others q).next
   next_sound (Select id) reply size can = later (record (replied reply size q) { selected = Some id }) h
-  next_sound Close reply size can = can
-  next_sound (Track long) reply size can = can
-  next_sound (Open transport service) reply size can = can
-  next_sound (Bind transport local remote chosen) reply size can = can
-  next_sound (Rebind transport local remote) reply size can = can
-  next_sound (Unbind local) reply size can = can
-  next_sound UnbindAll reply size can = can
-  next_sound Stop reply size can = can
+  next_sound _ reply size can = can
 
 module _ (devices : DeviceTable) (forwards : List (ℕ × ForwardRow)) (none : at 0 forwards ≡ None) where
   found_sound : (others : Asked → Asked) → KeepsSound forwards others → (found : Found) → IsShortFound found

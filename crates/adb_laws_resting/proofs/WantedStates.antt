@@ -4,7 +4,7 @@ use Rattle.adb_registry.specs.Registry.{DeviceTable}
 use Rattle.adb_forward.specs.Forwards.{IsForwardTable}
 use Rattle.adb_forward.specs.declared.row.ForwardRow.{ForwardRow}
 use Rattle.adb_client.specs.declared.phase.Phase.{Phase}
-use Rattle.adb_client.specs.declared.phase.Phase.TheVariants.{Asking, Opening, Streaming, Binding, Tracking, Closing, Gone}
+use Rattle.adb_client.specs.declared.phase.Phase.TheVariants.{Binding}
 use Rattle.adb_history.specs.Rows.{Client}
 use Rattle.adb_history.specs.Asking.{asks_with}
 use Rattle.adb_history.specs.Reading.{asked_before}
@@ -30,12 +30,7 @@ module _ (h : History) (legal : IsLegal h) where
     where
       by_phase : (phase : Phase) → client.about.phase ≡ phase → WantsIn phase client.about.want → IsWanted client.about.want
       by_phase Binding binding none = subst IsWanted (sym ((all_books h legal).waits c client is binding)) ((book_sound h).waits c)
-      by_phase Asking e none = subst IsWanted (sym none) tt
-      by_phase (Opening l) e none = subst IsWanted (sym none) tt
-      by_phase (Streaming l) e none = subst IsWanted (sym none) tt
-      by_phase Tracking e none = subst IsWanted (sym none) tt
-      by_phase Closing e none = subst IsWanted (sym none) tt
-      by_phase Gone e none = subst IsWanted (sym none) tt
+      by_phase _ e none = subst IsWanted (sym none) tt
 
   -- What clients wait for, and what they may ask next, can be done.
   pub can_be_done : CanBeDone (state h)
