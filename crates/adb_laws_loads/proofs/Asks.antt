@@ -58,15 +58,8 @@ record IsChosen (link : ℕ) : Type 0 where
   there : at link all_online.rows ≡ Some (device_row link)
 
 each_chosen : (link : ℕ) → link < 8 → IsChosen (link + 1)
-each_chosen zero small = record { chosen = refl; there = refl }
-each_chosen (suc zero) small = record { chosen = refl; there = refl }
-each_chosen (suc (suc zero)) small = record { chosen = refl; there = refl }
-each_chosen (suc (suc (suc zero))) small = record { chosen = refl; there = refl }
-each_chosen (suc (suc (suc (suc zero)))) small = record { chosen = refl; there = refl }
-each_chosen (suc (suc (suc (suc (suc zero))))) small = record { chosen = refl; there = refl }
-each_chosen (suc (suc (suc (suc (suc (suc zero)))))) small = record { chosen = refl; there = refl }
-each_chosen (suc (suc (suc (suc (suc (suc (suc zero))))))) small = record { chosen = refl; there = refl }
 each_chosen (suc (suc (suc (suc (suc (suc (suc (suc link)))))))) small = absurd (omega (arith, small))
+each_chosen _ small = record { chosen = refl; there = refl }
 
 -- What a client asked that selected a device and asked for its service: it was answered once, and its stream is to be opened.
 abbrev pub asks_on : ℕ → Asked

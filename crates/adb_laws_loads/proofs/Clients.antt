@@ -7,8 +7,8 @@ use Rattle.adb_history.specs.Asking.{nothing_asked, asks_with}
 use Rattle.adb_history.specs.Machine.{History}
 use Rattle.adb_history.specs.Book.{devices_if}
 use Rattle.adb_load.specs.declared.act.Act.{Act}
-use Rattle.adb_load.specs.declared.act.Act.TheVariants.{Plug, Greet, Come, Ask, Accept, Write, Acknowledge, Answer, Leave, Close}
-use Rattle.adb_load.specs.declared.act.Piece.TheVariants.{Whole, Head, Tail}
+use Rattle.adb_load.specs.declared.act.Act.TheVariants.{Plug, Come, Write, Answer, Leave, Close}
+use Rattle.adb_load.specs.declared.act.Piece.TheVariants.{Whole, Head}
 use Rattle.adb_load.specs.declared.live.Live.{Live}
 use Rattle.adb_load.specs.Acts.{client_of, link_of, asked_of, up_bytes, entry_of, acts_from, acts_due}
 use Rattle.adb_load.specs.Streams.{is_set, moved}
@@ -45,20 +45,15 @@ IsOn n _ = ⊥
 act_births : (n plugged : ℕ) (a : Act) (h : History) → Stands n plugged h → HasBirths n h → IsOn n a → HasBirths n (past_of (acts_from a) ++ h)
 act_births n plugged (Plug link) h at has on =
     recvs n link _ _ (births_stay n (entry_of (Plug link)) h (record { births = refl; asked = λ c. refl }) has)
-act_births n plugged (Greet link) h at has on = absurd on
-act_births n plugged (Come stream) h at has on = absurd on
-act_births n plugged (Ask stream) h at has on = absurd on
-act_births n plugged (Accept stream) h at has on = absurd on
 act_births n plugged (Write stream from count) h at has on =
     let over = at.over (client_of stream) (omega arith) (omega (arith, on)) in
     recvs n (link_of stream) _ _ (births_stay n (entry_of (Write stream from count)) h
     (read_nothing n plugged (client_of stream) (up_bytes stream from count) h at over) has)
-act_births n plugged (Acknowledge stream) h at has on = absurd on
 act_births n plugged (Answer stream from count Whole) h at has on = recvs n (link_of stream) _ h has
 act_births n plugged (Answer stream from count Head) h at has on = recvs n (link_of stream) _ _ (recvs n (link_of stream) _ h has)
-act_births n plugged (Answer stream from count Tail) h at has on = absurd on
 act_births n plugged (Leave stream) h at has on = births_stay n (entry_of (Leave stream)) h (record { births = refl; asked = λ c. refl }) has
 act_births n plugged (Close stream) h at has on = recvs n (link_of stream) _ h has
+act_births n plugged _ h at has on = absurd on
 
 -- ---- turn by turn
 -- How far a load is, what stands of it, and the streams of its clients so far.

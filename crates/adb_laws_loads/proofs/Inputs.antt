@@ -34,39 +34,15 @@ use Rattle.adb_load.specs.Load.{entries_of}
 -- ---- what each entry adds
 joined_on : (c : ℕ) (e : Entry) (h g : History) → has_joined c h ≡ has_joined c g → has_joined c (e ∷ h) ≡ has_joined c (e ∷ g)
 joined_on c (Join n) h g is = ap (λ (b : Bool). eqb n c || b) is
-joined_on c (Enter n port) h g is = is
-joined_on c (Read n bytes) h g is = is
-joined_on c (End n cause) h g is = is
-joined_on c (Bound n port) h g is = is
-joined_on c (Attach n kind serial) h g is = is
-joined_on c (Recv n bytes) h g is = is
-joined_on c (Detach n cause) h g is = is
-joined_on c (Put n bytes) h g is = is
-joined_on c (Send n bytes) h g is = is
+joined_on c _ h g is = is
 
 ended_on : (c : ℕ) (e : Entry) (h g : History) → has_ended c h ≡ has_ended c g → has_ended c (e ∷ h) ≡ has_ended c (e ∷ g)
-ended_on c (Join n) h g is = is
-ended_on c (Enter n port) h g is = is
-ended_on c (Read n bytes) h g is = is
 ended_on c (End n cause) h g is = ap (λ (b : Bool). eqb n c || b) is
-ended_on c (Bound n port) h g is = is
-ended_on c (Attach n kind serial) h g is = is
-ended_on c (Recv n bytes) h g is = is
-ended_on c (Detach n cause) h g is = is
-ended_on c (Put n bytes) h g is = is
-ended_on c (Send n bytes) h g is = is
+ended_on c _ h g is = is
 
 lost_on : (t : ℕ) (e : Entry) (h g : History) → is_lost t h ≡ is_lost t g → is_lost t (e ∷ h) ≡ is_lost t (e ∷ g)
-lost_on t (Join n) h g is = is
-lost_on t (Enter n port) h g is = is
-lost_on t (Read n bytes) h g is = is
-lost_on t (End n cause) h g is = is
-lost_on t (Bound n port) h g is = is
-lost_on t (Attach n kind serial) h g is = is
-lost_on t (Recv n bytes) h g is = is
 lost_on t (Detach n cause) h g is = ap (λ (b : Bool). eqb n t || b) is
-lost_on t (Put n bytes) h g is = is
-lost_on t (Send n bytes) h g is = is
+lost_on t _ h g is = is
 
 -- the bytes with a piece more, unless they are over
 abbrev more_if : Bool → Bool → List ℕ → List ℕ → List ℕ
@@ -74,66 +50,27 @@ more_if own over bytes so_far = cond (own && not over) (so_far ++ bytes) so_far
 
 received_on : (t : ℕ) (e : Entry) (h g : History) → is_lost t h ≡ is_lost t g → bytes_received t h ≡ bytes_received t g
     → bytes_received t (e ∷ h) ≡ bytes_received t (e ∷ g)
-received_on t (Join n) h g lost is = is
-received_on t (Enter n port) h g lost is = is
-received_on t (Read n bytes) h g lost is = is
-received_on t (End n cause) h g lost is = is
-received_on t (Bound n port) h g lost is = is
-received_on t (Attach n kind serial) h g lost is = is
 received_on t (Recv n bytes) h g lost is =
     ap (λ (b : Bool). more_if (eqb n t) b bytes (bytes_received t h)) lost ∙ ap (more_if (eqb n t) (is_lost t g) bytes) is
-received_on t (Detach n cause) h g lost is = is
-received_on t (Put n bytes) h g lost is = is
-received_on t (Send n bytes) h g lost is = is
+received_on t _ h g lost is = is
 
 asked_on : (c : ℕ) (e : Entry) (h g : History) → has_ended c h ≡ has_ended c g → bytes_asked c h ≡ bytes_asked c g
     → bytes_asked c (e ∷ h) ≡ bytes_asked c (e ∷ g)
-asked_on c (Join n) h g ended is = is
-asked_on c (Enter n port) h g ended is = is
 asked_on c (Read n bytes) h g ended is = ap (λ (b : Bool). more_if (eqb n c) b bytes (bytes_asked c h)) ended ∙ ap (more_if (eqb n c) (has_ended c g) bytes) is
-asked_on c (End n cause) h g ended is = is
-asked_on c (Bound n port) h g ended is = is
-asked_on c (Attach n kind serial) h g ended is = is
-asked_on c (Recv n bytes) h g ended is = is
-asked_on c (Detach n cause) h g ended is = is
-asked_on c (Put n bytes) h g ended is = is
-asked_on c (Send n bytes) h g ended is = is
+asked_on c _ h g ended is = is
 
 plugged_on : (t : ℕ) (e : Entry) (h g : History) → plugged t h ≡ plugged t g → plugged t (e ∷ h) ≡ plugged t (e ∷ g)
-plugged_on t (Join n) h g is = is
-plugged_on t (Enter n port) h g is = is
-plugged_on t (Read n bytes) h g is = is
-plugged_on t (End n cause) h g is = is
-plugged_on t (Bound n port) h g is = is
 plugged_on t (Attach n kind serial) h g is = ap (λ (o : Option Row). cond (eqb n t) (Some (new_row t kind serial)) o) is
-plugged_on t (Recv n bytes) h g is = is
-plugged_on t (Detach n cause) h g is = is
-plugged_on t (Put n bytes) h g is = is
-plugged_on t (Send n bytes) h g is = is
+plugged_on t _ h g is = is
 
 plugged_count_on : (e : Entry) (h g : History) → plugged_count h ≡ plugged_count g → plugged_count (e ∷ h) ≡ plugged_count (e ∷ g)
-plugged_count_on (Join n) h g is = is
-plugged_count_on (Enter n port) h g is = is
-plugged_count_on (Read n bytes) h g is = is
-plugged_count_on (End n cause) h g is = is
-plugged_count_on (Bound n port) h g is = is
 plugged_count_on (Attach n kind serial) h g is = ap (λ k. k + 1) is
-plugged_count_on (Recv n bytes) h g is = is
-plugged_count_on (Detach n cause) h g is = is
-plugged_count_on (Put n bytes) h g is = is
-plugged_count_on (Send n bytes) h g is = is
+plugged_count_on _ h g is = is
 
 came_count_on : (e : Entry) (h g : History) → came_count h ≡ came_count g → came_count (e ∷ h) ≡ came_count (e ∷ g)
 came_count_on (Join n) h g is = ap (λ k. k + 1) is
 came_count_on (Enter n port) h g is = ap (λ k. k + 1) is
-came_count_on (Read n bytes) h g is = is
-came_count_on (End n cause) h g is = is
-came_count_on (Bound n port) h g is = is
-came_count_on (Attach n kind serial) h g is = is
-came_count_on (Recv n bytes) h g is = is
-came_count_on (Detach n cause) h g is = is
-came_count_on (Put n bytes) h g is = is
-came_count_on (Send n bytes) h g is = is
+came_count_on _ h g is = is
 
 -- ---- the same said
 -- Two histories say the same of who came, and of what clients and links brought.
@@ -200,8 +137,6 @@ read_of c bytes table came over b =
     reads_turn c table (asked_with ((came && not over) && still_asks (b.asked c)) table b.forwards bytes (b.asked c)) b
 
 book_on : (e : Entry) (h g : History) → SameBrought h g → book h ≡ book g → book (e ∷ h) ≡ book (e ∷ g)
-book_on (Join c) h g same is = is
-book_on (Enter c port) h g same is = is
 book_on (Read c bytes) h g same is =
     ap (λ table. read_of c bytes table (has_joined c h) (has_ended c h) (book h)) (book_devices h g same is)
     ∙ (ap (λ came. read_of c bytes (devices g) came (has_ended c h) (book h)) (same.joined c)
@@ -211,7 +146,6 @@ book_on (End c cause) h g same is = ap (λ (b : Book). record b { waits = put_ro
 book_on (Bound c port) h g same is =
     ap (λ table. bound_turn c port table ((book h).waits c) (book h)) (book_devices h g same is)
     ∙ ap (λ (b : Book). bound_turn c port (devices g) (b.waits c) b) is
-book_on (Attach t kind serial) h g same is = is
 book_on (Recv t bytes) h g same is =
     ap (λ (b : Book). record b { forwards = led_by (devices_if b.killed (Recv t bytes ∷ h)) b.forwards }) is
     ∙ ap (λ table. record (book g) { forwards = led_by table (book g).forwards })
@@ -220,8 +154,7 @@ book_on (Detach t cause) h g same is =
     ap (λ (b : Book). record b { forwards = led_by (devices_if b.killed (Detach t cause ∷ h)) b.forwards }) is
     ∙ ap (λ table. record (book g) { forwards = led_by table (book g).forwards })
     (same_devices_if (Detach t cause ∷ h) (Detach t cause ∷ g) (brings_on (Detach t cause) h g same) (book g).killed)
-book_on (Put c bytes) h g same is = is
-book_on (Send t bytes) h g same is = is
+book_on _ h g same is = is
 
 -- ---- births
 -- a birth over these devices, after so many packets
@@ -244,16 +177,8 @@ same_born client link head forwarded service h g same =
     ∙ ap (λ packets. born_over client link head forwarded service (devices g) (length packets)) (same_packets h g same.brings link)
 
 birth_by_on : (c head : ℕ) (next : Option Next) (h g : History) → SameCame h g → birth_by c head h next ≡ birth_by c head g next
-birth_by_on c head None h g same = refl
-birth_by_on c head (Some what.Close) h g same = refl
-birth_by_on c head (Some (what.Select id)) h g same = refl
-birth_by_on c head (Some (what.Track long)) h g same = refl
 birth_by_on c head (Some (what.Open transport service)) h g same = ap (λ b. b ∷ []) (same_born c transport head false service h g same)
-birth_by_on c head (Some (what.Bind transport local remote chosen)) h g same = refl
-birth_by_on c head (Some (what.Rebind transport local remote)) h g same = refl
-birth_by_on c head (Some (what.Unbind local)) h g same = refl
-birth_by_on c head (Some what.UnbindAll) h g same = refl
-birth_by_on c head (Some what.Stop) h g same = refl
+birth_by_on c head _ h g same = refl
 
 birth_through_on : (c : ℕ) (row : Option ForwardRow) (h g : History) → SameCame h g → birth_through c h row ≡ birth_through c g row
 birth_through_on c None h g same = refl
@@ -263,20 +188,13 @@ birth_through_on c (Some row) h g same =
     ∙ ap (λ b. cond (is_connected row.transport (devices g)) (b ∷ []) []) (same_born c row.transport 0 true row.remote h g same)
 
 births_at_on : (e : Entry) (h g : History) → SameCame h g → births_at e h ≡ births_at e g
-births_at_on (Join c) h g same = refl
 births_at_on (Enter c port) h g same =
     ap (λ (b : Book). birth_through c h (at port b.forwards)) same.book ∙ birth_through_on c (at port (forwards g)) h g same
 births_at_on (Read c bytes) h g same =
     ap (λ (b : Book). birth_by c (b.asked c).used h (newly (asked c h).next (b.asked c).next)) (book_on (Read c bytes) h g same.brings same.book)
     ∙ (ap (λ (b : Book). birth_by c (asked c (Read c bytes ∷ g)).used h (newly (b.asked c).next (asked c (Read c bytes ∷ g)).next)) same.book
     ∙ birth_by_on c (asked c (Read c bytes ∷ g)).used (newly (asked c g).next (asked c (Read c bytes ∷ g)).next) h g same)
-births_at_on (End c cause) h g same = refl
-births_at_on (Bound c port) h g same = refl
-births_at_on (Attach t kind serial) h g same = refl
-births_at_on (Recv t bytes) h g same = refl
-births_at_on (Detach t cause) h g same = refl
-births_at_on (Put c bytes) h g same = refl
-births_at_on (Send t bytes) h g same = refl
+births_at_on _ h g same = refl
 
 -- ---- entries that come, and hand-outs
 pub same_refl : (h : History) → SameCame h h
@@ -371,14 +289,7 @@ same_out (Send t bytes) out h g same = record { brings = brought_out; book = sam
       came_count = same.brings.came_count;
       bytes_asked = same.brings.bytes_asked;
     }
-same_out (Join c) out h g same = absurd out
-same_out (Enter c port) out h g same = absurd out
-same_out (Read c bytes) out h g same = absurd out
-same_out (End c cause) out h g same = absurd out
-same_out (Bound c port) out h g same = absurd out
-same_out (Attach t kind serial) out h g same = absurd out
-same_out (Recv t bytes) out h g same = absurd out
-same_out (Detach t cause) out h g same = absurd out
+same_out _ out h g same = absurd out
 
 pub drain_same : (k : ℕ) (h g : History) → SameCame h g → SameCame (drain k h) g
 drain_same zero h g same = same

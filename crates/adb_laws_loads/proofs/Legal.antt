@@ -205,16 +205,9 @@ in_range g (Send t bytes) wants are few = absurd wants
 
 -- none has a port
 pub has_port : (g : History) (e : Entry) → Wants g e → HasPort e
-has_port g (Join c) wants = tt
-has_port g (Read c bytes) wants = tt
-has_port g (End c cause) wants = tt
-has_port g (Attach t kind serial) wants = tt
-has_port g (Recv t bytes) wants = tt
-has_port g (Detach t cause) wants = tt
-has_port g (Put c bytes) wants = tt
-has_port g (Send t bytes) wants = tt
 has_port g (Enter c port) wants = absurd wants
 has_port g (Bound c port) wants = absurd wants
+has_port g _ wants = tt
 
 fine_on : (h g : History) (e : Entry) → SameCame h g → IsFine h → MayCome g e → IsFew (e ∷ g) → IsFine (e ∷ h)
 fine_on h g e same fine may few = record {
@@ -226,14 +219,8 @@ fine_on h g e same fine may few = record {
 few_before : (e : Entry) (g : History) → IsFew (e ∷ g) → IsFew g
 few_before (Join c) g few = record { clients = omega (arith, few.clients); links = few.links }
 few_before (Enter c port) g few = record { clients = omega (arith, few.clients); links = few.links }
-few_before (Read c bytes) g few = record { clients = few.clients; links = few.links }
-few_before (End c cause) g few = record { clients = few.clients; links = few.links }
-few_before (Bound c port) g few = record { clients = few.clients; links = few.links }
 few_before (Attach t kind serial) g few = record { clients = few.clients; links = omega (arith, few.links) }
-few_before (Recv t bytes) g few = record { clients = few.clients; links = few.links }
-few_before (Detach t cause) g few = record { clients = few.clients; links = few.links }
-few_before (Put c bytes) g few = record { clients = few.clients; links = few.links }
-few_before (Send t bytes) g few = record { clients = few.clients; links = few.links }
+few_before _ g few = record { clients = few.clients; links = few.links }
 
 pub few_first : (inputs : List Entry) (g : History) → IsFew (came_onto inputs g) → IsFew g
 few_first [] g few = few

@@ -263,7 +263,6 @@ module _ (t : ℕ) (done : List Act) (has : BringsOn t done) where
 
   pub turn_brings : (a : Act) → IsTurn a → BringsOn t (done ++ acts_from a)
   turn_brings (Plug link) is = two (Plug link) (Greet link) tt tt tt tt
-  turn_brings (Greet link) is = absurd is
   turn_brings (Come stream) is =
       turned (Come stream ∷ Ask stream ∷ Accept stream ∷ []) (((packets_on t done ++ []) ++ []) ++ packets_by t (Accept stream))
       (act_brings t _ (entry_of (Ask stream) ∷ entry_of (Come stream) ∷ before) (Accept stream)
@@ -272,16 +271,13 @@ module _ (t : ℕ) (done : List Act) (has : BringsOn t done) where
       (ap (λ (ps : List Packet). (ps ++ []) ++ packets_by t (Accept stream)) (append-nil (packets_on t done))
       ∙ (ap (λ (ps : List Packet). ps ++ packets_by t (Accept stream)) (append-nil (packets_on t done))
       ∙ ap (λ (ps : List Packet). packets_on t done ++ ps) (sym (append-nil (packets_by t (Accept stream))))))
-  turn_brings (Ask stream) is = absurd is
-  turn_brings (Accept stream) is = absurd is
   turn_brings (Write stream from count) is = two (Write stream from count) (Acknowledge stream) tt tt tt is
-  turn_brings (Acknowledge stream) is = absurd is
   turn_brings (Answer stream from count Whole) is = one (Answer stream from count Whole) tt is
   turn_brings (Answer stream from count Head) is =
       let acts = Answer stream from count Head ∷ Answer stream from count Tail ∷ [] in
       turned acts (packets_on t done ++ packets_by t (Answer stream from count Tail))
       (pieces_bring t (packets_on t done) before stream from count has is.0 is.1)
       (ap (λ (ps : List Packet). packets_on t done ++ ps) (sym (append-nil (packets_by t (Answer stream from count Tail)))))
-  turn_brings (Answer stream from count Tail) is = absurd is
   turn_brings (Leave stream) is = one (Leave stream) tt tt
   turn_brings (Close stream) is = one (Close stream) tt is
+  turn_brings _ is = absurd is

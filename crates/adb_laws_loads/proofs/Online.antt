@@ -62,18 +62,13 @@ link_taken t link p taken = go (nat_eq link t)
     go false = refl
 
 act_taken : (t : ℕ) (act : Act) → list_any is_refused (packets_by t act) ≡ false
-act_taken t (Plug link) = refl
 act_taken t (Greet link) = link_taken t link greeting_packet greeting_taken
-act_taken t (Come stream) = refl
-act_taken t (Ask stream) = refl
 act_taken t (Accept stream) = link_taken t (link_of stream) (packet_to Okay stream []) refl
-act_taken t (Write stream from count) = refl
 act_taken t (Acknowledge stream) = link_taken t (link_of stream) (packet_to Okay stream []) refl
 act_taken t (Answer stream from count Whole) = link_taken t (link_of stream) (packet_to Wrte stream (down_bytes stream from count)) refl
-act_taken t (Answer stream from count Head) = refl
 act_taken t (Answer stream from count Tail) = link_taken t (link_of stream) (packet_to Wrte stream (down_bytes stream from count)) refl
-act_taken t (Leave stream) = refl
 act_taken t (Close stream) = link_taken t (link_of stream) (packet_to Clse stream []) refl
+act_taken t _ = refl
 
 pub all_taken : (t : ℕ) (acts : List Act) → list_any is_refused (packets_on t acts) ≡ false
 all_taken t [] = refl
@@ -102,20 +97,15 @@ none_greeted : (packets : List Packet) → IsGreeted packets → IsGreeted (pack
 none_greeted packets greeted = ap last_cnxn (append-nil packets) ∙ greeted
 
 act_greeted : (t : ℕ) (packets : List Packet) (act : Act) → IsGreeted packets → IsGreeted (packets ++ packets_by t act)
-act_greeted t packets (Plug link) greeted = none_greeted packets greeted
 act_greeted t packets (Greet link) greeted = link_greeted packets t link greeting_packet (inr refl) greeted
-act_greeted t packets (Come stream) greeted = none_greeted packets greeted
-act_greeted t packets (Ask stream) greeted = none_greeted packets greeted
 act_greeted t packets (Accept stream) greeted = link_greeted packets t (link_of stream) (packet_to Okay stream []) (inl refl) greeted
-act_greeted t packets (Write stream from count) greeted = none_greeted packets greeted
 act_greeted t packets (Acknowledge stream) greeted = link_greeted packets t (link_of stream) (packet_to Okay stream []) (inl refl) greeted
 act_greeted t packets (Answer stream from count Whole) greeted =
     link_greeted packets t (link_of stream) (packet_to Wrte stream (down_bytes stream from count)) (inl refl) greeted
-act_greeted t packets (Answer stream from count Head) greeted = none_greeted packets greeted
 act_greeted t packets (Answer stream from count Tail) greeted =
     link_greeted packets t (link_of stream) (packet_to Wrte stream (down_bytes stream from count)) (inl refl) greeted
-act_greeted t packets (Leave stream) greeted = none_greeted packets greeted
 act_greeted t packets (Close stream) greeted = link_greeted packets t (link_of stream) (packet_to Clse stream []) (inl refl) greeted
+act_greeted t packets _ greeted = none_greeted packets greeted
 
 acts_greeted : (t : ℕ) (packets : List Packet) (acts : List Act) → IsGreeted packets → IsGreeted (packets ++ packets_on t acts)
 acts_greeted t packets [] greeted = none_greeted packets greeted

@@ -5,7 +5,7 @@ use Rattle.std.proofs.lemmas.List.{take_at, drop_at, length-append}
 use Rattle.adb_outside.specs.Framing.{Cut, joined, cut_by, cut}
 use Rattle.adb_outside.proofs.FramingLaws.{cut_first}
 use Rattle.adb_capture.specs.declared.entry.Entry.{Entry}
-use Rattle.adb_capture.specs.declared.entry.Entry.TheVariants.{Join, Enter, Read, End, Bound, Attach, Recv, Detach, Put, Send}
+use Rattle.adb_capture.specs.declared.entry.Entry.TheVariants.{Put, Send}
 use Rattle.adb_capture.specs.declared.error.FormFault.{FormFault}
 use Rattle.adb_capture.specs.declared.limits.TheConstants.{MAX_CAPTURE}
 use Rattle.adb_capture.specs.Records.{HasRecord, magic, record_of, records_of, record_at, entry_in, offset_after}
@@ -81,16 +81,9 @@ abbrev given_whole : List Entry → Accepted
 given_whole inputs = record { inputs = inputs; refused = None }
 
 wanted_input : (g : History) (e : Entry) → Wants g e → is_input e ≡ true
-wanted_input g (Join c) wants = refl
-wanted_input g (Read c bytes) wants = refl
-wanted_input g (End c cause) wants = refl
-wanted_input g (Attach t kind serial) wants = refl
-wanted_input g (Recv t bytes) wants = refl
-wanted_input g (Enter c port) wants = refl
-wanted_input g (Bound c port) wants = refl
-wanted_input g (Detach t cause) wants = refl
 wanted_input g (Put c bytes) wants = absurd wants
 wanted_input g (Send t bytes) wants = absurd wants
+wanted_input g _ wants = refl
 
 accept_all : (inputs : List Entry) (offset : ℕ) (h g : History) → SameCame h g → IsFine h → AllMayCome inputs g → IsFew (came_onto inputs g)
     → is_killed (came_onto inputs g) ≡ false → accept_from (placed offset inputs) None h ≡ given_whole inputs

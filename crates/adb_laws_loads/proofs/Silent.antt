@@ -6,8 +6,8 @@ use Rattle.adb_capture.specs.declared.entry.Entry.TheVariants.{Recv}
 use Rattle.adb_history.specs.Machine.{History}
 use Rattle.adb_history.specs.Bytes.{is_lost, bytes_received}
 use Rattle.adb_load.specs.declared.act.Act.{Act}
-use Rattle.adb_load.specs.declared.act.Act.TheVariants.{Plug, Greet, Come, Ask, Accept, Write, Acknowledge, Answer, Leave, Close}
-use Rattle.adb_load.specs.declared.act.Piece.TheVariants.{Whole, Head, Tail}
+use Rattle.adb_load.specs.declared.act.Act.TheVariants.{Plug, Come, Ask, Write, Answer, Leave, Close}
+use Rattle.adb_load.specs.declared.act.Piece.TheVariants.{Whole, Head}
 use Rattle.adb_load.specs.Acts.{link_of, entry_of, acts_from}
 use Rattle.adb_laws_loads.proofs.Links.{past_of, past_then}
 use Rattle.adb_laws_loads.proofs.Online.{PlugsNext, plugged_after}
@@ -74,20 +74,16 @@ module _ (count : ℕ) (done : List Act) (silent : IsSilent count done) where
   -- after the acts of one more turn
   pub turn_silent : (a : Act) → IsPluggedIn count a → PlugsNext count a → IsSilent (plugged_after count a) (done ++ acts_from a)
   turn_silent (Plug link) le next = plug_silent link next
-  turn_silent (Greet link) le next = absurd le
   turn_silent (Come stream) le next = on_stream stream (acts_from (Come stream)) le
       (λ t apart. elsewhere t (link_of stream) _ (entry_of (Ask stream) ∷ entry_of (Come stream) ∷ past_of done) apart)
-  turn_silent (Ask stream) le next = absurd le
-  turn_silent (Accept stream) le next = absurd le
   turn_silent (Write stream from size) le next = on_stream stream (acts_from (Write stream from size)) le
       (λ t apart. elsewhere t (link_of stream) _ (entry_of (Write stream from size) ∷ past_of done) apart)
-  turn_silent (Acknowledge stream) le next = absurd le
   turn_silent (Answer stream from size Whole) le next = on_stream stream (acts_from (Answer stream from size Whole)) le
       (λ t apart. elsewhere t (link_of stream) _ (past_of done) apart)
   turn_silent (Answer stream from size Head) le next = on_stream stream (acts_from (Answer stream from size Head)) le
       (λ t apart. elsewhere t (link_of stream) _ (entry_of (Answer stream from size Head) ∷ past_of done) apart
       ∙ elsewhere t (link_of stream) _ (past_of done) apart)
-  turn_silent (Answer stream from size Tail) le next = absurd le
   turn_silent (Leave stream) le next = quiet (acts_from (Leave stream)) (λ t. refl)
   turn_silent (Close stream) le next = on_stream stream (acts_from (Close stream)) le
       (λ t apart. elsewhere t (link_of stream) _ (past_of done) apart)
+  turn_silent _ le next = absurd le

@@ -9,7 +9,6 @@ use Rattle.adb_outside.specs.declared.framer.Front.TheVariants.{More, Bad, Whole
 use Rattle.adb_outside.specs.declared.identity.Identity.{Identity}
 use Rattle.adb_outside.specs.declared.identity.State.{State as DeviceState}
 use Rattle.adb_outside.specs.declared.identity.State.TheVariants.{Offline}
-use Rattle.adb_outside.specs.declared.identity.State.TheVariants as states
 use Rattle.adb_banner.specs.Banner.{identity_of}
 use Rattle.adb_registry.specs.declared.row.Row.{Row}
 use Rattle.adb_wire.specs.declared.command.Command.{Command}
@@ -142,13 +141,7 @@ unauthorized_texts t (Some row) s h = go row.state
   where
     go : (state : DeviceState) → Texts (packets.unauthorized_from t state s)
     go Offline = mark_all_texts s h
-    go states.Unauthorized = h
-    go states.Device = h
-    go states.Bootloader = h
-    go states.Recovery = h
-    go states.Sideload = h
-    go states.Rescue = h
-    go states.Host = h
+    go _ = h
 
 refuses_texts : (t id : ℕ) (s : State) → Texts s → Texts (packets.refuses_open t id s).state
 refuses_texts t id s h = go (id == 0)
@@ -224,9 +217,7 @@ open_texts t Wrte p s are h = at_stream_texts t (s.streams p.arg1) (packets.take
     (λ stream. write_texts p.arg1 p.arg0 p.payload stream s are h) h
 open_texts t Clse p s are h = at_stream_texts t (s.streams p.arg1) (packets.takes_close p.arg1 p.arg0) s
     (λ stream. close_texts p.arg1 p.arg0 stream s h) h
-open_texts t Cnxn p s are h = h
-open_texts t Auth p s are h = h
-open_texts t Stls p s are h = h
+open_texts t _ p s are h = h
 
 known_texts : (connected : Bool) (t : ℕ) (command : Command) (p : Packet) (s : State) → AreBytes p.payload → Texts s
     → Texts (cond connected (packets.treat_open t command p s) (quietly s)).state

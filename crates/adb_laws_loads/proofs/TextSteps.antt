@@ -8,14 +8,14 @@ use Rattle.adb_outside.specs.declared.kinds.Cause.TheVariants.{Eof}
 use Rattle.adb_registry.specs.Registry.{DeviceTable, attached}
 use Rattle.adb_stream.specs.Flow.{to_hand, handed_to, credit_back}
 use Rattle.adb_client.specs.declared.phase.Phase.{Phase}
-use Rattle.adb_client.specs.declared.phase.Phase.TheVariants.{Asking, Opening, Streaming, Binding, Tracking, Closing, Gone}
+use Rattle.adb_client.specs.declared.phase.Phase.TheVariants.{Asking, Opening, Streaming, Closing, Gone}
 use Rattle.adb_stream.specs.declared.flow.Flow.{Flow}
 use Rattle.adb_stream.specs.declared.flow.Flow.TheVariants.{One, Credit}
 use Rattle.adb_stream.specs.declared.row.Stream.{Stream}
 use Rattle.adb_reply.specs.declared.answer.Next.{Next}
 use Rattle.adb_reply.specs.declared.answer.Next.TheVariants as what
 use Rattle.adb_capture.specs.declared.entry.Entry.{Entry}
-use Rattle.adb_capture.specs.declared.entry.Entry.TheVariants.{Join, Enter, Read, End, Bound, Attach, Recv, Detach, Put, Send}
+use Rattle.adb_capture.specs.declared.entry.Entry.TheVariants.{Join, Read, End, Attach, Recv, Put, Send}
 use Rattle.adb_history.specs.Rows.{Client, State, new_client, new_link, to_client, to_stream, with_stream_part}
 use Rattle.adb_history.specs.Events.{quietly}
 use Rattle.adb_history.specs.Links.{okay_packet, credit_packet, server_cnxn}
@@ -70,16 +70,9 @@ pub record HasAskedTexts (q : Asked) : Type 0 where
   pub next : IsServed q.next
 
 goes_on_texts : (next : Option Next) (c : ℕ) (s : State) → IsServed next → Texts s → Texts (goes_on next c s).state
-goes_on_texts None c s is h = absurd is
 goes_on_texts (Some what.Close) c s is h = closes_texts c s h
-goes_on_texts (Some (what.Select id)) c s is h = absurd is
-goes_on_texts (Some (what.Track long)) c s is h = absurd is
 goes_on_texts (Some (what.Open transport service)) c s is h = opens_texts c transport service s is h
-goes_on_texts (Some (what.Bind transport local remote chosen)) c s is h = absurd is
-goes_on_texts (Some (what.Rebind transport local remote)) c s is h = absurd is
-goes_on_texts (Some (what.Unbind local)) c s is h = absurd is
-goes_on_texts (Some what.UnbindAll) c s is h = absurd is
-goes_on_texts (Some what.Stop) c s is h = absurd is
+goes_on_texts _ c s is h = absurd is
 
 asks_texts : (q : Asked) (c : ℕ) (s : State) → HasAskedTexts q → Texts s → Texts (asks q c s).state
 asks_texts q c s are h = goes_on_texts q.next c owed are.next (due_texts c q.replies now are.replies (client_texts c (has_asked q) s (λ x is texts. record {
@@ -106,10 +99,7 @@ reads_in_texts : (phase : Phase) (c : ℕ) (bytes : List ℕ) (client : Client) 
 reads_in_texts Asking c bytes client s are texts asked h = asks_texts _ c s (asked refl) h
 reads_in_texts (Opening l) c bytes client s are texts asked h = held_texts c (client.held ++ bytes) s (both_bytes client.held bytes texts.held are) h
 reads_in_texts (Streaming l) c bytes client s are texts asked h = held_texts c (client.held ++ bytes) s (both_bytes client.held bytes texts.held are) h
-reads_in_texts Binding c bytes client s are texts asked h = h
-reads_in_texts Tracking c bytes client s are texts asked h = h
-reads_in_texts Closing c bytes client s are texts asked h = h
-reads_in_texts Gone c bytes client s are texts asked h = h
+reads_in_texts _ c bytes client s are texts asked h = h
 
 reads_texts : (c : ℕ) (bytes : List ℕ) (s : State) → AreBytes bytes → AsksTexts s c bytes → Texts s → Texts (reads c bytes s).state
 reads_texts c bytes s are asked h = go (s.clients c) refl (h.clients c)
@@ -120,15 +110,13 @@ reads_texts c bytes s are asked h = go (s.clients c) refl (h.clients c)
 
 -- ---- a client's end
 ends_texts : (phase : Phase) (c : ℕ) (s : State) → Texts s → Texts (input_ends phase c s)
-ends_texts Asking c s h = closes_texts c s h
-ends_texts Binding c s h = closes_texts c s h
-ends_texts Tracking c s h = closes_texts c s h
 ends_texts (Opening l) c s h =
     client_texts c input_ended s (λ x is texts. record { held = texts.held; due = texts.due; mark = texts.mark; phase = texts.phase }) h
 ends_texts (Streaming l) c s h =
     client_texts c input_ended s (λ x is texts. record { held = texts.held; due = texts.due; mark = texts.mark; phase = texts.phase }) h
 ends_texts Closing c s h = h
 ends_texts Gone c s h = h
+ends_texts _ c s h = closes_texts c s h
 
 leaves_texts : (row : Option Client) (c : ℕ) (s : State) → Texts s → Texts (client_ends c Eof row s).state
 leaves_texts None c s h = h
@@ -152,12 +140,7 @@ lists_texts c (b ∷ due) client s texts h = h
 
 left_texts : (phase : Phase) (due : List ℕ) (x : Client) → AreBytes due → x.about.phase ≡ phase → HasTexts x → ClientTexts (left_in phase due x)
 left_texts Closing due x are is texts = closing_texts due (record x { due = due }) are
-left_texts Asking due x are is texts = record { held = texts.held; due = are; mark = texts.mark; phase = texts.phase }
-left_texts (Opening l) due x are is texts = record { held = texts.held; due = are; mark = texts.mark; phase = texts.phase }
-left_texts (Streaming l) due x are is texts = record { held = texts.held; due = are; mark = texts.mark; phase = texts.phase }
-left_texts Binding due x are is texts = record { held = texts.held; due = are; mark = texts.mark; phase = texts.phase }
-left_texts Tracking due x are is texts = record { held = texts.held; due = are; mark = texts.mark; phase = texts.phase }
-left_texts Gone due x are is texts = record { held = texts.held; due = are; mark = texts.mark; phase = texts.phase }
+left_texts _ due x are is texts = record { held = texts.held; due = are; mark = texts.mark; phase = texts.phase }
 
 hands_texts : (c n : ℕ) (s : State) → Texts s → Texts (to_client c (hands n) s)
 hands_texts c n s h = client_texts c (hands n) s (λ x is texts. left_texts x.about.phase (drop n x.due) x (back_bytes n x.due texts.due) refl texts) h
@@ -187,12 +170,7 @@ stream_left_texts due l (Some stream) s h = stream_texts (min (to_hand stream.pa
 
 client_left_texts : (phase : Phase) (due : ℕ) (s : State) → Texts s → Texts (client_left phase due s).state
 client_left_texts (Streaming l) due s h = stream_left_texts due l (s.streams l) s h
-client_left_texts Asking due s h = h
-client_left_texts (Opening l) due s h = h
-client_left_texts Binding due s h = h
-client_left_texts Tracking due s h = h
-client_left_texts Closing due s h = h
-client_left_texts Gone due s h = h
+client_left_texts _ due s h = h
 
 takes_texts : (c n : ℕ) (row : Option Client) (s : State) → Texts s → Texts (takes_of c n row s).state
 takes_texts c n None s h = h
@@ -223,14 +201,11 @@ rule_texts : (e : Entry) (s : State) → BringsTexts s e → Texts s → Texts (
 rule_texts (Join c) s is h = joins_texts c s h
 rule_texts (Read c bytes) s is h = reads_texts c bytes s is.0 is.1 h
 rule_texts (End c Eof) s is h = leaves_texts (s.clients c) c s h
-rule_texts (End c cause) s is h = absurd is
 rule_texts (Attach t kind serial) s is h = plugs_texts t kind serial s h
 rule_texts (Recv t bytes) s is h = receives_texts (s.links t) t bytes s is (h.links t) h
 rule_texts (Put c bytes) s is h = puts_texts (s.clients c) c (length bytes) s (h.clients c) h
 rule_texts (Send t bytes) s is h = sends_texts t (length bytes) s h
-rule_texts (Enter c port) s is h = absurd is
-rule_texts (Bound c port) s is h = absurd is
-rule_texts (Detach t cause) s is h = absurd is
+rule_texts _ s is h = absurd is
 
 pub step_texts : (e : Entry) (s : State) → BringsTexts s e → Texts s → Texts (step s e).state
 step_texts e s is h = ups_texts (rule e s).state.drawn (rule e s).state (rule_texts e s is h)

@@ -11,7 +11,7 @@ use Rattle.adb_wire.specs.declared.packets.Packet.{Packet}
 use Rattle.adb_wire.specs.Packet.{spelling, head_for}
 use Rattle.adb_wire.specs.Header.{words_of}
 use Rattle.adb_client.specs.declared.phase.Phase.{Phase}
-use Rattle.adb_client.specs.declared.phase.Phase.TheVariants.{Asking, Opening, Streaming, Binding, Tracking, Closing, Gone}
+use Rattle.adb_client.specs.declared.phase.Phase.TheVariants.{Opening, Streaming, Tracking}
 use Rattle.adb_stream.specs.declared.row.Stream.{Stream}
 use Rattle.adb_reply.specs.Strings.{failed}
 use Rattle.adb_load.proofs.Records.{literal_bytes, words_bytes, joined_bytes as both_bytes}
@@ -150,11 +150,7 @@ loses_texts : (forwarded : Bool) (phase : Phase) (c : ℕ) (s : State) → Texts
 loses_texts forwarded (Streaming l) c s h = closes_texts c s h
 loses_texts true (Opening l) c s h = closes_texts c s h
 loses_texts false (Opening l) c s h = closes_with_texts c (failed (codes "closed")).bytes s (literal_bytes (failed (codes "closed")).bytes refl) h
-loses_texts forwarded Asking c s h = h
-loses_texts forwarded Binding c s h = h
-loses_texts forwarded Tracking c s h = h
-loses_texts forwarded Closing c s h = h
-loses_texts forwarded Gone c s h = h
+loses_texts forwarded _ c s h = h
 
 client_loses_texts : (row : Option Client) (c : ℕ) (s : State) → Texts s → Texts (client_loses row c s).state
 client_loses_texts None c s h = h
@@ -192,12 +188,7 @@ all_end_texts t ending s h = ends_of_texts t s.drawn ending s h
 
 marked_texts : (phase : Phase) (x : Client) → IsNoTracker phase → HasTexts x → HasTexts (marked_in phase x)
 marked_texts Tracking x free texts = absurd free
-marked_texts Asking x free texts = texts
-marked_texts (Opening l) x free texts = texts
-marked_texts (Streaming l) x free texts = texts
-marked_texts Binding x free texts = texts
-marked_texts Closing x free texts = texts
-marked_texts Gone x free texts = texts
+marked_texts _ x free texts = texts
 
 pub mark_all_texts : (s : State) → Texts s → Texts (mark_all s)
 mark_all_texts s h = record { clients = λ c. go (s.clients c) (h.clients c); links = h.links }
