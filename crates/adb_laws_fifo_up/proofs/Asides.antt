@@ -4,7 +4,7 @@ use Rattle.std.specs.Prelude.{option_map, codes}
 use Rattle.adb_outside.specs.Tables.{Rows}
 use Rattle.adb_wire.specs.declared.packets.Packet.{Packet}
 use Rattle.adb_client.specs.declared.phase.Phase.{Phase}
-use Rattle.adb_client.specs.declared.phase.Phase.TheVariants.{Asking, Opening, Streaming, Binding, Tracking, Closing, Gone}
+use Rattle.adb_client.specs.declared.phase.Phase.TheVariants.{Opening, Streaming, Tracking, Closing, Gone}
 use Rattle.adb_client.specs.declared.about.Want.{Want}
 use Rattle.adb_reply.specs.Strings.{failed}
 use Rattle.adb_history.specs.Rows.{Client, State, to_client, none_kept, with_due}
@@ -82,13 +82,11 @@ pub aside_ended : (c : ℕ) (s : State) → Aside s (quietly (to_client c input_
 aside_ended c s = aside_client c input_ended s (λ x v is h. h)
 
 pub aside_input : (phase : Phase) (c : ℕ) (s : State) → Aside s (quietly (input_ends phase c s))
-aside_input Asking c s = aside_closes c s
-aside_input Binding c s = aside_closes c s
-aside_input Tracking c s = aside_closes c s
 aside_input (Opening l) c s = aside_ended c s
 aside_input (Streaming l) c s = aside_ended c s
 aside_input Closing c s = aside_same s
 aside_input Gone c s = aside_same s
+aside_input _ c s = aside_closes c s
 
 pub aside_hears : (o : Option Client) (c : ℕ) (s : State) → Aside s (hears_okay o c s)
 aside_hears None c s = aside_same s
@@ -97,12 +95,7 @@ aside_hears (Some client) c s =
 
 dims_left : (phase : Phase) (due : List ℕ) (x : Client) (v : Seen) → x.about.phase ≡ phase → Sees (left_in phase due x) v → Sees (Some x) v
 dims_left Closing due x v is h = absurd (closing_unseen due (record x { due = due }) v h)
-dims_left Asking due x v is h = h
-dims_left (Opening l) due x v is h = h
-dims_left (Streaming l) due x v is h = h
-dims_left Binding due x v is h = h
-dims_left Tracking due x v is h = h
-dims_left Gone due x v is h = h
+dims_left _ due x v is h = h
 
 pub aside_hands : (c n : ℕ) (s : State) → Aside s (quietly (to_client c (hands n) s))
 aside_hands c n s = aside_client c (hands n) s (λ x v is h. dims_left x.about.phase (drop n x.due) x v refl h)
@@ -112,12 +105,7 @@ aside_unmarks c s = aside_client c unmarked s (λ x v is h. h)
 
 dims_marked : (phase : Phase) (x : Client) (v : Seen) → Sees (Some (marked_in phase x)) v → Sees (Some x) v
 dims_marked Tracking x v h = h
-dims_marked Asking x v h = h
-dims_marked (Opening l) x v h = h
-dims_marked (Streaming l) x v h = h
-dims_marked Binding x v h = h
-dims_marked Closing x v h = h
-dims_marked Gone x v h = h
+dims_marked _ x v h = h
 
 pub aside_marks : (s : State) → Aside s (quietly (mark_all s))
 aside_marks s = record { drawn = refl; streams = λ l. refl; clients = λ c v see. go v (s.clients c) see; told = tt }

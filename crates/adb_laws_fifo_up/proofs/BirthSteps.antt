@@ -9,7 +9,7 @@ use Rattle.adb_forward.specs.declared.row.ForwardRow.{ForwardRow}
 use Rattle.adb_reply.specs.declared.answer.Next.{Next}
 use Rattle.adb_reply.specs.declared.answer.Next.TheVariants as what
 use Rattle.adb_capture.specs.declared.entry.Entry.{Entry}
-use Rattle.adb_capture.specs.declared.entry.Entry.TheVariants.{Join, Enter, Read, End, Bound, Attach, Recv, Detach, Put, Send}
+use Rattle.adb_capture.specs.declared.entry.Entry.TheVariants.{Enter, Read}
 use Rattle.adb_history.specs.Links.{is_connected, is_credit}
 use Rattle.adb_history.specs.Streams.{stream_ids}
 use Rattle.adb_history.specs.Machine.{History, state}
@@ -99,18 +99,10 @@ before_of older a b same is = subst (λ (x : Birth). x.packets_before ≡ length
 
 by_read : (c head : ℕ) (older : History) (next : Option Next) (b : Birth) → Has (birth_by c head older next) b
     → (b.client ≡ c) × (b.head ≡ head) × (b.packets_before ≡ length (brought b.link older))
-by_read c head older None b h = absurd (none_in b h)
 by_read c head older (Some (what.Open transport service)) b h =
     let same = one_in _ b h in
     (sym (ap (λ (x : Birth). x.client) same), sym (ap (λ (x : Birth). x.head) same), before_of older _ b same refl)
-by_read c head older (Some what.Close) b h = absurd (none_in b h)
-by_read c head older (Some (what.Select id)) b h = absurd (none_in b h)
-by_read c head older (Some (what.Track long)) b h = absurd (none_in b h)
-by_read c head older (Some (what.Bind transport local remote chosen)) b h = absurd (none_in b h)
-by_read c head older (Some (what.Rebind transport local remote)) b h = absurd (none_in b h)
-by_read c head older (Some (what.Unbind local)) b h = absurd (none_in b h)
-by_read c head older (Some what.UnbindAll) b h = absurd (none_in b h)
-by_read c head older (Some what.Stop) b h = absurd (none_in b h)
+by_read c head older _ b h = absurd (none_in b h)
 
 by_enter : (c : ℕ) (older : History) (o : Option ForwardRow) (b : Birth) → Has (birth_through c older o) b
     → (b.client ≡ c) × (b.head ≡ 0) × (b.packets_before ≡ length (brought b.link older))
@@ -134,11 +126,4 @@ pub born_by : (e : Entry) (older : History) (b : Birth) → Has (births_at e old
 born_by (Read c bytes) older b h =
     by_read c (asked c (Read c bytes ∷ older)).used older (newly (asked c older).next (asked c (Read c bytes ∷ older)).next) b h
 born_by (Enter c port) older b h = by_enter c older (at port (forwards older)) b h
-born_by (Join c) older b h = none_in b h
-born_by (End c cause) older b h = none_in b h
-born_by (Bound c port) older b h = none_in b h
-born_by (Attach t kind serial) older b h = none_in b h
-born_by (Recv t bytes) older b h = none_in b h
-born_by (Detach t cause) older b h = none_in b h
-born_by (Put c bytes) older b h = none_in b h
-born_by (Send t bytes) older b h = none_in b h
+born_by _ older b h = none_in b h

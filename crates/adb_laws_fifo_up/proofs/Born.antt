@@ -5,7 +5,7 @@ use Rattle.std.proofs.lemmas.Bool.{eq-eqb, cases_eq}
 use Rattle.adb_outside.specs.Tables.{Rows}
 use Rattle.adb_stream.specs.declared.row.Stream.{Stream}
 use Rattle.adb_client.specs.declared.phase.Phase.{Phase}
-use Rattle.adb_client.specs.declared.phase.Phase.TheVariants.{Asking, Opening, Streaming, Binding, Tracking, Closing, Gone}
+use Rattle.adb_client.specs.declared.phase.Phase.TheVariants.{Asking, Opening}
 use Rattle.adb_capture.specs.declared.entry.Entry.{Entry}
 use Rattle.adb_capture.specs.declared.entry.Entry.TheVariants.{Join, Enter, Read, End, Bound, Attach, Recv, Detach, Put, Send}
 use Rattle.adb_history.specs.Rows.{Client, new_client, to_client}
@@ -148,12 +148,7 @@ module _ (c : ℕ) (bytes : List ℕ) (older : History) (legal : IsLegal older) 
       by : (x : Client) → (state older).clients c ≡ Some x → (phase : Phase) → x.about.phase ≡ phase → asks_in x.about.phase ≡ true
           → IsClientIn (state older) c Asking
       by x is Asking e f = record { client = x; here = is; in_phase = e }
-      by x is (Opening k) e f = absurd (let clash : false ≡ true = sym (ap asks_in e) ∙ f in cc)
-      by x is (Streaming k) e f = absurd (let clash : false ≡ true = sym (ap asks_in e) ∙ f in cc)
-      by x is Binding e f = absurd (let clash : false ≡ true = sym (ap asks_in e) ∙ f in cc)
-      by x is Tracking e f = absurd (let clash : false ≡ true = sym (ap asks_in e) ∙ f in cc)
-      by x is Closing e f = absurd (let clash : false ≡ true = sym (ap asks_in e) ∙ f in cc)
-      by x is Gone e f = absurd (let clash : false ≡ true = sym (ap asks_in e) ∙ f in cc)
+      by x is _ e f = absurd (let clash : false ≡ true = sym (ap asks_in e) ∙ f in cc)
 
       go : (o : Option Client) → (state older).clients c ≡ o → asks_now ((state older).clients c) ≡ true → IsClientIn (state older) c Asking
       go None is e = absurd (let clash : false ≡ true = sym (ap asks_now is) ∙ e in cc)

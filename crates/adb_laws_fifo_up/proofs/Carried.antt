@@ -4,9 +4,9 @@ use Rattle.std.proofs.Common.{sym, ap, subst, ◌∙◌, arith, ◌⊎◌, inl, 
 use Rattle.std.proofs.lemmas.Bool.{cases_eq}
 use Rattle.std.proofs.lemmas.List.{length-append, drop-append-le}
 use Rattle.adb_client.specs.declared.phase.Phase.{Phase}
-use Rattle.adb_client.specs.declared.phase.Phase.TheVariants.{Asking, Opening, Streaming, Binding, Tracking, Closing, Gone}
+use Rattle.adb_client.specs.declared.phase.Phase.TheVariants.{Asking, Opening, Streaming}
 use Rattle.adb_capture.specs.declared.entry.Entry.{Entry}
-use Rattle.adb_capture.specs.declared.entry.Entry.TheVariants.{Join, Enter, Read, End, Bound, Attach, Recv, Detach, Put, Send}
+use Rattle.adb_capture.specs.declared.entry.Entry.TheVariants.{Join, Enter, Read, Recv}
 use Rattle.adb_history.specs.Rows.{Client, State, new_client, to_client, with_held}
 use Rattle.adb_history.specs.Events.{Made, Event, Ending, client_closed, ending_in, quietly}
 use Rattle.adb_history.specs.Reading.{comes, comes_in_vain, reads_in, reads_from}
@@ -61,10 +61,7 @@ module _ (l t c : ℕ) (rest : List ℕ) (s : State) (w : List Event) (h : Rises
   read_in_rises n bytes x here away Asking e = row_rises n _ x _ here refl away
   read_in_rises n bytes x here away (Opening k) e = row_rises n _ x _ here refl away
   read_in_rises n bytes x here away (Streaming k) e = row_rises n _ x _ here refl away
-  read_in_rises n bytes x here away Binding e = h
-  read_in_rises n bytes x here away Tracking e = h
-  read_in_rises n bytes x here away Closing e = h
-  read_in_rises n bytes x here away Gone e = h
+  read_in_rises n bytes x here away _ e = h
 
   -- a client reads that has not this stream
   reads_rises : (n : ℕ) (bytes : List ℕ) → ((x : Client) → s.clients n ≡ Some x → IsOf l x.about.phase → ⊥)
@@ -82,24 +79,15 @@ module _ (l t c : ℕ) (rest : List ℕ) (s : State) (w : List Event) (h : Rises
       go : (phase : Phase) → x.about.phase ≡ phase → IsOf l phase → (v : Seen) × Sees (s.clients n) v × IsOf l v.phase × (v.held ≡ x.held)
       go (Opening k) e same = (record { phase = Opening k; held = x.held }, ap seen here ∙ ap (λ (p : Phase). seen_in p x.held) e, same, refl)
       go (Streaming k) e same = (record { phase = Streaming k; held = x.held }, ap seen here ∙ ap (λ (p : Phase). seen_in p x.held) e, same, refl)
-      go Asking e same = absurd same
-      go Binding e same = absurd same
-      go Tracking e same = absurd same
-      go Closing e same = absurd same
-      go Gone e same = absurd same
+      go _ e same = absurd same
 
   begins_rises : (e : Entry) → IsOwned s → IsNoRead c e → Begins (rises_climbs l t c rest) e s w
   begins_rises (Join n) owned none = comes_rises false n
   begins_rises (Enter n port) owned none = (comes_rises true n, vain_rises)
-  begins_rises (Attach k kind serial) owned none = h
   begins_rises (Read n bytes) owned none =
       reads_rises n bytes (λ x here of. (let v = row_seen n x here of in none (h.only n v.0 v.1 v.2)))
-  begins_rises (End n cause) owned none = h
-  begins_rises (Bound n port) owned none = h
   begins_rises (Recv k bytes) owned none = (h, owned, owned_waits)
-  begins_rises (Detach k cause) owned none = h
-  begins_rises (Put n bytes) owned none = h
-  begins_rises (Send k bytes) owned none = h
+  begins_rises _ owned none = h
 
   -- the client of the stream wrote more
   more_rises : (bytes : List ℕ) → ending_in l w ≡ None → ((x : Client) → s.clients c ≡ Some x → IsOf l x.about.phase → ⊥)
@@ -155,15 +143,7 @@ read_by c (Read n bytes) = go (cases_eq n c)
     go : (n ≡ c) ⊎ (n ≡ c → ⊥) → (n ≢ c) ⊎ ((more : List ℕ) × (Read n bytes ≡ Read c more))
     go (inl same) = inr (bytes, ap (λ k. Read k bytes) same)
     go (inr apart) = inl apart
-read_by c (Join n) = inl tt
-read_by c (Enter n port) = inl tt
-read_by c (End n cause) = inl tt
-read_by c (Bound n port) = inl tt
-read_by c (Attach t kind serial) = inl tt
-read_by c (Recv t bytes) = inl tt
-read_by c (Detach t cause) = inl tt
-read_by c (Put n bytes) = inl tt
-read_by c (Send t bytes) = inl tt
+read_by c _ = inl tt
 
 module _ (l : ℕ) (b : Birth) (older : History) (h : IsCarried l b older) where
   -- its client does not read
@@ -242,11 +222,7 @@ module _ (l : ℕ) (b : Birth) (older : History) (h : IsCarried l b older) where
               → ReadsIn (rises_climbs l b.link b.client (rest_of l b older ++ bytes)) (state older) (told older) phase b.client bytes x
           by_phase (Opening k) same = now
           by_phase (Streaming k) same = now
-          by_phase Asking same = absurd same
-          by_phase Binding same = absurd same
-          by_phase Tracking same = absurd same
-          by_phase Closing same = absurd same
-          by_phase Gone same = absurd same
+          by_phase _ same = absurd same
 
           begins : Begins (rises_climbs l b.link b.client (rest_of l b older ++ bytes)) (Read b.client bytes) (state older) (told older)
           begins = subst
@@ -257,11 +233,7 @@ module _ (l : ℕ) (b : Birth) (older : History) (h : IsCarried l b older) where
               → reads_in phase b.client bytes x (state older) ≡ quietly (to_client b.client (with_held (x.held ++ bytes)) (state older))
           rule_is (Opening k) same = refl
           rule_is (Streaming k) same = refl
-          rule_is Asking same = absurd same
-          rule_is Binding same = absurd same
-          rule_is Tracking same = absurd same
-          rule_is Closing same = absurd same
-          rule_is Gone same = absurd same
+          rule_is _ same = absurd same
 
           made : rule (Read b.client bytes) (state older) ≡ quietly (to_client b.client (with_held (x.held ++ bytes)) (state older))
           made = ap (λ (o : Option Client). reads_from o b.client bytes (state older)) here ∙ rule_is x.about.phase of
@@ -291,11 +263,7 @@ module _ (l : ℕ) (b : Birth) (older : History) (h : IsCarried l b older) where
               at : (k ≡ l) ⊎ (k ≡ l → ⊥) → IsCarried l b (Read b.client bytes ∷ older)
               at (inl same) = held_carried x is (subst (IsOf l) (sym f) same)
               at (inr apart) = idle_carried (λ y here of. apart (subst (IsOf l) (ap (λ (z : Client). z.about.phase) (sym (same_row x y is here)) ∙ f) of))
-          by x is Asking f = idle_carried (λ y here of. subst (IsOf l) (ap (λ (z : Client). z.about.phase) (sym (same_row x y is here)) ∙ f) of)
-          by x is Binding f = idle_carried (λ y here of. subst (IsOf l) (ap (λ (z : Client). z.about.phase) (sym (same_row x y is here)) ∙ f) of)
-          by x is Tracking f = idle_carried (λ y here of. subst (IsOf l) (ap (λ (z : Client). z.about.phase) (sym (same_row x y is here)) ∙ f) of)
-          by x is Closing f = idle_carried (λ y here of. subst (IsOf l) (ap (λ (z : Client). z.about.phase) (sym (same_row x y is here)) ∙ f) of)
-          by x is Gone f = idle_carried (λ y here of. subst (IsOf l) (ap (λ (z : Client). z.about.phase) (sym (same_row x y is here)) ∙ f) of)
+          by x is _ f = idle_carried (λ y here of. subst (IsOf l) (ap (λ (z : Client). z.about.phase) (sym (same_row x y is here)) ∙ f) of)
 
           go : (o : Option Client) → (state older).clients b.client ≡ o → IsCarried l b (Read b.client bytes ∷ older)
           go None is = idle_carried (λ x here of. none x is here)

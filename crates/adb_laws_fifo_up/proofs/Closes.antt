@@ -9,9 +9,9 @@ use Rattle.adb_wire.specs.declared.command.Command.TheVariants.{Clse}
 use Rattle.adb_wire.specs.declared.packets.Packet.{Packet}
 use Rattle.adb_stream.specs.declared.row.Stream.{Stream}
 use Rattle.adb_client.specs.declared.phase.Phase.{Phase}
-use Rattle.adb_client.specs.declared.phase.Phase.TheVariants.{Asking, Opening, Streaming, Binding, Tracking, Closing, Gone}
+use Rattle.adb_client.specs.declared.phase.Phase.TheVariants.{Asking}
 use Rattle.adb_capture.specs.declared.entry.Entry.{Entry}
-use Rattle.adb_capture.specs.declared.entry.Entry.TheVariants.{Join, Enter, Read, End, Bound, Attach, Recv, Detach, Put, Send}
+use Rattle.adb_capture.specs.declared.entry.Entry.TheVariants.{Enter, Read, Recv}
 use Rattle.adb_history.specs.Rows.{Client, Link, State}
 use Rattle.adb_history.specs.Events.{Made, Event, client_closed, packets_to, spelled_to, ending_in}
 use Rattle.adb_history.specs.Links.{close_packet}
@@ -120,28 +120,17 @@ module _ (l : ℕ) where
   module _ (s : State) (w : List Event) (h : IsClosed l w) where
     reads_in : (phase : Phase) (c : ℕ) (bytes : List ℕ) (x : Client) → ReadsIn closed_climbs s w phase c bytes x
     reads_in Asking c bytes x = h
-    reads_in (Opening k) c bytes x = h
-    reads_in (Streaming k) c bytes x = h
-    reads_in Binding c bytes x = h
-    reads_in Tracking c bytes x = h
-    reads_in Closing c bytes x = h
-    reads_in Gone c bytes x = h
+    reads_in _ c bytes x = h
 
     reads_of : (o : Option Client) (c : ℕ) (bytes : List ℕ) → ReadsOf closed_climbs s w o c bytes
     reads_of None c bytes = h
     reads_of (Some x) c bytes = reads_in x.about.phase c bytes x
 
     begins : (e : Entry) → IsOwned s → Begins closed_climbs e s w
-    begins (Join c) owned = h
     begins (Enter c port) owned = (h, h)
     begins (Read c bytes) owned = reads_of (s.clients c) c bytes
-    begins (End c cause) owned = h
-    begins (Bound c port) owned = h
-    begins (Attach t kind serial) owned = h
     begins (Recv t bytes) owned = (h, owned, λ s owned k. tt)
-    begins (Detach t cause) owned = h
-    begins (Put c bytes) owned = h
-    begins (Send t bytes) owned = h
+    begins _ owned = h
 
   -- In every legal history the CLSE of a stream that its client closed became due.
   pub all_closed : (h : History) → IsLegal h → IsClosed l (told h)

@@ -70,16 +70,7 @@ aside_loses true (Streaming l) c s = aside_closes c s
 aside_loses false (Streaming l) c s = aside_closes c s
 aside_loses true (Opening l) c s = aside_closes c s
 aside_loses false (Opening l) c s = aside_closes_with c (failed (codes "closed")).bytes s
-aside_loses true Asking c s = aside_same s
-aside_loses false Asking c s = aside_same s
-aside_loses true Binding c s = aside_same s
-aside_loses false Binding c s = aside_same s
-aside_loses true Tracking c s = aside_same s
-aside_loses false Tracking c s = aside_same s
-aside_loses true Closing c s = aside_same s
-aside_loses false Closing c s = aside_same s
-aside_loses true Gone c s = aside_same s
-aside_loses false Gone c s = aside_same s
+aside_loses _ _ c s = aside_same s
 
 aside_client_loses : (o : Option Client) (c : ℕ) (s : State) → Aside s (client_loses o c s)
 aside_client_loses None c s = aside_same s

@@ -7,7 +7,7 @@ use Rattle.adb_stream.specs.declared.row.Stream.{Stream}
 use Rattle.adb_client.specs.declared.phase.Phase.{Phase}
 use Rattle.adb_client.specs.declared.phase.Phase.TheVariants.{Asking, Opening, Streaming, Binding, Tracking, Closing, Gone}
 use Rattle.adb_capture.specs.declared.entry.Entry.{Entry}
-use Rattle.adb_capture.specs.declared.entry.Entry.TheVariants.{Join, Enter, Read, End, Bound, Attach, Recv, Detach, Put, Send}
+use Rattle.adb_capture.specs.declared.entry.Entry.TheVariants.{Join, Enter, Read, Recv}
 use Rattle.adb_history.specs.Rows.{Client, State, new_client, to_client, with_held}
 use Rattle.adb_history.specs.Events.{Made, Event}
 use Rattle.adb_history.specs.Flow.{total}
@@ -133,10 +133,7 @@ module _ (c n : ℕ) (s : State) (w : List Event) (h : HoldsUpTo c n s w) where
     reads_in_holds Asking = row_holds k (has_asked unread) x _ here refl unread_fits
     reads_in_holds (Opening l) = row_holds k (with_held (x.held ++ bytes)) x _ here refl more_fits
     reads_in_holds (Streaming l) = row_holds k (with_held (x.held ++ bytes)) x _ here refl more_fits
-    reads_in_holds Binding = h
-    reads_in_holds Tracking = h
-    reads_in_holds Closing = h
-    reads_in_holds Gone = h
+    reads_in_holds _ = h
 
   reads_holds : (k : ℕ) (bytes : List ℕ) → ((x : Client) → s.clients k ≡ Some x → k ≡ c → length x.held + length bytes ≤ n)
       → ReadsOf (holds_climbs c n) s w (s.clients k) k bytes
@@ -154,13 +151,8 @@ module _ (c n : ℕ) (s : State) (w : List Event) (h : HoldsUpTo c n s w) where
       at : (x : Client) → s.clients k ≡ Some x → k ≡ c → length x.held + length bytes ≤ n
       at x here same = omega
           (arith, fits, ap held_of (ap s.clients (sym same) ∙ here), ap (λ (b : Bool). cond b (length bytes) 0) (eq-eqb k c same))
-  begins_holds (End k cause) owned fits = h
-  begins_holds (Bound k port) owned fits = h
-  begins_holds (Attach t kind serial) owned fits = h
   begins_holds (Recv t bytes) owned fits = (h, owned, owned_waits)
-  begins_holds (Detach t cause) owned fits = h
-  begins_holds (Put k bytes) owned fits = h
-  begins_holds (Send t bytes) owned fits = h
+  begins_holds _ owned fits = h
 
 -- what is held of a client, by what is seen of it
 held_seen : (c n : ℕ) (s : State) → ((v : Seen) → Sees (s.clients c) v → length v.held ≤ n) → IsOrderly s → held_of (s.clients c) ≤ n

@@ -12,7 +12,7 @@ use Rattle.adb_stream.specs.declared.row.Part.{Part}
 use Rattle.adb_stream.specs.declared.row.Stream.{Stream}
 use Rattle.adb_stream.specs.Flow.{is_idle}
 use Rattle.adb_client.specs.declared.phase.Phase.{Phase}
-use Rattle.adb_client.specs.declared.phase.Phase.TheVariants.{Asking, Opening, Streaming, Binding, Tracking, Closing, Gone}
+use Rattle.adb_client.specs.declared.phase.Phase.TheVariants.{Opening, Streaming}
 use Rattle.adb_history.specs.Rows.{Client, Link, State, to_client, to_stream, none_kept, with_held, with_stream_part}
 use Rattle.adb_history.specs.Events.{ending_in}
 use Rattle.adb_history.specs.Links.{maxdata_of}
@@ -200,11 +200,7 @@ has_stream s owned l c x here of = go x.about.phase of (owned.owned.client c x h
     go : (phase : Phase) → IsOf l phase → HoldsIn phase s.streams c x → StreamOf s.streams c l
     go (Opening k) same holds = subst (StreamOf s.streams c) same holds
     go (Streaming k) same holds = subst (StreamOf s.streams c) same holds
-    go Asking same holds = absurd same
-    go Binding same holds = absurd same
-    go Tracking same holds = absurd same
-    go Closing same holds = absurd same
-    go Gone same holds = absurd same
+    go _ same holds = absurd same
 
 module _ (l c : ℕ) (bytes : List ℕ) (older : History) (legal : IsLegal older) (x : Client) (here : (state older).clients c ≡ Some x)
     (of : IsOf l x.about.phase) where

@@ -3,7 +3,7 @@ use Rattle.std.proofs.Common.{◌≡◌, ◌≢◌, ℕ, Bool, true, false, cond
 use Rattle.std.specs.Prelude.{is_some}
 use Rattle.std.proofs.lemmas.Bool.{ne_eqb}
 use Rattle.adb_capture.specs.declared.entry.Entry.{Entry}
-use Rattle.adb_capture.specs.declared.entry.Entry.TheVariants.{Join, Enter, Read, End, Bound, Attach, Recv, Detach, Put, Send}
+use Rattle.adb_capture.specs.declared.entry.Entry.TheVariants.{Read}
 use Rattle.adb_history.specs.Events.{Ending, ending_in}
 use Rattle.adb_history.specs.Machine.{History, told_at, told}
 use Rattle.adb_history.specs.Bytes.{bytes_read}
@@ -33,15 +33,7 @@ IsNoRead c _ = Unit {0}
 
 pub no_read : (c : ℕ) (e : Entry) (older : History) → IsNoRead c e → bytes_read c (e ∷ older) ≡ bytes_read c older
 no_read c (Read n bytes) older apart = ap (λ (b : Bool). cond b (bytes_read c older ++ bytes) (bytes_read c older)) (ne_eqb n c apart)
-no_read c (Join n) older h = refl
-no_read c (Enter n port) older h = refl
-no_read c (End n cause) older h = refl
-no_read c (Bound n port) older h = refl
-no_read c (Attach t kind serial) older h = refl
-no_read c (Recv t bytes) older h = refl
-no_read c (Detach t cause) older h = refl
-no_read c (Put n bytes) older h = refl
-no_read c (Send t bytes) older h = refl
+no_read c _ older h = refl
 
 module _ (l : ℕ) (b : Birth) (e : Entry) (older : History) where
   -- a stream that ended before

@@ -34,10 +34,7 @@ by_more Clse l p ps qs o e rest = go (is_between 0 l p) e
     go true f = let clash : None ≡ Some o = f in cc
     go false f = rest f
 by_more Cnxn l p ps qs o e rest = let clash : None ≡ Some o = e in cc
-by_more Open l p ps qs o e rest = rest e
-by_more Wrte l p ps qs o e rest = rest e
-by_more Auth l p ps qs o e rest = rest e
-by_more Stls l p ps qs o e rest = rest e
+by_more _ l p ps qs o e rest = rest e
 
 pub opening_more : (l : ℕ) (ps qs : List Packet) (o : Opening) → opening_in l ps ≡ Some o → opening_in l (ps ++ qs) ≡ Some (record o { later = o.later ++ qs })
 opening_more l [] qs o e = let clash : None ≡ Some o = e in cc

@@ -19,7 +19,7 @@ use Rattle.adb_stream.specs.declared.row.Part.{Part}
 use Rattle.adb_stream.specs.declared.row.Stream.{Stream}
 use Rattle.adb_stream.specs.Flow.{to_hand, credit_back, handed_to, has_credit}
 use Rattle.adb_client.specs.declared.phase.Phase.{Phase}
-use Rattle.adb_client.specs.declared.phase.Phase.TheVariants.{Asking, Opening, Streaming, Binding, Tracking, Closing, Gone}
+use Rattle.adb_client.specs.declared.phase.Phase.TheVariants.{Asking, Opening, Streaming, Binding}
 use Rattle.adb_client.specs.declared.about.Want.{Want}
 use Rattle.adb_reply.specs.declared.answer.Next.{Next}
 use Rattle.adb_reply.specs.declared.answer.Next.TheVariants.{Close, Select, Track, Open, Bind, Rebind, Unbind, UnbindAll, Stop}
@@ -62,12 +62,7 @@ aside_bound_for (Some want) c port s =
 
 aside_bound_in : (phase : Phase) (want : Option Want) (c port : ℕ) (s : State) → Aside s (bound_in phase want c port s)
 aside_bound_in Binding want c port s = aside_bound_for want c port s
-aside_bound_in Asking want c port s = aside_same s
-aside_bound_in (Opening l) want c port s = aside_same s
-aside_bound_in (Streaming l) want c port s = aside_same s
-aside_bound_in Tracking want c port s = aside_same s
-aside_bound_in Closing want c port s = aside_same s
-aside_bound_in Gone want c port s = aside_same s
+aside_bound_in _ want c port s = aside_same s
 
 aside_bound : (o : Option Client) (c port : ℕ) (s : State) → Aside s (bound_at o c port s)
 aside_bound None c port s = aside_same s
@@ -161,10 +156,7 @@ module _ {Hears : State → ℕ → Type 0} {P : State → List Event → Type 0
     reads_in_climbs Asking c bytes x h = asks_climbs (asks_with s.devices s.forwards bytes (asked_before x.client)) c x h
     reads_in_climbs (Opening l) c bytes x h = after_quietly P w (to_client c (with_held (x.client.held ++ bytes)) s) h
     reads_in_climbs (Streaming l) c bytes x h = after_quietly P w (to_client c (with_held (x.client.held ++ bytes)) s) h
-    reads_in_climbs Binding c bytes x h = after_quietly P w s h
-    reads_in_climbs Tracking c bytes x h = after_quietly P w s h
-    reads_in_climbs Closing c bytes x h = after_quietly P w s h
-    reads_in_climbs Gone c bytes x h = after_quietly P w s h
+    reads_in_climbs _ c bytes x h = after_quietly P w s h
 
     reads_climbs : (o : Option Client) (c : ℕ) (bytes : List ℕ) → s.clients c ≡ o → ReadsOf o c bytes → After P w (reads_from o c bytes s)
     reads_climbs None c bytes is h = after_quietly P w s h
@@ -186,11 +178,7 @@ module _ {Hears : State → ℕ → Type 0} {P : State → List Event → Type 0
         go None is = k.aside s (quietly (to_client c none_kept s)) w (aside_drops c s) h
         go (Some stream) is = k.goes l s (stream_fails (Opening l) cause (Some stream) (to_client c none_kept s)) w
             (asked_fails_goes l c cause x.client stream s x.here is x.in_phase) h
-    fails_climbs Asking c cause x = k.aside s (quietly (to_client c none_kept s)) w (aside_drops c s) h
-    fails_climbs Binding c cause x = k.aside s (quietly (to_client c none_kept s)) w (aside_drops c s) h
-    fails_climbs Tracking c cause x = k.aside s (quietly (to_client c none_kept s)) w (aside_drops c s) h
-    fails_climbs Closing c cause x = k.aside s (quietly (to_client c none_kept s)) w (aside_drops c s) h
-    fails_climbs Gone c cause x = k.aside s (quietly (to_client c none_kept s)) w (aside_drops c s) h
+    fails_climbs _ c cause x = k.aside s (quietly (to_client c none_kept s)) w (aside_drops c s) h
 
     client_ends_climbs : (c : ℕ) (cause : Cause) (o : Option Client) → s.clients c ≡ o → After P w (client_ends c cause o s)
     client_ends_climbs c cause None is = after_quietly P w s h
@@ -214,12 +202,7 @@ module _ {Hears : State → ℕ → Type 0} {P : State → List Event → Type 0
 
     client_left_climbs : (phase : Phase) (due : ℕ) → After P w (client_left phase due s)
     client_left_climbs (Streaming l) due = stream_left_climbs due l (s.streams l) refl
-    client_left_climbs Asking due = after_quietly P w s h
-    client_left_climbs (Opening l) due = after_quietly P w s h
-    client_left_climbs Binding due = after_quietly P w s h
-    client_left_climbs Tracking due = after_quietly P w s h
-    client_left_climbs Closing due = after_quietly P w s h
-    client_left_climbs Gone due = after_quietly P w s h
+    client_left_climbs _ due = after_quietly P w s h
 
   module _ (s : State) (w : List Event) (h : P s w) where
     takes_climbs : (c n : ℕ) (o : Option Client) → After P w (takes_of c n o s)

@@ -7,7 +7,7 @@ use Rattle.std.proofs.lemmas.List.{append-nil}
 use Rattle.adb_outside.specs.Tables.{Rows, change_row}
 use Rattle.adb_wire.specs.declared.packets.Packet.{Packet}
 use Rattle.adb_client.specs.declared.phase.Phase.{Phase}
-use Rattle.adb_client.specs.declared.phase.Phase.TheVariants.{Asking, Opening, Streaming, Binding, Tracking, Closing, Gone}
+use Rattle.adb_client.specs.declared.phase.Phase.TheVariants.{Asking, Opening, Streaming}
 use Rattle.adb_history.specs.Rows.{Client}
 use Rattle.adb_history.specs.Events.{client_closed, Event, Ending, due_to_client, due_to_link, ended, packets_to, ending_in}
 use Rattle.adb_history.specs.Clients.{closing_with}
@@ -48,10 +48,7 @@ pub seen_phase : (phase : Phase) (held : List ℕ) (v : Seen) → seen_in phase 
 seen_phase Asking held v h = parts Asking held v h
 seen_phase (Opening l) held v h = parts (Opening l) held v h
 seen_phase (Streaming l) held v h = parts (Streaming l) held v h
-seen_phase Binding held v h = let clash : None ≡ Some v = h in cc
-seen_phase Tracking held v h = let clash : None ≡ Some v = h in cc
-seen_phase Closing held v h = let clash : None ≡ Some v = h in cc
-seen_phase Gone held v h = let clash : None ≡ Some v = h in cc
+seen_phase _ held v h = let clash : None ≡ Some v = h in cc
 
 -- ---- events
 pub are_append : (Is : Event → Type 0) (u w : List Event) → Are Is u → Are Is w → Are Is (u ++ w)

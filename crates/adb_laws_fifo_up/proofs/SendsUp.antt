@@ -10,7 +10,7 @@ use Rattle.adb_stream.specs.declared.row.Part.{Part}
 use Rattle.adb_stream.specs.declared.row.Stream.{Stream}
 use Rattle.adb_stream.specs.Flow.{is_idle}
 use Rattle.adb_client.specs.declared.phase.Phase.{Phase}
-use Rattle.adb_client.specs.declared.phase.Phase.TheVariants.{Asking, Opening, Streaming, Binding, Tracking, Closing, Gone}
+use Rattle.adb_client.specs.declared.phase.Phase.TheVariants.{Streaming}
 use Rattle.adb_history.specs.Rows.{Client, Link, State, with_held, with_stream_part}
 use Rattle.adb_history.specs.Events.{Made, Event, Ending, due_to_client, due_to_link, ended, packets_to, ending_in, client_closed}
 use Rattle.adb_history.specs.Flow.{write_len, write_before, writes, payloads, total, with_flow, goes_up, all_go_up, flow_after, is_over}
@@ -117,12 +117,7 @@ module _ (k : ℕ) (stream : Stream) where
 -- ---- all that it makes
 pub streaming_is : (k : ℕ) (phase : Phase) → is_streaming k phase ≡ true → phase ≡ Streaming k
 streaming_is k (Streaming n) e = ap Streaming (eqb-true n k e)
-streaming_is k (Opening n) e = let clash : false ≡ true = e in cc
-streaming_is k Asking e = let clash : false ≡ true = e in cc
-streaming_is k Binding e = let clash : false ≡ true = e in cc
-streaming_is k Tracking e = let clash : false ≡ true = e in cc
-streaming_is k Closing e = let clash : false ≡ true = e in cc
-streaming_is k Gone e = let clash : false ≡ true = e in cc
+streaming_is k _ e = let clash : false ≡ true = e in cc
 
 over_holds_none : (closed : Bool) (held : List ℕ) (flow : Flow) → is_over closed held flow ≡ true → held ≡ []
 over_holds_none closed [] flow e = refl

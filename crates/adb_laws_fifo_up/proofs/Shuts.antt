@@ -5,9 +5,9 @@ use Rattle.std.proofs.lemmas.Bool.{cases_eq}
 use Rattle.adb_stream.specs.declared.row.Part.{Part}
 use Rattle.adb_stream.specs.declared.row.Stream.{Stream}
 use Rattle.adb_client.specs.declared.phase.Phase.{Phase}
-use Rattle.adb_client.specs.declared.phase.Phase.TheVariants.{Asking, Opening, Streaming, Binding, Tracking, Closing, Gone}
+use Rattle.adb_client.specs.declared.phase.Phase.TheVariants.{Asking, Opening, Streaming}
 use Rattle.adb_capture.specs.declared.entry.Entry.{Entry}
-use Rattle.adb_capture.specs.declared.entry.Entry.TheVariants.{Join, Enter, Read, End, Bound, Attach, Recv, Detach, Put, Send}
+use Rattle.adb_capture.specs.declared.entry.Entry.TheVariants.{Join, Enter, Read, Recv}
 use Rattle.adb_history.specs.Rows.{Client, State, to_stream, with_stream_part}
 use Rattle.adb_history.specs.Events.{Made, Event, packets_to}
 use Rattle.adb_history.specs.Flow.{sends_up}
@@ -181,10 +181,7 @@ module _ (l : ℕ) (some : 0 < l) where
     reads_in Asking c bytes x = same_rows _ refl refl
     reads_in (Opening k) c bytes x = same_rows _ refl refl
     reads_in (Streaming k) c bytes x = same_rows _ refl refl
-    reads_in Binding c bytes x = h
-    reads_in Tracking c bytes x = h
-    reads_in Closing c bytes x = h
-    reads_in Gone c bytes x = h
+    reads_in _ c bytes x = h
 
     reads_of : (o : Option Client) (c : ℕ) (bytes : List ℕ) → ReadsOf shuts_climbs s w o c bytes
     reads_of None c bytes = h
@@ -193,14 +190,9 @@ module _ (l : ℕ) (some : 0 < l) where
     begins : (e : Entry) → IsOwned s → Begins shuts_climbs e s w
     begins (Join c) owned = same_rows _ refl refl
     begins (Enter c port) owned = (same_rows _ refl refl, same_rows _ refl refl)
-    begins (Attach t kind serial) owned = h
     begins (Read c bytes) owned = reads_of (s.clients c) c bytes
-    begins (End c cause) owned = h
-    begins (Bound c port) owned = h
     begins (Recv t bytes) owned = (h, owned, λ s owned k. tt)
-    begins (Detach t cause) owned = h
-    begins (Put c bytes) owned = h
-    begins (Send t bytes) owned = h
+    begins _ owned = h
 
   pub all_shut : (h : History) → IsLegal h → Shuts l (state h) (told h)
   all_shut [] legal = record {

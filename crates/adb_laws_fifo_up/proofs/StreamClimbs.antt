@@ -7,7 +7,7 @@ use Rattle.std.proofs.lemmas.List.{append-nil}
 use Rattle.adb_outside.specs.Tables.{at}
 use Rattle.adb_outside.specs.declared.identity.Identity.{Identity}
 use Rattle.adb_outside.specs.declared.identity.State.{State as DeviceState}
-use Rattle.adb_outside.specs.declared.identity.State.TheVariants.{Offline, Unauthorized, Device, Bootloader, Recovery, Sideload, Rescue, Host}
+use Rattle.adb_outside.specs.declared.identity.State.TheVariants.{Offline}
 use Rattle.adb_banner.specs.Banner.{identity_of}
 use Rattle.adb_registry.specs.declared.row.Row.{Row}
 use Rattle.adb_wire.specs.declared.command.Command.{Command}
@@ -148,13 +148,7 @@ module _ {Hears : State → ℕ → Type 0} {P : State → List Event → Type 0
 
   aside_unauthorized : (t : ℕ) (state : DeviceState) (s : State) → Aside s (quietly (unauthorized_from t state s))
   aside_unauthorized t Offline s = aside_marked s _ (aside_else s _ refl refl refl)
-  aside_unauthorized t Unauthorized s = aside_same s
-  aside_unauthorized t Device s = aside_same s
-  aside_unauthorized t Bootloader s = aside_same s
-  aside_unauthorized t Recovery s = aside_same s
-  aside_unauthorized t Sideload s = aside_same s
-  aside_unauthorized t Rescue s = aside_same s
-  aside_unauthorized t Host s = aside_same s
+  aside_unauthorized t _ s = aside_same s
 
   module _ (s : State) (w : List Event) (h : P s w) where
     first_climbs : (b : Bool) (t : ℕ) → After P w (streams_end_first b t s)
@@ -251,9 +245,7 @@ module _ {Hears : State → ℕ → Type 0} {P : State → List Event → Type 0
         at_stream_climbs t p.arg1 (s.streams p.arg1) (takes_write p.arg1 p.arg0 p.payload) refl (λ stream is. write_climbs p.arg1 p.arg0 p.payload stream is)
     treat_open_climbs t Clse p hears =
         at_stream_climbs t p.arg1 (s.streams p.arg1) (takes_close p.arg1 p.arg0) refl (λ stream is. close_climbs p.arg1 p.arg0 stream is)
-    treat_open_climbs t Cnxn p hears = after_quietly P w s h
-    treat_open_climbs t Auth p hears = after_quietly P w s h
-    treat_open_climbs t Stls p hears = after_quietly P w s h
+    treat_open_climbs t _ p hears = after_quietly P w s h
 
     connected_climbs : (t : ℕ) (command : Command) (p : Packet) → (command ≡ Okay → Hears s p.arg1)
         → After P w (cond (is_connected t s.devices) (treat_open t command p s) (quietly s))

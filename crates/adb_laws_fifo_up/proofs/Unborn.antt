@@ -3,9 +3,9 @@ use Rattle.std.proofs.Common.{◌≡◌, ◌≢◌, ℕ, ◌<◌, List, [], ◌�
 use Rattle.adb_stream.specs.declared.row.Part.{Part}
 use Rattle.adb_stream.specs.declared.row.Stream.{Stream}
 use Rattle.adb_client.specs.declared.phase.Phase.{Phase}
-use Rattle.adb_client.specs.declared.phase.Phase.TheVariants.{Asking, Opening, Streaming, Binding, Tracking, Closing, Gone}
+use Rattle.adb_client.specs.declared.phase.Phase.TheVariants.{Asking, Opening, Streaming}
 use Rattle.adb_capture.specs.declared.entry.Entry.{Entry}
-use Rattle.adb_capture.specs.declared.entry.Entry.TheVariants.{Join, Enter, Read, End, Bound, Attach, Recv, Detach, Put, Send}
+use Rattle.adb_capture.specs.declared.entry.Entry.TheVariants.{Join, Enter, Read, Recv}
 use Rattle.adb_history.specs.Rows.{Client, State, to_stream, with_stream_part}
 use Rattle.adb_history.specs.Events.{Event, ending_in}
 use Rattle.adb_history.specs.Machine.{History, state, told, IsLegal}
@@ -95,10 +95,7 @@ module _ (l : ℕ) (s : State) (w : List Event) (h : Unborn l s w) where
   reads_in Asking c bytes x = record { none = h.none; silent = h.silent; dry = h.dry }
   reads_in (Opening k) c bytes x = record { none = h.none; silent = h.silent; dry = h.dry }
   reads_in (Streaming k) c bytes x = record { none = h.none; silent = h.silent; dry = h.dry }
-  reads_in Binding c bytes x = h
-  reads_in Tracking c bytes x = h
-  reads_in Closing c bytes x = h
-  reads_in Gone c bytes x = h
+  reads_in _ c bytes x = h
 
   reads_of : (o : Option Client) (c : ℕ) (bytes : List ℕ) → ReadsOf (unborn_climbs l) s w o c bytes
   reads_of None c bytes = h
@@ -107,14 +104,9 @@ module _ (l : ℕ) (s : State) (w : List Event) (h : Unborn l s w) where
   begins : (e : Entry) → IsOwned s → Begins (unborn_climbs l) e s w
   begins (Join c) owned = record { none = h.none; silent = h.silent; dry = h.dry }
   begins (Enter c port) owned = (record { none = h.none; silent = h.silent; dry = h.dry }, record { none = h.none; silent = h.silent; dry = h.dry })
-  begins (Attach t kind serial) owned = h
   begins (Read c bytes) owned = reads_of (s.clients c) c bytes
-  begins (End c cause) owned = h
-  begins (Bound c port) owned = h
   begins (Recv t bytes) owned = (h, owned, λ s owned k. tt)
-  begins (Detach t cause) owned = h
-  begins (Put c bytes) owned = h
-  begins (Send t bytes) owned = h
+  begins _ owned = h
 
 pub all_unborn : (h : History) → IsLegal h → (l : ℕ) → Unborn l (state h) (told h)
 all_unborn [] legal l = record { none = λ above. refl; silent = λ above. record { carries = λ t. refl; lives = refl }; dry = λ above. tt }

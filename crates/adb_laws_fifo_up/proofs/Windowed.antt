@@ -14,7 +14,7 @@ use Rattle.adb_wire.specs.declared.packets.Packet.{Packet}
 use Rattle.adb_wire.specs.declared.format.PacketFault.{PacketFault}
 use Rattle.adb_wire.specs.declared.format.PacketFormat.{PacketFormat}
 use Rattle.adb_client.specs.declared.phase.Phase.{Phase}
-use Rattle.adb_client.specs.declared.phase.Phase.TheVariants.{Asking, Opening, Streaming, Binding, Tracking, Closing, Gone}
+use Rattle.adb_client.specs.declared.phase.Phase.TheVariants.{Asking, Opening, Streaming}
 use Rattle.adb_capture.specs.declared.entry.Entry.{Entry}
 use Rattle.adb_capture.specs.declared.entry.Entry.TheVariants.{Join, Enter, Read, End, Bound, Attach, Recv, Detach, Put, Send}
 use Rattle.adb_history.specs.Rows.{Client, Link, State, new_client, to_client}
@@ -75,15 +75,7 @@ BringsNone t _ = Unit {0}
 brings_none : (t : ℕ) (e : Entry) (older : History) → BringsNone t e → bytes_received t (e ∷ older) ≡ bytes_received t older
 brings_none t (Recv n bytes) older apart =
     ap (λ (b : Bool). cond (b && not (is_lost t older)) (bytes_received t older ++ bytes) (bytes_received t older)) (ne_eqb n t apart)
-brings_none t (Join n) older h = refl
-brings_none t (Enter n port) older h = refl
-brings_none t (Read n bytes) older h = refl
-brings_none t (End n cause) older h = refl
-brings_none t (Bound n port) older h = refl
-brings_none t (Attach n kind serial) older h = refl
-brings_none t (Detach n cause) older h = refl
-brings_none t (Put n bytes) older h = refl
-brings_none t (Send n bytes) older h = refl
+brings_none t _ older h = refl
 
 received_here : (t : ℕ) (bytes : List ℕ) (older : History)
     → bytes_received t (Recv t bytes ∷ older) ≡ cond (not (is_lost t older)) (bytes_received t older ++ bytes) (bytes_received t older)
@@ -144,10 +136,7 @@ module _ (l t : ℕ) (credit : Bool) (ps : List Packet) (s : State) (w : List Ev
   reads_in Asking c bytes x here = kept_phase c _ x _ here refl refl
   reads_in (Opening k) c bytes x here = kept_phase c _ x _ here refl refl
   reads_in (Streaming k) c bytes x here = kept_phase c _ x _ here refl refl
-  reads_in Binding c bytes x here = h
-  reads_in Tracking c bytes x here = h
-  reads_in Closing c bytes x here = h
-  reads_in Gone c bytes x here = h
+  reads_in _ c bytes x here = h
 
   reads_of : (o : Option Client) (c : ℕ) (bytes : List ℕ) → s.clients c ≡ o → ReadsOf (fits_climbs l t credit ps) s w o c bytes
   reads_of None c bytes is = h
