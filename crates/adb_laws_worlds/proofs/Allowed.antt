@@ -76,13 +76,7 @@ module _ (own l : ℕ) where
           → 1 ≤ cond (is_wrte c && b) (1 + writes_to l (packets_of_sent made)) (writes_to l (packets_of_sent made))
           → (1 ≤ writes_to l (packets_of_sent made) → l ≡ host) → l ≡ host
       by commands.Wrte c true e s later = here c (eqb-true one.packet.arg1 l e)
-      by commands.Wrte c false e s later = later s
-      by commands.Open c b e s later = later s
-      by commands.Okay c b e s later = later s
-      by commands.Clse c b e s later = later s
-      by commands.Cnxn c b e s later = later s
-      by commands.Auth c b e s later = later s
-      by commands.Stls c b e s later = later s
+      by _ c _ e s later = later s
 
 module _ (setting : Setting) (plain : setting.credit ≡ false) (l : ℕ) (packets : List Packet) (once : count_from is_open l packets ≤ 1)
     (sound : (device_behind setting packets).refused ≡ false) where

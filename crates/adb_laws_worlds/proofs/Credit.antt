@@ -129,14 +129,7 @@ birth_credit (Read c bytes) older b is =
 birth_credit (Enter c port) older b is =
     let x = by_forward c older (at port (forwards older)) b is in
     ap (λ (y : Birth). y.credit) x.birth ∙ sym (ap (λ (y : Birth). is_credit y.link (devices older)) x.birth)
-birth_credit (Join c) older b is = absurd (let clash : [] ≡ b ∷ [] = is in cc)
-birth_credit (End c cause) older b is = absurd (let clash : [] ≡ b ∷ [] = is in cc)
-birth_credit (Bound c port) older b is = absurd (let clash : [] ≡ b ∷ [] = is in cc)
-birth_credit (Attach t kind serial) older b is = absurd (let clash : [] ≡ b ∷ [] = is in cc)
-birth_credit (Recv t bytes) older b is = absurd (let clash : [] ≡ b ∷ [] = is in cc)
-birth_credit (Detach t cause) older b is = absurd (let clash : [] ≡ b ∷ [] = is in cc)
-birth_credit (Put c bytes) older b is = absurd (let clash : [] ≡ b ∷ [] = is in cc)
-birth_credit (Send t bytes) older b is = absurd (let clash : [] ≡ b ∷ [] = is in cc)
+birth_credit _ older b is = absurd (let clash : [] ≡ b ∷ [] = is in cc)
 
 -- nothing is born yet
 pub unborn : (l : ℕ) (b : Birth) → born l [] ≡ Some b → ⊥

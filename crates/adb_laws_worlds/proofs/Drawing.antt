@@ -105,9 +105,7 @@ draws setting d p = go d.refused refl
     on_link sound link linked commands.Wrte c = write link (named p.arg0 (at p.arg1 d.serving.rows))
     on_link sound link linked commands.Okay c = okay_to link (named p.arg0 (at p.arg1 d.serving.rows))
     on_link sound link linked commands.Clse c = close (closable p.arg0 (at p.arg1 d.serving.rows))
-    on_link sound link linked commands.Cnxn c = inl refl
-    on_link sound link linked commands.Auth c = inl refl
-    on_link sound link linked commands.Stls c = inl refl
+    on_link sound link linked _ c = inl refl
 
     linked_now : (link : Option Link) → Goal (linked_to link d).serving
     linked_now None = inl refl

@@ -105,12 +105,7 @@ closes_of r l c e = by c.command refl (nat_eq c.arg0 0) refl (nat_eq c.arg0 r) r
     by commands.Clse k true z false m false t e = absurd (no e)
     by commands.Clse k false z true m false t e = absurd (no e)
     by commands.Clse k false z false m false t e = absurd (no e)
-    by commands.Open k z f n m t g e = absurd (no e)
-    by commands.Okay k z f n m t g e = absurd (no e)
-    by commands.Wrte k z f n m t g e = absurd (no e)
-    by commands.Cnxn k z f n m t g e = absurd (no e)
-    by commands.Auth k z f n m t g e = absurd (no e)
-    by commands.Stls k z f n m t g e = absurd (no e)
+    by _ k z f n m t g e = absurd (no e)
 
 -- ---- what the device made of it
 -- where it is among what the device sent, the device closed the stream

@@ -8,7 +8,7 @@ use Rattle.adb_outside.specs.declared.kinds.Kind.{Kind}
 use Rattle.adb_wire.specs.Cutting.{framed}
 use Rattle.adb_wire.specs.Format.{is_cnxn}
 use Rattle.adb_wire.specs.declared.command.Command.{Command}
-use Rattle.adb_wire.specs.declared.command.Command.TheVariants.{Cnxn, Open, Okay, Wrte, Clse, Auth, Stls}
+use Rattle.adb_wire.specs.declared.command.Command.TheVariants.{Okay, Wrte, Clse}
 use Rattle.adb_wire.specs.declared.packets.Packet.{Packet}
 use Rattle.adb_stream.specs.declared.row.Stream.{Stream}
 use Rattle.adb_capture.specs.declared.entry.Entry.{Entry}
@@ -65,10 +65,7 @@ open_other : (command : Command) → IsOfOpen command → is_cnxn command ≡ fa
 open_other Okay of = refl
 open_other Wrte of = refl
 open_other Clse of = refl
-open_other Cnxn of = absurd of
-open_other Open of = absurd of
-open_other Auth of = absurd of
-open_other Stls of = absurd of
+open_other _ of = absurd of
 
 from_other : (streams : Rows (Option Stream)) (e : Event) → IsFrom streams e → SaysOther e
 from_other streams (due_to_client client bytes) from = tt

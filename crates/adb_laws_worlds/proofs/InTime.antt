@@ -50,12 +50,7 @@ rest_counts l front p rest =
 -- an OKAY is one command
 okay_command : (c : Command) → is_okay c ≡ true → c ≡ commands.Okay
 okay_command commands.Okay e = refl
-okay_command commands.Open e = let clash : false ≡ true = e in cc
-okay_command commands.Wrte e = let clash : false ≡ true = e in cc
-okay_command commands.Clse e = let clash : false ≡ true = e in cc
-okay_command commands.Cnxn e = let clash : false ≡ true = e in cc
-okay_command commands.Auth e = let clash : false ≡ true = e in cc
-okay_command commands.Stls e = let clash : false ≡ true = e in cc
+okay_command _ e = let clash : false ≡ true = e in cc
 
 module _ (own host : ℕ) where
   -- OKAYs of both ids are some of the OKAYs from the host's
@@ -89,9 +84,7 @@ module _ (own host : ℕ) where
           → (1 ≤ okays_in own host (packets_of_sent made) → own ≡ id) → own ≡ id
       go true e true f true g s later =
           from (okay_command one.packet.command e) (eqb-true one.packet.arg0 own f) (eqb-true one.packet.arg1 host g)
-      go true e true f false g s later = later s
-      go true e false f c g s later = later s
-      go false e b f c g s later = later s
+      go _ e _ f _ g s later = later s
 
   -- where all that is sent to the host's id comes from this one, the writes to it are this stream's
   pub writes_within : (made : List Sent) → All (ComesFrom host own) made → writes_to host (packets_of_sent made) ≤ writes_of own made
@@ -110,17 +103,10 @@ module _ (own host : ℕ) where
           → writes_to host (packets_of_sent made) ≤ writes_of own made
           → cond (is_wrte c && a) (1 + writes_to host (packets_of_sent made)) (writes_to host (packets_of_sent made))
           ≤ (if is_write c && b then 1 else 0) + writes_of own made
-      by commands.Wrte e true f true g le = omega (arith, le)
       by commands.Wrte e true f false g le =
           absurd (let clash : true ≡ false = sym (eq-eqb one.packet.arg0 own (from e (eqb-true one.packet.arg1 host f))) ∙ g in cc)
       by commands.Wrte e false f true g le = omega (arith, le)
-      by commands.Wrte e false f false g le = omega (arith, le)
-      by commands.Open e a f b g le = omega (arith, le)
-      by commands.Okay e a f b g le = omega (arith, le)
-      by commands.Clse e a f b g le = omega (arith, le)
-      by commands.Cnxn e a f b g le = omega (arith, le)
-      by commands.Auth e a f b g le = omega (arith, le)
-      by commands.Stls e a f b g le = omega (arith, le)
+      by _ e _ f _ g le = omega (arith, le)
 
 -- a device that refused nothing had refused nothing before
 pub sound_before : (setting : Setting) (front rest : List Packet) → (device_behind setting (front ++ rest)).refused ≡ false

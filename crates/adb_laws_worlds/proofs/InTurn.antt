@@ -51,10 +51,7 @@ module _ (b : Birth) (plain : b.credit ≡ false) (l : ℕ) where
     where
       go : (a z f t : Bool) → (a && (z && (f && t))) ≡ true → cond (a && t) (1 + writes_to l ps) (writes_to l ps) ≡ 1 + writes_to l ps
       go true true true true e = refl
-      go true true true false e = let clash : false ≡ true = e in cc
-      go true true false t e = let clash : false ≡ true = e in cc
-      go true false f t e = let clash : false ≡ true = e in cc
-      go false z f t e = let clash : false ≡ true = e in cc
+      go _ _ _ _ e = let clash : false ≡ true = e in cc
 
   regroup : (a z t : Bool) → ((a && z) && t) ≡ (a && (z && t))
   regroup true z t = refl

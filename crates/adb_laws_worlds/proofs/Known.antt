@@ -9,11 +9,11 @@ use Rattle.std.proofs.lemmas.List.Elements.{All-nil, All-cons, All-head, All-tai
 use Rattle.std.proofs.Math.Seq.{take-append_seam}
 use Rattle.adb_wire.specs.Format.{is_cnxn}
 use Rattle.adb_wire.specs.declared.command.Command.{Command}
-use Rattle.adb_wire.specs.declared.command.Command.TheVariants.{Cnxn, Open, Okay, Wrte, Clse, Auth, Stls}
+use Rattle.adb_wire.specs.declared.command.Command.TheVariants.{Cnxn, Open, Okay, Clse}
 use Rattle.adb_wire.specs.declared.packets.Packet.{Packet}
 use Rattle.adb_stream.specs.declared.row.Stream.{Stream}
 use Rattle.adb_capture.specs.declared.entry.Entry.{Entry}
-use Rattle.adb_capture.specs.declared.entry.Entry.TheVariants.{Join, Enter, Read, End, Bound, Attach, Recv, Detach, Put, Send}
+use Rattle.adb_capture.specs.declared.entry.Entry.TheVariants.{Enter, Read}
 use Rattle.adb_history.specs.Births.{Birth, born, births, births_at, since, opening_by, opening_in, is_between, count_from, is_okay, is_clse, is_open}
 use Rattle.adb_history.specs.Bytes.{brought, sent}
 use Rattle.adb_history.specs.Events.{Ending, ending_in}
@@ -174,10 +174,7 @@ opened_some own l (p ∷ ps) some okays closes cnxns =
     by Okay k n m i later = okay (nat_eq p.arg1 l) refl (p.arg0 == 0) refl (nat_eq p.arg0 own) refl n (λ more. later more m i)
     by Clse k n m i later = closed (is_between 0 l p) m (λ none. later n none i)
     by Cnxn k n m i later = absurd (omega (arith, i))
-    by Open k n m i later = later n m i
-    by Wrte k n m i later = later n m i
-    by Auth k n m i later = later n m i
-    by Stls k n m i later = later n m i
+    by _ k n m i later = later n m i
 
 -- ---- a stream is born when its device has said who it is
 born_number : (l : ℕ) (b : Birth) (h : History) → born l h ≡ Some b → (0 < l) × (l ≤ stream_ids)
@@ -192,14 +189,7 @@ born_number (suc k) b h is = (omega arith, go (nat_lt k stream_ids) refl is)
 brings_none : (e : Entry) (older : History) (b : Birth) → births_at e older ≡ b ∷ [] → brought 1 (e ∷ older) ≡ brought 1 older
 brings_none (Read c bytes) older b is = refl
 brings_none (Enter c port) older b is = refl
-brings_none (Join c) older b is = absurd (let clash : [] ≡ b ∷ [] = is in cc)
-brings_none (End c cause) older b is = absurd (let clash : [] ≡ b ∷ [] = is in cc)
-brings_none (Bound c port) older b is = absurd (let clash : [] ≡ b ∷ [] = is in cc)
-brings_none (Attach t kind serial) older b is = absurd (let clash : [] ≡ b ∷ [] = is in cc)
-brings_none (Recv t bytes) older b is = absurd (let clash : [] ≡ b ∷ [] = is in cc)
-brings_none (Detach t cause) older b is = absurd (let clash : [] ≡ b ∷ [] = is in cc)
-brings_none (Put c bytes) older b is = absurd (let clash : [] ≡ b ∷ [] = is in cc)
-brings_none (Send t bytes) older b is = absurd (let clash : [] ≡ b ∷ [] = is in cc)
+brings_none _ older b is = absurd (let clash : [] ≡ b ∷ [] = is in cc)
 
 module _ (e : Entry) (older : History) (legal : IsLegal (e ∷ older)) (l : ℕ) (b : Birth) (birth : born l (e ∷ older) ≡ Some b)
     (now : IsBornNow l b e older) where
@@ -317,12 +307,7 @@ module _ (setting : Setting) (short : setting.most < 2 ^ 32) (h : History) (lega
     where
       by : (c : Command) → p.command ≡ c → IsOwn h 1 c p → IsWithin stream_ids p
       by Open k of e = born_number p.arg0 of.birth h of.is
-      by Okay k of e = absurd (let clash : false ≡ true = sym (ap is_open k) ∙ e in cc)
-      by Wrte k of e = absurd (let clash : false ≡ true = sym (ap is_open k) ∙ e in cc)
-      by Clse k of e = absurd (let clash : false ≡ true = sym (ap is_open k) ∙ e in cc)
-      by Cnxn k of e = absurd (let clash : false ≡ true = sym (ap is_open k) ∙ e in cc)
-      by Auth k of e = absurd (let clash : false ≡ true = sym (ap is_open k) ∙ e in cc)
-      by Stls k of e = absurd (let clash : false ≡ true = sym (ap is_open k) ∙ e in cc)
+      by _ k of e = absurd (let clash : false ≡ true = sym (ap is_open k) ∙ e in cc)
 
   -- an id is left for it
   left : (device_behind setting first.front).serving.drawn ≢ 2 ^ 32 - 1

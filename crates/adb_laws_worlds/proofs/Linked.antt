@@ -78,12 +78,9 @@ IsServers p = is_cnxn p.command ≡ true → p ≡ server_cnxn
 
 own_servers : (h : History) (t : ℕ) (p : Packet) (command : Command) → p.command ≡ command → IsOwn h t command p → IsServers p
 own_servers h t p commands.Cnxn c own = λ e. own
-own_servers h t p commands.Open c own = λ e. absurd (let clash : false ≡ true = sym (ap is_cnxn c) ∙ e in cc)
-own_servers h t p commands.Okay c own = λ e. absurd (let clash : false ≡ true = sym (ap is_cnxn c) ∙ e in cc)
-own_servers h t p commands.Wrte c own = λ e. absurd (let clash : false ≡ true = sym (ap is_cnxn c) ∙ e in cc)
-own_servers h t p commands.Clse c own = λ e. absurd (let clash : false ≡ true = sym (ap is_cnxn c) ∙ e in cc)
 own_servers h t p commands.Auth c own = absurd own
 own_servers h t p commands.Stls c own = absurd own
+own_servers h t p _ c own = λ e. absurd (let clash : false ≡ true = sym (ap is_cnxn c) ∙ e in cc)
 
 -- so a device that takes bytes at all has a link to its server on which it may write
 pub link_takes : (setting : Setting) (h : History) → IsLegal h → 0 < setting.most → (link : Link) → (device_behind setting (sent 1 h)).link ≡ Some link

@@ -32,13 +32,7 @@ module _ (own : ℕ) (some : 0 < own) where
           → (okays_of own made ≡ [] → okays_in own l (packets_of_sent made) ≡ 0)
           → cond (is_okay c && (a && b)) (1 + okays_in own l (packets_of_sent made)) (okays_in own l (packets_of_sent made)) ≡ 0
       by commands.Okay true b e later = absurd (let clash : one.packet.payload ∷ okays_of own made ≡ [] = e in cc)
-      by commands.Okay false b e later = later e
-      by commands.Open a b e later = later e
-      by commands.Wrte a b e later = later e
-      by commands.Clse a b e later = later e
-      by commands.Cnxn a b e later = later e
-      by commands.Auth a b e later = later e
-      by commands.Stls a b e later = later e
+      by _ _ b e later = later e
 
   -- so an id that sends an OKAY was drawn
   pub drawn_if_acked : (setting : Setting) (packets : List Packet) (l : ℕ) → 1 ≤ okays_in own l (packets_owed setting packets)
@@ -83,14 +77,7 @@ module _ (own host : ℕ) where
       by : (c : Command) → p.command ≡ c → (a : Bool) → nat_eq p.arg0 own ≡ a → (b : Bool) → nat_eq p.arg1 l ≡ b
           → 1 ≤ cond (is_okay c && (a && b)) (1 + okays_in own l ps) (okays_in own l ps) → (1 ≤ okays_in own l ps → l ≡ host) → l ≡ host
       by commands.Okay c true e true f s later = here c (eqb-true p.arg0 own e) (eqb-true p.arg1 l f)
-      by commands.Okay c true e false f s later = later s
-      by commands.Okay c false e b f s later = later s
-      by commands.Open c a e b f s later = later s
-      by commands.Wrte c a e b f s later = later s
-      by commands.Clse c a e b f s later = later s
-      by commands.Cnxn c a e b f s later = later s
-      by commands.Auth c a e b f s later = later s
-      by commands.Stls c a e b f s later = later s
+      by _ c _ e _ f s later = later s
 
 -- An id from which an OKAY goes to an id of the host was drawn for that one.
 pub record IsAskedFor (setting : Setting) (own l : ℕ) (packets : List Packet) : Type 0 where

@@ -128,14 +128,7 @@ module _ (l : ℕ) where
       by : (c : Command) → p.command ≡ c → (a b : Bool) → nat_eq p.arg1 l ≡ b → okays_in own l ps ≡ 0
           → cond (is_okay c && (a && b)) (1 + okays_in own l ps) (okays_in own l ps) ≡ 0
       by Okay k true true e none = absurd (All-head (NotTo l) p ps all (ap is_of_stream k) (eqb-true p.arg1 l e))
-      by Okay k true false e none = none
-      by Okay k false b e none = none
-      by Open k a b e none = none
-      by Wrte k a b e none = none
-      by Clse k a b e none = none
-      by Cnxn k a b e none = none
-      by Auth k a b e none = none
-      by Stls k a b e none = none
+      by _ k _ _ e none = none
 
   pub else_closes : (ps : List Packet) → All (NotTo l) ps → how_many (is_close_between 0 l) ps ≡ 0
   else_closes [] all = refl
@@ -144,14 +137,7 @@ module _ (l : ℕ) where
       by : (c : Command) → p.command ≡ c → (a b : Bool) → nat_eq p.arg1 l ≡ b → how_many (is_close_between 0 l) ps ≡ 0
           → cond (is_clse c && (a && b)) (1 + how_many (is_close_between 0 l) ps) (how_many (is_close_between 0 l) ps) ≡ 0
       by Clse k true true e none = absurd (All-head (NotTo l) p ps all (ap is_of_stream k) (eqb-true p.arg1 l e))
-      by Clse k true false e none = none
-      by Clse k false b e none = none
-      by Okay k a b e none = none
-      by Open k a b e none = none
-      by Wrte k a b e none = none
-      by Cnxn k a b e none = none
-      by Auth k a b e none = none
-      by Stls k a b e none = none
+      by _ k _ _ e none = none
 
 -- ---- lists
 -- what holds of all of a list holds of all of a front
@@ -299,12 +285,7 @@ module _ (setting : Setting) (short : setting.most < 2 ^ 32) (h : History) (lega
 
   pub open_command : (c : Command) → is_open c ≡ true → c ≡ Open
   open_command Open e = refl
-  open_command Okay e = let clash : false ≡ true = e in cc
-  open_command Wrte e = let clash : false ≡ true = e in cc
-  open_command Clse e = let clash : false ≡ true = e in cc
-  open_command Cnxn e = let clash : false ≡ true = e in cc
-  open_command Auth e = let clash : false ≡ true = e in cc
-  open_command Stls e = let clash : false ≡ true = e in cc
+  open_command _ e = let clash : false ≡ true = e in cc
 
   -- the server said first who it is
   greeted : (front rest : List Packet) (p : Packet) → p.command ≡ Open → front ++ p ∷ rest ≡ packets_of 1 h

@@ -116,11 +116,9 @@ device_takes t h = go (is_lost t h) (list_any is_refused (brought t h)) refl (pl
 
     go : (a b : Bool) → list_any is_refused (brought t h) ≡ b → (o : Option Row) → plugged t h ≡ o → (c : Bool)
         → Takes (cond (a || (c || b)) None (option_map (row_by (last_cnxn (brought t h)) (brought t h)) o))
-    go true b e o f c = none
     go false b e o f true = none
-    go false true e o f false = none
-    go false false e None f false = none
     go false false e (Some row) f false = by_takes row (plugged_off t h row f) (last_cnxn (brought t h)) (brought t h) (enough_by (brought t h) e)
+    go _ _ e _ f _ = none
 
 pub take_payloads : (h : History) → IsLegal h → TakePayloads h
 take_payloads h legal t = go (state h).stopped refl

@@ -1,11 +1,11 @@
 -- A model device refuses no stream that it opened.
-use Rattle.std.specs.Prelude.{ℕ, ◌+◌, ◌≡◌, ◌≢◌, ◌<◌, ◌≤◌, ◌&&◌, Bool, true, false, cond, nat_eq, All, List, [], ◌∷◌, ◌++◌}
+use Rattle.std.specs.Prelude.{ℕ, ◌+◌, ◌≡◌, ◌≢◌, ◌<◌, ◌≤◌, ◌&&◌, Bool, true, cond, nat_eq, All, List, [], ◌∷◌, ◌++◌}
 use Rattle.std.proofs.Common.{zero, suc, refl, sym, ◌∙◌, ap, subst, arith}
 use Rattle.std.proofs.lemmas.Bool.{eqb-true}
 use Rattle.std.proofs.lemmas.List.{append-nil}
 use Rattle.std.proofs.lemmas.List.Elements.{All-nil, All-head, All-tail}
 use Rattle.adb_wire.specs.declared.command.Command.{Command}
-use Rattle.adb_wire.specs.declared.command.Command.TheVariants.{Cnxn, Open, Okay, Wrte, Clse, Auth, Stls}
+use Rattle.adb_wire.specs.declared.command.Command.TheVariants.{Clse}
 use Rattle.adb_wire.specs.declared.packets.Packet.{Packet}
 use Rattle.adb_history.specs.Births.{count_from, is_open, is_clse}
 use Rattle.adb_device_streams.specs.Stream.{opened, okay, opening_word}
@@ -42,14 +42,7 @@ module _ (l : ℕ) where
           → cond (is_clse c && (a && b)) (1 + how_many (is_close_between 0 l) (packets_of_sent made))
           (how_many (is_close_between 0 l) (packets_of_sent made)) ≡ 0
       by Clse c true e true f none = absurd (here c (eqb-true one.packet.arg0 0 e) (eqb-true one.packet.arg1 l f))
-      by Clse c true e false f none = none
-      by Clse c false e b f none = none
-      by Okay c a e b f none = none
-      by Open c a e b f none = none
-      by Wrte c a e b f none = none
-      by Cnxn c a e b f none = none
-      by Auth c a e b f none = none
-      by Stls c a e b f none = none
+      by _ c _ e _ f none = none
 
   else_none : (made : List Sent) → All (λ (one : Sent). NotTo l one.packet) made → how_many (is_close_between 0 l) (packets_of_sent made) ≡ 0
   else_none [] all = refl
@@ -63,14 +56,7 @@ module _ (l : ℕ) where
           (how_many (is_close_between 0 l) (packets_of_sent made)) ≡ 0
       by Clse c true true f none =
           absurd (All-head (λ (one : Sent). NotTo l one.packet) one made all (ap is_of_stream c) (eqb-true one.packet.arg1 l f))
-      by Clse c true false f none = none
-      by Clse c false b f none = none
-      by Okay c a b f none = none
-      by Open c a b f none = none
-      by Wrte c a b f none = none
-      by Cnxn c a b f none = none
-      by Auth c a b f none = none
-      by Stls c a b f none = none
+      by _ c _ _ f none = none
 
 module _ (setting : Setting) (own : ℕ) (some : own ≢ 0) (packets : List Packet) (f : Found setting own (first_device setting) packets)
     (once : count_from is_open f.asking.arg0 packets ≤ 1) where

@@ -153,13 +153,7 @@ module _ (setting : Setting) (h : History) (legal : IsLegal h) (still : IsStill 
 
         by : (c : Command) → p.command ≡ c → (t : Bool) → nat_eq p.arg1 o.remote ≡ t → IsOwn h 1 c p → (is_clse c && t) ≡ false
         by commands.Clse c true e owned = absurd (closing c (eqb-true p.arg1 o.remote e) owned)
-        by commands.Clse c false e owned = refl
-        by commands.Open c t e owned = refl
-        by commands.Okay c t e owned = refl
-        by commands.Wrte c t e owned = refl
-        by commands.Cnxn c t e owned = refl
-        by commands.Auth c t e owned = refl
-        by commands.Stls c t e owned = refl
+        by _ c _ e owned = refl
 
     none_to : how_many (is_close_to o.remote) (sent 1 h) ≡ 0
     none_to = none_many (is_close_to o.remote) (sent 1 h) (go (sent 1 h) ((no_crossing h legal).own 1) unsent)

@@ -102,9 +102,7 @@ module _ (P : Sent → Type 0) (okays : (sums : Bool) (own host : ℕ) (word : L
     served_all commands.Wrte = write_all (named p.arg0 (at p.arg1 s.rows))
     served_all commands.Okay = okay_all (named p.arg0 (at p.arg1 s.rows))
     served_all commands.Clse = close_all (closable p.arg0 (at p.arg1 s.rows))
-    served_all commands.Cnxn = all
-    served_all commands.Auth = all
-    served_all commands.Stls = all
+    served_all _ = all
 
   step_all : (setting : Setting) (d : Device) (p : Packet) → Behind d.serving.made → Behind (step setting d p).serving.made
   unfolding step

@@ -229,12 +229,7 @@ module _ (setting : Setting) (short : setting.most < 2 ^ 32) (plain : setting.cr
             let found : Some of.birth ≡ Some b = sym of.is ∙ (ap (λ n. born n h) from ∙ birth) in
             let same : of.birth ≡ b = cc in
             of.remote ∙ (ap (λ n. remote_of n of.birth h) from ∙ (ap (λ (c : Birth). remote_of l c h) same ∙ told_as))
-        by p commands.Open k of e from = let clash : false ≡ true = sym (ap is_okay k) ∙ e in cc
-        by p commands.Wrte k of e from = let clash : false ≡ true = sym (ap is_okay k) ∙ e in cc
-        by p commands.Clse k of e from = let clash : false ≡ true = sym (ap is_okay k) ∙ e in cc
-        by p commands.Cnxn k of e from = let clash : false ≡ true = sym (ap is_okay k) ∙ e in cc
-        by p commands.Auth k of e from = let clash : false ≡ true = sym (ap is_okay k) ∙ e in cc
-        by p commands.Stls k of e from = let clash : false ≡ true = sym (ap is_okay k) ∙ e in cc
+        by p _ k of e from = let clash : false ≡ true = sym (ap is_okay k) ∙ e in cc
 
         go : (ps : List Packet) → All (λ p. IsOwn h 1 p.command p) ps → All (Names l u.opening.remote) ps
         go [] all = All-nil (Names l u.opening.remote)

@@ -5,7 +5,7 @@ use Rattle.std.specs.List.{list_any}
 use Rattle.std.proofs.lemmas.Bool.{eq-eqb, eqb-true}
 use Rattle.std.proofs.lemmas.List.Elements.{All-nil, All-cons, All-head, All-tail}
 use Rattle.adb_wire.specs.declared.command.Command.{Command}
-use Rattle.adb_wire.specs.declared.command.Command.TheVariants.{Cnxn, Open, Okay, Wrte, Clse, Auth, Stls}
+use Rattle.adb_wire.specs.declared.command.Command.TheVariants.{Cnxn, Okay, Clse}
 use Rattle.adb_wire.specs.declared.packets.Packet.{Packet}
 use Rattle.adb_history.specs.Links.{credit_word}
 use Rattle.adb_history.specs.Births.{Opening, opening_by, opening_in, is_between, before_close, is_okay, is_clse, count_from}
@@ -96,10 +96,7 @@ opening_split l (p ∷ ps) o is = by p.command refl is (λ e. opening_split l ps
     by Okay k f later = okay (nat_eq p.arg1 l) refl (p.arg0 == 0) refl k f later
     by Clse k f later = closed (is_between 0 l p) (ap is_okay k) f later
     by Cnxn k f later = absurd (let clash : None ≡ Some o = f in cc)
-    by Open k f later = other f (not_okay (ap is_okay k)) later
-    by Wrte k f later = other f (not_okay (ap is_okay k)) later
-    by Auth k f later = other f (not_okay (ap is_okay k)) later
-    by Stls k f later = other f (not_okay (ap is_okay k)) later
+    by _ k f later = other f (not_okay (ap is_okay k)) later
 
 -- OKAYs add up
 pub okays_append : (n l : ℕ) (xs ys : List Packet) → okays_in n l (xs ++ ys) ≡ okays_in n l xs + okays_in n l ys
@@ -150,12 +147,7 @@ unclosed_none n l (p ∷ ps) e = go (is_clse p.command) (is_between 0 l p) (is_b
 -- the two tests of a CLSE are one
 closes_alike : (c : Command) → is_clse c ≡ is_close c
 closes_alike Clse = refl
-closes_alike Open = refl
-closes_alike Okay = refl
-closes_alike Wrte = refl
-closes_alike Cnxn = refl
-closes_alike Auth = refl
-closes_alike Stls = refl
+closes_alike _ = refl
 
 -- where one is of a stream, some are
 some_of : (n : ℕ) (made : List Sent) (front : List Packet) (p : Packet) (rest : List Packet) → packets_of_sent made ≡ front ++ p ∷ rest → p.arg0 ≡ n

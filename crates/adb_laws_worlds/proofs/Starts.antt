@@ -32,15 +32,8 @@ module _ (own host : ℕ) where
           → writes_of own made ≤ length (told_in own host (packets_of_sent made))
           → (if is_write c && a then 1 else 0) + writes_of own made
           ≤ length (cond (is_wrte c && (a && b)) (one.packet.payload ∷ told_in own host (packets_of_sent made)) (told_in own host (packets_of_sent made)))
-      by commands.Wrte c true e true f le = omega (arith, le)
       by commands.Wrte c true e false f le = absurd (let clash : true ≡ false = sym (to c e) ∙ f in cc)
-      by commands.Wrte c false e b f le = omega (arith, le)
-      by commands.Open c a e b f le = omega (arith, le)
-      by commands.Okay c a e b f le = omega (arith, le)
-      by commands.Clse c a e b f le = omega (arith, le)
-      by commands.Cnxn c a e b f le = omega (arith, le)
-      by commands.Auth c a e b f le = omega (arith, le)
-      by commands.Stls c a e b f le = omega (arith, le)
+      by _ c _ e _ f le = omega (arith, le)
 
   -- and so are their bytes
   pub bytes_told : (made : List Sent) → All (GoesTo own host) made → written own made ≡ joined (told_in own host (packets_of_sent made))
@@ -57,13 +50,7 @@ module _ (own host : ℕ) where
           ≡ joined (cond (is_wrte c && (a && b)) (one.packet.payload ∷ told_in own host (packets_of_sent made)) (told_in own host (packets_of_sent made)))
       by commands.Wrte c true e true f same = ap (λ (bytes : List ℕ). one.packet.payload ++ bytes) same
       by commands.Wrte c true e false f same = absurd (let clash : true ≡ false = sym (to c e) ∙ f in cc)
-      by commands.Wrte c false e b f same = same
-      by commands.Open c a e b f same = same
-      by commands.Okay c a e b f same = same
-      by commands.Clse c a e b f same = same
-      by commands.Cnxn c a e b f same = same
-      by commands.Auth c a e b f same = same
-      by commands.Stls c a e b f same = same
+      by _ c _ e b f same = same
 
   -- what is told behind packets in which nothing is told is all that is told
   pub told_behind : (xs ys : List Packet) → length (told_in own host xs) ≡ 0 → told_in own host (xs ++ ys) ≡ told_in own host ys
@@ -85,14 +72,7 @@ module _ (own host : ℕ) where
           → length (cond (is_wrte c && (a && b)) (one.packet.payload ∷ told_in own host (packets_of_sent made)) (told_in own host (packets_of_sent made)))
           ≤ (if is_write c && a then 1 else 0) + writes_of own made
       by commands.Wrte true true le = omega (arith, le)
-      by commands.Wrte true false le = omega (arith, le)
-      by commands.Wrte false b le = omega (arith, le)
-      by commands.Open a b le = omega (arith, le)
-      by commands.Okay a b le = omega (arith, le)
-      by commands.Clse a b le = omega (arith, le)
-      by commands.Cnxn a b le = omega (arith, le)
-      by commands.Auth a b le = omega (arith, le)
-      by commands.Stls a b le = omega (arith, le)
+      by _ _ _ le = omega (arith, le)
 
   -- OKAYs of both ids are some of those to the host's
   pub okays_among : (ps : List Packet) → okays_in own host ps ≤ okays_to host ps
@@ -102,10 +82,8 @@ module _ (own host : ℕ) where
       go : (a b c : Bool) → okays_in own host ps ≤ okays_to host ps
           → cond (a && (b && c)) (1 + okays_in own host ps) (okays_in own host ps) ≤ cond (a && c) (1 + okays_to host ps) (okays_to host ps)
       go true true true le = omega (arith, le)
-      go true true false le = le
       go true false true le = omega (arith, le)
-      go true false false le = le
-      go false b c le = le
+      go _ _ _ le = le
 
   -- A list that begins so, and a front of it without an OKAY of both ids: nothing is told in it, where nothing is told before that OKAY.
   pub none_told : (before : List Packet) (word : List ℕ) (after front rest : List Packet) → before ++ okay own host word ∷ after ≡ front ++ rest

@@ -156,9 +156,7 @@ module _ (own : ℕ) where
     untaken_served commands.Wrte = untaken_write
     untaken_served commands.Okay = untaken_okay
     untaken_served commands.Clse = untaken_close
-    untaken_served commands.Cnxn = j
-    untaken_served commands.Auth = j
-    untaken_served commands.Stls = j
+    untaken_served _ = j
 
   -- one packet
   step_untaken : (setting : Setting) (d : Device) (p : Packet) → IsUntaken d.serving → IsUntaken (step setting d p).serving
@@ -214,9 +212,7 @@ module _ (own host : ℕ) (c : Bool) where
       go : (a b : Bool) → nat_eq p.arg0 host ≡ b → (d : Bool) → nat_eq p.arg1 own ≡ d
           → (cond (a && (b && d)) (1 + 0) 0 ≡ 0) ⊎ ((p.arg0 ≡ host) × ((p.arg1 ≡ own) × (cond (a && (b && d)) (1 + 0) 0 ≡ 1)))
       go true true e true f = inr (eqb-true p.arg0 host e, (eqb-true p.arg1 own f, refl))
-      go true true e false f = inl refl
-      go true false e d f = inl refl
-      go false b e d f = inl refl
+      go _ _ e _ f = inl refl
 
   -- an OKAY of both ids is one
   is_one : (p : Packet) → is_okay p.command ≡ true → p.arg0 ≡ host → p.arg1 ≡ own → okays_one p ≡ 1
@@ -415,9 +411,7 @@ module _ (own host : ℕ) (c : Bool) where
     taking_served commands.Wrte e = still n (okays_one p) (on_write link p s) (none_if p (ap is_okay e)) taking_write
     taking_served commands.Okay e = taking_okay (ap is_okay e)
     taking_served commands.Clse e = still n (okays_one p) (on_close p s) (none_if p (ap is_okay e)) taking_close
-    taking_served commands.Cnxn e = still n (okays_one p) s (none_if p (ap is_okay e)) j
-    taking_served commands.Auth e = still n (okays_one p) s (none_if p (ap is_okay e)) j
-    taking_served commands.Stls e = still n (okays_one p) s (none_if p (ap is_okay e)) j
+    taking_served _ e = still n (okays_one p) s (none_if p (ap is_okay e)) j
 
   -- the device so far: it has a link, and where it refused no CNXN its stream took the OKAYs
   pub record IsSoFar (n : ℕ) (d : Device) : Type 0 where

@@ -176,9 +176,7 @@ module _ (l : ℕ) (Ok : ℕ → Type 0) (base : List Sent) where
     served_else commands.Wrte c apart = write_else
     served_else commands.Okay c apart = okay_else
     served_else commands.Clse c apart = close_else
-    served_else commands.Cnxn c apart = j
-    served_else commands.Auth c apart = j
-    served_else commands.Stls c apart = j
+    served_else _ c apart = j
 
   -- one packet
   step_else : (setting : Setting) (d : Device) (p : Packet) → (is_open p.command ≡ true → p.arg0 ≢ l) → IsFromOk d.serving

@@ -250,15 +250,7 @@ module _ (setting : Setting) (short : setting.most < 2 ^ 32) (h : History) (lega
           go : (b : Bool) → (b || is_lost 1 older) ≡ false → b ≡ false
           go true f = f
           go false f = refl
-      not_detached (Join c) older unlost = refl
-      not_detached (Enter c port) older unlost = refl
-      not_detached (Read c bytes) older unlost = refl
-      not_detached (End c cause) older unlost = refl
-      not_detached (Bound c port) older unlost = refl
-      not_detached (Attach t kind serial) older unlost = refl
-      not_detached (Recv t bytes) older unlost = refl
-      not_detached (Put c bytes) older unlost = refl
-      not_detached (Send t bytes) older unlost = refl
+      not_detached _ older unlost = refl
 
       clash : ⊥
       clash =
