@@ -7,7 +7,7 @@ use Rattle.adb_outside.specs.Tables.{at}
 use Rattle.adb_outside.specs.Framing.{Cut}
 use Rattle.adb_outside.specs.declared.identity.Identity.{Identity}
 use Rattle.adb_outside.specs.declared.identity.State.{State as DeviceState}
-use Rattle.adb_outside.specs.declared.identity.State.TheVariants.{Bootloader, Device, Host, Offline, Recovery, Rescue, Sideload, Unauthorized}
+use Rattle.adb_outside.specs.declared.identity.State.TheVariants.{Offline}
 use Rattle.adb_banner.specs.Banner.{identity_of}
 use Rattle.adb_registry.specs.declared.row.Row.{Row}
 use Rattle.adb_wire.specs.declared.command.Command.{Command}
@@ -54,13 +54,7 @@ cnxn_costs t version maxdata banner s range = go (nat_lt version least_version |
 
 unauthorized_from_costs : (t : ℕ) (state : DeviceState) (s : State) → InRange s → Costs 0 0 s (quietly (unauthorized_from t state s))
 unauthorized_from_costs t Offline s range = costs_aside 0 s (quietly (unauthorized_from t Offline s)) range refl refl (omega arith)
-unauthorized_from_costs t Bootloader s range = costs_quiet s range
-unauthorized_from_costs t Device s range = costs_quiet s range
-unauthorized_from_costs t Host s range = costs_quiet s range
-unauthorized_from_costs t Recovery s range = costs_quiet s range
-unauthorized_from_costs t Sideload s range = costs_quiet s range
-unauthorized_from_costs t Rescue s range = costs_quiet s range
-unauthorized_from_costs t Unauthorized s range = costs_quiet s range
+unauthorized_from_costs t _ s range = costs_quiet s range
 
 unauthorized_costs : (t : ℕ) (o : Option Row) (s : State) → InRange s → Costs 0 0 s (unauthorized t o s)
 unauthorized_costs t None s range = costs_quiet s range
@@ -163,9 +157,7 @@ treat_open_costs t Wrte p s range worth =
 treat_open_costs t Clse p s range worth =
     at_stream_costs t p.arg1 (s.streams p.arg1) (takes_close p.arg1 p.arg0) s range
     (λ stream is. takes_close_costs p.arg1 p.arg0 stream s range is)
-treat_open_costs t Cnxn p s range worth = costs_quiet s range
-treat_open_costs t Auth p s range worth = costs_quiet s range
-treat_open_costs t Stls p s range worth = costs_quiet s range
+treat_open_costs t _ p s range worth = costs_quiet s range
 
 treat_any_costs : (t : ℕ) (command : Command) (p : Packet) (s : State) → InRange s → IsWorth command p.payload → Costs 0 0 s (treat_any t command p s)
 treat_any_costs t Cnxn p s range worth = cnxn_costs t p.arg0 p.arg1 p.payload s range

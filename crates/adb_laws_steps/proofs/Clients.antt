@@ -44,16 +44,6 @@ asked_for_stays e older b a =
 
 asked_now : (c : ℕ) (bytes : List ℕ) (older : History) → 0 < c → (before after : Option Next) → (asked c (Read c bytes ∷ older)).next ≡ after
     → All (IsAskedFor (Read c bytes ∷ older)) (birth_by c (asked c (Read c bytes ∷ older)).used older (newly before after))
-asked_now c bytes older some (Some next) after is = All-nil (IsAskedFor (Read c bytes ∷ older))
-asked_now c bytes older some None None is = All-nil (IsAskedFor (Read c bytes ∷ older))
-asked_now c bytes older some None (Some what.Close) is = All-nil (IsAskedFor (Read c bytes ∷ older))
-asked_now c bytes older some None (Some (what.Select id)) is = All-nil (IsAskedFor (Read c bytes ∷ older))
-asked_now c bytes older some None (Some (what.Track long)) is = All-nil (IsAskedFor (Read c bytes ∷ older))
-asked_now c bytes older some None (Some (what.Bind t local remote chosen)) is = All-nil (IsAskedFor (Read c bytes ∷ older))
-asked_now c bytes older some None (Some (what.Rebind t local remote)) is = All-nil (IsAskedFor (Read c bytes ∷ older))
-asked_now c bytes older some None (Some (what.Unbind local)) is = All-nil (IsAskedFor (Read c bytes ∷ older))
-asked_now c bytes older some None (Some what.UnbindAll) is = All-nil (IsAskedFor (Read c bytes ∷ older))
-asked_now c bytes older some None (Some what.Stop) is = All-nil (IsAskedFor (Read c bytes ∷ older))
 asked_now c bytes older some None (Some (what.Open t service)) is =
     let b : Birth = record {
       client = c;
@@ -65,6 +55,7 @@ asked_now c bytes older some None (Some (what.Open t service)) is =
       packets_before = length (brought t older);
     } in
     All-cons (IsAskedFor (Read c bytes ∷ older)) b [] (record { some = some; next = is; head = refl }) (All-nil (IsAskedFor (Read c bytes ∷ older)))
+asked_now c bytes older some _ _ is = All-nil (IsAskedFor (Read c bytes ∷ older))
 
 all_stay : (e : Entry) (older : History) → All (IsAskedFor older) (births older) → All (IsAskedFor (e ∷ older)) (births older)
 all_stay e older all = All-weaker (IsAskedFor older) (IsAskedFor (e ∷ older)) (λ b a. asked_for_stays e older b a) (births older) all
@@ -110,15 +101,7 @@ read_more c (Read n bytes) older = go (nat_eq n c)
     go : (b : Bool) → length (bytes_read c older) ≤ length (cond b (bytes_read c older ++ bytes) (bytes_read c older))
     go true = let sum = length-append (bytes_read c older) bytes in omega (arith, sum)
     go false = omega arith
-read_more c (Join n) older = omega arith
-read_more c (Enter n port) older = omega arith
-read_more c (End n cause) older = omega arith
-read_more c (Bound n port) older = omega arith
-read_more c (Attach t kind serial) older = omega arith
-read_more c (Recv t bytes) older = omega arith
-read_more c (Detach t cause) older = omega arith
-read_more c (Put n bytes) older = omega arith
-read_more c (Send t bytes) older = omega arith
+read_more c _ older = omega arith
 
 lived_read : (l c : ℕ) (h : History) → length (bytes_read c (lived l h)) ≤ length (bytes_read c h)
 lived_read l c [] = omega arith

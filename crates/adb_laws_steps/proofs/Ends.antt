@@ -6,7 +6,7 @@ use Rattle.adb_outside.specs.declared.kinds.Cause.{Cause}
 use Rattle.adb_outside.specs.declared.kinds.Cause.TheVariants.{Eof, Fault, Starved, NoThread}
 use Rattle.adb_stream.specs.declared.row.Stream.{Stream}
 use Rattle.adb_client.specs.declared.phase.Phase.{Phase}
-use Rattle.adb_client.specs.declared.phase.Phase.TheVariants.{Asking, Opening, Streaming, Binding, Tracking, Closing, Gone}
+use Rattle.adb_client.specs.declared.phase.Phase.TheVariants.{Opening, Streaming, Closing, Gone}
 use Rattle.adb_history.specs.Rows.{Client, Link, State, to_client, to_stream, none_kept, with_stream_part}
 use Rattle.adb_history.specs.Events.{Ending, quietly, ended, client_failed, stopped}
 use Rattle.adb_history.specs.Links.{close_packet, owe_link}
@@ -24,11 +24,7 @@ loses_costs : (forwarded : Bool) (phase : Phase) (c : ℕ) (s : State) → InRan
 loses_costs forwarded (Streaming l) c s range = costs_aside 0 s _ range refl refl (omega arith)
 loses_costs true (Opening l) c s range = costs_aside 0 s _ range refl refl (omega arith)
 loses_costs false (Opening l) c s range = costs_aside 0 s _ range refl refl (omega arith)
-loses_costs forwarded Asking c s range = costs_quiet s range
-loses_costs forwarded Binding c s range = costs_quiet s range
-loses_costs forwarded Tracking c s range = costs_quiet s range
-loses_costs forwarded Closing c s range = costs_quiet s range
-loses_costs forwarded Gone c s range = costs_quiet s range
+loses_costs forwarded _ c s range = costs_quiet s range
 
 client_loses_costs : (o : Option Client) (c : ℕ) (s : State) → InRange s → Costs 0 0 s (client_loses o c s)
 client_loses_costs None c s range = costs_quiet s range
@@ -110,11 +106,7 @@ stream_fails_costs (Opening l) cause s range = go (s.streams l)
         costs_after 0 0 0 s (to_stream l (with_stream_part (orphaned stream.part)) s) _ (quiets_row s range l (with_stream_part (orphaned stream.part)))
         (λ later. costs_aside 0 (to_stream l (with_stream_part (orphaned stream.part)) s) (stream_fails (Opening l) cause (Some stream) s)
         later refl refl (omega arith))
-stream_fails_costs Asking cause s range = costs_quiet s range
-stream_fails_costs Binding cause s range = costs_quiet s range
-stream_fails_costs Tracking cause s range = costs_quiet s range
-stream_fails_costs Closing cause s range = costs_quiet s range
-stream_fails_costs Gone cause s range = costs_quiet s range
+stream_fails_costs _ cause s range = costs_quiet s range
 
 client_fails_costs : (c : ℕ) (cause : Cause) (client : Client) (s : State) → InRange s → Costs 0 0 s (client_fails c cause client s)
 client_fails_costs c cause client s range =
@@ -122,13 +114,9 @@ client_fails_costs c cause client s range =
     (λ later. stream_fails_costs client.about.phase cause (to_client c none_kept s) later)
 
 input_ends_costs : (phase : Phase) (c : ℕ) (s : State) → InRange s → Costs 0 0 s (quietly (input_ends phase c s))
-input_ends_costs Asking c s range = costs_aside 0 s _ range refl refl (omega arith)
-input_ends_costs Binding c s range = costs_aside 0 s _ range refl refl (omega arith)
-input_ends_costs Tracking c s range = costs_aside 0 s _ range refl refl (omega arith)
-input_ends_costs (Opening l) c s range = costs_aside 0 s _ range refl refl (omega arith)
-input_ends_costs (Streaming l) c s range = costs_aside 0 s _ range refl refl (omega arith)
 input_ends_costs Closing c s range = costs_quiet s range
 input_ends_costs Gone c s range = costs_quiet s range
+input_ends_costs _ c s range = costs_aside 0 s _ range refl refl (omega arith)
 
 pub client_ends_costs : (c : ℕ) (cause : Cause) (o : Option Client) (s : State) → InRange s → Costs 0 0 s (client_ends c cause o s)
 client_ends_costs c cause None s range = costs_quiet s range

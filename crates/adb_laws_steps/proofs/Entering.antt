@@ -14,7 +14,7 @@ use Rattle.adb_stream.specs.declared.flow.Flow.TheVariants.{One, Credit}
 use Rattle.adb_stream.specs.declared.row.Stream.{Stream}
 use Rattle.adb_client.specs.declared.about.Want.{Want}
 use Rattle.adb_client.specs.declared.phase.Phase.{Phase}
-use Rattle.adb_client.specs.declared.phase.Phase.TheVariants.{Asking, Opening, Streaming, Binding, Tracking, Closing, Gone}
+use Rattle.adb_client.specs.declared.phase.Phase.TheVariants.{Asking, Opening, Streaming, Binding}
 use Rattle.adb_reply.specs.declared.answer.Next.{Next}
 use Rattle.adb_reply.specs.declared.answer.Next.TheVariants as what
 use Rattle.adb_history.specs.Rows.{Client, State, to_client, to_stream, in_phase, with_stream_part}
@@ -109,10 +109,7 @@ reads_in_costs : (phase : Phase) (c : ℕ) (bytes : List ℕ) (client : Client) 
 reads_in_costs Asking c bytes client s range = asks_costs (asks_with s.devices s.forwards bytes (asked_before client)) c s range
 reads_in_costs (Opening l) c bytes client s range = costs_aside 0 s (reads_in (Opening l) c bytes client s) range refl refl (omega arith)
 reads_in_costs (Streaming l) c bytes client s range = costs_aside 0 s (reads_in (Streaming l) c bytes client s) range refl refl (omega arith)
-reads_in_costs Binding c bytes client s range = costs_quiet s range
-reads_in_costs Tracking c bytes client s range = costs_quiet s range
-reads_in_costs Closing c bytes client s range = costs_quiet s range
-reads_in_costs Gone c bytes client s range = costs_quiet s range
+reads_in_costs _ c bytes client s range = costs_quiet s range
 
 reads_from_costs : (o : Option Client) (c : ℕ) (bytes : List ℕ) (s : State) → InRange s → Costs 0 0 s (reads_from o c bytes s)
 reads_from_costs None c bytes s range = costs_quiet s range
@@ -141,12 +138,7 @@ bound_for_costs (Some want) c port s range = costs_aside 0 s (bound_for (Some wa
 
 bound_in_costs : (phase : Phase) (o : Option Want) (c port : ℕ) (s : State) → InRange s → Costs 0 0 s (bound_in phase o c port s)
 bound_in_costs Binding o c port s range = bound_for_costs o c port s range
-bound_in_costs Asking o c port s range = costs_quiet s range
-bound_in_costs (Opening l) o c port s range = costs_quiet s range
-bound_in_costs (Streaming l) o c port s range = costs_quiet s range
-bound_in_costs Tracking o c port s range = costs_quiet s range
-bound_in_costs Closing o c port s range = costs_quiet s range
-bound_in_costs Gone o c port s range = costs_quiet s range
+bound_in_costs _ o c port s range = costs_quiet s range
 
 bound_at_costs : (o : Option Client) (c port : ℕ) (s : State) → InRange s → Costs 0 0 s (bound_at o c port s)
 bound_at_costs None c port s range = costs_quiet s range
@@ -194,12 +186,7 @@ stream_left_costs due l (Some stream) s range = stream_hands_costs (min (to_hand
 
 client_left_costs : (phase : Phase) (due : ℕ) (s : State) → InRange s → Costs 28 0 s (client_left phase due s)
 client_left_costs (Streaming l) due s range = stream_left_costs due l (s.streams l) s range
-client_left_costs Asking due s range = costs_within 0 28 0 0 s (quietly s) (omega arith) (costs_quiet s range)
-client_left_costs (Opening l) due s range = costs_within 0 28 0 0 s (quietly s) (omega arith) (costs_quiet s range)
-client_left_costs Binding due s range = costs_within 0 28 0 0 s (quietly s) (omega arith) (costs_quiet s range)
-client_left_costs Tracking due s range = costs_within 0 28 0 0 s (quietly s) (omega arith) (costs_quiet s range)
-client_left_costs Closing due s range = costs_within 0 28 0 0 s (quietly s) (omega arith) (costs_quiet s range)
-client_left_costs Gone due s range = costs_within 0 28 0 0 s (quietly s) (omega arith) (costs_quiet s range)
+client_left_costs _ due s range = costs_within 0 28 0 0 s (quietly s) (omega arith) (costs_quiet s range)
 
 takes_of_costs : (c n : ℕ) (o : Option Client) (s : State) → InRange s → Costs 28 0 s (takes_of c n o s)
 takes_of_costs c n None s range = costs_within 0 28 0 0 s (quietly s) (omega arith) (costs_quiet s range)

@@ -4,7 +4,7 @@ use Rattle.std.specs.Prelude.{Option, Some, None}
 use Rattle.std.proofs.Common.{refl, sym, ap, arith, ◌∙◌, ◌⊎◌, inl, inr}
 use Rattle.std.proofs.lemmas.Bool.{eq-eqb, ne_eqb, cases_lt, cases_eq}
 use Rattle.std.proofs.lemmas.List.{length-append}
-use Rattle.adb_capture.specs.declared.entry.Entry.TheVariants.{Join, Enter, Read, End, Bound, Attach, Recv, Detach, Put, Send}
+use Rattle.adb_capture.specs.declared.entry.Entry.TheVariants.{Read, Recv, Put, Send}
 use Rattle.adb_history.specs.Book.{plugged_count}
 use Rattle.adb_history.specs.Bytes.{is_lost, has_ended, bytes_read, bytes_put, bytes_received, bytes_sent}
 use Rattle.adb_history.specs.Machine.{History, state, MayPut, IsLegal}
@@ -38,12 +38,7 @@ module _ (before : History) where
   came_same (Put c bytes ∷ more) steps = came_same more steps.0
   came_same (Recv t bytes ∷ more) steps = came_same more steps.0
   came_same (Send t bytes ∷ more) steps = came_same more steps.0
-  came_same (Join c ∷ more) steps = absurd steps
-  came_same (Enter c port ∷ more) steps = absurd steps
-  came_same (End c cause ∷ more) steps = absurd steps
-  came_same (Bound c port ∷ more) steps = absurd steps
-  came_same (Attach t kind serial ∷ more) steps = absurd steps
-  came_same (Detach t cause ∷ more) steps = absurd steps
+  came_same _ steps = absurd steps
 
   pub plugged_same : (more : History) → AreSteps before more → plugged_count (more ++ before) ≡ plugged_count before
   plugged_same [] steps = refl
@@ -51,12 +46,7 @@ module _ (before : History) where
   plugged_same (Put c bytes ∷ more) steps = plugged_same more steps.0
   plugged_same (Recv t bytes ∷ more) steps = plugged_same more steps.0
   plugged_same (Send t bytes ∷ more) steps = plugged_same more steps.0
-  plugged_same (Join c ∷ more) steps = absurd steps
-  plugged_same (Enter c port ∷ more) steps = absurd steps
-  plugged_same (End c cause ∷ more) steps = absurd steps
-  plugged_same (Bound c port ∷ more) steps = absurd steps
-  plugged_same (Attach t kind serial ∷ more) steps = absurd steps
-  plugged_same (Detach t cause ∷ more) steps = absurd steps
+  plugged_same _ steps = absurd steps
 
   lost_same : (more : History) → AreSteps before more → is_lost 1 (more ++ before) ≡ is_lost 1 before
   lost_same [] steps = refl
@@ -64,12 +54,7 @@ module _ (before : History) where
   lost_same (Put c bytes ∷ more) steps = lost_same more steps.0
   lost_same (Recv t bytes ∷ more) steps = lost_same more steps.0
   lost_same (Send t bytes ∷ more) steps = lost_same more steps.0
-  lost_same (Join c ∷ more) steps = absurd steps
-  lost_same (Enter c port ∷ more) steps = absurd steps
-  lost_same (End c cause ∷ more) steps = absurd steps
-  lost_same (Bound c port ∷ more) steps = absurd steps
-  lost_same (Attach t kind serial ∷ more) steps = absurd steps
-  lost_same (Detach t cause ∷ more) steps = absurd steps
+  lost_same _ steps = absurd steps
 
   pub ended_same : (c : ℕ) (more : History) → AreSteps before more → has_ended c (more ++ before) ≡ has_ended c before
   ended_same c [] steps = refl
@@ -77,12 +62,7 @@ module _ (before : History) where
   ended_same c (Put n bytes ∷ more) steps = ended_same c more steps.0
   ended_same c (Recv t bytes ∷ more) steps = ended_same c more steps.0
   ended_same c (Send t bytes ∷ more) steps = ended_same c more steps.0
-  ended_same c (Join n ∷ more) steps = absurd steps
-  ended_same c (Enter n port ∷ more) steps = absurd steps
-  ended_same c (End n cause ∷ more) steps = absurd steps
-  ended_same c (Bound n port ∷ more) steps = absurd steps
-  ended_same c (Attach t kind serial ∷ more) steps = absurd steps
-  ended_same c (Detach t cause ∷ more) steps = absurd steps
+  ended_same c _ steps = absurd steps
 
   -- a client whose input had ended reads no more and is put no more
   other_client : (c n : ℕ) → has_ended c before ≡ true → has_ended n before ≡ false → n ≢ c
@@ -99,12 +79,7 @@ module _ (before : History) where
       (ne_eqb n c (other_client c n ended steps.2)) ∙ handled_same c ended more steps.0
   handled_same c ended (Recv t bytes ∷ more) steps = handled_same c ended more steps.0
   handled_same c ended (Send t bytes ∷ more) steps = handled_same c ended more steps.0
-  handled_same c ended (Join n ∷ more) steps = absurd steps
-  handled_same c ended (Enter n port ∷ more) steps = absurd steps
-  handled_same c ended (End n cause ∷ more) steps = absurd steps
-  handled_same c ended (Bound n port ∷ more) steps = absurd steps
-  handled_same c ended (Attach t kind serial ∷ more) steps = absurd steps
-  handled_same c ended (Detach t cause ∷ more) steps = absurd steps
+  handled_same c ended _ steps = absurd steps
 
   pub put_same : (c : ℕ) → has_ended c before ≡ true → (more : History) → AreSteps before more
       → length (bytes_put c (more ++ before)) ≡ length (bytes_put c before)
@@ -115,12 +90,7 @@ module _ (before : History) where
   put_same c ended (Read n bytes ∷ more) steps = put_same c ended more steps.0
   put_same c ended (Recv t bytes ∷ more) steps = put_same c ended more steps.0
   put_same c ended (Send t bytes ∷ more) steps = put_same c ended more steps.0
-  put_same c ended (Join n ∷ more) steps = absurd steps
-  put_same c ended (Enter n port ∷ more) steps = absurd steps
-  put_same c ended (End n cause ∷ more) steps = absurd steps
-  put_same c ended (Bound n port ∷ more) steps = absurd steps
-  put_same c ended (Attach t kind serial ∷ more) steps = absurd steps
-  put_same c ended (Detach t cause ∷ more) steps = absurd steps
+  put_same c ended _ steps = absurd steps
 
 has_byte : (l : List ℕ) → l ≢ [] → 1 ≤ length l
 has_byte [] some = absurd (some refl)
@@ -137,12 +107,7 @@ steps_move before (Recv t bytes ∷ more) steps =
     let later = steps_move before more steps.0 in let some = has_byte bytes steps.1 in omega (arith, later, some)
 steps_move before (Send t bytes ∷ more) steps =
     let later = steps_move before more steps.0 in let some = has_byte bytes steps.1 in omega (arith, later, some)
-steps_move before (Join c ∷ more) steps = absurd steps
-steps_move before (Enter c port ∷ more) steps = absurd steps
-steps_move before (End c cause ∷ more) steps = absurd steps
-steps_move before (Bound c port ∷ more) steps = absurd steps
-steps_move before (Attach t kind serial ∷ more) steps = absurd steps
-steps_move before (Detach t cause ∷ more) steps = absurd steps
+steps_move before _ steps = absurd steps
 
 -- ---- one client has more
 module _ (before : History) (here : is_lost 1 before ≡ false) where
@@ -242,12 +207,7 @@ module _ (before : History) (here : is_lost 1 before ≡ false) where
       let size = ap (length {A = ℕ}) all in
       let sum = length-append (bytes_sent 1 (more ++ before)) bytes in
       omega (arith, older, size, sum)
-  moves_counted (Join c ∷ more) legal steps = absurd steps
-  moves_counted (Enter c port ∷ more) legal steps = absurd steps
-  moves_counted (End c cause ∷ more) legal steps = absurd steps
-  moves_counted (Bound c port ∷ more) legal steps = absurd steps
-  moves_counted (Attach t kind serial ∷ more) legal steps = absurd steps
-  moves_counted (Detach t cause ∷ more) legal steps = absurd steps
+  moves_counted _ legal steps = absurd steps
 
   -- what was put has bytes
   pub puts_within : (more : History) → IsLegal (more ++ before) → AreSteps before more
@@ -265,12 +225,7 @@ module _ (before : History) (here : is_lost 1 before ≡ false) where
       let some = has_byte bytes steps.1 in
       let grown = puts_more (more ++ before) c bytes drawn.0 (omega (arith, le, joined, came)) in
       omega (arith, older, grown, some)
-  puts_within (Join c ∷ more) legal steps = absurd steps
-  puts_within (Enter c port ∷ more) legal steps = absurd steps
-  puts_within (End c cause ∷ more) legal steps = absurd steps
-  puts_within (Bound c port ∷ more) legal steps = absurd steps
-  puts_within (Attach t kind serial ∷ more) legal steps = absurd steps
-  puts_within (Detach t cause ∷ more) legal steps = absurd steps
+  puts_within _ legal steps = absurd steps
 
 -- ---- clients whose input had not ended pay
 module _ (before more : History) (steps : AreSteps before more) where
@@ -309,9 +264,4 @@ steps_both before more (Put c bytes ∷ even) steps later =
     (steps_both before more even steps later.0, later.1, sym (ended_same before c more steps) ∙ later.2)
 steps_both before more (Recv t bytes ∷ even) steps later = (steps_both before more even steps later.0, later.1, later.2)
 steps_both before more (Send t bytes ∷ even) steps later = (steps_both before more even steps later.0, later.1, later.2)
-steps_both before more (Join c ∷ even) steps later = absurd later
-steps_both before more (Enter c port ∷ even) steps later = absurd later
-steps_both before more (End c cause ∷ even) steps later = absurd later
-steps_both before more (Bound c port ∷ even) steps later = absurd later
-steps_both before more (Attach t kind serial ∷ even) steps later = absurd later
-steps_both before more (Detach t cause ∷ even) steps later = absurd later
+steps_both before more _ steps later = absurd later

@@ -1,5 +1,5 @@
 -- At rest a client whose input did not end was put all that the device wrote to its stream.
-use Rattle.std.specs.Prelude.{ℕ, ◌+◌, ◌≡◌, ◌≤◌, ◌<◌, ◌&&◌, Bool, true, false, cond, nat_eq, All, List, [], ◌∷◌, ◌++◌, length, drop, codes}
+use Rattle.std.specs.Prelude.{ℕ, ◌+◌, ◌≡◌, ◌≤◌, ◌<◌, ◌&&◌, Bool, true, cond, nat_eq, All, List, [], ◌∷◌, ◌++◌, length, drop, codes}
 use Rattle.std.specs.Prelude.{Option, Some, None}
 use Rattle.std.proofs.Common.{refl, sym, ap, subst, arith, ◌∙◌, ◌⊎◌, inl, inr}
 use Rattle.std.proofs.lemmas.Bool.{cases_eq, cases_lt, eqb-true}
@@ -52,9 +52,7 @@ okay_names own l id (p ∷ packets) all some =
         → 1 ≤ cond (a && (m && n)) (1 + okays_in own l packets) (okays_in own l packets) → (1 ≤ okays_in own l packets → own ≡ id) → own ≡ id
     go true e true f true g some later =
         sym (eqb-true p.arg0 own f) ∙ All-head (OkaysFrom l id) p packets all e (eqb-true p.arg1 l g)
-    go true e true f false g some later = later some
-    go true e false f n g some later = later some
-    go false e m f n g some later = later some
+    go _ e _ f _ g some later = later some
 
 -- what the laws below say of the device
 pub record DeviceLaws (setting : Setting) : Type 0 where

@@ -5,7 +5,7 @@ use Rattle.std.proofs.lemmas.List.{length-append}
 use Rattle.std.proofs.lemmas.List.Elements.{All-head, All-tail}
 use Rattle.adb_wire.specs.Packet.{check_of}
 use Rattle.adb_wire.specs.declared.command.Command.{Command}
-use Rattle.adb_wire.specs.declared.command.Command.TheVariants.{Cnxn, Open, Okay, Wrte, Clse, Auth, Stls}
+use Rattle.adb_wire.specs.declared.command.Command.TheVariants.{Open, Wrte}
 use Rattle.adb_history.specs.Births.{is_wrte}
 use Rattle.adb_daemon.specs.Serving.{Sent, bytes_of, sent_bytes}
 use Rattle.adb_laws_model_device.specs.Owed.{packets_of_sent}
@@ -19,12 +19,7 @@ one_size : (c : Command) (payload : List ℕ) → IsWorth c payload
     → 24 + length payload ≤ toll c payload + 25 * cond (is_wrte c) (length payload) 0
 one_size Open payload worth = absurd worth
 one_size Wrte [] worth = absurd (worth refl)
-one_size Wrte (b ∷ payload) worth = omega arith
-one_size Okay payload worth = omega arith
-one_size Clse payload worth = omega arith
-one_size Cnxn payload worth = omega arith
-one_size Auth payload worth = omega arith
-one_size Stls payload worth = omega arith
+one_size _ _ worth = omega arith
 
 pub made_size : (P : ℕ → Type 0) (made : List Sent) → All (IsFine P) made
     → length (sent_bytes made) ≤ sent_tolls made + 25 * write_bytes (packets_of_sent made)

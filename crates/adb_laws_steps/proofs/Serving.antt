@@ -429,9 +429,7 @@ module _ (q : ℕ → Bool) (base : List Sent) where
   served_stands n commands.Clse link p s host h =
       within n (n + 0) 0 0 (on_close p s) (omega arith)
       (close_stands n p.arg1 (closable p.arg0 (at p.arg1 s.rows)) s (λ row is. closable_there p.arg0 (at p.arg1 s.rows) row is) h)
-  served_stands n commands.Cnxn link p s host h = within n (n + 0) 0 0 s (omega arith) h
-  served_stands n commands.Auth link p s host h = within n (n + 0) 0 0 s (omega arith) h
-  served_stands n commands.Stls link p s host h = within n (n + 0) 0 0 s (omega arith) h
+  served_stands n _ link p s host h = within n (n + 0) 0 0 s (omega arith) h
 
   gone_stands : (n : ℕ) (s : Serving) → Stands n 0 s → Stands n 0 (all_gone s)
   unfolding IsStrictlySortedBy

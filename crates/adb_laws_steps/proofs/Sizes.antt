@@ -7,7 +7,7 @@ use Rattle.std.proofs.lemmas.List.Elements.{All-head, All-tail}
 use Rattle.adb_wire.specs.Header.{header_bytes}
 use Rattle.adb_wire.specs.Packet.{spelling, head_for}
 use Rattle.adb_wire.specs.declared.command.Command.{Command}
-use Rattle.adb_wire.specs.declared.command.Command.TheVariants.{Cnxn, Open, Okay, Wrte, Clse, Auth, Stls}
+use Rattle.adb_wire.specs.declared.command.Command.TheVariants.{Wrte}
 use Rattle.adb_wire.specs.declared.headers.Head.{Head}
 use Rattle.adb_wire.specs.declared.packets.Packet.{Packet}
 use Rattle.adb_history.specs.Events.{Event, due_to_client, due_to_link, ended, packets_to, spelled_to}
@@ -29,14 +29,8 @@ stream_share p = cond (is_wrte p.command) (53 * length p.payload) 0 + cond (is_o
 
 shared_by : (c : Command) (payload : List ℕ) → 24 + length payload + answer_toll c
     ≤ toll c payload + (cond (is_wrte c) (53 * length payload) 0 + cond (is_open c) (76 + length payload) 0)
-shared_by Cnxn payload = omega arith
-shared_by Open payload = omega arith
-shared_by Okay payload = omega arith
 shared_by Wrte [] = omega arith
-shared_by Wrte (b ∷ payload) = omega arith
-shared_by Clse payload = omega arith
-shared_by Auth payload = omega arith
-shared_by Stls payload = omega arith
+shared_by _ _ = omega arith
 
 -- all is paid
 pub shared : (packets : List Packet) → total size (λ p. p.arg0) packets + answer_tolls packets
@@ -128,7 +122,4 @@ share_within l most (p ∷ packets) once all =
     go true false e true f once none later =
         let le = later once in let both = length-append p.payload (carried_in l packets) in omega (arith, le, both)
     go false false e true f once none later = let le = later once in omega (arith, le)
-    go true true e false f once none later = let le = later once in omega (arith, le)
-    go true false e false f once none later = let le = later once in omega (arith, le)
-    go false true e false f once none later = let le = later once in omega (arith, le)
-    go false false e false f once none later = let le = later once in omega (arith, le)
+    go _ _ e _ f once none later = let le = later once in omega (arith, le)

@@ -92,13 +92,11 @@ asks_once p ps on none =
 
 -- a packet that asks is of a stream that was born
 own_drawn : (h : History) (legal : IsLegal h) (c : Command) (p : Packet) → IsOwn h 1 c p → asks c ≡ true → (0 < p.arg0) × (p.arg0 ≤ (state h).drawn)
-own_drawn h legal Open p of on = drawn_for h legal p.arg0 of.birth of.is
-own_drawn h legal Okay p of on = drawn_for h legal p.arg0 of.birth of.is
-own_drawn h legal Wrte p of on = drawn_for h legal p.arg0 of.birth of.is
 own_drawn h legal Cnxn p of on = absurd (let clash : false ≡ true = on in cc)
 own_drawn h legal Clse p of on = absurd (let clash : false ≡ true = on in cc)
 own_drawn h legal Auth p of on = absurd of
 own_drawn h legal Stls p of on = absurd of
+own_drawn h legal _ p of on = drawn_for h legal p.arg0 of.birth of.is
 
 module _ (h : History) (legal : IsLegal h) (q : ℕ → Bool) where
   all_watched : (ps : List Packet) → All (λ p. IsOwn h 1 p.command p) ps

@@ -73,15 +73,7 @@ step_costs e older legal worth =
 puts_more : (e : Entry) (older : History)
     → 58 * plugged_count older + 28 * puts_made older + toll_of e ≡ 58 * plugged_count (e ∷ older) + 28 * puts_made (e ∷ older)
 puts_more (Join c) older = omega arith
-puts_more (Enter c port) older = omega arith
-puts_more (Read c bytes) older = omega arith
-puts_more (End c cause) older = omega arith
-puts_more (Bound c port) older = omega arith
-puts_more (Attach t kind serial) older = omega arith
-puts_more (Recv t bytes) older = omega arith
-puts_more (Detach t cause) older = omega arith
-puts_more (Put c bytes) older = omega arith
-puts_more (Send t bytes) older = omega arith
+puts_more _ older = omega arith
 
 pub tolls_paid : (before more : History) → IsLegal (more ++ before) → BringWorth (more ++ before) → TollsArePaid before more
 tolls_paid before [] legal worth = omega arith
