@@ -10,7 +10,7 @@ use Rattle.adb_wire.specs.declared.command.Command.TheVariants.{Cnxn, Open, Okay
 use Rattle.adb_wire.specs.declared.packets.Packet.{Packet}
 use Rattle.adb_stream.specs.declared.row.Stream.{Stream}
 use Rattle.adb_client.specs.declared.phase.Phase.{Phase}
-use Rattle.adb_client.specs.declared.phase.Phase.TheVariants.{Asking, Opening, Streaming, Binding, Tracking, Closing, Gone}
+use Rattle.adb_client.specs.declared.phase.Phase.TheVariants.{Opening, Streaming, Closing}
 use Rattle.adb_reply.specs.Strings.{failed}
 use Rattle.adb_history.specs.Births.{is_close_of, is_clse}
 use Rattle.adb_history.specs.Clients.{closing, closing_with, closes, owe_client}
@@ -110,11 +110,7 @@ module _ (c : ℕ) (a : Client) (g : State) (here : g.clients c ≡ Some a) wher
   loses_row false (Streaming l) has = closed_row
   loses_row true (Opening l) has = closed_row
   loses_row false (Opening l) has = told_row
-  loses_row forwarded Asking has = absurd has
-  loses_row forwarded Binding has = absurd has
-  loses_row forwarded Tracking has = absurd has
-  loses_row forwarded Closing has = absurd has
-  loses_row forwarded Gone has = absurd has
+  loses_row forwarded _ has = absurd has
 
 -- what its stream's end leaves of it
 module _ (l : ℕ) (x : Stream) (a : Client) (s : State) (owned : x.part.orphan ≡ false) (here : s.clients x.client ≡ Some a)

@@ -74,14 +74,7 @@ use Rattle.adb_laws_gone.proofs.Falling.{none_closing, IsClosing, Fallen, falls}
 killed_before : (e : Entry) (older : History) → IsLegal (e ∷ older) → is_killed (e ∷ older) ≡ false → is_killed older ≡ false
 killed_before (Put c bytes) older legal none = none
 killed_before (Send t bytes) older legal none = none
-killed_before (Join c) older legal none = sym (all_books older legal.0).killed ∙ legal.2.0
-killed_before (Enter c port) older legal none = sym (all_books older legal.0).killed ∙ legal.2.0
-killed_before (Read c bytes) older legal none = sym (all_books older legal.0).killed ∙ legal.2.0
-killed_before (End c cause) older legal none = sym (all_books older legal.0).killed ∙ legal.2.0
-killed_before (Bound c port) older legal none = sym (all_books older legal.0).killed ∙ legal.2.0
-killed_before (Attach t kind serial) older legal none = sym (all_books older legal.0).killed ∙ legal.2.0
-killed_before (Recv t bytes) older legal none = sym (all_books older legal.0).killed ∙ legal.2.0
-killed_before (Detach t cause) older legal none = sym (all_books older legal.0).killed ∙ legal.2.0
+killed_before _ older legal none = sym (all_books older legal.0).killed ∙ legal.2.0
 
 failed_end : (a b f : Bool) → ((a && not b) || f) ≡ false → (f ≡ false) × (a ≡ true → b ≡ true)
 failed_end true true f e = (e, λ same. refl)
@@ -90,15 +83,7 @@ failed_end false b f e = (e, λ same. let clash : false ≡ true = same in cc)
 
 failed_before : (c : ℕ) (e : Entry) (older : History) → has_failed c (e ∷ older) ≡ false → has_failed c older ≡ false
 failed_before c (End n cause) older none = (failed_end (nat_eq n c) (is_orderly cause) (has_failed c older) none).0
-failed_before c (Join n) older none = none
-failed_before c (Enter n port) older none = none
-failed_before c (Read n bytes) older none = none
-failed_before c (Bound n port) older none = none
-failed_before c (Attach t kind serial) older none = none
-failed_before c (Recv t bytes) older none = none
-failed_before c (Detach t cause) older none = none
-failed_before c (Put n bytes) older none = none
-failed_before c (Send t bytes) older none = none
+failed_before c _ older none = none
 
 -- an entry is a hand-out to the client, or it spares it
 spares_or : (c : ℕ) (e : Entry) (older : History) → has_failed c (e ∷ older) ≡ false → Spares c e ⊎ ((bytes : List ℕ) × (e ≡ Put c bytes))
@@ -109,27 +94,12 @@ spares_or c (Put n bytes) older none = go (cases_eq n c)
     go (inr other) = inl other
 spares_or c (End n cause) older none =
     inl (λ same. (failed_end (nat_eq n c) (is_orderly cause) (has_failed c older) none).1 (eq-eqb n c same))
-spares_or c (Join n) older none = inl tt
-spares_or c (Enter n port) older none = inl tt
-spares_or c (Read n bytes) older none = inl tt
-spares_or c (Bound n port) older none = inl tt
-spares_or c (Attach t kind serial) older none = inl tt
-spares_or c (Recv t bytes) older none = inl tt
-spares_or c (Detach t cause) older none = inl tt
-spares_or c (Send t bytes) older none = inl tt
+spares_or c _ older none = inl tt
 
 -- what spares a client puts nothing to it
 put_same : (c : ℕ) (e : Entry) (older : History) → Spares c e → bytes_put c (e ∷ older) ≡ bytes_put c older
 put_same c (Put n bytes) older other = ap (λ (b : Bool). cond b (bytes_put c older ++ bytes) (bytes_put c older)) (ne_eqb n c other)
-put_same c (Join n) older other = refl
-put_same c (Enter n port) older other = refl
-put_same c (Read n bytes) older other = refl
-put_same c (End n cause) older other = refl
-put_same c (Bound n port) older other = refl
-put_same c (Attach t kind serial) older other = refl
-put_same c (Recv t bytes) older other = refl
-put_same c (Detach t cause) older other = refl
-put_same c (Send t bytes) older other = refl
+put_same c _ older other = refl
 
 -- ---- behind the close of its stream
 module _ (l : ℕ) (b : Birth) (h : History) (legal : IsLegal h) (birth : born l h ≡ Some b) (closed : ending_of l h ≡ Some peer_closed) where

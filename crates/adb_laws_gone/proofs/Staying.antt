@@ -7,7 +7,7 @@ use Rattle.adb_outside.specs.Tables.{at}
 use Rattle.adb_outside.specs.Framing.{Cut}
 use Rattle.adb_outside.specs.declared.identity.Identity.{Identity}
 use Rattle.adb_outside.specs.declared.identity.State.{State as DeviceState}
-use Rattle.adb_outside.specs.declared.identity.State.TheVariants.{Offline, Unauthorized, Device, Bootloader, Recovery, Sideload, Rescue, Host}
+use Rattle.adb_outside.specs.declared.identity.State.TheVariants.{Offline}
 use Rattle.adb_banner.specs.Banner.{identity_of}
 use Rattle.adb_registry.specs.declared.row.Row.{Row}
 use Rattle.adb_wire.specs.Cutting.{cut_packets}
@@ -22,7 +22,7 @@ use Rattle.adb_stream.specs.declared.row.Stream.{Stream}
 use Rattle.adb_stream.specs.declared.row.Part.{Part}
 use Rattle.adb_stream.specs.Flow.{is_out_of_turn}
 use Rattle.adb_client.specs.declared.phase.Phase.{Phase}
-use Rattle.adb_client.specs.declared.phase.Phase.TheVariants.{Asking, Opening, Streaming, Binding, Tracking, Closing, Gone}
+use Rattle.adb_client.specs.declared.phase.Phase.TheVariants.{Opening, Streaming, Closing}
 use Rattle.adb_reply.specs.Strings.{failed}
 use Rattle.adb_history.specs.Rows.{Client, Link, State, to_client, to_link, to_stream, none_kept, with_due, with_held, in_phase, with_stream_part}
 use Rattle.adb_history.specs.Events.{Made, Ending, peer_closed, client_closed, out_of_turn, lost, broken, quietly, then_also}
@@ -88,16 +88,7 @@ module _ (c : ℕ) where
   s_loses false (Streaming k) n s apart = s_client n closing s apart
   s_loses true (Opening k) n s apart = s_client n closing s apart
   s_loses false (Opening k) n s apart = s_closes_with n (failed (codes "closed")).bytes s apart
-  s_loses true Asking n s apart = s_quiet s
-  s_loses false Asking n s apart = s_quiet s
-  s_loses true Binding n s apart = s_quiet s
-  s_loses false Binding n s apart = s_quiet s
-  s_loses true Tracking n s apart = s_quiet s
-  s_loses false Tracking n s apart = s_quiet s
-  s_loses true Closing n s apart = s_quiet s
-  s_loses false Closing n s apart = s_quiet s
-  s_loses true Gone n s apart = s_quiet s
-  s_loses false Gone n s apart = s_quiet s
+  s_loses _ _ n s apart = s_quiet s
 
   s_client_loses : (o : Option Client) (n : ℕ) (s : State) → n ≢ c → Stays c s (client_loses o n s)
   s_client_loses None n s apart = s_quiet s
@@ -210,13 +201,7 @@ module _ (c : ℕ) where
       where
         go : (state : DeviceState) → Stays c s (quietly (unauthorized_from t state s))
         go Offline = marked_there (s.clients c)
-        go Unauthorized = s_quiet s
-        go Device = s_quiet s
-        go Bootloader = s_quiet s
-        go Recovery = s_quiet s
-        go Sideload = s_quiet s
-        go Rescue = s_quiet s
-        go Host = s_quiet s
+        go _ = s_quiet s
 
     s_at : (n : ℕ) (o : Option Stream) (rule : Stream → State → Made) (s : State) → s.streams n ≡ o → HasNone c s
         → ((z : Stream) → z.client ≢ c → Stays c s (rule z s)) → Stays c s (at_stream t o rule s)
@@ -230,9 +215,7 @@ module _ (c : ℕ) where
     s_open Wrte p s h = s_at p.arg1 (s.streams p.arg1) (takes_write p.arg1 p.arg0 p.payload) s refl h
         (λ z apart. s_write p.arg1 z apart p.arg0 p.payload s)
     s_open Clse p s h = s_at p.arg1 (s.streams p.arg1) (takes_close p.arg1 p.arg0) s refl h (λ z apart. s_close p.arg1 z apart p.arg0 s)
-    s_open Cnxn p s h = s_quiet s
-    s_open Auth p s h = s_quiet s
-    s_open Stls p s h = s_quiet s
+    s_open _ p s h = s_quiet s
 
     s_any : (command : Command) (p : Packet) (s : State) → HasNone c s → Stays c s (treat_any t command p s)
     s_any Cnxn p s h = s_cnxn p.arg0 p.arg1 p.payload s h

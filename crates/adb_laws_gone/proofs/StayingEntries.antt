@@ -13,7 +13,7 @@ use Rattle.adb_stream.specs.declared.flow.Flow.TheVariants.{One, Credit}
 use Rattle.adb_stream.specs.declared.row.Stream.{Stream}
 use Rattle.adb_stream.specs.Flow.{to_hand, credit_back, handed_to}
 use Rattle.adb_client.specs.declared.phase.Phase.{Phase}
-use Rattle.adb_client.specs.declared.phase.Phase.TheVariants.{Asking, Opening, Streaming, Binding, Tracking, Closing, Gone}
+use Rattle.adb_client.specs.declared.phase.Phase.TheVariants.{Asking, Opening, Streaming, Binding, Closing, Gone}
 use Rattle.adb_client.specs.declared.about.Want.{Want}
 use Rattle.adb_reply.specs.Strings.{failed}
 use Rattle.adb_reply.specs.declared.answer.Next.{Next}
@@ -44,11 +44,7 @@ fails_same (Streaming l) cause (Some stream) s = refl
 fails_same (Streaming l) cause None s = refl
 fails_same (Opening l) cause (Some stream) s = refl
 fails_same (Opening l) cause None s = refl
-fails_same Asking cause o s = refl
-fails_same Binding cause o s = refl
-fails_same Tracking cause o s = refl
-fails_same Closing cause o s = refl
-fails_same Gone cause o s = refl
+fails_same _ cause o s = refl
 
 -- and so does what a device is told of its write
 credit_same : (back l : ℕ) (z : Stream) (s : State) → (tells_credit back l z s).state.clients ≡ s.clients
@@ -76,12 +72,7 @@ stream_same due l (Some z) s = go (nat_eq (min (to_hand z.part.flow) due) (to_ha
 
 left_same : (phase : Phase) (due : ℕ) (s : State) → (client_left phase due s).state.clients ≡ s.clients
 left_same (Streaming l) due s = stream_same due l (s.streams l) s
-left_same Asking due s = refl
-left_same (Opening l) due s = refl
-left_same Binding due s = refl
-left_same Tracking due s = refl
-left_same Closing due s = refl
-left_same Gone due s = refl
+left_same _ due s = refl
 
 module _ (c : ℕ) where
   -- ---- another client asks
@@ -102,10 +93,8 @@ module _ (c : ℕ) where
   s_goes_on (Some (what.Open t service)) n s apart on = s_opens false n t service s apart
   s_goes_on (Some (what.Bind transport local remote chosen)) n s apart on =
       s_client c n (awaits (record { transport = transport; local = local; remote = remote })) s apart
-  s_goes_on (Some (what.Rebind transport local remote)) n s apart on = λ x here e. changed_other n c closing s.clients apart ∙ here
-  s_goes_on (Some (what.Unbind local)) n s apart on = λ x here e. changed_other n c closing s.clients apart ∙ here
-  s_goes_on (Some what.UnbindAll) n s apart on = λ x here e. changed_other n c closing s.clients apart ∙ here
   s_goes_on (Some what.Stop) n s apart on = absurd (let clash : true ≡ false = on in cc)
+  s_goes_on _ n s apart on = λ x here e. changed_other n c closing s.clients apart ∙ here
 
   s_asks : (q : Asked) (n : ℕ) (s : State) → n ≢ c → (asks q n s).state.stopped ≡ false → Stays c s (asks q n s)
   s_asks q n s apart on =
@@ -120,10 +109,7 @@ module _ (c : ℕ) where
   s_reads_in Asking n bytes a s apart on = s_asks (asks_with s.devices s.forwards bytes (asked_before a)) n s apart on
   s_reads_in (Opening k) n bytes a s apart on = s_client c n (with_held (a.held ++ bytes)) s apart
   s_reads_in (Streaming k) n bytes a s apart on = s_client c n (with_held (a.held ++ bytes)) s apart
-  s_reads_in Binding n bytes a s apart on = s_quiet c s
-  s_reads_in Tracking n bytes a s apart on = s_quiet c s
-  s_reads_in Closing n bytes a s apart on = s_quiet c s
-  s_reads_in Gone n bytes a s apart on = s_quiet c s
+  s_reads_in _ n bytes a s apart on = s_quiet c s
 
   s_reads : (o : Option Client) (n : ℕ) (bytes : List ℕ) (s : State) → n ≢ c → (reads_from o n bytes s).state.stopped ≡ false
       → Stays c s (reads_from o n bytes s)
@@ -152,21 +138,14 @@ module _ (c : ℕ) where
 
       go : (phase : Phase) → Stays c s (bound_in phase k.about.want n port s)
       go Binding = wanted k.about.want
-      go Asking = s_quiet c s
-      go (Opening m) = s_quiet c s
-      go (Streaming m) = s_quiet c s
-      go Tracking = s_quiet c s
-      go Closing = s_quiet c s
-      go Gone = s_quiet c s
+      go _ = s_quiet c s
 
   s_input : (phase : Phase) (n : ℕ) (s : State) → n ≢ c → Stays c s (quietly (input_ends phase n s))
-  s_input Asking n s apart = s_client c n closing s apart
-  s_input Binding n s apart = s_client c n closing s apart
-  s_input Tracking n s apart = s_client c n closing s apart
   s_input (Opening k) n s apart = s_client c n input_ended s apart
   s_input (Streaming k) n s apart = s_client c n input_ended s apart
   s_input Closing n s apart = s_quiet c s
   s_input Gone n s apart = s_quiet c s
+  s_input _ n s apart = s_client c n closing s apart
 
   s_client_ends : (n : ℕ) (cause : Cause) (o : Option Client) (s : State) → n ≢ c → Stays c s (client_ends n cause o s)
   s_client_ends n cause None s apart = s_quiet c s
@@ -228,9 +207,7 @@ module _ (c : ℕ) where
       where
         by : (cause : Cause) → is_orderly cause ≡ true → (client_ends c cause (Some x) s).state.clients c ≡ Some x
         by Eof so = ap (λ (p : Phase). (input_ends p c s).clients c) e ∙ here
-        by Fault so = absurd (let clash : false ≡ true = so in cc)
-        by Starved so = absurd (let clash : false ≡ true = so in cc)
-        by NoThread so = absurd (let clash : false ≡ true = so in cc)
+        by _ so = absurd (let clash : false ≡ true = so in cc)
 
     comes_apart : (n : ℕ) → n ≡ s.joined + 1 → n ≢ c
     comes_apart n next same = omega (arith, next, same, below)
