@@ -8,7 +8,7 @@ use Rattle.adb_reply.specs.declared.answer.Next.{Next}
 use Rattle.adb_reply.specs.declared.answer.Next.TheVariants.{Open}
 use Rattle.adb_client.specs.declared.about.Want.{Want}
 use Rattle.adb_capture.specs.declared.entry.Entry.{Entry}
-use Rattle.adb_capture.specs.declared.entry.Entry.TheVariants.{Join, Enter, Read, End, Bound, Attach, Recv, Detach, Put, Send}
+use Rattle.adb_capture.specs.declared.entry.Entry.TheVariants.{Read, Bound, Recv, Put, Send}
 use Rattle.adb_history.specs.Asking.{Asked}
 use Rattle.adb_history.specs.Births.{Birth, birth_by, births, births_at, born}
 use Rattle.adb_history.specs.Book.{book, asked, newly, devices, bound_turn, asked_with, is_asking, forwards}
@@ -48,14 +48,7 @@ asked_same (Bound n port) older c other = go ((book older).waits n)
     go : (want : Option Want) → (bound_turn n port (devices older) want (book older)).asked c ≡ asked c older
     go None = refl
     go (Some want) = refl
-asked_same (Join n) older c other = refl
-asked_same (Enter n port) older c other = refl
-asked_same (End n cause) older c other = refl
-asked_same (Attach t kind serial) older c other = refl
-asked_same (Recv t bytes) older c other = refl
-asked_same (Detach t cause) older c other = refl
-asked_same (Put n bytes) older c other = refl
-asked_same (Send t bytes) older c other = refl
+asked_same _ older c other = refl
 
 -- The stream that a client asked for, by its place among the births.
 pub record IsBornFor (h : History) (c t : ℕ) (service : List ℕ) : Type 0 where
@@ -124,15 +117,10 @@ read_or (Read n bytes) c = go (cases_eq n c)
     go : (n ≡ c) ⊎ (n ≢ c) → ((more : List ℕ) × (Read n bytes ≡ Read c more)) ⊎ ((more : List ℕ) → Read n bytes ≡ Read c more → ⊥)
     go (inl same) = inl (bytes, ap (λ (m : ℕ). Read m bytes) same)
     go (inr other) = inr (λ more same. other (ap client_of same))
-read_or (Join n) c = inr (λ bytes same. cc)
-read_or (Enter n port) c = inr (λ bytes same. cc)
-read_or (End n cause) c = inr (λ bytes same. cc)
-read_or (Bound n port) c = inr (λ bytes same. cc)
-read_or (Attach t kind serial) c = inr (λ bytes same. cc)
 read_or (Recv t bytes) c = inr (λ more same. cc)
-read_or (Detach t cause) c = inr (λ bytes same. cc)
 read_or (Put n bytes) c = inr (λ more same. cc)
 read_or (Send t bytes) c = inr (λ more same. cc)
+read_or _ c = inr (λ bytes same. cc)
 
 pub born_for : (h : History) (c t : ℕ) (service : List ℕ) → (asked c h).next ≡ Some (Open t service) → IsBornFor h c t service
 born_for [] c t service next = absurd (let clash : None ≡ Some (Open t service) = next in cc)

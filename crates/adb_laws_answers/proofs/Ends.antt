@@ -34,27 +34,12 @@ or_before false b e = e
 
 ended_before : (c : ℕ) (e : Entry) (older : History) → has_ended c (e ∷ older) ≡ false → has_ended c older ≡ false
 ended_before c (End n cause) older none = or_before (nat_eq n c) (has_ended c older) none
-ended_before c (Join n) older none = none
-ended_before c (Enter n port) older none = none
-ended_before c (Read n bytes) older none = none
-ended_before c (Bound n port) older none = none
-ended_before c (Attach t kind serial) older none = none
-ended_before c (Recv t bytes) older none = none
-ended_before c (Detach t cause) older none = none
-ended_before c (Put n bytes) older none = none
-ended_before c (Send t bytes) older none = none
+ended_before c _ older none = none
 
 killed_before : (e : Entry) (older : History) → IsLegal (e ∷ older) → is_killed (e ∷ older) ≡ false → is_killed older ≡ false
 killed_before (Put c bytes) older legal none = none
 killed_before (Send t bytes) older legal none = none
-killed_before (Join c) older legal none = sym (all_books older legal.0).killed ∙ legal.2.0
-killed_before (Enter c port) older legal none = sym (all_books older legal.0).killed ∙ legal.2.0
-killed_before (Read c bytes) older legal none = sym (all_books older legal.0).killed ∙ legal.2.0
-killed_before (End c cause) older legal none = sym (all_books older legal.0).killed ∙ legal.2.0
-killed_before (Bound c port) older legal none = sym (all_books older legal.0).killed ∙ legal.2.0
-killed_before (Attach t kind serial) older legal none = sym (all_books older legal.0).killed ∙ legal.2.0
-killed_before (Recv t bytes) older legal none = sym (all_books older legal.0).killed ∙ legal.2.0
-killed_before (Detach t cause) older legal none = sym (all_books older legal.0).killed ∙ legal.2.0
+killed_before _ older legal none = sym (all_books older legal.0).killed ∙ legal.2.0
 
 -- a connection that failed has ended
 pub unfailed : (c : ℕ) (h : History) → has_ended c h ≡ false → has_failed c h ≡ false
@@ -81,15 +66,7 @@ no_close c (End n cause) older none = go (nat_eq n c) (has_ended c older) none
     go : (a f : Bool) → (a || f) ≡ false → (a && is_orderly cause) ≡ false
     go true f e = absurd (let clash : true ≡ false = e in cc)
     go false f e = refl
-no_close c (Join n) older none = refl
-no_close c (Enter n port) older none = refl
-no_close c (Read n bytes) older none = refl
-no_close c (Bound n port) older none = refl
-no_close c (Attach t kind serial) older none = refl
-no_close c (Recv t bytes) older none = refl
-no_close c (Detach t cause) older none = refl
-no_close c (Put n bytes) older none = refl
-no_close c (Send t bytes) older none = refl
+no_close c _ older none = refl
 
 unclosed : (l c : ℕ) (h : History) → has_ended c h ≡ false → has_closed_since l c h ≡ false
 unclosed l c [] none = refl
@@ -205,15 +182,7 @@ read_more c (Read n bytes) older = go (nat_eq n c)
     go : (b : Bool) → IsPrefixOf (bytes_read c older) (cond b (bytes_read c older ++ bytes) (bytes_read c older))
     go true = (bytes, refl)
     go false = ([], append-nil (bytes_read c older))
-read_more c (Join n) older = ([], append-nil (bytes_read c older))
-read_more c (Enter n port) older = ([], append-nil (bytes_read c older))
-read_more c (End n cause) older = ([], append-nil (bytes_read c older))
-read_more c (Bound n port) older = ([], append-nil (bytes_read c older))
-read_more c (Attach t kind serial) older = ([], append-nil (bytes_read c older))
-read_more c (Recv t bytes) older = ([], append-nil (bytes_read c older))
-read_more c (Detach t cause) older = ([], append-nil (bytes_read c older))
-read_more c (Put n bytes) older = ([], append-nil (bytes_read c older))
-read_more c (Send t bytes) older = ([], append-nil (bytes_read c older))
+read_more c _ older = ([], append-nil (bytes_read c older))
 
 lived_front : (l c : ℕ) (h : History) → IsPrefixOf (bytes_read c (lived l h)) (bytes_read c h)
 lived_front l c [] = ([], refl)
