@@ -304,9 +304,7 @@ module _ (l n : ℕ) where
     answered_served commands.Wrte c = answered_write c
     answered_served commands.Okay c = answered_okay c
     answered_served commands.Clse c = answered_close c
-    answered_served commands.Cnxn c = same_rows 0 s refl (owes_none l 0 s.made) (count_none is_wrte l p (ap is_wrte c))
-    answered_served commands.Auth c = same_rows 0 s refl (owes_none l 0 s.made) (count_none is_wrte l p (ap is_wrte c))
-    answered_served commands.Stls c = same_rows 0 s refl (owes_none l 0 s.made) (count_none is_wrte l p (ap is_wrte c))
+    answered_served _ c = same_rows 0 s refl (owes_none l 0 s.made) (count_none is_wrte l p (ap is_wrte c))
 
   -- ---- devices
   -- a link without credit, or none and no stream

@@ -236,9 +236,7 @@ module _ (link : Link) (short : link.most ≤ MAX_PAYLOAD) (p : Packet) (words :
   fine_served commands.Wrte = fine_write
   fine_served commands.Okay = fine_okay
   fine_served commands.Clse = fine_close
-  fine_served commands.Cnxn = fine
-  fine_served commands.Auth = fine
-  fine_served commands.Stls = fine
+  fine_served _ = fine
 
 -- the link is short, and what is due is fine
 record IsFine (d : Device) : Type 0 where

@@ -319,9 +319,7 @@ module _ (l n : ℕ) where
       came_served commands.Wrte c = came_write c
       came_served commands.Okay c = came_okay c
       came_served commands.Clse c = came_close c
-      came_served commands.Cnxn c = same s s refl refl (carries_none l p (ap is_wrte c)) j
-      came_served commands.Auth c = same s s refl refl (carries_none l p (ap is_wrte c)) j
-      came_served commands.Stls c = same s s refl refl (carries_none l p (ap is_wrte c)) j
+      came_served _ c = same s s refl refl (carries_none l p (ap is_wrte c)) j
 
     -- where there is no row there is none to take anything
     no_rows : (s new : Serving) → new.rows ≡ [] → IsRising new.rows → Over more new.ended → (o ≡ 0 → text ≡ []) → CameSoFar now more new

@@ -211,9 +211,7 @@ module _ (l : ℕ) where
     served_hosted id commands.Wrte c other h = write_hosted id h
     served_hosted id commands.Okay c other h = okay_hosted id h
     served_hosted id commands.Clse c other h = close_hosted id h
-    served_hosted id commands.Cnxn c other h = h
-    served_hosted id commands.Auth c other h = h
-    served_hosted id commands.Stls c other h = h
+    served_hosted id _ c other h = h
 
   -- a CNXN ends all streams
   linked_hosted : (id : Option ℕ) (d : Device) (link : Option Link) → IsHosted id d.serving → IsHosted id (linked_to link d).serving
@@ -270,12 +268,7 @@ module _ (l : ℕ) where
   -- OPEN is one command
   open_command : (c : Command) → is_open c ≡ true → c ≡ commands.Open
   open_command commands.Open e = refl
-  open_command commands.Wrte e = let clash : false ≡ true = e in cc
-  open_command commands.Okay e = let clash : false ≡ true = e in cc
-  open_command commands.Clse e = let clash : false ≡ true = e in cc
-  open_command commands.Cnxn e = let clash : false ≡ true = e in cc
-  open_command commands.Auth e = let clash : false ≡ true = e in cc
-  open_command commands.Stls e = let clash : false ≡ true = e in cc
+  open_command _ e = let clash : false ≡ true = e in cc
 
   -- behind all packets there is such an id
   all_hosted : (setting : Setting) (packets : List Packet) (d : Device) (id : Option ℕ) → IsHosted id d.serving → Asks id (count_from is_open l packets)
@@ -351,12 +344,7 @@ module _ (l : ℕ) where
       by : (c : Command) → is_okay c ≡ true
           → (is_of_stream c ≡ true → one.packet.arg1 ≡ l → (one.packet.arg0 ≡ n) ⊎ ((is_clse c ≡ true) × (one.packet.arg0 ≡ 0))) → one.packet.arg0 ≡ n
       by commands.Okay is from = elim (from refl f) [ inl same ↦ same | inr close ↦ absurd (let clash : false ≡ true = close.0 in cc) ]
-      by commands.Open is from = let clash : false ≡ true = is in cc
-      by commands.Wrte is from = let clash : false ≡ true = is in cc
-      by commands.Clse is from = let clash : false ≡ true = is in cc
-      by commands.Cnxn is from = let clash : false ≡ true = is in cc
-      by commands.Auth is from = let clash : false ≡ true = is in cc
-      by commands.Stls is from = let clash : false ≡ true = is in cc
+      by _ is from = let clash : false ≡ true = is in cc
 
   all_from : (n : ℕ) (made : List Sent) → All (ComesFrom l n) made → All (From n) (packets_of_sent made)
   all_from n [] all = All-nil (From n)

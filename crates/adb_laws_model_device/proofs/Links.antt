@@ -51,7 +51,5 @@ refuses_alike most credit p cnxn =
   where
     by : (old small : Bool) (identity : Option Identity)
         → is_none (if old || small then None else link_to most credit p identity) ≡ (old || small || is_none identity)
-    by true small identity = refl
-    by false true identity = refl
     by false false None = refl
-    by false false (Some identity) = refl
+    by _ _ _ = refl

@@ -346,9 +346,7 @@ module _ (n l : ℕ) where
   alive_served z link p s j commands.Wrte c = grown z (z + closes_in p) (on_write link p s) (omega arith) (alive_write z link p s j)
   alive_served z link p s j commands.Okay c = grown z (z + closes_in p) (on_okay link p s) (omega arith) (alive_okay z link p s j)
   alive_served z link p s j commands.Clse c = alive_close z link p s j c
-  alive_served z link p s j commands.Cnxn c = grown z (z + closes_in p) s (omega arith) j
-  alive_served z link p s j commands.Auth c = grown z (z + closes_in p) s (omega arith) j
-  alive_served z link p s j commands.Stls c = grown z (z + closes_in p) s (omega arith) j
+  alive_served z link p s j _ c = grown z (z + closes_in p) s (omega arith) j
 
   -- The device so far, where its host said so often who it is: before that nothing is due to a stream.
   record IsAliveSoFar (c z : ℕ) (d : Device) : Type 0 where

@@ -77,15 +77,13 @@ none_goes own host (one ∷ made) okays count closed =
         → (if is_write c && b then 1 else 0) + writes_of own made ≡ 0
         → ((is_close c && b) || is_closed own made) ≡ false → Rest → All (GoesTo own host) (one ∷ made)
     by commands.Okay e true f okays count closed rest = absurd (let clash : one.packet.payload ∷ okays_of own made ≡ [] = okays in cc)
-    by commands.Okay e false f okays count closed rest = apart f (rest okays (no_more count) closed)
     by commands.Wrte e true f okays count closed rest = absurd (omega (arith, count))
-    by commands.Wrte e false f okays count closed rest = apart f (rest okays (no_more count) closed)
     by commands.Clse e true f okays count closed rest = absurd (let clash : true ≡ false = closed in cc)
-    by commands.Clse e false f okays count closed rest = apart f (rest okays (no_more count) closed)
     by commands.Open e b f okays count closed rest = other commands.Open e refl (rest okays (no_more count) closed)
     by commands.Cnxn e b f okays count closed rest = other commands.Cnxn e refl (rest okays (no_more count) closed)
     by commands.Auth e b f okays count closed rest = other commands.Auth e refl (rest okays (no_more count) closed)
     by commands.Stls e b f okays count closed rest = other commands.Stls e refl (rest okays (no_more count) closed)
+    by _ e false f okays count closed rest = apart f (rest okays (no_more count) closed)
 
 -- ---- an id that was drawn
 module _ (own host : ℕ) (kind : Kind) (first : List Entry) where
@@ -308,9 +306,7 @@ module _ (own host : ℕ) (kind : Kind) (first : List Entry) where
     opened_served commands.Wrte = opened_write
     opened_served commands.Okay = opened_okay
     opened_served commands.Clse = opened_close
-    opened_served commands.Cnxn = j
-    opened_served commands.Auth = j
-    opened_served commands.Stls = j
+    opened_served _ = j
 
   -- all streams end
   opened_gone : (s : Serving) → IsOpened s → IsOpened (all_gone s)

@@ -182,9 +182,7 @@ module _ (l : ℕ) (link : Link) (p : Packet) (s : Serving) where
   owes_served commands.Wrte c = owes_write c
   owes_served commands.Okay c = owes_okay
   owes_served commands.Clse c = owes_close
-  owes_served commands.Cnxn c = owes_none l (asks l p) s.made
-  owes_served commands.Auth c = owes_none l (asks l p) s.made
-  owes_served commands.Stls c = owes_none l (asks l p) s.made
+  owes_served _ c = owes_none l (asks l p) s.made
 
 -- what one packet lets become due
 pub owes_step : (l : ℕ) (setting : Setting) (d : Device) (p : Packet) → Owes l (asks l p) d.serving.made (step setting d p).serving.made

@@ -26,12 +26,9 @@ IsServers p = is_cnxn p.command ≡ true → p ≡ server_cnxn
 -- so are those that it sends
 own_servers : (h : History) (t : ℕ) (p : Packet) (command : Command) → p.command ≡ command → IsOwn h t command p → IsServers p
 own_servers h t p commands.Cnxn c own = λ e. own
-own_servers h t p commands.Open c own = λ e. absurd (let clash : false ≡ true = sym (ap is_cnxn c) ∙ e in cc)
-own_servers h t p commands.Okay c own = λ e. absurd (let clash : false ≡ true = sym (ap is_cnxn c) ∙ e in cc)
-own_servers h t p commands.Wrte c own = λ e. absurd (let clash : false ≡ true = sym (ap is_cnxn c) ∙ e in cc)
-own_servers h t p commands.Clse c own = λ e. absurd (let clash : false ≡ true = sym (ap is_cnxn c) ∙ e in cc)
 own_servers h t p commands.Auth c own = absurd own
 own_servers h t p commands.Stls c own = absurd own
+own_servers h t p _ c own = λ e. absurd (let clash : false ≡ true = sym (ap is_cnxn c) ∙ e in cc)
 
 -- the server's CNXN makes a link with any device
 pub makes_link : (most : ℕ) (credit : Bool) → is_some (link_of most credit server_cnxn) ≡ true
