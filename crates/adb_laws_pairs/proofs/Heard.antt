@@ -92,10 +92,7 @@ module _ (l r : ℕ) where
       by Okay k f later = okay (nat_eq p.arg1 l) refl (p.arg0 == 0) refl k f later
       by Clse k f later = closed (is_between 0 l p) (ap is_okay k) f later
       by Cnxn k f later = absurd (let clash : None ≡ Some o = f in cc)
-      by Open k f later = other (ap is_okay k) f later
-      by Wrte k f later = other (ap is_okay k) f later
-      by Auth k f later = other (ap is_okay k) f later
-      by Stls k f later = other (ap is_okay k) f later
+      by _ k f later = other (ap is_okay k) f later
 
 -- ---- nothing is sent of a stream that is not born
 module _ (h : History) (l : ℕ) (unborn : born l h ≡ None) where

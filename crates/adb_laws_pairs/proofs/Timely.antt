@@ -3,7 +3,7 @@ use Rattle.std.proofs.Common.{◌≡◌, ℕ, ◌+◌, ◌≤◌, Bool, true, fa
 use Rattle.std.proofs.Common.{◌∙◌, arith}
 use Rattle.std.specs.Prelude.{◌&&◌, nat_eq, ◌==◌}
 use Rattle.adb_wire.specs.declared.command.Command.{Command}
-use Rattle.adb_wire.specs.declared.command.Command.TheVariants.{Cnxn, Open, Okay, Wrte, Clse, Auth, Stls}
+use Rattle.adb_wire.specs.declared.command.Command.TheVariants.{Cnxn, Okay, Clse}
 use Rattle.adb_wire.specs.declared.packets.Packet.{Packet}
 use Rattle.adb_capture.specs.declared.entry.Entry.{Entry}
 use Rattle.adb_history.specs.Links.{credit_word}
@@ -31,10 +31,8 @@ okays_from r l (p ∷ ps) = go (is_okay p.command) (nat_eq p.arg0 r) (nat_eq p.a
     go : (a b c : Bool) → okays_in r l ps ≤ okays_to l ps
         → cond (a && (b && c)) (1 + okays_in r l ps) (okays_in r l ps) ≤ cond (a && c) (1 + okays_to l ps) (okays_to l ps)
     go true true true le = omega (arith, le)
-    go true true false le = le
     go true false true le = omega (arith, le)
-    go true false false le = le
-    go false b c le = le
+    go _ _ _ le = le
 
 -- so with its opening a stream heard no more OKAYs than came to it
 pub opening_counts : (l : ℕ) (ps : List Packet) (o : Opening) → opening_in l ps ≡ Some o → 1 + okays_in o.remote l o.later ≤ okays_to l ps
@@ -69,10 +67,7 @@ opening_counts l (p ∷ ps) o is = by p.command refl is (opening_counts l ps o)
     by Okay k e later = okay (nat_eq p.arg1 l) (p.arg0 == 0) refl e k later
     by Clse k e later = closed (is_between 0 l p) e later
     by Cnxn k e later = absurd (let clash : None ≡ Some o = e in cc)
-    by Open k e later = other e later
-    by Wrte k e later = other e later
-    by Auth k e later = other e later
-    by Stls k e later = other e later
+    by _ k e later = other e later
 
 -- the OKAYs after the opening of a stream are fewer than those that its link brought
 after_within : (l : ℕ) (b : Birth) (h : History) (most : ℕ) → okays_to l (brought b.link h) ≤ 1 + most → okays_after l b h ≤ most

@@ -7,7 +7,7 @@ use Rattle.std.proofs.lemmas.Bool.{eqb-true, cases_lt}
 use Rattle.std.proofs.lemmas.List.{length-append}
 use Rattle.std.proofs.lemmas.List.Elements.{All-head, All-tail}
 use Rattle.adb_wire.specs.declared.command.Command.{Command}
-use Rattle.adb_wire.specs.declared.command.Command.TheVariants.{Cnxn, Open, Okay, Wrte, Clse, Auth, Stls}
+use Rattle.adb_wire.specs.declared.command.Command.TheVariants.{Cnxn, Okay, Clse}
 use Rattle.adb_wire.specs.declared.packets.Packet.{Packet}
 use Rattle.adb_capture.specs.declared.entry.Entry.{Entry}
 use Rattle.adb_history.specs.Links.{credit_word}
@@ -58,10 +58,8 @@ told_from r l (p ∷ ps) = go (is_wrte p.command) (nat_eq p.arg0 r) (nat_eq p.ar
     go : (a b c : Bool) → length (told_in r l ps) ≤ writes_to l ps
         → length (cond (a && (b && c)) (p.payload ∷ told_in r l ps) (told_in r l ps)) ≤ cond (a && c) (1 + writes_to l ps) (writes_to l ps)
     go true true true le = omega (arith, le)
-    go true true false le = le
     go true false true le = omega (arith, le)
-    go true false false le = le
-    go false b c le = le
+    go _ _ _ le = le
 
 -- what the opening device told, too
 opened_told : (l : ℕ) (ps : List Packet) (o : Opening) → opening_in l ps ≡ Some o → length (told_in o.remote l o.later) ≤ writes_to l ps
@@ -90,10 +88,7 @@ opened_told l (p ∷ ps) o is = by p.command is (opened_told l ps o)
     by Okay e later = okay (nat_eq p.arg1 l && not (p.arg0 == 0)) e later
     by Clse e later = closed (is_between 0 l p) e later
     by Cnxn e later = absurd (let clash : None ≡ Some o = e in cc)
-    by Open e later = other e later
-    by Wrte e later = other e later
-    by Auth e later = other e later
-    by Stls e later = other e later
+    by _ e later = other e later
 
 -- and so all that was told of a stream
 pub told_within : (l : ℕ) (b : Birth) (h : History) → length (told_to l b h) ≤ writes_to l (brought b.link h)
@@ -137,12 +132,7 @@ okay_owner h l (p ∷ ps) own =
 
     by : (c : Command) → p.command ≡ c → IsOwn h 1 p.command p → (count_from is_okay l ps ≡ 0) ⊎ HasOwner h l → Goal
     by Okay e one later = at (nat_eq p.arg0 l) refl e one later
-    by Clse e one later = other (ap is_okay e) later
-    by Cnxn e one later = other (ap is_okay e) later
-    by Open e one later = other (ap is_okay e) later
-    by Wrte e one later = other (ap is_okay e) later
-    by Auth e one later = other (ap is_okay e) later
-    by Stls e one later = other (ap is_okay e) later
+    by _ e one later = other (ap is_okay e) later
 
 -- ---- lists
 -- a list that has a front and another front, of which the first is no longer, begins with both

@@ -4,7 +4,7 @@ use Rattle.std.proofs.Common.{zero, suc, refl, sym, ◌∙◌, ap, subst, arith,
 use Rattle.std.proofs.lemmas.Bool.{eqb-true}
 use Rattle.std.proofs.lemmas.List.Elements.{All-nil, All-cons, All-head, All-tail}
 use Rattle.adb_wire.specs.declared.command.Command.{Command}
-use Rattle.adb_wire.specs.declared.command.Command.TheVariants.{Cnxn, Open, Okay, Wrte, Clse, Auth, Stls}
+use Rattle.adb_wire.specs.declared.command.Command.TheVariants.{Wrte}
 use Rattle.adb_wire.specs.declared.packets.Packet.{Packet}
 use Rattle.adb_history.specs.Events.{packets_to}
 use Rattle.adb_history.specs.Machine.{History, IsLegal, told, told_at}
@@ -115,12 +115,7 @@ module _ (l : ℕ) where
 
       by : (c : Command) → p.command ≡ c → IsOwn h 1 p.command p → (count_from is_wrte l ps ≡ 0) ⊎ HasTold h → Goal
       by Wrte e one later = at (nat_eq p.arg0 l) refl e one later
-      by Clse e one later = other (ap is_wrte e) later
-      by Cnxn e one later = other (ap is_wrte e) later
-      by Open e one later = other (ap is_wrte e) later
-      by Okay e one later = other (ap is_wrte e) later
-      by Auth e one later = other (ap is_wrte e) later
-      by Stls e one later = other (ap is_wrte e) later
+      by _ e one later = other (ap is_wrte e) later
 
   -- so an OKAY to it was brought
   told_okay : (h : History) → HasTold h → 1 ≤ okays_to l (brought 1 h)
@@ -188,12 +183,7 @@ module _ (l : ℕ) where
           let found : Some of.birth ≡ Some b = sym of.is ∙ (ap (λ n. born n h) f ∙ is) in
           let same : of.birth ≡ b = cc in
           of.remote ∙ (ap (λ n. remote_of n of.birth h) f ∙ ap (λ (x : Birth). remote_of l x h) same)
-      by Open k e f one = let clash : false ≡ true = sym (ap is_wrte k) ∙ e in cc
-      by Okay k e f one = let clash : false ≡ true = sym (ap is_wrte k) ∙ e in cc
-      by Clse k e f one = let clash : false ≡ true = sym (ap is_wrte k) ∙ e in cc
-      by Cnxn k e f one = let clash : false ≡ true = sym (ap is_wrte k) ∙ e in cc
-      by Auth k e f one = let clash : false ≡ true = sym (ap is_wrte k) ∙ e in cc
-      by Stls k e f one = let clash : false ≡ true = sym (ap is_wrte k) ∙ e in cc
+      by _ k e f one = let clash : false ≡ true = sym (ap is_wrte k) ∙ e in cc
 
 -- so what was sent of each stream came in its turn
 pub sent_in_turn : (owes : RemoteEnd) → IsPlain owes → (h : History) → IsLegal h → IsPaired owes h → SentInTurn h
