@@ -126,11 +126,7 @@ module _ (setting : Setting) (l : ℕ) where
       one : (command : Command) → IsWriting l command p → (s : Serving) → KeptIn (unopened l first) s → Allows (unopened l first) command p s
       one commands.Open writes s k = absurd writes
       one commands.Wrte writes s k = wrote writes s k
-      one commands.Okay writes s k = tt
-      one commands.Clse writes s k = tt
-      one commands.Cnxn writes s k = tt
-      one commands.Auth writes s k = tt
-      one commands.Stls writes s k = tt
+      one _ writes s k = tt
 
   allow_alone : (id : ℕ) (first : List Entry) (ps : List Packet) → Every (IsWriting l) ps → AllAllow (alone l id first) setting ps
   allow_alone id first [] every = tt
@@ -152,11 +148,7 @@ module _ (setting : Setting) (l : ℕ) where
       one : (command : Command) → IsWriting l command p → (s : Serving) → Allows (alone l id first) command p s
       one commands.Open writes s = absurd writes
       one commands.Wrte writes s = wrote writes s
-      one commands.Okay writes s = tt
-      one commands.Clse writes s = tt
-      one commands.Cnxn writes s = tt
-      one commands.Auth writes s = tt
-      one commands.Stls writes s = tt
+      one _ writes s = tt
 
   -- ---- the packet that asks for it
   asked_here : (p : Packet) (ps : List Packet) → p.command ≡ commands.Open → p.arg0 ≡ l
@@ -179,11 +171,7 @@ module _ (setting : Setting) (l : ℕ) where
       one : (command : Command) → p.command ≡ command → IsOfOne l command p → IsWriting l command p
       one commands.Open asks own = (let here = asked_here p ps asks own in omega (arith, here, zeroth))
       one commands.Wrte writes own = own
-      one commands.Okay okay own = tt
-      one commands.Clse close own = tt
-      one commands.Cnxn says own = tt
-      one commands.Auth says own = tt
-      one commands.Stls says own = tt
+      one _ _ own = tt
 
   -- All before it and behind it write.
   record Split (ps : List Packet) : Type 0 where
@@ -358,11 +346,7 @@ allow_echoing setting d first (p ∷ ps) every = (λ s k. one p.command every.0 
           row = λ so. echoes;
         }
     one commands.Wrte writes s k = wrote writes s k
-    one commands.Okay writes s k = tt
-    one commands.Clse writes s k = tt
-    one commands.Cnxn writes s k = tt
-    one commands.Auth writes s k = tt
-    one commands.Stls writes s k = tt
+    one _ writes s k = tt
 
 pub echoes_leave : (setting : Setting) → EchoesLeaveFiles setting
 echoes_leave setting d before ps none every =

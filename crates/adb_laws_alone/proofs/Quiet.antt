@@ -3,7 +3,7 @@ use Rattle.std.specs.Prelude.{ℕ, ◌≡◌, Bool, true, false, cond, fold, Lis
 use Rattle.std.proofs.Common.{refl, ◌∙◌, ap}
 use Rattle.std.proofs.lemmas.List.{append-nil}
 use Rattle.adb_wire.specs.declared.command.Command.{Command}
-use Rattle.adb_wire.specs.declared.command.Command.TheVariants.{Cnxn, Open, Okay, Wrte, Clse, Auth, Stls}
+use Rattle.adb_wire.specs.declared.command.Command.TheVariants.{Open, Okay, Wrte, Clse}
 use Rattle.adb_wire.specs.declared.packets.Packet.{Packet}
 use Rattle.adb_wire.specs.Format.{is_cnxn}
 use Rattle.adb_files.specs.Entries.{Entry}
@@ -80,9 +80,7 @@ module _ (link : Link) (p : Packet) (s : Serving) where
   served_files Wrte leaves = written_files (named p.arg0 (at p.arg1 s.rows)) leaves
   served_files Okay leaves = acked_files (named p.arg0 (at p.arg1 s.rows))
   served_files Clse leaves = closed_files (closable p.arg0 (at p.arg1 s.rows))
-  served_files Cnxn leaves = refl
-  served_files Auth leaves = refl
-  served_files Stls leaves = refl
+  served_files _ leaves = refl
 
 module _ (setting : Setting) where
   step_files : (d : Device) (p : Packet) → LeavesFiles p.command p → (step setting d p).serving.files ≡ d.serving.files

@@ -328,9 +328,7 @@ module _ (w : Watch) where
     served_keeps commands.Wrte allows = write_keeps allows
     served_keeps commands.Okay allows = okay_keeps
     served_keeps commands.Clse allows = close_keeps
-    served_keeps commands.Cnxn allows = k
-    served_keeps commands.Auth allows = k
-    served_keeps commands.Stls allows = k
+    served_keeps _ allows = k
 
   -- all streams end
   all_keep : (s : Serving) → KeptIn s → Keeps [] (map (ended_at false) s.rows ++ s.ended) s.files
