@@ -6,7 +6,7 @@ use Rattle.std.proofs.lemmas.Bool.{cases_lt}
 use Rattle.std.proofs.lemmas.List.{append-nil, drop-append-le, drop_all}
 use Rattle.adb_outside.specs.Bytes.{IsPrefixOf}
 use Rattle.adb_capture.specs.declared.entry.Entry.{Entry}
-use Rattle.adb_capture.specs.declared.entry.Entry.TheVariants.{Join, Enter, Read, End, Bound, Attach, Recv, Detach, Put, Send}
+use Rattle.adb_capture.specs.declared.entry.Entry.TheVariants.{Put}
 use Rattle.adb_history.specs.Asking.{Asked}
 use Rattle.adb_history.specs.Machine.{History, IsLegal}
 use Rattle.adb_history.specs.Bytes.{bytes_put}
@@ -40,15 +40,7 @@ put_stays c (Put n bytes) older = go (eqb n c)
     go : (own : Bool) → IsPrefixOf (bytes_put c older) (cond own (bytes_put c older ++ bytes) (bytes_put c older))
     go true = (bytes, refl)
     go false = prefix_same (bytes_put c older)
-put_stays c (Join n) older = prefix_same (bytes_put c older)
-put_stays c (Enter n port) older = prefix_same (bytes_put c older)
-put_stays c (Read n bytes) older = prefix_same (bytes_put c older)
-put_stays c (End n cause) older = prefix_same (bytes_put c older)
-put_stays c (Bound n port) older = prefix_same (bytes_put c older)
-put_stays c (Attach t kind serial) older = prefix_same (bytes_put c older)
-put_stays c (Recv t bytes) older = prefix_same (bytes_put c older)
-put_stays c (Detach t cause) older = prefix_same (bytes_put c older)
-put_stays c (Send t bytes) older = prefix_same (bytes_put c older)
+put_stays c _ older = prefix_same (bytes_put c older)
 
 -- ---- what a client was handed for its stream
 pub born_still : (newer older : History) (l : ℕ) (b : Birth) → born l older ≡ Some b → born l (newer ++ older) ≡ Some b

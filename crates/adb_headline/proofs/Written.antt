@@ -6,7 +6,7 @@ use Rattle.std.proofs.lemmas.Bool.{eqb-true}
 use Rattle.std.proofs.lemmas.List.{length-append}
 use Rattle.adb_outside.specs.Bytes.{IsPrefixOf}
 use Rattle.adb_wire.specs.declared.command.Command.{Command}
-use Rattle.adb_wire.specs.declared.command.Command.TheVariants.{Cnxn, Open, Okay, Wrte, Clse, Auth, Stls}
+use Rattle.adb_wire.specs.declared.command.Command.TheVariants.{Cnxn, Okay, Wrte, Clse}
 use Rattle.adb_wire.specs.declared.packets.Packet.{Packet}
 use Rattle.adb_history.specs.Links.{credit_word}
 use Rattle.adb_history.specs.Machine.{History}
@@ -65,12 +65,7 @@ record WrittenIn (remote l : ℕ) (ps : List Packet) (many byte : ℕ) : Type 0 
 
 wrte_is : (command : Command) → is_wrte command ≡ true → command ≡ Wrte
 wrte_is Wrte e = refl
-wrte_is Cnxn e = absurd (let clash : false ≡ true = e in cc)
-wrte_is Open e = absurd (let clash : false ≡ true = e in cc)
-wrte_is Okay e = absurd (let clash : false ≡ true = e in cc)
-wrte_is Clse e = absurd (let clash : false ≡ true = e in cc)
-wrte_is Auth e = absurd (let clash : false ≡ true = e in cc)
-wrte_is Stls e = absurd (let clash : false ≡ true = e in cc)
+wrte_is _ e = absurd (let clash : false ≡ true = e in cc)
 
 both : (a b : Bool) → (a && b) ≡ true → (a ≡ true) × (b ≡ true)
 both true b e = (refl, e)
@@ -179,10 +174,7 @@ opening_last l (p ∷ ps) o is = by p.command is (opening_last l ps o)
     by Okay e later = okay (nat_eq p.arg1 l && not (p.arg0 == 0)) e later
     by Clse e later = closed (is_between 0 l p) e later
     by Cnxn e later = absurd (let clash : None ≡ Some o = e in cc)
-    by Open e later = past later e
-    by Wrte e later = past later e
-    by Auth e later = past later e
-    by Stls e later = past later e
+    by _ e later = past later e
 
 -- ---- what a client was handed
 module _ (h : History) (l : ℕ) (b : Birth) (many byte : ℕ) where
