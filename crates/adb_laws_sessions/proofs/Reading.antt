@@ -47,10 +47,6 @@ whole_behind (Some (suc m)) n have is some le =
 
 module _ (a b c d n : ℕ) (tail z : List ℕ) (value : hex_value a b c d ≡ Some n) where
   more_at : (front : List ℕ) → front ++ z ≡ a ∷ b ∷ c ∷ d ∷ tail → length front < 4 + n → request_at front ≡ More
-  more_at [] is less = refl
-  more_at (p ∷ []) is less = refl
-  more_at (p ∷ q ∷ []) is less = refl
-  more_at (p ∷ q ∷ r ∷ []) is less = refl
   more_at (p ∷ q ∷ r ∷ s ∷ rest) is less =
       let first : p ≡ a = cc in
       let second : q ≡ b = cc in
@@ -58,6 +54,7 @@ module _ (a b c d n : ℕ) (tail z : List ℕ) (value : hex_value a b c d ≡ So
       let fourth : s ≡ d = cc in
       let same : hex_value p q r s ≡ hex_value a b c d = λ i. hex_value (first i) (second i) (third i) (fourth i) in
       more_behind (hex_value p q r s) n (length rest) (same ∙ value) (omega (arith, less))
+  more_at _ is less = refl
 
 -- a front that is as long as some bytes begins with them
 pub record Past (head front z tail : List ℕ) : Type 0 where
