@@ -283,7 +283,6 @@ linked_moves = record {
     on = h.on;
   };
   due = λ c bytes s w h. record { owned = owned_moves.due c bytes s w h.owned; rows = h.rows; on = h.on };
-  tells_end = λ l ending s w h. h;
   closes = λ c x s w is free h. record { owned = owned_moves.closes c x s w is free h.owned; rows = h.rows; on = h.on };
   tracks = λ c x long s w is asking h. record { owned = owned_moves.tracks c x long s w is asking h.owned; rows = h.rows; on = h.on };
   awaits = λ c x want s w is asking h. record { owned = owned_moves.awaits c x want s w is asking h.owned; rows = h.rows; on = h.on };
@@ -310,12 +309,11 @@ linked_moves = record {
   };
   orphan_goes = λ l stream s w is orphan h. record { owned = owned_moves.orphan_goes l stream s w is orphan h.owned; rows = h.rows; on = gone_on s l h.on };
   ends = λ l ending stream s w is h. ends_linked s h l ending stream w is;
-  fails_open =
-      λ c l x stream s w is in_ at_l h. record { owned = owned_moves.fails_open c l x stream s w is in_ at_l h.owned; rows = h.rows; on = gone_on s l h.on };
-  fails_asked = λ c l x stream s w is in_ at_l h. record {
-    owned = owned_moves.fails_asked c l x stream s w is in_ at_l h.owned;
+  fails_open = λ c l f s w at h. record { owned = owned_moves.fails_open c l f s w at h.owned; rows = h.rows; on = gone_on s l h.on };
+  fails_asked = λ c l f s w at h. record {
+    owned = owned_moves.fails_asked c l f s w at h.owned;
     rows = h.rows;
-    on = stream_on s (orphaned stream.part) l stream at_l refl h.on;
+    on = stream_on s (orphaned f.stream.part) l f.stream at.2 refl h.on;
   };
   links = λ t f s w h. record { owned = owned_moves.links t f s w h.owned; rows = link_rows s.devices s.links s.forwards t f h.rows; on = h.on };
   link_ends = λ t ending s w h. link_ends_linked s h t ending;

@@ -174,7 +174,6 @@ pub owned_moves : Moves (λ s w. IsOwned s)
 owned_moves = record {
   owes = λ t p check s w of h. record { rows = rows.owes t p check s w of h.rows; owned = h.owned };
   due = λ c bytes s w h. record { rows = rows.due c bytes s w h.rows; owned = due_owned s h c bytes };
-  tells_end = λ l ending s w h. h;
   closes = λ c x s w is free h. record { rows = rows.closes c x s w is free h.rows; owned = closes_owned s h c x is (free_only 0 x.about.phase free) };
   tracks = λ c x long s w is asking h. record { rows = rows.tracks c x long s w is asking h.rows; owned = tracks_owned s h c x long is asking };
   awaits = λ c x want s w is asking h. record { rows = rows.awaits c x want s w is asking h.rows; owned = awaits_owned s h c x want is asking };
@@ -194,16 +193,16 @@ owned_moves = record {
       };
   orphan_goes = λ l stream s w is orphan h. record { rows = rows.orphan_goes l stream s w is orphan h.rows; owned = orphan_owned s h l stream is orphan };
   ends = λ l ending stream s w is h. ends_owned s h l ending stream is;
-  fails_open = λ c l x stream s w is in_ at_l h. record {
-    rows = rows.fails_open c l x stream s w is in_ at_l h.rows;
-    owned =
-        fails_owned s h c l x stream
-        (together_at s h c l x stream (subst (λ (p : Phase). HoldsIn p s.streams c x) in_ (h.owned.client c x is).holds) (is, at_l));
+  fails_open = λ c l f s w at h. record {
+    rows = rows.fails_open c l f s w at h.rows;
+    owned = fails_owned s h c l f.client f.stream
+        (together_at s h c l f.client f.stream (subst (λ (p : Phase). HoldsIn p s.streams c f.client) at.1 (h.owned.client c f.client at.0).holds) (at.0, at.2));
   };
-  fails_asked = λ c l x stream s w is in_ at_l h. record {
-    rows = rows.fails_asked c l x stream s w is in_ at_l h.rows;
-    owned = orphans_owned s h c l x stream
-        (together_at s h c l x stream (subst (λ (p : Phase). HoldsIn p s.streams c x) in_ (h.owned.client c x is).holds) (is, at_l)) in_;
+  fails_asked = λ c l f s w at h. record {
+    rows = rows.fails_asked c l f s w at h.rows;
+    owned = orphans_owned s h c l f.client f.stream
+        (together_at s h c l f.client f.stream (subst (λ (p : Phase). HoldsIn p s.streams c f.client) at.1 (h.owned.client c f.client at.0).holds) (at.0, at.2))
+        at.1;
   };
   links = λ t f s w h. record { rows = rows.links t f s w h.rows; owned = h.owned };
   link_ends = λ t ending s w h. link_ends_owned s h t ending;

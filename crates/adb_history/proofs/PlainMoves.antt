@@ -13,7 +13,7 @@ use Rattle.adb_client.specs.declared.phase.Phase.{Phase}
 use Rattle.adb_client.specs.declared.phase.Phase.TheVariants.{Opening, Streaming}
 use Rattle.adb_reply.specs.Strings.{failed}
 use Rattle.adb_history.specs.Rows.{Client, Link, State, to_client, to_link, to_stream, none_kept, with_due, with_held, with_link_due, with_stream_part}
-use Rattle.adb_history.specs.Events.{Made, Event, Ending, quietly, due_to_client, due_to_link, ended, lost, stopped}
+use Rattle.adb_history.specs.Events.{Made, Event, Ending, quietly, due_to_client, due_to_link, ended, lost, stopped, client_failed}
 use Rattle.adb_history.specs.Links.{is_connected, is_credit}
 use Rattle.adb_history.specs.Clients.{closes, closes_with, closing}
 use Rattle.adb_history.specs.Streams.{draw, loses, client_loses, tells_end, ends_row, all_end}
@@ -125,7 +125,6 @@ module _ {P : State → List Event → Type 0} (k : Plain P) where
   plain_moves = record {
     owes = owes_plain;
     due = due_plain;
-    tells_end = k.tells_end;
     closes = λ c client s w is free h. k.client c closing s w h;
     tracks = λ c client long s w is asking h. k.client c (tracks long) s w h;
     awaits = λ c client want s w is asking h. k.client c (awaits want) s w h;
@@ -140,8 +139,8 @@ module _ {P : State → List Event → Type 0} (k : Plain P) where
     opens = λ l remote word stream s w is new h. k.client stream.client _ _ w (k.stream l _ s w h);
     orphan_goes = λ l stream s w is orphan h. k.stream l none_kept s w h;
     ends = ends_plain;
-    fails_open = λ c l client stream s w is in_ at_l h. k.stream l none_kept _ w (k.client c none_kept s w h);
-    fails_asked = λ c l client stream s w is in_ at_l h. k.stream l _ _ w (k.client c none_kept s w h);
+    fails_open = λ c l failing s w at h. k.stream l none_kept _ _ (k.client c none_kept s _ (k.tells_end l (client_failed failing.cause) s w h));
+    fails_asked = λ c l failing s w at h. k.stream l _ _ _ (k.client c none_kept s _ (k.tells_end l (client_failed failing.cause) s w h));
     links = λ t f s w h. k.link t (λ link. Some (f link)) s w h;
     link_ends = link_ends_plain;
     online = online_plain;

@@ -1,5 +1,6 @@
 -- What each move keeps, the requests of clients keep, their ends, and the listeners that stand.
 use Rattle.std.proofs.Common.{◌≡◌, ℕ, Bool, false, cond, All, List, [], ◌∷◌, ◌++◌, length, Option, Some, None, refl, sym, ap, subst, ◌∙◌, inl, inr, eqb}
+use Rattle.std.proofs.Common.{append_assoc}
 use Rattle.std.specs.Prelude.{codes, is_some, is_none}
 use Rattle.std.proofs.lemmas.List.Elements.{All-nil}
 use Rattle.adb_outside.specs.Tables.{at, without}
@@ -145,16 +146,15 @@ module _ {P : State → List Event → Type 0} (k : Moves P) where
         let p : Packet = close_packet l stream.part.remote in
         let owed : Made = owe_link stream.link p s in
         let gone : Made = owe_link stream.link p (to_stream l none_kept (to_client c none_kept s)) in
-        after_then P w gone (λ s. record { state = s; told = ended l (client_failed cause) ∷ [] })
-        (k.fails_open c l x.client stream owed.state (w ++ owed.told) x.here x.in_phase at_l (owes_kept k s w h stream.link p (inr (inl (ap is_some at_l)))))
-        (λ v now. k.tells_end l (client_failed cause) gone.state v now)
+        subst (λ (v : List Event). P gone.state v) (append_assoc w owed.told (ended l (client_failed cause) ∷ []))
+        (k.fails_open c l (record { cause = cause; client = x.client; stream = stream }) owed.state (w ++ owed.told) (x.here, x.in_phase, at_l)
+        (owes_kept k s w h stream.link p (inr (inl (ap is_some at_l)))))
 
     fails_asked_kept : (c l : ℕ) (cause : Cause) (o : Option Stream) → IsClientIn s c (Opening l) → s.streams l ≡ o
         → After P w (stream_fails (Opening l) cause o (to_client c none_kept s))
     fails_asked_kept c l cause None x at_l = drops_kept c x.client x.here (ap (λ p. stream_of p s.streams) x.in_phase ∙ at_l)
     fails_asked_kept c l cause (Some stream) x at_l =
-        let now : State = to_stream l (with_stream_part (orphaned stream.part)) (to_client c none_kept s) in
-        k.tells_end l (client_failed cause) now w (k.fails_asked c l x.client stream s w x.here x.in_phase at_l h)
+        k.fails_asked c l (record { cause = cause; client = x.client; stream = stream }) s w (x.here, x.in_phase, at_l) h
 
     fails_in_kept : (phase : Phase) (c : ℕ) (cause : Cause) → IsClientIn s c phase
         → After P w (stream_fails phase cause (stream_of phase s.streams) (to_client c none_kept s))

@@ -181,7 +181,6 @@ pub unread_moves : (e : ℕ → Type 0) → Moves (λ s w. UnreadBut e s.clients
 unread_moves e = record {
   owes = λ t p check s w of h. h;
   due = λ c bytes s w h. unread_due e c bytes s.clients h;
-  tells_end = λ l ending s w h. h;
   closes = λ c x s w is free h. unread_closes e c s.clients h;
   tracks = λ c x long s w is asking h. unread_change e c (tracks long) s.clients
       (λ x y is f asks. calm_other x y (record x { about = record x.about { phase = Tracking; long = long; mark = false }; held = [] }) f no_tracking asks) h;
@@ -202,8 +201,8 @@ unread_moves e = record {
       unread_change e stream.client (in_phase (Streaming l)) s.clients (calm_phase s.clients stream.client (Streaming l) (no_streaming l)) h;
   orphan_goes = λ l stream s w is orphan h. h;
   ends = λ l ending stream s w is h. ends_unread e l ending stream s h;
-  fails_open = λ c l x stream s w is in_ at_l h. unread_change e c none_kept s.clients (calm_none s.clients c) h;
-  fails_asked = λ c l x stream s w is in_ at_l h. unread_change e c none_kept s.clients (calm_none s.clients c) h;
+  fails_open = λ c l failing s w at h. unread_change e c none_kept s.clients (calm_none s.clients c) h;
+  fails_asked = λ c l failing s w at h. unread_change e c none_kept s.clients (calm_none s.clients c) h;
   links = λ t f s w h. h;
   link_ends = λ t ending s w h. marks_unread e (all_end t ending (forgets t s)).state.clients (all_end_unread e t ending (forgets t s) h);
   online = λ t version maxdata identity s w h.

@@ -1,6 +1,7 @@
 -- The moves that the rules are made of. What each move keeps, each rule keeps.
 use Rattle.std.specs.Prelude.{ℕ, ◌+◌, ◌≡◌, ◌≢◌, ◌≤◌, ◌⊎◌, Bool, true, false, is_some, All, List, [], ◌∷◌, ◌++◌, length, drop, Option, Some, None}
 use Rattle.adb_outside.specs.Tables.{at, put_row}
+use Rattle.adb_outside.specs.declared.kinds.Cause.{Cause}
 use Rattle.adb_outside.specs.declared.kinds.Kind.{Kind}
 use Rattle.adb_outside.specs.declared.identity.Identity.{Identity}
 use Rattle.adb_outside.specs.declared.identity.State.TheVariants.{Offline}
@@ -19,7 +20,7 @@ use Rattle.adb_client.specs.declared.about.Want.{Want}
 use Rattle.adb_reply.specs.Laws.{TakesPayloads}
 use Rattle.adb_history.specs.Rows.{new_link, Client, Link, State, to_client, to_link, to_stream, none_kept, with_due, with_held, in_phase}
 use Rattle.adb_history.specs.Rows.{with_link_due, with_stream_part}
-use Rattle.adb_history.specs.Events.{Made, Event, Ending, due_to_client, due_to_link, ended}
+use Rattle.adb_history.specs.Events.{Made, Event, Ending, due_to_client, due_to_link, ended, client_failed}
 use Rattle.adb_history.specs.Links.{is_connected, is_credit}
 use Rattle.adb_history.specs.Clients.{closes}
 use Rattle.adb_history.specs.Streams.{draw, ends_row}
@@ -96,13 +97,18 @@ plugged_in t kind serial s = mark_all (record s { devices = attached kind serial
 abbrev pub connects_now : ℕ → (version maxdata : ℕ) → Identity → State → Made
 connects_now t version maxdata identity s = connects t version maxdata (Some identity) s
 
+-- a client that fails, why, and its stream
+pub record Failing : Type 0 where
+  pub cause : Cause
+  pub client : Client
+  pub stream : Stream
+
 -- What each move keeps, of a state and what was told until then.
 pub record Moves (P : State → List Event → Type 0) : Type 0 where
   -- something becomes due, or is told
   pub owes : (t : ℕ) (p : Packet) (check : ℕ) (s : State) (w : List Event) → IsOfStream s.streams p → P s w
       → P (to_link t (with_link_due (spelling p check)) s) (w ++ due_to_link t p check ∷ [])
   pub due : (c : ℕ) (bytes : List ℕ) (s : State) (w : List Event) → P s w → P (to_client c (with_due bytes) s) (w ++ due_to_client c bytes ∷ [])
-  pub tells_end : (l : ℕ) (ending : Ending) (s : State) (w : List Event) → P s w → P s (w ++ ended l ending ∷ [])
   -- clients
   pub closes : (c : ℕ) (client : Client) (s : State) (w : List Event) → s.clients c ≡ Some client → IsFree client.about.phase → P s w → P (closes c s) w
   pub tracks : (c : ℕ) (client : Client) (long : Bool) (s : State) (w : List Event) → s.clients c ≡ Some client → client.about.phase ≡ Asking
@@ -132,11 +138,12 @@ pub record Moves (P : State → List Event → Type 0) : Type 0 where
       → P s w → P (to_stream l none_kept s) w
   pub ends : (l : ℕ) (ending : Ending) (stream : Stream) (s : State) (w : List Event) → s.streams l ≡ Some stream
       → P s w → After P w (ends_row l ending stream s)
-  pub fails_open : (c l : ℕ) (client : Client) (stream : Stream) (s : State) (w : List Event) → s.clients c ≡ Some client
-      → client.about.phase ≡ Streaming l → s.streams l ≡ Some stream → P s w → P (to_stream l none_kept (to_client c none_kept s)) w
-  pub fails_asked : (c l : ℕ) (client : Client) (stream : Stream) (s : State) (w : List Event) → s.clients c ≡ Some client
-      → client.about.phase ≡ Opening l → s.streams l ≡ Some stream
-      → P s w → P (to_stream l (with_stream_part (orphaned stream.part)) (to_client c none_kept s)) w
+  pub fails_open : (c l : ℕ) (failing : Failing) (s : State) (w : List Event)
+      → (s.clients c ≡ Some failing.client) × (failing.client.about.phase ≡ Streaming l) × (s.streams l ≡ Some failing.stream)
+      → P s w → P (to_stream l none_kept (to_client c none_kept s)) (w ++ ended l (client_failed failing.cause) ∷ [])
+  pub fails_asked : (c l : ℕ) (failing : Failing) (s : State) (w : List Event)
+      → (s.clients c ≡ Some failing.client) × (failing.client.about.phase ≡ Opening l) × (s.streams l ≡ Some failing.stream)
+      → P s w → P (to_stream l (with_stream_part (orphaned failing.stream.part)) (to_client c none_kept s)) (w ++ ended l (client_failed failing.cause) ∷ [])
   -- links, devices and forwards
   pub links : (t : ℕ) (f : Link → Link) (s : State) (w : List Event) → P s w → P (to_link t (λ link. Some (f link)) s) w
   pub link_ends : (t : ℕ) (ending : Ending) (s : State) (w : List Event) → P s w → After P w (link_ends t ending s)

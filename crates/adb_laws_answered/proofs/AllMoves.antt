@@ -3,7 +3,7 @@ use Rattle.std.proofs.Common.{◌≡◌, ℕ, Bool, true, false, cond, List, Opt
 use Rattle.std.specs.Prelude.{codes}
 use Rattle.adb_stream.specs.declared.row.Stream.{Stream}
 use Rattle.adb_history.specs.Rows.{Client, State}
-use Rattle.adb_history.specs.Events.{Made, Event, quietly, client_failed}
+use Rattle.adb_history.specs.Events.{Made, Event, quietly}
 use Rattle.adb_history.specs.Clients.{owe_client}
 use Rattle.adb_history.specs.Packets.{hears_okay, opened}
 use Rattle.adb_history.specs.Moves.{After, Moves, open_now}
@@ -52,10 +52,8 @@ module _ {P : State → List Event → Type 0} (k : Moves P) where
     opened = λ l remote word stream s w is by may h. opened_kept l remote word stream s w is by h;
     orphan_goes = k.orphan_goes;
     ends = λ l ending stream s w is so h. k.ends l ending stream s w is h;
-    fails_open = λ c l failing s w at h.
-        k.tells_end l (client_failed failing.cause) _ w (k.fails_open c l failing.client failing.stream s w at.0 at.1 at.2 h);
-    fails_asked = λ c l failing s w may at h.
-        k.tells_end l (client_failed failing.cause) _ w (k.fails_asked c l failing.client failing.stream s w at.0 at.1 at.2 h);
+    fails_open = k.fails_open;
+    fails_asked = λ c l failing s w may at h. k.fails_asked c l failing s w at h;
     links = k.links;
     link_ends = λ t ending s w told h. k.link_ends t ending s w h;
     online = λ t version maxdata identity s w may h. k.online t version maxdata identity s w h;

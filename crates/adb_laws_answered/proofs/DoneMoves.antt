@@ -199,12 +199,12 @@ module _ (c : ℕ) (out : List ℕ) where
       orphan_goes = λ l stream s w is orphan h. record { owned = owned_moves.orphan_goes l stream s w is orphan h.owned; row = h.row; told = h.told };
       ends = λ l ending stream s w is so h. ends_done l ending stream s w is h;
       fails_open = λ n l failing s w at h. record {
-        owned = owned_moves.fails_open n l failing.client failing.stream s w at.0 at.1 at.2 h.owned;
+        owned = owned_moves.fails_open n l failing s w at h.owned;
         row = at_none steady c n s.clients h.row;
         told = none_told w (ended l (client_failed failing.cause) ∷ []) refl h.told;
       };
       fails_asked = λ n l failing s w may at h. record {
-        owned = owned_moves.fails_asked n l failing.client failing.stream s w at.0 at.1 at.2 h.owned;
+        owned = owned_moves.fails_asked n l failing s w at h.owned;
         row = at_none steady c n s.clients h.row;
         told = none_told w (ended l (client_failed failing.cause) ∷ []) refl h.told;
       };

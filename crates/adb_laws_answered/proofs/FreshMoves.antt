@@ -255,13 +255,13 @@ module _ (joined : ℕ → Bool) where
         record { owned = owned_moves.orphan_goes l stream s w is orphan h.owned; alone = h.alone; unended = h.unended };
     ends = λ k ending stream s w is so h. ends_fresh k ending stream s w is h;
     fails_open = λ c k failing s w at h. record {
-      owned = owned_moves.fails_open c k failing.client failing.stream s w at.0 at.1 at.2 h.owned;
+      owned = owned_moves.fails_open c k failing s w at h.owned;
       alone = λ n. at_none (steady (joined n)) n c s.clients (h.alone n);
       unended = λ l lt. more_unended l w (ended k (client_failed failing.cause) ∷ []) (h.unended l lt)
           (one_unended k l s.drawn (client_failed failing.cause) None (drawn_stream k failing.stream s h.owned at.2) lt refl);
     };
     fails_asked = λ c k failing s w may at h. record {
-      owned = owned_moves.fails_asked c k failing.client failing.stream s w at.0 at.1 at.2 h.owned;
+      owned = owned_moves.fails_asked c k failing s w at h.owned;
       alone = λ n. at_none (steady (joined n)) n c s.clients (h.alone n);
       unended = λ l lt. more_unended l w (ended k (client_failed failing.cause) ∷ []) (h.unended l lt)
           (one_unended k l s.drawn (client_failed failing.cause) None (drawn_stream k failing.stream s h.owned at.2) lt refl);

@@ -254,12 +254,12 @@ module _ (asker c : ℕ) (r : Heard) (apart : asker ≢ c) where
         subst (λ (d : DeviceTable). Answers c r d made.state (w ++ made.told)) (sym (ends_devices l ending stream s))
         (ends_answers c r s.devices l ending stream s w is h);
     fails_open = λ n l failing s w at h. record {
-      owned = owned_moves.fails_open n l failing.client failing.stream s w at.0 at.1 at.2 h.owned;
+      owned = owned_moves.fails_open n l failing s w at h.owned;
       row = rows_none c r s.devices n s.clients h.row;
       owes = owes_none c r w (ended l (client_failed failing.cause) ∷ []) refl h.owes;
     };
     fails_asked = λ n l failing s w may at h. record {
-      owned = owned_moves.fails_asked n l failing.client failing.stream s w at.0 at.1 at.2 h.owned;
+      owned = owned_moves.fails_asked n l failing s w at h.owned;
       row = rows_none c r s.devices n s.clients h.row;
       owes = owes_none c r w (ended l (client_failed failing.cause) ∷ []) refl h.owes;
     };

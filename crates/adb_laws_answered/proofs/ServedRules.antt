@@ -428,7 +428,7 @@ module _ (c l : ℕ) (replies : List ℕ) where
       fails_open = λ n k failing s w at (b, h). (
         b,
         record {
-          owned = owned_moves.fails_open n k failing.client failing.stream s w at.0 at.1 at.2 h.owned;
+          owned = owned_moves.fails_open n k failing s w at h.owned;
           row = at_none (steady l b) c n s.clients h.row;
           own = fails_own b k failing.cause none_kept s w (λ z y e. absurd (let clash : None ≡ Some y = e in cc)) h;
           drawn = h.drawn;
@@ -438,7 +438,7 @@ module _ (c l : ℕ) (replies : List ℕ) where
       fails_asked = λ n k failing s w may at (b, h). (
         b,
         record {
-          owned = owned_moves.fails_asked n k failing.client failing.stream s w at.0 at.1 at.2 h.owned;
+          owned = owned_moves.fails_asked n k failing s w at h.owned;
           row = at_none (steady l b) c n s.clients h.row;
           own = fails_own b k failing.cause (with_stream_part (orphaned failing.stream.part)) s w (λ z y e. orphan_of failing.stream z y e) h;
           drawn = h.drawn;

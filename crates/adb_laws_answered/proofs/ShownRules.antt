@@ -23,12 +23,12 @@ use Rattle.adb_history.specs.Clients.{closes, owe_client}
 use Rattle.adb_history.specs.Flow.{with_flow}
 use Rattle.adb_history.specs.Packets.{with_remote, hears_okay, opened, unauthorized_from}
 use Rattle.adb_history.specs.Orderly.{phase_for}
-use Rattle.adb_history.specs.Moves.{open_now, accepts_now, draws_now}
+use Rattle.adb_history.specs.Moves.{Failing, open_now, accepts_now, draws_now}
 use Rattle.adb_history.specs.Owned.{StreamOf, OwnerIn, HoldsIn, IsOwned}
 use Rattle.adb_history.proofs.Following.{after_quietly}
 use Rattle.adb_history.proofs.Growing.{owed_append}
 use Rattle.adb_history.proofs.OwnedStep.{owned_moves}
-use Rattle.adb_laws_answered.specs.Turns.{IsOpenedBy, Failing, Turns}
+use Rattle.adb_laws_answered.specs.Turns.{IsOpenedBy, Turns}
 use Rattle.adb_laws_answered.specs.Served.{PhaseFor, RowServed}
 use Rattle.adb_laws_answered.specs.Shown.{aside, Seen, Subject, ShownOut, IsShown}
 use Rattle.adb_laws_answered.proofs.ToldOthers.{quiet_after, all_stop_owed, stopped_none, owed_other, owned_opened}
@@ -168,7 +168,7 @@ module _ (heard : Bool) (x : Subject) (seen : Seen) where
         next = to_stream k none_kept (to_client n none_kept s)
 
         owned : IsOwned (to_stream k none_kept (to_client n none_kept s))
-        owned = owned_moves.fails_open n k failing.client failing.stream s w at.0 at.1 at.2 h.owned
+        owned = owned_moves.fails_open n k failing s w at h.owned
 
         row : (y : Client) → (to_client n none_kept s).clients x.client ≡ Some y → RowServed x.stream heard y
         row = at_none (steady x.stream heard) x.client n s.clients h.row
@@ -199,7 +199,7 @@ module _ (heard : Bool) (x : Subject) (seen : Seen) where
         next = to_stream k (with_stream_part (orphaned failing.stream.part)) (to_client n none_kept s)
 
         owned : IsOwned (to_stream k (with_stream_part (orphaned failing.stream.part)) (to_client n none_kept s))
-        owned = owned_moves.fails_asked n k failing.client failing.stream s w at.0 at.1 at.2 h.owned
+        owned = owned_moves.fails_asked n k failing s w at h.owned
 
         row : (y : Client) → (to_client n none_kept s).clients x.client ≡ Some y → RowServed x.stream heard y
         row = at_none (steady x.stream heard) x.client n s.clients h.row

@@ -1,7 +1,6 @@
 -- The moves that the rules are made of, where a rule is of one client: whom it owes what, and why a stream ends.
 use Rattle.std.specs.Prelude.{ℕ, ◌≡◌, ◌≢◌, ◌≤◌, ◌⊎◌, Bool, true, false, All, List, ◌∷◌, [], ◌++◌, length, drop, Option, Some, None}
 use Rattle.adb_outside.specs.Tables.{Rows, at}
-use Rattle.adb_outside.specs.declared.kinds.Cause.{Cause}
 use Rattle.adb_outside.specs.declared.identity.Identity.{Identity}
 use Rattle.adb_outside.specs.declared.identity.State.TheVariants.{Offline}
 use Rattle.adb_registry.specs.declared.row.Row.{Row}
@@ -25,7 +24,7 @@ use Rattle.adb_history.specs.Losing.{link_ends, orphaned, input_ended, stream_of
 use Rattle.adb_history.specs.Packets.{opened, unauthorized_from}
 use Rattle.adb_history.specs.Reading.{tracks, awaits}
 use Rattle.adb_history.specs.Handing.{hands, unmarked}
-use Rattle.adb_history.specs.Moves.{After, IsOfStream, IsFree, HasOne, IsLike, IsLed, IsReady, accepts_now, draws_now, connects_now}
+use Rattle.adb_history.specs.Moves.{After, IsOfStream, IsFree, HasOne, IsLike, IsLed, IsReady, Failing, accepts_now, draws_now, connects_now}
 use Rattle.adb_history.specs.Answered.{tells_closed}
 
 -- a client that has this stream open
@@ -67,12 +66,6 @@ pub record IsOpenedBy (remote : ℕ) (stream : Stream) : Type 0 where
   pub new : stream.part.remote ≡ 0
   pub owned : stream.part.orphan ≡ false
   pub by : remote ≢ 0
-
--- a client that fails, why, and its stream
-pub record Failing : Type 0 where
-  pub cause : Cause
-  pub client : Client
-  pub stream : Stream
 
 -- What each move keeps, of a state and what was told until then. Of the clients the asker alone is answered.
 pub record Turns (scope : Scope) (asker : ℕ) (P : State → List Event → Type 0) : Type 0 where

@@ -1,234 +1,196 @@
--- The endings of a legal history are those of the streams that it keeps no more.
-use Rattle.std.proofs.Common.{◌≡◌, ◌≢◌, ℕ, ◌+◌, ◌<◌, Bool, true, false, cond, List, [], ◌∷◌, length, Option, Some, None, refl, sym, ap, subst, ◌∙◌, ◌⊎◌, inl}
-use Rattle.std.proofs.Common.{inr, eqb, arith}
-use Rattle.std.specs.Prelude.{not, is_some}
+-- In every legal history a stream that is kept no more has ended, and one that is kept has not.
+use Rattle.std.proofs.Common.{◌≡◌, ◌≢◌, ℕ, ◌+◌, ◌<◌, ◌≤◌, zero, suc, Bool, true, false, cond, List, [], ◌∷◌, ◌++◌, length, Option, Some, None, refl, sym, ap, subst, ◌∙◌}
+use Rattle.std.proofs.Common.{◌⊎◌, inl, inr, arith, append_assoc}
+use Rattle.std.specs.Prelude.{codes, is_some}
 use Rattle.std.specs.Option.{option_or}
-use Rattle.std.proofs.lemmas.Bool.{eqb-true, eqb-false}
-use Rattle.adb_outside.specs.Tables.{Rows, put_row, at}
-use Rattle.adb_forward.specs.declared.row.ForwardRow.{ForwardRow}
-use Rattle.adb_stream.specs.Flow.{new_flow}
-use Rattle.adb_stream.specs.Stream.{new_stream}
+use Rattle.std.proofs.lemmas.Bool.{cases_eq}
+use Rattle.adb_outside.specs.declared.kinds.Cause.{Cause}
 use Rattle.adb_stream.specs.declared.row.Stream.{Stream}
+use Rattle.adb_stream.specs.Flow.{new_flow, first_credit, accepted}
+use Rattle.adb_stream.specs.Stream.{new_stream}
 use Rattle.adb_client.specs.declared.phase.Phase.{Phase}
-use Rattle.adb_client.specs.declared.phase.Phase.TheVariants.{Asking, Opening, Streaming}
-use Rattle.adb_reply.specs.declared.answer.Next.{Next}
-use Rattle.adb_reply.specs.declared.answer.Next.TheVariants as what
+use Rattle.adb_client.specs.declared.phase.Phase.TheVariants.{Opening, Streaming}
 use Rattle.adb_capture.specs.declared.entry.Entry.{Entry}
-use Rattle.adb_capture.specs.declared.entry.Entry.TheVariants.{Join, Enter, Read, End, Bound, Attach, Recv, Detach, Put, Send}
-use Rattle.adb_history.specs.Rows.{Client, State, to_client}
-use Rattle.adb_history.specs.Events.{Made, Ending, quietly, then_also, ending_in}
-use Rattle.adb_history.specs.Links.{is_credit, is_connected}
-use Rattle.adb_history.specs.Clients.{owe_client}
-use Rattle.adb_history.specs.Streams.{stream_ids, no_ids_left, asks_for, opens}
-use Rattle.adb_history.specs.Losing.{stream_of}
-use Rattle.adb_history.specs.Asking.{asks_with}
-use Rattle.adb_history.specs.Reading.{comes, comes_in_vain, enters_by, goes_on, asked_before, has_asked, reads_in, reads_from}
-use Rattle.adb_history.specs.Machine.{History, state, told, told_at, rule, ups, step, IsLegal}
-use Rattle.adb_history.specs.Lives.{ending_of}
-use Rattle.adb_history.specs.Owned.{StreamOf, HoldsIn, IsOwned}
-use Rattle.adb_history.specs.Orderly.{IsDrawnOnly}
-use Rattle.adb_history.proofs.OwnedStep.{all_owned}
-use Rattle.adb_laws_births.specs.Ending.{EndsAs, EndKeeps, EndStep, EndSteps, HasEnding, EndingsAreRows}
-use Rattle.adb_laws_births.proofs.GoingRules.{goes_puts, goes_client_ends, goes_bound, goes_unplugs}
-use Rattle.adb_laws_births.proofs.Ending.{ending_append, steps_then, step_same, steps_quiet, some_kept}
-use Rattle.adb_laws_births.proofs.EndingRules.{steps_up_all, steps_puts, OwnsOf, steps_client_ends, steps_bound, steps_unplugs, steps_receives, steps_stops}
-use Rattle.adb_laws_births.proofs.Born.{goes_ups}
-use Rattle.adb_laws_births.proofs.Once.{recv_same}
+use Rattle.adb_capture.specs.declared.entry.Entry.TheVariants.{Enter, Read}
+use Rattle.adb_reply.specs.Strings.{failed}
+use Rattle.adb_history.specs.Rows.{Client, State, to_stream, none_kept}
+use Rattle.adb_history.specs.Events.{Made, Event, Ending, quietly, due_to_client, due_to_link, ended, ending_in, client_failed, lost, stopped}
+use Rattle.adb_history.specs.Links.{is_connected, is_credit}
+use Rattle.adb_history.specs.Clients.{closes}
+use Rattle.adb_history.specs.Streams.{loses, client_loses, tells_end, all_end}
+use Rattle.adb_history.specs.Flow.{with_flow}
+use Rattle.adb_history.specs.Tracking.{mark_all}
+use Rattle.adb_history.specs.Losing.{forgets, orphaned, tells_stop, all_stop}
+use Rattle.adb_history.specs.Packets.{streams_end_first, goes_online, with_remote}
+use Rattle.adb_history.specs.Machine.{History, state, told, IsLegal}
+use Rattle.adb_history.specs.Moves.{After, Moves}
+use Rattle.adb_history.proofs.Following.{after_quietly, after_then}
+use Rattle.adb_history.proofs.StreamMoves.{EndsKept, all_end_kept}
+use Rattle.adb_history.proofs.RuleMoves.{Begins, step_kept}
+use Rattle.adb_history.proofs.Numbers.{none_drawn}
+use Rattle.adb_laws_births.specs.Ending.{EndsAs, EndingsAreRows}
+use Rattle.adb_laws_births.proofs.Ending.{told_none, told_other, told_end, some_told, orphan_told, Ends, ends_quiet, part_changes, row_goes, row_comes}
 
--- ---- a rule by which a stream may be drawn
--- what a rule tells of the streams that were there, and of one that it draws
-abbrev EndsMade : Rows (Option Stream) → ℕ → Made → Type 0
-EndsMade streams drawn m =
-    ((m.state.drawn ≡ drawn) × EndSteps streams m)
-    ⊎ ((m.state.drawn ≡ drawn + 1) × (new : Stream) × (new.part.orphan ≡ false) × EndSteps (put_row (drawn + 1) (Some new) streams) m)
+-- what was told until then ends the streams that are gone
+abbrev P : State → List Event → Type 0
+P s w = Ends s.drawn s.streams w
 
-made_then : (streams : Rows (Option Stream)) (drawn : ℕ) (m : Made) (rule : State → Made) → EndsMade streams drawn m
-    → (rule m.state).state.drawn ≡ m.state.drawn → EndSteps m.state.streams (rule m.state) → EndsMade streams drawn (then_also m rule)
-made_then streams drawn m rule (inl h) same k = inl (same ∙ h.0, steps_then streams m rule h.1 k)
-made_then streams drawn m rule (inr h) same k =
-    inr (same ∙ h.0, h.1, h.2, steps_then (put_row (drawn + 1) (Some h.1) streams) m rule h.3 k)
+-- ---- a stream ends
+loses_kept : (forwarded : Bool) (phase : Phase) (c : ℕ) (s : State) (w : List Event) → P s w → After P w (loses forwarded phase c s)
+loses_kept forwarded (Streaming l) c s w h = after_quietly P w (closes c s) h
+loses_kept true (Opening l) c s w h = after_quietly P w (closes c s) h
+loses_kept false (Opening l) c s w h = ends_quiet h (due_to_client c (failed (codes "closed")).bytes ∷ []) (λ l. refl)
+loses_kept forwarded _ c s w h = after_quietly P w s h
 
-no_ids_made : (forwarded : Bool) (c : ℕ) (s : State) → EndsMade s.streams s.drawn (no_ids_left forwarded c s)
-no_ids_made true c s = inl (refl, λ l. step_same (s.streams l))
-no_ids_made false c s = inl (refl, λ l. step_same (s.streams l))
+client_loses_kept : (o : Option Client) (c : ℕ) (s : State) (w : List Event) → P s w → After P w (client_loses o c s)
+client_loses_kept None c s w h = after_quietly P w s h
+client_loses_kept (Some client) c s w h = loses_kept client.about.forwarded client.about.phase c s w h
 
-asks_made : (c t : ℕ) (service : List ℕ) (s : State) → EndsMade s.streams s.drawn (asks_for (s.drawn + 1) c t service s)
-asks_made c t service s =
-    let new : Stream = new_stream (s.drawn + 1) c t (new_flow (is_credit t s.devices)) in
-    inr (refl, new, refl, λ l. step_same (put_row (s.drawn + 1) (Some new) s.streams l))
-
-opens_made : (forwarded : Bool) (c t : ℕ) (service : List ℕ) (s : State) → EndsMade s.streams s.drawn (opens forwarded c t service s)
-opens_made forwarded c t service s = go (eqb s.drawn stream_ids)
+ends_kept : EndsKept P
+ends_kept l ending stream s w is h =
+    let made : Made = tells_end stream.part.orphan l ending (to_stream l none_kept s) in
+    after_then P w made (λ s. client_loses (s.clients stream.client) stream.client s) (tells stream.part.orphan refl)
+    (λ v now. client_loses_kept (made.state.clients stream.client) stream.client made.state v now)
   where
-    go : (b : Bool) → EndsMade s.streams s.drawn (cond b (no_ids_left forwarded c s) (asks_for (s.drawn + 1) c t service s))
-    go true = no_ids_made forwarded c s
-    go false = asks_made c t service s
+    tells : (orphan : Bool) → stream.part.orphan ≡ orphan → After P w (tells_end orphan l ending (to_stream l none_kept s))
+    tells true e =
+        after_quietly P w (to_stream l none_kept s)
+        (row_goes h l stream w is (λ k apart. refl) (orphan_told stream.part.orphan (ending_in l w) ((h.has l).kept stream is) e))
+    tells false e = row_goes h l stream (w ++ ended l ending ∷ []) is (λ k apart. told_other l k w ending apart) (some_told l w ending)
 
-goes_on_made : (next : Option Next) (c : ℕ) (s : State) → IsDrawnOnly s.drawn s.streams → EndsMade s.streams s.drawn (goes_on next c s)
-goes_on_made None c s rows = inl (refl, steps_quiet s)
-goes_on_made (Some (what.Select id)) c s rows = inl (refl, steps_quiet s)
-goes_on_made (Some (what.Open t service)) c s rows = opens_made false c t service s
-goes_on_made (Some what.Stop) c s rows = inl (refl, steps_stops c s rows)
-goes_on_made _ c s rows = inl (refl, λ l. step_same (s.streams l))
+link_ends_first : (b : Bool) (t : ℕ) (s : State) (w : List Event) → P s w → After P w (streams_end_first b t s)
+link_ends_first true t s w h = all_end_kept ends_kept t lost s w h
+link_ends_first false t s w h = after_quietly P w s h
 
-reads_in_made : (phase : Phase) (c : ℕ) (bytes : List ℕ) (client : Client) (s : State) → IsDrawnOnly s.drawn s.streams
-    → EndsMade s.streams s.drawn (reads_in phase c bytes client s)
-reads_in_made Asking c bytes client s rows =
-    let q = asks_with s.devices s.forwards bytes (asked_before client) in
-    goes_on_made q.next c (owe_client c q.replies (to_client c (has_asked q) s)).state rows
-reads_in_made (Opening n) c bytes client s rows = inl (refl, λ l. step_same (s.streams l))
-reads_in_made (Streaming n) c bytes client s rows = inl (refl, λ l. step_same (s.streams l))
-reads_in_made _ c bytes client s rows = inl (refl, steps_quiet s)
+-- a client fails whose stream is not opened: it is an orphan from then on
+asked_told : (orphan : Bool) (e : Option Ending) (cause : Cause) → EndsAs orphan e → EndsAs true (option_or e (Some (client_failed cause)))
+asked_told true e cause (first, is) = (first, ap (λ (o : Option Ending). option_or o (Some (client_failed cause))) is)
+asked_told false e cause none = (cause, ap (λ (o : Option Ending). option_or o (Some (client_failed cause))) none)
 
-reads_made : (o : Option Client) (c : ℕ) (bytes : List ℕ) (s : State) → IsDrawnOnly s.drawn s.streams
-    → EndsMade s.streams s.drawn (reads_from o c bytes s)
-reads_made None c bytes s rows = inl (refl, steps_quiet s)
-reads_made (Some client) c bytes s rows = reads_in_made client.about.phase c bytes client s rows
+-- ---- the server stops
+module _ (s : State) (w : List Event) (h : P s w) where
+  -- the streams 1 to k have ended, and of the others nothing is told
+  record IsStopped (k l : ℕ) : Type 0 where
+    within : 0 < l → l ≤ k → is_some (ending_in l (w ++ all_stop k s.streams)) ≡ true
+    past : (l ≡ 0) ⊎ (k < l) → ending_in l (w ++ all_stop k s.streams) ≡ ending_in l w
 
-enters_made : (c : ℕ) (o : Option ForwardRow) (s : State) → EndsMade s.streams s.drawn (enters_by c o s)
-enters_made c None s = inl (refl, λ l. step_same (s.streams l))
-enters_made c (Some row) s = go (is_connected row.transport s.devices)
-  where
-    go : (b : Bool) → EndsMade s.streams s.drawn (cond b (opens true c row.transport row.remote (comes true c s)) (quietly (comes_in_vain s)))
-    go true = opens_made true c row.transport row.remote (comes true c s)
-    go false = inl (refl, λ l. step_same (s.streams l))
-
--- the stream of a client that fails is its own
-owns_of : (s : State) → IsOwned s → (c : ℕ) (client : Client) → s.clients c ≡ Some client → OwnsOf client.about.phase s.streams
-owns_of s h c client is stream at_s = go client.about.phase (h.owned.client c client is).holds at_s
-  where
-    own : (n : ℕ) → StreamOf s.streams c n → s.streams n ≡ Some stream → stream.part.orphan ≡ false
-    own n of there =
-        let one : of.stream ≡ stream = (let both : Some of.stream ≡ Some stream = sym of.is ∙ there in cc) in
-        ap (λ (x : Stream). x.part.orphan) (sym one) ∙ of.owned
-
-    go : (phase : Phase) → HoldsIn phase s.streams c client → stream_of phase s.streams ≡ Some stream → stream.part.orphan ≡ false
-    go (Opening n) of there = own n of there
-    go (Streaming n) of there = own n of there
-    go _ of there = absurd (let clash : None ≡ Some stream = there in cc)
-
--- ---- each entry
-module _ (older : History) (legal : IsLegal older) where
-  abbrev s : State
-  s = state older
-
-  owned : IsOwned s
-  owned = all_owned older legal
-
-  rule_made : (e : Entry) → EndsMade s.streams s.drawn (rule e s)
-  rule_made (Join c) = inl (refl, λ l. step_same (s.streams l))
-  rule_made (Enter c port) = enters_made c (at port s.forwards) s
-  rule_made (Read c bytes) = reads_made (s.clients c) c bytes s owned.rows.streams
-  rule_made (End c cause) = inl (
-    (goes_client_ends c cause (s.clients c) s owned refl).drawn_is,
-    steps_client_ends c cause (s.clients c) s (λ client is. owns_of s owned c client is),
-  )
-  rule_made (Bound c port) = inl ((goes_bound (s.clients c) c port s).drawn_is, steps_bound (s.clients c) c port s)
-  rule_made (Attach t kind serial) = inl (refl, λ l. step_same (s.streams l))
-  rule_made (Recv t bytes) = inl (recv_same older legal t bytes (s.links t), steps_receives (s.links t) t bytes s)
-  rule_made (Detach t cause) = inl ((goes_unplugs (s.links t) t s).drawn_is, steps_unplugs (s.links t) t s)
-  rule_made (Put c bytes) = inl ((goes_puts c (length bytes) (s.clients c) s owned).drawn_is, steps_puts c (length bytes) (s.clients c) s)
-  rule_made (Send t bytes) = inl (refl, λ l. step_same (s.streams l))
-
-  entry_made : (e : Entry) → IsLegal (e ∷ older) → EndsMade s.streams s.drawn (step s e)
-  entry_made e l = made_then s.streams s.drawn (rule e s) ups (rule_made e) (goes_ups older legal e l).drawn_is
-      (steps_up_all (rule e s).state.drawn (rule e s).state)
-
--- ---- what a history told
-or_nothing : (e f : Option Ending) → f ≡ None → option_or e f ≡ e
-or_nothing None f none = none
-or_nothing (Some ending) f none = refl
-
-kept_keeps : (a b : Bool) (e f : Option Ending) → EndsAs a e → EndKeeps a b f → EndsAs b (option_or e f)
-kept_keeps true b e f h k = subst (λ (x : Bool). EndsAs x (option_or e f)) (sym k.0) (h.0, or_nothing e f k.1 ∙ h.1)
-kept_keeps false b e f h k = subst (λ (x : Option Ending). EndsAs b (option_or x f)) (sym h) k
-
-gone_told : (a : Bool) (e f : Option Ending) → EndsAs a e → is_some f ≡ not a → is_some (option_or e f) ≡ true
-gone_told true e f h k = some_kept e f (ap is_some h.1)
-gone_told false e f h k = ap (λ (x : Option Ending). is_some (option_or x f)) h ∙ k
-
-has_step : (drawn l : ℕ) (o p : Option Stream) (e f : Option Ending) → HasEnding drawn l o e → ((l ≡ 0) ⊎ (drawn < l) → o ≡ None) → EndStep o p f
-    → HasEnding drawn l p (option_or e f)
-has_step drawn l None None e f h out step =
-    let same : option_or e f ≡ e = or_nothing e f step in
-    subst (HasEnding drawn l None) (sym same) h
-has_step drawn l None (Some b) e f h out step = absurd step
-has_step drawn l (Some a) None e f h out step = record {
-  kept = λ stream is. absurd (let clash : None ≡ Some stream = is in cc);
-  gone = λ none some within. gone_told a.part.orphan e f (h.kept a refl) step;
-  undrawn = λ past. absurd (let clash : Some a ≡ None = out past in cc);
-}
-has_step drawn l (Some a) (Some b) e f h out step = record {
-  kept = λ stream is.
-      let one : b ≡ stream = cc in
-      subst (λ (x : Stream). EndsAs x.part.orphan (option_or e f)) one (kept_keeps a.part.orphan b.part.orphan e f (h.kept a refl) step);
-  gone = λ none some within. absurd (let clash : Some b ≡ None = none in cc);
-  undrawn = λ past. absurd (let clash : Some a ≡ None = out past in cc);
-}
-
-has_more : (drawn l : ℕ) (o : Option Stream) (e : Option Ending) → HasEnding drawn l o e → drawn + 1 ≢ l → HasEnding (drawn + 1) l o e
-has_more drawn l o e h apart = record {
-  kept = h.kept;
-  gone = λ none some within. h.gone none some (omega (arith, within, apart));
-  undrawn = λ past. h.undrawn (before past);
-}
-  where
-    before : (l ≡ 0) ⊎ (drawn + 1 < l) → (l ≡ 0) ⊎ (drawn < l)
-    before (inl zeroth) = inl zeroth
-    before (inr above) = inr (omega (arith, above))
-
-has_new : (drawn l : ℕ) (o : Option Stream) (e : Option Ending) (new : Stream) → HasEnding drawn l o e → drawn + 1 ≡ l → new.part.orphan ≡ false
-    → HasEnding (drawn + 1) l (Some new) e
-has_new drawn l o e new h same owned =
-    let none : e ≡ None = h.undrawn (inr (omega (arith, same))) in
-    record {
-      kept = λ stream is.
-          let one : new ≡ stream = cc in
-          subst (λ (x : Stream). EndsAs x.part.orphan e) one (subst (λ (b : Bool). EndsAs b e) (sym owned) none);
-      gone = λ gone some within. absurd (let clash : Some new ≡ None = gone in cc);
-      undrawn = λ past. none;
-    }
-
-module _ (e : Entry) (older : History) (legal : IsLegal older) (h : EndingsAreRows older) where
-  abbrev was : State
-  was = state older
-
-  abbrev next : State
-  next = state (e ∷ older)
-
-  out_rows : (l : ℕ) → (l ≡ 0) ⊎ (was.drawn < l) → was.streams l ≡ None
-  out_rows l (inl zeroth) = ap was.streams zeroth ∙ (all_owned older legal).rows.streams.zero
-  out_rows l (inr above) = (all_owned older legal).rows.streams.above l above
-
-  all_told : (l : ℕ) → ending_of l (e ∷ older) ≡ option_or (ending_of l older) (ending_in l (told_at e older))
-  all_told l = ending_append l (told older) (told_at e older)
-
-  made_ends : EndsMade was.streams was.drawn (step was e) → EndingsAreRows (e ∷ older)
-  made_ends (inl made) l =
-      subst (λ (n : ℕ). HasEnding n l (next.streams l) (ending_of l (e ∷ older))) (sym made.0)
-      (subst (HasEnding was.drawn l (next.streams l)) (sym (all_told l))
-      (has_step was.drawn l (was.streams l) (next.streams l) (ending_of l older) (ending_in l (told_at e older)) (h l) (out_rows l) (made.1 l)))
-  made_ends (inr made) l =
-      subst (λ (n : ℕ). HasEnding n l (next.streams l) (ending_of l (e ∷ older))) (sym made.0)
-      (subst (HasEnding (was.drawn + 1) l (next.streams l)) (sym (all_told l))
-      (has_step (was.drawn + 1) l (put_row (was.drawn + 1) (Some made.1) was.streams l) (next.streams l) (ending_of l older) (ending_in l (told_at e older))
-      (first (eqb (was.drawn + 1) l) refl) (past (eqb (was.drawn + 1) l) refl) (made.3 l)))
+  stops_at : (l : ℕ) (v : List Event) (o : Option Stream) → s.streams l ≡ o → 0 < l → l ≤ s.drawn → ending_in l v ≡ ending_in l w
+      → is_some (ending_in l (v ++ tells_stop l o)) ≡ true
+  stops_at l v None is some drawn same = ap is_some (told_none l v [] refl ∙ same) ∙ (h.has l).gone is some drawn
+  stops_at l v (Some stream) is some drawn same = go stream.part.orphan refl
     where
-      first : (b : Bool) → eqb (was.drawn + 1) l ≡ b → HasEnding (was.drawn + 1) l (cond b (Some made.1) (was.streams l)) (ending_of l older)
-      first true same = has_new was.drawn l (was.streams l) (ending_of l older) made.1 (h l) (eqb-true (was.drawn + 1) l same) made.2
-      first false apart = has_more was.drawn l (was.streams l) (ending_of l older) (h l) (eqb-false (was.drawn + 1) l apart)
+      go : (orphan : Bool) → stream.part.orphan ≡ orphan → is_some (ending_in l (v ++ cond orphan [] (ended l stopped ∷ []))) ≡ true
+      go true e = ap is_some (told_none l v [] refl ∙ same) ∙ orphan_told stream.part.orphan (ending_in l w) ((h.has l).kept stream is) e
+      go false e = some_told l v stopped
 
-      past : (b : Bool) → eqb (was.drawn + 1) l ≡ b → (l ≡ 0) ⊎ (was.drawn + 1 < l) → cond b (Some made.1) (was.streams l) ≡ None
-      past true same (inl zeroth) = absurd (omega (arith, zeroth, eqb-true (was.drawn + 1) l same))
-      past true same (inr above) = absurd (omega (arith, above, eqb-true (was.drawn + 1) l same))
-      past false apart (inl zeroth) = out_rows l (inl zeroth)
-      past false apart (inr above) = out_rows l (inr (omega (arith, above)))
+  stops_other : (n l : ℕ) (o : Option Stream) → n ≢ l → (v : List Event) → ending_in l (v ++ tells_stop n o) ≡ ending_in l v
+  stops_other n l None apart v = told_none l v [] refl
+  stops_other n l (Some stream) apart v = go stream.part.orphan
+    where
+      go : (orphan : Bool) → ending_in l (v ++ cond orphan [] (ended n stopped ∷ [])) ≡ ending_in l v
+      go true = told_none l v [] refl
+      go false = told_other n l v stopped apart
+
+  all_stopped : (k l : ℕ) → k ≤ s.drawn → IsStopped k l
+  all_stopped zero l le = record { within = λ some none. absurd (omega (arith, some, none)); past = λ out. told_none l w [] refl }
+  all_stopped (suc k) l le = go (all_stopped k l (omega (arith, le))) (cases_eq l (suc k))
+    where
+      v : List Event
+      v = w ++ all_stop k s.streams
+
+      now : ending_in l (w ++ all_stop (suc k) s.streams) ≡ ending_in l (v ++ tells_stop (suc k) (s.streams (suc k)))
+      now = ap (ending_in l) (sym (append_assoc w (all_stop k s.streams) (tells_stop (suc k) (s.streams (suc k)))))
+
+      below : (l ≡ 0) ⊎ (suc k < l) → (l ≡ 0) ⊎ (k < l)
+      below (inl zeroth) = inl zeroth
+      below (inr above) = inr (omega (arith, above))
+
+      not_last : (l ≡ 0) ⊎ (suc k < l) → l ≡ suc k → ⊥
+      not_last (inl zeroth) same = omega (arith, zeroth, same)
+      not_last (inr above) same = omega (arith, above, same)
+
+      go : IsStopped k l → (l ≡ suc k) ⊎ (l ≡ suc k → ⊥) → IsStopped (suc k) l
+      go earlier (inl same) = record {
+        within = λ some in_. ap is_some now ∙ subst (λ (n : ℕ). is_some (ending_in l (v ++ tells_stop n (s.streams n))) ≡ true) same
+            (stops_at l v (s.streams l) refl some (omega (arith, in_, le)) (earlier.past (inr (omega (arith, same)))));
+        past = λ out. absurd (not_last out same);
+      }
+      go earlier (inr apart) =
+          let same = now ∙ stops_other (suc k) l (s.streams (suc k)) (λ e. apart (sym e)) v in
+          record {
+            within = λ some in_. ap is_some same ∙ earlier.within some (omega (arith, in_, apart));
+            past = λ out. same ∙ earlier.past (below out);
+          }
+
+  stops_kept : Ends s.drawn (λ l. None) (w ++ all_stop s.drawn s.streams)
+  stops_kept = record {
+    rows = none_drawn s.drawn;
+    has = λ l. record {
+      kept = λ stream e. absurd (let clash : None ≡ Some stream = e in cc);
+      gone = λ none some within. (all_stopped s.drawn l (omega arith)).within some within;
+      undrawn = λ out. (all_stopped s.drawn l (omega arith)).past out ∙ (h.has l).undrawn out;
+    };
+  }
+
+-- ---- all moves
+end_moves : Moves P
+end_moves = record {
+  owes = λ t p check s w of h. ends_quiet h (due_to_link t p check ∷ []) (λ l. refl);
+  due = λ c bytes s w h. ends_quiet h (due_to_client c bytes ∷ []) (λ l. refl);
+  closes = λ c client s w is free h. h;
+  tracks = λ c client long s w is asking h. h;
+  awaits = λ c client want s w is asking h. h;
+  drops = λ c client s w is none h. h;
+  holds = λ c client bytes s w is has h. h;
+  unmarks = λ c s w h. h;
+  input_ended = λ c s w h. h;
+  hands = λ c n client s w is fits h. h;
+  draws = λ c t client s w is asking ready h. row_comes h (new_stream (s.drawn + 1) c t (new_flow (is_credit t s.devices))) refl;
+  flows = λ l stream flow s w is like h. part_changes h l stream w is (λ k apart. refl) (with_flow flow stream.part) ((h.has l).kept stream is);
+  accepts = λ l payload stream s w is known turn h.
+      let part = with_flow (accepted (length payload) stream.part.flow) stream.part in
+      ends_quiet (part_changes h l stream w is (λ k apart. refl) part ((h.has l).kept stream is)) (due_to_client stream.client payload ∷ []) (λ l. refl);
+  opens = λ l remote word stream s w is new h.
+      let part = with_remote remote (with_flow (first_credit word stream.part.flow) stream.part) in
+      part_changes h l stream w is (λ k apart. refl) part ((h.has l).kept stream is);
+  orphan_goes = λ l stream s w is orphan h.
+      row_goes h l stream w is (λ k apart. refl) (orphan_told stream.part.orphan (ending_in l w) ((h.has l).kept stream is) orphan);
+  ends = ends_kept;
+  fails_open = λ c l failing s w at h.
+      row_goes h l failing.stream (w ++ ended l (client_failed failing.cause) ∷ []) at.2 (λ k apart. told_other l k w (client_failed failing.cause) apart) (some_told l w (client_failed failing.cause));
+  fails_asked = λ c l failing s w at h.
+      part_changes h l failing.stream (w ++ ended l (client_failed failing.cause) ∷ []) at.2 (λ k apart. told_other l k w (client_failed failing.cause) apart) (orphaned failing.stream.part)
+      (subst (EndsAs true) (sym (told_end l w (client_failed failing.cause)))
+      (asked_told failing.stream.part.orphan (ending_in l w) failing.cause ((h.has l).kept failing.stream at.2)));
+  links = λ t f s w h. h;
+  link_ends = λ t ending s w h.
+      after_then P w (all_end t ending (forgets t s)) (λ s. quietly (mark_all s)) (all_end_kept ends_kept t ending (forgets t s) w h)
+      (λ v now. after_quietly P v (mark_all (all_end t ending (forgets t s)).state) now);
+  online = λ t version maxdata identity s w h.
+      let first : Made = streams_end_first (is_connected t s.devices) t s in
+      after_then P w first (λ s. quietly (goes_online t version maxdata identity s)) (link_ends_first (is_connected t s.devices) t s w h)
+      (λ v now. after_quietly P v (goes_online t version maxdata identity first.state) now);
+  unauthorized = λ t row s w is offline h. h;
+  forwards = λ forwards s w led h. h;
+  stops = λ c client s w is asking h. stops_kept s w h;
+}
+
+begins_ends : (e : Entry) (s : State) (w : List Event) → P s w → Begins end_moves e s w
+begins_ends (Enter c port) s w h = (h, h)
+begins_ends (Read c bytes) s w h = (h, λ client is asking. h)
+begins_ends _ s w h = h
+
+all_end_so : (h : History) → P (state h) (told h)
+all_end_so [] = record {
+  rows = none_drawn 0;
+  has = λ l. record {
+    kept = λ stream e. absurd (let clash : None ≡ Some stream = e in cc);
+    gone = λ none some within. absurd (omega (arith, some, within));
+    undrawn = λ past. refl;
+  };
+}
+all_end_so (e ∷ older) = step_kept end_moves e (state older) (told older) (begins_ends e (state older) (told older) (all_end_so older))
 
 -- In every legal history a stream that was drawn and is kept no more has ended, and one that is kept has not, unless it is an orphan.
 pub all_endings : (h : History) → IsLegal h → EndingsAreRows h
-all_endings [] legal = λ l. record {
-  kept = λ stream is. absurd (let clash : None ≡ Some stream = is in cc);
-  gone = λ none some within. absurd (omega (arith, some, within));
-  undrawn = λ past. refl;
-}
-all_endings (e ∷ older) legal = made_ends e older legal.0 (all_endings older legal.0) (entry_made older legal.0 e legal)
+all_endings h legal l = (all_end_so h).has l

@@ -118,7 +118,6 @@ module _ (f : ℕ → Bool) where
   came_moves = record {
     owes = λ t p check s w of h. h;
     due = λ c bytes s w h. due_came c bytes s.clients h;
-    tells_end = λ l ending s w h. h;
     closes = λ c client s w is free h. closes_came c s h;
     tracks = λ c client long s w is asking h. change_came c (tracks long) s.clients
         (some_keeps (λ a. record a { about = record a.about { phase = Tracking; long = long; mark = false }; held = [] }) (λ a. refl)) h;
@@ -137,8 +136,8 @@ module _ (f : ℕ → Bool) where
         (some_keeps (λ a. record a { about = record a.about { phase = Streaming l } }) (λ a. refl)) h;
     orphan_goes = λ l stream s w is orphan h. h;
     ends = ends_came;
-    fails_open = λ c l client stream s w is in_ at_l h. change_came c none_kept s.clients none_keeps h;
-    fails_asked = λ c l client stream s w is in_ at_l h. change_came c none_kept s.clients none_keeps h;
+    fails_open = λ c l failing s w at h. change_came c none_kept s.clients none_keeps h;
+    fails_asked = λ c l failing s w at h. change_came c none_kept s.clients none_keeps h;
     links = λ t g s w h. h;
     link_ends = λ t ending s w h. marks_came (all_end t ending (forgets t s)).state.clients
         (all_end_kept {P = λ s w. AsCame f s.clients} ends_came t ending (forgets t s) [] h);

@@ -14,7 +14,6 @@ pub mod Sent
 pub mod Once
 pub mod Crossing
 pub mod Ending
-pub mod EndingRules
 pub mod Endings
 pub mod Laws
 pub mod Asking

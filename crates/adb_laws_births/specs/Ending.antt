@@ -1,9 +1,8 @@
 -- How streams end: a row that goes was told to end, unless it was an orphan, whose end was told when its client failed.
-use Rattle.std.specs.Prelude.{ℕ, ◌≡◌, ◌<◌, ◌≤◌, ◌⊎◌, Bool, true, false, not, is_some, Option, Some, None}
-use Rattle.adb_outside.specs.Tables.{Rows}
+use Rattle.std.specs.Prelude.{ℕ, ◌≡◌, ◌<◌, ◌≤◌, ◌⊎◌, Bool, true, false, is_some, Option, Some, None}
 use Rattle.adb_outside.specs.declared.kinds.Cause.{Cause}
 use Rattle.adb_stream.specs.declared.row.Stream.{Stream}
-use Rattle.adb_history.specs.Events.{Made, Ending, client_failed, ending_in}
+use Rattle.adb_history.specs.Events.{Ending, client_failed}
 use Rattle.adb_history.specs.Machine.{History, state}
 use Rattle.adb_history.specs.Lives.{ending_of}
 
@@ -11,21 +10,6 @@ use Rattle.adb_history.specs.Lives.{ending_of}
 abbrev pub EndsAs : Bool → Option Ending → Type 0
 EndsAs false ending = ending ≡ None
 EndsAs true ending = (cause : Cause) × (ending ≡ Some (client_failed cause))
-
--- what a stream was told that goes on: an orphan stays one, and is told nothing
-abbrev pub EndKeeps : (before after : Bool) → Option Ending → Type 0
-EndKeeps true after ending = (after ≡ true) × (ending ≡ None)
-EndKeeps false after ending = EndsAs after ending
-
--- what is told of the end of a stream by what is before and after a rule
-abbrev pub EndStep : Option Stream → Option Stream → Option Ending → Type 0
-EndStep None None ending = ending ≡ None
-EndStep None (Some b) ending = ⊥
-EndStep (Some a) None ending = is_some ending ≡ not a.part.orphan
-EndStep (Some a) (Some b) ending = EndKeeps a.part.orphan b.part.orphan ending
-
-abbrev pub EndSteps : Rows (Option Stream) → Made → Type 0
-EndSteps streams m = (l : ℕ) → EndStep (streams l) (m.state.streams l) (ending_in l m.told)
 
 -- A stream that was drawn and is kept no more has ended; one that is kept has not, unless it is an orphan; and none ends that was not drawn.
 pub record HasEnding (drawn l : ℕ) (row : Option Stream) (ending : Option Ending) : Type 0 where

@@ -184,7 +184,6 @@ waited_moves : Moves (λ s w. IsWaited s)
 waited_moves = record {
   owes = λ t p check s w of h. record { owned = owned_moves.owes t p check s w of h.owned; wants = h.wants };
   due = λ c bytes s w h. record { owned = owned_moves.due c bytes s w h.owned; wants = due_wants c bytes s.clients h.wants };
-  tells_end = λ l ending s w h. h;
   closes = λ c x s w is free h. record { owned = owned_moves.closes c x s w is free h.owned; wants = closes_wants c s.clients h.wants };
   tracks = λ c x long s w is asking h. record { owned = owned_moves.tracks c x long s w is asking h.owned; wants = tracks_wants s h c x long is asking };
   awaits = λ c x want s w is asking h. record { owned = owned_moves.awaits c x want s w is asking h.owned; wants = awaits_wants s h c want };
@@ -220,12 +219,12 @@ waited_moves = record {
     owned = owned_moves.ends l ending stream s w is h.owned;
     wants = ends_wants l ending stream s h.wants;
   };
-  fails_open = λ c l x stream s w is in_ at_l h. record {
-    owned = owned_moves.fails_open c l x stream s w is in_ at_l h.owned;
+  fails_open = λ c l failing s w at h. record {
+    owned = owned_moves.fails_open c l failing s w at h.owned;
     wants = none_wants c s.clients h.wants;
   };
-  fails_asked = λ c l x stream s w is in_ at_l h. record {
-    owned = owned_moves.fails_asked c l x stream s w is in_ at_l h.owned;
+  fails_asked = λ c l failing s w at h. record {
+    owned = owned_moves.fails_asked c l failing s w at h.owned;
     wants = none_wants c s.clients h.wants;
   };
   links = λ t f s w h. record { owned = owned_moves.links t f s w h.owned; wants = h.wants };
