@@ -41,8 +41,7 @@ use Rattle.adb_history.proofs.Received.{received}
 use Rattle.adb_history.proofs.DeviceTurns.{IsGood, turns_link_ends, turns_cut}
 use Rattle.adb_history.proofs.TableStays.{puts_tables}
 use Rattle.adb_history.proofs.Devices.{ShowsDevices, shows_devices, shows_rule, all_devices}
-use Rattle.adb_history.proofs.Waiting.{NoneWaits, AreFree, Leaves, leaves_all, leaves_over, free_after, none_waits_after}
-use Rattle.adb_history.proofs.WaitingPackets.{leaves_mark_all, leaves_receives, leaves_link_ends, leaves_puts}
+use Rattle.adb_history.proofs.Waiting.{NoneWaits, AreFree, Leaves, leaves_all, leaves_over, free_after, none_waits_after, leaves_mark_all, leaves_receives, leaves_unplugs, leaves_puts}
 use Rattle.adb_history.proofs.Asked.{Unused}
 use Rattle.adb_history.proofs.OwnEntries.{Owns, owns_free, owns_opens, opened_row}
 use Rattle.adb_history.proofs.ForwardTurns.{AreLed, Leads, leads_link_ends, leads_cut, led_after, led_filter}
@@ -116,7 +115,7 @@ module _ (older : History) (legal : IsLegal older) (b : IsBooked (state older) o
         forwards = puts_forwards came links c (length bytes) (s.clients c) s le tie.streams;
         led = λ led. subst (λ (d : DeviceTable). AreLed d s.forwards) (sym tables.devices) led;
         holds = holds_puts came links c (length bytes) (s.clients c) s le tie.streams;
-        leaves = leaves_puts c (length bytes) (s.clients c) s;
+        leaves = leaves_puts s b.free (s.clients c) c (length bytes);
       }) refl refl (λ k. refl)
 
   pub booked_send : (t : ℕ) (bytes : List ℕ) → IsBooked (sends t (length bytes) s) (Send t bytes ∷ older)
@@ -193,7 +192,7 @@ module _ (older : History) (legal : IsLegal older) (b : IsBooked (state older) o
         others = others (s.links t);
         leads = leads (s.links t);
         holds = holds_receives came links (s.links t) t bytes s le tie.streams;
-        leaves = leaves_receives (s.links t) t bytes s b.free;
+        leaves = leaves_receives s b.free t bytes;
         killed = refl;
         forwards = refl;
         same = λ k. refl;
@@ -224,7 +223,7 @@ module _ (older : History) (legal : IsLegal older) (b : IsBooked (state older) o
         others = others (s.links t);
         leads = leads (s.links t);
         holds = held (s.links t);
-        leaves = leaves (s.links t);
+        leaves = leaves_unplugs s b.free (s.links t) t;
         killed = refl;
         forwards = refl;
         same = λ k. refl;
@@ -249,10 +248,6 @@ module _ (older : History) (legal : IsLegal older) (b : IsBooked (state older) o
       held None k = holds_same (s.clients k)
       held (Some link) k = holds (s.clients k) ((link_ends t ending.lost s).state.clients k) (owed_to k (link_ends t ending.lost s).told)
           ((changes_link_ends came links t ending.lost s tie.streams).clients k)
-
-      leaves : (o : Option Link) → Leaves s (unplugs_on o t s)
-      leaves None = leaves_all s (quietly s) refl refl
-      leaves (Some link) = leaves_link_ends t ending.lost s
 
   -- ---- join, and enter
   apart_streams : (forwarded : Bool) (n : ℕ) → n ≡ s.joined + 1 → (l : ℕ) (stream : Stream) → s.streams l ≡ Some stream → stream.client ≤ came

@@ -44,7 +44,6 @@ pub mod DeviceTurns
 pub mod TableStays
 pub mod Devices
 pub mod Waiting
-pub mod WaitingPackets
 pub mod Asked
 pub mod OwnEntries
 pub mod ForwardTurns

@@ -31,7 +31,7 @@ use Rattle.adb_history.specs.Packets.{least_version, least_maxdata, connects, cn
 use Rattle.adb_history.specs.Packets.{hears_okay, opened, orphan_opened, okay_open, okay_first, takes_okay}
 use Rattle.adb_history.specs.Packets.{accepts_none, accepts, takes_write, takes_close, treat_open, treat_any, treat_on, treat, treat_all, faulty_on}
 use Rattle.adb_history.specs.Packets.{faulty, with_rest, receives_cut, receives_on, receives}
-use Rattle.adb_history.specs.Moves.{After, Moves, IsLike, open_now}
+use Rattle.adb_history.specs.Moves.{After, Serves, IsLike, open_now}
 use Rattle.adb_history.proofs.Following.{after_quietly, after_then, after_if}
 use Rattle.adb_history.proofs.StreamMoves.{owes_kept, ends_telling_kept}
 
@@ -57,7 +57,7 @@ hears_streams (Some client) c s = go client.about.forwarded
     go true = refl
     go false = refl
 
-module _ {P : State → List Event → Type 0} (k : Moves P) where
+module _ {P : State → List Event → Type 0} (k : Serves P) where
   module _ (s : State) (w : List Event) (h : P s w) where
     -- ---- CNXN, AUTH and STLS
     connects_kept : (t version maxdata : ℕ) (who : Option Identity) → After P w (connects t version maxdata who s)

@@ -21,15 +21,15 @@ use Rattle.adb_reply.specs.Strings.{failed}
 use Rattle.adb_reply.specs.Refusals.{no_transport}
 use Rattle.adb_reply.specs.declared.answer.Next.{Next}
 use Rattle.adb_reply.specs.declared.answer.Next.TheVariants.{Close, Select, Track, Open, Bind, Rebind, Unbind, UnbindAll, Stop}
-use Rattle.adb_history.specs.Rows.{Client, State, to_client, to_stream, none_kept, with_due, with_held, with_stream_part}
+use Rattle.adb_history.specs.Rows.{Client, State, to_client, to_stream, none_kept, with_due, with_held}
 use Rattle.adb_history.specs.Events.{Made, Event, quietly, ended, client_failed}
 use Rattle.adb_history.specs.Links.{owe_link, close_packet}
 use Rattle.adb_history.specs.Clients.{owe_client, closes}
 use Rattle.adb_history.specs.Forwarding.{Binding as Bound, forwards_with, put_forward, told_port, is_unbound, bound_by}
 use Rattle.adb_history.specs.Asking.{Asked, asks_with}
-use Rattle.adb_history.specs.Losing.{stream_fails, stream_of, input_ends, client_ends, orphaned}
+use Rattle.adb_history.specs.Losing.{stream_fails, stream_of, input_ends, client_ends}
 use Rattle.adb_history.specs.Reading.{tracks, awaits, goes_on, asked_before, has_asked, asks, reads_in, bound_for, bound_in, bound_at}
-use Rattle.adb_history.specs.Moves.{IsClientIn, After, Moves, IsFree, HasOne, IsLed}
+use Rattle.adb_history.specs.Moves.{IsClientIn, After, Moves, serves, IsFree, HasOne, IsLed}
 use Rattle.adb_history.proofs.Following.{after_quietly, after_then, changed_here}
 use Rattle.adb_history.proofs.StreamMoves.{asks_free, owes_kept, closes_with_kept, service_kept}
 use Rattle.adb_history.proofs.Readiness.{IsAskedReady, asks_ready}
@@ -148,7 +148,7 @@ module _ {P : State → List Event → Type 0} (k : Moves P) where
         let gone : Made = owe_link stream.link p (to_stream l none_kept (to_client c none_kept s)) in
         subst (λ (v : List Event). P gone.state v) (append_assoc w owed.told (ended l (client_failed cause) ∷ []))
         (k.fails_open c l (record { cause = cause; client = x.client; stream = stream }) owed.state (w ++ owed.told) (x.here, x.in_phase, at_l)
-        (owes_kept k s w h stream.link p (inr (inl (ap is_some at_l)))))
+        (owes_kept (serves k) s w h stream.link p (inr (inl (ap is_some at_l)))))
 
     fails_asked_kept : (c l : ℕ) (cause : Cause) (o : Option Stream) → IsClientIn s c (Opening l) → s.streams l ≡ o
         → After P w (stream_fails (Opening l) cause o (to_client c none_kept s))

@@ -27,7 +27,7 @@ use Rattle.adb_history.specs.Handing.{client_left, takes_of, puts_to, sends}
 use Rattle.adb_history.specs.Asking.{asks_with}
 use Rattle.adb_history.specs.Reading.{asked_before, has_asked, reads_from, comes, comes_in_vain, enters_by}
 use Rattle.adb_history.specs.Machine.{unplugs_on, rule, ups, step}
-use Rattle.adb_history.specs.Moves.{IsClientIn, After, Moves, IsLike, plugged_in}
+use Rattle.adb_history.specs.Moves.{IsClientIn, After, Moves, Serves, serves, IsLike, plugged_in}
 use Rattle.adb_history.proofs.Following.{after_quietly, after_then, after_if, changed_here}
 use Rattle.adb_history.proofs.StreamMoves.{owes_kept, service_kept, up_all_kept}
 use Rattle.adb_history.proofs.PacketMoves.{receives_kept}
@@ -74,7 +74,7 @@ left_now left (Credit credit) = refl
 pub same_stream : (phase : Phase) (l m : ℕ) → phase ≡ Streaming l → phase ≡ Streaming m → l ≡ m
 same_stream phase l m e f = let g : Streaming l ≡ Streaming m = sym e ∙ f in cc
 
-module _ {P : State → List Event → Type 0} (k : Moves P) where
+module _ {P : State → List Event → Type 0} (k : Serves P) where
   module _ (s : State) (w : List Event) (h : P s w) where
     -- ---- put
     lists_first_kept : (c : ℕ) (due : List ℕ) (client : Client) → After P w (lists_first c due client s)
@@ -173,7 +173,7 @@ module _ {P : State → List Event → Type 0} (k : Moves P) where
     takes_kept c n (Some client) is = client_left_kept client.about.phase c n (record { client = client; here = is; in_phase = refl })
 
   module _ (s : State) (w : List Event) (h : P s w) where
-    puts_kept : (o : Option Client) (c n : ℕ) → After P w (puts_to o c n s)
+    pub puts_kept : (o : Option Client) (c n : ℕ) → After P w (puts_to o c n s)
     puts_kept None c n = after_quietly P w s h
     puts_kept (Some client) c n =
         let listed : Made = lists_first c client.due client s in
@@ -181,10 +181,12 @@ module _ {P : State → List Event → Type 0} (k : Moves P) where
         (λ v now. takes_kept listed.state v now c n (listed.state.clients c) refl)
 
     -- ---- entries
-    unplugs_kept : (o : Option Link) (t : ℕ) → After P w (unplugs_on o t s)
+    pub unplugs_kept : (o : Option Link) (t : ℕ) → After P w (unplugs_on o t s)
     unplugs_kept None t = after_quietly P w s h
     unplugs_kept (Some link) t = k.link_ends t lost s w h
 
+module _ {P : State → List Event → Type 0} (k : Moves P) where
+  module _ (s : State) (w : List Event) (h : P s w) where
     reads_kept : (o : Option Client) (c : ℕ)
         (bytes : List ℕ) → s.clients c ≡ o → ((client : Client) → s.clients c ≡ Some client → client.about.phase ≡ Asking → P
         (to_client c (has_asked (asks_with s.devices s.forwards bytes (asked_before client))) s) w) → After P w (reads_from o c bytes s)
@@ -214,16 +216,16 @@ module _ {P : State → List Event → Type 0} (k : Moves P) where
   pub rule_kept : (e : Entry) (s : State) (w : List Event) → Begins e s w → After P w (rule e s)
   rule_kept (Join c) s w h = after_quietly P w (comes false c s) h
   rule_kept (Enter c port) s w h = enters_kept (at port s.forwards) c s w h.0 h.1
-  rule_kept (Attach t kind serial) s w h = owes_kept k (plugged_in t kind serial s) w h t server_cnxn (inr (inr refl))
+  rule_kept (Attach t kind serial) s w h = owes_kept (serves k) (plugged_in t kind serial s) w h t server_cnxn (inr (inr refl))
   rule_kept (Read c bytes) s w h = reads_kept s w h.0 (s.clients c) c bytes refl h.1
   rule_kept (End c cause) s w h = client_ends_kept k s w h c cause (s.clients c) refl
   rule_kept (Bound c port) s w h = bound_kept k s w h (s.clients c) c port refl
-  rule_kept (Recv t bytes) s w h = receives_kept k s w h t bytes
-  rule_kept (Detach t cause) s w h = unplugs_kept s w h (s.links t) t
-  rule_kept (Put c bytes) s w h = puts_kept s w h (s.clients c) c (length bytes)
+  rule_kept (Recv t bytes) s w h = receives_kept (serves k) s w h t bytes
+  rule_kept (Detach t cause) s w h = unplugs_kept (serves k) s w h (s.links t) t
+  rule_kept (Put c bytes) s w h = puts_kept (serves k) s w h (s.clients c) c (length bytes)
   rule_kept (Send t bytes) s w h =
       after_quietly P w (sends t (length bytes) s) (k.links t (λ link. record link { due = drop (length bytes) link.due }) s w h)
 
   pub step_kept : (e : Entry) (s : State) (w : List Event) → Begins e s w → After P w (step s e)
   step_kept e s w h =
-      after_then P w (rule e s) ups (rule_kept e s w h) (λ v now. up_all_kept k (rule e s).state v now (rule e s).state.drawn)
+      after_then P w (rule e s) ups (rule_kept e s w h) (λ v now. up_all_kept (serves k) (rule e s).state v now (rule e s).state.drawn)

@@ -19,7 +19,7 @@ use Rattle.adb_history.specs.Streams.{stream_ids, asks_for, no_ids_left, opens, 
 use Rattle.adb_history.specs.Flow.{with_flow, flow_after, payloads, total, noted, goes_up, all_go_up, is_over, closes_if, sends_up}
 use Rattle.adb_history.specs.Flow.{is_streaming, up_client, up_stream, up, up_all}
 use Rattle.adb_history.specs.Losing.{stream_of}
-use Rattle.adb_history.specs.Moves.{IsClientIn, After, Moves, IsOfStream, IsFree, HasOne, IsLike, IsReady, draws_now}
+use Rattle.adb_history.specs.Moves.{IsClientIn, After, Moves, Serves, serves, IsOfStream, IsFree, HasOne, IsLike, IsReady, draws_now}
 use Rattle.adb_history.proofs.Following.{after_quietly, after_then, after_if, changed_here}
 
 -- a client that asks has no stream
@@ -77,37 +77,13 @@ module _ {P : State → List Event → Type 0} (ends : EndsKept P) where
   pub all_end_kept : (t : ℕ) (ending : Ending) (s : State) (w : List Event) → P s w → After P w (all_end t ending s)
   all_end_kept t ending s w h = ends_of_kept t s.drawn ending s w h
 
-module _ {P : State → List Event → Type 0} (k : Moves P) where
+module _ {P : State → List Event → Type 0} (k : Serves P) where
   module _ (s : State) (w : List Event) (h : P s w) where
     -- a packet of a stream that lives becomes due
     pub owes_kept : (t : ℕ) (p : Packet) → IsOfStream s.streams p → After P w (owe_link t p s)
     owes_kept t p of = k.owes t p (check_on (wants_sums (s.links t)) p) s w of h
 
-    pub closes_with_kept : (c : ℕ) (bytes : List ℕ) (client : Client) → s.clients c ≡ Some client → IsFree client.about.phase
-        → After P w (closes_with c bytes s)
-    closes_with_kept c bytes client is free =
-        k.closes c (record client { due = client.due ++ bytes }) (to_client c (with_due bytes) s) (w ++ _ ∷ [])
-        (changed_here c (with_due bytes) s.clients client is) free (k.due c bytes s w h)
-
   module _ (s : State) (w : List Event) (h : P s w) where
-    -- ---- service
-    asks_for_kept : (c t : ℕ) (service : List ℕ) → IsClientIn s c Asking → IsReady t s.devices → After P w (asks_for (s.drawn + 1) c t service s)
-    asks_for_kept c t service x ready =
-        let drawn : State = draws_now c t s in
-        let alive : is_some (drawn.streams (s.drawn + 1)) ≡ true = rw (eq-eqb (s.drawn + 1) (s.drawn + 1) refl) refl in
-        owes_kept drawn w (k.draws c t x.client s w x.here x.in_phase ready h) t (open_packet (is_credit t s.devices) (s.drawn + 1) service) (inr (inl alive))
-
-    no_ids_kept : (forwarded : Bool) (c : ℕ) → IsClientIn s c Asking → After P w (no_ids_left forwarded c s)
-    no_ids_kept true c x =
-        after_quietly P w (to_client c none_kept s) (k.drops c x.client s w x.here (asks_streamless x.client.about.phase s.streams x.in_phase) h)
-    no_ids_kept false c x =
-        closes_with_kept s w h c (failed (codes "no stream ids left")).bytes x.client x.here (asks_free x.client.about.phase x.in_phase)
-
-    pub service_kept : (forwarded : Bool) (c t : ℕ) (service : List ℕ) → IsClientIn s c Asking → IsReady t s.devices → After P w (opens forwarded c t service s)
-    service_kept forwarded c t service x ready =
-        after_if P w (eqb s.drawn stream_ids) (no_ids_left forwarded c s) (asks_for (s.drawn + 1) c t service s)
-        (λ e. no_ids_kept forwarded c x) (λ e. asks_for_kept c t service x ready)
-
     -- ---- stream end
     pub ends_telling_kept : (l : ℕ) (ending : Ending) (stream : Stream) → s.streams l ≡ Some stream → After P w (ends_telling l ending stream s)
     ends_telling_kept l ending stream is =
@@ -168,3 +144,31 @@ module _ {P : State → List Event → Type 0} (k : Moves P) where
   up_all_kept s w h (suc n) =
       let before : Made = up_all n s in
       after_then P w before (up (suc n)) (up_all_kept s w h n) (λ v now. up_kept before.state v now (suc n) (before.state.streams (suc n)) refl)
+
+-- ---- what a client asks for
+module _ {P : State → List Event → Type 0} (k : Moves P) where
+  module _ (s : State) (w : List Event) (h : P s w) where
+    pub closes_with_kept : (c : ℕ) (bytes : List ℕ) (client : Client) → s.clients c ≡ Some client → IsFree client.about.phase
+        → After P w (closes_with c bytes s)
+    closes_with_kept c bytes client is free =
+        k.closes c (record client { due = client.due ++ bytes }) (to_client c (with_due bytes) s) (w ++ _ ∷ [])
+        (changed_here c (with_due bytes) s.clients client is) free (k.due c bytes s w h)
+
+  module _ (s : State) (w : List Event) (h : P s w) where
+    -- ---- service
+    asks_for_kept : (c t : ℕ) (service : List ℕ) → IsClientIn s c Asking → IsReady t s.devices → After P w (asks_for (s.drawn + 1) c t service s)
+    asks_for_kept c t service x ready =
+        let drawn : State = draws_now c t s in
+        let alive : is_some (drawn.streams (s.drawn + 1)) ≡ true = rw (eq-eqb (s.drawn + 1) (s.drawn + 1) refl) refl in
+        owes_kept (serves k) drawn w (k.draws c t x.client s w x.here x.in_phase ready h) t (open_packet (is_credit t s.devices) (s.drawn + 1) service) (inr (inl alive))
+
+    no_ids_kept : (forwarded : Bool) (c : ℕ) → IsClientIn s c Asking → After P w (no_ids_left forwarded c s)
+    no_ids_kept true c x =
+        after_quietly P w (to_client c none_kept s) (k.drops c x.client s w x.here (asks_streamless x.client.about.phase s.streams x.in_phase) h)
+    no_ids_kept false c x =
+        closes_with_kept s w h c (failed (codes "no stream ids left")).bytes x.client x.here (asks_free x.client.about.phase x.in_phase)
+
+    pub service_kept : (forwarded : Bool) (c t : ℕ) (service : List ℕ) → IsClientIn s c Asking → IsReady t s.devices → After P w (opens forwarded c t service s)
+    service_kept forwarded c t service x ready =
+        after_if P w (eqb s.drawn stream_ids) (no_ids_left forwarded c s) (asks_for (s.drawn + 1) c t service s)
+        (λ e. no_ids_kept forwarded c x) (λ e. asks_for_kept c t service x ready)

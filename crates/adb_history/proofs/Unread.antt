@@ -33,7 +33,7 @@ use Rattle.adb_history.specs.Asking.{Asked, replied, after_next, after_found, re
 use Rattle.adb_history.specs.Reading.{tracks, awaits, goes_on, asked_before, has_asked, asks, reads_in, reads_from, comes}
 use Rattle.adb_history.specs.Handing.{hands, left_in, unmarked}
 use Rattle.adb_history.specs.Machine.{History, state, rule}
-use Rattle.adb_history.specs.Moves.{Moves, HasOne}
+use Rattle.adb_history.specs.Moves.{Moves, HasOne, serves}
 use Rattle.adb_history.proofs.Following.{changed_here}
 use Rattle.adb_history.proofs.StreamMoves.{all_end_kept, up_all_kept}
 use Rattle.adb_history.proofs.ReadMoves.{goes_on_kept}
@@ -379,4 +379,4 @@ pub all_unread : (h : History) → UnreadBut (λ _. ⊥) (state h).clients
 all_unread [] = record { more = λ k x apart is asks. absurd (let clash : None ≡ Some x = is in cc) }
 all_unread (e ∷ older) =
     let ruled : State = (rule e (state older)).state in
-    up_all_kept (unread_moves (λ _. ⊥)) ruled [] (rule_unread e (state older) (all_unread older)) ruled.drawn
+    up_all_kept (serves (unread_moves (λ _. ⊥))) ruled [] (rule_unread e (state older) (all_unread older)) ruled.drawn

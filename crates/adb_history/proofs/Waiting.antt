@@ -1,22 +1,28 @@
--- What rules leave of clients that wait, which ask or wait for a listener: a stream has none of them.
-use Rattle.std.proofs.Common.{ℕ, ◌≡◌, Bool, true, false, cond, List, [], ◌∷◌, drop, Option, Some, None, refl, sym, ◌∙◌, ap, subst, eqb, zero, suc}
-use Rattle.std.proofs.Common.{codes, inl, inr, ◌⊎◌}
+-- What serving leaves of clients that wait, which ask or wait for a listener: a stream has none of them.
+use Rattle.std.proofs.Common.{ℕ, ◌≡◌, Bool, true, false, cond, List, [], ◌∷◌, drop, length, Option, Some, None, refl, sym, ◌∙◌, ap, subst, eqb, ◌⊎◌, inl, inr}
+use Rattle.std.specs.Prelude.{codes, option_map, option_and_then}
 use Rattle.std.proofs.lemmas.Bool.{eqb-true}
-use Rattle.std.specs.Prelude.{option_and_then}
-use Rattle.adb_outside.specs.Tables.{at}
-use Rattle.adb_wire.specs.declared.packets.Packet.{Packet}
 use Rattle.adb_stream.specs.declared.row.Stream.{Stream}
-use Rattle.adb_stream.specs.declared.row.Part.{Part}
+use Rattle.adb_stream.specs.Flow.{first_credit, accepted}
 use Rattle.adb_client.specs.declared.phase.Phase.{Phase}
-use Rattle.adb_client.specs.declared.phase.Phase.TheVariants.{Asking, Opening, Streaming, Binding}
+use Rattle.adb_client.specs.declared.phase.Phase.TheVariants.{Asking, Opening, Streaming, Binding, Closing}
 use Rattle.adb_reply.specs.Strings.{failed}
-use Rattle.adb_history.specs.Rows.{Client, State, to_client, to_stream, none_kept, with_due, with_held, with_stream_part}
-use Rattle.adb_history.specs.Events.{Made, Ending, quietly, then_also, client_closed}
-use Rattle.adb_history.specs.Links.{close_packet, write_packet, owe_link, maxdata_of}
-use Rattle.adb_history.specs.Clients.{owe_client, closing_with, closing, closes, closes_with}
-use Rattle.adb_history.specs.Streams.{loses, client_loses, tells_end, ends_row, ends_telling, ends_if_of, ends_of, all_end}
-use Rattle.adb_history.specs.Flow.{payloads, total, with_flow, goes_up, all_go_up, flow_after, noted, is_over, closes_if, sends_up, is_streaming}
-use Rattle.adb_history.specs.Flow.{up_client, up_stream, up, up_all}
+use Rattle.adb_history.specs.Rows.{Client, Link, State, to_client, to_stream, none_kept, with_due, with_held, in_phase, with_stream_part}
+use Rattle.adb_history.specs.Events.{Made, Event, quietly, then_also, lost}
+use Rattle.adb_history.specs.Links.{is_connected}
+use Rattle.adb_history.specs.Clients.{closing_with, closing}
+use Rattle.adb_history.specs.Streams.{loses, client_loses, tells_end, all_end}
+use Rattle.adb_history.specs.Flow.{with_flow, up_all}
+use Rattle.adb_history.specs.Tracking.{marked_in, marked, mark_all}
+use Rattle.adb_history.specs.Losing.{forgets}
+use Rattle.adb_history.specs.Packets.{with_remote, streams_end_first, receives}
+use Rattle.adb_history.specs.Handing.{unmarked, left_in, hands, puts_to}
+use Rattle.adb_history.specs.Machine.{unplugs_on}
+use Rattle.adb_history.specs.Moves.{After, Serves}
+use Rattle.adb_history.proofs.Following.{after_then}
+use Rattle.adb_history.proofs.StreamMoves.{EndsKept, all_end_kept, up_all_kept}
+use Rattle.adb_history.proofs.PacketMoves.{receives_kept}
+use Rattle.adb_history.proofs.RuleMoves.{puts_kept, unplugs_kept}
 
 -- a client that asks, or waits for the listener of a forward
 abbrev pub is_waiting : Phase → Bool
@@ -135,7 +141,7 @@ free_after s m h free l stream is =
     (none_waits_after (s.clients before.0.client) (m.state.clients before.0.client) (h.clients before.0.client) (free l before.0 before.1))
 
 -- ---- rows
-pub leaves_to_client : (c : ℕ) (f : Client → Option Client) (s : State) → ((a : Client) → s.clients c ≡ Some a → WaitStep (Some a) (f a))
+leaves_to_client : (c : ℕ) (f : Client → Option Client) (s : State) → ((a : Client) → s.clients c ≡ Some a → WaitStep (Some a) (f a))
     → Leaves s (quietly (to_client c f s))
 leaves_to_client c f s at = record { clients = λ k. go k (eqb c k) refl (s.clients k) refl; streams = λ l. stream_same (s.streams l) }
   where
@@ -143,13 +149,6 @@ leaves_to_client c f s at = record { clients = λ k. go k (eqb c k) refl (s.clie
     go k true e None is = tt
     go k true e (Some a) is = at a (ap s.clients (eqb-true c k e) ∙ is)
     go k false e o is = wait_same o
-
-pub leaves_owe_client : (c : ℕ) (bytes : List ℕ) (s : State) → Leaves s (owe_client c bytes s)
-leaves_owe_client c bytes s = leaves_then s (quietly (to_client c (with_due bytes) s)) (λ x. record { state = x; told = (owe_client c bytes s).told })
-    (leaves_to_client c (with_due bytes) s (λ a e. inr refl)) (leaves_all (to_client c (with_due bytes) s) (owe_client c bytes s) refl refl)
-
-pub leaves_owe_link : (t : ℕ) (p : Packet) (s : State) → Leaves s (owe_link t p s)
-leaves_owe_link t p s = leaves_all s (owe_link t p s) refl refl
 
 leaves_to_stream : (l : ℕ) (f : Stream → Option Stream) (s : State) → ((a : Stream) → StreamStep (Some a) (f a)) → Leaves s (quietly (to_stream l f s))
 leaves_to_stream l f s at = record { clients = λ c. wait_same (s.clients c); streams = λ k. go (eqb l k) (s.streams k) }
@@ -159,121 +158,118 @@ leaves_to_stream l f s at = record { clients = λ c. wait_same (s.clients c); st
     go true (Some a) = at a
     go false o = stream_same o
 
-pub leaves_part : (l : ℕ) (part : Part) (s : State) → Leaves s (quietly (to_stream l (with_stream_part part) s))
-leaves_part l part s = leaves_to_stream l (with_stream_part part) s (λ a. refl)
-
-pub leaves_no_stream : (l : ℕ) (s : State) → Leaves s (quietly (to_stream l none_kept s))
-leaves_no_stream l s = leaves_to_stream l none_kept s (λ a. tt)
-
-pub wait_closing : (due : List ℕ) (a : Client) → is_waiting a.about.phase ≡ false → WaitStep (Some a) (closing_with due a)
+wait_closing : (due : List ℕ) (a : Client) → is_waiting a.about.phase ≡ false → WaitStep (Some a) (closing_with due a)
 wait_closing [] a e = e
 wait_closing (b ∷ due) a e = inl (e, refl)
 
-leaves_closes : (c : ℕ) (s : State) → NoneWaits (s.clients c) → Leaves s (quietly (closes c s))
-leaves_closes c s free = leaves_to_client c closing s (λ a e. wait_closing a.due a (free a e))
+wait_left : (phase : Phase) (n : ℕ) (a : Client) → a.about.phase ≡ phase → WaitStep (Some a) (left_in phase (drop n a.due) a)
+wait_left Closing n a e = wait_closing (drop n a.due) (record a { due = drop n a.due }) (ap is_waiting e)
+wait_left _ n a e = inr refl
 
-leaves_closes_with : (c : ℕ) (bytes : List ℕ) (s : State) → NoneWaits (s.clients c) → Leaves s (closes_with c bytes s)
-leaves_closes_with c bytes s free =
-    let m = owe_client c bytes s in
-    let first = leaves_owe_client c bytes s in
-    leaves_then s m (λ x. quietly (closes c x)) first
-    (leaves_closes c m.state (none_waits_after (s.clients c) (m.state.clients c) (first.clients c) free))
+wait_marked : (phase : Phase) (a : Client) → a.about.phase ≡ phase → WaitStep (Some a) (Some (marked_in phase a))
+wait_marked Asking a e = inr refl
+wait_marked _ a e = inr refl
 
--- ---- streams end
-leaves_loses : (forwarded : Bool) (phase : Phase) (c : ℕ) (s : State) → (is_waiting phase ≡ false → NoneWaits (s.clients c))
-    → Leaves s (loses forwarded phase c s)
-leaves_loses forwarded (Streaming l) c s free = leaves_closes c s (free refl)
-leaves_loses true (Opening l) c s free = leaves_closes c s (free refl)
-leaves_loses false (Opening l) c s free = leaves_closes_with c (failed (codes "closed")).bytes s (free refl)
-leaves_loses forwarded _ c s free = leaves_same s
-
-leaves_client_loses : (o : Option Client) (c : ℕ) (s : State) → s.clients c ≡ o → Leaves s (client_loses o c s)
-leaves_client_loses None c s is = leaves_same s
-leaves_client_loses (Some client) c s is = leaves_loses client.about.forwarded client.about.phase c s
-    (λ none a e. let same : client ≡ a = let both : Some client ≡ Some a = sym is ∙ e in cc in
-    subst (λ (x : Client). is_waiting x.about.phase ≡ false) same none)
-
-leaves_tells_end : (orphan : Bool) (l : ℕ) (ending : Ending) (s : State) → Leaves s (tells_end orphan l ending s)
-leaves_tells_end true l ending s = leaves_same s
-leaves_tells_end false l ending s = leaves_all s (tells_end false l ending s) refl refl
-
-pub leaves_ends_row : (l : ℕ) (ending : Ending) (stream : Stream) (s : State) → Leaves s (ends_row l ending stream s)
-leaves_ends_row l ending stream s =
-    let gone = to_stream l none_kept s in
-    let tells = tells_end stream.part.orphan l ending gone in
-    leaves_then s tells (λ x. client_loses (x.clients stream.client) stream.client x)
-    (leaves_over s gone tells (leaves_no_stream l s) (leaves_tells_end stream.part.orphan l ending gone))
-    (leaves_client_loses (tells.state.clients stream.client) stream.client tells.state refl)
-
-pub leaves_ends_telling : (l : ℕ) (ending : Ending) (stream : Stream) (s : State) → Leaves s (ends_telling l ending stream s)
-leaves_ends_telling l ending stream s =
-    let m = owe_link stream.link (close_packet l stream.part.remote) s in
-    leaves_then s m (ends_row l ending stream) (leaves_owe_link stream.link (close_packet l stream.part.remote) s) (leaves_ends_row l ending stream m.state)
-
-leaves_ends_if_of : (t l : ℕ) (ending : Ending) (o : Option Stream) (s : State) → Leaves s (ends_if_of t l ending o s)
-leaves_ends_if_of t l ending None s = leaves_same s
-leaves_ends_if_of t l ending (Some stream) s = go (eqb stream.link t)
+pub leaves_mark_all : (s : State) → Leaves s (quietly (mark_all s))
+leaves_mark_all s = record { clients = λ c. go (s.clients c); streams = λ l. stream_same (s.streams l) }
   where
-    go : (here : Bool) → Leaves s (cond here (ends_row l ending stream s) (quietly s))
-    go true = leaves_ends_row l ending stream s
-    go false = leaves_same s
+    go : (o : Option Client) → WaitStep o (option_map marked o)
+    go None = tt
+    go (Some a) = wait_marked a.about.phase a refl
 
-leaves_ends_of : (t k : ℕ) (ending : Ending) (s : State) → Leaves s (ends_of t k ending s)
-leaves_ends_of t zero ending s = leaves_same s
-leaves_ends_of t (suc k) ending s =
-    let m = ends_of t k ending s in
-    leaves_then s m (λ x. ends_if_of t (suc k) ending (x.streams (suc k)) x) (leaves_ends_of t k ending s)
-    (leaves_ends_if_of t (suc k) ending (m.state.streams (suc k)) m.state)
+-- ---- what serving leaves of a state
+module _ (s0 : State) (free : AreFree s0) where
+  abbrev L : State → List Event → Type 0
+  L s w = Leaves s0 (quietly s)
 
-pub leaves_all_end : (t : ℕ) (ending : Ending) (s : State) → Leaves s (all_end t ending s)
-leaves_all_end t ending s = leaves_ends_of t s.drawn ending s
+  client_steps : (c : ℕ) (f : Client → Option Client) (s : State) → Leaves s0 (quietly s) → ((a : Client) → s.clients c ≡ Some a → WaitStep (Some a) (f a))
+      → Leaves s0 (quietly (to_client c f s))
+  client_steps c f s h at = leaves_over s0 s (quietly (to_client c f s)) h (leaves_to_client c f s at)
 
--- ---- the up rule
-leaves_all_go_up : (l : ℕ) (stream : Stream) (payloads : List (List ℕ)) (s : State) → Leaves s (all_go_up l stream payloads s)
-leaves_all_go_up l stream [] s = leaves_same s
-leaves_all_go_up l stream (payload ∷ payloads) s =
-    let m = goes_up l stream payload s in
-    leaves_then s m (all_go_up l stream payloads) (leaves_owe_link stream.link (write_packet l stream.part.remote payload) s)
-    (leaves_all_go_up l stream payloads m.state)
+  stream_steps : (l : ℕ) (f : Stream → Option Stream) (s : State) → Leaves s0 (quietly s) → ((a : Stream) → StreamStep (Some a) (f a))
+      → Leaves s0 (quietly (to_stream l f s))
+  stream_steps l f s h at = leaves_over s0 s (quietly (to_stream l f s)) h (leaves_to_stream l f s at)
 
-leaves_noted : (l : ℕ) (stream : Stream) (held : List ℕ) (payloads : List (List ℕ)) (s : State) → Leaves s (quietly (noted l stream held payloads s))
-leaves_noted l stream held payloads s =
-    let part = with_flow (flow_after payloads stream.part.flow) stream.part in
-    let next = to_stream l (with_stream_part part) s in
-    leaves_over s next (quietly (noted l stream held payloads s)) (leaves_part l part s)
-    (leaves_to_client stream.client (with_held (drop (total payloads) held)) next (λ a e. inr refl))
+  closing_steps : (c : ℕ) (s : State) → NoneWaits (s.clients c) → Leaves s0 (quietly s) → Leaves s0 (quietly (to_client c closing s))
+  closing_steps c s none h = client_steps c closing s h (λ a e. wait_closing a.due a (none a e))
 
-leaves_closes_if : (over : Bool) (l : ℕ) (o : Option Stream) (s : State) → Leaves s (closes_if over l o s)
-leaves_closes_if over l None s = leaves_same s
-leaves_closes_if false l (Some stream) s = leaves_same s
-leaves_closes_if true l (Some stream) s = leaves_ends_telling l client_closed stream s
+  loses_left : (forwarded : Bool) (phase : Phase) (c : ℕ) (s : State) → (is_waiting phase ≡ false → NoneWaits (s.clients c)) → Leaves s0 (quietly s)
+      → Leaves s0 (quietly (loses forwarded phase c s).state)
+  loses_left forwarded (Streaming l) c s none h = closing_steps c s (none refl) h
+  loses_left true (Opening l) c s none h = closing_steps c s (none refl) h
+  loses_left false (Opening l) c s none h =
+      let bytes : List ℕ = (failed (codes "closed")).bytes in
+      let told : State = to_client c (with_due bytes) s in
+      let owed : Leaves s (quietly told) = leaves_to_client c (with_due bytes) s (λ a e. inr refl) in
+      closing_steps c told (none_waits_after (s.clients c) (told.clients c) (owed.clients c) (none refl)) (leaves_over s0 s (quietly told) h owed)
+  loses_left forwarded _ c s none h = h
 
-leaves_sends_up : (l : ℕ) (stream : Stream) (client : Client) (payloads : List (List ℕ)) (s : State) → Leaves s (sends_up l stream client payloads s)
-leaves_sends_up l stream client payloads s =
-    let next = noted l stream client.held payloads s in
-    let m = all_go_up l stream payloads next in
-    let over = is_over client.about.ended (drop (total payloads) client.held) (flow_after payloads stream.part.flow) in
-    leaves_then s m (λ x. closes_if over l (x.streams l) x)
-    (leaves_over s next m (leaves_noted l stream client.held payloads s) (leaves_all_go_up l stream payloads next))
-    (leaves_closes_if over l (m.state.streams l) m.state)
+  client_loses_left : (o : Option Client) (c : ℕ) (s : State) → s.clients c ≡ o → Leaves s0 (quietly s) → Leaves s0 (quietly (client_loses o c s).state)
+  client_loses_left None c s is h = h
+  client_loses_left (Some client) c s is h = loses_left client.about.forwarded client.about.phase c s
+      (λ none a e. let same : client ≡ a = let both : Some client ≡ Some a = sym is ∙ e in cc in
+      subst (λ (x : Client). is_waiting x.about.phase ≡ false) same none) h
 
-leaves_up_client : (l : ℕ) (stream : Stream) (o : Option Client) (s : State) → Leaves s (up_client l stream o s)
-leaves_up_client l stream None s = leaves_same s
-leaves_up_client l stream (Some client) s = go (is_streaming l client.about.phase)
-  where
-    sending : List (List ℕ)
-    sending = payloads stream.part.flow (maxdata_of stream.link s.devices) client.held
+  ends_left : EndsKept L
+  ends_left l ending stream s w is h =
+      let made : Made = tells_end stream.part.orphan l ending (to_stream l none_kept s) in
+      after_then L w made (λ s. client_loses (s.clients stream.client) stream.client s) (tells stream.part.orphan)
+      (λ v now. client_loses_left (made.state.clients stream.client) stream.client made.state refl now)
+    where
+      tells : (orphan : Bool) → After L w (tells_end orphan l ending (to_stream l none_kept s))
+      tells true = stream_steps l none_kept s h (λ a. tt)
+      tells false = stream_steps l none_kept s h (λ a. tt)
 
-    go : (here : Bool) → Leaves s (cond here (sends_up l stream client sending s) (quietly s))
-    go true = leaves_sends_up l stream client sending s
-    go false = leaves_same s
+  first_left : (b : Bool) (t : ℕ) (s : State) (w : List Event) → L s w → After L w (streams_end_first b t s)
+  first_left true t s w h = all_end_kept ends_left t lost s w h
+  first_left false t s w h = h
 
-leaves_up_stream : (l : ℕ) (o : Option Stream) (s : State) → Leaves s (up_stream l o s)
-leaves_up_stream l None s = leaves_same s
-leaves_up_stream l (Some stream) s = leaves_up_client l stream (s.clients stream.client) s
+  serving : Serves L
+  serving = record {
+    owes = λ t p check s w of h. record { clients = h.clients; streams = h.streams };
+    due = λ c bytes s w h. client_steps c (with_due bytes) s h (λ a e. inr refl);
+    holds = λ c client bytes s w is has h. client_steps c (with_held bytes) s h (λ a e. inr refl);
+    unmarks = λ c s w h. client_steps c unmarked s h (λ a e. inr refl);
+    hands = λ c n client s w is fits h. client_steps c (hands n) s h (λ a e. wait_left a.about.phase n a refl);
+    flows = λ l stream flow s w is like h. stream_steps l (with_stream_part (with_flow flow stream.part)) s h (λ a. refl);
+    accepts = λ l payload stream s w is known turn h.
+        let part = with_flow (accepted (length payload) stream.part.flow) stream.part in
+        client_steps stream.client (with_due payload) (to_stream l (with_stream_part part) s) (stream_steps l (with_stream_part part) s h (λ a. refl))
+        (λ a e. inr refl);
+    opens = λ l remote word stream s w is new h.
+        let part = with_remote remote (with_flow (first_credit word stream.part.flow) stream.part) in
+        client_steps stream.client (in_phase (Streaming l)) (to_stream l (with_stream_part part) s) (stream_steps l (with_stream_part part) s h (λ a. refl))
+        (λ a e. inl (free_after s0 (quietly s) h free l stream is a e, refl));
+    orphan_goes = λ l stream s w is orphan h. stream_steps l none_kept s h (λ a. tt);
+    ends = ends_left;
+    links = λ t f s w h. record { clients = h.clients; streams = h.streams };
+    link_ends = λ t ending s w h.
+        let gone : Made = all_end t ending (forgets t s) in
+        leaves_over s0 gone.state (quietly (mark_all gone.state))
+        (all_end_kept ends_left t ending (forgets t s) w (record { clients = h.clients; streams = h.streams })) (leaves_mark_all gone.state);
+    online = λ t version maxdata identity s w h.
+        let first : State = (streams_end_first (is_connected t s.devices) t s).state in
+        let all = leaves_over s0 first (quietly (mark_all first)) (first_left (is_connected t s.devices) t s w h) (leaves_mark_all first) in
+        record { clients = all.clients; streams = all.streams };
+    unauthorized = λ t row s w is offline h.
+        let all = leaves_over s0 s (quietly (mark_all s)) h (leaves_mark_all s) in
+        record { clients = all.clients; streams = all.streams };
+  }
 
-pub leaves_up_all : (k : ℕ) (s : State) → Leaves s (up_all k s)
-leaves_up_all zero s = leaves_same s
-leaves_up_all (suc k) s =
-    let m = up_all k s in
-    leaves_then s m (up (suc k)) (leaves_up_all k s) (leaves_up_stream (suc k) (m.state.streams (suc k)) m.state)
+  start : L s0 []
+  start = leaves_all s0 (quietly s0) refl refl
+
+  made_left : (m : Made) → Leaves s0 (quietly m.state) → Leaves s0 m
+  made_left m h = record { clients = h.clients; streams = h.streams }
+
+  pub leaves_up_all : (n : ℕ) → Leaves s0 (up_all n s0)
+  leaves_up_all n = made_left (up_all n s0) (up_all_kept serving s0 [] start n)
+
+  pub leaves_receives : (t : ℕ) (bytes : List ℕ) → Leaves s0 (receives t bytes s0)
+  leaves_receives t bytes = made_left (receives t bytes s0) (receives_kept serving s0 [] start t bytes)
+
+  pub leaves_unplugs : (o : Option Link) (t : ℕ) → Leaves s0 (unplugs_on o t s0)
+  leaves_unplugs o t = made_left (unplugs_on o t s0) (unplugs_kept serving s0 [] start o t)
+
+  pub leaves_puts : (o : Option Client) (c n : ℕ) → Leaves s0 (puts_to o c n s0)
+  leaves_puts o c n = made_left (puts_to o c n s0) (puts_kept serving s0 [] start o c n)

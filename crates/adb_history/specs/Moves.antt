@@ -155,3 +155,49 @@ pub record Moves (P : State → List Event → Type 0) : Type 0 where
   -- kill
   pub stops : (c : ℕ) (client : Client) (s : State) (w : List Event) → s.clients c ≡ Some client → client.about.phase ≡ Asking
       → P s w → After P w (stops c s)
+
+-- What those moves keep that a hand-out, a piece and the up rule make: no client asks, ends or is bound by them.
+pub record Serves (P : State → List Event → Type 0) : Type 0 where
+  pub owes : (t : ℕ) (p : Packet) (check : ℕ) (s : State) (w : List Event) → IsOfStream s.streams p → P s w
+      → P (to_link t (with_link_due (spelling p check)) s) (w ++ due_to_link t p check ∷ [])
+  pub due : (c : ℕ) (bytes : List ℕ) (s : State) (w : List Event) → P s w → P (to_client c (with_due bytes) s) (w ++ due_to_client c bytes ∷ [])
+  pub holds : (c : ℕ) (client : Client) (bytes : List ℕ) (s : State) (w : List Event) → s.clients c ≡ Some client → HasOne client.about.phase
+      → P s w → P (to_client c (with_held bytes) s) w
+  pub unmarks : (c : ℕ) (s : State) (w : List Event) → P s w → P (to_client c unmarked s) w
+  pub hands : (c n : ℕ) (client : Client) (s : State) (w : List Event) → s.clients c ≡ Some client
+      → ((l : ℕ) (stream : Stream) → client.about.phase ≡ Streaming l → s.streams l ≡ Some stream → to_hand stream.part.flow ≤ length (drop n client.due))
+      → P s w → P (to_client c (hands n) s) w
+  pub flows : (l : ℕ) (stream : Stream) (flow : Flow) (s : State) (w : List Event) → s.streams l ≡ Some stream → IsLike stream.part.flow flow
+      → P s w → P (to_stream l (with_stream_part (with_flow flow stream.part)) s) w
+  pub accepts : (l : ℕ) (payload : List ℕ) (stream : Stream) (s : State) (w : List Event) → s.streams l ≡ Some stream
+      → stream.part.remote ≢ 0 → is_out_of_turn stream.part.flow (length payload) ≡ false
+      → P s w → P (accepts_now l payload stream s) (w ++ due_to_client stream.client payload ∷ [])
+  pub opens : (l remote : ℕ) (word : Option ℕ) (stream : Stream) (s : State) (w : List Event) → s.streams l ≡ Some stream
+      → (stream.part.remote ≡ 0) × (stream.part.orphan ≡ false) × (remote ≢ 0) → P s w → P (open_now l remote word stream s) w
+  pub orphan_goes : (l : ℕ) (stream : Stream) (s : State) (w : List Event) → s.streams l ≡ Some stream → stream.part.orphan ≡ true
+      → P s w → P (to_stream l none_kept s) w
+  pub ends : (l : ℕ) (ending : Ending) (stream : Stream) (s : State) (w : List Event) → s.streams l ≡ Some stream
+      → P s w → After P w (ends_row l ending stream s)
+  pub links : (t : ℕ) (f : Link → Link) (s : State) (w : List Event) → P s w → P (to_link t (λ link. Some (f link)) s) w
+  pub link_ends : (t : ℕ) (ending : Ending) (s : State) (w : List Event) → P s w → After P w (link_ends t ending s)
+  pub online : (t version maxdata : ℕ) (identity : Identity) (s : State) (w : List Event) → P s w → After P w (connects_now t version maxdata identity s)
+  pub unauthorized : (t : ℕ) (row : Row) (s : State) (w : List Event) → at t s.devices.rows ≡ Some row → row.state ≡ Offline
+      → P s w → P (unauthorized_from t Offline s) w
+
+abbrev pub serves : {P : State → List Event → Type 0} → Moves P → Serves P
+serves k = record {
+  owes = k.owes;
+  due = k.due;
+  holds = k.holds;
+  unmarks = k.unmarks;
+  hands = k.hands;
+  flows = k.flows;
+  accepts = k.accepts;
+  opens = k.opens;
+  orphan_goes = k.orphan_goes;
+  ends = k.ends;
+  links = k.links;
+  link_ends = k.link_ends;
+  online = k.online;
+  unauthorized = k.unauthorized;
+}

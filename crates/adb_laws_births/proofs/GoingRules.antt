@@ -37,6 +37,7 @@ use Rattle.adb_history.specs.Handing.{client_left, takes_of, puts_to}
 use Rattle.adb_history.specs.Machine.{unplugs_on}
 use Rattle.adb_history.specs.Owned.{OwnerIn, StreamOf, HoldsIn, IsOwned}
 use Rattle.adb_history.specs.Orderly.{phase_for}
+use Rattle.adb_history.specs.Moves.{serves}
 use Rattle.adb_history.proofs.Following.{changed_here}
 use Rattle.adb_history.proofs.Growing.{AreWithin}
 use Rattle.adb_history.proofs.GrowingRules.{keeps_up_all}
@@ -181,7 +182,7 @@ goes_up_all (suc n) s h =
     let same : before.state.devices ≡ s.devices = (keeps_up_all h.came h.plugged n s h.within).devices in
     goes_then s.streams s.drawn before (up (suc n)) (goes_up_all n s h)
     (goes_up_stream (suc n) (before.state.streams (suc n)) before.state
-    (up_all_kept owned_moves s [] h.owned n, subst AllSmall (sym same) h.small) refl)
+    (up_all_kept (serves owned_moves) s [] h.owned n, subst AllSmall (sym same) h.small) refl)
 
 -- ---- put
 goes_tells_credit : (back l : ℕ) (stream : Stream) (s : State) → IsOpenAt s.streams l stream → Goes s.streams s.drawn (tells_credit back l stream s)

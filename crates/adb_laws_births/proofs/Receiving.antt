@@ -18,6 +18,7 @@ use Rattle.adb_history.specs.Packets.{treat, treat_all, faulty, with_rest, recei
 use Rattle.adb_history.specs.Machine.{History, state, IsLegal}
 use Rattle.adb_history.specs.Bytes.{is_lost, bytes_received, brought}
 use Rattle.adb_history.specs.Linked.{IsLinked}
+use Rattle.adb_history.specs.Moves.{serves}
 use Rattle.adb_history.proofs.PacketMoves.{treat_on_kept}
 use Rattle.adb_history.proofs.LinkMoves.{linked_moves, all_linked}
 use Rattle.adb_history.proofs.OutputEntries.{connected_is}
@@ -38,7 +39,7 @@ hear_on t ps x y z h go =
 
 -- ---- the packets of a link
 pub treated_linked : (t : ℕ) (p : Packet) (s : State) → IsLinked s → IsLinked (treat t p s).state
-treated_linked t p s h = treat_on_kept linked_moves s [] h (s.links t) t p
+treated_linked t p s h = treat_on_kept (serves linked_moves) s [] h (s.links t) t p
 
 pub all_treated : (t : ℕ) (ps : List Packet) (s : State) → IsLinked s → AllHear t ps s.streams (treat_all t ps s).state.streams
 all_treated t [] s h = hear_going t s.streams s.streams (go_on_same s.streams)

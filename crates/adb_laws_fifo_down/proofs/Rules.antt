@@ -17,7 +17,7 @@ use Rattle.adb_history.specs.Losing.{link_ends, input_ends, client_ends}
 use Rattle.adb_history.specs.Packets.{treat, treat_all, faulty, faulty_on, with_rest, receives_cut}
 use Rattle.adb_history.specs.Machine.{unplugs_on, ups}
 use Rattle.adb_history.specs.Linked.{IsLinked}
-use Rattle.adb_history.specs.Moves.{After}
+use Rattle.adb_history.specs.Moves.{After, serves}
 use Rattle.adb_history.proofs.Following.{after_quietly}
 use Rattle.adb_history.proofs.PacketMoves.{treat_on_kept}
 use Rattle.adb_history.proofs.LinkMoves.{linked_moves}
@@ -80,7 +80,7 @@ module _ {b : Line} {P : Promise} (k : Turns b P) where
         subst (λ (ps : List Packet). After (Holds b P ps false out) w (treat_all b.link (p ∷ given) s)) (append_assoc packets (p ∷ []) given)
         (after_next (Holds b P (packets ++ p ∷ []) false out) (Holds b P ((packets ++ p ∷ []) ++ given) false out) w first (treat_all b.link given)
         (holds_treat packets out p s w linked h)
-        (λ u now. holds_treat_all given (packets ++ p ∷ []) out first.state u (treat_on_kept linked_moves s w linked (s.links b.link) b.link p) now))
+        (λ u now. holds_treat_all given (packets ++ p ∷ []) out first.state u (treat_on_kept (serves linked_moves) s w linked (s.links b.link) b.link p) now))
 
     -- it is lost, or broken
     holds_lost : (packets : List Packet) (shut : Bool) (out : List ℕ) (ending : Ending) (s : State) (w : List Event) → (ending ≡ lost) ⊎ (ending ≡ broken)

@@ -15,7 +15,7 @@ use Rattle.adb_reply.specs.Strings.{failed}
 use Rattle.adb_history.specs.Births.{is_close_of, is_clse}
 use Rattle.adb_history.specs.Clients.{closing, closing_with, closes, owe_client}
 use Rattle.adb_history.specs.Events.{Made, Event, Ending, peer_closed, ended, quietly, then_also, owed_to, ending_in}
-use Rattle.adb_history.specs.Moves.{After, HasOne}
+use Rattle.adb_history.specs.Moves.{After, HasOne, serves}
 use Rattle.adb_history.specs.Owned.{OwnerIn, IsOwned}
 use Rattle.adb_history.specs.Orderly.{phase_for}
 use Rattle.adb_history.specs.Packets.{at_stream, takes_close, treat_open, treat_any, treat_on, treat, treat_all}
@@ -243,7 +243,7 @@ module _ (came plugged t l : ℕ) (le : t ≤ plugged) where
       split = ending_append l m.told rest.told
 
       owned_now : IsOwned (treat t p s).state
-      owned_now = moves.treat_on_kept owned_moves s w owned (s.links t) t p
+      owned_now = moves.treat_on_kept (serves owned_moves) s w owned (s.links t) t p
 
       pair : Pair l x s
       pair = pair_of l x s owned at.is at.alive

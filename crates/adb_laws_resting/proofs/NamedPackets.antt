@@ -16,6 +16,7 @@ use Rattle.adb_history.specs.Links.{credit_word, is_connected}
 use Rattle.adb_history.specs.Packets.{takes_okay, takes_write, takes_close, treat_open, treat_any, treat_on, treat, treat_all, faulty_on, with_rest}
 use Rattle.adb_history.specs.Packets.{receives_cut, receives_on, receives}
 use Rattle.adb_history.specs.Linked.{IsLinked}
+use Rattle.adb_history.specs.Moves.{serves}
 use Rattle.adb_history.proofs.LinkMoves.{linked_moves}
 use Rattle.adb_history.proofs.PacketMoves.{treat_on_kept}
 use Rattle.adb_hub_tables.specs.Tracked.{IsAmong}
@@ -26,7 +27,7 @@ use Rattle.adb_laws_resting.proofs.NamedRules.{cnxn_passes, unauthorized_passes,
 use Rattle.adb_laws_resting.proofs.NamedRules.{at_stream_passes, okay_passes, write_passes, close_passes, link_ends_passes}
 
 treated_linked : (t : ℕ) (p : Packet) (s : State) → IsLinked s → IsLinked (treat t p s).state
-treated_linked t p s h = treat_on_kept linked_moves s [] h (s.links t) t p
+treated_linked t p s h = treat_on_kept (serves linked_moves) s [] h (s.links t) t p
 
 module _ (ids : List ℕ) (t : ℕ) where
   -- the stream of an id is one of these, where it is one of the link
