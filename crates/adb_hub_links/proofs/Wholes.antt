@@ -73,7 +73,8 @@ stands_alone head bytes are w plain =
       spelled = spelled ∙ sym (append-nil (spelling p head.check));
     } in
     spells_cut [] bytes (p ∷ []) [] None (([], begins, refl), inl (omega arith))
-    ∙ (ap (λ (format : PacketFormat). record no_bytes { given = p ∷ []; reading = format }) (sym (behind_push [] p) ∙ no_sums _ (is_cnxn head.command) (has_sums head.arg0) plain)
+    ∙ (ap (λ (format : PacketFormat). record no_bytes { given = p ∷ []; reading = format })
+    (sym (behind_push [] p) ∙ no_sums _ (is_cnxn head.command) (has_sums head.arg0) plain)
     ∙ ap (λ (q : Packet). record no_bytes { given = q ∷ [] }) (whole_packet head bytes w))
 
 -- ---- on a link to which nothing was fed

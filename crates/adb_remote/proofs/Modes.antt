@@ -16,5 +16,6 @@ pub may_send : (path given mode : List ℕ) → length path ≤ 1000 → given �
     → (length given + 1 + length mode ≤ 1024) × (last_comma mode ≡ None)
 may_send path given mode short same is =
     let size : length (decimal FILE_MODE) ≤ 10 = length-decimal-le 10 FILE_MODE (omega arith) (omega arith) (omega arith) in
-    let none : last_comma (decimal FILE_MODE) ≡ None = ap last_comma (decimal-digits_of FILE_MODE (omega arith) (omega arith)) ∙ no_comma_in (digits_of 10 FILE_MODE) in
+    let none : last_comma (decimal FILE_MODE) ≡ None =
+    ap last_comma (decimal-digits_of FILE_MODE (omega arith) (omega arith)) ∙ no_comma_in (digits_of 10 FILE_MODE) in
     (omega (arith, short, size, ap (length {A = ℕ}) same, ap (length {A = ℕ}) is), ap last_comma is ∙ none)

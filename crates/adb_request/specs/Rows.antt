@@ -38,4 +38,5 @@ rows_behind prefix on =
 
 abbrev pub fixed_rows : List (List ℕ × Request)
 fixed_rows =
-    behind_host (plain_rows ++ transport_rows) ++ rows_behind (codes "host:") Own ++ rows_behind (codes "host-usb:") (By Usb) ++ rows_behind (codes "host-local:") (By Local)
+    behind_host (plain_rows ++ transport_rows) ++ rows_behind (codes "host:") Own ++ rows_behind (codes "host-usb:") (By Usb)
+    ++ rows_behind (codes "host-local:") (By Local)

@@ -9,7 +9,8 @@ pub returns-clause-alone : goal.returns-clause-alone
 returns-clause-alone c plain =
     let slice = c.as_slice-bytes.result.now in
     let rest : take (length slice - HEADER_LEN) (drop HEADER_LEN slice) ≡ drop HEADER_LEN c.self.inside.bytes =
-    take_all (length slice - HEADER_LEN) (drop HEADER_LEN slice) (omega (arith, length-drop HEADER_LEN slice)) ∙ ap (drop HEADER_LEN) c.as_slice-bytes.ensures in
+    take_all (length slice - HEADER_LEN) (drop HEADER_LEN slice) (omega (arith, length-drop HEADER_LEN slice))
+    ∙ ap (drop HEADER_LEN) c.as_slice-bytes.ensures in
     subst StandsAlone c.self.view_is
     (stands_alone c.self.inside.head c.self.inside.bytes (rw c.as_slice-bytes.ensures at c.are_bytes.ensures) c.self.invariant
     (sym (ap (is_plain c.self.inside.head) rest) ∙ (sym c.is_plain.ensures ∙ plain)))
