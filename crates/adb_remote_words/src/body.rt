@@ -58,7 +58,7 @@ impl Body {
         match self {
             Body::Frames(frames) => frames.feed(job, piece),
             Body::Pushing(push) => Ok(pushed(push.feed(piece)?)),
-            Body::Pulling(pull) => Ok(pulled(pull.feed(piece)?)),
+            Body::Pulling(pull) => Ok(pulled(pull.feed_to_end(piece)?)),
         }
     }
 }

@@ -2,6 +2,7 @@
 use Rattle.std.specs.Prelude.{ℕ, ◌≡◌, true, false, List, [], ◌++◌, Result, IfOk, OnOk, OnErr, IsErr}
 use Rattle.adb_sync_client.specs.declared.kind.AnswerKind.{AnswerKind}
 use Rattle.adb_sync_client.specs.declared.step.Step.{Step}
+use Rattle.adb_sync_client.specs.declared.step.Step.TheVariants.{More}
 use Rattle.adb_sync_client.specs.Reading.{Read, StandsFor}
 
 -- the bytes of the request that were not taken yet, and what was read of the answer
@@ -29,3 +30,12 @@ pub record Feeds {V E : Type 0} (kind : AnswerKind) (value : List ℕ → Step V
   pub open_still : OnOk answer ((old.read.spent ≡ false) × (new.read.spent ≡ false))
   pub spent : OnErr answer (new.read.spent ≡ true)
   pub stays : old.read.spent ≡ true → IsErr answer × (new ≡ old)
+
+-- The same, where nothing is fed behind the answer's end: the value is given away there, and what is held then stands for nothing.
+pub record FeedsToEnd {V E : Type 0} (kind : AnswerKind) (value : List ℕ → Step V) (old : Asking) (piece : List ℕ) (answer : Result (Step V) E)
+    (new : Asking) : Type 0 where
+  pub told : IfOk answer (λ step. (fed : List ℕ) → StandsFor kind fed old.read → step ≡ value (fed ++ piece))
+  pub stands : IfOk answer (λ step. step ≡ More → (fed : List ℕ) → StandsFor kind fed old.read → StandsFor kind (fed ++ piece) new.read)
+  pub left : new.left ≡ old.left
+  pub open_still : OnOk answer ((old.read.spent ≡ false) × (new.read.spent ≡ false))
+  pub spent : OnErr answer (new.read.spent ≡ true)

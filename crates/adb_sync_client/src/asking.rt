@@ -1,9 +1,10 @@
 //! Asking about a path.
 
 ghost use Rattle.std.specs.Prelude.{◌≡◌, ◌≤◌, ◌++◌, List, ℕ, length, take, drop, IfOk};
-ghost use Rattle.adb_sync_client.specs.Asking.{Asks, Feeds, Gives};
+ghost use Rattle.adb_sync_client.specs.Asking.{Asks, Feeds, FeedsToEnd, Gives};
 ghost use Rattle.adb_sync_client.specs.Reading.{with_said};
 ghost use Rattle.adb_sync_client.specs.Values.{step_map};
+ghost use Rattle.adb_sync_client.specs.declared.step.Step.TheVariants.{More};
 
 use crate::kind::AnswerKind;
 use crate::reading::Reading;
@@ -45,6 +46,10 @@ pub trait PathValue: Drop + Sized {
     /// A copy of what the answers said.
     fn of(told: &Told) -> Result<Self, AllocError>
         ensures { IfOk result (λ copy. copy ≡ part told.now) };
+
+    /// What the answers said, given away. It takes no memory.
+    fn give(told: &mut Told) -> Self
+        ensures { result ≡ part told.old };
 
     /// The value of answer bytes is that part of what they said.
     ghost is_part: { (bytes : List ℕ) → value bytes ≡ step_map part (answer_value kind bytes) };
@@ -106,6 +111,15 @@ impl<V: PathValue> PathAsk<V> {
         let step = valued(step, &self.reading.told);
         self.reading.spend_on(step)
     }
+
+    /// The same, where nothing is fed behind the end of the answer: the value is given away, and
+    /// not copied.
+    pub fn feed_to_end(&mut self, piece: &[u8]) -> Result<Step<V>, AllocError>
+        ensures { FeedsToEnd V.kind V.value self.old piece.now result self.new }
+    {
+        let step = self.reading.feed(piece)?;
+        Ok(given(step, &mut self.reading.told))
+    }
 }
 
 /// A step with the value of what was said.
@@ -118,4 +132,17 @@ fn valued<V: PathValue>(step: Step<()>, told: &Told) -> Result<Step<V>, AllocErr
         Step::Refused(text) => Step::Refused(text),
         Step::BadAnswer { offset } => Step::BadAnswer { offset },
     })
+}
+
+/// A step to which the value of what was said is given.
+fn given<V: PathValue>(step: Step<()>, told: &mut Told) -> Step<V>
+    ensures value { result ≡ step_map V.part (with_said told.old step) }
+    ensures stays { result ≡ More → told.new ≡ told.old }
+{
+    match step {
+        Step::More => Step::More,
+        Step::Done(()) => Step::Done(V::give(told)),
+        Step::Refused(text) => Step::Refused(text),
+        Step::BadAnswer { offset } => Step::BadAnswer { offset },
+    }
 }

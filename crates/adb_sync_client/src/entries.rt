@@ -35,6 +35,13 @@ impl Entries {
         Ok(Entries { entries: copies })
     }
 
+    /// The entries of a `Vec`, which is moved: it takes no memory.
+    pub fn from_vec(entries: Vec<Dirent>) -> Entries
+        ensures { result ≡ entries.items }
+    {
+        Entries { entries }
+    }
+
     /// The entries.
     pub fn as_slice(&self) -> &[Dirent]
         ensures { result.now ≡ self.now }

@@ -39,4 +39,8 @@ impl PathValue for Entries {
     fn of(told: &Told) -> Result<Entries, AllocError> {
         Entries::copy_of(*told.entries.allocator(), told.entries.as_slice())
     }
+
+    fn give(told: &mut Told) -> Entries {
+        Entries::from_vec(told.give_entries())
+    }
 }

@@ -38,4 +38,8 @@ impl PathValue for Text {
     fn of(told: &Told) -> Result<Text, AllocError> {
         told.bytes.copy()
     }
+
+    fn give(told: &mut Told) -> Text {
+        told.give_bytes()
+    }
 }

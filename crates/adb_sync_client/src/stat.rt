@@ -39,4 +39,8 @@ impl PathValue for StatValue {
     fn of(told: &Told) -> Result<StatValue, AllocError> {
         Ok(told.stat)
     }
+
+    fn give(told: &mut Told) -> StatValue {
+        told.stat
+    }
 }

@@ -8,6 +8,7 @@ use adb_outside::Text;
 use adb_sync::{Dirent, SyncAnswer};
 use std::alloc::{AllocError, Global};
 use std::marker::Model;
+use std::mem;
 
 /// What follows a whole answer.
 #[derive(Drop)]
@@ -23,6 +24,7 @@ pub enum Next {
 /// The bytes of the chunks, the numbers of the STAT, and the entries of the list.
 #[derive(Drop)]
 pub struct Told {
+    alloc: Global,
     pub bytes: Text,
     pub stat: StatValue,
     pub entries: Vec<Dirent>,
@@ -46,6 +48,7 @@ impl Told {
         ensures { result ≡ told_nothing }
     {
         Told {
+            alloc,
             bytes: Text::new(alloc),
             stat: StatValue {
                 mode: 0,
@@ -54,6 +57,20 @@ impl Told {
             },
             entries: Vec::new(alloc),
         }
+    }
+
+    /// Gives the bytes of the chunks away. It takes no memory.
+    pub fn give_bytes(&mut self) -> Text
+        ensures { result ≡ self.old.bytes }
+    {
+        mem::replace(&mut self.bytes, Text::new(self.alloc))
+    }
+
+    /// Gives the entries of the list away. It takes no memory.
+    pub fn give_entries(&mut self) -> Vec<Dirent>
+        ensures { result.items ≡ self.old.entries }
+    {
+        mem::replace(&mut self.entries, Vec::new(self.alloc))
     }
 
     /// Takes the next answer, and gives what follows it.
