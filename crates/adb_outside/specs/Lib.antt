@@ -11,3 +11,4 @@ pub mod Decimal
 pub mod Tables
 pub mod Bytes
 pub mod Serial
+pub mod HandOut
