@@ -1,6 +1,6 @@
 //! What happens to the server: one entry for each event.
 
-use adb_outside::{Cause, Kind, Text};
+use adb_outside::{Cause, HandOut, Kind, Text};
 use std::alloc::AllocError;
 
 /// One event of the server. Clients, links and ports are named by their numbers.
@@ -23,9 +23,9 @@ pub enum Entry {
     /// A device's input ended.
     Detach { link: u32, cause: Cause },
     /// Bytes were handed out to a client.
-    Put { client: u32, bytes: Text },
+    Put { client: u32, bytes: HandOut },
     /// Bytes were handed out to a device.
-    Send { link: u32, bytes: Text },
+    Send { link: u32, bytes: HandOut },
 }
 
 /// Whom an entry names: a client or a link, by its number.

@@ -5,7 +5,7 @@ ghost use Rattle.adb_capture.specs.Records.{cause_at, port_at, plug_at, entry_at
 ghost use Rattle.adb_capture.specs.Forms.{entry_by};
 
 use crate::entry::Entry;
-use adb_outside::{Cause, Kind, Text};
+use adb_outside::{Cause, HandOut, Kind, Text};
 use byteorder::{ByteOrder, LittleEndian};
 use std::alloc::{AllocError, Global};
 
@@ -88,11 +88,11 @@ impl Form {
             Form::Detach(cause) => Entry::Detach { link: owner, cause },
             Form::Put => Entry::Put {
                 client: owner,
-                bytes: Text::from_slice(alloc, content)?,
+                bytes: HandOut::own(Text::from_slice(alloc, content)?),
             },
             Form::Send => Entry::Send {
                 link: owner,
-                bytes: Text::from_slice(alloc, content)?,
+                bytes: HandOut::own(Text::from_slice(alloc, content)?),
             },
         })
     }

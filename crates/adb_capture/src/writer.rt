@@ -185,10 +185,8 @@ pub(crate) fn text(entry: &Entry) -> &[u8]
     ensures { result.now ≡ text_of entry.now }
 {
     match entry {
-        Entry::Read { bytes, .. }
-        | Entry::Recv { bytes, .. }
-        | Entry::Put { bytes, .. }
-        | Entry::Send { bytes, .. } => bytes.as_slice(),
+        Entry::Read { bytes, .. } | Entry::Recv { bytes, .. } => bytes.as_slice(),
+        Entry::Put { bytes, .. } | Entry::Send { bytes, .. } => bytes.as_slice(),
         Entry::Attach { serial, .. } => serial.as_slice(),
         _ => &[],
     }

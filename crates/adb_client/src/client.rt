@@ -9,7 +9,7 @@ use crate::ask::Asked;
 use crate::input::Input;
 use crate::output::{MAX_SLICE, Output};
 use crate::phase::Phase;
-use adb_outside::Text;
+use adb_outside::HandOut;
 use bytes::Bytes;
 use std::alloc::{AllocError, Global};
 use std::marker::Model;
@@ -222,11 +222,12 @@ impl Client {
         self.output.owed()
     }
 
-    /// The first `max` bytes that are due, or all where there are fewer, copied. Nothing changes.
-    pub fn copy_front(&self, max: usize) -> Result<Text, AllocError>
-        ensures { IfOk result (λ text. text ≡ take max self.now.due) }
+    /// The first `max` bytes that are due, or all where there are fewer. Those of one slice are
+    /// shared, others are copied. Nothing changes.
+    pub fn front(&self, max: usize) -> Result<HandOut, AllocError>
+        ensures { IfOk result (λ bytes. bytes ≡ take max self.now.due) }
     {
-        self.output.copy_front(max)
+        self.output.front(max)
     }
 
     /// The first `n` bytes that were due were handed out. It takes no memory.

@@ -2,8 +2,8 @@
 
 ghost use Rattle.std.specs.Prelude.{◌≡◌, ◌<◌, ◌≤◌, ◌+◌, ◌-◌, ◌++◌, [], length, take, drop, max, IsOk, IfOk, OnOk, OnErr};
 
-use crate::slices::{Slice, fill, put_back};
-use adb_outside::Text;
+use crate::slices::{Slice, fill, put_back, share_front};
+use adb_outside::{HandOut, Text};
 use bytes::{Bytes, BytesMut};
 use std::alloc::{AllocError, Global};
 use std::collections::VecDeque;
@@ -153,14 +153,18 @@ impl Output {
         self.before = self.own.len();
     }
 
-    /// The first `max` bytes that are due, or all where there are fewer, copied.
-    pub(crate) fn copy_front(&self, max: usize) -> Result<Text, AllocError>
-        ensures { IfOk result (λ text. text ≡ take max self.now.due) }
+    /// The first `max` bytes that are due, or all where there are fewer. They are shared where the
+    /// first slice alone has them, and else copied.
+    pub(crate) fn front(&self, max: usize) -> Result<HandOut, AllocError>
+        ensures { IfOk result (λ bytes. bytes ≡ take max self.now.due) }
     {
-        let room = Vec::with_capacity(self.alloc, max.min(self.owed()))?;
-        let mut text = Text::from_vec(room);
+        let n = max.min(self.owed());
+        if let Some(bytes) = share_front(&self.slices, n) {
+            return Ok(HandOut::shared(bytes));
+        }
+        let mut text = Text::from_vec(Vec::with_capacity(self.alloc, n)?);
         fill(&mut text, &self.slices, self.own.as_slice(), max)?;
-        Ok(text)
+        Ok(HandOut::own(text))
     }
 
     /// The first `n` bytes were handed out. It takes no memory.

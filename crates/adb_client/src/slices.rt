@@ -1,6 +1,6 @@
 //! Slices of bytes, and those that are due.
 
-ghost use Rattle.std.specs.Prelude.{◌≡◌, ◌<◌, ◌≤◌, ◌+◌, ◌-◌, ◌++◌, List, ℕ, [], length, take, drop, IfOk, OnOk};
+ghost use Rattle.std.specs.Prelude.{◌≡◌, ◌<◌, ◌≤◌, ◌+◌, ◌-◌, ◌++◌, List, ℕ, [], length, take, drop, IfOk, IfSome, OnOk};
 ghost use Rattle.std.specs.VecDeque.{deque_len, deque_capacity};
 ghost use Rattle.adb_client.specs.Slices.{woven, own_before, IsCounted};
 
@@ -54,6 +54,19 @@ pub(crate) fn put_back(slices: &mut VecDeque<Slice>, slice: Slice)
     if !slice.bytes.is_empty() {
         slices.push_front_reserved(slice);
     }
+}
+
+/// The first `n` bytes that are due, shared, where the first slice alone has them. It is `None`
+/// also where there is no memory for another owner.
+pub(crate) fn share_front(slices: &VecDeque<Slice>, n: usize) -> Option<Bytes>
+    ensures { IfSome result (λ bytes. (own : List ℕ)
+        → bytes ≡ take n (woven slices.now.items own)) }
+{
+    let slice = slices.front()?;
+    if slice.before > 0 || n > slice.bytes.len() {
+        return None;
+    }
+    slice.bytes.slice(0..n).ok()
 }
 
 /// Fills an empty text up to `max` bytes from own bytes with the slices among them, and looks at

@@ -12,7 +12,7 @@ use crate::log::Log;
 use crate::marks::Marks;
 use adb_capture::{Entry, Recorder};
 use adb_hub::Handed;
-use adb_outside::{Kind, Text};
+use adb_outside::{HandOut, Kind, Text};
 use std::sync::ledger::Ledger;
 
 /// Keeps the entry of a device that was plugged in, whose serial was copied before.
@@ -41,7 +41,7 @@ pub fn keep_attach<R: Recorder, E: Ledger, M: Ledger, K: Marks>(
 pub fn keep_put<R: Recorder, E: Ledger, M: Ledger, K: Marks>(
     log: &mut Log<R, E, M, K>,
     client: u32,
-    bytes: Text,
+    bytes: HandOut,
 ) -> Result<Handed, DeskError>
     requires going { shut_with log.old ≡ None }
     requires form { HasRecord (Entry.Put client bytes) }
@@ -60,7 +60,7 @@ pub fn keep_put<R: Recorder, E: Ledger, M: Ledger, K: Marks>(
 pub fn keep_sent<R: Recorder, E: Ledger, M: Ledger, K: Marks>(
     log: &mut Log<R, E, M, K>,
     link: u32,
-    bytes: Text,
+    bytes: HandOut,
 ) -> Result<Handed, DeskError>
     requires going { shut_with log.old ≡ None }
     requires form { HasRecord (Entry.Send link bytes) }
@@ -76,7 +76,7 @@ pub fn keep_sent<R: Recorder, E: Ledger, M: Ledger, K: Marks>(
 }
 
 /// The bytes of an entry that hands out.
-fn handed_bytes(entry: Entry) -> Text
+fn handed_bytes(entry: Entry) -> HandOut
     requires { IsHandOut entry }
     ensures { result ≡ bytes_of entry }
 {

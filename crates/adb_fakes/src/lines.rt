@@ -23,10 +23,12 @@ fn push_line(lines: &mut Text, entry: &Entry) -> Result<(), AllocError> {
         Entry::Enter { port, .. } | Entry::Bound { port, .. } => {
             push_number(lines, u64::from(*port))?;
         }
-        Entry::Read { bytes, .. }
-        | Entry::Recv { bytes, .. }
-        | Entry::Put { bytes, .. }
-        | Entry::Send { bytes, .. } => push_number(lines, bytes.len() as u64)?,
+        Entry::Read { bytes, .. } | Entry::Recv { bytes, .. } => {
+            push_number(lines, bytes.len() as u64)?;
+        }
+        Entry::Put { bytes, .. } | Entry::Send { bytes, .. } => {
+            push_number(lines, bytes.len() as u64)?;
+        }
         Entry::End { cause, .. } | Entry::Detach { cause, .. } => {
             lines.push_slice(cause_of(*cause))?;
         }

@@ -1,6 +1,6 @@
 //! What the hub's calls answer.
 
-use adb_outside::Text;
+use adb_outside::HandOut;
 
 /// Whether the client or link that a call was about lives after it.
 #[derive(Clone, Copy, Debug, PartialEq, Eq, Drop)]
@@ -13,7 +13,7 @@ pub enum Life {
 #[derive(Drop)]
 pub enum Handed {
     /// Some of the first bytes that were due, at least one.
-    Bytes(Text),
+    Bytes(HandOut),
     /// Nothing is due.
     Nothing,
     /// It is gone, and nothing will be due to it any more.

@@ -13,14 +13,14 @@ use crate::places::keep_answer;
 use adb_client::Client;
 use adb_hub_rules::hand_client;
 use adb_hub_tables::{Tables, TouchedMap};
-use adb_outside::Text;
+use adb_outside::{HandOut, Text};
 use std::alloc::AllocError;
 
 /// The first bytes that may be handed out to a client, at most `max`, are: of what is due, or where
 /// nothing is, of the present list of the devices, where the one that the client has is stale. It
 /// is `None` exactly where the client is not there or there are no such bytes. After want of memory
 /// nothing has changed.
-pub fn put(tables: &mut Tables, client: u32, max: usize) -> Result<Option<Text>, AllocError>
+pub fn put(tables: &mut Tables, client: u32, max: usize) -> Result<Option<HandOut>, AllocError>
     requires fit { IsFit tables.old }
     requires reached { IsReached (state_of tables.old) }
     requires some { 0 < max }
@@ -36,7 +36,7 @@ pub fn put(tables: &mut Tables, client: u32, max: usize) -> Result<Option<Text>,
 }
 
 /// The first bytes that are due to a client are handed out, where its list need not be.
-fn put_due(tables: &mut Tables, client: u32, max: usize) -> Result<Option<Text>, AllocError>
+fn put_due(tables: &mut Tables, client: u32, max: usize) -> Result<Option<HandOut>, AllocError>
     requires fit { IsFit tables.old }
     requires reached { IsReached (state_of tables.old) }
     requires some { 0 < max }
@@ -56,14 +56,14 @@ fn put_due(tables: &mut Tables, client: u32, max: usize) -> Result<Option<Text>,
     Ok(Some(bytes))
 }
 
-/// The first bytes that are due to a client, at most `max`, copied.
-fn front_of(tables: &Tables, client: u32, max: usize) -> Result<Text, AllocError>
+/// The first bytes that are due to a client, at most `max`.
+fn front_of(tables: &Tables, client: u32, max: usize) -> Result<HandOut, AllocError>
     ensures { IfOk result (λ bytes.
         bytes ≡ take max (due_to ((state_of tables.now).clients client))) }
 {
     match tables.clients.get(&client) {
-        Some(row) => row.copy_front(max),
-        None => Ok(Text::new(tables.alloc)),
+        Some(row) => row.front(max),
+        None => Ok(HandOut::own(Text::new(tables.alloc))),
     }
 }
 
@@ -73,7 +73,7 @@ fn put_list(
     client: u32,
     list: &Text,
     max: usize,
-) -> Result<Option<Text>, AllocError>
+) -> Result<Option<HandOut>, AllocError>
     requires fit { IsFit tables.old }
     requires reached { IsReached (state_of tables.old) }
     requires some { 0 < max }
@@ -84,7 +84,7 @@ fn put_list(
     ensures made { IfOk result (λ bytes. HandsOut (Put client) bytes tables.old tables.new) }
     ensures kept { OnErr result (Keeps tables.old tables.new) }
 {
-    let bytes = Text::from_slice(tables.alloc, first(list.as_slice(), max))?;
+    let bytes = HandOut::own(Text::from_slice(tables.alloc, first(list.as_slice(), max))?);
     owe_list(&mut tables.clients, client, list)?;
     hand_client(tables, client, bytes.len());
     Ok(Some(bytes))

@@ -8,12 +8,12 @@ ghost use Rattle.adb_hub_hand_outs.specs.Handed.{due_on, IsFront, HandsOut};
 
 use adb_hub_rules::hand_link;
 use adb_hub_tables::Tables;
-use adb_outside::Text;
+use adb_outside::{HandOut, Text};
 use std::alloc::AllocError;
 
 /// The first bytes that are due to a link, at most `max`, are handed out; `None` exactly where the
 /// link is not there or nothing is due to it. After want of memory nothing has changed.
-pub fn send(tables: &mut Tables, link: u32, max: usize) -> Result<Option<Text>, AllocError>
+pub fn send(tables: &mut Tables, link: u32, max: usize) -> Result<Option<HandOut>, AllocError>
     requires fit { IsFit tables.old }
     requires reached { IsReached (state_of tables.old) }
     requires some { 0 < max }
@@ -30,12 +30,13 @@ pub fn send(tables: &mut Tables, link: u32, max: usize) -> Result<Option<Text>, 
 }
 
 /// The first bytes that are due to a link, at most `max`, copied.
-fn front_of(tables: &Tables, link: u32, max: usize) -> Result<Text, AllocError>
+fn front_of(tables: &Tables, link: u32, max: usize) -> Result<HandOut, AllocError>
     ensures { IfOk result (λ bytes.
         bytes ≡ take max (due_on ((state_of tables.now).links link))) }
 {
-    match tables.links.get(&link) {
-        Some(port) => port.link.copy_front(max),
-        None => Ok(Text::new(tables.alloc)),
-    }
+    let bytes = match tables.links.get(&link) {
+        Some(port) => port.link.copy_front(max)?,
+        None => Text::new(tables.alloc),
+    };
+    Ok(HandOut::own(bytes))
 }

@@ -145,7 +145,7 @@ fn what_is_due_is_handed_out(rt: HostRuntime) -> Result<(), Fail> {
     let mut client = Client::new(rt.alloc(), 1, false);
     for &(debt, front, owed) in DEBTS {
         owe(&mut client, debt)?;
-        let first = client.copy_front(4)?;
+        let first = client.front(4)?;
         assert_eq!(rt; first.as_slice(), front);
         assert_eq!(rt; client.owed(), owed);
     }

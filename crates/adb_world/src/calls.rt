@@ -14,7 +14,7 @@ ghost use Rattle.adb_world.specs.Parts.{plugging};
 
 use adb_daemon::{Daemon, DaemonError};
 use adb_hub::{Handed, Hub, HubError};
-use adb_outside::{Cause, Kind, Text};
+use adb_outside::{Cause, HandOut, Kind};
 use std::alloc::AllocError;
 
 /// The link of the model device, and its serial.
@@ -95,7 +95,11 @@ pub(crate) fn receive(hub: &mut Hub, piece: &[u8]) -> Result<(), AllocError>
 }
 
 /// Hands out the first bytes that are due to a client, at most `max`; `None` where there are none.
-pub(crate) fn put(hub: &mut Hub, client: u32, max: usize) -> Result<Option<Text>, AllocError>
+pub(crate) fn put(
+    hub: &mut Hub,
+    client: u32,
+    max: usize,
+) -> Result<Option<HandOut>, AllocError>
     requires some { 0 < max }
     requires held { HasHistory hub.old }
     requires drawn { is_drawn hub.old.joined client ≡ true }
@@ -111,7 +115,7 @@ pub(crate) fn put(hub: &mut Hub, client: u32, max: usize) -> Result<Option<Text>
 }
 
 /// Hands out the first bytes that are due on the link, at most `max`; `None` where there are none.
-pub(crate) fn send(hub: &mut Hub, max: usize) -> Result<Option<Text>, AllocError>
+pub(crate) fn send(hub: &mut Hub, max: usize) -> Result<Option<HandOut>, AllocError>
     requires some { 0 < max }
     requires held { HasHistory hub.old }
     requires drawn { is_drawn hub.old.devices.drawn 1 ≡ true }
@@ -126,7 +130,7 @@ pub(crate) fn send(hub: &mut Hub, max: usize) -> Result<Option<Text>, AllocError
 }
 
 /// What was handed out.
-fn bytes_of(handed: Handed) -> Option<Text>
+fn bytes_of(handed: Handed) -> Option<HandOut>
     ensures { result ≡ bytes_of handed }
 {
     match handed {

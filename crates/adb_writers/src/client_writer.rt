@@ -13,7 +13,7 @@ use adb_connections::{Gate, Place, PortOut};
 use adb_desk_log::{ClientOut, DeskError, Marks};
 use adb_hall::Hall;
 use adb_hub::{Handed, HubError};
-use adb_outside::{Cause, Text, Wrote};
+use adb_outside::{Cause, HandOut, Wrote};
 use adb_wire::MAX_PACKET;
 use std::sync::Wait;
 use std::sync::ledger::Ledger;
@@ -38,7 +38,7 @@ fn write_out<E: Ledger, M: Ledger, K: Marks, H: Hall<E, M, K>, O: PortOut>(
     hall: &mut H,
     port: &mut O,
     pass: &mut ClientOut<E, M, K>,
-    bytes: &Text,
+    bytes: &HandOut,
 ) -> Next
     requires { 0 < length bytes.now }
     ensures goes { result ≢ Next.Idle }

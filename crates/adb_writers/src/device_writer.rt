@@ -13,7 +13,7 @@ use adb_connections::{DeviceOut, Gate, Place};
 use adb_desk_log::{DeskError, LinkOut, Marks};
 use adb_hall::Hall;
 use adb_hub::{Handed, HubError};
-use adb_outside::{Cause, Text, Wrote};
+use adb_outside::{Cause, HandOut, Wrote};
 use adb_wire::MAX_PACKET;
 use std::sync::Wait;
 use std::sync::ledger::Ledger;
@@ -38,7 +38,7 @@ fn write_out<E: Ledger, M: Ledger, K: Marks, H: Hall<E, M, K>, O: DeviceOut>(
     hall: &mut H,
     port: &mut O,
     pass: &mut LinkOut<E, M, K>,
-    bytes: &Text,
+    bytes: &HandOut,
 ) -> Next
     requires { 0 < length bytes.now }
     ensures goes { result ≢ Next.Idle }
