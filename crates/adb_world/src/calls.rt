@@ -95,11 +95,7 @@ pub(crate) fn receive(hub: &mut Hub, piece: &[u8]) -> Result<(), AllocError>
 }
 
 /// Hands out the first bytes that are due to a client, at most `max`; `None` where there are none.
-pub(crate) fn put(
-    hub: &mut Hub,
-    client: u32,
-    max: usize,
-) -> Result<Option<HandOut>, AllocError>
+pub(crate) fn put(hub: &mut Hub, client: u32, max: usize) -> Result<Option<HandOut>, AllocError>
     requires some { 0 < max }
     requires held { HasHistory hub.old }
     requires drawn { is_drawn hub.old.joined client ≡ true }
