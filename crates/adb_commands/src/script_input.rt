@@ -1,6 +1,6 @@
 //! Reading a script.
 
-ghost use Rattle.std.specs.Prelude.{◌≡◌, ◌≤◌, ◌<◌, ◌-◌, IfOk, length};
+ghost use Rattle.std.specs.Prelude.{◌≤◌, ◌<◌, ◌-◌, IfOk, length};
 ghost use Rattle.adb_outside.specs.Outside.{Counts};
 ghost use Rattle.adb_commands.specs.ScriptInput.{ReadsPiece, ReadsScript, ReadsWithin};
 ghost use Rattle.adb_commands.specs.ScriptStop.{IsReadEnd, stops_reading};

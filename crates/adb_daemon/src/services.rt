@@ -1,6 +1,6 @@
 //! The services of the device, and what each packet of the host makes of them.
 
-ghost use Rattle.std.specs.Prelude.{◌≡◌, ◌≤◌, ◌++◌, ◌⊎◌, [], ℕ, List, ◌<◌, length, take, drop, Some, None, IsSome, OnOk, OnErr, IfOk};
+ghost use Rattle.std.specs.Prelude.{◌≡◌, ◌≤◌, ◌++◌, ◌⊎◌, ℕ, List, ◌<◌, length, take, drop, Some, None, IsSome, OnOk, OnErr, IfOk};
 ghost use Rattle.adb_outside.specs.Tables.{at};
 ghost use Rattle.adb_device_streams.specs.Asked.{kind_of};
 ghost use Rattle.adb_device_streams.specs.Service.{came_over, files_fed, files_opened, HasFrontOfFiles};

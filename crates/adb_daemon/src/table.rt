@@ -1,6 +1,6 @@
 //! The live streams, by the ids of both ends.
 
-ghost use Rattle.std.specs.Prelude.{◌≡◌, [], Some, None, ℕ, is_some, OnOk};
+ghost use Rattle.std.specs.Prelude.{◌≡◌, [], Some, None, is_some, OnOk};
 ghost use Rattle.adb_outside.specs.Tables.{at, Puts};
 ghost use Rattle.adb_daemon.specs.Held.{host_at, is_named};
 

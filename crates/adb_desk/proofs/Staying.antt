@@ -1,7 +1,7 @@
 -- The type of a desk keeps its fact over each entry.
-use Rattle.std.proofs.Common.{ℕ, ◌+◌, ◌*◌, ◌≡◌, ◌≤◌, Bool, true, false, List, [], ◌∷◌, ◌++◌, length}
+use Rattle.std.proofs.Common.{ℕ, ◌+◌, ◌≡◌, ◌≤◌, Bool, true, false, List, [], ◌∷◌}
 use Rattle.std.proofs.Common.{reverse, Option, Some, None, Result, Ok, Err, refl, sym, ap, ◌∙◌, subst, arith}
-use Rattle.std.specs.Prelude.{⊤, option_map, if◌then◌else◌}
+use Rattle.std.specs.Prelude.{⊤, option_map}
 use Rattle.std.proofs.lemmas.List.{reverse-append, reverse-reverse}
 use Rattle.adb_outside.specs.declared.kinds.Kind.{Kind}
 use Rattle.adb_capture.specs.declared.entry.Entry.{Entry}
@@ -22,9 +22,9 @@ use Rattle.adb_hub.specs.Refusal.{refusal}
 use Rattle.adb_hub.specs.Answers.{Answers, HandsOut}
 use Rattle.adb_desk_log.specs.declared.error.DeskError.{DeskError}
 use Rattle.adb_desk_log.specs.declared.error.DeskError.TheVariants.{Halted, RecordFault, Hub, Later}
-use Rattle.adb_desk_log.specs.Log.{IsFresh, first_log, LogView, with_entry, shut_by, shut_with, or_halted, is_full, grown, Keeps, KeepsHanded, Breaks}
+use Rattle.adb_desk_log.specs.Log.{IsFresh, first_log, LogView, with_entry, shut_with, or_halted, is_full, grown, Keeps, KeepsHanded, Breaks}
 use Rattle.adb_desk.specs.Desk.{DeskView, Draws, is_late, desk_refusal, or_later}
-use Rattle.adb_desk.specs.Sound.{IsSound, Tells, is_broken, AreHeld, KeepsPromises, TellsPromises}
+use Rattle.adb_desk.specs.Sound.{IsSound, Tells, is_broken, KeepsPromises, TellsPromises}
 use Rattle.adb_desk.proofs.Holding.{held_step, client_row, within_windows}
 use Rattle.adb_desk.proofs.Seats.{seats_more}
 

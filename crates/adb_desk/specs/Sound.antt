@@ -17,7 +17,7 @@ use Rattle.adb_history.specs.Answered.{IsAnswered}
 use Rattle.adb_laws_fifo_down.specs.Followed.{HasWindows}
 use Rattle.adb_hub.specs.declared.hub.TheConstants.{MAX_HELD}
 use Rattle.adb_desk_log.specs.declared.error.DeskError.{DeskError}
-use Rattle.adb_desk_log.specs.declared.error.DeskError.TheVariants.{Halted, RecordFault, Hub, Later}
+use Rattle.adb_desk_log.specs.declared.error.DeskError.TheVariants.{RecordFault, Hub}
 use Rattle.adb_desk_log.specs.Log.{moves}
 use Rattle.adb_desk.specs.Desk.{DeskView}
 

@@ -1,6 +1,6 @@
 //! Links of a desk: how devices come, what comes from them, and how they go.
 
-ghost use Rattle.std.specs.Prelude.{◌≡◌, ◌≢◌, ◌≤◌, Err, length};
+ghost use Rattle.std.specs.Prelude.{◌≢◌, ◌≤◌, Err, length};
 ghost use Rattle.adb_outside.specs.declared.kinds.Kind.{Kind};
 ghost use Rattle.adb_capture.specs.declared.entry.Entry.{Entry};
 ghost use Rattle.adb_capture.specs.declared.limits.TheConstants.{MAX_DATA};

@@ -3,14 +3,14 @@ use Rattle.std.specs.Prelude.{ℕ, ◌+◌, ◌-◌, ◌^◌, ◌≡◌, Bool, t
 use Rattle.std.specs.Prelude.{option_map, Result, Ok, Err, nat_le, nat_lt, ⊤}
 use Rattle.adb_outside.specs.Outside.{Rises}
 use Rattle.adb_capture.specs.declared.entry.Entry.{Entry}
-use Rattle.adb_capture.specs.declared.entry.Entry.TheVariants.{Join, Enter, Read, End, Bound, Attach, Recv, Detach, Put, Send}
+use Rattle.adb_capture.specs.declared.entry.Entry.TheVariants.{Join, Enter, Read, Attach, Recv, Put, Send}
 use Rattle.adb_capture.specs.declared.recorder.RecordError.{RecordError}
 use Rattle.adb_capture.specs.declared.recorder.RecordError.TheVariants.{Failed, OutOfMemory as WantOfMemory}
 use Rattle.adb_hub.specs.declared.error.HubError.TheVariants.{OutOfMemory}
 use Rattle.adb_hub.specs.declared.answers.Handed.{Handed}
 use Rattle.adb_hub.specs.declared.answers.Handed.TheVariants.{Bytes}
 use Rattle.adb_desk_log.specs.declared.error.DeskError.{DeskError}
-use Rattle.adb_desk_log.specs.declared.error.DeskError.TheVariants.{Halted, RecordFault, Hub, Later}
+use Rattle.adb_desk_log.specs.declared.error.DeskError.TheVariants.{Halted, RecordFault, Hub}
 use Rattle.adb_desk_log.specs.Pass.{PassView}
 
 -- a log: what its recorder tells and how often that failed, the answer with which it is shut, the alarm, both counts, how many passes are

@@ -2,8 +2,8 @@
 
 ghost use Rattle.std.specs.Prelude.{◌≡◌, ◌+◌, ◌-◌, ◌<◌, ◌≤◌, ◌^◌};
 ghost use Rattle.std.specs.Prelude.{true, false, None, Some, nat_eq, if◌then◌else◌};
-ghost use Rattle.adb_desk_log.specs.Log.{LogView, retired};
-ghost use Rattle.adb_desk_log.specs.Pass.{PassView, first_pass};
+ghost use Rattle.adb_desk_log.specs.Log.{retired};
+ghost use Rattle.adb_desk_log.specs.Pass.{first_pass};
 
 use crate::log::Log;
 use crate::marks::Marks;

@@ -16,7 +16,7 @@ use Rattle.adb_history.specs.Accepted.{is_drawn}
 use Rattle.adb_history.proofs.OrderlyStates.{orderly}
 use Rattle.adb_hub.specs.declared.error.HubError.TheVariants.{OutOfMemory, NoLink}
 use Rattle.adb_hub.specs.declared.answers.Life.{Life}
-use Rattle.adb_hub.specs.declared.answers.Life.TheVariants.{Live, Gone}
+use Rattle.adb_hub.specs.declared.answers.Life.TheVariants.{Gone}
 use Rattle.adb_hub.specs.Refusal.{unless_stopped, unless_drawn}
 use Rattle.adb_hub.specs.Answers.{life_of}
 use Rattle.adb_desk_log.specs.declared.error.DeskError.{DeskError}

@@ -1,9 +1,5 @@
 //! A door, and its bell.
 
-ghost use Rattle.std.specs.Prelude.{◌≡◌};
-ghost use Rattle.adb_outside.specs.Outside.{Counts};
-ghost use Rattle.adb_connections.specs.Door.{FitsCame, is_failed_came};
-
 use crate::sent::SharedOut;
 use adb_connections::{Bell, Came, Door, MemoryIn};
 use adb_outside::Failing;

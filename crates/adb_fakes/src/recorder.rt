@@ -1,6 +1,6 @@
 //! What a server keeps, as a test reads it.
 
-ghost use Rattle.std.specs.Prelude.{◌≡◌, ◌≤◌, length};
+ghost use Rattle.std.specs.Prelude.{◌≡◌};
 ghost use Rattle.adb_outside.specs.Outside.{Counts};
 ghost use Rattle.adb_capture.specs.Recording.{is_failed_record};
 

@@ -1,10 +1,7 @@
 -- What a hall tells of who came.
-use Rattle.std.proofs.Common.{ℕ, ◌≡◌, List, ◌∷◌, Option, refl, sym, ◌∙◌, ap, subst}
-use Rattle.std.specs.Prelude.{option_map}
+use Rattle.std.proofs.Common.{ℕ, ◌≡◌, sym, ap, subst}
 use Rattle.adb_capture.specs.declared.entry.Entry.{Entry}
-use Rattle.adb_history.specs.Machine.{History}
-use Rattle.adb_history.specs.Kept.{Kept, IsLawful}
-use Rattle.adb_desk_log.specs.Log.{LogView, grown}
+use Rattle.adb_desk_log.specs.Log.{LogView}
 use Rattle.adb_desk.specs.Desk as desk
 use Rattle.adb_desk.specs.Desk.{DeskView}
 use Rattle.adb_hall.specs.Telling.{Entered, Telling, telling_of}

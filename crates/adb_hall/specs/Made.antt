@@ -1,5 +1,5 @@
 -- The entries that a worker made, where its hall tells them.
-use Rattle.std.specs.Prelude.{ℕ, ◌≡◌, Bool, true, List, [], ◌∷◌, ◌++◌, reverse, Option, Some, is_some, ◌⊎◌}
+use Rattle.std.specs.Prelude.{ℕ, ◌≡◌, Bool, true, List, [], ◌∷◌, ◌++◌, reverse, Some, is_some, ◌⊎◌}
 use Rattle.adb_capture.specs.declared.entry.Entry.{Entry}
 use Rattle.adb_capture.specs.declared.entry.Entry.TheVariants.{Read, Recv, Put, Send}
 use Rattle.adb_history.specs.Kept.{IsLawful}

@@ -1,6 +1,6 @@
 //! Bytes that are handed out to clients.
 
-ghost use Rattle.std.specs.Prelude.{◌≡◌, ◌<◌, ℕ, [], None, Some, take, IfOk, OnOk, OnErr};
+ghost use Rattle.std.specs.Prelude.{◌≡◌, ◌<◌, ℕ, None, Some, take, IfOk, OnOk, OnErr};
 ghost use Rattle.adb_outside.specs.Tables.{at};
 ghost use Rattle.adb_capture.specs.declared.entry.Entry.TheVariants.{Put};
 ghost use Rattle.adb_hub_tables.specs.Fit.{IsFit, IsReached, Keeps};

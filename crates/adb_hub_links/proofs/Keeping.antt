@@ -1,5 +1,5 @@
 -- What is reserved changes nothing that the machine sees.
-use Rattle.std.proofs.Common.{ℕ, ◌≡◌, Option, Some, None, ◌∙◌, ap}
+use Rattle.std.proofs.Common.{ℕ, Option, Some, None, ◌∙◌, ap}
 use Rattle.std.specs.Prelude.{Result, Ok, Err, OnErr}
 use Rattle.adb_outside.specs.Tables.{at}
 use Rattle.adb_link.specs.Linked.{Linked}

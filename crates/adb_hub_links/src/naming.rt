@@ -1,6 +1,6 @@
 //! The streams that OKAYs name (protocol.txt, READY).
 
-ghost use Rattle.std.specs.Prelude.{◌≡◌, ℕ, IfOk, OnOk};
+ghost use Rattle.std.specs.Prelude.{◌≡◌, IfOk, OnOk};
 ghost use Rattle.adb_hub_rules.specs.Came.{packet_of, packets_of};
 ghost use Rattle.adb_hub_links.specs.Naming.{AreNamedOn, NamesAlso, named_on};
 

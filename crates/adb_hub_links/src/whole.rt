@@ -1,6 +1,6 @@
 //! Packets that came whole.
 
-ghost use Rattle.std.specs.Prelude.{◌≡◌, ◌≤◌, true, length, drop, IfOk};
+ghost use Rattle.std.specs.Prelude.{◌≡◌, ◌≤◌, true, length, IfOk};
 ghost use Rattle.adb_wire.specs.Format.{packet_of};
 ghost use Rattle.adb_wire.specs.Header.{IsBytes};
 ghost use Rattle.adb_wire.specs.declared.headers.TheConstants.{MAX_PAYLOAD};

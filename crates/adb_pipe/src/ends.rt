@@ -1,6 +1,6 @@
 //! The two ends of a pipe.
 
-ghost use Rattle.std.specs.Prelude.{◌≡◌, ◌<◌, [], IfOk};
+ghost use Rattle.std.specs.Prelude.{◌≡◌, ◌<◌, IfOk};
 ghost use Rattle.adb_pipe.specs.Ends.{Begins, Puts, Takes};
 ghost use Rattle.adb_pipe.specs.Rule.{IsChunk, bytes_of};
 

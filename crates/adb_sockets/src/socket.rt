@@ -1,6 +1,6 @@
 //! What is done with a stream of the system.
 
-ghost use Rattle.std.specs.Prelude.{◌<◌, ◌≤◌, length};
+ghost use Rattle.std.specs.Prelude.{◌<◌, length};
 ghost use Rattle.adb_outside.specs.Source.{FitsBuffer};
 ghost use Rattle.adb_outside.specs.Sink.{FitsPiece};
 

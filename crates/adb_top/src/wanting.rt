@@ -1,8 +1,7 @@
 //! Which devices a run is to be given.
 
-ghost use Rattle.std.specs.Prelude.{◌≡◌, ◌≢◌, [], Err, IfOk, true, false};
+ghost use Rattle.std.specs.Prelude.{Err};
 ghost use Rattle.adb_words.specs.Serve.{is_serve};
-ghost use Rattle.adb_words.specs.Words.{texts};
 ghost use Rattle.adb_top.specs.Wanted.{AsksForPorts};
 
 use adb_words::{Ports, WordsError, is_serve, read_serve};

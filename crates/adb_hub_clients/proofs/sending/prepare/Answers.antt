@@ -1,6 +1,4 @@
-use Rattle.std.proofs.Common.{ℕ}
 use Rattle.adb_outside.specs.Tables.{at}
-use Rattle.adb_hub_clients.specs.Sending.{IsPreparedAt}
 use Rattle.adb_hub_clients.proofs.Fitting.{clients_widen, still_holds}
 use Rattle.adb_hub_clients.proofs.Raised.{prepared}
 use Rattle.adb_hub_clients.proofs.sending.prepare.Goals as goal
