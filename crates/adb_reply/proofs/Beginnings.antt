@@ -1,5 +1,5 @@
 -- How replies begin.
-use Rattle.std.proofs.Common.{ℕ, ◌++◌, Bool, true, false, cond, List, [], length, codes, Option, Some, None, is_some, Result, Ok, Err, refl, inl}
+use Rattle.std.proofs.Common.{ℕ, ◌≡◌, ◌++◌, Bool, true, false, cond, List, [], length, codes, Option, Some, None, is_some, Result, Ok, Err, refl, inl}
 use Rattle.std.proofs.Common.{inr, nat_lt, nat_eq, not, ◌&&◌, ◌+◌}
 use Rattle.adb_outside.specs.Tables.{at}
 use Rattle.adb_outside.specs.declared.kinds.Selector.{Selector}

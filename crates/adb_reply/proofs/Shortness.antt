@@ -3,6 +3,7 @@ use Rattle.std.proofs.Common.{ℕ, ◌≡◌, ◌++◌, ◌+◌, ◌≤◌, Bool
 use Rattle.std.proofs.Common.{Err, refl, arith}
 use Rattle.std.proofs.Common.{nat_lt, nat_le, nat_eq, not, ◌&&◌}
 use Rattle.std.proofs.lemmas.Bool.Decides.{nat_tests}
+use Rattle.std.specs.Prelude.{◌==◌}
 use Rattle.std.specs.Map.{values_of}
 use Rattle.std.specs.Fmt.{decimal}
 use Rattle.adb_outside.specs.Tables.{at}
