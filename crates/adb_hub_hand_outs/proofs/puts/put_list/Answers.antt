@@ -35,4 +35,4 @@ returns-clause-made c =
     ∙ ap (λ n. (takes_of c.args.client n ((state_of mid).clients c.args.client) (state_of mid)).state) c.len.ensures in
     put_of_list old mid c.requires.fit c.requires.reached c.args.client c.args.list.now
     (record { stale = c.requires.stale; lists = c.in_ok-owe_list.ensures.ok; others = refl })
-    c.hand_client.new.tables c.in_ok-bytes.bytes c.hand_client.ensures.uses state
+    c.hand_client.new.tables c.own-bytes.result c.hand_client.ensures.uses state
