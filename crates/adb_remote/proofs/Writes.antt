@@ -186,10 +186,6 @@ module _ {A : Type 0} (steady : A → Type 0) (view : A → Outlet) where
   none_there (byte ∷ left) [] some empty = absurd (some (λ e. cc) refl)
   none_there (byte ∷ left) (b ∷ out) some empty = absurd (let size = eqb-true (length (b ∷ out)) 0 empty in omega (arith, size))
 
-  some_there : (front : List ℕ) → front ≢ [] → 0 < length front
-  some_there [] some = absurd (some refl)
-  some_there (byte ∷ front) some = omega arith
-
   -- the text that is left is all of it
   pub part_begun : (text left : List ℕ) (o : A) → left ≡ text → SendsPart steady view text left o o
   part_begun text left o is = record { gone = []; all = is; sends = sends_nothing o }

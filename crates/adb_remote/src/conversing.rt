@@ -19,8 +19,9 @@ use adb_sync_client::Step;
 use std::alloc::Global;
 use std::sync::Wait;
 
-/// The most bytes that are read at once: four whole chunks of a file, with their headers. Reads that
-/// are filled then end where chunks end, and none of these has to be gathered.
+/// The most bytes that are read at once: four whole chunks of a file, with their headers. As long as
+/// every read of a file is filled, each ends where a chunk ends; behind one that is not, reads end
+/// within chunks, whose parts are gathered.
 pub const MAX_PIECE: usize = 262_176;
 
 /// Asks a server for a job, on the device of a serial where there is one, and tells what it was
