@@ -50,8 +50,9 @@ ifneq ($(filter library-%,$(MAKECMDGOALS)),)
 $(foreach crate,$(LIBRARIES),$(eval $(call library,$(crate))))
 endif
 
+# rt ci, by a kit that sums the same files again and again too.
 test:
-	rt ci
+	.ci/rt_ci
 
 # A folder whose build.sh makes another program that replays, to compare with; without it, or without rustc, nothing is.
 YARDSTICK ?= ../shared/rust_replay
