@@ -1,5 +1,5 @@
 -- What the packets of a connected device make, and what is told of bytes that were handed out, brings no client or link, and leaves the tables.
-use Rattle.std.proofs.Common.{ℕ, ◌≡◌, ◌≤◌, Bool, true, false, cond, List, [], ◌∷◌, length, min, Option, Some, None, refl, sym, ◌∙◌, zero, suc, eqb, codes}
+use Rattle.std.proofs.Common.{ℕ, ◌≡◌, ◌≤◌, Bool, true, false, List, [], ◌∷◌, length, min, Option, Some, None, refl, sym, ◌∙◌, zero, suc, eqb, codes}
 use Rattle.std.proofs.lemmas.List.{append-nil}
 use Rattle.std.specs.Prelude.{option_map, ◌==◌, ◌||◌, not}
 use Rattle.adb_wire.specs.declared.command.Command.{Command}
@@ -10,15 +10,15 @@ use Rattle.adb_stream.specs.declared.flow.Flow.{Flow}
 use Rattle.adb_stream.specs.declared.flow.Flow.TheVariants.{One, Credit}
 use Rattle.adb_stream.specs.Flow.{first_credit, acknowledged, is_out_of_turn, accepted, to_hand, credit_back, handed_to}
 use Rattle.adb_client.specs.declared.phase.Phase.{Phase}
-use Rattle.adb_client.specs.declared.phase.Phase.TheVariants.{Asking, Opening, Streaming, Binding, Tracking, Closing, Gone}
+use Rattle.adb_client.specs.declared.phase.Phase.TheVariants.{Asking, Streaming, Binding, Tracking}
+use Rattle.adb_reply.proofs.AllAnswers.{by_test}
 use Rattle.adb_history.specs.Rows.{Client, State, to_client, to_stream, none_kept, in_phase, with_stream_part}
 use Rattle.adb_history.specs.Events.{Made, quietly, peer_closed, out_of_turn}
 use Rattle.adb_history.specs.Links.{close_packet, okay_packet, credit_packet, credit_word, owe_link}
 use Rattle.adb_history.specs.Clients.{owe_client}
-use Rattle.adb_history.specs.Streams.{ends_row, ends_telling}
 use Rattle.adb_history.specs.Flow.{with_flow}
 use Rattle.adb_history.specs.Tracking.{marked_in, marked, mark_all, offered}
-use Rattle.adb_history.specs.Packets.{refuses_open, at_stream, with_remote, hears_okay, opened, orphan_opened, okay_open}
+use Rattle.adb_history.specs.Packets.{refuses_open, at_stream, with_remote, hears_okay, opened, orphan_opened}
 use Rattle.adb_history.specs.Packets.{okay_first, takes_okay}
 use Rattle.adb_history.specs.Packets.{accepts_none, accepts, takes_write, takes_close, treat_open}
 use Rattle.adb_history.specs.Handing.{unmarked, lists_first, tells_credit, tells_handed, stream_hands, stream_left}
@@ -30,29 +30,20 @@ use Rattle.adb_history.proofs.GrowingRules.{keeps_phase, keeps_ends_row, keeps_e
 module _ (came plugged : ℕ) where
   -- ---- OPEN
   keeps_refuses_open : (t id : ℕ) (s : State) → t ≤ plugged → Keeps came plugged s (refuses_open t id s)
-  keeps_refuses_open t id s le = go (id == 0)
-    where
-      go : (none : Bool) → Keeps came plugged s (cond none (quietly s) (owe_link t (close_packet 0 id) s))
-      go true = keeps_all came plugged s
-      go false = keeps_owe_link came plugged t (close_packet 0 id) s le
+  keeps_refuses_open t id s le =
+      by_test (Keeps came plugged s) (id == 0) (λ e. keeps_all came plugged s) (λ e. keeps_owe_link came plugged t (close_packet 0 id) s le)
 
   keeps_at_stream : (t : ℕ) (o : Option Stream) (rule : Stream → State → Made) (s : State) → IsWithin came plugged o
       → ((stream : Stream) → IsWithin came plugged (Some stream) → Keeps came plugged s (rule stream s)) → Keeps came plugged s (at_stream t o rule s)
   keeps_at_stream t None rule s within keeps = keeps_all came plugged s
-  keeps_at_stream t (Some stream) rule s within keeps = go (eqb stream.link t)
-    where
-      go : (here : Bool) → Keeps came plugged s (cond here (rule stream s) (quietly s))
-      go true = keeps stream within
-      go false = keeps_all came plugged s
+  keeps_at_stream t (Some stream) rule s within keeps =
+      by_test (Keeps came plugged s) (eqb stream.link t) (λ e. keeps stream within) (λ e. keeps_all came plugged s)
 
   -- ---- OKAY
   keeps_hears_okay : (o : Option Client) (c : ℕ) (s : State) → c ≤ came → Keeps came plugged s (hears_okay o c s)
   keeps_hears_okay None c s le = keeps_all came plugged s
-  keeps_hears_okay (Some client) c s le = go client.about.forwarded
-    where
-      go : (forwarded : Bool) → Keeps came plugged s (cond forwarded (quietly s) (owe_client c (codes "OKAY") s))
-      go true = keeps_all came plugged s
-      go false = keeps_owe_client came plugged c (codes "OKAY") s le
+  keeps_hears_okay (Some client) c s le =
+      by_test (Keeps came plugged s) client.about.forwarded (λ e. keeps_all came plugged s) (λ e. keeps_owe_client came plugged c (codes "OKAY") s le)
 
   keeps_opened : (l remote : ℕ) (word : Option ℕ) (stream : Stream) (s : State) → stream.client ≤ came
       → Keeps came plugged s (opened l remote word stream s)
@@ -80,14 +71,11 @@ module _ (came plugged : ℕ) where
 
   keeps_takes_okay : (l remote : ℕ) (word : Option ℕ) (stream : Stream) (s : State) → IsWithin came plugged (Some stream)
       → Keeps came plugged s (takes_okay l remote word stream s)
-  keeps_takes_okay l remote word stream s within = go (remote == 0) (stream.part.remote == 0) (remote == stream.part.remote)
-    where
-      go : (none first same : Bool) → Keeps came plugged s (cond none (quietly s)
-          (cond first (okay_first stream.part.orphan l remote word stream s) (cond same (okay_open l word stream s) (quietly s))))
-      go true first same = keeps_all came plugged s
-      go false true same = keeps_okay_first stream.part.orphan l remote word stream s within
-      go false false true = keeps_part came plugged l (with_flow (acknowledged word stream.part.flow) stream.part) s
-      go false false false = keeps_all came plugged s
+  keeps_takes_okay l remote word stream s within =
+      by_test (Keeps came plugged s) (remote == 0) (λ e. keeps_all came plugged s)
+      (λ e. by_test (Keeps came plugged s) (stream.part.remote == 0) (λ f. keeps_okay_first stream.part.orphan l remote word stream s within)
+      (λ f. by_test (Keeps came plugged s) (remote == stream.part.remote)
+      (λ g. keeps_part came plugged l (with_flow (acknowledged word stream.part.flow) stream.part) s) (λ g. keeps_all came plugged s)))
 
   -- ---- WRTE
   keeps_accepts_none : (flow : Flow) (l : ℕ) (stream : Stream) (s : State) → stream.link ≤ plugged
@@ -107,22 +95,16 @@ module _ (came plugged : ℕ) where
   keeps_takes_write : (l remote : ℕ) (payload : List ℕ) (stream : Stream) (s : State) → IsWithin came plugged (Some stream)
       → Keeps came plugged s (takes_write l remote payload stream s)
   keeps_takes_write l remote payload stream s within =
-      go (remote == 0 || not (remote == stream.part.remote)) (is_out_of_turn stream.part.flow (length payload))
-    where
-      go : (apart bad : Bool) → Keeps came plugged s (cond apart (quietly s)
-          (cond bad (ends_telling l out_of_turn stream s) (accepts l payload stream s)))
-      go true bad = keeps_all came plugged s
-      go false true = keeps_ends_telling came plugged l out_of_turn stream s within
-      go false false = keeps_accepts l payload stream s within
+      by_test (Keeps came plugged s) (remote == 0 || not (remote == stream.part.remote)) (λ e. keeps_all came plugged s)
+      (λ e. by_test (Keeps came plugged s) (is_out_of_turn stream.part.flow (length payload))
+      (λ f. keeps_ends_telling came plugged l out_of_turn stream s within) (λ f. keeps_accepts l payload stream s within))
 
   -- ---- CLSE
   keeps_takes_close : (l remote : ℕ) (stream : Stream) (s : State) → IsWithin came plugged (Some stream)
       → Keeps came plugged s (takes_close l remote stream s)
-  keeps_takes_close l remote stream s within = go (remote == 0 || remote == stream.part.remote)
-    where
-      go : (here : Bool) → Keeps came plugged s (cond here (ends_row l peer_closed stream s) (quietly s))
-      go true = keeps_ends_row came plugged l peer_closed stream s within.0
-      go false = keeps_all came plugged s
+  keeps_takes_close l remote stream s within =
+      by_test (Keeps came plugged s) (remote == 0 || remote == stream.part.remote)
+      (λ e. keeps_ends_row came plugged l peer_closed stream s within.0) (λ e. keeps_all came plugged s)
 
   pub keeps_treat_open : (t : ℕ) (command : Command) (p : Packet) (s : State) → t ≤ plugged → AreWithin came plugged s.streams
       → Keeps came plugged s (treat_open t command p s)
@@ -142,12 +124,7 @@ module _ (came plugged : ℕ) where
     asks = λ f. let clash : Tracking ≡ Asking = sym e ∙ f in cc;
     binds = λ f. let clash : Tracking ≡ Binding = sym e ∙ f in cc;
   }
-  stays_marked Asking a e = client_same a
-  stays_marked (Opening l) a e = client_same a
-  stays_marked (Streaming l) a e = client_same a
-  stays_marked Binding a e = client_same a
-  stays_marked Closing a e = client_same a
-  stays_marked Gone a e = client_same a
+  stays_marked _ a e = client_same a
 
   pub keeps_mark_all : (s : State) → Keeps came plugged s (quietly (mark_all s))
   keeps_mark_all s = record {
@@ -191,16 +168,11 @@ module _ (came plugged : ℕ) where
   keeps_tells_handed (Credit credit) left l stream s le = keeps_tells_credit (credit_back left credit) l stream s le
 
   keeps_stream_hands : (left l : ℕ) (stream : Stream) (s : State) → stream.link ≤ plugged → Keeps came plugged s (stream_hands left l stream s)
-  keeps_stream_hands left l stream s le = go (eqb left (to_hand stream.part.flow))
-    where
-      next : State
-      next = to_stream l (with_stream_part (with_flow (handed_to left stream.part.flow) stream.part)) s
-
-      go : (same : Bool) → Keeps came plugged s (cond same (quietly s) (tells_handed stream.part.flow left l stream next))
-      go true = keeps_all came plugged s
-      go false = keeps_over came plugged s next (tells_handed stream.part.flow left l stream next)
-          (keeps_part came plugged l (with_flow (handed_to left stream.part.flow) stream.part) s)
-          (keeps_tells_handed stream.part.flow left l stream next le)
+  keeps_stream_hands left l stream s le =
+      let next = to_stream l (with_stream_part (with_flow (handed_to left stream.part.flow) stream.part)) s in
+      by_test (Keeps came plugged s) (eqb left (to_hand stream.part.flow)) (λ e. keeps_all came plugged s)
+      (λ e. keeps_over came plugged s next (tells_handed stream.part.flow left l stream next)
+      (keeps_part came plugged l (with_flow (handed_to left stream.part.flow) stream.part) s) (keeps_tells_handed stream.part.flow left l stream next le))
 
   keeps_stream_left : (due l : ℕ) (o : Option Stream) (s : State) → IsWithin came plugged o → Keeps came plugged s (stream_left due l o s)
   keeps_stream_left due l None s within = keeps_all came plugged s

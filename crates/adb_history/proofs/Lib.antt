@@ -1,4 +1,5 @@
 pub mod Following
+pub mod AllMoves
 pub mod StreamMoves
 pub mod PacketMoves
 pub mod Readiness

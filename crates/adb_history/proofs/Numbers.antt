@@ -4,7 +4,7 @@ use Rattle.std.specs.Prelude.{option_and_then, option_map}
 use Rattle.std.proofs.lemmas.Bool.{ne_eqb}
 use Rattle.adb_outside.specs.Tables.{Rows, change_row, put_row}
 use Rattle.adb_capture.specs.declared.entry.Entry.{Entry}
-use Rattle.adb_capture.specs.declared.entry.Entry.TheVariants.{Join, Enter, Read, End, Bound, Attach, Recv, Detach, Put, Send}
+use Rattle.adb_capture.specs.declared.entry.Entry.TheVariants.{Join, Enter, Read, Attach}
 use Rattle.adb_history.specs.Rows.{Client, State, start, new_client, new_link}
 use Rattle.adb_history.specs.Tracking.{marked}
 use Rattle.adb_history.specs.Losing.{only_client}
@@ -61,12 +61,7 @@ begins_counted (Enter c port) s j d h = (
 )
 begins_counted (Attach t kind serial) s j d h = record { joined_is = h.joined_is; plugged_is = ap (λ n. n + 1) h.plugged_is }
 begins_counted (Read c bytes) s j d h = (h, λ client is asking. record { joined_is = h.joined_is; plugged_is = h.plugged_is })
-begins_counted (End c cause) s j d h = h
-begins_counted (Bound c port) s j d h = h
-begins_counted (Recv t bytes) s j d h = h
-begins_counted (Detach t cause) s j d h = h
-begins_counted (Put c bytes) s j d h = h
-begins_counted (Send t bytes) s j d h = h
+begins_counted _ s j d h = h
 
 step_counted : (e : Entry) (s : State) (j d : ℕ) → Counts j d s → Counts (came_with e j) (plugged_with e d) (step s e).state
 step_counted e s j d h =
@@ -166,12 +161,7 @@ begins_drawn (Attach t kind serial) s may h = record {
 }
 begins_drawn (Read c bytes) s may h =
     (h, λ client is asking. record { clients = change_drawn s.joined c _ s.clients h.clients; links = h.links; streams = h.streams })
-begins_drawn (End c cause) s may h = h
-begins_drawn (Bound c port) s may h = h
-begins_drawn (Recv t bytes) s may h = h
-begins_drawn (Detach t cause) s may h = h
-begins_drawn (Put c bytes) s may h = h
-begins_drawn (Send t bytes) s may h = h
+begins_drawn _ s may h = h
 
 pub step_drawn : (e : Entry) (s : State) → May s e → AllDrawn s → AllDrawn (step s e).state
 step_drawn e s may h = step_kept (plain_moves drawn_plain) e s [] (begins_drawn e s may h)

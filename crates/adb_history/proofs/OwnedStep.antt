@@ -8,7 +8,7 @@ use Rattle.adb_stream.specs.declared.row.Stream.{Stream}
 use Rattle.adb_client.specs.declared.phase.Phase.{Phase}
 use Rattle.adb_client.specs.declared.phase.Phase.TheVariants.{Asking, Opening, Streaming, Binding, Tracking, Closing, Gone}
 use Rattle.adb_capture.specs.declared.entry.Entry.{Entry}
-use Rattle.adb_capture.specs.declared.entry.Entry.TheVariants.{Join, Enter, Read, End, Bound, Attach, Recv, Detach, Put, Send}
+use Rattle.adb_capture.specs.declared.entry.Entry.TheVariants.{Join, Enter, Read, Attach}
 use Rattle.adb_reply.specs.Strings.{failed}
 use Rattle.adb_history.specs.Rows.{Client, State, start, new_client, to_client, to_stream, none_kept, with_due}
 use Rattle.adb_history.specs.Events.{Event, Ending, lost}
@@ -274,12 +274,7 @@ module _ (s : State) (h : IsOwned s) where
       owned = asked_owned (asks_with s.devices s.forwards bytes (asked_before client)) c client is asking;
     },
   )
-  begins_owned (End c cause) w may = h
-  begins_owned (Bound c port) w may = h
-  begins_owned (Recv t bytes) w may = h
-  begins_owned (Detach t cause) w may = h
-  begins_owned (Put c bytes) w may = h
-  begins_owned (Send t bytes) w may = h
+  begins_owned _ w may = h
 
 pub start_owned : IsOwned start
 start_owned = record {

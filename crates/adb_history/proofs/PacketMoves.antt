@@ -1,6 +1,6 @@
 -- What each move keeps, the packets of a device keep.
-use Rattle.std.proofs.Common.{◌≡◌, ◌≢◌, ℕ, Bool, true, false, cond, not, ◌||◌, List, [], ◌∷◌, ◌++◌, length, Option, Some, None, refl, ap, subst, ◌∙◌}
-use Rattle.std.proofs.Common.{arith, inl, inr, eqb}
+use Rattle.std.proofs.Common.{◌≡◌, ◌≢◌, ℕ, Bool, true, false, cond, not, ◌||◌, List, [], ◌∷◌, ◌++◌, length, Option, Some, None, refl, ap, subst, arith}
+use Rattle.std.proofs.Common.{inl, inr, eqb}
 use Rattle.std.specs.Prelude.{codes, is_some, nat_eq, nat_lt}
 use Rattle.std.proofs.lemmas.Bool.{eqb-true, eqb-false}
 use Rattle.adb_outside.specs.Tables.{at}
@@ -27,13 +27,14 @@ use Rattle.adb_history.specs.Clients.{owe_client}
 use Rattle.adb_history.specs.Streams.{ends_row, ends_telling}
 use Rattle.adb_history.specs.Flow.{with_flow}
 use Rattle.adb_history.specs.Losing.{link_ends}
-use Rattle.adb_history.specs.Packets.{least_version, least_maxdata, connects, cnxn, unauthorized_from, unauthorized, refuses_open, at_stream}
-use Rattle.adb_history.specs.Packets.{hears_okay, opened, orphan_opened, okay_open, okay_first, takes_okay}
-use Rattle.adb_history.specs.Packets.{accepts_none, accepts, takes_write, takes_close, treat_open, treat_any, treat_on, treat, treat_all, faulty_on}
-use Rattle.adb_history.specs.Packets.{faulty, with_rest, receives_cut, receives_on, receives}
-use Rattle.adb_history.specs.Moves.{After, Serves, IsLike, open_now}
+use Rattle.adb_history.specs.Packets.{least_version, least_maxdata, connects, cnxn, unauthorized_from, unauthorized, refuses_open, at_stream, hears_okay}
+use Rattle.adb_history.specs.Packets.{orphan_opened, okay_open, okay_first, takes_okay, accepts_none, accepts, takes_write, takes_close, treat_open}
+use Rattle.adb_history.specs.Packets.{treat_any, treat_on, treat, treat_all, faulty_on, faulty, with_rest, receives_cut, receives_on, receives}
+use Rattle.adb_history.specs.Moves.{After, Serves, IsLike}
 use Rattle.adb_history.proofs.Following.{after_quietly, after_then, after_if}
 use Rattle.adb_history.proofs.StreamMoves.{owes_kept, ends_telling_kept}
+use Rattle.adb_history.specs.Turns.{Scope, names_stream, Allows, everywhere, Serving}
+use Rattle.adb_history.proofs.AllMoves.{all_served}
 
 pub like_acknowledged : (word : Option ℕ) (flow : Flow) → IsLike flow (acknowledged word flow)
 like_acknowledged word (One window) = record { credit = refl; left = omega arith; sound = λ h. h }
@@ -57,17 +58,17 @@ hears_streams (Some client) c s = go client.about.forwarded
     go true = refl
     go false = refl
 
-module _ {P : State → List Event → Type 0} (k : Serves P) where
+module _ {scope : Scope} {asker : ℕ} {P : State → List Event → Type 0} (k : Serving scope asker P) where
   module _ (s : State) (w : List Event) (h : P s w) where
     -- ---- CNXN, AUTH and STLS
-    connects_kept : (t version maxdata : ℕ) (who : Option Identity) → After P w (connects t version maxdata who s)
-    connects_kept t version maxdata None = k.link_ends t broken s w h
-    connects_kept t version maxdata (Some identity) = k.online t version maxdata identity s w h
+    connects_kept : (t version maxdata : ℕ) (who : Option Identity) → scope.renews t × scope.cuts t → After P w (connects t version maxdata who s)
+    connects_kept t version maxdata None may = k.link_ends t broken s w (refl, may.1) h
+    connects_kept t version maxdata (Some identity) may = k.online t version maxdata identity s w may.0 h
 
-    cnxn_kept : (t version maxdata : ℕ) (banner : List ℕ) → After P w (cnxn t version maxdata banner s)
-    cnxn_kept t version maxdata banner =
+    cnxn_kept : (t version maxdata : ℕ) (banner : List ℕ) → scope.renews t × scope.cuts t → After P w (cnxn t version maxdata banner s)
+    cnxn_kept t version maxdata banner may =
         after_if P w (nat_lt version least_version || nat_lt maxdata least_maxdata) (link_ends t broken s) (connects t version maxdata (identity_of banner) s)
-        (λ e. k.link_ends t broken s w h) (λ e. connects_kept t version maxdata (identity_of banner))
+        (λ e. k.link_ends t broken s w (refl, may.1) h) (λ e. connects_kept t version maxdata (identity_of banner) may)
 
     unauthorized_kept : (t : ℕ) (o : Option Row) → at t s.devices.rows ≡ o → After P w (unauthorized t o s)
     unauthorized_kept t None is = after_quietly P w s h
@@ -90,44 +91,32 @@ module _ {P : State → List Event → Type 0} (k : Serves P) where
         after_if P w (nat_eq stream.link t) (rule stream s) (quietly s) (λ e. keeps stream is) (λ e. after_quietly P w s h)
 
     -- ---- OKAY
-    hears_kept : (o : Option Client) (c : ℕ) → After P w (hears_okay o c s)
-    hears_kept None c = after_quietly P w s h
-    hears_kept (Some client) c =
-        after_if P w client.about.forwarded (quietly s) (owe_client c (codes "OKAY") s) (λ e. after_quietly P w s h) (λ e. k.due c (codes "OKAY") s w h)
-
-    opened_kept : (l remote : ℕ) (word : Option ℕ) (stream : Stream) → s.streams l ≡ Some stream
-        → (stream.part.remote ≡ 0) × (stream.part.orphan ≡ false) × (remote ≢ 0) → After P w (opened l remote word stream s)
-    opened_kept l remote word stream is new =
-        let heard : Made = hears_okay (s.clients stream.client) stream.client s in
-        after_then P w heard (λ s. quietly (open_now l remote word stream s)) (hears_kept (s.clients stream.client) stream.client)
-        (λ v now. after_quietly P v (open_now l remote word stream heard.state)
-        (k.opens l remote word stream heard.state v (ap (λ streams. streams l) (hears_streams (s.clients stream.client) stream.client s) ∙ is) new now))
-
-    orphan_kept : (l remote : ℕ) (stream : Stream) → s.streams l ≡ Some stream → stream.part.orphan ≡ true → After P w (orphan_opened l remote stream s)
+    pub orphan_kept : (l remote : ℕ) (stream : Stream) → s.streams l ≡ Some stream → stream.part.orphan ≡ true → After P w (orphan_opened l remote stream s)
     orphan_kept l remote stream is orphan =
         let p : Packet = close_packet l remote in
         let owed : Made = owe_link stream.link p s in
         k.orphan_goes l stream owed.state (w ++ owed.told) is orphan (owes_kept k s w h stream.link p (inr (inl (ap is_some is))))
 
-    first_kept : (orphan : Bool) (l remote : ℕ) (word : Option ℕ) (stream : Stream) → s.streams l ≡ Some stream
+    first_kept : (orphan : Bool) (l remote : ℕ) (word : Option ℕ) (stream : Stream) → s.streams l ≡ Some stream → scope.reaches l
         → (stream.part.remote ≡ 0) × (stream.part.orphan ≡ orphan) × (remote ≢ 0) → After P w (okay_first orphan l remote word stream s)
-    first_kept true l remote word stream is new = orphan_kept l remote stream is new.1
-    first_kept false l remote word stream is new = opened_kept l remote word stream is new
+    first_kept true l remote word stream is may new = orphan_kept l remote stream is new.1
+    first_kept false l remote word stream is may new =
+        k.opened l remote word stream s w is (record { new = new.0; owned = new.1; by = new.2 }) may h
 
-    okay_open_kept : (l : ℕ) (word : Option ℕ) (stream : Stream) → s.streams l ≡ Some stream → After P w (okay_open l word stream s)
+    pub okay_open_kept : (l : ℕ) (word : Option ℕ) (stream : Stream) → s.streams l ≡ Some stream → After P w (okay_open l word stream s)
     okay_open_kept l word stream is =
         let flow : Flow = acknowledged word stream.part.flow in
         after_quietly P w (to_stream l (with_stream_part (with_flow flow stream.part)) s)
         (k.flows l stream flow s w is (like_acknowledged word stream.part.flow) h)
 
-    okay_kept : (l remote : ℕ) (word : Option ℕ) (stream : Stream) → s.streams l ≡ Some stream → After P w (takes_okay l remote word stream s)
-    okay_kept l remote word stream is =
+    okay_kept : (l remote : ℕ) (word : Option ℕ) (stream : Stream) → s.streams l ≡ Some stream → scope.reaches l → After P w (takes_okay l remote word stream s)
+    okay_kept l remote word stream is may =
         let first : Made = okay_first stream.part.orphan l remote word stream s in
         let open_again : Made = okay_open l word stream s in
         let later : Made = cond (eqb remote stream.part.remote) open_again (quietly s) in
         after_if P w (eqb remote 0) (quietly s) (cond (eqb stream.part.remote 0) first later) (λ e. after_quietly P w s h)
         (λ some. after_if P w (eqb stream.part.remote 0) first later
-        (λ e. first_kept stream.part.orphan l remote word stream is (eqb-true stream.part.remote 0 e, refl, eqb-false remote 0 some))
+        (λ e. first_kept stream.part.orphan l remote word stream is may (eqb-true stream.part.remote 0 e, refl, eqb-false remote 0 some))
         (λ e. after_if P w (eqb remote stream.part.remote) open_again (quietly s) (λ e. okay_open_kept l word stream is) (λ e. after_quietly P w s h)))
 
     -- ---- WRTE
@@ -146,68 +135,85 @@ module _ {P : State → List Event → Type 0} (k : Serves P) where
         let taken : Made = accepts l payload stream s in
         let out : Bool = is_out_of_turn stream.part.flow (length payload) in
         after_if P w (eqb remote 0 || not (eqb remote stream.part.remote)) (quietly s) (cond out late taken) (λ e. after_quietly P w s h)
-        (λ known. after_if P w out late taken (λ e. ends_telling_kept k s w h l out_of_turn stream is)
+        (λ known. after_if P w out late taken (λ e. ends_telling_kept k s w h l out_of_turn stream is (inr (inl (written_to remote stream.part.remote known))))
         (λ turn. accepts_kept l payload stream is (written_to remote stream.part.remote known) turn))
 
     -- ---- CLSE
-    close_kept : (l remote : ℕ) (stream : Stream) → s.streams l ≡ Some stream → After P w (takes_close l remote stream s)
-    close_kept l remote stream is =
-        after_if P w (eqb remote 0 || eqb remote stream.part.remote) (ends_row l peer_closed stream s) (quietly s) (λ e. k.ends l peer_closed stream s w is h)
+    close_kept : (l remote : ℕ) (stream : Stream) → s.streams l ≡ Some stream → scope.reaches l → After P w (takes_close l remote stream s)
+    close_kept l remote stream is may =
+        after_if P w (eqb remote 0 || eqb remote stream.part.remote) (ends_row l peer_closed stream s) (quietly s)
+        (λ e. k.ends l peer_closed stream s w is (inl (refl, may)) h)
         (λ e. after_quietly P w s h)
 
     -- ---- one packet
-    treat_open_kept : (t : ℕ) (command : Command) (p : Packet) → After P w (treat_open t command p s)
-    treat_open_kept t Open p = refuses_kept t p.arg0
-    treat_open_kept t Okay p =
+    treat_open_kept : (t : ℕ) (command : Command) (p : Packet) → (names_stream command ≡ true → scope.reaches p.arg1) → After P w (treat_open t command p s)
+    treat_open_kept t Open p may = refuses_kept t p.arg0
+    treat_open_kept t Okay p may =
         at_stream_kept t p.arg1 (s.streams p.arg1) (takes_okay p.arg1 p.arg0 (credit_word p.payload)) refl
-        (λ stream is. okay_kept p.arg1 p.arg0 (credit_word p.payload) stream is)
-    treat_open_kept t Wrte p =
+        (λ stream is. okay_kept p.arg1 p.arg0 (credit_word p.payload) stream is (may refl))
+    treat_open_kept t Wrte p may =
         at_stream_kept t p.arg1 (s.streams p.arg1) (takes_write p.arg1 p.arg0 p.payload) refl (λ stream is. write_kept p.arg1 p.arg0 p.payload stream is)
-    treat_open_kept t Clse p =
-        at_stream_kept t p.arg1 (s.streams p.arg1) (takes_close p.arg1 p.arg0) refl (λ stream is. close_kept p.arg1 p.arg0 stream is)
-    treat_open_kept t _ p = after_quietly P w s h
+    treat_open_kept t Clse p may =
+        at_stream_kept t p.arg1 (s.streams p.arg1) (takes_close p.arg1 p.arg0) refl (λ stream is. close_kept p.arg1 p.arg0 stream is (may refl))
+    treat_open_kept t _ p may = after_quietly P w s h
 
-    if_connected_kept : (t : ℕ) (command : Command) (p : Packet) → After P w (cond (is_connected t s.devices) (treat_open t command p s) (quietly s))
-    if_connected_kept t command p =
-        after_if P w (is_connected t s.devices) (treat_open t command p s) (quietly s) (λ e. treat_open_kept t command p) (λ e. after_quietly P w s h)
+    if_connected_kept : (t : ℕ) (command : Command) (p : Packet) → (names_stream command ≡ true → scope.reaches p.arg1)
+        → After P w (cond (is_connected t s.devices) (treat_open t command p s) (quietly s))
+    if_connected_kept t command p may =
+        after_if P w (is_connected t s.devices) (treat_open t command p s) (quietly s) (λ e. treat_open_kept t command p may) (λ e. after_quietly P w s h)
 
-    treat_any_kept : (t : ℕ) (command : Command) (p : Packet) → After P w (treat_any t command p s)
-    treat_any_kept t Cnxn p = cnxn_kept t p.arg0 p.arg1 p.payload
-    treat_any_kept t Auth p = unauthorized_kept t (at t s.devices.rows) refl
-    treat_any_kept t Stls p = unauthorized_kept t (at t s.devices.rows) refl
-    treat_any_kept t Open p = if_connected_kept t Open p
-    treat_any_kept t Okay p = if_connected_kept t Okay p
-    treat_any_kept t Wrte p = if_connected_kept t Wrte p
-    treat_any_kept t Clse p = if_connected_kept t Clse p
+    treat_any_kept : (t : ℕ) (command : Command) (p : Packet) → Allows scope t command p → After P w (treat_any t command p s)
+    treat_any_kept t Cnxn p may = cnxn_kept t p.arg0 p.arg1 p.payload (may.renews refl, may.cuts refl)
+    treat_any_kept t Auth p may = unauthorized_kept t (at t s.devices.rows) refl
+    treat_any_kept t Stls p may = unauthorized_kept t (at t s.devices.rows) refl
+    treat_any_kept t Open p may = if_connected_kept t Open p may.reaches
+    treat_any_kept t Okay p may = if_connected_kept t Okay p may.reaches
+    treat_any_kept t Wrte p may = if_connected_kept t Wrte p may.reaches
+    treat_any_kept t Clse p may = if_connected_kept t Clse p may.reaches
 
-    pub treat_on_kept : (o : Option Link) (t : ℕ) (p : Packet) → After P w (treat_on o t p s)
-    treat_on_kept None t p = after_quietly P w s h
-    treat_on_kept (Some link) t p = treat_any_kept t p.command p
+    pub treat_on_turns : (o : Option Link) (t : ℕ) (p : Packet) → Allows scope t p.command p → After P w (treat_on o t p s)
+    treat_on_turns None t p may = after_quietly P w s h
+    treat_on_turns (Some link) t p may = treat_any_kept t p.command p may
 
-  treat_all_kept : (s : State) (w : List Event) → P s w → (t : ℕ) (packets : List Packet) → After P w (treat_all t packets s)
-  treat_all_kept s w h t [] = after_quietly P w s h
-  treat_all_kept s w h t (p ∷ packets) =
-      after_then P w (treat t p s) (treat_all t packets) (treat_on_kept s w h (s.links t) t p) (λ v now. treat_all_kept (treat t p s).state v now t packets)
+  treat_all_kept : (s : State) (w : List Event) → P s w → (t : ℕ) (packets : List Packet) → ((p : Packet) → Allows scope t p.command p)
+      → After P w (treat_all t packets s)
+  treat_all_kept s w h t [] may = after_quietly P w s h
+  treat_all_kept s w h t (p ∷ packets) may =
+      after_then P w (treat t p s) (treat_all t packets) (treat_on_turns s w h (s.links t) t p (may p))
+      (λ v now. treat_all_kept (treat t p s).state v now t packets may)
 
   module _ (s : State) (w : List Event) (h : P s w) where
     -- ---- receive
-    faulty_kept : (o : Option Link) (t : ℕ) (fault : Option PacketFault) → After P w (faulty_on o t fault s)
-    faulty_kept None t fault = after_quietly P w s h
-    faulty_kept (Some link) t None = after_quietly P w s h
-    faulty_kept (Some link) t (Some fault) = k.link_ends t broken s w h
+    pub faulty_kept : (o : Option Link) (t : ℕ) (fault : Option PacketFault) → scope.cuts t → After P w (faulty_on o t fault s)
+    faulty_kept None t fault may = after_quietly P w s h
+    faulty_kept (Some link) t None may = after_quietly P w s h
+    faulty_kept (Some link) t (Some fault) may = k.link_ends t broken s w (refl, may) h
 
   module _ (s : State) (w : List Event) (h : P s w) where
-    receives_cut_kept : (t : ℕ) (c : Cut PacketFormat Packet PacketFault) → After P w (receives_cut t c s)
-    receives_cut_kept t c =
+    receives_cut_kept : (t : ℕ) (c : Cut PacketFormat Packet PacketFault) → ((p : Packet) → Allows scope t p.command p) × scope.cuts t
+        → After P w (receives_cut t c s)
+    receives_cut_kept t c may =
         let taken : State = to_link t (with_rest c.rest) s in
         after_then P w (treat_all t c.given taken) (faulty t c.fault)
-        (treat_all_kept taken w (k.links t (λ link. record link { rest = c.rest }) s w h) t c.given)
-        (λ v now. faulty_kept (treat_all t c.given taken).state v now ((treat_all t c.given taken).state.links t) t c.fault)
+        (treat_all_kept taken w (k.links t (λ link. record link { rest = c.rest }) s w h) t c.given may.0)
+        (λ v now. faulty_kept (treat_all t c.given taken).state v now ((treat_all t c.given taken).state.links t) t c.fault may.1)
 
-    receives_on_kept : (o : Option Link) (t : ℕ) (bytes : List ℕ) → After P w (receives_on o t bytes s)
-    receives_on_kept None t bytes = after_quietly P w s h
-    receives_on_kept (Some link) t bytes =
-        receives_cut_kept t (cut_packets (record { sums = link.sums }) (link.rest ++ bytes))
+    receives_on_kept : (o : Option Link) (t : ℕ) (bytes : List ℕ) → ((p : Packet) → Allows scope t p.command p) × scope.cuts t
+        → After P w (receives_on o t bytes s)
+    receives_on_kept None t bytes may = after_quietly P w s h
+    receives_on_kept (Some link) t bytes may =
+        receives_cut_kept t (cut_packets (record { sums = link.sums }) (link.rest ++ bytes)) may
 
-    pub receives_kept : (t : ℕ) (bytes : List ℕ) → After P w (receives t bytes s)
-    receives_kept t bytes = receives_on_kept (s.links t) t bytes
+    pub receives_turns : (t : ℕ) (bytes : List ℕ) → ((p : Packet) → Allows scope t p.command p) × scope.cuts t → After P w (receives t bytes s)
+    receives_turns t bytes may = receives_on_kept (s.links t) t bytes may
+
+-- ---- whatever a packet touches
+pub allows_all : (t : ℕ) (p : Packet) → Allows everywhere t p.command p
+allows_all t p = record { reaches = λ e. tt; renews = λ e. tt; cuts = λ e. tt }
+
+module _ {P : State → List Event → Type 0} (k : Serves P) (s : State) (w : List Event) (h : P s w) where
+  pub treat_on_kept : (o : Option Link) (t : ℕ) (p : Packet) → After P w (treat_on o t p s)
+  treat_on_kept o t p = treat_on_turns (all_served k everywhere 0) s w h o t p (allows_all t p)
+
+  pub receives_kept : (t : ℕ) (bytes : List ℕ) → After P w (receives t bytes s)
+  receives_kept t bytes = receives_turns (all_served k everywhere 0) s w h t bytes (allows_all t, tt)

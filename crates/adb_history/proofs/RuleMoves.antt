@@ -1,6 +1,6 @@
--- What each move keeps, handing out keeps, and the rule of each entry with which nobody comes.
-use Rattle.std.proofs.Common.{◌≡◌, ℕ, ◌+◌, ◌-◌, ◌≤◌, ◌<◌, zero, suc, Bool, true, false, cond, ◌||◌, List, [], ◌∷◌, length, drop, min, Option, Some}
-use Rattle.std.proofs.Common.{None, refl, sym, ap, subst, ◌∙◌, arith, inl, inr, eqb}
+-- What each move keeps, handing out keeps, and the rule of each entry, where one client alone is answered, or whatever it touches.
+use Rattle.std.proofs.Common.{◌≡◌, ℕ, ◌+◌, ◌-◌, ◌≤◌, ◌<◌, zero, suc, Bool, true, false, cond, ◌||◌, List, [], ◌∷◌, length, drop, min, Option, Some, None, refl}
+use Rattle.std.proofs.Common.{sym, ap, subst, ◌∙◌, arith, inl, inr, eqb}
 use Rattle.std.specs.Prelude.{is_some, nat_eq, nat_le}
 use Rattle.std.proofs.lemmas.Bool.{eqb-true, eq-eqb}
 use Rattle.std.proofs.lemmas.Bool.Decides.{nat_tests}
@@ -22,16 +22,19 @@ use Rattle.adb_history.specs.Links.{okay_packet, credit_packet, server_cnxn, is_
 use Rattle.adb_history.specs.Streams.{opens}
 use Rattle.adb_history.specs.Flow.{with_flow}
 use Rattle.adb_history.specs.Tracking.{offered}
-use Rattle.adb_history.specs.Handing.{unmarked, lists_first, hands, tells_credit, tells_handed, stream_left}
-use Rattle.adb_history.specs.Handing.{client_left, takes_of, puts_to, sends}
+use Rattle.adb_history.specs.Handing.{unmarked, lists_first, hands, tells_credit, tells_handed, stream_left, client_left, takes_of, puts_to, sends}
 use Rattle.adb_history.specs.Asking.{asks_with}
 use Rattle.adb_history.specs.Reading.{asked_before, has_asked, reads_from, comes, comes_in_vain, enters_by}
 use Rattle.adb_history.specs.Machine.{unplugs_on, rule, ups, step}
-use Rattle.adb_history.specs.Moves.{IsClientIn, After, Moves, Serves, serves, IsLike, plugged_in}
+use Rattle.adb_history.specs.Moves.{IsClientIn, After, Moves, Serves, IsLike, plugged_in}
 use Rattle.adb_history.proofs.Following.{after_quietly, after_then, after_if, changed_here}
-use Rattle.adb_history.proofs.StreamMoves.{owes_kept, service_kept, up_all_kept}
-use Rattle.adb_history.proofs.PacketMoves.{receives_kept}
+use Rattle.adb_history.proofs.StreamMoves.{owes_kept, service_kept, up_all_turns}
+use Rattle.adb_history.proofs.PacketMoves.{receives_turns, allows_all}
 use Rattle.adb_history.proofs.ReadMoves.{reads_in_kept, bound_kept, client_ends_kept}
+use Rattle.adb_wire.specs.declared.packets.Packet.{Packet}
+use Rattle.adb_history.specs.Bytes.{is_orderly}
+use Rattle.adb_history.specs.Turns.{Scope, Allows, Turns, everywhere, Serving, serving}
+use Rattle.adb_history.proofs.AllMoves.{all_served, all_moves}
 
 -- ---- a flow after so many bytes are left to be handed out
 pub back_within : (left g : ℕ) → given_back left g ≤ g
@@ -74,12 +77,12 @@ left_now left (Credit credit) = refl
 pub same_stream : (phase : Phase) (l m : ℕ) → phase ≡ Streaming l → phase ≡ Streaming m → l ≡ m
 same_stream phase l m e f = let g : Streaming l ≡ Streaming m = sym e ∙ f in cc
 
-module _ {P : State → List Event → Type 0} (k : Serves P) where
+module _ {scope : Scope} {asker : ℕ} {P : State → List Event → Type 0} (k : Serving scope asker P) where
   module _ (s : State) (w : List Event) (h : P s w) where
     -- ---- put
-    lists_first_kept : (c : ℕ) (due : List ℕ) (client : Client) → After P w (lists_first c due client s)
-    lists_first_kept c [] client = k.due c (offered s.devices client) (to_client c unmarked s) w (k.unmarks c s w h)
-    lists_first_kept c (b ∷ due) client = after_quietly P w s h
+    lists_first_kept : (due : List ℕ) (client : Client) → After P w (lists_first asker due client s)
+    lists_first_kept [] client = k.replies (offered s.devices client) (to_client asker unmarked s) w (k.unmarks s w h)
+    lists_first_kept (b ∷ due) client = after_quietly P w s h
 
     tells_credit_kept : (back l : ℕ) (stream : Stream) → is_some (s.streams l) ≡ true → After P w (tells_credit back l stream s)
     tells_credit_kept zero l stream alive = after_quietly P w s h
@@ -168,64 +171,118 @@ module _ {P : State → List Event → Type 0} (k : Serves P) where
     client_left_kept Gone c n x =
         hands_kept s w h c n x.client x.here (λ l y e f. absurd (let g : Gone ≡ Streaming l = sym x.in_phase ∙ e in cc))
 
-    takes_kept : (c n : ℕ) (o : Option Client) → s.clients c ≡ o → After P w (takes_of c n o s)
-    takes_kept c n None is = after_quietly P w s h
-    takes_kept c n (Some client) is = client_left_kept client.about.phase c n (record { client = client; here = is; in_phase = refl })
+    pub takes_turns : (c n : ℕ) (o : Option Client) → s.clients c ≡ o → After P w (takes_of c n o s)
+    takes_turns c n None is = after_quietly P w s h
+    takes_turns c n (Some client) is = client_left_kept client.about.phase c n (record { client = client; here = is; in_phase = refl })
 
   module _ (s : State) (w : List Event) (h : P s w) where
-    pub puts_kept : (o : Option Client) (c n : ℕ) → After P w (puts_to o c n s)
-    puts_kept None c n = after_quietly P w s h
-    puts_kept (Some client) c n =
-        let listed : Made = lists_first c client.due client s in
-        after_then P w listed (λ s. takes_of c n (s.clients c) s) (lists_first_kept s w h c client.due client)
-        (λ v now. takes_kept listed.state v now c n (listed.state.clients c) refl)
+    pub puts_turns : (o : Option Client) (n : ℕ) → After P w (puts_to o asker n s)
+    puts_turns None n = after_quietly P w s h
+    puts_turns (Some client) n =
+        let listed : Made = lists_first asker client.due client s in
+        after_then P w listed (λ s. takes_of asker n (s.clients asker) s) (lists_first_kept s w h client.due client)
+        (λ v now. takes_turns listed.state v now asker n (listed.state.clients asker) refl)
 
     -- ---- entries
-    pub unplugs_kept : (o : Option Link) (t : ℕ) → After P w (unplugs_on o t s)
-    unplugs_kept None t = after_quietly P w s h
-    unplugs_kept (Some link) t = k.link_ends t lost s w h
+    pub unplugs_turns : (o : Option Link) (t : ℕ) → scope.cuts t → After P w (unplugs_on o t s)
+    unplugs_turns None t may = after_quietly P w s h
+    unplugs_turns (Some link) t may = k.link_ends t lost s w (refl, may) h
 
-module _ {P : State → List Event → Type 0} (k : Moves P) where
+-- What is to be shown before the rule of an entry: that it holds with who comes; of a client that asks, that it holds with what is read.
+abbrev pub BeginsWith : (State → List Event → Type 0) → Entry → State → List Event → Type 0
+BeginsWith P (Join c) s w = P (comes false c s) w
+BeginsWith P (Enter c port) s w = P (comes true c s) w × P (comes_in_vain s) w
+BeginsWith P (Attach t kind serial) s w = P (plugged_in t kind serial s) w
+BeginsWith P (Read c bytes) s w = P s w × ((client : Client) → s.clients c ≡ Some client → client.about.phase ≡ Asking
+    → P (to_client c (has_asked (asks_with s.devices s.forwards bytes (asked_before client))) s) w)
+BeginsWith P _ s w = P s w
+
+module _ {scope : Scope} {asker : ℕ} {P : State → List Event → Type 0} (k : Turns scope asker P) where
   module _ (s : State) (w : List Event) (h : P s w) where
-    reads_kept : (o : Option Client) (c : ℕ)
-        (bytes : List ℕ) → s.clients c ≡ o → ((client : Client) → s.clients c ≡ Some client → client.about.phase ≡ Asking → P
-        (to_client c (has_asked (asks_with s.devices s.forwards bytes (asked_before client))) s) w) → After P w (reads_from o c bytes s)
-    reads_kept None c bytes is asked = after_quietly P w s h
-    reads_kept (Some client) c bytes is asked =
-        reads_in_kept k s w h client.about.phase c bytes (record { client = client; here = is; in_phase = refl }) (asked client is)
+    reads_kept : (o : Option Client) (bytes : List ℕ) → scope.stops → s.clients asker ≡ o
+        → ((client : Client) → s.clients asker ≡ Some client → client.about.phase ≡ Asking
+        → P (to_client asker (has_asked (asks_with s.devices s.forwards bytes (asked_before client))) s) w)
+        → After P w (reads_from o asker bytes s)
+    reads_kept None bytes may is asked = after_quietly P w s h
+    reads_kept (Some client) bytes may is asked =
+        reads_in_kept k s w h client.about.phase bytes (record { client = client; here = is; in_phase = refl }) may (asked client is)
 
   -- ---- who comes
-  enters_kept : (o : Option ForwardRow) (c : ℕ) (s : State) (w : List Event) → P (comes true c s) w → P (comes_in_vain s) w → After P w (enters_by c o s)
-  enters_kept None c s w here vain = after_quietly P w (comes_in_vain s) vain
-  enters_kept (Some row) c s w here vain =
-      let now : State = comes true c s in
-      let is : now.clients c ≡ Some (new_client true c) = rw (eq-eqb c c refl) refl in
-      after_if P w (is_connected row.transport s.devices) (opens true c row.transport row.remote now) (quietly (comes_in_vain s))
-      (λ e. service_kept k now w here true c row.transport row.remote
-      (record { client = new_client true c; here = is; in_phase = refl }) (inl e)) (λ e. after_quietly P w (comes_in_vain s) vain)
+  enters_kept : (o : Option ForwardRow) (s : State) (w : List Event) → P (comes true asker s) w → P (comes_in_vain s) w
+      → After P w (enters_by asker o s)
+  enters_kept None s w here vain = after_quietly P w (comes_in_vain s) vain
+  enters_kept (Some row) s w here vain =
+      let now : State = comes true asker s in
+      let is : now.clients asker ≡ Some (new_client true asker) = rw (eq-eqb asker asker refl) refl in
+      after_if P w (is_connected row.transport s.devices) (opens true asker row.transport row.remote now) (quietly (comes_in_vain s))
+      (λ e. service_kept k now w here true row.transport row.remote
+      (record { client = new_client true asker; here = is; in_phase = refl }) (inl e)) (λ e. after_quietly P w (comes_in_vain s) vain)
 
-  -- What is to be shown before the rule of an entry: that it holds with who comes; of a client that asks, that it holds with what is read.
-  abbrev pub Begins : Entry → State → List Event → Type 0
-  Begins (Join c) s w = P (comes false c s) w
-  Begins (Enter c port) s w = P (comes true c s) w × P (comes_in_vain s) w
-  Begins (Attach t kind serial) s w = P (plugged_in t kind serial s) w
-  Begins (Read c bytes) s w = P s w × ((client : Client) → s.clients c ≡ Some client → client.about.phase ≡ Asking
-      → P (to_client c (has_asked (asks_with s.devices s.forwards bytes (asked_before client))) s) w)
-  Begins _ s w = P s w
+  -- the rule of an entry is one of the asker, or of no client that is answered at once
+  abbrev pub IsBy : Entry → Type 0
+  IsBy (Enter c port) = c ≡ asker
+  IsBy (Read c bytes) = (c ≡ asker) × scope.stops
+  IsBy (Bound c port) = c ≡ asker
+  IsBy (Put c bytes) = c ≡ asker
+  IsBy (End c cause) = is_orderly cause ≡ false → scope.fails c
+  IsBy (Recv t bytes) = ((p : Packet) → Allows scope t p.command p) × scope.cuts t
+  IsBy (Detach t cause) = scope.cuts t
+  IsBy _ = Unit {0}
 
-  pub rule_kept : (e : Entry) (s : State) (w : List Event) → Begins e s w → After P w (rule e s)
-  rule_kept (Join c) s w h = after_quietly P w (comes false c s) h
-  rule_kept (Enter c port) s w h = enters_kept (at port s.forwards) c s w h.0 h.1
-  rule_kept (Attach t kind serial) s w h = owes_kept (serves k) (plugged_in t kind serial s) w h t server_cnxn (inr (inr refl))
-  rule_kept (Read c bytes) s w h = reads_kept s w h.0 (s.clients c) c bytes refl h.1
-  rule_kept (End c cause) s w h = client_ends_kept k s w h c cause (s.clients c) refl
-  rule_kept (Bound c port) s w h = bound_kept k s w h (s.clients c) c port refl
-  rule_kept (Recv t bytes) s w h = receives_kept (serves k) s w h t bytes
-  rule_kept (Detach t cause) s w h = unplugs_kept (serves k) s w h (s.links t) t
-  rule_kept (Put c bytes) s w h = puts_kept (serves k) s w h (s.clients c) c (length bytes)
-  rule_kept (Send t bytes) s w h =
+  pub rule_turns : (e : Entry) (s : State) (w : List Event) → IsBy e → BeginsWith P e s w → After P w (rule e s)
+  rule_turns (Join c) s w by h = after_quietly P w (comes false c s) h
+  rule_turns (Enter c port) s w by h =
+      subst (λ (n : ℕ). BeginsWith P (Enter n port) s w → After P w (rule (Enter n port) s)) (sym by)
+      (λ h. enters_kept (at port s.forwards) s w h.0 h.1) h
+  rule_turns (Attach t kind serial) s w by h = owes_kept (serving k) (plugged_in t kind serial s) w h t server_cnxn (inr (inr refl))
+  rule_turns (Read c bytes) s w by h =
+      subst (λ (n : ℕ). BeginsWith P (Read n bytes) s w → After P w (rule (Read n bytes) s)) (sym by.0)
+      (λ h. reads_kept s w h.0 (s.clients asker) bytes by.1 refl h.1) h
+  rule_turns (End c cause) s w by h = client_ends_kept k s w h c cause (s.clients c) by refl
+  rule_turns (Bound c port) s w by h =
+      subst (λ (n : ℕ). After P w (rule (Bound n port) s)) (sym by) (bound_kept k s w h (s.clients asker) port refl)
+  rule_turns (Recv t bytes) s w by h = receives_turns (serving k) s w h t bytes by
+  rule_turns (Detach t cause) s w by h = unplugs_turns (serving k) s w h (s.links t) t by
+  rule_turns (Put c bytes) s w by h =
+      subst (λ (n : ℕ). After P w (rule (Put n bytes) s)) (sym by) (puts_turns (serving k) s w h (s.clients asker) (length bytes))
+  rule_turns (Send t bytes) s w by h =
       after_quietly P w (sends t (length bytes) s) (k.links t (λ link. record link { due = drop (length bytes) link.due }) s w h)
 
+  pub step_turns : (e : Entry) (s : State) (w : List Event) → IsBy e → BeginsWith P e s w → After P w (step s e)
+  step_turns e s w by h =
+      after_then P w (rule e s) ups (rule_turns e s w by h) (λ v now. up_all_turns (serving k) (rule e s).state v now (rule e s).state.drawn)
+
+-- ---- whatever they touch
+module _ {P : State → List Event → Type 0} (k : Serves P) (s : State) (w : List Event) (h : P s w) where
+  pub puts_kept : (o : Option Client) (c n : ℕ) → After P w (puts_to o c n s)
+  puts_kept o c n = puts_turns (all_served k everywhere c) s w h o n
+
+  pub unplugs_kept : (o : Option Link) (t : ℕ) → After P w (unplugs_on o t s)
+  unplugs_kept o t = unplugs_turns (all_served k everywhere 0) s w h o t tt
+
+module _ {P : State → List Event → Type 0} (k : Moves P) where
+  abbrev pub Begins : Entry → State → List Event → Type 0
+  Begins e s w = BeginsWith P e s w
+
+  -- who is answered by the rule of an entry
+  abbrev asker_of : Entry → ℕ
+  asker_of (Enter c port) = c
+  asker_of (Read c bytes) = c
+  asker_of (Bound c port) = c
+  asker_of (Put c bytes) = c
+  asker_of _ = 0
+
+  is_by : (e : Entry) → IsBy (all_moves k everywhere (asker_of e)) e
+  is_by (Enter c port) = refl
+  is_by (Read c bytes) = (refl, tt)
+  is_by (Bound c port) = refl
+  is_by (Put c bytes) = refl
+  is_by (End c cause) = λ e. tt
+  is_by (Recv t bytes) = (allows_all t, tt)
+  is_by _ = tt
+
+  pub rule_kept : (e : Entry) (s : State) (w : List Event) → Begins e s w → After P w (rule e s)
+  rule_kept e s w h = rule_turns (all_moves k everywhere (asker_of e)) e s w (is_by e) h
+
   pub step_kept : (e : Entry) (s : State) (w : List Event) → Begins e s w → After P w (step s e)
-  step_kept e s w h =
-      after_then P w (rule e s) ups (rule_kept e s w h) (λ v now. up_all_kept (serves k) (rule e s).state v now (rule e s).state.drawn)
+  step_kept e s w h = step_turns (all_moves k everywhere (asker_of e)) e s w (is_by e) h

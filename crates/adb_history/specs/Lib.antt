@@ -35,3 +35,4 @@ pub mod Broken
 pub mod Settling
 pub mod Pieces
 pub mod Held
+pub mod Turns

@@ -22,9 +22,9 @@ use Rattle.adb_history.specs.Moves.{After, HasOne, plugged_in}
 use Rattle.adb_history.specs.Owned.{IsOwned}
 use Rattle.adb_history.proofs.Following.{after_quietly, after_then}
 use Rattle.adb_history.proofs.OwnedStep.{begins_owned}
-use Rattle.adb_laws_answered.specs.Turns.{Scope, Allows, everywhere, Turns}
-use Rattle.adb_laws_answered.proofs.TurnStreams.{up_all_kept}
-use Rattle.adb_laws_answered.proofs.TurnRules.{rule_kept, takes_kept}
+use Rattle.adb_history.specs.Turns.{Scope, Allows, everywhere, Turns, serving}
+use Rattle.adb_history.proofs.StreamMoves.{up_all_turns}
+use Rattle.adb_history.proofs.RuleMoves.{rule_turns, takes_turns}
 
 -- a client that asks no more: it has a stream, or is closing
 abbrev pub IsBusy : Phase → Type 0
@@ -81,22 +81,22 @@ module _ {scope : Scope} {c t : ℕ} {P : State → List Event → Type 0} (k : 
 
     join_kept : (n : ℕ) → n ≢ c → May s (Join n) → After P w (rule (Join n) s)
     join_kept n apart may =
-        rule_kept (k.turns (c + 1) other) (Join n) s w tt
+        rule_turns (k.turns (c + 1) other) (Join n) s w tt
         (k.stays s (comes false n s) w (begins_owned s (k.owned s w h) (Join n) w may) (came_same false n apart) refl refl refl h)
 
     enter_kept : (n port : ℕ) → n ≢ c → May s (Enter n port) → After P w (rule (Enter n port) s)
     enter_kept n port apart may =
         let owned = begins_owned s (k.owned s w h) (Enter n port) w may in
-        rule_kept (k.turns n apart) (Enter n port) s w refl
+        rule_turns (k.turns n apart) (Enter n port) s w refl
         (k.stays s (comes true n s) w owned.0 (came_same true n apart) refl refl refl h, k.stays s _ w owned.1 refl refl refl refl h)
 
     attach_kept : (n : ℕ) (kind : Kind) (serial : List ℕ) → n ≢ t → May s (Attach n kind serial) → After P w (rule (Attach n kind serial) s)
-    attach_kept n kind serial apart may = rule_kept (k.turns (c + 1) other) (Attach n kind serial) s w tt
+    attach_kept n kind serial apart may = rule_turns (k.turns (c + 1) other) (Attach n kind serial) s w tt
         (k.marks s (plugged_in n kind serial s) w (begins_owned s (k.owned s w h) (Attach n kind serial) w may) refl refl refl
         (ap (λ (b : Bool). cond b (Some new_link) (s.links t)) (ne_eqb n t apart)) h)
 
     read_kept : (n : ℕ) (bytes : List ℕ) → n ≢ c → scope.stops → May s (Read n bytes) → After P w (rule (Read n bytes) s)
-    read_kept n bytes apart stops may = rule_kept (k.turns n apart) (Read n bytes) s w (refl, stops) (
+    read_kept n bytes apart stops may = rule_turns (k.turns n apart) (Read n bytes) s w (refl, stops) (
       h,
       λ client is asking.
           k.stays s (to_client n (has_asked (asks_with s.devices s.forwards bytes (asked_before client))) s) w
@@ -159,7 +159,7 @@ module _ {scope : Scope} {c t : ℕ} {P : State → List Event → Type 0} (k : 
     own_put bytes (Some client) is may =
         let m : Made = lists_first c client.due client s in
         after_then P w m (λ x. takes_of c (length bytes) (x.clients c) x) (own_lists bytes client is may client.due refl)
-        (λ v now. takes_kept own_turns m.state v now c (length bytes) (m.state.clients c) refl)
+        (λ v now. takes_turns (serving own_turns) m.state v now c (length bytes) (m.state.clients c) refl)
 
     -- ---- all entries
     read_either : (n : ℕ) (bytes : List ℕ) → scope.stops → May s (Read n bytes) → (here : Bool) → eqb n c ≡ here → After P w (rule (Read n bytes) s)
@@ -168,12 +168,12 @@ module _ {scope : Scope} {c t : ℕ} {P : State → List Event → Type 0} (k : 
         subst (λ (m : ℕ). After P w (rule (Read m bytes) s)) (sym (eqb-true n c e)) (own_read bytes (s.clients c) refl)
 
     bound_either : (n port : ℕ) → (here : Bool) → eqb n c ≡ here → After P w (rule (Bound n port) s)
-    bound_either n port false e = rule_kept (k.turns n (eqb-false n c e)) (Bound n port) s w refl h
+    bound_either n port false e = rule_turns (k.turns n (eqb-false n c e)) (Bound n port) s w refl h
     bound_either n port true e =
         subst (λ (m : ℕ). After P w (rule (Bound m port) s)) (sym (eqb-true n c e)) (own_bound port (s.clients c) refl)
 
     put_either : (n : ℕ) (bytes : List ℕ) → May s (Put n bytes) → (here : Bool) → eqb n c ≡ here → After P w (rule (Put n bytes) s)
-    put_either n bytes may false e = rule_kept (k.turns n (eqb-false n c e)) (Put n bytes) s w refl h
+    put_either n bytes may false e = rule_turns (k.turns n (eqb-false n c e)) (Put n bytes) s w refl h
     put_either n bytes may true e =
         subst (λ (m : ℕ). After P w (rule (Put m bytes) s)) (sym (eqb-true n c e))
         (own_put bytes (s.clients c) refl (subst (λ (m : ℕ). MayPut s (s.clients m) bytes) (eqb-true n c e) may))
@@ -185,17 +185,17 @@ module _ {scope : Scope} {c t : ℕ} {P : State → List Event → Type 0} (k : 
     client_rule (Bound n port) another covers may = bound_either n port (eqb n c) refl
     client_rule (Put n bytes) another covers may = put_either n bytes may (eqb n c) refl
     client_rule (Attach n kind serial) another covers may = attach_kept n kind serial another may
-    client_rule (End n cause) another covers may = rule_kept own_turns (End n cause) s w covers h
-    client_rule (Recv n bytes) another covers may = rule_kept own_turns (Recv n bytes) s w covers h
-    client_rule (Detach n cause) another covers may = rule_kept own_turns (Detach n cause) s w covers h
-    client_rule (Send n bytes) another covers may = rule_kept own_turns (Send n bytes) s w tt h
+    client_rule (End n cause) another covers may = rule_turns own_turns (End n cause) s w covers h
+    client_rule (Recv n bytes) another covers may = rule_turns own_turns (Recv n bytes) s w covers h
+    client_rule (Detach n cause) another covers may = rule_turns own_turns (Detach n cause) s w covers h
+    client_rule (Send n bytes) another covers may = rule_turns own_turns (Send n bytes) s w tt h
 
   -- What holds of a client that asks no more, each entry keeps.
   pub client_kept : (s : State) (w : List Event) (e : Entry) → IsAnother c t e → Covers scope e → May s e → P s w → After P w (step s e)
   client_kept s w e another covers may h =
       after_then P w (rule e s) ups (client_rule s w h e another covers may)
-      (λ v now. up_all_kept (k.turns (c + 1) other) (rule e s).state v now (rule e s).state.drawn)
+      (λ v now. up_all_turns (serving (k.turns (c + 1) other)) (rule e s).state v now (rule e s).state.drawn)
 
   -- and the up rule
   pub client_ups : (s : State) (w : List Event) → P s w → After P w (ups s)
-  client_ups s w h = up_all_kept (k.turns (c + 1) other) s w h s.drawn
+  client_ups s w h = up_all_turns (serving (k.turns (c + 1) other)) s w h s.drawn

@@ -31,9 +31,9 @@ use Rattle.adb_history.proofs.StreamMoves.{all_end_kept}
 use Rattle.adb_history.proofs.Numbers.{counted}
 use Rattle.adb_history.proofs.OwnedStep.{owned_moves, begins_owned, start_owned, ends_state, client_loses_frame}
 use Rattle.adb_history.proofs.BookTurns.{all_unheard}
-use Rattle.adb_laws_answered.specs.Turns.{everywhere, IsOpenedBy, Turns}
+use Rattle.adb_history.specs.Turns.{everywhere, IsOpenedBy, Turns}
 use Rattle.adb_laws_answered.specs.Served.{IsFresh}
-use Rattle.adb_laws_answered.proofs.TurnRules.{step_kept}
+use Rattle.adb_history.proofs.RuleMoves.{step_turns}
 use Rattle.adb_laws_answered.proofs.ToldOthers.{quiet_after, owned_opened, forgets_owned}
 use Rattle.adb_laws_answered.proofs.SteadyRows.{IsSteady, at_change, at_like, at_none, at_closing, at_due, at_hands, at_marked, at_client_loses}
 use Rattle.adb_laws_answered.proofs.Endings.{ending_append, none_first, client_loses_ending, hears_ending}
@@ -321,23 +321,23 @@ module _ (older : History) (legal : IsLegal older) (h : IsFresh (λ n. has_joine
   }
 
   fresh_step : (e : Entry) → May s e → IsFresh (λ k. has_joined k (e ∷ older)) (state (e ∷ older)) (told (e ∷ older))
-  fresh_step (Join n) may = step_kept (fresh_turns (λ k. has_joined k (Join n ∷ older)) 0) (Join n) s w tt (fresh_join n may)
-  fresh_step (Enter n port) may = step_kept (fresh_turns (λ k. has_joined k older) n) (Enter n port) s w refl
+  fresh_step (Join n) may = step_turns (fresh_turns (λ k. has_joined k (Join n ∷ older)) 0) (Join n) s w tt (fresh_join n may)
+  fresh_step (Enter n port) may = step_turns (fresh_turns (λ k. has_joined k older) n) (Enter n port) s w refl
       (fresh_enter n port may, record { owned = (begins_owned s h.owned (Enter n port) w may).1; alone = h.alone; unended = h.unended })
-  fresh_step (Read n bytes) may = step_kept (fresh_turns (λ k. has_joined k older) n) (Read n bytes) s w (refl, tt)
+  fresh_step (Read n bytes) may = step_turns (fresh_turns (λ k. has_joined k older) n) (Read n bytes) s w (refl, tt)
       (h, λ client is asking. read_alone n bytes client may is asking)
-  fresh_step (Bound n port) may = step_kept (fresh_turns (λ k. has_joined k older) n) (Bound n port) s w refl h
-  fresh_step (Put n bytes) may = step_kept (fresh_turns (λ k. has_joined k older) n) (Put n bytes) s w refl h
-  fresh_step (End n cause) may = step_kept (fresh_turns (λ k. has_joined k older) 0) (End n cause) s w (λ e. tt) h
-  fresh_step (Attach t kind serial) may = step_kept (fresh_turns (λ k. has_joined k older) 0) (Attach t kind serial) s w tt (record {
+  fresh_step (Bound n port) may = step_turns (fresh_turns (λ k. has_joined k older) n) (Bound n port) s w refl h
+  fresh_step (Put n bytes) may = step_turns (fresh_turns (λ k. has_joined k older) n) (Put n bytes) s w refl h
+  fresh_step (End n cause) may = step_turns (fresh_turns (λ k. has_joined k older) 0) (End n cause) s w (λ e. tt) h
+  fresh_step (Attach t kind serial) may = step_turns (fresh_turns (λ k. has_joined k older) 0) (Attach t kind serial) s w tt (record {
     owned = begins_owned s h.owned (Attach t kind serial) w may;
     alone = λ k. at_marked (steady (has_joined k older)) k s.clients (h.alone k);
     unended = h.unended;
   })
-  fresh_step (Recv t bytes) may = step_kept (fresh_turns (λ k. has_joined k older) 0) (Recv t bytes) s w
+  fresh_step (Recv t bytes) may = step_turns (fresh_turns (λ k. has_joined k older) 0) (Recv t bytes) s w
       ((λ p. record { reaches = λ e. tt; renews = λ e. tt; cuts = λ e. tt }), tt) h
-  fresh_step (Detach t cause) may = step_kept (fresh_turns (λ k. has_joined k older) 0) (Detach t cause) s w tt h
-  fresh_step (Send t bytes) may = step_kept (fresh_turns (λ k. has_joined k older) 0) (Send t bytes) s w tt h
+  fresh_step (Detach t cause) may = step_turns (fresh_turns (λ k. has_joined k older) 0) (Detach t cause) s w tt h
+  fresh_step (Send t bytes) may = step_turns (fresh_turns (λ k. has_joined k older) 0) (Send t bytes) s w tt h
 
 pub all_fresh : (h : History) → IsLegal h → IsFresh (λ n. has_joined n h) (state h) (told h)
 all_fresh [] legal = record {

@@ -39,7 +39,7 @@ use Rattle.adb_history.proofs.BookTurns.{IsBooked}
 use Rattle.adb_history.proofs.BookClients.{devices_now}
 use Rattle.adb_history.proofs.BookReads.{none_next, newly_same, and_parts, asked_all, replied_state, replied_row, replied_is}
 use Rattle.adb_history.proofs.Books.{booked}
-use Rattle.adb_laws_answered.specs.Turns.{everywhere, Turns}
+use Rattle.adb_history.specs.Turns.{everywhere, Turns}
 use Rattle.adb_laws_answered.specs.Heard.{Heard, heard, after_replies, asks_stream, asks_bind, IsUnanswered, PhaseSays, RowSays, RowsSay, Owes, Answers}
 use Rattle.adb_laws_answered.proofs.HeardMoves.{says_closing}
 use Rattle.adb_laws_answered.proofs.ToldOthers.{all_stop_owed}

@@ -24,8 +24,9 @@ use Rattle.adb_history.proofs.Numbers.{counted}
 use Rattle.adb_history.proofs.OwnedStep.{begins_owned}
 use Rattle.adb_history.proofs.BookTurns.{all_unheard}
 use Rattle.adb_laws_answered.specs.Heard.{Heard, heard, RowsSay, Answers}
-use Rattle.adb_laws_answered.proofs.TurnStreams.{up_all_kept}
-use Rattle.adb_laws_answered.proofs.TurnRules.{rule_kept}
+use Rattle.adb_history.specs.Turns.{serving}
+use Rattle.adb_history.proofs.StreamMoves.{up_all_turns}
+use Rattle.adb_history.proofs.RuleMoves.{rule_turns}
 use Rattle.adb_laws_answered.proofs.HeardMoves.{rows_apart, rows_marked}
 use Rattle.adb_laws_answered.proofs.HeardRules.{answers_turns}
 
@@ -107,18 +108,18 @@ module _ (c : ℕ) (older : History) (legal : IsLegal older) (came : has_joined 
           h.row client (sym (ap (λ (b : Bool). cond b (Some (new_client forwarded n)) (s.clients c)) not_here) ∙ is)
 
       pub join_answers : May s (Join n) → After P w (rule (Join n) s)
-      join_answers may = rule_kept (answers_turns n c (heard c older) apart) (Join n) s w tt
+      join_answers may = rule_turns (answers_turns n c (heard c older) apart) (Join n) s w tt
           (record { owned = begins_owned s h.owned (Join n) w may; row = came_rows false; owes = h.owes })
 
       pub enter_answers : (port : ℕ) → May s (Enter n port) → After P w (rule (Enter n port) s)
       enter_answers port may =
           let b = begins_owned s h.owned (Enter n port) w may in
-          rule_kept (answers_turns n c (heard c older) apart) (Enter n port) s w refl
+          rule_turns (answers_turns n c (heard c older) apart) (Enter n port) s w refl
           (record { owned = b.0; row = came_rows true; owes = h.owes }, record { owned = b.1; row = h.row; owes = h.owes })
 
       pub read_answers : (bytes : List ℕ) → May s (Read n bytes) → After P w (rule (Read n bytes) s)
       read_answers bytes may =
-          rule_kept (answers_turns n c (heard c older) apart) (Read n bytes) s w (refl, tt) (
+          rule_turns (answers_turns n c (heard c older) apart) (Read n bytes) s w (refl, tt) (
             h,
             λ client is asking. record {
               owned = (begins_owned s h.owned (Read n bytes) w may).1 client is asking;
@@ -128,36 +129,36 @@ module _ (c : ℕ) (older : History) (legal : IsLegal older) (came : has_joined 
           )
 
       pub bound_answers : (port : ℕ) → After P w (rule (Bound n port) s)
-      bound_answers port = rule_kept (answers_turns n c (heard c older) apart) (Bound n port) s w refl h
+      bound_answers port = rule_turns (answers_turns n c (heard c older) apart) (Bound n port) s w refl h
 
       pub put_answers : (bytes : List ℕ) → After P w (rule (Put n bytes) s)
-      put_answers bytes = rule_kept (answers_turns n c (heard c older) apart) (Put n bytes) s w refl h
+      put_answers bytes = rule_turns (answers_turns n c (heard c older) apart) (Put n bytes) s w refl h
 
     -- ---- an entry that answers nobody
     other : c + 1 ≢ c
     other e = omega (arith, e)
 
     pub attach_answers : (t : ℕ) (kind : Kind) (serial : List ℕ) → May s (Attach t kind serial) → After P w (rule (Attach t kind serial) s)
-    attach_answers t kind serial may = rule_kept (answers_turns (c + 1) c (heard c older) other) (Attach t kind serial) s w tt (record {
+    attach_answers t kind serial may = rule_turns (answers_turns (c + 1) c (heard c older) other) (Attach t kind serial) s w tt (record {
       owned = begins_owned s h.owned (Attach t kind serial) w may;
       row = rows_marked c (heard c older) s.devices (attached kind serial s.devices) s.clients h.row;
       owes = h.owes;
     })
 
     pub end_answers : (n : ℕ) (cause : Cause) → After P w (rule (End n cause) s)
-    end_answers n cause = rule_kept (answers_turns (c + 1) c (heard c older) other) (End n cause) s w (λ e. tt) h
+    end_answers n cause = rule_turns (answers_turns (c + 1) c (heard c older) other) (End n cause) s w (λ e. tt) h
 
     pub recv_answers : (t : ℕ) (bytes : List ℕ) → After P w (rule (Recv t bytes) s)
-    recv_answers t bytes = rule_kept (answers_turns (c + 1) c (heard c older) other) (Recv t bytes) s w
+    recv_answers t bytes = rule_turns (answers_turns (c + 1) c (heard c older) other) (Recv t bytes) s w
         ((λ p. record { reaches = λ e. tt; renews = λ e. tt; cuts = λ e. tt }), tt) h
 
     pub detach_answers : (t : ℕ) (cause : Cause) → After P w (rule (Detach t cause) s)
-    detach_answers t cause = rule_kept (answers_turns (c + 1) c (heard c older) other) (Detach t cause) s w tt h
+    detach_answers t cause = rule_turns (answers_turns (c + 1) c (heard c older) other) (Detach t cause) s w tt h
 
     pub send_answers : (t : ℕ) (bytes : List ℕ) → After P w (rule (Send t bytes) s)
-    send_answers t bytes = rule_kept (answers_turns (c + 1) c (heard c older) other) (Send t bytes) s w tt h
+    send_answers t bytes = rule_turns (answers_turns (c + 1) c (heard c older) other) (Send t bytes) s w tt h
 
 -- ---- the up rule behind it
 pub ups_answers : (c : ℕ) (r : Heard) (m : State) (w : List Event) → Answers c r m.devices m w
     → After (λ x v. Answers c r x.devices x v) w (ups m)
-ups_answers c r m w h = up_all_kept (answers_turns (c + 1) c r (λ e. omega (arith, e))) m w h m.drawn
+ups_answers c r m w h = up_all_turns (serving (answers_turns (c + 1) c r (λ e. omega (arith, e)))) m w h m.drawn

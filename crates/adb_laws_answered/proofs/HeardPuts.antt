@@ -26,9 +26,9 @@ use Rattle.adb_history.proofs.OutputEntries.{all_due_past_put}
 use Rattle.adb_history.proofs.OwnedStep.{owned_moves}
 use Rattle.adb_history.proofs.BookClients.{devices_now}
 use Rattle.adb_history.proofs.Books.{booked}
-use Rattle.adb_laws_answered.specs.Turns.{everywhere, Turns}
+use Rattle.adb_history.specs.Turns.{everywhere, Turns, serving}
 use Rattle.adb_laws_answered.specs.Heard.{Heard, heard, after_replies, asks_stream, IsTold, PhaseSays, RowSays, Owes, Answers}
-use Rattle.adb_laws_answered.proofs.TurnRules.{takes_kept}
+use Rattle.adb_history.proofs.RuleMoves.{takes_turns}
 use Rattle.adb_laws_answered.proofs.HeardMoves.{prefix_more}
 use Rattle.adb_laws_answered.proofs.HeardRules.{answers_turns}
 
@@ -227,7 +227,7 @@ module _ (c : ℕ) (older : History) (legal : IsLegal older) (bytes : List ℕ) 
     handed_answers =
         let m : Made = lists_first c client.due client s in
         after_then (λ x v. Answers c (said_put through) x.devices x v) w m (λ x. takes_of c (length bytes) (x.clients c) x) (first client.due refl)
-        (λ v now. takes_kept turns m.state v now c (length bytes) (m.state.clients c) refl)
+        (λ v now. takes_turns (serving turns) m.state v now c (length bytes) (m.state.clients c) refl)
 
   pub own_put_answers : Answers c (heard c older) s.devices s w → May s (Put c bytes)
       → After (λ x v. Answers c (heard c (Put c bytes ∷ older)) x.devices x v) w (rule (Put c bytes) s)

@@ -28,7 +28,7 @@ use Rattle.adb_history.proofs.Following.{after_quietly}
 use Rattle.adb_history.proofs.StreamMoves.{all_end_kept}
 use Rattle.adb_history.proofs.OwnedMoves.{client_of}
 use Rattle.adb_history.proofs.OwnedStep.{owned_moves, ends_state}
-use Rattle.adb_laws_answered.specs.Turns.{everywhere, IsOpenedBy, Turns}
+use Rattle.adb_history.specs.Turns.{everywhere, IsOpenedBy, Turns}
 use Rattle.adb_laws_answered.specs.Heard.{Heard, asks_stream, PhaseSays, RowSays, RowsSay, Owes, Answers}
 use Rattle.adb_laws_answered.proofs.ToldOthers.{quiet_after, owed_other, client_loses_owed, hears_owed, all_stop_owed, stopped_none, owned_opened, forgets_owned}
 use Rattle.adb_laws_answered.proofs.ToldOthers.{opened_devices}

@@ -1,7 +1,3 @@
-pub mod TurnStreams
-pub mod TurnPackets
-pub mod TurnReads
-pub mod TurnRules
 pub mod ToldOthers
 pub mod SteadyRows
 pub mod HeardMoves
@@ -26,7 +22,6 @@ pub mod Entered
 pub mod Outlived
 pub mod Hears
 pub mod ServedLaws
-pub mod AllMoves
 pub mod Clearing
 pub mod Openings
 pub mod ShownMoves

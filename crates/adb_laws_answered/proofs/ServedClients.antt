@@ -3,7 +3,7 @@ use Rattle.std.proofs.Common.{ℕ, ◌≤◌, Bool, List, Option, sym, ap, subst
 use Rattle.adb_stream.specs.declared.row.Stream.{Stream}
 use Rattle.adb_client.specs.declared.phase.Phase.{Phase}
 use Rattle.adb_client.specs.declared.phase.Phase.TheVariants.{Opening, Streaming, Closing}
-use Rattle.adb_laws_answered.specs.Turns.{everywhere}
+use Rattle.adb_history.specs.Turns.{everywhere}
 use Rattle.adb_laws_answered.specs.Served.{PhaseFor, IsDone}
 use Rattle.adb_laws_answered.proofs.SteadyRows.{at_marked}
 use Rattle.adb_laws_answered.proofs.ClientTurns.{IsBusy, IsOfClient}

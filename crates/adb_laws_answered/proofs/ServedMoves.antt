@@ -19,7 +19,7 @@ use Rattle.adb_history.specs.Owned.{OwnerIn}
 use Rattle.adb_history.proofs.Growing.{owed_append}
 use Rattle.adb_history.proofs.OwnedMoves.{client_of}
 use Rattle.adb_history.proofs.OwnedStep.{owned_moves, ends_state, client_loses_frame}
-use Rattle.adb_laws_answered.specs.Turns.{EndsSo}
+use Rattle.adb_history.specs.Turns.{EndsSo}
 use Rattle.adb_laws_answered.specs.Served.{PhaseFor, RowServed, OutBy, IsItsOwn, IsServed}
 use Rattle.adb_laws_answered.proofs.ToldOthers.{client_loses_owed}
 use Rattle.adb_laws_answered.proofs.SteadyRows.{IsSteady, at_client_loses}

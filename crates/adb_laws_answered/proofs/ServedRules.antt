@@ -32,7 +32,7 @@ use Rattle.adb_history.proofs.Following.{after_quietly}
 use Rattle.adb_history.proofs.Growing.{owed_append}
 use Rattle.adb_history.proofs.OwnedMoves.{client_of}
 use Rattle.adb_history.proofs.OwnedStep.{owned_moves}
-use Rattle.adb_laws_answered.specs.Turns.{everywhere, IsOpenedBy, Turns}
+use Rattle.adb_history.specs.Turns.{everywhere, IsOpenedBy, Turns}
 use Rattle.adb_laws_answered.specs.Served.{PhaseFor, RowServed, OutBy, IsItsOwn, IsServed}
 use Rattle.adb_laws_answered.proofs.ToldOthers.{quiet_after, owed_other, hears_owed, all_stop_owed, stopped_none, owned_opened, forgets_owned}
 use Rattle.adb_laws_answered.proofs.SteadyRows.{at_like, at_apart, at_none, at_closing, at_due, at_hands, at_marked}

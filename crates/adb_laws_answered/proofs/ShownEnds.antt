@@ -26,7 +26,7 @@ use Rattle.adb_history.proofs.Following.{after_quietly}
 use Rattle.adb_history.proofs.Growing.{owed_append}
 use Rattle.adb_history.proofs.OwnedMoves.{client_of}
 use Rattle.adb_history.proofs.OwnedStep.{owned_moves, ends_state, client_loses_frame}
-use Rattle.adb_laws_answered.specs.Turns.{EndsSo}
+use Rattle.adb_history.specs.Turns.{EndsSo}
 use Rattle.adb_laws_answered.specs.Served.{PhaseFor, RowServed}
 use Rattle.adb_laws_answered.specs.Shown.{Seen, Subject, WillNotOpen, ShownOut, IsShown}
 use Rattle.adb_laws_answered.proofs.ToldOthers.{quiet_after, client_loses_owed, forgets_owned}

@@ -29,11 +29,11 @@ use Rattle.adb_history.proofs.Following.{after_quietly, changed_here}
 use Rattle.adb_history.proofs.Growing.{owed_append}
 use Rattle.adb_history.proofs.OutputEntries.{connected_is}
 use Rattle.adb_history.proofs.OwnedMoves.{client_of}
-use Rattle.adb_laws_answered.specs.Turns.{IsOpenedBy, Allows}
+use Rattle.adb_history.specs.Turns.{IsOpenedBy, Allows, serving}
 use Rattle.adb_laws_answered.specs.Served.{RowServed}
 use Rattle.adb_laws_answered.specs.Shown.{aside, Seen, seen, seals_by, sealed_in, SaysNothing, Subject, IsShownRow, WillNotOpen, ShownOut, IsShown}
 use Rattle.adb_laws_answered.proofs.ToldOthers.{quiet_after, owned_opened}
-use Rattle.adb_laws_answered.proofs.TurnPackets.{treat_on_kept, orphan_kept, okay_open_kept}
+use Rattle.adb_history.proofs.PacketMoves.{treat_on_turns, orphan_kept, okay_open_kept}
 use Rattle.adb_laws_answered.proofs.SteadyRows.{at_due}
 use Rattle.adb_laws_answered.proofs.Clearing.{none_of}
 use Rattle.adb_laws_answered.proofs.Openings.{IsSeenOn, remote_stays, remote_sealed, sealed_stays, seen_pending, seen_one, seen_told}
@@ -231,7 +231,7 @@ module _ (x : Subject) where
 
   pub allowed_kept : (heard : Bool) (a : Seen) (t : ℕ) (p : Packet) (s : State) (w : List Event) → Allows (aside x) t p.command p → IsShown heard x a s w
       → IsShown heard x a (treat t p s).state (w ++ (treat t p s).told)
-  allowed_kept heard a t p s w may h = treat_on_kept (shown_turns heard x a (x.client + 1) other) s w h (s.links t) t p may
+  allowed_kept heard a t p s w may h = treat_on_turns (serving (shown_turns heard x a (x.client + 1) other)) s w h (s.links t) t p may
 
   -- ---- OKAY
   module _ (p : Packet) (command : p.command ≡ Okay) (names : p.arg1 ≡ x.stream) where
@@ -427,7 +427,7 @@ module _ (x : Subject) where
             → Shows (okay_first orphan x.stream p.arg0 (credit_word p.payload) y s)
         first_shows true e none some =
             let m : Made = orphan_opened x.stream p.arg0 y s in
-            let kept = orphan_kept (shown_turns heard x (seen x.stream ps) (x.client + 1) other) s w h x.stream p.arg0 y is e in (
+            let kept = orphan_kept (serving (shown_turns heard x (seen x.stream ps) (x.client + 1) other)) s w h x.stream p.arg0 y is e in (
               heard,
               gone_more heard ps (p ∷ []) m.state (w ++ m.told)
                   (ap (λ (b : Bool). cond b (option_and_then none_kept (s.streams x.stream)) (s.streams x.stream)) (eq-eqb x.stream x.stream refl)
@@ -450,7 +450,7 @@ module _ (x : Subject) where
               heard,
               seen_on heard (seen x.stream ps) (seen x.stream (ps ++ p ∷ [])) m.state (w ++ m.told)
                   (seen_told x.stream ps (p ∷ []) (λ e. some ((h.own y is).remote ∙ e)))
-                  (okay_open_kept (shown_turns heard x (seen x.stream ps) (x.client + 1) other) s w h x.stream (credit_word p.payload) y is),
+                  (okay_open_kept (serving (shown_turns heard x (seen x.stream ps) (x.client + 1) other)) s w h x.stream (credit_word p.payload) y is),
             )
 
         known_shows : (b : Bool) → eqb y.part.remote 0 ≡ b → p.arg0 ≢ 0

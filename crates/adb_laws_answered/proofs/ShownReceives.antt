@@ -15,14 +15,13 @@ use Rattle.adb_history.specs.Rows.{Link, State, to_link}
 use Rattle.adb_history.specs.Events.{Made, Event, quietly, owed_to}
 use Rattle.adb_history.specs.Packets.{treat, treat_all, faulty, with_rest, receives_cut, receives_on, receives}
 use Rattle.adb_history.specs.Births.{opening_in, remote_in}
-use Rattle.adb_history.specs.Moves.{After}
+use Rattle.adb_history.specs.Moves.{After, serves}
 use Rattle.adb_history.specs.Linked.{IsLinked}
 use Rattle.adb_history.proofs.Following.{after_quietly, after_then}
 use Rattle.adb_history.proofs.LinkMoves.{linked_moves}
-use Rattle.adb_laws_answered.specs.Turns.{everywhere, Allows}
+use Rattle.adb_history.specs.Turns.{Allows, serving}
 use Rattle.adb_laws_answered.specs.Shown.{aside, Seen, seen, sealed_in, SaysNothing, Subject, WillNotOpen, ShownOut, IsShown}
-use Rattle.adb_laws_answered.proofs.TurnPackets.{treat_on_kept, faulty_kept}
-use Rattle.adb_laws_answered.proofs.AllMoves.{all_moves}
+use Rattle.adb_history.proofs.PacketMoves.{treat_on_kept, faulty_kept}
 use Rattle.adb_laws_answered.proofs.Openings.{remote_sealed, seen_nothing}
 use Rattle.adb_laws_answered.proofs.ShownRules.{shown_turns}
 use Rattle.adb_laws_answered.proofs.ShownPackets.{seen_on, gone_reason, allows_by, other, allowed_kept, okay_here, okay_none, okay_apart}
@@ -31,7 +30,7 @@ use Rattle.adb_laws_answered.proofs.ShownCloses.{waiting_none, close_none, close
 -- links and streams fit together, packet after packet
 linked_packet : (t : ℕ) (p : Packet) (s : State) → IsLinked s → IsLinked (treat t p s).state
 linked_packet t p s h =
-    treat_on_kept (all_moves linked_moves everywhere 0) s [] h (s.links t) t p (record { reaches = λ e. tt; renews = λ e. tt; cuts = λ e. tt })
+    treat_on_kept (serves linked_moves) s [] h (s.links t) t p
 
 module _ (x : Subject) where
   -- by whether its client heard that it is open
@@ -133,7 +132,7 @@ module _ (x : Subject) where
         let m : Made = treat_all t c.given taken in
         after_then (λ s w. IsShown heard x a s w) w m (faulty t c.fault) (all_apart c.given taken w (turns.links t
         (λ link. record link { rest = c.rest }) s w h))
-        (λ v now. faulty_kept turns m.state v now (m.state.links t) t c.fault (λ same. absurd (apart same)))
+        (λ v now. faulty_kept (serving turns) m.state v now (m.state.links t) t c.fault (λ same. absurd (apart same)))
 
     pub receives_apart : (bytes : List ℕ) (s : State) (w : List Event) → V s w → After (λ s w. IsShown heard x a s w) w (receives t bytes s)
     receives_apart bytes s w h = go (s.links t)
@@ -237,7 +236,7 @@ module _ (x : Subject) where
       (heard, begun) in
       let allowed = allow_cut (record x { cut = false }) run.0 (seen x.stream (ps ++ c.given)) m.state (w ++ m.told) run.1 in
       let done = after_then (λ s w. IsShown run.0 (record x { cut = true }) (seen x.stream (ps ++ c.given)) s w) w m (faulty x.link c.fault) allowed
-      (λ v now. faulty_kept (shown_turns run.0 (record x { cut = true }) (seen x.stream (ps ++ c.given)) (x.client + 1) (other x)) m.state v now
+      (λ v now. faulty_kept (serving (shown_turns run.0 (record x { cut = true }) (seen x.stream (ps ++ c.given)) (x.client + 1) (other x))) m.state v now
       (m.state.links x.link) x.link c.fault (λ same. refl)) in
       record {
         heard = run.0;

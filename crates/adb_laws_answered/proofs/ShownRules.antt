@@ -28,7 +28,7 @@ use Rattle.adb_history.specs.Owned.{StreamOf, OwnerIn, HoldsIn, IsOwned}
 use Rattle.adb_history.proofs.Following.{after_quietly}
 use Rattle.adb_history.proofs.Growing.{owed_append}
 use Rattle.adb_history.proofs.OwnedStep.{owned_moves}
-use Rattle.adb_laws_answered.specs.Turns.{IsOpenedBy, Turns}
+use Rattle.adb_history.specs.Turns.{IsOpenedBy, Turns}
 use Rattle.adb_laws_answered.specs.Served.{PhaseFor, RowServed}
 use Rattle.adb_laws_answered.specs.Shown.{aside, Seen, Subject, ShownOut, IsShown}
 use Rattle.adb_laws_answered.proofs.ToldOthers.{quiet_after, all_stop_owed, stopped_none, owed_other, owned_opened}

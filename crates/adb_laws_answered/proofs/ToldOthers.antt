@@ -18,7 +18,7 @@ use Rattle.adb_history.specs.Owned.{IsOwned}
 use Rattle.adb_history.proofs.Growing.{owed_append}
 use Rattle.adb_history.proofs.Numbers.{drawn_plain}
 use Rattle.adb_history.proofs.OwnedStep.{owned_moves, ends_state, client_loses_frame}
-use Rattle.adb_laws_answered.specs.Turns.{IsOpenedBy}
+use Rattle.adb_history.specs.Turns.{IsOpenedBy}
 
 -- nothing is told at the end
 pub quiet_after : (P : State → List Event → Type 0) (w told : List Event) (s : State) → P s (w ++ told) → P s (w ++ (told ++ []))

@@ -1,4 +1,3 @@
-pub mod Turns
 pub mod Heard
 pub mod Served
 pub mod Shown

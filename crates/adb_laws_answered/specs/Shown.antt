@@ -10,7 +10,7 @@ use Rattle.adb_history.specs.Events.{Event, owed_to}
 use Rattle.adb_history.specs.Births.{is_between, opening_in, remote_in}
 use Rattle.adb_history.specs.Answered.{closed_reply}
 use Rattle.adb_history.specs.Owned.{IsOwned}
-use Rattle.adb_laws_answered.specs.Turns.{Scope}
+use Rattle.adb_history.specs.Turns.{Scope}
 use Rattle.adb_laws_answered.specs.Served.{RowServed}
 
 -- ---- what packets say of a stream

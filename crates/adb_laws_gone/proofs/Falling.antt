@@ -16,6 +16,7 @@ use Rattle.adb_history.specs.Births.{is_close_of, is_clse}
 use Rattle.adb_history.specs.Clients.{closing, closing_with, closes, owe_client}
 use Rattle.adb_history.specs.Events.{Made, Event, Ending, peer_closed, ended, quietly, then_also, owed_to, ending_in}
 use Rattle.adb_history.specs.Moves.{After, HasOne, serves}
+use Rattle.adb_history.specs.Turns.{serving}
 use Rattle.adb_history.specs.Owned.{OwnerIn, IsOwned}
 use Rattle.adb_history.specs.Orderly.{phase_for}
 use Rattle.adb_history.specs.Packets.{at_stream, takes_close, treat_open, treat_any, treat_on, treat, treat_all}
@@ -39,7 +40,6 @@ use Rattle.adb_laws_causes.proofs.TurnsOfPackets.{treat_turn}
 use Rattle.adb_laws_causes.proofs.UntouchedEntries.{Pair, pair_of, pair_apart, has_stream}
 use Rattle.adb_laws_answered.specs.Served.{IsDone}
 use Rattle.adb_laws_answered.proofs.DoneMoves.{done_turns}
-use Rattle.adb_laws_answered.proofs.TurnPackets as turns
 use Rattle.adb_laws_gone.proofs.Staying.{HasNone, s_all}
 
 -- ---- a client that is closing has no stream
@@ -70,7 +70,7 @@ module _ (c : ℕ) (out : List ℕ) where
   done_all t [] s w h = after_quietly (IsDone c out) w s h
   done_all t (p ∷ packets) s w h =
       after_then (IsDone c out) w (treat t p s) (treat_all t packets)
-      (turns.treat_on_kept (done_turns c out (c + 1) apart) s w h (s.links t) t p
+      (moves.treat_on_turns (serving (done_turns c out (c + 1) apart)) s w h (s.links t) t p
       (record { reaches = λ e. tt; renews = λ e. tt; cuts = λ e. tt }))
       (λ v now. done_all t packets (treat t p s).state v now)
 

@@ -64,7 +64,8 @@ use Rattle.adb_laws_answered.specs.Served.{IsDone}
 use Rattle.adb_laws_answered.proofs.ClientTurns.{another_comes, covers_all, client_kept, client_ups}
 use Rattle.adb_laws_answered.proofs.DoneMoves.{done_turns}
 use Rattle.adb_laws_answered.proofs.ServedClients.{done_client}
-use Rattle.adb_laws_answered.proofs.TurnPackets as turns
+use Rattle.adb_history.proofs.PacketMoves as turns
+use Rattle.adb_history.specs.Turns.{serving}
 use Rattle.adb_laws_gone.specs.Gone.{PutsAllOfClosed}
 use Rattle.adb_laws_gone.proofs.Staying.{HasNone, s_faulty, s_ups}
 use Rattle.adb_laws_gone.proofs.StayingEntries.{Spares, stays_rule}
@@ -326,7 +327,7 @@ module _ (l t : ℕ) (bytes : List ℕ) (older : History) (legal : IsLegal (Recv
   done_rule =
       subst (λ (m : Made). IsDone x.client so_far m.state (told older ++ m.told)) (sym received)
       (after_then (IsDone x.client so_far) (told older) treated (faulty t cut.fault) fallen.done
-      (λ v now. turns.faulty_kept (done_turns x.client so_far (x.client + 1) other) treated.state v now (treated.state.links t) t cut.fault tt))
+      (λ v now. turns.faulty_kept (serving (done_turns x.client so_far (x.client + 1) other)) treated.state v now (treated.state.links t) t cut.fault tt))
 
   all_told : output_of x.client (Recv t bytes ∷ older) ≡ so_far
   all_told =

@@ -1,3 +1,4 @@
+pub mod AllAnswers
 pub mod Beginnings
 pub mod Openings
 pub mod Readiness

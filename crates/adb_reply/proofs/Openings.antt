@@ -17,15 +17,8 @@ OpensThere rows _ = Unit {0}
 
 -- a device that takes payloads is there
 ready_is_there : (rows : List (ℕ × Row)) (next : Next) → OpensReady rows next → OpensThere rows next
-ready_is_there rows (nexts.Select id) ready = tt
-ready_is_there rows nexts.Close ready = tt
-ready_is_there rows (nexts.Track long) ready = tt
 ready_is_there rows (nexts.Open transport service) ready = ap is_some ready.is
-ready_is_there rows (nexts.Bind transport local remote chosen) ready = tt
-ready_is_there rows (nexts.Rebind transport local remote) ready = tt
-ready_is_there rows (nexts.Unbind local) ready = tt
-ready_is_there rows nexts.UnbindAll ready = tt
-ready_is_there rows nexts.Stop ready = tt
+ready_is_there rows _ ready = tt
 
 pub opens_there : (rows : List (ℕ × Row)) (forwards : List (ℕ × ForwardRow)) (selected : Option ℕ) (request : Request)
     → OpensThere rows (answer rows forwards selected request).next

@@ -123,3 +123,53 @@ pub record Turns (scope : Scope) (asker : ℕ) (P : State → List Event → Typ
       → P s w → P (unauthorized_from t Offline s) w
   pub forwards : (forwards : List (ℕ × ForwardRow)) (s : State) (w : List Event) → (All (IsLed s.devices) s.forwards → All (IsLed s.devices) forwards)
       → P s w → P (record s { forwards = forwards }) w
+
+-- What those moves keep that a hand-out, a piece and the up rule make: no client asks, ends or is bound by them.
+pub record Serving (scope : Scope) (asker : ℕ) (P : State → List Event → Type 0) : Type 0 where
+  pub owes : (t : ℕ) (p : Packet) (check : ℕ) (s : State) (w : List Event) → IsOfStream s.streams p → P s w
+      → P (to_link t (with_link_due (spelling p check)) s) (w ++ due_to_link t p check ∷ [])
+  pub replies : (bytes : List ℕ) (s : State) (w : List Event) → P s w → P (to_client asker (with_due bytes) s) (w ++ due_to_client asker bytes ∷ [])
+  pub unmarks : (s : State) (w : List Event) → P s w → P (to_client asker unmarked s) w
+  pub holds : (c : ℕ) (client : Client) (bytes : List ℕ) (s : State) (w : List Event) → s.clients c ≡ Some client → HasOne client.about.phase
+      → P s w → P (to_client c (with_held bytes) s) w
+  pub hands : (c n : ℕ) (client : Client) (s : State) (w : List Event) → s.clients c ≡ Some client
+      → ((l : ℕ) (stream : Stream) → client.about.phase ≡ Streaming l → s.streams l ≡ Some stream → to_hand stream.part.flow ≤ length (drop n client.due))
+      → P s w → P (to_client c (hands n) s) w
+  pub flows : (l : ℕ) (stream : Stream) (flow : Flow) (s : State) (w : List Event) → s.streams l ≡ Some stream → IsLike stream.part.flow flow
+      → P s w → P (to_stream l (with_stream_part (with_flow flow stream.part)) s) w
+  pub accepts : (l : ℕ) (payload : List ℕ) (stream : Stream) (s : State) (w : List Event) → s.streams l ≡ Some stream
+      → stream.part.remote ≢ 0 → is_out_of_turn stream.part.flow (length payload) ≡ false
+      → P s w → P (accepts_now l payload stream s) (w ++ due_to_client stream.client payload ∷ [])
+  pub opened : (l remote : ℕ) (word : Option ℕ) (stream : Stream) (s : State) (w : List Event) → s.streams l ≡ Some stream → IsOpenedBy remote stream
+      → scope.reaches l
+      → P s w → After P w (opened l remote word stream s)
+  pub orphan_goes : (l : ℕ) (stream : Stream) (s : State) (w : List Event) → s.streams l ≡ Some stream → stream.part.orphan ≡ true
+      → P s w → P (to_stream l none_kept s) w
+  pub ends : (l : ℕ) (ending : Ending) (stream : Stream) (s : State) (w : List Event) → s.streams l ≡ Some stream
+      → EndsSo scope.reaches s.clients l ending stream
+      → P s w → After P w (ends_row l ending stream s)
+  pub links : (t : ℕ) (f : Link → Link) (s : State) (w : List Event) → P s w → P (to_link t (λ link. Some (f link)) s) w
+  pub link_ends : (t : ℕ) (ending : Ending) (s : State) (w : List Event) → (tells_closed (Some ending) ≡ true) × scope.cuts t → P s w
+      → After P w (link_ends t ending s)
+  pub online : (t version maxdata : ℕ) (identity : Identity) (s : State) (w : List Event) → scope.renews t → P s w
+      → After P w (connects_now t version maxdata identity s)
+  pub unauthorized : (t : ℕ) (row : Row) (s : State) (w : List Event) → at t s.devices.rows ≡ Some row → row.state ≡ Offline
+      → P s w → P (unauthorized_from t Offline s) w
+
+abbrev pub serving : {scope : Scope} {asker : ℕ} {P : State → List Event → Type 0} → Turns scope asker P → Serving scope asker P
+serving k = record {
+  owes = k.owes;
+  replies = k.replies;
+  unmarks = k.unmarks;
+  holds = k.holds;
+  hands = k.hands;
+  flows = k.flows;
+  accepts = k.accepts;
+  opened = k.opened;
+  orphan_goes = k.orphan_goes;
+  ends = k.ends;
+  links = k.links;
+  link_ends = k.link_ends;
+  online = k.online;
+  unauthorized = k.unauthorized;
+}
