@@ -96,6 +96,6 @@ fn ask<V: PathValue>(
 {
     let mut ask = PathAsk::<V>::new(alloc, path)?;
     let answer = world.sync(seed, ask.out())?;
-    let step = ask.feed(answer.as_slice())?;
+    let step = ask.feed_to_end(answer.as_slice())?;
     Ok(step)
 }

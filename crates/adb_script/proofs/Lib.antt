@@ -1,3 +1,4 @@
+mod Chunks
 pub mod Cutting
 mod FirstBad
 pub mod Patterns

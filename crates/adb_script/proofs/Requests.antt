@@ -6,7 +6,7 @@ use Rattle.std.specs.Int.Digits.{AllBelowBase, digits_of, number_from_digits_aft
 use Rattle.std.specs.List.{list_all}
 use Rattle.std.proofs.lemmas.Bool.{and_from, ne_eqb}
 use Rattle.std.proofs.lemmas.Bool.Decides.{nat_tests}
-use Rattle.std.proofs.lemmas.Fmt.{decimal_nonempty, decimal-digits_of, length-decimal-le}
+use Rattle.std.proofs.lemmas.Fmt.{decimal_digit, decimal_nonempty, decimal-digits_of, length-decimal-le}
 use Rattle.std.proofs.lemmas.Grind.{and_numeral}
 use Rattle.std.proofs.lemmas.Int.Digits.{all_below_base_digits_of, number_digits_of}
 use Rattle.std.proofs.lemmas.List.{length-take, length-drop, take-append-drop, append-nil}
@@ -116,10 +116,15 @@ number_is n some fits =
     ap (λ (t : Bool). cond t (Some (digits_value (decimal n))) None) are ∙ ap Some value
 
 -- ---- a push
-send_is_ask : (path : List ℕ) (mode : ℕ) → length path ≤ 1000 → 0 < mode → mode < 2 ^ 32 → IsAsk (asks.Send path (decimal mode))
-send_is_ask path mode short some fits =
-    let size : length (decimal mode) ≤ 10 = length-decimal-le 10 mode (omega arith) (omega (arith, fits)) (omega (arith, fits)) in
-    (omega (arith, short, size), ap last_comma (decimal-digits_of mode some (omega (arith, fits))) ∙ no_comma (digits_of 10 mode))
+no_comma_of : (n : ℕ) → n < 2 ^ 32 → last_comma (decimal n) ≡ None
+no_comma_of zero fits = ap last_comma (decimal_digit 0 (omega arith))
+no_comma_of (suc n) fits = ap last_comma (decimal-digits_of (suc n) (omega arith) (omega (arith, fits))) ∙ no_comma (digits_of 10 (suc n))
+
+pub send_is_ask : (path given mode : List ℕ) (n : ℕ) → length path ≤ 1000 → given ≡ path → n < 2 ^ 32 → mode ≡ decimal n
+    → (length given + 1 + length mode ≤ 1024) × (last_comma mode ≡ None)
+send_is_ask path given mode n short same fits is =
+    let size : length (decimal n) ≤ 10 = length-decimal-le 10 n (omega arith) (omega (arith, fits)) (omega (arith, fits)) in
+    (omega (arith, short, size, ap (length {A = ℕ}) same, ap (length {A = ℕ}) is), ap last_comma is ∙ no_comma_of n fits)
 
 -- a regular file's mode, with its lowest nine bits, is kept
 module _ (mode : ℕ) (least : MIN_MODE ≤ mode) (most : mode ≤ MAX_MODE) where
@@ -139,7 +144,7 @@ module _ (mode : ℕ) (least : MIN_MODE ≤ mode) (most : mode ≤ MAX_MODE) whe
       let open_send : OpenSend = record { path = path; mode = decimal mode; bytes = [] } in
       let next : AskFormat = past_ask asks_start (ask_bytes send) in
       let rest = chunks_sent (length bytes) next open_send bytes mtime refl time (omega arith) in
-      let cut = ask_again asks_start send more (send_is_ask path mode short (omega (arith, least)) (omega (arith, most))) tt refl in
+      let cut = ask_again asks_start send more (send_is_ask path path (decimal mode) mode short refl (omega (arith, most)) refl) tt refl in
       ap (λ (c : AskReading). requests_of None c.given ++ fault_request c.fault) cut
       ∙ (ap (λ (rs : List Request). rs ++ fault_request (asks_from next more).fault) rest.requests
       ∙ ap (λ (f : Option _). (Sends path (decimal mode) bytes mtime ∷ []) ++ fault_request f) rest.fault)

@@ -63,7 +63,7 @@ fn path_step<V: PathValue>(
     ensures { IfOk result (λ step. step ≡ V.value got.now) }
 {
     let mut ask = PathAsk::<V>::new(alloc, path.as_slice())?;
-    let step = ask.feed(got)?;
+    let step = ask.feed_to_end(got)?;
     Ok(step)
 }
 

@@ -8,8 +8,7 @@ ghost use Rattle.adb_sync_client.specs.Texts.{push_text};
 
 use crate::line::SessionLine;
 use crate::output::CLOSE_STDIN;
-use crate::pushing::push_text;
-use crate::sent::pattern;
+use crate::pushing::pattern_text;
 use crate::word::Word;
 use adb_outside::Text;
 use adb_shell::write_packet;
@@ -60,8 +59,7 @@ fn shell_service(alloc: Global, command: &Word<'_>) -> Result<Text, AllocError>
 fn line_text(alloc: Global, path: &Word<'_>, size: u32, number: u32) -> Result<Text, AllocError>
     ensures { IfOk result (λ text. text ≡ push_text path.now FILE_MODE number (pattern 0 size)) }
 {
-    let bytes = pattern(alloc, 0, size)?;
-    push_text(alloc, path.as_slice(), FILE_MODE, number, bytes.as_slice())
+    pattern_text(alloc, path.as_slice(), FILE_MODE, number, size)
 }
 
 /// The text of a request about a path.

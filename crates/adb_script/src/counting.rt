@@ -1,6 +1,7 @@
 //! Numbers in answer lines.
 
-ghost use Rattle.std.specs.Prelude.{◌≡◌, ◌++◌, decimal, length, sum, OnOk};
+ghost use Rattle.std.specs.Prelude.{◌≡◌, ◌≤◌, ◌++◌, decimal, length, sum, OnOk};
+ghost use Rattle.adb_script.specs.declared.counting.TheConstants.{PIECE};
 
 use adb_outside::Text;
 use itoa::Buffer;
@@ -14,13 +15,31 @@ pub fn push_number(line: &mut Text, number: u128) -> Result<(), AllocError>
     line.push_slice(digits.format(number).as_bytes())
 }
 
+/// How many bytes are added up in a word.
+const PIECE: usize = 65_536;
+
 /// The sum of the bytes.
 pub fn byte_sum(bytes: &[u8]) -> u128
     ensures { result ≡ sum bytes.now }
 {
     let mut total: u128 = 0;
-    for byte in bytes {
-        total += u128::from(*byte);
+    let mut rest = bytes;
+    while !rest.is_empty() {
+        let (piece, more) = rest.split_at(PIECE.min(rest.len()));
+        total += u128::from(piece_sum(piece));
+        rest = more;
+    }
+    total
+}
+
+/// The sum of the bytes of a piece, in a word of which the processor adds several at once.
+fn piece_sum(piece: &[u8]) -> u32
+    requires { length piece.now ≤ PIECE }
+    ensures { result ≡ sum piece.now }
+{
+    let mut total = 0;
+    for byte in piece {
+        total += u32::from(*byte);
     }
     total
 }

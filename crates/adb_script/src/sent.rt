@@ -1,6 +1,6 @@
 //! The bytes that pushes and echoes send.
 
-ghost use Rattle.std.specs.Prelude.{◌≡◌, ◌^◌, ◌<◌, bytes_eq, IfOk};
+ghost use Rattle.std.specs.Prelude.{◌≡◌, ◌<◌, bytes_eq, IfOk};
 ghost use Rattle.adb_script.specs.Pattern.{pattern};
 
 use adb_outside::Text;

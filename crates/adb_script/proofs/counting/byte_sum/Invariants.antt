@@ -1,5 +1,8 @@
-use Rattle.std.proofs.Common.{◌≡◌, ◌≤◌, ◌*◌, sum, take}
+use Rattle.std.proofs.Common.{◌≡◌, ◌≤◌, ◌+◌, ◌*◌, sum, length}
 use Rattle.adb_script.proofs.counting.byte_sum.Given as goal
 
-abbrev pub invariant-loop-byte : goal.invariant-loop-byte
-invariant-loop-byte l = (l.total ≡ sum (take l.byte-index l.bytes)) × (l.total ≤ 255 * l.byte-index)
+abbrev pub invariant-loop-rest : goal.invariant-loop-rest
+invariant-loop-rest l = (l.total + sum l.rest ≡ sum l.bytes) × (l.total + 4294967296 * length l.rest ≤ 4294967296 * length l.bytes)
+
+abbrev pub decreases-loop-rest : goal.decreases-loop-rest
+decreases-loop-rest l = length l.rest
