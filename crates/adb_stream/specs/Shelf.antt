@@ -79,6 +79,10 @@ abbrev pub place_of : Rows (Option Stream) → ℕ → Option ℕ → Option ℕ
 place_of slots link None = None
 place_of slots link (Some key) = key_if link key (slots key)
 
+-- The index has at a link and an id the key of the id, where its stream is one of the link.
+abbrev pub IsFoundAt : Shelf → ℕ → ℕ → Type 0
+IsFoundAt shelf link id = index_of shelf link id ≡ place_of (slots_of shelf) link (keys_of shelf id)
+
 -- A key has the stream of its id.
 pub record HasStream (drawn : ℕ) (slots : Rows (Option Stream)) (id key : ℕ) : Type 0 where
   pub stream : Stream
@@ -90,5 +94,5 @@ pub record IsIndexed (drawn : ℕ) (shelf : Shelf) : Type 0 where
   pub fits : drawn < 2 ^ 32
   pub rows : (id key : ℕ) → keys_of shelf id ≡ Some key → HasStream drawn (slots_of shelf) id key
   pub held : (key : ℕ) (stream : Stream) → slots_of shelf key ≡ Some stream → keys_of shelf stream.id ≡ Some key
-  pub finds : (link id : ℕ) → index_of shelf link id ≡ place_of (slots_of shelf) link (keys_of shelf id)
+  pub finds : (link id : ℕ) → IsFoundAt shelf link id
   pub rises : IsRising shelf.keys.entries

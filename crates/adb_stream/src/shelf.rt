@@ -5,11 +5,12 @@ ghost use Rattle.std.specs.Option.{option_copied, option_copied_mut};
 ghost use Rattle.std.specs.Borrow.{sem};
 ghost use Rattle.adb_outside.specs.Tables.{IsRising, put_row};
 ghost use Rattle.adb_stream.specs.Stream.{new_stream};
-ghost use Rattle.adb_stream.specs.Shelf.{keys_of, slots_of, index_of, stream_of, put_place, emptied, displaced};
+ghost use Rattle.adb_stream.specs.Shelf.{keys_of, slots_of, index_of, stream_of, put_place, emptied, displaced, IsFoundAt};
 ghost use Rattle.adb_stream.specs.Lending.{LendsAt};
 
 use crate::flow::Flow;
 use crate::row::{Part, Stream};
+use adb_rows::RowMap;
 use slab::Slab;
 use std::alloc::{AllocError, Global};
 use std::collections::BTreeMap;
@@ -18,7 +19,7 @@ use std::collections::BTreeMap;
 #[derive(Drop)]
 pub(crate) struct Shelf {
     rows: Slab<Stream>,
-    keys: BTreeMap<u32, usize>,
+    keys: RowMap<usize>,
     index: BTreeMap<(u32, u32), usize>,
 }
 
@@ -31,7 +32,7 @@ impl Shelf {
     {
         Shelf {
             rows: Slab::new(alloc),
-            keys: BTreeMap::new(alloc),
+            keys: RowMap::new(alloc),
             index: BTreeMap::new(alloc),
         }
     }
@@ -91,6 +92,7 @@ impl Shelf {
             self.index.remove(&(link, id));
             return Err(AllocError);
         }
+        self.keys_rise();
         Ok(())
     }
 
@@ -102,7 +104,9 @@ impl Shelf {
         ensures index { index_of self.new ≡ displaced result id (index_of self.old) }
         ensures rises { IsRising self.new.keys.entries }
     {
-        let key = self.keys.remove(&id)?;
+        let found = self.keys.remove(&id);
+        self.keys_rise();
+        let key = found?;
         let stream = self.rows.try_remove(key)?;
         self.index.remove(&(stream.link, id));
         Some(stream)
@@ -118,6 +122,14 @@ impl Shelf {
         self.rows.clear();
         self.keys.clear();
         self.index.clear();
+        self.keys_rise();
+    }
+
+    /// The ids of the keys rise. It does nothing: its contract is the law.
+    fn keys_rise(&self)
+        ensures { IsRising self.now.keys.entries }
+    {
+        self.keys.len();
     }
 
     /// The stream of an id.
@@ -130,21 +142,36 @@ impl Shelf {
 
     /// The stream of a link and an id.
     pub(crate) fn find(&self, link: u32, id: u32) -> Option<&Stream>
+        requires { IsFoundAt self.now link id }
         ensures { option_copied result ≡ stream_of (slots_of self.now) (index_of self.now link id) }
     {
-        let key = self.index.get(&(link, id))?;
-        self.rows.get(*key)
+        let key = self.key_of(link, id)?;
+        self.rows.get(key)
     }
 
     /// The part of the stream of a link and an id, to be written.
     pub(crate) fn find_mut(&mut self, link: u32, id: u32) -> Option<&mut Part>
+        requires { IsFoundAt self.old link id }
         ensures* writes_back { sem 𝓛 (LendsAt self.entry (index_of self.old link id) result) }
         ensures value { option_copied_mut result ≡ option_map (λ stream. stream.part)
             (stream_of (slots_of self.old) (index_of self.old link id)) }
     {
-        let key = self.index.get(&(link, id)).copied()?;
+        let key = self.key_of(link, id)?;
         let stream = self.rows.get_mut(key)?;
         Some(&mut stream.part)
+    }
+
+    /// The key of a link and an id: that of the id, where its stream is one of the link. The index
+    /// has the same, and would be searched.
+    fn key_of(&self, link: u32, id: u32) -> Option<usize>
+        requires { IsFoundAt self.now link id }
+        ensures { result ≡ index_of self.now link id }
+    {
+        let key = *self.keys.get(&id)?;
+        if self.rows.get(key)?.link != link {
+            return None;
+        }
+        Some(key)
     }
 
     /// How many streams it has.

@@ -1,4 +1,4 @@
 use Rattle.adb_stream.proofs.shelf.Shelf.remove.Goals as goal
 
 pub returns-clause-index : goal.returns-clause-index
-returns-clause-index c = λ i t l. c.remove-2.ensures.updates.0 (t, l) i
+returns-clause-index c = λ i t l. c.remove.ensures.updates.0 (t, l) i
