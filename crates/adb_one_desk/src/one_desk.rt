@@ -3,7 +3,8 @@
 ghost use Rattle.std.specs.Prelude.{◌≡◌, ◌<◌, [], None, Some, false, nat_eq, if◌then◌else◌};
 ghost use Rattle.adb_history.specs.Kept.{IsLawful};
 ghost use Rattle.adb_desk_log.specs.declared.marks.TheConstants.{ALL_PARTS};
-ghost use Rattle.adb_desk_log.specs.Log.{IsFresh, retired};
+ghost use Rattle.adb_desk_log.specs.Log.{IsFresh, first_log, retired};
+ghost use Rattle.adb_desk_log.specs.Pass.{PassView};
 ghost use Rattle.adb_desk.specs.Sound.{IsSound, TellsPromises};
 ghost use Rattle.adb_one_desk.specs.OneDesk.{OneView};
 

@@ -1,6 +1,6 @@
 //! What a run is given of the command line.
 
-ghost use Rattle.std.specs.Prelude.{◌≡◌, ◌≢◌, ◌⊎◌, drop, IfErr, IfOk, None, true, false};
+ghost use Rattle.std.specs.Prelude.{◌≡◌, ◌≢◌, ◌⊎◌, drop, IfErr, IfOk, None, Some, true, false};
 ghost use Rattle.std.specs.IoError.{error_kind};
 ghost use Rattle.adb_commands.specs.Alone.{RunsAlone};
 ghost use Rattle.adb_commands.specs.Notes.{usage_line, out_of_memory_line, IsJust, WritesNote};

@@ -1,5 +1,7 @@
 //! What is asked of a sync service, a line each.
 
+ghost use Rattle.std.specs.Prelude.{◌≤◌};
+
 use crate::answers::tell_answer;
 use adb_files::Files;
 use adb_outside::{Text, read_number};

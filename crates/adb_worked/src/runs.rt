@@ -1,6 +1,6 @@
 //! How a run of the program's commands ends.
 
-ghost use Rattle.std.specs.Prelude.{◌≡◌, ◌≤◌, IfOk};
+ghost use Rattle.std.specs.Prelude.{◌≡◌, ◌≤◌, ℕ, IfOk};
 ghost use Rattle.adb_worked.specs.Told.{told_as};
 
 use adb_check::{Judgement, judge_capture};

@@ -1,4 +1,5 @@
 use Rattle.std.proofs.Common.{arith}
+use Rattle.adb_world.specs.Parts.{most_sessions}
 use Rattle.adb_copying.proofs.Copies.{are_copied}
 use Rattle.adb_world_tests.proofs.copying.is_told.Goals as goal
 
