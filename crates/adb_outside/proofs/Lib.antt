@@ -5,3 +5,4 @@ pub mod TableLaws
 pub mod ByteLaws
 pub mod CutLaws
 pub mod Numbers
+pub mod Joined

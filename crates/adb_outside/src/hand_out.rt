@@ -1,21 +1,65 @@
 //! Bytes that are handed out.
 
-ghost use Rattle.std.specs.Prelude.{◌≡◌, ◌==◌, length, IfOk};
+ghost use Rattle.std.specs.Prelude.{◌≡◌, ◌==◌, ◌≤◌, ◌++◌, length, bytes_eq, IfOk};
 
 use crate::text::Text;
 use bytes::Bytes;
 use std::alloc::AllocError;
 use std::marker::Model;
 
+/// How many bytes a hand-out holds in its own place, before those that it shares.
+pub const MAX_START: usize = 32;
+
+/// A few bytes in their own place. Contracts see them as their list.
+#[derive(Drop)]
+struct Start {
+    bytes: [u8; MAX_START],
+    len: usize,
+}
+
+impl Model for Start {
+    ghost use Rattle.std.specs.Prelude.{◌≤◌, List, ℕ, take};
+    ghost use Rattle.adb_outside.specs.declared.hand_out.TheConstants.{MAX_START};
+
+    ghost Value = { List ℕ };
+
+    ghost view = { λ start. take start.len start.bytes };
+
+    ghost invariant = { λ start. start.len ≤ MAX_START };
+}
+
+impl Start {
+    fn new(start: &[u8]) -> Start
+        requires { length start.now ≤ MAX_START }
+        ensures { result ≡ start.now }
+    {
+        let mut bytes = [0; MAX_START];
+        bytes[..start.len()].copy_from_slice(start);
+        Start {
+            bytes,
+            len: start.len(),
+        }
+    }
+
+    fn as_slice(&self) -> &[u8]
+        ensures is { result.now ≡ self.now }
+        ensures short { length result.now ≤ MAX_START }
+    {
+        &self.bytes[..self.len]
+    }
+}
+
 /// Where the bytes are.
 #[derive(Drop)]
 enum Store {
     Own(Text),
     Shared(Bytes),
+    Framed(Start, Bytes),
 }
 
 /// Bytes that are handed out: a text of their own, or a part of bytes that others hold too and that
-/// nobody writes, so that they need not be copied. Contracts see them as their list.
+/// nobody writes, so that they need not be copied, behind a header or nothing. Contracts see them as
+/// their list.
 #[derive(Drop)]
 pub struct HandOut {
     store: Store,
@@ -28,6 +72,13 @@ impl Model for HandOut {
     ghost Value = { List ℕ };
 
     ghost view = { λ h. stored h.store };
+}
+
+/// The two parts that the bytes of a hand-out lie in, one behind the other. Each may be empty.
+#[derive(Clone, Copy, Drop)]
+pub struct Parts<'a> {
+    pub start: &'a [u8],
+    pub rest: &'a [u8],
 }
 
 impl HandOut {
@@ -49,28 +100,58 @@ impl HandOut {
         }
     }
 
-    /// The bytes.
-    pub fn as_slice(&self) -> &[u8]
-        ensures { result.now ≡ self.now }
+    /// A start, which is copied to its own place, and behind it bytes that others may hold too. It
+    /// takes no memory.
+    pub fn framed(start: &[u8], bytes: Bytes) -> HandOut
+        requires { length start.now ≤ MAX_START }
+        ensures { result ≡ start.now ++ bytes }
+    {
+        HandOut {
+            store: Store::Framed(Start::new(start), bytes),
+        }
+    }
+
+    /// The bytes, where they are.
+    pub fn parts(&self) -> Parts<'_>
+        ensures { result.start.now ++ result.rest.now ≡ self.now }
     {
         match &self.store {
-            Store::Own(text) => text.as_slice(),
-            Store::Shared(bytes) => bytes.as_slice(),
+            Store::Own(text) => Parts {
+                start: &[],
+                rest: text.as_slice(),
+            },
+            Store::Shared(bytes) => Parts {
+                start: &[],
+                rest: bytes.as_slice(),
+            },
+            Store::Framed(start, bytes) => Parts {
+                start: start.as_slice(),
+                rest: bytes.as_slice(),
+            },
         }
+    }
+
+    /// Whether these are the bytes.
+    pub fn is(&self, bytes: &[u8]) -> bool
+        ensures { result ≡ bytes_eq self.now bytes.now }
+    {
+        let Parts { start, rest } = self.parts();
+        are_joined(start, rest, bytes)
     }
 
     /// How many bytes there are.
     pub fn len(&self) -> usize
         ensures { result ≡ length self.now }
     {
-        self.as_slice().len()
+        let Parts { start, rest } = self.parts();
+        start.len() + rest.len()
     }
 
     /// Whether there are no bytes.
     pub fn is_empty(&self) -> bool
         ensures { result ≡ (length self.now == 0) }
     {
-        self.as_slice().is_empty()
+        self.len() == 0
     }
 
     /// The same bytes. Those of a text are copied, and shared ones are not.
@@ -80,6 +161,19 @@ impl HandOut {
         Ok(match &self.store {
             Store::Own(text) => HandOut::own(text.copy()?),
             Store::Shared(bytes) => HandOut::shared(bytes.clone()?),
+            Store::Framed(start, bytes) => HandOut::framed(start.as_slice(), bytes.clone()?),
         })
     }
+}
+
+/// Whether two parts, one behind the other, are the bytes.
+#[tactic(auto, using(crate::proofs::Joined::both_are, crate::proofs::Joined::too_few))]
+fn are_joined(start: &[u8], rest: &[u8], bytes: &[u8]) -> bool
+    ensures { result ≡ bytes_eq (start.now ++ rest.now) bytes.now }
+{
+    if bytes.len() < start.len() {
+        return false;
+    }
+    let (front, back) = bytes.split_at(start.len());
+    start == front && rest == back
 }

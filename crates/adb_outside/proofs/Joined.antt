@@ -1,0 +1,21 @@
+-- Whether two parts, one behind the other, are some bytes.
+use Rattle.std.proofs.Common.{rules, ◌≡◌, refl, ◌≤◌, ◌<◌, ◌++◌, length, take, drop, ℕ, false, List, [], ◌∷◌, bytes_eq, ◌&&◌, arith}
+
+-- fewer bytes than the first part has are not both
+pub too_few : (start rest bytes : List ℕ) → length bytes < length start → bytes_eq (start ++ rest) bytes ≡ false
+too_few [] rest bytes few = search rules
+too_few (x ∷ start) rest [] few = refl
+too_few (x ∷ start) rest (y ∷ bytes) few =
+    let less : length bytes < length start = grind arith in
+    let rest_is = too_few start rest bytes less in
+    rw rest_is (search rules)
+
+-- bytes that are no fewer are both where their front is the first part, and what is behind it the second
+pub both_are : (start rest bytes : List ℕ) → length start ≤ length bytes
+    → bytes_eq (start ++ rest) bytes ≡ (bytes_eq start (take (length start) bytes) && bytes_eq rest (drop (length start) bytes))
+both_are [] rest bytes enough = refl
+both_are (x ∷ start) rest [] enough = search rules
+both_are (x ∷ start) rest (y ∷ bytes) enough =
+    let fewer : length start ≤ length bytes = grind arith in
+    let rest_is = both_are start rest bytes fewer in
+    rw rest_is (search rules)
